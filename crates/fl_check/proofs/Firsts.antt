@@ -4,8 +4,8 @@ use Rattle.std.proofs.lemmas.Bool.{cases_lt}
 use Rattle.std.specs.List.{All, Contains}
 use Rattle.std.proofs.lemmas.List.Elements.{All-nil, All-cons, All-head, All-tail, All-weaker, All-contains, Contains-push, Contains-append_left, Contains-append_right}
 use Rattle.fl_check.specs.Places.{Place}
-use Rattle.fl_check.specs.Interface.{TheInterface, TheMessage}
-use Rattle.fl_check.specs.declared.interface.Interface.{Interface}
+use Rattle.fl_interface.specs.Interface.{TheInterface, TheMessage}
+use Rattle.fl_interface.specs.declared.interface.Interface.{Interface}
 use Rattle.fl_check.specs.declared.fault.CheckFault.{CheckFault}
 use Rattle.fl_check.specs.declared.fault.CheckFault.TheVariants.{Broken, Memory}
 use Rattle.std.specs.Result.{IsErrAnd}

@@ -5,7 +5,7 @@ use Rattle.fl_parse.specs.declared.tree.Direction.{Direction}
 use Rattle.fl_parse.specs.declared.tree.Direction.TheVariants.{In, Out}
 use Rattle.fl_parse.specs.declared.tree.DirectedArgument.{DirectedArgument}
 use Rattle.fl_parse.specs.Tree.{TheArgument, argument_of, directed_of}
-use Rattle.fl_check.specs.Interface.{TheArgType}
+use Rattle.fl_interface.specs.Interface.{TheArgType}
 use Rattle.fl_check.specs.Known.{if_in, if_out, ins, outs}
 
 in_part : (dir : Direction) (f : TheArgument → TheArgType) (x : TheArgument) (a : TheArgType) (rest : List TheArgument) (done : List TheArgType) → a ≡ f x → (done ++ if_in dir a) ++ map f rest ≡ done ++ map f (if_in dir x ++ rest)

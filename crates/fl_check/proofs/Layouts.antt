@@ -1,10 +1,10 @@
 -- The measures of a struct to which a field is added.
 use Rattle.std.proofs.Common.{◌≡◌, ℕ, ◌+◌, max, List, [], ◌∷◌, ◌++◌, append_assoc, append-nil, sym, ap, ◌∙◌, arith}
-use Rattle.fl_check.specs.Interface.{TheType, fields_from, structure}
-use Rattle.fl_check.specs.Sizes.{round_up, size_of, align_of, end_after, greatest_align}
-use Rattle.fl_check.specs.Interface.{TheArgType}
-use Rattle.fl_check.specs.Payload.{greatest_end}
-use Rattle.fl_check.specs.Depth.{depth_of, array_depth_of, deepest, deepest_array}
+use Rattle.fl_interface.specs.Interface.{TheType, fields_from, structure}
+use Rattle.fl_interface.specs.Sizes.{round_up, size_of, align_of, end_after, greatest_align}
+use Rattle.fl_interface.specs.Interface.{TheArgType}
+use Rattle.fl_interface.specs.Payload.{greatest_end}
+use Rattle.fl_interface.specs.Depth.{depth_of, array_depth_of, deepest, deepest_array}
 
 pub end_push : (xs ys : List TheType) (t : TheType) (e e2 : ℕ) → ((ts : List TheType) → end_after 0 (fields_from (xs ++ ts)) ≡ end_after e (fields_from ts)) → ys ≡ xs ++ t ∷ [] → e2 ≡ round_up e (align_of t) + size_of t → (ts : List TheType) → end_after 0 (fields_from (ys ++ ts)) ≡ end_after e2 (fields_from ts)
 end_push xs ys t e e2 h q r ts =

@@ -1,12 +1,8 @@
-pub mod Sames
-pub mod SameTypes
 pub mod Layouts
 pub mod FirstFaults
 pub mod Walks
 pub mod Lists
 pub mod Halves
-pub mod FieldSizes
-pub mod Aligned
 pub mod Firsts
 pub mod Limits
 pub mod Longs

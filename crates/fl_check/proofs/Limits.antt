@@ -4,18 +4,21 @@ use Rattle.std.specs.Cmp.{first_so, second_so}
 use Rattle.std.proofs.lemmas.Bool.{leb-false, ltb-false, le-leb, eqb-false}
 use Rattle.std.proofs.lemmas.Slice.Eq.{bytes_eq-Decides}
 use Rattle.std.proofs.lemmas.List.{length_push, length-map, map-append}
-use Rattle.fl_check.specs.declared.interface.Scalar.{Scalar as RustScalar}
-use Rattle.fl_check.specs.declared.interface.Scalar.TheVariants.{Uint8}
+use Rattle.fl_interface.specs.declared.interface.Scalar.{Scalar as RustScalar}
+use Rattle.fl_interface.specs.declared.interface.Scalar.TheVariants.{Uint8}
 use Rattle.fl_parse.specs.declared.tree.Direction.{Direction}
 use Rattle.fl_parse.specs.declared.tree.Direction.TheVariants.{In, Out}
-use Rattle.fl_check.specs.Depth.{is_too_big}
+use Rattle.fl_interface.specs.Depth.{is_too_big}
 use Rattle.std.specs.List.{All}
 use Rattle.std.specs.Str.{bytes_eq}
 use Rattle.std.proofs.lemmas.List.Elements.{All-nil, All-cons, All-head, All-tail, All-push}
-use Rattle.fl_check.specs.Interface.{TheType, scalar, enumeration, structure, fields_from, fixed, text, TheMessage, TheInterface}
-use Rattle.fl_check.specs.Known.{is_string, is_capability, is_built_in, scalar_named, is_among, Named, Before, declared_as, type_named, bound_or, message_from, stands_for, counted, field_type, argument_type, after, after_all, nothing_declared, call_name, response_name, ins, outs, if_in, if_out}
-use Rattle.fl_check.specs.Places.{Place, rule, fixed_type_place, plain_type_place, string_place, new_type_place, whole_type_place, count_place, count_places, bound_place, bound_places, listed_place, other_place, member_places, field_place, field_places, argument_place, argument_places, whole_message_place, message_name_place, rpc_name_place, declaration_places, places_from, arguments_of, argument_names, some_too_long, type_names, is_unknown, is_too_long, message_names}
-use Rattle.fl_check.specs.Checks.{IsSound, is_well_made, are_well_made, is_type_within, is_argument_within, are_arguments_within, is_message_within, are_messages_within, are_distinct, is_within_limits, count_of, interface_from, places, first_fault, Checks, checked}
+use Rattle.fl_interface.specs.Interface.{TheType, scalar, enumeration, structure, fields_from, fixed, text, TheMessage, TheInterface}
+use Rattle.fl_check.specs.Known.{is_string, is_capability, is_built_in, scalar_named, Named, Before, declared_as, type_named, bound_or, message_from, stands_for, counted, field_type, argument_type, after, after_all, nothing_declared, call_name, response_name, ins, outs, if_in, if_out}
+use Rattle.fl_interface.specs.Limits.{is_among}
+use Rattle.fl_check.specs.Places.{Place, rule, fixed_type_place, plain_type_place, string_place, new_type_place, whole_type_place, count_place, count_places, bound_place, bound_places, listed_place, other_place, member_places, field_place, field_places, argument_place, argument_places, whole_message_place, message_name_place, rpc_name_place, declaration_places, places_from, arguments_of, argument_names, some_too_long, type_names, is_unknown, message_names}
+use Rattle.fl_interface.specs.Limits.{is_too_long}
+use Rattle.fl_check.specs.Checks.{IsSound, interface_from, places, first_fault, Checks, checked}
+use Rattle.fl_interface.specs.Limits.{is_well_made, are_well_made, is_type_within, is_argument_within, are_arguments_within, is_message_within, are_messages_within, are_distinct, is_within_limits, count_of}
 use Rattle.fl_check.proofs.Firsts.{all_sound}
 use Rattle.fl_parse.specs.Tree.{TheName, TheNumber, TheField, TheShape, plain, bounded, sized as sized_shape, TheArgument, TheDirected, TheDeclaration, alias_of, typedef_of, enum_of, struct_of, message_of, rpc_of, TheTree}
 

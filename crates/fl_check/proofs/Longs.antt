@@ -2,11 +2,14 @@
 use Rattle.std.proofs.Common.{◌≡◌, ◌≤◌, ℕ, ◌+◌, Bool, true, false, ◌||◌, not, List, [], ◌∷◌, ◌++◌, length, Option, Some, None, nat_lt, nat_le, nat_eq, map, refl, sym, ap, ◌∙◌, subst, arith}
 use Rattle.std.specs.List.{All, Contains}
 use Rattle.std.proofs.lemmas.List.Elements.{All-nil, All-cons, All-head, All-tail, All-append, All-contains}
-use Rattle.fl_check.specs.Types.{TheType, enumeration, structure, fields_from, TheMessage}
-use Rattle.fl_check.specs.Depth.{is_too_big}
-use Rattle.fl_check.specs.Known.{is_string, is_capability, is_built_in, is_among, Before, stands_for, counted, field_type, messages_of, message_from, after, after_all, nothing_declared, call_name, response_name, ins, outs}
-use Rattle.fl_check.specs.Places.{Place, rule, is_unknown, type_names, message_names, fixed_type_place, plain_type_place, string_place, new_type_place, whole_type_place, count_place, count_places, bound_place, bound_places, listed_place, other_place, member_places, field_place, field_places, argument_names, argument_place, argument_places, is_too_long, some_too_long, whole_message_place, message_name_place, rpc_name_place, arguments_of, declaration_places, places_from}
-use Rattle.fl_check.specs.Checks.{IsSound, Fault, first_fault, are_arguments_within, places}
+use Rattle.fl_interface.specs.Types.{TheType, enumeration, structure, fields_from, TheMessage}
+use Rattle.fl_interface.specs.Depth.{is_too_big}
+use Rattle.fl_check.specs.Known.{is_string, is_capability, is_built_in, Before, stands_for, counted, field_type, messages_of, message_from, after, after_all, nothing_declared, call_name, response_name, ins, outs}
+use Rattle.fl_interface.specs.Limits.{is_among}
+use Rattle.fl_check.specs.Places.{Place, rule, is_unknown, type_names, message_names, fixed_type_place, plain_type_place, string_place, new_type_place, whole_type_place, count_place, count_places, bound_place, bound_places, listed_place, other_place, member_places, field_place, field_places, argument_names, argument_place, argument_places, some_too_long, whole_message_place, message_name_place, rpc_name_place, arguments_of, declaration_places, places_from}
+use Rattle.fl_interface.specs.Limits.{is_too_long}
+use Rattle.fl_check.specs.Checks.{IsSound, Fault, first_fault, places}
+use Rattle.fl_interface.specs.Limits.{are_arguments_within}
 use Rattle.fl_check.specs.TooLong.{name_declared, IsTooLongAt, RefusesTooLong, AcceptsNoneTooLong}
 use Rattle.fl_parse.specs.Tree.{TheName, TheNumber, TheField, TheShape, plain, bounded, sized as sized_shape, TheArgument, TheDeclaration, alias_of, typedef_of, enum_of, struct_of, message_of, rpc_of}
 use Rattle.fl_check.proofs.FirstFaults.{none_after, fault_prefix}

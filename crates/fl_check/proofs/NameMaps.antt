@@ -6,8 +6,9 @@ use Rattle.std.specs.Map.{lookup}
 use Rattle.std.proofs.lemmas.List.{map_push}
 use Rattle.indexmap.specs.IndexMap.{insert_entry}
 use Rattle.fl_check.specs.declared.declared.KnownType.{KnownType}
-use Rattle.fl_check.specs.Interface.{TheType, TheMessage, type_of}
-use Rattle.fl_check.specs.Known.{is_among, declared_as, call_name, response_name}
+use Rattle.fl_interface.specs.Interface.{TheType, TheMessage, type_of}
+use Rattle.fl_check.specs.Known.{declared_as, call_name, response_name}
+use Rattle.fl_interface.specs.Limits.{is_among}
 use Rattle.fl_check.specs.Views.{named_of}
 use Rattle.fl_parse.specs.Tree.{TheName}
 use Rattle.fl_check.proofs.NameSets.{turned}

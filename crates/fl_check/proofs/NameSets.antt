@@ -4,7 +4,7 @@ use Rattle.std.specs.List.{list_any}
 use Rattle.std.specs.Str.{bytes_eq}
 use Rattle.std.proofs.lemmas.List.{map_push}
 use Rattle.std.proofs.lemmas.Slice.Eq.{bytes_eq-Decides}
-use Rattle.fl_check.specs.Known.{is_among}
+use Rattle.fl_interface.specs.Limits.{is_among}
 
 abbrev now_of : Bor (List ℕ) → List ℕ
 now_of n = n.now

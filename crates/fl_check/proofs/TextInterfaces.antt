@@ -6,9 +6,10 @@ use Rattle.std.specs.Cmp.{first_so, second_so}
 use Rattle.std.proofs.lemmas.Bool.{ltb-false, le-leb}
 use Rattle.std.proofs.lemmas.List.Folds.{list_all-append}
 use Rattle.std.proofs.lemmas.List.Elements.{All-head}
-use Rattle.fl_check.specs.declared.interface.Scalar.{Scalar as RustScalar}
-use Rattle.fl_check.specs.Interface.{TheType, scalar, enumeration, structure, fields_from, fixed, text, TheMessage}
-use Rattle.fl_check.specs.Known.{is_string, scalar_named, is_among, Named, Before, declared_as, type_named, message_from, stands_for, counted, field_type, argument_type, after, after_all, nothing_declared, call_name, response_name, ins, outs}
+use Rattle.fl_interface.specs.declared.interface.Scalar.{Scalar as RustScalar}
+use Rattle.fl_interface.specs.Interface.{TheType, scalar, enumeration, structure, fields_from, fixed, text, TheMessage}
+use Rattle.fl_check.specs.Known.{is_string, scalar_named, Named, Before, declared_as, type_named, message_from, stands_for, counted, field_type, argument_type, after, after_all, nothing_declared, call_name, response_name, ins, outs}
+use Rattle.fl_interface.specs.Limits.{is_among}
 use Rattle.fl_check.specs.Places.{rule, rpc_name_place, declaration_places, places_from, arguments_of, argument_places, some_too_long, whole_message_place, message_names}
 use Rattle.fl_check.specs.Checks.{IsSound}
 use Rattle.fl_parse.specs.Tree.{TheName, TheNumber, TheField, TheShape, plain, bounded, sized as sized_shape, TheArgument, TheDeclaration, alias_of, typedef_of, enum_of, struct_of, message_of, rpc_of}

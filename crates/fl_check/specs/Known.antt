@@ -1,10 +1,10 @@
 -- What names stand for: the built-in types, and those that the declarations so far give.
 use Rattle.std.specs.Prelude.{ℕ, Bool, false, ◌||◌, List, [], ◌∷◌, ◌++◌, map, Option, Some, None, is_some, unwrap_or, option_map, length, if◌then◌else◌, codes}
 use Rattle.std.specs.Str.{bytes_eq}
-use Rattle.fl_check.specs.declared.interface.Scalar.{Scalar as RustScalar}
-use Rattle.fl_check.specs.declared.interface.Scalar.TheVariants.{Uint8, Int8, Bool as BoolScalar, Char, Uint16, Int16, Uint32, Int32, Iref, Uint64}
-use Rattle.fl_check.specs.declared.interface.Scalar.TheVariants.{Int64, Uintptr, Intptr, Size, Errval}
-use Rattle.fl_check.specs.Types.{TheType, scalar, enumeration, structure, array, fields_from, TheArgType, fixed, text, sized, TheMessage}
+use Rattle.fl_interface.specs.declared.interface.Scalar.{Scalar as RustScalar}
+use Rattle.fl_interface.specs.declared.interface.Scalar.TheVariants.{Uint8, Int8, Bool as BoolScalar, Char, Uint16, Int16, Uint32, Int32, Iref, Uint64}
+use Rattle.fl_interface.specs.declared.interface.Scalar.TheVariants.{Int64, Uintptr, Intptr, Size, Errval}
+use Rattle.fl_interface.specs.Types.{TheType, scalar, enumeration, structure, array, fields_from, TheArgType, fixed, text, sized, TheMessage}
 use Rattle.fl_parse.specs.Tree.{TheName, TheNumber, TheField, plain, bounded, sized as sized_shape, TheArgument, TheDirected, TheDeclaration}
 use Rattle.fl_parse.specs.Tree.{alias_of, typedef_of, enum_of, struct_of, message_of, rpc_of}
 use Rattle.fl_parse.specs.declared.tree.Direction.{Direction}
@@ -38,11 +38,6 @@ is_capability name = bytes_eq name (codes "cap") || bytes_eq name (codes "give_a
 -- the names that no declaration may take
 unfoldable pub is_built_in : List ℕ → Bool
 is_built_in name = is_some (scalar_named name) || (is_string name || is_capability name)
-
--- whether a name is one of these
-abbrev pub is_among : List (List ℕ) → List ℕ → Bool
-is_among [] name = false
-is_among (n ∷ ns) name = bytes_eq n name || is_among ns name
 
 -- a declared type: its name, and the type it stands for
 pub record Named : Type 0 where

@@ -1,9 +1,9 @@
 -- What a call of the checker answers.
 use Rattle.std.specs.Prelude.{◌≡◌, Option, Some, None, Result, Ok, Err}
-use Rattle.fl_check.specs.declared.interface.Interface.{Interface}
+use Rattle.fl_interface.specs.declared.interface.Interface.{Interface}
 use Rattle.fl_check.specs.declared.fault.CheckFault.{CheckFault}
 use Rattle.fl_check.specs.declared.fault.CheckFault.TheVariants.{Broken, Memory}
-use Rattle.fl_check.specs.Interface.{interface_of}
+use Rattle.fl_interface.specs.Interface.{interface_of}
 use Rattle.fl_check.specs.Checks.{CheckOutcome, checked, check_fault, Checks}
 use Rattle.fl_parse.specs.Tree.{TheTree}
 use Rattle.fl_check.specs.Faults.{rule_number}

@@ -1,9 +1,10 @@
 -- The places of a tree in the order in which they are looked at, and the rules broken at each.
 use Rattle.std.specs.Prelude.{ℕ, ◌+◌, Bool, true, false, ◌||◌, not, List, [], ◌∷◌, ◌++◌, map, length, take, Option, Some, None, is_some, nat_lt, nat_le, nat_eq}
-use Rattle.fl_check.specs.Types.{TheType, enumeration, structure, fields_from, TheMessage}
-use Rattle.fl_check.specs.Depth.{is_too_big}
-use Rattle.fl_check.specs.Payload.{greatest_payload}
-use Rattle.fl_check.specs.Known.{is_string, is_capability, is_built_in, is_among, Named, Before, nothing_declared, type_named, stands_for, counted, field_type}
+use Rattle.fl_interface.specs.Types.{TheType, enumeration, structure, fields_from, TheMessage}
+use Rattle.fl_interface.specs.Depth.{is_too_big}
+use Rattle.fl_interface.specs.Payload.{greatest_payload}
+use Rattle.fl_check.specs.Known.{is_string, is_capability, is_built_in, Named, Before, nothing_declared, type_named, stands_for, counted, field_type}
+use Rattle.fl_interface.specs.Limits.{is_among}
 use Rattle.fl_check.specs.Known.{messages_of, after, call_name, response_name}
 use Rattle.fl_parse.specs.Tree.{TheName, TheNumber, TheField, TheShape, plain, bounded, sized, TheArgument, TheDirected, TheDeclaration, alias_of}
 use Rattle.fl_parse.specs.Tree.{typedef_of, enum_of, struct_of, message_of, rpc_of}
@@ -149,10 +150,6 @@ abbrev pub argument_places : Before → List (List ℕ) → ℕ → List TheArgu
 argument_places b others arguments_before [] = []
 argument_places b others arguments_before (a ∷ args) =
     argument_place b others arguments_before a ++ argument_places b (others ++ argument_names a) (arguments_before + 1) args
-
--- a payload that may pass 32,768 bytes
-abbrev pub is_too_long : TheMessage → Bool
-is_too_long m = nat_lt 32768 (greatest_payload m.args)
 
 abbrev pub some_too_long : List TheMessage → Bool
 some_too_long [] = false

@@ -6,8 +6,8 @@ use Rattle.fl_lex.specs.Words.{is_name}
 use Rattle.fl_lex.specs.Outcome.{IsLexed}
 use Rattle.fl_parse.specs.Tree.{TheTree}
 use Rattle.fl_parse.specs.Grammar.{Derives}
-use Rattle.fl_check.specs.Types.{TheType, scalar, enumeration, structure, array, TheTypes, no_more, field}
-use Rattle.fl_check.specs.Types.{TheArgType, fixed, text, sized, TheMessage, TheInterface}
+use Rattle.fl_interface.specs.Types.{TheType, scalar, enumeration, structure, array, TheTypes, no_more, field}
+use Rattle.fl_interface.specs.Types.{TheArgType, fixed, text, sized, TheMessage, TheInterface}
 use Rattle.fl_check.specs.Checks.{StandsFor}
 
 -- a text stands for an interface: its bytes spell tokens, these are written for a tree, and the tree stands for the interface

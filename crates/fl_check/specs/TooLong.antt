@@ -1,9 +1,10 @@
 -- Which trees are refused for a payload that is too long (E21).
 use Rattle.std.specs.Prelude.{◌≡◌, ℕ, true, List, ◌∷◌, ◌++◌, Contains}
-use Rattle.fl_check.specs.Types.{TheMessage, TheInterface}
+use Rattle.fl_interface.specs.Types.{TheMessage, TheInterface}
 use Rattle.fl_check.specs.Known.{Before, nothing_declared, after_all, messages_of}
-use Rattle.fl_check.specs.Places.{is_too_long}
-use Rattle.fl_check.specs.Checks.{are_arguments_within, Checks, checked, check_fault}
+use Rattle.fl_interface.specs.Limits.{is_too_long}
+use Rattle.fl_check.specs.Checks.{Checks, checked, check_fault}
+use Rattle.fl_interface.specs.Limits.{are_arguments_within}
 use Rattle.fl_parse.specs.Tree.{TheName, TheDeclaration, alias_of, typedef_of, enum_of, struct_of, message_of, rpc_of, TheTree}
 
 -- the name that a declaration declares

@@ -1,6 +1,6 @@
 -- A working file: what the checker keeps, as definitions see it.
 use Rattle.std.specs.Prelude.{ℕ, ◌≤◌, List, map}
-use Rattle.fl_check.specs.Sizes.{size_of}
+use Rattle.fl_interface.specs.Sizes.{size_of}
 use Rattle.fl_check.specs.declared.words.Names.{Names}
 use Rattle.fl_check.specs.declared.declared.KnownType.{KnownType}
 use Rattle.fl_check.specs.declared.declared.Declared.{Declared}
@@ -8,8 +8,8 @@ use Rattle.fl_check.specs.declared.payload.Checked.{Checked}
 use Rattle.fl_check.specs.declared.payload.Checked.TheVariants.{Fixed, Text, Sized}
 use Rattle.std.specs.Borrow.{Bor}
 use Rattle.std.specs.Global.{Vec}
-use Rattle.fl_check.specs.declared.interface.ArgType.{ArgType}
-use Rattle.fl_check.specs.Interface.{TheArgType, fixed, text, sized, type_of, arg_type_of, TheMessage}
+use Rattle.fl_interface.specs.declared.interface.ArgType.{ArgType}
+use Rattle.fl_interface.specs.Interface.{TheArgType, fixed, text, sized, type_of, arg_type_of, TheMessage}
 use Rattle.fl_check.specs.Known.{Named, Before}
 
 -- the names of a list of names

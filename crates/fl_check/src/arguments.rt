@@ -1,7 +1,7 @@
 //! The arguments of messages, each part at its place.
 
 ghost use Rattle.std.specs.Prelude.{◌≡◌, ◌≤◌, ◌<◌, ◌+◌, ◌∷◌, [], ◌++◌, OnOk, IfOk, IfErr, option_map, None, map, vec_len, if◌then◌else◌};
-ghost use Rattle.fl_check.specs.Interface.{fixed, text, sized, arg_type_of};
+ghost use Rattle.fl_interface.specs.Interface.{fixed, text, sized, arg_type_of};
 ghost use Rattle.fl_check.specs.Known.{is_string, stands_for, bound_or, argument_type, ins, outs, if_in, if_out};
 ghost use Rattle.fl_check.specs.Places.{plain_argument_places, sized_argument_places, string_argument_places, fixed_type_place, plain_type_place};
 ghost use Rattle.fl_check.specs.Places.{string_place, listed_place, other_place, bound_place, bound_places, argument_names, argument_place};

@@ -10,11 +10,10 @@ ghost use Rattle.fl_check.specs.Outcome.{outcome_of};
 ghost use Rattle.fl_check.specs.Views.{before_of};
 ghost use Rattle.fl_parse.specs.Tree.{tree_of, declaration_of};
 
-use crate::bounds::counts_fit;
 use crate::declared::Declared;
 use crate::fault::CheckFault;
-use crate::interface::Interface;
 use crate::words::word_of;
+use fl_interface::{Interface, counts_fit};
 use fl_parse::{Declaration, Tree};
 use std::alloc::Global;
 

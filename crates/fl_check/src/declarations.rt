@@ -1,7 +1,8 @@
 //! Declarations, each by its rules in their order.
 
 ghost use Rattle.std.specs.Prelude.{◌≡◌, ◌∷◌, [], ◌++◌, OnOk, IfErr, None, map, option_map, false};
-ghost use Rattle.fl_check.specs.Known.{is_among, after, call_name, response_name};
+ghost use Rattle.fl_check.specs.Known.{after, call_name, response_name};
+ghost use Rattle.fl_interface.specs.Limits.{is_among};
 ghost use Rattle.fl_check.specs.Places.{message_names, message_name_place, rpc_name_place, whole_message_place, declaration_places, first_look};
 ghost use Rattle.fl_check.specs.Checks.{first_fault};
 ghost use Rattle.fl_check.specs.Faults.{Tells, ComesAfter};

@@ -2,8 +2,8 @@
 
 ghost use Rattle.std.specs.Prelude.{◌≤◌};
 
-use crate::interface::{ArgType, Message, Word};
 use crate::measured::Measured;
+use fl_interface::{ArgType, Message, Word};
 use indexmap::IndexMap;
 use std::alloc::{AllocError, Global};
 
@@ -25,8 +25,9 @@ pub struct Declared<'a> {
 
 impl<'a> Declared<'a> {
     ghost use Rattle.std.specs.Prelude.{◌≡◌, ◌++◌, ◌∷◌, [], map, OnOk, IfOk, option_map, length, false};
-    ghost use Rattle.fl_check.specs.Interface.{type_of, arg_type_of, message_of};
-    ghost use Rattle.fl_check.specs.Known.{nothing_declared, declared_as, is_among};
+    ghost use Rattle.fl_interface.specs.Interface.{type_of, arg_type_of, message_of};
+    ghost use Rattle.fl_check.specs.Known.{nothing_declared, declared_as};
+    ghost use Rattle.fl_interface.specs.Limits.{is_among};
     ghost use Rattle.fl_check.specs.Places.{type_names, message_names};
     ghost use Rattle.fl_check.specs.Views.{before_of};
 

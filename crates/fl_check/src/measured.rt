@@ -2,12 +2,11 @@
 
 ghost use Rattle.std.specs.Prelude.{◌≡◌, ◌<◌, ◌≤◌, ◌+◌, ◌*◌, ◌++◌, ℕ, List, map, IfOk, OnOk, vec_len, [], ◌∷◌};
 ghost use Rattle.std.specs.Bool.{OnFalse};
-ghost use Rattle.fl_check.specs.Interface.{TheType, scalar, enumeration, structure, array, fields_from, type_of};
-ghost use Rattle.fl_check.specs.Sizes.{size_of, align_of, end_after, greatest_align};
-ghost use Rattle.fl_check.specs.Depth.{depth_of, array_depth_of, deepest, deepest_array, is_too_big};
+ghost use Rattle.fl_interface.specs.Interface.{TheType, scalar, enumeration, structure, array, fields_from, type_of};
+ghost use Rattle.fl_interface.specs.Sizes.{size_of, align_of, end_after, greatest_align};
+ghost use Rattle.fl_interface.specs.Depth.{depth_of, array_depth_of, deepest, deepest_array, is_too_big};
 
-use crate::duplicate::duplicate_type;
-use crate::interface::{FixedType, Scalar};
+use fl_interface::{FixedType, Scalar, duplicate_type};
 use std::alloc::{AllocError, Global};
 
 /// A type, its size and alignment in bytes, how deep structs and fixed arrays nest in it, and how

@@ -1,8 +1,9 @@
 //! The parts of declarations in their order: enumerators and fields.
 
 ghost use Rattle.std.specs.Prelude.{◌≡◌, ◌≤◌, ◌<◌, ◌+◌, ◌∷◌, [], ◌++◌, OnOk, OnErr, IfOk, IfErr, IfSome, option_map, None, map, length, take, false};
-ghost use Rattle.fl_check.specs.Interface.{type_of, structure, fields_from};
-ghost use Rattle.fl_check.specs.Known.{is_among, counted, field_type};
+ghost use Rattle.fl_interface.specs.Interface.{type_of, structure, fields_from};
+ghost use Rattle.fl_check.specs.Known.{counted, field_type};
+ghost use Rattle.fl_interface.specs.Limits.{is_among};
 ghost use Rattle.fl_check.specs.Places.{other_place, listed_place, member_places, field_place, field_places, count_places};
 ghost use Rattle.fl_check.specs.Checks.{first_fault};
 ghost use Rattle.fl_check.specs.Faults.{Tells, ComesAfter};

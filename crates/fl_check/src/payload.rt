@@ -1,12 +1,12 @@
 //! The arguments of a message, and how long its payload may become.
 
 ghost use Rattle.std.specs.Prelude.{◌≡◌, ◌<◌, ◌≤◌, ◌+◌, ◌*◌, ◌++◌, [], ◌∷◌, List, map, nat_lt, OnOk, vec_len};
-ghost use Rattle.fl_check.specs.Interface.{TheArgType, arg_type_of, type_of, fixed, text, sized};
-ghost use Rattle.fl_check.specs.Sizes.{size_of, align_of};
-ghost use Rattle.fl_check.specs.Payload.{greatest_end, greatest_payload};
+ghost use Rattle.fl_interface.specs.Interface.{TheArgType, arg_type_of, type_of, fixed, text, sized};
+ghost use Rattle.fl_interface.specs.Sizes.{size_of, align_of};
+ghost use Rattle.fl_interface.specs.Payload.{greatest_end, greatest_payload};
 
-use crate::interface::ArgType;
 use crate::measured::Measured;
+use fl_interface::ArgType;
 use std::alloc::{AllocError, Global};
 
 /// An argument's type that keeps the rules, with its measures.

@@ -1,8 +1,9 @@
 //! The rules on types and their names, each at its place.
 
 ghost use Rattle.std.specs.Prelude.{◌≡◌, ◌≤◌, ◌∷◌, [], ◌++◌, OnOk, OnErr, IfOk, IfErr, IfSome, option_map, is_some, None, true, false, if◌then◌else◌};
-ghost use Rattle.fl_check.specs.Interface.{type_of, fixed, text};
-ghost use Rattle.fl_check.specs.Known.{is_among, is_string, type_named, stands_for};
+ghost use Rattle.fl_interface.specs.Interface.{type_of, fixed, text};
+ghost use Rattle.fl_check.specs.Known.{is_string, type_named, stands_for};
+ghost use Rattle.fl_interface.specs.Limits.{is_among};
 ghost use Rattle.fl_check.specs.Places.{fixed_type_place, plain_type_place, string_place, new_type_place, whole_type_place, count_places};
 ghost use Rattle.fl_check.specs.Places.{bound_places, type_names};
 ghost use Rattle.fl_check.specs.Checks.{first_fault};

@@ -2,10 +2,11 @@
 
 ghost use Rattle.std.specs.Prelude.{◌≡◌, ◌++◌, ◌∷◌, [], map, length, IfOk, not, true};
 ghost use Rattle.std.specs.Str.{bytes_eq};
-ghost use Rattle.fl_check.specs.Known.{scalar_named, is_string, is_capability, is_built_in, is_among};
+ghost use Rattle.fl_check.specs.Known.{scalar_named, is_string, is_capability, is_built_in};
+ghost use Rattle.fl_interface.specs.Limits.{is_among};
 ghost use Rattle.fl_check.specs.Views.{list_of};
 
-use crate::interface::{Scalar, Word};
+use fl_interface::{Scalar, Word};
 use indexmap::IndexSet;
 use std::alloc::{AllocError, Global};
 

@@ -1,8 +1,8 @@
 -- The instructions of a block that is given with what follows it are its own, and then those of what follows.
 use Rattle.std.proofs.Common.{◌≡◌, ℕ, ◌+◌, ◌<◌, ◌≤◌, true, false, cond, eqb, List, ◌∷◌, ◌++◌, map, drop, length, get_or, refl, sym, ◌∙◌, ap, append_assoc}
 use Rattle.std.proofs.lemmas.List.{append-nil, drop_all}
-use Rattle.fl_check.specs.Interface.{TheType, scalar, enumeration, structure, array, TheTypes, no_more, field, fields_from, TheArgType, fixed}
-use Rattle.fl_check.specs.Sizes.{round_up, align_of, greatest_align, size_of}
+use Rattle.fl_interface.specs.Interface.{TheType, scalar, enumeration, structure, array, TheTypes, no_more, field, fields_from, TheArgType, fixed}
+use Rattle.fl_interface.specs.Sizes.{round_up, align_of, greatest_align, size_of}
 use Rattle.fl_stub.specs.declared.op.Op.{Op}
 use Rattle.fl_stub.specs.declared.op.Op.TheVariants.{Align}
 use Rattle.fl_stub.specs.declared.op.Column.{Column}
@@ -10,7 +10,7 @@ use Rattle.fl_stub.specs.Structure.{Block, finished, next, one, times, counted, 
 use Rattle.fl_compile.specs.declared.arguments.Standing.{Standing}
 use Rattle.fl_compile.specs.declared.arguments.Standing.TheVariants.{At, AfterDynamic}
 use Rattle.fl_compile.specs.Compiled.{padding, pad_op, zeros_then, type_then, fields_then, start_at, start_then, counted_then, arguments_block}
-use Rattle.fl_check.proofs.FieldSizes.{rest_is}
+use Rattle.fl_interface.proofs.FieldSizes.{rest_is}
 
 pub zeros_code : (column : Column) (count : ℕ) (rest : Block)
     → block_ops column (zeros_then column count rest) ≡ block_ops column (zeros_then column count finished) ++ block_ops column rest

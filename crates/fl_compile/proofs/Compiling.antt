@@ -3,10 +3,10 @@ use Rattle.std.proofs.Common.{◌≡◌, ℕ, zero, suc, ◌<◌, ◌≤◌, tru
 use Rattle.std.specs.Prelude.{slice_get, Some}
 use Rattle.std.specs.List.{list_all}
 use Rattle.std.proofs.lemmas.List.{length-map}
-use Rattle.fl_check.specs.Interface.{TheArgType, TheMessage}
-use Rattle.fl_check.specs.Checks.{is_argument_within, are_arguments_within, is_message_within}
+use Rattle.fl_interface.specs.Interface.{TheArgType, TheMessage}
+use Rattle.fl_interface.specs.Limits.{is_argument_within, are_arguments_within, is_message_within}
 use Rattle.fl_value.specs.declared.value.PlanNo.{PlanNo}
-use Rattle.fl_check.specs.Counts.{argument_words_fit}
+use Rattle.fl_interface.specs.Counts.{argument_words_fit}
 use Rattle.fl_stub.specs.declared.op.Op.{Op}
 use Rattle.fl_stub.specs.declared.op.Column.{Column}
 use Rattle.fl_stub.specs.Structure.{block_ops, last_op, IsCode, OneStructure}

@@ -5,9 +5,9 @@ use Rattle.std.specs.List.{list_all, range_with_len}
 use Rattle.std.proofs.lemmas.List.{length-append, length-replicate, get_or-replicate, get_or_append_left, get_or-append_right, get_or_past, ext_get_or, append-nil}
 use Rattle.std.proofs.lemmas.List.FromFn.{length-map-range_with_len, get_or-map-range_with_len}
 use Rattle.std.proofs.lemmas.Bool.{cases_lt, and_parts, leb-true, ltb-true, eqb-true, false≢true}
-use Rattle.fl_check.specs.Interface.{TheType, scalar, enumeration, structure, array, TheTypes, no_more, field, TheArgType, fixed, text, sized}
-use Rattle.fl_check.specs.Sizes.{round_up, scalar_size, size_of, align_of, greatest_align, IsAlign}
-use Rattle.fl_check.specs.Checks.{is_well_made, are_well_made, count_of as fields_in, is_type_within, is_argument_within}
+use Rattle.fl_interface.specs.Interface.{TheType, scalar, enumeration, structure, array, TheTypes, no_more, field, TheArgType, fixed, text, sized}
+use Rattle.fl_interface.specs.Sizes.{round_up, scalar_size, size_of, align_of, greatest_align, IsAlign}
+use Rattle.fl_interface.specs.Limits.{is_well_made, are_well_made, count_of as fields_in, is_type_within, is_argument_within}
 use Rattle.fl_value.specs.Value.{Datum, number, string, elements, fields, Data, nothing_more, also}
 use Rattle.fl_value.specs.Fits.{has_type, have_types, all_have_type, count_of, is_argument}
 use Rattle.fl_value.specs.Plan.{is_dynamic}
@@ -15,8 +15,8 @@ use Rattle.fl_layout.specs.Leaves.{Leaf, gap, whole, single, bits_of, value_onto
 use Rattle.fl_layout.specs.Places.{size, place}
 use Rattle.fl_wire.specs.Covered.{holds, is_covered, is_length}
 use Rattle.fl_wire.specs.Payload.{payload_bytes}
-use Rattle.fl_check.specs.Counts.{words_fit, all_words_fit, argument_words_fit}
-use Rattle.fl_check.proofs.Aligned.{align_eight, type_align, types_align, IsMultiple, multiple_of_less}
+use Rattle.fl_interface.specs.Counts.{words_fit, all_words_fit, argument_words_fit}
+use Rattle.fl_interface.proofs.Aligned.{align_eight, type_align, types_align, IsMultiple, multiple_of_less}
 use Rattle.fl_wire.proofs.Covers.{holds_before, holds_in, covered_past, covered_before, covered_in}
 use Rattle.fl_stub.specs.declared.mark.Mark.{Mark}
 use Rattle.fl_stub.specs.declared.mark.Mark.TheVariants.{Length, Number, Zero}

@@ -3,15 +3,15 @@ use Rattle.std.proofs.Common.{◌≡◌, ℕ, zero, suc, ◌+◌, ◌^◌, ◌�
 use Rattle.std.specs.Prelude.{slice_get, Some}
 use Rattle.std.specs.List.{list_all}
 use Rattle.std.proofs.lemmas.Bool.{and_parts, and_from, le-leb, leb-true, ltb-false, false≢true}
-use Rattle.fl_check.specs.declared.interface.Scalar.{Scalar}
-use Rattle.fl_check.specs.declared.interface.Scalar.TheVariants.{Uint8, Int8, Bool as BoolType, Char, Uint16, Int16, Uint32, Int32, Iref, Uint64, Int64, Uintptr, Intptr, Size, Errval}
-use Rattle.fl_check.specs.Interface.{TheType, scalar, enumeration, structure, array, TheTypes, no_more, field, TheArgType, fixed, text, sized, TheMessage, TheInterface}
-use Rattle.fl_check.specs.Sizes.{round_up, scalar_size, size_of, align_of, greatest_align, IsAlign}
-use Rattle.fl_check.specs.Depth.{array_depth_of, deepest_array, depth_of}
-use Rattle.fl_check.specs.Checks.{is_well_made, are_well_made, is_type_within, is_argument_within, are_arguments_within, is_message_within, are_messages_within, is_within_limits}
+use Rattle.fl_interface.specs.declared.interface.Scalar.{Scalar}
+use Rattle.fl_interface.specs.declared.interface.Scalar.TheVariants.{Uint8, Int8, Bool as BoolType, Char, Uint16, Int16, Uint32, Int32, Iref, Uint64, Int64, Uintptr, Intptr, Size, Errval}
+use Rattle.fl_interface.specs.Interface.{TheType, scalar, enumeration, structure, array, TheTypes, no_more, field, TheArgType, fixed, text, sized, TheMessage, TheInterface}
+use Rattle.fl_interface.specs.Sizes.{round_up, scalar_size, size_of, align_of, greatest_align, IsAlign}
+use Rattle.fl_interface.specs.Depth.{array_depth_of, deepest_array, depth_of}
+use Rattle.fl_interface.specs.Limits.{is_well_made, are_well_made, is_type_within, is_argument_within, are_arguments_within, is_message_within, are_messages_within, is_within_limits}
 use Rattle.fl_value.specs.declared.value.PlanNo.{PlanNo}
-use Rattle.fl_check.specs.Counts.{words_fit, all_words_fit, argument_words_fit, interface_words_fit}
-use Rattle.fl_check.proofs.Aligned.{by_align, scalar_align, type_align, types_align}
+use Rattle.fl_interface.specs.Counts.{words_fit, all_words_fit, argument_words_fit, interface_words_fit}
+use Rattle.fl_interface.proofs.Aligned.{by_align, scalar_align, type_align, types_align}
 use Rattle.fl_stub.specs.declared.op.Column.{Column}
 use Rattle.fl_stub.specs.declared.op.Column.TheVariants.{Send, Receive}
 use Rattle.fl_stub.specs.Structure.{Block, finished, next, one, is_width, is_within, is_step, block_fits, block_depth, IsCode}

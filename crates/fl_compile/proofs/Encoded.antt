@@ -2,17 +2,17 @@
 use Rattle.std.proofs.Common.{◌≡◌, ℕ, ◌+◌, ◌*◌, ◌^◌, ◌≤◌, true, List, [], ◌∷◌, ◌++◌, length, replicate, sym, ◌∙◌, ap, subst, arith, append_assoc, ◌&&◌, leb, eqb}
 use Rattle.std.proofs.lemmas.List.{length-append, length-replicate, append-nil}
 use Rattle.std.proofs.lemmas.Bool.{and_parts, leb-true, eqb-true, false≢true}
-use Rattle.fl_check.specs.Interface.{TheType, scalar, enumeration, structure, array, TheTypes, no_more, field}
-use Rattle.fl_check.specs.Sizes.{round_up, scalar_size, size_of, align_of, greatest_align, end_after, IsAlign}
-use Rattle.fl_check.specs.Checks.{is_well_made, are_well_made, count_of as fields_in}
+use Rattle.fl_interface.specs.Interface.{TheType, scalar, enumeration, structure, array, TheTypes, no_more, field}
+use Rattle.fl_interface.specs.Sizes.{round_up, scalar_size, size_of, align_of, greatest_align, end_after, IsAlign}
+use Rattle.fl_interface.specs.Limits.{is_well_made, are_well_made, count_of as fields_in}
 use Rattle.fl_value.specs.Value.{Datum, number, string, elements, fields, Data, nothing_more, also}
 use Rattle.fl_value.specs.Fits.{has_type, have_types, all_have_type, count_of, scalar_bits}
 use Rattle.fl_value.specs.Tape.{raw_of}
 use Rattle.fl_layout.specs.Leaves.{Leaf, gap, bits_of, value_onto, fields_onto, elements_onto}
 use Rattle.fl_layout.specs.Places.{size}
 use Rattle.fl_wire.specs.Payload.{payload_bytes}
-use Rattle.fl_check.specs.Counts.{words_fit, all_words_fit}
-use Rattle.fl_check.proofs.Aligned.{type_align, types_align, IsMultiple, multiple_add, multiple_of_less, size_multiple}
+use Rattle.fl_interface.specs.Counts.{words_fit, all_words_fit}
+use Rattle.fl_interface.proofs.Aligned.{type_align, types_align, IsMultiple, multiple_add, multiple_of_less, size_multiple}
 use Rattle.fl_stub.specs.Meaning.{number_bytes}
 use Rattle.fl_compile.specs.Compiled.{padding}
 use Rattle.fl_compile.proofs.Paddings.{padded, padded_multiple, no_padding, padding_after}

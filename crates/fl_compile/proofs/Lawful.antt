@@ -2,8 +2,8 @@
 use Rattle.std.proofs.Common.{◌≡◌, ℕ, ◌+◌, true, false, List, [], map, length, refl, sym, ◌∙◌, ap, subst, arith}
 use Rattle.std.specs.Prelude.{Option}
 use Rattle.std.specs.List.{zip, list_all, flat_map}
-use Rattle.fl_check.specs.Interface.{TheArgType, TheMessage, TheInterface}
-use Rattle.fl_check.specs.Checks.{are_arguments_within}
+use Rattle.fl_interface.specs.Interface.{TheArgType, TheMessage, TheInterface}
+use Rattle.fl_interface.specs.Limits.{are_arguments_within}
 use Rattle.fl_value.specs.declared.value.PlanNo.{PlanNo}
 use Rattle.fl_value.specs.Value.{Datum, TheCall}
 use Rattle.fl_value.specs.Fits.{fits_of, fit_message, are_arguments}
@@ -11,7 +11,7 @@ use Rattle.fl_value.specs.Plan.{arranged}
 use Rattle.fl_value.specs.Tape.{Argument, kind, tape_of_argument, tape_of, types_of}
 use Rattle.fl_layout.specs.Leaves.{arguments_onto, types_of as leaf_types_of}
 use Rattle.fl_wire.specs.Payload.{payload_bytes, payload_of}
-use Rattle.fl_check.specs.Counts.{argument_words_fit}
+use Rattle.fl_interface.specs.Counts.{argument_words_fit}
 use Rattle.fl_stub.specs.declared.op.Column.{Column}
 use Rattle.fl_stub.specs.declared.op.Column.TheVariants.{Send, Receive}
 use Rattle.fl_stub.specs.Meaning.{BlockTurns, moment_first, moment_last, Turns}

@@ -3,9 +3,9 @@ use Rattle.std.proofs.Common.{◌≡◌, ℕ, suc, ◌+◌, true, false, Bool, e
 use Rattle.std.specs.List.{list_all, flat_map}
 use Rattle.std.proofs.lemmas.List.{length-append, length-replicate, append-nil}
 use Rattle.std.proofs.lemmas.Bool.{and_parts, eqb-true, false≢true}
-use Rattle.fl_check.specs.Interface.{TheType, scalar, enumeration, structure, array, TheTypes, no_more, field, TheArgType, fixed, text, sized}
-use Rattle.fl_check.specs.Sizes.{round_up, scalar_size, size_of, align_of, greatest_align}
-use Rattle.fl_check.proofs.Aligned.{type_align}
+use Rattle.fl_interface.specs.Interface.{TheType, scalar, enumeration, structure, array, TheTypes, no_more, field, TheArgType, fixed, text, sized}
+use Rattle.fl_interface.specs.Sizes.{round_up, scalar_size, size_of, align_of, greatest_align}
+use Rattle.fl_interface.proofs.Aligned.{type_align}
 use Rattle.fl_value.specs.Value.{Datum, number, string, elements, fields, Data, nothing_more, also}
 use Rattle.fl_value.specs.Fits.{has_type, have_types, all_have_type, count_of, scalar_bits, is_argument}
 use Rattle.fl_value.specs.Plan.{is_dynamic}

@@ -2,11 +2,11 @@
 use Rattle.std.proofs.Common.{◌≡◌, ℕ, zero, suc, ◌+◌, ◌*◌, ◌<◌, ◌≤◌, true, ◌&&◌, List, [], map, drop, length, get_or, sym, ◌∙◌, ap, subst, arith}
 use Rattle.std.proofs.lemmas.List.{drop_all}
 use Rattle.std.proofs.lemmas.Bool.{and_parts, leb-true}
-use Rattle.fl_check.specs.Interface.{TheType, structure, array, field, fields_from}
-use Rattle.fl_check.specs.Sizes.{size_of, align_of, greatest_align, end_after, round_up}
-use Rattle.fl_check.specs.Checks.{is_well_made, are_well_made}
-use Rattle.fl_check.proofs.Aligned.{round_least}
-use Rattle.fl_check.proofs.FieldSizes.{end_least, rest_is}
+use Rattle.fl_interface.specs.Interface.{TheType, structure, array, field, fields_from}
+use Rattle.fl_interface.specs.Sizes.{size_of, align_of, greatest_align, end_after, round_up}
+use Rattle.fl_interface.specs.Limits.{is_well_made, are_well_made}
+use Rattle.fl_interface.proofs.Aligned.{round_least}
+use Rattle.fl_interface.proofs.FieldSizes.{end_least, rest_is}
 
 -- ---- parts of a small type
 

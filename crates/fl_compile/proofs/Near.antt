@@ -2,10 +2,10 @@
 use Rattle.std.proofs.Common.{◌≡◌, ℕ, ◌+◌, ◌*◌, ◌<◌, ◌≤◌, true, ◌&&◌, List, ◌∷◌, map, drop, length, get_or, sym, ◌∙◌, ap, subst, arith}
 use Rattle.std.proofs.lemmas.List.{drop_more}
 use Rattle.std.proofs.lemmas.Bool.{and_parts}
-use Rattle.fl_check.specs.Interface.{TheArgType}
-use Rattle.fl_check.specs.Sizes.{round_up, IsAlign}
-use Rattle.fl_check.specs.Checks.{is_argument_within, are_arguments_within}
-use Rattle.fl_check.proofs.Aligned.{by_align}
+use Rattle.fl_interface.specs.Interface.{TheArgType}
+use Rattle.fl_interface.specs.Sizes.{round_up, IsAlign}
+use Rattle.fl_interface.specs.Limits.{is_argument_within, are_arguments_within}
+use Rattle.fl_interface.proofs.Aligned.{by_align}
 use Rattle.fl_compile.specs.declared.arguments.Standing.{Standing}
 use Rattle.fl_compile.specs.declared.arguments.Standing.TheVariants.{At, AfterDynamic}
 use Rattle.fl_compile.specs.Compiled.{start_at}

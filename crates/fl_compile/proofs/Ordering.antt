@@ -4,9 +4,9 @@ use Rattle.std.specs.Prelude.{filter}
 use Rattle.std.specs.List.{zip, list_all}
 use Rattle.std.proofs.lemmas.Bool.{and_parts, and_from, eqb-true, false≢true}
 use Rattle.std.proofs.lemmas.List.{map-append}
-use Rattle.fl_check.specs.Interface.{TheArgType, fixed, text, sized}
-use Rattle.fl_check.specs.Sizes.{align_of}
-use Rattle.fl_check.specs.Checks.{is_argument_within, are_arguments_within}
+use Rattle.fl_interface.specs.Interface.{TheArgType, fixed, text, sized}
+use Rattle.fl_interface.specs.Sizes.{align_of}
+use Rattle.fl_interface.specs.Limits.{is_argument_within, are_arguments_within}
 use Rattle.fl_value.specs.declared.value.PlanNo.{PlanNo}
 use Rattle.fl_value.specs.declared.value.PlanNo.TheVariants.{One, Two}
 use Rattle.fl_value.specs.Value.{Datum}
@@ -14,8 +14,8 @@ use Rattle.fl_value.specs.Fits.{is_argument, are_arguments}
 use Rattle.fl_value.specs.Plan.{arranged, is_fixed_at, is_dynamic, fixed_rank, rank_of}
 use Rattle.fl_value.specs.Tape.{Argument, kind}
 use Rattle.fl_value.proofs.Ranked.{arranged_ranks}
-use Rattle.fl_check.specs.Counts.{argument_words_fit}
-use Rattle.fl_check.proofs.Aligned.{by_align, type_align}
+use Rattle.fl_interface.specs.Counts.{argument_words_fit}
+use Rattle.fl_interface.proofs.Aligned.{by_align, type_align}
 use Rattle.fl_compile.proofs.Placing.{is_sound}
 
 -- ---- what holds of all holds of all in the plan's order

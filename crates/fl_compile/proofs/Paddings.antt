@@ -1,10 +1,10 @@
 -- Zeros up to multiples of alignments.
 use Rattle.std.proofs.Common.{◌≡◌, ℕ, ◌+◌, ◌%◌, sym, subst, arith}
-use Rattle.fl_check.specs.Sizes.{round_up}
+use Rattle.fl_interface.specs.Sizes.{round_up}
 use Rattle.fl_stub.specs.Meaning.{gap_to_8}
 use Rattle.fl_compile.specs.Compiled.{padding}
-use Rattle.fl_check.specs.Sizes.{IsAlign}
-use Rattle.fl_check.proofs.Aligned.{by_align, IsMultiple, rounded}
+use Rattle.fl_interface.specs.Sizes.{IsAlign}
+use Rattle.fl_interface.proofs.Aligned.{by_align, IsMultiple, rounded}
 
 pub padded : (a n : ℕ) → n + padding n a ≡ round_up n a
 padded a n = omega arith

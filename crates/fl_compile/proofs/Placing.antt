@@ -3,9 +3,9 @@ use Rattle.std.proofs.Common.{◌≡◌, ℕ, ◌+◌, ◌%◌, ◌^◌, ◌≤�
 use Rattle.std.specs.List.{list_all, flat_map}
 use Rattle.std.proofs.lemmas.List.{length-append, length-replicate, append-nil}
 use Rattle.std.proofs.lemmas.Bool.{and_parts, and_from, leb-true, le-leb, false≢true}
-use Rattle.fl_check.specs.Interface.{TheType, TheArgType, fixed, text, sized}
-use Rattle.fl_check.specs.Sizes.{size_of, align_of}
-use Rattle.fl_check.specs.Checks.{is_well_made, is_type_within, is_argument_within}
+use Rattle.fl_interface.specs.Interface.{TheType, TheArgType, fixed, text, sized}
+use Rattle.fl_interface.specs.Sizes.{size_of, align_of}
+use Rattle.fl_interface.specs.Limits.{is_well_made, is_type_within, is_argument_within}
 use Rattle.fl_value.specs.Value.{Datum, number, string, elements, fields}
 use Rattle.fl_value.specs.Fits.{has_type, all_have_type, count_of, is_argument}
 use Rattle.fl_value.specs.Plan.{is_dynamic}
@@ -13,8 +13,8 @@ use Rattle.fl_value.specs.Tape.{value_tape, elements_tape, argument_tape, Argume
 use Rattle.fl_layout.specs.Leaves.{Leaf, gap, whole, single, elements_onto, bytes_onto, argument_onto, start_onto, arguments_onto}
 use Rattle.fl_layout.specs.Places.{size}
 use Rattle.fl_wire.specs.Payload.{payload_bytes}
-use Rattle.fl_check.specs.Counts.{words_fit, argument_words_fit}
-use Rattle.fl_check.proofs.Aligned.{align_eight, type_align, IsMultiple}
+use Rattle.fl_interface.specs.Counts.{words_fit, argument_words_fit}
+use Rattle.fl_interface.proofs.Aligned.{align_eight, type_align, IsMultiple}
 use Rattle.fl_stub.specs.declared.op.Op.TheVariants.{Align}
 use Rattle.fl_stub.specs.declared.op.Column.{Column}
 use Rattle.fl_stub.specs.declared.op.Column.TheVariants.{Receive}

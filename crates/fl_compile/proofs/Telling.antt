@@ -2,15 +2,15 @@
 use Rattle.std.proofs.Common.{◌≡◌, ℕ, true, false, Bool, cond, List, [], map, refl, sym, ◌∙◌, ap, subst}
 use Rattle.std.specs.Prelude.{Option}
 use Rattle.std.specs.List.{list_all, flat_map}
-use Rattle.fl_check.specs.Interface.{TheArgType, TheMessage}
-use Rattle.fl_check.specs.Checks.{are_arguments_within}
+use Rattle.fl_interface.specs.Interface.{TheArgType, TheMessage}
+use Rattle.fl_interface.specs.Limits.{are_arguments_within}
 use Rattle.fl_value.specs.declared.value.PlanNo.{PlanNo}
 use Rattle.fl_value.specs.Value.{Datum}
 use Rattle.fl_value.specs.Fits.{fit_message, are_arguments}
 use Rattle.fl_value.specs.Plan.{arranged}
 use Rattle.fl_value.specs.Tape.{kind, tape_of_argument, types_of}
 use Rattle.fl_layout.specs.Leaves.{types_of as leaf_types_of}
-use Rattle.fl_check.specs.Counts.{argument_words_fit}
+use Rattle.fl_interface.specs.Counts.{argument_words_fit}
 use Rattle.fl_wire.specs.declared.fault.WireFault.TheVariants.{NotZero, OutOfType, TooLong}
 use Rattle.fl_stub.specs.declared.mark.Mark.{Mark}
 use Rattle.fl_stub.specs.declared.mark.Mark.TheVariants.{Length, Number, Zero}

@@ -1,5 +1,5 @@
 -- The two codes of each message.
-use Rattle.fl_check.specs.Interface.{TheMessage}
+use Rattle.fl_interface.specs.Interface.{TheMessage}
 use Rattle.fl_value.specs.declared.value.PlanNo.{PlanNo}
 use Rattle.fl_stub.specs.declared.op.Column.{Column}
 use Rattle.fl_stub.specs.declared.op.Column.TheVariants.{Send, Receive}

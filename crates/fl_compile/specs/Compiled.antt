@@ -1,10 +1,10 @@
 -- The compiler's code, by structure: of a type, of an argument after what stands before it, of a message under a
 -- plan. Each block is given with what follows it, so that nothing has to be joined.
 use Rattle.std.specs.Prelude.{ℕ, ◌+◌, ◌-◌, ◌==◌, if◌then◌else◌, List, [], ◌∷◌, ◌++◌}
-use Rattle.fl_check.specs.declared.interface.Scalar.{Scalar}
-use Rattle.fl_check.specs.declared.interface.Scalar.TheVariants.{Bool as BoolType, Char}
-use Rattle.fl_check.specs.Interface.{TheType, scalar, enumeration, structure, array, TheTypes, no_more, field, TheArgType, fixed, text, sized, TheMessage}
-use Rattle.fl_check.specs.Sizes.{round_up, scalar_size, align_of, greatest_align, size_of}
+use Rattle.fl_interface.specs.declared.interface.Scalar.{Scalar}
+use Rattle.fl_interface.specs.declared.interface.Scalar.TheVariants.{Bool as BoolType, Char}
+use Rattle.fl_interface.specs.Interface.{TheType, scalar, enumeration, structure, array, TheTypes, no_more, field, TheArgType, fixed, text, sized, TheMessage}
+use Rattle.fl_interface.specs.Sizes.{round_up, scalar_size, align_of, greatest_align, size_of}
 use Rattle.fl_value.specs.declared.value.PlanNo.{PlanNo}
 use Rattle.fl_value.specs.Plan.{arranged}
 use Rattle.fl_stub.specs.declared.op.Op.{Op}

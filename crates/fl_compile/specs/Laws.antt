@@ -2,14 +2,14 @@
 -- those of every accepted interface do.
 use Rattle.std.specs.Prelude.{◌≡◌, ◌↔◌, ℕ, true, List, slice_get, Some}
 use Rattle.fl_base.specs.declared.fragment.Frag.{Frag}
-use Rattle.fl_check.specs.Interface.{TheMessage, TheInterface}
-use Rattle.fl_check.specs.Checks.{is_within_limits}
+use Rattle.fl_interface.specs.Interface.{TheMessage, TheInterface}
+use Rattle.fl_interface.specs.Limits.{is_within_limits}
 use Rattle.fl_value.specs.Value.{TheCall}
 use Rattle.fl_value.specs.Fits.{fits_of}
 use Rattle.fl_value.specs.Tape.{tape_of}
 use Rattle.fl_value.specs.declared.value.PlanNo.{PlanNo}
 use Rattle.fl_wire.specs.Payload.{payload_of}
-use Rattle.fl_check.specs.Counts.{interface_words_fit}
+use Rattle.fl_interface.specs.Counts.{interface_words_fit}
 use Rattle.fl_wire.specs.Wrong.{fault_at, HasFault, IsWrongAt}
 use Rattle.fl_wire.specs.declared.fault.WireFault.{WireFault}
 use Rattle.fl_wire.specs.declared.fault.WireFault.TheVariants.{NotZero, OutOfType, TooLong}

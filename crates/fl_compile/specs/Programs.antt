@@ -1,7 +1,7 @@
 -- Programs as contracts see them.
 use Rattle.std.specs.Prelude.{ℕ, Option, slice_get}
 use Rattle.std.specs.Option.{option_map}
-use Rattle.fl_check.specs.Interface.{TheInterface, interface_of}
+use Rattle.fl_interface.specs.Interface.{TheInterface, interface_of}
 use Rattle.fl_value.specs.declared.value.PlanNo.{PlanNo}
 use Rattle.fl_stub.specs.declared.op.Column.{Column}
 use Rattle.fl_stub.specs.Code.{TheCode}

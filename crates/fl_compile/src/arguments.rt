@@ -1,16 +1,16 @@
 //! The code of arguments, one after another.
 
 ghost use Rattle.std.specs.Prelude.{◌≡◌, ◌≤◌, ◌+◌, ◌++◌, ℕ, length, true, IfOk, OnOk};
-ghost use Rattle.fl_check.specs.Interface.{type_of, arg_type_of, fixed};
-ghost use Rattle.fl_check.specs.Sizes.{size_of};
-ghost use Rattle.fl_check.specs.Checks.{is_well_made, is_argument_within, are_arguments_within};
+ghost use Rattle.fl_interface.specs.Interface.{type_of, arg_type_of, fixed};
+ghost use Rattle.fl_interface.specs.Sizes.{size_of};
+ghost use Rattle.fl_interface.specs.Limits.{is_well_made, is_argument_within, are_arguments_within};
 ghost use Rattle.fl_stub.specs.Structure.{finished, next, one, block_ops, length_op, last_op};
 ghost use Rattle.fl_compile.specs.Compiled.{start_then, start_at, text_op, type_then, counted_then, arguments_code as code_of};
 ghost use Rattle.fl_compile.specs.Arguments.{types_in, Appends};
 ghost use Rattle.fl_compile.specs.Standings.{StandsBy};
 
 use crate::types::{push_type, push_zeros};
-use fl_check::{ArgType, FixedType};
+use fl_interface::{ArgType, FixedType};
 use fl_stub::{Column, Op};
 use std::alloc::{AllocError, Global};
 

@@ -2,16 +2,16 @@
 
 ghost use Rattle.std.specs.Prelude.{◌≡◌, true, map, IfOk};
 ghost use Rattle.std.specs.List.{list_all};
-ghost use Rattle.fl_check.specs.Interface.{arg_type_of, interface_of, message_of};
-ghost use Rattle.fl_check.specs.Checks.{is_message_within};
-ghost use Rattle.fl_check.specs.Counts.{argument_words_fit};
+ghost use Rattle.fl_interface.specs.Interface.{arg_type_of, interface_of, message_of};
+ghost use Rattle.fl_interface.specs.Limits.{is_message_within};
+ghost use Rattle.fl_interface.specs.Counts.{argument_words_fit};
 ghost use Rattle.fl_compile.specs.Codes.{compiled_code, compiled_codes};
 ghost use Rattle.fl_compile.specs.Programs.{program_of};
 
 use crate::arguments::arguments_code;
 use crate::order::in_order;
 use crate::program::{Compiled, MessageCode, Program};
-use fl_check::{Interface, Message};
+use fl_interface::{Interface, Message};
 use fl_stub::{Code, Column, VerifiedCode, one_structure, verify};
 use fl_value::PlanNo;
 use std::alloc::{AllocError, Global};

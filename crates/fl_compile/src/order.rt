@@ -1,11 +1,11 @@
 //! The plan's order of arguments.
 
 ghost use Rattle.std.specs.Prelude.{◌≡◌, ◌==◌, ◌++◌, map, IfOk, OnOk};
-ghost use Rattle.fl_check.specs.Interface.{arg_type_of};
+ghost use Rattle.fl_interface.specs.Interface.{arg_type_of};
 ghost use Rattle.fl_value.specs.Plan.{arranged, of_rank, rank_of};
 ghost use Rattle.fl_compile.specs.Arguments.{types_in};
 
-use fl_check::ArgType;
+use fl_interface::ArgType;
 use fl_value::{PlanNo, RANKS};
 use std::alloc::{AllocError, Global};
 

@@ -1,12 +1,12 @@
 //! Programs: an interface, and the send and receive code of each of its messages.
 
 ghost use Rattle.std.specs.Prelude.{◌≡◌, true, map, IfOk};
-ghost use Rattle.fl_check.specs.Interface.{interface_of, message_of};
-ghost use Rattle.fl_check.specs.Counts.{interface_words_fit};
+ghost use Rattle.fl_interface.specs.Interface.{interface_of, message_of};
+ghost use Rattle.fl_interface.specs.Counts.{interface_words_fit};
 ghost use Rattle.fl_compile.specs.Codes.{compiled_codes};
 
 use fl_base::MsgNo;
-use fl_check::Interface;
+use fl_interface::Interface;
 use fl_layout::Plans;
 use fl_stub::VerifiedCode;
 use fl_value::PlanNo;
@@ -42,8 +42,8 @@ pub struct Program {
 impl Program {
     ghost use Rattle.std.specs.Prelude.{◌≡◌, true, map, IfOk};
     ghost use Rattle.std.specs.Option.{option_map};
-    ghost use Rattle.fl_check.specs.Interface.{interface_of};
-    ghost use Rattle.fl_check.specs.Counts.{interface_words_fit};
+    ghost use Rattle.fl_interface.specs.Interface.{interface_of};
+    ghost use Rattle.fl_interface.specs.Counts.{interface_words_fit};
     ghost use Rattle.fl_stub.specs.declared.op.Column.TheVariants.{Send, Receive};
     ghost use Rattle.fl_compile.specs.Programs.{program_of, code_in};
 

@@ -1,13 +1,13 @@
 //! The code of types.
 
 ghost use Rattle.std.specs.Prelude.{◌≡◌, ◌≤◌, ◌++◌, map, true, OnOk};
-ghost use Rattle.fl_check.specs.Interface.{type_of, fields_from, structure};
-ghost use Rattle.fl_check.specs.Sizes.{size_of, greatest_align};
-ghost use Rattle.fl_check.specs.Checks.{is_well_made, are_well_made};
+ghost use Rattle.fl_interface.specs.Interface.{type_of, fields_from, structure};
+ghost use Rattle.fl_interface.specs.Sizes.{size_of, greatest_align};
+ghost use Rattle.fl_interface.specs.Limits.{is_well_made, are_well_made};
 ghost use Rattle.fl_stub.specs.Structure.{finished, next, times, block_ops};
 ghost use Rattle.fl_compile.specs.Compiled.{scalar_op, enum_op, pad_op, zeros_then, type_then, fields_then};
 
-use fl_check::{FixedType, Scalar, greatest_alignment};
+use fl_interface::{FixedType, Scalar, greatest_alignment};
 use fl_stub::{Column, Op};
 use std::alloc::AllocError;
 

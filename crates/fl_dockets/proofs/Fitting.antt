@@ -5,8 +5,8 @@ use Rattle.std.proofs.lemmas.Bool.{cases_lt, ltb-true}
 use Rattle.fl_base.specs.declared.identity.EndId.{EndId}
 use Rattle.fl_base.specs.declared.identity.MsgNo.{MsgNo}
 use Rattle.fl_base.specs.Ends.{peer}
-use Rattle.fl_check.specs.SameTypes.{same_arguments}
-use Rattle.fl_check.proofs.SameTypes.{same_arguments_are}
+use Rattle.fl_interface.specs.SameTypes.{same_arguments}
+use Rattle.fl_interface.proofs.SameTypes.{same_arguments_are}
 use Rattle.fl_compile.specs.declared.program.Program.{Program}
 use Rattle.fl_nameserv.specs.Registrations.{TheRegistration, by_iref}
 use Rattle.fl_queues.specs.Calls.{Planned}

@@ -2,7 +2,7 @@
 use Rattle.std.specs.Prelude.{ℕ, ◌≡◌, ◌⊎◌, ◌&&◌, ◌||◌, nat_le, not, if◌then◌else◌, List, length, slice_get, Option, Some, None, is_some, IsSome}
 use Rattle.fl_base.specs.declared.identity.EndId.{EndId}
 use Rattle.fl_base.specs.Ends.{peer}
-use Rattle.fl_check.specs.SameTypes.{same_arguments}
+use Rattle.fl_interface.specs.SameTypes.{same_arguments}
 use Rattle.fl_value.specs.Fits.{fits_of}
 use Rattle.fl_value.specs.Value.{TheCall}
 use Rattle.fl_compile.specs.declared.program.Program.{Program}

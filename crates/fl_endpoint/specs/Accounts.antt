@@ -2,8 +2,8 @@
 use Rattle.std.specs.Prelude.{◌≡◌, ◌⊎◌, ℕ, ◌≤◌, ◌<◌, ◌^◌, true, false, List, [], ◌∷◌, ◌++◌, map, drop, length, Option, Some, None}
 use Rattle.std.specs.List.{flat_map}
 use Rattle.fl_base.specs.declared.fragment.Frag.{Frag}
-use Rattle.fl_check.specs.Interface.{TheInterface}
-use Rattle.fl_check.specs.Checks.{is_within_limits}
+use Rattle.fl_interface.specs.Interface.{TheInterface}
+use Rattle.fl_interface.specs.Limits.{is_within_limits}
 use Rattle.fl_value.specs.Value.{TheCall}
 use Rattle.fl_wire.specs.Payload.{frags_on}
 use Rattle.fl_wire.specs.Reading.{IsPart, AllFit}

@@ -1,7 +1,7 @@
 -- What holds of ends over time, whatever their sides: laws.
 use Rattle.std.specs.Prelude.{◌≡◌, ℕ, ◌^◌, ◌<◌, true, List, [], ◌∷◌, ◌++◌, map, length, Option, Result, Ok, Err}
 use Rattle.fl_base.specs.declared.fragment.Frag.{Frag}
-use Rattle.fl_check.specs.Checks.{is_within_limits}
+use Rattle.fl_interface.specs.Limits.{is_within_limits}
 use Rattle.fl_value.specs.Value.{TheCall, call_of}
 use Rattle.fl_layout.specs.Places.{count}
 use Rattle.fl_wire.specs.Reading.{AllFit, IsPart, Reads}

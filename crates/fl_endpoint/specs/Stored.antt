@@ -4,7 +4,7 @@ use Rattle.std.specs.Prelude.{◌≡◌, ℕ, ◌+◌, ◌≤◌, true, false, I
 use Rattle.std.specs.VecDeque.{deque_capacity}
 use Rattle.fl_base.specs.declared.fragment.Frag.{Frag}
 use Rattle.fl_base.specs.Control.{is_ack_only, bare}
-use Rattle.fl_check.specs.Interface.{TheMessage}
+use Rattle.fl_interface.specs.Interface.{TheMessage}
 use Rattle.fl_value.specs.Value.{TheCall}
 use Rattle.fl_value.specs.declared.value.PlanNo.{PlanNo}
 use Rattle.fl_wire.specs.Payload.{frags_on}

@@ -1,7 +1,7 @@
 //! What an end takes: calls that are put together from fragments, and the replies to them.
 
 ghost use Rattle.std.specs.Prelude.{◌≡◌, [], true, IfOk};
-ghost use Rattle.fl_check.specs.Interface.{interface_of};
+ghost use Rattle.fl_interface.specs.Interface.{interface_of};
 ghost use Rattle.fl_value.specs.Value.{call_of};
 ghost use Rattle.fl_value.specs.Fits.{fits_of};
 ghost use Rattle.fl_compile.specs.Programs.{program_of};

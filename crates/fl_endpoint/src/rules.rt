@@ -2,12 +2,12 @@
 
 ghost use Rattle.std.specs.Prelude.{◌≡◌, ◌<◌, false, length, slice_get, slice_set, replicate, None, Some, IfOk};
 ghost use Rattle.std.specs.Option.{option_map};
-ghost use Rattle.fl_check.specs.Interface.{message_of, interface_of};
+ghost use Rattle.fl_interface.specs.Interface.{message_of, interface_of};
 ghost use Rattle.fl_endpoint.specs.Rules.{rules_of, rule_of, AreNone};
 ghost use Rattle.fl_endpoint.specs.View.{rule_at, has_rules};
 
 use fl_base::MsgNo;
-use fl_check::{Interface, Message};
+use fl_interface::{Interface, Message};
 use std::alloc::{AllocError, Global};
 
 // A message of an interface; none where it has no such message.

@@ -1,7 +1,7 @@
 -- The reply rules of an end that is made in a run: its jobs set them, before it handles a call. Law.
 use Rattle.std.specs.Prelude.{ℕ, ◌≡◌, ◌⊎◌, List, [], ◌∷◌, slice_get, Option, Some, None}
 use Rattle.fl_base.specs.declared.identity.EndId.{EndId}
-use Rattle.fl_check.specs.Interface.{TheInterface}
+use Rattle.fl_interface.specs.Interface.{TheInterface}
 use Rattle.fl_endpoint.specs.View.{interface_in}
 use Rattle.fl_endpoint.specs.Events.{IsMessage, SameTypes}
 use Rattle.fl_core.specs.View.{TheSeat}

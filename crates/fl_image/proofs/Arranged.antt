@@ -3,10 +3,10 @@ use Rattle.std.proofs.Common.{◌≡◌, ℕ, ◌+◌, ◌*◌, ◌≤◌, Bool,
 use Rattle.std.specs.Prelude.{nat_le, not, filter}
 use Rattle.std.specs.List.{list_all}
 use Rattle.std.proofs.lemmas.Bool.{and_parts, and_from, leb-true}
-use Rattle.fl_check.specs.Interface.{TheType, TheArgType, fixed, text, sized, TheMessage, TheInterface}
-use Rattle.fl_check.specs.Sizes.{size_of, align_of}
-use Rattle.fl_check.specs.Checks.{is_type_within, is_argument_within, are_arguments_within, is_message_within, are_messages_within, are_distinct, is_within_limits}
-use Rattle.fl_check.specs.Places.{is_too_long}
+use Rattle.fl_interface.specs.Interface.{TheType, TheArgType, fixed, text, sized, TheMessage, TheInterface}
+use Rattle.fl_interface.specs.Sizes.{size_of, align_of}
+use Rattle.fl_interface.specs.Limits.{is_type_within, is_argument_within, are_arguments_within, is_message_within, are_messages_within, are_distinct, is_within_limits}
+use Rattle.fl_interface.specs.Limits.{is_too_long}
 use Rattle.fl_value.specs.declared.value.PlanNo.{PlanNo}
 use Rattle.fl_value.specs.declared.value.PlanNo.TheVariants.{One, Two}
 use Rattle.fl_value.specs.Plan.{is_fixed_at, is_dynamic, arranged}
@@ -18,7 +18,7 @@ use Rattle.fl_compile.specs.Compiled.{padding, text_op, type_then, start_at, sta
 use Rattle.fl_image.specs.Image.{Codes, codes_of, compiled, is_name, argument_has_short_enums, is_message_spellable, has_image}
 use Rattle.fl_image.proofs.ReadBack.{AllAfter}
 use Rattle.fl_image.proofs.CodeLaws.{IsSpelled, AreSpelled}
-use Rattle.fl_check.proofs.Aligned.{type_align}
+use Rattle.fl_interface.proofs.Aligned.{type_align}
 use Rattle.fl_image.proofs.WholeLaws.{HasFields}
 use Rattle.fl_image.proofs.Fitting.{within_type, small_type, image_has}
 use Rattle.fl_image.proofs.Places.{length_of_map}

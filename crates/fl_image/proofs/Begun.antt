@@ -1,7 +1,7 @@
 -- What had been read where memory ran out.
 use Rattle.std.proofs.Common.{◌≡◌, ℕ, List, ◌++◌, length, inl, Ok, refl, ap, ◌∙◌, append_assoc}
 use Rattle.std.specs.List.{flat_map}
-use Rattle.fl_check.specs.Interface.{TheInterface}
+use Rattle.fl_interface.specs.Interface.{TheInterface}
 use Rattle.fl_value.specs.declared.value.PlanNo.{PlanNo}
 use Rattle.fl_image.specs.declared.fault.ImageFault.{ImageFault}
 use Rattle.fl_image.specs.declared.fault.ImageFault.TheVariants as faults

@@ -3,11 +3,11 @@ use Rattle.std.proofs.Common.{◌≡◌, ℕ, zero, suc, ◌+◌, ◌*◌, ◌<�
 use Rattle.std.specs.Prelude.{nat_lt}
 use Rattle.std.proofs.Math.Nat.{mul-le-mul_right}
 use Rattle.std.proofs.lemmas.Bool.{cases_lt, lt-ltb}
-use Rattle.fl_check.specs.Interface.{TheType, structure, array, TheTypes, no_more, field, TheArgType, fixed, text, sized}
-use Rattle.fl_check.specs.Sizes.{size_of, align_of, greatest_align, end_after, round_up, IsAlign}
-use Rattle.fl_check.specs.Depth.{depth_of, deepest, array_depth_of, deepest_array}
-use Rattle.fl_check.specs.Payload.{greatest_end}
-use Rattle.fl_check.proofs.Aligned.{align_one, align_eight, align_small, greater_align, type_align, types_align, round_least}
+use Rattle.fl_interface.specs.Interface.{TheType, structure, array, TheTypes, no_more, field, TheArgType, fixed, text, sized}
+use Rattle.fl_interface.specs.Sizes.{size_of, align_of, greatest_align, end_after, round_up, IsAlign}
+use Rattle.fl_interface.specs.Depth.{depth_of, deepest, array_depth_of, deepest_array}
+use Rattle.fl_interface.specs.Payload.{greatest_end}
+use Rattle.fl_interface.proofs.Aligned.{align_one, align_eight, align_small, greater_align, type_align, types_align, round_least}
 use Rattle.fl_image.specs.Limits.{Near, Measures, SoFar, Reaches}
 use Rattle.fl_image.specs.declared.limits.Measured.{Measured}
 use Rattle.fl_image.specs.declared.limits.Extent.{Extent}

@@ -6,12 +6,12 @@ use Rattle.std.specs.Str.{bytes_eq}
 use Rattle.std.proofs.lemmas.Bool.{and_parts, or_parts, leb-true, le-leb, ltb-false}
 use Rattle.std.proofs.lemmas.List.{map-append}
 use Rattle.std.proofs.lemmas.Slice.Eq.{bytes_eq-Decides}
-use Rattle.fl_check.specs.Interface.{TheType, scalar, enumeration, structure, array, TheTypes, no_more, field, TheArgType, fixed, text, sized, TheMessage, TheInterface, fields_from}
-use Rattle.fl_check.specs.Sizes.{size_of}
-use Rattle.fl_check.specs.Depth.{depth_of, deepest, array_depth_of, is_too_big}
-use Rattle.fl_check.specs.Known.{is_among}
-use Rattle.fl_check.specs.Checks.{count_of, is_well_made, are_well_made, is_type_within, is_argument_within, are_arguments_within, is_message_within, are_messages_within, are_distinct, is_within_limits}
-use Rattle.fl_check.specs.Places.{is_too_long}
+use Rattle.fl_interface.specs.Interface.{TheType, scalar, enumeration, structure, array, TheTypes, no_more, field, TheArgType, fixed, text, sized, TheMessage, TheInterface, fields_from}
+use Rattle.fl_interface.specs.Sizes.{size_of}
+use Rattle.fl_interface.specs.Depth.{depth_of, deepest, array_depth_of, is_too_big}
+use Rattle.fl_interface.specs.Limits.{is_among}
+use Rattle.fl_interface.specs.Limits.{count_of, is_well_made, are_well_made, is_type_within, is_argument_within, are_arguments_within, is_message_within, are_messages_within, are_distinct, is_within_limits}
+use Rattle.fl_interface.specs.Limits.{is_too_long}
 use Rattle.fl_image.specs.Image.{is_name, has_short_enums, have_short_enums, argument_has_short_enums, is_message_spellable, has_image}
 use Rattle.fl_image.specs.Reading.{is_next, name_at, messages_at, interface_at}
 use Rattle.fl_image.proofs.ReadBack.{IsBytes, AllAfter}

@@ -3,8 +3,8 @@ use Rattle.std.proofs.Common.{◌≡◌, ℕ, ◌<◌, ◌≤◌, ◌⊎◌, inl
 use Rattle.std.specs.Prelude.{nat_le}
 use Rattle.std.specs.List.{flat_map}
 use Rattle.std.proofs.lemmas.Bool.{eqb-true, leb-true}
-use Rattle.fl_check.specs.declared.interface.Scalar.TheVariants.{Uint8, Int8, Bool as BoolType, Char, Uint16, Int16, Uint32, Int32, Iref, Uint64, Int64, Uintptr, Intptr, Size, Errval}
-use Rattle.fl_check.specs.Interface.{TheType, scalar, enumeration, structure, array, TheArgType, fixed, text, sized, TheMessage, TheInterface}
+use Rattle.fl_interface.specs.declared.interface.Scalar.TheVariants.{Uint8, Int8, Bool as BoolType, Char, Uint16, Int16, Uint32, Int32, Iref, Uint64, Int64, Uintptr, Intptr, Size, Errval}
+use Rattle.fl_interface.specs.Interface.{TheType, scalar, enumeration, structure, array, TheArgType, fixed, text, sized, TheMessage, TheInterface}
 use Rattle.fl_image.specs.Image.{one, two, name_image, is_name, type_image, argument_image, message_image, interface_image}
 use Rattle.fl_image.specs.Reading.{◌>>=◌, many_at, more_at, one_at, two_at, name_at, type_at, text_at, sized_at, fixed_at, argument_at, argument_count_at, arguments_at, message_at, is_next, message_after, message_count_at, messages_at, interface_at}
 use Rattle.fl_image.proofs.ReadBack.{IsBytes, Law, Takes, follow, mapped, ranged, many, more, IsList, AllAfter}

@@ -6,8 +6,8 @@ use Rattle.std.proofs.Math.Seq.{drop-cons}
 use Rattle.std.proofs.lemmas.List.{drop_all}
 use Rattle.std.proofs.lemmas.Option.{slice_get_cases}
 use Rattle.std.proofs.lemmas.Bool.{leb-true, le-leb}
-use Rattle.fl_check.specs.Interface.{TheType, fields_from}
-use Rattle.fl_check.specs.Checks.{count_of}
+use Rattle.fl_interface.specs.Interface.{TheType, fields_from}
+use Rattle.fl_interface.specs.Limits.{count_of}
 
 -- the list from a place on
 pub from_place : {A : Type 0} (xs : List A) (k : ℕ) (x : A) → k < length xs → x ≡ get_or xs k x → drop k xs ≡ x ∷ drop (k + 1) xs

@@ -4,12 +4,12 @@ use Rattle.std.proofs.Common.{◌≡◌, ℕ, zero, suc, ◌+◌, ◌*◌, ◌<�
 use Rattle.std.specs.Prelude.{nat_le}
 use Rattle.std.proofs.lemmas.Bool.{and_parts, and_from, leb-true, le-leb}
 use Rattle.std.proofs.Math.Nat.{mul-le-mul_right}
-use Rattle.fl_check.specs.declared.interface.Scalar.{Scalar}
-use Rattle.fl_check.specs.declared.interface.Scalar.TheVariants.{Uint8, Int8, Bool as BoolType, Char, Uint16, Int16, Uint32, Int32, Iref, Uint64, Int64, Uintptr, Intptr, Size, Errval}
-use Rattle.fl_check.specs.Interface.{TheType, scalar, enumeration, structure, array, TheTypes, no_more, field}
-use Rattle.fl_check.specs.Sizes.{size_of, align_of, greatest_align, end_after, round_up, scalar_size, IsAlign}
-use Rattle.fl_check.specs.Depth.{depth_of, deepest}
-use Rattle.fl_check.specs.Checks.{count_of, is_well_made, are_well_made}
+use Rattle.fl_interface.specs.declared.interface.Scalar.{Scalar}
+use Rattle.fl_interface.specs.declared.interface.Scalar.TheVariants.{Uint8, Int8, Bool as BoolType, Char, Uint16, Int16, Uint32, Int32, Iref, Uint64, Int64, Uintptr, Intptr, Size, Errval}
+use Rattle.fl_interface.specs.Interface.{TheType, scalar, enumeration, structure, array, TheTypes, no_more, field}
+use Rattle.fl_interface.specs.Sizes.{size_of, align_of, greatest_align, end_after, round_up, scalar_size, IsAlign}
+use Rattle.fl_interface.specs.Depth.{depth_of, deepest}
+use Rattle.fl_interface.specs.Limits.{count_of, is_well_made, are_well_made}
 use Rattle.fl_stub.specs.declared.op.Op.{Op}
 use Rattle.fl_stub.specs.declared.op.Op.TheVariants as ops
 use Rattle.fl_stub.specs.declared.op.Column.{Column}
@@ -20,7 +20,7 @@ use Rattle.fl_image.specs.Image.{has_short_enums, have_short_enums}
 use Rattle.fl_image.specs.Reading.{op_with}
 use Rattle.fl_image.proofs.ReadBack.{AllAfter}
 use Rattle.fl_image.proofs.CodeLaws.{HasImage}
-use Rattle.fl_check.proofs.Aligned.{type_align, types_align, round_near, round_least}
+use Rattle.fl_interface.proofs.Aligned.{type_align, types_align, round_near, round_least}
 
 -- ---- single ops
 

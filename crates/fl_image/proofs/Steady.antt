@@ -3,7 +3,7 @@ use Rattle.std.proofs.Common.{◌≡◌, ◌⊎◌, inl, inr, ℕ, zero, suc, �
 use Rattle.std.specs.Prelude.{nat_le, nat_lt}
 use Rattle.std.proofs.lemmas.Bool.{ltb-false}
 use Rattle.std.proofs.lemmas.List.{take-append-le, drop-append-le}
-use Rattle.fl_check.specs.Interface.{TheType, scalar, enumeration, structure, array, fixed, text, sized, TheMessage, TheInterface, fields_from}
+use Rattle.fl_interface.specs.Interface.{TheType, scalar, enumeration, structure, array, fixed, text, sized, TheMessage, TheInterface, fields_from}
 use Rattle.fl_value.specs.declared.value.PlanNo.{PlanNo}
 use Rattle.fl_value.specs.declared.value.PlanNo.TheVariants.{One, Two}
 use Rattle.fl_stub.specs.declared.op.Column.{Column}

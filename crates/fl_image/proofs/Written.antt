@@ -1,8 +1,8 @@
 -- What a loop has written when it ends.
 use Rattle.std.proofs.Common.{◌≡◌, ℕ, ◌≤◌, List, ◌++◌, length, map, drop, sym, ap, ◌∙◌}
 use Rattle.std.proofs.lemmas.List.{append-nil, drop_all}
-use Rattle.fl_check.specs.Interface.{TheType, structure, fields_from}
-use Rattle.fl_check.specs.Checks.{count_of}
+use Rattle.fl_interface.specs.Interface.{TheType, structure, fields_from}
+use Rattle.fl_interface.specs.Limits.{count_of}
 use Rattle.fl_image.specs.Image.{one, type_image, fields_image}
 use Rattle.fl_image.proofs.Places.{count_view}
 

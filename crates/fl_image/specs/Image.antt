@@ -2,11 +2,11 @@
 use Rattle.std.specs.Prelude.{ℕ, ◌/◌, ◌%◌, ◌==◌, ◌&&◌, ◌||◌, Bool, true, false, nat_le, List, [], ◌∷◌, ◌++◌, length, map}
 use Rattle.std.specs.List.{list_all, flat_map}
 use Rattle.std.specs.Char.{is_ascii_alphabetic, is_ascii_digit}
-use Rattle.fl_check.specs.declared.interface.Scalar.{Scalar}
-use Rattle.fl_check.specs.declared.interface.Scalar.TheVariants as scalars
-use Rattle.fl_check.specs.Interface.{TheType, scalar, enumeration, structure, array, TheTypes, no_more, field, TheArgType, fixed}
-use Rattle.fl_check.specs.Interface.{text, sized, TheMessage, TheInterface}
-use Rattle.fl_check.specs.Checks.{count_of, is_within_limits}
+use Rattle.fl_interface.specs.declared.interface.Scalar.{Scalar}
+use Rattle.fl_interface.specs.declared.interface.Scalar.TheVariants as scalars
+use Rattle.fl_interface.specs.Interface.{TheType, scalar, enumeration, structure, array, TheTypes, no_more, field, TheArgType, fixed}
+use Rattle.fl_interface.specs.Interface.{text, sized, TheMessage, TheInterface}
+use Rattle.fl_interface.specs.Limits.{count_of, is_within_limits}
 pub use Rattle.fl_lex.specs.Words.{is_word, is_name}
 pub use Rattle.fl_check.specs.Texts.{has_short_enums, have_short_enums, argument_has_short_enums, is_message_spellable, is_spellable}
 use Rattle.fl_value.specs.declared.value.PlanNo.{PlanNo}

@@ -1,7 +1,7 @@
 -- Laws on images and on their faults: what no contract of one call says. Public promises rest on this file.
 use Rattle.std.specs.Prelude.{◌≡◌, ◌<◌, ℕ, true, List, ◌++◌, length}
 use Rattle.fl_base.specs.Prefix.{IsPrefix}
-use Rattle.fl_check.specs.Interface.{TheInterface}
+use Rattle.fl_interface.specs.Interface.{TheInterface}
 use Rattle.fl_value.specs.declared.value.PlanNo.{PlanNo}
 use Rattle.fl_image.specs.declared.fault.Refusal.{Refusal}
 use Rattle.fl_image.specs.declared.fault.Refusal.TheVariants.{OtherMagic, OtherVersion, EndsEarly, BadField, OtherCode, BytesLeftOver}

@@ -1,9 +1,9 @@
 -- For the code alone: measures of types and payloads that may be of any size; past 65,536 it is only known that they are.
 use Rattle.std.specs.Prelude.{◌≡◌, ℕ, ◌≤◌, ◌⊎◌, max, List}
-use Rattle.fl_check.specs.Interface.{TheType, TheTypes, TheArgType}
-use Rattle.fl_check.specs.Sizes.{size_of, align_of, greatest_align, end_after, IsAlign}
-use Rattle.fl_check.specs.Depth.{depth_of, deepest, array_depth_of, deepest_array}
-use Rattle.fl_check.specs.Payload.{greatest_end}
+use Rattle.fl_interface.specs.Interface.{TheType, TheTypes, TheArgType}
+use Rattle.fl_interface.specs.Sizes.{size_of, align_of, greatest_align, end_after, IsAlign}
+use Rattle.fl_interface.specs.Depth.{depth_of, deepest, array_depth_of, deepest_array}
+use Rattle.fl_interface.specs.Payload.{greatest_end}
 use Rattle.fl_image.specs.declared.limits.Measured.{Measured}
 use Rattle.fl_image.specs.declared.limits.Extent.{Extent}
 

@@ -1,6 +1,6 @@
 -- What reading an image answers, as contracts see it.
 use Rattle.std.specs.Prelude.{◌≡◌, ◌++◌, ℕ, true, List, Result, Ok, Err}
-use Rattle.fl_check.specs.Interface.{TheInterface}
+use Rattle.fl_interface.specs.Interface.{TheInterface}
 use Rattle.fl_value.specs.declared.value.PlanNo.{PlanNo}
 use Rattle.fl_compile.specs.declared.program.Program.{Program}
 use Rattle.fl_compile.specs.Programs.{program_of}

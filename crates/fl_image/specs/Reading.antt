@@ -1,12 +1,12 @@
 -- Reading an image from front to back, field by field: what its fields say, or the first fault.
 use Rattle.std.specs.Prelude.{◌≡◌, ◌⊎◌, ℕ, zero, suc, ◌+◌, ◌*◌, ◌==◌, ◌&&◌, Bool, true, not, nat_le, nat_lt, if◌then◌else◌, List}
 use Rattle.std.specs.Prelude.{[], ◌∷◌, ◌++◌, length, map, take, drop, Option, Some, None, Result, Ok, Err}
-use Rattle.fl_check.specs.declared.interface.Scalar.{Scalar}
-use Rattle.fl_check.specs.declared.interface.Scalar.TheVariants.{Uint8, Int8, Bool as BoolType, Char, Uint16, Int16, Uint32}
-use Rattle.fl_check.specs.declared.interface.Scalar.TheVariants.{Int32, Iref, Uint64, Int64, Uintptr, Intptr, Size, Errval}
-use Rattle.fl_check.specs.Interface.{TheType, scalar, enumeration, structure, array, TheArgType, fixed, text, sized, TheMessage, TheInterface, fields_from}
-use Rattle.fl_check.specs.Known.{is_among}
-use Rattle.fl_check.specs.Checks.{is_message_within}
+use Rattle.fl_interface.specs.declared.interface.Scalar.{Scalar}
+use Rattle.fl_interface.specs.declared.interface.Scalar.TheVariants.{Uint8, Int8, Bool as BoolType, Char, Uint16, Int16, Uint32}
+use Rattle.fl_interface.specs.declared.interface.Scalar.TheVariants.{Int32, Iref, Uint64, Int64, Uintptr, Intptr, Size, Errval}
+use Rattle.fl_interface.specs.Interface.{TheType, scalar, enumeration, structure, array, TheArgType, fixed, text, sized, TheMessage, TheInterface, fields_from}
+use Rattle.fl_interface.specs.Limits.{is_among}
+use Rattle.fl_interface.specs.Limits.{is_message_within}
 use Rattle.fl_value.specs.declared.value.PlanNo.{PlanNo}
 use Rattle.fl_value.specs.declared.value.PlanNo.TheVariants.{One, Two}
 use Rattle.fl_stub.specs.declared.op.Op.{Op}

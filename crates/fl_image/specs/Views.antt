@@ -1,6 +1,6 @@
 -- For the code alone: what was read, as contracts see it.
 use Rattle.std.specs.Prelude.{map}
-use Rattle.fl_check.specs.Interface.{interface_of}
+use Rattle.fl_interface.specs.Interface.{interface_of}
 use Rattle.fl_image.specs.declared.code.MessageOps.{MessageOps}
 use Rattle.fl_image.specs.declared.reader.Found.{Found}
 use Rattle.fl_image.specs.Image.{Codes, Fields}

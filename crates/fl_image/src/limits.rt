@@ -1,17 +1,17 @@
 //! Whether types and messages keep the limits.
 
 ghost use Rattle.std.specs.Prelude.{◌≡◌, ◌<◌, ◌≤◌, ◌*◌, ◌+◌, ◌∷◌, ℕ, List, map, nat_lt, min};
-ghost use Rattle.fl_check.specs.Interface.{TheType, TheTypes, TheArgType, type_of, arg_type_of, message_of, scalar, enumeration};
-ghost use Rattle.fl_check.specs.Interface.{structure, array, no_more, field, fixed, text, sized, fields_from};
-ghost use Rattle.fl_check.specs.Sizes.{scalar_size, round_up};
-ghost use Rattle.fl_check.specs.Depth.{is_too_big};
-ghost use Rattle.fl_check.specs.Checks.{is_well_made, are_well_made, is_type_within, is_argument_within, are_arguments_within, is_message_within};
-ghost use Rattle.fl_check.specs.Payload.{greatest_payload};
-ghost use Rattle.fl_check.specs.Known.{is_among};
-ghost use Rattle.fl_check.specs.Sizes.{IsAlign};
+ghost use Rattle.fl_interface.specs.Interface.{TheType, TheTypes, TheArgType, type_of, arg_type_of, message_of, scalar, enumeration};
+ghost use Rattle.fl_interface.specs.Interface.{structure, array, no_more, field, fixed, text, sized, fields_from};
+ghost use Rattle.fl_interface.specs.Sizes.{scalar_size, round_up};
+ghost use Rattle.fl_interface.specs.Depth.{is_too_big};
+ghost use Rattle.fl_interface.specs.Limits.{is_well_made, are_well_made, is_type_within, is_argument_within, are_arguments_within, is_message_within};
+ghost use Rattle.fl_interface.specs.Payload.{greatest_payload};
+ghost use Rattle.fl_interface.specs.Limits.{is_among};
+ghost use Rattle.fl_interface.specs.Sizes.{IsAlign};
 ghost use Rattle.fl_image.specs.Limits.{Measures, SoFar, Reaches};
 
-use fl_check::{ArgType, FixedType, Message, Scalar};
+use fl_interface::{ArgType, FixedType, Message, Scalar};
 
 /// No measure is told past this.
 const CAP: u32 = 65536;

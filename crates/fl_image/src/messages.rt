@@ -1,14 +1,14 @@
 //! Messages and interfaces read off the bytes of an image.
 
 ghost use Rattle.std.specs.Prelude.{◌≡◌, [], map, IfErr};
-ghost use Rattle.fl_check.specs.Interface.{message_of, interface_of};
+ghost use Rattle.fl_interface.specs.Interface.{message_of, interface_of};
 ghost use Rattle.fl_image.specs.Reading.{Gives, Behind, more_at, name_at, message_at, is_next, message_after, message_count_at, messages_at, interface_at};
 
 use crate::fault::{ImageFault, Refusal};
 use crate::limits::{is_message_within, is_taken};
 use crate::number::{name, two};
 use crate::types::arguments;
-use fl_check::{Interface, Message, counts_fit};
+use fl_interface::{Interface, Message, counts_fit};
 use std::alloc::Global;
 
 /// A message: its name, and its arguments' types.

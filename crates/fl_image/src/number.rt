@@ -5,7 +5,7 @@ ghost use Rattle.std.specs.List.{list_all};
 ghost use Rattle.fl_image.specs.Reading.{Gives, IsOfBytes, Behind, one_at, two_at, four_at, len_at, word_at, name_at};
 
 use crate::fault::{ImageFault, Refusal};
-use fl_check::Word;
+use fl_interface::Word;
 use fl_lex::is_word;
 use std::alloc::Global;
 

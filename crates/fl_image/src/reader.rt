@@ -2,7 +2,7 @@
 
 ghost use Rattle.std.specs.Prelude.{◌≡◌, true, IfOk, IfErr};
 ghost use Rattle.std.specs.Bool.{Decides};
-ghost use Rattle.fl_check.specs.Interface.{TheInterface, interface_of};
+ghost use Rattle.fl_interface.specs.Interface.{TheInterface, interface_of};
 ghost use Rattle.fl_value.specs.declared.value.PlanNo.{PlanNo as the_plan};
 ghost use Rattle.fl_compile.specs.Programs.{program_of};
 ghost use Rattle.fl_image.specs.Image.{has_image, image_of};
@@ -15,8 +15,8 @@ use crate::fault::{ImageFault, Refusal};
 use crate::messages::interface;
 use crate::number::{four, two};
 use crate::writer::write_image;
-use fl_check::Interface;
 use fl_compile::{Program, compile};
+use fl_interface::Interface;
 use fl_value::PlanNo;
 use std::alloc::Global;
 

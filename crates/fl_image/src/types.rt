@@ -1,14 +1,14 @@
 //! Types and messages read off the bytes of an image.
 
 ghost use Rattle.std.specs.Prelude.{◌≡◌, map, IfOk};
-ghost use Rattle.fl_check.specs.Interface.{type_of, arg_type_of, scalar, enumeration, structure, array, fields_from};
+ghost use Rattle.fl_interface.specs.Interface.{type_of, arg_type_of, scalar, enumeration, structure, array, fields_from};
 ghost use Rattle.fl_image.specs.Reading.{Gives, scalar_with, scalar_at, enumeration_at, structure_at, array_at, coded_at};
 ghost use Rattle.fl_image.specs.Reading.{type_at, many_at, text_at, sized_at, fixed_at, argument_at, argument_count_at};
 ghost use Rattle.fl_image.specs.Reading.{arguments_at};
 
 use crate::fault::{ImageFault, Refusal};
 use crate::number::{one, two};
-use fl_check::{ArgType, FixedType, Scalar};
+use fl_interface::{ArgType, FixedType, Scalar};
 use std::alloc::{AllocError, Global};
 
 /// The scalar type with a code.

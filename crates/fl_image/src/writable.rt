@@ -2,10 +2,10 @@
 
 ghost use Rattle.std.specs.Prelude.{◌≡◌, map};
 ghost use Rattle.std.specs.List.{list_all};
-ghost use Rattle.fl_check.specs.Interface.{type_of, arg_type_of, message_of, interface_of, fields_from};
+ghost use Rattle.fl_interface.specs.Interface.{type_of, arg_type_of, message_of, interface_of, fields_from};
 ghost use Rattle.fl_image.specs.Image.{has_short_enums, have_short_enums, argument_has_short_enums, is_message_spellable, is_writable};
 
-use fl_check::{ArgType, FixedType, Interface, Message};
+use fl_interface::{ArgType, FixedType, Interface, Message};
 use fl_lex::is_name;
 
 /// Whether the enums in a type have at most 65,535 enumerators.

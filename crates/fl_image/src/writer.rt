@@ -3,7 +3,7 @@
 ghost use Rattle.std.specs.Prelude.{◌≡◌, ◌++◌, ◌<◌, true, map, length, IfOk, OnOk, slice_get, Some};
 ghost use Rattle.std.specs.Option.{option_map};
 ghost use Rattle.std.specs.List.{flat_map};
-ghost use Rattle.fl_check.specs.Interface.{TheMessage, type_of, arg_type_of, message_of, interface_of, fields_from, structure, array};
+ghost use Rattle.fl_interface.specs.Interface.{TheMessage, type_of, arg_type_of, message_of, interface_of, fields_from, structure, array};
 ghost use Rattle.fl_compile.specs.Programs.{program_of};
 ghost use Rattle.fl_compile.specs.Compiled.{message_code};
 ghost use Rattle.fl_stub.specs.declared.op.Column.TheVariants.{Send, Receive};
@@ -13,8 +13,8 @@ ghost use Rattle.fl_image.specs.Image.{version_of, is_writable, has_image, image
 
 use crate::code::operand_of;
 use fl_base::MsgNo;
-use fl_check::{ArgType, FixedType, Interface, Message, Scalar, Word};
 use fl_compile::Program;
+use fl_interface::{ArgType, FixedType, Interface, Message, Scalar, Word};
 use fl_stub::Op;
 use fl_value::PlanNo;
 use std::alloc::{AllocError, Global};

@@ -2,7 +2,7 @@
 use Rattle.std.proofs.Common.{◌≡◌, ◌⊎◌, inl, inr, refl, sym, subst, ℕ, Bool, true, false, List}
 use Rattle.std.specs.Bool.{MatchBool}
 use Rattle.std.specs.Prelude.{Result, Ok, Err}
-use Rattle.fl_check.specs.Interface.{TheInterface}
+use Rattle.fl_interface.specs.Interface.{TheInterface}
 use Rattle.fl_text.specs.Text.{TextOutcome, stands_for, TextMeans}
 use Rattle.fl_value.specs.declared.value.PlanNo.{PlanNo}
 use Rattle.fl_lines.specs.declared.event.Asked.{Asked as RustAsked}

@@ -7,8 +7,8 @@ use Rattle.fl_base.specs.declared.identity.EndId.{EndId}
 use Rattle.fl_base.specs.declared.identity.Side.{Side}
 use Rattle.fl_base.specs.declared.identity.Side.TheVariants.{Client, Server}
 use Rattle.fl_base.specs.Ends.{other}
-use Rattle.fl_check.specs.Interface.{TheInterface}
-use Rattle.fl_check.specs.SameTypes.{same_arguments}
+use Rattle.fl_interface.specs.Interface.{TheInterface}
+use Rattle.fl_interface.specs.SameTypes.{same_arguments}
 use Rattle.fl_value.specs.Fits.{fits_of}
 use Rattle.fl_value.specs.Value.{TheCall}
 use Rattle.fl_value.specs.declared.value.PlanNo.{PlanNo}

@@ -1,6 +1,6 @@
 -- What the code keeps of a cores file, as the definitions have it.
 use Rattle.std.specs.Prelude.{map}
-use Rattle.fl_check.specs.Interface.{interface_of}
+use Rattle.fl_interface.specs.Interface.{interface_of}
 use Rattle.fl_value.specs.Value.{call_of}
 use Rattle.fl_queues.specs.Calls.{Planned}
 use Rattle.fl_lines.specs.Events.{id_of, event_of}

@@ -12,7 +12,7 @@ use crate::draft::{Bound, Draft, Planned, Use};
 use crate::job::Job;
 use crate::stop::Stop;
 use fl_base::{EndId, MsgNo, Side};
-use fl_check::same_args;
+use fl_interface::same_args;
 use fl_value::{Call, fits};
 
 impl Use {

@@ -8,7 +8,7 @@ ghost use Rattle.fl_jobs.specs.Views.{draft_of, job_of};
 
 use crate::job::Job;
 use crate::stop::Stop;
-use fl_check::Interface;
+use fl_interface::Interface;
 use fl_lines::{DispatcherId, Event, NameTable};
 use fl_value::PlanNo;
 use std::alloc::Global;

@@ -2,7 +2,7 @@
 
 ghost use Rattle.std.specs.Prelude.{ℕ, ◌≡◌, ◌≤◌, ◌==◌, Err, IfOk, false, length};
 ghost use Rattle.std.specs.List.{count_by};
-ghost use Rattle.fl_check.specs.Interface.{interface_of};
+ghost use Rattle.fl_interface.specs.Interface.{interface_of};
 ghost use Rattle.fl_lines.specs.Asked.{Asked as TheAsked, asks};
 ghost use Rattle.fl_lines.specs.Events.{event_of};
 ghost use Rattle.fl_lines.specs.Items.{a_line, a_block};
@@ -17,7 +17,7 @@ ghost use Rattle.fl_jobs.specs.Verdicts.{Comes, ComesTo};
 use crate::draft::Draft;
 use crate::file::{CoresFile, CoresText};
 use crate::stop::{Stop, stop_by};
-use fl_check::Interface;
+use fl_interface::Interface;
 use fl_lines::{Answer, Asked, Command, Item, Line, LineFault, Names, next_item, some_items};
 use fl_text::{TextRead, read_text};
 use fl_value::PlanNo;

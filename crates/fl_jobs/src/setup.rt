@@ -2,7 +2,7 @@
 
 ghost use Rattle.std.specs.Prelude.{◌≡◌, ◌==◌, bytes_eq};
 ghost use Rattle.std.specs.List.{count_by, list_any};
-ghost use Rattle.fl_check.specs.Interface.{interface_of};
+ghost use Rattle.fl_interface.specs.Interface.{interface_of};
 ghost use Rattle.fl_queues.specs.Making.{is_ring_size};
 ghost use Rattle.fl_lines.specs.Events.{id_of};
 ghost use Rattle.fl_jobs.specs.Draft.{has_interface, is_dispatcher, is_interface, adds_interface, sets_cores};
@@ -13,7 +13,7 @@ ghost use Rattle.fl_jobs.specs.Views.{planned_of, joint_of, draft_of};
 use crate::draft::{Draft, Joint, Offer, Planned};
 use crate::stop::Stop;
 use fl_base::{MAX_CORES, MAX_DISPATCHERS, MAX_INTERFACES, MAX_SERVICES};
-use fl_check::Interface;
+use fl_interface::Interface;
 use fl_lines::{DispatcherId, Event};
 use fl_value::PlanNo;
 

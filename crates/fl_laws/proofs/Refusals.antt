@@ -7,7 +7,7 @@ use Rattle.fl_hop.specs.Numbers.{next_own}
 use Rattle.fl_hop.specs.Table.{hop_at}
 use Rattle.fl_hop.specs.declared.entry.Way.{Way}
 use Rattle.fl_hop.specs.declared.entry.Way.TheVariants.{Link as to_link, End as to_end}
-use Rattle.fl_check.specs.Interface.{TheInterface}
+use Rattle.fl_interface.specs.Interface.{TheInterface}
 use Rattle.fl_value.specs.Value.{TheCall}
 use Rattle.fl_value.specs.Fits.{fits_of}
 use Rattle.fl_value.specs.declared.value.PlanNo.{PlanNo}
@@ -34,7 +34,7 @@ use Rattle.fl_queues.specs.Sending.{calls, outlet_room, makes_sure_of, shows, ne
 use Rattle.fl_queues.specs.Taking.{Chosen, takes_label, taken_answer, gives_from_queue, gives_from_ring, gives_by, gives, finds, examines}
 use Rattle.fl_queues.specs.Taking.{chosen, turns_by, turns, acknowledges_by, acknowledges_on, acknowledges_end, registers_channel}
 use Rattle.fl_queues.specs.Taking.{deregisters_channel, sets_rule, has_channel_listed, has_message, arguments_of}
-use Rattle.fl_check.specs.SameTypes.{same_arguments}
+use Rattle.fl_interface.specs.SameTypes.{same_arguments}
 use Rattle.fl_queues.specs.Forwarding.{LinkEnd, link_end, monitor_writes_by, monitor_writes, monitor_acknowledges, Passing}
 use Rattle.fl_queues.specs.Forwarding.{goes_on_by, arrives_by, follows_entry, route_of, forwards_call, forwards_label, forwards, follows}
 use Rattle.fl_queues.specs.Step.{does, settles_by, settles}

@@ -1,11 +1,11 @@
 -- Messages with the same argument types take the same arguments.
 use Rattle.std.proofs.Common.{◌≡◌, subst, ℕ, true, List, Option, Some, None, is_some, slice_get}
-use Rattle.fl_check.specs.Interface.{TheArgType, TheMessage}
+use Rattle.fl_interface.specs.Interface.{TheArgType, TheMessage}
 use Rattle.fl_value.specs.Value.{Datum, TheCall}
 use Rattle.fl_value.specs.Tape.{types_of}
 use Rattle.fl_value.specs.Fits.{are_arguments, fit_message, fits_of}
 use Rattle.fl_queues.specs.Calls.{Planned}
-use Rattle.fl_check.proofs.SameTypes.{same_arguments_are}
+use Rattle.fl_interface.proofs.SameTypes.{same_arguments_are}
 use Rattle.fl_queues.specs.SoundCalls.{RuleSuits}
 
 fit_by : (o p : Option TheMessage) (args : List Datum) → is_some p ≡ true → types_of o ≡ types_of p → fit_message o args ≡ true

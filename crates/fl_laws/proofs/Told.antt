@@ -5,7 +5,7 @@ use Rattle.std.proofs.Common.{◌≡◌, refl, ℕ, ◌+◌, ◌||◌, ◌&&◌,
 use Rattle.std.proofs.Common.{Bool, true, false, if◌then◌else◌, List, length, slice_get, slice_index}
 use Rattle.std.proofs.Common.{Option, Some, None}
 use Rattle.fl_base.specs.declared.identity.EndId.{EndId}
-use Rattle.fl_check.specs.Interface.{TheInterface}
+use Rattle.fl_interface.specs.Interface.{TheInterface}
 use Rattle.fl_value.specs.Value.{TheCall}
 use Rattle.fl_value.specs.declared.value.PlanNo.{PlanNo}
 use Rattle.fl_lists.specs.declared.place.Place.TheVariants.{Polled}
@@ -29,7 +29,7 @@ use Rattle.fl_queues.specs.Making.{adds_interface, has_interface, with_interface
 use Rattle.fl_queues.specs.Binding.{Wanted, with_new_binding, binds_both, has_both_places, has_places_for, binds_by_queues, binds_by_ring, is_route, with_circuit_begun, binds_by_route, binds_by, binds, most_bindings, place_of_service}
 use Rattle.fl_queues.specs.Sending.{calls, outlet_room, makes_sure_of, shows, next_fragment, writes_to, writes_fragment}
 use Rattle.fl_queues.specs.Taking.{Chosen, takes_label, goes_back, gives_from_queue, gives_from_ring, gives_by, gives, finds, examines, chosen, turns_by, turns, acknowledges_by, acknowledges_on, acknowledges_end, registers_channel, deregisters_channel, sets_rule, has_channel_listed, has_message, arguments_of}
-use Rattle.fl_check.specs.SameTypes.{same_arguments}
+use Rattle.fl_interface.specs.SameTypes.{same_arguments}
 use Rattle.fl_queues.specs.Forwarding.{LinkEnd, link_end, monitor_writes_by, monitor_writes, monitor_acknowledges, Passing, goes_on_by, arrives_by, follows_entry, route_of, forwards_call, forwards_label, forwards}
 use Rattle.fl_queues.specs.Step.{does, settles_by, settles, step}
 use Rattle.fl_laws.proofs.Cases.{either, by_given}

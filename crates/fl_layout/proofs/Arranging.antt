@@ -3,10 +3,10 @@ use Rattle.std.proofs.Common.{◌≡◌, ◌≢◌, ℕ, eq-eqb, ◌+◌, ◌≤
 use Rattle.std.proofs.lemmas.List.{length-append, length-map}
 use Rattle.std.proofs.lemmas.Bool.{ne_eqb, and_parts, and_from, le-leb, leb-true, ltb-false, false≢true}
 use Rattle.std.specs.List.{zip, range_with_len, list_all}
-use Rattle.fl_check.specs.Interface.{TheType, TheArgType, fixed, text, sized, TheMessage}
-use Rattle.fl_check.specs.Sizes.{size_of}
-use Rattle.fl_check.specs.Checks.{is_type_within, is_argument_within, are_arguments_within, is_message_within}
-use Rattle.fl_check.proofs.Aligned.{some_align}
+use Rattle.fl_interface.specs.Interface.{TheType, TheArgType, fixed, text, sized, TheMessage}
+use Rattle.fl_interface.specs.Sizes.{size_of}
+use Rattle.fl_interface.specs.Limits.{is_type_within, is_argument_within, are_arguments_within, is_message_within}
+use Rattle.fl_interface.proofs.Aligned.{some_align}
 use Rattle.fl_value.specs.declared.value.PlanNo.{PlanNo}
 use Rattle.fl_value.specs.declared.value.PlanNo.TheVariants.{One, Two}
 use Rattle.fl_value.specs.Plan.{arranged, is_fixed_at, is_dynamic, rank_of, of_rank}

@@ -4,11 +4,11 @@ use Rattle.std.proofs.Common.{◌≡◌, ℕ, ◌+◌, ◌*◌, ◌≤◌, ◌�
 use Rattle.std.specs.Prelude.{slice_get, nat_lt}
 use Rattle.std.proofs.lemmas.Bool.{and_parts, eqb-true, ltb-false, false≢true, cases_Bool}
 use Rattle.std.proofs.lemmas.List.{map-append, append_assoc}
-use Rattle.fl_check.specs.Interface.{TheArgType, fixed, text, sized, TheMessage, TheInterface}
-use Rattle.fl_check.specs.Sizes.{size_of, align_of, round_up, IsAlign}
-use Rattle.fl_check.specs.Payload.{greatest_end, greatest_payload}
-use Rattle.fl_check.specs.Places.{is_too_long}
-use Rattle.fl_check.specs.Checks.{are_arguments_within, is_message_within, is_within_limits}
+use Rattle.fl_interface.specs.Interface.{TheArgType, fixed, text, sized, TheMessage, TheInterface}
+use Rattle.fl_interface.specs.Sizes.{size_of, align_of, round_up, IsAlign}
+use Rattle.fl_interface.specs.Payload.{greatest_end, greatest_payload}
+use Rattle.fl_interface.specs.Limits.{is_too_long}
+use Rattle.fl_interface.specs.Limits.{are_arguments_within, is_message_within, is_within_limits}
 use Rattle.fl_value.specs.declared.value.PlanNo.{PlanNo}
 use Rattle.fl_value.specs.declared.value.PlanNo.TheVariants.{One, Two}
 use Rattle.fl_value.specs.Value.{TheCall}
@@ -16,7 +16,7 @@ use Rattle.fl_value.specs.Plan.{arranged, is_fixed_at, is_dynamic}
 use Rattle.fl_layout.specs.declared.extent.Fill.TheVariants.{Full}
 use Rattle.fl_layout.specs.Extents.{Filled, extent_of, numbered, placing, end_of_all, count_by, filled_up}
 use Rattle.fl_layout.specs.Layouts.{payload_length, IsCallOf}
-use Rattle.fl_check.proofs.Aligned.{by_align, IsMultiple, align_one, align_two, align_four, align_eight, align_small, rounded, round_multiple, round_after, round_least, round_rises, multiple_add, multiple_of_less, type_align, size_multiple}
+use Rattle.fl_interface.proofs.Aligned.{by_align, IsMultiple, align_one, align_two, align_four, align_eight, align_small, rounded, round_multiple, round_after, round_least, round_rises, multiple_add, multiple_of_less, type_align, size_multiple}
 use Rattle.fl_layout.proofs.Order.{arranged_map, numbered_are}
 use Rattle.fl_layout.proofs.Lengths.{limit, map_map, message_within, greatest_is}
 use Rattle.fl_layout.proofs.Sums.{total, total_append, total_arranged}

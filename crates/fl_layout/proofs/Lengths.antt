@@ -5,8 +5,8 @@ use Rattle.std.proofs.lemmas.Bool.{and_parts}
 use Rattle.std.proofs.lemmas.Option.{none-some}
 use Rattle.std.proofs.lemmas.List.{length-replicate}
 use Rattle.std.specs.List.{list_all, zip}
-use Rattle.fl_check.specs.Interface.{TheArgType, fixed, text, sized, TheMessage, TheInterface}
-use Rattle.fl_check.specs.Checks.{is_argument_within, are_arguments_within, is_message_within, are_messages_within, is_within_limits}
+use Rattle.fl_interface.specs.Interface.{TheArgType, fixed, text, sized, TheMessage, TheInterface}
+use Rattle.fl_interface.specs.Limits.{is_argument_within, are_arguments_within, is_message_within, are_messages_within, is_within_limits}
 use Rattle.fl_value.specs.declared.value.PlanNo.{PlanNo}
 use Rattle.fl_value.specs.Value.{Datum, number, TheCall}
 use Rattle.fl_value.specs.Fits.{is_argument, are_arguments, fit_message}
@@ -17,7 +17,7 @@ use Rattle.fl_layout.specs.declared.extent.Fill.TheVariants.{Empty, Full}
 use Rattle.fl_layout.specs.Leaves.{Argument, kind}
 use Rattle.fl_layout.specs.Extents.{Filled, extent_of, numbered, placing, placed_of, end_of_all, numbers_in_all, count_at, count_by, filled_up, filled_by}
 use Rattle.fl_layout.specs.Layouts.{payload_length, tape_length, IsCallOf, IsLeast, IsGreatest}
-use Rattle.fl_check.proofs.Aligned.{align_one}
+use Rattle.fl_interface.proofs.Aligned.{align_one}
 use Rattle.fl_layout.proofs.Ends.{filled, is_good, arguments_end}
 use Rattle.fl_layout.proofs.Order.{arranged_map, all_arranged, zip_numbered}
 use Rattle.fl_layout.proofs.Witness.{shortest, longest, shortest_is, longest_is, are_of, count_many, some_value}

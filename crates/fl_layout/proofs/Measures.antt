@@ -1,11 +1,11 @@
 -- How many numbers a value has: at most as many as bytes; and counted field by field.
 use Rattle.std.proofs.Common.{◌≡◌, ℕ, ◌+◌, ◌*◌, ◌<◌, ◌≤◌, List, map, drop, length, get_or, sym, ◌∙◌, ap, arith}
 use Rattle.std.proofs.Math.Nat.{mul-le-mul_right}
-use Rattle.fl_check.specs.Interface.{TheType, scalar, enumeration, structure, array, TheTypes, no_more, field, fields_from}
-use Rattle.fl_check.specs.Sizes.{size_of, align_of, greatest_align, end_after, round_up, scalar_size}
+use Rattle.fl_interface.specs.Interface.{TheType, scalar, enumeration, structure, array, TheTypes, no_more, field, fields_from}
+use Rattle.fl_interface.specs.Sizes.{size_of, align_of, greatest_align, end_after, round_up, scalar_size}
 use Rattle.fl_layout.specs.Extents.{numbers_of, numbers_of_all}
-use Rattle.fl_check.proofs.FieldSizes.{rest_is}
-use Rattle.fl_check.proofs.Aligned.{round_least, align_small, scalar_align}
+use Rattle.fl_interface.proofs.FieldSizes.{rest_is}
+use Rattle.fl_interface.proofs.Aligned.{round_least, align_small, scalar_align}
 
 pub times_more : (k m n : ℕ) → m ≤ n → k * m ≤ k * n
 times_more k m n h = let e : m * k ≤ n * k = mul-le-mul_right k h in omega (arith, e)

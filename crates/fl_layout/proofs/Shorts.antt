@@ -3,8 +3,8 @@ use Rattle.std.proofs.Common.{◌≡◌, true, Bool, List, [], ◌∷◌, map, l
 use Rattle.std.specs.Prelude.{nat_le}
 use Rattle.std.specs.List.{list_all}
 use Rattle.std.proofs.lemmas.Bool.{and_parts, and_from, leb-true, le-leb, false≢true}
-use Rattle.fl_check.specs.Interface.{TheArgType, fixed, text, sized, TheMessage}
-use Rattle.fl_check.specs.Checks.{is_argument_within, are_arguments_within}
+use Rattle.fl_interface.specs.Interface.{TheArgType, fixed, text, sized, TheMessage}
+use Rattle.fl_interface.specs.Limits.{is_argument_within, are_arguments_within}
 use Rattle.fl_value.specs.declared.value.PlanNo.{PlanNo}
 use Rattle.fl_value.specs.Value.{Datum, number, string, elements, fields}
 use Rattle.fl_value.specs.Fits.{is_argument, are_arguments}

@@ -6,9 +6,9 @@ use Rattle.std.proofs.Math.Seq.{get_or-append_seam}
 use Rattle.std.proofs.lemmas.Bool.{and_parts, and_from, cases_Bool, eqb-true, eqb-false, ne_eqb, ltb-true, ltb-false, false≢true, true≢false}
 use Rattle.std.proofs.lemmas.Option.{slice_get-get_or, slice_get_past}
 use Rattle.std.proofs.lemmas.List.{length-append, append_assoc}
-use Rattle.fl_check.specs.Interface.{TheArgType, fixed, text, sized, TheMessage, TheInterface}
-use Rattle.fl_check.specs.Sizes.{align_of, round_up}
-use Rattle.fl_check.specs.Checks.{are_arguments_within, is_within_limits}
+use Rattle.fl_interface.specs.Interface.{TheArgType, fixed, text, sized, TheMessage, TheInterface}
+use Rattle.fl_interface.specs.Sizes.{align_of, round_up}
+use Rattle.fl_interface.specs.Limits.{are_arguments_within, is_within_limits}
 use Rattle.fl_value.specs.declared.value.PlanNo.{PlanNo}
 use Rattle.fl_value.specs.declared.value.PlanNo.TheVariants.{One, Two}
 use Rattle.fl_value.specs.Value.{Datum, number, TheCall}
@@ -20,7 +20,7 @@ use Rattle.fl_layout.specs.Leaves.{Argument, kind, types_of, argument_types, sta
 use Rattle.fl_layout.specs.Places.{size}
 use Rattle.fl_layout.specs.Extents.{extent_of, count_at, numbered, placing, placed_of, start_of, end_of, end_of_all, due_after, is_varying, extent_among, start_among, unit_of}
 use Rattle.fl_layout.specs.Layouts.{until, standing_before, start_align, start_align_at, ends_dynamic, end_of_arguments, argument_place, argument_size, has_one_place, IsPlace}
-use Rattle.fl_check.proofs.Aligned.{align_small, type_align}
+use Rattle.fl_interface.proofs.Aligned.{align_small, type_align}
 use Rattle.fl_layout.proofs.Ends.{filled, is_good, arguments_end}
 use Rattle.fl_layout.proofs.Order.{arranged_map, numbered_are}
 use Rattle.fl_layout.proofs.Arranging.{filter_ext, varying_kind}

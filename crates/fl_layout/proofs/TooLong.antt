@@ -1,7 +1,7 @@
 -- The limit is looked at for the greatest payload under the first plan.
 use Rattle.std.proofs.Common.{◌<◌, ◌∙◌, sym, subst, arith}
 use Rattle.std.proofs.lemmas.Bool.{ltb-true, lt-ltb}
-use Rattle.fl_check.specs.Payload.{greatest_payload}
+use Rattle.fl_interface.specs.Payload.{greatest_payload}
 use Rattle.fl_value.specs.declared.value.PlanNo.TheVariants.{One}
 use Rattle.fl_layout.specs.Layouts.{payload_length, IsGreatest}
 use Rattle.fl_layout.specs.Limit.{GreatestIsOfPlanOne, TooLongHasLongCall}

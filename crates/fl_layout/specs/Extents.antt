@@ -2,8 +2,8 @@
 use Rattle.std.specs.Prelude.{ℕ, pos, ◌+◌, ◌*◌, ◌==◌, ◌&&◌, nat_le, max, Bool, true, false}
 use Rattle.std.specs.Prelude.{if◌then◌else◌, Option, Some, None, List, [], ◌∷◌, map, length, get_or}
 use Rattle.std.specs.List.{zip, range_with_len, list_all}
-use Rattle.fl_check.specs.Interface.{TheType, scalar, enumeration, structure, array, TheTypes, no_more, field, TheArgType, fixed, text, sized, TheMessage}
-use Rattle.fl_check.specs.Sizes.{size_of, align_of, round_up}
+use Rattle.fl_interface.specs.Interface.{TheType, scalar, enumeration, structure, array, TheTypes, no_more, field, TheArgType, fixed, text, sized, TheMessage}
+use Rattle.fl_interface.specs.Sizes.{size_of, align_of, round_up}
 use Rattle.fl_value.specs.declared.value.PlanNo.{PlanNo}
 use Rattle.fl_value.specs.Plan.{arranged, of_rank}
 use Rattle.fl_value.specs.Value.{Datum, number, string, elements, fields}

@@ -2,8 +2,8 @@
 use Rattle.std.specs.Prelude.{◌≡◌, ℕ, ◌==◌, ◌≤◌, ◌&&◌, Bool, true, false, not, if◌then◌else◌}
 use Rattle.std.specs.Prelude.{nat_lt, List, [], ◌∷◌, map, length, slice_get, Option, Some, None}
 use Rattle.std.specs.List.{zip, list_any}
-use Rattle.fl_check.specs.Interface.{TheArgType, fixed, text, sized, TheInterface}
-use Rattle.fl_check.specs.Sizes.{align_of, size_of, round_up}
+use Rattle.fl_interface.specs.Interface.{TheArgType, fixed, text, sized, TheInterface}
+use Rattle.fl_interface.specs.Sizes.{align_of, size_of, round_up}
 use Rattle.fl_value.specs.declared.value.PlanNo.{PlanNo}
 use Rattle.fl_value.specs.Value.{TheCall}
 use Rattle.fl_value.specs.Fits.{fits_of}

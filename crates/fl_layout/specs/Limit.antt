@@ -1,10 +1,10 @@
 -- The limit on payloads, which the checker looks at message by message, before there is an interface. It looks at the greatest
 -- payload under the first plan: so a message is too long exactly where one of its calls is.
 use Rattle.std.specs.Prelude.{◌≡◌, ◌↔◌, ◌<◌, ℕ, true, slice_get, Some}
-use Rattle.fl_check.specs.Interface.{TheMessage, TheInterface}
-use Rattle.fl_check.specs.Payload.{greatest_payload}
-use Rattle.fl_check.specs.Places.{is_too_long}
-use Rattle.fl_check.specs.Checks.{are_arguments_within}
+use Rattle.fl_interface.specs.Interface.{TheMessage, TheInterface}
+use Rattle.fl_interface.specs.Payload.{greatest_payload}
+use Rattle.fl_interface.specs.Limits.{is_too_long}
+use Rattle.fl_interface.specs.Limits.{are_arguments_within}
 use Rattle.fl_value.specs.declared.value.PlanNo.TheVariants.{One}
 use Rattle.fl_value.specs.Value.{TheCall}
 use Rattle.fl_layout.specs.Layouts.{payload_length, IsCallOf, IsGreatest}

@@ -1,7 +1,7 @@
 -- Where the leaves of a call stand, and how long its payload is: sums over what stands before.
 use Rattle.std.specs.Prelude.{ℕ, ◌+◌, ◌/◌, max, List, [], ◌∷◌}
-use Rattle.fl_check.specs.Interface.{TheInterface}
-use Rattle.fl_check.specs.Sizes.{round_up}
+use Rattle.fl_interface.specs.Interface.{TheInterface}
+use Rattle.fl_interface.specs.Sizes.{round_up}
 use Rattle.fl_value.specs.Value.{TheCall}
 use Rattle.fl_value.specs.declared.value.PlanNo.{PlanNo}
 use Rattle.fl_layout.specs.Leaves.{Leaf, leaves}

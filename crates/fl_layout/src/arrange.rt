@@ -1,14 +1,14 @@
 //! The arguments of a message in a plan's order.
 
 ghost use Rattle.std.specs.Prelude.{◌≡◌, ◌≤◌, ◌++◌, map, length, true, IfOk, OnOk};
-ghost use Rattle.fl_check.specs.Interface.{arg_type_of, message_of};
-ghost use Rattle.fl_check.specs.Checks.{are_arguments_within, is_message_within};
+ghost use Rattle.fl_interface.specs.Interface.{arg_type_of, message_of};
+ghost use Rattle.fl_interface.specs.Limits.{are_arguments_within, is_message_within};
 ghost use Rattle.fl_value.specs.Plan.{rank_of, by_ranks};
 ghost use Rattle.fl_layout.specs.Extents.{placing, typed, numbered, placed_of, placed_of_rank, are_within};
 
 use crate::extent::Placed;
 use crate::measure::extent;
-use fl_check::{ArgType, Message};
+use fl_interface::{ArgType, Message};
 use fl_value::{PlanNo, RANKS};
 use std::alloc::{AllocError, Global};
 

@@ -1,12 +1,12 @@
 //! How many bytes an argument takes, where it may begin, and how many numbers it has.
 
 ghost use Rattle.std.specs.Prelude.{◌≡◌, ◌<◌, ◌^◌, map, true};
-ghost use Rattle.fl_check.specs.Interface.{type_of, arg_type_of, fields_from};
-ghost use Rattle.fl_check.specs.Checks.{is_argument_within};
+ghost use Rattle.fl_interface.specs.Interface.{type_of, arg_type_of, fields_from};
+ghost use Rattle.fl_interface.specs.Limits.{is_argument_within};
 ghost use Rattle.fl_layout.specs.Extents.{numbers_of, numbers_of_all, extent_of};
 
 use crate::extent::Extent;
-use fl_check::{ArgType, FixedType};
+use fl_interface::{ArgType, FixedType};
 
 // How many numbers a value of a type has: its scalars and enumerators.
 #[cycle(numbers)]

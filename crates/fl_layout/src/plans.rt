@@ -2,7 +2,7 @@
 
 ghost use Rattle.std.specs.Prelude.{◌≡◌, ◌<◌, ◌≤◌, map, length, true, IfOk, slice_get};
 ghost use Rattle.std.specs.Option.{option_map};
-ghost use Rattle.fl_check.specs.Interface.{interface_of, message_of};
+ghost use Rattle.fl_interface.specs.Interface.{interface_of, message_of};
 ghost use Rattle.fl_value.specs.Value.{call_of};
 ghost use Rattle.fl_value.specs.Fits.{fits_of};
 ghost use Rattle.fl_layout.specs.Places.{count, count_for};
@@ -14,7 +14,7 @@ use crate::arrange::{MessagePlan, plan_message};
 use crate::extent::Fill;
 use crate::filling::{extent_among, length_with, limit, start_among, tape_limit};
 use fl_base::{FRAG_BYTES, MsgNo};
-use fl_check::Interface;
+use fl_interface::Interface;
 use fl_value::{Call, PlanNo};
 use std::alloc::{AllocError, Global};
 

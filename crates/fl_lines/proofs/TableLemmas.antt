@@ -2,10 +2,10 @@
 use Rattle.std.proofs.Common.{◌≡◌, ◌<◌, ◌≤◌, ℕ, ◌+◌, Bool, true, false, cond, not, ◌||◌, if◌then◌else◌, List, [], ◌∷◌, ◌++◌, length, map, position, Option, Some, None, option_map, get_or, slice_get, take, refl, sym, ap, ◌∙◌, arith, suc, zero}
 use Rattle.std.specs.Cmp.{first_so, second_so}
 use Rattle.std.proofs.lemmas.Option.{slice_get-map, get_or_from_slice_get, slice_get_within}
-use Rattle.fl_check.specs.Checks.{are_distinct, are_messages_within, is_within_limits}
-use Rattle.fl_check.specs.Interface.{TheMessage, TheInterface, message_of}
-use Rattle.fl_check.specs.declared.interface.Message.{Message}
-use Rattle.fl_check.specs.Known.{is_among}
+use Rattle.fl_interface.specs.Limits.{are_distinct, are_messages_within, is_within_limits}
+use Rattle.fl_interface.specs.Interface.{TheMessage, TheInterface, message_of}
+use Rattle.fl_interface.specs.declared.interface.Message.{Message}
+use Rattle.fl_interface.specs.Limits.{is_among}
 use Rattle.std.specs.Prelude.{nat_lt, nat_le, ◌&&◌}
 use Rattle.std.specs.List.{list_any, position_or_len}
 use Rattle.std.specs.Str.{bytes_eq}

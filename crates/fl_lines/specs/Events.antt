@@ -1,5 +1,5 @@
 -- Events and answers of the code, as the machine has them.
-use Rattle.fl_check.specs.Interface.{interface_of}
+use Rattle.fl_interface.specs.Interface.{interface_of}
 use Rattle.fl_value.specs.Value.{call_of}
 use Rattle.fl_queues.specs.Events.{DispatcherId, Event, add_interface, set_cores, add_link, add_dispatcher}
 use Rattle.fl_queues.specs.Events.{monitor_write, monitor_acknowledge, Answer, done, accepted, nothing, full}

@@ -3,7 +3,7 @@
 use crate::command::BackEnd;
 use crate::table::InterfaceNames;
 use fl_base::{EndId, MsgNo};
-use fl_check::Interface;
+use fl_interface::Interface;
 use fl_value::{Call, PlanNo};
 
 /// A dispatcher: its core, and its place among those of the core, from 0 in order of making.

@@ -3,8 +3,8 @@
 ghost use Rattle.std.specs.Prelude.{◌≡◌, ◌⊎◌, OnOk, OnErr, IfOk, Err, None, option_map, map, unwrap_or, []};
 ghost use Rattle.std.specs.List.{count_by};
 ghost use Rattle.std.specs.Prelude.{true};
-ghost use Rattle.fl_check.specs.Checks.{are_distinct};
-ghost use Rattle.fl_check.specs.Interface.{interface_of};
+ghost use Rattle.fl_interface.specs.Limits.{are_distinct};
+ghost use Rattle.fl_interface.specs.Interface.{interface_of};
 ghost use Rattle.fl_queues.specs.Events.{show, write, acknowledge, register, deregister};
 ghost use Rattle.fl_lines.specs.Commands.{call};
 ghost use Rattle.fl_lines.specs.Names.{with_names, with_dispatcher, with_binding, is_on, no_names};
@@ -24,7 +24,7 @@ use crate::event::{Asked, DispatcherId, Event, Naming};
 use crate::fault::LineFault;
 use crate::table::{InterfaceNames, NameTable};
 use fl_base::{EndId, MsgNo};
-use fl_check::{Interface, Message};
+use fl_interface::{Interface, Message};
 use fl_value::PlanNo;
 use std::alloc::{AllocError, Global};
 

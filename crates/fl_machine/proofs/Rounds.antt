@@ -3,14 +3,14 @@ use Rattle.std.proofs.Common.{◌≡◌, ℕ, suc, ◌+◌, ◌<◌, true, List,
 use Rattle.std.proofs.lemmas.List.{length-append, length-map, map-append, append-nil, take_at}
 use Rattle.fl_base.specs.declared.fragment.Frag.{Frag}
 use Rattle.fl_base.specs.Control.{body, bare}
-use Rattle.fl_check.specs.Interface.{TheInterface}
+use Rattle.fl_interface.specs.Interface.{TheInterface}
 use Rattle.fl_value.specs.declared.value.PlanNo.{PlanNo}
 use Rattle.fl_value.specs.Value.{TheCall}
 use Rattle.fl_value.specs.Fits.{fits_of}
 use Rattle.fl_layout.specs.Places.{count}
 use Rattle.fl_wire.specs.Payload.{frags_of}
 use Rattle.fl_wire.specs.Reading.{Means, IsPart}
-use Rattle.fl_check.specs.Counts.{interface_words_fit}
+use Rattle.fl_interface.specs.Counts.{interface_words_fit}
 use Rattle.fl_wire.specs.declared.fault.WireFault.{WireFault}
 use Rattle.fl_wire.proofs.Readings.{length_frags, count_positive, begins_with}
 use Rattle.fl_compile.specs.declared.program.Program.{Program}

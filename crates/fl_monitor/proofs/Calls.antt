@@ -3,8 +3,8 @@ use Rattle.std.proofs.Common.{◌≡◌, ◌<◌, ◌^◌, ℕ, zero, suc, true,
 use Rattle.std.specs.Prelude.{nat_lt}
 use Rattle.std.proofs.lemmas.Bool.{ltb-true, lt-ltb}
 use Rattle.fl_base.specs.declared.identity.CoreId.{CoreId}
-use Rattle.fl_check.specs.declared.interface.Scalar.TheVariants.{Uint8, Uint16, Uint32, Iref}
-use Rattle.fl_check.specs.Interface.{scalar, fixed, sized, TheArgType}
+use Rattle.fl_interface.specs.declared.interface.Scalar.TheVariants.{Uint8, Uint16, Uint32, Iref}
+use Rattle.fl_interface.specs.Interface.{scalar, fixed, sized, TheArgType}
 use Rattle.fl_value.specs.Value.{Datum, data_from, TheCall}
 use Rattle.fl_value.specs.Fits.{is_argument, are_arguments, fits_of}
 use Rattle.fl_monitor.specs.declared.message.Message.{Message}

@@ -5,8 +5,8 @@ use Rattle.std.proofs.lemmas.Bool.{ne_eqb, eq-eqb}
 use Rattle.fl_base.specs.declared.identity.CoreId.{CoreId}
 use Rattle.fl_base.specs.declared.fragment.Frag.{Frag}
 use Rattle.fl_base.specs.Control.{is_ack_only, bare}
-use Rattle.fl_check.specs.declared.interface.Scalar.TheVariants.{Uint8}
-use Rattle.fl_check.specs.Interface.{scalar}
+use Rattle.fl_interface.specs.declared.interface.Scalar.TheVariants.{Uint8}
+use Rattle.fl_interface.specs.Interface.{scalar}
 use Rattle.fl_value.specs.Value.{data_from, TheCall}
 use Rattle.fl_value.specs.Fits.{count_of}
 use Rattle.fl_value.specs.declared.value.PlanNo.TheVariants.{One}

@@ -2,7 +2,7 @@
 use Rattle.std.proofs.Common.{◌≡◌, ◌⊎◌, ◌^◌, ◌*◌, ◌/◌, ◌%◌, inl, inr, Bool, true, false, not, if◌then◌else◌, List, [], ◌∷◌, ◌++◌, refl, sym, ◌∙◌, ap, subst, arith, Some, None, map}
 use Rattle.fl_base.specs.declared.fragment.Frag.{Frag}
 use Rattle.fl_base.specs.Control.{bare}
-use Rattle.fl_check.specs.Interface.{TheInterface}
+use Rattle.fl_interface.specs.Interface.{TheInterface}
 use Rattle.fl_value.specs.Value.{TheCall}
 use Rattle.fl_value.specs.Fits.{fits_of}
 use Rattle.fl_value.specs.declared.value.PlanNo.{PlanNo}

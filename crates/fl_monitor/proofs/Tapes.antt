@@ -2,8 +2,8 @@
 use Rattle.std.proofs.Common.{◌≡◌, ◌<◌, ◌≤◌, ◌^◌, ◌%◌, List, [], ◌∷◌, ◌++◌, All, length, map, refl, sym, ◌∙◌, ap, arith}
 use Rattle.std.proofs.lemmas.List.{append-nil, length-map}
 use Rattle.fl_base.specs.declared.identity.CoreId.{CoreId}
-use Rattle.fl_check.specs.declared.interface.Scalar.TheVariants.{Uint8}
-use Rattle.fl_check.specs.Interface.{scalar}
+use Rattle.fl_interface.specs.declared.interface.Scalar.TheVariants.{Uint8}
+use Rattle.fl_interface.specs.Interface.{scalar}
 use Rattle.fl_value.specs.Value.{data_from}
 use Rattle.fl_value.specs.Tape.{elements_tape, tape_of}
 use Rattle.fl_value.specs.declared.value.PlanNo.TheVariants.{One}

@@ -1,8 +1,8 @@
 -- The monitors' interface, and what the monitors' messages are as its calls.
 use Rattle.std.specs.Prelude.{◌<◌, ◌^◌, ℕ, pos, List, [], ◌∷◌, map, length, codes}
 use Rattle.fl_base.specs.declared.identity.CoreId.{CoreId}
-use Rattle.fl_check.specs.declared.interface.Scalar.TheVariants.{Uint8, Uint16, Uint32, Iref}
-use Rattle.fl_check.specs.Interface.{scalar, fixed, sized, TheInterface}
+use Rattle.fl_interface.specs.declared.interface.Scalar.TheVariants.{Uint8, Uint16, Uint32, Iref}
+use Rattle.fl_interface.specs.Interface.{scalar, fixed, sized, TheInterface}
 use Rattle.fl_value.specs.Value.{Datum, number, elements, data_from, TheCall}
 use Rattle.fl_monitor.specs.Routes.{FitsPath}
 use Rattle.fl_monitor.specs.declared.message.Message.{Message}

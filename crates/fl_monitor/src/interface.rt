@@ -1,11 +1,11 @@
 //! The monitors' interface.
 
 ghost use Rattle.std.specs.Prelude.{◌≡◌, map, IfOk};
-ghost use Rattle.fl_check.specs.Interface.{interface_of, message_of, arg_type_of, fixed, sized, scalar as scalar_type};
-ghost use Rattle.fl_check.specs.declared.interface.Scalar.TheVariants.{Uint8};
+ghost use Rattle.fl_interface.specs.Interface.{interface_of, message_of, arg_type_of, fixed, sized, scalar as scalar_type};
+ghost use Rattle.fl_interface.specs.declared.interface.Scalar.TheVariants.{Uint8};
 ghost use Rattle.fl_monitor.specs.Intermon.{intermon};
 
-use fl_check::{ArgType, FixedType, Interface, Message, Scalar, Word};
+use fl_interface::{ArgType, FixedType, Interface, Message, Scalar, Word};
 use std::alloc::{AllocError, Global};
 
 // A name.

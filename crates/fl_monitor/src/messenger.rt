@@ -2,7 +2,7 @@
 
 ghost use Rattle.std.specs.Prelude.{◌≡◌, false, IfOk, IfErr};
 ghost use Rattle.fl_base.specs.Control.{is_ack_only};
-ghost use Rattle.fl_check.specs.Interface.{interface_of};
+ghost use Rattle.fl_interface.specs.Interface.{interface_of};
 ghost use Rattle.fl_monitor.specs.declared.message.Message.{Message as MonitorsMessage};
 ghost use Rattle.fl_monitor.specs.Intermon.{intermon};
 ghost use Rattle.fl_monitor.specs.Outboxes.{IsFragOf};
@@ -13,8 +13,8 @@ use crate::interface::interface;
 use crate::message::Message;
 use crate::path::MAX_ROUTE;
 use fl_base::{Circuit, Frag};
-use fl_check::Interface;
 use fl_compile::compile;
+use fl_interface::Interface;
 use fl_machine::{RecvRun, SendRun, sends_fragments};
 use fl_value::PlanNo;
 use fl_wire::WireFault;

@@ -4,7 +4,7 @@
 use Rattle.std.specs.Prelude.{ℕ, List}
 use Rattle.fl_base.specs.declared.fragment.Frag.{Frag}
 use Rattle.fl_base.specs.declared.identity.EndId.{EndId}
-use Rattle.fl_check.specs.Interface.{TheInterface}
+use Rattle.fl_interface.specs.Interface.{TheInterface}
 use Rattle.fl_value.specs.Value.{TheCall}
 use Rattle.fl_value.specs.declared.value.PlanNo.{PlanNo}
 

@@ -4,7 +4,7 @@ use Rattle.fl_base.specs.declared.identity.EndId.{EndId}
 use Rattle.fl_value.specs.Value.{TheCall}
 use Rattle.fl_value.specs.Fits.{fits_of}
 use Rattle.fl_queues.specs.Calls.{Planned}
-use Rattle.fl_check.specs.SameTypes.{same_arguments}
+use Rattle.fl_interface.specs.SameTypes.{same_arguments}
 use Rattle.fl_queues.specs.Ends.{Direction, End, rule_at}
 use Rattle.fl_queues.specs.State.{Binding, State, binding_of, interface_of, end_in}
 use Rattle.fl_queues.specs.Taking.{arguments_of}

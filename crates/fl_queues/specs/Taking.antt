@@ -7,13 +7,13 @@ use Rattle.fl_base.specs.declared.identity.EndId.{EndId}
 use Rattle.fl_lists.specs.declared.place.Place.{Place}
 use Rattle.fl_lists.specs.declared.place.Place.TheVariants.{Polled, Pending}
 use Rattle.fl_waitset.specs.Waiting.{is_registered}
-use Rattle.fl_check.specs.Interface.{TheArgType}
+use Rattle.fl_interface.specs.Interface.{TheArgType}
 use Rattle.fl_value.specs.Tape.{types_of}
 use Rattle.fl_queues.specs.Given.{given}
 use Rattle.fl_queues.specs.Events.{DispatcherId, Answer, done, nothing, full, handle, part, ready, quiet}
 use Rattle.fl_queues.specs.Events.{refused}
 use Rattle.fl_queues.specs.Calls.{Planned}
-use Rattle.fl_check.specs.SameTypes.{same_arguments}
+use Rattle.fl_interface.specs.SameTypes.{same_arguments}
 use Rattle.fl_queues.specs.Rings.{Label, next_of, acknowledges, RingEnd, looks, Room}
 use Rattle.fl_queues.specs.Rings.{there_is_room, puts, takes, for_acknowledgement, owes}
 use Rattle.fl_queues.specs.Ends.{Queue, without_first, End, is_bound, with_rule, holds_back, Taken, whole}

@@ -3,8 +3,8 @@ use Rattle.std.specs.Prelude.{◌≡◌, ℕ, zero, suc, ◌+◌, pos, List, [],
 use Rattle.fl_base.specs.declared.identity.Side.TheVariants.{Client, Server}
 use Rattle.fl_base.specs.declared.identity.EndId.{EndId}
 use Rattle.fl_base.specs.declared.fragment.Frag.{Frag}
-use Rattle.fl_check.specs.declared.interface.Scalar.TheVariants.{Uint32}
-use Rattle.fl_check.specs.Interface.{TheInterface, scalar, fixed, text}
+use Rattle.fl_interface.specs.declared.interface.Scalar.TheVariants.{Uint32}
+use Rattle.fl_interface.specs.Interface.{TheInterface, scalar, fixed, text}
 use Rattle.fl_value.specs.Value.{number, string, TheCall}
 use Rattle.fl_value.specs.declared.value.PlanNo.TheVariants.{One, Two}
 use Rattle.fl_queues.specs.Events.{DispatcherId, by_queues, by_ring, by_route, Event, Answer}

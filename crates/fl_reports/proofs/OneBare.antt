@@ -3,7 +3,7 @@ use Rattle.std.proofs.Common.{◌≡◌, refl, sym, ◌∙◌, ap, subst, ℕ, z
 use Rattle.std.proofs.Common.{[], ◌∷◌, ◌++◌, length, slice_get, Option, Some, None, arith}
 use Rattle.std.specs.List.{list_all}
 use Rattle.fl_base.specs.declared.identity.Side.TheVariants.{Client}
-use Rattle.fl_check.specs.Interface.{TheInterface}
+use Rattle.fl_interface.specs.Interface.{TheInterface}
 use Rattle.fl_value.specs.declared.value.PlanNo.{PlanNo}
 use Rattle.fl_hop.proofs.Lists.{within}
 use Rattle.fl_hop.specs.Table.{link_of}

@@ -5,7 +5,7 @@ use Rattle.std.specs.List.{flat_map}
 use Rattle.std.proofs.lemmas.List.Concat.{flat_map-cons}
 use Rattle.fl_base.specs.declared.identity.EndId.{EndId}
 use Rattle.fl_base.specs.Ends.{other}
-use Rattle.fl_check.specs.SameTypes.{same_arguments}
+use Rattle.fl_interface.specs.SameTypes.{same_arguments}
 use Rattle.fl_endpoint.specs.Events.{SetsRule}
 use Rattle.fl_core.specs.View.{TheSeat}
 use Rattle.fl_node.specs.View.{TheCore, place_of, with_board}

@@ -12,7 +12,7 @@ use Rattle.fl_value.specs.Value.{TheCall, call_of}
 use Rattle.fl_value.specs.Value.{Datum}
 use Rattle.fl_value.specs.Fits.{fits_of, fit_message, are_arguments}
 use Rattle.fl_value.specs.Tape.{types_of}
-use Rattle.fl_check.specs.Interface.{TheArgType, TheMessage, TheInterface}
+use Rattle.fl_interface.specs.Interface.{TheArgType, TheMessage, TheInterface}
 use Rattle.fl_wire.specs.Payload.{frags_on}
 use Rattle.fl_wire.specs.Reading.{AllFit}
 use Rattle.fl_compile.specs.declared.program.Program.{Program}

@@ -3,7 +3,7 @@ use Rattle.std.proofs.Common.{◌≡◌, refl, sym, ap, subst, ℕ, Bool, true, 
 use Rattle.std.specs.Prelude.{IsSome}
 use Rattle.fl_base.specs.declared.identity.EndId.{EndId}
 use Rattle.fl_base.specs.declared.fragment.Frag.{Frag}
-use Rattle.fl_check.specs.Interface.{TheMessage}
+use Rattle.fl_interface.specs.Interface.{TheMessage}
 use Rattle.fl_value.specs.declared.value.Call.{Call as AnyCall}
 use Rattle.fl_value.specs.Value.{TheCall, call_of}
 use Rattle.fl_value.specs.Fits.{fits_of}

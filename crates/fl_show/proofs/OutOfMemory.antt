@@ -3,8 +3,8 @@ use Rattle.std.proofs.Common.{◌≡◌, ◌++◌, ℕ, true, List, map, length,
 use Rattle.std.specs.Result.{IsErrAnd}
 use Rattle.std.proofs.lemmas.Bool.{and_parts}
 use Rattle.std.specs.List.{list_all, flat_map}
-use Rattle.fl_check.specs.Interface.{TheInterface}
-use Rattle.fl_check.specs.Checks.{is_within_limits}
+use Rattle.fl_interface.specs.Interface.{TheInterface}
+use Rattle.fl_interface.specs.Limits.{is_within_limits}
 use Rattle.fl_check.specs.Texts.{is_message_spellable}
 use Rattle.fl_value.specs.declared.value.PlanNo.{PlanNo}
 use Rattle.fl_image.specs.Image.{two, is_name, name_image, message_image, codes_image, codes_of, magic, version_of, is_writable, has_image, image_of}

@@ -6,8 +6,9 @@ use Rattle.fl_lex.specs.Token.{TheTokens}
 use Rattle.fl_lex.specs.Outcome.{IsLexed}
 use Rattle.fl_parse.specs.Grammar.{Derives}
 use Rattle.fl_parse.specs.Tree.{TheTree}
-use Rattle.fl_check.specs.Interface.{TheInterface}
-use Rattle.fl_check.specs.Checks.{StandsFor, interface_from, is_within_limits}
+use Rattle.fl_interface.specs.Interface.{TheInterface}
+use Rattle.fl_check.specs.Checks.{StandsFor, interface_from}
+use Rattle.fl_interface.specs.Limits.{is_within_limits}
 use Rattle.fl_check.proofs.Limits.{within_limits}
 use Rattle.fl_check.proofs.TextInterfaces.{texts_are_spellable}
 use Rattle.fl_value.specs.declared.value.PlanNo.{PlanNo}

@@ -10,7 +10,7 @@ use Rattle.fl_parse.specs.Tree.{TheTree}
 use Rattle.fl_parse.specs.Outcome as parse
 use Rattle.fl_parse.specs.Grammar.{parsed, Parses, HasHead}
 use Rattle.fl_parse.specs.declared.fault.ParseFault.TheVariants as parse_faults
-use Rattle.fl_check.specs.Interface.{TheInterface}
+use Rattle.fl_interface.specs.Interface.{TheInterface}
 use Rattle.fl_check.specs.Outcome as check
 use Rattle.fl_check.specs.Checks.{checked, Checks, IsSound}
 use Rattle.fl_check.specs.Places.{first_looks}

@@ -1,7 +1,7 @@
 //! What `compile` makes of a file's content.
 
 ghost use Rattle.std.specs.Prelude.{IfOk, IfErr};
-ghost use Rattle.fl_check.specs.Interface.{TheInterface};
+ghost use Rattle.fl_interface.specs.Interface.{TheInterface};
 ghost use Rattle.fl_value.specs.declared.value.PlanNo.TheVariants.{Two};
 ghost use Rattle.fl_show.specs.Content.{StandsFor, IsRefusalOf, IsImageOf};
 

@@ -2,12 +2,13 @@
 
 ghost use Rattle.std.specs.Prelude.{◌≡◌, ◌==◌, ◌≤◌, true, length, IfOk, IfErr, IfSome};
 ghost use Rattle.std.specs.List.{position};
-ghost use Rattle.fl_check.specs.Interface.{interface_of};
+ghost use Rattle.fl_interface.specs.Interface.{interface_of};
 ghost use Rattle.fl_image.specs.Image.{has_image};
 ghost use Rattle.fl_show.specs.Content.{StandsFor, IsFaultOf, excerpt_at, first_line, IsRefusalOf, TextsHaveImages};
 
 use crate::fault::{Refusal, ShowFault};
-use fl_check::{Interface, TextFault, check};
+use fl_check::{TextFault, check};
+use fl_interface::Interface;
 use fl_lex::lex;
 use fl_parse::parse;
 use std::alloc::Global;

@@ -1,11 +1,11 @@
 //! What the table tells of a message and of an argument.
 
 ghost use Rattle.std.specs.Prelude.{◌≡◌, Some};
-ghost use Rattle.fl_check.specs.Interface.{arg_type_of};
+ghost use Rattle.fl_interface.specs.Interface.{arg_type_of};
 ghost use Rattle.fl_layout.specs.Layouts.{argument_size};
 ghost use Rattle.fl_show.specs.Table.{figures_text, place_text, kind_of, kind_text};
 
-use fl_check::ArgType;
+use fl_interface::ArgType;
 use std::fmt;
 
 /// The least and the greatest number of bytes that a payload of a message has, and the fragments of the

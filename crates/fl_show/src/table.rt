@@ -2,13 +2,13 @@
 //! arguments.
 
 ghost use Rattle.std.specs.Prelude.{◌≡◌, ◌++◌, List, ℕ, IfOk, OnOk, Some, slice_get};
-ghost use Rattle.fl_check.specs.Interface.{arg_type_of, message_of, interface_of};
+ghost use Rattle.fl_interface.specs.Interface.{arg_type_of, message_of, interface_of};
 ghost use Rattle.fl_layout.specs.Leaves.{argument_types};
 ghost use Rattle.fl_show.specs.Table.{interface_line, message_line, argument_line, TellsEach, TellsArgument, TellsMessage, IsTable};
 
 use crate::row::{Figures, Kind, Place};
 use fl_base::MsgNo;
-use fl_check::{ArgType, Message};
+use fl_interface::{ArgType, Message};
 use fl_layout::{Plans, fragment_count};
 use fl_value::PlanNo;
 use std::alloc::{AllocError, Global};

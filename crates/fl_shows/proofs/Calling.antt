@@ -4,7 +4,7 @@ use Rattle.std.specs.Prelude.{unwrap_or, IsSome, Result, Ok, Err, replicate, sli
 use Rattle.std.proofs.lemmas.Bool.{false≢true}
 use Rattle.fl_base.specs.declared.fragment.Frag.{Frag}
 use Rattle.fl_base.specs.declared.identity.EndId.{EndId}
-use Rattle.fl_check.specs.Interface.{TheMessage, TheInterface}
+use Rattle.fl_interface.specs.Interface.{TheMessage, TheInterface}
 use Rattle.fl_value.specs.Value.{Datum, TheCall}
 use Rattle.fl_value.specs.Fits.{fits_of, fit_message}
 use Rattle.fl_compile.specs.declared.program.Program.{Program}

@@ -3,18 +3,18 @@ use Rattle.std.proofs.Common.{◌≡◌, refl, sym, ◌∙◌, ap, subst, ℕ, z
 use Rattle.std.specs.Prelude.{Result, Ok, Err}
 use Rattle.std.proofs.lemmas.Bool.{eqb-true}
 use Rattle.std.proofs.lemmas.Bool.Decides.{nat_tests}
-use Rattle.fl_check.specs.declared.interface.Scalar.{Scalar}
-use Rattle.fl_check.specs.declared.interface.Scalar.TheVariants.{Uint8, Int8, Bool as Flag, Char, Uint16}
-use Rattle.fl_check.specs.declared.interface.Scalar.TheVariants.{Int16, Uint32, Int32, Iref, Uint64, Int64}
-use Rattle.fl_check.specs.declared.interface.Scalar.TheVariants.{Uintptr, Intptr, Size, Errval}
-use Rattle.fl_check.specs.Interface.{TheType, scalar, enumeration, structure, array, TheTypes, no_more, field}
-use Rattle.fl_check.specs.Interface.{TheArgType, fixed, text, sized, TheInterface}
+use Rattle.fl_interface.specs.declared.interface.Scalar.{Scalar}
+use Rattle.fl_interface.specs.declared.interface.Scalar.TheVariants.{Uint8, Int8, Bool as Flag, Char, Uint16}
+use Rattle.fl_interface.specs.declared.interface.Scalar.TheVariants.{Int16, Uint32, Int32, Iref, Uint64, Int64}
+use Rattle.fl_interface.specs.declared.interface.Scalar.TheVariants.{Uintptr, Intptr, Size, Errval}
+use Rattle.fl_interface.specs.Interface.{TheType, scalar, enumeration, structure, array, TheTypes, no_more, field}
+use Rattle.fl_interface.specs.Interface.{TheArgType, fixed, text, sized, TheInterface}
 use Rattle.fl_endpoint.specs.declared.fault.EndFault.{EndFault}
 use Rattle.fl_endpoint.specs.declared.fault.EndFault.TheVariants.{UnknownMessage, Misfit}
 use Rattle.fl_endpoint.specs.View.{TheEnd, interface_in}
 use Rattle.fl_endpoint.specs.Events.{SetsRule, IsMessage, SameTypes}
 use Rattle.fl_queues.specs.Calls.{Planned}
-use Rattle.fl_check.specs.SameTypes.{scalar_number, same_type, same_fields, same_argument, same_arguments}
+use Rattle.fl_interface.specs.SameTypes.{scalar_number, same_type, same_fields, same_argument, same_arguments}
 use Rattle.fl_queues.specs.Ends.{Direction, End, with_rule}
 use Rattle.fl_queues.specs.Taking.{has_message, arguments_of}
 use Rattle.fl_shows.specs.Ends.{EndShows}

@@ -26,7 +26,7 @@ use Rattle.fl_queues.specs.Ends.{accepts_or_waits, fresh_direction, unbound_end,
 use Rattle.fl_queues.specs.Ends.{comes_to, replies}
 use Rattle.fl_queues.specs.State.{State, answers, change_out}
 use Rattle.fl_queues.specs.Sending.{makes_call, next_fragment}
-use Rattle.fl_check.specs.SameTypes.{same_arguments}
+use Rattle.fl_interface.specs.SameTypes.{same_arguments}
 use Rattle.fl_queues.specs.Taking.{has_message, arguments_of}
 use Rattle.fl_queues.specs.SoundLabels.{IsCounted}
 use Rattle.fl_queues.specs.SoundCalls.{AllFit}

@@ -3,7 +3,7 @@ use Rattle.std.specs.Prelude.{ℕ, ◌≡◌, ◌≤◌, ◌<◌, ◌^◌, true,
 use Rattle.fl_base.specs.declared.fragment.Frag.{Frag}
 use Rattle.fl_base.specs.declared.identity.EndId.{EndId}
 use Rattle.fl_base.specs.Control.{bare, circuit_of, with_circuit}
-use Rattle.fl_check.specs.Checks.{is_within_limits}
+use Rattle.fl_interface.specs.Limits.{is_within_limits}
 use Rattle.fl_ring.specs.Duo.{acknowledgement}
 use Rattle.fl_monitor.specs.declared.message.Message.{Message}
 use Rattle.fl_monitor.specs.Intermon.{HasWidths}

@@ -4,7 +4,7 @@ use Rattle.std.proofs.lemmas.List.FromFn.{map-range_with_len_more, length-map-ra
 use Rattle.std.proofs.lemmas.Bool.{leb-true}
 use Rattle.std.specs.List.{list_any}
 use Rattle.std.specs.Str.{bytes_eq}
-use Rattle.fl_check.specs.Interface.{TheInterface}
+use Rattle.fl_interface.specs.Interface.{TheInterface}
 use Rattle.fl_compile.specs.declared.program.Program.{Program}
 use Rattle.fl_compile.specs.Programs.{program_of}
 use Rattle.fl_value.specs.declared.value.PlanNo.{PlanNo}

@@ -2,7 +2,7 @@
 
 ghost use Rattle.std.specs.Prelude.{ℕ, ◌≡◌, ◌≢◌, ◌≤◌, ◌<◌, ◌-◌, ◌^◌, length, IfOk, OnOk, OnErr, bytes_eq};
 ghost use Rattle.fl_base.specs.declared.identity.CoreId.{CoreId};
-ghost use Rattle.fl_check.specs.Interface.{interface_of};
+ghost use Rattle.fl_interface.specs.Interface.{interface_of};
 ghost use Rattle.fl_compile.specs.Programs.{program_of};
 ghost use Rattle.fl_ring.specs.Duo.{MayHaveSlots};
 ghost use Rattle.fl_node.specs.View.{TheCore};
@@ -18,8 +18,8 @@ ghost use Rattle.fl_system.specs.Parts.{LinksBoth, is_no_pair};
 use crate::lending::whole;
 use crate::world::World;
 use fl_base::{CoreId, MAX_CORES, MAX_DISPATCHERS, MAX_INTERFACES, MAX_SERVICES};
-use fl_check::Interface;
 use fl_compile::{Program, compile};
+use fl_interface::Interface;
 use fl_lines::{Answer, DispatcherId};
 use fl_nameserv::{Names, Service};
 use fl_node::Core;

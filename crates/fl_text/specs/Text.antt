@@ -3,7 +3,7 @@
 use Rattle.std.specs.Prelude.{◌≡◌, ℕ, List}
 use Rattle.fl_lex.specs.Outcome.{LexOutcome, lexed, lex_fault, Lexes}
 use Rattle.fl_parse.specs.Grammar.{ParseOutcome, parsed, parse_fault, Parses}
-use Rattle.fl_check.specs.Interface.{TheInterface}
+use Rattle.fl_interface.specs.Interface.{TheInterface}
 use Rattle.fl_check.specs.Checks.{CheckOutcome, checked, check_fault, Checks}
 
 -- an interface, or a fault by its number and the offset where it stands

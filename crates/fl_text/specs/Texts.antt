@@ -1,5 +1,5 @@
 -- What was read of an interface's text, as the definitions have it.
-use Rattle.fl_check.specs.Interface.{interface_of}
+use Rattle.fl_interface.specs.Interface.{interface_of}
 use Rattle.fl_text.specs.Text.{TextOutcome, stands_for, text_fault}
 use Rattle.fl_text.specs.declared.reading.TextRead.{TextRead}
 use Rattle.fl_text.specs.declared.reading.TextRead.TheVariants.{Interface, Fault}

@@ -8,7 +8,8 @@ ghost use Rattle.fl_lex.specs.Outcome.{lexed};
 ghost use Rattle.fl_text.specs.Text.{TextMeans, ParsedMeans, LexedMeans, text_fault};
 ghost use Rattle.fl_text.specs.Texts.{outcome_of};
 
-use fl_check::{Interface, check};
+use fl_check::check;
+use fl_interface::Interface;
 use fl_lex::{Tokens, lex};
 use fl_parse::{Tree, parse};
 use std::alloc::{AllocError, Global};

@@ -1,7 +1,7 @@
 -- The names that a script has given are those of the machine's things, and what a script asks of is there.
 use Rattle.std.specs.Prelude.{ℕ, ◌≡◌, ◌<◌, List, [], ◌∷◌, ◌++◌, map, length, slice_get, Some, IsSome}
 use Rattle.fl_base.specs.declared.identity.EndId.{EndId}
-use Rattle.fl_check.specs.Interface.{TheMessage}
+use Rattle.fl_interface.specs.Interface.{TheMessage}
 use Rattle.fl_queues.specs.Calls.{Planned}
 use Rattle.fl_queues.specs.Events.{DispatcherId, Event, add_interface, set_cores, add_link, add_dispatcher, export, bind}
 use Rattle.fl_queues.specs.Events.{call, show, write, turn, acknowledge, register, deregister, reply}

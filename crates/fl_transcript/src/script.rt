@@ -1,7 +1,7 @@
 //! A running script: the names that it has given, and the system that its lines act on. Each item is answered here.
 
 ghost use Rattle.std.specs.Prelude.{◌≡◌, ◌∷◌, ◌++◌, [], Err, IfOk, OnOk, OnErr};
-ghost use Rattle.fl_check.specs.Interface.{interface_of};
+ghost use Rattle.fl_interface.specs.Interface.{interface_of};
 ghost use Rattle.fl_lines.specs.declared.fault.LineFault.TheVariants.{Memory};
 ghost use Rattle.fl_lines.specs.Answers.{answer_text};
 ghost use Rattle.fl_lines.specs.Asked.{asks};
@@ -18,7 +18,7 @@ ghost use Rattle.fl_transcript.specs.Transcript.{block_effect, Does};
 ghost use Rattle.fl_text.specs.Text.{stands_for, text_fault};
 
 use crate::machine::QueueMachine;
-use fl_check::Interface;
+use fl_interface::Interface;
 use fl_lines::{
     Answer, Asked, Command, Event, LineFault, Names, Part, Verb, print_answer, print_fault,
     read_command,

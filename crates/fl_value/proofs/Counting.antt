@@ -4,7 +4,7 @@ use Rattle.std.proofs.lemmas.Bool.{ne_eqb, lt-ltb}
 use Rattle.std.proofs.Math.Bool.{and-true}
 use Rattle.std.proofs.Math.Dec.{eqb-suc-suc}
 use Rattle.std.specs.List.{list_all}
-use Rattle.fl_check.specs.Interface.{TheType, TheArgType, fields_from}
+use Rattle.fl_interface.specs.Interface.{TheType, TheArgType, fields_from}
 use Rattle.fl_value.specs.Value.{nothing_more, data_from, datum_of}
 use Rattle.fl_value.specs.declared.value.Value.{Value}
 use Rattle.fl_value.specs.Fits.{count_of, is_text_byte, have_types, are_arguments}

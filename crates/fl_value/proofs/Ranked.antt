@@ -7,9 +7,9 @@ use Rattle.std.proofs.lemmas.Bool.{cases_lt, false≢true, ne_eqb}
 use Rattle.std.proofs.lemmas.Bool.Decides.{nat_tests}
 use Rattle.std.proofs.lemmas.List.Recursion.{is_count_by}
 use Rattle.std.proofs.lemmas.List.{take-append-drop, append-nil, map-append}
-use Rattle.fl_check.specs.Interface.{TheArgType, fixed, text, sized}
-use Rattle.fl_check.specs.Sizes.{align_of}
-use Rattle.fl_check.proofs.Aligned.{by_align, type_align}
+use Rattle.fl_interface.specs.Interface.{TheArgType, fixed, text, sized}
+use Rattle.fl_interface.specs.Sizes.{align_of}
+use Rattle.fl_interface.proofs.Aligned.{by_align, type_align}
 use Rattle.fl_value.specs.declared.value.PlanNo.{PlanNo}
 use Rattle.fl_value.specs.declared.value.PlanNo.TheVariants.{One, Two}
 use Rattle.fl_value.specs.Value.{Datum}

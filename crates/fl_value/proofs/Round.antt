@@ -6,13 +6,13 @@ use Rattle.std.proofs.lemmas.Slice.Eq.{bytes_eq-Decides}
 use Rattle.std.specs.List.{list_all}
 use Rattle.std.specs.Cmp.{first_so, second_so}
 use Rattle.std.proofs.lemmas.Bool.{ltb-true, ltb-false, lt-ltb, leb-true, false≢true, and_parts, cond-true}
-use Rattle.fl_check.specs.declared.interface.Scalar.{Scalar}
-use Rattle.fl_check.specs.declared.interface.Scalar.TheVariants.{Uint8, Int8, Bool as BoolType, Char, Uint16, Int16, Uint32, Int32, Iref, Uint64, Int64, Uintptr, Intptr, Size, Errval}
-use Rattle.fl_check.specs.Interface.{TheType, scalar, enumeration, structure, array, TheTypes, no_more, field, TheArgType, fixed, text, sized, TheMessage, TheInterface}
-use Rattle.fl_check.specs.Checks.{is_type_within, is_argument_within, are_arguments_within, is_message_within, are_messages_within, are_distinct}
-use Rattle.fl_check.specs.Counts.{words_fit, all_words_fit, argument_words_fit}
-use Rattle.fl_check.specs.Depth.{depth_of as type_depth, deepest}
-use Rattle.fl_check.specs.Known.{is_among}
+use Rattle.fl_interface.specs.declared.interface.Scalar.{Scalar}
+use Rattle.fl_interface.specs.declared.interface.Scalar.TheVariants.{Uint8, Int8, Bool as BoolType, Char, Uint16, Int16, Uint32, Int32, Iref, Uint64, Int64, Uintptr, Intptr, Size, Errval}
+use Rattle.fl_interface.specs.Interface.{TheType, scalar, enumeration, structure, array, TheTypes, no_more, field, TheArgType, fixed, text, sized, TheMessage, TheInterface}
+use Rattle.fl_interface.specs.Limits.{is_type_within, is_argument_within, are_arguments_within, is_message_within, are_messages_within, are_distinct}
+use Rattle.fl_interface.specs.Counts.{words_fit, all_words_fit, argument_words_fit}
+use Rattle.fl_interface.specs.Depth.{depth_of as type_depth, deepest}
+use Rattle.fl_interface.specs.Limits.{is_among}
 use Rattle.fl_value.specs.Value.{Datum, number, string, elements, fields, Data, nothing_more, also, TheCall, data_from, call_of}
 use Rattle.fl_value.specs.declared.value.Call.{Call}
 use Rattle.fl_value.specs.declared.fault.ValueFault.{ValueFault}

@@ -5,7 +5,7 @@ use Rattle.std.specs.Cmp.{first_so, second_so}
 use Rattle.std.proofs.lemmas.List.{map-append, take_more, take_all}
 use Rattle.std.proofs.lemmas.List.Elements.{filter-append}
 use Rattle.std.proofs.lemmas.Bool.{false≢true, eqb-true, leb-true, le-leb}
-use Rattle.fl_check.specs.Interface.{TheType, structure, array, fixed, text, sized, fields_from}
+use Rattle.fl_interface.specs.Interface.{TheType, structure, array, fixed, text, sized, fields_from}
 use Rattle.fl_value.specs.Value.{Datum, number, string, elements, fields, Data, nothing_more, also, data_from, datum_of}
 use Rattle.fl_value.specs.declared.value.Value.{Value}
 use Rattle.fl_value.specs.Fits.{has_type, have_types, all_have_type, count_of}

@@ -5,14 +5,14 @@ use Rattle.std.specs.List.{zip, flat_map, list_all, insert}
 use Rattle.std.specs.Cmp.{first_so, second_so}
 use Rattle.std.proofs.lemmas.Bool.{false≢true, eqb-true, leb-true, ltb-true}
 use Rattle.std.proofs.lemmas.List.{append-nil}
-use Rattle.fl_check.specs.Interface.{TheType, scalar, enumeration, structure, array, TheTypes, no_more, field, TheArgType, fixed, text, sized, TheMessage, TheInterface, message_of}
-use Rattle.fl_check.specs.declared.interface.Message.{Message}
+use Rattle.fl_interface.specs.Interface.{TheType, scalar, enumeration, structure, array, TheTypes, no_more, field, TheArgType, fixed, text, sized, TheMessage, TheInterface, message_of}
+use Rattle.fl_interface.specs.declared.interface.Message.{Message}
 use Rattle.fl_value.specs.declared.value.PlanNo.{PlanNo}
 use Rattle.fl_value.specs.declared.value.PlanNo.TheVariants.{One, Two}
 use Rattle.fl_value.specs.Value.{Datum, number, string, elements, fields, Data, nothing_more, also, TheCall}
 use Rattle.fl_value.specs.Fits.{has_type, have_types, all_have_type, count_of, is_argument, are_arguments, fit_message, scalar_bits, least_above, how_many_below}
 use Rattle.fl_value.specs.Plan.{arranged}
-use Rattle.fl_check.specs.Counts.{words_fit, all_words_fit, argument_words_fit, interface_words_fit}
+use Rattle.fl_interface.specs.Counts.{words_fit, all_words_fit, argument_words_fit, interface_words_fit}
 use Rattle.fl_value.specs.Tape.{value_tape, fields_tape, elements_tape, argument_tape, Argument, kind, tape_of_argument, types_of}
 use Rattle.fl_value.specs.Taken.{ArgumentAt, InTurn, TheOne, NoneOf, HasTape}
 use Rattle.fl_value.proofs.Bits.{raw_told, scalar_range, enum_range, scalar_room}

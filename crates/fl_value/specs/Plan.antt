@@ -1,8 +1,8 @@
 -- The order in which a plan lays a call's arguments out, said in two ways: as it is read (`arranged`), and rank by rank
 -- (`by_ranks`), as all code goes through it. That the two are one order is a law (`RankByRank`).
 use Rattle.std.specs.Prelude.{◌≡◌, ℕ, zero, suc, ◌+◌, ◌==◌, ◌&&◌, nat_eq, nat_le, Bool, true, false, if◌then◌else◌, List, [], ◌∷◌, ◌++◌, filter}
-use Rattle.fl_check.specs.Interface.{TheArgType, fixed, text, sized}
-use Rattle.fl_check.specs.Sizes.{align_of}
+use Rattle.fl_interface.specs.Interface.{TheArgType, fixed, text, sized}
+use Rattle.fl_interface.specs.Sizes.{align_of}
 use Rattle.fl_value.specs.declared.value.PlanNo.{PlanNo}
 use Rattle.fl_value.specs.declared.value.PlanNo.TheVariants.{One, Two}
 

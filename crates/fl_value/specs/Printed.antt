@@ -4,9 +4,9 @@ use Rattle.std.specs.Prelude.{List, [], ◌∷◌, ◌++◌, Ok, Some, slice_get
 use Rattle.std.specs.List.{flat_map, list_all}
 use Rattle.std.specs.Char.{digit_char}
 use Rattle.std.specs.Fmt.{signed_decimal}
-use Rattle.fl_check.specs.Interface.{TheMessage, TheInterface}
-use Rattle.fl_check.specs.Checks.{is_within_limits}
-use Rattle.fl_check.specs.Counts.{interface_words_fit}
+use Rattle.fl_interface.specs.Interface.{TheMessage, TheInterface}
+use Rattle.fl_interface.specs.Limits.{is_within_limits}
+use Rattle.fl_interface.specs.Counts.{interface_words_fit}
 use Rattle.fl_lex.specs.Words.{is_name}
 use Rattle.fl_value.specs.CallText.{is_plain, SpellsCall, greatest_depth}
 use Rattle.fl_value.specs.Fits.{fits_of}

@@ -1,7 +1,7 @@
 -- Which call a name and values are, at an interface.
 use Rattle.std.specs.Prelude.{◌≡◌, ℕ, ◌+◌, nat_lt, if◌then◌else◌, Option, Some, None, Result, Ok, Err, List, [], ◌∷◌}
 use Rattle.std.specs.Str.{bytes_eq}
-use Rattle.fl_check.specs.Interface.{TheMessage, TheInterface}
+use Rattle.fl_interface.specs.Interface.{TheMessage, TheInterface}
 use Rattle.fl_value.specs.declared.value.Call.{Call}
 use Rattle.fl_value.specs.declared.fault.ValueFault.{ValueFault}
 use Rattle.fl_value.specs.declared.fault.ValueFault.TheVariants.{NotACall, NoSuchMessage, DoesNotFit, Memory}

@@ -2,11 +2,11 @@
 -- arguments. Stub code reads a call from its tape, and writes a tape for the call that it takes.
 use Rattle.std.specs.Prelude.{ℕ, ℤ, pos, negsuc, ◌-◌, ◌%◌, ◌^◌, List, [], ◌∷◌, ◌++◌, length, map, slice_get, Option, Some, None}
 use Rattle.std.specs.List.{zip, flat_map}
-use Rattle.fl_check.specs.Interface.{TheType, scalar, enumeration, structure, array, TheTypes, field}
-use Rattle.fl_check.specs.Interface.{TheArgType, fixed, text, sized, TheMessage, TheInterface}
+use Rattle.fl_interface.specs.Interface.{TheType, scalar, enumeration, structure, array, TheTypes, field}
+use Rattle.fl_interface.specs.Interface.{TheArgType, fixed, text, sized, TheMessage, TheInterface}
 use Rattle.fl_value.specs.declared.value.PlanNo.{PlanNo}
-use Rattle.fl_check.specs.Interface.{arg_type_of}
-use Rattle.fl_check.specs.declared.interface.ArgType.{ArgType}
+use Rattle.fl_interface.specs.Interface.{arg_type_of}
+use Rattle.fl_interface.specs.declared.interface.ArgType.{ArgType}
 use Rattle.fl_value.specs.declared.value.Value.{Value}
 use Rattle.fl_value.specs.Value.{datum_of, Datum, number, string, elements, fields, Data, nothing_more, also, TheCall}
 use Rattle.fl_value.specs.Fits.{scalar_bits, count_of}

@@ -2,7 +2,7 @@
 
 ghost use Rattle.std.specs.Prelude.{Result, ◌≡◌, ℕ, ◌++◌, ◌≤◌, List, map, length, IfOk, IfErr, IfSome, IfNone, true};
 ghost use Rattle.std.specs.List.{prefix_len};
-ghost use Rattle.fl_check.specs.Interface.{interface_of, message_of};
+ghost use Rattle.fl_interface.specs.Interface.{interface_of, message_of};
 ghost use Rattle.fl_value.specs.Value.{Datum, TheCall, datum_of};
 ghost use Rattle.fl_lex.specs.Words.{is_letter, is_word_byte, is_name};
 ghost use Rattle.fl_value.specs.CallText.{StopsAt, SpellsCall};
@@ -16,7 +16,7 @@ use crate::reader::read_values;
 use crate::tokens::{read_mark, skip_blanks};
 use crate::value::{Call, Value};
 use fl_base::MsgNo;
-use fl_check::{Interface, Message, Word};
+use fl_interface::{Interface, Message, Word};
 use std::alloc::Global;
 
 /// How deep arrays and structs may nest in a call's text; its parentheses don't count.

@@ -2,13 +2,13 @@
 
 ghost use Rattle.std.specs.Prelude.{◌≡◌, ◌==◌, ◌&&◌, nat_le, nat_lt, length, map};
 ghost use Rattle.std.specs.List.{list_all};
-ghost use Rattle.fl_check.specs.Interface.{type_of, arg_type_of, interface_of, fields_from};
+ghost use Rattle.fl_interface.specs.Interface.{type_of, arg_type_of, interface_of, fields_from};
 ghost use Rattle.fl_value.specs.Value.{datum_of, data_from, call_of};
 ghost use Rattle.fl_value.specs.Fits.{count_of, is_text_byte, is_scalar_value, is_enumerator, has_type};
 ghost use Rattle.fl_value.specs.Fits.{have_types, all_have_type, is_argument, are_arguments, fits_of};
 
 use crate::value::{Call, Value};
-use fl_check::{ArgType, FixedType, Interface, Scalar};
+use fl_interface::{ArgType, FixedType, Interface, Scalar};
 
 /// Whether a number is a value of a scalar.
 fn is_scalar_value(scalar: Scalar, number: i128) -> bool

@@ -2,14 +2,14 @@
 
 ghost use Rattle.std.specs.Prelude.{◌≡◌, ◌≤◌, length, map, nat_lt, IfOk};
 ghost use Rattle.std.specs.List.{count_by};
-ghost use Rattle.fl_check.specs.Interface.{arg_type_of, type_of};
-ghost use Rattle.fl_check.specs.Sizes.{align_of};
+ghost use Rattle.fl_interface.specs.Interface.{arg_type_of, type_of};
+ghost use Rattle.fl_interface.specs.Sizes.{align_of};
 ghost use Rattle.fl_value.specs.Value.{datum_of};
 ghost use Rattle.fl_value.specs.Plan.{arranged, fixed_rank, rank_of, rising, never_falls};
 ghost use Rattle.fl_value.specs.Tape.{beside, kind, values_of};
 
 use crate::value::{PlanNo, Value};
-use fl_check::{ArgType, FixedType};
+use fl_interface::{ArgType, FixedType};
 use std::alloc::{AllocError, Global};
 
 /// How many ranks of arguments there may be: a plan lays out the arguments of rank 0 as declared, then those of rank 1,

@@ -3,7 +3,7 @@
 
 ghost use Rattle.std.specs.Prelude.{◌≡◌, ◌+◌, ◌++◌, ◌≤◌, ◌%◌, ◌-◌, length, map, take, IfOk, OnOk};
 ghost use Rattle.std.specs.List.{flat_map};
-ghost use Rattle.fl_check.specs.Interface.{type_of, arg_type_of, fields_from, interface_of};
+ghost use Rattle.fl_interface.specs.Interface.{type_of, arg_type_of, fields_from, interface_of};
 ghost use Rattle.fl_value.specs.Value.{datum_of, data_from, call_of};
 ghost use Rattle.fl_value.specs.Fits.{count_of};
 ghost use Rattle.fl_value.specs.Plan.{arranged, rank_of, by_ranks};
@@ -12,7 +12,7 @@ ghost use Rattle.fl_value.specs.Tape.{tape_of_argument, beside, kind, rank_tape,
 
 use crate::order::RANKS;
 use crate::value::{Call, PlanNo, Value};
-use fl_check::{ArgType, FixedType, Interface};
+use fl_interface::{ArgType, FixedType, Interface};
 use std::alloc::{AllocError, Global};
 
 /// A number's low bits, two's complement.

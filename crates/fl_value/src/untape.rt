@@ -3,7 +3,7 @@
 ghost use Rattle.std.specs.Prelude.{◌≡◌, ◌≤◌, ◌^◌, List, length, true, false, map, replicate, Some, IfOk, IfSome, IfNone};
 ghost use Rattle.std.specs.Option.{option_map};
 ghost use Rattle.std.specs.List.{list_all};
-ghost use Rattle.fl_check.specs.Interface.{scalar, enumeration, text, sized, type_of, arg_type_of, interface_of};
+ghost use Rattle.fl_interface.specs.Interface.{scalar, enumeration, text, sized, type_of, arg_type_of, interface_of};
 ghost use Rattle.fl_value.specs.Value.{TheCall, number, string, elements, data_of, datum_of, call_of};
 ghost use Rattle.fl_value.specs.Plan.{rank_of};
 ghost use Rattle.fl_value.specs.Fits.{is_text_byte};
@@ -13,7 +13,7 @@ ghost use Rattle.fl_value.specs.Taken.{TheValues, MoreRead, NoneRead, types_of_r
 use crate::order::{RANKS, declared_order};
 use crate::value::{Call, PlanNo, Value};
 use fl_base::MsgNo;
-use fl_check::{ArgType, FixedType, Interface, Scalar};
+use fl_interface::{ArgType, FixedType, Interface, Scalar};
 use std::alloc::{AllocError, Global};
 
 /// The number below a bound that has these bits.

@@ -7,10 +7,10 @@ use Rattle.std.specs.Int.{byte_at, to_le_bytes, from_le_bytes, w16, w32, w64}
 use Rattle.std.proofs.lemmas.Nat.{from_le_bytes-to_le_bytes_2, from_le_bytes-to_le_bytes_4, from_le_bytes-to_le_bytes_8}
 use Rattle.std.proofs.lemmas.Bool.{cases_lt, ltb-true, leb-true, eqb-true, false≢true}
 use Rattle.std.specs.Cmp.{first_so, second_so}
-use Rattle.fl_check.specs.declared.interface.Scalar.{Scalar}
-use Rattle.fl_check.specs.declared.interface.Scalar.TheVariants.{Uint8, Int8, Bool as BoolType, Char, Uint16, Int16, Uint32, Int32, Iref, Uint64, Int64, Uintptr, Intptr, Size, Errval}
-use Rattle.fl_check.specs.Interface.{TheType, scalar, enumeration, structure, array, TheTypes, no_more, field, TheArgType, fixed, text, sized}
-use Rattle.fl_check.specs.Sizes.{scalar_size, align_of, greatest_align}
+use Rattle.fl_interface.specs.declared.interface.Scalar.{Scalar}
+use Rattle.fl_interface.specs.declared.interface.Scalar.TheVariants.{Uint8, Int8, Bool as BoolType, Char, Uint16, Int16, Uint32, Int32, Iref, Uint64, Int64, Uintptr, Intptr, Size, Errval}
+use Rattle.fl_interface.specs.Interface.{TheType, scalar, enumeration, structure, array, TheTypes, no_more, field, TheArgType, fixed, text, sized}
+use Rattle.fl_interface.specs.Sizes.{scalar_size, align_of, greatest_align}
 use Rattle.fl_value.specs.Value.{Datum, number, string, elements, fields, Data, nothing_more, also}
 use Rattle.fl_value.specs.Fits.{has_type, have_types, all_have_type, count_of, is_argument, are_arguments, is_scalar_value, is_enumerator, least_above, how_many_below, is_text_byte}
 use Rattle.fl_value.specs.Plan.{is_dynamic, rank_of, fixed_rank, of_rank, of_ranks}
@@ -20,7 +20,7 @@ use Rattle.fl_wire.specs.Payload.{payload_at}
 use Rattle.fl_value.specs.declared.value.PlanNo.{PlanNo}
 use Rattle.fl_value.specs.declared.value.PlanNo.TheVariants.{One, Two}
 use Rattle.fl_wire.specs.Standing.{Over, firsts, fitting}
-use Rattle.fl_check.specs.Counts.{words_fit, all_words_fit, argument_words_fit}
+use Rattle.fl_interface.specs.Counts.{words_fit, all_words_fit, argument_words_fit}
 use Rattle.fl_wire.proofs.Bytes.{size_le_place, below_place, at_place}
 use Rattle.fl_wire.proofs.Arguments.{IsAlign, type_align, by_align, scalar_align}
 

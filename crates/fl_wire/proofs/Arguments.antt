@@ -5,18 +5,18 @@ use Rattle.std.specs.List.{zip, list_all}
 use Rattle.std.proofs.lemmas.List.{drop_all}
 use Rattle.std.proofs.lemmas.Bool.{cases_lt, lt-ltb, ltb-true, false≢true}
 use Rattle.std.specs.Cmp.{first_so, second_so}
-use Rattle.fl_check.specs.declared.interface.Scalar.{Scalar}
-use Rattle.fl_check.specs.declared.interface.Scalar.TheVariants.{Uint8, Int8, Bool as BoolType, Char, Uint16, Int16, Uint32, Int32, Iref, Uint64, Int64, Uintptr, Intptr, Size, Errval}
-use Rattle.fl_check.specs.Interface.{scalar, enumeration, structure, array, TheArgType, fixed, text, sized, TheMessage, TheInterface}
-use Rattle.fl_check.specs.Sizes.{scalar_size}
+use Rattle.fl_interface.specs.declared.interface.Scalar.{Scalar}
+use Rattle.fl_interface.specs.declared.interface.Scalar.TheVariants.{Uint8, Int8, Bool as BoolType, Char, Uint16, Int16, Uint32, Int32, Iref, Uint64, Int64, Uintptr, Intptr, Size, Errval}
+use Rattle.fl_interface.specs.Interface.{scalar, enumeration, structure, array, TheArgType, fixed, text, sized, TheMessage, TheInterface}
+use Rattle.fl_interface.specs.Sizes.{scalar_size}
 use Rattle.fl_value.specs.Value.{Datum, number, string, elements, fields, TheCall}
 use Rattle.fl_value.specs.Fits.{is_argument, are_arguments, fit_message, least_above, how_many_below}
 use Rattle.fl_value.specs.Plan.{is_dynamic, rank_of, of_rank, of_ranks}
 use Rattle.fl_value.specs.declared.value.PlanNo.{PlanNo}
 use Rattle.fl_layout.specs.Leaves.{Leaf, leaves, Argument, kind, argument_onto, arguments_onto, argument_types, types_of, is_number_type}
 use Rattle.fl_wire.specs.Widths.{number_width, number_of, fits_width, IsWordSized}
-pub use Rattle.fl_check.specs.Sizes.{IsAlign}
-pub use Rattle.fl_check.proofs.Aligned.{scalar_align, type_align, types_align, by_align}
+pub use Rattle.fl_interface.specs.Sizes.{IsAlign}
+pub use Rattle.fl_interface.proofs.Aligned.{scalar_align, type_align, types_align, by_align}
 pub use Rattle.fl_value.proofs.Ranked.{arranged_ranks}
 
 -- ---- two lists side by side

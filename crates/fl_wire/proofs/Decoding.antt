@@ -10,10 +10,10 @@ use Rattle.std.proofs.lemmas.List.FromFn.{get_or-map-range_with_len, take-map-ra
 use Rattle.std.proofs.lemmas.Bool.{false≢true, ltb-true, lt-ltb, le-leb, lt-leb}
 use Rattle.fl_base.specs.declared.fragment.Frag.{Frag}
 use Rattle.fl_base.specs.Control.{message_of, control_word}
-use Rattle.fl_check.specs.declared.interface.Scalar.{Scalar}
-use Rattle.fl_check.specs.declared.interface.Scalar.TheVariants.{Uint8, Int8, Bool as BoolType, Char, Uint16, Int16, Uint32, Int32, Iref, Uint64, Int64, Uintptr, Intptr, Size, Errval}
-use Rattle.fl_check.specs.Interface.{scalar, enumeration, TheArgType, fixed, TheInterface}
-use Rattle.fl_check.specs.Sizes.{scalar_size}
+use Rattle.fl_interface.specs.declared.interface.Scalar.{Scalar}
+use Rattle.fl_interface.specs.declared.interface.Scalar.TheVariants.{Uint8, Int8, Bool as BoolType, Char, Uint16, Int16, Uint32, Int32, Iref, Uint64, Int64, Uintptr, Intptr, Size, Errval}
+use Rattle.fl_interface.specs.Interface.{scalar, enumeration, TheArgType, fixed, TheInterface}
+use Rattle.fl_interface.specs.Sizes.{scalar_size}
 use Rattle.fl_value.specs.Value.{Datum, number, TheCall}
 use Rattle.fl_value.specs.Fits.{is_argument, least_above, how_many_below, is_scalar_value}
 use Rattle.fl_value.specs.declared.value.PlanNo.{PlanNo}

@@ -5,8 +5,8 @@ use Rattle.std.specs.Int.{byte_at}
 use Rattle.std.specs.Cmp.{first_so, second_so}
 use Rattle.std.proofs.lemmas.List.{append-nil, drop_more}
 use Rattle.std.proofs.lemmas.Bool.{ltb-true, eqb-true, ne_eqb}
-use Rattle.fl_check.specs.Interface.{TheType, TheArgType}
-use Rattle.fl_check.specs.Sizes.{round_up}
+use Rattle.fl_interface.specs.Interface.{TheType, TheArgType}
+use Rattle.fl_interface.specs.Sizes.{round_up}
 use Rattle.fl_value.specs.Value.{data_from, datum_of}
 use Rattle.fl_value.specs.declared.value.Value.{Value}
 use Rattle.fl_value.specs.Fits.{count_of, all_have_type, is_text_byte}

@@ -9,8 +9,8 @@ use Rattle.std.proofs.lemmas.Option.{slice_get-get_or, slice_get_within}
 use Rattle.std.proofs.lemmas.Bool.{leb-true, lt-ltb, eqb-true}
 use Rattle.fl_base.specs.declared.fragment.Frag.{Frag}
 use Rattle.fl_base.specs.Control.{message_of, bare}
-use Rattle.fl_check.specs.Interface.{TheType, scalar, enumeration, structure, array, TheTypes, no_more, field, TheArgType, fixed, text, sized, TheMessage, TheInterface}
-use Rattle.fl_check.specs.Checks.{is_within_limits, is_well_made, are_well_made, is_argument_within, are_arguments_within, is_message_within, are_messages_within, count_of}
+use Rattle.fl_interface.specs.Interface.{TheType, scalar, enumeration, structure, array, TheTypes, no_more, field, TheArgType, fixed, text, sized, TheMessage, TheInterface}
+use Rattle.fl_interface.specs.Limits.{is_within_limits, is_well_made, are_well_made, is_argument_within, are_arguments_within, is_message_within, are_messages_within, count_of}
 use Rattle.fl_value.specs.Value.{Datum, TheCall}
 use Rattle.fl_value.specs.Fits.{fits_of, fit_message, are_arguments}
 use Rattle.fl_value.specs.Plan.{arranged, of_ranks}
@@ -18,7 +18,7 @@ use Rattle.fl_value.specs.declared.value.PlanNo.{PlanNo}
 use Rattle.fl_layout.specs.Leaves.{Leaf, leaves, Argument, kind, argument_types, types_of}
 use Rattle.fl_layout.specs.Places.{size, count, count_for}
 use Rattle.fl_wire.specs.Alive.{has_values, all_have_values, argument_has_values}
-use Rattle.fl_check.specs.Counts.{interface_words_fit}
+use Rattle.fl_interface.specs.Counts.{interface_words_fit}
 use Rattle.fl_wire.specs.Payload.{frags_of}
 use Rattle.fl_wire.specs.Standing.{byte_in, words_in}
 use Rattle.fl_wire.specs.Covered.{is_covered, is_length}

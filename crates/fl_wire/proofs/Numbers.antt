@@ -5,7 +5,7 @@ use Rattle.std.specs.Int.{byte_at, from_le_bytes, w64}
 use Rattle.std.proofs.lemmas.List.{drop_more}
 use Rattle.std.proofs.lemmas.Nat.{from_le_bytes-to_le_bytes_8}
 use Rattle.std.proofs.lemmas.Bool.{cases_lt, ne_eqb}
-use Rattle.fl_check.specs.Interface.{text}
+use Rattle.fl_interface.specs.Interface.{text}
 use Rattle.fl_value.specs.Value.{string}
 use Rattle.fl_value.specs.declared.value.PlanNo.{PlanNo}
 use Rattle.fl_layout.specs.Leaves.{kind, Argument}

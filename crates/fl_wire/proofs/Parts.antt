@@ -6,10 +6,10 @@ use Rattle.std.specs.Cmp.{first_so, second_so}
 use Rattle.std.proofs.lemmas.Bool.{cases_lt, lt-ltb, ltb-true, le-leb, leb-true, eqb-true, false≢true}
 use Rattle.std.proofs.Common.{eq-eqb}
 use Rattle.fl_base.specs.declared.fragment.Frag.{Frag}
-use Rattle.fl_check.specs.declared.interface.Scalar.{Scalar}
-use Rattle.fl_check.specs.declared.interface.Scalar.TheVariants.{Uint8, Int8, Bool as BoolType, Char, Uint16, Int16, Uint32, Int32, Iref, Uint64, Int64, Uintptr, Intptr, Size, Errval}
-use Rattle.fl_check.specs.Interface.{TheType, scalar, enumeration, structure, array, TheTypes, no_more, field, fixed, text, sized, fields_from}
-use Rattle.fl_check.specs.Sizes.{scalar_size, greatest_align}
+use Rattle.fl_interface.specs.declared.interface.Scalar.{Scalar}
+use Rattle.fl_interface.specs.declared.interface.Scalar.TheVariants.{Uint8, Int8, Bool as BoolType, Char, Uint16, Int16, Uint32, Int32, Iref, Uint64, Int64, Uintptr, Intptr, Size, Errval}
+use Rattle.fl_interface.specs.Interface.{TheType, scalar, enumeration, structure, array, TheTypes, no_more, field, fixed, text, sized, fields_from}
+use Rattle.fl_interface.specs.Sizes.{scalar_size, greatest_align}
 use Rattle.fl_value.specs.Value.{Datum, number, string, elements, fields, Data, nothing_more, also, data_from}
 use Rattle.fl_value.specs.Fits.{has_type, have_types, all_have_type, count_of, is_argument, is_scalar_value, least_above, how_many_below, is_text_byte}
 use Rattle.fl_layout.specs.Leaves.{Leaf, gap, whole, bits_of, fields_onto, elements_onto, bytes_onto}

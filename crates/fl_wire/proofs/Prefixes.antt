@@ -3,7 +3,7 @@ use Rattle.std.proofs.Common.{◌≡◌, ◌≢◌, ℕ, ◌+◌, ◌*◌, ◌<�
 use Rattle.std.specs.List.{zip}
 use Rattle.std.specs.Prelude.{slice_get}
 use Rattle.fl_base.specs.declared.fragment.Frag.{Frag}
-use Rattle.fl_check.specs.Interface.{TheArgType, TheInterface}
+use Rattle.fl_interface.specs.Interface.{TheArgType, TheInterface}
 use Rattle.fl_value.specs.Value.{Datum, TheCall}
 use Rattle.fl_value.specs.Fits.{fits_of, are_arguments}
 use Rattle.fl_value.specs.declared.value.PlanNo.{PlanNo}

@@ -8,13 +8,13 @@ use Rattle.std.proofs.lemmas.Option.{slice_get-map, slice_get_within, get_or_fro
 use Rattle.std.proofs.lemmas.Bool.{cases_lt, ne_eqb, false≢true}
 use Rattle.fl_base.specs.declared.fragment.Frag.{Frag}
 use Rattle.fl_base.specs.Control.{message_of, control_word, bare}
-use Rattle.fl_check.specs.Interface.{TheInterface, TheMessage}
+use Rattle.fl_interface.specs.Interface.{TheInterface, TheMessage}
 use Rattle.fl_value.specs.Value.{Datum, TheCall}
 use Rattle.fl_value.specs.Fits.{fits_of, fit_message}
 use Rattle.fl_value.specs.declared.value.PlanNo.{PlanNo}
 use Rattle.fl_layout.specs.Leaves.{leaves}
 use Rattle.fl_layout.specs.Places.{count}
-use Rattle.fl_check.specs.Counts.{interface_words_fit}
+use Rattle.fl_interface.specs.Counts.{interface_words_fit}
 use Rattle.fl_wire.specs.Payload.{payload_of, frag_on, frags_of}
 use Rattle.fl_wire.specs.Standing.{byte_in, words_in}
 use Rattle.fl_wire.specs.Reading.{AllFit, IsPart, IsWrong, Reads}

@@ -1,8 +1,8 @@
 -- Working definitions of the reader: types that have a value: every enum has an enumerator. Those of every accepted interface do.
 use Rattle.std.specs.Prelude.{◌&&◌, nat_lt, Bool, true}
 use Rattle.std.specs.List.{list_all}
-use Rattle.fl_check.specs.Interface.{TheType, scalar, enumeration, structure, array, TheTypes, no_more}
-use Rattle.fl_check.specs.Interface.{field, TheArgType, fixed, text, sized, TheMessage, TheInterface}
+use Rattle.fl_interface.specs.Interface.{TheType, scalar, enumeration, structure, array, TheTypes, no_more}
+use Rattle.fl_interface.specs.Interface.{field, TheArgType, fixed, text, sized, TheMessage, TheInterface}
 
 abbrev mutual
   pub has_values : TheType → Bool

@@ -1,6 +1,6 @@
 -- What the public promises rest on: payloads and fragments (Payload), what fragments mean (Reading), and their first fault
 -- (Wrong, with Covered for what stands at a byte, Standing for the bytes of fragments, Shapes' `Agrees`, Headers' `Line`; Fault).
--- Widths, Alive, Shapes, Whole and the rest of Headers are the reader's own. Words is another name of fl_check's definitions.
+-- Widths, Alive, Shapes, Whole and the rest of Headers are the reader's own. Words is another name of fl_interface's definitions.
 pub mod Payload
 pub mod Reading
 pub mod Widths

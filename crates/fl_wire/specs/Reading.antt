@@ -4,11 +4,11 @@ use Rattle.std.specs.Prelude.{◌≡◌, ◌^◌, nat_lt, if◌then◌else◌, O
 use Rattle.std.specs.List.{flat_map}
 use Rattle.fl_base.specs.declared.fragment.Frag.{Frag}
 use Rattle.fl_base.specs.Control.{bare}
-use Rattle.fl_check.specs.Interface.{TheInterface}
+use Rattle.fl_interface.specs.Interface.{TheInterface}
 use Rattle.fl_value.specs.Value.{TheCall}
 use Rattle.fl_value.specs.Fits.{fits_of}
 use Rattle.fl_value.specs.declared.value.PlanNo.{PlanNo}
-use Rattle.fl_check.specs.Counts.{interface_words_fit}
+use Rattle.fl_interface.specs.Counts.{interface_words_fit}
 use Rattle.fl_layout.specs.Places.{count}
 use Rattle.fl_wire.specs.Payload.{frags_of, frags_on}
 

@@ -2,8 +2,8 @@
 use Rattle.std.specs.Prelude.{◌≡◌, ℕ, ◌+◌, ◌*◌, ◌^◌, ◌<◌, ◌≤◌, ◌&&◌, Bool, true, false, List, ◌∷◌, length}
 use Rattle.std.specs.List.{list_all, zip}
 use Rattle.fl_base.specs.declared.fragment.Frag.{Frag}
-use Rattle.fl_check.specs.Interface.{TheType, TheTypes, TheArgType}
-use Rattle.fl_check.specs.Sizes.{greatest_align}
+use Rattle.fl_interface.specs.Interface.{TheType, TheTypes, TheArgType}
+use Rattle.fl_interface.specs.Sizes.{greatest_align}
 use Rattle.fl_value.specs.Value.{Datum, Data}
 use Rattle.fl_value.specs.Fits.{has_type, have_types, all_have_type, count_of, is_text_byte, is_argument, are_arguments}
 use Rattle.fl_value.specs.Plan.{is_dynamic, of_ranks}

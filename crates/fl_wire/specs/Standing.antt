@@ -4,7 +4,7 @@ use Rattle.std.specs.Prelude.{nat_lt, nat_le, if◌then◌else◌, Bool, List, �
 use Rattle.std.specs.List.{list_all}
 use Rattle.std.specs.Int.{byte_at}
 use Rattle.fl_base.specs.declared.fragment.Frag.{Frag}
-use Rattle.fl_check.specs.Interface.{scalar, TheArgType, fixed}
+use Rattle.fl_interface.specs.Interface.{scalar, TheArgType, fixed}
 use Rattle.fl_value.specs.Fits.{is_argument, is_signed, scalar_bits}
 use Rattle.fl_layout.specs.Leaves.{Leaf, Argument, bits_of}
 use Rattle.fl_wire.specs.Payload.{payload_at}

@@ -2,7 +2,7 @@
 use Rattle.std.specs.Prelude.{◌≡◌, ℕ, ◌+◌, ◌*◌, ◌<◌, ◌≤◌, true, List, [], length}
 use Rattle.std.specs.List.{list_all}
 use Rattle.fl_base.specs.declared.fragment.Frag.{Frag}
-use Rattle.fl_check.specs.Interface.{TheArgType}
+use Rattle.fl_interface.specs.Interface.{TheArgType}
 use Rattle.fl_value.specs.Value.{Datum}
 use Rattle.fl_value.specs.Fits.{are_arguments}
 use Rattle.fl_value.specs.declared.value.PlanNo.{PlanNo}

@@ -1,7 +1,7 @@
 -- Working definitions of the code: the widths of numbers, and which numbers fit them.
 use Rattle.std.specs.Prelude.{◌≤◌, ℕ, ℤ, pos, negsuc, ◌*◌, ◌^◌, nat_lt, Bool}
-use Rattle.fl_check.specs.Interface.{scalar, enumeration, TheArgType, fixed}
-use Rattle.fl_check.specs.Sizes.{scalar_size}
+use Rattle.fl_interface.specs.Interface.{scalar, enumeration, TheArgType, fixed}
+use Rattle.fl_interface.specs.Sizes.{scalar_size}
 use Rattle.fl_value.specs.Value.{Datum, number, string, elements, fields}
 
 -- the bytes of a number's type

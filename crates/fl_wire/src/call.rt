@@ -1,7 +1,7 @@
 //! The arguments of a call from the bytes of its fragments.
 
 ghost use Rattle.std.specs.Prelude.{◌≡◌, ◌*◌, ◌<◌, ◌≤◌, map, length, IfOk, IfErr};
-ghost use Rattle.fl_check.specs.Interface.{arg_type_of};
+ghost use Rattle.fl_interface.specs.Interface.{arg_type_of};
 ghost use Rattle.fl_value.specs.Value.{datum_of};
 ghost use Rattle.fl_wire.specs.Shapes.{ReadAt, StopsAt, starts_after, next_argument, calls_of};
 ghost use Rattle.fl_wire.specs.Whole.{Whole, StopsWhole};
@@ -10,7 +10,7 @@ use crate::leaf::{Stop, read_padding, read_zeros};
 use crate::types::is_dynamic;
 use crate::value::read_argument;
 use fl_base::{FRAG_BYTES, Frag};
-use fl_check::ArgType;
+use fl_interface::ArgType;
 use fl_layout::fragment_count;
 use fl_value::{PlanNo, RANKS, Value};
 use std::alloc::{AllocError, Global};

@@ -1,14 +1,14 @@
 //! The fragments of a payload.
 
 ghost use Rattle.std.specs.Prelude.{◌≡◌, ◌+◌, ◌-◌, ◌*◌, ◌/◌, ◌<◌, true, drop, slice_get, IfOk};
-ghost use Rattle.fl_check.specs.Interface.{interface_of};
+ghost use Rattle.fl_interface.specs.Interface.{interface_of};
 ghost use Rattle.fl_value.specs.Value.{call_of};
 ghost use Rattle.fl_value.specs.Fits.{fits_of};
 ghost use Rattle.fl_wire.specs.Payload.{frag_on, frags_of, word};
 
 use crate::encode::payload;
 use fl_base::{Circuit, FRAG_BYTES, Frag, MsgNo, control};
-use fl_check::Interface;
+use fl_interface::Interface;
 use fl_layout::fragment_count;
 use fl_value::{Call, PlanNo};
 use std::alloc::{AllocError, Global};

@@ -2,14 +2,14 @@
 
 ghost use Rattle.std.specs.Prelude.{◌≡◌, ℕ, ◌*◌, ◌/◌, ◌%◌, ◌<◌, ◌≤◌, ◌==◌, ◌&&◌, length, slice_get, Some, None};
 ghost use Rattle.fl_base.specs.declared.fragment.Frag.{Frag as TheFrag};
-ghost use Rattle.fl_check.specs.Interface.{interface_of};
+ghost use Rattle.fl_interface.specs.Interface.{interface_of};
 ghost use Rattle.fl_wire.specs.Wrong.{is_clean, start_fault, follow_fault};
 ghost use Rattle.fl_wire.specs.Headers.{Line};
 ghost use Rattle.fl_wire.specs.declared.fault.WireFault.{WireFault as TheFault};
 
 use crate::fault::WireFault;
 use fl_base::{Frag, MsgNo};
-use fl_check::Interface;
+use fl_interface::Interface;
 
 // Whether bits 2 to 15 and the circuit are 0.
 fn is_clean(frag: &Frag) -> bool

@@ -1,11 +1,11 @@
 //! What holds of the fragments of any calls: laws, as the contracts of functions that do nothing.
 
 ghost use Rattle.std.specs.Prelude.{◌≡◌, true};
-ghost use Rattle.fl_check.specs.Interface.{interface_of};
-ghost use Rattle.fl_check.specs.Counts.{interface_words_fit};
+ghost use Rattle.fl_interface.specs.Interface.{interface_of};
+ghost use Rattle.fl_interface.specs.Counts.{interface_words_fit};
 ghost use Rattle.fl_wire.specs.Reading.{OneReading, NoneBeginsWithAnother, ReadsOnce};
 
-use fl_check::Interface;
+use fl_interface::Interface;
 
 /// No list of fragments has two readings as whole calls and a rest, under either plan.
 pub fn one_reading()

@@ -2,7 +2,7 @@
 
 ghost use Rattle.std.specs.Prelude.{◌≡◌, ◌+◌, ◌<◌, ◌≤◌, map, length, take, slice_get, IfOk, IfErr, IfSome, Some, None};
 ghost use Rattle.fl_base.specs.declared.fragment.Frag.{Frag as TheFrag};
-ghost use Rattle.fl_check.specs.Interface.{interface_of};
+ghost use Rattle.fl_interface.specs.Interface.{interface_of};
 ghost use Rattle.fl_value.specs.Value.{call_of};
 ghost use Rattle.fl_wire.specs.Reading.{ReadsLeaving, IsPart, IsWrong};
 ghost use Rattle.fl_wire.specs.Wrong.{start_fault, follow_fault, BeginsWell, IsNextFault, IsFirstFault};
@@ -16,7 +16,7 @@ use crate::header::{following, is_line, start_fault};
 use crate::leaf::Stop;
 use crate::types::arguments_of;
 use fl_base::{Frag, MsgNo};
-use fl_check::Interface;
+use fl_interface::Interface;
 use fl_value::{Call, PlanNo};
 use std::alloc::Global;
 

@@ -2,7 +2,7 @@
 
 ghost use Rattle.std.specs.Prelude.{◌≢◌, ◌<◌, IfOk, Some, None};
 ghost use Rattle.std.specs.Option.{option_map};
-ghost use Rattle.fl_check.specs.Interface.{interface_of};
+ghost use Rattle.fl_interface.specs.Interface.{interface_of};
 ghost use Rattle.fl_value.specs.Value.{call_of};
 ghost use Rattle.fl_wire.specs.Reading.{ReadsBack};
 ghost use Rattle.fl_wire.specs.declared.leaf.Stop.TheVariants.{Memory};
@@ -11,7 +11,7 @@ use crate::call::read_arguments;
 use crate::leaf::Stop;
 use crate::types::arguments_of;
 use fl_base::Frag;
-use fl_check::Interface;
+use fl_interface::Interface;
 use fl_value::{Call, PlanNo};
 use std::alloc::{AllocError, Global};
 

@@ -1,12 +1,12 @@
 //! The types of a message's arguments.
 
 ghost use Rattle.std.specs.Prelude.{◌≡◌, true, map};
-ghost use Rattle.fl_check.specs.Interface.{arg_type_of, interface_of};
+ghost use Rattle.fl_interface.specs.Interface.{arg_type_of, interface_of};
 ghost use Rattle.fl_layout.specs.Leaves.{argument_types};
 ghost use Rattle.fl_value.specs.Plan.{is_dynamic};
 
 use fl_base::MsgNo;
-use fl_check::{ArgType, Interface};
+use fl_interface::{ArgType, Interface};
 
 /// Whether an argument is a string or a sized array.
 pub(crate) fn is_dynamic(ty: &ArgType) -> bool

@@ -1,7 +1,7 @@
 //! Values from the bytes of fragments.
 
 ghost use Rattle.std.specs.Prelude.{◌≡◌, ◌+◌, ◌*◌, ◌<◌, ◌≤◌, map, length, IfOk, IfErr, ◌/◌, ◌%◌};
-ghost use Rattle.fl_check.specs.Interface.{scalar, enumeration, fixed, type_of, arg_type_of, fields_from};
+ghost use Rattle.fl_interface.specs.Interface.{scalar, enumeration, fixed, type_of, arg_type_of, fields_from};
 ghost use Rattle.fl_value.specs.Value.{number, string, elements, fields, datum_of, data_from};
 ghost use Rattle.fl_value.specs.Fits.{least_above, how_many_below};
 ghost use Rattle.fl_wire.specs.Standing.{signed_half, number_back, word_in};
@@ -9,7 +9,7 @@ ghost use Rattle.fl_wire.specs.Shapes.{ReadAt, StopsAt, values_of, fields_of, el
 
 use crate::leaf::{Stop, byte_of, read_number, read_padding, word_at};
 use fl_base::{FRAG_BYTES, Frag};
-use fl_check::{ArgType, FixedType, Scalar, greatest_alignment};
+use fl_interface::{ArgType, FixedType, Scalar, greatest_alignment};
 use fl_value::Value;
 use std::alloc::Global;
 

@@ -15,7 +15,7 @@ use Rattle.fl_queues.specs.Ends.{accepts, with_rule}
 use Rattle.fl_queues.specs.State.{Binding, State, Outcome, answers, binding_of, interface_of, end_in, change_out, change_end}
 use Rattle.fl_queues.specs.Sending.{calls, makes_call}
 use Rattle.fl_queues.specs.Taking.{sets_rule, has_message, arguments_of}
-use Rattle.fl_check.specs.SameTypes.{same_arguments}
+use Rattle.fl_interface.specs.SameTypes.{same_arguments}
 use Rattle.fl_shows.specs.Ends.{EndShows}
 use Rattle.fl_shows.specs.EndLaws.{with_out, CallAgrees, RuleAgrees, are_messages, have_same_arguments}
 use Rattle.fl_shows.proofs.Calling.{call_agrees}

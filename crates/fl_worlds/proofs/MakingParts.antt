@@ -2,7 +2,7 @@
 use Rattle.std.proofs.Common.{◌≡◌, refl, sym, ◌∙◌, ap, subst, ℕ, inl, inr, nat_le, true, List, [], ◌∷◌, ◌++◌, length}
 use Rattle.std.specs.Prelude.{bytes_eq}
 use Rattle.std.specs.List.{list_any}
-use Rattle.fl_check.specs.Checks.{is_within_limits}
+use Rattle.fl_interface.specs.Limits.{is_within_limits}
 use Rattle.fl_compile.specs.declared.program.Program.{Program}
 use Rattle.fl_hop.proofs.Lists.{push_keeps, push_cases}
 use Rattle.fl_queues.specs.Events.{Answer, done}

@@ -9,8 +9,8 @@ use Rattle.fl_base.specs.declared.identity.Side.TheVariants.{Client, Server}
 use Rattle.fl_base.specs.declared.identity.EndId.{EndId}
 use Rattle.fl_base.specs.Control.{bare}
 use Rattle.fl_base.specs.Ends.{other, peer}
-use Rattle.fl_check.specs.Checks.{is_within_limits}
-use Rattle.fl_check.proofs.SameTypes.{same_arguments_are}
+use Rattle.fl_interface.specs.Limits.{is_within_limits}
+use Rattle.fl_interface.proofs.SameTypes.{same_arguments_are}
 use Rattle.fl_hop.proofs.Lists.{at_within}
 use Rattle.fl_value.specs.Value.{TheCall}
 use Rattle.fl_value.specs.Fits.{fits_of}

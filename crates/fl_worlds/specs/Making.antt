@@ -4,8 +4,8 @@ use Rattle.std.specs.Prelude.{not, Bool, true, false, List, [], ◌∷◌, ◌++
 use Rattle.std.specs.Prelude.{slice_get, slice_set, Some, is_some, bytes_eq}
 use Rattle.std.specs.List.{list_any, range_with_len}
 use Rattle.fl_base.specs.declared.identity.CoreId.{CoreId}
-use Rattle.fl_check.specs.Interface.{TheInterface}
-use Rattle.fl_check.specs.Checks.{is_within_limits}
+use Rattle.fl_interface.specs.Interface.{TheInterface}
+use Rattle.fl_interface.specs.Limits.{is_within_limits}
 use Rattle.fl_compile.specs.declared.program.Program.{Program}
 use Rattle.fl_compile.specs.Programs.{program_of}
 use Rattle.fl_value.specs.declared.value.PlanNo.{PlanNo}

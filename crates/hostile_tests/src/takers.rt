@@ -1,10 +1,11 @@
 //! An end that is given fragments, alone and at a board.
 
 use fl_base::{Circuit, Frag};
-use fl_check::{Interface, TextFault, check};
+use fl_check::{TextFault, check};
 use fl_compile::{Program, compile};
 use fl_core::{Board, Kind, TurnAnswer};
 use fl_endpoint::{End, EndFault, ReceiveAnswer};
+use fl_interface::Interface;
 use fl_lex::lex;
 use fl_link::QueueLink;
 use fl_parse::parse;

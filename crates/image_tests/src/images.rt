@@ -1,8 +1,9 @@
 //! Images of texts, spoiled images, and what is answered to them.
 
-use fl_check::{Interface, TextFault, check};
+use fl_check::{TextFault, check};
 use fl_compile::compile;
 use fl_image::{is_writable, read_image, write_image};
+use fl_interface::Interface;
 use fl_lex::lex;
 use fl_parse::parse;
 use fl_value::PlanNo;

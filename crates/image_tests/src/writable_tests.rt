@@ -2,8 +2,8 @@
 
 ghost use Rattle.std.specs.Prelude.{◌≤◌};
 
-use fl_check::{ArgType, FixedType, Interface, Message, Word, counts_fit};
 use fl_image::is_writable;
+use fl_interface::{ArgType, FixedType, Interface, Message, Word, counts_fit};
 use std::alloc::{AllocError, Global};
 use std::test::Fail;
 

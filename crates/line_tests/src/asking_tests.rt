@@ -3,7 +3,7 @@
 use crate::names::{interface, names_of};
 use crate::rows::{Row, all_hold};
 use fl_base::{EndId, Side};
-use fl_check::Interface;
+use fl_interface::Interface;
 use fl_lines::{
     Answer, BackEnd, DispatcherId, Event, Line, LineFault, Names, one_asked, parse_line,
 };

@@ -1,6 +1,7 @@
 //! Names that scripts have given.
 
-use fl_check::{Interface, TextFault, check};
+use fl_check::{TextFault, check};
+use fl_interface::Interface;
 use fl_lex::lex;
 use fl_lines::{Answer, Names, Naming, names_of_interface};
 use fl_parse::parse;

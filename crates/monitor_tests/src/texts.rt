@@ -1,6 +1,7 @@
 //! Interfaces of texts.
 
-use fl_check::{Interface, TextFault, check};
+use fl_check::{TextFault, check};
+use fl_interface::Interface;
 use fl_lex::lex;
 use fl_parse::parse;
 use std::alloc::Global;

@@ -1,8 +1,9 @@
 //! What the cores know in common, and how they are made.
 
 use fl_base::{CoreId, MsgNo};
-use fl_check::{Interface, TextFault, check};
+use fl_check::{TextFault, check};
 use fl_compile::{Program, compile};
+use fl_interface::Interface;
 use fl_lex::lex;
 use fl_monitor::Messenger;
 use fl_nameserv::{Names, Service};

@@ -5,9 +5,10 @@ ghost use Rattle.fl_node.specs.View.{arrivals_by, arrivals_of};
 ghost use Rattle.running_tests.specs.Tickets.{IsNew};
 
 use fl_base::{Circuit, CoreId, EndId, MsgNo, Side};
-use fl_check::{Interface, TextFault, check};
+use fl_check::{TextFault, check};
 use fl_compile::{Program, compile};
 use fl_endpoint::End;
+use fl_interface::Interface;
 use fl_lex::lex;
 use fl_link::{QueueLink, TakeSide};
 use fl_nameserv::Names;

@@ -2,8 +2,9 @@
 
 use crate::rows::wrong;
 use fl_base::MsgNo;
-use fl_check::{Interface, TextFault, check};
+use fl_check::{TextFault, check};
 use fl_compile::{Program, compile};
+use fl_interface::Interface;
 use fl_lex::lex;
 use fl_parse::parse;
 use fl_stub::{Column, Op, VerifiedCode};

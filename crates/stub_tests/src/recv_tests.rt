@@ -1,7 +1,7 @@
 //! What runs of receive code answer to fragments, and the calls that they take.
 
 ghost use Rattle.std.specs.Prelude.{◌≡◌};
-ghost use Rattle.fl_check.specs.Interface.{interface_of};
+ghost use Rattle.fl_interface.specs.Interface.{interface_of};
 ghost use Rattle.fl_machine.specs.Receiving.{HoldsTapes};
 
 use crate::compile_tests::interface;

@@ -1,7 +1,8 @@
 //! What each text is refused for and where, or that it is accepted.
 
 use crate::rows::{Row, all_hold};
-use fl_check::{ArgType, Interface, Message, Scalar, TextFault, check, same_args};
+use fl_check::{TextFault, check};
+use fl_interface::{ArgType, Interface, Message, Scalar, same_args};
 use fl_lex::lex;
 use fl_parse::parse;
 use std::alloc::{AllocError, Global};

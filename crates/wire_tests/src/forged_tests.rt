@@ -3,7 +3,7 @@
 use crate::interfaces::interface;
 use crate::rows::{Row, all_hold};
 use fl_base::Frag;
-use fl_check::Interface;
+use fl_interface::Interface;
 use fl_value::{Call, PlanNo, print_call};
 use fl_wire::{WireFault, read_frags};
 use std::alloc::{AllocError, Global};

@@ -1,6 +1,7 @@
 //! Interfaces made from their texts, and a call of a string of any length.
 
-use fl_check::{Interface, TextFault, check};
+use fl_check::{TextFault, check};
+use fl_interface::Interface;
 use fl_lex::lex;
 use fl_parse::parse;
 use std::alloc::{AllocError, Global};

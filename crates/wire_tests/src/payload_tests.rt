@@ -5,7 +5,7 @@
 use crate::interfaces::interface;
 use crate::rows::{Row, all_hold};
 use fl_base::{Frag, MsgNo};
-use fl_check::Interface;
+use fl_interface::Interface;
 use fl_value::{Call, PlanNo, ValueFault, fits, print_call, read_call};
 use fl_wire::{
     fragment, fragment_at, fragment_count, none_begins_with_another, numbers_fit_words,

@@ -3,7 +3,7 @@
 use crate::interfaces::interface;
 use crate::rows::{Row, all_hold};
 use fl_base::MsgNo;
-use fl_check::Interface;
+use fl_interface::Interface;
 use fl_value::{PlanNo, ValueFault, flatten, one_call_of_a_tape, read_call, unflatten};
 use std::alloc::{AllocError, Global};
 use std::test::Fail;

@@ -4,7 +4,7 @@
 use crate::interfaces::interface;
 use crate::rows::{Row, all_hold};
 use fl_base::MsgNo;
-use fl_check::Interface;
+use fl_interface::Interface;
 use fl_value::{
     Call, PlanNo, Value, ValueFault, fits, flatten, one_reading, print_call, printed_call_read,
     printed_reads, read_call, read_call_text, read_spoken, resolve, unflatten,

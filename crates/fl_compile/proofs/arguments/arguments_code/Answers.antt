@@ -1,5 +1,5 @@
 use Rattle.std.proofs.Common.{◌+◌, ◌*◌, ◌++◌, List, map, drop, ap, sym, ◌∙◌}
-use Rattle.fl_check.specs.Interface.{TheArgType, arg_type_of}
+use Rattle.fl_interface.specs.Interface.{TheArgType, arg_type_of}
 use Rattle.fl_stub.specs.Structure.{block_ops}
 use Rattle.fl_compile.specs.Compiled.{arguments_block}
 use Rattle.fl_compile.proofs.Near.{argument_next, rest_within, one_further}

@@ -1,6 +1,6 @@
 use Rattle.std.proofs.Common.{◌≡◌, ◌*◌, ◌++◌, map, drop, true}
-use Rattle.fl_check.specs.Interface.{arg_type_of}
-use Rattle.fl_check.specs.Checks.{are_arguments_within}
+use Rattle.fl_interface.specs.Interface.{arg_type_of}
+use Rattle.fl_interface.specs.Limits.{are_arguments_within}
 use Rattle.fl_stub.specs.Structure.{block_ops}
 use Rattle.fl_compile.specs.declared.arguments.Standing.TheVariants.{At}
 use Rattle.fl_compile.specs.Compiled.{arguments_block}

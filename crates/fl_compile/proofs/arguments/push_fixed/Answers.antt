@@ -1,7 +1,7 @@
 use Rattle.std.proofs.Common.{◌≡◌, arith, ap, ◌∙◌}
-use Rattle.fl_check.specs.Interface.{type_of}
-use Rattle.fl_check.specs.Sizes.{align_of}
-use Rattle.fl_check.proofs.Aligned.{type_align}
+use Rattle.fl_interface.specs.Interface.{type_of}
+use Rattle.fl_interface.specs.Sizes.{align_of}
+use Rattle.fl_interface.proofs.Aligned.{type_align}
 use Rattle.fl_compile.specs.Compiled.{start_at}
 use Rattle.fl_compile.proofs.Near.{start_near}
 use Rattle.fl_compile.proofs.Blocks.{fixed_written}

@@ -1,6 +1,6 @@
 use Rattle.std.proofs.Common.{◌≡◌, List, map, ap, ◌∙◌, Bor}
-use Rattle.fl_check.specs.declared.interface.ArgType.{ArgType}
-use Rattle.fl_check.specs.Interface.{TheArgType, arg_type_of, message_of}
+use Rattle.fl_interface.specs.declared.interface.ArgType.{ArgType}
+use Rattle.fl_interface.specs.Interface.{TheArgType, arg_type_of, message_of}
 use Rattle.fl_value.specs.Plan.{arranged}
 use Rattle.fl_compile.specs.Compiled.{in_order, message_block, message_code}
 use Rattle.fl_compile.proofs.Compiling.{order_within, order_few, code_is, is_code, verified_is}

@@ -1,7 +1,7 @@
 use Rattle.std.proofs.Common.{◌≡◌, List, map, ap, sym, ◌∙◌}
 use Rattle.std.specs.Prelude.{slice_get, Some}
-use Rattle.fl_check.specs.declared.interface.Message.{Message}
-use Rattle.fl_check.specs.Interface.{message_of, interface_of}
+use Rattle.fl_interface.specs.declared.interface.Message.{Message}
+use Rattle.fl_interface.specs.Interface.{message_of, interface_of}
 use Rattle.fl_compile.proofs.Depths.{message_within, message_words}
 use Rattle.fl_compile.proofs.Compiling.{message_at}
 use Rattle.fl_compile.proofs.compiler.compile_messages.Goals as goal

@@ -1,5 +1,5 @@
 use Rattle.std.proofs.Common.{◌≡◌, map, take}
-use Rattle.fl_check.specs.Interface.{message_of}
+use Rattle.fl_interface.specs.Interface.{message_of}
 use Rattle.fl_compile.specs.Codes.{compiled_codes}
 use Rattle.fl_compile.proofs.compiler.compile_messages.Given as goal
 

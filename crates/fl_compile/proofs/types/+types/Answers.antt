@@ -1,10 +1,10 @@
 use Rattle.std.proofs.Common.{rules, ◌≡◌, ◌≤◌, ◌+◌, ◌-◌, ℕ, true, map, arith, ap, ◌∙◌, refl}
 use Rattle.std.proofs.lemmas.Result.{on_ok_weaker}
-use Rattle.fl_check.specs.declared.interface.FixedType.TheViews.{the_lemmas}
-use Rattle.fl_check.specs.declared.interface.FixedType.TheFolds.{fold-roll-FixedType, fold_out-FixedType}
-use Rattle.fl_check.specs.Interface.{TheType, array, type_step, type_of, fields_from}
-use Rattle.fl_check.specs.Sizes.{round_up, align_of, size_of, greatest_align}
-use Rattle.fl_check.specs.Checks.{is_well_made}
+use Rattle.fl_interface.specs.declared.interface.FixedType.TheViews.{the_lemmas}
+use Rattle.fl_interface.specs.declared.interface.FixedType.TheFolds.{fold-roll-FixedType, fold_out-FixedType}
+use Rattle.fl_interface.specs.Interface.{TheType, array, type_step, type_of, fields_from}
+use Rattle.fl_interface.specs.Sizes.{round_up, align_of, size_of, greatest_align}
+use Rattle.fl_interface.specs.Limits.{is_well_made}
 use Rattle.fl_stub.specs.Structure.{finished, block_ops}
 use Rattle.fl_compile.specs.Compiled.{padding, fields_then}
 use Rattle.fl_compile.proofs.Measures.{field_at, next_field, at_last, element_made, element_small}

@@ -1,6 +1,6 @@
 use Rattle.std.proofs.Common.{◌≡◌, ◌++◌, map, drop}
-use Rattle.fl_check.specs.Interface.{type_of, fields_from}
-use Rattle.fl_check.specs.Sizes.{greatest_align}
+use Rattle.fl_interface.specs.Interface.{type_of, fields_from}
+use Rattle.fl_interface.specs.Sizes.{greatest_align}
 use Rattle.fl_stub.specs.Structure.{finished, block_ops}
 use Rattle.fl_compile.specs.Compiled.{fields_then}
 use Rattle.fl_compile.proofs.Measures.{Before}

@@ -1,5 +1,5 @@
 use Rattle.std.proofs.Common.{◌<◌, ◌≤◌, ℕ}
-use Rattle.fl_check.specs.Interface.{interface_of}
+use Rattle.fl_interface.specs.Interface.{interface_of}
 use Rattle.fl_value.specs.Value.{TheCall}
 use Rattle.fl_layout.specs.Layouts.{tape_length, IsCallOf}
 use Rattle.fl_endpoint.proofs.incoming.tape_capacity.Given as goal

@@ -1,5 +1,5 @@
 use Rattle.std.proofs.lemmas.Bool.{le-leb}
-use Rattle.fl_check.specs.Interface.{type_of}
+use Rattle.fl_interface.specs.Interface.{type_of}
 use Rattle.fl_image.proofs.Places.{count_view, not_few}
 use Rattle.fl_image.proofs.limits.+made.Goals as goal
 

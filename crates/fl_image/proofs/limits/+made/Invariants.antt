@@ -1,6 +1,6 @@
 use Rattle.std.proofs.Common.{◌≡◌, drop, map}
-use Rattle.fl_check.specs.Interface.{type_of, fields_from}
-use Rattle.fl_check.specs.Checks.{are_well_made}
+use Rattle.fl_interface.specs.Interface.{type_of, fields_from}
+use Rattle.fl_interface.specs.Limits.{are_well_made}
 use Rattle.fl_image.proofs.limits.+made.Given as goal
 
 abbrev pub invariant-are_well_made-loop-field : goal.invariant-are_well_made-loop-field

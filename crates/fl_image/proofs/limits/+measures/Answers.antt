@@ -1,5 +1,5 @@
 use Rattle.std.proofs.Common.{◌+◌, refl, ap, subst, drop, map, arith}
-use Rattle.fl_check.specs.Interface.{TheTypes, type_of, fields_from}
+use Rattle.fl_interface.specs.Interface.{TheTypes, type_of, fields_from}
 use Rattle.fl_image.specs.Limits.{SoFar}
 use Rattle.fl_image.proofs.Caps.{at_first}
 use Rattle.fl_image.proofs.Places.{fields_from_place, at_end}

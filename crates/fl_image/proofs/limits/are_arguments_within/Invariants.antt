@@ -1,6 +1,6 @@
 use Rattle.std.proofs.Common.{◌≡◌, drop, map}
-use Rattle.fl_check.specs.Interface.{arg_type_of}
-use Rattle.fl_check.specs.Checks.{are_arguments_within}
+use Rattle.fl_interface.specs.Interface.{arg_type_of}
+use Rattle.fl_interface.specs.Limits.{are_arguments_within}
 use Rattle.fl_image.proofs.limits.are_arguments_within.Given as goal
 
 abbrev pub invariant-loop-argument : goal.invariant-loop-argument

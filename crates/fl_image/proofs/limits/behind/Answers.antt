@@ -1,7 +1,7 @@
 use Rattle.std.proofs.Common.{◌∷◌, ◌*◌, sym, subst}
-use Rattle.fl_check.specs.Interface.{type_of, arg_type_of}
-use Rattle.fl_check.specs.declared.interface.ArgType.{ArgType}
-use Rattle.fl_check.specs.Sizes.{size_of}
+use Rattle.fl_interface.specs.Interface.{type_of, arg_type_of}
+use Rattle.fl_interface.specs.declared.interface.ArgType.{ArgType}
+use Rattle.fl_interface.specs.Sizes.{size_of}
 use Rattle.fl_image.specs.Limits.{Near, Reaches}
 use Rattle.fl_image.proofs.Caps.{reaches_counted, near_counted, capped}
 use Rattle.fl_image.proofs.limits.behind.Goals as goal

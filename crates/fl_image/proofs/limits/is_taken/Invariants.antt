@@ -1,6 +1,6 @@
 use Rattle.std.proofs.Common.{◌≡◌, drop, map}
-use Rattle.fl_check.specs.Interface.{TheMessage, message_of}
-use Rattle.fl_check.specs.Known.{is_among}
+use Rattle.fl_interface.specs.Interface.{TheMessage, message_of}
+use Rattle.fl_interface.specs.Limits.{is_among}
 use Rattle.fl_image.proofs.limits.is_taken.Given as goal
 
 abbrev pub invariant-loop-message : goal.invariant-loop-message

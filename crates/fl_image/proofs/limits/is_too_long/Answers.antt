@@ -1,6 +1,6 @@
 use Rattle.std.proofs.Common.{◌+◌, List, subst, drop, map}
-use Rattle.fl_check.specs.Interface.{TheArgType, arg_type_of}
-use Rattle.fl_check.specs.Payload.{greatest_payload}
+use Rattle.fl_interface.specs.Interface.{TheArgType, arg_type_of}
+use Rattle.fl_interface.specs.Payload.{greatest_payload}
 use Rattle.fl_image.specs.Limits.{Reaches}
 use Rattle.fl_image.proofs.Places.{map_from_place}
 use Rattle.fl_image.proofs.limits.is_too_long.Goals as goal

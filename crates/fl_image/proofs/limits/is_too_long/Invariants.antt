@@ -1,6 +1,6 @@
 use Rattle.std.proofs.Common.{drop, map}
-use Rattle.fl_check.specs.Interface.{arg_type_of}
-use Rattle.fl_check.specs.Payload.{greatest_payload}
+use Rattle.fl_interface.specs.Interface.{arg_type_of}
+use Rattle.fl_interface.specs.Payload.{greatest_payload}
 use Rattle.fl_image.specs.Limits.{Reaches}
 use Rattle.fl_image.proofs.limits.is_too_long.Given as goal
 

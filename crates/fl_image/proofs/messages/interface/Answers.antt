@@ -1,5 +1,5 @@
 use Rattle.std.proofs.Common.{map, arith}
-use Rattle.fl_check.specs.Interface.{message_of}
+use Rattle.fl_interface.specs.Interface.{message_of}
 use Rattle.fl_image.proofs.Fitting.{kept}
 use Rattle.fl_image.proofs.messages.interface.Goals as goal
 

@@ -1,8 +1,8 @@
 use Rattle.std.proofs.Common.{◌≡◌, ◌++◌, ◌∷◌, [], List, map, subst, Ok}
-use Rattle.fl_check.specs.declared.interface.Message.{Message}
+use Rattle.fl_interface.specs.declared.interface.Message.{Message}
 use Rattle.std.proofs.lemmas.Result.{err_from_is_err_and}
 use Rattle.std.proofs.lemmas.List.{map_push}
-use Rattle.fl_check.specs.Interface.{message_of}
+use Rattle.fl_interface.specs.Interface.{message_of}
 use Rattle.fl_image.specs.Reading.{Fails, message_after, more_at}
 use Rattle.fl_image.proofs.Loop.{goes_on, ends}
 use Rattle.fl_image.proofs.messages.some_messages.Goals as goal

@@ -1,5 +1,5 @@
 use Rattle.std.proofs.Common.{◌≡◌, ◌-◌, map, []}
-use Rattle.fl_check.specs.Interface.{message_of}
+use Rattle.fl_interface.specs.Interface.{message_of}
 use Rattle.fl_image.specs.Reading.{message_after, more_at}
 use Rattle.fl_image.proofs.messages.some_messages.Given as goal
 

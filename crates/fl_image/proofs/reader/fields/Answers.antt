@@ -1,5 +1,5 @@
 use Rattle.std.proofs.lemmas.Result.{err_from_is_err_and}
-use Rattle.fl_check.specs.Interface.{interface_of}
+use Rattle.fl_interface.specs.Interface.{interface_of}
 use Rattle.fl_image.proofs.Begun.{started, named}
 use Rattle.fl_image.proofs.reader.fields.Goals as goal
 

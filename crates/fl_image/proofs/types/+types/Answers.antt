@@ -1,7 +1,7 @@
 use Rattle.std.proofs.Common.{◌≡◌, ◌<◌, ◌++◌, ◌∷◌, [], map, sym, subst, arith}
 use Rattle.std.proofs.lemmas.Result.{err_from_is_err_and}
 use Rattle.std.proofs.lemmas.List.{map_push}
-use Rattle.fl_check.specs.Interface.{TheType, type_of}
+use Rattle.fl_interface.specs.Interface.{TheType, type_of}
 use Rattle.fl_image.specs.Reading.{Read, Gives, type_at, many_at}
 use Rattle.fl_image.proofs.Loop.{goes_on, ends}
 use Rattle.fl_image.proofs.Nest.{no_code, too_deep, behind_code}

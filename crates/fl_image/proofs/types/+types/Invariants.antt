@@ -1,5 +1,5 @@
 use Rattle.std.proofs.Common.{◌≡◌, ◌+◌, ◌-◌, ◌*◌, map}
-use Rattle.fl_check.specs.Interface.{type_of}
+use Rattle.fl_interface.specs.Interface.{type_of}
 use Rattle.fl_image.specs.Reading.{type_at, more_at, many_at}
 use Rattle.fl_image.proofs.types.+types.Given as goal
 

@@ -1,7 +1,7 @@
 use Rattle.std.proofs.Common.{◌≡◌, ◌++◌, ◌∷◌, [], map}
 use Rattle.std.proofs.lemmas.Result.{err_from_is_err_and}
 use Rattle.std.proofs.lemmas.List.{map_push}
-use Rattle.fl_check.specs.Interface.{arg_type_of}
+use Rattle.fl_interface.specs.Interface.{arg_type_of}
 use Rattle.fl_image.specs.Reading.{argument_at, many_at}
 use Rattle.fl_image.proofs.Loop.{goes_on, ends}
 use Rattle.fl_image.proofs.types.some_arguments.Goals as goal

@@ -1,5 +1,5 @@
 use Rattle.std.proofs.Common.{◌≡◌, ◌-◌, map}
-use Rattle.fl_check.specs.Interface.{arg_type_of}
+use Rattle.fl_interface.specs.Interface.{arg_type_of}
 use Rattle.fl_image.specs.Reading.{argument_at, more_at, many_at}
 use Rattle.fl_image.proofs.types.some_arguments.Given as goal
 

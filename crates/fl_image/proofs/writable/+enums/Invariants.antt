@@ -1,5 +1,5 @@
 use Rattle.std.proofs.Common.{◌≡◌, drop, map}
-use Rattle.fl_check.specs.Interface.{type_of, fields_from}
+use Rattle.fl_interface.specs.Interface.{type_of, fields_from}
 use Rattle.fl_image.specs.Image.{have_short_enums}
 use Rattle.fl_image.proofs.writable.+enums.Given as goal
 

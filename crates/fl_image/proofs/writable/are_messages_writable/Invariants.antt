@@ -1,6 +1,6 @@
 use Rattle.std.proofs.Common.{◌≡◌, drop, map}
 use Rattle.std.specs.List.{list_all}
-use Rattle.fl_check.specs.Interface.{message_of}
+use Rattle.fl_interface.specs.Interface.{message_of}
 use Rattle.fl_image.specs.Image.{is_message_spellable}
 use Rattle.fl_image.proofs.writable.are_messages_writable.Given as goal
 

@@ -1,6 +1,6 @@
 use Rattle.std.proofs.Common.{◌≡◌, drop, map}
 use Rattle.std.specs.List.{list_all}
-use Rattle.fl_check.specs.Interface.{arg_type_of}
+use Rattle.fl_interface.specs.Interface.{arg_type_of}
 use Rattle.fl_image.specs.Image.{argument_has_short_enums}
 use Rattle.fl_image.proofs.writable.arguments_have_short_enums.Given as goal
 

@@ -1,5 +1,5 @@
 use Rattle.std.proofs.Common.{arith}
-use Rattle.fl_check.specs.Interface.{type_of}
+use Rattle.fl_interface.specs.Interface.{type_of}
 use Rattle.fl_image.proofs.Written.{structure_written}
 use Rattle.fl_image.proofs.writer.+types.Goals as goal
 

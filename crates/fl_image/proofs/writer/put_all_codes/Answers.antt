@@ -1,6 +1,6 @@
 use Rattle.std.proofs.Common.{◌≡◌, ◌++◌, ◌<◌, length, map, ap, arith}
 use Rattle.std.specs.List.{flat_map}
-use Rattle.fl_check.specs.Interface.{TheInterface, message_of}
+use Rattle.fl_interface.specs.Interface.{TheInterface, message_of}
 use Rattle.fl_compile.specs.Programs.{program_of}
 use Rattle.fl_image.specs.Image.{codes_image, codes_of}
 use Rattle.fl_image.proofs.Places.{at_place, one_written, length_of_map}

@@ -1,6 +1,6 @@
 use Rattle.std.proofs.Common.{◌∙◌, ◌+◌, ◌-◌, ◌++◌, List, map, ap, sym, arith, append_assoc, append-nil}
 use Rattle.std.proofs.lemmas.List.{map-append}
-use Rattle.fl_check.specs.Interface.{arg_type_of}
+use Rattle.fl_interface.specs.Interface.{arg_type_of}
 use Rattle.fl_value.specs.Plan.{of_rank, of_ranks, by_ranks}
 use Rattle.fl_value.proofs.Ranked.{next_rank, last_rank}
 use Rattle.fl_layout.specs.Extents.{placing, typed, numbered}

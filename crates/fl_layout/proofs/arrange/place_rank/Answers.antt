@@ -1,9 +1,9 @@
 use Rattle.std.proofs.Common.{◌≡◌, ◌∙◌, ◌<◌, ◌+◌, ◌++◌, ℕ, [], ◌∷◌, List, map, length, drop, get_or, true, refl, ap, sym, subst, append_assoc, append-nil}
 use Rattle.std.proofs.lemmas.List.{drop_all}
 use Rattle.std.proofs.lemmas.Bool.{and_parts}
-use Rattle.fl_check.specs.declared.interface.ArgType.{ArgType}
-use Rattle.fl_check.specs.Interface.{TheArgType, arg_type_of}
-use Rattle.fl_check.specs.Checks.{is_argument_within, are_arguments_within}
+use Rattle.fl_interface.specs.declared.interface.ArgType.{ArgType}
+use Rattle.fl_interface.specs.Interface.{TheArgType, arg_type_of}
+use Rattle.fl_interface.specs.Limits.{is_argument_within, are_arguments_within}
 use Rattle.fl_layout.specs.Extents.{placing}
 use Rattle.fl_layout.specs.declared.extent.Extent.{Extent}
 use Rattle.fl_layout.specs.declared.extent.Placed.{Placed}

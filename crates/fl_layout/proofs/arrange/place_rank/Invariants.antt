@@ -1,6 +1,6 @@
 use Rattle.std.proofs.Common.{◌≡◌, ◌++◌, drop, map, true}
-use Rattle.fl_check.specs.Interface.{arg_type_of}
-use Rattle.fl_check.specs.Checks.{are_arguments_within}
+use Rattle.fl_interface.specs.Interface.{arg_type_of}
+use Rattle.fl_interface.specs.Limits.{are_arguments_within}
 use Rattle.fl_layout.specs.Extents.{placed_of_rank}
 use Rattle.fl_layout.proofs.Arranging.{left_of_rank}
 use Rattle.fl_layout.proofs.arrange.place_rank.Given as goal

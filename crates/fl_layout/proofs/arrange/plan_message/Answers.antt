@@ -1,6 +1,6 @@
 use Rattle.std.proofs.Common.{◌≡◌, ◌∙◌, ◌≤◌, length, true, List, map, ap, sym, subst}
-use Rattle.fl_check.specs.Interface.{arg_type_of, message_of}
-use Rattle.fl_check.specs.declared.interface.ArgType.{ArgType}
+use Rattle.fl_interface.specs.Interface.{arg_type_of, message_of}
+use Rattle.fl_interface.specs.declared.interface.ArgType.{ArgType}
 use Rattle.fl_value.specs.Plan.{by_ranks}
 use Rattle.fl_value.proofs.Ranked.{arranged_ranks}
 use Rattle.fl_layout.specs.Extents.{placing, typed, placed_of, numbered, are_within}

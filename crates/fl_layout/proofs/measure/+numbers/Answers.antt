@@ -1,6 +1,6 @@
 use Rattle.std.proofs.Common.{rules, arith}
-use Rattle.fl_check.specs.declared.interface.FixedType.TheViews.{the_lemmas}
-use Rattle.fl_check.specs.Interface.{type_of}
+use Rattle.fl_interface.specs.declared.interface.FixedType.TheViews.{the_lemmas}
+use Rattle.fl_interface.specs.Interface.{type_of}
 use Rattle.fl_layout.proofs.Measures.{next_numbers}
 use Rattle.fl_layout.proofs.measure.+numbers.Goals as goal
 

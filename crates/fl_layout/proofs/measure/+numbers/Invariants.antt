@@ -1,5 +1,5 @@
 use Rattle.std.proofs.Common.{◌≡◌, ◌+◌, map, drop}
-use Rattle.fl_check.specs.Interface.{type_of, fields_from}
+use Rattle.fl_interface.specs.Interface.{type_of, fields_from}
 use Rattle.fl_layout.specs.Extents.{numbers_of_all}
 use Rattle.fl_layout.proofs.measure.+numbers.Given as goal
 

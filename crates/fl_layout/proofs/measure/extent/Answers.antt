@@ -1,8 +1,8 @@
 use Rattle.std.proofs.Common.{◌<◌, ◌^◌, true, arith, subst, ◌≡◌}
 use Rattle.std.proofs.lemmas.Bool.{and_parts}
-use Rattle.fl_check.specs.declared.interface.ArgType.{ArgType}
-use Rattle.fl_check.specs.Interface.{TheType, arg_type_of, type_of}
-use Rattle.fl_check.specs.Checks.{is_argument_within, is_type_within}
+use Rattle.fl_interface.specs.declared.interface.ArgType.{ArgType}
+use Rattle.fl_interface.specs.Interface.{TheType, arg_type_of, type_of}
+use Rattle.fl_interface.specs.Limits.{is_argument_within, is_type_within}
 use Rattle.fl_layout.specs.Extents.{numbers_of}
 use Rattle.fl_layout.proofs.Arranging.{type_small}
 use Rattle.fl_layout.proofs.Measures.{numbers_small}

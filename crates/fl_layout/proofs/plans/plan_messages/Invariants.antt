@@ -1,6 +1,6 @@
 use Rattle.std.proofs.Common.{◌≡◌, ◌++◌, drop, map, true}
-use Rattle.fl_check.specs.Interface.{message_of}
-use Rattle.fl_check.specs.Checks.{are_messages_within}
+use Rattle.fl_interface.specs.Interface.{message_of}
+use Rattle.fl_interface.specs.Limits.{are_messages_within}
 use Rattle.fl_layout.specs.Extents.{placed_of}
 use Rattle.fl_layout.proofs.plans.plan_messages.Given as goal
 

@@ -1,5 +1,5 @@
 use Rattle.std.proofs.Common.{◌∙◌, ap, map, List}
-use Rattle.fl_check.specs.declared.interface.Message.{Message}
+use Rattle.fl_interface.specs.declared.interface.Message.{Message}
 use Rattle.fl_lines.proofs.TableLemmas.{named_messages, messages_differ}
 use Rattle.fl_lines.proofs.names.names_in.Goals as goal
 

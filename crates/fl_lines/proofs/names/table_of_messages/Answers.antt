@@ -1,6 +1,6 @@
 use Rattle.std.proofs.Common.{◌∙◌, sym, ap, arith, Option, Some}
 use Rattle.std.proofs.lemmas.Option.{slice_get-get_or}
-use Rattle.fl_check.specs.declared.interface.Message.{Message}
+use Rattle.fl_interface.specs.declared.interface.Message.{Message}
 use Rattle.fl_lines.specs.Tables.{table_of}
 use Rattle.fl_lines.proofs.TableLemmas.{next_is_new}
 use Rattle.fl_lines.proofs.names.table_of_messages.Goals as goal

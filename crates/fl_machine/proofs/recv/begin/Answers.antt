@@ -1,6 +1,6 @@
 use Rattle.std.proofs.Common.{◌≡◌, ℕ, inl, None, refl, sym, ◌∙◌, ap, true, [], rules}
 use Rattle.fl_base.specs.Control.{control_word}
-use Rattle.fl_check.specs.Interface.{interface_of, TheInterface}
+use Rattle.fl_interface.specs.Interface.{interface_of, TheInterface}
 use Rattle.fl_wire.specs.Wrong.{start_fault}
 use Rattle.fl_wire.proofs.Frames.{start_control}
 use Rattle.fl_machine.proofs.Feeding.{refused, none_begun, err_weaker}

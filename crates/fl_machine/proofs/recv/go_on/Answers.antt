@@ -1,7 +1,7 @@
 use Rattle.std.proofs.Common.{◌≡◌, Bool, inl, None, sym, ◌∙◌, ap, arith, rules}
 use Rattle.std.proofs.lemmas.Bool.{ne_eqb}
 use Rattle.fl_base.specs.Control.{control_word}
-use Rattle.fl_check.specs.Interface.{interface_of}
+use Rattle.fl_interface.specs.Interface.{interface_of}
 use Rattle.fl_wire.specs.Wrong.{follow_fault}
 use Rattle.fl_wire.proofs.Frames.{follow_control}
 use Rattle.fl_machine.specs.Receiving.{parts_of}

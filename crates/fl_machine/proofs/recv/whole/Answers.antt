@@ -1,6 +1,6 @@
 use Rattle.std.proofs.Common.{take, subst}
 use Rattle.std.specs.Prelude.{Option, IfSome}
-use Rattle.fl_check.specs.Interface.{TheInterface, interface_of}
+use Rattle.fl_interface.specs.Interface.{TheInterface, interface_of}
 use Rattle.fl_value.specs.declared.value.Call.{Call}
 use Rattle.fl_value.specs.declared.value.PlanNo.{PlanNo}
 use Rattle.fl_value.specs.Value.{call_of}

@@ -1,4 +1,4 @@
-use Rattle.fl_check.specs.Interface.{interface_of}
+use Rattle.fl_interface.specs.Interface.{interface_of}
 use Rattle.fl_compile.specs.Programs.{program_of}
 use Rattle.fl_show.proofs.TextImages.{text_is_writable, image_told}
 use Rattle.fl_show.proofs.OutOfMemory.{text_memory}

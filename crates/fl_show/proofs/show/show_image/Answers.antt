@@ -1,5 +1,5 @@
 use Rattle.std.proofs.Common.{◌∙◌}
-use Rattle.fl_check.specs.Interface.{interface_of}
+use Rattle.fl_interface.specs.Interface.{interface_of}
 use Rattle.fl_compile.specs.Programs.{program_of}
 use Rattle.fl_show.proofs.TextImages.{table_told}
 use Rattle.fl_show.proofs.OutOfMemory.{image_begins, image_memory}

@@ -1,4 +1,4 @@
-use Rattle.fl_check.specs.Interface.{interface_of}
+use Rattle.fl_interface.specs.Interface.{interface_of}
 use Rattle.fl_show.proofs.OutOfMemory.{text_memory}
 use Rattle.fl_show.proofs.show.show_text.Goals as goal
 

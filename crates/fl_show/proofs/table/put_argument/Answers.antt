@@ -1,6 +1,6 @@
 use Rattle.std.proofs.Common.{◌≡◌, ◌∙◌, ℕ, List, ◌++◌, Option, ap}
 use Rattle.std.proofs.lemmas.Result.{on_ok_weaker}
-use Rattle.fl_check.specs.Interface.{TheInterface, TheArgType, arg_type_of, interface_of}
+use Rattle.fl_interface.specs.Interface.{TheInterface, TheArgType, arg_type_of, interface_of}
 use Rattle.fl_value.specs.declared.value.PlanNo.{PlanNo}
 use Rattle.fl_layout.specs.Layouts.{argument_size, IsPlace}
 use Rattle.fl_show.specs.declared.row.Kind.{Kind}

@@ -1,6 +1,6 @@
 use Rattle.std.proofs.Common.{◌≡◌, ◌∙◌, ℕ, List, ◌++◌, refl, ap, append_assoc}
 use Rattle.std.proofs.lemmas.Result.{on_ok_weaker}
-use Rattle.fl_check.specs.Interface.{TheInterface, TheMessage, interface_of, message_of}
+use Rattle.fl_interface.specs.Interface.{TheInterface, TheMessage, interface_of, message_of}
 use Rattle.fl_value.specs.declared.value.PlanNo.{PlanNo}
 use Rattle.fl_layout.specs.Layouts.{payload_length, IsLeast, IsGreatest}
 use Rattle.fl_layout.specs.Places.{count_for}

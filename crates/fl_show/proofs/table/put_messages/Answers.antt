@@ -1,6 +1,6 @@
 use Rattle.std.proofs.Common.{◌≡◌, ◌<◌, ◌≤◌, length, get_or, subst}
 use Rattle.fl_value.proofs.Turns.{map_dropped}
-use Rattle.fl_check.specs.Interface.{message_of}
+use Rattle.fl_interface.specs.Interface.{message_of}
 use Rattle.fl_show.proofs.Telling.{told_none, told_one, told_all, none_left}
 use Rattle.fl_show.proofs.table.put_messages.Goals as goal
 

@@ -1,5 +1,5 @@
 use Rattle.std.proofs.Common.{map, drop}
-use Rattle.fl_check.specs.Interface.{message_of, interface_of}
+use Rattle.fl_interface.specs.Interface.{message_of, interface_of}
 use Rattle.fl_show.specs.Table.{TellsMessage}
 use Rattle.fl_show.proofs.Telling.{Told}
 use Rattle.fl_show.proofs.table.put_messages.Given as goal

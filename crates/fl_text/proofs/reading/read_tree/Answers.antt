@@ -1,5 +1,5 @@
 use Rattle.std.proofs.Common.{◌∙◌, sym, refl, ap}
-use Rattle.fl_check.specs.Interface.{interface_of}
+use Rattle.fl_interface.specs.Interface.{interface_of}
 use Rattle.fl_check.specs.Checks.{checked}
 use Rattle.fl_parse.specs.Tree.{tree_of}
 use Rattle.fl_text.proofs.TextLemmas.{if_ok_then, check_told}

@@ -1,5 +1,5 @@
 use Rattle.std.proofs.Common.{◌≡◌, map, drop}
-use Rattle.fl_check.specs.Interface.{message_of}
+use Rattle.fl_interface.specs.Interface.{message_of}
 use Rattle.fl_value.specs.Resolve.{named_from}
 use Rattle.fl_value.proofs.calls.number_of_message.Given as goal
 

@@ -2,8 +2,8 @@ use Rattle.std.proofs.Common.{◌≡◌, ◌≤◌, ◌<◌, ◌+◌, ℕ, Bool,
 use Rattle.std.specs.Prelude.{◌&&◌}
 use Rattle.std.proofs.lemmas.Bool.{ltb-true, ltb-false}
 use Rattle.std.proofs.lemmas.List.{drop_all}
-use Rattle.fl_check.specs.declared.interface.FixedType.{FixedType}
-use Rattle.fl_check.specs.Interface.{TheType, type_of, fields_from}
+use Rattle.fl_interface.specs.declared.interface.FixedType.{FixedType}
+use Rattle.fl_interface.specs.Interface.{TheType, type_of, fields_from}
 use Rattle.fl_value.specs.Value.{Datum, datum_of, data_from}
 use Rattle.fl_value.specs.declared.value.Value.{Value}
 use Rattle.fl_value.specs.Fits.{has_type, have_types, all_have_type}

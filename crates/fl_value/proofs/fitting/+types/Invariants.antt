@@ -1,5 +1,5 @@
 use Rattle.std.proofs.Common.{◌≡◌, length, map, drop, ◌≤◌}
-use Rattle.fl_check.specs.Interface.{type_of, fields_from}
+use Rattle.fl_interface.specs.Interface.{type_of, fields_from}
 use Rattle.fl_value.specs.Value.{datum_of, data_from}
 use Rattle.fl_value.specs.Fits.{have_types, all_have_type}
 use Rattle.fl_value.proofs.fitting.+types.Given as goal

@@ -1,5 +1,5 @@
 use Rattle.std.proofs.Common.{◌≡◌, length, map, drop, ◌≤◌}
-use Rattle.fl_check.specs.Interface.{arg_type_of}
+use Rattle.fl_interface.specs.Interface.{arg_type_of}
 use Rattle.fl_value.specs.Value.{datum_of}
 use Rattle.fl_value.specs.Fits.{are_arguments}
 use Rattle.fl_value.proofs.fitting.are_arguments.Given as goal

@@ -1,4 +1,4 @@
-use Rattle.fl_check.specs.Interface.{TheArgType}
+use Rattle.fl_interface.specs.Interface.{TheArgType}
 use Rattle.fl_value.proofs.Ranked.{arranged_ranks}
 use Rattle.fl_value.proofs.law.rank_by_rank.Goals as goal
 

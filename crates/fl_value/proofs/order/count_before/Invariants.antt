@@ -1,6 +1,6 @@
 use Rattle.std.proofs.Common.{◌≡◌, ◌≤◌, map, take, nat_lt}
 use Rattle.std.specs.List.{count_by}
-use Rattle.fl_check.specs.Interface.{arg_type_of}
+use Rattle.fl_interface.specs.Interface.{arg_type_of}
 use Rattle.fl_value.specs.declared.value.PlanNo.TheVariants.{Two}
 use Rattle.fl_value.specs.Plan.{rank_of}
 use Rattle.fl_value.proofs.order.count_before.Given as goal

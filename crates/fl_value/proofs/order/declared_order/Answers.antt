@@ -1,8 +1,8 @@
 use Rattle.std.proofs.Common.{◌≡◌, ◌+◌, ◌-◌, ◌++◌, [], ◌∷◌, ℕ, List, length, map, take, drop, ltb, refl, ap, sym, ◌∙◌, arith, subst, append_assoc, append-nil}
 use Rattle.std.specs.List.{count_by, zip}
 use Rattle.std.proofs.lemmas.List.{take_all, drop_all, length-drop, length-map, length_push}
-use Rattle.fl_check.specs.declared.interface.ArgType.{ArgType}
-use Rattle.fl_check.specs.Interface.{TheArgType, arg_type_of}
+use Rattle.fl_interface.specs.declared.interface.ArgType.{ArgType}
+use Rattle.fl_interface.specs.Interface.{TheArgType, arg_type_of}
 use Rattle.fl_value.specs.declared.value.Value.{Value}
 use Rattle.fl_value.specs.declared.value.PlanNo.{PlanNo}
 use Rattle.fl_value.specs.declared.value.PlanNo.TheVariants.{One, Two}

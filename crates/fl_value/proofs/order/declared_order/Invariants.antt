@@ -1,5 +1,5 @@
 use Rattle.std.proofs.Common.{◌≡◌, ◌+◌, ◌++◌, List, length, map, drop}
-use Rattle.fl_check.specs.Interface.{arg_type_of}
+use Rattle.fl_interface.specs.Interface.{arg_type_of}
 use Rattle.fl_value.specs.declared.value.PlanNo.TheVariants.{Two}
 use Rattle.fl_value.specs.Value.{Datum, datum_of}
 use Rattle.fl_value.proofs.Ranked.{rearranged}

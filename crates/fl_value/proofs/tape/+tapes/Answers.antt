@@ -1,8 +1,8 @@
 use Rattle.std.proofs.Common.{◌≡◌, ◌≤◌, ◌<◌, ◌+◌, ℕ, List, [], ◌∷◌, ◌++◌, length, map, drop, get_or, refl, ap, sym, subst, ◌∙◌, append_assoc, append-nil}
 use Rattle.std.proofs.lemmas.Bool.{ltb-true, ltb-false}
 use Rattle.std.proofs.lemmas.List.{drop_all}
-use Rattle.fl_check.specs.Interface.{TheType, TheTypes, no_more, field, type_of, fields_from}
-use Rattle.fl_check.specs.declared.interface.FixedType.{FixedType}
+use Rattle.fl_interface.specs.Interface.{TheType, TheTypes, no_more, field, type_of, fields_from}
+use Rattle.fl_interface.specs.declared.interface.FixedType.{FixedType}
 use Rattle.fl_value.specs.declared.value.Value.{Value}
 use Rattle.fl_value.specs.Value.{Datum, Data, nothing_more, datum_of, data_from}
 use Rattle.fl_value.specs.Tape.{value_tape, fields_tape, elements_tape}

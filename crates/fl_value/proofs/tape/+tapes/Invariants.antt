@@ -1,5 +1,5 @@
 use Rattle.std.proofs.Common.{◌≡◌, ◌++◌, drop, map}
-use Rattle.fl_check.specs.Interface.{type_of, fields_from}
+use Rattle.fl_interface.specs.Interface.{type_of, fields_from}
 use Rattle.fl_value.specs.Value.{datum_of, data_from}
 use Rattle.fl_value.specs.Tape.{fields_tape, elements_tape}
 use Rattle.fl_value.proofs.tape.+tapes.Given as goal

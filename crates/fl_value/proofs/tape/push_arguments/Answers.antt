@@ -1,6 +1,6 @@
 use Rattle.std.proofs.Common.{sym, ◌∙◌, map}
 use Rattle.std.specs.List.{zip}
-use Rattle.fl_check.specs.Interface.{arg_type_of}
+use Rattle.fl_interface.specs.Interface.{arg_type_of}
 use Rattle.fl_value.specs.Value.{datum_of}
 use Rattle.fl_value.specs.Tape.{kind}
 use Rattle.fl_value.proofs.Ranked.{one_rank, arranged_ranks}

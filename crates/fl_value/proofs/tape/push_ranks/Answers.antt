@@ -1,6 +1,6 @@
 use Rattle.std.proofs.Common.{◌∙◌, ◌+◌, ◌-◌, ◌++◌, ℕ, List, map, ap, sym, refl, arith, append_assoc, append-nil}
 use Rattle.std.specs.List.{zip, flat_map}
-use Rattle.fl_check.specs.Interface.{arg_type_of}
+use Rattle.fl_interface.specs.Interface.{arg_type_of}
 use Rattle.fl_value.specs.declared.value.PlanNo.TheVariants.{Two}
 use Rattle.fl_value.specs.Value.{datum_of}
 use Rattle.fl_value.specs.Plan.{of_rank, of_ranks}

@@ -1,12 +1,12 @@
 use Rattle.std.proofs.Common.{◌≡◌, ◌++◌, ◌-◌, [], ◌∷◌, ℕ, List, suc, map, take, drop, replicate, arith, rules, sym, subst}
 use Rattle.std.proofs.lemmas.Grind.{replicate_next}
 use Rattle.std.proofs.lemmas.List.{take_all}
-use Rattle.fl_check.specs.declared.interface.FixedType.{FixedType}
-use Rattle.fl_check.specs.declared.interface.FixedType.TheViews.{the_lemmas as type_lemmas}
-use Rattle.fl_check.specs.declared.interface.FixedType.TheFolds.{fold-roll-FixedType, fold_out-FixedType}
+use Rattle.fl_interface.specs.declared.interface.FixedType.{FixedType}
+use Rattle.fl_interface.specs.declared.interface.FixedType.TheViews.{the_lemmas as type_lemmas}
+use Rattle.fl_interface.specs.declared.interface.FixedType.TheFolds.{fold-roll-FixedType, fold_out-FixedType}
 use Rattle.fl_value.specs.declared.value.Value.TheViews.{the_lemmas as value_lemmas}
 use Rattle.fl_value.specs.declared.value.Value.TheFolds.{fold_out-Value}
-use Rattle.fl_check.specs.Interface.{TheType, type_step, type_of, structure, array, fields_from}
+use Rattle.fl_interface.specs.Interface.{TheType, type_step, type_of, structure, array, fields_from}
 use Rattle.fl_value.specs.Value.{Datum, datum_step, datum_of, data_from, fields, elements}
 use Rattle.fl_value.specs.declared.value.Value.TheVariants.{Fields, List as ListOf}
 use Rattle.fl_value.specs.Taken.{ValueAt, InTurn, TheOne, NoneOf}

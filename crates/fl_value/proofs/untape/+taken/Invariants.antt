@@ -1,5 +1,5 @@
 use Rattle.std.proofs.Common.{map, take, replicate}
-use Rattle.fl_check.specs.Interface.{type_of}
+use Rattle.fl_interface.specs.Interface.{type_of}
 use Rattle.fl_value.specs.Value.{datum_of}
 use Rattle.fl_value.specs.Taken.{ValueAt, InTurn, TheOne}
 use Rattle.fl_value.proofs.untape.+taken.Given as goal

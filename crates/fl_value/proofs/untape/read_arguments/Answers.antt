@@ -1,5 +1,5 @@
 use Rattle.std.proofs.Common.{◌≡◌, ◌∙◌, [], List, map, sym, subst, true}
-use Rattle.fl_check.specs.Interface.{TheArgType, arg_type_of}
+use Rattle.fl_interface.specs.Interface.{TheArgType, arg_type_of}
 use Rattle.fl_value.specs.Value.{datum_of}
 use Rattle.fl_value.specs.declared.value.PlanNo.{PlanNo}
 use Rattle.fl_value.specs.declared.value.PlanNo.TheVariants.{One, Two}

@@ -1,5 +1,5 @@
 use Rattle.std.proofs.Common.{◌++◌, ℕ, List, map, take}
-use Rattle.fl_check.specs.Interface.{TheArgType, arg_type_of}
+use Rattle.fl_interface.specs.Interface.{TheArgType, arg_type_of}
 use Rattle.fl_value.specs.Value.{datum_of}
 use Rattle.fl_value.specs.Taken.{ArgumentAt, InTurn, TheOne, types_of_rank}
 use Rattle.fl_value.proofs.untape.read_rank.Given as goal

@@ -1,5 +1,5 @@
 use Rattle.std.proofs.Common.{◌≡◌, ◌-◌, ◌++◌, List, map}
-use Rattle.fl_check.specs.Interface.{TheArgType, arg_type_of}
+use Rattle.fl_interface.specs.Interface.{TheArgType, arg_type_of}
 use Rattle.fl_value.specs.declared.value.PlanNo.TheVariants.{Two}
 use Rattle.fl_value.specs.Value.{datum_of}
 use Rattle.fl_value.specs.Plan.{of_ranks, by_ranks}

@@ -2,7 +2,7 @@ use Rattle.std.proofs.Common.{ℕ, ℤ, List, get_or, take, drop, length, ◌-�
 use Rattle.std.proofs.lemmas.Int.{to_z-of_z}
 use mir.Syntax.{w128}
 use mir.Val.{SFits}
-use Rattle.fl_check.specs.Interface.{scalar}
+use Rattle.fl_interface.specs.Interface.{scalar}
 use Rattle.fl_value.specs.Value.{number}
 use Rattle.fl_value.specs.Taken.{ValueAt, TheOne}
 use Rattle.fl_value.proofs.Turns.{first_and_rest}

@@ -1,5 +1,5 @@
 use Rattle.std.proofs.Common.{map, replicate}
-use Rattle.fl_check.specs.Interface.{sized, type_of}
+use Rattle.fl_interface.specs.Interface.{sized, type_of}
 use Rattle.fl_value.specs.Value.{datum_of, elements, data_from}
 use Rattle.fl_value.specs.Taken.{ValueAt, ArgumentAt, InTurn, TheOne, NoneOf}
 use Rattle.fl_value.proofs.Turns.{weaker_some, weaker_none, sized_one, sized_none}

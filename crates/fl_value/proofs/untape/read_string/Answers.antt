@@ -1,4 +1,4 @@
-use Rattle.fl_check.specs.Interface.{text}
+use Rattle.fl_interface.specs.Interface.{text}
 use Rattle.fl_value.specs.Value.{string}
 use Rattle.fl_value.specs.Taken.{ArgumentAt, BytesAt, TheOne}
 use Rattle.fl_value.proofs.Turns.{weaker_some, string_one}

@@ -1,7 +1,7 @@
 use Rattle.std.proofs.Common.{List, ℕ, Some, length, map, sym, subst, ap, ◌∙◌, eqb}
 use Rattle.std.proofs.lemmas.Bool.{false≢true, eqb-true}
 use Rattle.std.proofs.lemmas.List.{length-map}
-use Rattle.fl_check.specs.Interface.{TheArgType, arg_type_of, message_of, interface_of}
+use Rattle.fl_interface.specs.Interface.{TheArgType, arg_type_of, message_of, interface_of}
 use Rattle.fl_value.specs.Value.{TheCall, datum_of}
 use Rattle.fl_value.specs.Plan.{arranged}
 use Rattle.fl_value.specs.Taken.{ArgumentAt, InTurn}

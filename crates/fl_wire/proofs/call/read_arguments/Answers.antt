@@ -1,7 +1,7 @@
 use Rattle.std.proofs.Common.{◌≡◌, ◌≢◌, ℕ, ◌<◌, ◌≤◌, ◌+◌, Bool, List, map, length, get_or, set, arith, sym, subst, ap, ◌∙◌}
 use Rattle.std.proofs.lemmas.List.{length-map, get_or-map, map-set, length-set}
 use Rattle.std.proofs.lemmas.Result.{err_from_is_err_and}
-use Rattle.fl_check.specs.Interface.{text, arg_type_of}
+use Rattle.fl_interface.specs.Interface.{text, arg_type_of}
 use Rattle.fl_value.specs.Value.{Datum, datum_of}
 use Rattle.fl_value.specs.Plan.{is_dynamic, rank_of}
 use Rattle.fl_wire.specs.Shapes.{Shape, next_argument, calls_of}

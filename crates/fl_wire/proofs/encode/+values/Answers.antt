@@ -1,7 +1,7 @@
 use Rattle.std.proofs.Common.{◌∙◌, map}
 use Rattle.std.proofs.lemmas.Result.{on_ok_weaker}
-use Rattle.fl_check.specs.Interface.{fields_from, type_of}
-use Rattle.fl_check.specs.Sizes.{greatest_align}
+use Rattle.fl_interface.specs.Interface.{fields_from, type_of}
+use Rattle.fl_interface.specs.Sizes.{greatest_align}
 use Rattle.fl_wire.proofs.Arguments.{align_along, types_align}
 use Rattle.fl_wire.proofs.Encoding.{elements_left, elements_next}
 use Rattle.fl_wire.proofs.encode.+values.Goals as goal

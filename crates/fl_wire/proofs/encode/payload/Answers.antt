@@ -1,7 +1,7 @@
 use Rattle.std.proofs.Common.{◌≡◌, ◌∙◌, ap, subst, sym, true, false, map, List, []}
 use Rattle.std.specs.Prelude.{slice_get}
 use Rattle.std.specs.List.{zip}
-use Rattle.fl_check.specs.Interface.{TheArgType, interface_of}
+use Rattle.fl_interface.specs.Interface.{TheArgType, interface_of}
 use Rattle.fl_value.specs.Value.{datum_of, call_of}
 use Rattle.fl_value.specs.declared.value.Value.{Value}
 use Rattle.fl_value.specs.Fits.{are_arguments}

@@ -1,7 +1,7 @@
 use Rattle.std.proofs.Common.{◌≡◌, ◌∙◌, ap, subst, sym, false, map, List}
 use Rattle.std.specs.List.{zip}
 use Rattle.std.proofs.lemmas.Result.{on_ok_weaker}
-use Rattle.fl_check.specs.Interface.{arg_type_of}
+use Rattle.fl_interface.specs.Interface.{arg_type_of}
 use Rattle.fl_value.specs.Value.{datum_of}
 use Rattle.fl_value.specs.Plan.{arranged, of_rank}
 use Rattle.fl_value.specs.declared.value.PlanNo.{PlanNo}

@@ -1,6 +1,6 @@
 use Rattle.std.proofs.Common.{◌≡◌, length, ap, ◌∙◌, sym, min, rules, List}
 use Rattle.std.proofs.lemmas.Slice.Zip.{zip_end}
-use Rattle.fl_check.specs.Interface.{arg_type_of}
+use Rattle.fl_interface.specs.Interface.{arg_type_of}
 use Rattle.fl_value.specs.Value.{datum_of}
 use Rattle.fl_layout.specs.Leaves.{kind, Argument, arguments_onto}
 use Rattle.fl_wire.specs.Payload.{payload_bytes}

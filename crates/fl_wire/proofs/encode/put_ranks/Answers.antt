@@ -1,6 +1,6 @@
 use Rattle.std.proofs.Common.{◌∙◌, ◌+◌, ◌-◌, map, refl, arith}
 use Rattle.std.specs.List.{zip}
-use Rattle.fl_check.specs.Interface.{arg_type_of}
+use Rattle.fl_interface.specs.Interface.{arg_type_of}
 use Rattle.fl_value.specs.Value.{datum_of}
 use Rattle.fl_wire.proofs.Encoding.{rank_then_rest}
 use Rattle.fl_wire.proofs.encode.put_ranks.Goals as goal

@@ -4,7 +4,7 @@ use Rattle.std.specs.Prelude.{slice_get}
 use Rattle.std.proofs.lemmas.List.{take_all}
 use Rattle.std.proofs.lemmas.Option.{slice_get-get_or}
 use Rattle.fl_base.specs.declared.fragment.Frag.{Frag}
-use Rattle.fl_check.specs.Interface.{TheArgType, interface_of, arg_type_of}
+use Rattle.fl_interface.specs.Interface.{TheArgType, interface_of, arg_type_of}
 use Rattle.fl_value.specs.Value.{datum_of}
 use Rattle.fl_layout.specs.Leaves.{argument_types}
 use Rattle.fl_wire.specs.Reading.{IsPart}

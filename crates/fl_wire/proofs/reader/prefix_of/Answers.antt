@@ -1,6 +1,6 @@
 use Rattle.std.proofs.Common.{◌∙◌, sym}
 use Rattle.std.proofs.lemmas.List.{take_rest}
-use Rattle.fl_check.specs.Interface.{interface_of}
+use Rattle.fl_interface.specs.Interface.{interface_of}
 use Rattle.fl_wire.proofs.Exits.{none_other, group_made, get_after}
 use Rattle.fl_wire.proofs.reader.prefix_of.Goals as goal
 

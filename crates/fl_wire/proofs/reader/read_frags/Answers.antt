@@ -4,7 +4,7 @@ use Rattle.std.proofs.lemmas.List.{take_rest}
 use Rattle.std.specs.Prelude.{Option, IfSome}
 use Rattle.fl_value.specs.declared.value.Call.{Call}
 use Rattle.fl_wire.specs.Headers.{StandsFirst}
-use Rattle.fl_check.specs.Interface.{interface_of}
+use Rattle.fl_interface.specs.Interface.{interface_of}
 use Rattle.fl_value.specs.Value.{call_of}
 use Rattle.fl_wire.proofs.Parts.{pushed}
 use Rattle.fl_wire.proofs.Exits.{one_call, calls_then, all_read, leaves_right, wrong_left, nothing_left}

@@ -1,6 +1,6 @@
 use Rattle.std.proofs.Common.{◌≡◌, ◌∙◌, ap, map, Some, refl}
 use Rattle.std.proofs.lemmas.Bool.{lt-ltb, le-ltb}
-use Rattle.fl_check.specs.Interface.{interface_of, arg_type_of}
+use Rattle.fl_interface.specs.Interface.{interface_of, arg_type_of}
 use Rattle.fl_value.specs.Value.{datum_of}
 use Rattle.fl_layout.specs.Leaves.{argument_types}
 use Rattle.fl_layout.specs.Places.{count}

@@ -1,10 +1,10 @@
 use Rattle.std.proofs.Common.{◌≡◌, ℕ, rules, arith, map, sym, subst, ap, ◌∙◌, List}
 use Rattle.std.proofs.lemmas.Result.{err_from_is_err_and}
-use Rattle.fl_check.specs.Interface.{TheType, TheTypes, structure, array, type_of, type_step, fields_from}
-use Rattle.fl_check.specs.declared.interface.FixedType.{FixedType}
-use Rattle.fl_check.specs.declared.interface.FixedType.TheViews.{the_lemmas}
-use Rattle.fl_check.specs.declared.interface.FixedType.TheFolds.{fold-roll-FixedType, fold_out-FixedType}
-use Rattle.fl_check.specs.Sizes.{greatest_align}
+use Rattle.fl_interface.specs.Interface.{TheType, TheTypes, structure, array, type_of, type_step, fields_from}
+use Rattle.fl_interface.specs.declared.interface.FixedType.{FixedType}
+use Rattle.fl_interface.specs.declared.interface.FixedType.TheViews.{the_lemmas}
+use Rattle.fl_interface.specs.declared.interface.FixedType.TheFolds.{fold-roll-FixedType, fold_out-FixedType}
+use Rattle.fl_interface.specs.Sizes.{greatest_align}
 use Rattle.fl_value.specs.Value.{Datum, fields, elements, datum_of, data_from}
 use Rattle.fl_wire.specs.Shapes.{nothing, padding, values_of, fields_of, struct_from, elements_of, ReadAt, StopsAt}
 use Rattle.fl_wire.proofs.Arguments.{IsAlign, types_align}

@@ -1,5 +1,5 @@
 use Rattle.std.proofs.Common.{◌≤◌, ◌-◌, ◌*◌, drop, map, length}
-use Rattle.fl_check.specs.Interface.{type_of, fields_from}
+use Rattle.fl_interface.specs.Interface.{type_of, fields_from}
 use Rattle.fl_value.specs.Value.{datum_of}
 use Rattle.fl_wire.specs.Shapes.{fields_of, elements_of}
 use Rattle.fl_wire.proofs.Steps.{Come}

@@ -1,6 +1,6 @@
 use Rattle.std.proofs.Common.{◌≡◌, ◌+◌, rules, map, sym, subst, IfOk, IfErr}
 use Rattle.std.proofs.lemmas.Result.{err_from_is_err_and}
-use Rattle.fl_check.specs.Interface.{TheArgType, fixed, text, sized, type_of, arg_type_of}
+use Rattle.fl_interface.specs.Interface.{TheArgType, fixed, text, sized, type_of, arg_type_of}
 use Rattle.fl_value.specs.Value.{Datum, string, elements, datum_of, data_from}
 use Rattle.fl_wire.specs.Shapes.{length_below, texts_of, elements_of, arguments_of, ReadAt, StopsAt}
 use Rattle.fl_wire.proofs.Steps.{first_stop, come_rest, come_done}

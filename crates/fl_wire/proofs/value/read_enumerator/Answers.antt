@@ -1,6 +1,6 @@
 use Rattle.std.proofs.Common.{◌≡◌, inl, inr, false, refl, rules, arith, subst, sym, ◌∙◌, ap}
 use Rattle.std.proofs.lemmas.Result.{err_from_is_err_and}
-use Rattle.fl_check.specs.Interface.{enumeration}
+use Rattle.fl_interface.specs.Interface.{enumeration}
 use Rattle.fl_value.specs.Value.{Datum, number, datum_of}
 use Rattle.fl_wire.specs.Shapes.{nothing, number_below, values_of, ReadAt}
 use Rattle.fl_wire.specs.declared.leaf.Stop.TheVariants.{Value}

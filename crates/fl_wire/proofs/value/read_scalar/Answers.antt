@@ -1,7 +1,7 @@
 use Rattle.std.proofs.Common.{◌≡◌, ℕ, false, ◌*◌, ◌^◌, ◌≤◌, rules, arith, subst, sym, ap, ◌∙◌}
 use Rattle.std.proofs.lemmas.Result.{err_from_is_err_and}
-use Rattle.fl_check.specs.Interface.{scalar}
-use Rattle.fl_check.specs.Sizes.{scalar_size}
+use Rattle.fl_interface.specs.Interface.{scalar}
+use Rattle.fl_interface.specs.Sizes.{scalar_size}
 use Rattle.fl_value.specs.Value.{Datum, number, datum_of}
 use Rattle.fl_wire.specs.Shapes.{nothing, number_below, values_of, ReadAt, StopsAt}
 use Rattle.fl_wire.specs.declared.leaf.Stop.TheVariants.{Value}

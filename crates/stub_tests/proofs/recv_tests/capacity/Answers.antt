@@ -2,7 +2,7 @@ use Rattle.std.proofs.Common.{◌≡◌, ◌<◌, ◌≤◌, ◌+◌, ℕ, zero,
 use Rattle.std.specs.Prelude.{slice_get}
 use Rattle.std.proofs.lemmas.List.{length-map}
 use Rattle.std.proofs.lemmas.Bool.{cases_lt, and_parts, leb-true, false≢true}
-use Rattle.fl_check.specs.Interface.{TheMessage, message_of, interface_of}
+use Rattle.fl_interface.specs.Interface.{TheMessage, message_of, interface_of}
 use Rattle.fl_value.specs.Value.{Datum, TheCall}
 use Rattle.fl_value.specs.Fits.{fit_message}
 use Rattle.fl_layout.specs.Layouts.{IsCallOf}

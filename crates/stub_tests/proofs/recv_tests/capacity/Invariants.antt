@@ -1,5 +1,5 @@
 use Rattle.std.proofs.Common.{◌<◌, ◌≤◌, ℕ}
-use Rattle.fl_check.specs.Interface.{interface_of}
+use Rattle.fl_interface.specs.Interface.{interface_of}
 use Rattle.fl_value.specs.Value.{TheCall}
 use Rattle.fl_layout.specs.Layouts.{tape_length, IsCallOf}
 use Rattle.stub_tests.proofs.recv_tests.capacity.Given as goal

@@ -1,5 +1,5 @@
 use Rattle.std.proofs.Common.{◌≡◌, ◌≤◌, map, take, drop, [], vec_len}
-use Rattle.fl_check.specs.Interface.{arg_type_of}
+use Rattle.fl_interface.specs.Interface.{arg_type_of}
 use Rattle.fl_check.specs.Known.{argument_type}
 use Rattle.fl_check.specs.Places.{argument_places}
 use Rattle.fl_check.specs.Checks.{first_fault}

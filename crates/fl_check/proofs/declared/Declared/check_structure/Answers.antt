@@ -1,6 +1,6 @@
 use Rattle.std.proofs.Common.{◌∙◌, List, ap, refl, arith}
 use Rattle.fl_check.specs.Views.{before_of, list_of}
-use Rattle.fl_check.specs.Interface.{TheType, structure, fields_from}
+use Rattle.fl_interface.specs.Interface.{TheType, structure, fields_from}
 use Rattle.fl_check.specs.Known.{field_type}
 use Rattle.fl_parse.specs.Tree.{field_of}
 use Rattle.fl_check.proofs.FirstFaults.{err_of, first_sound}

@@ -1,5 +1,5 @@
 use Rattle.std.proofs.Common.{◌≡◌, ◌≤◌, map, take, drop, [], vec_len, length}
-use Rattle.fl_check.specs.Interface.{type_of}
+use Rattle.fl_interface.specs.Interface.{type_of}
 use Rattle.fl_check.specs.Known.{field_type}
 use Rattle.fl_check.specs.Places.{field_places}
 use Rattle.fl_check.specs.Checks.{first_fault}

@@ -1,6 +1,6 @@
 use Rattle.std.proofs.Common.{◌≡◌, map, ap, ◌∙◌, sym, nat_eq, length, arith}
 use Rattle.std.proofs.lemmas.List.{length-map}
-use Rattle.fl_check.specs.Interface.{type_of, enumeration}
+use Rattle.fl_interface.specs.Interface.{type_of, enumeration}
 use Rattle.fl_parse.specs.Tree.{name_of}
 use Rattle.fl_check.proofs.FirstFaults.{err_of, tells_after, tells_here, none_after, none_past, sound_at_end, fault_at_end}
 use Rattle.fl_check.specs.Views.{before_of}

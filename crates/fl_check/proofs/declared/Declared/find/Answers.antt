@@ -1,6 +1,6 @@
 use Rattle.std.proofs.Common.{◌∙◌}
 use Rattle.fl_check.specs.declared.declared.KnownType.{KnownType}
-use Rattle.fl_check.specs.Interface.{type_of}
+use Rattle.fl_interface.specs.Interface.{type_of}
 use Rattle.fl_check.proofs.NameMaps.{lent, found}
 use Rattle.fl_check.proofs.declared.Declared.find.Goals as goal
 

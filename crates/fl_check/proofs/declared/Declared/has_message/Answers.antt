@@ -1,5 +1,5 @@
 use Rattle.std.proofs.Common.{◌∙◌, refl}
-use Rattle.fl_check.specs.Interface.{TheMessage}
+use Rattle.fl_interface.specs.Interface.{TheMessage}
 use Rattle.fl_check.specs.Views.{declared_message}
 use Rattle.fl_check.proofs.NameMaps.{among}
 use Rattle.fl_check.proofs.declared.Declared.has_message.Goals as goal

@@ -1,5 +1,5 @@
 use Rattle.std.proofs.Common.{◌≡◌, ◌++◌, map}
-use Rattle.fl_check.specs.Interface.{message_of}
+use Rattle.fl_interface.specs.Interface.{message_of}
 use Rattle.fl_check.specs.Views.{declared_message}
 use Rattle.fl_check.proofs.declared.Declared.into_messages.Given as goal
 

@@ -1,7 +1,7 @@
 use Rattle.std.proofs.Common.{map, rules}
-use Rattle.fl_check.specs.Interface.{TheType, type_step, type_of}
-use Rattle.fl_check.specs.declared.interface.FixedType.TheViews.{the_lemmas, Structure}
-use Rattle.fl_check.specs.declared.interface.FixedType.TheFolds.{fold_out-FixedType}
+use Rattle.fl_interface.specs.Interface.{TheType, type_step, type_of}
+use Rattle.fl_interface.specs.declared.interface.FixedType.TheViews.{the_lemmas, Structure}
+use Rattle.fl_interface.specs.declared.interface.FixedType.TheFolds.{fold_out-FixedType}
 use Rattle.fl_check.proofs.Layouts.{end_whole, size_is, align_is, depth_is, arrays_is}
 use Rattle.fl_check.proofs.measured.Fields.into_struct.Goals as goal
 

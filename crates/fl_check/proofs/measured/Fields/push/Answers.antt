@@ -1,8 +1,8 @@
 use Rattle.std.proofs.Common.{◌≡◌, map, ap, ◌∙◌, ◌∷◌, [], ◌++◌}
 use Rattle.std.proofs.lemmas.List.{map_push}
-use Rattle.fl_check.specs.Interface.{type_of, fields_from}
-use Rattle.fl_check.specs.Sizes.{greatest_align}
-use Rattle.fl_check.specs.Depth.{deepest, deepest_array}
+use Rattle.fl_interface.specs.Interface.{type_of, fields_from}
+use Rattle.fl_interface.specs.Sizes.{greatest_align}
+use Rattle.fl_interface.specs.Depth.{deepest, deepest_array}
 use Rattle.fl_check.proofs.Layouts.{end_push, align_push, depth_push, arrays_push}
 use Rattle.fl_check.proofs.measured.Fields.push.Goals as goal
 

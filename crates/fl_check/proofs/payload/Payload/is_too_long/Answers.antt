@@ -1,5 +1,5 @@
 use Rattle.std.proofs.Common.{map, nat_lt, ap, sym}
-use Rattle.fl_check.specs.Interface.{arg_type_of}
+use Rattle.fl_interface.specs.Interface.{arg_type_of}
 use Rattle.fl_check.proofs.Layouts.{payload_whole}
 use Rattle.fl_check.proofs.payload.Payload.is_too_long.Goals as goal
 

@@ -1,6 +1,6 @@
 use Rattle.std.proofs.Common.{◌≡◌, true, refl, subst, rules}
-use Rattle.fl_check.specs.Interface.{TheInterface, interface_of}
-use Rattle.fl_check.specs.Checks.{is_within_limits}
+use Rattle.fl_interface.specs.Interface.{TheInterface, interface_of}
+use Rattle.fl_interface.specs.Limits.{is_within_limits}
 use Rattle.fl_value.specs.Value.{call_of}
 use Rattle.fl_value.specs.Tape.{tape_of}
 use Rattle.fl_layout.specs.Places.{count}

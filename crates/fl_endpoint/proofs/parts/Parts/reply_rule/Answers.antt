@@ -1,6 +1,6 @@
 use Rattle.std.proofs.Common.{◌≡◌, Some, sym, ap, subst, ◌∙◌}
 use Rattle.std.specs.Prelude.{map, slice_set}
-use Rattle.fl_check.specs.Interface.{TheInterface, interface_of, message_of, arg_type_of}
+use Rattle.fl_interface.specs.Interface.{TheInterface, interface_of, message_of, arg_type_of}
 use Rattle.fl_compile.specs.declared.program.Program.{Program}
 use Rattle.fl_compile.specs.Programs.{program_of}
 use Rattle.fl_endpoint.specs.View.{TheEnd, interface_in}

@@ -1,7 +1,7 @@
 use Rattle.std.proofs.Common.{◌≡◌, ℕ, true, false, List, [], length, Option, None, sym, ap, subst, ◌∙◌, rules}
 use Rattle.fl_base.specs.declared.fragment.Frag.{Frag}
-use Rattle.fl_check.specs.Interface.{TheInterface, interface_of, message_of}
-use Rattle.fl_check.specs.Checks.{is_within_limits}
+use Rattle.fl_interface.specs.Interface.{TheInterface, interface_of, message_of}
+use Rattle.fl_interface.specs.Limits.{is_within_limits}
 use Rattle.fl_wire.specs.Words.{interface_words_fit}
 use Rattle.fl_compile.specs.declared.program.Program.{Program}
 use Rattle.fl_compile.specs.Programs.{program_of}

@@ -1,6 +1,6 @@
 use Rattle.std.proofs.Common.{◌≡◌, Option, List, ap, sym, ◌∙◌}
 use Rattle.std.specs.Prelude.{slice_get}
-use Rattle.fl_check.specs.Interface.{TheMessage, interface_of}
+use Rattle.fl_interface.specs.Interface.{TheMessage, interface_of}
 use Rattle.fl_layout.specs.declared.arrange.MessagePlan.{MessagePlan}
 use Rattle.fl_layout.specs.declared.extent.Placed.{Placed}
 use Rattle.fl_layout.specs.Leaves.{types_of}

@@ -1,6 +1,6 @@
 use Rattle.std.proofs.Common.{◌≡◌, true, List, map, ap, sym, refl, ◌∙◌, ◌≤◌, subst}
 use Rattle.std.specs.List.{list_all}
-use Rattle.fl_check.specs.Interface.{interface_of}
+use Rattle.fl_interface.specs.Interface.{interface_of}
 use Rattle.fl_layout.specs.declared.arrange.MessagePlan.{MessagePlan}
 use Rattle.fl_layout.specs.declared.extent.Placed.{Placed}
 use Rattle.fl_value.specs.declared.value.Value.{Value}

@@ -1,5 +1,5 @@
 use Rattle.std.proofs.Common.{List, map, ap, sym, ◌∙◌, subst}
-use Rattle.fl_check.specs.Interface.{interface_of}
+use Rattle.fl_interface.specs.Interface.{interface_of}
 use Rattle.fl_layout.specs.declared.arrange.MessagePlan.{MessagePlan}
 use Rattle.fl_layout.specs.declared.extent.Placed.{Placed}
 use Rattle.fl_layout.specs.declared.extent.Fill.TheVariants.{Full}

@@ -2,7 +2,7 @@ use Rattle.std.proofs.Common.{◌≡◌, ℕ, List, take, length, sym, ap, subst
 use Rattle.std.specs.Vec.{with_items}
 use Rattle.std.proofs.lemmas.List.{with_items_is}
 use Rattle.fl_base.specs.declared.fragment.Frag.{Frag}
-use Rattle.fl_check.specs.Interface.{interface_of}
+use Rattle.fl_interface.specs.Interface.{interface_of}
 use Rattle.fl_machine.specs.declared.recv.Stand.{Stand}
 use Rattle.fl_machine.specs.Receiving.{stored_of, receiving, parts_of, fed_of, IsRefused, IsStored}
 use Rattle.fl_machine.proofs.Storing.{Same, with_tape, stored_same, receiving_same}

@@ -1,5 +1,5 @@
 use Rattle.std.proofs.Common.{◌∙◌, sym, subst}
-use Rattle.fl_check.specs.Interface.{TheInterface}
+use Rattle.fl_interface.specs.Interface.{TheInterface}
 use Rattle.fl_value.specs.declared.value.PlanNo.{PlanNo}
 use Rattle.fl_machine.specs.Receiving.{HoldsTapes}
 use Rattle.fl_monitor.specs.Intermon.{intermon}

@@ -1,6 +1,6 @@
 use Rattle.std.proofs.Common.{refl}
 use Rattle.std.proofs.lemmas.Result.{on_ok_weaker}
-use Rattle.fl_check.specs.Interface.{interface_of}
+use Rattle.fl_interface.specs.Interface.{interface_of}
 use Rattle.fl_text.specs.Text.{stands_for, text_fault}
 use Rattle.fl_transcript.specs.Transcript.{block_effect}
 use Rattle.fl_transcript.proofs.script.Script.block.Goals as goal

@@ -1,8 +1,0 @@
-use Rattle.std.proofs.Common.{◌≡◌, map, drop}
-use Rattle.std.specs.List.{list_all}
-use Rattle.fl_check.specs.Interface.{arg_type_of}
-use Rattle.fl_check.specs.Counts.{argument_words_fit}
-use Rattle.fl_check.proofs.bounds.arguments_fit.Given as goal
-
-abbrev pub invariant-loop-ty : goal.invariant-loop-ty
-invariant-loop-ty l = list_all argument_words_fit (map arg_type_of (drop l.ty-index l.types)) ≡ list_all argument_words_fit (map arg_type_of l.types)

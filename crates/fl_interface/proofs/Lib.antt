@@ -1,0 +1,4 @@
+pub mod Sames
+pub mod SameTypes
+pub mod FieldSizes
+pub mod Aligned

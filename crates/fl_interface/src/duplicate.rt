@@ -1,0 +1,96 @@
+//! Copies of interfaces.
+
+ghost use Rattle.std.specs.Prelude.{◌≡◌, map, IfOk};
+ghost use Rattle.fl_interface.specs.Interface.{type_of, arg_type_of, message_of, interface_of};
+
+use crate::interface::{ArgType, FixedType, Interface, Message, Word};
+use std::alloc::{AllocError, Global};
+
+impl Interface {
+    /// An equal interface, in memory of its own.
+    ///
+    /// # Errors
+    /// Want of memory (E99).
+    pub fn duplicate(&self, alloc: Global) -> Result<Interface, AllocError>
+        ensures equal { IfOk result (λ copy. interface_of copy ≡ interface_of self.now) }
+    {
+        Ok(Interface {
+            name: duplicate_word(alloc, &self.name)?,
+            messages: duplicate_messages(alloc, &self.messages)?,
+        })
+    }
+}
+
+fn duplicate_word(alloc: Global, word: &Word) -> Result<Word, AllocError>
+    ensures equal { IfOk result (λ copy. copy.bytes.items ≡ word.now.bytes.items) }
+{
+    Ok(Word {
+        bytes: word.bytes.to_vec(alloc)?,
+    })
+}
+
+fn duplicate_messages(alloc: Global, messages: &[Message]) -> Result<Vec<Message>, AllocError>
+    ensures equal { IfOk result (λ copy. map message_of copy.items ≡ map message_of messages.now) }
+{
+    let mut copies = Vec::with_capacity(alloc, messages.len())?;
+    for message in messages {
+        copies.push(duplicate_message(alloc, message)?)?;
+    }
+    Ok(copies)
+}
+
+fn duplicate_message(alloc: Global, message: &Message) -> Result<Message, AllocError>
+    ensures equal { IfOk result (λ copy. message_of copy ≡ message_of message.now) }
+{
+    Ok(Message {
+        name: duplicate_word(alloc, &message.name)?,
+        args: duplicate_args(alloc, &message.args)?,
+    })
+}
+
+fn duplicate_args(alloc: Global, args: &[ArgType]) -> Result<Vec<ArgType>, AllocError>
+    ensures equal { IfOk result (λ copy. map arg_type_of copy.items ≡ map arg_type_of args.now) }
+{
+    let mut copies = Vec::with_capacity(alloc, args.len())?;
+    for arg in args {
+        copies.push(duplicate_arg(alloc, arg)?)?;
+    }
+    Ok(copies)
+}
+
+fn duplicate_arg(alloc: Global, arg: &ArgType) -> Result<ArgType, AllocError>
+    ensures equal { IfOk result (λ copy. arg_type_of copy ≡ arg_type_of arg.now) }
+{
+    match arg {
+        ArgType::Fixed(fixed) => Ok(ArgType::Fixed(duplicate_type(alloc, fixed)?)),
+        ArgType::Text(max) => Ok(ArgType::Text(*max)),
+        ArgType::Sized(max, element) => Ok(ArgType::Sized(*max, duplicate_type(alloc, element)?)),
+    }
+}
+
+/// An equal type, in memory of its own. Refuses for want of memory alone.
+#[cycle(duplicate)]
+pub fn duplicate_type(alloc: Global, fixed: &FixedType) -> Result<FixedType, AllocError>
+    ensures equal { IfOk result (λ copy. type_of copy ≡ type_of fixed.now) }
+{
+    match fixed {
+        FixedType::Scalar(scalar) => Ok(FixedType::Scalar(*scalar)),
+        FixedType::Enumeration(count) => Ok(FixedType::Enumeration(*count)),
+        FixedType::Structure(fields) => Ok(FixedType::Structure(duplicate_types(alloc, fields)?)),
+        FixedType::Array(count, element) => {
+            let copy = duplicate_type(alloc, element)?;
+            Ok(FixedType::Array(*count, Box::new(alloc, copy)?))
+        }
+    }
+}
+
+#[cycle(duplicate)]
+fn duplicate_types(alloc: Global, types: &[FixedType]) -> Result<Vec<FixedType>, AllocError>
+    ensures equal { IfOk result (λ copy. map type_of copy.items ≡ map type_of types.now) }
+{
+    let mut copies = Vec::with_capacity(alloc, types.len())?;
+    for fixed in types {
+        copies.push(duplicate_type(alloc, fixed)?)?;
+    }
+    Ok(copies)
+}

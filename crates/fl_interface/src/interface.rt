@@ -1,0 +1,73 @@
+//! An interface: its name, and for each message its name and its arguments' resolved types. Names of
+//! types, fields and arguments, and descriptions, are gone.
+
+ghost use Rattle.std.specs.Prelude.{◌≡◌, true, map};
+ghost use Rattle.fl_interface.specs.Types.{message_of};
+ghost use Rattle.fl_interface.specs.Limits.{is_within_limits};
+ghost use Rattle.fl_interface.specs.Counts.{messages_words_fit};
+
+/// A scalar type, by its name in the language.
+#[derive(Clone, Copy, Debug, PartialEq, Eq)]
+pub enum Scalar {
+    Uint8,
+    Int8,
+    Bool,
+    Char,
+    Uint16,
+    Int16,
+    Uint32,
+    Int32,
+    Iref,
+    Uint64,
+    Int64,
+    Uintptr,
+    Intptr,
+    Size,
+    Errval,
+}
+
+/// A type whose values all have one size.
+#[derive(Debug, Drop)]
+pub enum FixedType {
+    Scalar(Scalar),
+    /// An enum of so many enumerators; a value is an enumerator's place, from 0.
+    Enumeration(u32),
+    /// A struct of these fields, in order.
+    Structure(Vec<FixedType>),
+    /// A fixed array of so many elements.
+    Array(u32, Box<FixedType>),
+}
+
+/// The type of an argument: only here may a value's size vary.
+#[derive(Debug, Drop)]
+pub enum ArgType {
+    Fixed(FixedType),
+    /// A string of at most so many bytes.
+    Text(u32),
+    /// A sized array of at most so many elements.
+    Sized(u32, FixedType),
+}
+
+/// A name of the language: a letter or `_`, then letters, digits and `_`, at most 64 bytes.
+#[derive(Debug, Drop)]
+pub struct Word {
+    pub bytes: Vec<u8>,
+}
+
+/// A message: its name and its arguments' types, in declared order.
+#[derive(Debug, Drop)]
+pub struct Message {
+    pub name: Word,
+    pub args: Vec<ArgType>,
+}
+
+/// An interface: its name and its messages, by number. Each one is within the limits: at most 256 messages, no name of
+/// two of them, at most 32 arguments a message, no payload over 32,768 bytes, and each type as it may be declared. Each
+/// count of enumerators fits a word of 32 bits.
+#[derive(Debug, Drop)]
+pub struct Interface {
+    pub name: Word,
+    pub messages: Vec<Message>,
+    pub ghost within: { is_within_limits (record { name = name.bytes.items; messages = map message_of messages.items }) ≡ true },
+    pub ghost counted: { messages_words_fit (map message_of messages.items) ≡ true },
+}

@@ -1,0 +1,92 @@
+//! Sizes and alignments of types, in bytes: the one place where code asks for them. The next multiple of an alignment is std's
+//! `next_multiple_of`, which is `round_up` of the definitions.
+
+ghost use Rattle.std.specs.Prelude.{◌≡◌, ◌<◌, ◌≤◌, ◌^◌, map};
+ghost use Rattle.fl_interface.specs.Interface.{fields_from, type_of, structure};
+ghost use Rattle.fl_interface.specs.Sizes.{scalar_size, size_of, align_of, greatest_align};
+
+use crate::interface::{FixedType, Scalar};
+
+impl Scalar {
+    /// The bytes of a scalar, which are its alignment too.
+    pub fn size(self) -> u32
+        ensures exact { result ≡ scalar_size self }
+        ensures some { 0 < result }
+        ensures few { result ≤ 8 }
+    {
+        match self {
+            Scalar::Uint8 | Scalar::Int8 | Scalar::Bool | Scalar::Char => 1,
+            Scalar::Uint16 | Scalar::Int16 => 2,
+            Scalar::Uint32 | Scalar::Int32 | Scalar::Iref => 4,
+            Scalar::Uint64
+            | Scalar::Int64
+            | Scalar::Uintptr
+            | Scalar::Intptr
+            | Scalar::Size
+            | Scalar::Errval => 8,
+        }
+    }
+}
+
+impl FixedType {
+    /// The bytes of a value, a struct's padding counted. It goes over the whole type.
+    #[cycle(sizes)]
+    pub fn size(&self) -> u32
+        requires fits { size_of (type_of self.now) < 2 ^ 32 }
+        ensures exact { result ≡ size_of (type_of self.now) }
+    {
+        match self {
+            FixedType::Scalar(scalar) => scalar.size(),
+            FixedType::Enumeration(_) => 4,
+            FixedType::Structure(fields) => size_of_fields(fields),
+            FixedType::Array(count, element) => {
+                if *count == 0 {
+                    return 0;
+                }
+                count * element.size()
+            }
+        }
+    }
+
+    /// Where a value may begin, in bytes: 1, 2, 4 or 8. It goes over the whole type.
+    #[cycle(alignments)]
+    pub fn alignment(&self) -> u32
+        ensures exact { result ≡ align_of (type_of self.now) }
+        ensures some { 0 < result }
+        ensures few { result ≤ 8 }
+    {
+        match self {
+            FixedType::Scalar(scalar) => scalar.size(),
+            FixedType::Enumeration(_) => 4,
+            FixedType::Structure(fields) => greatest_alignment(fields),
+            FixedType::Array(_, element) => element.alignment(),
+        }
+    }
+}
+
+/// The greatest alignment of some fields, which is that of their struct; 1 of none.
+#[cycle(alignments)]
+pub fn greatest_alignment(fields: &[FixedType]) -> u32
+    ensures exact { result ≡ greatest_align (fields_from (map type_of fields.now)) }
+    ensures some { 0 < result }
+    ensures few { result ≤ 8 }
+{
+    let mut greatest = 1;
+    for field in fields {
+        greatest = field.alignment().max(greatest);
+    }
+    greatest
+}
+
+/// The bytes of the struct of these fields: each at its alignment, and the whole rounded up to the struct's.
+#[cycle(sizes)]
+fn size_of_fields(fields: &[FixedType]) -> u32
+    requires fits { size_of (structure (fields_from (map type_of fields.now))) < 2 ^ 32 }
+    ensures exact { result ≡ size_of (structure (fields_from (map type_of fields.now))) }
+{
+    let mut end: u32 = 0;
+    for field in fields {
+        end = end.next_multiple_of(field.alignment()) + field.size();
+    }
+    end.next_multiple_of(greatest_alignment(fields))
+}
