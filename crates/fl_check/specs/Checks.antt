@@ -1,13 +1,9 @@
 -- What a tree stands for, and which fault is answered where it stands for nothing.
-use Rattle.std.specs.Prelude.{◌≡◌, ◌≤◌, ℕ, ◌+◌, Bool, ◌&&◌, true, not, List, [], ◌∷◌, ◌++◌, All, Contains, map, length, nat_le, Option, Some, None}
+use Rattle.std.specs.Prelude.{◌≡◌, ◌≤◌, ℕ, List, [], ◌∷◌, ◌++◌, All, Contains, Option, Some, None}
 use Rattle.std.specs.Prelude.{option_map, min}
-use Rattle.fl_interface.specs.Types.{TheType, scalar, enumeration, structure, array, TheTypes, no_more, field, TheArgType, fixed, text, sized, TheMessage}
 use Rattle.fl_interface.specs.Types.{TheInterface}
-use Rattle.fl_interface.specs.Depth.{is_too_big}
 use Rattle.fl_check.specs.Known.{nothing_declared, after_all}
-use Rattle.fl_interface.specs.Limits.{is_among}
 use Rattle.fl_check.specs.Places.{Place, places_from}
-use Rattle.fl_interface.specs.Limits.{is_too_long}
 use Rattle.fl_parse.specs.Tree.{TheTree}
 
 -- all places of a tree, in the order in which they are looked at

@@ -2,9 +2,8 @@
 use Rattle.std.specs.Prelude.{ℕ, ◌+◌, Bool, true, false, ◌||◌, not, List, [], ◌∷◌, ◌++◌, map, length, take, Option, Some, None, is_some, nat_lt, nat_le, nat_eq}
 use Rattle.fl_interface.specs.Types.{TheType, enumeration, structure, fields_from, TheMessage}
 use Rattle.fl_interface.specs.Depth.{is_too_big}
-use Rattle.fl_interface.specs.Payload.{greatest_payload}
 use Rattle.fl_check.specs.Known.{is_string, is_capability, is_built_in, Named, Before, nothing_declared, type_named, stands_for, counted, field_type}
-use Rattle.fl_interface.specs.Limits.{is_among}
+use Rattle.fl_interface.specs.Limits.{is_among, is_too_long}
 use Rattle.fl_check.specs.Known.{messages_of, after, call_name, response_name}
 use Rattle.fl_parse.specs.Tree.{TheName, TheNumber, TheField, TheShape, plain, bounded, sized, TheArgument, TheDirected, TheDeclaration, alias_of}
 use Rattle.fl_parse.specs.Tree.{typedef_of, enum_of, struct_of, message_of, rpc_of}
