@@ -173,22 +173,23 @@ fn put(queue: &mut QueueLink, control: u64, words: [u64; 7]) -> Said {
 }
 
 // A call as it was read.
-fn say(end: &mut End, read: Result<Call, ValueFault>) -> Said {
+fn say(alloc: Global, end: &mut End, read: Result<Call, ValueFault>) -> Said {
     match read {
-        Ok(call) => said_of(end.call(&call)),
+        Ok(call) => said_of(end.call(&call, &mut Vec::new(alloc))),
         Err(_) => Said::Refused(90),
     }
 }
 
 fn call(alloc: Global, end: &mut End, text: &[u8]) -> Said {
     let read = read_call(alloc, text, end.program().interface());
-    say(end, read)
+    say(alloc, end, read)
 }
 
 // The same, read by the interface of another text.
 fn call_by(alloc: Global, end: &mut End, other: &[u8], text: &[u8]) -> Result<Said, AllocError> {
     let program = program(alloc, other, PlanNo::Two)?;
-    Ok(say(end, read_call(alloc, text, program.interface())))
+    let read = read_call(alloc, text, program.interface());
+    Ok(say(alloc, end, read))
 }
 
 // Adds the line of a call that an end handles.

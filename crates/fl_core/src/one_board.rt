@@ -32,6 +32,8 @@ pub struct Board {
     alloc: Global,
     pub(crate) dispatchers: Vec<Dispatcher>,
     pub(crate) seats: Vec<Seat>,
+    // memory that calls write their numbers to
+    spare: Vec<u64>,
 }
 
 impl Model for Board {
@@ -79,6 +81,7 @@ impl Board {
             alloc,
             dispatchers: Vec::new(alloc),
             seats: Vec::new(alloc),
+            spare: Vec::new(alloc),
         }
     }
 
@@ -222,7 +225,7 @@ impl Board {
         ensures kept { OnErr result (self.new ≡ self.old) }
     {
         let seat = &mut self.seats[e];
-        seat.end.call(call)
+        seat.end.call(call, &mut self.spare)
     }
 
     /// The fragment that [`Board::write`] would put next ([`End::show`]).

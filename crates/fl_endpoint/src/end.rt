@@ -174,17 +174,19 @@ impl End {
         self.parts.exchange_rules(&mut other.parts);
     }
 
-    /// Makes a call: it is accepted, and the end is busy until its last fragment is written.
+    /// Makes a call: it is accepted, and the end is busy until its last fragment is written. The numbers of its arguments are
+    /// written to `spare`, whatever stands there; a call of several fragments keeps that memory, and one of a single fragment
+    /// leaves it for the next call, of whichever end.
     ///
     /// # Errors
     /// In this order: the interface has no such message (E41), the arguments don't fit (E42), the end isn't bound yet
     /// (E43), it failed earlier (E64), a call is in transmission (E40); then out of memory (E99). The end is as it was
     /// then.
     #[inline]
-    pub fn call(&mut self, call: &Call) -> Result<(), EndFault>
+    pub fn call(&mut self, call: &Call, spare: &mut Vec<u64>) -> Result<(), EndFault>
         ensures calls { Calls self.old (call_of call.now) result self.new }
     {
-        self.parts.call(call)
+        self.parts.call(call, spare)
     }
 
     /// The fragment that [`End::write`] would put next, with the epoch and the number told that the side would give it;

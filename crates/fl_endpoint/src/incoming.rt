@@ -75,7 +75,7 @@ impl Incoming {
             return Ok(None);
         };
         call.msg = reply;
-        let queued = Queued::of(self.alloc, self.recv.program(), call);
+        let queued = Queued::of(Vec::new(self.alloc), self.recv.program(), call);
         call.msg = msg;
         match queued {
             Ok(queued) => Ok(Some(queued)),

@@ -14,7 +14,7 @@ ghost use Rattle.fl_endpoint.specs.Stored.{IsSending, IsInTransmission, IsOutgoi
 use fl_base::{Circuit, Frag, MsgNo};
 use fl_compile::Program;
 use fl_machine::{SendRun, first_frag, sends_fragments};
-use fl_value::{Call, flatten};
+use fl_value::{Call, flatten_into};
 use std::alloc::{AllocError, Global};
 use std::collections::VecDeque;
 
@@ -48,13 +48,14 @@ pub(crate) struct Outgoing {
 }
 
 impl Queued {
-    // A fitting call as it is queued.
-    pub(crate) fn of(alloc: Global, program: &Program, call: &Call) -> Result<Queued, AllocError>
+    // A fitting call as it is queued, its tape in memory that was used before.
+    pub(crate) fn of(tape: Vec<u64>, program: &Program, call: &Call) -> Result<Queued, AllocError>
         requires { fits_of (program_of program.now).interface (call_of call.now) ≡ true }
         ensures queues { IfOk result (λ queued. Queues (program_of program.now) (call_of call.now) queued) }
     {
         sends_fragments();
-        let tape = flatten(alloc, call, program.interface(), program.plan())?;
+        let mut tape = tape;
+        flatten_into(&mut tape, call, program.interface(), program.plan())?;
         Ok(Queued {
             msg: call.msg,
             tape,
@@ -136,13 +137,13 @@ impl Outgoing {
 
     // Puts a call of one fragment in transmission.
     #[inline(always)]
-    fn start_one(&mut self, program: &Program, circuit: Circuit, call: Queued)
-        requires queued { IsQueued (program_of program.now) call }
-        requires one { call.count ≡ 1 }
+    fn start_one(&mut self, program: &Program, circuit: Circuit, call: &Queued)
+        requires queued { IsQueued (program_of program.now) call.now }
+        requires one { call.now.count ≡ 1 }
         requires idle { self.old.run ≡ None }
         ensures now { (waiting : List Queued) → IsInTransmission (program_of program.now) self.new.sending self.new.run waiting }
-        ensures frags { sending_frags (program_of program.now) self.new.sending self.new.run ≡ queued_frags (program_of program.now) circuit.0 call }
-        ensures count { count_in self.new.sending ≡ length (queued_frags (program_of program.now) circuit.0 call) }
+        ensures frags { sending_frags (program_of program.now) self.new.sending self.new.run ≡ queued_frags (program_of program.now) circuit.0 call.now }
+        ensures count { count_in self.new.sending ≡ length (queued_frags (program_of program.now) circuit.0 call.now) }
         ensures waiting { self.new.waiting ≡ self.old.waiting }
     {
         // Both have 16 bits, which the proof knows once they are read.
@@ -186,9 +187,9 @@ impl Outgoing {
         self.run = Some(run);
     }
 
-    // Puts a call in transmission, of which nothing is written.
+    // Puts a call in transmission, of which nothing is written. A call of one fragment gives back its tape.
     #[inline(always)]
-    fn start(&mut self, program: &Program, circuit: Circuit, call: Queued)
+    fn start(&mut self, program: &Program, circuit: Circuit, call: Queued) -> Option<Vec<u64>>
         requires queued { IsQueued (program_of program.now) call }
         requires idle { self.old.run ≡ None }
         ensures now { (waiting : List Queued) → IsInTransmission (program_of program.now) self.new.sending self.new.run waiting }
@@ -197,14 +198,20 @@ impl Outgoing {
         ensures waiting { self.new.waiting ≡ self.old.waiting }
     {
         if call.count == 1 {
-            self.start_one(program, circuit, call);
-        } else {
-            self.start_run(program, circuit, call);
+            self.start_one(program, circuit, &call);
+            return Some(call.tape);
         }
+        self.start_run(program, circuit, call);
+        None
     }
 
-    // One call more to be sent. Takes no memory.
-    pub(crate) fn queue(&mut self, program: &Program, circuit: Circuit, call: Queued)
+    // One call more to be sent. One that is of one fragment, and in transmission now, gives back its tape. Takes no memory.
+    pub(crate) fn queue(
+        &mut self,
+        program: &Program,
+        circuit: Circuit,
+        call: Queued,
+    ) -> Option<Vec<u64>>
         requires outgoing { IsOutgoing (program_of program.now) self.old }
         requires call { IsQueued (program_of program.now) call }
         requires room { length self.old.waiting.items < 16 }
@@ -214,9 +221,9 @@ impl Outgoing {
     {
         if self.sending.is_some() {
             self.waiting.push_back(call).unwrap();
-        } else {
-            self.start(program, circuit, call);
+            return None;
         }
+        self.start(program, circuit, call)
     }
 
     // The reply, if there is one. Takes no memory.
@@ -229,7 +236,7 @@ impl Outgoing {
             ≡ queued_if (outgoing_of (program_of program.now) circuit.0 self.old) (option_map (queued_frags (program_of program.now) circuit.0) reply) }
     {
         if let Some(call) = reply {
-            self.queue(program, circuit, call);
+            let _tape = self.queue(program, circuit, call);
         }
     }
 
@@ -245,7 +252,7 @@ impl Outgoing {
     {
         self.sending = None;
         if let Some(call) = self.waiting.pop_front() {
-            self.start(program, circuit, call);
+            let _tape = self.start(program, circuit, call);
         }
     }
 

@@ -210,7 +210,7 @@ impl Parts {
         Ok(circuit)
     }
 
-    pub(crate) fn call(&mut self, call: &Call) -> Result<(), EndFault>
+    pub(crate) fn call(&mut self, call: &Call, spare: &mut Vec<u64>) -> Result<(), EndFault>
         ensures calls { Calls self.old (call_of call.now) result self.new }
     {
         let circuit = match self.admit(call) {
@@ -219,10 +219,13 @@ impl Parts {
         };
         let incoming = &self.incoming;
         let program = incoming.recv.program();
-        let Ok(queued) = Queued::of(incoming.alloc, program, call) else {
+        let tape = mem::replace(spare, Vec::new(incoming.alloc));
+        let Ok(queued) = Queued::of(tape, program, call) else {
             return Err(EndFault::Memory);
         };
-        self.outgoing.queue(program, circuit, queued);
+        if let Some(tape) = self.outgoing.queue(program, circuit, queued) {
+            *spare = tape;
+        }
         Ok(())
     }
 

@@ -65,13 +65,13 @@ fn call_in(core: &mut Core, place: usize, call: &Call) -> Result<Answer, AllocEr
 }
 
 // The end that a binding keeps makes a call.
-fn call_kept(binding: &mut Binding, call: &Call) -> Result<Answer, AllocError>
+fn call_kept(binding: &mut Binding, call: &Call, spare: &mut Vec<u64>) -> Result<Answer, AllocError>
     ensures calls { IfOk result (λ a. KeptOrNone (CallsWith (call_of call.now) (answer_of a)) (answer_of a) binding.old binding.new) }
     ensures kept { OnErr result (binding.new ≡ binding.old) }
 {
     match &mut binding.unmade {
         None => Ok(Answer::Refused(92)),
-        Some(end) => called(end.call(call)),
+        Some(end) => called(end.call(call, spare)),
     }
 }
 
@@ -107,8 +107,9 @@ impl World {
         ensures calls { IfOk result (λ a. AtUnmadeOrNone self.old n (CallsWith (call_of call.now) (answer_of a)) (answer_of a) self.new) }
         ensures kept { OnErr result (self.new ≡ self.old) }
     {
+        let mut spare = Vec::new(self.alloc);
         let binding = &mut self.bindings[n];
-        call_kept(binding, call)
+        call_kept(binding, call, &mut spare)
     }
 }
 

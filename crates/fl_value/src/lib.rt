@@ -35,6 +35,6 @@ pub use fitting::{fits, has_type};
 pub use law::{one_call_of_a_tape, one_reading, printed_call_read, printed_reads, rank_by_rank};
 pub use order::RANKS;
 pub use printing::print_call;
-pub use tape::flatten;
+pub use tape::{flatten, flatten_into};
 pub use untape::unflatten;
 pub use value::{Call, PlanNo, Value};

@@ -195,6 +195,27 @@ fn push_arguments(
     push_ranks(tape, arguments, values)
 }
 
+/// The tape of a call, in the memory of what stood there before.
+///
+/// # Errors
+///
+/// Where memory runs out: nothing is known of what stands there then.
+pub fn flatten_into(
+    tape: &mut Vec<u64>,
+    call: &Call,
+    interface: &Interface,
+    plan: PlanNo,
+) -> Result<(), AllocError>
+    ensures tape { OnOk result (tape.new.items ≡ tape_of plan (interface_of interface.now) (call_of call.now)) }
+{
+    tape.clear();
+    if let Some(message) = interface.messages.get(usize::from(call.msg.0)) {
+        tape.reserve(message.args.len())?;
+        push_arguments(tape, plan, &message.args, &call.args)?;
+    }
+    Ok(())
+}
+
 /// The tape of a call.
 ///
 /// # Errors
@@ -209,9 +230,6 @@ pub fn flatten(
     ensures tape { IfOk result (λ v. v.items ≡ tape_of plan (interface_of interface.now) (call_of call.now)) }
 {
     let mut tape = Vec::new(alloc);
-    if let Some(message) = interface.messages.get(usize::from(call.msg.0)) {
-        tape.reserve(message.args.len())?;
-        push_arguments(&mut tape, plan, &message.args, &call.args)?;
-    }
+    flatten_into(&mut tape, call, interface, plan)?;
     Ok(tape)
 }
