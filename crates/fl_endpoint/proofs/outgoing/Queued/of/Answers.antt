@@ -17,6 +17,6 @@ returns c =
     let same : i ≡ p.interface = c.interface.ensures.interface in
     let within : is_within_limits p.interface ≡ true = subst (λ (j : TheInterface). is_within_limits j ≡ true) same c.interface.result.now.within in
     let words : interface_words_fit p.interface ≡ true = subst (λ (j : TheInterface). interface_words_fit j ≡ true) same c.interface.ensures.words in
-    let tape : c.in_ok-tape.tape.items ≡ tape_of p.plan p.interface d = search rules in
+    let tape : c.flatten_into.new.tape.items ≡ tape_of p.plan p.interface d = search rules in
     let counted : c.fragments_of.result ≡ count p.plan p.interface d = search rules in
-    record { queues = queues p d (record { msg = c.args.call.now.msg; tape = c.in_ok-tape.tape; count = c.fragments_of.result }) c.sends_fragments.ensures.sends within words c.requires refl tape counted }
+    record { queues = queues p d (record { msg = c.args.call.now.msg; tape = c.flatten_into.new.tape; count = c.fragments_of.result }) c.sends_fragments.ensures.sends within words c.requires refl tape counted }
