@@ -50,7 +50,7 @@ board_inside end = recorded_send (BoardInside.the_field).row _ _ (BoardInside.th
         search (sendable, crosses, dispatcher.the_send) depth 40,
         (
           search (sendable, crosses, seat_sends end) depth 40,
-          tt,
+          (search (sendable, crosses) depth 40, tt),
         ),
       ),
     ))

@@ -21,7 +21,7 @@ use Rattle.fl_threads.specs.Dealing.{Dealing, Wires, RingsHold}
 use Rattle.fl_threads.specs.Stations.{AllReady, StationRan, station_of, outcome_of}
 use Rattle.fl_threads.proofs.Each.{each_ran, begin_sound, left_sound, as_many as as_many_stations}
 use Rattle.fl_threads.specs.Begins.{TheStation, Places, common_in}
-use Rattle.fl_threads.specs.Tells.{TheOutcome, RanTo, Each2, seats_left, HeardAsTold, Tells, turns_in, left_off, was_told, is_unfinished}
+use Rattle.fl_threads.specs.Tells.{TheOutcome, RanTo, Each2, seats_left, HeardAsTold, Tells, turns_in, left_off, is_unfinished}
 use Rattle.fl_threads.specs.Ran.{Keeps, CoresRan}
 
 -- ---- one core

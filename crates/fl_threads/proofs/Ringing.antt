@@ -1,5 +1,5 @@
 -- The sides of rings, from the first moment of a run to its last.
-use Rattle.std.proofs.Common.{◌≡◌, refl, sym, ap, ◌∙◌, subst, arith, ℕ, zero, suc, List, [], ◌∷◌, ◌++◌, length, slice_get, Some}
+use Rattle.std.proofs.Common.{◌≡◌, refl, sym, ap, ◌∙◌, subst, arith, ℕ, zero, suc, List, [], ◌∷◌, ◌++◌, length, Some}
 use Rattle.std.proofs.lemmas.List.{length-set}
 use Rattle.fl_hop.specs.declared.forward.Outcome.TheVariants.{Moved, Full, Spent}
 use Rattle.fl_link.specs.Queue.{TheQueue}
@@ -16,8 +16,8 @@ use Rattle.fl_running.specs.Deeds.{Deed, looked, passed, arrived, heard, said, t
 use Rattle.fl_running.specs.Logs.{Goes, TurnsAreLogged, SidesGo, LogsLook}
 use Rattle.fl_running.specs.Ran.{Task, task, GoesOn, CountedAreTurns}
 use Rattle.fl_running.proofs.Aside.{rings_aside}
-use Rattle.fl_deal.specs.Dealt.{AreDealt, AreNew}
-use Rattle.fl_deal.specs.Settled.{WentOn, AllWentOn, HandsWentOn, Pair, sides_of, Each, IsRing, HoldRings, DealtGoOn, RingsStay}
+use Rattle.fl_deal.specs.Dealt.{AreDealt}
+use Rattle.fl_deal.specs.Settled.{WentOn, AllWentOn, HandsWentOn, Pair, sides_of, Each, IsRing, DealtGoOn, RingsStay}
 use Rattle.fl_threads.specs.Begins.{TheStation}
 use Rattle.fl_threads.specs.Tells.{TheOutcome, shared_ways, RanTo, Each2}
 use Rattle.fl_threads.specs.Shares.{AreNewRings, sides_given, sides_left}

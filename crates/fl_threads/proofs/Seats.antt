@@ -1,9 +1,8 @@
 -- Seats of cores cut off everybody's, one by one.
-use Rattle.std.proofs.Common.{◌≡◌, refl, sym, ap, ◌∙◌, subst, ℕ, zero, suc, ◌+◌, ◌-◌, ◌<◌, ◌≤◌, List, [], ◌∷◌, length, arith}
+use Rattle.std.proofs.Common.{◌≡◌, refl, sym, ap, ◌∙◌, subst, ℕ, suc, ◌+◌, ◌-◌, ◌<◌, List, ◌∷◌, length, arith}
 use Rattle.std.specs.List.{range_with_len}
 use Rattle.fl_tally.specs.declared.board.View.{View}
 use Rattle.fl_tally.specs.Tally.{opening_view, without_core, core_alone, first_core, other_cores}
-use Rattle.fl_tally.specs.Seats.{TheSeat, knowing}
 use Rattle.fl_threads.specs.Begins.{IsAlone}
 use Rattle.fl_threads.specs.Stations.{left_view}
 

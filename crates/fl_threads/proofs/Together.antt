@@ -1,10 +1,10 @@
 -- Seats put in one, and what that finds in the words of jobs.
 use Rattle.std.proofs.Common.{◌≡◌, refl, sym, ap, ◌∙◌, subst, arith, ℕ, suc, ◌+◌, ◌-◌, ◌<◌, List, [], ◌∷◌, ◌++◌, map, length}
 use borrow.Author.Count.{below_more}
-use Rattle.std.proofs.lemmas.List.{append-nil, append_assoc, map-append}
+use Rattle.std.proofs.lemmas.List.{append-nil, append_assoc}
 use Rattle.fl_tally.specs.declared.board.View.{View}
 use Rattle.fl_tally.specs.declared.board.Refusal.{Refusal}
-use Rattle.fl_tally.specs.Tally.{Agrees, number_of, both, core_alone, with_heard, with_finish}
+use Rattle.fl_tally.specs.Tally.{Agrees, number_of, both, core_alone, with_heard}
 use Rattle.fl_tally.specs.Seats.{TheSeat, knowing}
 use Rattle.fl_running.specs.declared.job.Job.{Job}
 use Rattle.fl_running.specs.declared.run.End.{End}

@@ -1,16 +1,16 @@
 -- The words of a core's ends may be used by its seat, and no two tell of one job.
-use Rattle.std.proofs.Common.{◌≡◌, refl, sym, ap, ◌∙◌, subst, ℕ, zero, suc, ◌+◌, ◌<◌, ◌==◌, Bool, true, false, if◌then◌else◌}
+use Rattle.std.proofs.Common.{◌≡◌, refl, sym, ap, ◌∙◌, subst, ℕ, zero, suc, ◌<◌, ◌==◌, Bool, true, false, if◌then◌else◌}
 use Rattle.std.proofs.Common.{List, [], ◌∷◌, ◌++◌, length, slice_get, Option, Some, None, arith, rules, inl, inr, ◌⊎◌}
 use Rattle.std.specs.List.{slice_index}
 use Rattle.std.proofs.lemmas.Option.{slice_get_within, get_or_from_slice_get}
 use Rattle.fl_tally.specs.declared.board.View.{View}
 use Rattle.fl_tally.specs.Tally.{MayTell, times, times_told}
 use Rattle.fl_running.specs.declared.word.Word.{Word}
-use Rattle.fl_running.specs.declared.word.Word.TheVariants.{Silent, Tells, Hears}
+use Rattle.fl_running.specs.declared.word.Word.TheVariants.{Tells, Hears}
 use Rattle.fl_running.specs.Words.{MayUse, AreWords}
 use Rattle.fl_dockets.specs.declared.docket.Bound.{Bound}
 use Rattle.fl_dockets.specs.Joined.{AreBindings}
-use Rattle.fl_threads.specs.Begins.{word_by, words_at, words_of, IsAlone}
+use Rattle.fl_threads.specs.Begins.{word_by, words_of, IsAlone}
 
 some_is : {X : Type 0} (x y : X) → Some x ≡ Some y → x ≡ y
 some_is x y e = cc

@@ -1,12 +1,12 @@
 -- With what each core of a run begins: what a set-up made, and the jobs joined to it.
-use Rattle.std.specs.Prelude.{ℕ, ◌≡◌, ◌==◌, suc, Bool, true, false, if◌then◌else◌, List, [], ◌∷◌, ◌++◌, map, length, slice_get, Option, Some, None}
+use Rattle.std.specs.Prelude.{ℕ, ◌≡◌, ◌==◌, suc, Bool, false, if◌then◌else◌, List, [], ◌∷◌, ◌++◌, map, length, slice_get, Option, Some, None}
 use Rattle.std.specs.List.{flat_map, range_with_len}
 use Rattle.fl_base.specs.declared.identity.EndId.{EndId}
 use Rattle.fl_compile.specs.Programs.{program_of}
 use Rattle.fl_ring.specs.SharedSides.{TheSide}
 use Rattle.fl_queues.specs.Given.{given}
 use Rattle.fl_tally.specs.declared.board.View.{View}
-use Rattle.fl_node.specs.View.{TheCore, client_of, server_of, slot_of}
+use Rattle.fl_node.specs.View.{TheCore, client_of, server_of}
 use Rattle.fl_node.specs.Numbers.{renumbered}
 use Rattle.fl_node.specs.Hearing.{Offers}
 use Rattle.fl_worlds.specs.declared.parts.Parts.{Parts}

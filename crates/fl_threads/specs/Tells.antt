@@ -12,7 +12,7 @@ use Rattle.fl_queues.specs.Given.{given}
 use Rattle.fl_node.specs.View.{client_of, server_of, slot_of}
 use Rattle.fl_running.specs.declared.job.Job.{Job}
 use Rattle.fl_running.specs.declared.run.End.{End}
-use Rattle.fl_running.specs.declared.run.End.TheVariants.{Finished, Unfinished, Told}
+use Rattle.fl_running.specs.declared.run.End.TheVariants.{Unfinished, Told}
 use Rattle.fl_running.specs.declared.run.Part.{Part}
 use Rattle.fl_running.specs.Desks.{TheDesk}
 use Rattle.fl_running.specs.Made.{calls_of_jobs}

@@ -7,14 +7,11 @@ ghost use Rattle.fl_deal.specs.Dealt.{Deals};
 
 use fl_base::LinkId;
 use fl_deal::Dealt;
-use fl_hop::never_shared;
+use fl_hop::{MAX_LINKS, never_shared};
 use fl_link::QueueLink;
 use fl_node::{Core, Inlet, Outlet};
 use fl_ring::{OneDuo, SharedSide};
 use std::alloc::{AllocError, Global};
-
-// A core has no more links than this.
-const MAX_LINKS: u16 = 15;
 
 // ---- owners
 
@@ -40,7 +37,7 @@ fn own_link(owners: &mut Vec<usize>, k: usize, core: &Core, link: LinkId)
 fn own_links(owners: &mut Vec<usize>, k: usize, core: &Core)
     ensures owns { Owns (Below (IsLinkSide core.now.lanes) 15) k owners.old.items owners.new.items }
 {
-    for number in 0..MAX_LINKS {
+    for number in 0..MAX_LINKS as u16 {
         own_link(owners, k, core, LinkId(number));
     }
 }

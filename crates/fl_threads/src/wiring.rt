@@ -18,6 +18,7 @@ use crate::sharing::{Owners, deal_queues, deal_sides};
 use fl_base::{EndId, LinkId, Side};
 use fl_compile::Program;
 use fl_dockets::{Bound, Joined, slot_of};
+use fl_hop::MAX_LINKS;
 use fl_link::QueueLink;
 use fl_nameserv::Names;
 use fl_node::Core;
@@ -26,9 +27,6 @@ use fl_running::{Desk, Plan, Running, Ticket, Word};
 use fl_tally::EndSeat;
 use fl_worlds::Parts;
 use std::alloc::{AllocError, Global};
-
-// A core has no more links than this.
-const MAX_LINKS: u16 = 15;
 
 /// A core with all that its thread needs.
 #[derive(Drop)]
@@ -160,7 +158,7 @@ fn ends_of(
 // The links of a core.
 fn links_of(alloc: Global, core: &Core) -> Result<Vec<LinkId>, AllocError> {
     let mut links = Vec::new(alloc);
-    for number in 0..MAX_LINKS {
+    for number in 0..MAX_LINKS as u16 {
         if core.side(LinkId(number)).is_some() {
             links.push(LinkId(number))?;
         }

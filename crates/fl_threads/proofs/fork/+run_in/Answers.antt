@@ -1,4 +1,4 @@
-use Rattle.std.proofs.Common.{Result, Vec, Global, List, rules, ◌≡◌, ◌<◌, subst, sym, IfOk, ◌++◌, ◌∷◌, []}
+use Rattle.std.proofs.Common.{Result, Vec, Global, List, subst, sym, IfOk}
 use Rattle.fl_threads.specs.declared.fork.Done.{Done}
 use Rattle.fl_threads.specs.declared.wiring.Station.{Station}
 use Rattle.fl_threads.specs.declared.fault.Stop.{Stop}

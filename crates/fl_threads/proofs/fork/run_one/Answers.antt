@@ -1,4 +1,4 @@
-use Rattle.std.proofs.Common.{◌≡◌, subst}
+use Rattle.std.proofs.Common.{subst}
 use Rattle.fl_ring.specs.declared.shared.duo_sides.SharedSide.{SharedSide}
 use Rattle.fl_running.specs.declared.running.Running.{Running}
 use Rattle.fl_running.specs.Run.{run_of}

@@ -1,4 +1,4 @@
-use Rattle.std.proofs.Common.{◌≡◌, ◌+◌, ◌∙◌, ap, sym, refl, length, ◌++◌, ◌∷◌, [], get_or}
+use Rattle.std.proofs.Common.{◌+◌, ◌∙◌, ap, sym, refl, ◌∷◌, [], get_or}
 use Rattle.std.proofs.lemmas.List.{length-append}
 use Rattle.std.specs.Vec.Iter.{into_iter_items}
 use Rattle.fl_threads.proofs.Handing.{one_queue_more, left_more, owned_yet}

@@ -1,4 +1,4 @@
-use Rattle.std.proofs.Common.{◌≡◌, ◌+◌, ◌<◌, ◌*◌, refl, length, arith, get_or}
+use Rattle.std.proofs.Common.{◌+◌, ◌<◌, refl, length, arith, get_or}
 use Rattle.fl_threads.proofs.Handing.{one_ring_more}
 use Rattle.fl_threads.proofs.sharing.deal_sides.Goals as goal
 

@@ -1,7 +1,6 @@
-use Rattle.std.proofs.Common.{◌≡◌, ◌*◌, ◌∙◌, sym, ap, arith, Some, slice_get, length}
-use Rattle.std.proofs.lemmas.Option.{slice_get-get_or}
+use Rattle.std.proofs.Common.{◌*◌, arith}
 use Rattle.fl_threads.specs.Shares.{NamesSide, NamesQueue}
-use Rattle.fl_threads.proofs.Owning.{no_core_yet, one_core_more, all_cores, core_at}
+use Rattle.fl_threads.proofs.Owning.{one_core_more, all_cores, core_at}
 use Rattle.fl_threads.proofs.sharing.Owners.named.Goals as goal
 
 pub loop-k-preserved : goal.loop-k-preserved

@@ -1,4 +1,4 @@
-use Rattle.std.proofs.Common.{◌≡◌, ◌<◌, ◌∙◌, ◌++◌, ◌∷◌, [], ℕ, length, refl, sym, subst, ap, rules}
+use Rattle.std.proofs.Common.{◌≡◌, ◌<◌, ◌∙◌, ℕ, length, refl, sym, subst, ap, rules}
 use Rattle.fl_tally.specs.Seats.{TheSeat}
 use Rattle.fl_threads.specs.Begins.{IsStation}
 use Rattle.fl_threads.specs.Stations.{station_of, common_of}

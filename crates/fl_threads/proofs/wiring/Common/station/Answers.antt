@@ -1,7 +1,6 @@
-use Rattle.std.proofs.Common.{◌≡◌, sym, ap, ◌∙◌, subst, List, rules}
+use Rattle.std.proofs.Common.{sym, subst, List, rules}
 use Rattle.fl_running.specs.declared.word.Word.{Word}
 use Rattle.fl_running.specs.Words.{AreWords}
-use Rattle.fl_threads.specs.Begins.{words_of}
 use Rattle.fl_threads.proofs.Each.{core_moved}
 use Rattle.fl_threads.proofs.Seats.{may_finish, may_stop}
 use Rattle.fl_threads.proofs.Wording.{words_are}
