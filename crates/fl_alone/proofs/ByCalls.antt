@@ -26,8 +26,7 @@ use Rattle.fl_laws.proofs.SoundSteps.{steps_are_sound}
 use Rattle.fl_worlds.proofs.FramesBase.{not_both}
 use Rattle.fl_running.specs.declared.job.Job.{Job}
 use Rattle.fl_running.specs.declared.job.Job.TheVariants as job
-use Rattle.fl_running.specs.Logs.{calls_of_job}
-use Rattle.fl_running.specs.Made.{calls_of_jobs}
+use Rattle.fl_running.specs.Jobs.{calls_of_job, calls_of_jobs}
 use Rattle.fl_alone.specs.Turns.{Desk, Alone, at_desk, advanced, with_handled as desk_handled, next_job, goes, is_there, call_noted, calls as desk_calls, tries}
 use Rattle.fl_alone.specs.Turns.{serves as desk_serves, here, end_due, due_at, is_before_calls, turn_noted, turns_at, takes_turn, Work, swept}
 use Rattle.fl_alone.specs.Turns.{serves_at as desk_serves_at, one_turn as desk_turn, turned as desk_turned, is_still, is_clear as desk_is_clear}

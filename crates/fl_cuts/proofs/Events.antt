@@ -50,7 +50,7 @@ use Rattle.fl_cuts.specs.Cut.{Each2, QueueCut, Cut, ShowsQueue, UsesQueue, IsUse
 use Rattle.fl_cuts.specs.Events.{QueuePlaces, Giving, ring_gives, queue_gives, Turns, Acks, triggers_end, woken_by, end_due, HasTurn}
 use Rattle.fl_cuts.specs.Does.{CutActs}
 use Rattle.fl_cuts.specs.Laws.{HasNoLinks}
-use Rattle.fl_running.proofs.Laning.{port_out, port_in}
+use Rattle.fl_logs.proofs.Laning.{port_out, port_in}
 use Rattle.fl_cuts.proofs.Lists.{there, set_both, set_used}
 use Rattle.fl_cuts.proofs.Sides.{put_agrees, look_agrees, takes_one, takes_ack}
 use Rattle.fl_cuts.proofs.Ends.{PutLaw, call_shows, rule_shows, write_shows, unbound_now}

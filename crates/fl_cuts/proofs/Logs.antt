@@ -23,10 +23,10 @@ use Rattle.fl_running.specs.declared.plan.Plan.{Plan}
 use Rattle.fl_running.specs.Run.{TheRun, side_in, lent_lane}
 use Rattle.fl_running.specs.Deeds.{Deed, looked, passed, arrived, heard, said, told, opened, called, ruled, wrote, acked, turned, Happens}
 use Rattle.fl_running.specs.Turn.{Turned}
-use Rattle.fl_running.specs.Logs.{InPlace, Goes}
-use Rattle.fl_running.proofs.Aside.{desks_alone}
-use Rattle.fl_running.proofs.Laning.{puts_to, takes_from, some_is}
-use Rattle.fl_running.proofs.Logging.{turns_logged}
+use Rattle.fl_logs.specs.Logs.{InPlace, Goes}
+use Rattle.fl_logs.proofs.Aside.{desks_alone}
+use Rattle.fl_logs.proofs.Laning.{puts_to, takes_from, some_is}
+use Rattle.fl_logs.proofs.Logging.{turns_logged}
 use Rattle.fl_queues.specs.Monitors.{Service}
 use Rattle.fl_shows.specs.CoreLaws.{OutboxesAreShown, RoomsAgree, OpensAgree, HearsAgree}
 use Rattle.fl_shows.specs.EndLaws.{TakeShows}

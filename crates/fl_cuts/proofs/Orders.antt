@@ -42,11 +42,11 @@ use Rattle.fl_node.specs.declared.wire.Wire.{Wire}
 use Rattle.fl_node.specs.declared.wire.Wire.TheVariants.{Queues, Ring as OverRing, Circuit as ByCircuit}
 use Rattle.fl_node.specs.Hearing.{may_offer, has_place, has_end, here_for, known_for}
 use Rattle.fl_node.specs.View.{arrivals_by}
-use Rattle.fl_running.proofs.Leading.{end_binding}
-use Rattle.fl_running.proofs.Tables.{leads_at}
 use Rattle.fl_running.specs.Deeds.{IsSound}
-use Rattle.fl_running.specs.Led.{IsSettled, IsLed}
 use Rattle.fl_running.specs.Run.{TheRun}
+use Rattle.fl_logs.proofs.Leading.{end_binding}
+use Rattle.fl_logs.proofs.Tables.{leads_at}
+use Rattle.fl_logs.specs.Led.{IsSettled, IsLed}
 use Rattle.fl_ring.specs.SharedSides.{TheSide}
 use Rattle.fl_queues.specs.Given.{given}
 use Rattle.fl_queues.specs.Rings.{Opening, Said, open_circuit}

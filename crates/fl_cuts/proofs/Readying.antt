@@ -31,15 +31,15 @@ use Rattle.fl_node.specs.View.{TheCore, with_monitor}
 use Rattle.fl_running.specs.declared.job.Job.{Job}
 use Rattle.fl_running.specs.declared.plan.Plan.{Plan}
 use Rattle.fl_running.specs.Deeds.{Deed, looked, passed, arrived, heard, said, told, opened, called, ruled, wrote, acked, turned, OnRing, Does, Happens, IsSound}
-use Rattle.fl_running.specs.Flows.{IsApart}
-use Rattle.fl_running.specs.Logs.{InPlace, Goes}
 use Rattle.fl_running.specs.Run.{Ways, TheRun}
 use Rattle.fl_running.specs.Turn.{Turned}
-use Rattle.fl_running.proofs.Apart.{stays_apart}
-use Rattle.fl_running.proofs.Aside.{desks_alone}
-use Rattle.fl_running.proofs.Flowing.{flows}
-use Rattle.fl_running.proofs.Growing.{does_grow}
-use Rattle.fl_running.proofs.Logging.{turns_logged}
+use Rattle.fl_logs.specs.Flows.{IsApart}
+use Rattle.fl_logs.specs.Logs.{InPlace, Goes}
+use Rattle.fl_logs.proofs.Apart.{stays_apart}
+use Rattle.fl_logs.proofs.Aside.{desks_alone}
+use Rattle.fl_logs.proofs.Flowing.{flows}
+use Rattle.fl_logs.proofs.Growing.{does_grow}
+use Rattle.fl_logs.proofs.Logging.{turns_logged}
 use Rattle.fl_queues.specs.Given.{given}
 use Rattle.fl_queues.specs.Rings.{Opening, Said, says, open_circuit, circuit_refused}
 use Rattle.fl_queues.specs.Monitors.{Service, Fate, fate, arrival, passage, goes_on, hears, fails, next_on, can_say, with_said, with_circuits, Hearing, hears_opening, no_outbox, opening_failed}

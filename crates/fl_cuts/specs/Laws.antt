@@ -8,7 +8,7 @@ use Rattle.fl_running.specs.declared.plan.Plan.{Plan}
 use Rattle.fl_running.specs.Run.{Ways, ways, TheRun}
 use Rattle.fl_running.specs.Deeds.{Deed, Happens}
 use Rattle.fl_running.specs.Turn.{Turned}
-use Rattle.fl_running.specs.Logs.{InPlace, Goes}
+use Rattle.fl_logs.specs.Logs.{InPlace, Goes}
 use Rattle.fl_queues.specs.Monitors.{Service}
 use Rattle.fl_cuts.specs.Cut.{Cut, ShowsCut}
 use Rattle.fl_cuts.specs.Does.{CutDoes, InOrder, CutGoes, HearNothing}

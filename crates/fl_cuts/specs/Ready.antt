@@ -10,11 +10,11 @@ use Rattle.fl_ring.specs.SharedSides.{TheSide}
 use Rattle.fl_running.specs.declared.job.Job.{Job}
 use Rattle.fl_running.specs.declared.plan.Plan.{Plan}
 use Rattle.fl_running.specs.Deeds.{Deed, heard}
-use Rattle.fl_running.specs.Flows.{IsApart}
-use Rattle.fl_running.specs.Led.{IsLed}
-use Rattle.fl_running.specs.Logs.{Goes}
 use Rattle.fl_running.specs.Run.{TheRun}
 use Rattle.fl_running.specs.Turn.{Turned}
+use Rattle.fl_logs.specs.Flows.{IsApart}
+use Rattle.fl_logs.specs.Led.{IsLed}
+use Rattle.fl_logs.specs.Logs.{Goes}
 use Rattle.fl_queues.specs.Binding.{all_differ}
 use Rattle.fl_queues.specs.Monitors.{Service, next_on, link_to, fails, Hearing, hears_opening, opening_failed}
 use Rattle.fl_queues.specs.Rings.{Opening, open_circuit, says}

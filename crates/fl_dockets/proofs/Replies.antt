@@ -7,8 +7,7 @@ use Rattle.fl_base.specs.declared.identity.MsgNo.{MsgNo}
 use Rattle.fl_value.specs.Value.{TheCall}
 use Rattle.fl_queues.specs.Given.{given}
 use Rattle.fl_running.specs.declared.job.Job.{Job as CoreJob}
-use Rattle.fl_running.specs.Logs.{calls_of_job}
-use Rattle.fl_running.specs.Made.{calls_of_jobs}
+use Rattle.fl_running.specs.Jobs.{calls_of_job, calls_of_jobs}
 use Rattle.fl_dockets.specs.Dockets.{rule_at, reply_by}
 
 by_rule : (c : TheCall) (o : Option ℕ) (f : ℕ → TheCall) → length (given o [] (λ answer. f answer ∷ [])) ≡ (if is_some o then 1 else 0)

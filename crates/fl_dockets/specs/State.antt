@@ -9,7 +9,7 @@ use Rattle.fl_node.specs.View.{slot_of, client_of}
 use Rattle.fl_running.specs.declared.job.Job.{Job as CoreJob}
 use Rattle.fl_running.specs.declared.job.Job.TheVariants as core
 use Rattle.fl_running.specs.declared.job.Wish.{Wish as CoreWish}
-use Rattle.fl_running.specs.Carried.{HasNoRule, RulesLead}
+use Rattle.fl_running.specs.Jobs.{HasNoRule, RulesLead}
 use Rattle.fl_jobs.specs.Jobs.{Wish, Job}
 use Rattle.fl_dockets.specs.declared.docket.Bound.{Bound}
 use Rattle.fl_dockets.specs.declared.joining.Joined.{Joined}

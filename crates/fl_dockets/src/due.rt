@@ -4,8 +4,7 @@ ghost use Rattle.std.specs.Prelude.{ℕ, ◌≡◌, ◌<◌, ◌≤◌, ◌*◌,
 ghost use Rattle.std.specs.List.{flat_map};
 ghost use Rattle.fl_queues.specs.Given.{changed_at};
 ghost use Rattle.fl_node.specs.View.{slot_of};
-ghost use Rattle.fl_running.specs.Logs.{calls_of_job};
-ghost use Rattle.fl_running.specs.Made.{calls_of_jobs};
+ghost use Rattle.fl_running.specs.Jobs.{calls_of_job, calls_of_jobs};
 ghost use Rattle.fl_base.specs.Ends.{peer};
 ghost use Rattle.fl_dockets.specs.Dockets.{docket_of, docket_at, rule_at, reply_by, due_in};
 ghost use Rattle.fl_dockets.specs.State.{joined_of, changing, with_due, DuesUpTo};

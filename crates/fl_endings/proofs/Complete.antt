@@ -16,8 +16,7 @@ use Rattle.fl_node.specs.View.{slot_of}
 use Rattle.fl_running.specs.declared.job.Job.{Job as CoreJob}
 use Rattle.fl_running.specs.declared.job.Job.TheVariants as core
 use Rattle.fl_running.specs.declared.run.End.TheVariants.{Finished}
-use Rattle.fl_running.specs.Logs.{handled_of, TurnsAreLogged, DesksTellHandled}
-use Rattle.fl_running.specs.Ran.{CountedAreTurns}
+use Rattle.fl_logs.specs.Logs.{handled_of, TurnsAreLogged, DesksTellHandled, CountedAreTurns}
 use Rattle.fl_jobs.specs.Jobs.{Job, own_calls, has_rules, reply_to, handed_in}
 use Rattle.fl_jobs.specs.Report.{TheReport, complete, at_end, refusal_of, Honest, AllHandled}
 use Rattle.fl_dockets.specs.declared.docket.Bound.{Bound}

@@ -21,10 +21,10 @@ use Rattle.fl_running.specs.declared.plan.Plan.{Plan}
 use Rattle.fl_running.specs.Desks.{TheDesk, desk_place, advanced, with_handled, with_refusal, ChangesIf, is_clear}
 use Rattle.fl_running.specs.Run.{TheRun, AtDesk}
 use Rattle.fl_running.specs.Deeds.{Deed, looked, passed, arrived, heard, said, told, opened, called, ruled, wrote, acked, turned, NotesHeard, NotesOpened, NotesCalled, NotesTurned, Notes}
-use Rattle.fl_running.specs.Logs.{Goes, handled_at, in_desk, handled_of, TurnsAreLogged, DesksTellHandled}
-use Rattle.fl_running.specs.Made.{desk_of}
 use Rattle.fl_running.specs.Finished.{is_desk_clear}
-use Rattle.fl_running.proofs.Handling.{desks_stay, same_place}
+use Rattle.fl_logs.specs.Logs.{Goes, handled_at, in_desk, handled_of, TurnsAreLogged, DesksTellHandled}
+use Rattle.fl_logs.specs.Made.{desk_of}
+use Rattle.fl_logs.proofs.Handling.{desks_stay, same_place}
 use Rattle.fl_endings.specs.Cores.{shared_ways}
 use Rattle.fl_endings.proofs.Turns.{from_map, to_map}
 use Rattle.fl_endings.proofs.Going.{Some_}

@@ -13,10 +13,10 @@ use Rattle.fl_running.specs.declared.word.Word.TheVariants.{Silent, Tells, Hears
 use Rattle.fl_running.specs.Run.{TheRun}
 use Rattle.fl_running.specs.Words.{Stock, refusal_at}
 use Rattle.fl_running.specs.Finished.{is_desk_clear, is_at_rest, is_done_at, is_done, all_done, is_finished}
-use Rattle.fl_running.specs.Logs.{handled_of, TurnsAreLogged, DesksTellHandled}
 use Rattle.fl_running.specs.Ran.{task, Moment, EndsAs}
+use Rattle.fl_logs.specs.Logs.{handled_of, TurnsAreLogged, DesksTellHandled}
 use Rattle.fl_monitor.specs.Routing.{given}
-use Rattle.fl_running.specs.Ran.{CountedAreTurns}
+use Rattle.fl_logs.specs.Logs.{CountedAreTurns}
 use Rattle.fl_dockets.specs.Dockets.{docket_at}
 use Rattle.fl_dockets.specs.State.{TheJoined}
 use Rattle.fl_endings.specs.Cores.{shared_ways, OneCore, Went}

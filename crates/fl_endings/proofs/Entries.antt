@@ -48,9 +48,9 @@ use Rattle.fl_node.specs.declared.wire.Outlet.TheVariants as outlet
 use Rattle.fl_node.specs.declared.wire.Inlet.TheVariants as inlet
 use Rattle.fl_running.specs.Run.{TheRun}
 use Rattle.fl_running.specs.Deeds.{Deed, looked, passed, arrived, heard, said, told, opened, called, ruled, wrote, acked, turned, Does}
-use Rattle.fl_running.proofs.Leading.{end_binding}
-use Rattle.fl_running.proofs.Tables.{way_there, way_of, leads_at, stands_there, opened_goes, refused_goes}
-use Rattle.fl_running.proofs.TablesHeard.{new_by, heard_goes}
+use Rattle.fl_logs.proofs.Leading.{end_binding}
+use Rattle.fl_logs.proofs.Tables.{way_there, way_of, leads_at, stands_there, opened_goes, refused_goes}
+use Rattle.fl_logs.proofs.TablesHeard.{new_by, heard_goes}
 use Rattle.fl_endings.specs.Cores.{shared_ways}
 
 -- an event asks for the circuit of this end

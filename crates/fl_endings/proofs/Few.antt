@@ -24,11 +24,11 @@ use Rattle.fl_running.specs.declared.run.End.TheVariants.{Finished, Unfinished, 
 use Rattle.fl_running.specs.Desks.{TheDesk, desk_place}
 use Rattle.fl_running.specs.Run.{TheRun}
 use Rattle.fl_running.specs.Deeds.{Deed, looked, passed, arrived, heard, said, told, opened, called, ruled, wrote, acked, turned, Happens}
-use Rattle.fl_running.specs.Logs.{Goes, InPlace, handled_by, handles_in, handles, call_in, handled_in, handled_at, in_desk, handled_of, Logged, TurnsAreLogged, DesksTellHandled}
-use Rattle.fl_running.specs.Ran.{task, CountedAreTurns, GoesOn}
-use Rattle.fl_running.proofs.Handling.{one_end}
-use Rattle.fl_running.proofs.Stepping.{end_stays}
-use Rattle.fl_running.proofs.Aside.{core_aside}
+use Rattle.fl_running.specs.Ran.{task, GoesOn}
+use Rattle.fl_logs.specs.Logs.{Goes, InPlace, handled_by, handles_in, handles, call_in, handled_in, handled_at, in_desk, handled_of, Logged, TurnsAreLogged, DesksTellHandled, CountedAreTurns}
+use Rattle.fl_logs.proofs.Handling.{one_end}
+use Rattle.fl_logs.proofs.Stepping.{end_stays}
+use Rattle.fl_logs.proofs.Aside.{core_aside}
 use Rattle.fl_jobs.specs.Jobs.{Job, handed_in}
 use Rattle.fl_jobs.specs.Report.{TheReport, at_end}
 use Rattle.fl_dockets.specs.State.{TheJoined}

@@ -6,10 +6,10 @@ use Rattle.fl_running.specs.declared.plan.Plan.{Plan}
 use Rattle.fl_running.specs.declared.run.End.{End}
 use Rattle.fl_running.specs.declared.run.End.TheVariants.{Finished, Unfinished, Told}
 use Rattle.fl_running.specs.Deeds.{Deed}
-use Rattle.fl_running.specs.Logs.{Goes}
 use Rattle.fl_running.specs.Run.{TheRun}
 use Rattle.fl_running.specs.Turn.{OneTurn, Turned}
 use Rattle.fl_running.specs.Ran.{task, GoesOn, SomeTurns}
+use Rattle.fl_logs.specs.Logs.{Goes}
 use Rattle.fl_endings.specs.Cores.{shared_ways}
 
 module _ (plan : Plan) (jobs : List CoreJob) where

@@ -11,8 +11,7 @@ use Rattle.fl_node.specs.View.{client_of}
 use Rattle.fl_running.specs.declared.word.Word.{Word}
 use Rattle.fl_running.specs.declared.word.Word.TheVariants.{Silent, Tells, Hears, Refused}
 use Rattle.fl_running.specs.Words.{refusal_at}
-use Rattle.fl_running.specs.Logs.{TurnsAreLogged, DesksTellHandled}
-use Rattle.fl_running.specs.Ran.{CountedAreTurns}
+use Rattle.fl_logs.specs.Logs.{TurnsAreLogged, DesksTellHandled, CountedAreTurns}
 use Rattle.fl_jobs.specs.Jobs.{Job}
 use Rattle.fl_jobs.specs.Report.{TheReport, refusal_of}
 use Rattle.fl_dockets.specs.declared.docket.Bound.{Bound}

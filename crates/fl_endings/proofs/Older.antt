@@ -23,10 +23,10 @@ use Rattle.fl_running.specs.Desks.{TheDesk, desk_place, advanced, with_handled, 
 use Rattle.fl_running.specs.Run.{TheRun, AtDesk}
 use Rattle.fl_running.specs.Deeds.{Deed, looked, passed, arrived, heard, said, told, opened, called, ruled, wrote, acked, turned, NotesHeard, NotesOpened, NotesCalled, NotesTurned, Notes}
 use Rattle.fl_running.specs.declared.job.Job.{Job as CoreJob}
-use Rattle.fl_running.specs.Logs.{Goes}
-use Rattle.fl_running.specs.Made.{desk_of}
 use Rattle.fl_running.specs.Words.{refusal_at}
-use Rattle.fl_running.proofs.Handling.{desks_stay, same_place, at_slot, slots, as_many}
+use Rattle.fl_logs.specs.Logs.{Goes}
+use Rattle.fl_logs.specs.Made.{desk_of}
+use Rattle.fl_logs.proofs.Handling.{desks_stay, same_place, at_slot, slots, as_many}
 use Rattle.fl_endings.specs.Cores.{shared_ways}
 use Rattle.fl_endings.proofs.Desks.{map_set, has_place}
 

@@ -14,15 +14,15 @@ use Rattle.fl_hop.proofs.Lists.{at_within}
 use Rattle.fl_queues.specs.Given.{given}
 use Rattle.fl_node.specs.Sound.{IsCore}
 use Rattle.fl_node.specs.View.{client_of}
-use Rattle.fl_running.specs.Led.{IsLed}
 use Rattle.fl_running.specs.Desks.{TheDesk, desk_place}
 use Rattle.fl_running.specs.Deeds.{Deed}
-use Rattle.fl_running.specs.Logs.{Goes, handled_at, in_desk, handled_of, TurnsAreLogged, DesksTellHandled}
-use Rattle.fl_running.specs.Made.{calls_of_jobs, done_at, desk_of, done_of, made_at, LogsMakeJobs}
-use Rattle.fl_running.specs.Ran.{CountedAreTurns}
+use Rattle.fl_running.specs.Jobs.{calls_of_jobs}
 use Rattle.fl_running.specs.Words.{refusal_at}
+use Rattle.fl_logs.specs.Led.{IsLed}
+use Rattle.fl_logs.specs.Logs.{Goes, handled_at, in_desk, handled_of, TurnsAreLogged, DesksTellHandled, CountedAreTurns}
+use Rattle.fl_logs.specs.Made.{done_at, desk_of, done_of, made_at, LogsMakeJobs}
 use Rattle.fl_monitor.specs.Routing.{given as given_at}
-use Rattle.fl_running.proofs.Leading.{leads_at_first}
+use Rattle.fl_logs.proofs.Leading.{leads_at_first}
 use Rattle.fl_jobs.specs.Jobs.{Job}
 use Rattle.fl_jobs.specs.Report.{TheReport, at_end, refusal_of, Honest}
 use Rattle.fl_dockets.specs.declared.docket.Bound.{Bound}

@@ -28,17 +28,17 @@ use Rattle.fl_node.specs.declared.wire.Inlet.TheVariants as inlet
 use Rattle.fl_running.specs.declared.job.Job.{Job as CoreJob}
 use Rattle.fl_running.specs.Run.{TheRun}
 use Rattle.fl_running.specs.Deeds.{Deed, looked, passed, arrived, heard, said, told, opened, called, ruled, wrote, acked, turned, Does}
-use Rattle.fl_running.specs.Logs.{Goes, call_in, handled_in, handled_at}
-use Rattle.fl_running.specs.Made.{made_by, made_in, made_at}
-use Rattle.fl_running.specs.Led.{IsLed}
-use Rattle.fl_running.proofs.Aside.{core_aside}
-use Rattle.fl_running.proofs.Carrying.{IsHere, log_goes}
-use Rattle.fl_running.proofs.CircuitsMade.{MadeOn, does_make, places_to, ports_to}
-use Rattle.fl_running.proofs.Handling.{one_end}
-use Rattle.fl_running.proofs.Leads.{does_led}
-use Rattle.fl_running.proofs.Newcomers.{Absent}
-use Rattle.fl_running.proofs.Seating.{sits_first}
-use Rattle.fl_running.proofs.Tables.{way_of}
+use Rattle.fl_logs.specs.Logs.{Goes, call_in, handled_in, handled_at}
+use Rattle.fl_logs.specs.Made.{made_by, made_in, made_at}
+use Rattle.fl_logs.specs.Led.{IsLed}
+use Rattle.fl_logs.proofs.Aside.{core_aside}
+use Rattle.fl_logs.proofs.Carrying.{IsHere, log_goes}
+use Rattle.fl_logs.proofs.CircuitsMade.{MadeOn, does_make, places_to, ports_to}
+use Rattle.fl_logs.proofs.Handling.{one_end}
+use Rattle.fl_logs.proofs.Leads.{does_led}
+use Rattle.fl_logs.proofs.Newcomers.{Absent}
+use Rattle.fl_logs.proofs.Seating.{sits_first}
+use Rattle.fl_logs.proofs.Tables.{way_of}
 use Rattle.fl_endings.specs.Cores.{shared_ways}
 
 -- ---- an end that is bound

@@ -25,12 +25,12 @@ use Rattle.fl_running.specs.declared.job.Wish.{Wish}
 use Rattle.fl_running.specs.Desks.{TheDesk, desk_place}
 use Rattle.fl_running.specs.Run.{TheRun, AtDesk, next_job}
 use Rattle.fl_running.specs.Deeds.{Deed, looked, passed, arrived, heard, said, told, opened, called, ruled, wrote, acked, turned, Does, Notes, IsSound}
-use Rattle.fl_running.specs.Logs.{InPlace, Goes, TurnsAreLogged}
-use Rattle.fl_running.specs.Made.{desk_of}
 use Rattle.fl_running.specs.Words.{refusal_at}
-use Rattle.fl_running.proofs.Aside.{core_aside}
-use Rattle.fl_running.proofs.Handling.{desks_stay, one_end}
-use Rattle.fl_running.proofs.Tables.{way_there, stands_there}
+use Rattle.fl_logs.specs.Logs.{InPlace, Goes, TurnsAreLogged}
+use Rattle.fl_logs.specs.Made.{desk_of}
+use Rattle.fl_logs.proofs.Aside.{core_aside}
+use Rattle.fl_logs.proofs.Handling.{desks_stay, one_end}
+use Rattle.fl_logs.proofs.Tables.{way_there, stands_there}
 use Rattle.fl_jobs.specs.Jobs.{Job}
 use Rattle.fl_dockets.specs.State.{TheJoined, AreJoined}
 use Rattle.fl_endings.specs.Cores.{shared_ways, OneCore}

@@ -13,9 +13,10 @@ use Rattle.fl_node.specs.View.{client_of, place_of, arrivals_by}
 use Rattle.fl_running.specs.declared.word.Word.{Word}
 use Rattle.fl_running.specs.declared.word.Word.TheVariants.{Silent, Tells, Hears}
 use Rattle.fl_running.specs.Desks.{TheDesk}
-use Rattle.fl_running.specs.Logs.{handled_of}
-use Rattle.fl_running.specs.Made.{desk_of, calls_of_jobs}
+use Rattle.fl_running.specs.Jobs.{calls_of_jobs}
 use Rattle.fl_running.specs.Words.{refusal_at}
+use Rattle.fl_logs.specs.Logs.{handled_of}
+use Rattle.fl_logs.specs.Made.{desk_of}
 use Rattle.fl_jobs.specs.Jobs.{Job}
 use Rattle.fl_jobs.specs.Report.{TheReport, at_end, refusal_of}
 use Rattle.fl_dockets.specs.declared.docket.Bound.{Bound}

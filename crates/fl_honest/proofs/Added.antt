@@ -11,7 +11,7 @@ use Rattle.fl_node.specs.View.{TheCore, place_of, place_in, slot_of}
 use Rattle.fl_node.specs.Sound.{IsCore}
 use Rattle.fl_node.proofs.Named.{put_here, put_elsewhere, here_or_not}
 use Rattle.fl_node.proofs.Ported.{placed_below}
-use Rattle.fl_running.proofs.Seating.{HasEnd, Sits}
+use Rattle.fl_logs.proofs.Seating.{HasEnd, Sits}
 
 -- it sits at the last place
 pub added_there : (b c : TheBoard) (n place : ℕ) (x : TheEnd) (kind : Kind) → Adds b n x kind (Ok place) c → HasEnd c place x

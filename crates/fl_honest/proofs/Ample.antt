@@ -28,8 +28,9 @@ use Rattle.fl_running.specs.Run.{Ways, TheRun, next_job, lent_lane, lent_post, l
 use Rattle.fl_running.specs.Deeds.{Deed, looked, passed, arrived, heard, said, told, opened, called, ruled, wrote, acked, turned, Does, Happens}
 use Rattle.fl_running.specs.Steps.{Deals, ForwardsOver, Forwards, SaysOver, Says, TellsOver, Tells, may_ask, OpensIf, CallsAt, Tries, WritesFrom, Serves, AcksFrom, Acknowledges, RulesAt, awaits, TurnsIf, TurnsAt, TakesTurn}
 use Rattle.fl_running.specs.Turn.{Swept, At, OneTurn, Turned}
-use Rattle.fl_running.specs.Logs.{calls_of_job, LeadsTo, GoesOnOver, InPlace, Goes}
-use Rattle.fl_running.specs.Ran.{Task, GoesOn, CountedAreTurns}
+use Rattle.fl_running.specs.Jobs.{calls_of_job}
+use Rattle.fl_running.specs.Ran.{Task, GoesOn}
+use Rattle.fl_logs.specs.Logs.{LeadsTo, GoesOnOver, InPlace, Goes, CountedAreTurns}
 use Rattle.fl_honest.specs.Cores.{shared_ways, IsAmple, AreAmple, CoresGoAmply}
 use Rattle.fl_honest.proofs.Whole.{goes_then}
 

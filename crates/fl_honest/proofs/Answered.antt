@@ -39,9 +39,9 @@ use Rattle.fl_monitor.specs.Monitors.{TheMonitor, AllSaid, Said, waiting_for}
 use Rattle.fl_monitor.specs.Saying.{Says}
 use Rattle.fl_monitor.proofs.Single.{says_no_other, says_the_same, says_what_is_written}
 use Rattle.fl_node.specs.View.{server_of}
-use Rattle.fl_running.specs.Led.{IsSettled}
-use Rattle.fl_running.proofs.Tables.{GoesOn, OneNew, way_of, leads_at, stands_there, ways_alike, opened_goes}
-use Rattle.fl_running.proofs.TablesHeard.{new_by, heard_goes, server_made}
+use Rattle.fl_logs.specs.Led.{IsSettled}
+use Rattle.fl_logs.proofs.Tables.{GoesOn, OneNew, way_of, leads_at, stands_there, ways_alike, opened_goes}
+use Rattle.fl_logs.proofs.TablesHeard.{new_by, heard_goes, server_made}
 use Rattle.fl_honest.specs.Named.{Has}
 use Rattle.fl_honest.specs.Answered.{IsOpenedIn, IsAnswered, IsOpenWay, IsOpen, AreAnswered}
 use Rattle.fl_honest.proofs.Bound.{given_there}

@@ -23,9 +23,9 @@ use Rattle.fl_running.specs.declared.job.Wish.{Wish}
 use Rattle.fl_running.specs.Desks.{TheDesk, desk_place, advanced, with_handled, with_refusal, ChangesIf}
 use Rattle.fl_running.specs.Run.{Ways, TheRun, AtDesk, next_job}
 use Rattle.fl_running.specs.Deeds.{Deed, looked, passed, arrived, heard, said, told, opened, called, ruled, wrote, acked, turned, Does, NotesHeard, NotesOpened, NotesCalled, NotesTurned, Notes}
-use Rattle.fl_running.specs.Made.{desk_of}
-use Rattle.fl_running.proofs.Aside.{desks_alone}
-use Rattle.fl_running.proofs.Handling.{desks_stay, as_many, same_place}
+use Rattle.fl_logs.specs.Made.{desk_of}
+use Rattle.fl_logs.proofs.Aside.{desks_alone}
+use Rattle.fl_logs.proofs.Handling.{desks_stay, as_many, same_place}
 
 -- ---- the next job of a desk
 

@@ -12,8 +12,8 @@ use Rattle.fl_node.specs.View.{client_of, server_of}
 use Rattle.fl_queues.specs.Runs.{same_end}
 use Rattle.fl_running.specs.declared.job.Job.{Job as CoreJob}
 use Rattle.fl_running.specs.declared.job.Job.TheVariants as job
-use Rattle.fl_running.proofs.Handling.{one_end}
-use Rattle.fl_running.proofs.Leading.{map_there}
+use Rattle.fl_logs.proofs.Handling.{one_end}
+use Rattle.fl_logs.proofs.Leading.{map_there}
 use Rattle.fl_dockets.specs.declared.docket.Bound.{Bound}
 use Rattle.fl_dockets.specs.Dockets.{end_of, places_of}
 use Rattle.fl_dockets.specs.Joined.{core_of}

@@ -37,8 +37,8 @@ use Rattle.fl_node.specs.Hearing.{Offers, HearsFrag, HearsMessage, HearsAll}
 use Rattle.fl_running.specs.declared.job.Job.{Job}
 use Rattle.fl_running.specs.Run.{Ways, TheRun}
 use Rattle.fl_running.specs.Deeds.{Deed, looked, passed, arrived, heard, said, told, opened, called, ruled, wrote, acked, turned, Does}
-use Rattle.fl_running.specs.Logs.{Goes}
-use Rattle.fl_running.proofs.Aside.{core_aside}
+use Rattle.fl_logs.specs.Logs.{Goes}
+use Rattle.fl_logs.proofs.Aside.{core_aside}
 use Rattle.fl_honest.proofs.Logged.{follows_monitor, ahead_monitor, arrives_monitor}
 
 -- the core on a link's other side

@@ -52,12 +52,12 @@ use Rattle.fl_running.specs.declared.job.Job.{Job}
 use Rattle.fl_running.specs.declared.job.Wish.{Wish}
 use Rattle.fl_running.specs.Run.{Ways, TheRun}
 use Rattle.fl_running.specs.Deeds.{Deed, looked, passed, arrived, heard, said, told, opened, called, ruled, wrote, acked, turned, Does, IsCopyOf}
-use Rattle.fl_running.specs.Logs.{InPlace, Goes}
-use Rattle.fl_running.proofs.Aside.{core_aside}
-use Rattle.fl_running.proofs.Carrying.{IsHere, five, log_goes}
-use Rattle.fl_running.proofs.Laning.{steps_of, event_steps}
-use Rattle.fl_running.proofs.Seating.{HasEnd, lists_same, Sits}
-use Rattle.fl_running.proofs.Stepping.{log_steps}
+use Rattle.fl_logs.specs.Logs.{InPlace, Goes}
+use Rattle.fl_logs.proofs.Aside.{core_aside}
+use Rattle.fl_logs.proofs.Carrying.{IsHere, five, log_goes}
+use Rattle.fl_logs.proofs.Laning.{steps_of, event_steps}
+use Rattle.fl_logs.proofs.Seating.{HasEnd, lists_same, Sits}
+use Rattle.fl_logs.proofs.Stepping.{log_steps}
 use Rattle.fl_honest.specs.Named.{Has}
 use Rattle.fl_honest.specs.Asked.{SatAt, IsServedBy, IsOpenedBy}
 use Rattle.fl_honest.proofs.Named.{has_first, has_last}

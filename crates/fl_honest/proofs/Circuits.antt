@@ -11,9 +11,10 @@ use Rattle.fl_endpoint.specs.View.{TheEnd, is_rule, has_rules}
 use Rattle.fl_core.specs.View.{TheSeat}
 use Rattle.fl_node.specs.View.{new_arrivals, client_of, server_of}
 use Rattle.fl_running.specs.declared.job.Job.{Job as CoreJob}
-use Rattle.fl_running.specs.Carried.{HasNoRule, RulesLead, SetsNone, calls_handled, rules_at, traffic}
-use Rattle.fl_running.specs.Flows.{Flows, MadeCarries}
-use Rattle.fl_running.specs.Agree.{Arrived}
+use Rattle.fl_running.specs.Jobs.{HasNoRule, RulesLead}
+use Rattle.fl_logs.specs.Carried.{SetsNone, calls_handled, rules_at, traffic}
+use Rattle.fl_logs.specs.Flows.{Flows, MadeCarries}
+use Rattle.fl_logs.specs.Agree.{Arrived}
 use Rattle.fl_dockets.specs.Dockets.{TheDocket, docket_at, is_ruled}
 use Rattle.fl_honest.specs.Cores.{shared_ways}
 use Rattle.fl_honest.specs.Ends.{HasDesk, AreItsRules, EndRan}

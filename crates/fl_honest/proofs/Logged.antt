@@ -52,15 +52,15 @@ use Rattle.fl_running.specs.declared.job.Job.{Job}
 use Rattle.fl_running.specs.declared.job.Wish.{Wish}
 use Rattle.fl_running.specs.Run.{Ways, TheRun}
 use Rattle.fl_running.specs.Deeds.{IsSound, Deed, looked, passed, arrived, heard, said, told, opened, called, ruled, wrote, acked, turned, Does, ActsSoundly}
-use Rattle.fl_running.specs.Logs.{InPlace, Goes}
-use Rattle.fl_running.specs.Led.{IsLed}
-use Rattle.fl_running.proofs.Aside.{core_aside}
-use Rattle.fl_running.proofs.Carrying.{write_put}
-use Rattle.fl_running.proofs.Laning.{link_at, steps_of, steps_by, event_steps}
-use Rattle.fl_running.proofs.Leads.{does_led, does_later}
-use Rattle.fl_running.proofs.Looking.{if_arrived}
-use Rattle.fl_running.proofs.Stepping.{log_steps}
-use Rattle.fl_running.proofs.Wending.{event_went}
+use Rattle.fl_logs.specs.Logs.{InPlace, Goes}
+use Rattle.fl_logs.specs.Led.{IsLed}
+use Rattle.fl_logs.proofs.Aside.{core_aside}
+use Rattle.fl_logs.proofs.Carrying.{write_put}
+use Rattle.fl_logs.proofs.Laning.{link_at, steps_of, steps_by, event_steps}
+use Rattle.fl_logs.proofs.Leads.{does_led, does_later}
+use Rattle.fl_logs.proofs.Looking.{if_arrived}
+use Rattle.fl_logs.proofs.Stepping.{log_steps}
+use Rattle.fl_logs.proofs.Wending.{event_went}
 use Rattle.fl_honest.specs.Named.{Has}
 use Rattle.fl_honest.specs.Asked.{IsWished}
 use Rattle.fl_honest.proofs.AskedDesks.{JobAt, job_there, job_before, event_jobs, offers_stay}

@@ -15,9 +15,9 @@ use Rattle.fl_hop.specs.Stretch.{Step, wrote, written_in, written_by, OnlyOnto}
 use Rattle.fl_hop.proofs.Laws.{end_same, stood_finish, own_alone}
 use Rattle.fl_node.specs.View.{place_of, client_of, server_of}
 use Rattle.fl_running.specs.declared.job.Job.{Job}
-use Rattle.fl_running.specs.Carried.{Traffic, calls_handled, left_to_put, traffic}
-use Rattle.fl_running.specs.Agree.{SinceMade}
-use Rattle.fl_running.specs.Led.{stretch}
+use Rattle.fl_logs.specs.Carried.{Traffic, calls_handled, left_to_put, traffic}
+use Rattle.fl_logs.specs.Agree.{SinceMade}
+use Rattle.fl_logs.specs.Led.{stretch}
 use Rattle.fl_dockets.specs.Dockets.{TheDocket}
 use Rattle.fl_honest.specs.Cores.{OneCore, shared_ways}
 use Rattle.fl_honest.specs.Ends.{HasDesk}

@@ -15,7 +15,7 @@ use Rattle.fl_hop.specs.OfCircuit.{of_circuit}
 use Rattle.fl_hop.specs.Stretch.{put_on, taken_from}
 use Rattle.fl_monitor.specs.Monitors.{TheMonitor}
 use Rattle.fl_node.specs.View.{client_of}
-use Rattle.fl_running.proofs.Stepping.{log_steps}
+use Rattle.fl_logs.proofs.Stepping.{log_steps}
 use Rattle.fl_honest.specs.Cores.{shared_ways}
 use Rattle.fl_honest.specs.Named.{IsGivenFor, AreNamed, AreRefused}
 use Rattle.fl_honest.specs.Neighbours.{IsUnused, GoesNamed, CoresName, StandsHere, NeighboursAgree, ComesFrom, EntriesLeadBack}

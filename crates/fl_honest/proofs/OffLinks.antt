@@ -12,9 +12,9 @@ use Rattle.fl_compile.specs.Programs.{program_of}
 use Rattle.fl_node.specs.declared.wire.Wire.{Wire}
 use Rattle.fl_node.specs.declared.wire.Wire.TheVariants.{Queues, Ring}
 use Rattle.fl_node.specs.View.{client_of, server_of}
-use Rattle.fl_running.specs.Carried.{RulesComeFirst, traffic}
-use Rattle.fl_running.specs.Flows.{LogsFlow}
-use Rattle.fl_running.specs.Agree.{Arrived, CarriedOffLinks}
+use Rattle.fl_logs.specs.Carried.{RulesComeFirst, traffic}
+use Rattle.fl_logs.specs.Flows.{LogsFlow}
+use Rattle.fl_logs.specs.Agree.{Arrived, CarriedOffLinks}
 use Rattle.fl_jobs.specs.Jobs.{Job, handed_in}
 use Rattle.fl_jobs.specs.Report.{TheReport, at_end}
 use Rattle.fl_dockets.specs.declared.docket.Bound.{Bound}

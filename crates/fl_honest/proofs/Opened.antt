@@ -5,7 +5,7 @@ use Rattle.fl_endpoint.specs.Laws.{OnAnotherCircuit}
 use Rattle.fl_hop.specs.OfCircuit.{of_circuit}
 use Rattle.fl_hop.specs.Stretch.{put_on, taken_from}
 use Rattle.fl_monitor.specs.Monitors.{TheMonitor}
-use Rattle.fl_running.proofs.Stepping.{log_steps}
+use Rattle.fl_logs.proofs.Stepping.{log_steps}
 use Rattle.fl_honest.specs.Cores.{shared_ways}
 use Rattle.fl_honest.specs.Neighbours.{IsUnused}
 use Rattle.fl_honest.specs.Answered.{IsOpen, AreAnswered, CoresAnswer, NeighboursOpen}

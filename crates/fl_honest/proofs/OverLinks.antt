@@ -13,12 +13,12 @@ use Rattle.fl_ring.specs.SharedSides.{TheSide}
 use Rattle.fl_running.specs.declared.job.Job.{Job}
 use Rattle.fl_running.specs.Run.{Ways, TheRun}
 use Rattle.fl_running.specs.Deeds.{Deed}
-use Rattle.fl_running.specs.Logs.{Goes}
-use Rattle.fl_running.specs.Flows.{IsApart, SideCarries}
-use Rattle.fl_running.proofs.Apart.{side_after, stays_apart}
-use Rattle.fl_running.proofs.Bearing.{ring_put, log_ring_put, log_ring_took, log_bears}
-use Rattle.fl_running.proofs.Laning.{event_steps, links_put, links_took}
-use Rattle.fl_running.proofs.Stepping.{grows, log_steps}
+use Rattle.fl_logs.specs.Logs.{Goes}
+use Rattle.fl_logs.specs.Flows.{IsApart, SideCarries}
+use Rattle.fl_logs.proofs.Apart.{side_after, stays_apart}
+use Rattle.fl_logs.proofs.Bearing.{ring_put, log_ring_put, log_ring_took, log_bears}
+use Rattle.fl_logs.proofs.Laning.{event_steps, links_put, links_took}
+use Rattle.fl_logs.proofs.Stepping.{grows, log_steps}
 use Rattle.fl_honest.specs.Cores.{shared_ways, OneCore}
 use Rattle.fl_honest.specs.Circuits.{AreOneLink}
 use Rattle.fl_honest.specs.Crossing.{Crosses}

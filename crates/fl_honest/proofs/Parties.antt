@@ -10,10 +10,11 @@ use Rattle.fl_value.specs.Value.{TheCall}
 use Rattle.fl_compile.specs.Programs.{program_of}
 use Rattle.fl_endpoint.specs.Accounts.{replies_by}
 use Rattle.fl_running.specs.declared.job.Job.{Job as CoreJob}
-use Rattle.fl_running.specs.Logs.{DesksTellHandled}
-use Rattle.fl_running.specs.Made.{LogsMakeJobs, DoneAreFirst, calls_of_jobs, done_of, made_at}
-use Rattle.fl_running.specs.Carried.{SentAreMade, SentAreReplies, sent_at, calls_handled, rules_at, traffic}
-use Rattle.fl_running.specs.Agree.{Arrived, EndsAgree}
+use Rattle.fl_running.specs.Jobs.{calls_of_jobs}
+use Rattle.fl_logs.specs.Logs.{DesksTellHandled}
+use Rattle.fl_logs.specs.Made.{LogsMakeJobs, DoneAreFirst, done_of, made_at}
+use Rattle.fl_logs.specs.Carried.{SentAreMade, SentAreReplies, sent_at, calls_handled, rules_at, traffic}
+use Rattle.fl_logs.specs.Agree.{Arrived, EndsAgree}
 use Rattle.fl_jobs.specs.Jobs.{Job, own_calls, handed_in}
 use Rattle.fl_dockets.specs.Dockets.{is_ruled, reply_by}
 use Rattle.fl_honest.specs.Cores.{shared_ways}

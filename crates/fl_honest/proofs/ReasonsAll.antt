@@ -24,10 +24,10 @@ use Rattle.fl_monitor.specs.Hearing.{opening_of}
 use Rattle.fl_monitor.specs.Routing.{given, is_core}
 use Rattle.fl_monitor.specs.Saying.{Says}
 use Rattle.fl_running.specs.Words.{refusal_at}
-use Rattle.fl_running.proofs.Stepping.{log_steps}
 use Rattle.fl_running.specs.declared.job.Job.{Job as CoreJob}
 use Rattle.fl_running.specs.declared.job.Job.TheVariants as job
 use Rattle.fl_running.specs.declared.job.Wish.{Wish}
+use Rattle.fl_logs.proofs.Stepping.{log_steps}
 use Rattle.fl_core.specs.View.{TheDispatcher}
 use Rattle.fl_node.specs.Hearing.{Offers, known_for, offer_for, offer_of}
 use Rattle.fl_node.specs.View.{client_of}
@@ -54,8 +54,8 @@ use Rattle.fl_honest.proofs.ReasonedHears.{AreReasonedFrom, KnowsPlaces, reasons
 use Rattle.fl_honest.proofs.ReasonsDesks.{Placed, own_wish, told_at, log_tells}
 use Rattle.fl_ring.specs.SharedSides.{TheSide}
 use Rattle.fl_running.specs.Deeds.{IsSound, Deed}
-use Rattle.fl_running.specs.Logs.{Goes}
 use Rattle.fl_running.specs.Run.{TheRun}
+use Rattle.fl_logs.specs.Logs.{Goes}
 use Rattle.fl_honest.proofs.Routes.{CircuitsPrefix}
 use Rattle.fl_honest.proofs.Runs.{all_beside}
 use Rattle.fl_honest.proofs.WholeHome.{opener}

@@ -58,16 +58,16 @@ use Rattle.fl_running.specs.declared.job.Wish.{Wish}
 use Rattle.fl_running.specs.Desks.{TheDesk, desk_place, advanced, with_handled, with_refusal, ChangesIf}
 use Rattle.fl_running.specs.Run.{Ways, TheRun, AtDesk}
 use Rattle.fl_running.specs.Deeds.{IsSound, Deed, looked, passed, arrived, heard, said, told, opened, called, ruled, wrote, acked, turned, Does, NotesHeard, NotesOpened, NotesCalled, NotesTurned, Notes}
-use Rattle.fl_running.specs.Led.{IsLed}
-use Rattle.fl_running.specs.Logs.{InPlace, Goes}
 use Rattle.fl_running.specs.Steps.{lacks_to_open}
 use Rattle.fl_running.specs.Words.{refusal_at}
-use Rattle.fl_running.proofs.Aside.{core_aside}
-use Rattle.fl_running.proofs.Carrying.{five, not_there}
-use Rattle.fl_running.proofs.Handling.{desks_stay, as_many, same_place}
-use Rattle.fl_running.proofs.Laning.{steps_of, event_steps}
-use Rattle.fl_running.proofs.Leads.{does_led}
-use Rattle.fl_running.proofs.Stepping.{log_steps, end_stays}
+use Rattle.fl_logs.specs.Led.{IsLed}
+use Rattle.fl_logs.specs.Logs.{InPlace, Goes}
+use Rattle.fl_logs.proofs.Aside.{core_aside}
+use Rattle.fl_logs.proofs.Carrying.{five, not_there}
+use Rattle.fl_logs.proofs.Handling.{desks_stay, as_many, same_place}
+use Rattle.fl_logs.proofs.Laning.{steps_of, event_steps}
+use Rattle.fl_logs.proofs.Leads.{does_led}
+use Rattle.fl_logs.proofs.Stepping.{log_steps, end_stays}
 use Rattle.fl_honest.specs.Cores.{IsAmple, AreAmple}
 use Rattle.fl_honest.specs.Named.{Has}
 use Rattle.fl_ring.specs.SharedSides.{TheSide}

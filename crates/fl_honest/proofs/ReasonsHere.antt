@@ -34,7 +34,7 @@ use Rattle.fl_node.specs.Faults.{open_number}
 use Rattle.fl_node.specs.Making.{Asked, Asks}
 use Rattle.fl_node.specs.View.{TheCore, client_of}
 use Rattle.fl_running.specs.Steps.{lacks_to_open}
-use Rattle.fl_running.proofs.Tables.{way_of}
+use Rattle.fl_logs.proofs.Tables.{way_of}
 use Rattle.fl_honest.specs.Reasons.{IsUsedUp, CameUnder, AreReasoned}
 use Rattle.fl_honest.proofs.Neighbours.{leads_of}
 use Rattle.fl_honest.proofs.ReasonsOwn.{is_used_up}

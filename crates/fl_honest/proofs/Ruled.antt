@@ -26,10 +26,11 @@ use Rattle.fl_running.specs.Desks.{TheDesk, desk_place, advanced, with_handled, 
 use Rattle.fl_running.specs.Run.{Ways, TheRun, AtDesk, next_job}
 use Rattle.fl_running.specs.Deeds.{Deed, looked, passed, arrived, heard, said, told, opened, called, ruled, wrote, acked, turned, Happens, NotesHeard, NotesOpened, NotesCalled, NotesTurned, Notes}
 use Rattle.fl_running.specs.Steps.{is_before_calls}
-use Rattle.fl_running.specs.Logs.{InPlace, Goes, calls_of_job, call_in, handled_in, handled_at}
-use Rattle.fl_running.specs.Made.{desk_of}
-use Rattle.fl_running.specs.Carried.{is_rule, HasNoRule, RulesLead, rules_by, rules_in, rules_at}
-use Rattle.fl_running.proofs.Handling.{desks_stay, same_place, at_slot, slots, as_many, one_end}
+use Rattle.fl_running.specs.Jobs.{calls_of_job, is_rule, HasNoRule, RulesLead}
+use Rattle.fl_logs.specs.Logs.{InPlace, Goes, call_in, handled_in, handled_at}
+use Rattle.fl_logs.specs.Made.{desk_of}
+use Rattle.fl_logs.specs.Carried.{rules_by, rules_in, rules_at}
+use Rattle.fl_logs.proofs.Handling.{desks_stay, same_place, at_slot, slots, as_many, one_end}
 
 -- ---- jobs in a row
 

@@ -24,13 +24,14 @@ use Rattle.fl_running.specs.declared.job.Job.TheVariants as job
 use Rattle.fl_running.specs.Desks.{TheDesk}
 use Rattle.fl_running.specs.Run.{Ways, TheRun, next_job}
 use Rattle.fl_running.specs.Deeds.{Deed, looked, passed, arrived, heard, said, told, opened, called, ruled, wrote, acked, turned}
-use Rattle.fl_running.specs.Logs.{DesksTellHandled, Goes}
-use Rattle.fl_running.specs.Made.{LogsMakeJobs, DoneAreFirst, desk_of}
-use Rattle.fl_running.specs.Carried.{HasNoRule, RulesLead, rules_at}
-use Rattle.fl_running.specs.Flows.{Flows, LogsFlow, MadeCarries}
-use Rattle.fl_running.proofs.Carrying.{IsHere, log_goes}
-use Rattle.fl_running.proofs.Handling.{one_end}
-use Rattle.fl_running.proofs.Seating.{sits_first}
+use Rattle.fl_running.specs.Jobs.{HasNoRule, RulesLead}
+use Rattle.fl_logs.specs.Logs.{DesksTellHandled, Goes}
+use Rattle.fl_logs.specs.Made.{LogsMakeJobs, DoneAreFirst, desk_of}
+use Rattle.fl_logs.specs.Carried.{rules_at}
+use Rattle.fl_logs.specs.Flows.{Flows, LogsFlow, MadeCarries}
+use Rattle.fl_logs.proofs.Carrying.{IsHere, log_goes}
+use Rattle.fl_logs.proofs.Handling.{one_end}
+use Rattle.fl_logs.proofs.Seating.{sits_first}
 use Rattle.fl_dockets.specs.Dockets.{rule_at, rule_behind, rule_by}
 use Rattle.fl_honest.specs.Cores.{shared_ways}
 use Rattle.fl_honest.specs.Rules.{FitsInterface, RulesFit, RulesAreSet}

@@ -16,9 +16,10 @@ use Rattle.fl_endpoint.specs.Accounts.{Sound, stream, stream_from}
 use Rattle.fl_node.specs.declared.wire.Wire.{Wire}
 use Rattle.fl_running.specs.declared.job.Job.{Job as CoreJob}
 use Rattle.fl_running.specs.Deeds.{Deed, looked, passed, arrived, heard, said, told, opened, called, ruled, wrote, acked, turned}
-use Rattle.fl_running.specs.Carried.{Traffic, EndGoes, left_to_put, rules_by, rules_in, rules_at, sets_rule, SetsNone, RulesFirst, RulesComeFirst, HasNoRule, traffic}
-use Rattle.fl_running.specs.Flows.{Flows, LogsFlow, EndCarries}
-use Rattle.fl_running.specs.Agree.{SinceMade, Arrived, CarriedOffLinks}
+use Rattle.fl_running.specs.Jobs.{HasNoRule}
+use Rattle.fl_logs.specs.Carried.{Traffic, EndGoes, left_to_put, rules_by, rules_in, rules_at, sets_rule, SetsNone, RulesFirst, RulesComeFirst, traffic}
+use Rattle.fl_logs.specs.Flows.{Flows, LogsFlow, EndCarries}
+use Rattle.fl_logs.specs.Agree.{SinceMade, Arrived, CarriedOffLinks}
 use Rattle.fl_dockets.specs.Dockets.{TheDocket}
 use Rattle.fl_honest.specs.Cores.{shared_ways, OneCore, Went}
 use Rattle.fl_honest.specs.Ends.{HasDesk, AreItsRules, StandsReady, EndRan}

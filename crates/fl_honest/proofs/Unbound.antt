@@ -24,11 +24,12 @@ use Rattle.fl_node.specs.Sound.{IsCore}
 use Rattle.fl_running.specs.declared.job.Job.{Job as CoreJob}
 use Rattle.fl_running.specs.Run.{Ways, TheRun}
 use Rattle.fl_running.specs.Deeds.{Deed, looked, passed, arrived, heard, said, told, opened, called, ruled, wrote, acked, turned, TurnsOver}
-use Rattle.fl_running.specs.Logs.{DesksTellHandled, Goes, handled_in, handled_at}
-use Rattle.fl_running.specs.Made.{LogsMakeJobs, DoneAreFirst, made_in, made_at, done_of, calls_of_jobs}
-use Rattle.fl_running.proofs.Carrying.{IsHere, log_goes}
-use Rattle.fl_running.proofs.Handling.{one_end}
-use Rattle.fl_running.proofs.Seating.{sits_first}
+use Rattle.fl_running.specs.Jobs.{calls_of_jobs}
+use Rattle.fl_logs.specs.Logs.{DesksTellHandled, Goes, handled_in, handled_at}
+use Rattle.fl_logs.specs.Made.{LogsMakeJobs, DoneAreFirst, made_in, made_at, done_of}
+use Rattle.fl_logs.proofs.Carrying.{IsHere, log_goes}
+use Rattle.fl_logs.proofs.Handling.{one_end}
+use Rattle.fl_logs.proofs.Seating.{sits_first}
 use Rattle.fl_jobs.specs.Jobs.{Job, own_calls, handed_in}
 use Rattle.fl_dockets.specs.Dockets.{TheDocket, docket_at, is_ruled, reply_by, IsDocket}
 use Rattle.fl_honest.specs.Cores.{shared_ways, OneCore}

@@ -5,8 +5,8 @@ use Rattle.fl_running.specs.declared.run.End.{End}
 use Rattle.fl_running.specs.declared.run.End.TheVariants.{Finished, Unfinished, Told}
 use Rattle.fl_running.specs.Run.{Ways, TheRun}
 use Rattle.fl_running.specs.Deeds.{Deed}
-use Rattle.fl_running.specs.Logs.{Goes, TurnsAreLogged}
-use Rattle.fl_running.specs.Ran.{Task, GoesOn, CountedAreTurns}
+use Rattle.fl_running.specs.Ran.{Task, GoesOn}
+use Rattle.fl_logs.specs.Logs.{Goes, TurnsAreLogged, CountedAreTurns}
 use Rattle.fl_honest.specs.Cores.{shared_ways, CoresGo}
 
 pub goes_then : {S : Type 0} (w : Ways S) (jobs : List Job) (xs ys : List Deed) (s m t : TheRun S) → Goes w jobs s xs m → Goes w jobs m ys t → Goes w jobs s (xs ++ ys) t

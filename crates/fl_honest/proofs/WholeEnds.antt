@@ -13,13 +13,13 @@ use Rattle.fl_node.specs.View.{TheCore, place_of, client_of, server_of}
 use Rattle.fl_running.specs.declared.job.Job.{Job}
 use Rattle.fl_running.specs.Run.{Ways, TheRun}
 use Rattle.fl_running.specs.Deeds.{Deed}
-use Rattle.fl_running.specs.Logs.{Goes}
-use Rattle.fl_running.specs.Led.{IsSettled}
-use Rattle.fl_running.proofs.Aside.{core_aside}
-use Rattle.fl_running.proofs.CircuitsMade.{MadeOn, does_make, places_to, ports_to}
-use Rattle.fl_running.proofs.Newcomers.{Absent}
-use Rattle.fl_running.proofs.NumberedLogs.{log_led}
-use Rattle.fl_running.proofs.Tables.{leads_at}
+use Rattle.fl_logs.specs.Logs.{Goes}
+use Rattle.fl_logs.specs.Led.{IsSettled}
+use Rattle.fl_logs.proofs.Aside.{core_aside}
+use Rattle.fl_logs.proofs.CircuitsMade.{MadeOn, does_make, places_to, ports_to}
+use Rattle.fl_logs.proofs.Newcomers.{Absent}
+use Rattle.fl_logs.proofs.NumberedLogs.{log_led}
+use Rattle.fl_logs.proofs.Tables.{leads_at}
 use Rattle.fl_dockets.specs.Dockets.{TheDocket}
 use Rattle.fl_honest.specs.Cores.{OneCore, shared_ways}
 use Rattle.fl_honest.specs.Circuits.{Leading, Point, StandsBound, IsRoute, CircuitsAreHonest}

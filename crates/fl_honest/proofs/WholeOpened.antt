@@ -40,12 +40,12 @@ use Rattle.fl_running.specs.declared.job.Job.{Job}
 use Rattle.fl_running.specs.declared.job.Wish.{Wish}
 use Rattle.fl_running.specs.Run.{Ways, TheRun}
 use Rattle.fl_running.specs.Deeds.{Deed, looked, passed, arrived, heard, said, told, opened, called, ruled, wrote, acked, turned, Does}
-use Rattle.fl_running.specs.Logs.{InPlace, Goes}
-use Rattle.fl_running.proofs.Aside.{core_aside}
-use Rattle.fl_running.proofs.Carrying.{IsHere, five, log_goes}
-use Rattle.fl_running.proofs.Seating.{lists_same}
-use Rattle.fl_running.proofs.Tables.{way_of, way_there, opened_goes}
-use Rattle.fl_running.proofs.TablesHeard.{new_by, heard_goes}
+use Rattle.fl_logs.specs.Logs.{InPlace, Goes}
+use Rattle.fl_logs.proofs.Aside.{core_aside}
+use Rattle.fl_logs.proofs.Carrying.{IsHere, five, log_goes}
+use Rattle.fl_logs.proofs.Seating.{lists_same}
+use Rattle.fl_logs.proofs.Tables.{way_of, way_there, opened_goes}
+use Rattle.fl_logs.proofs.TablesHeard.{new_by, heard_goes}
 use Rattle.fl_honest.specs.Cores.{OneCore, shared_ways}
 use Rattle.fl_honest.specs.Circuits.{Leading}
 use Rattle.fl_honest.specs.Neighbours.{IsUnused}

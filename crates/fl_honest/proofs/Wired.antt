@@ -7,8 +7,8 @@ use Rattle.fl_node.specs.View.{TheCore, side_of_link}
 use Rattle.fl_running.specs.declared.job.Job.{Job}
 use Rattle.fl_running.specs.Run.{Ways, TheRun}
 use Rattle.fl_running.specs.Deeds.{Deed}
-use Rattle.fl_running.specs.Logs.{Goes}
-use Rattle.fl_running.proofs.Aside.{core_aside}
+use Rattle.fl_logs.specs.Logs.{Goes}
+use Rattle.fl_logs.proofs.Aside.{core_aside}
 use Rattle.fl_honest.specs.Cores.{OneCore, shared_ways}
 use Rattle.fl_honest.specs.Circuits.{Leading, AreOneLink}
 use Rattle.fl_honest.specs.Meeting.{WiredArePaired}

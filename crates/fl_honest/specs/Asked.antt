@@ -24,9 +24,9 @@ use Rattle.fl_running.specs.declared.job.Wish.{Wish}
 use Rattle.fl_running.specs.Desks.{TheDesk}
 use Rattle.fl_running.specs.Run.{Ways, TheRun}
 use Rattle.fl_running.specs.Deeds.{Deed, opened}
-use Rattle.fl_running.specs.Logs.{Goes}
-use Rattle.fl_running.specs.Flows.{SideCarries}
-use Rattle.fl_running.specs.Made.{desk_of}
+use Rattle.fl_logs.specs.Logs.{Goes}
+use Rattle.fl_logs.specs.Flows.{SideCarries}
+use Rattle.fl_logs.specs.Made.{desk_of}
 use Rattle.fl_jobs.specs.Jobs.{Job}
 use Rattle.fl_dockets.specs.declared.docket.Bound.{Bound}
 use Rattle.fl_dockets.specs.Dockets.{docket_at}

@@ -9,10 +9,10 @@ use Rattle.fl_node.specs.Sound.{IsCore}
 use Rattle.fl_running.specs.declared.job.Job.{Job as CoreJob}
 use Rattle.fl_running.specs.Run.{Ways, ways, TheRun}
 use Rattle.fl_running.specs.Deeds.{Deed, opened}
-use Rattle.fl_running.specs.Logs.{Goes}
 use Rattle.fl_running.specs.Steps.{lacks_to_open}
-use Rattle.fl_running.specs.Flows.{IsApart}
 use Rattle.fl_running.specs.Ran.{Task, Moment, CoreRan}
+use Rattle.fl_logs.specs.Logs.{Goes}
+use Rattle.fl_logs.specs.Flows.{IsApart}
 
 -- how sides of shared rings put and take, and what the last look saw
 abbrev pub shared_ways : Ways TheSide

@@ -6,7 +6,7 @@ use Rattle.fl_link.specs.Queue.{TheQueue, QueuePuts, QueueTakes}
 use Rattle.fl_ring.specs.SharedSides.{TheSide, SharedPuts, SharedTakes}
 use Rattle.fl_deal.specs.Dealt.{AreNew}
 use Rattle.fl_deal.specs.Settled.{IsNear}
-use Rattle.fl_running.specs.Flows.{SideCarries}
+use Rattle.fl_logs.specs.Flows.{SideCarries}
 
 -- ---- a queue
 

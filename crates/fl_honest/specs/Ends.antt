@@ -11,9 +11,10 @@ use Rattle.fl_node.specs.View.{place_of}
 use Rattle.fl_running.specs.declared.job.Job.{Job as CoreJob}
 use Rattle.fl_running.specs.Desks.{TheDesk}
 use Rattle.fl_running.specs.Run.{TheRun}
-use Rattle.fl_running.specs.Made.{desk_of}
-use Rattle.fl_running.specs.Carried.{HasNoRule, SetsNone, RulesFirst, rules_at, calls_handled, traffic}
-use Rattle.fl_running.specs.Agree.{SinceMade}
+use Rattle.fl_running.specs.Jobs.{HasNoRule}
+use Rattle.fl_logs.specs.Made.{desk_of}
+use Rattle.fl_logs.specs.Carried.{SetsNone, RulesFirst, rules_at, calls_handled, traffic}
+use Rattle.fl_logs.specs.Agree.{SinceMade}
 use Rattle.fl_dockets.specs.Dockets.{TheDocket, rule_at, is_ruled}
 use Rattle.fl_honest.specs.Cores.{OneCore}
 

@@ -8,7 +8,7 @@ use Rattle.fl_core.specs.View.{TheSeat}
 use Rattle.fl_node.specs.View.{place_of}
 use Rattle.fl_running.specs.declared.job.Job.{Job as CoreJob}
 use Rattle.fl_running.specs.declared.job.Job.TheVariants as job
-use Rattle.fl_running.specs.Carried.{RulesLead}
+use Rattle.fl_running.specs.Jobs.{RulesLead}
 use Rattle.fl_dockets.specs.Dockets.{TheDocket, rule_at, rule_by}
 use Rattle.fl_honest.specs.Cores.{OneCore, Went}
 use Rattle.fl_honest.specs.Ends.{HasDesk, AreItsRules}

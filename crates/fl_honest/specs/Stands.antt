@@ -11,7 +11,7 @@ use Rattle.fl_hop.specs.Joined.{Leads}
 use Rattle.fl_node.specs.View.{place_of, client_of, server_of}
 use Rattle.fl_running.specs.declared.job.Job.{Job as CoreJob}
 use Rattle.fl_running.specs.Run.{TheRun}
-use Rattle.fl_running.specs.Carried.{HasNoRule, RulesLead}
+use Rattle.fl_running.specs.Jobs.{HasNoRule, RulesLead}
 use Rattle.fl_dockets.specs.Dockets.{TheDocket, rule_at, rule_by, is_ruled}
 use Rattle.fl_honest.specs.Cores.{OneCore}
 use Rattle.fl_honest.specs.Ends.{HasDesk}

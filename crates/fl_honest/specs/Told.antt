@@ -6,8 +6,8 @@ use Rattle.fl_ring.specs.SharedSides.{TheSide}
 use Rattle.fl_value.specs.Value.{TheCall, call_of}
 use Rattle.fl_running.specs.declared.job.Job.{Job as CoreJob}
 use Rattle.fl_running.specs.Run.{TheRun}
-use Rattle.fl_running.specs.Logs.{handled_of}
-use Rattle.fl_running.specs.Made.{done_of}
+use Rattle.fl_logs.specs.Logs.{handled_of}
+use Rattle.fl_logs.specs.Made.{done_of}
 use Rattle.fl_jobs.specs.Report.{BothEnds, at_end}
 use Rattle.fl_dockets.specs.declared.docket.Bound.{Bound}
 use Rattle.fl_dockets.specs.Dockets.{TheDocket, docket_at, reply_by}

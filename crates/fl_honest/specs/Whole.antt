@@ -11,7 +11,7 @@ use Rattle.fl_node.specs.View.{client_of, server_of}
 use Rattle.fl_running.specs.declared.job.Job.{Job as CoreJob}
 use Rattle.fl_honest.specs.Cores.{OneCore}
 use Rattle.fl_running.specs.Desks.{TheDesk}
-use Rattle.fl_running.specs.Made.{desk_of}
+use Rattle.fl_logs.specs.Made.{desk_of}
 use Rattle.fl_jobs.specs.Jobs.{Job}
 use Rattle.fl_dockets.specs.declared.docket.Bound.{Bound}
 use Rattle.fl_dockets.specs.Dockets.{docket_at}

@@ -11,7 +11,7 @@ use Rattle.fl_queues.specs.Given.{given}
 use Rattle.fl_monitor.specs.Routing.{given as given_at}
 use Rattle.fl_node.specs.View.{slot_of, client_of, server_of}
 use Rattle.fl_running.specs.Desks.{TheDesk, desk_place}
-use Rattle.fl_running.specs.Logs.{in_desk}
+use Rattle.fl_logs.specs.Logs.{in_desk}
 use Rattle.fl_jobs.specs.Report.{BothEnds, at_side, at_end}
 use Rattle.fl_dockets.specs.State.{TheJoined}
 use Rattle.fl_dockets.specs.Dockets.{TheDocket, docket_at}

@@ -5,7 +5,8 @@ use Rattle.fl_base.specs.declared.identity.Side.TheVariants.{Client}
 use Rattle.std.specs.List.{flat_map}
 use Rattle.fl_value.specs.declared.value.Call.{Call}
 use Rattle.fl_value.specs.Value.{call_of}
-use Rattle.fl_running.specs.Made.{calls_of_jobs, desk_of}
+use Rattle.fl_running.specs.Jobs.{calls_of_jobs}
+use Rattle.fl_logs.specs.Made.{desk_of}
 use Rattle.fl_dockets.specs.Dockets.{docket_at, reply_by}
 use Rattle.fl_queues.specs.Given.{given}
 use Rattle.fl_monitor.specs.Routing.{given as given_at}
@@ -13,8 +14,8 @@ use Rattle.fl_node.specs.View.{TheCore, slot_of, client_of}
 use Rattle.fl_hop.proofs.Lists.{within}
 use Rattle.fl_running.specs.declared.word.Word.{Word}
 use Rattle.fl_running.specs.Desks.{TheDesk, desk_place}
-use Rattle.fl_running.specs.Logs.{handled_of}
 use Rattle.fl_running.specs.Words.{refusal_at as refusal_there}
+use Rattle.fl_logs.specs.Logs.{handled_of}
 use Rattle.fl_jobs.specs.Report.{TheReport, BothEnds, at_end, refusal_of, complete, turns_out}
 use Rattle.fl_worlds.specs.declared.parts.Parts.{Parts}
 use Rattle.fl_setups.specs.Start.{SetUpsStartFresh}

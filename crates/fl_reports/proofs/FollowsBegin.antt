@@ -18,7 +18,7 @@ use Rattle.fl_node.specs.Numbers.{moved, moved_wire, moved_port, renumbered}
 use Rattle.fl_node.specs.Sound.{IsCore}
 use Rattle.fl_node.specs.View.{TheCore, place_of, arrivals_by}
 use Rattle.fl_node.proofs.Numbering.{came_from}
-use Rattle.fl_running.specs.Led.{LeadsAtFirst}
+use Rattle.fl_logs.specs.Led.{LeadsAtFirst}
 use Rattle.fl_queues.specs.Given.{given}
 use Rattle.fl_queues.specs.Monitors.{Core}
 use Rattle.fl_queues.specs.State.{core_of}
@@ -323,7 +323,7 @@ module _ (fresh : SetUpsStartFresh) (c : TheConfig) (jobs : List Job) (limit : â
       names = names;
       serves = serves;
       quiet = Î» e x x_is none. absurd (first_bound s.run.core.monitor.circuits.core s.run.core.board.seats s.run.core.ports e x x_is none);
-      apart = subst Rattle.fl_running.specs.Flows.IsApart (sym run_is)
+      apart = subst Rattle.fl_logs.specs.Flows.IsApart (sym run_is)
           (begins_apart world parts ready places w.ran.ran.ran.stations w.ran.ran.ran.outcomes w.ran.ran.ran.shares n k station.core_is was_core);
       led = leads s.run.core no_arrivals quiet.quiet;
     }

@@ -7,9 +7,8 @@ use Rattle.fl_hop.proofs.Lists.{at_within, within}
 use Rattle.fl_node.specs.View.{side_of_link}
 use Rattle.fl_ring.specs.Laws.{SideLaw}
 use Rattle.fl_running.specs.Deeds.{Deed}
-use Rattle.fl_running.specs.Logs.{Goes}
-use Rattle.fl_running.specs.Led.{LeadsAtFirst}
-use Rattle.fl_running.specs.Ran.{CountedAreTurns}
+use Rattle.fl_logs.specs.Logs.{Goes, CountedAreTurns}
+use Rattle.fl_logs.specs.Led.{LeadsAtFirst}
 use Rattle.fl_jobs.specs.Jobs.{Job}
 use Rattle.fl_jobs.specs.Report.{TheReport}
 use Rattle.fl_system.specs.Booting.{TheConfig}

@@ -5,9 +5,10 @@ use Rattle.fl_running.specs.declared.job.Job.{Job}
 use Rattle.fl_running.specs.declared.plan.Plan.{Plan}
 use Rattle.fl_running.specs.declared.run.End.{End}
 use Rattle.fl_running.specs.declared.run.End.TheVariants.{Finished, Unfinished, Told}
-use Rattle.fl_running.specs.Ran.{GoesOn, CountedAreTurns}
+use Rattle.fl_running.specs.Ran.{GoesOn}
 use Rattle.fl_running.specs.Run.{TheRun}
 use Rattle.fl_running.specs.Turn.{Turned}
+use Rattle.fl_logs.specs.Logs.{CountedAreTurns}
 use Rattle.fl_threads.specs.Begins.{TheStation}
 use Rattle.fl_threads.specs.Tells.{TheOutcome, RanTo, shared_ways}
 

@@ -27,12 +27,12 @@ use Rattle.fl_node.specs.declared.answer.MonitorAnswer.TheVariants as answer
 use Rattle.fl_node.specs.View.{TheCore, side_of_link}
 use Rattle.fl_running.specs.declared.job.Job.{Job as CoreJob}
 use Rattle.fl_running.specs.Deeds.{Deed, looked, passed, arrived, heard, said, told, opened, called, ruled, wrote, acked, turned, Happens}
-use Rattle.fl_running.specs.Logs.{InPlace, Goes, LogsLook}
 use Rattle.fl_running.specs.Run.{TheRun}
-use Rattle.fl_running.proofs.Apart.{side_before}
-use Rattle.fl_running.proofs.Aside.{rings_aside, core_aside}
-use Rattle.fl_running.proofs.Growing.{does_grow}
-use Rattle.fl_running.proofs.Laning.{lane_of}
+use Rattle.fl_logs.specs.Logs.{InPlace, Goes, LogsLook}
+use Rattle.fl_logs.proofs.Apart.{side_before}
+use Rattle.fl_logs.proofs.Aside.{rings_aside, core_aside}
+use Rattle.fl_logs.proofs.Growing.{does_grow}
+use Rattle.fl_logs.proofs.Laning.{lane_of}
 use Rattle.fl_queues.specs.Binding.{all_differ}
 use Rattle.fl_queues.specs.Monitors.{Service}
 use Rattle.fl_queues.specs.Rings.{Opening, open_circuit}

@@ -14,9 +14,7 @@ use Rattle.fl_queues.specs.Runs.{same_end}
 use Rattle.fl_running.specs.declared.job.Job.{Job as CoreJob}
 use Rattle.fl_running.specs.declared.job.Job.TheVariants as core
 use Rattle.fl_running.specs.declared.job.Wish.{Wish as CoreWish}
-use Rattle.fl_running.specs.Carried.{is_rule, HasNoRule}
-use Rattle.fl_running.specs.Logs.{calls_of_job}
-use Rattle.fl_running.specs.Made.{calls_of_jobs}
+use Rattle.fl_running.specs.Jobs.{is_rule, HasNoRule, calls_of_job, calls_of_jobs}
 use Rattle.fl_worlds.specs.declared.binding.Binding.{Binding}
 use Rattle.fl_jobs.specs.Jobs.{Job, Wish, own_calls, reply_to}
 use Rattle.fl_dockets.specs.declared.docket.Bound.{Bound}

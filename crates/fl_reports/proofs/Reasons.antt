@@ -19,12 +19,12 @@ use Rattle.fl_running.specs.declared.job.Job.{Job as CoreJob}
 use Rattle.fl_running.specs.declared.job.Wish.{Wish}
 use Rattle.fl_running.specs.Deeds.{Deed}
 use Rattle.fl_running.specs.Desks.{TheDesk, desk_place}
-use Rattle.fl_running.specs.Led.{LeadsAtFirst}
-use Rattle.fl_running.specs.Logs.{Goes}
-use Rattle.fl_running.specs.Made.{desk_of}
 use Rattle.fl_running.specs.Ran.{task, moment}
 use Rattle.fl_running.specs.Run.{TheRun}
 use Rattle.fl_running.specs.Words.{refusal_at}
+use Rattle.fl_logs.specs.Led.{LeadsAtFirst}
+use Rattle.fl_logs.specs.Logs.{Goes}
+use Rattle.fl_logs.specs.Made.{desk_of}
 use Rattle.fl_queues.specs.Events.{DispatcherId}
 use Rattle.fl_queues.specs.Given.{given as in_machine}
 use Rattle.fl_queues.specs.Making.{has_link}

@@ -18,10 +18,10 @@ use Rattle.fl_node.specs.declared.wire.Port.{Port}
 use Rattle.fl_node.specs.View.{TheCore, place_of, client_of}
 use Rattle.fl_running.specs.declared.job.Job.{Job}
 use Rattle.fl_running.specs.Deeds.{Deed, IsSound}
-use Rattle.fl_running.specs.Logs.{Goes}
 use Rattle.fl_running.specs.Run.{TheRun}
-use Rattle.fl_running.proofs.Aside.{core_aside}
-use Rattle.fl_running.proofs.Leading.{as_many}
+use Rattle.fl_logs.specs.Logs.{Goes}
+use Rattle.fl_logs.proofs.Aside.{core_aside}
+use Rattle.fl_logs.proofs.Leading.{as_many}
 use Rattle.fl_endings.proofs.Seats.{Keeps, keeps_same, keeps_then, does_keep}
 use Rattle.fl_honest.specs.Cores.{shared_ways}
 use Rattle.fl_reports.proofs.Runs.{is_there}

@@ -8,9 +8,9 @@ use Rattle.fl_hop.specs.Joined.{Sound as IsTable}
 use Rattle.fl_node.specs.View.{TheCore}
 use Rattle.fl_node.specs.Sound.{IsCore}
 use Rattle.fl_running.specs.declared.job.Job.{Job as CoreJob}
-use Rattle.fl_running.specs.Flows.{IsApart}
 use Rattle.fl_running.specs.Ran.{task, moment}
 use Rattle.fl_running.specs.Run.{TheRun}
+use Rattle.fl_logs.specs.Flows.{IsApart}
 use Rattle.fl_honest.specs.Cores.{OneCore, Went, AllWent, CoresGo}
 use Rattle.fl_threads.specs.Begins.{TheStation, TheCommon, IsStation, AreStations}
 use Rattle.fl_threads.specs.Shares.{AreSound}

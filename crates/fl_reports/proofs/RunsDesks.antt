@@ -10,7 +10,7 @@ use Rattle.fl_monitor.specs.Routing.{given}
 use Rattle.fl_queues.specs.Given.{given as in_machine}
 use Rattle.fl_node.specs.View.{TheCore, most_bindings, slot_of, client_of, server_of}
 use Rattle.fl_running.specs.Desks.{TheDesk, desk_place}
-use Rattle.fl_running.specs.Made.{desk_of}
+use Rattle.fl_logs.specs.Made.{desk_of}
 use Rattle.fl_dockets.specs.declared.docket.Bound.{Bound}
 use Rattle.fl_dockets.specs.Dockets.{TheDocket, docket_at}
 use Rattle.fl_dockets.specs.Joined.{core_of}

@@ -23,7 +23,7 @@ use Rattle.fl_node.specs.declared.wire.Wire.TheVariants.{Queues, Ring, Circuit}
 use Rattle.fl_node.specs.View.{TheCore, arrivals_by, place_of, side_of_link}
 use Rattle.fl_node.specs.Numbers.{moved, moved_lane, moved_port, moved_wire}
 use Rattle.fl_node.proofs.Numbering.{came_from}
-use Rattle.fl_running.specs.Led.{IsLed, LeadsAtFirst}
+use Rattle.fl_logs.specs.Led.{IsLed, LeadsAtFirst}
 use Rattle.fl_worlds.specs.declared.binding.Binding.{Binding}
 use Rattle.fl_worlds.specs.View.{TheWorld, core_in}
 use Rattle.fl_dockets.specs.Rules.{RulesOf}

@@ -32,8 +32,8 @@ use Rattle.fl_node.proofs.Hearsay.{hears_length}
 use Rattle.fl_running.specs.declared.job.Job.{Job}
 use Rattle.fl_running.specs.Run.{Ways, TheRun}
 use Rattle.fl_running.specs.Deeds.{Deed, looked, passed, arrived, heard, said, told, opened, called, ruled, wrote, acked, turned, Does}
-use Rattle.fl_running.specs.Logs.{Goes}
-use Rattle.fl_running.proofs.Aside.{core_aside}
+use Rattle.fl_logs.specs.Logs.{Goes}
+use Rattle.fl_logs.proofs.Aside.{core_aside}
 
 -- how many it has
 abbrev pub links_of : TheCore → ℕ

@@ -23,9 +23,9 @@ use Rattle.fl_running.specs.declared.job.Job.{Job as CoreJob}
 use Rattle.fl_running.specs.declared.job.Job.TheVariants as job
 use Rattle.fl_running.specs.declared.job.Wish.{Wish}
 use Rattle.fl_running.specs.Desks.{TheDesk, desk_place}
-use Rattle.fl_running.specs.Made.{desk_of}
 use Rattle.fl_running.specs.Run.{TheRun}
-use Rattle.fl_running.specs.Led.{LeadsAtFirst}
+use Rattle.fl_logs.specs.Made.{desk_of}
+use Rattle.fl_logs.specs.Led.{LeadsAtFirst}
 use Rattle.fl_worlds.specs.declared.binding.Binding.{Binding}
 use Rattle.fl_dockets.specs.declared.docket.Bound.{Bound}
 use Rattle.fl_dockets.specs.Dockets.{TheDocket, docket_at, end_of, places_of}

@@ -6,7 +6,7 @@ use Rattle.fl_node.specs.Numbers.{moved}
 use Rattle.fl_node.proofs.Numbering.{goes_to}
 use Rattle.fl_running.specs.declared.job.Job.{Job as CoreJob}
 use Rattle.fl_running.specs.Run.{TheRun}
-use Rattle.fl_running.specs.Logs.{LogsLook}
+use Rattle.fl_logs.specs.Logs.{LogsLook}
 use Rattle.fl_worlds.specs.declared.parts.Parts.{Parts}
 use Rattle.fl_deal.specs.Dealt.{Hands, AreDealt}
 use Rattle.fl_deal.specs.Settled.{Pair, sides_of, Each, IsNear, DealtGoOn}

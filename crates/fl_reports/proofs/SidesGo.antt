@@ -9,8 +9,8 @@ use Rattle.fl_node.specs.declared.wire.Inlet.TheVariants as inlet
 use Rattle.fl_running.specs.declared.job.Job.{Job as CoreJob}
 use Rattle.fl_running.specs.Run.{Ways, TheRun}
 use Rattle.fl_running.specs.Deeds.{Deed, looked, passed, arrived, heard, said, told, opened, called, ruled, wrote, acked, turned, OnRing, Does}
-use Rattle.fl_running.specs.Logs.{Goes, SidesGo, LogsLook}
-use Rattle.fl_running.proofs.Aside.{rings_aside}
+use Rattle.fl_logs.specs.Logs.{Goes, SidesGo, LogsLook}
+use Rattle.fl_logs.proofs.Aside.{rings_aside}
 use Rattle.fl_deal.specs.Dealt.{hand_at}
 use Rattle.fl_deal.specs.Settled.{WentOn, AllWentOn, HandsWentOn}
 use Rattle.fl_honest.specs.Cores.{shared_ways, OneCore}

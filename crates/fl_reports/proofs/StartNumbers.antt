@@ -12,7 +12,7 @@ use Rattle.fl_node.specs.Sound.{IsCore, IsWired, kinds_wired}
 use Rattle.fl_node.specs.Numbers.{moved, moved_lane, moved_wire, moved_port, renumbered}
 use Rattle.fl_node.proofs.Numbering.{came_from, goes_to}
 use Rattle.fl_queues.specs.Given.{given}
-use Rattle.fl_running.specs.Flows.{IsApart}
+use Rattle.fl_logs.specs.Flows.{IsApart}
 use Rattle.fl_worlds.specs.Picture.{wire_of}
 use Rattle.fl_setups.specs.Start.{NamesSide, NamesQueue}
 

@@ -8,7 +8,7 @@ use Rattle.fl_node.specs.declared.wire.Wire.TheVariants.{Queues, Ring, Circuit}
 use Rattle.fl_node.specs.View.{TheCore, side_of_link, with_board}
 use Rattle.fl_node.specs.Sound.{IsCore, IsWired, kinds_seated}
 use Rattle.fl_hop.specs.Table.{link_of}
-use Rattle.fl_running.specs.Flows.{IsApart}
+use Rattle.fl_logs.specs.Flows.{IsApart}
 use Rattle.fl_worlds.specs.declared.binding.Binding.{Binding}
 use Rattle.fl_worlds.specs.View.{TheWorld, core_in}
 use Rattle.fl_jobs.specs.Jobs.{Job, opens, replies, calls}

@@ -5,7 +5,7 @@ use Rattle.fl_link.specs.Queue.{TheQueue}
 use Rattle.fl_node.specs.View.{TheCore}
 use Rattle.fl_node.specs.Sound.{IsCore}
 use Rattle.fl_node.specs.Numbers.{moved, renumbered}
-use Rattle.fl_running.specs.Flows.{IsApart}
+use Rattle.fl_logs.specs.Flows.{IsApart}
 use Rattle.fl_worlds.specs.View.{TheWorld, ring_at}
 use Rattle.fl_worlds.specs.Binding.{new_queue}
 use Rattle.fl_worlds.specs.declared.parts.Parts.{Parts}

@@ -13,8 +13,9 @@ use Rattle.fl_node.specs.View.{TheCore, most_bindings, slot_of}
 use Rattle.fl_running.specs.declared.job.Job.{Job as CoreJob}
 use Rattle.fl_running.specs.Desks.{TheDesk}
 use Rattle.fl_running.specs.Run.{TheRun}
-use Rattle.fl_running.specs.Logs.{in_desk, handled_of}
-use Rattle.fl_running.specs.Made.{calls_of_jobs, done_at, done_of}
+use Rattle.fl_running.specs.Jobs.{calls_of_jobs}
+use Rattle.fl_logs.specs.Logs.{in_desk, handled_of}
+use Rattle.fl_logs.specs.Made.{done_at, done_of}
 use Rattle.fl_jobs.specs.Report.{BothEnds, TheReport, at_side, at_end}
 use Rattle.fl_dockets.specs.declared.docket.Bound.{Bound}
 use Rattle.fl_dockets.specs.Dockets.{TheDocket, docket_at, reply_by}

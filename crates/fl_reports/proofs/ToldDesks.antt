@@ -16,8 +16,8 @@ use Rattle.fl_running.specs.declared.job.Job.{Job as CoreJob}
 use Rattle.fl_running.specs.Desks.{TheDesk, desk_place, advanced, with_handled, with_refusal, ChangesIf}
 use Rattle.fl_running.specs.Run.{TheRun, AtDesk}
 use Rattle.fl_running.specs.Deeds.{Deed, looked, passed, arrived, heard, said, told, opened, called, ruled, wrote, acked, turned, NotesHeard, NotesOpened, NotesCalled, NotesTurned, Notes}
-use Rattle.fl_running.specs.Logs.{Goes}
-use Rattle.fl_running.proofs.Handling.{desks_stay}
+use Rattle.fl_logs.specs.Logs.{Goes}
+use Rattle.fl_logs.proofs.Handling.{desks_stay}
 use Rattle.fl_honest.specs.Cores.{shared_ways}
 
 abbrev pub jobs_in : TheDesk → List ℕ

@@ -20,9 +20,9 @@ use Rattle.fl_queues.specs.State.{end_in}
 use Rattle.fl_node.specs.View.{TheCore, place_in, place_of, client_of}
 use Rattle.fl_running.specs.declared.job.Job.TheVariants as job
 use Rattle.fl_running.specs.declared.job.Wish.{Wish}
-use Rattle.fl_running.specs.Led.{LeadsAtFirst}
-use Rattle.fl_running.specs.Logs.{Goes}
 use Rattle.fl_running.specs.Run.{TheRun}
+use Rattle.fl_logs.specs.Led.{LeadsAtFirst}
+use Rattle.fl_logs.specs.Logs.{Goes}
 use Rattle.fl_shows.specs.CoreLaws.{NamesAreShown}
 use Rattle.fl_worlds.specs.View.{TheWorld}
 use Rattle.fl_worlds.proofs.FramesBase.{binding_of_end}

@@ -4,7 +4,7 @@ use Rattle.std.proofs.lemmas.List.{length-set}
 use Rattle.fl_base.specs.declared.identity.EndId.{EndId}
 use Rattle.fl_compile.specs.Programs.{program_of}
 use Rattle.fl_node.specs.View.{TheCore}
-use Rattle.fl_running.specs.Led.{LeadsAtFirst}
+use Rattle.fl_logs.specs.Led.{LeadsAtFirst}
 use Rattle.fl_worlds.specs.declared.binding.Binding.{Binding}
 use Rattle.fl_worlds.specs.View.{core_in}
 use Rattle.fl_system.specs.Booting.{TheConfig}

@@ -2,8 +2,8 @@
 use Rattle.std.specs.Prelude.{ℕ, ◌≡◌, ◌≤◌, List, slice_get, Some, None}
 use Rattle.fl_running.specs.declared.job.Job.{Job as CoreJob}
 use Rattle.fl_running.specs.Deeds.{Deed}
-use Rattle.fl_running.specs.Logs.{Goes}
 use Rattle.fl_running.specs.Turn.{Turned}
+use Rattle.fl_logs.specs.Logs.{Goes}
 use Rattle.fl_queues.specs.Ends.{End}
 use Rattle.fl_queues.specs.Monitors.{Core}
 use Rattle.fl_queues.specs.State.{Binding, State, core_of, binding_of, interface_of, end_of}

@@ -1,7 +1,7 @@
 -- The cores of a run, each as it began, by what happened there, and as it ended.
 use Rattle.std.specs.Prelude.{◌≡◌, List, [], ◌∷◌}
 use Rattle.fl_running.specs.declared.job.Job.{Job as CoreJob}
-use Rattle.fl_running.specs.Logs.{Goes}
+use Rattle.fl_logs.specs.Logs.{Goes}
 use Rattle.fl_honest.specs.Cores.{shared_ways, OneCore}
 use Rattle.fl_threads.specs.Begins.{TheStation}
 use Rattle.fl_threads.specs.Tells.{TheOutcome}

@@ -8,12 +8,6 @@ pub mod Words
 pub mod Finished
 pub mod Ran
 pub mod Stops
-pub mod Logs
-pub mod Made
-pub mod Lending
-pub mod Carried
-pub mod Led
-pub mod Flows
-pub mod Agree
+pub mod Jobs
 -- This one only the proofs need.
 pub mod Inside

@@ -101,9 +101,3 @@ pub record CoreRan {S : Type 0} (w : Ways S) (t : Task) (a : Moment S) (part : P
   pub heard : b.ticket.seat.knows.heard ≡ told.knows.heard
   -- a core that finished saw at last that all had ended, or that one stopped
   pub others : part.end ≡ Finished → HaveEnded t.plan.cores b.ticket.seat.knows.seen
-
--- ---- law
-
--- counted turns are turns
-abbrev pub CountedAreTurns : {S : Type 0} → Ways S → Type 0
-CountedAreTurns {S} w = (t : Task) (a b : Moment S) (part : Part) → Counted w t a part b → Turned w t.plan t.jobs part.turns a.run b.run

@@ -12,23 +12,23 @@ use fl_node::{Inlet, Outlet};
 
 /// The place of an end, and where it puts.
 #[derive(Clone, Copy, Debug, PartialEq, Eq)]
-pub(crate) struct Post {
-    pub(crate) end: usize,
-    pub(crate) outlet: Outlet,
+pub struct Post {
+    pub end: usize,
+    pub outlet: Outlet,
 }
 
 /// The place of an end that is due, and where it takes from.
 #[derive(Clone, Copy, Debug, PartialEq, Eq)]
-pub(crate) struct Due {
-    pub(crate) end: usize,
-    pub(crate) inlet: Inlet,
+pub struct Due {
+    pub end: usize,
+    pub inlet: Inlet,
 }
 
 /// The place of an end of a ring, and its side.
 #[derive(Clone, Copy, Debug, PartialEq, Eq)]
-pub(crate) struct Berth {
-    pub(crate) end: usize,
-    pub(crate) side: usize,
+pub struct Berth {
+    pub end: usize,
+    pub side: usize,
 }
 
 /// The side of a link.

@@ -7,10 +7,8 @@
 //!
 //! Contract for the layers above: each event is the core's own (`specs/Deeds.antt`: what a core's log is made of); which
 //! events come in a turn, and in which order, stands in `specs/Steps.antt` and `specs/Turn.antt`; when a core has nothing left to do in
-//! `specs/Finished.antt`, what it tells of refused openings in `specs/Words.antt`, and the whole run in `specs/Ran.antt`. Laws over logs (`law.rt`): the calls
-//! that were made are those of the jobs (`specs/Made.antt`), what queues carry and when rules are set (`specs/Carried.antt`), what passes over links, rings and
-//! ends (`specs/Flows.antt`), as the table of circuits leads it (`specs/Led.antt`), what two ends come to between them (`specs/Agree.antt`), and that lent
-//! sides stay lent (`specs/Lending.antt`).
+//! `specs/Finished.antt`, what it tells of refused openings in `specs/Words.antt`, and the whole run in `specs/Ran.antt`. What jobs ask for stands in
+//! `specs/Jobs.antt`. What follows for logs is `fl_logs`'s.
 //!
 //! - `running.rt`: `Running`, and turns
 //! - `links.rt`: what is done for a link
@@ -24,7 +22,6 @@
 //! - `finish.rt`: when nothing is left to do
 //! - `run.rt`, `gate.rt`, `fault.rt`: the whole run
 //! - `rest.rt`: pauses between turns that find nothing
-//! - `law.rt`: what holds of turns
 #![tactic(auto)]
 
 mod desk;
@@ -34,7 +31,6 @@ mod fault;
 mod finish;
 mod gate;
 mod job;
-mod law;
 mod lent;
 mod links;
 mod opening;
@@ -49,10 +45,7 @@ pub use desk::Desk;
 pub use fault::CoresFault;
 pub use gate::Gate;
 pub use job::{Job, Wish};
-pub use law::{
-    counted_are_turns, ends_agree, jobs_are_made, leads_at_first, logs_flow, queues_carry,
-    rules_come_first, sent_by_rules, sides_go, sides_stay_lent, turns_are_logged,
-};
+pub use lent::{Berth, Due, Post};
 pub use plan::Plan;
 pub use run::{End, Part, core_run};
 pub use running::Running;

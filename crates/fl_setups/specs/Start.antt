@@ -14,7 +14,7 @@ use Rattle.fl_node.specs.declared.wire.Wire.{Wire}
 use Rattle.fl_node.specs.declared.wire.Wire.TheVariants.{Queues, Ring}
 use Rattle.fl_node.specs.View.{TheCore, place_of, side_of_link, client_of, server_of}
 use Rattle.fl_node.specs.Sound.{IsCore}
-use Rattle.fl_running.specs.Flows.{IsNew, IsApart}
+use Rattle.fl_logs.specs.Flows.{IsNew, IsApart}
 use Rattle.fl_queues.specs.Events.{Event}
 use Rattle.fl_queues.specs.State.{State}
 use Rattle.fl_queues.specs.Worlds.{start_with}

@@ -5,8 +5,7 @@ use Rattle.std.proofs.lemmas.List.{append-nil, append_assoc, map-append}
 use Rattle.std.proofs.lemmas.List.Concat.{flat_map-append, flat_map-cons}
 use Rattle.std.proofs.lemmas.List.FromFn.{map-range_with_len_more}
 use Rattle.fl_running.specs.declared.job.Job.{Job}
-use Rattle.fl_running.specs.Logs.{calls_of_job}
-use Rattle.fl_running.specs.Made.{calls_of_jobs}
+use Rattle.fl_running.specs.Jobs.{calls_of_job, calls_of_jobs}
 use Rattle.fl_running.specs.Desks.{TheDesk}
 use Rattle.fl_dockets.specs.declared.docket.Bound.{Bound}
 use Rattle.fl_dockets.specs.State.{TheJoined}

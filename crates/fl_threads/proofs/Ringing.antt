@@ -13,9 +13,9 @@ use Rattle.fl_running.specs.declared.run.End.{End}
 use Rattle.fl_running.specs.declared.run.End.TheVariants.{Finished, Unfinished, Told}
 use Rattle.fl_running.specs.Run.{Ways, TheRun}
 use Rattle.fl_running.specs.Deeds.{Deed, looked, passed, arrived, heard, said, told, opened, called, ruled, wrote, acked, turned, OnRing, OnQueue, Does}
-use Rattle.fl_running.specs.Logs.{Goes, TurnsAreLogged, SidesGo, LogsLook}
-use Rattle.fl_running.specs.Ran.{Task, task, GoesOn, CountedAreTurns}
-use Rattle.fl_running.proofs.Aside.{rings_aside}
+use Rattle.fl_running.specs.Ran.{Task, task, GoesOn}
+use Rattle.fl_logs.specs.Logs.{Goes, TurnsAreLogged, SidesGo, LogsLook, CountedAreTurns}
+use Rattle.fl_logs.proofs.Aside.{rings_aside}
 use Rattle.fl_deal.specs.Dealt.{AreDealt}
 use Rattle.fl_deal.specs.Settled.{WentOn, AllWentOn, HandsWentOn, Pair, sides_of, Each, IsRing, DealtGoOn, RingsStay}
 use Rattle.fl_threads.specs.Begins.{TheStation}

@@ -12,7 +12,7 @@ use crate::fork::Done;
 use crate::gathering::gather;
 use fl_deal::{dealt_go_on, settle};
 use fl_ring::SharedSide;
-use fl_running::{counted_are_turns, sides_go, turns_are_logged};
+use fl_logs::{counted_are_turns, sides_go, turns_are_logged};
 use fl_tally::EndSeat;
 use std::alloc::{AllocError, Global};
 

@@ -1,6 +1,6 @@
 use Rattle.std.proofs.Common.{◌≡◌, ◌++◌, map, drop}
 use Rattle.fl_value.specs.Value.{call_of}
-use Rattle.fl_running.specs.Made.{calls_of_jobs}
+use Rattle.fl_running.specs.Jobs.{calls_of_jobs}
 use Rattle.fl_threads.proofs.telling.calls_of_jobs.Given as goal
 
 -- the calls so far, and those of the places that are left

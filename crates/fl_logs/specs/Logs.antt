@@ -1,0 +1,144 @@
+-- A core's log: what happened there, event by event. Laws.
+use Rattle.std.specs.Prelude.{ℕ, ◌≡◌, ◌≢◌, ◌+◌, ◌≤◌, ◌==◌, if◌then◌else◌, true, false, List, [], ◌∷◌, ◌++◌, slice_get, Option, Some, None, IsSome}
+use Rattle.fl_base.specs.declared.fragment.Frag.{Frag}
+use Rattle.fl_base.specs.declared.identity.EndId.{EndId}
+use Rattle.fl_base.specs.declared.identity.LinkId.{LinkId}
+use Rattle.fl_base.specs.declared.identity.Circuit.{Circuit}
+use Rattle.fl_base.specs.Control.{circuit_of}
+use Rattle.fl_value.specs.declared.value.Call.{Call}
+use Rattle.fl_core.specs.declared.answer.TurnAnswer.{TurnAnswer}
+use Rattle.fl_core.specs.declared.answer.TurnAnswer.TheVariants.{Handle}
+use Rattle.fl_link.specs.Looks.{Look, Looks, LinkStep, puts_of, takes_of}
+use Rattle.fl_hop.specs.declared.entry.Way.{Way}
+use Rattle.fl_hop.specs.declared.entry.Way.TheVariants.{Link, End}
+use Rattle.fl_hop.specs.Forward.{IsOther}
+use Rattle.fl_hop.specs.Later.{way_at}
+use Rattle.fl_hop.specs.Stretch.{same_end}
+use Rattle.fl_monitor.specs.Routing.{given}
+use Rattle.fl_node.specs.View.{place_of, side_of_link}
+use Rattle.fl_running.specs.declared.job.Job.{Job}
+use Rattle.fl_running.specs.declared.job.Job.TheVariants as job
+use Rattle.fl_running.specs.declared.lent.Due.{Due}
+use Rattle.fl_running.specs.declared.lent.Post.{Post}
+use Rattle.fl_running.specs.declared.lent.Berth.{Berth}
+use Rattle.fl_running.specs.declared.plan.Plan.{Plan}
+use Rattle.fl_running.specs.declared.run.Part.{Part}
+use Rattle.fl_running.specs.Desks.{TheDesk, desk_place}
+use Rattle.fl_running.specs.Run.{Ways, TheRun, next_job, lent_lane, lent_post, lent_due, lent_berth}
+use Rattle.fl_running.specs.Deeds.{Deed, looked, passed, arrived, heard, said, told, opened, called, ruled, wrote, acked, turned, Happens}
+use Rattle.fl_running.specs.Steps.{may_ask, awaits}
+use Rattle.fl_running.specs.Turn.{Turned}
+use Rattle.fl_running.specs.Ran.{Task, Moment, Counted}
+use Rattle.fl_running.specs.Jobs.{calls_of_job}
+
+-- the fragment stands on a link under a number that leads this way, as the core's table has it
+pub record LeadsTo {S : Type 0} (s : TheRun S) (n : ℕ) (l : LinkId) (frag : Frag) (way : Way) : Type 0 where
+  pub lane : lent_lane s l ≡ Some n
+  pub number : circuit_of frag.control ≢ 0
+  pub way_is : way_at s.core.monitor.circuits l.0 (circuit_of frag.control) ≡ Some way
+  pub other : IsOther s.core.monitor.circuits l.0 way
+
+-- it goes on under number c over side m, which is another link's
+pub record GoesOnOver {S : Type 0} (s : TheRun S) (n m : ℕ) (frag : Frag) (c : Circuit) : Type 0 where
+  pub link : LinkId
+  pub onward : LinkId
+  pub leads : LeadsTo s n link frag (Link onward c)
+  pub side : side_of_link s.core.lanes onward.0 ≡ Some m
+
+-- what happens there is in its place: over the side of its link, as the table of circuits leads, for the next job of its end, to and from where its end
+-- puts and takes, and at an end that waits for nothing
+abbrev pub InPlace : {S : Type 0} → List Job → TheRun S → Deed → Type 0
+InPlace jobs s (looked n l answer) = lent_lane s l ≡ Some n
+InPlace jobs s (passed n m frag c outcome) = GoesOnOver s n m frag c
+InPlace jobs s (arrived n l frag e answer) = LeadsTo s n l frag (End e)
+InPlace jobs s (heard n l frag answer) = (lent_lane s l ≡ Some n) × (circuit_of frag.control ≡ 0)
+InPlace jobs s (said n l answer) = lent_lane s l ≡ Some n
+InPlace jobs s (told n l answer) = lent_lane s l ≡ Some n
+InPlace jobs s (opened name wish answer) = (next_job jobs s name ≡ Some (job.Open wish)) × (may_ask s wish ≡ true)
+InPlace jobs s (called name c answer) = calls_of_job (next_job jobs s name) ≡ c ∷ []
+InPlace jobs s (ruled name msg reply answer) = (e : EndId) × (next_job jobs s name ≡ Some (job.Reply e msg reply))
+InPlace jobs s (wrote name out answer) = (post : Post) × (lent_post s name ≡ Some post) × (post.outlet ≡ out)
+InPlace jobs s (acked name n answer) = (berth : Berth) × (lent_berth s name ≡ Some berth) × (berth.side ≡ n)
+InPlace jobs s (turned d name from answer) =
+    (due : Due) × (lent_due s d ≡ Some due) × (place_of s.core name ≡ Some due.end) × (due.inlet ≡ from) × (awaits jobs s name ≡ false)
+
+-- the events of a log, one after another
+abbrev pub Goes : {S : Type 0} → Ways S → List Job → TheRun S → List Deed → TheRun S → Type 0
+Goes w jobs s [] t = t ≡ s
+Goes {S} w jobs s (deed ∷ log) t = (m : TheRun S) × Happens w deed s m × InPlace jobs s deed × Goes w jobs m log t
+
+-- how many calls the dispatcher of a place handled by one event, and in a log
+abbrev pub handled_by : ℕ → TurnAnswer → ℕ
+handled_by one (Handle call) = one
+handled_by one answer = 0
+
+abbrev pub handles_in : ℕ → Deed → ℕ
+handles_in d (turned e name from answer) = if e == d then handled_by 1 answer else 0
+handles_in d deed = 0
+
+abbrev pub handles : ℕ → List Deed → ℕ
+handles d [] = 0
+handles d (deed ∷ log) = handles_in d deed + handles d log
+
+-- what happened from one moment to another, where no dispatcher handled more calls than this
+pub record Logged {S : Type 0} (w : Ways S) (jobs : List Job) (most : ℕ → ℕ) (s t : TheRun S) : Type 0 where
+  pub log : List Deed
+  pub goes : Goes w jobs s log t
+  pub few : (d : ℕ) → handles d log ≤ most d
+
+-- all that changes a core in its turns is in a log, and no dispatcher handles more calls than turns were taken
+abbrev pub TurnsAreLogged : {S : Type 0} → Ways S → Type 0
+TurnsAreLogged {S} w = (plan : Plan) (jobs : List Job) (k : ℕ) (s t : TheRun S) → Turned w plan jobs k s t → Logged w jobs (λ d. k) s t
+
+-- counted turns are turns
+abbrev pub CountedAreTurns : {S : Type 0} → Ways S → Type 0
+CountedAreTurns {S} w = (t : Task) (a b : Moment S) (part : Part) → Counted w t a part b → Turned w t.plan t.jobs part.turns a.run b.run
+
+-- ---- what came of it at the desks
+
+-- the calls that the end of a name handled by one event, and in a log
+abbrev pub call_in : TurnAnswer → List Call
+call_in (Handle call) = call ∷ []
+call_in answer = []
+
+abbrev pub handled_in : EndId → Deed → List Call
+handled_in name (turned d e from answer) = if same_end e name then call_in answer else []
+handled_in name deed = []
+
+abbrev pub handled_at : EndId → List Deed → List Call
+handled_at name [] = []
+handled_at name (deed ∷ log) = handled_in name deed ++ handled_at name log
+
+-- the calls that its desk has as handled
+abbrev pub in_desk : Option TheDesk → List Call
+in_desk None = []
+in_desk (Some desk) = desk.handled
+
+abbrev pub handled_of : {S : Type 0} → TheRun S → EndId → List Call
+handled_of s name = given (desk_place s.desks name) [] λ n. in_desk (slice_get s.desks n)
+
+-- what a desk has as handled is just what its end handled
+abbrev pub DesksTellHandled : {S : Type 0} → Ways S → Type 0
+DesksTellHandled {S} w = (jobs : List Job) (s t : TheRun S) (log : List Deed) (name : EndId) → IsSome (desk_place s.desks name)
+    → Goes w jobs s log t → handled_of t name ≡ handled_of s name ++ handled_at name log
+
+-- ---- sides
+
+-- looks, puts and takes led from one state of a side to another
+abbrev pub Looked : {S : Type 0} → (S → Look → S → Type 0) → (S → Look → S → Type 0) → S → S → Type 0
+Looked puts takes p q = (looks : List Look) × Looks (LinkStep puts takes) p looks q
+
+-- over looks, puts and takes a side placed these fragments, and took these
+pub record Carries {S : Type 0} (puts takes : S → Look → S → Type 0) (put took : List Frag) (p q : S) : Type 0 where
+  pub looks : List Look
+  pub led : Looks (LinkStep puts takes) p looks q
+  pub put_is : puts_of looks ≡ put
+  pub took_is : takes_of looks ≡ took
+
+-- each of these sides stands at its place afterwards, and changed by looks, puts and takes alone
+abbrev pub SidesGo : {S : Type 0} → (S → Look → S → Type 0) → (S → Look → S → Type 0) → List S → List S → Type 0
+SidesGo {S} puts takes ps qs = (n : ℕ) (p : S) → slice_get ps n ≡ Some p → (q : S) × (slice_get qs n ≡ Some q) × Looked puts takes p q
+
+-- whatever happens at a core, its sides of rings change so
+abbrev pub LogsLook : {S : Type 0} → Ways S → Type 0
+LogsLook {S} w = (jobs : List Job) (s t : TheRun S) (log : List Deed) → Goes w jobs s log t → SidesGo w.puts w.takes s.rings t.rings
