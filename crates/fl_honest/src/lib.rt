@@ -1,6 +1,6 @@
 //! That the report of running cores is honest: laws.
 //!
-//! Contract for the layer above: laws, the contracts of functions that do nothing (`law.rt`), over what each core's log tells of a run (`fl_running`), what the
+//! Contract for the layer above: laws, the contracts of functions that do nothing (`law.rt`), over what each core's log tells of a run (`fl_logs`), what the
 //! sides of rings came to (`fl_deal`), and what was joined to ends (`fl_dockets`). What is taken through a queue or a ring is the first of what was put
 //! ([`cross_off_links`], `specs/Crossing.antt`). Of two ends of a binding, each of which took the first of what the other put, what one handled is the first of
 //! what the other made, and that the first of what was handed in for it ([`ends_are_honest`]). So it is of bindings by queues and by rings, and a report is
