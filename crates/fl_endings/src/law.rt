@@ -8,8 +8,8 @@ ghost use Rattle.fl_endings.specs.Complete.{CompleteHasAsMany, CompleteHasThese,
 ghost use Rattle.fl_endings.specs.Few.{EndsStay, UnfinishedHandleFew, DispatchersHandleFew};
 ghost use Rattle.fl_endings.specs.Refused.{SetUpIsNotRefused, RefusedAreOpened, RefusedAreSilent, HonestHandleFew};
 
-use fl_ring::SharedSide;
 use fl_logs::{counted_are_turns, jobs_are_made, turns_are_logged};
+use fl_ring::SharedSide;
 
 /// A report tells of as many turns as cores, each within the limit; and `turns out` only where a core that
 /// hadn't finished took all of its turns.

@@ -21,8 +21,11 @@ use fl_deal::rings_conserve;
 use fl_endpoint::on_another_circuit;
 use fl_hop::circuits_join;
 use fl_link::queue_conserves;
+use fl_logs::{
+    counted_are_turns, ends_agree, jobs_are_made, logs_flow, rules_come_first, sent_by_rules,
+    turns_are_logged,
+};
 use fl_ring::SharedSide;
-use fl_logs::{counted_are_turns, ends_agree, jobs_are_made, logs_flow, rules_come_first, sent_by_rules, turns_are_logged};
 
 /// A core's whole run, the turns that were counted and those that weren't, is a log; and one in which no opening is refused for want of memory.
 pub fn cores_go()

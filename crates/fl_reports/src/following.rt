@@ -5,8 +5,8 @@ ghost use Rattle.fl_reports.specs.Follows.{RunsFollow};
 use fl_cuts::{ready_cores_follow, starts_show};
 use fl_deal::dealt_go_on;
 use fl_honest::{cores_go, wishes_alone};
-use fl_ring::{SharedSide, side_conserves};
 use fl_logs::{counted_are_turns, leads_at_first, sides_go};
+use fl_ring::{SharedSide, side_conserves};
 use fl_setups::{set_ups_start_fresh, set_ups_touch_nothing};
 
 /// Of each core of a run that is reported: as it began it shows the first cut, with the machine's core of its number

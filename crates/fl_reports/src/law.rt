@@ -14,8 +14,8 @@ use crate::outcomes::{
 use fl_deal::dealt_go_on;
 use fl_honest::{cores_go, desks_tell_reasons, ends_sit, runs_are_honest};
 use fl_jobs::one_outcome;
-use fl_ring::SharedSide;
 use fl_logs::{leads_at_first, sides_go};
+use fl_ring::SharedSide;
 use fl_setups::set_ups_start_fresh;
 use fl_shows::names_are_shown;
 use fl_worlds::steps_agree;

@@ -11,8 +11,8 @@ ghost use Rattle.fl_threads.specs.Dealing.{RingsHold};
 use crate::fork::Done;
 use crate::gathering::gather;
 use fl_deal::{dealt_go_on, settle};
-use fl_ring::SharedSide;
 use fl_logs::{counted_are_turns, sides_go, turns_are_logged};
+use fl_ring::SharedSide;
 use fl_tally::EndSeat;
 use std::alloc::{AllocError, Global};
 
