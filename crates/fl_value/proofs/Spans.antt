@@ -1,9 +1,9 @@
 -- Bytes of a text that stand for themselves, taken and printed as one span.
-use Rattle.std.proofs.Common.{◌≡◌, ◌+◌, ◌-◌, ℕ, suc, Bool, true, false, List, [], ◌∷◌, ◌++◌, length, take, drop, refl, ap, sym, ◌∙◌, cond, eqb, leb, arith, subst, append_assoc}
+use Rattle.std.proofs.Common.{◌≡◌, ◌+◌, ◌-◌, ◌≤◌, ℕ, zero, suc, Bool, true, false, List, [], ◌∷◌, ◌++◌, length, take, drop, refl, ap, sym, ◌∙◌, cond, eqb, leb, arith, subst, append_assoc}
 use Rattle.std.specs.Prelude.{not, ◌&&◌}
 use Rattle.std.specs.Cmp.{first_so, second_so}
 use Rattle.std.specs.List.{prefix_len, flat_map, list_all}
-use Rattle.std.proofs.lemmas.List.{take_all, length-drop}
+use Rattle.std.proofs.lemmas.List.{take_all, length-drop, drop-drop}
 use Rattle.fl_value.specs.CallText.{is_plain, itself, TextBytes}
 use Rattle.fl_value.specs.Printed.{is_shown, printed_byte}
 
@@ -64,3 +64,20 @@ all_counted p [] all = refl
 all_counted p (x ∷ xs) all =
     let rest = all_counted p xs (second_so (p x) (list_all p xs) all) in
     rw (first_so (p x) (list_all p xs) all) (omega (arith, rest))
+
+-- a front that passes is counted, and then what is behind it
+passed : (p : ℕ → Bool) (m : ℕ) (ys : List ℕ) → list_all p (take m ys) ≡ true → m ≤ length ys → m + prefix_len p (drop m ys) ≡ prefix_len p ys
+passed p zero ys all few = omega arith
+passed p (suc m) [] all few = absurd (omega (arith, few))
+passed p (suc m) (y ∷ ys) all few =
+    let rest = passed p m ys (second_so (p y) (list_all p (take m ys)) all) (omega (arith, few)) in
+    rw (first_so (p y) (list_all p (take m ys)) all) (omega (arith, rest))
+
+-- one more span is counted
+pub span_passed : (p : ℕ → Bool) (xs : List ℕ) (n m k : ℕ) → list_all p (take m (drop n xs)) ≡ true → k ≡ n + m → k ≤ length xs → n + prefix_len p (drop n xs) ≡ prefix_len p xs
+    → k + prefix_len p (drop k xs) ≡ prefix_len p xs
+span_passed p xs n m k all is few before =
+    let there : m ≤ length (drop n xs) = omega (arith, length-drop n xs, few, is) in
+    let next = passed p m (drop n xs) all there in
+    let twice = ap (λ (ys : List ℕ). prefix_len p ys) (drop-drop m n xs) in
+    rw is (omega (arith, before, next, twice))

@@ -128,12 +128,26 @@ fn all_have_type(values: &[Value], fixed: &FixedType) -> bool
     true
 }
 
+/// Whether a value is one of the type: a scalar's, the most common, is told without a call.
+#[inline(always)]
+fn has_fixed_type(value: &Value, fixed: &FixedType) -> bool
+    ensures same { result ≡ has_type (type_of fixed.now) (datum_of value.now) }
+{
+    match fixed {
+        FixedType::Scalar(scalar) => match value {
+            Value::Int(number) => is_scalar_value(*scalar, *number),
+            _ => false,
+        },
+        _ => has_type(value, fixed),
+    }
+}
+
 /// Whether a value is one of an argument's type.
 fn is_argument(value: &Value, argument: &ArgType) -> bool
     ensures same { result ≡ is_argument (arg_type_of argument.now) (datum_of value.now) }
 {
     match argument {
-        ArgType::Fixed(fixed) => has_type(value, fixed),
+        ArgType::Fixed(fixed) => has_fixed_type(value, fixed),
         ArgType::Text(most) => match value {
             Value::Text(bytes) => is_text(bytes, *most),
             _ => false,

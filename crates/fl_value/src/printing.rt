@@ -37,9 +37,7 @@ fn are_shown(bytes: &[u8]) -> bool
 {
     let mut all = true;
     for byte in bytes {
-        if !is_shown(*byte) {
-            all = false;
-        }
+        all &= is_shown(*byte);
     }
     all
 }

@@ -121,12 +121,29 @@ fn count(values: &[Value]) -> u64
     values.len() as u64
 }
 
+/// Appends the numbers of a value: a scalar's, the most common, without a call.
+#[inline(always)]
+fn push_fixed(tape: &mut Vec<u64>, fixed: &FixedType, value: &Value) -> Result<(), AllocError>
+    ensures tape { OnOk result (tape.new.items ≡ tape.old.items ++ value_tape (type_of fixed.now) (datum_of value.now)) }
+{
+    match fixed {
+        FixedType::Scalar(scalar) => match value {
+            Value::Int(number) => {
+                tape.push(raw(8 * scalar.size(), *number))?;
+                Ok(())
+            }
+            _ => Ok(()),
+        },
+        _ => push_value(tape, fixed, value),
+    }
+}
+
 /// Appends an argument's numbers.
 fn push_argument(tape: &mut Vec<u64>, argument: &ArgType, value: &Value) -> Result<(), AllocError>
     ensures tape { OnOk result (tape.new.items ≡ tape.old.items ++ argument_tape (arg_type_of argument.now) (datum_of value.now)) }
 {
     match argument {
-        ArgType::Fixed(fixed) => push_value(tape, fixed, value),
+        ArgType::Fixed(fixed) => push_fixed(tape, fixed, value),
         ArgType::Text(_) => match value {
             Value::Text(bytes) => {
                 tape.push(bytes.len() as u64)?;

@@ -1,6 +1,6 @@
 //! The tokens of a call's text: numbers, texts in quotes, and marks.
 
-ghost use Rattle.std.specs.Prelude.{◌≡◌, ◌+◌, ◌<◌, ◌≤◌, ◌^◌, ℕ, ℤ, pos, neg_ℤ, List, ◌∷◌, IfSome, IfNone, IfOk, MatchOption, length, true};
+ghost use Rattle.std.specs.Prelude.{◌≡◌, ◌+◌, ◌<◌, ◌≤◌, ◌^◌, ℕ, ℤ, pos, neg_ℤ, List, ◌∷◌, IfSome, IfNone, IfOk, MatchOption, length, drop, true};
 ghost use Rattle.std.specs.List.{prefix_len, list_all};
 ghost use Rattle.std.specs.Char.{digit_value};
 ghost use Rattle.std.specs.Str.Parse.{digits_value};
@@ -9,6 +9,9 @@ ghost use Rattle.fl_value.specs.CallText.{is_blank, is_mark, is_plain, Blanks, D
 ghost use Rattle.fl_value.specs.CallText.{Token, a_number, a_text, a_mark, StopsAt, Closed};
 
 use std::alloc::{AllocError, Global};
+
+/// How many bytes of a text are looked at at once.
+const SPAN: usize = 64;
 
 fn is_blank(byte: u8) -> bool
     ensures same { result ≡ is_blank byte }
@@ -168,8 +171,43 @@ pub(crate) fn is_plain(byte: u8) -> bool
     byte >= b' ' && byte != b'"' && byte != b'\\'
 }
 
+/// Whether all bytes stand for themselves in a text. It doesn't stop at the first that doesn't, so that many are looked at at once.
+fn are_plain(bytes: &[u8]) -> bool
+    ensures same { result ≡ list_all is_plain bytes.now }
+{
+    let mut all = true;
+    for byte in bytes {
+        all &= is_plain(*byte);
+    }
+    all
+}
+
+/// How many bytes from here on stand for themselves for sure: whole spans, each looked at at once.
+fn count_plain_spans(bytes: &[u8]) -> usize
+    ensures within { result ≤ length bytes.now }
+    ensures plain { result + prefix_len is_plain (drop result bytes.now) ≡ prefix_len is_plain bytes.now }
+{
+    let mut count = 0;
+    while bytes.len() - count >= SPAN {
+        if !are_plain(&bytes[count..count + SPAN]) {
+            return count;
+        }
+        count += SPAN;
+    }
+    count
+}
+
 /// How many bytes from here on stand for themselves in a text.
 fn count_plain(bytes: &[u8]) -> usize
+    ensures same { result ≡ prefix_len is_plain bytes.now }
+    ensures within { result ≤ length bytes.now }
+{
+    let start = count_plain_spans(bytes);
+    start + count_plain_bytes(&bytes[start..])
+}
+
+/// The same, one byte after another.
+fn count_plain_bytes(bytes: &[u8]) -> usize
     ensures same { result ≡ prefix_len is_plain bytes.now }
     ensures within { result ≤ length bytes.now }
 {

@@ -260,6 +260,27 @@ fn read_sized<'a>(
     read_elements(alloc, elements, count, element)
 }
 
+/// The value of a type that the tape begins with, and what follows it: a scalar, the most common, without a call.
+#[inline(always)]
+fn read_fixed<'a>(
+    alloc: Global,
+    tape: &'a [u64],
+    fixed: &FixedType,
+) -> Result<Option<(Value, &'a [u64])>, AllocError>
+    ensures found { IfOk result (λ o. IfSome o (λ r. TheOne (ValueAt (type_of fixed.now) tape.now) (datum_of r.0) r.1.now)) }
+    ensures none { IfOk result (λ o. IfNone o (NoneOf (ValueAt (type_of fixed.now) tape.now))) }
+{
+    match fixed {
+        FixedType::Scalar(scalar) => {
+            let Some((number, rest)) = read_scalar(tape, *scalar) else {
+                return Ok(None);
+            };
+            Ok(Some((Value::Int(number), rest)))
+        }
+        _ => read_value(alloc, tape, fixed),
+    }
+}
+
 /// The argument that the tape begins with, and what follows it.
 fn read_argument<'a>(
     alloc: Global,
@@ -270,7 +291,7 @@ fn read_argument<'a>(
     ensures none { IfOk result (λ o. IfNone o (NoneOf (ArgumentAt (arg_type_of argument.now) tape.now))) }
 {
     match argument {
-        ArgType::Fixed(fixed) => read_value(alloc, tape, fixed),
+        ArgType::Fixed(fixed) => read_fixed(alloc, tape, fixed),
         ArgType::Text(most) => {
             let Some((bytes, rest)) = read_string(alloc, tape, *most)? else {
                 return Ok(None);
