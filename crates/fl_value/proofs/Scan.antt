@@ -1,10 +1,10 @@
 -- Runs of bytes that pass a test, and what stands where in a text.
-use Rattle.std.proofs.Common.{◌≡◌, ◌≤◌, ◌<◌, ◌+◌, ◌-◌, ◌^◌, ℕ, zero, suc, List, [], ◌∷◌, ◌++◌, length, take, drop, arith, ◌&&◌, get_or, refl, ap, sym, ◌∙◌, Bool, true, false, append_assoc, cond}
+use Rattle.std.proofs.Common.{◌≡◌, ◌≤◌, ◌<◌, ◌+◌, ◌-◌, ◌*◌, ◌^◌, ℕ, zero, suc, List, [], ◌∷◌, ◌++◌, length, take, drop, arith, ◌&&◌, get_or, refl, ap, sym, ◌∙◌, Bool, true, false, append_assoc, cond}
 use Rattle.std.proofs.lemmas.Bool.Decides.{nat_tests}
-use Rattle.std.proofs.lemmas.Int.Digits.{digits_value-lt}
+use Rattle.std.proofs.lemmas.Int.Digits.{digits_value-lt, digits_value_more}
 use Rattle.std.proofs.lemmas.Str.Parse.{digit_from_value}
 use Rattle.std.proofs.lemmas.List.Folds.{length-prefix_len, list_all-append}
-use Rattle.std.proofs.lemmas.List.{take-append-drop}
+use Rattle.std.proofs.lemmas.List.{take-append-drop, length-take-le}
 use Rattle.std.proofs.Math.Nat.{pow-le-pow_right}
 use Rattle.std.specs.Prelude.{nat_le}
 use Rattle.std.proofs.lemmas.Bool.{leb-true, false≢true}
@@ -120,3 +120,16 @@ pub digit_within : (ds : List ℕ) (i : ℕ) → AllDigits 10 ds → i < length 
 digit_within [] i h within = absurd (omega arith)
 digit_within (d ∷ ds) zero h within = digit_is d h.0
 digit_within (d ∷ ds) (suc i) h within = digit_within ds i h.1 (omega arith)
+
+-- what the digits before one of 20 write has room for another, and so before one of 19
+pub room : (digits : List ℕ) (i value : ℕ) → AllDigits 10 digits → length digits ≤ 20 → i < length digits → value ≡ digits_value 10 (take i digits) → value < 10 ^ 19
+room digits i value all few within e =
+    omega (arith, e, small_value (take i digits) 19 (digits_prefix digits i all) (omega (arith, length-take-le i digits, few)))
+
+pub short_room : (digits : List ℕ) (i value : ℕ) → AllDigits 10 digits → length digits ≤ 19 → i < length digits → value ≡ digits_value 10 (take i digits) → value < 10 ^ 18
+short_room digits i value all few within e =
+    omega (arith, e, small_value (take i digits) 18 (digits_prefix digits i all) (omega (arith, length-take-le i digits, few)))
+
+pub digit_step : (digits : List ℕ) (i value more : ℕ) → AllDigits 10 digits → i < length digits → value ≡ digits_value 10 (take i digits) → more ≡ get_or digits i 0 - 48 → value * 10 + more ≡ digits_value 10 (take (i + 1) digits)
+digit_step digits i value more all within e f =
+    omega (arith, e, f, digits_value_more 10 digits i within, digit_within digits i all within)

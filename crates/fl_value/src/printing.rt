@@ -3,7 +3,7 @@
 ghost use Rattle.std.specs.Prelude.{◌≡◌, ◌++◌, ◌<◌, ◌≤◌, List, OnOk, OnErr, map, length};
 ghost use Rattle.std.specs.List.{list_all, prefix_len};
 ghost use Rattle.std.specs.Char.{digit_char};
-ghost use Rattle.std.specs.Fmt.{signed_decimal};
+ghost use Rattle.std.specs.Fmt.{decimal, signed_decimal};
 ghost use Rattle.fl_value.specs.Value.{datum_of, data_from};
 ghost use Rattle.fl_value.specs.Printed.{is_shown, printed_byte, printed_text, printed_value, printed_values, printed_call, separator, BeginsToAppend};
 
@@ -87,11 +87,24 @@ fn print_text(out: &mut Vec<u8>, bytes: &[u8]) -> Result<(), AllocError>
     Ok(())
 }
 
+/// Appends a number of one digit.
+fn print_digit(out: &mut Vec<u8>, digit: u8) -> Result<(), AllocError>
+    requires below { digit < 10 }
+    ensures printed { OnOk result (out.new.items ≡ out.old.items ++ decimal digit) }
+    ensures begun { OnErr result (BeginsToAppend out.old.items out.new.items (decimal digit)) }
+{
+    out.push(b'0' + digit)?;
+    Ok(())
+}
+
 /// Appends a number in its shortest form.
 fn print_number(out: &mut Vec<u8>, number: i128) -> Result<(), AllocError>
     ensures printed { OnOk result (out.new.items ≡ out.old.items ++ signed_decimal number) }
     ensures begun { OnErr result (BeginsToAppend out.old.items out.new.items (signed_decimal number)) }
 {
+    if 0 <= number && number < 10 {
+        return print_digit(out, number as u8);
+    }
     let mut buffer = Buffer::new();
     out.extend_from_slice(buffer.format(number).as_bytes())
 }

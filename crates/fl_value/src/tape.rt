@@ -93,24 +93,36 @@ fn push_elements(
     Ok(())
 }
 
-/// Puts bytes into the rest of a tape, from a place on.
-fn put_bytes(tape: &mut [u64], start: usize, bytes: &[u8])
-    requires room { start + length bytes.now ≡ length tape.old }
-    ensures tape { tape.new ≡ take start tape.old ++ bytes.now }
+/// Appends bytes, one after another.
+fn push_each(tape: &mut Vec<u64>, bytes: &[u8]) -> Result<(), AllocError>
+    ensures tape { OnOk result (tape.new.items ≡ tape.old.items ++ bytes.now) }
 {
-    for (index, byte) in bytes.iter().enumerate() {
-        tape[start + index] = u64::from(*byte);
+    for byte in bytes {
+        tape.push(u64::from(*byte))?;
     }
+    Ok(())
 }
 
-/// Appends a string's bytes.
+/// Appends a string's bytes, eight at a time.
 fn push_bytes(tape: &mut Vec<u64>, bytes: &[u8]) -> Result<(), AllocError>
     ensures tape { OnOk result (tape.new.items ≡ tape.old.items ++ bytes.now) }
 {
-    let start = tape.len();
-    tape.resize(start + bytes.len(), 0)?;
-    put_bytes(tape.as_mut_slice(), start, bytes);
-    Ok(())
+    tape.reserve(bytes.len())?;
+    let mut rest = bytes;
+    while let [a, b, c, d, e, f, g, h, after @ ..] = rest {
+        tape.extend_from_slice(&[
+            u64::from(*a),
+            u64::from(*b),
+            u64::from(*c),
+            u64::from(*d),
+            u64::from(*e),
+            u64::from(*f),
+            u64::from(*g),
+            u64::from(*h),
+        ])?;
+        rest = after;
+    }
+    push_each(tape, rest)
 }
 
 /// How many values there are.

@@ -64,6 +64,19 @@ fn count_digits(bytes: &[u8]) -> usize
     bytes.len()
 }
 
+/// The number that at most 19 digits write: it fits a word.
+fn short_value(digits: &[u8]) -> u64
+    requires digits { list_all is_digit digits.now ≡ true }
+    requires few { length digits.now ≤ 19 }
+    ensures value { result ≡ digits_value 10 digits.now }
+{
+    let mut value = 0;
+    for digit in digits {
+        value = value * 10 + u64::from(*digit - b'0');
+    }
+    value
+}
+
 /// The number that at most 20 digits write.
 fn digits_value(digits: &[u8]) -> u128
     requires digits { list_all is_digit digits.now ≡ true }
@@ -71,6 +84,9 @@ fn digits_value(digits: &[u8]) -> u128
     ensures value { result ≡ digits_value 10 digits.now }
     ensures small { result < 10 ^ 20 }
 {
+    if digits.len() < 20 {
+        return u128::from(short_value(digits));
+    }
     let mut value = 0;
     for digit in digits {
         value = value * 10 + u128::from(*digit - b'0');
