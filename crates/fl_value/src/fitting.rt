@@ -67,11 +67,18 @@ fn has_no_zero(bytes: &[u8]) -> bool
     all
 }
 
+/// Whether all bytes are a string's: none is 0.
+pub(crate) fn are_text_bytes(bytes: &[u8]) -> bool
+    ensures same { result ≡ list_all is_text_byte bytes.now }
+{
+    has_no_zero(bytes)
+}
+
 /// Whether the bytes are a string's: none is 0, and there are at most so many.
 fn is_text(bytes: &[u8], most: u32) -> bool
     ensures same { result ≡ (nat_le (length bytes.now) most && list_all is_text_byte bytes.now) }
 {
-    bytes.len() <= most as usize && has_no_zero(bytes)
+    bytes.len() <= most as usize && are_text_bytes(bytes)
 }
 
 /// Whether a value is one of the type: a scalar within its range, an enumerator's place, a struct or an array of such values.

@@ -174,6 +174,7 @@ fn push_argument(tape: &mut Vec<u64>, argument: &ArgType, value: &Value) -> Resu
 }
 
 /// Appends the numbers of a rank's arguments, in declared order.
+#[inline(always)]
 fn push_rank(
     tape: &mut Vec<u64>,
     plan: PlanNo,
@@ -196,6 +197,7 @@ fn push_rank(
 }
 
 /// Appends the numbers of all arguments, rank by rank under plan 2.
+#[inline(never)]
 fn push_ranks(
     tape: &mut Vec<u64>,
     arguments: &[ArgType],

@@ -77,6 +77,22 @@ fn short_value(digits: &[u8]) -> u64
     value
 }
 
+/// The number that at most 20 digits write: 20 may be more than a word.
+#[cold]
+#[inline(never)]
+fn long_value(digits: &[u8]) -> u128
+    requires digits { list_all is_digit digits.now ≡ true }
+    requires few { length digits.now ≤ 20 }
+    ensures value { result ≡ digits_value 10 digits.now }
+    ensures small { result < 10 ^ 20 }
+{
+    let mut value = 0;
+    for digit in digits {
+        value = value * 10 + u128::from(*digit - b'0');
+    }
+    value
+}
+
 /// The number that at most 20 digits write.
 fn digits_value(digits: &[u8]) -> u128
     requires digits { list_all is_digit digits.now ≡ true }
@@ -87,14 +103,11 @@ fn digits_value(digits: &[u8]) -> u128
     if digits.len() < 20 {
         return u128::from(short_value(digits));
     }
-    let mut value = 0;
-    for digit in digits {
-        value = value * 10 + u128::from(*digit - b'0');
-    }
-    value
+    long_value(digits)
 }
 
 /// The number of 1 to 20 digits that the bytes begin with, and what follows it.
+#[inline(always)]
 fn read_digits(bytes: &[u8]) -> Option<(u128, &[u8])>
     ensures found { IfSome result (λ r. Digits r.0 bytes.now r.1.now) }
     ensures small { IfSome result (λ r. r.0 < 10 ^ 20) }

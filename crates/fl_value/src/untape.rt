@@ -1,6 +1,6 @@
 //! A call back from its tape. The tape may come from anywhere: what no fitting call has is refused.
 
-ghost use Rattle.std.specs.Prelude.{◌≡◌, ◌≤◌, ◌^◌, List, length, true, false, map, replicate, Some, IfOk, IfSome, IfNone};
+ghost use Rattle.std.specs.Prelude.{◌≡◌, ◌≤◌, ◌++◌, ◌^◌, List, length, true, false, map, replicate, Some, IfOk, IfSome, IfNone};
 ghost use Rattle.std.specs.Option.{option_map};
 ghost use Rattle.std.specs.List.{list_all};
 ghost use Rattle.fl_interface.specs.Interface.{scalar, enumeration, text, sized, type_of, arg_type_of, interface_of};
@@ -10,6 +10,7 @@ ghost use Rattle.fl_value.specs.Fits.{is_text_byte};
 ghost use Rattle.fl_value.specs.Taken.{unsigned_back, signed_back, scalar_back, ValueAt, ArgumentAt, LengthAt, BytesAt, InTurn, TheOne, NoneOf};
 ghost use Rattle.fl_value.specs.Taken.{TheValues, MoreRead, NoneRead, types_of_rank, types_by_ranks, planned_types, arg_types, HasTape};
 
+use crate::fitting::are_text_bytes;
 use crate::order::{RANKS, declared_order};
 use crate::value::{Call, PlanNo, Value};
 use fl_base::MsgNo;
@@ -42,6 +43,7 @@ fn signed_from(bits: u64, half: u64) -> Option<i128>
 }
 
 /// The value of a scalar that has these bits.
+#[inline]
 fn scalar_from(scalar: Scalar, bits: u64) -> Option<i128>
     ensures same { result ≡ scalar_back scalar bits }
 {
@@ -61,6 +63,7 @@ fn scalar_from(scalar: Scalar, bits: u64) -> Option<i128>
 }
 
 /// The scalar that the tape begins with, and what follows it.
+#[inline(always)]
 fn read_scalar(tape: &[u64], kind: Scalar) -> Option<(i128, &[u64])>
     ensures found { IfSome result (λ r. TheOne (ValueAt (scalar kind) tape.now) (number r.0) r.1.now) }
     ensures none { IfNone result (NoneOf (ValueAt (scalar kind) tape.now)) }
@@ -181,19 +184,35 @@ fn read_length(tape: &[u64], most: u32) -> Option<(u32, &[u64])>
     Some((*length as u32, rest))
 }
 
-/// Puts the bytes of a string that are these numbers, and tells whether all are: none is 0.
-fn put_text(bytes: &mut [u8], numbers: &[u64]) -> bool
-    requires room { length bytes.old ≡ length numbers.now }
-    ensures right { result ≡ list_all is_text_byte numbers.now }
-    ensures put { result ≡ true → bytes.new ≡ numbers.now }
+/// Appends numbers that are bytes, eight at a time, up to eight of which one is none or up to the last few; and tells what is left.
+fn push_eights<'a>(bytes: &mut Vec<u8>, numbers: &'a [u64]) -> Result<&'a [u64], AllocError>
+    ensures put { IfOk result (λ rest. bytes.new.items ++ rest.now ≡ bytes.old.items ++ numbers.now) }
 {
-    for (index, number) in numbers.iter().enumerate() {
-        if *number == 0 || *number > 0xff {
-            return false;
+    let mut rest = numbers;
+    while let [a, b, c, d, e, f, g, h, after @ ..] = rest {
+        if a | b | c | d | e | f | g | h > 0xff {
+            return Ok(rest);
         }
-        bytes[index] = *number as u8;
+        bytes.extend_from_slice(&[
+            *a as u8, *b as u8, *c as u8, *d as u8, *e as u8, *f as u8, *g as u8, *h as u8,
+        ])?;
+        rest = after;
     }
-    true
+    Ok(rest)
+}
+
+/// Appends numbers that are bytes, and tells whether all are.
+fn push_each(bytes: &mut Vec<u8>, numbers: &[u64]) -> Result<bool, AllocError>
+    ensures put { IfOk result (λ all. all ≡ true → bytes.new.items ≡ bytes.old.items ++ numbers.now) }
+    ensures other { IfOk result (λ all. all ≡ false → list_all is_text_byte numbers.now ≡ false) }
+{
+    for number in numbers {
+        if *number > 0xff {
+            return Ok(false);
+        }
+        bytes.push(*number as u8)?;
+    }
+    Ok(true)
 }
 
 /// The bytes of a string that are these numbers; none is 0.
@@ -202,8 +221,8 @@ fn bytes_from(alloc: Global, numbers: &[u64]) -> Result<Option<Vec<u8>>, AllocEr
     ensures none { IfOk result (λ o. IfNone o (list_all is_text_byte numbers.now ≡ false)) }
 {
     let mut bytes = Vec::with_capacity(alloc, numbers.len())?;
-    bytes.resize(numbers.len(), 0)?;
-    if !put_text(bytes.as_mut_slice(), numbers) {
+    let rest = push_eights(&mut bytes, numbers)?;
+    if !push_each(&mut bytes, rest)? || !are_text_bytes(&bytes) {
         return Ok(None);
     }
     Ok(Some(bytes))
@@ -309,6 +328,7 @@ fn read_argument<'a>(
 
 /// Puts the arguments of a rank behind the values that were read before them, and tells what follows
 /// on the tape.
+#[inline(always)]
 fn read_rank<'a>(
     alloc: Global,
     tape: &'a [u64],
@@ -336,6 +356,7 @@ fn read_rank<'a>(
 }
 
 /// All arguments rank by rank under plan 2, and what follows them on the tape.
+#[inline(never)]
 fn read_ranks<'a>(
     alloc: Global,
     tape: &'a [u64],
