@@ -1,14 +1,16 @@
 -- Turns of a loop over one byte, several at once.
-use Rattle.std.proofs.Common.{◌≡◌, ℕ, zero, suc, ◌+◌, ◌-◌, ◌%◌, ◌^◌, ◌<◌, ◌≤◌, List, [], ◌∷◌, ◌++◌, length, map, take, drop, get_or, get_or-set_same, slice_set, refl, sym, ◌∙◌, ap, subst, arith}
-use Rattle.std.proofs.lemmas.List.{drop_more, length-set}
+use Rattle.std.proofs.Common.{◌≡◌, ℕ, zero, suc, ◌+◌, ◌-◌, ◌%◌, ◌^◌, ◌<◌, ◌≤◌, List, [], ◌∷◌, ◌++◌, length, map, take, drop, get_or, get_or-set_same, slice_set, refl, sym, ◌∙◌, ap, subst, arith, append_assoc}
+use Rattle.std.proofs.lemmas.List.{drop_more, length-set, length-map, length-append, length-drop, length-take-le, map-append, take_more, get_or-drop}
 use Rattle.fl_stub.specs.declared.op.Op.{Op}
 use Rattle.fl_stub.specs.Meaning.{number_bytes}
 use Rattle.fl_stub.specs.Given.{first_of_tape, rest_of_tape}
-use Rattle.fl_stub.specs.Spots.{IsSpot, bytes_from}
+use Rattle.fl_stub.specs.Spots.{TheSpot, IsSpot, bytes_from}
 use Rattle.fl_machine.specs.declared.cursor.Loop.{Loop}
 use Rattle.fl_machine.specs.declared.cursor.Cursor.{Cursor}
 use Rattle.fl_machine.specs.Cursors.{no_loop, spot_of, inner_of, turns_of, low_byte, IsRun}
+use Rattle.fl_machine.specs.Filling.{Holds, PutsRun}
 use Rattle.fl_machine.proofs.Turns.{after_turn, turned_at, depth_small}
+use Rattle.fl_machine.proofs.Pours.{holds_more}
 
 -- a turn, and so many
 abbrev pub byte_turn : List ℕ → Cursor → Cursor
@@ -113,20 +115,46 @@ far (suc n) tape c one deep few long more =
     = set_again c.loops last inner one_less ∙ (λ i. slice_set c.loops last (record { start = (ap Loop.start is) i; turns = turns i })) in
     on ∙ (λ i. record c { loops = loops i; next = next i; phase = phase i; value = low_byte (get_or tape (at i) 0) })
 
--- eight of them
-pub eight_on : (ops : List Op) (tape : List ℕ) (c : Cursor) → IsSpot ops (spot_of tape c) → IsRun ops c → c.width ≡ 1 → 8 ≤ turns_of c → c.next + 8 ≤ length tape → length c.loops ≡ 8
-    → TurnedOn ops tape c (record (far_on 7 tape c) { phase = c.phase % 8 }) 7
-eight_on ops tape c spot run one more there long =
-    let few = depth_small ops tape c spot in
-    let t = turned_on 7 ops tape c spot run one (omega (arith, more)) (omega (arith, there)) long in
-    let phase : (c.phase % 8 + 8) % 8 ≡ c.phase % 8 = omega arith in
-    subst (λ (p : ℕ). TurnedOn ops tape c (record (far_on 7 tape c) { phase = p }) 7) phase
-    (subst (λ (d : Cursor). TurnedOn ops tape c d 7) (far 7 tape c one run.deep few long (omega (arith, more))) t)
+-- the cursor behind so many turns, the last of whose numbers is the tape's number so far on
+abbrev pub passed_on : ℕ → ℕ → List ℕ → Cursor → Cursor
+passed_on many n tape c = record c {
+  loops = slice_set c.loops (c.depth - 1) (record { start = (inner_of c).start; turns = turns_of c - many });
+  next = c.next + many;
+  phase = (c.phase % 8 + many) % 8;
+  value = low_byte (get_or tape (c.next + n) 0);
+}
 
--- and their bytes as a number's
-pub eight_bytes : (ops : List Op) (tape : List ℕ) (c : Cursor) (x : ℕ) → IsSpot ops (spot_of tape c) → IsRun ops c → c.width ≡ 1 → 8 ≤ turns_of c → c.next + 8 ≤ length tape → length c.loops ≡ 8
-    → number_bytes 8 x ≡ map low_byte (c.value ∷ take 7 (drop c.next tape))
-    → bytes_from ops (spot_of tape c) ≡ number_bytes 8 x ++ bytes_from ops (spot_of tape (record (far_on 7 tape c) { phase = c.phase % 8 }))
-eight_bytes ops tape c x spot run one more there long is =
-    (eight_on ops tape c spot run one more there long).bytes
-    ∙ ap (λ (bytes : List ℕ). bytes ++ bytes_from ops (spot_of tape (record (far_on 7 tape c) { phase = c.phase % 8 }))) (sym is)
+pub bytes_on : (n many : ℕ) (ops : List Op) (tape : List ℕ) (c : Cursor) → many ≡ suc n → IsSpot ops (spot_of tape c) → IsRun ops c → c.width ≡ 1 → many ≤ turns_of c → c.next + many ≤ length tape → length c.loops ≡ 8
+    → TurnedOn ops tape c (passed_on many n tape c) n
+bytes_on n many ops tape c is spot run one more there long =
+    let few = depth_small ops tape c spot in
+    let t = turned_on n ops tape c spot run one (omega (arith, more, is)) (omega (arith, there, is)) long in
+    subst (λ (m : ℕ). TurnedOn ops tape c (passed_on m n tape c) n) (sym is)
+    (subst (λ (d : Cursor). TurnedOn ops tape c d n) (far n tape c one run.deep few long (omega (arith, more, is))) t)
+
+-- their bytes in a fragment, one after another
+pub bytes_put : (buffer put numbers : List ℕ) (at first from index byte : ℕ) → length buffer ≡ 56 → length put ≡ at → at + 1 + index < 56 → from + index < length numbers → byte ≡ low_byte (get_or numbers (from + index) 0)
+    → Holds buffer (put ++ map low_byte (first ∷ take index (drop from numbers)))
+    → Holds (slice_set buffer (at + 1 + index) byte) (put ++ map low_byte (first ∷ take (index + 1) (drop from numbers)))
+bytes_put buffer put numbers at first from index byte whole long inside room is h =
+    let ys = drop from numbers in
+    let x = get_or numbers (from + index) 0 in
+    let there : index < length ys = omega (arith, room, length-drop from numbers) in
+    let before = map low_byte (first ∷ take index ys) in
+    let more : take (index + 1) ys ≡ take index ys ++ x ∷ [] = take_more ys index 0 there ∙ ap (λ (b : ℕ). take index ys ++ b ∷ []) (get_or-drop from numbers index 0) in
+    let mapped : map low_byte (take (index + 1) ys) ≡ map low_byte (take index ys) ++ low_byte x ∷ [] = ap (map low_byte) more ∙ map-append low_byte (take index ys) (x ∷ []) in
+    let few : length before ≡ index + 1 = length-map (first ∷ take index ys) low_byte ∙ omega (arith, length-take-le index ys (omega (arith, there))) in
+    let end : length (put ++ before) ≡ at + 1 + index = length-append put before ∙ omega (arith, long, few) in
+    let all : (put ++ before) ++ byte ∷ [] ≡ put ++ map low_byte (first ∷ take (index + 1) ys)
+    = append_assoc put before (byte ∷ []) ∙ ap (λ (zs : List ℕ). put ++ (low_byte first ∷ zs)) (ap (λ (b : ℕ). map low_byte (take index ys) ++ b ∷ []) is ∙ sym mapped) in
+    subst (λ (zs : List ℕ). Holds (slice_set buffer (at + 1 + index) byte) zs) all (holds_more buffer (put ++ before) (at + 1 + index) byte whole end inside h)
+
+pub puts_span : (ops : List Op) (s t : TheSpot) (put buffer numbers : List ℕ) (at first from others many : ℕ) → length put ≡ at → many ≡ suc others → from + others ≤ length numbers
+    → bytes_from ops s ≡ map low_byte (first ∷ take others (drop from numbers)) ++ bytes_from ops t
+    → Holds buffer (put ++ map low_byte (first ∷ take others (drop from numbers))) → PutsRun ops s t put buffer (at + many)
+puts_span ops s t put buffer numbers at first from others many long is room bytes h =
+    let ys = drop from numbers in
+    let more = map low_byte (first ∷ take others ys) in
+    let there : others ≤ length ys = omega (arith, room, length-drop from numbers) in
+    let few : length more ≡ others + 1 = length-map (first ∷ take others ys) low_byte ∙ omega (arith, length-take-le others ys there) in
+    record { more = more; bytes = bytes; holds = h; long = length-append put more ∙ omega (arith, long, few, is) }

@@ -10,3 +10,4 @@ pub mod Feeding
 pub mod Storing
 pub mod Rounds
 pub mod Circuits
+pub mod Plains

@@ -39,27 +39,11 @@ pub struct Cursor {
 }
 
 // The lowest byte of a number.
-fn low_byte(number: u64) -> u8
+#[inline(always)]
+pub(crate) fn low_byte(number: u64) -> u8
     ensures { result ≡ low_byte_of number }
 {
     (number % 256) as u8
-}
-
-// The lowest bytes of a number and of seven more as one number, the first lowest.
-fn pack(first: u64, numbers: &[u64], from: usize) -> u64
-    requires inside { from + 7 ≤ length numbers.now }
-    ensures { number_bytes 8 result ≡ map low_byte_of (first ∷ take 7 (drop from numbers.now)) }
-{
-    u64::from_le_bytes([
-        low_byte(first),
-        low_byte(numbers[from]),
-        low_byte(numbers[from + 1]),
-        low_byte(numbers[from + 2]),
-        low_byte(numbers[from + 3]),
-        low_byte(numbers[from + 4]),
-        low_byte(numbers[from + 5]),
-        low_byte(numbers[from + 6]),
-    ])
 }
 
 // The number without the bytes above so many.
@@ -349,39 +333,60 @@ impl Cursor {
         taken
     }
 
-    /// Whether the numbers have one byte, and eight more of them are on the tape and in turns of the innermost loop.
-    pub(crate) fn has_eight(&self, tape: &[u64]) -> bool
+    /// How many bytes of a loop over one byte can be given together, at most so many: that of the turn's number, and those of the
+    /// turns behind it, but the last number that is then taken from the tape stays to be given.
+    #[inline(always)]
+    pub(crate) fn bytes_there(&self, tape: &[u64], most: usize) -> usize
         requires low { 0 < self.now.depth }
         requires high { self.now.depth ≤ 8 }
-        ensures one { IsTrue result → self.now.width ≡ 1 }
-        ensures turns { IsTrue result → 8 ≤ turns_of self.now }
-        ensures there { IsTrue result → self.now.next + 8 ≤ length tape.now }
+        ensures most { result ≤ most }
+        ensures turns { result ≤ turns_of self.now }
+        ensures there { 0 < result → self.now.next + result ≤ length tape.now }
     {
-        self.width == 1
-            && self.turns_left() >= 8
-            && self.next < tape.len()
-            && tape.len() - self.next >= 8
+        if self.next >= tape.len() {
+            return 0;
+        }
+        let there = (tape.len() - self.next).min(most);
+        self.turns_left().min(there as u64) as usize
     }
 
-    /// Eight numbers of one byte as one number, and on to that of the turn behind them: as by `take_turn` eight times.
-    pub(crate) fn take_eight(&mut self, ops: &[Op], tape: &[u64]) -> u64
+    /// The number whose bytes are given next.
+    #[inline(always)]
+    pub(crate) fn number(&self) -> u64
+        ensures { result ≡ self.now.value }
+    {
+        self.value
+    }
+
+    /// The place on the tape of the number behind that one.
+    #[inline(always)]
+    pub(crate) fn next(&self) -> usize
+        ensures { result ≡ self.now.next }
+    {
+        self.next
+    }
+
+    /// Past the numbers of a loop over one byte, the one to be given and so many others, and on to that of the turn behind them: as
+    /// by `take_turn` so often.
+    #[inline(always)]
+    pub(crate) fn pass_bytes(&mut self, ops: &[Op], tape: &[u64], others: usize)
         requires spot { IsSpot ops.now (spot_of tape.now self.old) }
         requires run { IsRun ops.now self.old }
         requires one { self.old.width ≡ 1 }
-        requires more { 8 ≤ turns_of self.old }
-        requires there { self.old.next + 8 ≤ length tape.now }
-        ensures width { self.new.width ≡ self.old.width }
+        requires few { others < 56 }
+        requires more { others + 1 ≤ turns_of self.old }
+        requires there { self.old.next + (others + 1) ≤ length tape.now }
+        ensures width { self.new.width ≡ 1 }
         ensures run { IsRun ops.now self.new }
-        ensures turns { turns_of self.old ≡ turns_of self.new + 8 }
         ensures spot { IsSpot ops.now (spot_of tape.now self.new) }
-        ensures bytes { bytes_from ops.now (spot_of tape.now self.old) ≡ number_bytes 8 result ++ bytes_from ops.now (spot_of tape.now self.new) }
+        ensures bytes { bytes_from ops.now (spot_of tape.now self.old)
+            ≡ map low_byte_of (self.old.value ∷ take others (drop self.old.next tape.now)) ++ bytes_from ops.now (spot_of tape.now self.new) }
     {
-        let taken = pack(self.value, tape, self.next);
-        self.value = tape[self.next + 7] % 256;
-        self.next += 8;
-        self.phase %= 8;
-        self.loops[self.depth - 1].turns -= 8;
-        taken
+        let many = others + 1;
+        self.value = tape[self.next + others] % 256;
+        self.next += many;
+        self.phase = (self.phase % 8 + many as u32) % 8;
+        self.loops[self.depth - 1].turns -= many as u64;
     }
 
     /// The next of a number's bytes.

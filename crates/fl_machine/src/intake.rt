@@ -33,12 +33,12 @@ pub enum Fed {
 pub(crate) struct Field {
     mark: Mark,
     // How many bytes.
-    width: u32,
+    pub(crate) width: u32,
     // The least number and the greatest; 0 and 0 for zeros.
-    least: u64,
-    last: u64,
+    pub(crate) least: u64,
+    pub(crate) last: u64,
     // Whether the number is put on the tape.
-    told: bool,
+    pub(crate) told: bool,
 }
 
 /// Where a run of receive code stands.
@@ -77,7 +77,7 @@ fn put_word(buffer: &mut [u8; 64], at: usize, word: u64)
 
 // Puts the bytes of a fragment's words into a buffer with eight more behind them, so that eight can be read at each place.
 #[inline(always)]
-fn spread(buffer: &mut [u8; 64], words: &[u64; 7])
+pub(crate) fn spread(buffer: &mut [u8; 64], words: &[u64; 7])
     ensures { take 56 buffer.new ≡ words_bytes words.now }
 {
     let mut index = 0;
@@ -89,7 +89,7 @@ fn spread(buffer: &mut [u8; 64], words: &[u64; 7])
 
 // The eight bytes from a place on as a number.
 #[inline(always)]
-fn word_at(buffer: &[u8; 64], at: usize) -> u64
+pub(crate) fn word_at(buffer: &[u8; 64], at: usize) -> u64
     requires { at + 8 ≤ 64 }
     ensures { number_bytes 8 result ≡ take 8 (drop at buffer.now) }
 {
@@ -116,7 +116,7 @@ fn power(bytes: usize) -> u64
 
 // The number in a word's first bytes.
 #[inline(always)]
-fn low_part(word: u64, bytes: usize) -> u64
+pub(crate) fn low_part(word: u64, bytes: usize) -> u64
     requires { bytes ≤ 8 }
     ensures { result ≡ word % 256 ^ bytes }
 {
@@ -152,7 +152,7 @@ fn past_zeros(buffer: &[u8; 64], used: usize) -> usize
 }
 
 // Whether all bytes from a place up to the last of a fragment are zeros.
-fn end_of(buffer: &[u8; 64], used: usize) -> Result<Fed, Mark>
+pub(crate) fn end_of(buffer: &[u8; 64], used: usize) -> Result<Fed, Mark>
     requires { used ≤ 56 }
     ensures whole { IfOk result (λ fed. (fed ≡ whole) × AreZeros buffer.now used 56) }
     ensures wrong { IfErr result (λ mark. (mark ≡ zero_mark) × FirstSet buffer.now used) }
@@ -168,6 +168,7 @@ fn end_of(buffer: &[u8; 64], used: usize) -> Result<Fed, Mark>
 }
 
 // The least and the greatest of some bytes.
+#[inline(always)]
 fn bounds_of(buffer: &[u8; 64], from: usize, many: usize) -> (u8, u8)
     requires inside { from + many ≤ 56 }
     ensures within { AreWithin result.0 result.1 (take many (drop from buffer.now)) }
@@ -185,6 +186,7 @@ fn bounds_of(buffer: &[u8; 64], from: usize, many: usize) -> (u8, u8)
 }
 
 // Puts bytes on a tape as numbers.
+#[inline(always)]
 fn put_bytes(tape: &mut [u64], count: usize, buffer: &[u8; 64], from: usize, many: usize)
     requires room { count + many ≤ length tape.old }
     requires inside { from + many ≤ 56 }
@@ -201,7 +203,8 @@ fn put_bytes(tape: &mut [u64], count: usize, buffer: &[u8; 64], from: usize, man
 }
 
 // Puts bytes on a tape, if a field may have each as its number; how many.
-fn copy_bytes(
+#[inline(always)]
+fn copy_span(
     tape: &mut [u64],
     count: usize,
     field: Field,
@@ -226,6 +229,31 @@ fn copy_bytes(
     most
 }
 
+// As `copy_span`, with loops of their own for a whole fragment, whose length is known. Out of line, or these loops would run
+// before it is known that they are wanted.
+#[inline(never)]
+fn copy_bytes(
+    tape: &mut [u64],
+    count: usize,
+    field: Field,
+    buffer: &[u8; 64],
+    from: usize,
+    most: usize,
+) -> usize
+    requires room { count + most ≤ length tape.old }
+    requires inside { from + most ≤ 56 }
+    ensures some { result ≤ most }
+    ensures tape { take (count + result) tape.new ≡ take count tape.old ++ take result (drop from buffer.now) }
+    ensures right { AreWithin field.least field.last (take result (drop from buffer.now)) }
+    ensures kept { take count tape.new ≡ take count tape.old }
+    ensures long { length tape.new ≡ length tape.old }
+{
+    if from == 0 && most == 56 {
+        return copy_span(tape, count, field, buffer, 0, 56);
+    }
+    copy_span(tape, count, field, buffer, from, most)
+}
+
 #[inline(always)]
 fn is_length(mark: Mark) -> bool
     ensures yes { IsTrue result → mark ≡ length_mark }
@@ -235,7 +263,7 @@ fn is_length(mark: Mark) -> bool
 }
 
 #[inline(always)]
-fn is_last(op: Op) -> bool
+pub(crate) fn is_last(op: Op) -> bool
     ensures yes { IsTrue result → op ≡ done_op }
     ensures no { result ≡ false → op ≢ done_op }
 {
@@ -243,7 +271,7 @@ fn is_last(op: Op) -> bool
 }
 
 #[inline(always)]
-fn op_at(ops: &[Op], place: usize) -> Option<Op>
+pub(crate) fn op_at(ops: &[Op], place: usize) -> Option<Op>
     ensures { result ≡ slice_get ops.now place }
 {
     match ops.get(place) {
@@ -295,7 +323,7 @@ impl Field {
 
     // What an instruction takes, at a place modulo 8.
     #[inline(always)]
-    fn of(op: Op, phase: u32) -> Field
+    pub(crate) fn of(op: Op, phase: u32) -> Field
         requires { is_taken op ≡ true }
         ensures { (at : ℕ) → phase % 8 ≡ at % 8 → field_view result ≡ taken_field op at }
     {

@@ -9,6 +9,7 @@
 //! - `cursor.rt`: where a run of send code stands, and how it goes on by an instruction
 //! - `send.rt`: `SendRun`, and a call's first fragment without one
 //! - `intake.rt`: where a run of receive code stands, and how it takes bytes
+//! - `plain.rt`: calls of one fragment, taken by code without loops
 //! - `recv.rt`: `RecvRun`
 //! - `reassembly.rt`: `Reassembly`, which gives calls of what it takes and needs no way back
 //! - `law.rt`: what runs of the compiler's code give and take
@@ -17,6 +18,7 @@
 mod cursor;
 mod intake;
 mod law;
+mod plain;
 mod reassembly;
 mod recv;
 mod send;

@@ -10,7 +10,7 @@ ghost use Rattle.fl_machine.specs.declared.recv.Stand.TheVariants.{Inside as ins
 ghost use Rattle.fl_machine.specs.Reassembling.{Takes, IsGathered, parts_gathered, reassembling, without_parts};
 
 use crate::intake::Fed;
-use crate::recv::{Begun, begin, go_on, whole};
+use crate::recv::{Begun, begin, begin_plain, go_on, whole};
 use fl_base::Frag;
 use fl_compile::Program;
 use fl_value::Call;
@@ -212,8 +212,8 @@ impl Gathered {
         }
     }
 
-    // Takes a fragment between two calls. Where its call has few arguments it is mostly whole: its numbers are no more than its
-    // bytes, so they are read without the tape, which lies in memory that is seldom touched.
+    // Takes a fragment between two calls. Where its call has few arguments it is mostly all of it, and there are no loops: then it is
+    // read without the tape, which lies in memory that is seldom touched.
     #[inline(always)]
     fn take_first(
         &mut self,
@@ -230,14 +230,13 @@ impl Gathered {
         if !has_few_args(program, frag) {
             return self.take_begun(alloc, program, frag);
         }
-        let mut begun = Begun::new();
-        let mut places = [0; 56];
-        match begin(program, &mut begun, &mut places, frag) {
-            Ok(Fed::Whole) => match whole(alloc, program, begun.ended(), &places) {
-                Ok(call) => Ok(Taken::Whole(call)),
-                Err(_) => Err(TakeFault::Memory),
-            },
-            _ => self.take_begun(alloc, program, frag),
+        let mut places = [0; 8];
+        let Some(ended) = begin_plain(program, &mut places, frag) else {
+            return self.take_begun(alloc, program, frag);
+        };
+        match whole(alloc, program, ended, &places) {
+            Ok(call) => Ok(Taken::Whole(call)),
+            Err(_) => Err(TakeFault::Memory),
         }
     }
 

@@ -1,6 +1,6 @@
 //! Runs of receive code.
 
-ghost use Rattle.std.specs.Prelude.{◌≡◌, ◌≢◌, ◌==◌, ◌≤◌, ◌++◌, ◌∷◌, [], true, take, length, None, IfOk, IfErr};
+ghost use Rattle.std.specs.Prelude.{◌≡◌, ◌≢◌, ◌==◌, ◌≤◌, ◌++◌, ◌∷◌, [], true, take, length, None, IfOk, IfErr, IfSome};
 ghost use Rattle.fl_base.specs.Control.{message_of, control_word, body};
 ghost use Rattle.fl_value.specs.Value.{call_of};
 ghost use Rattle.fl_value.specs.Fits.{fits_of};
@@ -15,6 +15,7 @@ ghost use Rattle.fl_machine.specs.Receiving.{IsNew, ended_as, stand_after};
 ghost use Rattle.fl_machine.specs.declared.recv.Stand.TheVariants.{Inside as inside, After as after};
 
 use crate::intake::{Fed, Intake};
+use crate::plain::take_plain;
 use fl_base::{Frag, MsgNo};
 use fl_compile::{Program, tells_faults};
 use fl_stub::Mark;
@@ -194,6 +195,28 @@ pub(crate) fn begin(
     begun.msg = frag.msg();
     begun.fed = 0;
     begun.take(program, tape, frag)
+}
+
+// Takes a fragment where a call is to begin, if it is all of a call, which code without loops takes: the call's numbers are then
+// the first of the places.
+#[inline(always)]
+pub(crate) fn begin_plain(program: &Program, places: &mut [u64; 8], frag: &Frag) -> Option<Ended>
+    ensures stands { IfSome result (λ ended. StandsIn (program_of program.now) places.new (after ended)) }
+    ensures adds { IfSome result (λ ended. AddsUpTo (program_of program.now) [] frag.now places.new (after ended)) }
+{
+    is_line(frag);
+    let interface = program.interface();
+    if let Some(_) = start_fault(interface, frag) {
+        return None;
+    }
+    let msg = frag.msg();
+    let Some(code) = program.receive_code(msg) else {
+        return None;
+    };
+    let Some(count) = take_plain(code.ops(), places, &frag.words) else {
+        return None;
+    };
+    Some(Ended { msg, count })
 }
 
 // Takes a fragment inside a call.

@@ -1,6 +1,6 @@
 //! Runs of send code.
 
-ghost use Rattle.std.specs.Prelude.{◌≡◌, ◌≢◌, ◌+◌, ◌<◌, ◌≤◌, ◌++◌, ℕ, true, List, [], take, drop, map, length, slice_get, slice_index};
+ghost use Rattle.std.specs.Prelude.{◌≡◌, ◌≢◌, ◌+◌, ◌<◌, ◌≤◌, ◌++◌, ◌∷◌, ℕ, true, List, [], take, drop, map, length, slice_get, slice_index};
 ghost use Rattle.std.specs.List.{range_with_len};
 ghost use Rattle.fl_base.specs.Control.{control_word};
 ghost use Rattle.fl_stub.specs.declared.op.Column.TheVariants.{Send as send};
@@ -8,12 +8,12 @@ ghost use Rattle.fl_stub.specs.Frames.{block_of};
 ghost use Rattle.fl_stub.specs.Meaning.{Turns, number_bytes};
 ghost use Rattle.fl_stub.specs.Given.{bytes_given};
 ghost use Rattle.fl_stub.specs.Spots.{IsSpot, IsSettled, bytes_from};
-ghost use Rattle.fl_machine.specs.Cursors.{spot_of, IsRun};
+ghost use Rattle.fl_machine.specs.Cursors.{spot_of, low_byte as low_byte_of, IsRun};
 ghost use Rattle.fl_machine.specs.Filling.{Holds, Puts, PutsRun};
 ghost use Rattle.fl_wire.specs.Payload.{word as word_of};
 ghost use Rattle.fl_machine.specs.Sending.{frags_holding, frags_left, RunsOn};
 
-use crate::cursor::Cursor;
+use crate::cursor::{Cursor, low_byte};
 use fl_base::{Circuit, Frag, MsgNo, control};
 use fl_stub::{Op, VerifiedCode};
 use std::marker::Model;
@@ -116,8 +116,32 @@ fn put_last(
     at + width
 }
 
-// The numbers of a loop over one byte, eight at a time, as long as eight bytes are free; the place behind them.
-fn put_eights(
+// The lowest bytes of a number and of so many others, put from a place on.
+#[inline(always)]
+fn put_bytes(
+    buffer: &mut [u8; 56],
+    at: usize,
+    first: u64,
+    numbers: &[u64],
+    from: usize,
+    others: usize,
+)
+    requires inside { at + (others + 1) ≤ 56 }
+    requires there { from + others ≤ length numbers.now }
+    ensures holds { (put : List ℕ) → length put ≡ at → Holds buffer.old put
+        → Holds buffer.new (put ++ map low_byte_of (first ∷ take others (drop from numbers.now))) }
+{
+    buffer[at] = low_byte(first);
+    let mut index = 0;
+    while index < others {
+        buffer[at + 1 + index] = low_byte(numbers[from + index]);
+        index += 1;
+    }
+}
+
+// The numbers of a loop over one byte, as long as bytes are free; the place behind them.
+#[inline(always)]
+fn put_span(
     buffer: &mut [u8; 56],
     at: usize,
     cursor: &mut Cursor,
@@ -134,12 +158,16 @@ fn put_eights(
     ensures puts { (put : List ℕ) → length put ≡ at → Holds buffer.old put
         → PutsRun ops.now (spot_of tape.now cursor.old) (spot_of tape.now cursor.new) put buffer.new result }
 {
-    let mut end = at;
-    while end <= 48 && cursor.has_eight(tape) {
-        put_number(buffer, end, cursor.take_eight(ops, tape));
-        end += 8;
+    if cursor.width() != 1 {
+        return at;
     }
-    end
+    let many = cursor.bytes_there(tape, 56 - at);
+    if many == 0 {
+        return at;
+    }
+    put_bytes(buffer, at, cursor.number(), tape, cursor.next(), many - 1);
+    cursor.pass_bytes(ops, tape, many - 1);
+    at + many
 }
 
 // The numbers of a loop over one number, as long as eight bytes are free; the place behind them.
@@ -157,7 +185,7 @@ fn put_run(buffer: &mut [u8; 56], at: usize, cursor: &mut Cursor, ops: &[Op], ta
         return at;
     }
     let width = cursor.width();
-    let mut end = put_eights(buffer, at, cursor, ops, tape);
+    let mut end = put_span(buffer, at, cursor, ops, tape);
     while end <= 48 && cursor.turns_left() > 0 {
         put_number(buffer, end, cursor.take_turn(ops, tape));
         end += width;

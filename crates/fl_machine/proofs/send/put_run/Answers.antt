@@ -12,7 +12,7 @@ turns_left-requires-clause-high c = depth_small c.args.ops.now c.args.tape.now c
 
 pub loop-end-init : goal.loop-end-init
 loop-end-init c =
-    let s = c.put_eights-end.ensures in
+    let s = c.put_span-end.ensures in
     (s.spot, s.run, s.place, s.width, omega arith, s.puts)
 
 pub loop-end-preserved : goal.loop-end-preserved

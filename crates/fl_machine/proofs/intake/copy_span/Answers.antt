@@ -1,6 +1,6 @@
 use Rattle.std.proofs.Common.{take, drop, arith}
 use Rattle.fl_machine.proofs.Spans.{wider}
-use Rattle.fl_machine.proofs.intake.copy_bytes.Goals as goal
+use Rattle.fl_machine.proofs.intake.copy_span.Goals as goal
 
 pub returns-clause-right : goal.returns-clause-right
 returns-clause-right c =

@@ -1,0 +1,168 @@
+-- Code without loops, instruction by instruction.
+use Rattle.std.proofs.Common.{◌≡◌, ◌≢◌, ℕ, ◌+◌, ◌%◌, ◌≤◌, inl, true, false, List, [], ◌∷◌, ◌++◌, take, drop, length, slice_get, Some, None, refl, sym, ◌∙◌, ap, subst, arith}
+use Rattle.std.specs.Option.{option_map}
+use Rattle.fl_base.specs.declared.fragment.Frag.{Frag}
+use Rattle.fl_base.specs.Control.{control_word, message_of, body}
+use Rattle.fl_interface.specs.Interface.{TheInterface}
+use Rattle.fl_interface.specs.Limits.{is_within_limits}
+use Rattle.fl_interface.specs.Counts.{interface_words_fit}
+use Rattle.fl_value.specs.declared.value.PlanNo.{PlanNo}
+use Rattle.fl_wire.specs.Headers.{Line}
+use Rattle.fl_wire.specs.Wrong.{start_fault}
+use Rattle.fl_wire.proofs.Frames.{start_control}
+use Rattle.fl_stub.specs.Code.{TheCode}
+use Rattle.fl_stub.specs.Streams.{IsPayload}
+use Rattle.fl_compile.specs.Codes.{compiled_code}
+use Rattle.fl_stub.specs.declared.op.Op.{Op}
+use Rattle.fl_stub.specs.declared.op.Op.TheVariants.{Emit, Pad, Align, Length as LengthOp, Times, Each, Back, End, Read, ReadBool, ReadEnum, ReadChar, Skip, ReadLength, ReadText, Done}
+use Rattle.fl_stub.specs.declared.op.Column.TheVariants.{Receive}
+use Rattle.fl_stub.specs.declared.mark.Mark.TheVariants.{Length}
+use Rattle.fl_stub.specs.Structure.{IsCode}
+use Rattle.fl_stub.specs.Frames.{block_of}
+use Rattle.fl_stub.specs.Rests.{TheField, is_taken, taken_field, is_silent, told}
+use Rattle.fl_stub.proofs.Stances.{first_stance, first_reach}
+use Rattle.fl_machine.specs.declared.intake.Field.{Field}
+use Rattle.fl_machine.specs.declared.intake.Intake.{Intake}
+use Rattle.fl_machine.specs.Taking.{field_view, IsTaking, IsAtField, Stands, IsFed, HasField, words_bytes}
+use Rattle.fl_machine.specs.Plain.{is_plain, plain_intake, HasNumber}
+use Rattle.fl_machine.specs.declared.recv.Begun.{Begun}
+use Rattle.fl_machine.specs.declared.recv.Ended.{Ended}
+use Rattle.fl_machine.specs.Receiving.{parts_of, whole_of, TheHeld, AddsLast, IsEnded}
+use Rattle.fl_machine.proofs.Feeding.{taking, none_begun, is_whole, ended, adds_last}
+use Rattle.fl_machine.proofs.Intakes.{takes_here, has_field, here_of, over_step, passes_none, whole_here}
+
+-- ---- a plain instruction
+
+pub plain_loud : (op : Op) (phase : ℕ) → is_plain op ≡ true → is_silent op phase ≡ false
+plain_loud (Read width) phase e = refl
+plain_loud ReadBool phase e = refl
+plain_loud (ReadEnum count) phase e = refl
+plain_loud ReadChar phase e = refl
+plain_loud ReadText phase e = refl
+plain_loud (Skip zeros) phase e = refl
+plain_loud (Emit n) phase e = absurd cc
+plain_loud (Pad n) phase e = absurd cc
+plain_loud Align phase e = absurd cc
+plain_loud (LengthOp n) phase e = absurd cc
+plain_loud (Times n) phase e = absurd cc
+plain_loud Each phase e = absurd cc
+plain_loud Back phase e = absurd cc
+plain_loud End phase e = absurd cc
+plain_loud (ReadLength n) phase e = absurd cc
+plain_loud Done phase e = absurd cc
+
+pub plain_same : (op : Op) (at : ℕ) → is_plain op ≡ true → taken_field op 0 ≡ taken_field op at
+plain_same (Read width) at e = refl
+plain_same ReadBool at e = refl
+plain_same (ReadEnum count) at e = refl
+plain_same ReadChar at e = refl
+plain_same ReadText at e = refl
+plain_same (Skip zeros) at e = refl
+plain_same (Emit n) at e = absurd cc
+plain_same (Pad n) at e = absurd cc
+plain_same Align at e = absurd cc
+plain_same (LengthOp n) at e = absurd cc
+plain_same (Times n) at e = absurd cc
+plain_same Each at e = absurd cc
+plain_same Back at e = absurd cc
+plain_same End at e = absurd cc
+plain_same (ReadLength n) at e = absurd cc
+plain_same Done at e = absurd cc
+
+pub plain_mark : (op : Op) → is_plain op ≡ true → (taken_field op 0).mark ≢ Length
+plain_mark (Read width) e = λ m. absurd cc
+plain_mark ReadBool e = λ m. absurd cc
+plain_mark (ReadEnum count) e = λ m. absurd cc
+plain_mark ReadChar e = λ m. absurd cc
+plain_mark ReadText e = λ m. absurd cc
+plain_mark (Skip zeros) e = λ m. absurd cc
+plain_mark (Emit n) e = absurd cc
+plain_mark (Pad n) e = absurd cc
+plain_mark Align e = absurd cc
+plain_mark (LengthOp n) e = absurd cc
+plain_mark (Times n) e = absurd cc
+plain_mark Each e = absurd cc
+plain_mark Back e = absurd cc
+plain_mark End e = absurd cc
+plain_mark (ReadLength n) e = absurd cc
+plain_mark Done e = absurd cc
+
+pub plain_more : (op : Op) → is_plain op ≡ true → op ≢ Done
+plain_more op e d = let z : is_plain op ≡ false = ap is_plain d in absurd cc
+
+-- ---- at the first instruction
+
+pub plain_new : (ops : List Op) → IsCode Receive ops (block_of ops) → Stands ops [] (plain_intake 0 0 0) []
+plain_new ops code = record {
+  at = record {
+    done = [];
+    stance = first_stance ops (block_of ops) code;
+    phase = refl;
+    reach = first_reach ops code;
+    waiting = inl (refl, refl);
+    bytes_are = refl;
+    quiet = λ busy. absurd (busy refl);
+  };
+  long = refl;
+  shows = record { each = λ p inside. absurd (omega (arith, inside)) };
+}
+
+-- ---- one instruction
+
+plain_quiet : (ops : List Op) (c : Intake) (op : Op) → slice_get ops c.place ≡ Some op → is_plain op ≡ true → IsAtField ops c
+plain_quiet ops c op there plain other found =
+    let both : Some op ≡ Some other = sym there ∙ found in
+    let same : op ≡ other = cc in
+    subst (λ (o : Op). is_silent o c.phase ≡ false) same (plain_loud op c.phase plain)
+
+pub plain_takes : (ops : List Op) (c : Intake) (op : Op) → slice_get ops c.place ≡ Some op → is_plain op ≡ true → IsTaking ops c → is_taken op ≡ true
+plain_takes ops c op there plain s = (takes_here ops c op there s (plain_quiet ops c op there plain) (plain_more op plain)).taken
+
+plain_field : (ops : List Op) (c : Intake) (op : Op) (f : Field) → slice_get ops c.place ≡ Some op → is_plain op ≡ true → IsTaking ops c
+    → ((at : ℕ) → 0 % 8 ≡ at % 8 → field_view f ≡ taken_field op at) → HasField ops c f
+plain_field ops c op f there plain s view =
+    has_field ops c op f there s (plain_quiet ops c op there plain) (plain_more op plain) (λ at same. view 0 refl ∙ plain_same op at plain)
+
+pub plain_narrow : (ops : List Op) (taken : List ℕ) (c : Intake) (all left : List ℕ) (op : Op) (f : Field) → slice_get ops c.place ≡ Some op → is_plain op ≡ true → IsFed ops taken c all left
+    → ((at : ℕ) → 0 % 8 ≡ at % 8 → field_view f ≡ taken_field op at) → f.width ≤ 8
+plain_narrow ops taken c all left op f there plain fed view =
+    (here_of ops taken c all left f fed (plain_field ops c op f there plain fed.at.stance view)).reach.sound.0.width
+
+pub plain_step : (ops : List Op) (taken taken2 all buffer : List ℕ) (place count count2 used : ℕ) (op : Op) (f : Field) (x : ℕ)
+    → IsFed ops taken (plain_intake place count used) all (drop used (take 56 buffer)) → slice_get ops place ≡ Some op → is_plain op ≡ true
+    → ((at : ℕ) → 0 % 8 ≡ at % 8 → field_view f ≡ taken_field op at) → HasNumber f buffer used x → taken2 ≡ taken ++ told f.told x
+    → IsFed ops taken2 (plain_intake (place + 1) count2 (used + f.width)) all (drop (used + f.width) (take 56 buffer))
+plain_step ops taken taken2 all buffer place count count2 used op f x fed there plain view number put =
+    let c = plain_intake place count used in
+    let c1 = plain_intake place count2 used in
+    let stance : IsTaking ops c = fed.at.stance in
+    let field = plain_field ops c op f there plain stance view in
+    let field1 : HasField ops c1 f = record { op = field.op; there = field.there; taken = field.taken; view = field.view; wide = field.wide } in
+    let mark : f.mark ≢ Length = λ m. plain_mark op plain (sym (ap TheField.mark (view 0 refl)) ∙ m) in
+    let c2 : Intake = record c1 { place = place + 1; phase = (c1.phase % 8 + f.width) % 8; value = 0; have = 0 } in
+    let over = over_step ops c1 f x field1 stance mark in
+    let made : IsFed ops taken2 c2 all (drop (used + f.width) (take 56 buffer))
+    = whole_here ops taken taken2 c c1 c2 c2 all (drop used (take 56 buffer)) (drop (used + f.width) (take 56 buffer)) f x f.width
+    fed field number.grows (omega arith) number.last number.least refl put over (passes_none ops c2 over.stance) in
+    let phase : (used % 8 % 8 + f.width) % 8 ≡ (used + f.width) % 8 = omega arith in
+    subst (λ (p : ℕ). IsFed ops taken2 (record (plain_intake (place + 1) count2 0) { phase = p }) all (drop (used + f.width) (take 56 buffer))) phase made
+
+-- ---- a whole call in one fragment
+
+no_bytes : (bytes : List ℕ) → length bytes ≡ 0 → bytes ≡ []
+no_bytes [] e = refl
+no_bytes (x ∷ bytes) e = absurd (omega (arith, e))
+
+pub plain_ends : (plan : PlanNo) (i : TheInterface) (f : Frag) (code : TheCode) (ops : List Op) (tape : List ℕ) (e : Ended) → is_within_limits i ≡ true → interface_words_fit i ≡ true → Line f
+    → start_fault i f ≡ None → e.msg.0 ≡ message_of f.control → Some code ≡ option_map (compiled_code Receive plan) (slice_get i.messages e.msg.0) → ops ≡ code.ops
+    → e.count ≤ length tape → IsPayload (block_of ops) (words_bytes f.words) (take e.count tape)
+    → IsEnded plan i tape e × AddsLast plan i [] f (let t : TheHeld = record { parts = []; whole = whole_of plan i tape e } in t)
+plain_ends plan i f code ops tape e within words line none own exact lent few whole =
+    let b : Begun = record { msg = e.msg; fed = 0; intake = plain_intake 0 0 0 } in
+    let begun = none_begun plan i [] b f within words none own refl plain_new in
+    let control : body f.control ≡ control_word true e.msg.0 0 = start_control i f none ∙ ap (λ (m : ℕ). control_word true m 0) (sym own) in
+    let x = taking plan i [] b f code ops within words line begun control exact lent in
+    let empty : x.bytes ≡ [] = no_bytes x.bytes x.long in
+    let all : IsPayload (block_of ops) (x.bytes ++ words_bytes f.words) (take e.count tape)
+    = subst (λ (bytes : List ℕ). IsPayload (block_of ops) (bytes ++ words_bytes f.words) (take e.count tape)) (sym empty) whole in
+    (ended plan i (parts_of plan i [] b ++ f ∷ []) tape e few (is_whole plan i [] b f ops tape e x refl all), adds_last plan i [] b f ops tape e x refl few all)

@@ -1,0 +1,28 @@
+-- Working file: code without loops, whose fields lie in one fragment.
+use Rattle.std.specs.Prelude.{ℕ, ◌+◌, ◌%◌, ◌≤◌, Bool, true, false, List, []}
+use Rattle.fl_stub.specs.declared.op.Op.{Op}
+use Rattle.fl_stub.specs.declared.op.Op.TheVariants.{Read, ReadBool, ReadEnum, ReadChar, ReadText, Skip}
+use Rattle.fl_machine.specs.declared.intake.Field.{Field}
+use Rattle.fl_machine.specs.declared.intake.Intake.{Intake}
+use Rattle.fl_machine.specs.Taking.{Grows, bytes_left}
+
+-- an instruction that takes bytes wherever it stands, and one number or zeros by them
+abbrev pub is_plain : Op → Bool
+is_plain (Read width) = true
+is_plain ReadBool = true
+is_plain (ReadEnum count) = true
+is_plain ReadChar = true
+is_plain ReadText = true
+is_plain (Skip zeros) = true
+is_plain op = false
+
+-- where a run stands that has met no loop, at so many bytes of a call's first fragment
+abbrev pub plain_intake : ℕ → ℕ → ℕ → Intake
+plain_intake place count used = record { place = place; loops = []; depth = 0; count = count; phase = used % 8; value = 0; have = 0 }
+
+-- the bytes of a field from a place on are this number, which is right
+pub record HasNumber (f : Field) (buffer : List ℕ) (used number : ℕ) : Type 0 where
+  pub inside : used + f.width ≤ 56
+  pub grows : Grows 0 0 number f.width (bytes_left buffer used) (bytes_left buffer (used + f.width))
+  pub least : f.least ≤ number
+  pub last : number ≤ f.last
