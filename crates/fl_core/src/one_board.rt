@@ -174,6 +174,7 @@ impl Board {
     }
 
     /// The end at a place.
+    #[inline]
     pub fn end(&self, e: usize) -> &End
         requires { e < length self.now.seats }
         ensures end { Holds self.now e (λ s. result.now ≡ s.end) }
@@ -219,6 +220,7 @@ impl Board {
     ///
     /// # Errors
     /// As the end's, in its order: E41, E42, E43, E64, E40, E99. The board is as it was then.
+    #[inline]
     pub fn call(&mut self, e: usize, call: &Call) -> Result<(), EndFault>
         requires { e < length self.old.seats }
         ensures calls { ChangesEnd self.old e (λ s t. Calls s (call_of call.now) result t) self.new }
@@ -232,6 +234,7 @@ impl Board {
     ///
     /// # Errors
     /// As the end's: E43, E64.
+    #[inline]
     pub fn show<P: PutSide>(&self, e: usize, out: &P) -> Result<Option<Frag>, EndFault>
         requires { e < length self.now.seats }
         ensures shows { Holds self.now e (λ s. ShowsNext (P.epoch_of out.now) (P.told_of out.now) s.end result) }
@@ -245,6 +248,7 @@ impl Board {
     ///
     /// # Errors
     /// As the end's: E43, E64, E33. The board is as it was then.
+    #[inline]
     pub fn write<P: PutSide>(&mut self, e: usize, out: &mut P) -> Result<WriteAnswer, EndFault>
         requires { e < length self.old.seats }
         ensures writes { ChangesEnd self.old e (λ s t. Writes P.puts s out.old result t out.new) self.new }

@@ -58,6 +58,7 @@ impl Board {
 
     /// Tells that a fragment has come to stand on an end's queue: an idle channel goes to the back of pending. One that is
     /// pending or polled stays, and one that isn't registered is not touched. Takes no memory.
+    #[inline]
     pub fn trigger(&mut self, e: usize)
         requires { e < length self.old.seats }
         ensures triggers { ChangesLists self.old e (λ s w v. v ≡ triggered w s.channel) self.new }

@@ -13,6 +13,7 @@ use fl_waitset::Pick;
 use std::alloc::AllocError;
 
 // The channel that was picked.
+#[inline]
 fn channel_of(pick: Pick) -> ChanId
     ensures channel { result.0 ≡ channel_of pick }
 {
@@ -25,6 +26,7 @@ fn channel_of(pick: Pick) -> ChanId
 impl Board {
     /// The end at which a dispatcher's next turn looks, by its place: that of the first pending channel, else of the first
     /// polled one. The caller lends the turn this end's side. None where no channel is pending or polled.
+    #[inline]
     pub fn due(&self, dispatcher: usize) -> Option<usize>
         requires { dispatcher < length self.now.dispatchers }
         ensures due { result ≡ due self.now dispatcher }
@@ -51,6 +53,7 @@ impl Board {
     /// # Errors
     /// Out of memory (E99), only where the fragment would make a call whole. The board is as it was then, and the fragment,
     /// which was looked at, is left.
+    #[inline]
     pub fn turn<T: TakeSide>(
         &mut self,
         dispatcher: usize,

@@ -163,6 +163,7 @@ impl Circuits {
     }
 
     /// What the entry at a number of a link says, if one stands there. Nothing is searched.
+    #[inline]
     pub fn hop_of(&self, link: LinkId, circuit: Circuit) -> Option<Hop>
         ensures hop { result ≡ hop_at self.now link.0 circuit.0 }
     {
@@ -180,6 +181,7 @@ impl Circuits {
     }
 
     /// Where a number of a link leads, if an entry stands there. Nothing is searched.
+    #[inline]
     pub fn route_of(&self, link: LinkId, circuit: Circuit) -> Option<Way>
         ensures route { result ≡ way_at self.now link.0 circuit.0 }
         ensures other { IfSome result (IsOther self.now link.0) }

@@ -50,6 +50,7 @@ pub(crate) enum Cell {
 }
 
 impl Entry {
+    #[inline]
     pub(crate) fn from_client(&self) -> Hop
         ensures { result ≡ from_client self.now }
     {
@@ -60,6 +61,7 @@ impl Entry {
         }
     }
 
+    #[inline]
     pub(crate) fn from_server(&self) -> Hop
         ensures { result ≡ from_server self.now }
     {
@@ -72,6 +74,7 @@ impl Entry {
 }
 
 // What stands at a number of a link.
+#[inline]
 pub(crate) fn cell_at(cells: &[Cell], link: LinkId, circuit: Circuit) -> Cell
     ensures { result ≡ cell_of cells.now link.0 circuit.0 }
 {

@@ -54,6 +54,7 @@ pub enum Forwarded {
 
 /// Passes on a fragment that was seen to stand first: puts it on the way out with this circuit, and takes it where that
 /// succeeds. Where the way out has no room nothing is taken, and nothing is put.
+#[inline]
 pub fn move_on<T: TakeSide, P: PutSide>(
     from: &mut T,
     to: &mut P,
@@ -77,6 +78,7 @@ pub fn move_on<T: TakeSide, P: PutSide>(
 }
 
 // Passes on a fragment that was seen to stand first on one of two sides, over the other.
+#[inline]
 fn cross<S: TakeSide + PutSide>(
     sides: &mut [S],
     from: usize,
@@ -106,6 +108,7 @@ fn cross<S: TakeSide + PutSide>(
 
 /// Delivers a fragment that was seen to stand first to an end's arrival queue, where it has circuit 0. Where the queue has
 /// no room nothing is taken, and nothing is put.
+#[inline]
 pub fn deliver<T: TakeSide, P: PutSide>(from: &mut T, queue: &mut P, frag: &Frag) -> Outcome
     requires seen { T.front from.old ≡ saw (bare frag.now) }
     requires call { is_ack_only (with_circuit 0 frag.now) ≡ false }
@@ -123,6 +126,7 @@ impl Circuits {
     /// The fragment's circuit has no entry (E67); or the entry leads to an end, and with its circuit set aside the
     /// fragment would be one that only acknowledges, which no fragment of a call is (E63). The fragment stays then. The
     /// caller calls no more for a direction that has failed.
+    #[inline]
     pub fn look<T: TakeSide>(&self, link: LinkId, from: &mut T) -> Result<First, HopFault>
         ensures finds { Finds T.takes T.front
             (record { table = self.now; link = link.0 }) result

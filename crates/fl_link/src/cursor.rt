@@ -60,6 +60,7 @@ impl Cursor {
     }
 
     /// The index: 0 at first, and one more with each step.
+    #[inline]
     pub fn index(&self) -> u64
         ensures index { result ≡ self.now.index }
     {
@@ -67,6 +68,7 @@ impl Cursor {
     }
 
     /// How many places the ring has.
+    #[inline]
     pub fn size(&self) -> usize
         ensures size { result ≡ self.now.size }
         ensures some { 0 < result }
@@ -75,6 +77,7 @@ impl Cursor {
     }
 
     /// The place in the ring: the index modulo the number of places.
+    #[inline]
     pub fn place(&self) -> usize
         ensures place { result ≡ self.now.index % self.now.size }
         ensures within { result < self.now.size }
@@ -83,6 +86,7 @@ impl Cursor {
     }
 
     /// The epoch of this round: 1 in the first, 0 in the second, and so on.
+    #[inline]
     pub fn epoch(&self) -> u64
         ensures epoch { result ≡ epoch_at self.now.size self.now.index }
         ensures bit { result < 2 }
@@ -91,6 +95,7 @@ impl Cursor {
     }
 
     /// Goes on to the next index.
+    #[inline]
     pub fn advance(&mut self)
         requires { self.old.index + 1 < 2 ^ 64 }
         ensures next { self.new ≡ record { index = self.old.index + 1; size = self.old.size } }

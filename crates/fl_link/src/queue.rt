@@ -88,6 +88,7 @@ impl QueueLink {
     }
 
     /// Whether a put would find room.
+    #[inline]
     pub fn room(&self) -> bool
         ensures room { result ≡ has_room self.now }
     {
@@ -96,6 +97,7 @@ impl QueueLink {
 
     /// Puts the fragment last, with the epoch due and telling nothing. Where every slot is in use
     /// it is E30, and after 2^62 fragments of an `acked` queue E33.
+    #[inline]
     pub fn put(&mut self, frag: &Frag) -> Result<(), PutFault>
         ensures placed { OnOk result (QueueGains self.old (bare frag.now) self.new) }
         ensures full { result ≡ Err PutFault.Full → QueuePuts self.old no_room self.new }
@@ -108,7 +110,7 @@ impl QueueLink {
             return Err(PutFault::Full);
         }
         let stamped = frag.stamp(self.next.epoch(), 0);
-        self.items.push_back(stamped).unwrap();
+        self.items.push_back_reserved(stamped);
         if self.acked {
             self.next.advance();
         }
@@ -116,6 +118,7 @@ impl QueueLink {
     }
 
     /// The epoch bit of the fragment that is put next: always 1 in a `local` queue.
+    #[inline]
     pub fn next_epoch(&self) -> u64
         ensures epoch { result ≡ next_epoch_of self.now }
         ensures bit { result < 2 }
@@ -124,6 +127,7 @@ impl QueueLink {
     }
 
     /// The first fragment, which is left there.
+    #[inline]
     pub fn peek(&self) -> Sight
         ensures look { QueueTakes self.now (peeked result) self.now }
         ensures front { peeked result ≡ front_of self.now.items }
@@ -138,6 +142,7 @@ impl QueueLink {
     }
 
     /// Takes the first fragment. In a `local` queue its slot is free at once.
+    #[inline]
     pub fn take(&mut self) -> Sight
         ensures look { QueueTakes self.old (taken result) self.new }
         ensures data { (frag : Frag) → front_of self.old.items ≡ saw frag → taken result ≡ found frag }
@@ -158,6 +163,7 @@ impl QueueLink {
 
     /// Tells what was taken: those slots of an `acked` queue are free then. A `local` queue has
     /// nothing to tell.
+    #[inline]
     pub fn tell(&mut self) -> Told
         ensures tell { QueueTakes self.old (tells (Ok result)) self.new }
     {
@@ -180,22 +186,27 @@ impl PutSide for QueueLink {
 
     ghost known_of = { λ _. 0 };
 
+    #[inline]
     fn room(&self) -> bool {
         QueueLink::room(self)
     }
 
+    #[inline]
     fn put(&mut self, frag: &Frag) -> Result<(), PutFault> {
         QueueLink::put(self, frag)
     }
 
+    #[inline]
     fn next_epoch(&self) -> u64 {
         QueueLink::next_epoch(self)
     }
 
+    #[inline]
     fn next_told(&self) -> u16 {
         0
     }
 
+    #[inline]
     fn known(&self) -> u64 {
         0
     }
@@ -206,14 +217,17 @@ impl TakeSide for QueueLink {
 
     ghost front = { λ s. front_of s.items };
 
+    #[inline]
     fn peek(&mut self) -> Sight {
         QueueLink::peek(self)
     }
 
+    #[inline]
     fn take(&mut self) -> Sight {
         QueueLink::take(self)
     }
 
+    #[inline]
     fn tell(&mut self) -> Result<Told, PutFault> {
         Ok(QueueLink::tell(self))
     }

@@ -6,7 +6,7 @@ use Rattle.fl_lists.specs.declared.place.Place.{Place}
 use Rattle.fl_lists.specs.declared.place.Place.TheVariants.{Idle, Polled, Pending}
 use Rattle.fl_lists.specs.declared.node.Node.{Node}
 use Rattle.fl_lists.specs.ThreeLists.{ThreeLists, list_at, is_in, without, place_of, unlinked, pushed, moved, popped, NoRepeat, IsApart}
-use Rattle.fl_lists.specs.Table.{free_node, node_at, next_at, prev_at, place_at, TakenOut, PutBefore, ChangesFew, head_of, Chain, Ring, list_from, lists_of, IsTable, TheLists}
+use Rattle.fl_lists.specs.Table.{free_node, node_at, next_at, prev_at, place_at, Joined, TakenOut, PutBefore, ChangesFew, head_of, Chain, Ring, list_from, lists_of, IsTable, TheLists}
 use Rattle.fl_lists.proofs.Members.{different, first_is_in, without_first, without_later, without_none, left_out}
 use Rattle.fl_lists.proofs.Rings.{same_or_not, placed_below, list_is, prev_placed, next_placed, last_placed, in_list, ring_without, ring_push, ring_besides_out, ring_besides_in}
 
@@ -247,15 +247,72 @@ few_both m n c old between new f g = record {
 pub written : (len : ℕ) (old new : List Node) → length old ≡ len → length new ≡ length old → take len (new ++ drop (length new) old) ≡ new
 written len old new a b = grind (arith, take_at new (drop (length new) old) len)
 
+-- Where the neighbours of c are joined, and then c is put before a head, that is what taking c out and putting it there
+-- would leave: c is written whole.
+by_two : (old mid new : List Node) (c head : ℕ) (p : Place) → c < length mid → head ≢ c
+    → Joined old mid (prev_at old c) (next_at old c) → PutBefore mid new c head p
+    → TakenOut old (set mid c free_node) c × PutBefore (set mid c free_node) new c head p
+by_two old mid new c head p below ne j t = (
+  record {
+    nexts = λ k away. ap (λ (n : Node). n.next) (other k away) ∙ j.nexts k;
+    prevs = λ k away. ap (λ (n : Node). n.prev) (other k away) ∙ j.prevs k;
+    places = λ k. elim (cases_eq k c) [
+      | inl e ↦ ap (λ (i : ℕ). place_at free i) e ∙ ap (λ (n : Node). n.place) this ∙ sym (cond-true _ _ _ (eq-eqb _ _ e))
+      | inr away ↦ ap (λ (n : Node). n.place) (other k away) ∙ j.places k ∙ sym (cond-false _ _ _ (ne_eqb _ _ away))
+    ];
+    size = length-set mid c free_node ∙ j.size;
+  },
+  record {
+    nexts = λ k. elim (cases_eq k c) [
+      | inl e ↦ t.nexts k ∙ cond-true _ _ _ (eq-eqb _ _ e) ∙ sym (cond-true _ _ _ (eq-eqb _ _ e))
+      | inr away ↦
+          t.nexts k ∙ cond-false _ _ _ (ne_eqb _ _ away)
+          ∙ ap (λ (i : ℕ). if k == i then c else next_at mid k) (sym last)
+          ∙ ap (λ (x : ℕ). if k == prev_at free head then c else x) (ap (λ (n : Node). n.next) (sym (other k away)))
+          ∙ sym (cond-false _ _ _ (ne_eqb _ _ away))
+    ];
+    prevs = λ k. elim (cases_eq k head) [
+      | inl e ↦ t.prevs k ∙ cond-true _ _ _ (eq-eqb _ _ e) ∙ sym (cond-true _ _ _ (eq-eqb _ _ e))
+      | inr off ↦ t.prevs k ∙ cond-false _ _ _ (ne_eqb _ _ off) ∙ before k ∙ sym (cond-false _ _ _ (ne_eqb _ _ off))
+    ];
+    places = λ k. elim (cases_eq k c) [
+      | inl e ↦ t.places k ∙ cond-true _ _ _ (eq-eqb _ _ e) ∙ sym (cond-true _ _ _ (eq-eqb _ _ e))
+      | inr away ↦
+          t.places k ∙ cond-false _ _ _ (ne_eqb _ _ away) ∙ ap (λ (n : Node). n.place) (sym (other k away))
+          ∙ sym (cond-false _ _ _ (ne_eqb _ _ away))
+    ];
+    size = t.size ∙ sym (length-set mid c free_node);
+  },
+) where
+  free : List Node
+  free = set mid c free_node
+
+  this : node_at free c ≡ free_node
+  this = get_or-set_same mid c free_node free_node below
+
+  other : (k : ℕ) → k ≢ c → node_at free k ≡ node_at mid k
+  other k away = get_or-set_other mid c k free_node free_node away
+
+  last : prev_at free head ≡ prev_at mid head
+  last = ap (λ (n : Node). n.prev) (other head ne)
+
+  before : (k : ℕ) → (if k == c then prev_at mid head else prev_at mid k) ≡ (if k == c then prev_at free head else prev_at free k)
+  before k = elim (cases_eq k c) [
+    | inl e ↦ cond-true _ _ _ (eq-eqb _ _ e) ∙ sym last ∙ sym (cond-true _ _ _ (eq-eqb _ _ e))
+    | inr away ↦
+        cond-false _ _ _ (ne_eqb _ _ away) ∙ ap (λ (n : Node). n.prev) (sym (other k away))
+        ∙ sym (cond-false _ _ _ (ne_eqb _ _ away))
+  ]
+
 some_place : (o : Option Place) → IsSome o → (p : Place) × (o ≡ Some p)
 some_place (Some p) h = (p, refl)
 some_place None h = absurd (false≢true h)
 
 -- a table that holds these lists, and in which few nodes differ from before
-pub record Left (c : ℕ) (before : TheLists) (xs : List Node) (w : ThreeLists) : Type 0 where
+pub record Left (most c : ℕ) (before : TheLists) (xs : List Node) (w : ThreeLists) : Type 0 where
   pub table : IsTable xs
   pub lists : lists_of xs ≡ w
-  pub few : ChangesFew 2 c before.table xs
+  pub few : ChangesFew most c before.table xs
   pub apart : IsApart (lists_of xs)
 
 pub apart_now : (items : List Node) (now : TheLists) → IsTable items → record { lists = lists_of items; table = items } ≡ now → IsApart now.lists
@@ -291,15 +348,19 @@ module _ (items : List Node) (c : ℕ) (now : TheLists) (table : IsTable items) 
   pub next_below : IsSome (place_of now.lists c) → next_at items c < length items
   next_below h = let found = linked_here h in placed_below items _ found.0 (neighbours items table c found.0 below_here found.1).1
 
+  -- a node of a number is no head
+  pub no_head : (head : ℕ) (p : Place) → head ≡ head_of (length items) p → head ≢ c
+  no_head head p at e = head_behind (length items) c p below_here (sym e ∙ at)
+
   -- the table after `unlink` has written it back
   pub unlinks : (lent new : List Node) (len : ℕ) → lent ≡ items → length lent ≡ len → length new ≡ length lent → TakenOut lent new c
-      → IsSome (place_of now.lists c) → Left c now (take len (new ++ drop (length new) items)) (unlinked now.lists c)
+      → IsSome (place_of now.lists c) → Left 2 c now (take len (new ++ drop (length new) items)) (unlinked now.lists c)
   unlinks lent new len same long kept t h =
       let whole = written len items new (ap length (sym same) ∙ long) (kept ∙ ap length same) in
       let t_here = subst (λ (xs : List Node). TakenOut xs new c) same t in
       let found = linked_here h in
       let out = table_out items table new c found.0 t_here below_here found.1 in
-      subst (λ (xs : List Node). Left c now xs (unlinked now.lists c)) (sym whole) record {
+      subst (λ (xs : List Node). Left 2 c now xs (unlinked now.lists c)) (sym whole) record {
         table = out.0;
         lists = out.1 ∙ ap (λ (w : TheLists). unlinked w.lists c) seen;
         few = subst (λ (w : TheLists). ChangesFew 2 c w.table new) seen (few_out items new c t_here);
@@ -309,16 +370,42 @@ module _ (items : List Node) (c : ℕ) (now : TheLists) (table : IsTable items) 
   -- the table after `push_back` has written it back
   pub pushes : (lent new : List Node) (len head : ℕ) (p : Place) → head ≡ head_of (length items) p → lent ≡ items → length lent ≡ len
       → length new ≡ length lent → PutBefore lent new c head p
-      → place_of now.lists c ≡ None → Left c now (take len (new ++ drop (length new) items)) (pushed now.lists c p)
+      → place_of now.lists c ≡ None → Left 2 c now (take len (new ++ drop (length new) items)) (pushed now.lists c p)
   pushes lent new len head p e same long kept t h =
       let whole = written len items new (ap length (sym same) ∙ long) (kept ∙ ap length same) in
       let t_here = subst (λ (xs : List Node). PutBefore xs new c head p) same t in
       let t_head = subst (λ (k : ℕ). PutBefore items new c k p) e t_here in
       let come = table_in items table new c p t_head (free_here h) in
-      subst (λ (xs : List Node). Left c now xs (pushed now.lists c p)) (sym whole) record {
+      subst (λ (xs : List Node). Left 2 c now xs (pushed now.lists c p)) (sym whole) record {
         table = come.0;
         lists = come.1 ∙ ap (λ (w : TheLists). pushed w.lists c p) seen;
         few = subst (λ (w : TheLists). ChangesFew 2 c w.table new) seen (few_in items new c head p t_here);
+        apart = apart_lists new come.0;
+      }
+
+  -- the table after `move_to_back` has written it back
+  pub moves : (lent new : List Node) (len head : ℕ) (p : Place) → head ≡ head_of (length items) p → lent ≡ items → length lent ≡ len
+      → length new ≡ length lent
+      → (between : List Node) × Joined lent between (prev_at lent c) (next_at lent c) × PutBefore between new c head p
+      → IsSome (place_of now.lists c) → Left 4 c now (take len (new ++ drop (length new) items)) (moved now.lists c p)
+  moves lent new len head p e same long kept m h =
+      let whole = written len items new (ap length (sym same) ∙ long) (kept ∙ ap length same) in
+      let here = below_here in
+      let apart : c ≢ head_of (length items) p = head_behind (length items) c p here in
+      let m_here = subst (λ (xs : List Node). (between : List Node) × Joined xs between (prev_at xs c) (next_at xs c) × PutBefore between new c head p) same m in
+      let m_head = subst (λ (k : ℕ). (between : List Node) × Joined items between (prev_at items c) (next_at items c) × PutBefore between new c k p) e m_here in
+      let size = m_head.1.size in
+      let steps = by_two items m_head.0 new c (head_of (length items) p) p (omega arith) (λ s. apart (sym s)) m_head.1 m_head.2 in
+      let free = set m_head.0 c free_node in
+      let found = linked_here h in
+      let out = table_out items table free c found.0 steps.0 here found.1 in
+      let same_size : length free ≡ length items = steps.0.size in
+      let in_free = subst (λ (n : ℕ). PutBefore free new c (head_of n p) p) (sym same_size) steps.1 in
+      let come = table_in free out.0 new c p in_free (steps.0.places c ∙ cond-true _ _ _ (eq-eqb c c refl)) in
+      subst (λ (xs : List Node). Left 4 c now xs (moved now.lists c p)) (sym whole) record {
+        table = come.0;
+        lists = come.1 ∙ ap (λ (w : ThreeLists). pushed w c p) (out.1 ∙ ap (λ (w : TheLists). unlinked w.lists c) seen);
+        few = subst (λ (w : TheLists). ChangesFew 4 c w.table new) seen (few_both 2 2 c items free new (few_out items free c steps.0) (few_in free new c _ p steps.1));
         apart = apart_lists new come.0;
       }
 

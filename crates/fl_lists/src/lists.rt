@@ -4,7 +4,7 @@ ghost use Rattle.std.specs.Prelude.{◌≡◌, ◌<◌, ◌≤◌, IfOk, IfSome,
 ghost use Rattle.fl_lists.specs.ThreeLists.{list_at, place_of, unlinked, pushed, moved, popped, empty, IsApart};
 ghost use Rattle.fl_lists.specs.Table.{head_of, ChangesFew};
 
-use crate::node::{FREE, Node, head, put_before, take_out};
+use crate::node::{FREE, Node, head, move_before, put_before, take_out};
 use crate::place::Place;
 use std::alloc::{AllocError, Global};
 use std::marker::Model;
@@ -32,6 +32,7 @@ impl Model for Lists {
 }
 
 /// The index of the head of a list, in a table of `len` nodes.
+#[inline]
 fn head_index(len: usize, place: Place) -> usize
     requires heads { 3 ≤ len }
     ensures index { result ≡ head_of len place }
@@ -63,6 +64,7 @@ impl Lists {
     }
 
     /// The nodes are the numbers below this.
+    #[inline]
     pub fn size(&self) -> usize
         ensures size { result ≡ self.now.lists.size }
         ensures apart { IsApart self.now.lists }
@@ -71,6 +73,7 @@ impl Lists {
     }
 
     /// The list that `c` is in; `None` where it is in none.
+    #[inline]
     pub fn place_of(&self, c: usize) -> Option<Place>
         requires below { c < self.now.lists.size }
         ensures place { result ≡ place_of self.now.lists c }
@@ -80,6 +83,7 @@ impl Lists {
     }
 
     /// The first of a list; `None` where it is empty.
+    #[inline]
     pub fn front(&self, place: Place) -> Option<usize>
         ensures first { result ≡ slice_get (list_at self.now.lists place) 0 }
         ensures within { IfSome result (λ c. c < self.now.lists.size) }
@@ -91,6 +95,7 @@ impl Lists {
     }
 
     /// Puts `c`, which is in no list, at the back of one.
+    #[inline]
     pub fn push_back(&mut self, c: usize, place: Place)
         requires below { c < self.old.lists.size }
         requires free { place_of self.old.lists c ≡ None }
@@ -103,6 +108,7 @@ impl Lists {
     }
 
     /// Takes `c` out of the list that it is in.
+    #[inline]
     pub fn unlink(&mut self, c: usize)
         requires below { c < self.old.lists.size }
         requires linked { IsSome (place_of self.old.lists c) }
@@ -114,6 +120,7 @@ impl Lists {
     }
 
     /// Moves `c` from the list that it is in to the back of one, which may be the same.
+    #[inline]
     pub fn move_to_back(&mut self, c: usize, place: Place)
         requires below { c < self.old.lists.size }
         requires linked { IsSome (place_of self.old.lists c) }
@@ -121,15 +128,16 @@ impl Lists {
         ensures few { ChangesFew 4 c self.old.table self.new.table }
         ensures apart { IsApart self.new.lists }
     {
-        if self.nodes[c].next == head_index(self.nodes.len(), place) {
+        let head = head_index(self.nodes.len(), place);
+        if self.nodes[c].next == head {
             // it is the last there
             return;
         }
-        self.unlink(c);
-        self.push_back(c, place);
+        move_before(&mut self.nodes, c, head, place);
     }
 
     /// Takes the first out of a list; `None` where it is empty.
+    #[inline]
     pub fn pop_front(&mut self, place: Place) -> Option<usize>
         ensures first { result ≡ slice_get (list_at self.old.lists place) 0 }
         ensures within { IfSome result (λ c. c < self.old.lists.size) }

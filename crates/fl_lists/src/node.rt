@@ -1,7 +1,7 @@
 //! The table of nodes. A list is a ring: its head is a node of the table too, `next` goes from the
 //! head through the list and back to the head, and `prev` goes the other way.
 
-ghost use Rattle.std.specs.Prelude.{◌≡◌, ◌<◌, length};
+ghost use Rattle.std.specs.Prelude.{◌≡◌, ◌≢◌, ◌<◌, List, length};
 ghost use Rattle.fl_lists.specs.Table.{next_at, prev_at, place_at, Joined, TakenOut, PutBefore};
 
 use crate::place::Place;
@@ -36,6 +36,7 @@ pub fn head(at: usize, place: Place) -> Node
 }
 
 /// Makes `right` the node after `left`.
+#[inline]
 fn join(nodes: &mut [Node], left: usize, right: usize)
     requires left_below { left < length nodes.old }
     requires right_below { right < length nodes.old }
@@ -46,6 +47,7 @@ fn join(nodes: &mut [Node], left: usize, right: usize)
 }
 
 /// Takes node `at` out of its list: its neighbours become neighbours of each other.
+#[inline]
 pub fn take_out(nodes: &mut [Node], at: usize)
     requires below { at < length nodes.old }
     requires prev_below { prev_at nodes.old at < length nodes.old }
@@ -58,6 +60,7 @@ pub fn take_out(nodes: &mut [Node], at: usize)
 }
 
 /// Puts node `at` at the back of the list whose head is at `head`.
+#[inline]
 pub fn put_before(nodes: &mut [Node], at: usize, head: usize, place: Place)
     requires below { at < length nodes.old }
     requires head_below { head < length nodes.old }
@@ -68,4 +71,21 @@ pub fn put_before(nodes: &mut [Node], at: usize, head: usize, place: Place)
     join(nodes, last, at);
     join(nodes, at, head);
     nodes[at].place = Some(place);
+}
+
+/// Moves node `at` from its list to the back of the list whose head is at `head`.
+#[inline]
+pub fn move_before(nodes: &mut [Node], at: usize, head: usize, place: Place)
+    requires below { at < length nodes.old }
+    requires head_below { head < length nodes.old }
+    requires no_head { head ≢ at }
+    requires prev_below { prev_at nodes.old at < length nodes.old }
+    requires next_below { next_at nodes.old at < length nodes.old }
+    requires last_below { prev_at nodes.old head < length nodes.old }
+    // its neighbours are joined, and then it is put there
+    ensures moved { (between : List Node) × Joined nodes.old between (prev_at nodes.old at) (next_at nodes.old at) × PutBefore between nodes.new at head place }
+{
+    let Node { prev, next, .. } = nodes[at];
+    join(nodes, prev, next);
+    put_before(nodes, at, head, place);
 }

@@ -6,6 +6,7 @@ ghost use Rattle.fl_ring.specs.Counts.{count_from};
 /// The first count from `known` on that agrees with `number` modulo 65,536.
 ///
 /// Within 65,536 counts there is only one, so a number of 16 bits names it.
+#[inline]
 pub fn count_from(known: u64, number: u16) -> u64
     requires { known ≤ 2 ^ 62 }
     ensures count { result ≡ count_from known number }

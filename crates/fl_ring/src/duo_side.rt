@@ -22,6 +22,7 @@ pub struct DuoSide<'a> {
 
 impl OneDuo {
     /// The side of this name, for as long as it is lent.
+    #[inline]
     pub fn side(&mut self, which: Which) -> DuoSide<'_>
         ensures same { result.duo.ghost_name ≡ self.entry.ghost_name }
         ensures ring { result.duo.now ≡ self.old }
@@ -42,22 +43,27 @@ impl PutSide for DuoSide<'_> {
 
     ghost known_of = { λ s. (side_of s.which s.duo.now).known };
 
+    #[inline]
     fn room(&self) -> bool {
         self.duo.room(self.which)
     }
 
+    #[inline]
     fn put(&mut self, frag: &Frag) -> Result<(), PutFault> {
         self.duo.put(self.which, frag)
     }
 
+    #[inline]
     fn next_epoch(&self) -> u64 {
         self.duo.next_epoch(self.which)
     }
 
+    #[inline]
     fn next_told(&self) -> u16 {
         self.duo.next_told(self.which)
     }
 
+    #[inline]
     fn known(&self) -> u64 {
         self.duo.known(self.which)
     }
@@ -68,14 +74,17 @@ impl TakeSide for DuoSide<'_> {
 
     ghost front = { λ s. front_of (side_of s.which s.duo.now).waiting };
 
+    #[inline(always)]
     fn peek(&mut self) -> Sight {
         self.duo.peek(self.which)
     }
 
+    #[inline(always)]
     fn take(&mut self) -> Sight {
         self.duo.take(self.which)
     }
 
+    #[inline]
     fn tell(&mut self) -> Result<Told, PutFault> {
         self.duo.tell(self.which)
     }

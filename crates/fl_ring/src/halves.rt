@@ -58,6 +58,7 @@ impl Half {
 
 // Looks at the first fragment of the other side that isn't taken yet, and knows the count that it
 // tells.
+#[inline(always)]
 fn look_back(words: &[u64], mine: &mut Half) -> Option<Frag>
     requires { (n : ℕ) × (theirs : Half) × InStep n words.now mine.old theirs }
     ensures looks { (n : ℕ) (theirs : Half) → InStep n words.now mine.old theirs → MatchOption result
@@ -75,6 +76,7 @@ fn look_back(words: &[u64], mine: &mut Half) -> Option<Frag>
 }
 
 // How many slots are free, as far as this side knows.
+#[inline]
 fn known_free(mine: &Half) -> u64
     requires { (n : ℕ) × (words : List ℕ) × (theirs : Half) × InStep n words mine.now theirs }
     ensures free { result ≡ free mine.now.put.size mine.now.put.index mine.now.known }
@@ -83,6 +85,7 @@ fn known_free(mine: &Half) -> u64
 }
 
 /// Whether a put at this side would find room, by what the side knows.
+#[inline]
 pub(crate) fn room_at(mine: &Half) -> bool
     requires { (n : ℕ) × (words : List ℕ) × (theirs : Half) × InStep n words mine.now theirs }
     ensures room { result ≡ (nat_lt mine.now.put.index (2 ^ 62) && nat_le 2 (free mine.now.put.size mine.now.put.index mine.now.known)) }
@@ -106,6 +109,7 @@ fn has_free(words: &[u64], mine: &mut Half, need: u64) -> bool
 }
 
 // Writes a fragment into the next slot. Its control word tells all that was taken.
+#[inline]
 fn write(words: &mut Vec<u64>, mine: &mut Half, frag: &Frag)
     requires { (n : ℕ) × (theirs : Half) × InStep n words.old.items mine.old theirs
         × (mine.old.put.index < 2 ^ 62) × (mine.old.put.index + 1 ≤ mine.old.known + n) }
@@ -132,6 +136,7 @@ const ACKNOWLEDGEMENT: Frag = Frag {
 };
 
 /// Puts a fragment at this side.
+#[inline]
 pub(crate) fn put_at(words: &mut Vec<u64>, mine: &mut Half, frag: &Frag) -> Result<(), PutFault>
     requires steps { (n : ℕ) × (theirs : Half) × InStep n words.old.items mine.old theirs }
     requires data { is_ack_only frag.now ≡ false }
@@ -150,6 +155,7 @@ pub(crate) fn put_at(words: &mut Vec<u64>, mine: &mut Half, frag: &Frag) -> Resu
 }
 
 /// Looks at the first fragment that this side may take, and leaves it.
+#[inline(always)]
 pub(crate) fn peek_at(words: &[u64], mine: &mut Half) -> Sight
     requires { (n : ℕ) × (theirs : Half) × InStep n words.now mine.old theirs }
     ensures look { Goes HalfTakes words.now mine.old (peeked result) words.now mine.new }
@@ -165,6 +171,7 @@ pub(crate) fn peek_at(words: &[u64], mine: &mut Half) -> Sight
 }
 
 /// Takes the first fragment that this side may take.
+#[inline(always)]
 pub(crate) fn take_at(words: &[u64], mine: &mut Half) -> Sight
     requires { (n : ℕ) × (theirs : Half) × InStep n words.now mine.old theirs }
     ensures look { Goes HalfTakes words.now mine.old (taken result) words.now mine.new }

@@ -72,6 +72,7 @@ impl OneDuo {
     /// Puts a fragment at this side, which tells all that the side has taken. E33 after 2^62
     /// fragments; else E30 where, after a look at the other side's first fragment if too few slots
     /// were free, fewer than two are free. The fragment isn't one that only acknowledges.
+    #[inline]
     pub fn put(&mut self, which: Which, frag: &Frag) -> Result<(), PutFault>
         requires { is_ack_only frag.now ≡ false }
         ensures placed { OnOk result (DuoPuts which self.old (placed (bare frag.now)) self.new) }
@@ -85,6 +86,7 @@ impl OneDuo {
     }
 
     /// What stands first for this side, which is left there. The side knows then what it tells.
+    #[inline(always)]
     pub fn peek(&mut self, which: Which) -> Sight
         ensures look { DuoTakes which self.old (peeked result) self.new }
         ensures again { (frag : Frag) → front_of (side_of which self.old).waiting ≡ saw frag → peeked result ≡ saw frag }
@@ -99,6 +101,7 @@ impl OneDuo {
     }
 
     /// Takes what stands first for this side.
+    #[inline(always)]
     pub fn take(&mut self, which: Which) -> Sight
         ensures look { DuoTakes which self.old (taken result) self.new }
         ensures whole { (frag : Frag) → result ≡ Sight.Data frag → BeginsWith (side_of which self.old).waiting frag }
@@ -124,6 +127,7 @@ impl OneDuo {
     /// Tells what this side has taken, by a fragment that only acknowledges: where at least half of
     /// the slots are read and untold (else there is nothing to tell). E30 where, after a look at the
     /// other side's first fragment if no slot was free, none is; also after 2^62 fragments.
+    #[inline]
     pub fn tell(&mut self, which: Which) -> Result<Told, PutFault>
         ensures tell { DuoTakes which self.old (tells result) self.new }
         ensures never_spent { result ≢ Err PutFault.Spent }
@@ -142,6 +146,7 @@ impl OneDuo {
     }
 
     /// Whether a put at this side would find room, by what the side knows.
+    #[inline]
     pub fn room(&self, which: Which) -> bool
         ensures room { result ≡ half_has_room self.now.size (side_of which self.now) }
     {
@@ -152,6 +157,7 @@ impl OneDuo {
     }
 
     /// The epoch bit of the fragment that this side puts next.
+    #[inline]
     pub fn next_epoch(&self, which: Which) -> u64
         ensures epoch { result ≡ epoch_at self.now.size (side_of which self.now).sent }
         ensures bit { result < 2 }
@@ -163,6 +169,7 @@ impl OneDuo {
     }
 
     /// Bits 48 to 63 of the fragment that this side puts next: how many it has taken, modulo 65,536.
+    #[inline]
     pub fn next_told(&self, which: Which) -> u16
         ensures told { result ≡ got (side_of which self.now) % 65536 }
     {
@@ -174,6 +181,7 @@ impl OneDuo {
 
     /// How many of its fragments this side knows to be taken. That number was told, and the side
     /// has put no more than its slots beyond it: so 16 bits of a count name it.
+    #[inline]
     pub fn known(&self, which: Which) -> u64
         ensures known { result ≡ (side_of which self.now).known }
         ensures near { CountsAreNear self.now.size (side_of which self.now) (across which self.now) }

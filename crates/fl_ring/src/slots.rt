@@ -7,6 +7,7 @@ ghost use Rattle.fl_ring.specs.Way.{frag_at, WritesSlot};
 use fl_base::Frag;
 
 // Writes the payload words first, and the control word last.
+#[inline]
 pub(crate) fn write_slot(words: &mut Vec<u64>, slot: usize, frag: &Frag)
     requires { slot + 8 ≤ vec_len words.old }
     ensures writes { WritesSlot slot frag.now words.old.items words.new.items }
@@ -19,6 +20,7 @@ pub(crate) fn write_slot(words: &mut Vec<u64>, slot: usize, frag: &Frag)
 }
 
 // The fragment in the slot.
+#[inline(always)]
 pub(crate) fn read_slot(words: &[u64], slot: usize) -> Frag
     requires { slot + 8 ≤ length words.now }
     ensures reads { result ≡ frag_at words.now slot }
@@ -31,6 +33,7 @@ pub(crate) fn read_slot(words: &[u64], slot: usize) -> Frag
 }
 
 // The fragment in the slot, if its epoch is the one that is due.
+#[inline(always)]
 pub(crate) fn look(words: &[u64], slot: usize, due: u64) -> Option<Frag>
     requires { slot + 8 ≤ length words.now }
     ensures look { MatchOption result

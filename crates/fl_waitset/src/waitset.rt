@@ -65,6 +65,7 @@ impl Waitset {
     }
 
     /// The list that `c` is in; `None` where it isn't registered.
+    #[inline]
     fn place_of(&self, c: ChanId) -> Result<Option<Place>, WaitFault>
         ensures answer { result ≡ (if nat_lt c.0 self.now.size then Ok (place_of self.now c.0) else Err NoChannel) }
         ensures waitset { IsWaitset self.now }
@@ -116,6 +117,7 @@ impl Waitset {
     /// Takes a channel out of the list that it is in.
     ///
     /// Errors: no such channel (E53); not registered (E51).
+    #[inline]
     pub fn deregister(&mut self, c: ChanId) -> Result<(), WaitFault>
         ensures answer { result ≡ registered_answer self.old c.0 }
         ensures ok { OnOk result (self.new ≡ unlinked self.old c.0) }
@@ -133,6 +135,7 @@ impl Waitset {
     /// pending. One that is polled or pending stays, and one that isn't registered is not touched.
     ///
     /// Errors: no such channel (E53).
+    #[inline]
     #[tactic(auto, using(crate::proofs::Moves::idle_moves))]
     pub fn trigger(&mut self, c: ChanId) -> Result<(), WaitFault>
         ensures answer { result ≡ trigger_answer self.old c.0 }
@@ -150,6 +153,7 @@ impl Waitset {
     /// else the first polled one.
     ///
     /// Errors: none is pending and none is polled (E52).
+    #[inline]
     pub fn next_event(&self) -> Result<Pick, WaitFault>
         ensures pick { result ≡ next_pick self.now }
         ensures waitset { IsWaitset self.now }
@@ -166,6 +170,7 @@ impl Waitset {
     /// Moves a channel to the back of a list, which may be the one that it is in.
     ///
     /// Errors: no such channel (E53); not registered (E51).
+    #[inline]
     #[tactic(auto, using(crate::proofs::Moves::first_moves))]
     pub fn put_back(&mut self, c: ChanId, place: Place) -> Result<(), WaitFault>
         ensures answer { result ≡ registered_answer self.old c.0 }
