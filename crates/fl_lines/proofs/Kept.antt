@@ -1,5 +1,5 @@
 -- What stood in a text stays there, whatever is appended behind it.
-use Rattle.std.proofs.Common.{true, false, ◌≡◌, ◌+◌, ◌<◌, ◌++◌, ◌∷◌, List, [], ℕ, get_or, sym, ap, ◌∙◌, append_assoc, append-nil, take, length}
+use Rattle.std.proofs.Common.{true, false, ◌≡◌, ◌+◌, ◌<◌, ◌++◌, List, [], ℕ, get_or, sym, ap, ◌∙◌, append_assoc, append-nil, take, length}
 use Rattle.std.proofs.lemmas.List.{take_more, flat_map_more}
 use Rattle.std.specs.List.{flat_map}
 use Rattle.std.proofs.Math.Seq.{take-append_seam}

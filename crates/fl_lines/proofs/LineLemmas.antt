@@ -1,5 +1,5 @@
 -- What lines ask, told from their words.
-use Rattle.std.proofs.Common.{◌≡◌, ◌⊎◌, inl, inr, ℕ, Bool, true, false, cond, List, Option, Some, None, Result, Ok, Err, refl, sym, subst, ◌∙◌}
+use Rattle.std.proofs.Common.{◌≡◌, inl, inr, ℕ, Bool, true, false, cond, List, Option, Some, None, Result, Ok, Err, refl, sym, subst}
 use Rattle.fl_base.specs.declared.identity.EndId.{EndId}
 use Rattle.fl_lex.specs.Words.{is_name}
 use Rattle.fl_queues.specs.Events.{Event}

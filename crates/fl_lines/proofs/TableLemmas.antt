@@ -14,7 +14,7 @@ use Rattle.std.proofs.lemmas.Bool.Decides.{nat_tests}
 use Rattle.std.proofs.lemmas.List.{map_push}
 use Rattle.fl_lines.specs.Names.{place_of}
 
-abbrev items_of : Vec ℕ → List ℕ
+abbrev pub items_of : Vec ℕ → List ℕ
 items_of name = name.items
 
 abbrev is_it : List ℕ → Vec ℕ → Bool

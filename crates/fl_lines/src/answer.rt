@@ -137,6 +137,7 @@ fn put_frag(out: &mut Vec<u8>, frag: &Frag) -> Result<(), AllocError>
 
 // An end: its binding's name, and `.c` or `.s`.
 #[tactic(auto, using(crate::proofs::Kept::pieces))]
+#[inline(always)]
 fn put_end(out: &mut Vec<u8>, names: &Names, end: EndId) -> Result<(), AllocError>
     ensures ok { OnOk result (out.new.items ≡ out.old.items ++ end_named (names_of names.now) end) }
     ensures grows { IsPrefix out.old.items out.new.items }
@@ -145,6 +146,20 @@ fn put_end(out: &mut Vec<u8>, names: &Names, end: EndId) -> Result<(), AllocErro
     match end.side {
         Side::Client => out.extend_from_slice(b".c"),
         Side::Server => out.extend_from_slice(b".s"),
+    }
+}
+
+// The same, and a space.
+#[tactic(auto, using(crate::proofs::Kept::pieces))]
+#[inline(always)]
+fn put_spaced_end(out: &mut Vec<u8>, names: &Names, end: EndId) -> Result<(), AllocError>
+    ensures ok { OnOk result (out.new.items ≡ out.old.items ++ (end_named (names_of names.now) end ++ codes " ")) }
+    ensures grows { IsPrefix out.old.items out.new.items }
+{
+    out.extend_from_slice(names.bindings.get(end.binding).unwrap_or(&[]))?;
+    match end.side {
+        Side::Client => out.extend_from_slice(b".c "),
+        Side::Server => out.extend_from_slice(b".s "),
     }
 }
 
@@ -158,8 +173,10 @@ fn put_of_end(out: &mut Vec<u8>, word: &[u8], names: &Names, end: EndId) -> Resu
     put_end(out, names, end)
 }
 
+// The same of any fragments.
 #[tactic(auto, using(crate::proofs::Kept::pieces))]
-fn put_written(out: &mut Vec<u8>, k: usize, n: usize) -> Result<(), AllocError>
+#[inline(never)]
+fn put_any_written(out: &mut Vec<u8>, k: usize, n: usize) -> Result<(), AllocError>
     ensures ok { OnOk result (out.new.items ≡ out.old.items ++ (codes "written " ++ decimal k ++ codes " of " ++ decimal n)) }
     ensures grows { IsPrefix out.old.items out.new.items }
 {
@@ -167,6 +184,33 @@ fn put_written(out: &mut Vec<u8>, k: usize, n: usize) -> Result<(), AllocError>
     put_number(out, k)?;
     out.extend_from_slice(b" of ")?;
     put_number(out, n)
+}
+
+// The text of a fragment that was written, where a call has fewer than ten.
+#[inline(always)]
+fn few_written(k: u8, n: u8) -> [u8; 14]
+    requires first { k < 10 }
+    requires all { n < 10 }
+    ensures text { result ≡ codes "written " ++ decimal k ++ codes " of " ++ decimal n }
+{
+    let (k, n) = (b'0' + k, b'0' + n);
+    [
+        b'w', b'r', b'i', b't', b't', b'e', b'n', b' ', k, b' ', b'o', b'f', b' ', n,
+    ]
+}
+
+// Fragment k of n was written; most calls have fewer than ten.
+#[tactic(auto, using(crate::proofs::Kept::pieces))]
+#[inline(always)]
+fn put_written(out: &mut Vec<u8>, k: usize, n: usize) -> Result<(), AllocError>
+    ensures ok { OnOk result (out.new.items ≡ out.old.items ++ (codes "written " ++ decimal k ++ codes " of " ++ decimal n)) }
+    ensures grows { IsPrefix out.old.items out.new.items }
+{
+    if k < 10 && n < 10 {
+        let text = few_written(k as u8, n as u8);
+        return out.extend_from_slice(text.as_slice());
+    }
+    put_any_written(out, k, n)
 }
 
 #[tactic(auto, using(crate::proofs::Kept::pieces))]
@@ -195,6 +239,7 @@ fn put_call(
 
 // The same, behind its word and the end.
 #[tactic(auto, using(crate::proofs::Kept::pieces))]
+#[inline(always)]
 fn put_handled(
     alloc: Global,
     out: &mut Vec<u8>,
@@ -206,8 +251,8 @@ fn put_handled(
         ++ (codes "handle " ++ end_named (names_of names.now) end ++ codes " " ++ call_at (names_of names.now) end (call_of call.now))) }
     ensures grows { IsPrefix out.old.items out.new.items }
 {
-    put_of_end(out, b"handle ", names, end)?;
-    out.extend_from_slice(b" ")?;
+    out.extend_from_slice(b"handle ")?;
+    put_spaced_end(out, names, end)?;
     put_call(alloc, out, names, end, call)
 }
 
@@ -257,6 +302,7 @@ fn put_answer(
 }
 
 // Hands on what came of an append. Where it failed, all behind so many bytes is taken back.
+#[inline(always)]
 fn all_or_none(
     out: &mut Vec<u8>,
     before: usize,

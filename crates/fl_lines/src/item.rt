@@ -51,6 +51,7 @@ fn next_line(bytes: &[u8]) -> (&[u8], &[u8])
 }
 
 // A line without its line feed, and without one carriage return directly before that.
+#[inline(always)]
 fn without_end(line: &[u8]) -> &[u8]
     ensures text { WithoutEnd line.now result.now }
 {
@@ -93,6 +94,7 @@ fn block(bytes: &[u8]) -> Option<(&[u8], &[u8])>
 }
 
 /// The first item of a script that isn't at its end, by its first word, and what stands behind it. Takes no memory.
+#[inline(always)]
 pub fn next_part(bytes: &[u8]) -> (Part<'_>, &[u8])
     requires { 0 < length bytes.now }
     ensures items { (items : List TheItem) → ItemsOf result.1.now items → ItemsOf bytes.now (part_of result.0 ∷ items) }

@@ -1,6 +1,8 @@
 //! Lines read: each function is a row of the table, behind the words before it.
 
-ghost use Rattle.std.specs.Prelude.{◌≡◌, option_map, is_some};
+ghost use Rattle.std.specs.Prelude.{◌≡◌, option_map, is_some, if◌then◌else◌, codes, IfSome};
+ghost use Rattle.std.specs.Str.{bytes_eq};
+ghost use Rattle.fl_base.specs.declared.identity.Side.TheVariants.{Client, Server};
 ghost use Rattle.std.specs.Prelude.{None, Some};
 ghost use Rattle.fl_queues.specs.Given.{given};
 ghost use Rattle.fl_lines.specs.Commands.{local, ump, mwrite, forward, mack};
@@ -18,30 +20,43 @@ use fl_base::Side;
 use fl_lex::is_name;
 use fl_value::PlanNo;
 
-pub fn end_name(word: &[u8]) -> Option<EndName<'_>>
-    ensures same { option_map end_name_of result ≡ end_of word.now }
+// The side that a dot and a letter tell.
+#[inline(always)]
+fn side_of(text: &[u8]) -> Option<Side>
+    ensures same { result ≡ (if bytes_eq text.now (codes ".c") then Some Client else if bytes_eq text.now (codes ".s") then Some Server else None) }
 {
-    let at = word.len().saturating_sub(2);
-    let (name, side) = word.split_at(at);
-    if !is_name(name) {
+    let [dot, letter] = text else {
+        return None;
+    };
+    if *dot != b'.' {
         return None;
     }
-    if side == b".c".as_slice() {
-        return Some(EndName {
-            binding: name,
-            side: Side::Client,
-        });
+    if *letter == b'c' {
+        return Some(Side::Client);
     }
-    if side == b".s".as_slice() {
-        return Some(EndName {
-            binding: name,
-            side: Side::Server,
-        });
+    if *letter == b's' {
+        return Some(Side::Server);
     }
     None
 }
 
+#[inline(always)]
+pub fn end_name(word: &[u8]) -> Option<EndName<'_>>
+    ensures same { option_map end_name_of result ≡ end_of word.now }
+{
+    let at = word.len().saturating_sub(2);
+    let (binding, text) = word.split_at(at);
+    if !is_name(binding) {
+        return None;
+    }
+    let Some(side) = side_of(text) else {
+        return None;
+    };
+    Some(EndName { binding, side })
+}
+
 // Whether no word is left.
+#[inline(always)]
 pub fn is_last(line: &[u8]) -> bool
     ensures same { result ≡ is_none (first_word line.now) }
 {
@@ -282,9 +297,7 @@ fn making_verb(word: &[u8]) -> Verb
     }
 }
 
-// The verb of a word that is seldom.
-#[inline(never)]
-fn seldom_verb(word: &[u8]) -> Verb
+fn read_verb(word: &[u8]) -> Verb
     ensures same { result ≡ verb_of word.now }
 {
     if word == b"call".as_slice() {
@@ -305,22 +318,6 @@ fn seldom_verb(word: &[u8]) -> Verb
         Verb::Show
     } else {
         making_verb(word)
-    }
-}
-
-// The verb of a word: those of lines that are repeated first, by their bytes.
-#[inline(always)]
-fn read_verb(word: &[u8]) -> Verb
-    ensures same { result ≡ verb_of word.now }
-{
-    match word {
-        b"call" => Verb::Call,
-        b"write" => Verb::Write,
-        b"turn" => Verb::Turn,
-        b"ack" => Verb::Ack,
-        b"forward" => Verb::Forward,
-        b"show" => Verb::Show,
-        _ => seldom_verb(word),
     }
 }
 
@@ -384,8 +381,25 @@ fn read_heading(rest: &[u8]) -> Opening<'static>
     Opening::Unread
 }
 
+// The verb of a line that is repeated, where a space stands behind it, and what stands behind that.
+#[inline(always)]
+fn repeated(line: &[u8]) -> Option<(Verb, &[u8])>
+    ensures told { IfSome result (λ p. line_with (command_by p.0 p.1.now) ≡ read_line line.now) }
+{
+    match line {
+        [b'c', b'a', b'l', b'l', b' ', rest @ ..] => Some((Verb::Call, rest)),
+        [b'w', b'r', b'i', b't', b'e', b' ', rest @ ..] => Some((Verb::Write, rest)),
+        [b't', b'u', b'r', b'n', b' ', rest @ ..] => Some((Verb::Turn, rest)),
+        [b's', b'h', b'o', b'w', b' ', rest @ ..] => Some((Verb::Show, rest)),
+        [b'a', b'c', b'k', b' ', rest @ ..] => Some((Verb::Ack, rest)),
+        [b'f', b'o', b'r', b'w', b'a', b'r', b'd', b' ', rest @ ..] => Some((Verb::Forward, rest)),
+        _ => None,
+    }
+}
+
 // What a line is by its first word.
-fn read_opening(line: &[u8]) -> Opening<'_>
+#[inline(never)]
+fn read_any_opening(line: &[u8]) -> Opening<'_>
     ensures same { opening_of result ≡ read_line line.now }
 {
     let (word, rest) = next_word(line);
@@ -399,7 +413,19 @@ fn read_opening(line: &[u8]) -> Opening<'_>
     Opening::Command(verb, rest)
 }
 
+// The same, told at once of a line that is repeated.
+#[inline(always)]
+fn read_opening(line: &[u8]) -> Opening<'_>
+    ensures same { opening_of result ≡ read_line line.now }
+{
+    match repeated(line) {
+        Some((verb, rest)) => Opening::Command(verb, rest),
+        None => read_any_opening(line),
+    }
+}
+
 /// What a line, without its end, is by its first word. Takes no memory.
+#[inline(always)]
 pub fn open_line(line: &[u8]) -> Opening<'_>
     ensures line { LineIs line.now (opening_of result) }
 {

@@ -1,13 +1,52 @@
 //! A list of names that is asked by a map.
 
-ghost use Rattle.std.specs.Prelude.{◌≡◌, ◌++◌, ◌∷◌, [], OnOk, OnErr, None, option_map, slice_get};
+ghost use Rattle.std.specs.Prelude.{◌≡◌, ◌++◌, ◌∷◌, [], OnOk, OnErr, None, option_map, slice_get, map};
+ghost use Rattle.std.specs.Str.{bytes_eq};
 ghost use Rattle.fl_lines.specs.Names.{place_of};
 ghost use Rattle.fl_lines.specs.Tables.{table_of};
 
 use indexmap::IndexSet;
 use std::alloc::{AllocError, Global};
 
-/// Names in order of making, none twice. A look-up takes no memory, and no search.
+// A table of no more names than these is read from its front: that takes less time than to ask the map.
+const FEW: usize = 8;
+
+// Whether two names are the same.
+#[inline(always)]
+fn is_same(name: &[u8], other: &[u8]) -> bool
+    ensures same { result ≡ bytes_eq name.now other.now }
+{
+    let mut left = other;
+    for byte in name {
+        let [first, behind @ ..] = left else {
+            return false;
+        };
+        if *byte != *first {
+            return false;
+        }
+        left = behind;
+    }
+    left.is_empty()
+}
+
+// The place of a name, found from the front.
+#[inline(always)]
+fn place_among(names: &[Vec<u8>], name: &[u8]) -> Option<usize>
+    ensures place { result ≡ place_of name.now (map (λ n. n.items) names.now) }
+{
+    let mut rest = names;
+    let mut place = 0;
+    while let [first, behind @ ..] = rest {
+        if is_same(name, first) {
+            return Some(place);
+        }
+        rest = behind;
+        place += 1;
+    }
+    None
+}
+
+/// Names in order of making, none twice. A look-up takes no memory, and where there are many names no search.
 #[derive(Drop)]
 pub struct NameTable {
     pub set: IndexSet<Vec<u8>>,
@@ -24,13 +63,19 @@ impl NameTable {
     }
 
     /// The place of a name.
+    #[inline]
     pub fn find(&self, name: &[u8]) -> Option<usize>
         ensures place { result ≡ place_of name.now (table_of self.now) }
     {
+        let names = self.set.as_slice();
+        if names.len() <= FEW {
+            return place_among(names, name);
+        }
         self.set.get_index_of(name)
     }
 
     /// The name at a place.
+    #[inline]
     pub fn get(&self, place: usize) -> Option<&[u8]>
         ensures name { option_map (λ n. n.now) result ≡ slice_get (table_of self.now) place }
     {

@@ -8,6 +8,7 @@ ghost use Rattle.fl_lines.specs.Words.{number_of};
 
 use fl_lex::is_digit;
 
+#[inline(always)]
 fn is_blank(byte: u8) -> bool
     ensures same { result ≡ is_blank byte }
 {
@@ -15,6 +16,7 @@ fn is_blank(byte: u8) -> bool
 }
 
 /// A line from its first byte on that isn't a blank.
+#[inline(always)]
 pub fn skip_blanks(line: &[u8]) -> &[u8]
     ensures rest { result.now ≡ without_blanks line.now }
 {
@@ -29,6 +31,7 @@ pub fn skip_blanks(line: &[u8]) -> &[u8]
 }
 
 /// The first word of a line, empty where there is none, and what stands behind it.
+#[inline]
 pub fn next_word(line: &[u8]) -> (&[u8], &[u8])
     ensures word { result.0.now ≡ first_word line.now }
     ensures behind { result.1.now ≡ behind_word line.now }

@@ -1,4 +1,4 @@
-use Rattle.std.proofs.Common.{rules, arith, ◌≡◌, ◌++◌, ◌∙◌, refl, sym, ap, List, ℕ, append-nil}
+use Rattle.std.proofs.Common.{rules, arith, ◌++◌, ◌∙◌, refl, sym, ap, List, ℕ, append-nil}
 use Rattle.std.proofs.lemmas.List.{take_all}
 use Rattle.std.specs.Prelude.{codes}
 use Rattle.std.specs.List.{flat_map}

@@ -1,4 +1,4 @@
-use Rattle.std.proofs.Common.{arith, add-one}
+use Rattle.std.proofs.Common.{add-one}
 use Rattle.fl_lines.proofs.ItemLemmas.{line_found, none_found, line_rest}
 use Rattle.fl_lines.proofs.item.next_line.Goals as goal
 

@@ -1,8 +1,8 @@
-use Rattle.std.proofs.Common.{◌≡◌, ◌++◌}
+use Rattle.std.proofs.Common.{◌++◌}
 use Rattle.std.specs.Prelude.{codes}
 use Rattle.std.specs.Fmt.{decimal}
 use Rattle.fl_lines.proofs.Kept.{not_ok, joined, then_ok, then_kept, kept_same}
-use Rattle.fl_lines.proofs.answer.put_written.Goals as goal
+use Rattle.fl_lines.proofs.answer.put_any_written.Goals as goal
 
 pub returns-in_err-extend_from_slice-clause-ok : goal.returns-in_err-extend_from_slice-clause-ok
 returns-in_err-extend_from_slice-clause-ok c = not_ok _ c.from_residual.result c.from_residual.ensures.0
