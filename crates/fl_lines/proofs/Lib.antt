@@ -8,4 +8,5 @@ pub mod AskedLemmas
 mod LineEnds
 pub mod ItemLemmas
 mod LineLemmas
+mod Alone
 mod Kept

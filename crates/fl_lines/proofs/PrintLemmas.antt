@@ -57,6 +57,15 @@ word_printed word more p parted =
     let e = to_word word more p.all parted in
     (ap to_blank skip ∙ e.0, ap from_blank skip ∙ e.1)
 
+-- the same of a word with nothing behind it
+pub word_alone : (word : List ℕ) → Plain word → (first_word word ≡ word) × (first_word (behind_word word) ≡ [])
+word_alone word p =
+    let e = word_printed word [] p tt in
+    let same = append-nil word in (
+      subst (λ (w : List ℕ). first_word w ≡ word) same e.0,
+      ap first_word (subst (λ (w : List ℕ). behind_word w ≡ []) same e.1),
+    )
+
 parted : (pieces : List Piece) → Parted (printed_more pieces)
 parted [] = tt
 parted (piece ∷ pieces) = refl
@@ -83,7 +92,7 @@ word_plain (b ∷ word) h = record {
       ∙ bytes_plain word (second_so (is_letter b) (list_all is_word_byte word) h);
 }
 
-name_plain : (name : List ℕ) → is_name name ≡ true → Plain name
+pub name_plain : (name : List ℕ) → is_name name ≡ true → Plain name
 name_plain name h = word_plain name (second_so (nat_le (length name) 64) (is_word name) h)
 
 joined_plain : (a b : List ℕ) → list_all no_blank a ≡ true → list_all no_blank b ≡ true → list_all no_blank (a ++ b) ≡ true
@@ -100,7 +109,7 @@ longer : (a b : List ℕ) → 0 < length a → 0 < length (a ++ b)
 longer [] b h = absurd (omega (arith, h))
 longer (x ∷ a) b h = omega arith
 
-end_plain : (e : EndName) → is_name e.binding ≡ true → Plain (end_text e)
+pub end_plain : (e : EndName) → is_name e.binding ≡ true → Plain (end_text e)
 end_plain e h =
     let p = name_plain e.binding h in
     record { some = longer e.binding (side_text e.side) p.some; all = joined_plain e.binding (side_text e.side) p.all (side_plain e.side) }

@@ -13,10 +13,9 @@ use crate::command::{EndName, Verb};
 use crate::event::DispatcherId;
 use crate::fault::LineFault;
 use crate::names::Names;
-use crate::reader::{end_name, is_last, one_end, two_numbers};
+use crate::reader::{end_name, one_end, one_name, two_numbers};
 use crate::word::{next_word, skip_blanks};
 use fl_base::EndId;
-use fl_lex::is_name;
 use fl_value::{Call, Value, ValueFault, read_spoken};
 
 impl Names {
@@ -126,10 +125,9 @@ impl Names {
     pub fn turn_line(&self, rest: &[u8]) -> Result<DispatcherId, LineFault>
         ensures tells { LineTells (names_of self.now) (command_by Verb.Turn rest.now) (told_as a_turn result) }
     {
-        let (name, behind) = next_word(rest);
-        if !is_name(name) || !is_last(behind) {
+        let Some(name) = one_name(rest) else {
             return Err(LineFault::Unread);
-        }
+        };
         let Some(dispatcher) = self.dispatcher(name) else {
             return Err(LineFault::Name);
         };

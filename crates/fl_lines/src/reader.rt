@@ -8,7 +8,7 @@ ghost use Rattle.fl_queues.specs.Given.{given};
 ghost use Rattle.fl_lines.specs.Commands.{local, ump, mwrite, forward, mack};
 ghost use Rattle.fl_lines.specs.Grammar.{LineIs};
 ghost use Rattle.fl_lines.specs.Words.{is_none, first_word, words_of, numbers_of};
-ghost use Rattle.fl_lines.specs.Reading.{end_of, one_number, two_numbers, one_end};
+ghost use Rattle.fl_lines.specs.Reading.{end_of, one_number, two_numbers, one_end, name_then, at_last};
 ghost use Rattle.fl_lines.specs.Reading.{with_cores, link_row, disp_row, export_row, route_row, back_end_row};
 ghost use Rattle.fl_lines.specs.Reading.{bind_row, call_row, turn_row, reply_row, making_verb_of, verb_of, command_by};
 ghost use Rattle.fl_lines.specs.Reading.{heading_by, line_by, line_with, read_line};
@@ -17,7 +17,7 @@ ghost use Rattle.fl_lines.specs.Views.{end_name_of, back_end_of, command_of, lin
 use crate::command::{BackEnd, Command, EndName, Line, Opening, Route, Verb};
 use crate::word::{begins_comment, is_number, next_word, number, skip_blanks};
 use fl_base::Side;
-use fl_lex::is_name;
+use fl_lex::{is_digit, is_name};
 use fl_value::PlanNo;
 
 // The side that a dot and a letter tell.
@@ -77,7 +77,23 @@ fn one_number(line: &[u8]) -> Option<u32>
     Some(n)
 }
 
-pub fn two_numbers(line: &[u8]) -> Option<(u32, u32)>
+// Two numbers of one digit each, with one space between them and nothing else.
+#[inline(always)]
+fn two_digits(line: &[u8]) -> Option<(u32, u32)>
+    ensures same { IfSome result (λ p. two_numbers line.now ≡ Some p) }
+{
+    let [a, b' ', b] = line else {
+        return None;
+    };
+    if !is_digit(*a) || !is_digit(*b) {
+        return None;
+    }
+    Some((u32::from(*a - b'0'), u32::from(*b - b'0')))
+}
+
+// Two numbers, word by word.
+#[inline(never)]
+fn two_words(line: &[u8]) -> Option<(u32, u32)>
     ensures same { result ≡ two_numbers line.now }
 {
     let (word, rest) = next_word(line);
@@ -90,8 +106,20 @@ pub fn two_numbers(line: &[u8]) -> Option<(u32, u32)>
     Some((a, b))
 }
 
+/// The two numbers of a line that has nothing else: most cores have a number of one digit.
 #[inline(always)]
-pub fn one_end(line: &[u8]) -> Option<EndName<'_>>
+pub fn two_numbers(line: &[u8]) -> Option<(u32, u32)>
+    ensures same { result ≡ two_numbers line.now }
+{
+    match two_digits(line) {
+        Some(numbers) => Some(numbers),
+        None => two_words(line),
+    }
+}
+
+// The end of a line, found by the end of its word.
+#[inline(never)]
+fn end_word(line: &[u8]) -> Option<EndName<'_>>
     ensures same { option_map end_name_of result ≡ one_end line.now }
 {
     let (word, rest) = next_word(line);
@@ -102,6 +130,40 @@ pub fn one_end(line: &[u8]) -> Option<EndName<'_>>
         return None;
     }
     Some(end)
+}
+
+/// The end of a line that has nothing else. Where no blank stands around it, the whole line is its word.
+#[inline(always)]
+pub fn one_end(line: &[u8]) -> Option<EndName<'_>>
+    ensures same { option_map end_name_of result ≡ one_end line.now }
+{
+    match end_name(line) {
+        Some(end) => Some(end),
+        None => end_word(line),
+    }
+}
+
+// The name of a line, found by the end of its word.
+#[inline(never)]
+fn name_word(line: &[u8]) -> Option<&[u8]>
+    ensures same { option_map (λ n. n.now) result ≡ name_then line.now (λ n rest. at_last rest n) }
+{
+    let (name, rest) = next_word(line);
+    if !is_name(name) || !is_last(rest) {
+        return None;
+    }
+    Some(name)
+}
+
+/// The name of a line that has nothing else. Where no blank stands around it, the whole line is its word.
+#[inline(always)]
+pub fn one_name(line: &[u8]) -> Option<&[u8]>
+    ensures same { option_map (λ n. n.now) result ≡ name_then line.now (λ n rest. at_last rest n) }
+{
+    if is_name(line) {
+        return Some(line);
+    }
+    name_word(line)
 }
 
 #[inline(never)]

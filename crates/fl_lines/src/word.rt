@@ -12,7 +12,7 @@ use fl_lex::is_digit;
 fn is_blank(byte: u8) -> bool
     ensures same { result ≡ is_blank byte }
 {
-    byte == b' ' || byte == b'\t'
+    byte <= b' ' && (byte == b' ' || byte == b'\t')
 }
 
 /// A line from its first byte on that isn't a blank.
