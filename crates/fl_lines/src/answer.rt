@@ -199,20 +199,6 @@ fn few_written(k: u8, n: u8) -> [u8; 14]
     ]
 }
 
-// Fragment k of n was written; most calls have fewer than ten.
-#[tactic(auto, using(crate::proofs::Kept::pieces))]
-#[inline(always)]
-fn put_written(out: &mut Vec<u8>, k: usize, n: usize) -> Result<(), AllocError>
-    ensures ok { OnOk result (out.new.items ≡ out.old.items ++ (codes "written " ++ decimal k ++ codes " of " ++ decimal n)) }
-    ensures grows { IsPrefix out.old.items out.new.items }
-{
-    if k < 10 && n < 10 {
-        let text = few_written(k as u8, n as u8);
-        return out.extend_from_slice(text.as_slice());
-    }
-    put_any_written(out, k, n)
-}
-
 #[tactic(auto, using(crate::proofs::Kept::pieces))]
 fn put_refused(out: &mut Vec<u8>, number: usize) -> Result<(), AllocError>
     ensures ok { OnOk result (out.new.items ≡ out.old.items ++ (codes "refused E" ++ decimal number)) }
@@ -272,35 +258,6 @@ fn put_opening_refused(
     put_of_end(out, b" ", names, end)
 }
 
-// The text of an answer.
-#[tactic(auto, using(crate::proofs::Kept::pieces))]
-fn put_answer(
-    alloc: Global,
-    out: &mut Vec<u8>,
-    names: &Names,
-    answer: &Answer,
-) -> Result<(), AllocError>
-    ensures ok { OnOk result (out.new.items ≡ out.old.items ++ answer_text (names_of names.now) (answer_of answer.now)) }
-    ensures grows { IsPrefix out.old.items out.new.items }
-{
-    match answer {
-        Answer::Done => out.extend_from_slice(b"ok"),
-        Answer::Accepted => out.extend_from_slice(b"accepted"),
-        Answer::Nothing => out.extend_from_slice(b"nothing"),
-        Answer::Full => out.extend_from_slice(b"full"),
-        Answer::Written { k, n } => put_written(out, *k, *n),
-        Answer::Handle { end, call } => put_handled(alloc, out, names, *end, call),
-        Answer::Part(end) => put_of_end(out, b"part ", names, *end),
-        Answer::Ready(end) => put_of_end(out, b"ready ", names, *end),
-        Answer::Quiet(end) => put_of_end(out, b"quiet ", names, *end),
-        Answer::Forwarded => out.extend_from_slice(b"forwarded"),
-        Answer::Opened(end) => put_of_end(out, b"opened ", names, *end),
-        Answer::OpeningRefused { number, end } => put_opening_refused(out, *number, names, *end),
-        Answer::Words(frag) => put_frag(out, frag),
-        Answer::Refused(number) => put_refused(out, usize::from(*number)),
-    }
-}
-
 // Hands on what came of an append. Where it failed, all behind so many bytes is taken back.
 #[inline(always)]
 fn all_or_none(
@@ -318,11 +275,115 @@ fn all_or_none(
     put
 }
 
+// A text in one append.
+#[inline(always)]
+fn print_text(out: &mut Vec<u8>, text: &[u8]) -> Result<(), AllocError>
+    ensures printed { OnOk result (out.new.items ≡ out.old.items ++ text.now) }
+    ensures kept { OnErr result (out.new.items ≡ out.old.items) }
+{
+    out.extend_from_slice(text)
+}
+
+// Fragment k of n was written, whatever these are.
+#[tactic(auto, using(crate::proofs::Kept::taken_back))]
+#[inline(never)]
+fn print_any_written(out: &mut Vec<u8>, k: usize, n: usize) -> Result<(), AllocError>
+    ensures printed { OnOk result (out.new.items ≡ out.old.items ++ (codes "written " ++ decimal k ++ codes " of " ++ decimal n)) }
+    ensures kept { OnErr result (out.new.items ≡ out.old.items) }
+{
+    let before = out.as_slice().len();
+    let put = put_any_written(out, k, n);
+    all_or_none(out, before, put)
+}
+
+// Fragment k of n was written; most calls have fewer than ten.
+#[inline(always)]
+fn print_written(out: &mut Vec<u8>, k: usize, n: usize) -> Result<(), AllocError>
+    ensures printed { OnOk result (out.new.items ≡ out.old.items ++ (codes "written " ++ decimal k ++ codes " of " ++ decimal n)) }
+    ensures kept { OnErr result (out.new.items ≡ out.old.items) }
+{
+    if k < 10 && n < 10 {
+        let text = few_written(k as u8, n as u8);
+        return print_text(out, text.as_slice());
+    }
+    print_any_written(out, k, n)
+}
+
+// A call that was handled, all of it or nothing.
+#[tactic(auto, using(crate::proofs::Kept::taken_back))]
+#[inline(never)]
+fn print_handled(
+    alloc: Global,
+    out: &mut Vec<u8>,
+    names: &Names,
+    end: EndId,
+    call: &Call,
+) -> Result<(), AllocError>
+    ensures printed { OnOk result (out.new.items ≡ out.old.items ++ (codes "handle " ++ end_named (names_of names.now) end ++ codes " " ++ call_at (names_of names.now) end (call_of call.now))) }
+    ensures kept { OnErr result (out.new.items ≡ out.old.items) }
+{
+    let before = out.as_slice().len();
+    let put = put_handled(alloc, out, names, end, call);
+    all_or_none(out, before, put)
+}
+
+// A word, a space and an end, all of it or nothing.
+#[tactic(auto, using(crate::proofs::Kept::taken_back))]
+#[inline(never)]
+fn print_of_end(out: &mut Vec<u8>, word: &[u8], names: &Names, end: EndId) -> Result<(), AllocError>
+    ensures printed { OnOk result (out.new.items ≡ out.old.items ++ (word.now ++ end_named (names_of names.now) end)) }
+    ensures kept { OnErr result (out.new.items ≡ out.old.items) }
+{
+    let before = out.as_slice().len();
+    let put = put_of_end(out, word, names, end);
+    all_or_none(out, before, put)
+}
+
+// A refused opening, all of it or nothing.
+#[tactic(auto, using(crate::proofs::Kept::taken_back))]
+#[inline(never)]
+fn print_opening_refused(
+    out: &mut Vec<u8>,
+    number: u32,
+    names: &Names,
+    end: EndId,
+) -> Result<(), AllocError>
+    ensures printed { OnOk result (out.new.items ≡ out.old.items ++ (codes "refused E" ++ decimal number ++ codes " " ++ end_named (names_of names.now) end)) }
+    ensures kept { OnErr result (out.new.items ≡ out.old.items) }
+{
+    let before = out.as_slice().len();
+    let put = put_opening_refused(out, number, names, end);
+    all_or_none(out, before, put)
+}
+
+// Eight words, all of them or nothing.
+#[tactic(auto, using(crate::proofs::Kept::taken_back))]
+#[inline(never)]
+fn print_frag(out: &mut Vec<u8>, frag: &Frag) -> Result<(), AllocError>
+    ensures printed { OnOk result (out.new.items ≡ out.old.items ++ frag_text frag.now) }
+    ensures kept { OnErr result (out.new.items ≡ out.old.items) }
+{
+    let before = out.as_slice().len();
+    let put = put_frag(out, frag);
+    all_or_none(out, before, put)
+}
+
+// A refusal, all of it or nothing.
+#[tactic(auto, using(crate::proofs::Kept::taken_back))]
+#[inline(never)]
+fn print_refused(out: &mut Vec<u8>, number: usize) -> Result<(), AllocError>
+    ensures printed { OnOk result (out.new.items ≡ out.old.items ++ (codes "refused E" ++ decimal number)) }
+    ensures kept { OnErr result (out.new.items ≡ out.old.items) }
+{
+    let before = out.as_slice().len();
+    let put = put_refused(out, number);
+    all_or_none(out, before, put)
+}
+
 /// Appends the text of an answer, without a line feed, by the names that the script has given.
 ///
 /// # Errors
 /// Want of memory; `out` is as it was then.
-#[tactic(auto, using(crate::proofs::Kept::taken_back))]
 pub fn print_answer(
     alloc: Global,
     out: &mut Vec<u8>,
@@ -332,9 +393,22 @@ pub fn print_answer(
     ensures printed { OnOk result (out.new.items ≡ out.old.items ++ answer_text (names_of names.now) (answer_of answer.now)) }
     ensures kept { OnErr result (out.new.items ≡ out.old.items) }
 {
-    let before = out.as_slice().len();
-    let put = put_answer(alloc, out, names, answer);
-    all_or_none(out, before, put)
+    match answer {
+        Answer::Done => print_text(out, b"ok"),
+        Answer::Accepted => print_text(out, b"accepted"),
+        Answer::Nothing => print_text(out, b"nothing"),
+        Answer::Full => print_text(out, b"full"),
+        Answer::Written { k, n } => print_written(out, *k, *n),
+        Answer::Handle { end, call } => print_handled(alloc, out, names, *end, call),
+        Answer::Part(end) => print_of_end(out, b"part ", names, *end),
+        Answer::Ready(end) => print_of_end(out, b"ready ", names, *end),
+        Answer::Quiet(end) => print_of_end(out, b"quiet ", names, *end),
+        Answer::Forwarded => print_text(out, b"forwarded"),
+        Answer::Opened(end) => print_of_end(out, b"opened ", names, *end),
+        Answer::OpeningRefused { number, end } => print_opening_refused(out, *number, names, *end),
+        Answer::Words(frag) => print_frag(out, frag),
+        Answer::Refused(number) => print_refused(out, usize::from(*number)),
+    }
 }
 
 // A fault of an interface's text, and where it stands.
