@@ -131,7 +131,7 @@ module _ (l : Passing) (b : Below) (prefix : CircuitsPrefix) (stand : LedClients
   one_of : (n m : ℕ) (c d : OneCore) (cores : List OneCore) → slice_get cores n ≡ Some c → slice_get cores m ≡ Some d → n ≡ m → c ≡ d
   one_of n m c d cores is is2 same = (let found : Some c ≡ Some d = sym is ∙ ap (slice_get cores) same ∙ is2 in cc)
 
-  module _ (begin : RoutesBegin) (cores : List OneCore) (paired : ArePaired jobs cores) (n home : ℕ) (c : OneCore) (d : TheDocket) (q : Point) (k : WaitsAlone jobs cores n home c d q) where
+  module _ (begin : RoutesBegin) (cores : List OneCore) (paired : ArePaired jobs cores) (n : ℕ) (d : TheDocket) (q : Point) (k : WaitsAlone jobs cores n d q) where
     rests : handled_by q.core.finish (server_of n) ≡ []
     rests =
         let u = paired.leading k.place q.core k.server_is in
@@ -139,7 +139,7 @@ module _ (l : Passing) (b : Below) (prefix : CircuitsPrefix) (stand : LedClients
         let r = begin jobs cores paired n k.place q k.server_is last in
         let p = r.point in
         let v = paired.leading r.place p.core r.core_is in
-        let same : p.core ≡ c = one_of r.place home p.core c cores r.core_is k.core_is (k.at_home r.place p.core p.link.0 p.number.0 r.core_is r.first) in
+        let same : p.core ≡ k.client = one_of r.place k.home p.core k.client cores r.core_is k.client_is (k.at_home r.place p.core p.link.0 p.number.0 r.core_is r.first) in
         let absent : place_of p.core.start.core (client_of n) ≡ None = ap (λ (x : OneCore). place_of x.start.core (client_of n)) same ∙ k.absent in
         let loose = subst (λ (x : OneCore). IsLoose x.finish (client_of n)) (sym same) k.loose in
         let there = stand jobs p.core v (paired.unused r.place p.core r.core_is) p.link.0 p.number.0 n r.first in
@@ -149,4 +149,4 @@ module _ (l : Passing) (b : Below) (prefix : CircuitsPrefix) (stand : LedClients
         (of_none (of_circuit q.number.0 (into l.flow l.rings prefix jobs q.core u.went q.link)) (of_circuit p.number.0 (out_of l.flow l.rings prefix jobs p.core v.went p.link)) along.0 none)
 
 pub lone_rest : Passing → Below → CircuitsPrefix → LedClientsStand → RoutesBegin → LoneServersRest
-lone_rest l b prefix stand begin jobs cores paired n home c d q k = rests l b prefix stand jobs begin cores paired n home c d q k
+lone_rest l b prefix stand begin jobs cores paired n d q k = rests l b prefix stand jobs begin cores paired n d q k

@@ -25,7 +25,7 @@ use Rattle.fl_monitor.specs.Monitors.{TheMonitor, Said, waiting_for, asks}
 use Rattle.fl_monitor.specs.Saying.{Says}
 use Rattle.fl_monitor.proofs.Single.{says_no_other, says_the_same, says_what_is_written}
 use Rattle.fl_honest.specs.Named.{Has, AsksFor, AreNamed}
-use Rattle.fl_honest.specs.Reasons.{IsUsedUp, Refuses, CameUnder, AsksOnly, HeardRefused, IsRefusedFor, IsFrom, IsFor, AreReasoned}
+use Rattle.fl_honest.specs.Reasons.{IsUsedUp, Refuses, CameUnder, AsksOnly, HeardRefused, IsRefusedFor, IsFrom, IsFor, AreReasoned, as_talk}
 use Rattle.fl_honest.proofs.Bound.{map_some}
 use Rattle.fl_honest.proofs.Named.{has_split, waits}
 use Rattle.fl_honest.proofs.ReasonsOwn.{refuses_later}
@@ -98,7 +98,7 @@ from_more Wishes t heard heard2 more (End e) o wished = wished
 
 module _ (names : List TheRegistration) (NoPlace Wishes : Opening → Type 0) (t : TheCircuits) where
   pub wider : (said said2 heard heard2 : ℕ → List Frag) (m : TheMonitor) → ((l : ℕ) (f : Frag) → Has f (said2 l) → Has f (said l)) → ((l : ℕ) (f : Frag) → Has f (heard l) → Has f (heard2 l))
-      → AreReasoned names NoPlace Wishes t said heard m → AreReasoned names NoPlace Wishes t said2 heard2 m
+      → AreReasoned names NoPlace Wishes t (as_talk said heard m) → AreReasoned names NoPlace Wishes t (as_talk said2 heard2 m)
   wider said said2 heard heard2 m fewer more n = record {
     asked = λ l f c o has says_it. elim (n.asked l f c o (in_more l f has) says_it) [
       | inl own ↦ inl own
@@ -132,7 +132,7 @@ module _ (names : List TheRegistration) (NoPlace Wishes : Opening → Type 0) (t
 
   pub rests : (said said2 heard : ℕ → List Frag) (m m2 : TheMonitor) → m2.circuits ≡ m.circuits
       → ((l : ℕ) (f : Frag) → Has f (said2 l) ⊎ Has f (waiting_for m2.outboxes l) → (g : Frag) × (bare g ≡ bare f) × (Has g (said l) ⊎ Has g (waiting_for m.outboxes l)))
-      → AreReasoned names NoPlace Wishes t said heard m → AreReasoned names NoPlace Wishes t said2 heard m2
+      → AreReasoned names NoPlace Wishes t (as_talk said heard m) → AreReasoned names NoPlace Wishes t (as_talk said2 heard m2)
   rests said said2 heard m m2 same from n = record {
     asked = λ l f c o has says_it. (let (g, alike, before) = from l f has in n.asked l g c o before (says_the_same f g (asks c o) alike says_it));
     told = λ l i hop there at. n.told l i hop (subst (λ (u : TheCircuits). OpenedThere u l i) same there) (sym (ap (λ (u : TheCircuits). hop_at u l i) same) ∙ at);
@@ -168,7 +168,7 @@ module _ (names : List TheRegistration) (NoPlace Wishes : Opening → Type 0) (t
 
 module _ (names : List TheRegistration) (NoPlace Wishes : Opening → Type 0) (t0 : TheCircuits) (said heard heard2 : ℕ → List Frag) (m m2 : TheMonitor) (sound : Sound m.circuits) (sound2 : Sound m2.circuits)
     (later : Later m.circuits m2.circuits) (grows : (l : ℕ) → IsUsedUp m.circuits l → IsUsedUp m2.circuits l) (named : AreNamed said heard m)
-    (reasoned : AreReasoned names NoPlace Wishes t0 said heard m) (more : (l : ℕ) (f : Frag) → Has f (heard l) → Has f (heard2 l)) where
+    (reasoned : AreReasoned names NoPlace Wishes t0 (as_talk said heard m)) (more : (l : ℕ) (f : Frag) → Has f (heard l) → Has f (heard2 l)) where
   abbrev Before : ℕ → Frag → Type 0
   Before l f = Has f (said l) ⊎ Has f (waiting_for m.outboxes l)
 
@@ -215,7 +215,7 @@ module _ (names : List TheRegistration) (NoPlace Wishes : Opening → Type 0) (t
       | inr new ↦ absurd (fresh l n c x here new is)
     ]
 
-    heard_still : (o : Opening) (reason : ℕ) → HeardRefused said heard m o reason → HeardRefused said heard2 m2 o reason
+    heard_still : (o : Opening) (reason : ℕ) → HeardRefused (as_talk said heard m) o reason → HeardRefused (as_talk said heard2 m2) o reason
     heard_still o reason h = record {
       link = h.link;
       frag = h.frag;
@@ -226,16 +226,16 @@ module _ (names : List TheRegistration) (NoPlace Wishes : Opening → Type 0) (t
       only = only_still h.link h.circuit.0 o h.given h.only;
     }
 
-    why_still : (o : Opening) (reason : ℕ) → IsRefusedFor names NoPlace t0 said heard m o reason → IsRefusedFor names NoPlace t0 said heard2 m2 o reason
+    why_still : (o : Opening) (reason : ℕ) → IsRefusedFor names NoPlace t0 (as_talk said heard m) o reason → IsRefusedFor names NoPlace t0 (as_talk said heard2 m2) o reason
     why_still o reason (inl good) = inl (refuses_later names NoPlace t0 m.circuits m2.circuits o reason grows good)
     why_still o reason (inr (inl lacks)) = inr (inl lacks)
     why_still o reason (inr (inr h)) = inr (inr (heard_still o reason h))
 
     abbrev For : ℕ → ℕ → Hop → Type 0
-    For l n hop = IsFor Wishes t0 said heard2 m2 l n hop
+    For l n hop = IsFor Wishes t0 (as_talk said heard2 m2) l n hop
 
     abbrev IsRefused : ℕ → Circuit → ℕ → Type 0
-    IsRefused l c reason = (o : Opening) × CameUnder t0 heard2 l c.0 o × IsRefusedFor names NoPlace t0 said heard2 m2 o reason
+    IsRefused l c reason = (o : Opening) × CameUnder t0 heard2 l c.0 o × IsRefusedFor names NoPlace t0 (as_talk said heard2 m2) o reason
 
     given_still : (l n : ℕ) (hop : Hop) → OpenedHere m.circuits l n → hop_at m2.circuits l n ≡ Some hop → For l n hop
     given_still l n hop here at =
@@ -255,7 +255,7 @@ module _ (names : List TheRegistration) (NoPlace Wishes : Opening → Type 0) (t
         (o, came_more t0 heard heard2 more l n o came, same ∙ binding)
 
     reasoned_then : ((l : ℕ) (c : Circuit) (o : Opening) → Asks l c o → Founded o) → Taken → ((l n : ℕ) → OpenedHere m2.circuits l n → OpenedHere m.circuits l n ⊎ ((hop : Hop) → hop_at m2.circuits l n ≡ Some hop → For l n hop))
-        → ((l : ℕ) (c : Circuit) (reason : ℕ) → Refuses l c reason → IsRefused l c reason) → AreReasoned names NoPlace Wishes t0 said heard2 m2
+        → ((l : ℕ) (c : Circuit) (reason : ℕ) → Refuses l c reason → IsRefused l c reason) → AreReasoned names NoPlace Wishes t0 (as_talk said heard2 m2)
     reasoned_then founded taken_then opened_then new = record {
       asked = λ l f c o has says_it. elim (asks_then l f c o has says_it) [
         | inl old ↦ elim (reasoned.asked l f c o old says_it) [
@@ -292,14 +292,14 @@ module _ (names : List TheRegistration) (NoPlace Wishes : Opening → Type 0) (t
   silent : m2.outboxes ≡ m.outboxes → (l : ℕ) (f : Frag) → Now l f → Before l f
   silent same l f has = elim has [ inl h ↦ inl h | inr h ↦ inr (subst (λ (boxes : List (List Frag)). Has f (waiting_for boxes l)) same h) ]
 
-  pub by_silence : m2.outboxes ≡ m.outboxes → Taken → ((l n : ℕ) → OpenedHere m2.circuits l n → OpenedHere m.circuits l n) → AreReasoned names NoPlace Wishes t0 said heard2 m2
+  pub by_silence : m2.outboxes ≡ m.outboxes → Taken → ((l n : ℕ) → OpenedHere m2.circuits l n → OpenedHere m.circuits l n) → AreReasoned names NoPlace Wishes t0 (as_talk said heard2 m2)
   by_silence same taken_then opened_then =
       reasoned_then No None_refused (λ l f c o has says_it. inl (silent same l f has)) (λ l f c reason has says_it. inl (silent same l f has)) no_fresh (λ l c o none. absurd none) taken_then
       (λ l n here. inl (opened_then l n here)) (λ l c reason none. absurd none)
 
   -- a message more, which says that a circuit is open
   pub by_opened : (x : LinkId) (d : Circuit) → Said (record { link = x; message = CircuitOpened d }) m.outboxes m2.outboxes → Taken
-      → ((l n : ℕ) → OpenedHere m2.circuits l n → OpenedHere m.circuits l n) → AreReasoned names NoPlace Wishes t0 said heard2 m2
+      → ((l n : ℕ) → OpenedHere m2.circuits l n → OpenedHere m.circuits l n) → AreReasoned names NoPlace Wishes t0 (as_talk said heard2 m2)
   by_opened x d put taken_then opened_then =
       reasoned_then No None_refused
       (λ l f c o has says_it. elim (said_then x (CircuitOpened d) put l f (asks c o) has says_it) [ inl old ↦ inl old | inr new ↦ absurd (opened_asks d c o new.1) ])
@@ -319,20 +319,20 @@ module _ (names : List TheRegistration) (NoPlace Wishes : Opening → Type 0) (t
     this_refuses l f c reason has says_it = said_then x (CircuitRefused d r) put l f (CircuitRefused c reason) has says_it
 
     -- what was heard further on stays so
-    still_heard : (o : Opening) (reason : ℕ) → HeardRefused said heard m o reason → HeardRefused said heard2 m2 o reason
+    still_heard : (o : Opening) (reason : ℕ) → HeardRefused (as_talk said heard m) o reason → HeardRefused (as_talk said heard2 m2) o reason
     still_heard o reason h = heard_still No This no_asks this_refuses no_fresh o reason h
 
     pub still_only : (l n : ℕ) (o : Opening) → OpenedHere m.circuits l n → AsksOnly said m l n o → AsksOnly said m2 l n o
     still_only l n o here only = only_still No This no_asks this_refuses no_fresh l n o here only
 
-    pub by_refusal : Taken → ((l n : ℕ) → OpenedHere m2.circuits l n → OpenedHere m.circuits l n) → (o : Opening) → CameUnder t0 heard2 x.0 d.0 o → IsRefusedFor names NoPlace t0 said heard2 m2 o r
-        → AreReasoned names NoPlace Wishes t0 said heard2 m2
+    pub by_refusal : Taken → ((l n : ℕ) → OpenedHere m2.circuits l n → OpenedHere m.circuits l n) → (o : Opening) → CameUnder t0 heard2 x.0 d.0 o → IsRefusedFor names NoPlace t0 (as_talk said heard2 m2) o r
+        → AreReasoned names NoPlace Wishes t0 (as_talk said heard2 m2)
     by_refusal taken_then opened_then o came why =
         reasoned_then No This no_asks this_refuses no_fresh (λ l c o none. absurd none) taken_then (λ l n here. inl (opened_then l n here))
         (λ l c reason new. (let (circuits, reasons) = refused_parts d c r reason new.1 in (
           o,
           subst (λ (i : ℕ). CameUnder t0 heard2 i c.0 o) (sym new.0) (subst (λ (i : Circuit). CameUnder t0 heard2 x.0 i.0 o) circuits came),
-          subst (λ (q : ℕ). IsRefusedFor names NoPlace t0 said heard2 m2 o q) reasons why,
+          subst (λ (q : ℕ). IsRefusedFor names NoPlace t0 (as_talk said heard2 m2) o q) reasons why,
         )))
 
   -- ---- one that asks for an opening, under the next number of a link
@@ -361,7 +361,7 @@ module _ (names : List TheRegistration) (NoPlace Wishes : Opening → Type 0) (t
 
     pub by_asking : Founded o → Taken → ((l n : ℕ) → OpenedHere m2.circuits l n → OpenedHere m.circuits l n ⊎ ((l ≡ x.0) × (n ≡ d.0)))
         → ((hop : Hop) → hop_at m2.circuits x.0 d.0 ≡ Some hop → (o.binding ≡ hop.binding) × IsFrom Wishes t0 heard2 hop.way o)
-        → AreReasoned names NoPlace Wishes t0 said heard2 m2
+        → AreReasoned names NoPlace Wishes t0 (as_talk said heard2 m2)
     by_asking founded taken_then opened_then entry =
         reasoned_then That None_refused that_asks none_refuses that_fresh (λ l c y new. subst Founded (sym (asks_parts d c o y new.1).1) founded) taken_then
         (λ l n here. elim (opened_then l n here) [

@@ -27,7 +27,7 @@ use Rattle.fl_node.specs.View.{client_of, server_of}
 use Rattle.fl_running.specs.declared.job.Job.{Job}
 use Rattle.fl_honest.specs.Named.{Has, AreNamed}
 use Rattle.fl_honest.specs.Asked.{IsWished}
-use Rattle.fl_honest.specs.Reasons.{IsUsedUp, Refuses, CameUnder, IsFrom, AreReasoned}
+use Rattle.fl_honest.specs.Reasons.{IsUsedUp, Refuses, CameUnder, IsFrom, AreReasoned, as_talk}
 use Rattle.fl_honest.proofs.Asked.{along_in_place}
 use Rattle.fl_honest.proofs.AskedLaid.{Laid, laid_same, laid_then, laid_along, table_laid, opened_laid}
 use Rattle.fl_honest.proofs.Bound.{given_there, entry_binding, entry_way}
@@ -46,12 +46,12 @@ KnowsPlaces names NoPlace kn msg = (kn.names ≡ names) × ((o : Opening) → op
 
 module _ (names : List TheRegistration) (NoPlace Wishes : Opening → Type 0) (t0 : TheCircuits) (said heard heard2 : ℕ → List Frag) (m m2 : TheMonitor) (sound : Sound m.circuits) (sound2 : Sound m2.circuits)
     (later : Later m.circuits m2.circuits) (grows : (l : ℕ) → IsUsedUp m.circuits l → IsUsedUp m2.circuits l) (named : AreNamed said heard m)
-    (reasoned : AreReasoned names NoPlace Wishes t0 said heard m) (more : (l : ℕ) (f : Frag) → Has f (heard l) → Has f (heard2 l)) where
+    (reasoned : AreReasoned names NoPlace Wishes t0 (as_talk said heard m)) (more : (l : ℕ) (f : Frag) → Has f (heard l) → Has f (heard2 l)) where
   abbrev t : TheCircuits
   t = m.circuits
 
   abbrev Reasoned : Type 0
-  Reasoned = AreReasoned names NoPlace Wishes t0 said heard2 m2
+  Reasoned = AreReasoned names NoPlace Wishes t0 (as_talk said heard2 m2)
 
   abbrev Taken : Type 0
   Taken = (k n : ℕ) → OpenedThere m2.circuits k n → OpenedThere t k n ⊎ ((hop : Hop) → hop_at m2.circuits k n ≡ Some hop → (o : Opening) × CameUnder t0 heard2 k n o × (o.binding ≡ hop.binding))
@@ -226,7 +226,7 @@ module _ (names : List TheRegistration) (NoPlace Wishes : Opening → Type 0) (t
 
 -- with the core and the neighbours of this table, and numbers named by their bindings
 abbrev pub AreReasonedFrom : List TheRegistration → (Opening → Type 0) → (Opening → Type 0) → TheCircuits → (ℕ → List Frag) → (ℕ → List Frag) → TheMonitor → Type 0
-AreReasonedFrom names NoPlace Wishes t0 said heard m = Laid t0 m.circuits × AreNamed said heard m × AreReasoned names NoPlace Wishes t0 said heard m
+AreReasonedFrom names NoPlace Wishes t0 said heard m = Laid t0 m.circuits × AreNamed said heard m × AreReasoned names NoPlace Wishes t0 (as_talk said heard m)
 
 pub reasons_kept : (names : List TheRegistration) (jobs : List Job) (NoPlace Wishes : Opening → Type 0) → ((o : Opening) → Wishes o → IsWished jobs o) → (t0 : TheCircuits)
     → IsKeptBy (KnowsPlaces names NoPlace) Wishes (AreReasonedFrom names NoPlace Wishes t0)

@@ -43,7 +43,7 @@ use Rattle.fl_honest.specs.Asked.{IsWished, CameAlong, AreBeside}
 use Rattle.fl_honest.specs.Whole.{HasOwn}
 use Rattle.fl_honest.specs.Meeting.{IsPaired}
 use Rattle.fl_honest.specs.Runs.{AreSetUp}
-use Rattle.fl_honest.specs.Reasons.{IsReason, Refuses, RefusesWish, CameUnder, IsRefusedFor, AreReasoned, GoesReasoned, CoresReason, IsOwnWish, FoundNoPlace, WasFull, WasRefused, AskedAgain, RefusesOne, IsRefused, ReasonsAlone, DesksTellReasons, RefusedForReason}
+use Rattle.fl_honest.specs.Reasons.{IsReason, Refuses, RefusesWish, CameUnder, IsRefusedFor, AreReasoned, as_talk, talk_of, GoesReasoned, CoresReason, IsOwnWish, FoundNoPlace, WasFull, WasRefused, AskedAgain, RefusesOne, IsRefused, ReasonsAlone, DesksTellReasons, RefusedForReason}
 use Rattle.fl_honest.proofs.AskedCores.{asking_of}
 use Rattle.fl_honest.proofs.AskedLaid.{laid_same, goes_laid}
 use Rattle.fl_honest.proofs.AskedRoutes.{stands_behind, side_there, heard_wished}
@@ -64,7 +64,7 @@ use Rattle.fl_honest.proofs.Wired.{lane_there}
 
 -- ---- one core
 
-unused_reasoned : (names : List TheRegistration) (NoPlace Wishes : Opening → Type 0) (t : TheCircuits) (m : TheMonitor) → IsUnused m → AreReasoned names NoPlace Wishes t (λ l. []) (λ l. []) m
+unused_reasoned : (names : List TheRegistration) (NoPlace Wishes : Opening → Type 0) (t : TheCircuits) (m : TheMonitor) → IsUnused m → AreReasoned names NoPlace Wishes t (as_talk (λ l. []) (λ l. []) m)
 unused_reasoned names NoPlace Wishes t m u = record {
   asked = λ l f c o has says_it. elim has [
     | inl none ↦ absurd none
@@ -132,8 +132,7 @@ cores_reason on jobs c v unused =
       desks = λ ample e. elim (log_tells shared_ways on names jobs NoPlace Wishes (own_wished jobs c.start) t0 (WasFull jobs c.finish) e c.log c.start c.finish v.went.goes (λ l. []) (λ l. []) ample
           (knows_places jobs c v) (was_full jobs c.finish) (own_wish jobs c.start) v.led (none_placed jobs c v unused) v.table (at_start names NoPlace Wishes c unused)) [
             | inl same ↦ inl same
-            | inr told ↦ inr (told_at jobs c.finish e (λ l. of_circuit 0 (put_on l (log_steps shared_ways jobs c.log c.start c.finish v.went.goes))) c.start
-                (λ l. of_circuit 0 (taken_from l (log_steps shared_ways jobs c.log c.start c.finish v.went.goes))) (refusal_at c.finish e) told)
+            | inr told ↦ inr (told_at jobs c (log_steps shared_ways jobs c.log c.start c.finish v.went.goes) e (refusal_at c.finish e) told)
           ];
     }
 
@@ -169,7 +168,7 @@ module _ (rings : RingsConserve) (prefix : CircuitsPrefix) (reason : CoresReason
   Came n c is l i o = CameUnder c.start.core.monitor.circuits (Heard n c is) l i o
 
   abbrev Why : (n : ℕ) (c : OneCore) → slice_get cores n ≡ Some c → Opening → ℕ → Type 0
-  Why n c is o r = IsRefusedFor c.start.offers.names (FoundNoPlace j.jobs c) c.start.core.monitor.circuits (Said n c is) (Heard n c is) c.finish.core.monitor o r
+  Why n c is o r = IsRefusedFor c.start.offers.names (FoundNoPlace j.jobs c) c.start.core.monitor.circuits (talk_of c (went n c is).asking.steps) o r
 
   -- what is asked for between cores is for a service that is there
   is_offered : (n : ℕ) (c : OneCore) (is : slice_get cores n ≡ Some c) (l i : ℕ) (o : Opening) → Came n c is l i o → by_iref o.service.0 c.start.offers.names ≡ None → ⊥

@@ -27,7 +27,7 @@ use Rattle.fl_hop.specs.Later.{way_at}
 use Rattle.fl_hop.specs.Numbers.{OpenedHere}
 use Rattle.fl_hop.specs.OfCircuit.{as_carried, of_circuit}
 use Rattle.fl_hop.specs.Openings.{IsWaiting}
-use Rattle.fl_hop.specs.Stretch.{heard as hop_heard, taken_from}
+use Rattle.fl_hop.specs.Stretch.{Step, heard as hop_heard, taken_from}
 use Rattle.fl_hop.specs.Table.{TheCircuits, hop_at}
 use Rattle.fl_hop.proofs.Answering.{numbers_apart}
 use Rattle.fl_monitor.specs.declared.fault.MonitorFault.TheVariants as monitor
@@ -68,10 +68,10 @@ use Rattle.fl_logs.proofs.Handling.{desks_stay, as_many, same_place}
 use Rattle.fl_logs.proofs.Laning.{steps_of, event_steps}
 use Rattle.fl_logs.proofs.Leads.{does_led}
 use Rattle.fl_logs.proofs.Stepping.{log_steps, end_stays}
-use Rattle.fl_honest.specs.Cores.{IsAmple, AreAmple}
+use Rattle.fl_honest.specs.Cores.{IsAmple, AreAmple, OneCore}
 use Rattle.fl_honest.specs.Named.{Has}
 use Rattle.fl_ring.specs.SharedSides.{TheSide}
-use Rattle.fl_honest.specs.Reasons.{IsUsedUp, RefusesWish, CameUnder, AsksOnly, IsFrom, IsOwnWish, WasHeard, WasFull, IsRefusedAt}
+use Rattle.fl_honest.specs.Reasons.{IsUsedUp, RefusesWish, CameUnder, AsksOnly, IsFrom, IsOwnWish, WasHeard, WasFull, IsRefusedAt, as_talk, talk_of}
 use Rattle.fl_honest.specs.Asked.{IsWished}
 use Rattle.fl_honest.proofs.AskedDesks.{JobAt, job_there, JobsStay, job_before, event_jobs, offers_stay}
 use Rattle.fl_honest.proofs.AskedLaid.{beside}
@@ -331,7 +331,7 @@ pub record Here (jobs : List Job) (Full : ℕ → Type 0) (t0 u : TheCircuits) (
 
 -- a refusal that a core starting so tells at the desk of an end, of what it heard since; in the end it said all this, and its monitor is m
 abbrev pub Tells : List Job → (Opening → Type 0) → (ℕ → Type 0) → TheCircuits → TheMonitor → EndId → (ℕ → List Frag) → TheRun TheSide → (ℕ → List Frag) → ℕ → Type 0
-Tells jobs Wishes Full t0 m e spoken s hs r = WasHeard Wishes t0 spoken hs m e r ⊎ Here jobs Full t0 m.circuits e s r ⊎ Again jobs t0 s hs
+Tells jobs Wishes Full t0 m e spoken s hs r = WasHeard Wishes t0 (as_talk spoken hs m) e r ⊎ Here jobs Full t0 m.circuits e s r ⊎ Again jobs t0 s hs
 
 module _ (jobs : List Job) (Wishes : Opening → Type 0) (Full : ℕ → Type 0) (t0 : TheCircuits) (m : TheMonitor) (e : EndId) where
   abbrev Told : (ℕ → List Frag) → TheRun TheSide → (ℕ → List Frag) → ℕ → Type 0
@@ -394,10 +394,11 @@ own_wish jobs s name wish a = record {
   opening_is = refl;
 }
 
-pub told_at : (jobs : List Job) (finish : TheRun TheSide) (e : EndId) (spoken : ℕ → List Frag) (s : TheRun TheSide) (hs : ℕ → List Frag) (r : ℕ)
-    → Tells jobs (IsOwnWish jobs s) (WasFull jobs finish) s.core.monitor.circuits finish.core.monitor e spoken s hs r → IsRefusedAt jobs s spoken hs finish e r
-told_at jobs finish e spoken s hs r (inl h) = inl h
-told_at jobs finish e spoken s hs r (inr (inl own)) = inr (inl (record {
+pub told_at : (jobs : List Job) (c : OneCore) (steps : List Step) (e : EndId) (r : ℕ)
+    → Tells jobs (IsOwnWish jobs c.start) (WasFull jobs c.finish) c.start.core.monitor.circuits c.finish.core.monitor e (talk_of c steps).said c.start (talk_of c steps).heard r
+    → IsRefusedAt jobs c steps e r
+told_at jobs c steps e r (inl h) = inl h
+told_at jobs c steps e r (inr (inl own)) = inr (inl (record {
   desk = own.job.desk;
   desk_is = own.job.desk_is;
   turn = own.job.turn;
@@ -407,9 +408,9 @@ told_at jobs finish e spoken s hs r (inr (inl own)) = inr (inl (record {
   job_is = own.job.job_is;
   why = own.why;
 }))
-told_at jobs finish e spoken s hs r (inr (inr a)) = inr (inr (record {
+told_at jobs c steps e r (inr (inr a)) = inr (inr (record {
   own = a.wish.opening;
-  wished = own_wish jobs s a.name a.wish a.job;
+  wished = own_wish jobs c.start a.name a.wish a.job;
   link = a.link;
   number = a.number;
   opening = a.opening;

@@ -35,7 +35,7 @@ use Rattle.fl_node.specs.Making.{Asked, Asks}
 use Rattle.fl_node.specs.View.{TheCore, client_of}
 use Rattle.fl_running.specs.Steps.{lacks_to_open}
 use Rattle.fl_logs.proofs.Tables.{way_of}
-use Rattle.fl_honest.specs.Reasons.{IsUsedUp, CameUnder, AreReasoned}
+use Rattle.fl_honest.specs.Reasons.{IsUsedUp, CameUnder, AreReasoned, as_talk}
 use Rattle.fl_honest.proofs.Neighbours.{leads_of}
 use Rattle.fl_honest.proofs.ReasonsOwn.{is_used_up}
 use Rattle.fl_honest.proofs.Refused.{test_true, less_true}
@@ -81,7 +81,7 @@ has_entry t binding h =
     }
 
 -- it leads to the client's end, or an opening of the binding was heard
-pub entry_came : (names : List TheRegistration) (NoPlace Wishes : Opening → Type 0) (t0 : TheCircuits) (said heard : ℕ → List Frag) (m : TheMonitor) → Sound m.circuits → AreReasoned names NoPlace Wishes t0 said heard m → (binding : ℕ) → HasEntry m.circuits binding
+pub entry_came : (names : List TheRegistration) (NoPlace Wishes : Opening → Type 0) (t0 : TheCircuits) (said heard : ℕ → List Frag) (m : TheMonitor) → Sound m.circuits → AreReasoned names NoPlace Wishes t0 (as_talk said heard m) → (binding : ℕ) → HasEntry m.circuits binding
     → ((l n : ℕ) × (way_at m.circuits l n ≡ Some (End (client_of binding)))) ⊎ ((l n : ℕ) × (o : Opening) × CameUnder t0 heard l n o × (o.binding ≡ binding))
 entry_came names NoPlace Wishes t0 said heard m sound reasoned binding x = by x.hop.way refl where
   leads : (way : Way) → x.hop.way ≡ way → Leads m.circuits x.link x.number binding way

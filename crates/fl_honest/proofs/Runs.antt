@@ -157,9 +157,11 @@ module _ (l : Ended) (asked : List Job) (j : TheJoined) (cores : List OneCore) (
           → AreHonest asked j n c d
       lone_server loose y k server =
           let absent = s.absent b.client c (client_of n) b number at.client bound opened in
-          let none = l.lone j.jobs cores paired n b.client c (docket_at j.dockets (server_of n)) (point_at d y k) (record {
+          let none = l.lone j.jobs cores paired n (docket_at j.dockets (server_of n)) (point_at d y k) (record {
+            home = b.client;
             at_home = l.home asked j cores s.joined paired s.own n b bound;
-            core_is = at.client;
+            client = c;
+            client_is = at.client;
             absent = absent;
             loose = loose;
             place = b.server;

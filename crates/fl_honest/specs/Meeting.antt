@@ -48,12 +48,14 @@ BoundClientsMeet = (jobs : List CoreJob) (cores : List OneCore) → AreWired job
 
 -- ---- the client's end isn't
 
--- the server's end of binding n is bound in the end; the client's, which is at home at this place, is not
-pub record WaitsAlone (jobs : List CoreJob) (cores : List OneCore) (n home : ℕ) (c : OneCore) (d : TheDocket) (q : Point) : Type 0 where
+-- in the end the server's end of binding n, with this docket, is bound on the circuit of this point; the client's, at the core where it is at home, isn't
+pub record WaitsAlone (jobs : List CoreJob) (cores : List OneCore) (n : ℕ) (d : TheDocket) (q : Point) : Type 0 where
+  pub home : ℕ
   pub at_home : IsHome cores n home
-  pub core_is : slice_get cores home ≡ Some c
-  pub absent : place_of c.start.core (client_of n) ≡ None
-  pub loose : IsLoose c.finish (client_of n)
+  pub client : OneCore
+  pub client_is : slice_get cores home ≡ Some client
+  pub absent : place_of client.start.core (client_of n) ≡ None
+  pub loose : IsLoose client.finish (client_of n)
   pub place : ℕ
   pub server_is : slice_get cores place ≡ Some q.core
   pub desk : HasDesk d q.core.start (server_of n)
@@ -61,5 +63,5 @@ pub record WaitsAlone (jobs : List CoreJob) (cores : List OneCore) (n home : ℕ
 
 -- it handled nothing
 abbrev pub LoneServersRest : Type 0
-LoneServersRest = (jobs : List CoreJob) (cores : List OneCore) → ArePaired jobs cores → (n home : ℕ) (c : OneCore) (d : TheDocket) (q : Point)
-    → WaitsAlone jobs cores n home c d q → handled_by q.core.finish (server_of n) ≡ []
+LoneServersRest = (jobs : List CoreJob) (cores : List OneCore) → ArePaired jobs cores → (n : ℕ) (d : TheDocket) (q : Point)
+    → WaitsAlone jobs cores n d q → handled_by q.core.finish (server_of n) ≡ []

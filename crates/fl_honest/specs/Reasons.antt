@@ -11,7 +11,7 @@ use Rattle.fl_hop.specs.declared.entry.Way.TheVariants.{Link, End}
 use Rattle.fl_hop.specs.declared.links.LinkState.{LinkState}
 use Rattle.fl_hop.specs.Numbers.{OpenedHere, OpenedThere}
 use Rattle.fl_hop.specs.OfCircuit.{of_circuit}
-use Rattle.fl_hop.specs.Stretch.{taken_from, put_on}
+use Rattle.fl_hop.specs.Stretch.{Step, taken_from, put_on}
 use Rattle.fl_hop.specs.Table.{TheCircuits, hop_at, link_of, most_openings}
 use Rattle.fl_monitor.specs.declared.message.Message.TheVariants.{CircuitRefused}
 use Rattle.fl_monitor.specs.declared.opening.Opening.{Opening}
@@ -108,6 +108,19 @@ pub record WasFull (jobs : List CoreJob) (finish : TheRun TheSide) (d : ℕ) : T
 
 -- ---- one core
 
+-- what a monitor said and heard, as fragments by link, and the monitor itself as it was then
+pub record Talk : Type 0 where
+  pub said : ℕ → List Frag
+  pub heard : ℕ → List Frag
+  pub monitor : TheMonitor
+
+abbrev pub as_talk : (ℕ → List Frag) → (ℕ → List Frag) → TheMonitor → Talk
+as_talk said heard m = record { said = said; heard = heard; monitor = m }
+
+-- that of a core over whose links fragments went in these steps, in its whole run: monitors say and hear what goes on circuit 0
+abbrev pub talk_of : OneCore → List Step → Talk
+talk_of c steps = as_talk (λ l. of_circuit 0 (put_on l steps)) (λ l. of_circuit 0 (taken_from l steps)) c.finish.core.monitor
+
 -- this opening was heard under this number of a link, from the core that comes before this one on its route
 pub record CameUnder (t : TheCircuits) (heard : ℕ → List Frag) (l n : ℕ) (o : Opening) : Type 0 where
   pub frag : Frag
@@ -122,19 +135,19 @@ abbrev pub AsksOnly : (ℕ → List Frag) → TheMonitor → ℕ → ℕ → Ope
 AsksOnly said m l n o = (f : Frag) (c : Circuit) (x : Opening) → Has f (said l) ⊎ Has f (waiting_for m.outboxes l) → c.0 ≡ n → Says f (asks c x) → x ≡ o
 
 -- this core asked further on for that opening, and heard that it is refused for this reason
-pub record HeardRefused (said heard : ℕ → List Frag) (m : TheMonitor) (o : Opening) (reason : ℕ) : Type 0 where
+pub record HeardRefused (talk : Talk) (o : Opening) (reason : ℕ) : Type 0 where
   pub link : ℕ
   pub frag : Frag
-  pub has : Has frag (heard link)
+  pub has : Has frag (talk.heard link)
   pub circuit : Circuit
   pub says : Says frag (CircuitRefused circuit reason)
-  pub given : OpenedHere m.circuits link circuit.0
-  pub only : AsksOnly said m link circuit.0 o
+  pub given : OpenedHere talk.monitor.circuits link circuit.0
+  pub only : AsksOnly talk.said talk.monitor link circuit.0 o
 
 -- why an opening is refused at a core that offers these services: for a reason of its own; for want of the service; or as it heard from further on
-abbrev pub IsRefusedFor : List TheRegistration → (Opening → Type 0) → TheCircuits → (ℕ → List Frag) → (ℕ → List Frag) → TheMonitor → Opening → ℕ → Type 0
-IsRefusedFor names NoPlace t said heard m o reason =
-    Refuses names NoPlace t m.circuits o reason ⊎ (by_iref o.service.0 names ≡ None) ⊎ HeardRefused said heard m o reason
+abbrev pub IsRefusedFor : List TheRegistration → (Opening → Type 0) → TheCircuits → Talk → Opening → ℕ → Type 0
+IsRefusedFor names NoPlace t talk o reason =
+    Refuses names NoPlace t talk.monitor.circuits o reason ⊎ (by_iref o.service.0 names ≡ None) ⊎ HeardRefused talk o reason
 
 -- where an entry leads this way, its opening was heard there, or a job here wishes for it
 abbrev pub IsFrom : (Opening → Type 0) → TheCircuits → (ℕ → List Frag) → Way → Opening → Type 0
@@ -142,26 +155,25 @@ IsFrom Wishes t heard (Link x d) o = CameUnder t heard x.0 d.0 o
 IsFrom Wishes t heard (End e) o = Wishes o
 
 -- just one opening was asked for under this number, and it is that of the entry which stands there
-pub record IsFor (Wishes : Opening → Type 0) (t : TheCircuits) (said heard : ℕ → List Frag) (m : TheMonitor) (l n : ℕ) (hop : Hop) : Type 0 where
+pub record IsFor (Wishes : Opening → Type 0) (t : TheCircuits) (talk : Talk) (l n : ℕ) (hop : Hop) : Type 0 where
   pub opening : Opening
   pub binding_is : opening.binding ≡ hop.binding
-  pub origin : IsFrom Wishes t heard hop.way opening
-  pub only : AsksOnly said m l n opening
+  pub origin : IsFrom Wishes t talk.heard hop.way opening
+  pub only : AsksOnly talk.said talk.monitor l n opening
 
--- of a monitor that said and heard these fragments, by link; jobs here wish for these openings, and there was no place for those
-pub record AreReasoned (names : List TheRegistration) (NoPlace Wishes : Opening → Type 0) (t : TheCircuits) (said heard : ℕ → List Frag)
-    (m : TheMonitor) : Type 0 where
+-- of all that a monitor said and heard; jobs here wish for these openings, and there was no place for those
+pub record AreReasoned (names : List TheRegistration) (NoPlace Wishes : Opening → Type 0) (t : TheCircuits) (talk : Talk) : Type 0 where
   -- what it asks for, or has still to ask for, such a job wishes for, or it was heard
-  pub asked : (l : ℕ) (f : Frag) (c : Circuit) (o : Opening) → Has f (said l) ⊎ Has f (waiting_for m.outboxes l) → Says f (asks c o)
-      → Wishes o ⊎ ((k n : ℕ) × CameUnder t heard k n o)
+  pub asked : (l : ℕ) (f : Frag) (c : Circuit) (o : Opening) → Has f (talk.said l) ⊎ Has f (waiting_for talk.monitor.outboxes l) → Says f (asks c o)
+      → Wishes o ⊎ ((link n : ℕ) × CameUnder t talk.heard link n o)
   -- where an entry stands at a number of the neighbour's, an opening of its binding was heard under that
-  pub told : (l n : ℕ) (hop : Hop) → OpenedThere m.circuits l n → hop_at m.circuits l n ≡ Some hop
-      → (o : Opening) × CameUnder t heard l n o × (o.binding ≡ hop.binding)
+  pub told : (l n : ℕ) (hop : Hop) → OpenedThere talk.monitor.circuits l n → hop_at talk.monitor.circuits l n ≡ Some hop
+      → (o : Opening) × CameUnder t talk.heard l n o × (o.binding ≡ hop.binding)
   -- where an entry stands at a number that this core gave, just its opening was asked for under that
-  pub given : (l n : ℕ) (hop : Hop) → OpenedHere m.circuits l n → hop_at m.circuits l n ≡ Some hop → IsFor Wishes t said heard m l n hop
+  pub given : (l n : ℕ) (hop : Hop) → OpenedHere talk.monitor.circuits l n → hop_at talk.monitor.circuits l n ≡ Some hop → IsFor Wishes t talk l n hop
   -- what it says to be refused, or has still to say, is an opening that was heard under that number
-  pub refused : (l : ℕ) (f : Frag) (c : Circuit) (reason : ℕ) → Has f (said l) ⊎ Has f (waiting_for m.outboxes l) → Says f (CircuitRefused c reason)
-      → (o : Opening) × CameUnder t heard l c.0 o × IsRefusedFor names NoPlace t said heard m o reason
+  pub refused : (l : ℕ) (f : Frag) (c : Circuit) (reason : ℕ) → Has f (talk.said l) ⊎ Has f (waiting_for talk.monitor.outboxes l)
+      → Says f (CircuitRefused c reason) → (o : Opening) × CameUnder t talk.heard l c.0 o × IsRefusedFor names NoPlace t talk o reason
 
 -- ---- at desks
 
@@ -179,17 +191,17 @@ pub record IsOwnWish (jobs : List CoreJob) (s : TheRun TheSide) (o : Opening) : 
 
 -- one of the fragments that were heard, over a link that was there as the run began, says that an opening is refused for this reason: the only one that was
 -- asked for under that number, for which a job wishes, and of this client's end
-pub record WasHeard (Wishes : Opening → Type 0) (t : TheCircuits) (said heard : ℕ → List Frag) (m : TheMonitor) (e : EndId) (reason : ℕ) : Type 0 where
+pub record WasHeard (Wishes : Opening → Type 0) (t : TheCircuits) (talk : Talk) (e : EndId) (reason : ℕ) : Type 0 where
   pub link : ℕ
   pub state : LinkState
   pub state_is : slice_get t.links link ≡ Some state
   pub frag : Frag
-  pub has : Has frag (heard link)
+  pub has : Has frag (talk.heard link)
   pub circuit : Circuit
   pub says : Says frag (CircuitRefused circuit reason)
   pub own : Opening
   pub wished : Wishes own
-  pub only : AsksOnly said m link circuit.0 own
+  pub only : AsksOnly talk.said talk.monitor link circuit.0 own
   pub end_is : client_of own.binding ≡ e
 
 -- a job of the end's desk wishes for an opening that this core refused
@@ -213,22 +225,20 @@ pub record AskedAgain (jobs : List CoreJob) (s : TheRun TheSide) (heard : ℕ �
   pub came : CameUnder s.core.monitor.circuits heard link number opening
   pub binding_is : opening.binding ≡ own.binding
 
--- why a refusal stands at the desk of an end: as was heard; for a reason of this core's own; or since an entry of the binding stood there (67)
-abbrev pub IsRefusedAt : List CoreJob → TheRun TheSide → (ℕ → List Frag) → (ℕ → List Frag) → TheRun TheSide → EndId → ℕ → Type 0
-IsRefusedAt jobs s said heard finish e reason =
-    WasHeard (IsOwnWish jobs s) s.core.monitor.circuits said heard finish.core.monitor e reason ⊎ WasRefused jobs s finish e reason
-    ⊎ AskedAgain jobs s heard
+-- why a refusal stands at the desk of an end, where fragments went over the core's links in these steps: as was heard; for a reason of this core's own; or
+-- since an entry of the binding stood there (67)
+abbrev pub IsRefusedAt : List CoreJob → OneCore → List Step → EndId → ℕ → Type 0
+IsRefusedAt jobs c steps e reason =
+    WasHeard (IsOwnWish jobs c.start) c.start.core.monitor.circuits (talk_of c steps) e reason ⊎ WasRefused jobs c.start c.finish e reason
+    ⊎ AskedAgain jobs c.start (talk_of c steps).heard
 
 -- ---- one core. Law
 
 -- so it is of a core, with what it asked for; at desks, where memory was never wanted for an opening
 pub record GoesReasoned (jobs : List CoreJob) (c : OneCore) : Type 0 where
   pub asking : GoesAsking jobs c
-  pub reasoned : AreReasoned c.start.offers.names (FoundNoPlace jobs c) (IsOwnWish jobs c.start) c.start.core.monitor.circuits
-      (λ l. of_circuit 0 (put_on l asking.steps)) (λ l. of_circuit 0 (taken_from l asking.steps)) c.finish.core.monitor
-  pub desks : AreAmple c.log → (e : EndId) → (refusal_at c.finish e ≡ refusal_at c.start e)
-      ⊎ IsRefusedAt jobs c.start (λ l. of_circuit 0 (put_on l asking.steps)) (λ l. of_circuit 0 (taken_from l asking.steps)) c.finish
-      e (refusal_at c.finish e)
+  pub reasoned : AreReasoned c.start.offers.names (FoundNoPlace jobs c) (IsOwnWish jobs c.start) c.start.core.monitor.circuits (talk_of c asking.steps)
+  pub desks : AreAmple c.log → (e : EndId) → (refusal_at c.finish e ≡ refusal_at c.start e) ⊎ IsRefusedAt jobs c asking.steps e (refusal_at c.finish e)
 
 -- in every run of a core that had nothing to say before
 abbrev pub CoresReason : Type 0
