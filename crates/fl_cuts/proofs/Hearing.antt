@@ -81,7 +81,7 @@ use Rattle.fl_cuts.specs.Ends.{EndCut, ShowsEnd}
 use Rattle.fl_cuts.specs.Cut.{Each2, QueueCut, Cut, ShowsQueue, ShowsWaits, ShowsSeat, ShowsCut}
 use Rattle.fl_cuts.specs.Events.{EndAt, with_waits}
 use Rattle.fl_cuts.specs.Opening.{new_arrivals, new_end, next_seat, with_new_end}
-use Rattle.fl_cuts.specs.Hearing.{said_of, asked_service, route_length, hearing, MakesServer, registers_seat, bound_to, BindsEnd, BindsIf, ThenFollows, Hears, HearsOver, IsUnbound, IsInOrder}
+use Rattle.fl_cuts.specs.Hearing.{said_of, asked_service, route_length, hearing, Request, MakesServer, registers_seat, bound_to, BindsEnd, BindsIf, ThenFollows, Hears, HearsOver, IsUnbound, IsInOrder}
 use Rattle.fl_cuts.proofs.Lists.{there, set_both}
 use Rattle.fl_cuts.proofs.Sides.{takes_again}
 use Rattle.fl_cuts.proofs.Cuts.{shown_all, shown_by, built, seen_by, end_at, seated, ends_shown, ports_same}
@@ -271,7 +271,7 @@ server_shows port program stations c seat some =
 
 record Made (asked : Option Service) (stations n : ℕ) (d : DispatcherId) (c : ℕ) (l : LinkId) (a : Cut) (t : TheRun TheSide) : Type 0 where
   pub after : Cut
-  pub makes : MakesServer asked stations n d c l a after
+  pub makes : MakesServer (record { service = asked; stations = stations; link = l }) (record { binding = n; dispatcher = d; circuit = c }) a after
   pub shows : ShowsCut after t
 
 -- the offer is the service that is asked for
@@ -499,7 +499,7 @@ binds_end name c e number a s t h kinds placed sound at none b rest =
 
 record Followed (asked : Option Service) (l : LinkId) (stations : ℕ) (w : MachineHeard) (told : MonitorAnswer) (a : Cut) (t : TheRun TheSide) : Type 0 where
   pub after : Cut
-  pub follows : ThenFollows asked l stations w told a after
+  pub follows : ThenFollows (record { service = asked; stations = stations; link = l }) w told a after
   pub shows : ShowsCut after t
 
 pub same_core : (a : Cut) (s t : TheRun TheSide) → ShowsCut a s → t.core ≡ s.core → t ≡ record s { core = t.core } → ShowsCut a t
@@ -555,9 +555,10 @@ follows_on asked programs offer l stations (server_made u0 u1 u2) (was.ServerMad
     let make : NodeMakes programs offer l u0 u1.place v2 s.core t.core = subst (λ (n : ℕ). NodeMakes programs offer l n u1.place v2 s.core t.core) same_n
     (subst (λ (d : ℕ). NodeMakes programs offer l v0 d v2 s.core t.core) same_d f.1) in
     let one = makes_server asked programs offer l u0 stations u1 v2 a s t fits lent_plans h kinds sound some make rest in
+    let request : Request = record { service = asked; stations = stations; link = l } in
     record {
       after = one.after;
-      follows = (f.0 ∙ ap (λ (n : ℕ). answer.Opened (server_of n)) same_n, subst (λ (c : ℕ). MakesServer asked stations u0 u1 c l a one.after) same_c one.makes);
+      follows = (f.0 ∙ ap (λ (n : ℕ). answer.Opened (server_of n)) same_n, subst (λ (c : ℕ). MakesServer request (record { binding = u0; dispatcher = u1; circuit = c }) a one.after) same_c one.makes);
       shows = one.shows;
     }
 follows_on asked programs offer l stations (server_made u0 u1 u2) (was.OpeningFailed v0 v1) told a s t fits lent_plans h kinds placed sound some free same f rest = absurd same
@@ -606,7 +607,7 @@ follows_on asked programs offer l stations (end_refused u0 u1) (was.EndRefused v
 
 pub record AllHeard (services : List Service) (n : ℕ) (l : LinkId) (frag : Frag) (told : MonitorAnswer) (a : Cut) (t : TheRun TheSide) : Type 0 where
   pub after : Cut
-  pub hears : Hears services n l frag told a after
+  pub hears : Hears services (record { side = n; link = l; frag = frag }) told a after
   pub shows : ShowsCut after t
 
 pub hears_all : HearsAgree → (services : List Service) (a : Cut) (s m : TheRun TheSide) (n : ℕ) (l : LinkId) (frag : Frag) (msg : Message) (told : MonitorAnswer)
@@ -665,7 +666,7 @@ fails_for_good a s m n l before after h at same rest core =
 pub record HeardAs (services : List Service) (n : ℕ) (l : LinkId) (frag : Frag) (answer : Result MonitorAnswer LinkFault) (a : Cut)
     (t : TheRun TheSide) : Type 0 where
   pub after : Cut
-  pub does : HearsOver services n l frag answer a after
+  pub does : HearsOver services (record { side = n; link = l; frag = frag }) answer a after
   pub shows : ShowsCut after t
 
 abbrev failing : LinkId → Cut → Cut

@@ -40,7 +40,7 @@ use Rattle.fl_nameserv.specs.Registrations.{TheRegistration, by_iref}
 use Rattle.fl_node.specs.declared.hearing.Offered.{Offered}
 use Rattle.fl_node.specs.declared.wire.Wire.{Wire}
 use Rattle.fl_node.specs.declared.wire.Wire.TheVariants.{Queues, Ring as OverRing, Circuit as ByCircuit}
-use Rattle.fl_node.specs.Hearing.{may_offer, has_place, has_end, here_for, known_for}
+use Rattle.fl_node.specs.Hearing.{may_offer, has_place, here_for, known_for}
 use Rattle.fl_node.specs.View.{arrivals_by}
 use Rattle.fl_running.specs.Deeds.{IsSound}
 use Rattle.fl_running.specs.Run.{TheRun}

@@ -1,9 +1,8 @@
 -- What each deed leaves of a cut: its dispatchers are as many, its programs are the same, and an end that isn't bound accepted nothing.
-use Rattle.std.proofs.Common.{◌≡◌, inl, inr, refl, sym, ◌∙◌, ap, subst, ℕ, ◌+◌, ◌<◌, nat_le, not, Bool, true, false, if◌then◌else◌, List, [], ◌∷◌, ◌++◌, length, slice_get, slice_set, Option, Some, None}
+use Rattle.std.proofs.Common.{◌≡◌, inl, inr, refl, sym, ◌∙◌, ap, subst, ℕ, ◌<◌, nat_le, not, Bool, true, false, if◌then◌else◌, List, [], ◌∷◌, ◌++◌, length, slice_get, slice_set, Option, Some, None}
 use Rattle.std.specs.Prelude.{Result, Ok, Err, is_some}
 use Rattle.std.proofs.lemmas.List.{length-set}
 use Rattle.std.proofs.lemmas.Bool.{false≢true}
-use Rattle.fl_base.specs.declared.fragment.Frag.{Frag}
 use Rattle.fl_base.specs.declared.identity.EndId.{EndId}
 use Rattle.fl_base.specs.declared.identity.LinkId.{LinkId}
 use Rattle.fl_value.specs.Value.{TheCall, call_of}
@@ -40,8 +39,8 @@ use Rattle.fl_cuts.specs.Sides.{Placing, Places}
 use Rattle.fl_cuts.specs.Ends.{EndCut, MachineCalls, Calls, SetsRule, Writes, wrote_next}
 use Rattle.fl_cuts.specs.Cut.{QueueCut, Cut}
 use Rattle.fl_cuts.specs.Events.{QueuePlaces, Spot, Giving, Turns, triggers_seat, triggers_end, HasTurn}
-use Rattle.fl_cuts.specs.Links.{LooksOver, ArrivesOver, SaysOver}
-use Rattle.fl_cuts.specs.Hearing.{registers_seat, ThenFollows, Hears, hearing, said_of, asked_service, route_length, bound_to, IsUnbound}
+use Rattle.fl_cuts.specs.Links.{LooksOver, Incoming, ArrivesOver, SaysOver}
+use Rattle.fl_cuts.specs.Hearing.{registers_seat, Request, request_of, ThenFollows, Hears, hearing, said_of, bound_to, IsUnbound}
 use Rattle.fl_cuts.specs.Does.{CutActs, CutDoes}
 use Rattle.fl_cuts.specs.Ready.{EndsAreQuiet, Serves}
 use Rattle.fl_hop.specs.Table.{TheCircuits}
@@ -221,16 +220,16 @@ module _ {P : Type 0} (g : Giving P) where
 looks_stay : (n : ℕ) (l : LinkId) (r : Result Ahead LinkFault) (a b : Cut) → LooksOver n l r a b → Stays a b
 looks_stay n l r a b h = by a b _ h.rest (record { number = refl; links = λ i. refl; waits = refl; plans = refl; quiet = λ q. q })
 
-arrives_stay : (n : ℕ) (l : LinkId) (frag : Frag) (name : EndId) (r : Result Outcome LinkFault) (a b : Cut) → ArrivesOver n l frag name r a b → Stays a b
-arrives_stay n l frag name (Ok Moved) a b h =
+arrives_stay : (x : Incoming) (name : EndId) (r : Result Outcome LinkFault) (a b : Cut) → ArrivesOver x name r a b → Stays a b
+arrives_stay x name (Ok Moved) a b h =
     by a b _ h.3 (record { number = refl; links = λ i. refl; waits = triggered_long _ a.ends a.core.dispatchers; plans = refl; quiet = λ q. q })
-arrives_stay n l frag name (Ok Full) a b h = by a b _ h.2 (itself a)
-arrives_stay n l frag name (Ok Spent) a b h = absurd h
-arrives_stay n l frag name (Err link.Astray) a b h = by a b _ h (record { number = refl; links = λ i. refl; waits = refl; plans = refl; quiet = λ q. q })
-arrives_stay n l frag name (Err link.Failed) a b h = absurd h
-arrives_stay n l frag name (Err link.Marked) a b h = absurd h
-arrives_stay n l frag name (Err link.Memory) a b h = absurd h
-arrives_stay n l frag name (Err (link.Wire fault)) a b h = absurd h
+arrives_stay x name (Ok Full) a b h = by a b _ h.2 (itself a)
+arrives_stay x name (Ok Spent) a b h = absurd h
+arrives_stay x name (Err link.Astray) a b h = by a b _ h (record { number = refl; links = λ i. refl; waits = refl; plans = refl; quiet = λ q. q })
+arrives_stay x name (Err link.Failed) a b h = absurd h
+arrives_stay x name (Err link.Marked) a b h = absurd h
+arrives_stay x name (Err link.Memory) a b h = absurd h
+arrives_stay x name (Err (link.Wire fault)) a b h = absurd h
 
 says_stay : (n : ℕ) (l : LinkId) (r : MonitorWrite) (a b : Cut) → SaysOver n l r a b → Stays a b
 says_stay n l said_as.Written a b h = by a b _ h.3 (record { number = refl; links = λ i. refl; waits = refl; plans = refl; quiet = λ q. q })
@@ -243,7 +242,7 @@ acts_stay (looked n l r) a b h = looks_stay n l r a b h
 acts_stay (passed n m frag c Moved) a b h = by a b _ h.4 (record { number = refl; links = λ i. refl; waits = refl; plans = refl; quiet = λ q. q })
 acts_stay (passed n m frag c Full) a b h = by a b _ h.2 (record { number = refl; links = λ i. refl; waits = refl; plans = refl; quiet = λ q. q })
 acts_stay (passed n m frag c Spent) a b h = by a b _ h.2 (record { number = refl; links = λ i. refl; waits = refl; plans = refl; quiet = λ q. q })
-acts_stay (arrived n l frag name r) a b h = arrives_stay n l frag name r a b h
+acts_stay (arrived n l frag name r) a b h = arrives_stay (record { side = n; link = l; frag = frag }) name r a b h
 acts_stay (said n l r) a b h = says_stay n l r a b h
 acts_stay (told n l r) a b h = by a b _ h.1 (record { number = refl; links = λ i. refl; waits = refl; plans = refl; quiet = λ q. q })
 acts_stay (called name c r) a b h = by a b _ h.rest (record {
@@ -304,11 +303,11 @@ acts_stay (heard n l frag r) a b h = absurd h
 -- ---- a message
 
 -- what follows it
-follows_stay : (asked : Option Service) (l : LinkId) (stations : ℕ) (w : Heard) (r : MonitorAnswer) (a b : Cut) → ThenFollows asked l stations w r a b → Stays a b
-follows_stay asked l stations (opening_went_on n c) r a b h = by a b _ h.1 (itself a)
-follows_stay asked l stations (opening_failed n fault) r a b h = by a b _ h.1 (itself a)
-follows_stay asked l stations (answer_went_on n) r a b h = by a b _ h.1 (itself a)
-follows_stay asked l stations (server_made n d c) r a b h =
+follows_stay : (request : Request) (w : Heard) (r : MonitorAnswer) (a b : Cut) → ThenFollows request w r a b → Stays a b
+follows_stay request (opening_went_on n c) r a b h = by a b _ h.1 (itself a)
+follows_stay request (opening_failed n fault) r a b h = by a b _ h.1 (itself a)
+follows_stay request (answer_went_on n) r a b h = by a b _ h.1 (itself a)
+follows_stay request (server_made n d c) r a b h =
     let m = h.1 in
     let made : Stays a m.made = by a m.made _ m.made_is (record {
       number = refl;
@@ -324,30 +323,30 @@ follows_stay asked l stations (server_made n d c) r a b h =
       plans = made.plans;
       quiet = made.quiet;
     })
-follows_stay asked l stations (end_opened e c) r a b (is, inl x) = by a b _ x.rest (record {
+follows_stay request (end_opened e c) r a b (is, inl x) = by a b _ x.rest (record {
   number = refl;
   links = λ i. refl;
   waits = registered_long x.at.end.end.seat x.queue a.core.dispatchers;
   plans = refl;
   quiet = λ q. quiet_set a.ends x.at.place (bound_to c x.at.end) (bound_quiet (bound_to c x.at.end) refl) q;
 })
-follows_stay asked l stations (end_opened e c) r a b (is, inr x) = by a b _ x.1 (itself a)
-follows_stay asked l stations (end_refused e fault) r a b h = by a b _ h.1 (itself a)
-follows_stay asked l stations no_outbox r a b h = absurd h
-follows_stay asked l stations astray r a b h = absurd h
+follows_stay request (end_opened e c) r a b (is, inr x) = by a b _ x.1 (itself a)
+follows_stay request (end_refused e fault) r a b h = by a b _ h.1 (itself a)
+follows_stay request no_outbox r a b h = absurd h
+follows_stay request astray r a b h = absurd h
 
-hears_stay : (services : List Service) (n : ℕ) (l : LinkId) (frag : Frag) (r : MonitorAnswer) (a b : Cut) → Hears services n l frag r a b → Stays a b
-hears_stay services n l frag r a b h =
-    let keeps = hears_keeps services l.0 (said_of h.message) a.core in
+hears_stay : (services : List Service) (x : Incoming) (r : MonitorAnswer) (a b : Cut) → Hears services x r a b → Stays a b
+hears_stay services x r a b h =
+    let keeps = hears_keeps services x.link.0 (said_of h.message) a.core in
     then_stays a h.middle b
     (by a h.middle _ h.middle_is (record { number = keeps.number; links = keeps.links; waits = ap length keeps.waits; plans = refl; quiet = λ q. q }))
-    (follows_stay (asked_service services h.message) l (route_length h.message + 1) (hearing services l.0 h.message a).heard r h.middle b h.follows)
+    (follows_stay (request_of services x.link h.message) (hearing services x.link.0 h.message a).heard r h.middle b h.follows)
 
 pub does_stay : (services : List Service) (deed : Deed) (a b : Cut) → CutDoes services deed a b → Stays a b
 does_stay services (heard n l frag (Ok answer.Full)) a b h = by a b _ h.3 (itself a)
-does_stay services (heard n l frag (Ok answer.Done)) a b h = hears_stay services n l frag answer.Done a b h
-does_stay services (heard n l frag (Ok (answer.Opened e))) a b h = hears_stay services n l frag (answer.Opened e) a b h
-does_stay services (heard n l frag (Ok (answer.OpeningRefused e reason))) a b h = hears_stay services n l frag (answer.OpeningRefused e reason) a b h
+does_stay services (heard n l frag (Ok answer.Done)) a b h = hears_stay services (record { side = n; link = l; frag = frag }) answer.Done a b h
+does_stay services (heard n l frag (Ok (answer.Opened e))) a b h = hears_stay services (record { side = n; link = l; frag = frag }) (answer.Opened e) a b h
+does_stay services (heard n l frag (Ok (answer.OpeningRefused e reason))) a b h = hears_stay services (record { side = n; link = l; frag = frag }) (answer.OpeningRefused e reason) a b h
 does_stay services (heard n l frag (Err link.Memory)) a b h = by a b _ h (itself a)
 does_stay services (heard n l frag (Err link.Astray)) a b h = by a b _ h (record { number = refl; links = λ i. refl; waits = refl; plans = refl; quiet = λ q. q })
 does_stay services (heard n l frag (Err link.Failed)) a b h = by a b _ h (record { number = refl; links = λ i. refl; waits = refl; plans = refl; quiet = λ q. q })

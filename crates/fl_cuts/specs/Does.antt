@@ -18,8 +18,8 @@ use Rattle.fl_cuts.specs.Hearing.{HearsOver, IsInOrder}
 -- by each but a message that is heard
 abbrev pub CutActs : Deed → Cut → Cut → Type 0
 CutActs (looked n l answer) a b = LooksOver n l answer a b
-CutActs (passed n m frag c outcome) a b = PassesOver n m frag c outcome a b
-CutActs (arrived n l frag name answer) a b = ArrivesOver n l frag name answer a b
+CutActs (passed n m frag c outcome) a b = PassesOver (record { from = n; to = m; frag = frag; circuit = c }) outcome a b
+CutActs (arrived n l frag name answer) a b = ArrivesOver (record { side = n; link = l; frag = frag }) name answer a b
 CutActs (said n l answer) a b = SaysOver n l answer a b
 CutActs (told n l answer) a b = TellsOver n answer a b
 CutActs (called name c answer) a b = ChangesEnd a name (Calls c answer) b
@@ -34,7 +34,7 @@ CutActs (heard n l frag answer) a b = ⊥
 
 -- with the services of the machine's table of names
 abbrev pub CutDoes : List Service → Deed → Cut → Cut → Type 0
-CutDoes services (heard n l frag answer) a b = HearsOver services n l frag answer a b
+CutDoes services (heard n l frag answer) a b = HearsOver services (record { side = n; link = l; frag = frag }) answer a b
 CutDoes services deed a b = CutActs deed a b
 
 -- a message that is heard, and not refused, is one that comes to a core of the machine, which has the machine's table of names

@@ -1,6 +1,5 @@
 -- What the machine makes of a cut when its core hears a monitors' message.
 use Rattle.std.specs.Prelude.{ℕ, ◌≡◌, ◌⊎◌, ◌+◌, false, List, [], length, slice_get, slice_set, Option, Some, None, Result, Ok, Err}
-use Rattle.fl_base.specs.declared.fragment.Frag.{Frag}
 use Rattle.fl_base.specs.declared.identity.EndId.{EndId}
 use Rattle.fl_base.specs.declared.identity.LinkId.{LinkId}
 use Rattle.fl_base.specs.Control.{bare}
@@ -28,7 +27,7 @@ use Rattle.fl_cuts.specs.Sides.{gave_one, SideGives}
 use Rattle.fl_cuts.specs.Ends.{EndCut}
 use Rattle.fl_cuts.specs.Cut.{QueueCut, Cut}
 use Rattle.fl_cuts.specs.Events.{EndAt, with_waits}
-use Rattle.fl_cuts.specs.Links.{OverOne}
+use Rattle.fl_cuts.specs.Links.{OverOne, Incoming}
 use Rattle.fl_cuts.specs.Opening.{new_arrivals, new_end, next_seat, with_new_end, opening_with}
 
 -- ---- a message, as the machine has it
@@ -48,6 +47,15 @@ abbrev pub route_length : Message → ℕ
 route_length (OpenCircuit c binding service path) = length path
 route_length m = 0
 
+-- what follows a message turns on these: the service for which it asks, if it does; the stations of its route; and the link on which it came
+pub record Request : Type 0 where
+  pub service : Option Service
+  pub stations : ℕ
+  pub link : LinkId
+
+abbrev pub request_of : List Service → LinkId → Message → Request
+request_of services l m = record { service = asked_service services m; stations = route_length m + 1; link = l }
+
 -- what the machine makes of the core by it, with these services
 abbrev pub hearing : List Service → ℕ → Message → Cut → Hearing
 hearing services l m a = hears services l (said_of m) a.core
@@ -63,19 +71,26 @@ registers_seat (Some seat) x waits = changed_at seat.dispatcher.place (registers
 abbrev pub bound_to : ℕ → EndCut → EndCut
 bound_to c x = record x { end = record x.end { circuit = Some c } }
 
--- the server's end is made, bound to this circuit, and its channel registered
-pub record MakesServer (asked : Option Service) (stations n : ℕ) (d : DispatcherId) (c : ℕ) (l : LinkId) (a b : Cut) : Type 0 where
+-- a server's end that is to be made: its binding, its dispatcher, and the number of its circuit
+pub record NewServer : Type 0 where
+  pub binding : ℕ
+  pub dispatcher : DispatcherId
+  pub circuit : ℕ
+
+-- it is made as the request has it, bound to its circuit, and its channel registered
+pub record MakesServer (request : Request) (server : NewServer) (a b : Cut) : Type 0 where
   pub service : Service
-  pub service_is : asked ≡ Some service
+  pub service_is : request.service ≡ Some service
   -- of the service's program, of which the end has a copy
   pub planned : Planned
   pub planned_is : slice_get a.plans service.interface ≡ Some planned
   pub waits : Dispatcher
-  pub waits_is : slice_get a.core.dispatchers d.place ≡ Some waits
+  pub waits_is : slice_get a.core.dispatchers server.dispatcher.place ≡ Some waits
   pub end : EndCut
-  pub end_is : end ≡ new_end (circuit_port (server_of n) l (length a.arrivals)) planned stations (next_seat a.core.circuits.core d.place waits)
+  pub end_is : end ≡ new_end (circuit_port (server_of server.binding) request.link (length a.arrivals)) planned request.stations
+      (next_seat a.core.circuits.core server.dispatcher.place waits)
   pub made : Cut
-  pub made_is : made ≡ with_new_end d.place waits (bound_to c end) a
+  pub made_is : made ≡ with_new_end server.dispatcher.place waits (bound_to server.circuit end) a
   pub rest : b ≡ with_waits made (registers_seat end.end.seat new_arrivals made.core.dispatchers)
 
 -- an end of this core is bound to this circuit, and its channel registered
@@ -92,31 +107,32 @@ abbrev pub BindsIf : EndId → ℕ → Cut → Cut → Type 0
 BindsIf name c a b = BindsEnd name c a b ⊎ (((at : EndAt a name) → arrivals_by at.end.port.wire ≡ None) × (b ≡ a))
 
 -- by what the machine hears, from the cut in which the message was taken and the core's table and outboxes are as after it
-abbrev pub ThenFollows : Option Service → LinkId → ℕ → Heard → MonitorAnswer → Cut → Cut → Type 0
-ThenFollows asked l stations (opening_went_on n c) told a b = (told ≡ Done) × (b ≡ a)
-ThenFollows asked l stations (opening_failed n fault) told a b = (told ≡ Done) × (b ≡ a)
-ThenFollows asked l stations (answer_went_on n) told a b = (told ≡ Done) × (b ≡ a)
-ThenFollows asked l stations (server_made n d c) told a b = (told ≡ Opened (server_of n)) × MakesServer asked stations n d c l a b
-ThenFollows asked l stations (end_opened e c) told a b = (told ≡ Opened e) × BindsIf e c a b
-ThenFollows asked l stations (end_refused e fault) told a b = (told ≡ OpeningRefused e fault) × (b ≡ a)
-ThenFollows asked l stations other told a b = ⊥
+abbrev pub ThenFollows : Request → Heard → MonitorAnswer → Cut → Cut → Type 0
+ThenFollows request (opening_went_on n c) told a b = (told ≡ Done) × (b ≡ a)
+ThenFollows request (opening_failed n fault) told a b = (told ≡ Done) × (b ≡ a)
+ThenFollows request (answer_went_on n) told a b = (told ≡ Done) × (b ≡ a)
+ThenFollows request (server_made n d c) told a b =
+    (told ≡ Opened (server_of n)) × MakesServer request (record { binding = n; dispatcher = d; circuit = c }) a b
+ThenFollows request (end_opened e c) told a b = (told ≡ Opened e) × BindsIf e c a b
+ThenFollows request (end_refused e fault) told a b = (told ≡ OpeningRefused e fault) × (b ≡ a)
+ThenFollows request other told a b = ⊥
 
 -- it was taken, and heard
-pub record Hears (services : List Service) (n : ℕ) (l : LinkId) (frag : Frag) (told : MonitorAnswer) (a b : Cut) : Type 0 where
+pub record Hears (services : List Service) (incoming : Incoming) (told : MonitorAnswer) (a b : Cut) : Type 0 where
   pub message : Message
-  pub says_it : Says frag message
+  pub says_it : Says incoming.frag message
   pub middle : Cut
-  pub sides : OverOne a.sides n (SideGives (says (said_of message)) (gave_one (bare frag))) middle.sides
-  pub middle_is : middle ≡ record a { core = (hearing services l.0 message a).core; sides = middle.sides }
-  pub follows : ThenFollows (asked_service services message) l (route_length message + 1) (hearing services l.0 message a).heard told middle b
+  pub sides : OverOne a.sides incoming.side (SideGives (says (said_of message)) (gave_one (bare incoming.frag))) middle.sides
+  pub middle_is : middle ≡ record a { core = (hearing services incoming.link.0 message a).core; sides = middle.sides }
+  pub follows : ThenFollows (request_of services incoming.link message) (hearing services incoming.link.0 message a).heard told middle b
 
-abbrev pub HearsOver : List Service → ℕ → LinkId → Frag → Result MonitorAnswer LinkFault → Cut → Cut → Type 0
-HearsOver services n l frag (Ok Full) a b =
-    (m : Message) × Says frag m × ((hearing services l.0 m a).heard ≡ no_outbox) × (b ≡ a)
-HearsOver services n l frag (Ok told) a b = Hears services n l frag told a b
-HearsOver services n l frag (Err Memory) a b = b ≡ a
+abbrev pub HearsOver : List Service → Incoming → Result MonitorAnswer LinkFault → Cut → Cut → Type 0
+HearsOver services incoming (Ok Full) a b =
+    (m : Message) × Says incoming.frag m × ((hearing services incoming.link.0 m a).heard ≡ no_outbox) × (b ≡ a)
+HearsOver services incoming (Ok told) a b = Hears services incoming told a b
+HearsOver services incoming (Err Memory) a b = b ≡ a
 -- the machine has no such case: the fragment says nothing, or the message is out of its place. What comes on the link has failed
-HearsOver services n l frag (Err fault) a b = b ≡ record a { lanes = failed_at a.lanes l.0 }
+HearsOver services incoming (Err fault) a b = b ≡ record a { lanes = failed_at a.lanes incoming.link.0 }
 
 -- ---- the messages that come
 

@@ -77,16 +77,29 @@ pub record LooksOver (n : ℕ) (l : LinkId) (answer : Result Ahead LinkFault) (a
   pub look : OverOne a.sides n (Finds a l.0 answer) b.sides
   pub rest : b ≡ record a { sides = b.sides; lanes = lanes_after l.0 answer a.lanes }
 
--- ---- a fragment goes on from side n to side m: its label is put there, and then taken here
+-- ---- a fragment goes on from one side to another: its label is put there, and then taken here
 
-abbrev pub PassesOver : ℕ → ℕ → Frag → Circuit → Outcome → Cut → Cut → Type 0
-PassesOver n m frag c Moved a b =
-    (label : Label) × (sides : List SideCut) × OverOne a.sides m (Places label (goes_on (bare (with_circuit c.0 frag)))) sides
-    × OverOne sides n (SideGives label (gave_one (bare frag))) b.sides × (b ≡ record a { sides = b.sides })
-PassesOver n m frag c Full a b = (label : Label) × OverOne a.sides m (Places label is_full) b.sides × (b ≡ record a { sides = b.sides })
-PassesOver n m frag c Spent a b = (label : Label) × OverOne a.sides m (Places label is_spent) b.sides × (b ≡ record a { sides = b.sides })
+pub record Passage : Type 0 where
+  pub from : ℕ
+  pub to : ℕ
+  pub frag : Frag
+  -- on the link to which it goes
+  pub circuit : Circuit
+
+abbrev pub PassesOver : Passage → Outcome → Cut → Cut → Type 0
+PassesOver passage Moved a b =
+    (label : Label) × (sides : List SideCut) × OverOne a.sides passage.to (Places label (goes_on (bare (with_circuit passage.circuit.0 passage.frag)))) sides
+    × OverOne sides passage.from (SideGives label (gave_one (bare passage.frag))) b.sides × (b ≡ record a { sides = b.sides })
+PassesOver passage Full a b = (label : Label) × OverOne a.sides passage.to (Places label is_full) b.sides × (b ≡ record a { sides = b.sides })
+PassesOver passage Spent a b = (label : Label) × OverOne a.sides passage.to (Places label is_spent) b.sides × (b ≡ record a { sides = b.sides })
 
 -- ---- it arrives for the end of a name: its label comes into the end's arrival queue, where that has room, and the end's channel is triggered
+
+-- a fragment that came over this link, and stands first at this side
+pub record Incoming : Type 0 where
+  pub side : ℕ
+  pub link : LinkId
+  pub frag : Frag
 
 pub record ArrivesIn (name : EndId) (a : Cut) (Event : QueueCut → QueueCut → Type 0) (queues : List QueueCut) : Type 0 where
   pub at : EndAt a name
@@ -94,16 +107,16 @@ pub record ArrivesIn (name : EndId) (a : Cut) (Event : QueueCut → QueueCut →
   pub number_is : arrivals_by at.end.port.wire ≡ Some number
   pub queue : OverOne a.arrivals number Event queues
 
-abbrev pub ArrivesOver : ℕ → LinkId → Frag → EndId → Result Outcome LinkFault → Cut → Cut → Type 0
-ArrivesOver n l frag name (Ok Moved) a b =
-    (label : Label) × ArrivesIn name a (QueuePlaces label (goes_on (as_carried frag))) b.arrivals
-    × OverOne a.sides n (SideGives label (gave_one (bare frag))) b.sides
+abbrev pub ArrivesOver : Incoming → EndId → Result Outcome LinkFault → Cut → Cut → Type 0
+ArrivesOver incoming name (Ok Moved) a b =
+    (label : Label) × ArrivesIn name a (QueuePlaces label (goes_on (as_carried incoming.frag))) b.arrivals
+    × OverOne a.sides incoming.side (SideGives label (gave_one (bare incoming.frag))) b.sides
     × (b ≡ record (with_waits a (triggers_end (place_in a.places name) a.ends a.core.dispatchers)) { sides = b.sides; arrivals = b.arrivals })
-ArrivesOver n l frag name (Ok Full) a b = (label : Label) × ArrivesIn name a (QueuePlaces label is_full) a.arrivals × (b ≡ a)
-ArrivesOver n l frag name (Ok Spent) a b = ⊥
+ArrivesOver incoming name (Ok Full) a b = (label : Label) × ArrivesIn name a (QueuePlaces label is_full) a.arrivals × (b ≡ a)
+ArrivesOver incoming name (Ok Spent) a b = ⊥
 -- an entry that leads to an end that isn't here, which the machine has no case for: what comes on the link has failed
-ArrivesOver n l frag name (Err Astray) a b = b ≡ record a { lanes = failed_at a.lanes l.0 }
-ArrivesOver n l frag name (Err fault) a b = ⊥
+ArrivesOver incoming name (Err Astray) a b = b ≡ record a { lanes = failed_at a.lanes incoming.link.0 }
+ArrivesOver incoming name (Err fault) a b = ⊥
 
 -- ---- a monitor writes the first message of its outbox
 
