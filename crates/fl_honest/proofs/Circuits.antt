@@ -49,7 +49,7 @@ module _ (l : Passing) (b : Below) (prefix : CircuitsPrefix) (jobs : List CoreJo
   -- ---- an end
 
   module _ (d : TheDocket) (e : EndId) (p : Point) (v : Leading jobs p.core) (s : StandsBound jobs d e p) where
-    abbrev pub made : MadeCarries e p.core.log ((flows p v).put e) ((flows p v).took e) p.core.finish.core.board.seats s.place
+    abbrev pub made : MadeCarries e p.core.log (record { put = (flows p v).put e; took = (flows p v).took e }) p.core.finish.core.board.seats s.place
     made = (flows p v).made e s.place s.absent s.place_is
 
     abbrev pub end : TheEnd

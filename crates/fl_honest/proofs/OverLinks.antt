@@ -63,7 +63,7 @@ module _ {S : Type 0} (w : Ways S) (jobs : List Job) where
       ∙ sym (took_joins l (event_steps w jobs deed s h.1.0 h.2 h.1.1) (log_steps w jobs log h.0 t h.3))
 
   pub side_carries : (log : List Deed) (s t : TheRun S) (h : Goes w jobs s log t) → IsApart s.core → (l n : ℕ) (p : S) → side_of_link s.core.lanes l ≡ Some n → slice_get s.rings n ≡ Some p
-      → SideCarries w.puts w.takes (put_on l (log_steps w jobs log s t h)) (taken_from l (log_steps w jobs log s t h)) p t.rings n
+      → SideCarries w.puts w.takes (record { put = put_on l (log_steps w jobs log s t h); took = taken_from l (log_steps w jobs log s t h) }) p t.rings n
   side_carries log s t h apart_is l n p lane there =
       let (q, after, c) = log_bears w jobs log s t h n p there in
       record {
@@ -80,7 +80,7 @@ module _ {S : Type 0} (w : Ways S) (jobs : List Job) where
 -- the sides of a core's links placed and took what these steps put on them and took from them
 abbrev pub AreCarried : OneCore → List Step → Type 0
 AreCarried c steps = (l n : ℕ) (p : TheSide) → side_of_link c.start.core.lanes l ≡ Some n → slice_get c.start.rings n ≡ Some p
-    → SideCarries shared_ways.puts shared_ways.takes (put_on l steps) (taken_from l steps) p c.finish.rings n
+    → SideCarries shared_ways.puts shared_ways.takes (record { put = put_on l steps; took = taken_from l steps }) p c.finish.rings n
 
 module _ (rings : RingsConserve) (c d : OneCore) (xs ys : List Step) (x : AreCarried c xs) (y : AreCarried d ys) (l m : LinkId) where
   abbrev BothWays : Type 0

@@ -181,7 +181,7 @@ module _ (flow : LogsFlow shared_ways) (handled : DesksTellHandled shared_ways) 
       flows : Flows shared_ways c.start c.finish c.log
       flows = flow jobs c.start c.finish c.log w.core w.apart w.goes
 
-      new : MadeCarries e c.log (flows.put e) (flows.took e) c.finish.core.board.seats x.place
+      new : MadeCarries e c.log (record { put = flows.put e; took = flows.took e }) c.finish.core.board.seats x.place
       new = flows.made e x.place x.absent x.place_is
 
       after_is : new.carries.after ≡ seat

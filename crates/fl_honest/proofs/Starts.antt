@@ -108,7 +108,7 @@ module _ (flow : LogsFlow shared_ways) (rules_first : RulesComeFirst shared_ways
 
   -- what it came to
   abbrev pub carried : (d : TheDocket) (c : OneCore) (e : EndId) (wire : Wire) (w : Went jobs c) (r : StandsReady jobs d c.start e wire)
-      → EndCarries e c.log ((flows_of c w).put e) ((flows_of c w).took e) r.seat.end c.finish.core.board.seats r.place
+      → EndCarries e c.log (record { put = (flows_of c w).put e; took = (flows_of c w).took e }) r.seat.end c.finish.core.board.seats r.place
   carried d c e wire w r = (flows_of c w).ends e r.place r.seat r.place_is r.seat_is
 
   sets_none : (d : TheDocket) (c : OneCore) (e : EndId) (wire : Wire) → HasDesk d c.start e → Went jobs c → StandsReady jobs d c.start e wire → SetsNone e c.log

@@ -122,7 +122,7 @@ pub record IsOpenedBy {S : Type 0} (jobs : List CoreJob) (s : TheRun S) (log : L
 pub record GoesAsking (jobs : List CoreJob) (c : OneCore) : Type 0 where
   pub steps : List Step
   pub links : (l n : ℕ) (p : TheSide) → side_of_link c.start.core.lanes l ≡ Some n → slice_get c.start.rings n ≡ Some p
-      → SideCarries shared_ways.puts shared_ways.takes (put_on l steps) (taken_from l steps) p c.finish.rings n
+      → SideCarries shared_ways.puts shared_ways.takes (record { put = put_on l steps; took = taken_from l steps }) p c.finish.rings n
   pub asked : AreAsked jobs c.start.core.monitor.circuits (λ l. of_circuit 0 (put_on l steps)) (λ l. of_circuit 0 (taken_from l steps)) c.finish.core.monitor
   pub made : (name : EndId) (e : ℕ) (seat : TheSeat) → place_of c.start.core name ≡ None → place_of c.finish.core name ≡ Some e
       → slice_get c.finish.core.board.seats e ≡ Some seat

@@ -13,7 +13,7 @@ use Rattle.fl_logs.specs.Flows.{SideCarries}
 -- through a queue in which nothing stood: what was taken is the first of what was put
 abbrev pub ThroughQueues : Type 0
 ThroughQueues = (put took : List Frag) (p : TheQueue) (queues : List TheQueue) (n : ℕ) → p.items ≡ []
-    → SideCarries QueuePuts QueueTakes put took p queues n → IsPrefix took put
+    → SideCarries QueuePuts QueueTakes (record { put = put; took = took }) p queues n → IsPrefix took put
 
 -- ---- a ring
 
@@ -28,7 +28,7 @@ pub record Crosses (starts ends starts2 ends2 : List TheSide) (n m : ℕ) : Type
   pub near : (p q : TheSide) → slice_get ends n ≡ Some p → slice_get ends2 m ≡ Some q → IsNear (record { one = p; two = q })
 
 abbrev pub SideGoes : List Frag → List Frag → TheSide → List TheSide → ℕ → Type 0
-SideGoes put took p sides n = SideCarries SharedPuts SharedTakes put took p sides n
+SideGoes put took p sides n = SideCarries SharedPuts SharedTakes (record { put = put; took = took }) p sides n
 
 -- what was taken at each side is the first of what was put at the other
 abbrev pub ThroughRings : Type 0

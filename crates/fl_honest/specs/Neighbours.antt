@@ -30,7 +30,7 @@ pub record IsUnused (m : TheMonitor) : Type 0 where
 pub record GoesNamed (c : OneCore) : Type 0 where
   pub steps : List Step
   pub links : (l n : ℕ) (p : TheSide) → side_of_link c.start.core.lanes l ≡ Some n → slice_get c.start.rings n ≡ Some p
-      → SideCarries shared_ways.puts shared_ways.takes (put_on l steps) (taken_from l steps) p c.finish.rings n
+      → SideCarries shared_ways.puts shared_ways.takes (record { put = put_on l steps; took = taken_from l steps }) p c.finish.rings n
   pub named : AreNamed (λ l. of_circuit 0 (put_on l steps)) (λ l. of_circuit 0 (taken_from l steps)) c.finish.core.monitor
   pub refused : AreRefused (λ l. of_circuit 0 (put_on l steps)) (λ l. of_circuit 0 (taken_from l steps)) c.finish.core.monitor
 

@@ -1,14 +1,12 @@
 -- What one end handled is the first of what the other sent.
-use Rattle.std.proofs.Common.{◌≡◌, refl, sym, ap, ◌∙◌, subst, ℕ, zero, suc, ◌+◌, ◌-◌, ◌*◌, ◌^◌, ◌<◌, ◌==◌, Bool, true, false, List, [], ◌∷◌, ◌++◌, map, length, arith}
-use Rattle.std.proofs.Common.{Option, Some, None}
+use Rattle.std.proofs.Common.{◌≡◌, refl, sym, ap, ◌∙◌, subst, ℕ, zero, suc, ◌^◌, ◌<◌, ◌==◌, Bool, true, false, List, [], ◌∷◌, ◌++◌, map, length, arith}
 use Rattle.std.specs.Prelude.{slice_get}
 use Rattle.std.specs.List.{range_with_len}
 use Rattle.std.proofs.lemmas.List.{map-append, append-nil, append_assoc}
 use Rattle.std.proofs.lemmas.List.Elements.{All-head, All-tail}
 use Rattle.std.proofs.lemmas.Bool.{and_parts, leb-true, false≢true}
 use Rattle.fl_base.specs.declared.fragment.Frag.{Frag}
-use Rattle.fl_base.specs.Control.{control_word, circuit_of, body, bare, with_circuit}
-use Rattle.fl_base.specs.Prefix.{IsPrefix}
+use Rattle.fl_base.specs.Control.{control_word, body, bare, with_circuit}
 use Rattle.fl_interface.specs.Interface.{TheMessage, TheInterface}
 use Rattle.fl_interface.specs.Limits.{is_within_limits}
 use Rattle.fl_value.specs.Value.{Datum, TheCall}
@@ -19,10 +17,10 @@ use Rattle.fl_wire.specs.Reading.{AllFit}
 use Rattle.fl_compile.specs.declared.program.Program.{Program}
 use Rattle.fl_compile.specs.Programs.{TheProgram, program_of}
 use Rattle.fl_hop.specs.OfCircuit.{as_carried}
-use Rattle.fl_endpoint.specs.View.{TheEnd, TheOutgoing, interface_in, number_or_0, nothing_to_send, fresh}
-use Rattle.fl_endpoint.specs.Accounts.{Sound, Account, Stretch, stream, stream_from}
+use Rattle.fl_endpoint.specs.View.{TheEnd, TheOutgoing, interface_in, number_or_0, fresh}
+use Rattle.fl_endpoint.specs.Accounts.{Account, Stretch, stream, stream_from}
 use Rattle.fl_endpoint.specs.Laws.{HandlesInOrder, OnAnotherCircuit}
-use Rattle.fl_logs.specs.Carried.{Traffic, EndGoes, left_to_put}
+use Rattle.fl_logs.specs.Carried.{Traffic, left_to_put}
 use Rattle.fl_logs.specs.Agree.{SinceMade, EndsAgree, CarriedOffLinks}
 use Rattle.fl_logs.proofs.EndGoing.{none_fit}
 

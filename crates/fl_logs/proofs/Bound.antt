@@ -1,6 +1,5 @@
 -- The circuits to which a core's ends are bound: but for a binding, what happens leaves them.
-use Rattle.std.proofs.Common.{◌≡◌, refl, sym, ap, ◌∙◌, ℕ, zero, suc, ◌⊎◌, inl, inr, List, [], ◌∷◌, ◌++◌, map, length, slice_get, slice_set, Option, Some, None, Result, Ok, Err}
-use Rattle.std.specs.declared.alloc.AllocError.{AllocError}
+use Rattle.std.proofs.Common.{◌≡◌, refl, ap, ◌∙◌, ℕ, zero, suc, ◌⊎◌, inl, inr, List, [], ◌∷◌, ◌++◌, map, slice_get, slice_set, Option, Some, None, Result, Ok, Err}
 use Rattle.fl_lists.specs.ThreeLists.{ThreeLists}
 use Rattle.fl_value.specs.Value.{TheCall}
 use Rattle.fl_link.specs.Looks.{Look}

@@ -1,19 +1,18 @@
 -- Arrival queues: what was put there arrived for its end, and what was taken its end took; and what an end of a circuit put went onto its link.
-use Rattle.std.proofs.Common.{◌≡◌, ◌≢◌, refl, sym, ap, ◌∙◌, subst, ℕ, ◌==◌, if◌then◌else◌, List, [], ◌∷◌, ◌++◌, map, slice_get, slice_set, arith}
+use Rattle.std.proofs.Common.{◌≡◌, refl, sym, ap, ◌∙◌, subst, ℕ, ◌==◌, if◌then◌else◌, List, [], ◌∷◌, ◌++◌, map, slice_get, slice_set, arith}
 use Rattle.std.proofs.Common.{Option, Some, None, Bool, true, false, Result, Ok, Err}
 use Rattle.std.proofs.lemmas.Bool.Decides.{nat_tests}
-use Rattle.std.proofs.lemmas.List.{append-nil, map-append}
+use Rattle.std.proofs.lemmas.List.{append-nil}
 use Rattle.fl_base.specs.declared.fragment.Frag.{Frag}
 use Rattle.fl_base.specs.declared.identity.EndId.{EndId}
 use Rattle.fl_base.specs.declared.identity.LinkId.{LinkId}
 use Rattle.fl_base.specs.declared.identity.Circuit.{Circuit as Number}
-use Rattle.fl_link.specs.Looks.{Look, placed, no_room, spent}
+use Rattle.fl_link.specs.Looks.{placed, no_room, spent}
 use Rattle.fl_link.specs.Queue.{TheQueue, QueuePuts, QueueTakes}
-use Rattle.fl_hop.specs.declared.entry.Way.TheVariants.{Link, End}
-use Rattle.fl_hop.specs.declared.forward.Outcome.{Outcome}
+use Rattle.fl_hop.specs.declared.entry.Way.TheVariants.{End}
 use Rattle.fl_hop.specs.declared.forward.Outcome.TheVariants.{Moved, Full, Spent}
 use Rattle.fl_hop.specs.OfCircuit.{as_carried}
-use Rattle.fl_hop.specs.Stretch.{Step, Deed as HopDeed, passed as hop_passed, wrote as hop_wrote, said as hop_said, heard as hop_heard, same_end, come_to, come_by, written_by, written_in}
+use Rattle.fl_hop.specs.Stretch.{passed as hop_passed, said as hop_said, heard as hop_heard, same_end, come_to, written_by}
 use Rattle.fl_hop.specs.Table.{TheCircuits}
 use Rattle.fl_compile.specs.declared.program.Program.{Program}
 use Rattle.fl_wire.specs.declared.fault.WireFault.TheVariants as wire
@@ -42,20 +41,19 @@ use Rattle.fl_node.specs.declared.fault.OpenFault.TheVariants as opening
 use Rattle.fl_node.specs.declared.hearing.Offered.{Offered}
 use Rattle.fl_node.specs.declared.wire.Arriving.{Arriving}
 use Rattle.fl_node.specs.declared.wire.Port.{Port}
-use Rattle.fl_node.specs.declared.wire.Wire.{Wire}
-use Rattle.fl_node.specs.declared.wire.Wire.TheVariants.{Queues, Ring, Circuit}
+use Rattle.fl_node.specs.declared.wire.Wire.TheVariants.{Circuit}
 use Rattle.fl_node.specs.declared.wire.Outlet.TheVariants as outlet
 use Rattle.fl_node.specs.declared.wire.Inlet.{Inlet}
 use Rattle.fl_node.specs.declared.wire.Inlet.TheVariants as inlet
 use Rattle.fl_running.specs.declared.job.Job.{Job}
 use Rattle.fl_running.specs.Run.{Ways, TheRun}
 use Rattle.fl_running.specs.Deeds.{Deed, looked, passed, arrived, heard, said, told, opened, called, ruled, wrote, acked, turned, Does}
-use Rattle.fl_logs.specs.Logs.{InPlace, Goes, Carries}
+use Rattle.fl_logs.specs.Logs.{InPlace, Carries}
 use Rattle.fl_logs.proofs.Looking.{if_arrived, if_heard, if_said, idle, put_one, turn_looks}
 use Rattle.fl_logs.proofs.Carrying.{write_put, turns_took, acted_put, acted_took, of_end}
-use Rattle.fl_logs.proofs.Bearing.{at_side, BearsAt, nothing_there, bears_same, bears_on, bears_one}
+use Rattle.fl_logs.proofs.Bearing.{at_side, BearsAt, nothing_there, bears_same, bears_one}
 use Rattle.fl_logs.proofs.Handling.{one_end}
-use Rattle.fl_logs.proofs.Laning.{link_by, link_at, step_of, steps_of, steps_by, event_steps, some_is, takes_from, port_in}
+use Rattle.fl_logs.proofs.Laning.{link_by, link_at, steps_of, steps_by, event_steps, takes_from, port_in}
 use Rattle.fl_logs.proofs.Seating.{Sits, sits_first, apart, together}
 
 -- ---- what an event put to arrival queue i, and what it took there

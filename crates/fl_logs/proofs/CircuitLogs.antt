@@ -6,7 +6,7 @@ use Rattle.fl_base.specs.declared.identity.EndId.{EndId}
 use Rattle.fl_base.specs.declared.identity.LinkId.{LinkId}
 use Rattle.fl_base.specs.Control.{bare, with_circuit}
 use Rattle.fl_link.proofs.Carried.{bare-bare}
-use Rattle.fl_link.specs.Queue.{TheQueue, QueuePuts, QueueTakes}
+use Rattle.fl_link.specs.Queue.{QueuePuts, QueueTakes}
 use Rattle.fl_hop.specs.declared.entry.Way.TheVariants.{Link, End}
 use Rattle.fl_hop.specs.OfCircuit.{as_carried}
 use Rattle.fl_hop.specs.Stretch.{Step, Deed as HopDeed, passed as hop_passed, wrote as hop_wrote, said as hop_said, heard as hop_heard, same_end, come_to, come_by, written_by, written_in}

@@ -1,8 +1,8 @@
 -- Ends of circuits that are made while a core runs.
-use Rattle.std.proofs.Common.{◌≡◌, ◌≢◌, refl, sym, ap, ◌∙◌, subst, ℕ, ◌<◌, ◌⊎◌, inl, inr, nat_lt, not, is_some, if◌then◌else◌, List, [], ◌∷◌, ◌++◌, map, length, slice_get, slice_set}
-use Rattle.std.proofs.Common.{Option, Some, None, Bool, true, false, Result, Ok, Err, arith}
+use Rattle.std.proofs.Common.{◌≡◌, refl, sym, ap, ◌∙◌, subst, ℕ, ◌<◌, ◌⊎◌, inl, inr, nat_lt, not, is_some, if◌then◌else◌, List, [], ◌∷◌, ◌++◌, map, length, slice_get, slice_set}
+use Rattle.std.proofs.Common.{Option, Some, None, Bool, false, Result, Ok, Err}
 use Rattle.std.proofs.lemmas.Bool.{ltb-true}
-use Rattle.std.proofs.lemmas.List.{append-nil, map-append, length-map}
+use Rattle.std.proofs.lemmas.List.{length-map}
 use Rattle.fl_base.specs.declared.fragment.Frag.{Frag}
 use Rattle.fl_base.specs.declared.identity.EndId.{EndId}
 use Rattle.fl_base.specs.declared.identity.LinkId.{LinkId}
@@ -48,12 +48,9 @@ use Rattle.fl_running.specs.Run.{Ways, TheRun}
 use Rattle.fl_running.specs.Deeds.{Deed, looked, passed, arrived, heard, said, told, opened, called, ruled, wrote, acked, turned, Does}
 use Rattle.fl_logs.specs.Logs.{InPlace, Goes, Carries}
 use Rattle.fl_logs.proofs.Aside.{core_aside}
-use Rattle.fl_logs.proofs.Bound.{circuits_of}
 use Rattle.fl_logs.proofs.Carrying.{five, acted_put, acted_took, of_end, log_put, log_took}
 use Rattle.fl_logs.proofs.CircuitEnds.{heard_come, said_come, wrote_come, heard_written, said_written, passed_written, none_written}
 use Rattle.fl_logs.proofs.CircuitLogs.{come_joins, written_joins, circuit_goes}
-use Rattle.fl_logs.proofs.Growing.{PortsGrow}
-use Rattle.fl_logs.proofs.Handling.{one_end}
 use Rattle.fl_logs.proofs.Laning.{link_at, event_steps}
 use Rattle.fl_logs.proofs.Leading.{as_many}
 use Rattle.fl_logs.proofs.Looking.{if_arrived, if_heard, if_said}

@@ -1,6 +1,6 @@
 -- What each event leaves of what an end is to put, and of what it took.
 use Rattle.std.proofs.Common.{◌≡◌, refl, sym, ap, ◌∙◌, subst, ℕ, zero, suc, ◌<◌, List, [], ◌∷◌, ◌++◌, length, map, take, drop, arith, rules}
-use Rattle.std.proofs.Common.{Bool, true, false, Option, Some, None, IsSome, Result, Ok, Err}
+use Rattle.std.proofs.Common.{true, Option, Some, None, IsSome, Result, Ok, Err}
 use Rattle.std.specs.List.{flat_map}
 use Rattle.std.specs.Option.{option_map}
 use Rattle.std.specs.Prelude.{slice_get}

@@ -8,24 +8,21 @@ use Rattle.fl_endpoint.specs.View.{TheEnd}
 use Rattle.fl_endpoint.specs.Laws.{OnAnotherCircuit}
 use Rattle.fl_core.specs.View.{TheSeat}
 use Rattle.fl_hop.specs.declared.entry.Way.TheVariants.{Link}
-use Rattle.fl_hop.specs.Later.{Later}
-use Rattle.fl_hop.specs.Stretch.{Step, taken_by, put_by, taken_from, put_on, goes_through}
-use Rattle.fl_hop.proofs.Laws.{later_same, stretch_join, stood_finish, carried_on}
-use Rattle.fl_hop.proofs.Lists.{at_within}
-use Rattle.fl_node.proofs.Ported.{placed_below}
+use Rattle.fl_hop.specs.Stretch.{Step, taken_by, put_by, taken_from, put_on}
+use Rattle.fl_hop.proofs.Laws.{stood_finish, carried_on}
 use Rattle.fl_node.specs.declared.wire.Port.{Port}
 use Rattle.fl_node.specs.declared.wire.Wire.TheVariants.{Queues, Ring}
-use Rattle.fl_node.specs.View.{TheCore, place_of, side_of_link}
+use Rattle.fl_node.specs.View.{place_of, side_of_link}
 use Rattle.fl_node.specs.Sound.{IsCore}
 use Rattle.fl_running.specs.declared.job.Job.{Job}
 use Rattle.fl_running.specs.Run.{Ways, TheRun}
-use Rattle.fl_running.specs.Deeds.{Deed, Does, Notes, Happens}
-use Rattle.fl_logs.specs.Logs.{InPlace, Goes}
+use Rattle.fl_running.specs.Deeds.{Deed}
+use Rattle.fl_logs.specs.Logs.{Goes}
 use Rattle.fl_logs.specs.Carried.{EndGoes, traffic}
-use Rattle.fl_logs.specs.Led.{IsLed, stretch}
+use Rattle.fl_logs.specs.Led.{stretch}
 use Rattle.fl_logs.specs.Flows.{EndCarries, IsApart, SideCarries, Flows}
 use Rattle.fl_logs.proofs.Seating.{sits_first}
-use Rattle.fl_logs.proofs.Carrying.{IsHere, acted_put, acted_took, of_end, does_go, log_put, log_took, log_goes}
+use Rattle.fl_logs.proofs.Carrying.{IsHere, acted_put, acted_took, of_end, log_put, log_took, log_goes}
 use Rattle.fl_logs.proofs.Bearing.{ring_put, log_ring_put, log_ring_took, log_bears}
 use Rattle.fl_logs.proofs.Laning.{event_steps, links_put, links_took}
 use Rattle.fl_logs.proofs.RingEnds.{rings_put, rings_took}
@@ -35,13 +32,12 @@ use Rattle.fl_logs.proofs.Apart.{side_after, stays_apart}
 use Rattle.fl_logs.proofs.Stepping.{grows, log_steps, end_stays}
 use Rattle.fl_logs.proofs.CircuitLogs.{circuit_goes, come_bare}
 use Rattle.fl_logs.proofs.CircuitsMade.{circuit_made}
-use Rattle.fl_logs.proofs.Aside.{core_aside}
 use Rattle.fl_logs.proofs.NumberedLogs.{log_led, log_went, by_number}
 
 module _ {S : Type 0} (w : Ways S) (jobs : List Job) where
   end_carries : (s t : TheRun S) (log : List Deed) (name : EndId) (e : ℕ) (seat : TheSeat) → IsCore s.core → (h : Goes w jobs s log t)
       → place_of s.core name ≡ Some e → slice_get s.core.board.seats e ≡ Some seat
-      → EndCarries name log (log_put w jobs name log s t h) (log_took w jobs name log s t h) seat.end t.core.board.seats e
+      → EndCarries name log (record { put = log_put w jobs name log s t h; took = log_took w jobs name log s t h }) seat.end t.core.board.seats e
   end_carries s t log name e seat core h at there =
       let here : IsHere name e seat.end s.core = record {
         has = record { seat = seat; seat_is = there; end_is = refl };
@@ -180,7 +176,7 @@ flows {S} w on jobs s t log core apart_is h = record {
   made = λ name e absent at. made_carries w jobs name log s t e h absent at;
 } where
   side : (n : ℕ) (p : S) (put took : List Frag) → slice_get s.rings n ≡ Some p → map bare (log_ring_put w jobs log s t h n) ≡ put → log_ring_took w jobs log s t h n ≡ took
-      → SideCarries w.puts w.takes put took p t.rings n
+      → SideCarries w.puts w.takes (record { put = put; took = took }) p t.rings n
   side n p put took there puts takes =
       let (q, after, c) = log_bears w jobs log s t h n p there in
       record {

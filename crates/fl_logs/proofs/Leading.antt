@@ -1,24 +1,20 @@
 -- A core whose table leads to its ends of circuits stays one.
-use Rattle.std.proofs.Common.{◌≡◌, ◌≢◌, refl, sym, ap, ◌∙◌, subst, ℕ, zero, suc, ◌+◌, ◌<◌, ◌==◌, ◌||◌, ◌⊎◌, inl, inr, if◌then◌else◌, List, [], ◌∷◌, ◌++◌, map, drop, length, slice_get, slice_set, slice_index_or}
-use Rattle.std.proofs.Common.{Option, Some, None, Bool, true, false, Result, Ok, Err, arith}
+use Rattle.std.proofs.Common.{◌≡◌, ◌≢◌, refl, sym, ap, ◌∙◌, subst, ℕ, zero, suc, ◌<◌, ◌==◌, ◌||◌, inl, inr, if◌then◌else◌, List, [], ◌∷◌, ◌++◌, map, drop, length, slice_get, slice_set}
+use Rattle.std.proofs.Common.{Option, Some, None, Bool, true, false, arith}
 use Rattle.std.specs.List.{list_any}
-use Rattle.std.proofs.lemmas.Bool.{ltb-true}
 use Rattle.std.proofs.lemmas.Bool.Decides.{nat_tests}
 use Rattle.std.proofs.lemmas.List.{length-map}
 use Rattle.fl_base.specs.declared.fragment.Frag.{Frag}
 use Rattle.fl_base.specs.declared.identity.EndId.{EndId}
 use Rattle.fl_base.specs.declared.identity.LinkId.{LinkId}
-use Rattle.fl_base.specs.declared.identity.Circuit.{Circuit as Number}
-use Rattle.fl_base.specs.declared.identity.Side.TheVariants.{Client, Server}
 use Rattle.fl_base.specs.Control.{circuit_of}
-use Rattle.fl_hop.specs.declared.entry.Way.TheVariants.{Link, End}
+use Rattle.fl_hop.specs.declared.entry.Way.TheVariants.{End}
 use Rattle.fl_hop.specs.declared.entry.Hop.{Hop}
 use Rattle.fl_hop.specs.Joined.{Sound}
 use Rattle.fl_hop.specs.Later.{way_at}
 use Rattle.fl_hop.specs.Table.{TheCircuits, is_of, stands, hop_at, slot}
-use Rattle.fl_core.proofs.Places.{one_stands, set_here, set_elsewhere, push_cases}
-use Rattle.fl_core.specs.View.{TheSeat, TheBoard}
-use Rattle.fl_core.specs.declared.kind.Kind.{Kind}
+use Rattle.fl_core.proofs.Places.{set_here, set_elsewhere, push_cases}
+use Rattle.fl_core.specs.View.{TheSeat}
 use Rattle.fl_monitor.specs.Outboxes.{IsFragOf}
 use Rattle.fl_monitor.specs.Routing.{given}
 use Rattle.fl_monitor.specs.Monitors.{waiting_for, AllSaid}
@@ -28,13 +24,12 @@ use Rattle.fl_monitor.specs.declared.heard.Heard.TheVariants.{OpeningWentOn, Ser
 use Rattle.fl_monitor.specs.declared.message.Message.{Message}
 use Rattle.fl_monitor.proofs.Single.{says_what_is_written, says_alone}
 use Rattle.fl_node.specs.View.{TheCore, place_of, arrivals_by}
-use Rattle.fl_node.specs.Sound.{IsCore, kinds_seated, kinds_wired}
+use Rattle.fl_node.specs.Sound.{IsCore}
 use Rattle.fl_node.specs.declared.wire.Port.{Port}
-use Rattle.fl_node.specs.declared.wire.Wire.{Wire}
 use Rattle.fl_node.specs.declared.wire.Wire.TheVariants.{Circuit}
 use Rattle.fl_logs.specs.Led.{IsSettled, IsLedTo, IsLed, LeadsAtFirst}
 use Rattle.fl_logs.proofs.Bound.{circuits_of}
-use Rattle.fl_logs.proofs.Tables.{GoesOn, NoneNew, OneNew, way_there, way_of, stands_there}
+use Rattle.fl_logs.proofs.Tables.{GoesOn, way_there, stands_there}
 
 -- ---- what is led to, by lists of ports and of circuits
 

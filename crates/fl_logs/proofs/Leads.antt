@@ -1,5 +1,5 @@
 -- What an event leaves of that a core's table leads to its ends of circuits.
-use Rattle.std.proofs.Common.{◌≡◌, refl, sym, ap, ◌∙◌, subst, ℕ, ◌<◌, ◌⊎◌, inl, inr, nat_lt, not, is_some, List, [], ◌∷◌, ◌++◌, length, slice_get, slice_set}
+use Rattle.std.proofs.Common.{◌≡◌, refl, sym, ap, ◌∙◌, subst, ℕ, ◌⊎◌, inl, inr, nat_lt, not, is_some, List, [], ◌∷◌, ◌++◌, length, slice_get, slice_set}
 use Rattle.std.proofs.Common.{Option, Some, None, Bool, true, false, if◌then◌else◌, Result, Ok, Err}
 use Rattle.fl_base.specs.declared.fragment.Frag.{Frag}
 use Rattle.fl_base.specs.declared.identity.EndId.{EndId}
@@ -14,25 +14,21 @@ use Rattle.fl_hop.specs.declared.fault.HopFault.{HopFault}
 use Rattle.fl_hop.specs.declared.fault.HopFault.TheVariants.{Astray, NoLink}
 use Rattle.fl_hop.specs.Joined.{Sound}
 use Rattle.fl_hop.specs.Later.{Later, way_at}
-use Rattle.fl_hop.specs.Numbers.{next_own}
-use Rattle.fl_hop.specs.Openings.{if_used_up, open_fault, opened as opened_table}
+use Rattle.fl_hop.specs.Openings.{open_fault}
 use Rattle.fl_hop.specs.Table.{TheCircuits, stands}
 use Rattle.fl_hop.proofs.Laws.{later_same}
-use Rattle.fl_endpoint.specs.View.{TheEnd, bound}
 use Rattle.fl_endpoint.specs.Events.{Calls, SetsRule}
-use Rattle.fl_core.specs.View.{TheBoard}
-use Rattle.fl_core.specs.declared.kind.Kind.{Kind}
 use Rattle.fl_core.specs.declared.kind.Kind.TheVariants.{Queue}
 use Rattle.fl_monitor.specs.Routing.{given}
 use Rattle.fl_monitor.specs.Hearing.{ComesTo, table_after}
-use Rattle.fl_monitor.specs.Monitors.{TheMonitor, can_say, waiting_for}
+use Rattle.fl_monitor.specs.Monitors.{TheMonitor, can_say}
 use Rattle.fl_monitor.specs.declared.heard.Heard.{Heard}
 use Rattle.fl_monitor.specs.declared.heard.Heard.TheVariants as outcome
 use Rattle.fl_monitor.specs.declared.message.Message.{Message}
 use Rattle.fl_node.specs.View.{TheCore, place_of, arrivals_of, arriving, arriving_at, client_of, server_of, circuit_port, with_monitor, with_failed}
 use Rattle.fl_node.specs.Sound.{IsCore}
 use Rattle.fl_node.specs.Links.{LooksAhead, ArrivesAt, MonitorWrites}
-use Rattle.fl_node.specs.Hearing.{Offers, known_for, offer_for, HearsFrag, HearsMessage, HearsAll, Follows, Binds, BindsIf, MakesServer}
+use Rattle.fl_node.specs.Hearing.{Offers, known_for, offer_for, HearsFrag, HearsMessage, HearsAll, Follows, BindsIf, MakesServer}
 use Rattle.fl_node.specs.Making.{Asked, Asks, Begins}
 use Rattle.fl_node.specs.declared.answer.Ahead.{Ahead}
 use Rattle.fl_node.specs.declared.answer.Ahead.TheVariants as ahead
@@ -58,7 +54,7 @@ use Rattle.fl_logs.specs.Led.{IsSettled, IsLedTo, IsLed}
 use Rattle.fl_logs.proofs.Bound.{circuits_of, calls_same, rules_same, writes_same, end_same, lists_same, turn_same, triggers_same, added, binds}
 use Rattle.fl_logs.proofs.Carrying.{five, not_there}
 use Rattle.fl_logs.proofs.Leading.{EndsLed, ends_led, map_there, ends_on, ends_more, ends_bound, OnZero, zero_more, zero_heard, zero_less, none_leads, as_many, absent_port}
-use Rattle.fl_logs.proofs.Tables.{GoesOn, NoneNew, OneNew, way_of, opened_goes}
+use Rattle.fl_logs.proofs.Tables.{GoesOn, OneNew, way_of, opened_goes}
 use Rattle.fl_logs.proofs.TablesHeard.{new_by, heard_goes, opened_settles, server_made}
 
 -- its table became a later one, and what leads then to an end that was there led there before

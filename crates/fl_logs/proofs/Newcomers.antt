@@ -48,7 +48,7 @@ use Rattle.fl_running.specs.Run.{Ways, TheRun}
 use Rattle.fl_running.specs.Deeds.{Deed, looked, passed, arrived, heard, said, told, opened, called, ruled, wrote, acked, turned, Does}
 use Rattle.fl_logs.specs.Logs.{InPlace, Goes, handled_in, handled_at}
 use Rattle.fl_logs.specs.Carried.{EndGoes, rules_in, rules_at, sent_in, sent_at, calls_handled, traffic}
-use Rattle.fl_logs.specs.Flows.{IsNew, EndCarries, MadeCarries}
+use Rattle.fl_logs.specs.Flows.{IsNew, Passed, EndCarries, MadeCarries}
 use Rattle.fl_logs.proofs.Aside.{core_aside}
 use Rattle.fl_logs.proofs.Handling.{one_end}
 use Rattle.fl_logs.proofs.Seating.{HasEnd, lists_same, Sits}
@@ -276,9 +276,13 @@ module _ {S : Type 0} (w : Ways S) (jobs : List Job) (name : EndId) where
 
   -- ---- a log
 
+  -- what the end put and took in it
+  abbrev pub passed_in : (log : List Deed) (s t : TheRun S) → Goes w jobs s log t → Passed
+  passed_in log s t h = record { put = log_put w jobs name log s t h; took = log_took w jobs name log s t h }
+
   -- an event at which nothing was added to the end comes before
-  later : (deed : Deed) (log : List Deed) (put took put0 took0 : List Frag) (t : TheRun S) (e : ℕ) (x : TheEnd) → Adds0 x.rules deed put0 took0 → EndCarries name log put took x t.core.board.seats e
-      → EndCarries name (deed ∷ log) (of_end name deed put0 ++ put) (of_end name deed took0 ++ took) x t.core.board.seats e
+  later : (deed : Deed) (log : List Deed) (put took put0 took0 : List Frag) (t : TheRun S) (e : ℕ) (x : TheEnd) → Adds0 x.rules deed put0 took0 → EndCarries name log (record { put = put; took = took }) x t.core.board.seats e
+      → EndCarries name (deed ∷ log) (record { put = of_end name deed put0 ++ put; took = of_end name deed took0 ++ took }) x t.core.board.seats e
   later deed log put took put0 took0 t e x none h =
       let sent : sent_at name x.rules log ≡ sent_at name x.rules (deed ∷ log) =
       sym (ap (λ (cs : List TheCall). cs ++ sent_at name (rules_in name x.rules deed) log) none.sent ∙ ap (λ (rs : List (Option ℕ)). sent_at name rs log) none.rules_same) in
@@ -296,7 +300,7 @@ module _ {S : Type 0} (w : Ways S) (jobs : List Job) (name : EndId) where
       }
 
   from_made : (log : List Deed) (s t : TheRun S) (e : ℕ) → (h : Goes w jobs s log t) → (a : MadeAt name s.core) → place_of t.core name ≡ Some e
-      → EndCarries name log (log_put w jobs name log s t h) (log_took w jobs name log s t h) a.end t.core.board.seats e
+      → EndCarries name log (passed_in log s t h) a.end t.core.board.seats e
   from_made log s t e h a at =
       let after = log_goes w jobs name a.place log s t a.end a.here h in
       let found : Some a.place ≡ Some e = sym after.sits.here ∙ at in
@@ -309,15 +313,15 @@ module _ {S : Type 0} (w : Ways S) (jobs : List Job) (name : EndId) where
       }
 
   pub made_carries : (log : List Deed) (s t : TheRun S) (e : ℕ) → (h : Goes w jobs s log t) → Absent name s.core → place_of t.core name ≡ Some e
-      → MadeCarries name log (log_put w jobs name log s t h) (log_took w jobs name log s t h) t.core.board.seats e
+      → MadeCarries name log (passed_in log s t h) t.core.board.seats e
   made_carries [] s t e h absent at = absurd (let no : Some e ≡ None = sym at ∙ ap (λ (x : TheRun S). place_of x.core name) h ∙ absent in cc)
   made_carries (deed ∷ log) s t e h absent at = by (does_come deed s h.1.0 h.1.3.core absent h.2 h.1.1) (λ still. made_carries log h.0 t e h.3 still at) where
     same : h.0.core ≡ h.1.0.core
     same = core_aside h.1.0 h.0 deed h.1.2
 
     by : Absent name h.1.0.core ⊎ MadeAt name h.1.0.core
-        → (Absent name h.0.core → MadeCarries name log (log_put w jobs name log h.0 t h.3) (log_took w jobs name log h.0 t h.3) t.core.board.seats e)
-        → MadeCarries name (deed ∷ log) (log_put w jobs name (deed ∷ log) s t h) (log_took w jobs name (deed ∷ log) s t h) t.core.board.seats e
+        → (Absent name h.0.core → MadeCarries name log (passed_in log h.0 t h.3) t.core.board.seats e)
+        → MadeCarries name (deed ∷ log) (passed_in (deed ∷ log) s t h) t.core.board.seats e
     by (inl still) onward =
         let more = onward (ap (λ (k : TheCore). place_of k name) same ∙ still) in
         record {

@@ -1,6 +1,6 @@
 -- A log, as the core's table leads; and under which number an end of a circuit takes part in it.
-use Rattle.std.proofs.Common.{◌≡◌, refl, sym, ap, ◌∙◌, subst, ℕ, ◌⊎◌, inl, inr, List, [], ◌∷◌, ◌++◌, slice_get}
-use Rattle.std.proofs.Common.{Option, Some, None, Bool, true, false, Result, Ok, Err}
+use Rattle.std.proofs.Common.{◌≡◌, refl, sym, ap, ◌∙◌, subst, ℕ, ◌⊎◌, inl, inr, List, [], ◌∷◌, slice_get}
+use Rattle.std.proofs.Common.{Option, Some, None, true, false, Ok, Err}
 use Rattle.fl_base.specs.declared.fragment.Frag.{Frag}
 use Rattle.fl_base.specs.declared.identity.EndId.{EndId}
 use Rattle.fl_base.specs.declared.identity.LinkId.{LinkId}
@@ -30,12 +30,12 @@ use Rattle.fl_logs.specs.Led.{IsLed, stretch}
 use Rattle.fl_logs.proofs.Aside.{core_aside}
 use Rattle.fl_logs.proofs.Carrying.{write_put}
 use Rattle.fl_logs.proofs.CircuitsMade.{MadeOn, does_make, places_to, ports_to}
-use Rattle.fl_logs.proofs.Laning.{link_at, step_of, steps_of, steps_by, event_steps}
-use Rattle.fl_logs.proofs.Leads.{one_name, does_led, does_later}
-use Rattle.fl_logs.proofs.Looking.{if_arrived, if_heard, if_said}
+use Rattle.fl_logs.proofs.Laning.{link_at, steps_of, steps_by, event_steps}
+use Rattle.fl_logs.proofs.Leads.{does_led, does_later}
+use Rattle.fl_logs.proofs.Looking.{if_heard, if_said}
 use Rattle.fl_logs.proofs.Newcomers.{Absent, not_it}
 use Rattle.fl_logs.proofs.OwnNumbers.{only, only_joins}
-use Rattle.fl_logs.proofs.Stepping.{grows, log_steps, end_stays}
+use Rattle.fl_logs.proofs.Stepping.{grows, log_steps}
 use Rattle.fl_logs.proofs.Tables.{way_there, way_of, leads_at, given_at}
 use Rattle.fl_logs.proofs.Wending.{event_went}
 

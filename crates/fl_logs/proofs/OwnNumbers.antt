@@ -1,24 +1,20 @@
 -- What leads to an end at last led there all the while: so what came to it came under one number, and what it wrote went out under that.
-use Rattle.std.proofs.Common.{◌≡◌, refl, sym, ap, ◌∙◌, subst, ℕ, ◌⊎◌, inl, inr, List, [], ◌∷◌, ◌++◌, slice_get}
-use Rattle.std.proofs.Common.{Option, Some, None, option_map, Bool, true, false, Result, Ok, Err}
-use Rattle.fl_base.specs.declared.fragment.Frag.{Frag}
+use Rattle.std.proofs.Common.{◌≡◌, sym, ap, ◌∙◌, subst, ℕ, inl, inr, List, [], ◌∷◌, ◌++◌}
+use Rattle.std.proofs.Common.{Some, None, option_map}
 use Rattle.fl_base.specs.declared.identity.EndId.{EndId}
 use Rattle.fl_base.specs.declared.identity.LinkId.{LinkId}
 use Rattle.fl_base.specs.declared.identity.Circuit.{Circuit as Number}
 use Rattle.fl_base.specs.Control.{circuit_of}
-use Rattle.fl_hop.specs.declared.entry.Way.{Way}
 use Rattle.fl_hop.specs.declared.entry.Way.TheVariants.{Link, End}
 use Rattle.fl_hop.specs.declared.entry.Hop.{Hop}
-use Rattle.fl_hop.specs.declared.forward.Outcome.TheVariants.{Moved, Full, Spent}
 use Rattle.fl_hop.specs.Joined.{Sound, Leads}
 use Rattle.fl_hop.specs.Later.{Later, way_at}
 use Rattle.fl_hop.specs.Numbers.{Given}
-use Rattle.fl_hop.specs.OfCircuit.{of_circuit}
-use Rattle.fl_hop.specs.Stretch.{Step, Deed as HopDeed, passed as hop_passed, wrote as hop_wrote, said as hop_said, heard as hop_heard, AsLed, goes_through, same_end, OnlyFrom, OnlyOnto}
+use Rattle.fl_hop.specs.Stretch.{Step, AsLed, goes_through, OnlyFrom, OnlyOnto}
 use Rattle.fl_hop.specs.Table.{TheCircuits, hop_at}
 use Rattle.fl_hop.proofs.Laws.{stretch_later}
 use Rattle.fl_logs.proofs.Leading.{end_binding}
-use Rattle.fl_logs.proofs.Tables.{ways_alike, way_there, leads_at, given_at}
+use Rattle.fl_logs.proofs.Tables.{ways_alike, way_there, leads_at}
 
 -- ---- a table and those after it
 

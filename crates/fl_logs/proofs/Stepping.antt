@@ -1,7 +1,6 @@
 -- The steps over a core's links of a log; and what stays of a core.
 use Rattle.std.proofs.Common.{◌≡◌, refl, sym, ap, ◌∙◌, subst, ℕ, List, [], ◌∷◌, ◌++◌, Some}
 use Rattle.fl_base.specs.declared.identity.EndId.{EndId}
-use Rattle.fl_core.specs.View.{TheSeat}
 use Rattle.fl_hop.specs.Stretch.{Step}
 use Rattle.fl_hop.proofs.Lists.{at_within}
 use Rattle.fl_node.proofs.Ported.{placed_below}

@@ -1,5 +1,5 @@
 -- What openings, answers and refusals make of a core's table: it is a later one, and what is settled stays so.
-use Rattle.std.proofs.Common.{◌≡◌, refl, sym, ◌∙◌, ap, subst, ℕ, zero, suc, ◌+◌, ◌<◌, ◌≤◌, nat_lt, Bool, true, false, cond, ◌⊎◌, inl, inr}
+use Rattle.std.proofs.Common.{◌≡◌, refl, sym, ◌∙◌, ap, subst, ℕ, zero, suc, ◌+◌, ◌≤◌, nat_lt, Bool, true, false, cond, ◌⊎◌, inl, inr}
 use Rattle.std.proofs.Common.{List, [], ◌∷◌, slice_get, slice_set, slice_index_or, Option, Some, None, option_map, arith}
 use Rattle.std.proofs.lemmas.Bool.{cases_eq}
 use Rattle.fl_base.specs.declared.identity.EndId.{EndId}
@@ -12,7 +12,7 @@ use Rattle.fl_hop.specs.declared.entry.Way.TheVariants.{Link, End}
 use Rattle.fl_hop.specs.declared.entry.Hop.{Hop}
 use Rattle.fl_hop.specs.Joined.{Sound, Leads}
 use Rattle.fl_hop.specs.Later.{Later, way_at, entry_at, unanswered}
-use Rattle.fl_hop.specs.Numbers.{Given, IsOpened, IsTaken, OpenedHere, OpenedThere, number, with_opening, with_taking, changed, count_opening, count_taking, after_opening, after_taking, next_own, next_due}
+use Rattle.fl_hop.specs.Numbers.{Given, IsTaken, OpenedThere, with_opening, with_taking, changed, count_opening, count_taking, after_opening, after_taking, next_own, next_due}
 use Rattle.fl_hop.specs.Openings.{IsWaiting, opened, passed_on, arrive_fault, arrived, answered}
 use Rattle.fl_hop.specs.Table.{TheCircuits, slot, hop_at, put_at, with_hops, with_links, with_entry, without_entry, leading}
 use Rattle.fl_hop.proofs.Answering.{numbers_apart}

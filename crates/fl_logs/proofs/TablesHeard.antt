@@ -1,5 +1,5 @@
 -- What a monitors' message makes of a core's table.
-use Rattle.std.proofs.Common.{◌≡◌, refl, sym, ap, ◌∙◌, subst, ℕ, ◌==◌, ◌&&◌, nat_lt, not, if◌then◌else◌, ◌⊎◌, inl, inr, Bool, true, false, Option, Some, None}
+use Rattle.std.proofs.Common.{◌≡◌, refl, sym, ap, ◌∙◌, subst, ℕ, ◌==◌, ◌&&◌, nat_lt, not, if◌then◌else◌, inl, inr, Bool, true, false, Option, Some, None}
 use Rattle.fl_base.specs.declared.identity.EndId.{EndId}
 use Rattle.fl_base.specs.declared.identity.LinkId.{LinkId}
 use Rattle.fl_base.specs.declared.identity.CoreId.{CoreId}
@@ -11,7 +11,7 @@ use Rattle.fl_hop.specs.declared.fault.HopFault.{HopFault}
 use Rattle.fl_hop.specs.declared.fault.HopFault.TheVariants.{Astray}
 use Rattle.fl_hop.specs.Joined.{Sound}
 use Rattle.fl_hop.specs.Numbers.{next_own, next_due}
-use Rattle.fl_hop.specs.Openings.{is_next, arrive_fault, answered}
+use Rattle.fl_hop.specs.Openings.{is_next, answered}
 use Rattle.fl_hop.specs.Table.{TheCircuits, hop_at, link_of, stands, without_entry}
 use Rattle.fl_hop.proofs.Laters.{next_test}
 use Rattle.fl_nameserv.specs.Registrations.{TheRegistration, by_iref}
@@ -27,7 +27,7 @@ use Rattle.fl_node.specs.View.{server_of}
 use Rattle.fl_node.specs.Inside.{server_in}
 use Rattle.fl_node.proofs.Offers.{made_for}
 use Rattle.fl_logs.specs.Led.{IsSettled}
-use Rattle.fl_logs.proofs.Tables.{GoesOn, NoneNew, OneNew, opened_goes, arrived_goes, passed_goes, taken_goes, answered_goes, answered_settles, refused_goes, arrived_settles}
+use Rattle.fl_logs.proofs.Tables.{GoesOn, NoneNew, OneNew, arrived_goes, passed_goes, taken_goes, answered_goes, answered_settles, refused_goes, arrived_settles}
 
 -- which end is new to the table, and on which link
 abbrev pub new_by : LinkId → Heard → ℕ → EndId → Type 0

@@ -1,6 +1,6 @@
 -- What goes over a core's links by one event goes as its table leads.
-use Rattle.std.proofs.Common.{◌≡◌, refl, sym, ap, ◌∙◌, subst, ℕ, zero, suc, ◌+◌, ◌-◌, ◌*◌, ◌^◌, ◌<◌, ◌≤◌, ◌==◌, List, [], ◌∷◌, map, take, drop, length, slice_get}
-use Rattle.std.proofs.Common.{Option, Some, None, IsSome, Bool, true, false, Result, Ok, Err, arith, rules}
+use Rattle.std.proofs.Common.{◌≡◌, refl, sym, ap, ◌∙◌, ℕ, zero, suc, ◌+◌, ◌-◌, ◌*◌, ◌^◌, ◌<◌, List, [], ◌∷◌, map, drop, slice_get}
+use Rattle.std.proofs.Common.{Option, Some, None, IsSome, Result, Ok, Err, arith, rules}
 use Rattle.fl_base.specs.declared.fragment.Frag.{Frag}
 use Rattle.fl_base.specs.declared.identity.EndId.{EndId}
 use Rattle.fl_base.specs.declared.identity.LinkId.{LinkId}
@@ -9,7 +9,7 @@ use Rattle.fl_value.specs.Value.{TheCall}
 use Rattle.fl_compile.specs.Programs.{program_of}
 use Rattle.fl_link.specs.Looks.{Look}
 use Rattle.fl_link.specs.Queue.{QueuePuts}
-use Rattle.fl_hop.specs.declared.entry.Way.TheVariants.{Link, End}
+use Rattle.fl_hop.specs.declared.entry.Way.TheVariants.{End}
 use Rattle.fl_hop.specs.declared.forward.Outcome.{Outcome}
 use Rattle.fl_hop.specs.declared.forward.Outcome.TheVariants.{Moved, Full, Spent}
 use Rattle.fl_hop.specs.Joined.{Sound}
@@ -43,8 +43,8 @@ use Rattle.fl_running.specs.declared.job.Job.{Job}
 use Rattle.fl_running.specs.Run.{Ways, TheRun}
 use Rattle.fl_running.specs.Deeds.{Deed, looked, passed, arrived, heard, said, told, opened, called, ruled, wrote, acked, turned, Does, ActsSoundly}
 use Rattle.fl_logs.specs.Logs.{InPlace}
-use Rattle.fl_logs.specs.Led.{IsSettled, IsLed}
-use Rattle.fl_logs.proofs.Laning.{some_is, link_by, link_at, step_of, steps_of, steps_by, event_steps}
+use Rattle.fl_logs.specs.Led.{IsLed}
+use Rattle.fl_logs.proofs.Laning.{some_is, link_by, link_at, steps_of, steps_by, event_steps}
 use Rattle.fl_logs.proofs.Leading.{map_there}
 use Rattle.fl_logs.proofs.Leads.{one_name, does_later}
 use Rattle.fl_logs.proofs.Looking.{if_arrived, if_heard, if_said, if_wrote}

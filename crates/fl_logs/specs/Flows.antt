@@ -24,13 +24,18 @@ use Rattle.fl_logs.specs.Logs.{Goes}
 use Rattle.fl_logs.specs.Carried.{EndGoes, traffic, rules_at}
 use Rattle.fl_logs.specs.Led.{IsLed, stretch}
 
+-- the fragments that were put, and those that were taken
+pub record Passed : Type 0 where
+  pub put : List Frag
+  pub took : List Frag
+
 -- ---- ends
 
 -- the end x of this name, at place e, went on by a log, in which it put and took these fragments
-pub record EndCarries (name : EndId) (log : List Deed) (put took : List Frag) (x : TheEnd) (seats : List TheSeat) (e : ℕ) : Type 0 where
+pub record EndCarries (name : EndId) (log : List Deed) (passed : Passed) (x : TheEnd) (seats : List TheSeat) (e : ℕ) : Type 0 where
   pub after : TheSeat
   pub after_is : slice_get seats e ≡ Some after
-  pub goes : EndGoes (traffic name x.rules log put took) x after.end
+  pub goes : EndGoes (traffic name x.rules log passed.put passed.took) x after.end
   pub rules : after.end.rules ≡ rules_at name x.rules log
 
 -- a new end: nothing to send, no part of a call, and no reply rules
@@ -40,10 +45,10 @@ pub record IsNew (x : TheEnd) : Type 0 where
   pub rules : x.rules ≡ no_rules x.program
 
 -- the end of this name, which was made at some moment, has gone on since then
-pub record MadeCarries (name : EndId) (log : List Deed) (put took : List Frag) (seats : List TheSeat) (e : ℕ) : Type 0 where
+pub record MadeCarries (name : EndId) (log : List Deed) (passed : Passed) (seats : List TheSeat) (e : ℕ) : Type 0 where
   pub began : TheEnd
   pub new : IsNew began
-  pub carries : EndCarries name log put took began seats e
+  pub carries : EndCarries name log passed began seats e
 
 -- ---- sides
 
@@ -59,19 +64,19 @@ pub record IsApart (k : TheCore) : Type 0 where
 
 -- side n, or queue n, stands there afterwards, and over looks, puts and takes it placed these fragments, with their epochs and counts set aside, and took
 -- these
-pub record SideCarries {S : Type 0} (puts takes : S → Look → S → Type 0) (put took : List Frag) (p : S) (sides : List S) (n : ℕ) : Type 0 where
+pub record SideCarries {S : Type 0} (puts takes : S → Look → S → Type 0) (passed : Passed) (p : S) (sides : List S) (n : ℕ) : Type 0 where
   pub after : S
   pub after_is : slice_get sides n ≡ Some after
   pub looks : List Look
   pub led : Looks (LinkStep puts takes) p looks after
-  pub put_is : map bare (puts_of looks) ≡ put
-  pub took_is : takes_of looks ≡ took
+  pub put_is : map bare (puts_of looks) ≡ passed.put
+  pub took_is : takes_of looks ≡ passed.took
 
 -- of an end of a circuit, which put and took these fragments: its arrival queue was given what came to the end over the core's links, and gave what the end
 -- took; and what the end put went onto its link
-pub record CircuitCarries (name : EndId) (steps : List Step) (put took : List Frag) (p : TheQueue) (queues : List TheQueue) (a : ℕ) : Type 0 where
-  pub arrivals : SideCarries QueuePuts QueueTakes (come_to name steps) took p queues a
-  pub written : written_by name steps ≡ map as_carried put
+pub record CircuitCarries (name : EndId) (steps : List Step) (passed : Passed) (p : TheQueue) (queues : List TheQueue) (a : ℕ) : Type 0 where
+  pub arrivals : SideCarries QueuePuts QueueTakes (record { put = come_to name steps; took = passed.took }) p queues a
+  pub written : written_by name steps ≡ map as_carried passed.put
 
 pub record Flows {S : Type 0} (w : Ways S) (s t : TheRun S) (log : List Deed) : Type 0 where
   -- what went over the core's links, fragment by fragment
@@ -87,32 +92,33 @@ pub record Flows {S : Type 0} (w : Ways S) (s t : TheRun S) (log : List Deed) : 
   pub took : EndId → List Frag
   -- each link's side placed what was put on the link, and took what was taken from it
   pub links : (l n : ℕ) (p : S) → side_of_link s.core.lanes l ≡ Some n → slice_get s.rings n ≡ Some p
-      → SideCarries w.puts w.takes (put_on l steps) (taken_from l steps) p t.rings n
+      → SideCarries w.puts w.takes (record { put = put_on l steps; took = taken_from l steps }) p t.rings n
   -- each ring's side placed what its end put, and took what that took
   pub rings : (name : EndId) (e n : ℕ) (port : Port) (p : S) → place_of s.core name ≡ Some e → slice_get s.core.ports e ≡ Some port → port.wire ≡ Ring n
-      → slice_get s.rings n ≡ Some p → SideCarries w.puts w.takes (map bare (put name)) (took name) p t.rings n
+      → slice_get s.rings n ≡ Some p → SideCarries w.puts w.takes (record { put = map bare (put name); took = took name }) p t.rings n
   -- and a local queue was given what one end put, and gave what another took
   pub queues : (name other : EndId) (d e n a b : ℕ) (x y : Port) (p : TheQueue) → place_of s.core name ≡ Some d → slice_get s.core.ports d ≡ Some x
       → x.wire ≡ Queues n a
       → place_of s.core other ≡ Some e → slice_get s.core.ports e ≡ Some y → y.wire ≡ Queues b n
-      → slice_get s.queues n ≡ Some p → SideCarries QueuePuts QueueTakes (map bare (put name)) (took other) p t.queues n
+      → slice_get s.queues n ≡ Some p → SideCarries QueuePuts QueueTakes (record { put = map bare (put name); took = took other }) p t.queues n
   -- and each end of a circuit took, in order, what came to it over the links, and put what went onto its own
   pub circuits : (name : EndId) (e a : ℕ) (l : LinkId) (port : Port) (p : TheQueue) → place_of s.core name ≡ Some e
       → slice_get s.core.ports e ≡ Some port → port.wire ≡ Circuit l a → slice_get s.core.arrivals a ≡ Some p
-      → CircuitCarries name steps (put name) (took name) p t.core.arrivals a
+      → CircuitCarries name steps (record { put = put name; took = took name }) p t.core.arrivals a
   -- also one that was made meanwhile, from an empty arrival queue
   pub circuits_made : (name : EndId) (e a : ℕ) (l : LinkId) (port : Port) → place_of s.core name ≡ None → place_of t.core name ≡ Some e
-      → slice_get t.core.ports e ≡ Some port → port.wire ≡ Circuit l a → CircuitCarries name steps (put name) (took name) new_arrivals t.core.arrivals a
+      → slice_get t.core.ports e ≡ Some port → port.wire ≡ Circuit l a
+      → CircuitCarries name steps (record { put = put name; took = took name }) new_arrivals t.core.arrivals a
   -- what came to an end that is bound at last is what came in by its number, in order, and what went out under that is what it wrote
   pub numbers : IsLed s.core → IsTable t.core.monitor.circuits → (name : EndId) (e a c : ℕ) (l : LinkId) (port : Port) (seat : TheSeat)
       → place_of t.core name ≡ Some e → slice_get t.core.ports e ≡ Some port → port.wire ≡ Circuit l a → slice_get t.core.board.seats e ≡ Some seat
       → seat.end.circuit ≡ Some c → (come_to name steps ≡ of_circuit c (taken_from l.0 steps)) × (of_circuit c (put_on l.0 steps) ≡ written_by name steps)
   -- so each end that was there went on
   pub ends : (name : EndId) (e : ℕ) (seat : TheSeat) → place_of s.core name ≡ Some e → slice_get s.core.board.seats e ≡ Some seat
-      → EndCarries name log (put name) (took name) seat.end t.core.board.seats e
+      → EndCarries name log (record { put = put name; took = took name }) seat.end t.core.board.seats e
   -- and each that was made meanwhile
   pub made : (name : EndId) (e : ℕ) → place_of s.core name ≡ None → place_of t.core name ≡ Some e
-      → MadeCarries name log (put name) (took name) t.core.board.seats e
+      → MadeCarries name log (record { put = put name; took = took name }) t.core.board.seats e
 
 -- of a core whose sides are apart, whatever happens there
 abbrev pub LogsFlow : {S : Type 0} → Ways S → Type 0
