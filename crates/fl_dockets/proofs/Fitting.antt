@@ -24,7 +24,7 @@ use Rattle.fl_dockets.specs.Dockets.{TheDocket, docket_at}
 use Rattle.fl_dockets.specs.Faults.{planned_of, rule_fault_by, rule_fault_at}
 use Rattle.fl_dockets.specs.Fitting.{IsOffered, AreAlike, RuleFits, JobFits, JobsFit, NewFit}
 use Rattle.fl_dockets.specs.State.{TheJoined, with_binding, with_owner, with_job, CallPlanned, RulePlanned, DuesUpTo}
-use Rattle.fl_dockets.specs.Whole.{is_set_up, Joins}
+use Rattle.fl_dockets.specs.Whole.{is_set_up, so_far, Joins}
 use Rattle.fl_dockets.proofs.Growing.{got, kept, last}
 use Rattle.fl_dockets.proofs.Openings.{within}
 use Rattle.fl_dockets.proofs.Routed.{left_true, right_true}
@@ -161,7 +161,7 @@ rule_grows false j j1 j2 e message reply jobs bindings is =
     (ap (λ (t : TheJoined). t.jobs) is ∙ ap (λ (xs : List CoreJob). xs ++ core.Reply e message reply ∷ []) jobs)
     (ap (λ (t : TheJoined). t.bindings) is ∙ bindings ∙ append_none j.bindings)
 
-pub grows : (set_up : List Binding) (one : Job) (j : TheJoined) (ks : List TheCore) (j2 : TheJoined) (ks2 : List TheCore) → Joins set_up one j ks j2 ks2 → Grows j j2
+pub grows : (set_up : List Binding) (one : Job) (j : TheJoined) (ks : List TheCore) (j2 : TheJoined) (ks2 : List TheCore) → Joins set_up one (so_far j ks) (so_far j2 ks2) → Grows j j2
 grows set_up (opens w) j ks j2 ks2 (o, same) =
     one_grows j j2 (core.Open o.wish) (o.bound ∷ []) (ap (λ (t : TheJoined). t.jobs) o.rest) (ap (λ (t : TheJoined). t.bindings) o.rest)
 grows set_up (replies e msg answer) j ks j2 ks2 r =
@@ -204,7 +204,7 @@ module _ (names : List TheRegistration) (programs : List Program) where
 
   -- a turn of the loop over jobs
   pub fits_turn : (names2 : List TheRegistration) (programs2 : List Program) (set_up : List Binding) (one : Job) (j : TheJoined) (ks : List TheCore) (j2 : TheJoined)
-      (ks2 : List TheCore) → names2 ≡ names → programs2 ≡ programs → Joins set_up one j ks j2 ks2 → NewFit names2 programs2 j j2 → JobsFit names programs j
+      (ks2 : List TheCore) → names2 ≡ names → programs2 ≡ programs → Joins set_up one (so_far j ks) (so_far j2 ks2) → NewFit names2 programs2 j j2 → JobsFit names programs j
       → JobsFit names programs j2
   fits_turn names2 programs2 set_up one j ks j2 ks2 same same2 joins new fit =
       let mine : NewFit names programs j j2 =

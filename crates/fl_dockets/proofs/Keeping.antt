@@ -15,7 +15,7 @@ use Rattle.fl_dockets.specs.declared.docket.Bound.{Bound}
 use Rattle.fl_dockets.specs.Dockets.{docket_at, places_of, rule_at, rule_by, OpensFirst}
 use Rattle.fl_dockets.specs.Kept.{has_core_rules, RulesFrom, AreOpened, AreKept}
 use Rattle.fl_dockets.specs.State.{TheJoined, nothing_joined, ArePlaced, AreJoined, DuesUpTo}
-use Rattle.fl_dockets.specs.Whole.{bound_of, SetUp, Joins, AreBound}
+use Rattle.fl_dockets.specs.Whole.{bound_of, SetUp, so_far, Joins, AreBound}
 use Rattle.fl_dockets.proofs.Sources.{all_at, none_from, lead_none, lead_from, by_from, sources_more, none_yet}
 use Rattle.fl_dockets.proofs.Openings.{binding_more, openings_more, none_opened}
 
@@ -31,7 +31,7 @@ kept_set_up set_up cores x j j2 s p k =
     (record { rules = λ e. k.rules e; opened = binding_more j.jobs j.bindings (bound_of x) p.there k.opened refl })
 
 kept_more : (cores : ℕ) (asked : List Job) (set_up : List Binding) (one : Job) (j : TheJoined) (ks : List TheCore) (j2 : TheJoined) (ks2 : List TheCore)
-    → Joins set_up one j ks j2 ks2 → ArePlaced cores asked j → AreKept set_up asked j → AreKept set_up (asked ++ one ∷ []) j2
+    → Joins set_up one (so_far j ks) (so_far j2 ks2) → ArePlaced cores asked j → AreKept set_up asked j → AreKept set_up (asked ++ one ∷ []) j2
 kept_more cores asked set_up one j ks j2 ks2 joins p k = record {
   rules = sources_more asked set_up one j ks j2 ks2 joins k.rules;
   opened = openings_more set_up one j ks j2 ks2 joins p.there k.opened;
@@ -39,10 +39,10 @@ kept_more cores asked set_up one j ks j2 ks2 joins p k = record {
 
 -- a turn of the loop over jobs
 pub kept_turn : (cores : ℕ) (done : List RustJob) (x : RustJob) (set_up set_up2 : List Binding) (j : TheJoined) (ks : List TheCore) (j2 : TheJoined) (ks2 : List TheCore)
-    → set_up2 ≡ set_up → Joins set_up2 (job_of x) j ks j2 ks2 → ArePlaced cores (map job_of done) j → AreKept set_up (map job_of done) j
+    → set_up2 ≡ set_up → Joins set_up2 (job_of x) (so_far j ks) (so_far j2 ks2) → ArePlaced cores (map job_of done) j → AreKept set_up (map job_of done) j
     → AreKept set_up (map job_of (done ++ x ∷ [])) j2
 kept_turn cores done x set_up set_up2 j ks j2 ks2 same joins p k =
-    let joins2 : Joins set_up (job_of x) j ks j2 ks2 = subst (λ (bs : List Binding). Joins bs (job_of x) j ks j2 ks2) same joins in
+    let joins2 : Joins set_up (job_of x) (so_far j ks) (so_far j2 ks2) = subst (λ (bs : List Binding). Joins bs (job_of x) (so_far j ks) (so_far j2 ks2)) same joins in
     subst (λ (asked : List Job). AreKept set_up asked j2) (sym (map-append job_of done (x ∷ [])))
     (kept_more cores (map job_of done) set_up (job_of x) j ks j2 ks2 joins2 p k)
 

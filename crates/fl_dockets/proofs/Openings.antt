@@ -15,7 +15,7 @@ use Rattle.fl_dockets.specs.declared.docket.Bound.{Bound}
 use Rattle.fl_dockets.specs.Dockets.{end_of, places_of, OpensFirst, OpensNever}
 use Rattle.fl_dockets.specs.Kept.{AreOpened}
 use Rattle.fl_dockets.specs.State.{TheJoined, with_job}
-use Rattle.fl_dockets.specs.Whole.{is_set_up, Joins}
+use Rattle.fl_dockets.specs.Whole.{is_set_up, so_far, Joins}
 use Rattle.fl_dockets.proofs.Growing.{got, kept, last, places_more}
 use Rattle.fl_dockets.proofs.OneMore.{none_some}
 
@@ -138,7 +138,7 @@ ruled_opened : (b : Bool) (e : EndId) (message reply : MsgNo) (j : TheJoined) �
 ruled_opened true e message reply j k = k
 ruled_opened false e message reply j k = job_more j.jobs j.bindings (core.Reply e message reply) (λ w same. absurd (cc)) k
 
-pub openings_more : (set_up : List Binding) (one : Job) (j : TheJoined) (ks : List TheCore) (j2 : TheJoined) (ks2 : List TheCore) → Joins set_up one j ks j2 ks2
+pub openings_more : (set_up : List Binding) (one : Job) (j : TheJoined) (ks : List TheCore) (j2 : TheJoined) (ks2 : List TheCore) → Joins set_up one (so_far j ks) (so_far j2 ks2)
     → ((m : ℕ) (x : CoreJob) → slice_get j.jobs m ≡ Some x → (end_of x).binding < length j.bindings)
     → AreOpened j.jobs j.bindings → AreOpened j2.jobs j2.bindings
 openings_more set_up (opens w) j ks j2 ks2 (o, same) there k =

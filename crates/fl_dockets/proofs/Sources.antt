@@ -17,7 +17,7 @@ use Rattle.fl_jobs.specs.Jobs.{Job, opens, replies, calls, rule_in, rule_for, is
 use Rattle.fl_dockets.specs.Dockets.{end_of, places_of, calls_at, core_calls, rule_behind, rule_by}
 use Rattle.fl_dockets.specs.Kept.{core_rule_in, core_rule, is_core_rule, has_core_rules, RulesFrom}
 use Rattle.fl_dockets.specs.State.{TheJoined, with_job}
-use Rattle.fl_dockets.specs.Whole.{is_set_up, Ruled, Joins}
+use Rattle.fl_dockets.specs.Whole.{is_set_up, so_far, Ruled, Joins}
 use Rattle.fl_dockets.proofs.Ends.{one_end}
 use Rattle.fl_dockets.proofs.Growing.{or_false, has_more, rule_more}
 
@@ -180,7 +180,7 @@ differ_under : (e f : EndId) (n : ℕ) → n ≤ e.binding → f.binding < n →
 differ_under e f n past below = apart_by e f (same_end e f) refl (λ same. absurd (omega (arith, below, past, same)))
 
 module _ (set_up : List Binding) (asked : List Job) (f : EndId) (msg answer : ℕ) (j : TheJoined) (ks : List TheCore) (j2 : TheJoined) (ks2 : List TheCore)
-    (r : Ruled set_up f msg answer j ks j2 ks2) (k : (e : EndId) → RulesFrom (length set_up) asked j.jobs e) where
+    (r : Ruled set_up f msg answer (so_far j ks) (so_far j2 ks2)) (k : (e : EndId) → RulesFrom (length set_up) asked j.jobs e) where
   abbrev j1 : TheJoined
   j1 = record j { dockets = r.planned.dockets }
 
@@ -211,7 +211,7 @@ module _ (set_up : List Binding) (asked : List Job) (f : EndId) (msg answer : �
       (subst (λ (a : ℕ). AllFrom j2.jobs (replies f r.message.0 a)) r.reply_is (either (is_set_up set_up f) refl))
 
 pub sources_more : (asked : List Job) (set_up : List Binding) (one : Job) (j : TheJoined) (ks : List TheCore) (j2 : TheJoined) (ks2 : List TheCore)
-    → Joins set_up one j ks j2 ks2 → ((e : EndId) → RulesFrom (length set_up) asked j.jobs e)
+    → Joins set_up one (so_far j ks) (so_far j2 ks2) → ((e : EndId) → RulesFrom (length set_up) asked j.jobs e)
     → (e : EndId) → RulesFrom (length set_up) (asked ++ one ∷ []) j2.jobs e
 sources_more asked set_up (opens w) j ks j2 ks2 (o, same) k e =
     subst (λ (jobs : List CoreJob). RulesFrom (length set_up) (asked ++ opens w ∷ []) jobs e) (sym (ap (λ (t : TheJoined). t.jobs) o.rest))

@@ -23,7 +23,7 @@ use Rattle.fl_dockets.specs.Dockets.{docket_of, end_of}
 use Rattle.fl_dockets.specs.Joined.{HasDockets}
 use Rattle.fl_dockets.specs.Rules.{RuleNow, RuleOf, RulesOf}
 use Rattle.fl_dockets.specs.State.{TheJoined, joined_of, nothing_joined, with_binding, with_owner, with_job, IsSafe, Opened, CallPlanned, RulePlanned, ArePlaced, DuesUpTo}
-use Rattle.fl_dockets.specs.Whole.{bound_of, SetUp, is_set_up, Ruled, Joins, IsBeside, About, about, wish_in, all_about, AreBound}
+use Rattle.fl_dockets.specs.Whole.{bound_of, SetUp, is_set_up, so_far, Ruled, Joins, IsBeside, About, about, wish_in, all_about, AreBound}
 use Rattle.fl_dockets.proofs.Ends.{slot_within}
 use Rattle.fl_dockets.proofs.Growing.{got, kept, last, core_stays}
 use Rattle.fl_dockets.proofs.Openings.{within}
@@ -95,7 +95,7 @@ ruled_more cores asked b e message reply j j2 p k =
     subst (λ (t : TheJoined). ArePlaced cores asked2 t) (sym p.rest) (ruled_by cores asked2 e message reply j1 b p.within a)
 
 ruled_as : (cores : ℕ) (asked : List Job) (set_up : List Binding) (e : EndId) (msg answer : ℕ) (j : TheJoined) (ks : List TheCore) (j2 : TheJoined) (ks2 : List TheCore)
-    → Ruled set_up e msg answer j ks j2 ks2 → ArePlaced cores asked j → ArePlaced cores (asked ++ replies e msg answer ∷ []) j2
+    → Ruled set_up e msg answer (so_far j ks) (so_far j2 ks2) → ArePlaced cores asked j → ArePlaced cores (asked ++ replies e msg answer ∷ []) j2
 ruled_as cores asked set_up e msg answer j ks j2 ks2 r k =
     subst (λ (m : ℕ). ArePlaced cores (asked ++ replies e m answer ∷ []) j2) r.message_is
     (subst (λ (a : ℕ). ArePlaced cores (asked ++ replies e r.message.0 a ∷ []) j2) r.reply_is
@@ -103,7 +103,7 @@ ruled_as cores asked set_up e msg answer j ks j2 ks2 r k =
 
 -- whatever the job
 pub joined_more : (asked : List Job) (set_up : List Binding) (job : Job) (j : TheJoined) (ks : List TheCore) (j2 : TheJoined) (ks2 : List TheCore)
-    → Joins set_up job j ks j2 ks2 → ArePlaced (length ks) asked j → ArePlaced (length ks) (asked ++ job ∷ []) j2
+    → Joins set_up job (so_far j ks) (so_far j2 ks2) → ArePlaced (length ks) asked j → ArePlaced (length ks) (asked ++ job ∷ []) j2
 joined_more asked set_up (opens w) j ks j2 ks2 (o, same) k = opened_more (length ks) asked w j j2 o k
 joined_more asked set_up (replies e msg answer) j ks j2 ks2 r k = ruled_as (length ks) asked set_up e msg answer j ks j2 ks2 r k
 joined_more asked set_up (calls e c) j ks j2 ks2 ((call, is, p), same) k =
@@ -112,7 +112,7 @@ joined_more asked set_up (calls e c) j ks j2 ks2 ((call, is, p), same) k =
 -- ---- the cores meanwhile
 
 pub rule_of : (set_up : List Binding) (job : Job) (j : TheJoined) (ks : List TheCore) (j2 : TheJoined) (ks2 : List TheCore)
-    → Joins set_up job j ks j2 ks2 → RuleOf set_up job ks ks2
+    → Joins set_up job (so_far j ks) (so_far j2 ks2) → RuleOf set_up job ks ks2
 rule_of set_up (opens w) j ks j2 ks2 (o, same) = same
 rule_of set_up (replies e msg answer) j ks j2 ks2 r = r.set
 rule_of set_up (calls e c) j ks j2 ks2 (p, same) = same
@@ -135,7 +135,7 @@ as_many_cores set_up (replies e msg answer) ks ks2 r = count_by_rule (slice_get 
 as_many_cores set_up (calls e c) ks ks2 same = ap (λ (x : List TheCore). length x) same
 
 pub count_of : (set_up : List Binding) (job : Job) (j : TheJoined) (ks : List TheCore) (j2 : TheJoined) (ks2 : List TheCore)
-    → Joins set_up job j ks j2 ks2 → length ks2 ≡ length ks
+    → Joins set_up job (so_far j ks) (so_far j2 ks2) → length ks2 ≡ length ks
 count_of set_up job j ks j2 ks2 joins = as_many_cores set_up job ks ks2 (rule_of set_up job j ks j2 ks2 joins)
 
 -- ---- a turn of the loop over jobs
@@ -144,7 +144,7 @@ pub one_mapped : (done : List RustJob) (x : RustJob) → map job_of done ++ job_
 one_mapped done x = sym (map-append job_of done (x ∷ []))
 
 pub joined_turn : (n : ℕ) (done : List RustJob) (x : RustJob) (set_up : List Binding) (j : TheJoined) (ks : List TheCore) (j2 : TheJoined) (ks2 : List TheCore)
-    → length ks ≡ n → Joins set_up (job_of x) j ks j2 ks2 → ArePlaced n (map job_of done) j → ArePlaced n (map job_of (done ++ x ∷ [])) j2
+    → length ks ≡ n → Joins set_up (job_of x) (so_far j ks) (so_far j2 ks2) → ArePlaced n (map job_of done) j → ArePlaced n (map job_of (done ++ x ∷ [])) j2
 joined_turn n done x set_up j ks j2 ks2 count joins k =
     let before : ArePlaced (length ks) (map job_of done) j = subst (λ (m : ℕ). ArePlaced m (map job_of done) j) (sym count) k in
     let after = joined_more (map job_of done) set_up (job_of x) j ks j2 ks2 joins before in
@@ -152,7 +152,7 @@ joined_turn n done x set_up j ks j2 ks2 count joins k =
     (subst (λ (asked : List Job). ArePlaced (length ks) asked j2) (one_mapped done x) after)
 
 pub rules_turn : (done : List RustJob) (x : RustJob) (set_up set_up2 : List Binding) (j : TheJoined) (ks0 ks : List TheCore) (j2 : TheJoined) (ks2 : List TheCore)
-    → set_up2 ≡ set_up → Joins set_up2 (job_of x) j ks j2 ks2 → RulesOf set_up (map job_of done) ks0 ks → RulesOf set_up (map job_of (done ++ x ∷ [])) ks0 ks2
+    → set_up2 ≡ set_up → Joins set_up2 (job_of x) (so_far j ks) (so_far j2 ks2) → RulesOf set_up (map job_of done) ks0 ks → RulesOf set_up (map job_of (done ++ x ∷ [])) ks0 ks2
 rules_turn done x set_up set_up2 j ks0 ks j2 ks2 same joins r =
     let rule : RuleOf set_up (job_of x) ks ks2 = subst (λ (bs : List Binding). RuleOf bs (job_of x) ks ks2) same (rule_of set_up2 (job_of x) j ks j2 ks2 joins) in
     subst (λ (asked : List Job). RulesOf set_up asked ks0 ks2) (one_mapped done x) (rules_more set_up (map job_of done) (job_of x) ks0 ks ks2 r rule)
@@ -247,7 +247,7 @@ ruled_bindings true e message reply j = refl
 ruled_bindings false e message reply j = refl
 
 pub bound_more : (set_up : List Binding) (jobs : List Job) (set_up2 : List Binding) (job : Job) (j : TheJoined) (ks : List TheCore) (j2 : TheJoined) (ks2 : List TheCore)
-    → Joins set_up2 job j ks j2 ks2 → AreBound set_up jobs j → AreBound set_up (jobs ++ job ∷ []) j2
+    → Joins set_up2 job (so_far j ks) (so_far j2 ks2) → AreBound set_up jobs j → AreBound set_up (jobs ++ job ∷ []) j2
 bound_more set_up jobs set_up2 (opens w) j ks j2 ks2 (o, same) k = bound_opened set_up jobs (length ks) w j j2 o k
 bound_more set_up jobs set_up2 (replies e msg answer) j ks j2 ks2 r k =
     let j1 : TheJoined = record j { dockets = r.planned.dockets } in
@@ -257,7 +257,7 @@ bound_more set_up jobs set_up2 (calls e c) j ks j2 ks2 ((call, is, p), same) k =
     bound_stays set_up jobs (calls e c) j j2 refl (ap (λ (t : TheJoined). t.bindings) p.rest) k
 
 pub bound_turn : (set_up : List Binding) (done : List RustJob) (x : RustJob) (set_up2 : List Binding) (j : TheJoined) (ks : List TheCore) (j2 : TheJoined) (ks2 : List TheCore)
-    → Joins set_up2 (job_of x) j ks j2 ks2 → AreBound set_up (map job_of done) j → AreBound set_up (map job_of (done ++ x ∷ [])) j2
+    → Joins set_up2 (job_of x) (so_far j ks) (so_far j2 ks2) → AreBound set_up (map job_of done) j → AreBound set_up (map job_of (done ++ x ∷ [])) j2
 bound_turn set_up done x set_up2 j ks j2 ks2 joins k =
     subst (λ (jobs : List Job). AreBound set_up jobs j2) (one_mapped done x) (bound_more set_up (map job_of done) set_up2 (job_of x) j ks j2 ks2 joins k)
 

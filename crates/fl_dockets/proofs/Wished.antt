@@ -5,7 +5,6 @@ use Rattle.std.specs.Prelude.{OnOk}
 use Rattle.std.specs.List.{flat_map}
 use Rattle.fl_base.specs.declared.identity.EndId.{EndId}
 use Rattle.fl_base.specs.declared.identity.MsgNo.{MsgNo}
-use Rattle.fl_hop.specs.Table.{TheCircuits}
 use Rattle.fl_monitor.specs.Monitors.{TheMonitor, first_link}
 use Rattle.fl_nameserv.specs.Registrations.{TheRegistration}
 use Rattle.fl_node.specs.View.{TheCore}
@@ -20,7 +19,7 @@ use Rattle.fl_jobs.specs.Views.{job_of}
 use Rattle.fl_dockets.specs.declared.docket.Bound.{Bound}
 use Rattle.fl_dockets.specs.Rules.{RuleNow, RuleOf, RulesOf}
 use Rattle.fl_dockets.specs.State.{TheJoined, with_job, DuesUpTo}
-use Rattle.fl_dockets.specs.Whole.{is_set_up, Joins, wish_in, AreBound}
+use Rattle.fl_dockets.specs.Whole.{is_set_up, so_far, Joins, wish_in, AreBound}
 use Rattle.fl_dockets.specs.Wished.{BeginsAt, IsWishOf, AddsOpening, AddsWished, IsWished, AreWished}
 use Rattle.fl_dockets.proofs.Fitting.{grows}
 use Rattle.fl_dockets.proofs.Growing.{got, kept, last}
@@ -155,7 +154,7 @@ module _ (names : List TheRegistration) (cores : List TheCore) (first : ℕ) whe
   same_wish x y is = cc
 
   wished_more : (set_up : List Binding) (asked : List Job) (one : Job) (j : TheJoined) (ks : List TheCore) (j2 : TheJoined) (ks2 : List TheCore)
-      → Joins set_up one j ks j2 ks2 → AddsWished names cores one j j2 → length j.bindings ≡ first + length (flat_map wish_in asked)
+      → Joins set_up one (so_far j ks) (so_far j2 ks2) → AddsWished names cores one j j2 → length j.bindings ≡ first + length (flat_map wish_in asked)
       → AreWished names cores first asked j → AreWished names cores first (asked ++ one ∷ []) j2
   wished_more set_up asked (opens w) j ks j2 ks2 joins a count k n x at =
       elim (got j.jobs (core.Open a.wish) (core.Open x) n (ap (λ (t : List CoreJob). slice_get t n) (sym a.jobs) ∙ at)) [
@@ -184,7 +183,7 @@ module _ (names : List TheRegistration) (cores : List TheCore) (first : ℕ) whe
 -- a turn of the loop over jobs
 pub wished_turn : (names names2 : List TheRegistration) (set_up set_up2 : List Binding) (done : List RustJob) (x : RustJob) (j : TheJoined)
     (ks0 ks : List TheCore) (j2 : TheJoined) (ks2 : List TheCore) → names2 ≡ names → RulesOf set_up (map job_of done) ks0 ks → length ks ≡ length ks0
-    → Joins set_up2 (job_of x) j ks j2 ks2 → AddsWished names2 ks (job_of x) j j2 → AreBound set_up (map job_of done) j
+    → Joins set_up2 (job_of x) (so_far j ks) (so_far j2 ks2) → AddsWished names2 ks (job_of x) j j2 → AreBound set_up (map job_of done) j
     → AreWished names ks0 (length set_up) (map job_of done) j → AreWished names ks0 (length set_up) (map job_of (done ++ x ∷ [])) j2
 wished_turn names names2 set_up set_up2 done x j ks0 ks j2 ks2 same rules count joins adds bound k =
     let before = adds_before set_up (map job_of done) ks0 ks rules count names2 (job_of x) j j2 adds in

@@ -38,20 +38,29 @@ pub record SetUp (cores : ℕ) (x : Binding) (j j2 : TheJoined) : Type 0 where
 abbrev pub is_set_up : List Binding → EndId → Bool
 is_set_up bindings e = nat_lt e.binding (length bindings)
 
+-- what was joined so far, and the cores as they are then
+pub record SoFar : Type 0 where
+  pub joined : TheJoined
+  pub cores : List TheCore
+
+abbrev pub so_far : TheJoined → List TheCore → SoFar
+so_far j ks = record { joined = j; cores = ks }
+
 -- a rule more: at an end that is there it is set at once
-pub record Ruled (set_up : List Binding) (e : EndId) (msg answer : ℕ) (j : TheJoined) (ks : List TheCore) (j2 : TheJoined) (ks2 : List TheCore) : Type 0 where
+pub record Ruled (set_up : List Binding) (e : EndId) (msg answer : ℕ) (before after : SoFar) : Type 0 where
   pub message : MsgNo
   pub reply : MsgNo
   pub message_is : message.0 ≡ msg
   pub reply_is : reply.0 ≡ answer
-  pub planned : RulePlanned (is_set_up set_up e) e message reply j j2
-  pub set : RuleNow (slice_get set_up e.binding) e msg answer ks ks2
+  pub planned : RulePlanned (is_set_up set_up e) e message reply before.joined after.joined
+  pub set : RuleNow (slice_get set_up e.binding) e msg answer before.cores after.cores
 
--- a job more, of those at the cores and what these are then
-abbrev pub Joins : List Binding → Job → TheJoined → List TheCore → TheJoined → List TheCore → Type 0
-Joins set_up (opens w) j ks j2 ks2 = Opened (length ks) w j j2 × (ks2 ≡ ks)
-Joins set_up (replies e msg answer) j ks j2 ks2 = Ruled set_up e msg answer j ks j2 ks2
-Joins set_up (calls e c) j ks j2 ks2 = ((call : Call) × (call_of call ≡ c) × CallPlanned e call j j2) × (ks2 ≡ ks)
+-- a job more
+abbrev pub Joins : List Binding → Job → SoFar → SoFar → Type 0
+Joins set_up (opens w) before after = Opened (length before.cores) w before.joined after.joined × (after.cores ≡ before.cores)
+Joins set_up (replies e msg answer) before after = Ruled set_up e msg answer before after
+Joins set_up (calls e c) before after =
+    ((call : Call) × (call_of call ≡ c) × CallPlanned e call before.joined after.joined) × (after.cores ≡ before.cores)
 
 -- ---- which bindings there are
 

@@ -10,7 +10,7 @@ ghost use Rattle.fl_dockets.specs.Joined.{AreBindings, HasDockets};
 ghost use Rattle.fl_dockets.specs.Kept.{AreKept};
 ghost use Rattle.fl_dockets.specs.State.{joined_of, IsSafe, ArePlaced, AreJoined};
 ghost use Rattle.fl_dockets.specs.Rules.{RulesOf};
-ghost use Rattle.fl_dockets.specs.Whole.{bound_of, SetUp, Ruled, Joins, IsBeside, AreBound, AreDue, fault_at, FirstRefused, IsFault, HadSet};
+ghost use Rattle.fl_dockets.specs.Whole.{bound_of, SetUp, so_far, Ruled, Joins, IsBeside, AreBound, AreDue, fault_at, FirstRefused, IsFault, HadSet};
 ghost use Rattle.fl_dockets.specs.Wished.{AddsWished, AreWished};
 
 use crate::docket::Bound;
@@ -58,7 +58,7 @@ impl Joined {
     ) -> Result<(), Stop>
         requires safe { IsSafe (length parts.old.cores.items) (joined_of self.old) }
         ensures ruled { OnOk result (Ruled parts.old.bindings.items end message.0 answer.0
-            (joined_of self.old) parts.old.cores.items (joined_of self.new) parts.new.cores.items) }
+            (so_far (joined_of self.old) parts.old.cores.items) (so_far (joined_of self.new) parts.new.cores.items)) }
         ensures fits { OnOk result (NewFit parts.old.names parts.old.programs.items (joined_of self.old) (joined_of self.new)) }
         ensures beside { IsBeside parts.old parts.new }
         ensures refused { IfErr result (λ stop. RuleStops
@@ -77,7 +77,7 @@ impl Joined {
     fn join_one(&mut self, alloc: Global, parts: &mut Parts, job: Job<'_>) -> Result<(), Stop>
         requires safe { IsSafe (length parts.old.cores.items) (joined_of self.old) }
         ensures joins { OnOk result (Joins parts.old.bindings.items (job_of job.entry)
-            (joined_of self.old) parts.old.cores.items (joined_of self.new) parts.new.cores.items) }
+            (so_far (joined_of self.old) parts.old.cores.items) (so_far (joined_of self.new) parts.new.cores.items)) }
         ensures fits { OnOk result (NewFit parts.old.names parts.old.programs.items (joined_of self.old) (joined_of self.new)) }
         ensures wished { OnOk result (AddsWished parts.old.names parts.old.cores.items (job_of job.entry) (joined_of self.old) (joined_of self.new)) }
         ensures beside { IsBeside parts.old parts.new }
