@@ -104,7 +104,7 @@ noted_shown {S} w name place (Refused fault) m t b at x h = subst (λ (r : TheRu
 pub turn_steps : {S : Type 0} (ways : Ways S) (law : StepsAgree) (w : TheWorld) (s t : TheRun S) (a : Alone) (d : ℕ) (name : EndId) (place : ℕ)
     (answer : TurnAnswer)
     (k : Wired s name place) → ShowsAlone w s a → place_of s.core name ≡ Some place → Happens ways (turned d name (inlet.Queue k.from) answer) s t
-    → TurnsAsMachine w s t a d name answer
+    → TurnsAsMachine w (record { before = s; after = t }) a d name answer
 turn_steps {S} ways law w s t a d name place answer k x at (m, (e, found, is_due, on), notes, before, soundly) =
     let core = noted_core name answer m t notes in
     let there : e ≡ place = same_some (place_of s.core name) e place found at in

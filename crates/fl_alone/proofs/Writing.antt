@@ -57,7 +57,7 @@ wrote_world {S} w s m n q h = ap (λ (x : TheRun S). world_with w x) h
 pub write_steps : {S : Type 0} (ways : Ways S) (law : StepsAgree) (w : TheWorld) (s t : TheRun S) (a : Alone) (name : EndId) (place : ℕ)
     (answer : Result WriteAnswer EndFault)
     (k : Wired s name place) → ShowsAlone w s a → place_of s.core name ≡ Some place → Happens ways (wrote name (outlet.Queue k.out) answer) s t
-    → WritesAsMachine w s t a name answer
+    → WritesAsMachine w (record { before = s; after = t }) a name answer
 write_steps {S} ways law w s t a name place answer k x at (m, (e, found, on), same, before, soundly) =
     let h = stands w s a name place x at in
     let there : e ≡ place = same_some (place_of s.core name) e place found at in

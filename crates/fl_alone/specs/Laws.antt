@@ -30,49 +30,59 @@ use Rattle.fl_alone.specs.Shown.{work_of, ShowsAlone, HasFew, AreSilent}
 -- ---- events: what an end or a dispatcher does is the machine's step. It answers the same, and afterwards the core shows the machine's next state; and the
 -- desks are those that the definition has then. Ends stay where they are
 
+-- a run before an event, and after it
+pub record Change (S : Type 0) : Type 0 where
+  pub before : TheRun S
+  pub after : TheRun S
+
 -- a call; that memory was wanted isn't an answer
-pub record CallsAsMachine {S : Type 0} (w : TheWorld) (s t : TheRun S) (a : Alone) (name : EndId) (c : TheCall) (answer : Result
+pub record CallsAsMachine {S : Type 0} (w : TheWorld) (run : Change S) (a : Alone) (name : EndId) (c : TheCall) (answer : Result
     (Unit {0}) EndFault) : Type 0 where
   pub answers : IsCalled answer (step a.state (call name c)).answer
-  pub shows : ShowsAlone w t (calls name c a)
-  pub places : t.core.places ≡ s.core.places
+  pub shows : ShowsAlone w run.after (calls name c a)
+  pub places : run.after.core.places ≡ run.before.core.places
 
 abbrev pub CallsAreTheMachines : {S : Type 0} → Ways S → Type 0
 CallsAreTheMachines {S} ways = (w : TheWorld) (s t : TheRun S) (a : Alone) (name : EndId) (c : TheCall) (answer : Result (Unit {0}) EndFault)
-    → ShowsAlone w s a → answer ≢ Err Memory → Happens ways (called name c answer) s t → CallsAsMachine w s t a name c answer
+    → ShowsAlone w s a → answer ≢ Err Memory → Happens ways (called name c answer) s t → CallsAsMachine w (record { before = s; after = t }) a name c answer
 
--- a reply rule
-pub record RulesAsMachine {S : Type 0} (w : TheWorld) (s t : TheRun S) (a : Alone) (name : EndId) (msg answer : ℕ) (r : Result
-    (Unit {0}) EndFault) : Type 0 where
-  pub answers : IsRuled r (step a.state (reply name msg answer)).answer
-  pub shows : ShowsAlone w t (rules name msg answer a)
-  pub places : t.core.places ≡ s.core.places
+-- a reply rule, which an end is to have: its answer to a message
+pub record Rule : Type 0 where
+  pub end : EndId
+  pub msg : ℕ
+  pub answer : ℕ
+
+pub record RulesAsMachine {S : Type 0} (w : TheWorld) (run : Change S) (a : Alone) (rule : Rule) (r : Result (Unit {0}) EndFault) : Type 0 where
+  pub answers : IsRuled r (step a.state (reply rule.end rule.msg rule.answer)).answer
+  pub shows : ShowsAlone w run.after (rules rule.end rule.msg rule.answer a)
+  pub places : run.after.core.places ≡ run.before.core.places
 
 abbrev pub RulesAreTheMachines : {S : Type 0} → Ways S → Type 0
 RulesAreTheMachines {S} ways = (w : TheWorld) (s t : TheRun S) (a : Alone) (name : EndId) (msg answer : MsgNo) (r : Result (Unit {0}) EndFault)
-    → ShowsAlone w s a → Happens ways (ruled name msg answer r) s t → RulesAsMachine w s t a name msg.0 answer.0 r
+    → ShowsAlone w s a → Happens ways (ruled name msg answer r) s t
+    → RulesAsMachine w (record { before = s; after = t }) a (record { end = name; msg = msg.0; answer = answer.0 }) r
 
 -- a write, to where the end puts
-pub record WritesAsMachine {S : Type 0} (w : TheWorld) (s t : TheRun S) (a : Alone) (name : EndId) (answer : Result WriteAnswer EndFault) : Type 0 where
+pub record WritesAsMachine {S : Type 0} (w : TheWorld) (run : Change S) (a : Alone) (name : EndId) (answer : Result WriteAnswer EndFault) : Type 0 where
   pub answers : IsWritten answer (step a.state (write name)).answer
-  pub shows : ShowsAlone w t (goes (write name) a)
-  pub places : t.core.places ≡ s.core.places
+  pub shows : ShowsAlone w run.after (goes (write name) a)
+  pub places : run.after.core.places ≡ run.before.core.places
 
 abbrev pub WritesAreTheMachines : {S : Type 0} → Ways S → Type 0
 WritesAreTheMachines {S} ways = (w : TheWorld) (s t : TheRun S) (a : Alone) (name : EndId) (e : ℕ) (out : Outlet) (answer : Result WriteAnswer EndFault)
     → ShowsAlone w s a → place_of s.core name ≡ Some e → outlet_of s.core e ≡ Some out
-    → Happens ways (wrote name out answer) s t → WritesAsMachine w s t a name answer
+    → Happens ways (wrote name out answer) s t → WritesAsMachine w (record { before = s; after = t }) a name answer
 
 -- a dispatcher's turn, over where the end that is due takes from
-pub record TurnsAsMachine {S : Type 0} (w : TheWorld) (s t : TheRun S) (a : Alone) (d : ℕ) (name : EndId) (answer : TurnAnswer) : Type 0 where
+pub record TurnsAsMachine {S : Type 0} (w : TheWorld) (run : Change S) (a : Alone) (d : ℕ) (name : EndId) (answer : TurnAnswer) : Type 0 where
   pub answers : (step a.state (turn (here d))).answer ≡ turn_answer name answer
-  pub shows : ShowsAlone w t (turns_at d a)
-  pub places : t.core.places ≡ s.core.places
+  pub shows : ShowsAlone w run.after (turns_at d a)
+  pub places : run.after.core.places ≡ run.before.core.places
 
 abbrev pub TurnsAreTheMachines : {S : Type 0} → Ways S → Type 0
 TurnsAreTheMachines {S} ways = (w : TheWorld) (s t : TheRun S) (a : Alone) (d : ℕ) (name : EndId) (e : ℕ) (from : Inlet) (answer : TurnAnswer)
     → ShowsAlone w s a → place_of s.core name ≡ Some e → inlet_of s.core e ≡ Some from
-    → Happens ways (had_turn d name from answer) s t → TurnsAsMachine w s t a d name answer
+    → Happens ways (had_turn d name from answer) s t → TurnsAsMachine w (record { before = s; after = t }) a d name answer
 
 -- ---- turns
 
