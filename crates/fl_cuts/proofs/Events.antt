@@ -390,7 +390,7 @@ pub record TurnShown {T P : Type 0} (Shows : P → T → Type 0) (g : Giving P) 
   pub waits : List Dispatcher
   pub ends : List EndCut
   pub sides : List P
-  pub turn : HasTurn g d name answer a xs n waits ends sides
+  pub turn : HasTurn g (record { dispatcher = d; end = name; from = n; answer = answer }) a xs waits (record { ends = ends; sides = sides })
   pub waits_show : Each2 (ShowsWaits ports) waits b.dispatchers
   pub ends_show : Each2 (ShowsSeat core) ends b.seats
   pub ports_are : map (λ (x : EndCut). x.port) ends ≡ map (λ (x : EndCut). x.port) a.ends

@@ -202,7 +202,8 @@ module _ {P : Type 0} (g : Giving P) where
   turns_quiet no_one r a b h q = absurd h
 
   -- a dispatcher's turn
-  turn_stays : (d n : ℕ) (name : EndId) (r : TurnAnswer) (a b : Cut) (xs ys : List P) → HasTurn g d name r a xs n b.core.dispatchers b.ends ys
+  turn_stays : (d n : ℕ) (name : EndId) (r : TurnAnswer) (a b : Cut) (xs ys : List P)
+      → HasTurn g (record { dispatcher = d; end = name; from = n; answer = r }) a xs b.core.dispatchers (record { ends = b.ends; sides = ys })
       → b.core.circuits ≡ a.core.circuits → b.plans ≡ a.plans → Stays a b
   turn_stays d n name r a b xs ys h circuits plans =
       let spot : Spot P = record { waits = h.waits; end = h.at.end; side = h.side } in

@@ -140,17 +140,22 @@ pub record ChangesEnd (a : Cut) (name : EndId) (Event : EndCut → EndCut → Ty
   pub event : Event at.end after
   pub rest : b ≡ record a { ends = slice_set a.ends at.place after }
 
--- so have the end and the side or queue of number n of a list
+-- the ends of a cut, and the sides or queues of one of its lists
+pub record EndsOver (P : Type 0) : Type 0 where
+  pub ends : List EndCut
+  pub sides : List P
+
+-- the end of a name and the side or queue of number n of a list have changed, as the event says
 pub record ChangesBoth {P : Type 0} (a : Cut) (name : EndId) (xs : List P) (n : ℕ) (Event : EndCut → P → EndCut → P → Type 0)
-    (ends : List EndCut) (ys : List P) : Type 0 where
+    (now : EndsOver P) : Type 0 where
   pub at : EndAt a name
   pub side : P
   pub side_is : slice_get xs n ≡ Some side
   pub after : EndCut
   pub side_after : P
   pub event : Event at.end side after side_after
-  pub ends_are : ends ≡ slice_set a.ends at.place after
-  pub sides_are : ys ≡ slice_set xs n side_after
+  pub ends_are : now.ends ≡ slice_set a.ends at.place after
+  pub sides_are : now.sides ≡ slice_set xs n side_after
 
 -- a fragment came for an end: its channel is triggered
 abbrev pub triggers_seat : Option Seat → List Dispatcher → List Dispatcher
@@ -172,10 +177,10 @@ with_waits a waits = record a { core = record a.core { dispatchers = waits } }
 -- a write, over a side of a ring, or a local queue
 abbrev pub WritesOver : Outlet → EndId → Result WriteAnswer EndFault → Cut → Cut → Type 0
 WritesOver (outlet.Side n) name answer a b =
-    ChangesBoth a name a.sides n (λ x p y q. Writes Places answer x p y q) b.ends b.sides
+    ChangesBoth a name a.sides n (λ x p y q. Writes Places answer x p y q) (record { ends = b.ends; sides = b.sides })
     × (b ≡ record a { ends = b.ends; sides = b.sides })
 WritesOver (outlet.Queue n) name answer a b =
-    ChangesBoth a name a.queues n (λ x p y q. Writes QueuePlaces answer x p y q) b.ends b.queues
+    ChangesBoth a name a.queues n (λ x p y q. Writes QueuePlaces answer x p y q) (record { ends = b.ends; sides = b.queues })
     × (b ≡ record (with_waits a (triggers_end (woken_by name answer a) b.ends a.core.dispatchers)) { ends = b.ends; queues = b.queues })
 
 -- the end whose turn it is
@@ -184,30 +189,38 @@ end_due x (pending c) = slice_get x.ends c
 end_due x (polled c) = slice_get x.ends c
 end_due x no_one = None
 
--- a dispatcher's turn, over the side or queue of number n of a list
-pub record HasTurn {P : Type 0} (g : Giving P) (d : ℕ) (name : EndId) (answer : TurnAnswer) (a : Cut) (xs : List P) (n : ℕ)
-    (waits_after : List Dispatcher) (ends_after : List EndCut) (ys : List P) : Type 0 where
+-- whose turn it is: a dispatcher's, and of its ends this one's, which takes from the side or queue of this number; and what is answered
+pub record TheTurn : Type 0 where
+  pub dispatcher : ℕ
+  pub end : EndId
+  pub from : ℕ
+  pub answer : TurnAnswer
+
+-- that turn is had, over the sides or queues of a list
+pub record HasTurn {P : Type 0} (g : Giving P) (had : TheTurn) (a : Cut) (xs : List P) (waits_now : List Dispatcher) (now : EndsOver P) : Type 0 where
   pub waits : Dispatcher
-  pub waits_is : slice_get a.core.dispatchers d ≡ Some waits
-  pub due_is : end_due waits (due waits) ≡ Some name
-  pub at : EndAt a name
+  pub waits_is : slice_get a.core.dispatchers had.dispatcher ≡ Some waits
+  pub due_is : end_due waits (due waits) ≡ Some had.end
+  pub at : EndAt a had.end
   pub side : P
-  pub side_is : slice_get xs n ≡ Some side
+  pub side_is : slice_get xs had.from ≡ Some side
   pub after : Spot P
-  pub turns : Turns g (due waits) answer (record { waits = waits; end = at.end; side = side }) after
-  pub waits_are : waits_after ≡ slice_set a.core.dispatchers d after.waits
-  pub ends_are : ends_after ≡ slice_set a.ends at.place after.end
-  pub sides_are : ys ≡ slice_set xs n after.side
+  pub turns : Turns g (due waits) had.answer (record { waits = waits; end = at.end; side = side }) after
+  pub waits_are : waits_now ≡ slice_set a.core.dispatchers had.dispatcher after.waits
+  pub ends_are : now.ends ≡ slice_set a.ends at.place after.end
+  pub sides_are : now.sides ≡ slice_set xs had.from after.side
 
 -- over a side of a ring, or a local queue
 abbrev pub TurnsOverSide : ℕ → EndId → ℕ → TurnAnswer → Cut → Cut → Type 0
 TurnsOverSide d name n answer a b =
-    HasTurn ring_gives d name answer a a.sides n b.core.dispatchers b.ends b.sides
+    HasTurn ring_gives (record { dispatcher = d; end = name; from = n; answer = answer }) a a.sides b.core.dispatchers
+    (record { ends = b.ends; sides = b.sides })
     × (b ≡ record (with_waits a b.core.dispatchers) { ends = b.ends; sides = b.sides })
 
 abbrev pub TurnsOverQueue : ℕ → EndId → ℕ → TurnAnswer → Cut → Cut → Type 0
 TurnsOverQueue d name n answer a b =
-    HasTurn queue_gives d name answer a a.queues n b.core.dispatchers b.ends b.queues
+    HasTurn queue_gives (record { dispatcher = d; end = name; from = n; answer = answer }) a a.queues b.core.dispatchers
+    (record { ends = b.ends; sides = b.queues })
     × (b ≡ record (with_waits a b.core.dispatchers) { ends = b.ends; queues = b.queues })
 
 -- an end acknowledges over side n

@@ -148,6 +148,7 @@ TellsOver n answer a b = OverOne a.sides n (TellsBy answer) b.sides × (b ≡ re
 
 pub record TurnsOverArrivals (d : ℕ) (name : EndId) (answer : TurnAnswer) (a b : Cut) : Type 0 where
   pub number : ℕ
-  pub turn : HasTurn queue_gives d name answer a a.arrivals number b.core.dispatchers b.ends b.arrivals
+  pub turn : HasTurn queue_gives (record { dispatcher = d; end = name; from = number; answer = answer }) a a.arrivals b.core.dispatchers
+      (record { ends = b.ends; sides = b.arrivals })
   pub own : arrivals_by turn.at.end.port.wire ≡ Some number
   pub rest : b ≡ record (with_waits a b.core.dispatchers) { ends = b.ends; arrivals = b.arrivals }
