@@ -24,18 +24,18 @@ pub(crate) const MOST_WAITING: usize = 16;
 /// A call that is to be sent, as its tape, with the number of its fragments.
 #[derive(Debug, Drop)]
 pub(crate) struct Queued {
-    pub(crate) msg: MsgNo,
     pub(crate) tape: Vec<u64>,
     pub(crate) count: usize,
+    pub(crate) msg: MsgNo,
 }
 
 /// The call in transmission: the fragment that is written next, and how many of the call's fragments were written.
 #[derive(Clone, Copy, Debug, PartialEq, Eq)]
 pub(crate) struct Sending {
-    msg: MsgNo,
     next: Frag,
     written: usize,
     count: usize,
+    msg: MsgNo,
 }
 
 /// The calls that an end is to send.
@@ -49,6 +49,7 @@ pub(crate) struct Outgoing {
 
 impl Queued {
     // A fitting call as it is queued, its tape in memory that was used before.
+    #[inline(always)]
     pub(crate) fn of(tape: Vec<u64>, program: &Program, call: &Call) -> Result<Queued, AllocError>
         requires { fits_of (program_of program.now).interface (call_of call.now) ≡ true }
         ensures queues { IfOk result (λ queued. Queues (program_of program.now) (call_of call.now) queued) }
@@ -57,17 +58,17 @@ impl Queued {
         let mut tape = tape;
         flatten_into(&mut tape, call, program.interface(), program.plan())?;
         Ok(Queued {
-            msg: call.msg,
             tape,
             count: program.plans().fragments_of(call),
+            msg: call.msg,
         })
     }
 }
 
 impl Sending {
-    // Goes on behind the next fragment, which is written: whether another is to be written.
-    #[inline(always)]
-    fn advance(&mut self, run: &mut Option<SendRun>, program: &Program) -> bool
+    // As `advance`. Out of line, so that a call of one fragment has nothing of it.
+    #[inline(never)]
+    fn advance_run(&mut self, run: &mut Option<SendRun>, program: &Program) -> bool
         requires { IsSending (program_of program.now) self.old run.old }
         ensures more { result ≡ true → IsSending (program_of program.now) self.new run.new }
         ensures frags { result ≡ true
@@ -94,6 +95,25 @@ impl Sending {
                 false
             }
         }
+    }
+
+    // Goes on behind the next fragment, which is written: whether another is to be written.
+    #[inline(always)]
+    fn advance(&mut self, run: &mut Option<SendRun>, program: &Program) -> bool
+        requires { IsSending (program_of program.now) self.old run.old }
+        ensures more { result ≡ true → IsSending (program_of program.now) self.new run.new }
+        ensures frags { result ≡ true
+            → sending_frags (program_of program.now) (Some self.new) run.new ≡ frags_behind (program_of program.now) self.old run.old }
+        ensures last { result ≡ false → frags_behind (program_of program.now) self.old run.old ≡ [] }
+        ensures none { result ≡ false → run.new ≡ None }
+        ensures written { self.new.written ≡ self.old.written + 1 }
+        ensures count { self.new.count ≡ self.old.count }
+    {
+        if run.is_none() {
+            self.written += 1;
+            return false;
+        }
+        self.advance_run(run, program)
     }
 }
 
@@ -153,10 +173,10 @@ impl Outgoing {
         };
         let next = first_frag(code, call.msg, circuit, &call.tape);
         self.sending = Some(Sending {
-            msg: call.msg,
             next,
             written: 0,
             count: 1,
+            msg: call.msg,
         });
     }
 
@@ -179,10 +199,10 @@ impl Outgoing {
             unreachable!();
         };
         self.sending = Some(Sending {
-            msg: call.msg,
             next,
             written: 0,
             count: call.count,
+            msg: call.msg,
         });
         self.run = Some(run);
     }
@@ -206,6 +226,7 @@ impl Outgoing {
     }
 
     // One call more to be sent. One that is of one fragment, and in transmission now, gives back its tape. Takes no memory.
+    #[inline(always)]
     pub(crate) fn queue(
         &mut self,
         program: &Program,

@@ -263,8 +263,9 @@ impl Parts {
         }
     }
 
-    // A call that is whole is handled, and the reply to it by rule accepted.
-    fn handle(&mut self, circuit: Circuit, call: Call) -> Result<ReceiveAnswer, EndFault>
+    // As `handle`. Out of line, so that a call to which there is no reply has nothing of it.
+    #[inline(never)]
+    fn handle_with_reply(&mut self, circuit: Circuit, call: Call) -> Result<ReceiveAnswer, EndFault>
         requires bound { self.old.circuit ≡ Some circuit.0 }
         requires takes { holds_back self.old ≡ false }
         requires fits { fits_of (interface_in self.old) (call_of call) ≡ true }
@@ -278,6 +279,24 @@ impl Parts {
                 let program = self.incoming.recv.program();
                 self.outgoing.accept(program, circuit, reply);
                 Ok(ReceiveAnswer::Handle(call))
+            }
+        }
+    }
+
+    // A call that is whole is handled, and the reply to it by rule accepted, if there is one.
+    #[inline(always)]
+    fn handle(&mut self, circuit: Circuit, call: Call) -> Result<ReceiveAnswer, EndFault>
+        requires bound { self.old.circuit ≡ Some circuit.0 }
+        requires takes { holds_back self.old ≡ false }
+        requires fits { fits_of (interface_in self.old) (call_of call) ≡ true }
+        ensures handles { Handles self.old (call_of call) result self.new }
+    {
+        match self.rules.reply_to(call.msg) {
+            Some(_) => self.handle_with_reply(circuit, call),
+            None => {
+                self.incoming.recv.finish();
+                let handled = ReceiveAnswer::Handle(call);
+                Ok(handled)
             }
         }
     }

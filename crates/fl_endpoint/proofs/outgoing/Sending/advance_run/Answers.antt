@@ -6,7 +6,7 @@ use Rattle.fl_compile.specs.Programs.{program_of}
 use Rattle.fl_machine.specs.Sending.{frags_left, RunsOn}
 use Rattle.fl_endpoint.specs.Stored.{code_of, run_frags, AreOwn}
 use Rattle.fl_endpoint.proofs.Outgoings.{code_is, given_first}
-use Rattle.fl_endpoint.proofs.outgoing.Sending.advance.Goals as goal
+use Rattle.fl_endpoint.proofs.outgoing.Sending.advance_run.Goals as goal
 
 pub returns-in-Some-next_frag-clause-frags : goal.returns-in-Some-next_frag-clause-frags
 returns-in-Some-next_frag-clause-frags c = λ done.
