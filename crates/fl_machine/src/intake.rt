@@ -229,9 +229,8 @@ fn copy_span(
     most
 }
 
-// As `copy_span`, with loops of their own for a whole fragment, whose length is known. Out of line, or these loops would run
-// before it is known that they are wanted.
-#[inline(never)]
+// As `copy_span`, with loops of their own for a whole fragment, whose length is known.
+#[inline(always)]
 fn copy_bytes(
     tape: &mut [u64],
     count: usize,
@@ -248,8 +247,8 @@ fn copy_bytes(
     ensures kept { take count tape.new ≡ take count tape.old }
     ensures long { length tape.new ≡ length tape.old }
 {
-    if from == 0 && most == 56 {
-        return copy_span(tape, count, field, buffer, 0, 56);
+    if most == 56 {
+        return copy_span(tape, count, field, buffer, from, 56);
     }
     copy_span(tape, count, field, buffer, from, most)
 }
