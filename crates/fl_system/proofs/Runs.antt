@@ -46,7 +46,7 @@ stands_by (opening_refused n e) w h = refl
 stands_by (words frag) w h = refl
 stands_by (refused fault) w h = absurd (cc)
 
-open_by : (a : Answer) (w : TheWorld) → is_some (fault_in a) ≡ true → settled_by a w ≡ w
+pub open_by : (a : Answer) (w : TheWorld) → is_some (fault_in a) ≡ true → settled_by a w ≡ w
 open_by done w h = absurd (cc)
 open_by accepted w h = absurd (cc)
 open_by nothing w h = absurd (cc)
@@ -63,7 +63,7 @@ open_by (words frag) w h = absurd (cc)
 open_by (refused fault) w h = refl
 
 -- an event that adds no interface
-by_answer : (v : Event) (a : Answer) (w : TheWorld) → is_interface v ≡ false → settled v a w ≡ settled_by a w
+pub by_answer : (v : Event) (a : Answer) (w : TheWorld) → is_interface v ≡ false → settled v a w ≡ settled_by a w
 by_answer (add_interface i plan) a w h = absurd (cc)
 by_answer (set_cores n) a w h = refl
 by_answer (add_link x y size) a w h = refl
@@ -82,7 +82,7 @@ by_answer (monitor_write core neighbour) a w h = refl
 by_answer (forward core neighbour) a w h = refl
 by_answer (monitor_acknowledge core neighbour) a w h = refl
 
-of_interface : (v : Event) (a : Answer) (w : TheWorld) → is_interface v ≡ true → settled v a w ≡ w
+pub of_interface : (v : Event) (a : Answer) (w : TheWorld) → is_interface v ≡ true → settled v a w ≡ w
 of_interface (add_interface i plan) a w h = refl
 of_interface (set_cores n) a w h = absurd (cc)
 of_interface (add_link x y size) a w h = absurd (cc)
@@ -117,10 +117,9 @@ closes v a w h = by (is_interface v) refl
     by true is = absurd (cc)
     by false is = by_answer v a w is ∙ stands_by a w (sym (ap (λ (x : Bool). x || is_some (fault_in a)) is) ∙ h)
 
--- the same by the fields of the world before
-pub closed : (v : Event) (a : Answer) (w base : TheWorld) → base ≡ w → leaves_cores_open v a ≡ false
-    → record base { may_set_cores = false } ≡ settled v a w
-closed v a w base same h = ap (λ (x : TheWorld). record x { may_set_cores = false }) same ∙ sym (closes v a w h)
+-- the same by the answer alone, and by the fields of the world before
+pub closed_by : (a : Answer) (w base : TheWorld) → base ≡ w → is_some (fault_in a) ≡ false → record base { may_set_cores = false } ≡ settled_by a w
+closed_by a w base same h = ap (λ (x : TheWorld). record x { may_set_cores = false }) same ∙ sym (stands_by a w h)
 
 -- ---- what holds of an outcome
 

@@ -3,12 +3,16 @@ use Rattle.std.proofs.Common.{◌≡◌, ◌∙◌, Result, Ok, Err, IfOk}
 use Rattle.std.specs.Prelude.{OnErr}
 use Rattle.std.specs.declared.alloc.AllocError.{AllocError}
 use Rattle.fl_queues.specs.Events.{Event}
+use Rattle.fl_queues.specs.State.{State}
 use Rattle.fl_lines.specs.declared.answer.Answer.{Answer as RustAnswer}
 use Rattle.fl_lines.specs.Events.{answer_of}
 use Rattle.fl_worlds.specs.View.{TheWorld}
+use Rattle.fl_worlds.specs.Picture.{Shows}
 use Rattle.fl_worlds.specs.Laws.{StepsAgree}
 use Rattle.fl_worlds.specs.Step.{Does, settled, Steps}
+use Rattle.fl_transcript.specs.Steps as machine
 use Rattle.fl_system.specs.Stepping.{StepsAlike}
+use Rattle.fl_system.proofs.Runs.{steps_as, shows_still}
 
 pub steps_by : (event : Event) (w made w2 : TheWorld) (r : Result RustAnswer AllocError) → IfOk r (λ a. Does event w (answer_of a) made)
     → IfOk r (λ a. w2 ≡ settled event (answer_of a) made) → IfOk r (λ a. Steps event w (answer_of a) w2)
@@ -23,3 +27,15 @@ agrees_by event w w2 (Err e) agree steps = tt
 pub kept_by : (w made w2 : TheWorld) (r : Result RustAnswer AllocError) → OnErr r (made ≡ w) → OnErr r (w2 ≡ made) → OnErr r (w2 ≡ w)
 kept_by w made w2 (Ok a) same kept = tt
 kept_by w made w2 (Err e) same kept = kept ∙ same
+
+-- ---- the machine that a script runs on
+
+pub machine_steps : (event : Event) (w made w2 : TheWorld) (r : Result RustAnswer AllocError) → StepsAgree
+    → IfOk r (λ a. Does event w (answer_of a) made) → IfOk r (λ a. w2 ≡ settled event (answer_of a) made)
+    → IfOk r (λ a. machine.Steps Shows w w2 event (answer_of a))
+machine_steps event w made w2 r agree does rest =
+    steps_as event w w2 r (agrees_by event w w2 r agree (steps_by event w made w2 r does rest))
+
+pub machine_kept : (w made w2 : TheWorld) (r : Result RustAnswer AllocError) → OnErr r (made ≡ w) → OnErr r (w2 ≡ made)
+    → OnErr r ((s : State) → Shows w s → Shows w2 s)
+machine_kept w made w2 r same kept = shows_still r w w2 (kept_by w made w2 r same kept)

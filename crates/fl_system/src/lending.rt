@@ -7,6 +7,7 @@ use fl_node::Core;
 use fl_ring::Which;
 
 /// What is known of a core at any time. It does nothing.
+#[inline(always)]
 pub(crate) fn whole(core: &Core)
     ensures whole { IsWhole core.now }
 {
@@ -14,6 +15,7 @@ pub(crate) fn whole(core: &Core)
 }
 
 /// The ring of side n.
+#[inline(always)]
 pub(crate) fn ring_at(n: usize) -> usize
     ensures ring { result ≡ ring_at n }
 {
@@ -21,6 +23,7 @@ pub(crate) fn ring_at(n: usize) -> usize
 }
 
 /// Which of its ring's two sides is side n.
+#[inline(always)]
 pub(crate) fn which_at(n: usize) -> Which
     ensures which { result ≡ which_at n }
 {

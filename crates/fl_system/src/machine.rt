@@ -3,9 +3,11 @@
 ghost use Rattle.fl_worlds.specs.Picture.{Shows};
 
 use crate::world::World;
-use fl_lines::{Answer, Event};
+use fl_base::EndId;
+use fl_lines::{Answer, DispatcherId, Event};
 use fl_transcript::QueueMachine;
-use fl_worlds::fresh_shows;
+use fl_value::Call;
+use fl_worlds::{fresh_shows, steps_agree};
 use std::alloc::{AllocError, Global};
 
 impl QueueMachine for World {
@@ -16,8 +18,56 @@ impl QueueMachine for World {
         World::with_cores(alloc, 1)
     }
 
-    #[inline(always)]
     fn step(&mut self, event: Event<'_>) -> Result<Answer, AllocError> {
         self.replay(&event)
+    }
+
+    // Events that scripts repeat are done by themselves, so that none prepares what another needs.
+    #[inline(always)]
+    fn step_call(&mut self, end: EndId, call: &Call) -> Result<Answer, AllocError> {
+        steps_agree();
+        let outcome = self.call(end, call);
+        self.close_by(&outcome);
+        outcome
+    }
+
+    #[inline(always)]
+    fn step_write(&mut self, end: EndId) -> Result<Answer, AllocError> {
+        steps_agree();
+        let answer = self.write(end);
+        self.close(&answer);
+        Ok(answer)
+    }
+
+    #[inline(always)]
+    fn step_turn(&mut self, dispatcher: DispatcherId) -> Result<Answer, AllocError> {
+        steps_agree();
+        let outcome = self.turn(dispatcher);
+        self.close_by(&outcome);
+        outcome
+    }
+
+    #[inline(always)]
+    fn step_show(&mut self, end: EndId) -> Result<Answer, AllocError> {
+        steps_agree();
+        let answer = self.show(end);
+        self.close(&answer);
+        Ok(answer)
+    }
+
+    #[inline(always)]
+    fn step_acknowledge(&mut self, end: EndId) -> Result<Answer, AllocError> {
+        steps_agree();
+        let answer = self.acknowledge(end);
+        self.close(&answer);
+        Ok(answer)
+    }
+
+    #[inline(always)]
+    fn step_forward(&mut self, core: u32, neighbour: u32) -> Result<Answer, AllocError> {
+        steps_agree();
+        let outcome = self.forward(core, neighbour);
+        self.close_by(&outcome);
+        outcome
     }
 }

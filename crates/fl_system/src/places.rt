@@ -32,6 +32,7 @@ pub(crate) struct Lane {
 }
 
 // The core of a binding's end.
+#[inline(always)]
 fn core_in(side: Side, binding: &Binding) -> usize
     ensures core { result ≡ core_in side binding.now }
 {
@@ -42,6 +43,7 @@ fn core_in(side: Side, binding: &Binding) -> usize
 }
 
 // Where an end is that may be at a core.
+#[inline(always)]
 fn spot_at(cores: &[Core], n: usize, e: EndId) -> Spot
     ensures spot { spot_from result ≡ spot_at cores.now n e }
     ensures there { IsThere cores.now result }
@@ -56,6 +58,7 @@ fn spot_at(cores: &[Core], n: usize, e: EndId) -> Spot
 }
 
 // A core's end of its link to a neighbour.
+#[inline(always)]
 fn lane_at(cores: &[Core], n: usize, neighbour: CoreId) -> Option<Lane>
     ensures lane { option_map lane_from result ≡ lane_at cores.now n neighbour.0 }
     ensures there { IfSome result (λ at. HasLink cores.now n at.link.0) }
@@ -74,6 +77,7 @@ fn lane_at(cores: &[Core], n: usize, neighbour: CoreId) -> Option<Lane>
 
 impl World {
     /// Where the end of a name is. Nothing is searched.
+    #[inline(always)]
     pub(crate) fn spot(&self, e: EndId) -> Spot
         ensures spot { spot_from result ≡ spot_of self.now e }
         ensures there { IsThere self.now.cores result }
@@ -85,6 +89,7 @@ impl World {
     }
 
     /// A core's end of its link to a neighbour, if there is such a link.
+    #[inline(always)]
     pub(crate) fn lane(&self, core: u32, neighbour: u32) -> Option<Lane>
         ensures lane { option_map lane_from result ≡ lane_to self.now core neighbour }
         ensures there { IfSome result (λ at. HasLink self.now.cores core at.link.0) }
@@ -100,6 +105,7 @@ impl World {
     }
 
     /// Whether there is such a dispatcher.
+    #[inline(always)]
     pub(crate) fn has_dispatcher(&self, d: DispatcherId) -> bool
         ensures has { result ≡ has_dispatcher self.now (id_of d) }
     {

@@ -31,6 +31,7 @@ use std::alloc::AllocError;
 // ---- calls
 
 // What is answered where an end refuses a call.
+#[inline(always)]
 fn call_fault(fault: EndFault) -> Result<Answer, AllocError>
     ensures called { IfOk result (λ a. IsCalled (Err fault) (answer_of a)) }
     ensures memory { OnErr result (fault ≡ EndFault.Memory) }
@@ -42,6 +43,7 @@ fn call_fault(fault: EndFault) -> Result<Answer, AllocError>
 }
 
 // What is answered for an end's answer to a call.
+#[inline(always)]
 fn called(outcome: Result<(), EndFault>) -> Result<Answer, AllocError>
     ensures called { IfOk result (λ a. IsCalled outcome (answer_of a)) }
     ensures memory { OnErr result (outcome ≡ Err EndFault.Memory) }
@@ -53,6 +55,7 @@ fn called(outcome: Result<(), EndFault>) -> Result<Answer, AllocError>
 }
 
 // The end at a place of a core's board makes a call.
+#[inline(always)]
 fn call_in(core: &mut Core, place: usize, call: &Call) -> Result<Answer, AllocError>
     requires place { place < length core.old.board.seats }
     ensures calls { IfOk result (λ a. InCore (CallsIn place (call_of call.now) (answer_of a)) core.old core.new) }
@@ -80,7 +83,7 @@ impl World {
     ///
     /// # Errors
     /// Want of memory.
-    #[inline(never)]
+    #[inline(always)]
     pub(crate) fn call(&mut self, e: EndId, call: &Call) -> Result<Answer, AllocError>
         ensures calls { IfOk result (λ a. MakesCall e (call_of call.now) self.old (answer_of a) self.new) }
         ensures kept { OnErr result (self.new ≡ self.old) }
@@ -92,6 +95,7 @@ impl World {
         }
     }
 
+    #[inline(always)]
     fn call_made(&mut self, n: usize, place: usize, call: &Call) -> Result<Answer, AllocError>
         requires end { HasEnd self.old.cores n place }
         ensures calls { IfOk result (λ a. AtCore self.old n (CallsIn place (call_of call.now) (answer_of a)) self.new) }
@@ -171,6 +175,7 @@ impl World {
     }
 
     // Where the end at a place of a core puts.
+    #[inline(always)]
     fn outlet(&self, n: usize, place: usize) -> Outlet
         requires end { HasEnd self.now.cores n place }
         ensures outlet { HasOutlet self.now n place result }
@@ -202,6 +207,7 @@ impl World {
 // ---- writes
 
 // What is answered for what an end's write came to.
+#[inline(always)]
 fn wrote(outcome: Result<WriteAnswer, EndFault>) -> Answer
     ensures wrote { IsWritten outcome (answer_of result) }
 {
@@ -219,6 +225,7 @@ fn wrote(outcome: Result<WriteAnswer, EndFault>) -> Answer
 }
 
 // The end at a place of a core's board writes, over a queue.
+#[inline(always)]
 fn write_by_queue(core: &mut Core, place: usize, queue: &mut QueueLink) -> Answer
     requires place { place < length core.old.board.seats }
     ensures writes { ByQueue (WritesWith QueuePuts place (answer_of result)) core.old queue.old core.new queue.new }
@@ -230,6 +237,7 @@ fn write_by_queue(core: &mut Core, place: usize, queue: &mut QueueLink) -> Answe
 }
 
 // The same over a side that is lent.
+#[inline(always)]
 fn write_by_side(core: &mut Core, place: usize, side: &mut DuoSide<'_>) -> Answer
     requires place { place < length core.old.board.seats }
     ensures same { SameSide side.old side.new }
@@ -239,6 +247,7 @@ fn write_by_side(core: &mut Core, place: usize, side: &mut DuoSide<'_>) -> Answe
 }
 
 // The same over side m of a ring.
+#[inline(always)]
 fn write_by_ring(core: &mut Core, place: usize, ring: &mut OneDuo, m: usize) -> Answer
     requires place { place < length core.old.board.seats }
     ensures writes { ByRing m (WritesWith SidePuts place (answer_of result)) core.old ring.old core.new ring.new }
@@ -252,7 +261,7 @@ fn write_by_ring(core: &mut Core, place: usize, ring: &mut OneDuo, m: usize) -> 
 
 impl World {
     /// An end writes its next fragment.
-    #[inline(never)]
+    #[inline(always)]
     pub(crate) fn write(&mut self, e: EndId) -> Answer
         ensures writes { WritesFragment e self.old (answer_of result) self.new }
     {
@@ -263,6 +272,7 @@ impl World {
         }
     }
 
+    #[inline(always)]
     fn write_made(&mut self, n: usize, place: usize) -> Answer
         requires end { HasEnd self.old.cores n place }
         ensures writes { WritesBy (made n place) self.old (answer_of result) self.new }
@@ -273,6 +283,7 @@ impl World {
         }
     }
 
+    #[inline(always)]
     fn write_over_queue(&mut self, n: usize, place: usize, q: usize) -> Answer
         requires end { HasEnd self.old.cores n place }
         ensures writes { WritesOver (Outlet.Queue q) n place self.old (answer_of result) self.new }
@@ -283,6 +294,7 @@ impl World {
         }
     }
 
+    #[inline(always)]
     fn write_over_side(&mut self, n: usize, place: usize, m: usize) -> Answer
         requires end { HasEnd self.old.cores n place }
         ensures writes { WritesOver (Outlet.Side m) n place self.old (answer_of result) self.new }

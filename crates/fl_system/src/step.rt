@@ -4,8 +4,8 @@ ghost use Rattle.std.specs.Prelude.{◌≡◌, true, map, is_some, IfOk, OnErr};
 ghost use Rattle.fl_lines.specs.Events.{event_of, answer_of};
 ghost use Rattle.fl_queues.specs.State.{State};
 ghost use Rattle.fl_worlds.specs.Picture.{Shows};
-ghost use Rattle.fl_worlds.specs.Step.{Does, settled, Steps};
-ghost use Rattle.fl_system.specs.Stepping.{StepsAlike, may_want_memory, fault_in, is_interface, leaves_cores_open};
+ghost use Rattle.fl_worlds.specs.Step.{Does, settled, settled_by, Steps};
+ghost use Rattle.fl_system.specs.Stepping.{StepsAlike, may_want_memory, fault_in, is_interface};
 ghost use Rattle.fl_system.specs.Stepping.{RunsAlike, ShowsAfterSome};
 
 use crate::world::World;
@@ -21,22 +21,15 @@ fn is_interface(event: &Event<'_>) -> bool
 }
 
 // Whether the event was refused.
+#[inline(always)]
 fn is_refused(answer: &Answer) -> bool
     ensures refused { result ≡ is_some (fault_in (answer_of answer.now)) }
 {
     matches!(answer, Answer::Refused(_))
 }
 
-// Whether the number of cores may still be set after the event, where it could be before.
-fn leaves_cores_open(event: &Event<'_>, answer: &Answer) -> bool
-    ensures open { result ≡ leaves_cores_open (event_of event.now) (answer_of answer.now) }
-{
-    is_interface(event) || is_refused(answer)
-}
-
 impl World {
     // What the event does. Each kind of event is a function by itself, so that none prepares what another needs.
-    #[inline(always)]
     fn does(&mut self, event: &Event<'_>) -> Result<Answer, AllocError>
         ensures does { IfOk result (λ a. Does (event_of event.now) self.old (answer_of a) self.new) }
         ensures kept { OnErr result (self.new ≡ self.old) }
@@ -78,11 +71,12 @@ impl World {
         }
     }
 
-    // After any answer but a refusal the number of cores stands; but interfaces may be added before it is set.
-    fn settle(&mut self, event: &Event<'_>, answer: &Answer)
-        ensures settled { self.new ≡ settled (event_of event.now) (answer_of answer.now) self.old }
+    // After any answer but a refusal the number of cores stands.
+    #[inline(always)]
+    pub(crate) fn close(&mut self, answer: &Answer)
+        ensures closed { self.new ≡ settled_by (answer_of answer.now) self.old }
     {
-        if leaves_cores_open(event, answer) {
+        if is_refused(answer) {
             return;
         }
         self.may_set_cores = false;
@@ -90,6 +84,26 @@ impl World {
 
     // The same for what an event came to, where it lies: an answer is large to move.
     #[inline(always)]
+    pub(crate) fn close_by(&mut self, outcome: &Result<Answer, AllocError>)
+        ensures closed { IfOk outcome.now (λ a. self.new ≡ settled_by (answer_of a) self.old) }
+        ensures kept { OnErr outcome.now (self.new ≡ self.old) }
+    {
+        if let Ok(answer) = outcome {
+            self.close(answer);
+        }
+    }
+
+    // The same, but interfaces may be added before it is set.
+    fn settle(&mut self, event: &Event<'_>, answer: &Answer)
+        ensures settled { self.new ≡ settled (event_of event.now) (answer_of answer.now) self.old }
+    {
+        if is_interface(event) {
+            return;
+        }
+        self.close(answer);
+    }
+
+    // The same for what an event came to.
     fn settle_by(&mut self, event: &Event<'_>, outcome: &Result<Answer, AllocError>)
         ensures settled { IfOk outcome.now (λ a. self.new ≡ settled (event_of event.now) (answer_of a) self.old) }
         ensures kept { OnErr outcome.now (self.new ≡ self.old) }
@@ -103,7 +117,6 @@ impl World {
     ///
     /// # Errors
     /// Want of memory, for events that make something, make or handle calls, or hear messages. Nothing has changed.
-    #[inline(always)]
     pub fn replay(&mut self, event: &Event<'_>) -> Result<Answer, AllocError>
         ensures steps { IfOk result (λ a. Steps (event_of event.now) self.old (answer_of a) self.new) }
         ensures agrees { IfOk result (λ a. StepsAlike (event_of event.now) self.old (answer_of a) self.new) }

@@ -46,6 +46,7 @@ pub(crate) struct Due {
 }
 
 // What is answered for a turn that looked at an end.
+#[inline(always)]
 fn turned(answer: TurnAnswer, end: EndId) -> Answer
     ensures turned { answer_of result ≡ turn_answer end answer }
 {
@@ -69,6 +70,7 @@ fn sound(core: &Core, e: usize)
 }
 
 // A dispatcher of a core has a turn, over the queue of the end that is due.
+#[inline(always)]
 fn turn_by_queue(core: &mut Core, at: Due, queue: &mut QueueLink) -> Result<Answer, AllocError>
     requires there { at.dispatcher < length core.old.board.dispatchers }
     requires due { due core.old.board at.dispatcher ≡ Some at.end }
@@ -89,6 +91,7 @@ fn turn_by_queue(core: &mut Core, at: Due, queue: &mut QueueLink) -> Result<Answ
 }
 
 // The same over a side that is lent.
+#[inline(always)]
 fn turn_by_side(core: &mut Core, at: Due, side: &mut DuoSide<'_>) -> Result<TurnAnswer, AllocError>
     requires there { at.dispatcher < length core.old.board.dispatchers }
     requires due { due core.old.board at.dispatcher ≡ Some at.end }
@@ -102,6 +105,7 @@ fn turn_by_side(core: &mut Core, at: Due, side: &mut DuoSide<'_>) -> Result<Turn
 }
 
 // The same over side m of a ring. After want of memory the side knows what its look told it.
+#[inline(always)]
 fn turn_over(
     core: &mut Core,
     at: Due,
@@ -124,6 +128,7 @@ fn turn_over(
 }
 
 // The same; after want of memory the ring is as it was.
+#[inline(always)]
 fn turn_by_ring(core: &mut Core, at: Due, ring: &mut OneDuo, m: usize) -> Result<Answer, AllocError>
     requires there { at.dispatcher < length core.old.board.dispatchers }
     requires due { due core.old.board at.dispatcher ≡ Some at.end }
@@ -166,6 +171,7 @@ fn turn_in(core: &mut Core, at: Due) -> Result<Answer, AllocError>
 
 impl World {
     // The end that is due at a dispatcher, by its place.
+    #[inline(always)]
     fn due(&self, d: DispatcherId) -> Option<usize>
         ensures due { result ≡ due_at self.now (id_of d) }
         ensures there { IfSome result (λ e. HasDue self.now.cores (id_of d) e) }
@@ -183,7 +189,7 @@ impl World {
     ///
     /// # Errors
     /// Want of memory.
-    #[inline(never)]
+    #[inline(always)]
     pub(crate) fn turn(&mut self, d: DispatcherId) -> Result<Answer, AllocError>
         ensures turns { IfOk result (λ a. HasTurn (id_of d) self.old (answer_of a) self.new) }
         ensures kept { OnErr result (self.new ≡ self.old) }
@@ -198,6 +204,7 @@ impl World {
     }
 
     // The end at a place, which is due, has the turn.
+    #[inline(always)]
     fn turn_at(&mut self, d: DispatcherId, e: usize) -> Result<Answer, AllocError>
         requires due { HasDue self.old.cores (id_of d) e }
         ensures turns { IfOk result (λ a. TurnsAt (id_of d) e self.old (answer_of a) self.new) }
@@ -216,6 +223,7 @@ impl World {
         }
     }
 
+    #[inline(always)]
     fn turn_over_queue(&mut self, n: usize, at: Due, q: usize) -> Result<Answer, AllocError>
         requires due { IsDueOver self.old.cores n at (Inlet.Queue q) }
         ensures turns { IfOk result (λ a. TurnsFrom (Inlet.Queue q) n at self.old (answer_of a) self.new) }

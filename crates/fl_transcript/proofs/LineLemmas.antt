@@ -20,9 +20,9 @@ use Rattle.fl_lines.specs.Names.{Names}
 use Rattle.fl_lines.specs.Reading.{line_with}
 use Rattle.fl_lines.specs.Told.{names_of}
 use Rattle.fl_transcript.specs.declared.script.Script.{Script as RustScript}
-use Rattle.fl_transcript.specs.Shown.{IsAt, Answered, Answers, AnswersBy, AnswersEvent}
+use Rattle.fl_transcript.specs.Shown.{Answered, Answers, AnswersBy, AnswersEvent}
 use Rattle.fl_transcript.specs.Steps.{Steps}
-use Rattle.fl_transcript.specs.Transcript.{Script, Effect, line, Does, effect_of, writes_refusal}
+use Rattle.fl_transcript.specs.Transcript.{Script, line, Does, effect_of, writes_refusal}
 
 same_names : (n : Names) (a : Answer) → names_after n n a ≡ n
 same_names n a = by (is_done a)
@@ -32,7 +32,7 @@ same_names n a = by (is_done a)
     by false = refl
 
 -- an event that gives no name was asked, and its answer written
-pub asked_event : {M : Type 0} (shows : M → State → Type 0) (old new : RustScript M) (before after : List ℕ) (event : Event) (answer : Answer)
+asked_event : {M : Type 0} (shows : M → State → Type 0) (old new : RustScript M) (before after : List ℕ) (event : Event) (answer : Answer)
     → names_of new.names ≡ names_of old.names → Steps shows old.machine new.machine event answer
     → after ≡ before ++ line (answer_text (names_of new.names) answer) → AnswersBy shows old new before after (λ s. effect_of s (asks event s.names))
 asked_event shows old new before after event answer names steps text s at =
@@ -47,7 +47,7 @@ asked_event shows old new before after event answer names steps text s at =
     }
 
 -- the same of an outcome that is read where it lies
-pub asked_outcome : {M T E F : Type 0} (shows : M → State → Type 0) (old new : RustScript M) (before after : List ℕ) (event : Event)
+asked_outcome : {M T E F : Type 0} (shows : M → State → Type 0) (old new : RustScript M) (before after : List ℕ) (event : Event)
     (outcome : Result RustAnswer F) (result : Result T E) → names_of new.names ≡ names_of old.names
     → IfOk outcome (λ a. Steps shows old.machine new.machine event (answer_of a))
     → OnOk result (IfOk outcome (λ a. after ≡ before ++ line (answer_text (names_of new.names) (answer_of a)))) → OnErr outcome (OnOk result ⊥)
@@ -75,7 +75,7 @@ told_line shows old new before after o told result (inr h) ok memory =
     )) ok
 
 -- an event that was told from a line was asked
-pub line_asked : {M T E : Type 0} (shows : M → State → Type 0) (old new : RustScript M) (before after : List ℕ) (o : Option Command)
+line_asked : {M T E : Type 0} (shows : M → State → Type 0) (old new : RustScript M) (before after : List ℕ) (o : Option Command)
     (event : RustEvent) (result : Result T E) → LineTells (names_of old.names) o (Ok event)
     → OnOk result (AnswersBy shows old new before after (λ s. effect_of s (asks (event_of event) s.names)))
     → OnOk result (Answers shows old new before after (λ s. Does s (a_line (line_with o))))
@@ -83,6 +83,17 @@ line_asked shows old new before after o event result tells ok =
     told_line shows old new before after o (Ok event) result tells
     (on_ok_weaker result (λ f. λ s at asked told. subst (λ (a : Asked). Answered shows new before after (effect_of s a)) told (f s at)) ok)
     (λ bad. absurd (cc))
+
+-- the same of an outcome that is read where it lies
+pub line_stepped : {M T E F : Type 0} (shows : M → State → Type 0) (old new : RustScript M) (before after : List ℕ) (o : Option Command)
+    (event : RustEvent) (outcome : Result RustAnswer F) (result : Result T E) → LineTells (names_of old.names) o (Ok event)
+    → names_of new.names ≡ names_of old.names
+    → IfOk outcome (λ a. Steps shows old.machine new.machine (event_of event) (answer_of a))
+    → OnOk result (IfOk outcome (λ a. after ≡ before ++ line (answer_text (names_of new.names) (answer_of a)))) → OnErr outcome (OnOk result ⊥)
+    → OnOk result (Answers shows old new before after (λ s. Does s (a_line (line_with o))))
+line_stepped shows old new before after o event outcome result tells names steps put none =
+    line_asked shows old new before after o event result tells
+    (asked_outcome shows old new before after (event_of event) outcome result names steps put none)
 
 -- a line that asks nothing was refused
 pub line_refused : {M T E : Type 0} (shows : M → State → Type 0) (old new : RustScript M) (before after : List ℕ) (o : Option Command)

@@ -20,8 +20,7 @@ ghost use Rattle.fl_text.specs.Text.{stands_for, text_fault};
 use crate::machine::QueueMachine;
 use fl_interface::Interface;
 use fl_lines::{
-    Answer, Asked, Command, Event, LineFault, Names, Part, Verb, print_answer, print_fault,
-    read_command,
+    Answer, Asked, Command, LineFault, Names, Part, Verb, print_answer, print_fault, read_command,
 };
 use fl_text::{TextRead, read_text};
 use fl_value::PlanNo;
@@ -86,16 +85,6 @@ impl<M: QueueMachine> Script<M> {
         let answer = self.machine.step(asked.event)?;
         self.names.take_up(naming, &answer)?;
         self.put_answer(&answer, out)
-    }
-
-    // Asks the system an event that gives no name, and writes the answer.
-    #[inline(always)]
-    fn ask(&mut self, event: Event<'_>, out: &mut Vec<u8>) -> Result<(), AllocError>
-        ensures ok { OnOk result (AnswersBy M.shows self.old self.new out.old.items out.new.items
-            (λ s. effect_of s (asks (event_of event.entry) s.names))) }
-    {
-        let outcome = self.machine.step(event);
-        self.put_outcome(&outcome, out)
     }
 
     // Writes `refused En`.
@@ -204,7 +193,10 @@ impl<M: QueueMachine> Script<M> {
             (λ s. Does s (a_line (line_with (command_by Verb.Call rest.now))))) }
     {
         match self.names.call_line(rest) {
-            Ok((end, call)) => self.ask(Event::Call(end, call), out),
+            Ok((end, call)) => {
+                let outcome = self.machine.step_call(end, &call);
+                self.put_outcome(&outcome, out)
+            }
             Err(fault) => self.refuse_by(fault, out),
         }
     }
@@ -215,7 +207,10 @@ impl<M: QueueMachine> Script<M> {
             (λ s. Does s (a_line (line_with (command_by Verb.Write rest.now))))) }
     {
         match self.names.write_line(rest) {
-            Ok(end) => self.ask(Event::Write(end), out),
+            Ok(end) => {
+                let outcome = self.machine.step_write(end);
+                self.put_outcome(&outcome, out)
+            }
             Err(fault) => self.refuse_by(fault, out),
         }
     }
@@ -226,7 +221,10 @@ impl<M: QueueMachine> Script<M> {
             (λ s. Does s (a_line (line_with (command_by Verb.Turn rest.now))))) }
     {
         match self.names.turn_line(rest) {
-            Ok(dispatcher) => self.ask(Event::Turn(dispatcher), out),
+            Ok(dispatcher) => {
+                let outcome = self.machine.step_turn(dispatcher);
+                self.put_outcome(&outcome, out)
+            }
             Err(fault) => self.refuse_by(fault, out),
         }
     }
@@ -237,7 +235,10 @@ impl<M: QueueMachine> Script<M> {
             (λ s. Does s (a_line (line_with (command_by Verb.Show rest.now))))) }
     {
         match self.names.show_line(rest) {
-            Ok(end) => self.ask(Event::Show(end), out),
+            Ok(end) => {
+                let outcome = self.machine.step_show(end);
+                self.put_outcome(&outcome, out)
+            }
             Err(fault) => self.refuse_by(fault, out),
         }
     }
@@ -248,7 +249,10 @@ impl<M: QueueMachine> Script<M> {
             (λ s. Does s (a_line (line_with (command_by Verb.Ack rest.now))))) }
     {
         match self.names.ack_line(rest) {
-            Ok(end) => self.ask(Event::Acknowledge(end), out),
+            Ok(end) => {
+                let outcome = self.machine.step_acknowledge(end);
+                self.put_outcome(&outcome, out)
+            }
             Err(fault) => self.refuse_by(fault, out),
         }
     }
@@ -259,7 +263,10 @@ impl<M: QueueMachine> Script<M> {
             (λ s. Does s (a_line (line_with (command_by Verb.Forward rest.now))))) }
     {
         match self.names.forward_line(rest) {
-            Ok((core, neighbour)) => self.ask(Event::Forward { core, neighbour }, out),
+            Ok((core, neighbour)) => {
+                let outcome = self.machine.step_forward(core, neighbour);
+                self.put_outcome(&outcome, out)
+            }
             Err(fault) => self.refuse_by(fault, out),
         }
     }

@@ -1,7 +1,9 @@
 //! A system that stays as it is at its start: each event is out of memory.
 
-use fl_lines::{Answer, Event};
+use fl_base::EndId;
+use fl_lines::{Answer, DispatcherId, Event};
 use fl_transcript::QueueMachine;
+use fl_value::Call;
 use std::alloc::{AllocError, Global};
 
 #[derive(Drop)]
@@ -18,6 +20,30 @@ impl QueueMachine for Still {
     }
 
     fn step(&mut self, _event: Event<'_>) -> Result<Answer, AllocError> {
+        Err(AllocError)
+    }
+
+    fn step_call(&mut self, _end: EndId, _call: &Call) -> Result<Answer, AllocError> {
+        Err(AllocError)
+    }
+
+    fn step_write(&mut self, _end: EndId) -> Result<Answer, AllocError> {
+        Err(AllocError)
+    }
+
+    fn step_turn(&mut self, _dispatcher: DispatcherId) -> Result<Answer, AllocError> {
+        Err(AllocError)
+    }
+
+    fn step_show(&mut self, _end: EndId) -> Result<Answer, AllocError> {
+        Err(AllocError)
+    }
+
+    fn step_acknowledge(&mut self, _end: EndId) -> Result<Answer, AllocError> {
+        Err(AllocError)
+    }
+
+    fn step_forward(&mut self, _core: u32, _neighbour: u32) -> Result<Answer, AllocError> {
         Err(AllocError)
     }
 }

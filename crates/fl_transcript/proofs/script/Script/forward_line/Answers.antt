@@ -1,7 +1,8 @@
+use Rattle.std.proofs.Common.{refl}
 use Rattle.fl_lines.specs.declared.event.Event.TheVariants as event
 use Rattle.fl_lines.specs.Reading.{command_by}
 use Rattle.fl_lines.specs.declared.command.Verb.TheVariants as verb
-use Rattle.fl_transcript.proofs.LineLemmas.{line_asked, line_refused}
+use Rattle.fl_transcript.proofs.LineLemmas.{line_stepped, line_refused}
 use Rattle.fl_transcript.proofs.script.Script.forward_line.Goals as goal
 
 pub returns-in-Ok : goal.returns-in-Ok
@@ -9,8 +10,9 @@ returns-in-Ok g c =
     let tells = rw c.in-Ok.is at c.forward_line.ensures.tells in
     record {
       ok =
-          line_asked g.M.QueueMachine.shows c.args.self.now c.ask.new.self c.args.out.now.items c.ask.new.out.items
-          (command_by verb.Forward c.args.rest.now) (event.Forward c.in-Ok.core c.in-Ok.neighbour) c.ask.result tells c.ask.ensures.ok;
+          line_stepped g.M.QueueMachine.shows c.args.self.now (record c.args.self.now { machine = c.step_forward-outcome.new.self }) c.args.out.now.items
+          c.put_outcome.new.out.items (command_by verb.Forward c.args.rest.now) (event.Forward c.in-Ok.core c.in-Ok.neighbour)
+          c.step_forward-outcome.result c.put_outcome.result tells refl c.step_forward-outcome.ensures.steps c.put_outcome.ensures.put c.put_outcome.ensures.none;
     }
 
 pub returns-in-Err : goal.returns-in-Err
