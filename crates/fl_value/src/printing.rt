@@ -1,6 +1,6 @@
 //! Calls as text, each in one form: what answers show.
 
-ghost use Rattle.std.specs.Prelude.{◌≡◌, ◌++◌, ◌<◌, ◌≤◌, List, OnOk, OnErr, map, length};
+ghost use Rattle.std.specs.Prelude.{◌≡◌, ◌++◌, ◌∷◌, [], ◌<◌, ◌≤◌, List, OnOk, OnErr, map, length};
 ghost use Rattle.std.specs.List.{list_all, prefix_len};
 ghost use Rattle.std.specs.Char.{digit_char};
 ghost use Rattle.std.specs.Fmt.{decimal, signed_decimal};
@@ -72,6 +72,7 @@ fn print_byte(out: &mut Vec<u8>, byte: u8) -> Result<(), AllocError>
 }
 
 /// Appends a text in quotes.
+#[inline(never)]
 fn print_text(out: &mut Vec<u8>, bytes: &[u8]) -> Result<(), AllocError>
     ensures printed { OnOk result (out.new.items ≡ out.old.items ++ printed_text bytes.now) }
     ensures begun { OnErr result (BeginsToAppend out.old.items out.new.items (printed_text bytes.now)) }
@@ -129,23 +130,32 @@ fn print_value(out: &mut Vec<u8>, value: &Value) -> Result<(), AllocError>
     match value {
         Value::Int(number) => print_number(out, *number),
         Value::Text(bytes) => print_text(out, bytes),
-        Value::List(values) => {
-            out.push(b'[')?;
-            print_values(out, values)?;
-            out.push(b']')?;
-            Ok(())
-        }
-        Value::Fields(values) => {
-            out.push(b'{')?;
-            print_values(out, values)?;
-            out.push(b'}')?;
-            Ok(())
-        }
+        Value::List(values) => print_nested(out, b'[', values, b']'),
+        Value::Fields(values) => print_nested(out, b'{', values, b'}'),
     }
+}
+
+/// Appends values between two marks.
+#[cycle(printing)]
+#[inline(never)]
+fn print_nested(
+    out: &mut Vec<u8>,
+    opening: u8,
+    values: &[Value],
+    closing: u8,
+) -> Result<(), AllocError>
+    ensures printed { OnOk result (out.new.items ≡ out.old.items ++ opening ∷ (printed_values (data_from (map datum_of values.now)) ++ closing ∷ [])) }
+    ensures begun { OnErr result (BeginsToAppend out.old.items out.new.items (opening ∷ (printed_values (data_from (map datum_of values.now)) ++ closing ∷ []))) }
+{
+    out.push(opening)?;
+    print_values(out, values)?;
+    out.push(closing)?;
+    Ok(())
 }
 
 /// Appends values with `, ` between any two.
 #[cycle(printing)]
+#[inline(always)]
 fn print_values(out: &mut Vec<u8>, values: &[Value]) -> Result<(), AllocError>
     ensures printed { OnOk result (out.new.items ≡ out.old.items ++ printed_values (data_from (map datum_of values.now))) }
     ensures begun { OnErr result (BeginsToAppend out.old.items out.new.items (printed_values (data_from (map datum_of values.now)))) }

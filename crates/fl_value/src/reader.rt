@@ -40,6 +40,7 @@ fn read_value(alloc: Global, bytes: &[u8], depth: u32) -> Result<(Value, &[u8]),
 /// The values between an opening and a closing mark, and what follows them; none where the opening
 /// mark doesn't stand.
 #[cycle(values)]
+#[inline(never)]
 fn read_nested(
     alloc: Global,
     bytes: &[u8],
@@ -68,6 +69,7 @@ fn read_nested(
 
 /// The values up to a closing mark, with a comma between any two, and what follows the mark.
 #[cycle(values)]
+#[inline(always)]
 pub(crate) fn read_values(
     alloc: Global,
     bytes: &[u8],

@@ -1,10 +1,8 @@
-use Rattle.std.proofs.Common.{◌≡◌, ◌≤◌, ◌+◌, ℕ, zero, suc, List, [], ◌∷◌, ◌++◌, length, map, drop, refl, ap, sym, subst, ◌∙◌, append_assoc, arith, rules}
+use Rattle.std.proofs.Common.{◌≡◌, ◌≤◌, ◌+◌, ℕ, zero, suc, List, [], ◌∷◌, ◌++◌, length, map, drop, refl, ap, sym, subst, ◌∙◌, append_assoc, arith}
 use Rattle.std.proofs.lemmas.Bool.Decides.{nat_tests}
 use Rattle.std.proofs.lemmas.List.{drop_all}
 use Rattle.fl_value.specs.declared.value.Value.{Value}
-use Rattle.fl_value.specs.declared.value.Value.TheViews.{the_lemmas as value_lemmas}
-use Rattle.fl_value.specs.declared.value.Value.TheFolds.{fold-roll-Value, fold_out-Value}
-use Rattle.fl_value.specs.Value.{Datum, Data, datum_step, datum_of, data_from, elements, fields, nothing_more, also}
+use Rattle.fl_value.specs.Value.{Datum, Data, datum_of, data_from, nothing_more, also}
 use Rattle.fl_value.specs.Printed.{printed_value, printed_values, separator, BeginsToAppend}
 use Rattle.fl_value.proofs.Begun.{IsLeft, one_piece_less, none_left, begun_left, begun_piece, not_begun, on_refusal}
 use Rattle.fl_value.proofs.Prints.{printed_from}
@@ -68,73 +66,30 @@ begun_closing opening closing old opened inside new inner first second same =
     begun_left old inside new (opening ∷ (inner ++ closing ∷ [])) (closing ∷ [])
     (one_piece_less old opened inside (opening ∷ (inner ++ closing ∷ [])) (inner ++ closing ∷ []) inner (closing ∷ []) (opening ∷ [], refl, first) refl second) same
 
-pub print_value-returns-in_ok-push-in-List-2 : goal.print_value-returns-in_ok-push-in-List-2
-print_value-returns-in_ok-push-in-List-2 t c =
-    let inner = printed_values (data_from (map datum_of c.in-List.values.items)) in
-    let value : elements (data_from (map datum_of c.in-List.values.items)) ≡ datum_of c.args.value.now = search (rules, value_lemmas, fold-roll-Value Datum datum_step, fold_out-Value Datum datum_step) in
-    let values = rw c.deref-in-List.ensures.value at c.in_ok-print_values-in-List.ensures.printed in
+pub print_nested-returns : goal.print_nested-returns
+print_nested-returns t c =
+    let inner = printed_values (data_from (map datum_of c.args.values.now)) in
     record {
-      printed = subst (λ (d : Datum). c.push-in-List.new.self.items ≡ c.args.out.now.items ++ printed_value d) value
-          (enclosed 91 93 c.args.out.now.items c.push.new.self.items c.print_values.new.out.items c.push-in-List.new.self.items inner c.in_ok-push-in-List.ensures.items values c.in_ok-push-in-List-2.ensures.items);
+      printed = enclosed c.args.opening c.args.closing c.args.out.now.items c.push.new.self.items c.print_values.new.out.items c.push-2.new.self.items inner c.in_ok-push.ensures.items c.in_ok-print_values.ensures.printed c.in_ok-push-2.ensures.items;
       begun = tt;
     }
 
-pub print_value-returns-in_ok-push-in-Fields-2 : goal.print_value-returns-in_ok-push-in-Fields-2
-print_value-returns-in_ok-push-in-Fields-2 t c =
-    let inner = printed_values (data_from (map datum_of c.in-Fields.values.items)) in
-    let value : fields (data_from (map datum_of c.in-Fields.values.items)) ≡ datum_of c.args.value.now = search (rules, value_lemmas, fold-roll-Value Datum datum_step, fold_out-Value Datum datum_step) in
-    let values = rw c.deref-in-Fields.ensures.value at c.in_ok-print_values-in-Fields.ensures.printed in
-    record {
-      printed = subst (λ (d : Datum). c.push-in-Fields-2.new.self.items ≡ c.args.out.now.items ++ printed_value d) value
-          (enclosed 123 125 c.args.out.now.items c.push-in-Fields.new.self.items c.print_values-in-Fields.new.out.items c.push-in-Fields-2.new.self.items inner c.in_ok-push-in-Fields.ensures.items values c.in_ok-push-in-Fields-2.ensures.items);
-      begun = tt;
-    }
+pub print_nested-returns-in_err-push-clause-begun : goal.print_nested-returns-in_err-push-clause-begun
+print_nested-returns-in_err-push-clause-begun t c =
+    let inner = printed_values (data_from (map datum_of c.args.values.now)) in
+    on_refusal c.from_residual.result (not_begun c.args.out.now.items c.push.new.self.items (c.args.opening ∷ (inner ++ c.args.closing ∷ [])) c.in_err-push.ensures.items)
 
-pub print_value-returns-in_err-push-in-List-clause-begun : goal.print_value-returns-in_err-push-in-List-clause-begun
-print_value-returns-in_err-push-in-List-clause-begun t c =
-    on_refusal c.from_residual.result
-    (not_begun c.args.out.now.items c.push.new.self.items (printed_value (datum_of c.args.value.now)) c.in_err-push-in-List.ensures.items)
+pub print_nested-returns-in_err-print_values-clause-begun : goal.print_nested-returns-in_err-print_values-clause-begun
+print_nested-returns-in_err-print_values-clause-begun t c =
+    let inner = printed_values (data_from (map datum_of c.args.values.now)) in
+    on_refusal c.from_residual-in_err-print_values.result
+    (begun_inside c.args.opening c.args.closing c.args.out.now.items c.push.new.self.items c.print_values.new.out.items inner c.in_ok-push.ensures.items c.in_err-print_values.ensures.begun)
 
-pub print_value-returns-in_err-print_values-in-List-clause-begun : goal.print_value-returns-in_err-print_values-in-List-clause-begun
-print_value-returns-in_err-print_values-in-List-clause-begun t c =
-    let inner = printed_values (data_from (map datum_of c.in-List.values.items)) in
-    let value : elements (data_from (map datum_of c.in-List.values.items)) ≡ datum_of c.args.value.now = search (rules, value_lemmas, fold-roll-Value Datum datum_step, fold_out-Value Datum datum_step) in
-    let begun = rw c.deref-in-List.ensures.value at c.in_err-print_values-in-List.ensures.begun in
-    on_refusal c.from_residual-in_err-print_values-in-List.result
-    (subst (λ (d : Datum). BeginsToAppend c.args.out.now.items c.print_values.new.out.items (printed_value d)) value
-    (begun_inside 91 93 c.args.out.now.items c.push.new.self.items c.print_values.new.out.items inner c.in_ok-push-in-List.ensures.items begun))
-
-pub print_value-returns-in_err-push-in-List-2-clause-begun : goal.print_value-returns-in_err-push-in-List-2-clause-begun
-print_value-returns-in_err-push-in-List-2-clause-begun t c =
-    let inner = printed_values (data_from (map datum_of c.in-List.values.items)) in
-    let value : elements (data_from (map datum_of c.in-List.values.items)) ≡ datum_of c.args.value.now = search (rules, value_lemmas, fold-roll-Value Datum datum_step, fold_out-Value Datum datum_step) in
-    let values = rw c.deref-in-List.ensures.value at c.in_ok-print_values-in-List.ensures.printed in
-    on_refusal c.from_residual-in_err-push-in-List-2.result
-    (subst (λ (d : Datum). BeginsToAppend c.args.out.now.items c.push-in-List.new.self.items (printed_value d)) value
-    (begun_closing 91 93 c.args.out.now.items c.push.new.self.items c.print_values.new.out.items c.push-in-List.new.self.items inner c.in_ok-push-in-List.ensures.items values c.in_err-push-in-List-2.ensures.items))
-
-pub print_value-returns-in_err-push-in-Fields-clause-begun : goal.print_value-returns-in_err-push-in-Fields-clause-begun
-print_value-returns-in_err-push-in-Fields-clause-begun t c =
-    on_refusal c.from_residual-in_err-push-in-Fields.result
-    (not_begun c.args.out.now.items c.push-in-Fields.new.self.items (printed_value (datum_of c.args.value.now)) c.in_err-push-in-Fields.ensures.items)
-
-pub print_value-returns-in_err-print_values-in-Fields-clause-begun : goal.print_value-returns-in_err-print_values-in-Fields-clause-begun
-print_value-returns-in_err-print_values-in-Fields-clause-begun t c =
-    let inner = printed_values (data_from (map datum_of c.in-Fields.values.items)) in
-    let value : fields (data_from (map datum_of c.in-Fields.values.items)) ≡ datum_of c.args.value.now = search (rules, value_lemmas, fold-roll-Value Datum datum_step, fold_out-Value Datum datum_step) in
-    let begun = rw c.deref-in-Fields.ensures.value at c.in_err-print_values-in-Fields.ensures.begun in
-    on_refusal c.from_residual-in_err-print_values-in-Fields.result
-    (subst (λ (d : Datum). BeginsToAppend c.args.out.now.items c.print_values-in-Fields.new.out.items (printed_value d)) value
-    (begun_inside 123 125 c.args.out.now.items c.push-in-Fields.new.self.items c.print_values-in-Fields.new.out.items inner c.in_ok-push-in-Fields.ensures.items begun))
-
-pub print_value-returns-in_err-push-in-Fields-2-clause-begun : goal.print_value-returns-in_err-push-in-Fields-2-clause-begun
-print_value-returns-in_err-push-in-Fields-2-clause-begun t c =
-    let inner = printed_values (data_from (map datum_of c.in-Fields.values.items)) in
-    let value : fields (data_from (map datum_of c.in-Fields.values.items)) ≡ datum_of c.args.value.now = search (rules, value_lemmas, fold-roll-Value Datum datum_step, fold_out-Value Datum datum_step) in
-    let values = rw c.deref-in-Fields.ensures.value at c.in_ok-print_values-in-Fields.ensures.printed in
-    on_refusal c.from_residual-in_err-push-in-Fields-2.result
-    (subst (λ (d : Datum). BeginsToAppend c.args.out.now.items c.push-in-Fields-2.new.self.items (printed_value d)) value
-    (begun_closing 123 125 c.args.out.now.items c.push-in-Fields.new.self.items c.print_values-in-Fields.new.out.items c.push-in-Fields-2.new.self.items inner c.in_ok-push-in-Fields.ensures.items values c.in_err-push-in-Fields-2.ensures.items))
+pub print_nested-returns-in_err-push-2-clause-begun : goal.print_nested-returns-in_err-push-2-clause-begun
+print_nested-returns-in_err-push-2-clause-begun t c =
+    let inner = printed_values (data_from (map datum_of c.args.values.now)) in
+    on_refusal c.from_residual-in_err-push-2.result
+    (begun_closing c.args.opening c.args.closing c.args.out.now.items c.push.new.self.items c.print_values.new.out.items c.push-2.new.self.items inner c.in_ok-push.ensures.items c.in_ok-print_values.ensures.printed c.in_err-push-2.ensures.items)
 
 pub print_values-loop-index-preserved : goal.print_values-loop-index-preserved
 print_values-loop-index-preserved t c =
