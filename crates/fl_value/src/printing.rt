@@ -99,6 +99,7 @@ fn print_digit(out: &mut Vec<u8>, digit: u8) -> Result<(), AllocError>
 }
 
 /// Appends a number in its shortest form.
+#[inline(always)]
 fn print_number(out: &mut Vec<u8>, number: i128) -> Result<(), AllocError>
     ensures printed { OnOk result (out.new.items ≡ out.old.items ++ signed_decimal number) }
     ensures begun { OnErr result (BeginsToAppend out.old.items out.new.items (signed_decimal number)) }
@@ -123,6 +124,7 @@ fn print_separator(out: &mut Vec<u8>, index: usize) -> Result<(), AllocError>
 
 /// Appends a value.
 #[cycle(printing)]
+#[inline(always)]
 fn print_value(out: &mut Vec<u8>, value: &Value) -> Result<(), AllocError>
     ensures printed { OnOk result (out.new.items ≡ out.old.items ++ printed_value (datum_of value.now)) }
     ensures begun { OnErr result (BeginsToAppend out.old.items out.new.items (printed_value (datum_of value.now))) }

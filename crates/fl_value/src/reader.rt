@@ -16,6 +16,7 @@ const FEW: usize = 8;
 /// The value that the bytes begin with, its arrays and structs nested at most so deep, and what
 /// follows it.
 #[cycle(values)]
+#[inline(always)]
 fn read_value(alloc: Global, bytes: &[u8], depth: u32) -> Result<(Value, &[u8]), ValueFault>
     ensures found { IfOk result (λ r. SpellsValue (datum_of r.0) bytes.now r.1.now) }
     ensures shallow { IfOk result (λ r. depth_of (datum_of r.0) ≤ depth) }

@@ -104,6 +104,7 @@ fn push_each(tape: &mut Vec<u64>, bytes: &[u8]) -> Result<(), AllocError>
 }
 
 /// Appends a string's bytes, eight at a time.
+#[inline(never)]
 fn push_bytes(tape: &mut Vec<u64>, bytes: &[u8]) -> Result<(), AllocError>
     ensures tape { OnOk result (tape.new.items ≡ tape.old.items ++ bytes.now) }
 {
@@ -151,6 +152,7 @@ fn push_fixed(tape: &mut Vec<u64>, fixed: &FixedType, value: &Value) -> Result<(
 }
 
 /// Appends an argument's numbers.
+#[inline(always)]
 fn push_argument(tape: &mut Vec<u64>, argument: &ArgType, value: &Value) -> Result<(), AllocError>
     ensures tape { OnOk result (tape.new.items ≡ tape.old.items ++ argument_tape (arg_type_of argument.now) (datum_of value.now)) }
 {

@@ -65,6 +65,7 @@ fn count_digits(bytes: &[u8]) -> usize
 }
 
 /// The number that at most 19 digits write: it fits a word.
+#[inline(always)]
 fn short_value(digits: &[u8]) -> u64
     requires digits { list_all is_digit digits.now ≡ true }
     requires few { length digits.now ≤ 19 }
@@ -135,6 +136,7 @@ fn negative(value: u128) -> i128
 }
 
 /// The number that the bytes begin with, perhaps after blanks, and what follows it.
+#[inline(always)]
 pub(crate) fn read_number(bytes: &[u8]) -> Option<(i128, &[u8])>
     ensures found { IfSome result (λ r. Token (a_number r.0) bytes.now r.1.now) }
     ensures none { IfNone result ((z : ℤ) (rest : List ℕ) → Token (a_number z) bytes.now rest → ⊥) }
@@ -265,6 +267,7 @@ fn read_bytes(alloc: Global, bytes: &[u8]) -> Result<(Vec<u8>, &[u8]), AllocErro
 
 /// The bytes of the text that the bytes begin with, perhaps after blanks, and what follows its
 /// closing quote.
+#[inline(never)]
 pub(crate) fn read_text(alloc: Global, bytes: &[u8]) -> Result<Option<(Vec<u8>, &[u8])>, AllocError>
     ensures found { IfOk result (λ o. IfSome o (λ r. Token (a_text r.0.items) bytes.now r.1.now)) }
     ensures none { IfOk result (λ o. IfNone o ((s rest : List ℕ) → Token (a_text s) bytes.now rest → ⊥)) }

@@ -43,7 +43,7 @@ fn signed_from(bits: u64, half: u64) -> Option<i128>
 }
 
 /// The value of a scalar that has these bits.
-#[inline]
+#[inline(always)]
 fn scalar_from(scalar: Scalar, bits: u64) -> Option<i128>
     ensures same { result ≡ scalar_back scalar bits }
 {
@@ -249,6 +249,7 @@ fn read_bytes(
 }
 
 /// The string of at most so many bytes that the tape begins with, and what follows it.
+#[inline(never)]
 fn read_string(
     alloc: Global,
     tape: &[u64],
@@ -264,6 +265,7 @@ fn read_string(
 }
 
 /// The sized array of at most so many elements that the tape begins with, and what follows it.
+#[inline(never)]
 fn read_sized<'a>(
     alloc: Global,
     tape: &'a [u64],
@@ -301,6 +303,7 @@ fn read_fixed<'a>(
 }
 
 /// The argument that the tape begins with, and what follows it.
+#[inline(always)]
 fn read_argument<'a>(
     alloc: Global,
     tape: &'a [u64],
