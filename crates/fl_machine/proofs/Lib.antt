@@ -11,3 +11,4 @@ pub mod Storing
 pub mod Rounds
 pub mod Circuits
 pub mod Plains
+pub mod Emits

@@ -1,7 +1,8 @@
 -- Working file: code without loops, whose fields lie in one fragment.
-use Rattle.std.specs.Prelude.{ℕ, ◌+◌, ◌%◌, ◌≤◌, Bool, true, false, List, []}
+use Rattle.std.specs.Prelude.{drop, ℕ, ◌+◌, ◌%◌, ◌≤◌, Bool, true, false, List, []}
 use Rattle.fl_stub.specs.declared.op.Op.{Op}
 use Rattle.fl_stub.specs.declared.op.Op.TheVariants.{Read, ReadBool, ReadEnum, ReadChar, ReadText, Skip}
+use Rattle.fl_stub.specs.Spots.{TheSpot}
 use Rattle.fl_machine.specs.declared.intake.Field.{Field}
 use Rattle.fl_machine.specs.declared.intake.Intake.{Intake}
 use Rattle.fl_machine.specs.Taking.{Grows, bytes_left}
@@ -26,3 +27,7 @@ pub record HasNumber (f : Field) (buffer : List ℕ) (used number : ℕ) : Type 
   pub grows : Grows 0 0 number f.width (bytes_left buffer used) (bytes_left buffer (used + f.width))
   pub least : f.least ≤ number
   pub last : number ≤ f.last
+
+-- where a run of send code stands that has given so many numbers of a tape, in so many bytes, and nothing else
+abbrev pub plain_spot : List ℕ → ℕ → ℕ → TheSpot
+plain_spot tape count filled = record { place = count; loops = []; tape = drop count tape; at = filled % 8; value = 0; width = 0 }

@@ -48,7 +48,7 @@ pub(crate) fn low_byte(number: u64) -> u8
 
 // The number without the bytes above so many.
 #[inline(always)]
-fn low_bytes(value: u64, width: u32) -> u64
+pub(crate) fn low_bytes(value: u64, width: u32) -> u64
     requires { is_width width ≡ true }
     ensures bytes { number_bytes width result ≡ number_bytes width value }
     ensures small { result < 256 ^ width }

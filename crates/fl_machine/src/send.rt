@@ -1,6 +1,6 @@
 //! Runs of send code.
 
-ghost use Rattle.std.specs.Prelude.{◌≡◌, ◌≢◌, ◌+◌, ◌<◌, ◌≤◌, ◌++◌, ◌∷◌, ℕ, true, List, [], take, drop, map, length, slice_get, slice_index};
+ghost use Rattle.std.specs.Prelude.{◌≡◌, ◌≢◌, ◌+◌, ◌<◌, ◌≤◌, ◌++◌, ◌∷◌, ℕ, true, List, [], take, drop, map, length, slice_get, slice_index, IfSome};
 ghost use Rattle.std.specs.List.{range_with_len};
 ghost use Rattle.fl_base.specs.Control.{control_word};
 ghost use Rattle.fl_stub.specs.declared.op.Column.TheVariants.{Send as send};
@@ -10,10 +10,12 @@ ghost use Rattle.fl_stub.specs.Given.{bytes_given};
 ghost use Rattle.fl_stub.specs.Spots.{IsSpot, IsSettled, bytes_from};
 ghost use Rattle.fl_machine.specs.Cursors.{spot_of, low_byte as low_byte_of, IsRun};
 ghost use Rattle.fl_machine.specs.Filling.{Holds, Puts, PutsRun};
+ghost use Rattle.fl_machine.specs.Plain.{plain_spot};
 ghost use Rattle.fl_wire.specs.Payload.{word as word_of};
 ghost use Rattle.fl_machine.specs.Sending.{frags_holding, frags_left, RunsOn};
 
-use crate::cursor::{Cursor, low_byte};
+use crate::cursor::{Cursor, low_byte, low_bytes};
+use crate::intake::op_at;
 use fl_base::{Circuit, Frag, MsgNo, control};
 use fl_stub::{Op, VerifiedCode};
 use std::marker::Model;
@@ -234,10 +236,9 @@ fn fill(cursor: &mut Cursor, ops: &[Op], tape: &[u64]) -> [u8; 56]
     buffer
 }
 
-/// The first fragment of a call, by its message's send code and its tape: that which [`SendRun::start`]'s run gives first.
-/// A call of one fragment needs no run, which would be moved about. Takes no memory.
-#[inline]
-pub fn first_frag(code: &VerifiedCode, msg: MsgNo, circuit: Circuit, tape: &[u64]) -> Frag
+// As `first_frag`, for all code.
+#[inline(never)]
+fn run_first(code: &VerifiedCode, msg: MsgNo, circuit: Circuit, tape: &[u64]) -> Frag
     requires { code.now.column ≡ send }
     ensures { Some result ≡ slice_get (frags_holding true msg.0 circuit.0 (bytes_given (block_of code.now.ops) tape.now)) 0 }
 {
@@ -246,6 +247,48 @@ pub fn first_frag(code: &VerifiedCode, msg: MsgNo, circuit: Circuit, tape: &[u64
     cursor.settle(ops, tape);
     let buffer = fill(&mut cursor, ops, tape);
     frag_with(&buffer, true, msg, circuit)
+}
+
+// The bytes of a call whose send code gives numbers alone, zeros after their end; `None` for other code, and where they may be more
+// than a fragment's.
+#[inline(always)]
+fn plain_bytes(ops: &[Op], tape: &[u64]) -> Option<[u8; 56]>
+    requires spot { IsSpot ops.now (plain_spot tape.now 0 0) }
+    ensures bytes { IfSome result (λ buffer. (i : ℕ) → i < 56 → slice_index buffer i ≡ slice_index (bytes_from ops.now (plain_spot tape.now 0 0)) i) }
+{
+    let mut buffer = [0; 56];
+    let mut count = 0;
+    let mut filled = 0;
+    while count < ops.len() {
+        let Some(op) = op_at(ops, count) else {
+            return None;
+        };
+        let width = match op {
+            Op::Emit(width) => width,
+            Op::End => return Some(buffer),
+            _ => return None,
+        };
+        if filled > 48 || count >= tape.len() {
+            return None;
+        }
+        put_number(&mut buffer, filled, low_bytes(tape[count], width));
+        filled += width as usize;
+        count += 1;
+    }
+    None
+}
+
+/// The first fragment of a call, by its message's send code and its tape: that which [`SendRun::start`]'s run gives first.
+/// A call of one fragment needs no run, which would be moved about. Takes no memory.
+#[inline]
+pub fn first_frag(code: &VerifiedCode, msg: MsgNo, circuit: Circuit, tape: &[u64]) -> Frag
+    requires { code.now.column ≡ send }
+    ensures { Some result ≡ slice_get (frags_holding true msg.0 circuit.0 (bytes_given (block_of code.now.ops) tape.now)) 0 }
+{
+    match plain_bytes(code.ops(), tape) {
+        Some(buffer) => frag_with(&buffer, true, msg, circuit),
+        None => run_first(code, msg, circuit, tape),
+    }
 }
 
 impl SendRun {

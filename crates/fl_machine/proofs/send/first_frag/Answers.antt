@@ -1,16 +1,23 @@
 use Rattle.std.proofs.Common.{List, true, inl, refl, ◌∙◌, ap}
-use Rattle.std.specs.Prelude.{slice_get}
+use Rattle.std.specs.Prelude.{slice_get, []}
 use Rattle.fl_base.specs.declared.fragment.Frag.{Frag}
+use Rattle.fl_machine.specs.declared.cursor.Cursor.{Cursor}
 use Rattle.fl_machine.proofs.Fragments.{first_is_spot, starts, sent}
 use Rattle.fl_machine.proofs.send.first_frag.Goals as goal
 
-pub settle-requires : goal.settle-requires
-settle-requires c =
-    first_is_spot c.args.code.now.column c.args.code.now.ops c.ops-ops.result.now c.args.tape.now c.new-cursor.result c.requires c.ops-ops.ensures.ops c.ops-ops.ensures.structure (c.new-cursor.ensures c.args.tape.now)
+start : Cursor
+start = record { place = 0; loops = []; depth = 0; next = 0; phase = 0; value = 0; width = 0 }
 
-pub returns : goal.returns
-returns c =
-    sent c.args.code.now.ops c.ops-ops.result.now c.args.tape.now c.args.tape.now c.settle.new.self true c.args.msg.0 c.args.circuit.0
-    c.fill-buffer.result c.frag_with.result c.ops-ops.ensures.ops refl c.fill-buffer.ensures.bytes c.frag_with.ensures (inl refl)
-    ∙ ap (λ (frags : List Frag). slice_get frags 0) (starts c.args.code.now.ops c.ops-ops.result.now c.args.tape.now c.args.tape.now c.new-cursor.result c.settle.new.self c.args.msg.0 c.args.circuit.0
-    c.ops-ops.ensures.ops refl (c.new-cursor.ensures c.args.tape.now) c.settle.ensures.bytes)
+pub plain_bytes-requires : goal.plain_bytes-requires
+unfolding start
+plain_bytes-requires c = record {
+  spot = first_is_spot c.args.code.now.column c.args.code.now.ops c.ops.result.now c.args.tape.now start c.requires c.ops.ensures.ops c.ops.ensures.structure refl;
+}
+
+pub returns-in-Some : goal.returns-in-Some
+unfolding start
+returns-in-Some c =
+    sent c.args.code.now.ops c.ops.result.now c.args.tape.now c.args.tape.now start true c.args.msg.0 c.args.circuit.0
+    c.in-Some.buffer c.frag_with.result c.ops.ensures.ops refl c.in-Some.ensures.bytes c.frag_with.ensures (inl refl)
+    ∙ ap (λ (frags : List Frag). slice_get frags 0) (starts c.args.code.now.ops c.ops.result.now c.args.tape.now c.args.tape.now start start c.args.msg.0 c.args.circuit.0
+    c.ops.ensures.ops refl refl refl)
