@@ -1,8 +1,10 @@
 -- The parts of a turn, by what the end answered.
-use Rattle.std.proofs.Common.{◌≡◌, refl, sym, subst, ℕ, IsSome, Ok, Err}
-use Rattle.fl_lists.specs.ThreeLists.{ThreeLists}
+use Rattle.std.proofs.Common.{◌≡◌, ◌⊎◌, inl, inr, refl, sym, subst, ℕ, IsSome, Ok, Err}
+use Rattle.fl_lists.specs.declared.place.Place.TheVariants as place
+use Rattle.fl_value.specs.declared.value.Call.{Call}
 use Rattle.fl_link.specs.Looks.{Look}
 use Rattle.fl_endpoint.specs.declared.answer.ReceiveAnswer.{ReceiveAnswer}
+use Rattle.fl_endpoint.specs.declared.answer.ReceiveAnswer.TheVariants as receive
 use Rattle.fl_endpoint.specs.View.{TheEnd}
 use Rattle.fl_endpoint.specs.Events.{IsUnbound}
 use Rattle.fl_core.specs.declared.kind.Kind.{Kind}
@@ -10,14 +12,26 @@ use Rattle.fl_core.specs.declared.kind.Kind.TheVariants.{Queue, Ring}
 use Rattle.fl_core.specs.declared.fault.BoardFault.TheVariants.{NotBound}
 use Rattle.fl_core.specs.declared.answer.AckAnswer.{AckAnswer}
 use Rattle.fl_core.specs.declared.answer.AckAnswer.TheVariants as ack
-use Rattle.fl_core.specs.declared.answer.TurnAnswer.{TurnAnswer}
-use Rattle.fl_core.specs.Inside.{Took, Tells, after}
-use Rattle.fl_core.specs.Turns.{lent}
+use Rattle.fl_core.specs.Inside.{Tells, Settles}
+use Rattle.fl_core.specs.Turns.{GoesOn, put_off, Lent}
 use Rattle.fl_core.specs.Events.{Acks}
 
-module _ {T : Type 0} (takes : T → Look → T → Type 0) (kind : Kind) (c : ℕ) (w v : ThreeLists) (m q : T) where
-  pub took_as : (a b : ReceiveAnswer) (x y : TurnAnswer) → a ≡ b → x ≡ y → Took takes kind c (lent w m) b (after y v q) → Took takes kind c (lent w m) a (after x v q)
-  took_as a b x y e f h = subst (λ (z : ReceiveAnswer). Took takes kind c (lent w m) z (after x v q)) (sym e) (subst (λ (z : TurnAnswer). Took takes kind c (lent w m) b (after z v q)) (sym f) h)
+-- ---- where a channel goes
+
+module _ {T : Type 0} (takes : T → Look → T → Type 0) (kind : Kind) (c : ℕ) (a b : Lent T) where
+  settles_as : (x y : ReceiveAnswer) → x ≡ y → Settles takes kind c a y b → Settles takes kind c a x b
+  settles_as x y e h = subst (λ (z : ReceiveAnswer). Settles takes kind c a z b) (sym e) h
+
+  pub settles_held : (x : ReceiveAnswer) → x ≡ receive.HeldBack → (b.lists ≡ put_off a.lists place.Pending c place.Pending) × (b.side ≡ a.side)
+      → Settles takes kind c a x b
+  settles_held x e h = settles_as x receive.HeldBack e h
+
+  pub settles_on : (x : ReceiveAnswer) → ((call : Call) × (x ≡ receive.Handle call)) ⊎ (x ≡ receive.Part) ⊎ (x ≡ receive.Quiet) ⊎ (x ≡ receive.Empty)
+      → GoesOn takes kind c a b → Settles takes kind c a x b
+  settles_on x (inl (call, e)) h = settles_as x (receive.Handle call) e h
+  settles_on x (inr (inl e)) h = settles_as x receive.Part e h
+  settles_on x (inr (inr (inl e))) h = settles_as x receive.Quiet e h
+  settles_on x (inr (inr (inr e))) h = settles_as x receive.Empty e h
 
 -- ---- acknowledgements
 

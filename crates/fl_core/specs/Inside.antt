@@ -11,29 +11,20 @@ use Rattle.fl_endpoint.specs.declared.answer.ReceiveAnswer.{ReceiveAnswer}
 use Rattle.fl_endpoint.specs.declared.answer.ReceiveAnswer.TheVariants as receive
 use Rattle.fl_core.specs.declared.kind.Kind.{Kind}
 use Rattle.fl_core.specs.declared.answer.TurnAnswer.{TurnAnswer}
-use Rattle.fl_core.specs.declared.answer.TurnAnswer.TheVariants.{Handle, Part, Quiet, Full, Nothing, Refused}
+use Rattle.fl_core.specs.declared.answer.TurnAnswer.TheVariants.{Refused}
 use Rattle.fl_core.specs.declared.answer.AckAnswer.{AckAnswer}
 use Rattle.fl_core.specs.declared.answer.AckAnswer.TheVariants as ack
 use Rattle.fl_core.specs.declared.fault.BoardFault.{BoardFault}
 use Rattle.fl_core.specs.declared.fault.BoardFault.TheVariants as board
-use Rattle.fl_core.specs.Turns.{GoesOn, put_off, Lent, lent}
+use Rattle.fl_core.specs.Turns.{GoesOn, put_off, Lent}
 
--- what a turn answers, the lists then, and the side
-pub record After (T : Type 0) : Type 0 where
-  pub answer : TurnAnswer
-  pub lists : ThreeLists
-  pub side : T
-
-abbrev pub after : {T : Type 0} → TurnAnswer → ThreeLists → T → After T
-after answer w p = record { answer = answer; lists = w; side = p }
-
--- what an end answered says what the turn answers, and where its channel goes
-abbrev pub Took : {T : Type 0} → (T → Look → T → Type 0) → Kind → ℕ → Lent T → ReceiveAnswer → After T → Type 0
-Took takes kind c a (receive.Handle call) b = (b.answer ≡ Handle call) × GoesOn takes kind c a (lent b.lists b.side)
-Took takes kind c a receive.Part b = (b.answer ≡ Part) × GoesOn takes kind c a (lent b.lists b.side)
-Took takes kind c a receive.Quiet b = (b.answer ≡ Quiet) × GoesOn takes kind c a (lent b.lists b.side)
-Took takes kind c a receive.Empty b = (b.answer ≡ Nothing) × GoesOn takes kind c a (lent b.lists b.side)
-Took takes kind c a receive.HeldBack b = (b.answer ≡ Full) × (b.lists ≡ put_off a.lists place.Pending c place.Pending) × (b.side ≡ a.side)
+-- what an end answered says where its channel goes
+abbrev pub Settles : {T : Type 0} → (T → Look → T → Type 0) → Kind → ℕ → Lent T → ReceiveAnswer → Lent T → Type 0
+Settles takes kind c a (receive.Handle call) b = GoesOn takes kind c a b
+Settles takes kind c a receive.Part b = GoesOn takes kind c a b
+Settles takes kind c a receive.Quiet b = GoesOn takes kind c a b
+Settles takes kind c a receive.Empty b = GoesOn takes kind c a b
+Settles takes kind c a receive.HeldBack b = (b.lists ≡ put_off a.lists place.Pending c place.Pending) × (b.side ≡ a.side)
 
 -- the faults that an end answers that is bound and never failed
 abbrev pub MayCome : EndFault → Type 0

@@ -1,13 +1,13 @@
 //! Where a channel waits, and what a turn makes of it.
 
-ghost use Rattle.std.specs.Prelude.{◌≡◌, ◌<◌, slice_get, Ok, Err, Some};
+ghost use Rattle.std.specs.Prelude.{◌≡◌, ◌<◌, if◌then◌else◌, slice_get, Ok, Err, Some};
 ghost use Rattle.fl_waitset.specs.Waiting.{IsWaitset, registered_answer, next_pick};
 ghost use Rattle.fl_endpoint.specs.Events.{IsReady};
 ghost use Rattle.fl_lists.specs.declared.place.Place.{Place};
 ghost use Rattle.fl_lists.specs.ThreeLists.{list_at};
-ghost use Rattle.fl_core.specs.Turns.{WaitsIn, put_off, lent, moment, Gives, Examines, LooksAt};
+ghost use Rattle.fl_core.specs.Turns.{WaitsIn, put_off, lent, moment, Examines, LooksAt};
 ghost use Rattle.fl_core.specs.Events.{Joins};
-ghost use Rattle.fl_core.specs.Inside.{Took, MayCome, Refuses, after};
+ghost use Rattle.fl_core.specs.Inside.{Settles, MayCome, Refuses};
 
 use crate::answer::TurnAnswer;
 use crate::fault::BoardFault;
@@ -19,6 +19,7 @@ use fl_waitset::{Pick, Place, Waitset};
 use std::alloc::AllocError;
 
 // Where a channel of this kind waits, by a look at its side.
+#[inline]
 fn place_for<T: TakeSide>(kind: Kind, from: &mut T) -> Place
     ensures waits { WaitsIn T.takes kind from.old result from.new }
 {
@@ -52,6 +53,7 @@ pub(crate) fn join<T: TakeSide>(
 }
 
 // The first channel of a list goes to the back of one.
+#[inline]
 fn put_off(waitset: &mut Waitset, c: ChanId, to: Place)
     requires { registered_answer waitset.old c.0 ≡ Ok tt }
     ensures waitset { IsWaitset waitset.new }
@@ -60,35 +62,35 @@ fn put_off(waitset: &mut Waitset, c: ChanId, to: Place)
     waitset.put_back(c, to).unwrap();
 }
 
-// What the end answered: where it looked at its side, its channel goes where it waits for the next fragment.
-fn go_on<T: TakeSide>(
+// Where the end looked at its side, its channel goes where it waits for the next fragment; else to the back of pending.
+#[inline]
+fn settle<T: TakeSide>(
     waitset: &mut Waitset,
     c: ChanId,
     kind: Kind,
-    answer: ReceiveAnswer,
+    answer: &ReceiveAnswer,
     from: &mut T,
-) -> TurnAnswer
+)
     requires first { next_pick waitset.old ≡ Ok (Pick.Pending c) }
     requires registered { registered_answer waitset.old c.0 ≡ Ok tt }
     ensures waitset { IsWaitset waitset.new }
-    ensures took { Took T.takes kind c.0 (lent waitset.old from.old) answer (after result waitset.new from.new) }
+    ensures settles { Settles T.takes kind c.0 (lent waitset.old from.old) answer.now (lent waitset.new from.new) }
 {
-    let answer = match answer {
-        ReceiveAnswer::Handle(call) => TurnAnswer::Handle(call),
-        ReceiveAnswer::Part => TurnAnswer::Part,
-        ReceiveAnswer::Quiet => TurnAnswer::Quiet,
-        ReceiveAnswer::Empty => TurnAnswer::Nothing,
-        ReceiveAnswer::HeldBack => {
-            put_off(waitset, c, Place::Pending);
-            return TurnAnswer::Full;
+    match answer {
+        ReceiveAnswer::HeldBack => put_off(waitset, c, Place::Pending),
+        ReceiveAnswer::Handle(_)
+        | ReceiveAnswer::Part
+        | ReceiveAnswer::Quiet
+        | ReceiveAnswer::Empty => {
+            let place = place_for(kind, from);
+            put_off(waitset, c, place);
         }
-    };
-    let place = place_for(kind, from);
-    put_off(waitset, c, place);
-    answer
+    }
 }
 
 // The end took nothing: where it has failed, its channel is deregistered.
+#[cold]
+#[inline(never)]
 fn refuse(waitset: &mut Waitset, c: ChanId, fault: EndFault) -> Result<TurnAnswer, AllocError>
     requires waitset { IsWaitset waitset.old }
     requires registered { registered_answer waitset.old c.0 ≡ Ok tt }
@@ -111,46 +113,27 @@ fn refuse(waitset: &mut Waitset, c: ChanId, fault: EndFault) -> Result<TurnAnswe
     }
 }
 
-// One fragment is given to the end of the first pending channel.
-fn give<T: TakeSide>(
-    waitset: &mut Waitset,
-    c: ChanId,
-    end: &mut End,
-    kind: Kind,
-    from: &mut T,
-) -> Result<TurnAnswer, AllocError>
-    requires waitset { IsWaitset waitset.old }
-    requires first { next_pick waitset.old ≡ Ok (Pick.Pending c) }
-    requires ready { IsReady end.old }
-    ensures waitset { IsWaitset waitset.new }
-    ensures gives { Gives T.takes kind c.0 (moment waitset.old end.old from.old) result (moment waitset.new end.new from.new) }
-{
-    match end.receive(from) {
-        Ok(answer) => Ok(go_on(waitset, c, kind, answer, from)),
-        Err(fault) => refuse(waitset, c, fault),
-    }
-}
-
-// The first polled channel is examined.
-fn examine<T: TakeSide>(waitset: &mut Waitset, c: ChanId, from: &mut T) -> TurnAnswer
+// The first polled channel is examined: whether a fragment of a call stands there.
+#[inline]
+fn examine<T: TakeSide>(waitset: &mut Waitset, c: ChanId, from: &mut T) -> bool
     requires waitset { IsWaitset waitset.old }
     requires first { next_pick waitset.old ≡ Ok (Pick.Polled c) }
     ensures waitset { IsWaitset waitset.new }
-    ensures examines { Examines T.takes c.0 (lent waitset.old from.old) (Ok result) (lent waitset.new from.new) }
+    ensures examines { Examines T.takes c.0 (lent waitset.old from.old) (Ok (if result then TurnAnswer.Ready else TurnAnswer.Quiet)) (lent waitset.new from.new) }
 {
     match from.peek() {
         Sight::Data(_) => {
             put_off(waitset, c, Place::Pending);
-            TurnAnswer::Ready
+            true
         }
         Sight::Acknowledgement => {
             let _ = from.take();
             put_off(waitset, c, Place::Polled);
-            TurnAnswer::Quiet
+            false
         }
         Sight::Empty => {
             put_off(waitset, c, Place::Polled);
-            TurnAnswer::Quiet
+            false
         }
     }
 }
@@ -169,8 +152,26 @@ pub(crate) fn look_at<T: TakeSide>(
     ensures waitset { IsWaitset waitset.new }
     ensures looks { LooksAt T.takes pick kind (moment waitset.old end.old from.old) result (moment waitset.new end.new from.new) }
 {
-    match pick {
-        Pick::Pending(c) => give(waitset, c, end, kind, from),
-        Pick::Polled(c) => Ok(examine(waitset, c, from)),
+    let c = match pick {
+        Pick::Pending(c) => c,
+        Pick::Polled(c) => {
+            if examine(waitset, c, from) {
+                return Ok(TurnAnswer::Ready);
+            }
+            return Ok(TurnAnswer::Quiet);
+        }
+    };
+    match end.receive(from) {
+        Err(fault) => refuse(waitset, c, fault),
+        Ok(answer) => {
+            settle(waitset, c, kind, &answer, from);
+            match answer {
+                ReceiveAnswer::Handle(call) => Ok(TurnAnswer::Handle(call)),
+                ReceiveAnswer::Part => Ok(TurnAnswer::Part),
+                ReceiveAnswer::Quiet => Ok(TurnAnswer::Quiet),
+                ReceiveAnswer::Empty => Ok(TurnAnswer::Nothing),
+                ReceiveAnswer::HeldBack => Ok(TurnAnswer::Full),
+            }
+        }
     }
 }

@@ -1,6 +1,7 @@
 -- Seven words and then the control word make a slot.
-use Rattle.std.proofs.Common.{ℕ, ◌≡◌, ◌≢◌, ◌<◌, ◌≤◌, ◌+◌, ◌⊎◌, inl, inr, List, length, get_or, set, ◌∙◌, sym, arith, length-set, get_or-set_same, get_or-set_other}
+use Rattle.std.proofs.Common.{ℕ, ◌≡◌, ◌≢◌, ◌<◌, ◌≤◌, ◌+◌, ◌⊎◌, inl, inr, List, ◌++◌, length, take, drop, get_or, set, ◌∙◌, sym, subst, arith, length-set, get_or-set_same, get_or-set_other}
 use Rattle.std.proofs.lemmas.List.FromFn.{fill_by_all}
+use Rattle.std.proofs.lemmas.List.{take_at}
 use Rattle.fl_base.specs.declared.fragment.Frag.{Frag}
 use Rattle.fl_ring.specs.Way.{frag_at, WritesSlot}
 
@@ -27,3 +28,11 @@ slot_written old ws s f room len seven written others = record {
       two_parts (frag_at new s).words f.words (get_or new (s + 7) 0) f.control (sym words) control;
   others = λ i away. get_or-set_other ws (s + 7) i f.control 0 (apart s i away) ∙ others i away;
 }
+
+-- what a Vec holds after its slice was written
+pub written_back : (len s : ℕ) (f : Frag) (old lent new : List ℕ) → length lent ≡ len → lent ≡ old → WritesSlot s f lent new
+    → WritesSlot s f old (take len (new ++ drop (length new) old))
+written_back len s f old lent new long same w =
+    let size = w.same_length in
+    let whole : take len (new ++ drop (length new) old) ≡ new = grind (arith, take_at new (drop (length new) old) len) in
+    subst (λ (xs : List ℕ). WritesSlot s f old xs) (sym whole) (subst (λ (xs : List ℕ). WritesSlot s f xs new) same w)

@@ -8,15 +8,24 @@ use fl_base::Frag;
 
 // Writes the payload words first, and the control word last.
 #[inline]
+fn write_words(table: &mut [u64], slot: usize, frag: &Frag)
+    requires { slot + 8 ≤ length table.old }
+    ensures writes { WritesSlot slot frag.now table.old table.new }
+{
+    for k in 0..7 {
+        table[slot + k] = frag.words[k];
+    }
+    table[slot + 7] = frag.control;
+}
+
+// Writes a slot. The table is lent as a slice, so that the address of its words is read once.
+#[inline]
 pub(crate) fn write_slot(words: &mut Vec<u64>, slot: usize, frag: &Frag)
     requires { slot + 8 ≤ vec_len words.old }
     ensures writes { WritesSlot slot frag.now words.old.items words.new.items }
     ensures len { vec_len words.new ≡ vec_len words.old }
 {
-    for k in 0..7 {
-        words[slot + k] = frag.words[k];
-    }
-    words[slot + 7] = frag.control;
+    write_words(words.as_mut_slice(), slot, frag);
 }
 
 // The fragment in the slot.

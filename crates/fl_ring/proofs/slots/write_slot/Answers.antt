@@ -1,8 +1,7 @@
-use Rattle.std.proofs.Common.{arith}
-use Rattle.fl_ring.proofs.SlotWrites.{slot_written}
+use Rattle.fl_ring.proofs.SlotWrites.{written_back}
 use Rattle.fl_ring.proofs.slots.write_slot.Goals as goal
 
 pub returns-clause-writes : goal.returns-clause-writes
 returns-clause-writes c =
-    let w = c.loop-k.invariant in
-    slot_written c.args.words.now.items c.loop-k.words.items c.args.slot c.args.frag.now (omega (arith, c.args.words.now.ok.0)) w.same_length w.seven (λ k lt. w.written k (omega (arith, c.loop-k-test.false))) w.others
+    written_back c.args.words.now.len c.args.slot c.args.frag.now c.args.words.now.items c.as_mut_slice.result.now c.write_words.new.table
+    c.as_mut_slice.ensures.len c.as_mut_slice.ensures.value c.write_words.ensures.writes
