@@ -24,7 +24,6 @@ impl Core {
     ///
     /// # Errors
     /// As the end's, in its order: E41, E42, E43, E64, E40, E99. The core is as it was then.
-    #[inline]
     pub fn call(&mut self, e: usize, call: &Call) -> Result<(), EndFault>
         requires { e < length self.old.board.seats }
         ensures calls { OnBoard self.old (λ b c. ChangesEnd b e (λ s t. Calls s (call_of call.now) result t) c) self.new }
@@ -59,7 +58,6 @@ impl Core {
     ///
     /// # Errors
     /// As the end's: E43, E64.
-    #[inline]
     pub fn show<P: PutSide>(&self, e: usize, out: &P) -> Result<Option<Frag>, EndFault>
         requires { e < length self.now.board.seats }
         ensures shows { Holds self.now.board e (λ s. ShowsNext (P.epoch_of out.now) (P.told_of out.now) s.end result) }
@@ -72,7 +70,6 @@ impl Core {
     ///
     /// # Errors
     /// As the end's: E43, E64, E33. The core is as it was then.
-    #[inline]
     pub fn write<P: PutSide>(&mut self, e: usize, out: &mut P) -> Result<WriteAnswer, EndFault>
         requires { e < length self.old.board.seats }
         ensures writes { WritesAt P.puts e self.old out.old result self.new out.new }
@@ -88,7 +85,6 @@ impl Core {
     }
 
     // Triggers the channel of the end that learns of a write at an end by this answer.
-    #[inline]
     fn wake(&mut self, e: usize, answer: WriteAnswer)
         ensures triggers { OnBoard self.old (TriggersIf (woken_by self.old e (Ok answer))) self.new }
     {
@@ -159,7 +155,6 @@ impl Core {
     ///
     /// # Errors
     /// Out of memory (E99), only where the fragment would make a call whole. The core is as it was then, and the fragment, which was looked at, is left.
-    #[inline]
     pub fn turn<T: TakeSide>(
         &mut self,
         dispatcher: usize,
@@ -179,7 +174,6 @@ impl Core {
     ///
     /// # Errors
     /// As [`Core::turn`].
-    #[inline]
     pub fn turn_arrivals(&mut self, dispatcher: usize, e: usize) -> Result<TurnAnswer, AllocError>
         requires there { dispatcher < length self.old.board.dispatchers }
         requires due { due self.old.board dispatcher ≡ Some e }

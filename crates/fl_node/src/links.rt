@@ -31,7 +31,6 @@ pub(crate) fn fail(lanes: &mut Vec<Lane>, link: LinkId)
 
 impl Core {
     /// Puts the message that waits first for a link on it, over the core's side of the link ([`Core::side`]). Takes no memory.
-    #[inline]
     pub fn monitor_write<P: PutSide>(&mut self, link: LinkId, out: &mut P) -> MonitorWrite
         ensures writes { MonitorWrites P.puts link.0 self.old out.old result self.new out.new }
     {
@@ -54,7 +53,6 @@ impl Core {
     /// # Errors
     /// What comes there failed earlier (E64), and isn't looked at. The fragment's circuit has no entry (E67), or it has the form of one that only acknowledges
     /// (E63): it is left, and what comes there has failed for good.
-    #[inline]
     pub fn look<T: TakeSide>(&mut self, link: LinkId, from: &mut T) -> Result<Ahead, LinkFault>
         requires { link.0 < length self.old.lanes }
         ensures looks { LooksAhead T.takes T.front link.0 self.old from.old result self.new from.new }
@@ -92,7 +90,6 @@ impl Core {
     ///
     /// # Errors
     /// There is no such end at this core (E67): the fragment is left, and what comes on the link has failed for good.
-    #[inline]
     pub fn arrive<T: TakeSide>(
         &mut self,
         link: LinkId,

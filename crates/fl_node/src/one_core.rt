@@ -62,7 +62,6 @@ impl Model for Core {
 }
 
 // Where an end with this wire takes fragments from.
-#[inline]
 fn inlet_by(wire: Wire) -> Inlet
     ensures inlet { result ≡ inlet_by wire }
 {
@@ -74,7 +73,6 @@ fn inlet_by(wire: Wire) -> Inlet
 }
 
 // Its arrival queue.
-#[inline]
 fn arrivals_by(wire: Wire) -> Option<usize>
     ensures arrivals { result ≡ arrivals_by wire }
 {
@@ -118,7 +116,6 @@ impl Core {
     }
 
     /// Its dispatchers and their ends.
-    #[inline]
     pub fn board(&self) -> &Board
         ensures board { result.now ≡ self.now.board }
     {
@@ -126,7 +123,6 @@ impl Core {
     }
 
     /// Its circuits, and what it has to say on each link.
-    #[inline]
     pub fn monitor(&self) -> &Monitor
         ensures monitor { result.now ≡ self.now.monitor }
     {
@@ -134,7 +130,6 @@ impl Core {
     }
 
     /// Where the end of a name is on the board, if it is at this core. Nothing is searched.
-    #[inline]
     pub fn place(&self, name: EndId) -> Option<usize>
         ensures place { result ≡ place_of self.now name }
         ensures within { IfSome result (λ e. e < length self.now.board.seats) }
@@ -143,7 +138,6 @@ impl Core {
     }
 
     /// The name of the end at a place.
-    #[inline]
     pub fn name(&self, e: usize) -> EndId
         requires { e < length self.now.board.seats }
         ensures place { place_of self.now result ≡ Some e }
@@ -152,7 +146,6 @@ impl Core {
     }
 
     /// Where the end at a place puts its fragments: the side that [`Core::show`] and [`Core::write`] are lent.
-    #[inline]
     pub fn outlet(&self, e: usize) -> Outlet
         requires { e < length self.now.board.seats }
         ensures outlet { outlet_of self.now e ≡ Some result }
@@ -166,7 +159,6 @@ impl Core {
 
     /// Where the end at a place takes fragments from: the side that [`Core::turn`], [`Core::register`] and [`Core::ack`] are lent. An end with an arrival
     /// queue is lent none.
-    #[inline]
     pub fn inlet(&self, e: usize) -> Inlet
         requires { e < length self.now.board.seats }
         ensures inlet { inlet_of self.now e ≡ Some result }
@@ -175,7 +167,6 @@ impl Core {
     }
 
     // The arrival queue of the end at a place.
-    #[inline]
     pub(crate) fn arrivals_of(&self, e: usize) -> Option<usize>
         ensures arrivals { result ≡ arrivals_of self.now e }
         ensures within { IfSome result (λ a. a < length self.now.arrivals) }
@@ -187,7 +178,6 @@ impl Core {
     }
 
     // Where fragments for the end of a name arrive: its place, and that of its arrival queue.
-    #[inline]
     pub(crate) fn arriving_at(&self, name: EndId) -> Option<Arriving>
         ensures at { result ≡ arriving_at self.now name }
         ensures end { IfSome result (λ p. p.end < length self.now.board.seats) }
@@ -203,7 +193,6 @@ impl Core {
     }
 
     /// This core's side of a link, by its number.
-    #[inline]
     pub fn side(&self, link: LinkId) -> Option<usize>
         ensures side { result ≡ side_of_link self.now.lanes link.0 }
     {
@@ -214,7 +203,6 @@ impl Core {
     }
 
     // The end that the end at a place puts to, where the two are joined by queues.
-    #[inline]
     pub(crate) fn joined_to(&self, e: usize) -> Option<usize>
         ensures joined { result ≡ joined_to self.now e }
         ensures within { IfSome result (λ p. p < length self.now.board.seats) }

@@ -20,7 +20,6 @@ fn side_number(side: Side) -> usize
 }
 
 /// Where the end of a name is, if it is at this core. Nothing is searched.
-#[inline]
 pub(crate) fn place_in(places: &[Option<usize>], name: EndId) -> Option<usize>
     ensures place { result ≡ place_in places.now name }
 {
