@@ -62,6 +62,14 @@ impl NameTable {
         }
     }
 
+    // The place of a name, asked of the map.
+    #[inline(never)]
+    fn find_by_map(&self, name: &[u8]) -> Option<usize>
+        ensures place { result ≡ place_of name.now (table_of self.now) }
+    {
+        self.set.get_index_of(name)
+    }
+
     /// The place of a name.
     #[inline]
     pub fn find(&self, name: &[u8]) -> Option<usize>
@@ -71,7 +79,7 @@ impl NameTable {
         if names.len() <= FEW {
             return place_among(names, name);
         }
-        self.set.get_index_of(name)
+        self.find_by_map(name)
     }
 
     /// The name at a place.
