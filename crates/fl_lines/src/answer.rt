@@ -319,7 +319,8 @@ fn print_handled(
     end: EndId,
     call: &Call,
 ) -> Result<(), AllocError>
-    ensures printed { OnOk result (out.new.items ≡ out.old.items ++ (codes "handle " ++ end_named (names_of names.now) end ++ codes " " ++ call_at (names_of names.now) end (call_of call.now))) }
+    ensures printed { OnOk result (out.new.items ≡ out.old.items
+        ++ (codes "handle " ++ end_named (names_of names.now) end ++ codes " " ++ call_at (names_of names.now) end (call_of call.now))) }
     ensures kept { OnErr result (out.new.items ≡ out.old.items) }
 {
     let before = out.as_slice().len();
