@@ -1,4 +1,4 @@
-use Rattle.std.proofs.Common.{◌≡◌, sym, subst, Ok, ap, ◌∙◌, Result}
+use Rattle.std.proofs.Common.{◌≡◌, ◌∙◌, ap, Ok, Result}
 use Rattle.fl_waitset.specs.declared.waitset.Pick.{Pick}
 use Rattle.fl_waitset.specs.declared.waitset.Pick.TheVariants as pick
 use Rattle.fl_waitset.specs.declared.fault.WaitFault.{WaitFault}
