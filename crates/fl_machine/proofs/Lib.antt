@@ -12,3 +12,4 @@ pub mod Rounds
 pub mod Circuits
 pub mod Plains
 pub mod Emits
+pub mod Places

@@ -1,6 +1,6 @@
 -- Calls that are put together again: what a reassembly has taken of the call under way, and what taking one fragment more
 -- comes to.
-use Rattle.std.specs.Prelude.{◌≡◌, ℕ, ◌≤◌, true, List, [], ◌∷◌, ◌++◌, Option, Some, None, Result, Ok, Err}
+use Rattle.std.specs.Prelude.{◌≡◌, ℕ, ◌≤◌, true, List, [], ◌∷◌, ◌++◌, slice_get, slice_set, Option, Some, None, Result, Ok, Err}
 use Rattle.std.specs.Vec.{vec_capacity}
 use Rattle.fl_base.specs.declared.fragment.Frag.{Frag}
 use Rattle.fl_base.specs.Control.{bare}
@@ -44,12 +44,24 @@ with_part s f = record { program = s.program; parts = s.parts ++ bare f ∷ [] }
 abbrev pub without_parts : TheReassembly → TheReassembly
 without_parts s = record { program = s.program; parts = [] }
 
+-- a program that no fragment came to yet
+abbrev pub new_reassembly : Program → TheReassembly
+new_reassembly program = record { program = program; parts = [] }
+
 -- what a fragment comes to: a call that it ends is told, and stays under way
 abbrev pub Takes : TheReassembly → Frag → Result Taken TakeFault → TheReassembly → Type 0
 Takes s f (Ok Part) t = IsPart (plan_in s) (interface_in s) (s.parts ++ f ∷ []) × (t ≡ with_part s f)
 Takes s f (Ok (Whole call)) t = AreWhole s (s.parts ++ f ∷ []) (call_of call) × (t ≡ s)
 Takes s f (Err (Wire fault)) t = IsRefused (plan_in s) (interface_in s) s.parts f fault × (t ≡ s)
 Takes s f (Err Memory) t = ((c : TheCall) × AreWhole s (s.parts ++ f ∷ []) c) × (t ≡ s)
+
+-- of the reassemblies at many places, the one at a place alone has changed, as the event says
+pub record ChangesPlace (before : List TheReassembly) (place : ℕ) (Event : TheReassembly → TheReassembly → Type 0) (after : List TheReassembly) : Type 0 where
+  pub was : TheReassembly
+  pub was_there : slice_get before place ≡ Some was
+  pub is : TheReassembly
+  pub event : Event was is
+  pub after_is : after ≡ slice_set before place is
 
 -- ---- what is stored
 

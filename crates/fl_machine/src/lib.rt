@@ -12,6 +12,7 @@
 //! - `plain.rt`: calls of one fragment, taken by code without loops
 //! - `recv.rt`: `RecvRun`
 //! - `reassembly.rt`: `Reassembly`, which gives calls of what it takes and needs no way back
+//! - `reassemblies.rt`: `Reassemblies`, the same at many places
 //! - `law.rt`: what runs of the compiler's code give and take
 #![tactic(auto)]
 
@@ -19,6 +20,7 @@ mod cursor;
 mod intake;
 mod law;
 mod plain;
+mod reassemblies;
 mod reassembly;
 mod recv;
 mod send;
@@ -26,6 +28,7 @@ mod send;
 pub use cursor::{Cursor, Loop};
 pub use intake::{Fed, Intake};
 pub use law::{sends_fragments, sets_circuits, takes_fragments};
+pub use reassemblies::Reassemblies;
 pub use reassembly::{Reassembly, TakeFault, Taken};
 pub use recv::RecvRun;
 pub use send::{SendRun, first_frag};
