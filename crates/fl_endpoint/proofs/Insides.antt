@@ -8,10 +8,8 @@ use Rattle.fl_interface.specs.Interface.{TheMessage, TheInterface}
 use Rattle.fl_value.specs.Value.{TheCall}
 use Rattle.fl_value.specs.Tape.{types_of}
 use Rattle.fl_wire.specs.Payload.{frags_on}
-use Rattle.fl_compile.specs.declared.program.Program.{Program}
-use Rattle.fl_compile.specs.Programs.{TheProgram, program_of}
-use Rattle.fl_machine.specs.Reassembling.{TheReassembly}
-use Rattle.fl_endpoint.specs.View.{TheEnd, TheOutgoing, interface_in, number_or_0, queued, queued_if, wrote, reply_to, rule_at, holds_back, with_call, with_written, with_handled, with_failed}
+use Rattle.fl_compile.specs.Programs.{TheProgram}
+use Rattle.fl_endpoint.specs.View.{TheEnd, TheOutgoing, interface_in, number_or_0, queued, queued_if, wrote, reply_to, rule_at, holds_back, with_call, with_written, with_handled}
 use Rattle.fl_endpoint.specs.Accounts.{IsRule, Sound}
 use Rattle.fl_endpoint.specs.Rules.{rules_of}
 use Rattle.fl_machine.specs.Sending.{TheSending}
@@ -45,7 +43,7 @@ number_is o circuit e = ap number_or_0 e
 
 -- an end with other calls to be sent
 abbrev pub end_with : Inside → Outgoing → Inside
-end_with e out = record { incoming = e.incoming; rules = e.rules; circuit = e.circuit; outgoing = out; failed = e.failed }
+end_with e out = record { alloc = e.alloc; program = e.program; rules = e.rules; circuit = e.circuit; outgoing = out; failed = e.failed }
 
 pub end_with_outgoing : (e : Inside) (out : Outgoing) (circuit : ℕ) (o : TheOutgoing) → circuit_of e.circuit ≡ Some circuit → outgoing_of (program_in e) circuit out ≡ o
     → end_of (end_with e out) ≡ record (end_of e) { outgoing = o }
@@ -69,38 +67,6 @@ written_end e out rest circuit bound is =
     end_with_outgoing e out circuit (wrote rest (outgoing_of (program_in e) circuit e.outgoing)) bound is
     ∙ ap (λ (k : ℕ). record (end_of e) { outgoing = wrote rest (outgoing_of (program_in e) k e.outgoing) }) (sym (number_is (circuit_of e.circuit) circuit bound))
 
--- ---- the call under way
-
--- an end with these parts of the call under way
-abbrev pub with_fed : Inside → Program → List Frag → Inside
-with_fed e program parts = record {
-  incoming = record { alloc = e.incoming.alloc; recv = record { program = program; parts = parts } };
-  rules = e.rules;
-  circuit = e.circuit;
-  outgoing = e.outgoing;
-  failed = e.failed;
-}
-
-abbrev pub with_recv : Inside → TheReassembly → Inside
-with_recv e r = with_fed e r.program r.parts
-
-pub fed_view : (e : Inside) (r : TheReassembly) → r.program ≡ e.incoming.recv.program → end_of (with_recv e r) ≡ record (end_of e) { parts = r.parts }
-fed_view e r same = ap (λ (p : Program). end_of (with_fed e p r.parts)) same
-
-fed_same : (e : Inside) (parts : List Frag) → IsEnd e → Sound (record (end_of e) { parts = parts })
-    → IsEnd (with_fed e e.incoming.recv.program parts)
-fed_same e parts is sound = record { outgoing = is.outgoing; sound = sound }
-
-pub fed_is_end : (e : Inside) (r : TheReassembly) → r.program ≡ e.incoming.recv.program → IsEnd e → Sound (record (end_of e) { parts = r.parts }) → IsEnd (with_recv e r)
-fed_is_end e r same is sound = subst (λ (p : Program). IsEnd (with_fed e p r.parts)) (sym same) (fed_same e r.parts is sound)
-
--- a failed end, which has taken nothing
-pub failed_is_end : (e : Inside) (r : TheReassembly) → r ≡ e.incoming.recv → IsEnd e → Sound (with_failed (end_of e))
-    → IsEnd (record { incoming = record { alloc = e.incoming.alloc; recv = r }; rules = e.rules; circuit = e.circuit; outgoing = e.outgoing; failed = true })
-failed_is_end e r same is sound =
-    subst (λ (x : TheReassembly). IsEnd (record { incoming = record { alloc = e.incoming.alloc; recv = x }; rules = e.rules; circuit = e.circuit; outgoing = e.outgoing; failed = true }))
-    (sym same) (record { outgoing = is.outgoing; sound = sound })
-
 -- ---- calls handled
 
 -- the reply is queued where there is one
@@ -111,25 +77,23 @@ accepted_as p circuit o (Some c) (Some reply) q = ap (queued o) (q.frags circuit
 accepted_as p circuit o None (Some reply) q = absurd q
 accepted_as p circuit o (Some c) None q = absurd q
 
-pub handled_end : (e : Inside) (r : TheReassembly) (out : Outgoing) (c : TheCall) (reply : Option Queued) (circuit : ℕ) → circuit_of e.circuit ≡ Some circuit
-    → r.program ≡ e.incoming.recv.program → r.parts ≡ [] → QueuesReply (program_in e) (reply_to (rules_of e.rules.replies.items) c) reply
+pub handled_end : (e : Inside) (out : Outgoing) (c : TheCall) (reply : Option Queued) (circuit : ℕ) → circuit_of e.circuit ≡ Some circuit
+    → QueuesReply (program_in e) (reply_to (rules_of e.rules.replies.items) c) reply
     → outgoing_of (program_in e) circuit out ≡ queued_if (outgoing_of (program_in e) circuit e.outgoing) (option_map (queued_frags (program_in e) circuit) reply)
-    → end_of (end_with (with_recv e r) out) ≡ with_handled (end_of e) c
-handled_end e r out c reply circuit bound same none queues is =
+    → end_of (end_with e out) ≡ with_handled (end_of e) c
+handled_end e out c reply circuit bound queues is =
     let p = program_in e in
     let n : number_or_0 (circuit_of e.circuit) ≡ circuit = number_is (circuit_of e.circuit) circuit bound in
     let due = reply_to (rules_of e.rules.replies.items) c in
     let out_is : outgoing_of p (number_or_0 (circuit_of e.circuit)) out ≡ queued_if (outgoing_of p (number_or_0 (circuit_of e.circuit)) e.outgoing) (option_map (frags_on (number_or_0 (circuit_of e.circuit)) p.plan p.interface) due)
     = subst (λ (k : ℕ). outgoing_of p k out ≡ queued_if (outgoing_of p k e.outgoing) (option_map (frags_on k p.plan p.interface) due)) (sym n)
     (is ∙ accepted_as p circuit (outgoing_of p circuit e.outgoing) due reply queues) in
-    ap (λ (q : Program). end_of (end_with (with_fed e q r.parts) out)) same
-    ∙ ap (λ (xs : List Frag). end_of (end_with (with_fed e e.incoming.recv.program xs) out)) none
-    ∙ ap (λ (o : TheOutgoing). record (end_of e) { parts = []; outgoing = o }) out_is
+    ap (λ (o : TheOutgoing). record (end_of e) { outgoing = o }) out_is
 
-pub handled_is_end : (e : Inside) (r : TheReassembly) (out : Outgoing) (c : TheCall) → r.program ≡ e.incoming.recv.program → IsEnd e → IsOutgoing (program_in e) out
-    → end_of (end_with (with_recv e r) out) ≡ with_handled (end_of e) c → Sound (with_handled (end_of e) c) → IsEnd (end_with (with_recv e r) out)
-handled_is_end e r out c same is outgoing view sound = record {
-  outgoing = subst (λ (p : Program). IsOutgoing (program_of p) out) (sym same) outgoing;
+pub handled_is_end : (e : Inside) (out : Outgoing) (c : TheCall) → IsOutgoing (program_in e) out
+    → end_of (end_with e out) ≡ with_handled (end_of e) c → Sound (with_handled (end_of e) c) → IsEnd (end_with e out)
+handled_is_end e out c outgoing view sound = record {
+  outgoing = outgoing;
   sound = subst (λ (s : TheEnd). Sound s) (sym view) sound;
 }
 
@@ -161,7 +125,7 @@ room_for p circuit e c (Some call) q held sound = room_by (rule_at (rules_of e.r
 -- ---- reply rules
 
 abbrev pub with_rules : Inside → Rules → Inside
-with_rules e rules = record { incoming = e.incoming; rules = rules; circuit = e.circuit; outgoing = e.outgoing; failed = e.failed }
+with_rules e rules = record { alloc = e.alloc; program = e.program; rules = rules; circuit = e.circuit; outgoing = e.outgoing; failed = e.failed }
 
 -- an end with one rule more
 pub ruled_view : (e : Inside) (after : Rules) (msg reply : ℕ) → rules_of after.replies.items ≡ slice_set (rules_of e.rules.replies.items) msg (Some reply)

@@ -5,3 +5,5 @@ mod Insides
 mod Streams
 mod Accountings
 mod Readings
+mod Lendings
+mod Programs

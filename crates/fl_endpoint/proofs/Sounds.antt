@@ -260,16 +260,16 @@ sound_rule s msg reply new sound =
 -- ---- a call that is whole
 
 -- fragments that mean a call mean no other
-pub are_call : (s : TheEnd) (f : Frag) (c : TheCall) → OneReading → Sound s → bare f ≡ f → fits_of (interface_in s) c ≡ true
+pub are_call : (s : TheEnd) (f : Frag) (c : TheCall) → OneReading → interface_words_fit (interface_in s) ≡ true → map bare s.parts ≡ s.parts → bare f ≡ f → fits_of (interface_in s) c ≡ true
     → map bare (s.parts ++ f ∷ []) ≡ frags_of (plan_in s) (interface_in s) c → AreCall s (s.parts ++ f ∷ []) c
-are_call s f c law sound is fits means =
-    let mean : s.parts ++ f ∷ [] ≡ frags_of (plan_in s) (interface_in s) c = sym (bare_more s.parts f sound.plain is) ∙ means in
+are_call s f c law words plain is fits means =
+    let mean : s.parts ++ f ∷ [] ≡ frags_of (plan_in s) (interface_in s) c = sym (bare_more s.parts f plain is) ∙ means in
     let one : (d : TheCall) → fits_of (interface_in s) d ≡ true → AllFit (interface_in s) (d ∷ []) = λ d h. All-cons (Fits s) d [] h (All-nil (Fits s)) in
     record {
       fits = fits;
       mean = mean;
       only = λ d fit e.
-          let same = law (plan_in s) (interface_in s) (d ∷ []) (c ∷ []) [] [] sound.words (one d fit) (one c fits) (inl refl) (inl refl)
+          let same = law (plan_in s) (interface_in s) (d ∷ []) (c ∷ []) [] [] words (one d fit) (one c fits) (inl refl) (inl refl)
           (ap (λ (xs : List Frag). (xs ++ []) ++ []) (sym e ∙ mean)) in
           first_same d c same.0;
     }

@@ -29,10 +29,14 @@ pub record TheEnd : Type 0 where
   pub rules : List (Option ℕ)
   -- what it is to send
   pub outgoing : TheOutgoing
-  -- the fragments taken since the last whole call
+  -- the fragments taken since the last whole call: these stand at a place of `Reassemblies`, and an end by itself shows none
   pub parts : List Frag
   -- it was given a fragment that can't follow those before it
   pub failed : Bool
+
+-- the end, with these fragments taken since the last whole call
+abbrev pub with_parts : TheEnd → List Frag → TheEnd
+with_parts s parts = record s { parts = parts }
 
 abbrev pub interface_in : TheEnd → TheInterface
 interface_in s = (program_of s.program).interface

@@ -1,12 +1,13 @@
 //! An end of a binding.
 
-ghost use Rattle.std.specs.Prelude.{◌≡◌, length, Some, None, IfOk};
+ghost use Rattle.std.specs.Prelude.{◌≡◌, [], length, Some, None, IfOk, OnOk, OnErr};
 ghost use Rattle.fl_value.specs.Value.{call_of};
 ghost use Rattle.fl_endpoint.specs.Accounts.{Sound};
+ghost use Rattle.fl_endpoint.specs.Lent.{IsPlaceOf, AddsPlace, ReceivesAt};
 ghost use Rattle.fl_endpoint.specs.Rules.{rule_of};
 ghost use Rattle.fl_endpoint.specs.Inside.{circuit_of};
 ghost use Rattle.fl_endpoint.specs.View.{interface_in, fresh, bound, is_circuit, is_busy, rule_at, has_rules};
-ghost use Rattle.fl_endpoint.specs.Events.{Calls, Writes, ShowsNext, Receives, SetsRule, Exchanges};
+ghost use Rattle.fl_endpoint.specs.Events.{Calls, Writes, ShowsNext, SetsRule, Exchanges};
 
 use crate::answer::{ReceiveAnswer, WriteAnswer};
 use crate::fault::EndFault;
@@ -14,12 +15,14 @@ use crate::parts::Parts;
 use fl_base::{Circuit, Frag, MsgNo};
 use fl_compile::Program;
 use fl_link::{PutSide, TakeSide};
+use fl_machine::Reassemblies;
 use fl_value::Call;
 use std::alloc::{AllocError, Global};
 use std::marker::Model;
 
 /// One end of a binding. It sends calls, one at a time, by the side that a write is lent, and handles those that come by
-/// the side that a receive is lent.
+/// the side that a receive is lent. What it has taken of a call that isn't whole yet stands at a place of `Reassemblies`, which
+/// a receive is lent too ([`End::add_place`]): so many ends have them in one, and an end shows by itself none of it.
 ///
 /// An end that was given a fragment that can't follow those before it has failed, and answers E64 for good.
 ///
@@ -74,14 +77,16 @@ impl End {
     #[inline]
     pub fn bind(&mut self, circuit: Circuit)
         ensures bound { self.new ≡ bound self.old circuit.0 }
+        ensures program { self.new.program ≡ self.old.program }
     {
         self.parts.bind(circuit);
     }
 
-    /// What is known of an end at any time: a law of each end, for the layers above. It does nothing.
+    /// What is known of an end by itself at any time: a law of each end, for the layers above. It does nothing.
     #[inline]
     pub fn sound(&self)
         ensures sound { Sound self.now }
+        ensures alone { self.now.parts ≡ [] }
     {
         self.parts.sound();
     }
@@ -158,6 +163,7 @@ impl End {
     #[inline]
     pub fn reply_rule(&mut self, msg: MsgNo, reply: MsgNo) -> Result<(), EndFault>
         ensures sets { SetsRule self.old msg.0 reply.0 result self.new }
+        ensures program { self.new.program ≡ self.old.program }
     {
         self.parts.reply_rule(msg, reply)
     }
@@ -185,6 +191,7 @@ impl End {
     #[inline]
     pub fn call(&mut self, call: &Call, spare: &mut Vec<u64>) -> Result<(), EndFault>
         ensures calls { Calls self.old (call_of call.now) result self.new }
+        ensures program { self.new.program ≡ self.old.program }
     {
         self.parts.call(call, spare)
     }
@@ -210,22 +217,43 @@ impl End {
     #[inline]
     pub fn write<P: PutSide>(&mut self, out: &mut P) -> Result<WriteAnswer, EndFault>
         ensures writes { Writes P.puts self.old out.old result self.new out.new }
+        ensures program { self.new.program ≡ self.old.program }
     {
         self.parts.write(out)
     }
 
-    /// Takes the fragment that stands first, and handles the call that it makes whole. Where the message has a rule, the
-    /// reply is accepted at once if no call is in transmission, and else waits. An end with a rule takes nothing while 16
-    /// replies wait. Memory is taken only where a call becomes whole.
+    /// One place more, for the calls that come to this end: of its program, and between two calls. It has memory for any call
+    /// of the interface.
+    ///
+    /// # Errors
+    /// Out of memory (E99). The places are as they were then.
+    pub fn add_place(&self, calls: &mut Reassemblies) -> Result<(), AllocError>
+        ensures added { OnOk result (AddsPlace self.now calls.old calls.new) }
+        ensures place { OnOk result (IsPlaceOf self.now calls.new (length calls.old)) }
+        ensures kept { OnErr result (calls.new ≡ calls.old) }
+    {
+        self.parts.add_place(calls)
+    }
+
+    /// Takes the fragment that stands first, and handles the call that it makes whole: what was taken of it before stands at the
+    /// end's place among `calls`. Where the message has a rule, the reply is accepted at once if no call is in transmission, and
+    /// else waits. An end with a rule takes nothing while 16 replies wait. Memory is taken only where a call becomes whole.
     ///
     /// # Errors
     /// The end isn't bound yet (E43), or failed earlier (E64). The fragment can't follow those before it (E60 to E63,
     /// E65, E66): it is left, and the end has failed for good. Out of memory (E99): the fragment is left, and the end
     /// is as it was.
     #[inline]
-    pub fn receive<T: TakeSide>(&mut self, from: &mut T) -> Result<ReceiveAnswer, EndFault>
-        ensures receives { Receives T.takes self.old from.old result self.new from.new }
+    pub fn receive<T: TakeSide>(
+        &mut self,
+        from: &mut T,
+        calls: &mut Reassemblies,
+        place: usize,
+    ) -> Result<ReceiveAnswer, EndFault>
+        requires place { IsPlaceOf self.old calls.old place }
+        ensures receives { ReceivesAt T.takes self.old from.old result self.new from.new calls.old place calls.new }
+        ensures place { IsPlaceOf self.new calls.new place }
     {
-        self.parts.receive(from)
+        self.parts.receive(from, calls, place)
     }
 }

@@ -1,7 +1,9 @@
 //! Ends of bindings: calls go out of an end as fragments, and come in as calls that are handled.
 //!
 //! An [`End`] is generic over the sides that it is lent: the same end serves a queue within a core, a ring of one owner, and
-//! a ring that two running cores share. It sends one call at a time; calls that it handles may be answered by rule.
+//! a ring that two running cores share. It sends one call at a time; calls that it handles may be answered by rule. What it
+//! has taken of a call that isn't whole yet stands at a place of `Reassemblies`, which a receive is lent beside the side, so that
+//! many ends have them in one (`specs/Lent.antt`).
 //!
 //! Contract for the layers above: an end is what its fields tell (`specs/View.antt`), with no history. Each event is one
 //! relation between the end before and after, by its answer, and the step of the side (`specs/Events.antt`). Over any
@@ -11,7 +13,7 @@
 //! - `end.rt`: `End`
 //! - `parts.rt`: what an end has, and what it does
 //! - `outgoing.rt`: the call in transmission, and the replies that wait
-//! - `incoming.rt`: the calls that come to an end, put together from fragments
+//! - `incoming.rt`: what an end takes, and the replies by rule
 //! - `rules.rt`: reply rules
 //! - `answer.rt`: what a write and a receive come to
 //! - `law.rt`: what holds of ends over time

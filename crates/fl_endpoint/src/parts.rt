@@ -1,26 +1,27 @@
 //! The parts of an end, and what it does.
 
-ghost use Rattle.std.specs.Prelude.{◌≡◌, ℕ, true, false, length, slice_get, Some, None, IfOk, IfSome};
+ghost use Rattle.std.specs.Prelude.{◌≡◌, ℕ, [], true, false, length, slice_get, Some, None, IfOk, OnOk, OnErr, IfSome};
 ghost use Rattle.fl_value.specs.Value.{call_of};
 ghost use Rattle.fl_value.specs.Fits.{fits_of};
 ghost use Rattle.fl_base.specs.Control.{bare};
 ghost use Rattle.fl_endpoint.specs.Accounts.{Sound};
 ghost use Rattle.fl_endpoint.specs.Rules.{rule_of};
+ghost use Rattle.fl_endpoint.specs.Lent.{IsPlaceOf, AddsPlace, TakesInAt, ReceivesAt};
 ghost use Rattle.fl_endpoint.specs.Stored.{IsOwn};
 ghost use Rattle.fl_endpoint.specs.Inside.{circuit_of};
 ghost use Rattle.fl_endpoint.specs.View.{interface_in, fresh, bound, is_circuit, is_busy, rule_at, has_rules, holds_back};
-ghost use Rattle.fl_endpoint.specs.Events.{Readies, Admits, Calls, Writes, ShowsNext, TakesIn, Receives, Handles, SetsRule, Exchanges};
+ghost use Rattle.fl_endpoint.specs.Events.{Readies, Admits, Calls, Writes, ShowsNext, Handles, SetsRule, Exchanges};
 
 use crate::answer::{ReceiveAnswer, WriteAnswer};
 use crate::fault::EndFault;
-use crate::incoming::{Incoming, without_stamp};
+use crate::incoming::{reply_by_rule, tape_capacity, without_stamp};
 use crate::outgoing::{MOST_WAITING, Outgoing, Queued};
 use crate::rules::{Rules, message};
 use fl_base::{Circuit, Frag, MsgNo};
 use fl_compile::Program;
 use fl_interface::same_args;
 use fl_link::{PutFault, PutSide, Sight, TakeSide};
-use fl_machine::{TakeFault, Taken};
+use fl_machine::{Reassemblies, TakeFault, Taken};
 use fl_value::{Call, fits};
 use fl_wire::one_reading;
 use std::alloc::{AllocError, Global};
@@ -30,7 +31,8 @@ use std::mem;
 // All of an end; its functions are those of `End`, which holds it in a box.
 #[derive(Drop)]
 pub(crate) struct Parts {
-    incoming: Incoming,
+    alloc: Global,
+    program: Program,
     rules: Rules,
     circuit: Option<Circuit>,
     outgoing: Outgoing,
@@ -74,9 +76,9 @@ impl Parts {
     {
         let rules = Rules::new(alloc, program.interface().messages.len())?;
         let outgoing = Outgoing::new(alloc)?;
-        let incoming = Incoming::new(alloc, program)?;
         Ok(Parts {
-            incoming,
+            alloc,
+            program,
             rules,
             circuit: None,
             outgoing,
@@ -94,6 +96,7 @@ impl Parts {
 
     pub(crate) fn sound(&self)
         ensures sound { Sound self.now }
+        ensures alone { self.now.parts ≡ [] }
     {
         let _circuit = self.circuit;
     }
@@ -101,7 +104,7 @@ impl Parts {
     pub(crate) fn program(&self) -> &Program
         ensures program { result.now ≡ self.now.program }
     {
-        self.incoming.recv.program()
+        &self.program
     }
 
     pub(crate) fn circuit(&self) -> Option<Circuit>
@@ -149,7 +152,7 @@ impl Parts {
     pub(crate) fn reply_rule(&mut self, msg: MsgNo, reply: MsgNo) -> Result<(), EndFault>
         ensures sets { SetsRule self.old msg.0 reply.0 result self.new }
     {
-        let interface = self.incoming.recv.program().interface();
+        let interface = self.program.interface();
         let Some(from) = message(interface, msg) else {
             return Err(EndFault::UnknownMessage);
         };
@@ -193,7 +196,7 @@ impl Parts {
     fn admit(&self, call: &Call) -> Result<Circuit, EndFault>
         ensures admits { Admits self.now (call_of call.now) result }
     {
-        let interface = self.incoming.recv.program().interface();
+        let interface = self.program.interface();
         if usize::from(call.msg.0) >= interface.messages.len() {
             return Err(EndFault::UnknownMessage);
         }
@@ -217,13 +220,11 @@ impl Parts {
             Ok(circuit) => circuit,
             Err(fault) => return Err(fault),
         };
-        let incoming = &self.incoming;
-        let program = incoming.recv.program();
-        let tape = mem::replace(spare, Vec::new(incoming.alloc));
-        let Ok(queued) = Queued::of(tape, program, call) else {
+        let tape = mem::replace(spare, Vec::new(self.alloc));
+        let Ok(queued) = Queued::of(tape, &self.program, call) else {
             return Err(EndFault::Memory);
         };
-        if let Some(tape) = self.outgoing.queue(program, circuit, queued) {
+        if let Some(tape) = self.outgoing.queue(&self.program, circuit, queued) {
             *spare = tape;
         }
         Ok(())
@@ -255,9 +256,7 @@ impl Parts {
             Err(PutFault::Full) => Ok(WriteAnswer::Full),
             Err(PutFault::Spent) => Err(EndFault::Spent),
             Ok(()) => {
-                let (number, count) = self
-                    .outgoing
-                    .mark_written(self.incoming.recv.program(), circuit);
+                let (number, count) = self.outgoing.mark_written(&self.program, circuit);
                 Ok(WriteAnswer::Written { number, count })
             }
         }
@@ -272,12 +271,10 @@ impl Parts {
         ensures handles { Handles self.old (call_of call) result self.new }
     {
         let mut call = call;
-        match self.incoming.reply(&self.rules, &mut call) {
+        match reply_by_rule(self.alloc, &self.program, &self.rules, &mut call) {
             Err(_) => Err(EndFault::Memory),
             Ok(reply) => {
-                self.incoming.recv.finish();
-                let program = self.incoming.recv.program();
-                self.outgoing.accept(program, circuit, reply);
+                self.outgoing.accept(&self.program, circuit, reply);
                 Ok(ReceiveAnswer::Handle(call))
             }
         }
@@ -294,34 +291,66 @@ impl Parts {
         match self.rules.reply_to(call.msg) {
             Some(_) => self.handle_with_reply(circuit, call),
             None => {
-                self.incoming.recv.finish();
                 let handled = ReceiveAnswer::Handle(call);
                 Ok(handled)
             }
         }
     }
 
-    // What a fragment that is to be taken comes to.
-    fn take_in(&mut self, circuit: Circuit, frag: &Frag) -> Result<ReceiveAnswer, EndFault>
+    // One place more for the calls that come to the end.
+    pub(crate) fn add_place(&self, calls: &mut Reassemblies) -> Result<(), AllocError>
+        ensures added { OnOk result (AddsPlace self.now calls.old calls.new) }
+        ensures place { OnOk result (IsPlaceOf self.now calls.new (length calls.old)) }
+        ensures kept { OnErr result (calls.new ≡ calls.old) }
+    {
+        let program = self.program.duplicate(self.alloc)?;
+        let capacity = tape_capacity(program.plans());
+        calls.add(program, capacity)
+    }
+
+    // What a fragment that is to be taken comes to, at the end's place.
+    fn take_in(
+        &mut self,
+        circuit: Circuit,
+        frag: &Frag,
+        calls: &mut Reassemblies,
+        place: usize,
+    ) -> Result<ReceiveAnswer, EndFault>
         requires bare { bare frag.now ≡ frag.now }
         requires bound { self.old.circuit ≡ Some circuit.0 }
         requires takes { holds_back self.old ≡ false }
-        ensures takes_in { TakesIn self.old frag.now result self.new }
+        requires place { IsPlaceOf self.old calls.old place }
+        ensures takes_in { TakesInAt self.old frag.now result self.new calls.old place calls.new }
     {
+        // What is known of the end is known once it is read.
+        let _circuit = self.circuit;
         one_reading();
-        match self.incoming.recv.take(self.incoming.alloc, frag) {
+        match calls.take(place, frag) {
             Err(TakeFault::Memory) => Err(EndFault::Memory),
             Err(TakeFault::Wire(fault)) => {
                 self.failed = true;
                 Err(EndFault::Wire(fault))
             }
             Ok(Taken::Part) => Ok(ReceiveAnswer::Part),
-            Ok(Taken::Whole(call)) => self.handle(circuit, call),
+            Ok(Taken::Whole(call)) => match self.handle(circuit, call) {
+                Err(refused) => Err(refused),
+                Ok(answer) => {
+                    calls.finish(place);
+                    Ok(answer)
+                }
+            },
         }
     }
 
-    pub(crate) fn receive<T: TakeSide>(&mut self, from: &mut T) -> Result<ReceiveAnswer, EndFault>
-        ensures receives { Receives T.takes self.old from.old result self.new from.new }
+    pub(crate) fn receive<T: TakeSide>(
+        &mut self,
+        from: &mut T,
+        calls: &mut Reassemblies,
+        place: usize,
+    ) -> Result<ReceiveAnswer, EndFault>
+        requires place { IsPlaceOf self.old calls.old place }
+        ensures receives { ReceivesAt T.takes self.old from.old result self.new from.new calls.old place calls.new }
+        ensures place { IsPlaceOf self.new calls.new place }
     {
         let circuit = match self.ready() {
             Ok(circuit) => circuit,
@@ -336,13 +365,15 @@ impl Parts {
                 let _ = from.take();
                 Ok(ReceiveAnswer::Quiet)
             }
-            Sight::Data(frag) => match self.take_in(circuit, &without_stamp(&frag)) {
-                Err(fault) => Err(fault),
-                Ok(answer) => {
-                    let _ = from.take();
-                    Ok(answer)
+            Sight::Data(frag) => {
+                match self.take_in(circuit, &without_stamp(&frag), calls, place) {
+                    Err(fault) => Err(fault),
+                    Ok(answer) => {
+                        let _ = from.take();
+                        Ok(answer)
+                    }
                 }
-            },
+            }
         }
     }
 }

@@ -1,11 +1,9 @@
 use Rattle.std.proofs.Common.{◌≡◌, ℕ, [], length, Option, Some, sym, ap, subst, arith, rules}
 use Rattle.std.specs.Prelude.{IsSome}
 use Rattle.fl_value.specs.Value.{call_of}
-use Rattle.fl_compile.specs.declared.program.Program.{Program}
-use Rattle.fl_compile.specs.Programs.{program_of}
 use Rattle.fl_endpoint.specs.View.{TheEnd, TheOutgoing, queued}
 use Rattle.fl_endpoint.specs.Accounts.{Sound}
-use Rattle.fl_endpoint.specs.Stored.{queued_frags, outgoing_of, Queues, IsOutgoing}
+use Rattle.fl_endpoint.specs.Stored.{queued_frags, outgoing_of, Queues}
 use Rattle.fl_endpoint.specs.Inside.{end_of, program_in}
 use Rattle.fl_endpoint.proofs.Sounds.{Fits, sound_call, idle_end}
 use Rattle.fl_endpoint.proofs.Insides.{queued_end}
@@ -18,18 +16,17 @@ invariant_of-self c =
     let k = c.in-Ok.circuit.0 in
     let view : end_of e ≡ c.args.self.now = c.self.view_is in
     let admits = c.in-Ok.ensures.admits in
-    let program : c.program-program.result.now ≡ e.incoming.recv.program = c.program-program.ensures.program in
     let bound : (end_of e).circuit ≡ Some k = subst (λ (s : TheEnd). s.circuit ≡ Some k) (sym view) admits.1 in
     let idle : (end_of e).outgoing.unwritten ≡ [] = subst (λ (s : TheEnd). s.outgoing.unwritten ≡ []) (sym view) admits.3 in
     let fits : Fits (end_of e) d = subst (λ (s : TheEnd). Fits s d) (sym view) admits.0 in
-    let queues : Queues (program_in e) d c.in-Ok-of.queued = subst (λ (p : Program). Queues (program_of p) d c.in-Ok-of.queued) program c.in-Ok-of.ensures.queues in
+    let queues : Queues (program_in e) d c.in-Ok-of.queued = c.in-Ok-of.ensures.queues in
     let out : outgoing_of (program_in e) k c.queue.new.self ≡ queued (outgoing_of (program_in e) k e.outgoing) (queued_frags (program_in e) k c.in-Ok-of.queued)
-    = subst (λ (p : Program). outgoing_of (program_of p) k c.queue.new.self ≡ queued (outgoing_of (program_of p) k e.outgoing) (queued_frags (program_of p) k c.in-Ok-of.queued)) program c.queue.ensures.queued in
+    = c.queue.ensures.queued in
     let nothing = idle_end (end_of e) c.self.invariant.sound idle in
     let none : length (end_of e).outgoing.waiting ≡ 0 = ap (λ (o : TheOutgoing). length o.waiting) nothing in
     let some : IsSome (end_of e).circuit = subst (λ (o : Option ℕ). IsSome o) (sym bound) (search rules) in
     let sound = sound_call (end_of e) d c.self.invariant.sound some fits (omega (arith, none)) in
     record {
-      outgoing = subst (λ (p : Program). IsOutgoing (program_of p) c.queue.new.self) program c.queue.ensures.outgoing;
+      outgoing = c.queue.ensures.outgoing;
       sound = subst (λ (s : TheEnd). Sound s) (sym (queued_end e c.queue.new.self c.in-Ok-of.queued d k bound queues out)) sound;
     }

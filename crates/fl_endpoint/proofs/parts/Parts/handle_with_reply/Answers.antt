@@ -1,13 +1,10 @@
-use Rattle.std.proofs.Common.{◌≡◌, ℕ, true, false, [], Option, Some, refl, sym, ap, subst, ◌∙◌}
+use Rattle.std.proofs.Common.{◌≡◌, ℕ, true, false, Option, Some, refl, sym, ap, subst, ◌∙◌}
 use Rattle.std.specs.Prelude.{IsSome}
 use Rattle.std.specs.Option.{option_map}
 use Rattle.fl_value.specs.Value.{call_of}
 use Rattle.fl_value.specs.Fits.{fits_of}
-use Rattle.fl_compile.specs.declared.program.Program.{Program}
-use Rattle.fl_compile.specs.Programs.{program_of}
-use Rattle.fl_machine.specs.Reassembling.{TheReassembly}
 use Rattle.fl_endpoint.specs.View.{TheEnd, interface_in, holds_back, queued_if, with_handled}
-use Rattle.fl_endpoint.specs.Stored.{queued_frags, outgoing_of, IsOutgoing}
+use Rattle.fl_endpoint.specs.Stored.{queued_frags, outgoing_of}
 use Rattle.fl_endpoint.specs.Inside.{program_in, end_of}
 use Rattle.fl_endpoint.proofs.Sounds.{sound_handled}
 use Rattle.fl_endpoint.proofs.Insides.{handled_end, handled_is_end, room_for}
@@ -22,38 +19,30 @@ accept-requires-clause-room c =
 pub invariant_of-self : goal.invariant_of-self
 invariant_of-self c =
     let e = c.self.inside in
-    let r = c.finish.new.self in
     let d = call_of c.args.call in
     let k = c.args.circuit.0 in
     let bound : (end_of e).circuit ≡ Some k = ap (λ (s : TheEnd). s.circuit) c.self.view_is ∙ c.requires.bound in
     let some : IsSome (end_of e).circuit = subst (λ (o : Option ℕ). IsSome o) (sym bound) refl in
     let held : holds_back (end_of e) ≡ false = ap (λ (s : TheEnd). holds_back s) c.self.view_is ∙ c.requires.takes in
-    let same : r.program ≡ e.incoming.recv.program = ap (λ (x : TheReassembly). x.program) c.finish.ensures.finished in
-    let none : r.parts ≡ [] = ap (λ (x : TheReassembly). x.parts) c.finish.ensures.finished in
-    let program : c.program-program.result.now ≡ e.incoming.recv.program = c.program-program.ensures.program ∙ same in
     let fits : fits_of (program_in e).interface d ≡ true = subst (λ (s : TheEnd). fits_of (interface_in s) d ≡ true) (sym c.self.view_is) c.requires.fits in
     let out : outgoing_of (program_in e) k c.accept.new.self ≡ queued_if (outgoing_of (program_in e) k e.outgoing) (option_map (queued_frags (program_in e) k) c.in-Ok.reply)
-    = subst (λ (p : Program). outgoing_of (program_of p) k c.accept.new.self ≡ queued_if (outgoing_of (program_of p) k e.outgoing) (option_map (queued_frags (program_of p) k) c.in-Ok.reply)) program c.accept.ensures.accepted in
-    let outgoing : IsOutgoing (program_in e) c.accept.new.self = subst (λ (p : Program). IsOutgoing (program_of p) c.accept.new.self) program c.accept.ensures.outgoing in
-    handled_is_end e r c.accept.new.self d same c.self.invariant outgoing
-    (handled_end e r c.accept.new.self d c.in-Ok.reply k bound same none c.in-Ok.ensures.reply out)
+    = c.accept.ensures.accepted in
+    let outgoing = c.accept.ensures.outgoing in
+    handled_is_end e c.accept.new.self d outgoing
+    (handled_end e c.accept.new.self d c.in-Ok.reply k bound c.in-Ok.ensures.reply out)
     (sound_handled (end_of e) d some fits held c.self.invariant.sound)
 
 pub returns-in-Ok : goal.returns-in-Ok
 returns-in-Ok c =
     let e = c.self.inside in
-    let r = c.finish.new.self in
     let d = call_of c.args.call in
     let k = c.args.circuit.0 in
     let bound : (end_of e).circuit ≡ Some k = ap (λ (s : TheEnd). s.circuit) c.self.view_is ∙ c.requires.bound in
-    let same : r.program ≡ e.incoming.recv.program = ap (λ (x : TheReassembly). x.program) c.finish.ensures.finished in
-    let none : r.parts ≡ [] = ap (λ (x : TheReassembly). x.parts) c.finish.ensures.finished in
-    let program : c.program-program.result.now ≡ e.incoming.recv.program = c.program-program.ensures.program ∙ same in
     let out : outgoing_of (program_in e) k c.accept.new.self ≡ queued_if (outgoing_of (program_in e) k e.outgoing) (option_map (queued_frags (program_in e) k) c.in-Ok.reply)
-    = subst (λ (p : Program). outgoing_of (program_of p) k c.accept.new.self ≡ queued_if (outgoing_of (program_of p) k e.outgoing) (option_map (queued_frags (program_of p) k) c.in-Ok.reply)) program c.accept.ensures.accepted in
+    = c.accept.ensures.accepted in
     record {
       handles = (
-        c.reply.ensures.same,
-        handled_end e r c.accept.new.self d c.in-Ok.reply k bound same none c.in-Ok.ensures.reply out ∙ ap (λ (s : TheEnd). with_handled s d) c.self.view_is,
+        c.reply_by_rule.ensures.same,
+        handled_end e c.accept.new.self d c.in-Ok.reply k bound c.in-Ok.ensures.reply out ∙ ap (λ (s : TheEnd). with_handled s d) c.self.view_is,
       );
     }

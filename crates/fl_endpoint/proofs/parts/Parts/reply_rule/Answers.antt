@@ -1,8 +1,6 @@
 use Rattle.std.proofs.Common.{◌≡◌, Some, sym, ap, subst, ◌∙◌}
 use Rattle.std.specs.Prelude.{map, slice_set}
 use Rattle.fl_interface.specs.Interface.{TheInterface, interface_of, message_of, arg_type_of}
-use Rattle.fl_compile.specs.declared.program.Program.{Program}
-use Rattle.fl_compile.specs.Programs.{program_of}
 use Rattle.fl_endpoint.specs.View.{TheEnd, interface_in}
 use Rattle.fl_endpoint.specs.Accounts.{IsRule}
 use Rattle.fl_endpoint.specs.Inside.{end_of, program_in}
@@ -14,7 +12,7 @@ pub invariant_of-self : goal.invariant_of-self
 invariant_of-self c =
     let e = c.self.inside in
     let i = interface_of c.interface-interface.result.now in
-    let same : i ≡ (program_in e).interface = c.interface-interface.ensures.interface ∙ ap (λ (p : Program). (program_of p).interface) c.program.ensures.program in
+    let same : i ≡ (program_in e).interface = c.interface-interface.ensures.interface in
     let types : map arg_type_of c.in-Some.from.now.args.items ≡ map arg_type_of c.in-Some-message.to.now.args.items
     = ap (map arg_type_of) (sym c.deref.ensures.value) ∙ c.same_args.ensures.exact.0 c.if-not-same_args.false ∙ ap (map arg_type_of) c.deref-2.ensures.value in
     let rule : IsRule i c.args.msg.0 c.args.reply.0
@@ -26,7 +24,7 @@ pub returns : goal.returns
 returns c =
     let e = c.self.inside in
     let i = interface_of c.interface-interface.result.now in
-    let same : i ≡ (program_in e).interface = c.interface-interface.ensures.interface ∙ ap (λ (p : Program). (program_of p).interface) c.program.ensures.program in
+    let same : i ≡ (program_in e).interface = c.interface-interface.ensures.interface in
     let types : map arg_type_of c.in-Some.from.now.args.items ≡ map arg_type_of c.in-Some-message.to.now.args.items
     = ap (map arg_type_of) (sym c.deref.ensures.value) ∙ c.same_args.ensures.exact.0 c.if-not-same_args.false ∙ ap (map arg_type_of) c.deref-2.ensures.value in
     let rule : IsRule i c.args.msg.0 c.args.reply.0

@@ -1,5 +1,4 @@
 use Rattle.std.proofs.Common.{◌≡◌, ℕ, true, false, List, [], length, Option, None, sym, ap, subst, ◌∙◌, rules}
-use Rattle.fl_base.specs.declared.fragment.Frag.{Frag}
 use Rattle.fl_interface.specs.Interface.{TheInterface, interface_of, message_of}
 use Rattle.fl_interface.specs.Limits.{is_within_limits}
 use Rattle.fl_wire.specs.Words.{interface_words_fit}
@@ -15,14 +14,11 @@ use Rattle.fl_endpoint.proofs.Sounds.{sound_fresh}
 use Rattle.fl_endpoint.proofs.parts.Parts.unbound.Goals as goal
 
 -- an end of these parts is a new one
-new_end : (program made : Program) (of_it : List (Option ℕ)) (outgoing : TheOutgoing) (parts : List Frag) → made ≡ program → of_it ≡ no_rules program
-    → outgoing ≡ nothing_to_send → parts ≡ []
-    → ◌≡◌ {A = TheEnd} (record { program = made; circuit = None; rules = of_it; outgoing = outgoing; parts = parts; failed = false }) (fresh program None)
-new_end program made of_it outgoing parts a b c d =
-    ap (λ (x : Program). record { program = x; circuit = None; rules = of_it; outgoing = outgoing; parts = parts; failed = false }) a
-    ∙ ap (λ (x : List (Option ℕ)). record { program = program; circuit = None; rules = x; outgoing = outgoing; parts = parts; failed = false }) b
-    ∙ ap (λ (x : TheOutgoing). record { program = program; circuit = None; rules = no_rules program; outgoing = x; parts = parts; failed = false }) c
-    ∙ ap (λ (x : List Frag). record { program = program; circuit = None; rules = no_rules program; outgoing = nothing_to_send; parts = x; failed = false }) d
+new_end : (program : Program) (of_it : List (Option ℕ)) (outgoing : TheOutgoing) → of_it ≡ no_rules program → outgoing ≡ nothing_to_send
+    → ◌≡◌ {A = TheEnd} (record { program = program; circuit = None; rules = of_it; outgoing = outgoing; parts = []; failed = false }) (fresh program None)
+new_end program of_it outgoing b c =
+    ap (λ (x : List (Option ℕ)). record { program = program; circuit = None; rules = x; outgoing = outgoing; parts = []; failed = false }) b
+    ∙ ap (λ (x : TheOutgoing). record { program = program; circuit = None; rules = no_rules program; outgoing = x; parts = []; failed = false }) c
 
 pub returns-clause-sound : goal.returns-clause-sound
 returns-clause-sound c =
@@ -34,16 +30,13 @@ returns-clause-sound c =
     let many : c.len.result ≡ length (program_of c.args.program).interface.messages
     = long ∙ sym (length-map c.interface.result.now.messages.items message_of) ∙ ap (λ (j : TheInterface). length j.messages) same in
     subst (λ (s : TheEnd). Sound s)
-    (sym (new_end c.args.program c.in_ok-incoming.incoming.recv.program (rules_of c.in_ok-rules.rules.replies.items)
-    (outgoing_of (program_of c.in_ok-incoming.incoming.recv.program) 0 c.in_ok-outgoing.outgoing) c.in_ok-incoming.incoming.recv.parts
-    c.in_ok-incoming.ensures.program
+    (sym (new_end c.args.program (rules_of c.in_ok-rules.rules.replies.items) (outgoing_of (program_of c.args.program) 0 c.in_ok-outgoing.outgoing)
     (c.in_ok-rules.ensures.none ∙ ap (λ (n : ℕ). replicate n None) many)
-    (c.in_ok-outgoing.ensures.nothing (program_of c.in_ok-incoming.incoming.recv.program) 0)
-    c.in_ok-incoming.ensures.parts))
+    (c.in_ok-outgoing.ensures.nothing (program_of c.args.program) 0)))
     (sound_fresh c.args.program within words)
 
 pub invariant_of-result : goal.invariant_of-result
 invariant_of-result c = record {
-  outgoing = c.in_ok-outgoing.ensures.room (program_of c.in_ok-incoming.incoming.recv.program);
+  outgoing = c.in_ok-outgoing.ensures.room (program_of c.args.program);
   sound = returns-clause-sound c;
 }

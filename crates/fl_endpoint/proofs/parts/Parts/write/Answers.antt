@@ -1,12 +1,10 @@
-use Rattle.std.proofs.Common.{◌≡◌, ℕ, ◌+◌, List, ◌∷◌, drop, length, Option, Some, refl, sym, ap, subst, ◌∙◌, rules}
+use Rattle.std.proofs.Common.{◌≡◌, ℕ, ◌∷◌, drop, Option, Some, refl, sym, ap, subst, ◌∙◌, rules}
 use Rattle.std.specs.Prelude.{IsSome}
 use Rattle.fl_base.specs.declared.fragment.Frag.{Frag}
-use Rattle.fl_compile.specs.declared.program.Program.{Program}
-use Rattle.fl_compile.specs.Programs.{program_of}
 use Rattle.fl_link.specs.Looks.{placed}
 use Rattle.fl_endpoint.specs.View.{TheEnd, wrote, with_written}
 use Rattle.fl_endpoint.specs.Accounts.{Sound}
-use Rattle.fl_endpoint.specs.Stored.{outgoing_of, IsOutgoing}
+use Rattle.fl_endpoint.specs.Stored.{outgoing_of}
 use Rattle.fl_endpoint.specs.Inside.{program_in, end_of}
 use Rattle.fl_endpoint.proofs.Outgoings.{none_first, first_and_rest, not_none}
 use Rattle.fl_endpoint.proofs.Sounds.{sound_written}
@@ -39,15 +37,14 @@ invariant_of-self g c =
     let f = c.in-Some.frag in
     let rest = drop 1 c.args.self.now.outgoing.unwritten in
     let view : end_of e ≡ c.args.self.now = c.self.view_is in
-    let program : c.program.result.now ≡ e.incoming.recv.program = c.program.ensures.program in
     let bound : (end_of e).circuit ≡ Some k = ap (λ (s : TheEnd). s.circuit) view ∙ c.in-Ok.ensures.ready.0 in
     let is : (end_of e).outgoing.unwritten ≡ f ∷ rest = ap (λ (s : TheEnd). s.outgoing.unwritten) view ∙ first_and_rest c.args.self.now.outgoing.unwritten f (sym c.in-Some.ensures.next) in
     let here : (outgoing_of (program_in e) k e.outgoing).unwritten ≡ f ∷ rest = is in
-    let wrote_is = subst (λ (p : Program). (x : Frag) (xs : List Frag) → (outgoing_of (program_of p) k e.outgoing).unwritten ≡ x ∷ xs → outgoing_of (program_of p) k c.mark_written-number.new.self ≡ wrote xs (outgoing_of (program_of p) k e.outgoing)) program c.mark_written-number.ensures.wrote in
+    let wrote_is = c.mark_written-number.ensures.wrote in
     let out : outgoing_of (program_in e) k c.mark_written-number.new.self ≡ wrote rest (outgoing_of (program_in e) k e.outgoing) = wrote_is f rest here in
     let some : IsSome (end_of e).circuit = subst (λ (o : Option ℕ). IsSome o) (sym bound) refl in
     record {
-      outgoing = subst (λ (p : Program). IsOutgoing (program_of p) c.mark_written-number.new.self) program c.mark_written-number.ensures.outgoing;
+      outgoing = c.mark_written-number.ensures.outgoing;
       sound = subst (λ (s : TheEnd). Sound s) (sym (written_end e c.mark_written-number.new.self rest k bound out)) (sound_written (end_of e) f rest c.self.invariant.sound some is);
     }
 
@@ -58,14 +55,13 @@ returns-in-Ok-put g c =
     let f = c.in-Some.frag in
     let rest = drop 1 c.args.self.now.outgoing.unwritten in
     let view : end_of e ≡ c.args.self.now = c.self.view_is in
-    let program : c.program.result.now ≡ e.incoming.recv.program = c.program.ensures.program in
     let bound : (end_of e).circuit ≡ Some k = ap (λ (s : TheEnd). s.circuit) view ∙ c.in-Ok.ensures.ready.0 in
     let now : c.args.self.now.outgoing.unwritten ≡ f ∷ rest = first_and_rest c.args.self.now.outgoing.unwritten f (sym c.in-Some.ensures.next) in
     let is : (end_of e).outgoing.unwritten ≡ f ∷ rest = ap (λ (s : TheEnd). s.outgoing.unwritten) view ∙ now in
     let here : (outgoing_of (program_in e) k e.outgoing).unwritten ≡ f ∷ rest = is in
-    let wrote_is = subst (λ (p : Program). (x : Frag) (xs : List Frag) → (outgoing_of (program_of p) k e.outgoing).unwritten ≡ x ∷ xs → outgoing_of (program_of p) k c.mark_written-number.new.self ≡ wrote xs (outgoing_of (program_of p) k e.outgoing)) program c.mark_written-number.ensures.wrote in
+    let wrote_is = c.mark_written-number.ensures.wrote in
     let out : outgoing_of (program_in e) k c.mark_written-number.new.self ≡ wrote rest (outgoing_of (program_in e) k e.outgoing) = wrote_is f rest here in
-    let number_is = subst (λ (p : Program). (x : Frag) (xs : List Frag) → (outgoing_of (program_of p) k e.outgoing).unwritten ≡ x ∷ xs → c.mark_written-number.result.0 + length xs ≡ c.mark_written-number.result.1) program c.mark_written-number.ensures.number in
+    let number_is = c.mark_written-number.ensures.number in
     let count : c.mark_written-number.result.1 ≡ c.args.self.now.outgoing.count = c.mark_written-number.ensures.count ∙ ap (λ (s : TheEnd). s.outgoing.count) view in
     let placed_is : g.P.PutSide.puts c.args.out.now (placed f) c.put.new.self = subst (λ (x : Frag). g.P.PutSide.puts c.args.out.now (placed x) c.put.new.self) c.in-Some.ensures.own.bare_is (search rules) in
     record {
