@@ -13,3 +13,4 @@ pub mod Circuits
 pub mod Plains
 pub mod Emits
 pub mod Places
+pub mod Laid

@@ -13,6 +13,7 @@
 //! - `recv.rt`: `RecvRun`
 //! - `reassembly.rt`: `Reassembly`, which gives calls of what it takes and needs no way back
 //! - `reassemblies.rt`: `Reassemblies`, the same at many places
+//! - `tapes.rt`: tapes of numbers at many places, in one block of memory
 //! - `law.rt`: what runs of the compiler's code give and take
 #![tactic(auto)]
 
@@ -24,6 +25,7 @@ mod reassemblies;
 mod reassembly;
 mod recv;
 mod send;
+mod tapes;
 
 pub use cursor::{Cursor, Loop};
 pub use intake::{Fed, Intake};
