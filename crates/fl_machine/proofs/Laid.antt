@@ -11,7 +11,7 @@ use Rattle.fl_machine.specs.Tapes.{IsOpened, numbers_from, tape_in, owed_from, o
 
 -- ---- lists
 
-get_before : {X : Type 0} (xs ys : List X) (i : ℕ) (s : X) → slice_get xs i ≡ Some s → slice_get (xs ++ ys) i ≡ Some s
+pub get_before : {X : Type 0} (xs ys : List X) (i : ℕ) (s : X) → slice_get xs i ≡ Some s → slice_get (xs ++ ys) i ≡ Some s
 get_before [] ys i s e = absurd (none-some s e)
 get_before (x ∷ xs) ys zero s e = e
 get_before (x ∷ xs) ys (suc i) s e = get_before xs ys i s e
@@ -45,7 +45,7 @@ map_changed f g (y ∷ xs) (suc i) x same =
     ap (λ z. z ∷ map g (set xs i x)) (same 0 y refl (λ (q : 0 ≡ suc i). omega (arith, q)))
     ∙ ap (λ ys. f y ∷ ys) (map_changed f g xs i x (λ j s e n. same (suc j) s e (λ (q : suc j ≡ suc i). n (omega (arith, q)))))
 
-set_there : {X : Type 0} (xs : List X) (i : ℕ) (s : X) → slice_get xs i ≡ Some s → set xs i s ≡ xs
+pub set_there : {X : Type 0} (xs : List X) (i : ℕ) (s : X) → slice_get xs i ≡ Some s → set xs i s ≡ xs
 set_there [] i s e = refl
 set_there (x ∷ xs) zero s e = ap (λ y. y ∷ xs) (sym (same_Some x s e))
 set_there (x ∷ xs) (suc i) s e = ap (λ ys. x ∷ ys) (set_there xs i s e)
@@ -62,18 +62,16 @@ longer block more size start h =
     ap (take size) (drop-append-le start block more (omega (arith, h)))
     ∙ take-append-le size (drop start block) more (omega (arith, h, length-drop start block))
 
-pub written : List ℕ → ℕ → List ℕ → List ℕ
+abbrev pub written : List ℕ → ℕ → List ℕ → List ℕ
 written block start numbers = take start block ++ (numbers ++ drop (length numbers) (drop start block))
 
 pub written_length : (block : List ℕ) (start : ℕ) (numbers : List ℕ) → start + length numbers ≤ length block → length (written block start numbers) ≡ length block
-unfolding written
 written_length block start numbers h =
     length-append (take start block) (numbers ++ drop (length numbers) (drop start block))
     ∙ omega (arith, h, length-take-le start block (omega (arith, h)), length-append numbers (drop (length numbers) (drop start block)), length-drop (length numbers) (drop start block), length-drop start block)
 
 -- the numbers written
 written_here : (block : List ℕ) (start : ℕ) (numbers : List ℕ) → start + length numbers ≤ length block → take (length numbers) (drop start (written block start numbers)) ≡ numbers
-unfolding written
 written_here block start numbers h =
     ap (take (length numbers)) (drop_at (take start block) (numbers ++ drop (length numbers) (drop start block)) start (length-take-le start block (omega (arith, h))))
     ∙ take_at numbers (drop (length numbers) (drop start block)) (length numbers) refl
@@ -81,7 +79,6 @@ written_here block start numbers h =
 -- those before them
 written_before : (block : List ℕ) (start : ℕ) (numbers : List ℕ) (size at : ℕ) → start + length numbers ≤ length block → at + size ≤ start
     → take size (drop at (written block start numbers)) ≡ take size (drop at block)
-unfolding written
 written_before block start numbers size at h before =
     let rest = numbers ++ drop (length numbers) (drop start block) in
     sym (drop-take at size (take start block ++ rest))
@@ -91,7 +88,6 @@ written_before block start numbers size at h before =
 -- those behind them
 written_behind : (block : List ℕ) (start : ℕ) (numbers : List ℕ) (size at : ℕ) → start + length numbers ≤ length block → start + length numbers ≤ at
     → take size (drop at (written block start numbers)) ≡ take size (drop at block)
-unfolding written
 written_behind block start numbers size at h behind =
     let n = length numbers in
     let front : drop start (written block start numbers) ≡ numbers ++ drop n (drop start block)

@@ -12,5 +12,5 @@ pub mod Rounds
 pub mod Circuits
 pub mod Plains
 pub mod Emits
-pub mod Places
 pub mod Laid
+pub mod Joined

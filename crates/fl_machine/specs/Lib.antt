@@ -6,7 +6,7 @@ pub mod Rounds
 pub mod Laws
 pub mod Faults
 -- Working files: what runs store as the first group sees it (`Cursors`, `Taking`, `Runs`,
--- `Reassembled`, `Tapes`), how a fragment is filled, and code without loops.
+-- `Reassembled`, `Tapes`, `Places`), how a fragment is filled, and code without loops.
 pub mod Cursors
 pub mod Taking
 pub mod Runs
@@ -14,3 +14,4 @@ pub mod Reassembled
 pub mod Filling
 pub mod Plain
 pub mod Tapes
+pub mod Places

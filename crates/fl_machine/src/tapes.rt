@@ -16,7 +16,7 @@ pub(crate) struct Span {
 #[derive(Drop)]
 pub(crate) struct Tapes {
     // The tapes that are there, in the order in which they were opened.
-    block: Vec<u64>,
+    pub(crate) block: Vec<u64>,
     spans: Vec<Span>,
     // So many numbers have the tapes that aren't there yet: there is memory for them behind those of the block.
     owed: usize,
