@@ -11,14 +11,14 @@ use Rattle.fl_compile.specs.declared.program.Program.{Program}
 use Rattle.fl_compile.specs.Programs.{TheProgram, program_of}
 use Rattle.fl_machine.specs.declared.recv.Begun.{Begun}
 use Rattle.fl_machine.specs.declared.tapes.Tapes.{Tapes}
-use Rattle.fl_machine.specs.declared.reassemblies.Place.{Place}
+use Rattle.fl_machine.specs.declared.reassembly.Place.{Place}
 use Rattle.fl_machine.specs.declared.reassembly.Taken.{Taken}
 use Rattle.fl_machine.specs.declared.reassembly.TakeFault.{TakeFault}
 use Rattle.fl_machine.specs.declared.reassembly.TakeFault.TheVariants.{Wire, Memory}
 use Rattle.fl_machine.specs.Receiving.{HoldsTapes}
-use Rattle.fl_machine.specs.Reassembling.{TheReassembly, Takes, ChangesPlace, IsUnderWay, new_reassembly, without_parts}
+use Rattle.fl_machine.specs.Reassembling.{TheReassembly, Takes, ChangesPlace, IsUnderWay, new_reassembly, without_parts, reassembly_on}
 use Rattle.fl_machine.specs.Tapes.{TheTape, IsOpened, IsThere, LiesAt, AreTapes, not_there, numbers_from, tape_in, tapes_of}
-use Rattle.fl_machine.specs.Places.{AreJoined, IsPlace, StandsOn, joined, numbers_of, reassembly_at, reassembly_on}
+use Rattle.fl_machine.specs.Places.{AreJoined, IsPlace, StandsOn, joined, numbers_of, reassembly_at}
 use Rattle.fl_machine.proofs.Laid.{are_same, is_written, set_there, written, written_length}
 
 pub length_joined : (ps : List Place) (ts : List TheTape) → AreJoined ps ts → length (joined ps ts) ≡ length ps

@@ -1,17 +1,12 @@
 -- Working file: what is stored of calls that are put together again at many places.
 use Rattle.std.specs.Prelude.{◌≡◌, ℕ, List, [], ◌∷◌, slice_get, Option, Some, None}
-use Rattle.fl_compile.specs.declared.program.Program.{Program}
 use Rattle.fl_compile.specs.Programs.{TheProgram, program_of}
 use Rattle.fl_machine.specs.Receiving.{HoldsTapes}
-use Rattle.fl_machine.specs.Reassembling.{TheReassembly, parts_under, IsUnderWay}
+use Rattle.fl_machine.specs.Reassembling.{TheReassembly, IsUnderWay, reassembly_on}
 use Rattle.fl_machine.specs.Tapes.{TheTape, IsTapes, tapes_of}
 use Rattle.fl_machine.specs.declared.recv.Begun.{Begun}
-use Rattle.fl_machine.specs.declared.reassemblies.Place.{Place}
+use Rattle.fl_machine.specs.declared.reassembly.Place.{Place}
 use Rattle.fl_machine.specs.declared.reassemblies.Places.{Places}
-
--- a program, and the fragments of a call under way whose numbers lie on a tape
-abbrev pub reassembly_on : Program → List ℕ → Option Begun → TheReassembly
-reassembly_on program tape begun = record { program = program; parts = parts_under (program_of program) tape begun }
 
 -- the numbers of a tape; none where it isn't there
 abbrev pub numbers_of : Option (List ℕ) → List ℕ

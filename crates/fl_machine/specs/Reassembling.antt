@@ -1,7 +1,6 @@
 -- Calls that are put together again: what a reassembly has taken of the call under way, and what taking one fragment more
 -- comes to.
-use Rattle.std.specs.Prelude.{◌≡◌, ℕ, ◌≤◌, true, List, [], ◌∷◌, ◌++◌, slice_get, slice_set, Option, Some, None, Result, Ok, Err}
-use Rattle.std.specs.Vec.{vec_capacity}
+use Rattle.std.specs.Prelude.{◌≡◌, ℕ, true, List, [], ◌∷◌, ◌++◌, slice_get, slice_set, Option, Some, None, Result, Ok, Err}
 use Rattle.fl_base.specs.declared.fragment.Frag.{Frag}
 use Rattle.fl_base.specs.Control.{bare}
 use Rattle.fl_interface.specs.Interface.{TheInterface}
@@ -11,10 +10,9 @@ use Rattle.fl_value.specs.Fits.{fits_of}
 use Rattle.fl_wire.specs.Reading.{Means, IsPart}
 use Rattle.fl_compile.specs.declared.program.Program.{Program}
 use Rattle.fl_compile.specs.Programs.{TheProgram, program_of}
-use Rattle.fl_machine.specs.Receiving.{IsRefused, HoldsTapes, StandsIn, parts_in}
+use Rattle.fl_machine.specs.Receiving.{IsRefused, StandsIn, parts_in}
 use Rattle.fl_machine.specs.declared.recv.Begun.{Begun}
 use Rattle.fl_machine.specs.declared.recv.Stand.TheVariants.{Inside as UnderWay}
-use Rattle.fl_machine.specs.declared.reassembly.Gathered.{Gathered}
 use Rattle.fl_machine.specs.declared.reassembly.Taken.{Taken}
 use Rattle.fl_machine.specs.declared.reassembly.Taken.TheVariants.{Part, Whole}
 use Rattle.fl_machine.specs.declared.reassembly.TakeFault.{TakeFault}
@@ -73,14 +71,6 @@ abbrev pub IsUnderWay : TheProgram → List ℕ → Option Begun → Type 0
 IsUnderWay p tape None = Unit {0}
 IsUnderWay p tape (Some b) = StandsIn p tape (UnderWay b)
 
--- memory for each call's numbers, and on the tape those of the call under way
-pub record IsGathered (p : TheProgram) (g : Gathered) : Type 0 where
-  pub holds : HoldsTapes p.plan p.interface g.capacity
-  pub reserved : g.capacity ≤ vec_capacity g.tape
-  pub begun : IsUnderWay p g.tape.items g.begun
-
-abbrev pub parts_gathered : TheProgram → Gathered → List Frag
-parts_gathered p g = parts_under p g.tape.items g.begun
-
-abbrev pub reassembling : Program → Gathered → TheReassembly
-reassembling program g = record { program = program; parts = parts_gathered (program_of program) g }
+-- a program, and the fragments of a call under way whose numbers lie on a tape
+abbrev pub reassembly_on : Program → List ℕ → Option Begun → TheReassembly
+reassembly_on program tape begun = record { program = program; parts = parts_under (program_of program) tape begun }

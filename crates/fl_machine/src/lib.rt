@@ -4,15 +4,15 @@
 //! (`specs/Sending.antt`), a receive run the list of those fed since the last whole call and of that call's
 //! (`specs/Receiving.antt`), a reassembly that of the call under way (`specs/Reassembling.antt`): functions of
 //! the code and of what the run stores. No history is kept, and no call takes memory but those that make a
-//! receive run, a reassembly and a call.
+//! receive run, a place for reassembling calls, and a call.
 //!
 //! - `cursor.rt`: where a run of send code stands, and how it goes on by an instruction
 //! - `send.rt`: `SendRun`, and a call's first fragment without one
 //! - `intake.rt`: where a run of receive code stands, and how it takes bytes
 //! - `plain.rt`: calls of one fragment, taken by code without loops
 //! - `recv.rt`: `RecvRun`
-//! - `reassembly.rt`: `Reassembly`, which gives calls of what it takes and needs no way back
-//! - `reassemblies.rt`: `Reassemblies`, the same at many places
+//! - `reassembly.rt`: what is taken of a call on a tape, which gives calls of what it takes and needs no way back
+//! - `reassemblies.rt`: `Reassemblies`, calls put together at many places
 //! - `tapes.rt`: tapes of numbers at many places, in one block of memory
 //! - `law.rt`: what runs of the compiler's code give and take
 #![tactic(auto)]
@@ -31,6 +31,6 @@ pub use cursor::{Cursor, Loop};
 pub use intake::{Fed, Intake};
 pub use law::{sends_fragments, sets_circuits, takes_fragments};
 pub use reassemblies::Reassemblies;
-pub use reassembly::{Reassembly, TakeFault, Taken};
+pub use reassembly::{TakeFault, Taken};
 pub use recv::RecvRun;
 pub use send::{SendRun, first_frag};

@@ -1,22 +1,19 @@
-//! Calls that are put together again from their fragments.
+//! A program's calls that are put together again from their fragments, one after another.
 
-ghost use Rattle.std.specs.Prelude.{◌≡◌, ◌≤◌, ◌+◌, ◌⊎◌, ℕ, [], take, length, None, IsSome, IfOk, IfErr};
-ghost use Rattle.std.specs.Vec.{vec_capacity};
+ghost use Rattle.std.specs.Prelude.{◌≡◌, [], length, IsSome, None, IfOk, IfErr};
 ghost use Rattle.fl_compile.specs.Programs.{program_of};
 ghost use Rattle.fl_machine.specs.Faults.{take_number};
-ghost use Rattle.fl_machine.specs.Receiving.{HoldsTapes, StandsIn, AddsUpTo, IsRefusedIn, parts_in};
-ghost use Rattle.fl_machine.specs.Receiving.{IsNew, stand_after};
-ghost use Rattle.fl_machine.specs.declared.recv.Stand.TheVariants.{Inside as inside};
-ghost use Rattle.fl_machine.specs.Reassembling.{Takes, IsGathered, parts_gathered, reassembling, without_parts};
+ghost use Rattle.fl_machine.specs.Receiving.{HoldsTapes, StandsIn, AddsUpTo, IsRefusedIn, parts_in, stand_after};
+ghost use Rattle.fl_machine.specs.declared.recv.Stand.TheVariants.{Inside as inside, After as after};
+ghost use Rattle.fl_machine.specs.Reassembling.{Takes, IsUnderWay, new_reassembly, parts_under, reassembly_on};
 
 use crate::intake::Fed;
-use crate::recv::{Begun, begin, begin_plain, go_on, whole};
+use crate::recv::{Begun, Ended, begin, go_on, whole};
 use fl_base::Frag;
 use fl_compile::Program;
 use fl_value::Call;
 use fl_wire::WireFault;
-use std::alloc::{AllocError, Global};
-use std::marker::Model;
+use std::alloc::Global;
 
 /// What taking a fragment came to.
 #[derive(Debug, Drop)]
@@ -48,83 +45,92 @@ impl TakeFault {
     }
 }
 
-// What is stored of the call under way.
+// A program, and of its call under way what isn't on the tape.
 #[derive(Drop)]
-pub(crate) struct Gathered {
-    // The first numbers are the call's. It grows by what a fragment may bring, in memory that it has had from the start.
-    tape: Vec<u64>,
-    // There is memory for so many numbers, which are enough for any call.
-    capacity: usize,
-    begun: Option<Begun>,
+pub(crate) struct Place {
+    pub(crate) program: Program,
+    pub(crate) begun: Option<Begun>,
 }
 
-/// Calls of a program, put together again from their fragments: these are taken one after another, and the last of a call
-/// gives it.
-#[derive(Drop)]
-pub struct Reassembly {
-    program: Program,
-    gathered: Gathered,
-}
-
-impl Model for Reassembly {
-    ghost use Rattle.std.specs.Coded.{codes};
-    ghost use Rattle.fl_compile.specs.contracts.program.Program.{the_row};
-    ghost use Rattle.fl_machine.specs.Reassembling.{TheReassembly};
-    ghost use Rattle.fl_machine.specs.Reassembled.{reassembly_of, IsReassembly};
-
-    ghost Value = { TheReassembly };
-
-    ghost coded = { Prim.hlevel (codes, the_row.coded) };
-
-    ghost view = { reassembly_of };
-
-    ghost invariant = { IsReassembly };
-}
-
-// Places of a tape that are enough for a fragment's numbers behind so many.
+// Whether the call that a fragment begins has no more arguments than a fragment has words.
 #[inline(always)]
-fn places_for(count: usize, capacity: usize) -> usize
-    ensures within { result ≤ capacity }
-    ensures enough { (result ≡ capacity) ⊎ (count + 56 ≤ result) }
-{
-    if capacity < 56 || count > capacity - 56 {
-        return capacity;
-    }
-    count + 56
-}
-
-// Zeros behind the numbers of a tape, up to so many places.
-fn fill(tape: &mut Vec<u64>, places: usize)
-    requires { places ≤ vec_capacity tape.old }
-    ensures places { places ≤ length tape.new.items }
-    ensures capacity { vec_capacity tape.new ≡ vec_capacity tape.old }
-    ensures kept { (n : ℕ) → n ≤ length tape.old.items → take n tape.new.items ≡ take n tape.old.items }
-    ensures longer { length tape.old.items ≤ length tape.new.items }
-{
-    while tape.len() < places {
-        tape.push_reserved(0);
+pub(crate) fn has_few_args(program: &Program, frag: &Frag) -> bool {
+    match program.interface().messages.get(usize::from(frag.msg().0)) {
+        Some(message) => message.args.len() < 8,
+        None => false,
     }
 }
 
-// Takes a fragment where a call is to begin, as the first of this one: its numbers are then on the tape.
+// The call of one fragment, whose numbers are these.
 #[inline(always)]
-fn look_first(
+pub(crate) fn tell(
+    alloc: Global,
     program: &Program,
-    begun: &mut Begun,
-    tape: &mut Vec<u64>,
-    capacity: usize,
+    ended: Ended,
+    tape: &[u64],
     frag: &Frag,
-) -> Result<Fed, WireFault>
-    requires new { IsNew begun.old }
-    requires holds { HoldsTapes (program_of program.now).plan (program_of program.now).interface capacity }
-    requires reserved { capacity ≤ vec_capacity tape.old }
-    ensures reserved { capacity ≤ vec_capacity tape.new }
-    ensures stands { IfOk result (λ fed. StandsIn (program_of program.now) tape.new.items (stand_after begun.new fed)) }
-    ensures adds { IfOk result (λ fed. AddsUpTo (program_of program.now) [] frag.now tape.new.items (stand_after begun.new fed)) }
-    ensures wrong { IfErr result (λ fault. IsRefusedIn (program_of program.now) [] frag.now fault) }
+) -> Result<Taken, TakeFault>
+    requires stands { StandsIn (program_of program.now) tape.now (after ended) }
+    requires adds { AddsUpTo (program_of program.now) [] frag.now tape.now (after ended) }
+    ensures takes { Takes (new_reassembly program.now) frag.now result (new_reassembly program.now) }
 {
-    fill(tape, places_for(0, capacity));
-    begin(program, begun, tape, frag)
+    let _plan = program.plan();
+    match whole(alloc, program, ended, tape) {
+        Ok(call) => Ok(Taken::Whole(call)),
+        Err(_) => Err(TakeFault::Memory),
+    }
+}
+
+// A call whose last fragment came to this: one that goes on is under way then, and one that is whole is told.
+#[inline(always)]
+fn keep(
+    alloc: Global,
+    program: &Program,
+    under: &mut Option<Begun>,
+    begun: &Begun,
+    tape: &[u64],
+    frag: &Frag,
+    fed: Fed,
+) -> Result<Taken, TakeFault>
+    requires under_way { IsUnderWay (program_of program.now) tape.now under.old }
+    requires stands { StandsIn (program_of program.now) tape.now (stand_after begun.now fed) }
+    requires adds { AddsUpTo (program_of program.now) (parts_under (program_of program.now) tape.now under.old) frag.now tape.now (stand_after begun.now fed) }
+    ensures under_way { IsUnderWay (program_of program.now) tape.now under.new }
+    ensures takes { Takes (reassembly_on program.now tape.now under.old) frag.now result (reassembly_on program.now tape.now under.new) }
+{
+    let _plan = program.plan();
+    match fed {
+        Fed::Part => {
+            *under = Some(*begun);
+            Ok(Taken::Part)
+        }
+        Fed::Whole => match whole(alloc, program, begun.ended(), tape) {
+            Ok(call) => Ok(Taken::Whole(call)),
+            Err(_) => Err(TakeFault::Memory),
+        },
+    }
+}
+
+// Takes a fragment between two calls, on a tape.
+#[inline(always)]
+fn take_begun(
+    alloc: Global,
+    program: &Program,
+    under: &mut Option<Begun>,
+    tape: &mut [u64],
+    frag: &Frag,
+) -> Result<Taken, TakeFault>
+    requires between { under.old ≡ None }
+    requires holds { HoldsTapes (program_of program.now).plan (program_of program.now).interface (length tape.old) }
+    ensures under_way { IsUnderWay (program_of program.now) tape.new under.new }
+    ensures takes { Takes (reassembly_on program.now tape.old under.old) frag.now result (reassembly_on program.now tape.new under.new) }
+{
+    let _plan = program.plan();
+    let mut begun = Begun::new();
+    match begin(program, &mut begun, tape, frag) {
+        Ok(fed) => keep(alloc, program, under, &begun, tape, frag, fed),
+        Err(fault) => Err(TakeFault::Wire(fault)),
+    }
 }
 
 // Takes a fragment of the call under way: its numbers are then on the tape behind the others.
@@ -132,202 +138,77 @@ fn look_first(
 fn look_on(
     program: &Program,
     begun: &mut Begun,
-    tape: &mut Vec<u64>,
-    capacity: usize,
+    tape: &mut [u64],
     frag: &Frag,
 ) -> Result<Fed, WireFault>
-    requires begun { StandsIn (program_of program.now) tape.old.items (inside begun.old) }
-    requires holds { HoldsTapes (program_of program.now).plan (program_of program.now).interface capacity }
-    requires reserved { capacity ≤ vec_capacity tape.old }
-    ensures reserved { capacity ≤ vec_capacity tape.new }
-    ensures begun { StandsIn (program_of program.now) tape.new.items (inside begun.old) }
-    ensures parts { parts_in (program_of program.now) tape.new.items begun.old ≡ parts_in (program_of program.now) tape.old.items begun.old }
-    ensures stands { IfOk result (λ fed. StandsIn (program_of program.now) tape.new.items (stand_after begun.new fed)) }
+    requires begun { StandsIn (program_of program.now) tape.old (inside begun.old) }
+    requires holds { HoldsTapes (program_of program.now).plan (program_of program.now).interface (length tape.old) }
+    ensures begun { StandsIn (program_of program.now) tape.new (inside begun.old) }
+    ensures parts { parts_in (program_of program.now) tape.new begun.old ≡ parts_in (program_of program.now) tape.old begun.old }
+    ensures stands { IfOk result (λ fed. StandsIn (program_of program.now) tape.new (stand_after begun.new fed)) }
     ensures adds { IfOk result (λ fed.
-        AddsUpTo (program_of program.now) (parts_in (program_of program.now) tape.old.items begun.old) frag.now tape.new.items (stand_after begun.new fed)) }
-    ensures wrong { IfErr result (λ fault. IsRefusedIn (program_of program.now) (parts_in (program_of program.now) tape.old.items begun.old) frag.now fault) }
+        AddsUpTo (program_of program.now) (parts_in (program_of program.now) tape.old begun.old) frag.now tape.new (stand_after begun.new fed)) }
+    ensures wrong { IfErr result (λ fault. IsRefusedIn (program_of program.now) (parts_in (program_of program.now) tape.old begun.old) frag.now fault) }
 {
-    fill(tape, places_for(begun.intake.count(), capacity));
     go_on(program, begun, tape, frag)
 }
 
-// Whether the call that a fragment begins has no more arguments than a fragment has words.
+// Takes a fragment of the call under way, on its tape.
 #[inline(always)]
-fn has_few_args(program: &Program, frag: &Frag) -> bool {
-    match program.interface().messages.get(usize::from(frag.msg().0)) {
-        Some(message) => message.args.len() < 8,
-        None => false,
+fn take_next(
+    alloc: Global,
+    program: &Program,
+    under: &mut Option<Begun>,
+    tape: &mut [u64],
+    frag: &Frag,
+) -> Result<Taken, TakeFault>
+    requires some { IsSome under.old }
+    requires under_way { IsUnderWay (program_of program.now) tape.old under.old }
+    requires holds { HoldsTapes (program_of program.now).plan (program_of program.now).interface (length tape.old) }
+    ensures under_way { IsUnderWay (program_of program.now) tape.new under.new }
+    ensures takes { Takes (reassembly_on program.now tape.old under.old) frag.now result (reassembly_on program.now tape.new under.new) }
+{
+    let _plan = program.plan();
+    let Some(mut begun) = *under else {
+        unreachable!();
+    };
+    match look_on(program, &mut begun, tape, frag) {
+        Ok(fed) => keep(alloc, program, under, &begun, tape, frag, fed),
+        Err(fault) => Err(TakeFault::Wire(fault)),
     }
 }
 
-impl Gathered {
-    // A call whose last fragment came to this: one that goes on is under way then, and one that is whole is told.
+impl Place {
+    // Takes a fragment, on the place's tape.
     #[inline(always)]
-    fn keep(
+    pub(crate) fn take_on(
         &mut self,
         alloc: Global,
-        program: &Program,
-        begun: &Begun,
-        frag: &Frag,
-        fed: Fed,
-    ) -> Result<Taken, TakeFault>
-        requires gathered { IsGathered (program_of program.now) self.old }
-        requires stands { StandsIn (program_of program.now) self.old.tape.items (stand_after begun.now fed) }
-        requires adds { AddsUpTo (program_of program.now) (parts_gathered (program_of program.now) self.old) frag.now self.old.tape.items
-            (stand_after begun.now fed) }
-        ensures gathered { IsGathered (program_of program.now) self.new }
-        ensures takes { Takes (reassembling program.now self.old) frag.now result (reassembling program.now self.new) }
-    {
-        let _plan = program.plan();
-        match fed {
-            Fed::Part => {
-                self.begun = Some(*begun);
-                Ok(Taken::Part)
-            }
-            Fed::Whole => match whole(alloc, program, begun.ended(), &self.tape) {
-                Ok(call) => Ok(Taken::Whole(call)),
-                Err(_) => Err(TakeFault::Memory),
-            },
-        }
-    }
-
-    // Takes a fragment between two calls, on the tape. Out of line, so that a call of one fragment has nothing of it.
-    #[inline(never)]
-    fn take_begun(
-        &mut self,
-        alloc: Global,
-        program: &Program,
+        tape: &mut [u64],
         frag: &Frag,
     ) -> Result<Taken, TakeFault>
-        requires gathered { IsGathered (program_of program.now) self.old }
-        requires between { self.old.begun ≡ None }
-        ensures gathered { IsGathered (program_of program.now) self.new }
-        ensures takes { Takes (reassembling program.now self.old) frag.now result (reassembling program.now self.new) }
-    {
-        let _plan = program.plan();
-        let mut begun = Begun::new();
-        match look_first(program, &mut begun, &mut self.tape, self.capacity, frag) {
-            Ok(fed) => self.keep(alloc, program, &begun, frag, fed),
-            Err(fault) => Err(TakeFault::Wire(fault)),
-        }
-    }
-
-    // Takes a fragment between two calls. Where its call has few arguments it is mostly all of it, and there are no loops: then it is
-    // read without the tape, which lies in memory that is seldom touched.
-    #[inline(always)]
-    fn take_first(
-        &mut self,
-        alloc: Global,
-        program: &Program,
-        frag: &Frag,
-    ) -> Result<Taken, TakeFault>
-        requires gathered { IsGathered (program_of program.now) self.old }
-        requires between { self.old.begun ≡ None }
-        ensures gathered { IsGathered (program_of program.now) self.new }
-        ensures takes { Takes (reassembling program.now self.old) frag.now result (reassembling program.now self.new) }
-    {
-        let _plan = program.plan();
-        if !has_few_args(program, frag) {
-            return self.take_begun(alloc, program, frag);
-        }
-        let mut places = [0; 8];
-        let Some(ended) = begin_plain(program, &mut places, frag) else {
-            return self.take_begun(alloc, program, frag);
-        };
-        match whole(alloc, program, ended, &places) {
-            Ok(call) => Ok(Taken::Whole(call)),
-            Err(_) => Err(TakeFault::Memory),
-        }
-    }
-
-    // Takes a fragment of the call under way. Out of line, so that a call of one fragment has nothing of it.
-    #[inline(never)]
-    fn take_next(
-        &mut self,
-        alloc: Global,
-        program: &Program,
-        frag: &Frag,
-    ) -> Result<Taken, TakeFault>
-        requires gathered { IsGathered (program_of program.now) self.old }
-        requires under_way { IsSome self.old.begun }
-        ensures gathered { IsGathered (program_of program.now) self.new }
-        ensures takes { Takes (reassembling program.now self.old) frag.now result (reassembling program.now self.new) }
-    {
-        let _plan = program.plan();
-        let Some(mut begun) = self.begun else {
-            unreachable!();
-        };
-        match look_on(program, &mut begun, &mut self.tape, self.capacity, frag) {
-            Ok(fed) => self.keep(alloc, program, &begun, frag, fed),
-            Err(fault) => Err(TakeFault::Wire(fault)),
-        }
-    }
-
-    // Takes a fragment.
-    #[inline(always)]
-    fn take(&mut self, alloc: Global, program: &Program, frag: &Frag) -> Result<Taken, TakeFault>
-        requires gathered { IsGathered (program_of program.now) self.old }
-        ensures gathered { IsGathered (program_of program.now) self.new }
-        ensures takes { Takes (reassembling program.now self.old) frag.now result (reassembling program.now self.new) }
+        requires under_way { IsUnderWay (program_of self.old.program) tape.old self.old.begun }
+        requires holds { HoldsTapes (program_of self.old.program).plan (program_of self.old.program).interface (length tape.old) }
+        ensures program { self.new.program ≡ self.old.program }
+        ensures under_way { IsUnderWay (program_of self.old.program) tape.new self.new.begun }
+        ensures takes { Takes (reassembly_on self.old.program tape.old self.old.begun) frag.now result
+            (reassembly_on self.old.program tape.new self.new.begun) }
     {
         match self.begun {
-            Some(_) => self.take_next(alloc, program, frag),
-            None => self.take_first(alloc, program, frag),
+            Some(_) => take_next(alloc, &self.program, &mut self.begun, tape, frag),
+            None => take_begun(alloc, &self.program, &mut self.begun, tape, frag),
         }
     }
-}
 
-impl Reassembly {
-    /// Between two calls of a program. `capacity` is how many numbers a tape may have: at least as many as the tape of any call
-    /// (`fl_layout` tells the greatest of each message). Of the memory that is taken for them nothing is touched before numbers
-    /// come.
-    ///
-    /// # Errors
-    /// Out of memory (E99), and nothing else.
-    pub fn new(alloc: Global, program: Program, capacity: usize) -> Result<Reassembly, AllocError>
-        requires room { HoldsTapes (program_of program).plan (program_of program).interface capacity }
-        ensures made { IfOk result (λ r. r ≡ record { program = program; parts = [] }) }
-    {
-        let tape = Vec::with_capacity(alloc, capacity)?;
-        Ok(Reassembly {
-            program,
-            gathered: Gathered {
-                tape,
-                capacity,
-                begun: None,
-            },
-        })
-    }
-
-    /// Takes a fragment, whatever its epoch and the count that it tells. One that is the last of its call gives the call, which
-    /// stays under way until [`Reassembly::finish`]: so until then the fragment may as well not have come. Takes memory for
-    /// that call alone.
-    ///
-    /// # Errors
-    /// The first fault of a fragment that can't follow those of the call under way, as of [`RecvRun::feed`](crate::RecvRun::feed);
-    /// or memory ran out for a call that is whole (E99). Nothing changes.
-    pub fn take(&mut self, alloc: Global, frag: &Frag) -> Result<Taken, TakeFault>
-        ensures takes { Takes self.old frag.now result self.new }
-    {
-        self.gathered.take(alloc, &self.program, frag)
-    }
-
-    /// Done with the call under way: the next fragment is to begin another.
-    #[inline]
-    pub fn finish(&mut self)
-        ensures finished { self.new ≡ without_parts self.old }
+    // Done with the call under way.
+    #[inline(always)]
+    pub(crate) fn finish(&mut self)
+        ensures program { self.new.program ≡ self.old.program }
+        ensures none { self.new.begun ≡ None }
     {
         // Most calls have one fragment, and were never under way: these needn't be cleared.
-        if self.gathered.begun.is_some() {
-            self.gathered.begun = None;
+        if self.begun.is_some() {
+            self.begun = None;
         }
-    }
-
-    /// The program whose calls are put together.
-    #[inline]
-    pub fn program(&self) -> &Program
-        ensures program { result.now ≡ self.now.program }
-    {
-        &self.program
     }
 }

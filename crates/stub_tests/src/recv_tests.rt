@@ -9,7 +9,7 @@ use crate::rows::wrong;
 use fl_base::{Frag, MsgNo};
 use fl_compile::compile;
 use fl_layout::Plans;
-use fl_machine::{Fed, Reassembly, RecvRun, TakeFault, Taken, takes_fragments};
+use fl_machine::{Fed, Reassemblies, RecvRun, TakeFault, Taken, takes_fragments};
 use fl_value::{Call, PlanNo, print_call};
 use std::alloc::{AllocError, Global};
 use std::test::Fail;
@@ -183,11 +183,15 @@ fn fragments_fed_to_new_runs(rt: HostRuntime) -> Result<(), Fail> {
     rows_hold(rt.alloc())
 }
 
-fn taken(alloc: Global, calls: &mut Reassembly, frag: &Frag) -> Result<Answer, AllocError> {
-    match calls.take(alloc, frag) {
+// What is answered to a fragment at a place.
+fn taken(calls: &mut Reassemblies, place: usize, frag: &Frag) -> Result<Answer, AllocError> {
+    if place >= calls.len() {
+        return Ok(Err(0));
+    }
+    match calls.take(place, frag) {
         Ok(Taken::Part) => Ok(Ok(Fed::Part)),
         Ok(Taken::Whole(_)) => {
-            calls.finish();
+            calls.finish(place);
             Ok(Ok(Fed::Whole))
         }
         Err(TakeFault::Memory) => Err(AllocError),
@@ -195,16 +199,35 @@ fn taken(alloc: Global, calls: &mut Reassembly, frag: &Frag) -> Result<Answer, A
     }
 }
 
-// Whether a new reassembly answers so to fragments, of which none is undone.
-fn reassembles(alloc: Global, text: &[u8], steps: &[Step]) -> Result<bool, AllocError> {
+// One place more for calls of an interface.
+fn add(alloc: Global, calls: &mut Reassemblies, text: &[u8]) -> Result<(), AllocError> {
     let Ok(interface) = interface(alloc, text) else {
         return Err(AllocError);
     };
     let program = compile(alloc, &interface, PlanNo::One)?;
     let most = capacity(program.plans());
-    let mut calls = Reassembly::new(alloc, program, most)?;
+    calls.add(program, most)
+}
+
+// Three new places; the last is taken back and added again.
+fn places(alloc: Global, text: &[u8]) -> Result<Reassemblies, AllocError> {
+    let mut calls = Reassemblies::new(alloc);
+    add(alloc, &mut calls, PAIRS)?;
+    add(alloc, &mut calls, text)?;
+    add(alloc, &mut calls, PAIRS)?;
+    if calls.len() == 3 {
+        calls.take_back();
+    }
+    add(alloc, &mut calls, text)?;
+    Ok(calls)
+}
+
+// Whether two of three new places answer so to fragments, of which none is undone. Each fragment comes to both, so that their
+// calls are under way together.
+fn reassembles(alloc: Global, text: &[u8], steps: &[Step]) -> Result<bool, AllocError> {
+    let mut calls = places(alloc, text)?;
     for (frag, wanted, _) in steps {
-        if taken(alloc, &mut calls, frag)? != *wanted {
+        if taken(&mut calls, 1, frag)? != *wanted || taken(&mut calls, 2, frag)? != *wanted {
             return Ok(false);
         }
     }
@@ -371,5 +394,13 @@ fn calls_from_their_fragments(rt: HostRuntime) -> Result<(), Fail> {
 fn feeding_without_memory(rt: HostRuntime) {
     if let Ok(taken) = takes(rt.alloc(), BLOB, UNDONE) {
         assert!(rt; taken);
+    }
+}
+
+// Reassembling takes memory where a place is added and where a call is whole, and nowhere else.
+#[test]
+fn reassembling_without_memory(rt: HostRuntime) {
+    if let Ok(as_fed) = reassembles(rt.alloc(), BLOB, INSIDE) {
+        assert!(rt; as_fed);
     }
 }

@@ -1,5 +1,5 @@
 use Rattle.std.proofs.Common.{◌≡◌, ◌++◌, ◌∷◌, [], List, None, sym, ◌∙◌, ap, subst}
-use Rattle.fl_machine.specs.declared.reassemblies.Place.{Place}
+use Rattle.fl_machine.specs.declared.reassembly.Place.{Place}
 use Rattle.fl_machine.specs.Places.{AreJoined, joined}
 use Rattle.fl_machine.specs.Tapes.{TheTape, not_there, tapes_of}
 use Rattle.fl_machine.proofs.Joined.{are_pushed, joined_push, new_place}

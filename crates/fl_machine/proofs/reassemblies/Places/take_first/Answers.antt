@@ -1,5 +1,5 @@
 use Rattle.std.proofs.Common.{subst}
-use Rattle.fl_machine.specs.declared.reassemblies.Place.{Place}
+use Rattle.fl_machine.specs.declared.reassembly.Place.{Place}
 use Rattle.fl_machine.specs.Reassembling.{Takes, new_reassembly}
 use Rattle.fl_machine.specs.Tapes.{tapes_of}
 use Rattle.fl_machine.proofs.Joined.{not_changed, same_read}

@@ -4,8 +4,7 @@ use Rattle.std.proofs.lemmas.List.{length-take-le, length-drop}
 use Rattle.std.proofs.lemmas.Option.{slice_get_within, slice_get_read}
 use Rattle.fl_compile.specs.Programs.{program_of}
 use Rattle.fl_machine.specs.Receiving.{HoldsTapes}
-use Rattle.fl_machine.specs.Reassembling.{Takes, IsUnderWay}
-use Rattle.fl_machine.specs.Places.{reassembly_on}
+use Rattle.fl_machine.specs.Reassembling.{Takes, IsUnderWay, reassembly_on}
 use Rattle.fl_machine.specs.Tapes.{tapes_of}
 use Rattle.fl_machine.proofs.Joined.{length_tapes, lent, on_tape, taken_on}
 use Rattle.fl_machine.proofs.reassemblies.Places.take_there.Goals as goal
