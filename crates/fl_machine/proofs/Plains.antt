@@ -1,5 +1,5 @@
 -- Code without loops, instruction by instruction.
-use Rattle.std.proofs.Common.{◌≡◌, ◌≢◌, ℕ, ◌+◌, ◌%◌, ◌≤◌, inl, true, false, List, [], ◌∷◌, ◌++◌, take, drop, length, slice_get, Some, None, refl, sym, ◌∙◌, ap, subst, arith}
+use Rattle.std.proofs.Common.{◌≡◌, ◌≢◌, ℕ, ◌+◌, ◌%◌, ◌<◌, ◌≤◌, inl, true, false, List, [], ◌∷◌, ◌++◌, take, drop, length, slice_get, Some, None, refl, sym, ◌∙◌, ap, subst, arith}
 use Rattle.std.specs.Option.{option_map}
 use Rattle.fl_base.specs.declared.fragment.Frag.{Frag}
 use Rattle.fl_base.specs.Control.{control_word, message_of, body}
@@ -19,12 +19,13 @@ use Rattle.fl_stub.specs.declared.op.Column.TheVariants.{Receive}
 use Rattle.fl_stub.specs.declared.mark.Mark.TheVariants.{Length}
 use Rattle.fl_stub.specs.Structure.{IsCode}
 use Rattle.fl_stub.specs.Frames.{block_of}
-use Rattle.fl_stub.specs.Rests.{TheField, is_taken, taken_field, is_silent, told}
+use Rattle.fl_stub.specs.Rests.{TheField, rest_all, is_taken, taken_field, is_silent, told}
 use Rattle.fl_stub.proofs.Stances.{first_stance, first_reach}
 use Rattle.fl_machine.specs.declared.intake.Field.{Field}
 use Rattle.fl_machine.specs.declared.intake.Intake.{Intake}
-use Rattle.fl_machine.specs.Taking.{field_view, IsTaking, IsAtField, Stands, IsFed, HasField, words_bytes}
-use Rattle.fl_machine.specs.Plain.{is_plain, plain_intake, HasNumber}
+use Rattle.fl_stub.specs.Meaning.{number_bytes}
+use Rattle.fl_machine.specs.Taking.{field_view, IsTaking, IsAtField, Stands, IsFed, HasField, Passes, Grows, words_bytes}
+use Rattle.fl_machine.specs.Plain.{is_plain, plain_intake, plain_behind, HasNumber}
 use Rattle.fl_machine.specs.declared.recv.Begun.{Begun}
 use Rattle.fl_machine.specs.declared.recv.Ended.{Ended}
 use Rattle.fl_machine.specs.Receiving.{parts_of, whole_of, TheHeld, AddsLast, IsEnded}
@@ -128,24 +129,88 @@ pub plain_narrow : (ops : List Op) (taken : List ℕ) (c : Intake) (all left : L
 plain_narrow ops taken c all left op f there plain fed view =
     (here_of ops taken c all left f fed (plain_field ops c op f there plain fed.at.stance view)).reach.sound.0.width
 
+-- past a plain instruction, from wherever a run stands that has got no byte of a number
+plain_over : (ops : List Op) (taken taken2 all buffer : List ℕ) (c : Intake) (count2 used : ℕ) (op : Op) (f : Field) (x : ℕ)
+    → IsFed ops taken c all (drop used (take 56 buffer)) → c.have ≡ 0 → c.value ≡ 0 → slice_get ops c.place ≡ Some op → is_plain op ≡ true
+    → ((at : ℕ) → 0 % 8 ≡ at % 8 → field_view f ≡ taken_field op at) → HasNumber f buffer used x → taken2 ≡ taken ++ told f.told x
+    → IsFed ops taken2 (record c { place = c.place + 1; count = count2; phase = (c.phase % 8 + f.width) % 8; value = 0; have = 0 }) all (drop (used + f.width) (take 56 buffer))
+plain_over ops taken taken2 all buffer c count2 used op f x fed idle none there plain view number put =
+    let c1 : Intake = record c { count = count2 } in
+    let stance : IsTaking ops c = fed.at.stance in
+    let field = plain_field ops c op f there plain stance view in
+    let field1 : HasField ops c1 f = record { op = field.op; there = field.there; taken = field.taken; view = field.view; wide = field.wide } in
+    let mark : f.mark ≢ Length = λ m. plain_mark op plain (sym (ap TheField.mark (view 0 refl)) ∙ m) in
+    let c2 : Intake = record c1 { place = c.place + 1; phase = (c1.phase % 8 + f.width) % 8; value = 0; have = 0 } in
+    let over = over_step ops c1 f x field1 stance mark in
+    let grown : Grows c.have c.value x (f.width) (drop used (take 56 buffer)) (drop (used + f.width) (take 56 buffer))
+    = subst (λ (h : ℕ). Grows h c.value x f.width (drop used (take 56 buffer)) (drop (used + f.width) (take 56 buffer))) (sym idle)
+    (subst (λ (v : ℕ). Grows 0 v x f.width (drop used (take 56 buffer)) (drop (used + f.width) (take 56 buffer))) (sym none) number.grows) in
+    whole_here ops taken taken2 c c1 c2 c2 all (drop used (take 56 buffer)) (drop (used + f.width) (take 56 buffer)) f x f.width
+    fed field grown (omega (arith, idle)) number.last number.least refl put over (passes_none ops c2 over.stance)
+
 pub plain_step : (ops : List Op) (taken taken2 all buffer : List ℕ) (place count count2 used : ℕ) (op : Op) (f : Field) (x : ℕ)
     → IsFed ops taken (plain_intake place count used) all (drop used (take 56 buffer)) → slice_get ops place ≡ Some op → is_plain op ≡ true
     → ((at : ℕ) → 0 % 8 ≡ at % 8 → field_view f ≡ taken_field op at) → HasNumber f buffer used x → taken2 ≡ taken ++ told f.told x
     → IsFed ops taken2 (plain_intake (place + 1) count2 (used + f.width)) all (drop (used + f.width) (take 56 buffer))
 plain_step ops taken taken2 all buffer place count count2 used op f x fed there plain view number put =
-    let c = plain_intake place count used in
-    let c1 = plain_intake place count2 used in
-    let stance : IsTaking ops c = fed.at.stance in
-    let field = plain_field ops c op f there plain stance view in
-    let field1 : HasField ops c1 f = record { op = field.op; there = field.there; taken = field.taken; view = field.view; wide = field.wide } in
-    let mark : f.mark ≢ Length = λ m. plain_mark op plain (sym (ap TheField.mark (view 0 refl)) ∙ m) in
-    let c2 : Intake = record c1 { place = place + 1; phase = (c1.phase % 8 + f.width) % 8; value = 0; have = 0 } in
-    let over = over_step ops c1 f x field1 stance mark in
-    let made : IsFed ops taken2 c2 all (drop (used + f.width) (take 56 buffer))
-    = whole_here ops taken taken2 c c1 c2 c2 all (drop used (take 56 buffer)) (drop (used + f.width) (take 56 buffer)) f x f.width
-    fed field number.grows (omega arith) number.last number.least refl put over (passes_none ops c2 over.stance) in
+    let c : Intake = plain_intake place count used in
+    let made = plain_over ops taken taken2 all buffer c count2 used op f x fed refl refl there plain view number put in
     let phase : (used % 8 % 8 + f.width) % 8 ≡ (used + f.width) % 8 = omega arith in
     subst (λ (p : ℕ). IsFed ops taken2 (record (plain_intake (place + 1) count2 0) { phase = p }) all (drop (used + f.width) (take 56 buffer))) phase made
+
+-- ---- where a fragment begins
+
+-- a run that has got no byte of a number
+pub plain_begin : (ops : List Op) (taken : List ℕ) (c : Intake) (all left : List ℕ) → IsFed ops taken c all left → c.have ≡ 0 → IsFed ops taken (plain_behind c c.place c.count 0) all left
+plain_begin ops taken c all left fed idle =
+    let a = fed.at in
+    let same = a.phase in
+    record {
+      prefix = fed.prefix;
+      at = record {
+        done = a.done;
+        stance = a.stance;
+        phase = omega (arith, same);
+        reach = a.reach;
+        waiting = inl (refl, refl);
+        bytes_are = a.bytes_are ∙ ap (λ (w : ℕ). a.done ++ number_bytes w c.value) idle;
+        quiet = λ busy. absurd (busy refl);
+      };
+      joined = fed.joined;
+    }
+
+pub plain_on : (ops : List Op) (taken taken2 all buffer : List ℕ) (c : Intake) (place count count2 used : ℕ) (op : Op) (f : Field) (x : ℕ)
+    → IsFed ops taken (plain_behind c place count used) all (drop used (take 56 buffer)) → slice_get ops place ≡ Some op → is_plain op ≡ true
+    → ((at : ℕ) → 0 % 8 ≡ at % 8 → field_view f ≡ taken_field op at) → HasNumber f buffer used x → taken2 ≡ taken ++ told f.told x
+    → IsFed ops taken2 (plain_behind c (place + 1) count2 (used + f.width)) all (drop (used + f.width) (take 56 buffer))
+plain_on ops taken taken2 all buffer c place count count2 used op f x fed there plain view number put =
+    let made = plain_over ops taken taken2 all buffer (plain_behind c place count used) count2 used op f x fed refl refl there plain view number put in
+    let phase : ((c.phase % 8 + used) % 8 % 8 + f.width) % 8 ≡ (c.phase % 8 + (used + f.width)) % 8 = omega arith in
+    subst (λ (p : ℕ). IsFed ops taken2 (record (plain_behind c (place + 1) count2 0) { phase = p }) all (drop (used + f.width) (take 56 buffer))) phase made
+
+pub plain_wide : (ops : List Op) (taken : List ℕ) (c : Intake) (all left : List ℕ) (op : Op) (f : Field) → slice_get ops c.place ≡ Some op → is_plain op ≡ true → IsFed ops taken c all left
+    → ((at : ℕ) → 0 % 8 ≡ at % 8 → field_view f ≡ taken_field op at) → 0 < f.width
+plain_wide ops taken c all left op f there plain fed view = (plain_field ops c op f there plain fed.at.stance view).wide
+
+-- on to the next instruction that takes bytes
+pub plain_settled : (ops : List Op) (taken : List ℕ) (c d : Intake) (all left : List ℕ) → IsFed ops taken c all left → c.have ≡ 0 → c.value ≡ 0 → Passes ops c d → IsFed ops taken d all left
+plain_settled ops taken c d all left fed idle none p =
+    let a = fed.at in
+    let have : d.have ≡ c.have = ap Intake.have p.others in
+    let value : d.value ≡ c.value = ap Intake.value p.others in
+    record {
+      prefix = fed.prefix;
+      at = record {
+        done = a.done;
+        stance = p.stance;
+        phase = ap (λ (x : Intake). x.phase % 8) p.others ∙ a.phase;
+        reach = p.leads (length a.done) a.phase (rest_all (block_of ops)) taken a.done a.reach;
+        waiting = inl (have ∙ idle, value ∙ none);
+        bytes_are = a.bytes_are ∙ (λ i. a.done ++ number_bytes (sym have i) (sym value i));
+        quiet = λ busy. absurd (busy (have ∙ idle));
+      };
+      joined = fed.joined;
+    }
 
 -- ---- a whole call in one fragment
 

@@ -1,4 +1,4 @@
--- Working file: code without loops, whose fields lie in one fragment.
+-- Working file: fields outside loops, which lie in one fragment.
 use Rattle.std.specs.Prelude.{drop, ℕ, ◌+◌, ◌%◌, ◌≤◌, Bool, true, false, List, []}
 use Rattle.fl_stub.specs.declared.op.Op.{Op}
 use Rattle.fl_stub.specs.declared.op.Op.TheVariants.{Read, ReadBool, ReadEnum, ReadChar, ReadText, Skip}
@@ -20,6 +20,10 @@ is_plain op = false
 -- where a run stands that has met no loop, at so many bytes of a call's first fragment
 abbrev pub plain_intake : ℕ → ℕ → ℕ → Intake
 plain_intake place count used = record { place = place; loops = []; depth = 0; count = count; phase = used % 8; value = 0; have = 0 }
+
+-- where a run stands behind plain instructions from where it stood: at this place, with so many numbers, and so many bytes further
+abbrev pub plain_behind : Intake → ℕ → ℕ → ℕ → Intake
+plain_behind c place count used = record c { place = place; count = count; phase = (c.phase % 8 + used) % 8; value = 0; have = 0 }
 
 -- the bytes of a field from a place on are this number, which is right
 pub record HasNumber (f : Field) (buffer : List ℕ) (used number : ℕ) : Type 0 where

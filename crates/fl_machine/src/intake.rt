@@ -45,17 +45,17 @@ pub(crate) struct Field {
 #[derive(Clone, Copy, Debug, PartialEq, Eq)]
 pub struct Intake {
     // The next instruction.
-    place: usize,
+    pub(crate) place: usize,
     // The open loops, the innermost last, and how many.
     loops: [Loop; 8],
-    depth: usize,
+    pub(crate) depth: usize,
     // How many numbers were taken.
-    count: usize,
+    pub(crate) count: usize,
     // The place in the payload, modulo 8.
-    phase: u32,
+    pub(crate) phase: u32,
     // The next instruction has got so many of its bytes, which as a number are `value`.
-    value: u64,
-    have: u32,
+    pub(crate) value: u64,
+    pub(crate) have: u32,
 }
 
 // A word's eight bytes from a place on.
@@ -435,7 +435,7 @@ impl Intake {
 
     // On to the next instruction that takes bytes, or to the end of the code.
     #[inline(always)]
-    fn settle(&mut self, ops: &[Op])
+    pub(crate) fn settle(&mut self, ops: &[Op])
         requires { IsTaking ops.now self.old }
         ensures passes { Passes ops.now self.old self.new }
         ensures settled { IsAtField ops.now self.new }
@@ -779,7 +779,7 @@ impl Intake {
         let mut buffer = [0; 64];
         spread(&mut buffer, words);
         self.resume(ops);
-        let mut used = 0;
+        let mut used = self.take_numbers(ops, tape, &buffer);
         while used < 56 {
             let Some(field) = self.field(ops) else {
                 return end_of(&buffer, used);

@@ -1,15 +1,15 @@
-//! Calls of one fragment, taken by code without loops: what a run stores of loops and of numbers that were begun isn't needed then.
+//! Numbers that lie in one fragment, taken outside loops: what a run stores of loops and of numbers that were begun isn't needed then.
 
-ghost use Rattle.std.specs.Prelude.{◌≡◌, ◌≤◌, ◌++◌, true, take, IfSome, IsTrue};
+ghost use Rattle.std.specs.Prelude.{◌≡◌, ◌+◌, ◌<◌, ◌≤◌, ◌++◌, ◌^◌, ℕ, List, true, take, length, IfSome, IfNone, IsTrue};
 ghost use Rattle.fl_stub.specs.declared.op.Column.TheVariants.{Receive as receive};
 ghost use Rattle.fl_stub.specs.Structure.{IsCode};
 ghost use Rattle.fl_stub.specs.Frames.{block_of};
 ghost use Rattle.fl_stub.specs.Streams.{IsPayload};
 ghost use Rattle.fl_stub.specs.Rests.{told};
-ghost use Rattle.fl_machine.specs.Taking.{words_bytes};
-ghost use Rattle.fl_machine.specs.Plain.{is_plain as is_plain_op, HasNumber};
+ghost use Rattle.fl_machine.specs.Taking.{words_bytes, bytes_left, IsFed, IsFedBy, IsAtField};
+ghost use Rattle.fl_machine.specs.Plain.{is_plain as is_plain_op, plain_behind, HasNumber};
 
-use crate::intake::{Field, end_of, is_last, low_part, op_at, spread, word_at};
+use crate::intake::{Field, Intake, end_of, is_last, low_part, op_at, spread, word_at};
 use fl_stub::Op;
 
 // Whether an instruction takes bytes wherever it stands, and one number or zeros by them.
@@ -97,4 +97,102 @@ pub(crate) fn take_plain(ops: &[Op], places: &mut [u64; 8], words: &[u64; 7]) ->
         place += 1;
     }
     None
+}
+
+// Puts a field's number on a tape behind so many, if it is one of the call's; how many they are then, if there is room.
+#[inline(always)]
+fn put_on(tape: &mut [u64], count: usize, field: Field, number: u64) -> Option<usize>
+    requires count { count ≤ length tape.old }
+    ensures tape { IfSome result (λ more. take more tape.new ≡ take count tape.old ++ told field.told number) }
+    ensures more { IfSome result (λ more. (count ≤ more) × (more ≤ count + 1) × (more ≤ length tape.new)) }
+    ensures kept { take count tape.new ≡ take count tape.old }
+    ensures long { length tape.new ≡ length tape.old }
+    ensures none { IfNone result (tape.new ≡ tape.old) }
+{
+    if !field.told {
+        return Some(count);
+    }
+    if count >= tape.len() {
+        return None;
+    }
+    tape[count] = number;
+    Some(count + 1)
+}
+
+impl Intake {
+    // Takes the number of an instruction, if it is plain, all its bytes are there, and it is right: how many numbers there are then,
+    // and where the next bytes are. The run stands where it stood before so many instructions, which were plain.
+    #[inline(always)]
+    fn take_number(
+        &self,
+        ops: &[Op],
+        place: usize,
+        tape: &mut [u64],
+        count: usize,
+        buffer: &[u8; 64],
+        used: usize,
+    ) -> Option<(usize, usize)>
+        requires inside { used ≤ 56 }
+        requires count { count ≤ length tape.old }
+        requires fed { (all : List ℕ) × IsFed ops.now (take count tape.old) (plain_behind self.now place count used) all (bytes_left buffer.now used) }
+        ensures fed { IfSome result (λ r. (all : List ℕ)
+            → IsFed ops.now (take count tape.old) (plain_behind self.now place count used) all (bytes_left buffer.now used)
+            → IsFed ops.now (take r.0 tape.new) (plain_behind self.now (place + 1) r.0 r.1) all (bytes_left buffer.now r.1)) }
+        ensures end { IfSome result (λ r. (used < r.1) × (r.1 ≤ 56)) }
+        ensures more { IfSome result (λ r. (count ≤ r.0) × (r.0 + used ≤ count + r.1) × (r.0 ≤ length tape.new)) }
+        ensures place { IfSome result (λ r. place + 1 < 2 ^ 64) }
+        ensures kept { take count tape.new ≡ take count tape.old }
+        ensures long { length tape.new ≡ length tape.old }
+        ensures none { IfNone result (tape.new ≡ tape.old) }
+    {
+        let Some(op) = op_at(ops, place) else {
+            return None;
+        };
+        if !is_plain(op) {
+            return None;
+        }
+        let field = Field::of(op, 0);
+        let Some(number) = number_at(field, buffer, used) else {
+            return None;
+        };
+        let Some(more) = put_on(tape, count, field, number) else {
+            return None;
+        };
+        Some((more, used + field.width as usize))
+    }
+
+    /// Takes the numbers that a fragment begins with, outside loops, as long as instructions are plain, and all bytes are there and
+    /// right; where the next bytes are.
+    #[inline(always)]
+    pub(crate) fn take_numbers(&mut self, ops: &[Op], tape: &mut [u64], buffer: &[u8; 64]) -> usize
+        requires settled { IsAtField ops.now self.old }
+        requires fed { (all : List ℕ) × IsFedBy ops.now tape.old self.old all buffer.now 0 }
+        requires count { self.old.count ≤ length tape.old }
+        ensures fed { (all : List ℕ) → IsFedBy ops.now tape.old self.old all buffer.now 0 → IsFedBy ops.now tape.new self.new all buffer.now result }
+        ensures end { result ≤ 56 }
+        ensures settled { IsAtField ops.now self.new }
+        ensures kept { take self.old.count tape.new ≡ take self.old.count tape.old }
+        ensures long { length tape.new ≡ length tape.old }
+        ensures count { (self.old.count ≤ self.new.count) × (self.new.count ≤ length tape.new) }
+        ensures pace { self.new.count ≤ self.old.count + result }
+    {
+        if self.have != 0 || self.depth != 0 {
+            return 0;
+        }
+        let mut place = self.place;
+        let mut count = self.count;
+        let mut used = 0;
+        while let Some((more, end)) = self.take_number(ops, place, tape, count, buffer, used) {
+            place += 1;
+            count = more;
+            used = end;
+        }
+        self.place = place;
+        self.count = count;
+        self.phase = (self.phase % 8 + used as u32) % 8;
+        self.value = 0;
+        self.have = 0;
+        self.settle(ops);
+        used
+    }
 }

@@ -1,4 +1,4 @@
-use Rattle.std.proofs.Common.{◌≡◌, ◌≤◌, ◌-◌, ◌++◌, ℕ, List, length, take, refl, sym, ◌∙◌, subst, arith}
+use Rattle.std.proofs.Common.{◌≡◌, ◌≤◌, ◌-◌, ◌++◌, ℕ, List, length, take, sym, ◌∙◌, subst, arith}
 use Rattle.std.proofs.lemmas.List.{length-take-le}
 use Rattle.std.proofs.lemmas.Result.{IfOk-weaker, IfErr-weaker, err_from_is_err_and}
 use Rattle.fl_stub.specs.declared.mark.Mark.{Mark}
@@ -11,21 +11,39 @@ use Rattle.fl_machine.proofs.intake.Intake.take_words.Goals as goal
 pub resume-requires : goal.resume-requires
 resume-requires c = (_, c.requires.stands.0, c.requires.stands.1)
 
+pub take_numbers-used-requires-clause-fed : goal.take_numbers-used-requires-clause-fed
+take_numbers-used-requires-clause-fed c =
+    let (bytes, s) = c.requires.stands in
+    let same = c.resume.ensures.count in (
+      bytes ++ words_bytes c.args.words.now,
+      subst (λ (left : List ℕ). IsFed c.args.ops.now (take c.resume.new.self.count c.args.tape.now) c.resume.new.self (bytes ++ words_bytes c.args.words.now) left) (sym c.spread.ensures)
+          (fed_first c.args.ops.now (take c.resume.new.self.count c.args.tape.now) bytes (words_bytes c.args.words.now) c.resume.new.self
+          (subst (λ (k : ℕ). Stands c.args.ops.now (take k c.args.tape.now) c.resume.new.self bytes) (sym same) (c.resume.ensures.stands (take c.args.self.now.count c.args.tape.now) bytes s))),
+    )
+
+pub take_numbers-used-requires-clause-count : goal.take_numbers-used-requires-clause-count
+take_numbers-used-requires-clause-count c =
+    let same = c.resume.ensures.count in
+    let long : c.args.self.now.count ≤ length c.args.tape.now = counted_tape c.args.ops.now c.args.tape.now c.args.self.now c.requires.stands.0 c.requires.stands.1 in
+    omega (arith, same, long)
+
 pub loop-used-init : goal.loop-used-init
 loop-used-init c =
     let same = c.resume.ensures.count in
-    let long : c.args.self.now.count ≤ length c.args.tape.now = counted_tape c.args.ops.now c.args.tape.now c.args.self.now c.requires.stands.0 c.requires.stands.1 in (
-      omega arith,
-      c.resume.ensures.settled,
-      omega (arith, same),
-      omega (arith, same, long),
-      refl,
-      refl,
-      λ bytes s.
-          subst (λ (left : List ℕ). IsFed c.args.ops.now (take c.resume.new.self.count c.args.tape.now) c.resume.new.self (bytes ++ words_bytes c.args.words.now) left) (sym c.spread.ensures)
+    let e = c.take_numbers-used.ensures in
+    let least = e.count.0 in
+    let pace = e.pace in (
+      e.end,
+      e.settled,
+      omega (arith, same, least),
+      e.count.1,
+      e.long,
+      take_kept c.args.self.now.count c.resume.new.self.count c.take_numbers-used.new.tape c.args.tape.now (omega (arith, same)) e.kept,
+      λ bytes s. e.fed (bytes ++ words_bytes c.args.words.now)
+          (subst (λ (left : List ℕ). IsFed c.args.ops.now (take c.resume.new.self.count c.args.tape.now) c.resume.new.self (bytes ++ words_bytes c.args.words.now) left) (sym c.spread.ensures)
           (fed_first c.args.ops.now (take c.resume.new.self.count c.args.tape.now) bytes (words_bytes c.args.words.now) c.resume.new.self
-          (subst (λ (k : ℕ). Stands c.args.ops.now (take k c.args.tape.now) c.resume.new.self bytes) (sym same) (c.resume.ensures.stands (take c.args.self.now.count c.args.tape.now) bytes s))),
-      omega (arith, same),
+          (subst (λ (k : ℕ). Stands c.args.ops.now (take k c.args.tape.now) c.resume.new.self bytes) (sym same) (c.resume.ensures.stands (take c.args.self.now.count c.args.tape.now) bytes s)))),
+      omega (arith, same, pace),
     )
 
 pub field-requires-clause-stance : goal.field-requires-clause-stance

@@ -1,0 +1,19 @@
+use Rattle.std.proofs.Common.{◌≡◌, ◌+◌, ◌-◌, ◌≤◌, ℕ, List, length, take, drop}
+use Rattle.fl_machine.specs.Taking.{IsFed}
+use Rattle.fl_machine.specs.Plain.{plain_behind}
+use Rattle.fl_machine.proofs.intake.Intake.take_numbers.Given as goal
+
+abbrev pub invariant-loop-more : goal.invariant-loop-more
+invariant-loop-more l = record {
+  inside : l.used ≤ 56;
+  more : l.fn.self.count ≤ l.count;
+  within : l.count ≤ length l.tape;
+  long : length l.tape ≡ length l.fn.tape;
+  kept : take l.fn.self.count l.tape ≡ take l.fn.self.count l.fn.tape;
+  fed : (all : List ℕ) → IsFed l.ops (take l.fn.self.count l.fn.tape) l.fn.self all (drop 0 (take 56 l.buffer))
+      → IsFed l.ops (take l.count l.tape) (plain_behind l.fn.self l.place l.count l.used) all (drop l.used (take 56 l.buffer));
+  pace : l.count ≤ l.fn.self.count + l.used;
+}
+
+abbrev pub decreases-loop-more : goal.decreases-loop-more
+decreases-loop-more l = 56 - l.used
