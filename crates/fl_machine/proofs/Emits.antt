@@ -1,16 +1,18 @@
 -- Send code that gives numbers alone, one after another.
-use Rattle.std.proofs.Common.{◌≡◌, ℕ, ◌+◌, ◌%◌, ◌^◌, ◌<◌, ◌≤◌, true, List, [], ◌∷◌, ◌++◌, drop, length, get_or, slice_get, Some, refl, sym, ◌∙◌, ap, subst, arith}
+use Rattle.std.proofs.Common.{◌≡◌, ◌≢◌, false, ℕ, ◌+◌, ◌%◌, ◌^◌, ◌<◌, ◌≤◌, true, List, [], ◌∷◌, ◌++◌, drop, length, get_or, slice_get, Some, refl, sym, ◌∙◌, ap, subst, arith}
 use Rattle.std.proofs.lemmas.List.{drop_more}
 use Rattle.fl_stub.specs.declared.op.Op.{Op}
 use Rattle.fl_stub.specs.declared.op.Op.TheVariants.{Emit}
 use Rattle.fl_stub.specs.Structure.{is_width}
 use Rattle.fl_stub.specs.Meaning.{number_bytes}
 use Rattle.fl_stub.specs.Given.{first_of_tape, rest_of_tape}
-use Rattle.fl_stub.specs.Spots.{TheSpot, IsSpot, bytes_from}
+use Rattle.fl_stub.specs.Spots.{TheLoop, TheSpot, IsSpot, bytes_from}
 use Rattle.fl_stub.proofs.Steps.{moved, at_step}
+use Rattle.fl_machine.specs.declared.cursor.Cursor.{Cursor}
+use Rattle.fl_machine.specs.Cursors.{loops_of, spot_of}
 use Rattle.fl_machine.specs.Filling.{PutsRun}
-use Rattle.fl_machine.specs.Plain.{plain_spot}
-use Rattle.fl_machine.proofs.Turns.{at_op, width_small}
+use Rattle.fl_machine.specs.Plain.{plain_spot, cursor_on}
+use Rattle.fl_machine.proofs.Turns.{at_op, width_small, emitted, emit_fits}
 use Rattle.fl_machine.proofs.Pours.{over_eight, gives_all, puts_more}
 
 pub plain_width : (ops : List Op) (tape : List ℕ) (count filled width : ℕ) → slice_get ops count ≡ Some (Emit width) → IsSpot ops (plain_spot tape count filled) → is_width width ≡ true
@@ -38,3 +40,36 @@ emit_step ops tape buffer after count filled width low op there room long bytes 
     let put : PutsRun ops (plain_spot tape 0 0) u [] after (filled + width)
     = puts_more ops (plain_spot tape 0 0) s u [] buffer after filled low width run long room (width_small width fits) small given is in
     (subst (IsSpot ops) same idle, subst (λ (v : TheSpot). PutsRun ops (plain_spot tape 0 0) v [] after (filled + width)) same put)
+
+-- the number to be given put, and on to that of the next instruction, which gives one alone
+pub emit_on : (ops : List Op) (tape buffer after : List ℕ) (c : Cursor) (place next phase value width filled more low : ℕ) → slice_get ops place ≡ Some (Emit more) → next < length tape
+    → filled + 8 ≤ 56 → length buffer ≡ 56 → number_bytes more low ≡ number_bytes more (get_or tape next 0) → low < 256 ^ more → after ≡ over_eight buffer filled value
+    → IsSpot ops (spot_of tape (cursor_on c place next phase value width)) → PutsRun ops (spot_of tape c) (spot_of tape (cursor_on c place next phase value width)) [] buffer filled
+    → IsSpot ops (spot_of tape (cursor_on c (place + 1) (next + 1) ((phase % 8 + more) % 8) low more))
+    × PutsRun ops (spot_of tape c) (spot_of tape (cursor_on c (place + 1) (next + 1) ((phase % 8 + more) % 8) low more)) [] after (filled + width)
+emit_on ops tape buffer after c place next phase value width filled more low op there room long bytes small is spot run =
+    let here = cursor_on c place next phase value width in
+    let old = cursor_on c place next phase 0 0 in
+    let mid = cursor_on c place (next + 1) phase 0 0 in
+    let new = cursor_on c (place + 1) (next + 1) ((phase % 8 + more) % 8) low more in
+    let x = get_or tape next 0 in
+    let cut : drop next tape ≡ x ∷ drop (next + 1) tape = drop_more tape next 0 there in
+    let idle : IsSpot ops (spot_of tape old) = gives_all ops (spot_of tape here) spot in
+    let around : List TheLoop = loops_of c.loops c.depth in
+    let left : drop (next + 1) tape ≡ rest_of_tape (drop next tape) = ap rest_of_tape (sym cut) in
+    let at : (phase % 8 + more) % 8 ≡ (phase + more) % 8 = omega arith in
+    let made = emitted ops tape old mid new more x low op idle refl (ap first_of_tape (sym cut))
+    (λ i. record { place = place; loops = around; tape = left i; at = phase; value = 0; width = 0 }) refl bytes small
+    (λ i. record { place = place + 1; loops = around; tape = drop (next + 1) tape; at = at i; value = low; width = more }) in (
+      made.spot,
+      puts_more ops (spot_of tape c) (spot_of tape here) (spot_of tape new) [] buffer after filled value width run long room spot.width spot.value
+          (ap (λ (bs : List ℕ). number_bytes width value ++ bs) made.bytes) is,
+    )
+
+pub on_width : (ops : List Op) (tape : List ℕ) (c : Cursor) (place next phase value width more : ℕ) → slice_get ops place ≡ Some (Emit more) → IsSpot ops (spot_of tape (cursor_on c place next phase value width))
+    → is_width more ≡ true
+on_width ops tape c place next phase value width more op spot =
+    emit_fits ops tape (cursor_on c place next phase 0 0) more op (gives_all ops (spot_of tape (cursor_on c place next phase value width)) spot)
+
+pub wide_number : (width : ℕ) → is_width width ≡ true → width ≢ 0
+wide_number width fits none = let z : is_width width ≡ false = ap is_width none in absurd (cc)

@@ -3,6 +3,7 @@ use Rattle.std.specs.Prelude.{drop, ℕ, ◌+◌, ◌%◌, ◌≤◌, Bool, true
 use Rattle.fl_stub.specs.declared.op.Op.{Op}
 use Rattle.fl_stub.specs.declared.op.Op.TheVariants.{Read, ReadBool, ReadEnum, ReadChar, ReadText, Skip}
 use Rattle.fl_stub.specs.Spots.{TheSpot}
+use Rattle.fl_machine.specs.declared.cursor.Cursor.{Cursor}
 use Rattle.fl_machine.specs.declared.intake.Field.{Field}
 use Rattle.fl_machine.specs.declared.intake.Intake.{Intake}
 use Rattle.fl_machine.specs.Taking.{Grows, bytes_left}
@@ -35,3 +36,8 @@ pub record HasNumber (f : Field) (buffer : List ℕ) (used number : ℕ) : Type 
 -- where a run of send code stands that has given so many numbers of a tape, in so many bytes, and nothing else
 abbrev pub plain_spot : List ℕ → ℕ → ℕ → TheSpot
 plain_spot tape count filled = record { place = count; loops = []; tape = drop count tape; at = filled % 8; value = 0; width = 0 }
+
+-- where a run of send code stands further on in the same loops: before this instruction, this number of the tape, at this place in
+-- the payload, with so many bytes of a number to be given
+abbrev pub cursor_on : Cursor → ℕ → ℕ → ℕ → ℕ → ℕ → Cursor
+cursor_on c place next phase value width = record c { place = place; next = next; phase = phase; value = value; width = width }

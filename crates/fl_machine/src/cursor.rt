@@ -25,17 +25,17 @@ pub struct Loop {
 #[derive(Clone, Copy, Debug, PartialEq, Eq)]
 pub struct Cursor {
     // The next instruction.
-    place: usize,
+    pub(crate) place: usize,
     // The open loops, the innermost last, and how many.
     loops: [Loop; 8],
-    depth: usize,
+    pub(crate) depth: usize,
     // The next number of the tape.
-    next: usize,
+    pub(crate) next: usize,
     // The place in the payload, modulo 8.
-    phase: u32,
+    pub(crate) phase: u32,
     // A number of which so many bytes are still to be given.
-    value: u64,
-    width: u32,
+    pub(crate) value: u64,
+    pub(crate) width: u32,
 }
 
 // The lowest byte of a number.

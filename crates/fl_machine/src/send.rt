@@ -1,6 +1,7 @@
 //! Runs of send code.
 
-ghost use Rattle.std.specs.Prelude.{◌≡◌, ◌≢◌, ◌+◌, ◌<◌, ◌≤◌, ◌++◌, ◌∷◌, ℕ, true, List, [], take, drop, map, length, slice_get, slice_index, IfSome};
+ghost use Rattle.std.specs.Prelude.{◌≡◌, ◌≢◌, ◌+◌, ◌<◌, ◌≤◌, ◌^◌, ◌++◌, ◌∷◌, ℕ, true, List, [], take, drop, map, length, slice_get, slice_index, Some, IfSome};
+ghost use Rattle.fl_stub.specs.declared.op.Op.TheVariants.{Emit as emit_op};
 ghost use Rattle.std.specs.List.{range_with_len};
 ghost use Rattle.fl_base.specs.Control.{control_word};
 ghost use Rattle.fl_stub.specs.declared.op.Column.TheVariants.{Send as send};
@@ -172,7 +173,7 @@ fn put_span(
     at + many
 }
 
-// The numbers of a loop over one number, as long as eight bytes are free; the place behind them.
+// The numbers of a loop over one number, as long as eight bytes are free, of one byte as long as any is; the place behind them.
 #[inline(always)]
 fn put_run(buffer: &mut [u8; 56], at: usize, cursor: &mut Cursor, ops: &[Op], tape: &[u64]) -> usize
     requires place { at < 56 }
@@ -217,6 +218,67 @@ fn put_next(
     put_last(buffer, at, cursor, ops, tape)
 }
 
+// A number that an instruction gives alone, before its bytes are cut, and how many bytes it has: if eight bytes are free.
+#[inline(always)]
+fn number_at(
+    filled: usize,
+    ops: &[Op],
+    place: usize,
+    tape: &[u64],
+    next: usize,
+) -> Option<(u64, u32)>
+    ensures room { IfSome result (λ r. filled + 8 ≤ 56) }
+    ensures op { IfSome result (λ r. slice_get ops.now place ≡ Some (emit_op r.1)) }
+    ensures there { IfSome result (λ r. next < length tape.now) }
+    ensures number { IfSome result (λ r. r.0 ≡ slice_index tape.now next) }
+    ensures place { IfSome result (λ r. place + 1 < 2 ^ 64) }
+{
+    if filled > 48 || next >= tape.len() {
+        return None;
+    }
+    match op_at(ops, place) {
+        Some(Op::Emit(width)) => Some((tape[next], width)),
+        _ => None,
+    }
+}
+
+// The numbers that a fragment begins with, as long as each is followed by another; the place behind them.
+#[inline(always)]
+fn put_numbers(buffer: &mut [u8; 56], cursor: &mut Cursor, ops: &[Op], tape: &[u64]) -> usize
+    requires spot { IsSpot ops.now (spot_of tape.now cursor.old) }
+    requires settled { IsSettled ops.now (spot_of tape.now cursor.old) }
+    requires none { Holds buffer.old [] }
+    ensures place { result ≤ 56 }
+    ensures spot { IsSpot ops.now (spot_of tape.now cursor.new) }
+    ensures settled { IsSettled ops.now (spot_of tape.now cursor.new) }
+    ensures puts { PutsRun ops.now (spot_of tape.now cursor.old) (spot_of tape.now cursor.new) [] buffer.new result }
+{
+    if cursor.is_idle() {
+        return 0;
+    }
+    let mut place = cursor.place;
+    let mut next = cursor.next;
+    let mut phase = cursor.phase;
+    let mut value = cursor.value;
+    let mut width = cursor.width;
+    let mut filled = 0;
+    while let Some((number, more)) = number_at(filled, ops, place, tape, next) {
+        put_number(buffer, filled, value);
+        filled += width as usize;
+        value = low_bytes(number, more);
+        width = more;
+        place += 1;
+        next += 1;
+        phase = (phase % 8 + more) % 8;
+    }
+    cursor.place = place;
+    cursor.next = next;
+    cursor.phase = phase;
+    cursor.value = value;
+    cursor.width = width;
+    filled
+}
+
 // The next 56 bytes, zeros after their end.
 #[inline(always)]
 fn fill(cursor: &mut Cursor, ops: &[Op], tape: &[u64]) -> [u8; 56]
@@ -228,7 +290,7 @@ fn fill(cursor: &mut Cursor, ops: &[Op], tape: &[u64]) -> [u8; 56]
     ensures left { bytes_from ops.now (spot_of tape.now cursor.new) ≡ drop 56 (bytes_from ops.now (spot_of tape.now cursor.old)) }
 {
     let mut buffer = [0; 56];
-    let mut filled = 0;
+    let mut filled = put_numbers(&mut buffer, cursor, ops, tape);
     while filled < 56 && !cursor.is_idle() {
         filled = put_next(&mut buffer, filled, cursor, ops, tape);
         cursor.settle(ops, tape);

@@ -1,10 +1,15 @@
-use Rattle.std.proofs.Common.{◌++◌, ℕ, List, [], refl, inl, inr, sym, ◌∙◌, ap, arith}
+use Rattle.std.proofs.Common.{◌++◌, ℕ, List, inl, inr, sym, ◌∙◌, ap}
 use borrow.Author.Tests.{eqb-true}
 use Rattle.fl_machine.proofs.Pours.{holds_none, put_all, fills}
 use Rattle.fl_machine.proofs.send.fill.Goals as goal
 
+pub put_numbers-filled-requires-clause-none : goal.put_numbers-filled-requires-clause-none
+put_numbers-filled-requires-clause-none c = holds_none
+
 pub loop-filled-init : goal.loop-filled-init
-loop-filled-init c = (c.requires.spot, c.requires.settled, omega arith, ([], refl, holds_none, refl))
+loop-filled-init c =
+    let p = c.put_numbers-filled.ensures.puts in
+    (c.put_numbers-filled.ensures.spot, c.put_numbers-filled.ensures.settled, c.put_numbers-filled.ensures.place, (p.more, p.long, p.holds, sym p.bytes))
 
 pub loop-filled-preserved : goal.loop-filled-preserved
 loop-filled-preserved c =
