@@ -1,6 +1,6 @@
 //! A bounded queue of fragments: a link with one owner.
 
-ghost use Rattle.std.specs.Prelude.{◌≡◌, ◌+◌, ◌*◌, ◌^◌, ◌/◌, ◌%◌, ◌<◌, ◌≤◌, ◌-◌, ◌↔◌, ℕ, ◌≢◌, IsTrue, true, false, [], IfOk, OnOk, Ok, Err, refl};
+ghost use Rattle.std.specs.Prelude.{◌≡◌, ◌+◌, ◌*◌, ◌^◌, ◌/◌, ◌%◌, ◌<◌, ◌≤◌, ◌-◌, ◌↔◌, ℕ, ◌≢◌, IsTrue, true, false, [], IfOk, OnOk, Ok, Err, refl, if◌then◌else◌};
 ghost use Rattle.fl_base.specs.declared.fragment.Frag.{Frag};
 ghost use Rattle.fl_base.specs.Control.{is_ack_only, bare};
 ghost use Rattle.fl_link.specs.Looks.{placed, no_room, spent, saw, saw_ack, found, found_ack, peeked, taken, tells};
@@ -149,16 +149,15 @@ impl QueueLink {
         ensures whole { (frag : Frag) → result ≡ Sight.Data frag → BeginsWith self.old.items frag }
         ensures acknowledgement { front_of self.old.items ≡ saw_ack → taken result ≡ found_ack }
     {
-        let Some(frag) = self.items.pop_front() else {
+        let Some(first) = self.items.front() else {
             return Sight::Empty;
         };
+        let sight = sight_of(first);
+        let _ = self.items.pop_front();
         if self.acked {
             self.untold += 1;
         }
-        if frag.is_ack_only() {
-            return Sight::Acknowledgement;
-        }
-        Sight::Data(frag)
+        sight
     }
 
     /// Tells what was taken: those slots of an `acked` queue are free then. A `local` queue has
@@ -173,6 +172,23 @@ impl QueueLink {
         self.untold = 0;
         Told::Written
     }
+}
+
+// What a look sees of this fragment. Every second word is read first: so the words are loaded singly, as a put has stored
+// them, where a load of two would wait for both stores.
+#[inline(always)]
+fn sight_of(frag: &Frag) -> Sight
+    ensures sight { result ≡ (if is_ack_only frag.now then Sight.Acknowledgement else Sight.Data frag.now) }
+{
+    let [_, b, _, d, _, f, _] = frag.words;
+    if frag.is_ack_only() {
+        return Sight::Acknowledgement;
+    }
+    let [a, _, c, _, e, _, g] = frag.words;
+    Sight::Data(Frag {
+        words: [a, b, c, d, e, f, g],
+        control: frag.control,
+    })
 }
 
 impl PutSide for QueueLink {
