@@ -1,6 +1,7 @@
 //! Fragments of calls made and read: the proved crates beside plain Rust, in one run.
 //!
-//! Runs of the two sides take turns. Each figure is the median, in millions of calls a second.
+//! Runs of the two sides take turns. Each figure is that of the least time, in millions of calls a second:
+//! other work of the machine only makes a run longer.
 
 mod plain;
 
@@ -95,24 +96,18 @@ fn seconds(run: impl Fn() -> u64, wanted: u64) -> f64 {
     time
 }
 
-fn median(mut times: Vec<f64>) -> f64 {
-    times.sort_by(f64::total_cmp);
-    times[times.len() / 2]
-}
-
 fn main() {
-    println!("{CALLS} calls a run, medians of {RUNS} runs, millions of calls a second");
+    println!("{CALLS} calls a run, the least of {RUNS} runs, millions of calls a second");
     for row in rows() {
         for second in [false, true] {
             println!("{}, plan {}", row.name, if second { 2 } else { 1 });
             for (name, ours, theirs) in WORK {
                 let wanted = theirs(&row.types, second, &row.value, CALLS);
-                let (mut a, mut b) = (Vec::new(), Vec::new());
+                let (mut a, mut b) = (f64::MAX, f64::MAX);
                 for _ in 0..RUNS {
-                    a.push(seconds(|| proved(ours, &row, second, CALLS), wanted));
-                    b.push(seconds(|| theirs(black_box(&row.types), second, black_box(&row.value), CALLS), wanted));
+                    a = a.min(seconds(|| proved(ours, &row, second, CALLS), wanted));
+                    b = b.min(seconds(|| theirs(black_box(&row.types), second, black_box(&row.value), CALLS), wanted));
                 }
-                let (a, b) = (median(a), median(b));
                 let speed = |time: f64| CALLS as f64 / time / 1e6;
                 println!("{name:>16}: proved {:6.3}   plain Rust {:6.3}   ratio {:.2}", speed(a), speed(b), b / a);
             }

@@ -1,7 +1,8 @@
 //! Stub code: a call's fragments given by runs of send code and taken by receive runs, beside the proved encoder and
 //! reader and beside plain Rust, in one run. Last, a call from one end of a binding to the other over a queue.
 //!
-//! The sides take turns. Each figure is a median, in nanoseconds for a call.
+//! The sides take turns. Each figure is that of the least time, in nanoseconds for a call: other work of the machine only
+//! makes a stretch longer.
 
 #[allow(dead_code)]
 #[path = "../../calls/src/plain.rs"]
@@ -266,22 +267,37 @@ fn seconds(side: Side, row: &Row, count: u64) -> f64 {
     start.elapsed().as_secs_f64()
 }
 
-fn median(mut times: Vec<f64>) -> f64 {
-    times.sort_by(f64::total_cmp);
-    times[times.len() / 2]
+// The least times that a side took: for a stretch, and for its texts alone, which the proved side reads once in a stretch.
+#[derive(Clone, Copy)]
+struct Least {
+    stretch: f64,
+    texts: f64,
 }
 
-// What a call takes: the proved side reads its texts once in a stretch, and these are timed alone and left out.
-fn nanoseconds(side: Side, row: &Row, count: u64) -> f64 {
-    let texts = match side {
-        Side::Proved(_) => seconds(side, row, 0),
-        Side::Plain(_) => 0.0,
-    };
-    (seconds(side, row, count) - texts) * 1e9 / count as f64
+impl Least {
+    fn none(side: Side) -> Least {
+        let texts = match side {
+            Side::Proved(_) => f64::MAX,
+            Side::Plain(_) => 0.0,
+        };
+        Least { stretch: f64::MAX, texts }
+    }
+
+    fn time(&mut self, side: Side, row: &Row, count: u64) {
+        self.stretch = self.stretch.min(seconds(side, row, count));
+        if let Side::Proved(_) = side {
+            self.texts = self.texts.min(seconds(side, row, 0));
+        }
+    }
+
+    // What a call takes, without the texts.
+    fn nanoseconds(self, count: u64) -> f64 {
+        (self.stretch - self.texts) * 1e9 / count as f64
+    }
 }
 
 fn main() {
-    println!("medians of {RUNS} stretches, nanoseconds for a call; a ratio above 1 says that stub code is faster");
+    println!("the least of {RUNS} stretches, nanoseconds for a call; a ratio above 1 says that stub code is faster");
     // one row by a word of its name, or all
     let word = env::args().nth(1).unwrap_or_default();
     for row in [scalars(), text(), numbers(), structs()].into_iter().filter(|row| row.name.contains(&word)) {
@@ -291,16 +307,16 @@ fn main() {
             let sides: Vec<Side> = [work.ours].into_iter().chain(work.others.iter().map(|other| other.1)).collect();
             let wanted = run(sides[0], &row, count);
             assert_ne!(wanted, 0, "the texts were refused");
-            let mut times = vec![Vec::new(); sides.len()];
+            let mut least: Vec<Least> = sides.iter().map(|side| Least::none(*side)).collect();
             for _ in 0..RUNS {
-                for (side, times) in sides.iter().zip(&mut times) {
-                    times.push(nanoseconds(*side, &row, count));
+                for (side, least) in sides.iter().zip(&mut least) {
+                    least.time(*side, &row, count);
                 }
             }
             for side in &sides {
                 assert_eq!(run(*side, &row, count), wanted, "the sides gave other fragments, or took other calls");
             }
-            let times: Vec<f64> = times.into_iter().map(median).collect();
+            let times: Vec<f64> = least.into_iter().map(|least| least.nanoseconds(count)).collect();
             println!("{:>24}: stub code {:9.1}", work.name, times[0]);
             for ((name, _), time) in work.others.iter().zip(&times[1..]) {
                 println!("{:>24}  {name} {time:9.1}   ratio {:.2}", "", time / times[0]);
