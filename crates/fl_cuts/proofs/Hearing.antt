@@ -73,7 +73,7 @@ use Rattle.fl_shows.specs.Fragments.{message_of}
 use Rattle.fl_shows.specs.Cores.{MonitorShows, NamesShow}
 use Rattle.fl_nameserv.specs.Registrations.{TheRegistration}
 use Rattle.fl_shows.proofs.Names.{names_agree}
-use Rattle.fl_shows.specs.CoreLaws.{registration_of, NamesAgree, SameHeard, HearsAgree}
+use Rattle.fl_shows.specs.CoreLaws.{registration_of, NamesAgree, SameHeard, delivery, HearsAgree}
 use Rattle.fl_shows.specs.Ends.{planned_of, outgoing_of, circuit_of}
 use Rattle.fl_shows.proofs.Tests.{either}
 use Rattle.fl_cuts.specs.Sides.{SideCut, ShowsSide}
@@ -618,7 +618,7 @@ hears_all law services a s m n l frag msg told before after h sound names order 
     let v = there ShowsSide a.sides s.rings n before h.sides before_is in
     let one = takes_again (says (said_of msg)) v.0 before after (bare frag) v.2 takes in
     let known : Known = known_for s.offers s.core msg in
-    let agree = law known services l.0 (said_of msg) a.core s.core.monitor all.monitor (Ok all.heard) h.monitor names order.may
+    let agree = law known (delivery services l.0 (said_of msg) a.core) s.core.monitor all.monitor (Ok all.heard) h.monitor names order.may
     (subst (λ (x : Message). MonitorHears known l x s.core.monitor (Ok all.heard) all.monitor) (sym (message_same msg)) all.hears) in
     let keeps = hears_keeps services l.0 (said_of msg) a.core in
     let number : all.monitor.circuits.core ≡ s.core.monitor.circuits.core
@@ -679,7 +679,7 @@ pub hears_follow : HearsAgree → (services : List Service) (a : Cut) (s m t : T
 hears_follow law services a s m t n l frag answer.Full h sound names order on desks =
     let ((msg, is, both), same) = on.event in
     let known : Known = known_for s.offers s.core msg in
-    let agree = law known services l.0 (said_of msg) a.core s.core.monitor s.core.monitor (Err monitor.OutboxFull) h.monitor names (order msg is).may
+    let agree = law known (delivery services l.0 (said_of msg) a.core) s.core.monitor s.core.monitor (Err monitor.OutboxFull) h.monitor names (order msg is).may
     (subst (λ (x : Message). MonitorHears known l x s.core.monitor (Err monitor.OutboxFull) s.core.monitor) (sym (message_same msg)) both.0) in
     record {
       after = a;

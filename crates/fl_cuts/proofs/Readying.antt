@@ -45,7 +45,7 @@ use Rattle.fl_queues.specs.Rings.{Opening, Said, says, open_circuit, circuit_ref
 use Rattle.fl_queues.specs.Monitors.{Service, Fate, fate, arrival, passage, goes_on, hears, fails, next_on, can_say, with_said, with_circuits, Hearing, hears_opening, no_outbox, opening_failed}
 use Rattle.fl_shows.specs.Fragments.{core_id, message_of}
 use Rattle.fl_shows.specs.Cores.{MonitorShows}
-use Rattle.fl_shows.specs.CoreLaws.{OutboxesAreShown, RoomsAgree, OpensAgree, HearsAgree}
+use Rattle.fl_shows.specs.CoreLaws.{OutboxesAreShown, RoomsAgree, OpensAgree, delivery, HearsAgree}
 use Rattle.fl_shows.specs.EndLaws.{TakeShows}
 use Rattle.fl_shows.proofs.Boxes.{same_room, said_shows}
 use Rattle.fl_shows.proofs.Tests.{then_is, else_is}
@@ -210,7 +210,7 @@ ready_hears : HearsAgree → (services : List Service) (a : Cut) (s m t : TheRun
 ready_hears law services a s m t n l frag answer.Full h sound ready on desks =
     let ((msg, is, both), same) = on.event in
     elim (ordered services l a s msg h sound ready.names ready.serves ready.quiet ready.led (both.0.0, both.0.1)) [
-      | inl order ↦ (let agree = law (known_for s.offers s.core msg) services l.0 (said_of msg) a.core s.core.monitor s.core.monitor (Err monitor.OutboxFull) h.monitor ready.names order.may
+      | inl order ↦ (let agree = law (known_for s.offers s.core msg) (delivery services l.0 (said_of msg) a.core) s.core.monitor s.core.monitor (Err monitor.OutboxFull) h.monitor ready.names order.may
           (subst (λ (x : Message). MonitorHears (known_for s.offers s.core msg) l x s.core.monitor (Err monitor.OutboxFull) s.core.monitor) (sym (message_same msg)) both.0) in
           record {
             after = a;

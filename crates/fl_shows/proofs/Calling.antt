@@ -25,7 +25,7 @@ use Rattle.fl_queues.specs.State.{State, Outcome, answers, change_out}
 use Rattle.fl_queues.specs.Sending.{next_fragment}
 use Rattle.fl_queues.specs.SoundLabels.{IsCounted}
 use Rattle.fl_shows.specs.Ends.{planned_of, outgoing_of, circuit_of, EndShows}
-use Rattle.fl_shows.specs.EndLaws.{with_out, CallAgrees, NextAgrees, WriteAgrees}
+use Rattle.fl_shows.specs.EndLaws.{with_out, CallAgrees, CallShows, NextAgrees, WriteAgrees, WriteShows}
 use Rattle.fl_shows.proofs.Tests.{then_is, else_is, lt_false, le_true, le_false}
 use Rattle.fl_shows.proofs.Streams.{frags}
 use Rattle.fl_shows.proofs.Sending.{same_outgoing, unwritten, each_frags, nothing_left, idle_nothing, busy_some, busy_by, idle_by, accepted_is, wrote_is, progress_is, first_of_drop, none_of_drop}
@@ -180,9 +180,10 @@ is_unknown i c = nat_le (length i.interface.messages) c.msg
 fits_known : (i : Planned) (c : TheCall) → fits_of i.interface c ≡ true → is_unknown i c ≡ false
 fits_known i c h = le_false (length i.interface.messages) c.msg (known i.interface.messages c.msg c.args h)
 
-pub call_agrees : (e : EndId) (c : TheCall) (i : Planned) (x : End) (peer : Direction) (s t : TheEnd) (answer : Result (Unit {0}) EndFault)
-    → EndShows i x peer s → IsCounted i x.out → Calls s c answer t → CallAgrees e c i x peer answer t
-call_agrees e c i x peer s t (Ok done) h k a =
+call_by : (e : EndId) (c : TheCall) (i : Planned) (x : End) (peer : Direction) (s t : TheEnd) (answer : Result (Unit {0}) EndFault)
+    → EndShows i x peer s → IsCounted i x.out → Calls s c answer t
+    → CallAgrees e c (record { interface = i; end = x; peer = peer }) answer t
+call_by e c i x peer s t (Ok done) h k a =
     let fits : fits_of i.interface c ≡ true = same_fits i x peer s c true h a.0 in
     let idle : is_busy i x.out ≡ false = idle_is i x peer s h a.2 in
     let sent : queued s.outgoing (frags_from s c) ≡ outgoing_of (circuit_of x) i (accepts c x.out)
@@ -194,35 +195,38 @@ call_agrees e c i x peer s t (Ok done) h k a =
       subst (EndShows i (with_out (accepts c) x) peer) (sym a.3)
           (with_outgoing i x (accepts c x.out) peer s (queued s.outgoing (frags_from s c)) h sent),
     )
-call_agrees e c i x peer s t (Err UnknownMessage) h k a =
+call_by e c i x peer s t (Err UnknownMessage) h k a =
     let past : length i.interface.messages ≤ c.msg
     = none_past i.interface.messages c.msg (subst (λ (j : TheInterface). slice_get j.messages c.msg ≡ None) (same_interface i x peer s h) a.0) in (
       λ z. unknown_first e c z (is_unknown i c) (fits_of i.interface c) (is_bound x) (is_busy i x.out) (le_true (length i.interface.messages) c.msg past),
       stays i x peer s t h a.1,
     )
-call_agrees e c i x peer s t (Err Misfit) h k a =
+call_by e c i x peer s t (Err Misfit) h k a =
     let there : c.msg < length i.interface.messages
     = some_within i.interface.messages c.msg (subst (λ (j : TheInterface). IsMessage j c.msg) (same_interface i x peer s h) a.0) in (
       λ z. misfit_next e c z (is_unknown i c) (fits_of i.interface c) (is_bound x) (is_busy i x.out)
           (le_false (length i.interface.messages) c.msg there) (same_fits i x peer s c false h a.1),
       stays i x peer s t h a.2,
     )
-call_agrees e c i x peer s t (Err NotBound) h k a =
+call_by e c i x peer s t (Err NotBound) h k a =
     let fits : fits_of i.interface c ≡ true = same_fits i x peer s c true h a.0 in (
       λ z. unbound_next e c z (is_unknown i c) (fits_of i.interface c) (is_bound x) (is_busy i x.out)
           (fits_known i c fits) fits (unbound_is i x peer s h a.1),
       stays i x peer s t h a.2,
     )
-call_agrees e c i x peer s t (Err Failed) h k a = not_failed i x peer s h a.1.1
-call_agrees e c i x peer s t (Err Busy) h k a =
+call_by e c i x peer s t (Err Failed) h k a = not_failed i x peer s h a.1.1
+call_by e c i x peer s t (Err Busy) h k a =
     let fits : fits_of i.interface c ≡ true = same_fits i x peer s c true h a.0 in (
       λ z. busy_next e c z (is_unknown i c) (fits_of i.interface c) (is_bound x) (is_busy i x.out)
           (fits_known i c fits) fits (bound_is i x peer s h a.1.0) (busy_is i x peer s h a.2),
       stays i x peer s t h a.3,
     )
-call_agrees e c i x peer s t (Err Memory) h k a = stays i x peer s t h a.3
-call_agrees e c i x peer s t (Err Spent) h k a = absurd a
-call_agrees e c i x peer s t (Err (Wire fault)) h k a = absurd a
+call_by e c i x peer s t (Err Memory) h k a = stays i x peer s t h a.3
+call_by e c i x peer s t (Err Spent) h k a = absurd a
+call_by e c i x peer s t (Err (Wire fault)) h k a = absurd a
+
+pub call_agrees : CallShows
+call_agrees e c m s t answer h k a = call_by e c m.interface m.end m.peer s t answer h k a
 
 -- ---- the fragment that would be written next
 
@@ -261,10 +265,10 @@ next_agrees epoch told i x peer s (Err fault) h a = absurd a
 writes_is : (i : Planned) (d : Direction) (r : Room) → is_busy i d ≡ true → writes i d r ≡ writes_by i d r
 writes_is i d r q = then_is (is_busy i d) (writes_by i d r) (record { direction = d; answer = nothing }) q
 
-pub write_agrees : {P : Type 0} (puts : P → Look → P → Type 0) (i : Planned) (x : End) (peer : Direction) (p q : P) (s t : TheEnd)
+write_by : {P : Type 0} (puts : P → Look → P → Type 0) (i : Planned) (x : End) (peer : Direction) (p q : P) (s t : TheEnd)
     (answer : Result WriteAnswer EndFault) → EndShows i x peer s → IsCounted i x.out → 1 ≤ length x.out.passed
-    → Writes puts s p answer t q → WriteAgrees puts i x peer p answer t q
-write_agrees puts i x peer p q s t (Ok (Written number count)) h k n a =
+    → Writes puts s p answer t q → WriteAgrees puts (record { interface = i; end = x; peer = peer }) p answer t q
+write_by puts i x peer p q s t (Ok (Written number count)) h k n a =
     let first : unwritten (circuit_of x) i x.out ≡ a.1.0 ∷ a.1.1 = sym (unwritten_is i x peer s h) ∙ a.1.2 in
     let busy : is_busy i x.out ≡ true = busy_by (circuit_of x) i x.out a.1.0 a.1.1 first in
     let now : writes i x.out there_is_room ≡ writes_by i x.out there_is_room = writes_is i x.out there_is_room busy in
@@ -278,26 +282,29 @@ write_agrees puts i x peer p q s t (Ok (Written number count)) h k n a =
       subst (EndShows i (with_out (λ d. (writes i d there_is_room).direction) x) peer) (sym a.1.6)
           (with_outgoing i x (writes i x.out there_is_room).direction peer s (wrote a.1.1 s.outgoing) h sent),
     )
-write_agrees puts i x peer p q s t (Ok Full) h k n a =
+write_by puts i x peer p q s t (Ok Full) h k n a =
     let busy : is_busy i x.out ≡ true = busy_is i x peer s h a.1 in (
       (bound_is i x peer s h a.0.0, busy),
       a.2,
       ap (λ (w : Wrote). w.answer) (writes_is i x.out none_free busy),
       stays i x peer s t h a.3,
     )
-write_agrees puts i x peer p q s t (Ok Nothing) h k n a = (
+write_by puts i x peer p q s t (Ok Nothing) h k n a = (
   bound_is i x peer s h a.0.0,
   idle_is i x peer s h a.1,
   a.2,
   stays i x peer s t h a.3,
 )
-write_agrees puts i x peer p q s t (Err Spent) h k n a =
+write_by puts i x peer p q s t (Err Spent) h k n a =
     let busy : is_busy i x.out ≡ true = busy_is i x peer s h a.1 in (
       (bound_is i x peer s h a.0.0, busy),
       a.2,
       ap (λ (w : Wrote). w.answer) (writes_is i x.out used_up busy),
       stays i x peer s t h a.3,
     )
-write_agrees puts i x peer p q s t (Err NotBound) h k n a = (unbound_is i x peer s h a.0, a.1, stays i x peer s t h a.2)
-write_agrees puts i x peer p q s t (Err Failed) h k n a = not_failed i x peer s h a.0.1
-write_agrees puts i x peer p q s t (Err fault) h k n a = absurd a
+write_by puts i x peer p q s t (Err NotBound) h k n a = (unbound_is i x peer s h a.0, a.1, stays i x peer s t h a.2)
+write_by puts i x peer p q s t (Err Failed) h k n a = not_failed i x peer s h a.0.1
+write_by puts i x peer p q s t (Err fault) h k n a = absurd a
+
+pub write_agrees : {P : Type 0} (puts : P → Look → P → Type 0) → WriteShows puts
+write_agrees puts m p q s t answer h k n a = write_by puts m.interface m.end m.peer p q s t answer h k n a

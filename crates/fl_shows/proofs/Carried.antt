@@ -230,21 +230,20 @@ pub off_links : (s : State) → CallsFit s → InterfacesKeepLimits s → OffLin
 off_links s fit keep e k f q = (carried_on 0 s (omega arith) fit keep e k f q).1
 
 pub goes_on : OnAnotherCircuit → (s : State) → CallsFit s → InterfacesKeepLimits s → NumbersAreSmall s → GoesOn s
-goes_on law s fit keep small a b e k f x route p q g =
-    let o = of_link a b s e k f g in
-    let same_binding : o.binding ≡ x = same_Some o.binding x (sym o.binding_is ∙ p) in
+goes_on law s fit keep small a b x binding route p q g =
+    let o = of_link a b s x.end x.number x.frag g in
+    let same_binding : o.binding ≡ binding = same_Some o.binding binding (sym o.binding_is ∙ p) in
     let same_route : o.route ≡ route
     = same_Some o.route route (sym o.route_is ∙ ap (λ (y : Binding). route_of y.back) same_binding ∙ q) in
-    let n : ℕ = o.number in
-    let less : o.number < 2 ^ 16 = (small e.binding o.route a b o.number (is_routed s e o.binding o.route o.binding_is o.route_is) o.number_is).1 in
+    let less : o.number < 2 ^ 16 = (small x.end.binding o.route a b o.number (is_routed s x.end o.binding o.route o.binding_is o.route_is) o.number_is).1 in
     record {
       carries = λ m r.
-          (carried_on o.number s less fit keep e k f o.at).1
+          (carried_on o.number s less fit keep x.end x.number x.frag o.at).1
           ∙ same_Some o.number m (sym o.number_is ∙ ap (number_between a b) same_route ∙ r);
-      arrives = another law o.number 0 s less fit keep e k f o.at;
+      arrives = another law o.number 0 s less fit keep x.end x.number x.frag o.at;
       onward = λ c d m r.
-          ap (λ (fs : List Frag). slice_get fs k) (link_calls_are c d s e x route m p q r)
-          ∙ another law o.number m s less fit keep e k f o.at;
+          ap (λ (fs : List Frag). slice_get fs x.number) (link_calls_are c d s x.end binding route m p q r)
+          ∙ another law o.number m s less fit keep x.end x.number x.frag o.at;
     }
 
 -- which it is

@@ -31,7 +31,7 @@ use Rattle.fl_queues.specs.Monitors.{Core, Service, service_of, link_to, next_on
 use Rattle.fl_queues.specs.Monitors.{Heard, no_outbox, opening_went_on, server_made, opening_failed, answer_went_on, Hearing, saying, hears_opening, hears_opened, hears_refused, goes_astray, hears, opens}
 use Rattle.fl_shows.specs.Fragments.{message_of, core_id}
 use Rattle.fl_shows.specs.Cores.{MonitorShows, registered_from, offer_of, NamesShow}
-use Rattle.fl_shows.specs.CoreLaws.{registration_of, asked_of, SameHeard, HasPlaceAt, LeadsOn, MayBeHeard, HearAgrees, NamesAgree}
+use Rattle.fl_shows.specs.CoreLaws.{registration_of, asked_of, SameHeard, HasPlaceAt, LeadsOn, MayBeHeard, delivery, HearAgrees, HearsAgree, NamesAgree}
 use Rattle.fl_shows.proofs.Tests.{by_test, then_is, else_is}
 use Rattle.fl_shows.proofs.Names.{names_agree}
 use Rattle.fl_shows.proofs.Boxes.{same_room, said_shows}
@@ -319,30 +319,34 @@ full_refused known services l c fault k before heard h comes can =
     ∙ refused_full l c fault comes.0 comes.0.way k before h
     (subst (λ (x : Told). may_say (says_then (link_id l) (CircuitRefused (circuit_id c) fault) x) before.outboxes ≡ false) comes.2 can)
 
-pub hear_agrees : (known : Known) (services : List Service) (l : ℕ) (said : Said) (k : Core) (before after : TheMonitor) (answer : Result Told MonitorFault)
+hear_by : (known : Known) (services : List Service) (l : ℕ) (said : Said) (k : Core) (before after : TheMonitor) (answer : Result Told MonitorFault)
     → MonitorShows k before → NamesShow services known.names → MayBeHeard services l said k known.here
-    → Hears known (link_id l) (message_of said) before answer after → HearAgrees known services l said k answer after
-hear_agrees known services l (open_circuit o) k before after (Ok heard) h names may a =
+    → Hears known (link_id l) (message_of said) before answer after → HearAgrees known (delivery services l said k) answer after
+hear_by known services l (open_circuit o) k before after (Ok heard) h names may a =
     hear_opening known services l o k before after heard h (names_agree services known.names names) may.0 may.1 a.0 a.1 a.2 a.3
-hear_agrees known services l (circuit_opened c) k before after (Ok heard) h names may a =
+hear_by known services l (circuit_opened c) k before after (Ok heard) h names may a =
     hear_opened known services l c k before after heard h a.0 a.1 a.2 a.3
-hear_agrees known services l (circuit_refused c fault) k before after (Ok heard) h names may a =
+hear_by known services l (circuit_refused c fault) k before after (Ok heard) h names may a =
     hear_refused known services l c fault k before after heard h a.0 a.1 a.2 a.3
-hear_agrees known services l (open_circuit o) k before after (Err OutboxFull) h names may a =
+hear_by known services l (open_circuit o) k before after (Err OutboxFull) h names may a =
     (full_opening known services l o k before a.0 h (names_agree services known.names names) may.0 may.1 a.1 a.2, kept k before after h a.3)
-hear_agrees known services l (circuit_opened c) k before after (Err OutboxFull) h names may a =
+hear_by known services l (circuit_opened c) k before after (Err OutboxFull) h names may a =
     (full_opened known services l c k before a.0 h a.1 a.2, kept k before after h a.3)
-hear_agrees known services l (circuit_refused c fault) k before after (Err OutboxFull) h names may a =
+hear_by known services l (circuit_refused c fault) k before after (Err OutboxFull) h names may a =
     (full_refused known services l c fault k before a.0 h a.1 a.2, kept k before after h a.3)
-hear_agrees known services l said k before after (Err Astray) h names may a = (
+hear_by known services l said k before after (Err Astray) h names may a = (
   subst (λ (t : TheCircuits). Rattle.fl_monitor.specs.Hearing.IsAstray known t (link_id l) (message_of said)) h.circuits a.0,
   kept k before after h a.1,
 )
-hear_agrees known services l said k before after (Err Memory) h names may a = kept k before after h a.3
-hear_agrees known services l said k before after (Err Differs) h names may a = absurd a
-hear_agrees known services l said k before after (Err NoRoute) h names may a = absurd a
-hear_agrees known services l said k before after (Err UsedUp) h names may a = absurd a
-hear_agrees known services l said k before after (Err PlansDiffer) h names may a = absurd a
+hear_by known services l said k before after (Err Memory) h names may a = kept k before after h a.3
+hear_by known services l said k before after (Err Differs) h names may a = absurd a
+hear_by known services l said k before after (Err NoRoute) h names may a = absurd a
+hear_by known services l said k before after (Err UsedUp) h names may a = absurd a
+hear_by known services l said k before after (Err PlansDiffer) h names may a = absurd a
+
+pub hear_agrees : HearsAgree
+hear_agrees known x before after answer h names may a =
+    hear_by known x.services x.link x.said x.core before after answer h names may a
 
 -- ---- a circuit is opened
 

@@ -18,7 +18,7 @@ use Rattle.fl_interface.specs.SameTypes.{scalar_number, same_type, same_fields, 
 use Rattle.fl_queues.specs.Ends.{Direction, End, with_rule}
 use Rattle.fl_queues.specs.Taking.{has_message, arguments_of}
 use Rattle.fl_shows.specs.Ends.{EndShows}
-use Rattle.fl_shows.specs.EndLaws.{are_messages, have_same_arguments, RuleAgrees}
+use Rattle.fl_shows.specs.EndLaws.{are_messages, have_same_arguments, RuleAgrees, RuleShows}
 use Rattle.fl_shows.proofs.Tests.{lt_true, true_lt}
 use Rattle.fl_shows.proofs.Calling.{stays, same_interface, some_within}
 
@@ -145,9 +145,10 @@ not_true false h = refl
 
 -- ---- the event
 
-pub rule_agrees : (i : Planned) (msg reply : ℕ) (x : End) (peer : Direction) (s t : TheEnd) (answer : Result (Unit {0}) EndFault)
-    → EndShows i x peer s → SetsRule s msg reply answer t → RuleAgrees i msg reply x peer answer t
-rule_agrees i msg reply x peer s t (Ok done) h a = (
+rule_by : (i : Planned) (msg reply : ℕ) (x : End) (peer : Direction) (s t : TheEnd) (answer : Result (Unit {0}) EndFault)
+    → EndShows i x peer s → SetsRule s msg reply answer t
+    → RuleAgrees msg reply (record { interface = i; end = x; peer = peer }) answer t
+rule_by i msg reply x peer s t (Ok done) h a = (
   both_are (has_message msg i) (has_message reply i) (message_is i x peer s msg h a.0) (message_is i x peer s reply h a.1),
   types_are i x peer s msg reply h a.2,
   subst (EndShows i (with_rule msg reply x) peer) (sym a.3) (record {
@@ -159,15 +160,18 @@ rule_agrees i msg reply x peer s t (Ok done) h a = (
     failed = h.failed;
   }),
 )
-rule_agrees i msg reply x peer s t (Err UnknownMessage) h a = (
+rule_by i msg reply x peer s t (Err UnknownMessage) h a = (
   not_true (are_messages i msg reply)
       (λ b. let p = both (has_message msg i) (has_message reply i) b in
       a.0 (message_was i x peer s msg h p.0, message_was i x peer s reply h p.1)),
   stays i x peer s t h a.1,
 )
-rule_agrees i msg reply x peer s t (Err Misfit) h a = (
+rule_by i msg reply x peer s t (Err Misfit) h a = (
   both_are (has_message msg i) (has_message reply i) (message_is i x peer s msg h a.0) (message_is i x peer s reply h a.1),
   not_true (have_same_arguments i msg reply) (λ b. a.2 (types_were i x peer s msg reply h b)),
   stays i x peer s t h a.3,
 )
-rule_agrees i msg reply x peer s t (Err fault) h a = absurd a
+rule_by i msg reply x peer s t (Err fault) h a = absurd a
+
+pub rule_agrees : RuleShows
+rule_agrees msg reply m s t answer h a = rule_by m.interface msg reply m.end m.peer s t answer h a

@@ -17,7 +17,7 @@ use Rattle.fl_monitor.specs.Monitors.{TheMonitor, fresh_monitor, waiting_for, wi
 use Rattle.fl_monitor.specs.Monitors.{can_say as monitor_can_say}
 use Rattle.fl_queues.specs.Rings.{Opening, Said, open_circuit, RingEnd}
 use Rattle.fl_queues.specs.Waits.{Dispatcher, has_places}
-use Rattle.fl_queues.specs.Monitors.{can_say, Link, Core, fresh_core, Service, service_of, link_to, next_on, hears, opens, link_id}
+use Rattle.fl_queues.specs.Monitors.{can_say, Link, Core, fresh_core, Service, service_of, link_to, next_on, Hearing, hears, opens, link_id}
 use Rattle.fl_queues.specs.Monitors.{Heard as MachineHeard, no_outbox, opening_went_on, server_made, opening_failed, answer_went_on}
 use Rattle.fl_queues.specs.Monitors.{end_opened, end_refused}
 use Rattle.fl_queues.specs.Binding.{place_of_service}
@@ -111,15 +111,28 @@ abbrev pub MayBeHeard : List Service → ℕ → Said → Core → Here → Type
 MayBeHeard services l (open_circuit o) k here = HasPlaceAt services o k here × LeadsOn l o k
 MayBeHeard services l said k here = Unit {0}
 
-abbrev pub HearAgrees : Known → List Service → ℕ → Said → Core → Result Heard MonitorFault → TheMonitor → Type 0
-HearAgrees known services l said k (Ok heard) after =
-    SameHeard (hears services l said k).heard heard × MonitorShows (hears services l said k).core after
-HearAgrees known services l said k (Err OutboxFull) after = ((hears services l said k).heard ≡ no_outbox) × MonitorShows k after
-HearAgrees known services l said k (Err Astray) after = IsAstray known k.circuits (link_id l) (message_of said) × MonitorShows k after
-HearAgrees known services l said k (Err Memory) after = MonitorShows k after
-HearAgrees known services l said k (Err fault) after = ⊥
+-- a message that is delivered to a core, over this link, where these services are exported
+pub record Delivery : Type 0 where
+  pub services : List Service
+  pub link : ℕ
+  pub said : Said
+  pub core : Core
+
+abbrev pub delivery : List Service → ℕ → Said → Core → Delivery
+delivery services l said k = record { services = services; link = l; said = said; core = k }
+
+-- what the machine's core makes of it
+abbrev pub hearing_of : Delivery → Hearing
+hearing_of x = hears x.services x.link x.said x.core
+
+abbrev pub HearAgrees : Known → Delivery → Result Heard MonitorFault → TheMonitor → Type 0
+HearAgrees known x (Ok heard) after = SameHeard (hearing_of x).heard heard × MonitorShows (hearing_of x).core after
+HearAgrees known x (Err OutboxFull) after = ((hearing_of x).heard ≡ no_outbox) × MonitorShows x.core after
+HearAgrees known x (Err Astray) after = IsAstray known x.core.circuits (link_id x.link) (message_of x.said) × MonitorShows x.core after
+HearAgrees known x (Err Memory) after = MonitorShows x.core after
+HearAgrees known x (Err fault) after = ⊥
 
 abbrev pub HearsAgree : Type 0
-HearsAgree = (known : Known) (services : List Service) (l : ℕ) (said : Said) (k : Core) (before after : TheMonitor) (answer : Result Heard MonitorFault)
-    → MonitorShows k before → NamesShow services known.names → MayBeHeard services l said k known.here
-    → Hears known (link_id l) (message_of said) before answer after → HearAgrees known services l said k answer after
+HearsAgree = (known : Known) (x : Delivery) (before after : TheMonitor) (answer : Result Heard MonitorFault)
+    → MonitorShows x.core before → NamesShow x.services known.names → MayBeHeard x.services x.link x.said x.core known.here
+    → Hears known (link_id x.link) (message_of x.said) before answer after → HearAgrees known x answer after

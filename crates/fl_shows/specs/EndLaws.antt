@@ -30,7 +30,7 @@ use Rattle.fl_interface.specs.SameTypes.{same_arguments}
 use Rattle.fl_queues.specs.Taking.{has_message, arguments_of}
 use Rattle.fl_queues.specs.SoundLabels.{IsCounted}
 use Rattle.fl_queues.specs.SoundCalls.{AllFit}
-use Rattle.fl_shows.specs.Ends.{planned_of, parts_of, EndShows}
+use Rattle.fl_shows.specs.Ends.{planned_of, parts_of, EndShows, MachineEnd, Pictured}
 
 -- the end with something done to its direction
 abbrev pub with_out : (Direction → Direction) → End → End
@@ -50,17 +50,17 @@ BoundShows = (i : Planned) (x : End) (peer : Direction) (s : TheEnd) (circuit : 
 
 -- ---- a call
 
-abbrev pub CallAgrees : EndId → TheCall → Planned → End → Direction → Result (Unit {0}) EndFault → TheEnd → Type 0
-CallAgrees e c i x peer (Ok done) t =
-    ((z : State) → makes_call e c i x z ≡ answers (change_out e (accepts c) z) accepted)
-    × EndShows i (with_out (accepts c) x) peer t
-CallAgrees e c i x peer (Err Memory) t = EndShows i x peer t
-CallAgrees e c i x peer (Err fault) t =
-    ((z : State) → makes_call e c i x z ≡ answers z (refused (fault_number fault))) × EndShows i x peer t
+abbrev pub CallAgrees : EndId → TheCall → MachineEnd → Result (Unit {0}) EndFault → TheEnd → Type 0
+CallAgrees e c m (Ok done) t =
+    ((z : State) → makes_call e c m.interface m.end z ≡ answers (change_out e (accepts c) z) accepted)
+    × EndShows m.interface (with_out (accepts c) m.end) m.peer t
+CallAgrees e c m (Err Memory) t = Pictured m t
+CallAgrees e c m (Err fault) t =
+    ((z : State) → makes_call e c m.interface m.end z ≡ answers z (refused (fault_number fault))) × Pictured m t
 
 abbrev pub CallShows : Type 0
-CallShows = (e : EndId) (c : TheCall) (i : Planned) (x : End) (peer : Direction) (s t : TheEnd) (answer : Result (Unit {0}) EndFault)
-    → EndShows i x peer s → IsCounted i x.out → Calls s c answer t → CallAgrees e c i x peer answer t
+CallShows = (e : EndId) (c : TheCall) (m : MachineEnd) (s t : TheEnd) (answer : Result (Unit {0}) EndFault)
+    → Pictured m s → IsCounted m.interface m.end.out → Calls s c answer t → CallAgrees e c m answer t
 
 -- ---- the fragment that would be written next
 
@@ -82,23 +82,24 @@ abbrev pub HasMore : Planned → End → Type 0
 HasMore i x = (is_bound x ≡ true) × (is_busy i x.out ≡ true)
 
 -- what is put is the next fragment of all the end's calls; what is answered, the machine's number of how many
-abbrev pub WriteAgrees : {P : Type 0} → (P → Look → P → Type 0) → Planned → End → Direction → P → Result WriteAnswer EndFault → TheEnd → P → Type 0
-WriteAgrees puts i x peer p (Ok (Written number count)) t q =
-    HasMore i x × ((f : Frag) × (next_fragment i x ≡ Some f) × puts p (placed f) q)
-    × ((writes i x.out there_is_room).answer ≡ written number count)
-    × EndShows i (with_out (λ d. (writes i d there_is_room).direction) x) peer t
-WriteAgrees puts i x peer p (Ok Full) t q =
-    HasMore i x × puts p no_room q × ((writes i x.out none_free).answer ≡ full) × EndShows i x peer t
-WriteAgrees puts i x peer p (Ok Nothing) t q = (is_bound x ≡ true) × (is_busy i x.out ≡ false) × (q ≡ p) × EndShows i x peer t
-WriteAgrees puts i x peer p (Err Spent) t q =
-    HasMore i x × puts p spent q × ((writes i x.out used_up).answer ≡ refused (fault_number Spent)) × EndShows i x peer t
-WriteAgrees puts i x peer p (Err NotBound) t q = (is_bound x ≡ false) × (q ≡ p) × EndShows i x peer t
-WriteAgrees puts i x peer p (Err fault) t q = ⊥
+abbrev pub WriteAgrees : {P : Type 0} → (P → Look → P → Type 0) → MachineEnd → P → Result WriteAnswer EndFault → TheEnd → P → Type 0
+WriteAgrees puts m p (Ok (Written number count)) t q =
+    HasMore m.interface m.end × ((f : Frag) × (next_fragment m.interface m.end ≡ Some f) × puts p (placed f) q)
+    × ((writes m.interface m.end.out there_is_room).answer ≡ written number count)
+    × EndShows m.interface (with_out (λ d. (writes m.interface d there_is_room).direction) m.end) m.peer t
+WriteAgrees puts m p (Ok Full) t q =
+    HasMore m.interface m.end × puts p no_room q × ((writes m.interface m.end.out none_free).answer ≡ full) × Pictured m t
+WriteAgrees puts m p (Ok Nothing) t q =
+    (is_bound m.end ≡ true) × (is_busy m.interface m.end.out ≡ false) × (q ≡ p) × Pictured m t
+WriteAgrees puts m p (Err Spent) t q =
+    HasMore m.interface m.end × puts p spent q × ((writes m.interface m.end.out used_up).answer ≡ refused (fault_number Spent)) × Pictured m t
+WriteAgrees puts m p (Err NotBound) t q = (is_bound m.end ≡ false) × (q ≡ p) × Pictured m t
+WriteAgrees puts m p (Err fault) t q = ⊥
 
 abbrev pub WriteShows : {P : Type 0} → (P → Look → P → Type 0) → Type 0
-WriteShows {P} puts = (i : Planned) (x : End) (peer : Direction) (p q : P) (s t : TheEnd) (answer : Result WriteAnswer EndFault)
-    → EndShows i x peer s → IsCounted i x.out → 1 ≤ length x.out.passed
-    → Writes puts s p answer t q → WriteAgrees puts i x peer p answer t q
+WriteShows {P} puts = (m : MachineEnd) (p q : P) (s t : TheEnd) (answer : Result WriteAnswer EndFault)
+    → Pictured m s → IsCounted m.interface m.end.out → 1 ≤ length m.end.out.passed
+    → Writes puts s p answer t q → WriteAgrees puts m p answer t q
 
 -- ---- a fragment is taken
 
@@ -124,24 +125,26 @@ IsNextAt {T} takes i peer p = (f : Frag) (q : T) → takes p (saw f) q → slice
 abbrev pub TakesFragments : End → Type 0
 TakesFragments x = (is_bound x ≡ true) × (holds_back x ≡ false)
 
-abbrev pub ReceiveAgrees : {T : Type 0} → (T → Look → T → Type 0) → Planned → End → Direction → T → Result ReceiveAnswer EndFault → TheEnd → T → Type 0
-ReceiveAgrees {T} takes i x peer p (Ok Part) t q =
-    TakesFragments x × ((f : Frag) × (m : T) × takes p (saw f) m × takes m (found f) q) × TakeAgrees i x peer (Ok Part) t
-ReceiveAgrees {T} takes i x peer p (Ok (Handle call)) t q =
-    TakesFragments x × ((f : Frag) × (m : T) × takes p (saw f) m × takes m (found f) q) × TakeAgrees i x peer (Ok (Handle call)) t
-ReceiveAgrees {T} takes i x peer p (Ok Quiet) t q =
-    TakesFragments x × ((m : T) × takes p saw_ack m × takes m found_ack q) × EndShows i x peer t
-ReceiveAgrees takes i x peer p (Ok Empty) t q = TakesFragments x × takes p missed q × EndShows i x peer t
-ReceiveAgrees takes i x peer p (Ok HeldBack) t q = (is_bound x ≡ true) × (holds_back x ≡ true) × (q ≡ p) × EndShows i x peer t
-ReceiveAgrees takes i x peer p (Err Memory) t q = TakesFragments x × ((f : Frag) × takes p (saw f) q) × EndShows i x peer t
-ReceiveAgrees takes i x peer p (Err NotBound) t q = (is_bound x ≡ false) × (q ≡ p) × EndShows i x peer t
-ReceiveAgrees takes i x peer p (Err fault) t q = ⊥
+abbrev pub ReceiveAgrees : {T : Type 0} → (T → Look → T → Type 0) → MachineEnd → T → Result ReceiveAnswer EndFault → TheEnd → T → Type 0
+ReceiveAgrees {T} takes m p (Ok Part) t q =
+    TakesFragments m.end × ((f : Frag) × (looked : T) × takes p (saw f) looked × takes looked (found f) q)
+    × TakeAgrees m.interface m.end m.peer (Ok Part) t
+ReceiveAgrees {T} takes m p (Ok (Handle call)) t q =
+    TakesFragments m.end × ((f : Frag) × (looked : T) × takes p (saw f) looked × takes looked (found f) q)
+    × TakeAgrees m.interface m.end m.peer (Ok (Handle call)) t
+ReceiveAgrees {T} takes m p (Ok Quiet) t q =
+    TakesFragments m.end × ((looked : T) × takes p saw_ack looked × takes looked found_ack q) × Pictured m t
+ReceiveAgrees takes m p (Ok Empty) t q = TakesFragments m.end × takes p missed q × Pictured m t
+ReceiveAgrees takes m p (Ok HeldBack) t q = (is_bound m.end ≡ true) × (holds_back m.end ≡ true) × (q ≡ p) × Pictured m t
+ReceiveAgrees takes m p (Err Memory) t q = TakesFragments m.end × ((f : Frag) × takes p (saw f) q) × Pictured m t
+ReceiveAgrees takes m p (Err NotBound) t q = (is_bound m.end ≡ false) × (q ≡ p) × Pictured m t
+ReceiveAgrees takes m p (Err fault) t q = ⊥
 
 abbrev pub ReceiveShows : {T : Type 0} → (T → Look → T → Type 0) → Type 0
-ReceiveShows {T} takes = (i : Planned) (x : End) (peer : Direction) (p q : T) (s t : TheEnd) (answer : Result ReceiveAnswer EndFault)
-    → EndShows i x peer s → Sound s → IsCounted i x.out → length x.out.waiting ≤ 16
-    → AllFit i peer.accepted → 1 ≤ length peer.passed → IsNextAt takes i peer p
-    → Receives takes s p answer t q → ReceiveAgrees takes i x peer p answer t q
+ReceiveShows {T} takes = (m : MachineEnd) (p q : T) (s t : TheEnd) (answer : Result ReceiveAnswer EndFault)
+    → Pictured m s → Sound s → IsCounted m.interface m.end.out → length m.end.out.waiting ≤ 16
+    → AllFit m.interface m.peer.accepted → 1 ≤ length m.peer.passed → IsNextAt takes m.interface m.peer p
+    → Receives takes s p answer t q → ReceiveAgrees takes m p answer t q
 
 -- ---- a reply rule
 
@@ -153,17 +156,18 @@ are_messages i msg reply = has_message msg i && has_message reply i
 abbrev pub have_same_arguments : Planned → ℕ → ℕ → Bool
 have_same_arguments i msg reply = same_arguments (arguments_of msg i) (arguments_of reply i)
 
-abbrev pub RuleAgrees : Planned → ℕ → ℕ → End → Direction → Result (Unit {0}) EndFault → TheEnd → Type 0
-RuleAgrees i msg reply x peer (Ok done) t =
-    (are_messages i msg reply ≡ true) × (have_same_arguments i msg reply ≡ true) × EndShows i (with_rule msg reply x) peer t
-RuleAgrees i msg reply x peer (Err UnknownMessage) t = (are_messages i msg reply ≡ false) × EndShows i x peer t
-RuleAgrees i msg reply x peer (Err Misfit) t =
-    (are_messages i msg reply ≡ true) × (have_same_arguments i msg reply ≡ false) × EndShows i x peer t
-RuleAgrees i msg reply x peer (Err fault) t = ⊥
+abbrev pub RuleAgrees : ℕ → ℕ → MachineEnd → Result (Unit {0}) EndFault → TheEnd → Type 0
+RuleAgrees msg reply m (Ok done) t =
+    (are_messages m.interface msg reply ≡ true) × (have_same_arguments m.interface msg reply ≡ true)
+    × EndShows m.interface (with_rule msg reply m.end) m.peer t
+RuleAgrees msg reply m (Err UnknownMessage) t = (are_messages m.interface msg reply ≡ false) × Pictured m t
+RuleAgrees msg reply m (Err Misfit) t =
+    (are_messages m.interface msg reply ≡ true) × (have_same_arguments m.interface msg reply ≡ false) × Pictured m t
+RuleAgrees msg reply m (Err fault) t = ⊥
 
 abbrev pub RuleShows : Type 0
-RuleShows = (i : Planned) (msg reply : ℕ) (x : End) (peer : Direction) (s t : TheEnd) (answer : Result (Unit {0}) EndFault)
-    → EndShows i x peer s → SetsRule s msg reply answer t → RuleAgrees i msg reply x peer answer t
+RuleShows = (msg reply : ℕ) (m : MachineEnd) (s t : TheEnd) (answer : Result (Unit {0}) EndFault)
+    → Pictured m s → SetsRule s msg reply answer t → RuleAgrees msg reply m answer t
 
 -- ---- the other end
 

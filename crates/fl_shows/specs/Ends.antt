@@ -2,12 +2,15 @@
 -- by how many of their fragments are written, and by how many of the other end's it has taken.
 use Rattle.std.specs.Prelude.{ℕ, ◌≡◌, false, if◌then◌else◌, List, map, take, drop}
 use Rattle.fl_base.specs.declared.fragment.Frag.{Frag}
+use Rattle.fl_base.specs.declared.identity.Side.{Side}
+use Rattle.fl_base.specs.Ends.{other}
 use Rattle.fl_compile.specs.declared.program.Program.{Program}
 use Rattle.fl_compile.specs.Programs.{program_of}
 use Rattle.fl_wire.specs.Payload.{frags_on}
 use Rattle.fl_endpoint.specs.View.{TheOutgoing, TheEnd, number_or_0}
 use Rattle.fl_queues.specs.Calls.{Planned, total, last_count, stream}
 use Rattle.fl_queues.specs.Ends.{Direction, written_of, taken_of, is_busy, handled, End}
+use Rattle.fl_queues.specs.State.{Binding, end_in}
 
 -- the interface and the plan of a program
 abbrev pub planned_of : Program → Planned
@@ -37,3 +40,17 @@ pub record EndShows (i : Planned) (x : End) (peer : Direction) (t : TheEnd) : Ty
   pub outgoing : t.outgoing ≡ outgoing_of (circuit_of x) i x.out
   pub parts : t.parts ≡ parts_of i peer
   pub failed : t.failed ≡ false
+
+-- an end of the machine, of this interface, and its peer's direction, whose calls it takes
+pub record MachineEnd : Type 0 where
+  pub interface : Planned
+  pub end : End
+  pub peer : Direction
+
+-- that of a binding on this side
+abbrev pub machine_end : Planned → Side → Binding → MachineEnd
+machine_end i side b = record { interface = i; end = end_in side b; peer = (end_in (other side) b).out }
+
+-- the end t is the picture of it
+abbrev pub Pictured : MachineEnd → TheEnd → Type 0
+Pictured m t = EndShows m.interface m.end m.peer t

@@ -55,16 +55,26 @@ CallsCarried = (s : State) → CallsFit s → InterfacesKeepLimits s → Numbers
 abbrev pub OffLinks : State → Type 0
 OffLinks s = (e : EndId) (k : ℕ) (f : Frag) → slice_get (calls_off_links s e) k ≡ Some f → circuit_of f.control ≡ 0
 
--- fragment k of an end's calls, on the link between two cores: it carries the circuit's number there; with another
--- link's number it is fragment k on that link, and with none it is fragment k in the other end's queue
-pub record GoesFrom (a b : ℕ) (s : State) (e : EndId) (k : ℕ) (f : Frag) (x : Binding) (route : Route) : Type 0 where
-  pub carries : (n : ℕ) → number_between a b route ≡ Some n → circuit_of f.control ≡ n
-  pub arrives : slice_get (calls_off_links s e) k ≡ Some (with_circuit 0 f)
-  pub onward : (c d n : ℕ) → number_between c d route ≡ Some n → slice_get (calls_between c d s e) k ≡ Some (with_circuit n f)
+-- a fragment of an end's calls, of this number among them
+pub record CallFragment : Type 0 where
+  pub end : EndId
+  pub number : ℕ
+  pub frag : Frag
+
+abbrev pub call_fragment : EndId → ℕ → Frag → CallFragment
+call_fragment e k f = record { end = e; number = k; frag = f }
+
+-- such a fragment on the link between two cores, which the end's route joins: it carries the circuit's number there; with
+-- another link's number it is the fragment of that number on that link, and with none it is that in the other end's queue
+pub record GoesFrom (a b : ℕ) (s : State) (x : CallFragment) (route : Route) : Type 0 where
+  pub carries : (n : ℕ) → number_between a b route ≡ Some n → circuit_of x.frag.control ≡ n
+  pub arrives : slice_get (calls_off_links s x.end) x.number ≡ Some (with_circuit 0 x.frag)
+  pub onward : (c d n : ℕ) → number_between c d route ≡ Some n
+      → slice_get (calls_between c d s x.end) x.number ≡ Some (with_circuit n x.frag)
 
 abbrev pub GoesOn : State → Type 0
-GoesOn s = (a b : ℕ) (e : EndId) (k : ℕ) (f : Frag) (x : Binding) (route : Route) → binding_of s e ≡ Some x → route_of x.back ≡ Some route
-    → slice_get (calls_between a b s e) k ≡ Some f → GoesFrom a b s e k f x route
+GoesOn s = (a b : ℕ) (x : CallFragment) (binding : Binding) (route : Route) → binding_of s x.end ≡ Some binding
+    → route_of binding.back ≡ Some route → slice_get (calls_between a b s x.end) x.number ≡ Some x.frag → GoesFrom a b s x route
 
 abbrev pub CallsGoOn : Type 0
 CallsGoOn = (s : State) → CallsFit s → InterfacesKeepLimits s → NumbersAreSmall s → OffLinks s × GoesOn s

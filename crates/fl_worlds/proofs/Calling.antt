@@ -16,7 +16,7 @@ use Rattle.fl_queues.specs.State.{Binding, State, Outcome, answers, binding_of, 
 use Rattle.fl_queues.specs.Sending.{calls, makes_call}
 use Rattle.fl_queues.specs.Taking.{sets_rule, has_message, arguments_of}
 use Rattle.fl_interface.specs.SameTypes.{same_arguments}
-use Rattle.fl_shows.specs.Ends.{EndShows}
+use Rattle.fl_shows.specs.Ends.{EndShows, machine_end}
 use Rattle.fl_shows.specs.EndLaws.{with_out, CallAgrees, RuleAgrees, are_messages, have_same_arguments}
 use Rattle.fl_shows.proofs.Calling.{call_agrees}
 use Rattle.fl_shows.proofs.Rules.{rule_agrees}
@@ -52,7 +52,7 @@ call_refused w s e c h t a n p g is =
     (record { answer = sym is; picture = same_frame w s e h t p g.1 })
 
 call_held : (w : TheWorld) (s : State) (e : EndId) (c : TheCall) (h : Held w s e) (t : TheEnd) (a : Answer) (r : Result (Unit {0}) EndFault) → Shows w s
-    → Calls h.end c r t → CallAgrees e c h.interface (end_in e.side h.binding) (end_in (other e.side) h.binding).out r t → IsCalled r a
+    → Calls h.end c r t → CallAgrees e c (machine_end h.interface e.side h.binding) r t → IsCalled r a
     → Agrees (makes_call e c h.interface (end_in e.side h.binding) s) a (h.with_other t)
 call_held w s e c h t a (Ok unit) shown event g is =
     let x = end_in e.side h.binding in
@@ -81,7 +81,7 @@ call_becomes : (w v : TheWorld) (s : State) (e : EndId) (c : TheCall) (h : Held 
 call_becomes w v s e c h a r shown u is =
     let x = end_in e.side h.binding in
     let counted = shown.sound.counted e h.binding h.interface h.binding_is h.interface_is in
-    let g = call_agrees e c h.interface x (end_in (other e.side) h.binding).out h.end u.end r h.shows counted u.event in
+    let g = call_agrees e c (machine_end h.interface e.side h.binding) h.end u.end r h.shows counted u.event in
     agrees_by (calls e c s) (makes_call e c h.interface x s) a v (called_at e c s h.binding h.interface h.binding_is h.interface_is)
     (in_world (makes_call e c h.interface x s) a v (h.with_other u.end) u.world (call_held w s e c h u.end a r shown u.event g is))
 
@@ -121,7 +121,7 @@ not_set e msg answer s q =
     ap (λ o. given o (answers s (refused 92)) (λ (x : Binding). given (interface_of s x) (answers s (refused 92)) (λ j. sets_on e msg answer j s))) q
 
 rule_held : (w : TheWorld) (s : State) (e : EndId) (msg answer : ℕ) (h : Held w s e) (t : TheEnd) (a : Answer) (r : Result (Unit {0}) EndFault) → Shows w s
-    → RuleAgrees h.interface msg answer (end_in e.side h.binding) (end_in (other e.side) h.binding).out r t → IsRuled r a
+    → RuleAgrees msg answer (machine_end h.interface e.side h.binding) r t → IsRuled r a
     → Agrees (sets_on e msg answer h.interface s) a (h.with_other t)
 rule_held w s e msg answer h t a (Ok unit) shown g is =
     let x = end_in e.side h.binding in
@@ -155,8 +155,7 @@ rule_held w s e msg answer h t a (Err (Wire f)) shown g is = absurd g
 rule_becomes : (w v : TheWorld) (s : State) (e : EndId) (msg answer : ℕ) (h : Held w s e) (a : Answer) (r : Result (Unit {0}) EndFault) → Shows w s
     → Becomes w s e h (λ x t. SetsRule x msg answer r t) v → IsRuled r a → Agrees (sets_rule e msg answer s) a v
 rule_becomes w v s e msg answer h a r shown u is =
-    let x = end_in e.side h.binding in
-    let g = rule_agrees h.interface msg answer x (end_in (other e.side) h.binding).out h.end u.end r h.shows u.event in
+    let g = rule_agrees msg answer (machine_end h.interface e.side h.binding) h.end u.end r h.shows u.event in
     agrees_by (sets_rule e msg answer s) (sets_on e msg answer h.interface s) a v (set_at e msg answer s h.binding h.interface h.binding_is h.interface_is)
     (in_world (sets_on e msg answer h.interface s) a v (h.with_other u.end) u.world (rule_held w s e msg answer h u.end a r shown g is))
 

@@ -17,7 +17,7 @@ use Rattle.fl_laws.proofs.Hearing.{link_there}
 use Rattle.fl_laws.proofs.TurnsTold.{Tells}
 use Rattle.fl_laws.proofs.Walk.{IsHere, IsPassing}
 use Rattle.fl_shows.specs.Fragments.{Streams, frag_of, MayBeSaid, said_frag, message_of, calls_off_links, calls_between}
-use Rattle.fl_shows.specs.FragmentLaws.{TellsKind, GoesFrom}
+use Rattle.fl_shows.specs.FragmentLaws.{TellsKind, call_fragment, GoesFrom}
 use Rattle.fl_shows.specs.RingLaws.{IsFirst, is_data}
 use Rattle.fl_worlds.specs.View.{TheWorld}
 use Rattle.fl_worlds.specs.Picture.{Shows}
@@ -38,7 +38,7 @@ pub record CallFirst (s : State) (core neighbour l : ℕ) (link : Link) (first :
   pub passing : IsPassing (end_at core neighbour l link) call first route hop s
   pub circuit : circuit_of frag.control ≡ passing.number
   pub frag_is : slice_get (calls_between neighbour core s call.end) call.number ≡ Some (bare frag)
-  pub goes : GoesFrom neighbour core s call.end call.number (bare frag) passing.binding route
+  pub goes : GoesFrom neighbour core s (call_fragment call.end call.number (bare frag)) route
   pub leads : Tells (follows_entry (end_at core neighbour l link) call passing.core hop.way s)
 
 -- what a monitor says stands first
@@ -105,8 +105,8 @@ module _ (law : Pictures) (w : TheWorld) (s : State) (shows : Shows w s) (core n
         let (c, c_is, h5) = told_some (number_between neighbour core route) _ s h4 in
         let (hop, hop_is, h6) = told_some (hop_at j.circuits l c) _ s h5 in
         let its : slice_get (calls_between neighbour core s e) k ≡ Some (bare frag) = ap (frag_of (calls_between neighbour core s)) (sym q) ∙ h.frag in
-        let goes : GoesFrom neighbour core s e k (bare frag) b route =
-        (law.go_on s shows.sound.calls shows.picture.limits (small law w s shows)).1 neighbour core e k (bare frag) b route b_is route_is its in
+        let goes : GoesFrom neighbour core s (call_fragment e k (bare frag)) route =
+        (law.go_on s shows.sound.calls shows.picture.limits (small law w s shows)).1 neighbour core (call_fragment e k (bare frag)) b route b_is route_is its in
         record {
           call = record { end = e; number = k; station = station };
           route = route;

@@ -44,7 +44,7 @@ use Rattle.fl_queues.specs.Forwarding.{LinkEnd, link_end, forwards_said, after_h
 use Rattle.fl_shows.specs.Fragments.{Streams, said_frag, message_of}
 use Rattle.fl_shows.specs.FragmentLaws.{IsSaid}
 use Rattle.fl_shows.specs.Cores.{MonitorShows}
-use Rattle.fl_shows.specs.CoreLaws.{SameHeard, MayBeHeard, HearAgrees}
+use Rattle.fl_shows.specs.CoreLaws.{SameHeard, MayBeHeard, delivery, HearAgrees}
 use Rattle.fl_shows.specs.Rings.{RingShows}
 use Rattle.fl_shows.proofs.Hearing.{hear_agrees}
 use Rattle.fl_worlds.specs.View.{TheWorld, with_core, with_ring}
@@ -138,8 +138,8 @@ module _ (law : Pictures) (frame : HearFrames) (w : TheWorld) (s : State) (shows
 
   module _ (may : MayBeHeard s.services l m t.k known.here) where
     agreed : (answer : Result Heard Rattle.fl_monitor.specs.declared.fault.MonitorFault.MonitorFault) (after : TheMonitor)
-        → Hears known (link_id l) (message_of m) t.c.monitor answer after → HearAgrees known s.services l m t.k answer after
-    agreed answer after h = hear_agrees known s.services l m t.k t.c.monitor after answer t.shows.monitor pic.names may h
+        → Hears known (link_id l) (message_of m) t.c.monitor answer after → HearAgrees known (delivery s.services l m t.k) answer after
+    agreed answer after h = hear_agrees known (delivery s.services l m t.k) t.c.monitor after answer t.shows.monitor pic.names may h
 
     -- ---- a message that is taken
 

@@ -37,7 +37,7 @@ use Rattle.fl_queues.specs.SoundLabels.{IsCounted}
 use Rattle.fl_laws.proofs.Small.{first_of}
 use Rattle.fl_shows.specs.Fragments.{Streams, calls_off_links}
 use Rattle.fl_shows.specs.Queues.{QueueShows}
-use Rattle.fl_shows.specs.Ends.{EndShows}
+use Rattle.fl_shows.specs.Ends.{EndShows, machine_end}
 use Rattle.fl_shows.specs.EndLaws.{IsNextAt, ReceiveAgrees}
 use Rattle.fl_shows.specs.RingLaws.{AllCarried, HoldsCalls}
 use Rattle.fl_shows.specs.StateLaws.{EndIn, FirstInTurn}
@@ -206,9 +206,9 @@ next_at law w s d c place e u q p side shown may f n a =
 receives : (law : TurnLaws) (w : TheWorld) (s : State) (d : DispatcherId) (c place : ℕ) (e : EndId) (u : DueAt w s d c place e) (q : Queue) (p m : TheQueue)
     (r : Result ReceiveAnswer EndFault) (end : TheEnd) → QueueSide w s d c place e u q p → Shows w s → MayReceive w s d c place e u
     → Receives QueueTakes u.at.at.end p r end m
-    → ReceiveAgrees QueueTakes u.at.interface (end_in e.side u.at.binding) (end_in (other e.side) u.at.binding).out p r end m
+    → ReceiveAgrees QueueTakes (machine_end u.at.interface e.side u.at.binding) p r end m
 receives law w s d c place e u q p m r end side shown may a =
-    law.queue_receives u.at.interface (end_in e.side u.at.binding) (end_in (other e.side) u.at.binding).out p m u.at.at.end end r u.at.shows may.sound may.counted
+    law.queue_receives (machine_end u.at.interface e.side u.at.binding) p m u.at.at.end end r u.at.shows may.sound may.counted
     may.few may.fits may.some (next_at law w s d c place e u q p side shown may) a
 
 pub queue_turn : (law : TurnLaws) (w w2 : TheWorld) (s : State) (a : Answer) (d : DispatcherId) (c place : ℕ) (cs : List ℕ) (e : EndId) (u : DueAt w s d c place e) (q : Queue)

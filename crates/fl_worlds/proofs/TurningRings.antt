@@ -40,7 +40,7 @@ use Rattle.fl_laws.proofs.Small.{first_of}
 use Rattle.fl_laws.proofs.Rings.{Counted, looks_counted}
 use Rattle.fl_shows.specs.Fragments.{Streams, calls_off_links}
 use Rattle.fl_shows.specs.Rings.{which_of, RingShows}
-use Rattle.fl_shows.specs.Ends.{EndShows}
+use Rattle.fl_shows.specs.Ends.{EndShows, machine_end}
 use Rattle.fl_shows.specs.EndLaws.{IsNextAt, ReceiveAgrees}
 use Rattle.fl_shows.specs.RingLaws.{is_data, TakeAgrees}
 use Rattle.fl_shows.specs.StateLaws.{EndIn}
@@ -172,9 +172,9 @@ ring_next law w s d c place e u at o p shown may which now f n a =
 side_receives : (law : TurnLaws) (w : TheWorld) (s : State) (d : DispatcherId) (c place : ℕ) (e : EndId) (u : DueAt w s d c place e) (at : RingEnd) (o : OwnRing w s d c place e u at)
     (p m : DuoSide) (r : Result ReceiveAnswer EndFault) (end : TheEnd) → Shows w s → MayReceive w s d c place e u → p.which ≡ which_of at.side → p.duo.now ≡ o.duo
     → Receives SideTakes u.at.at.end p r end m
-    → ReceiveAgrees SideTakes u.at.interface (end_in e.side u.at.binding) (end_in (other e.side) u.at.binding).out p r end m
+    → ReceiveAgrees SideTakes (machine_end u.at.interface e.side u.at.binding) p r end m
 side_receives law w s d c place e u at o p m r end shown may which now a =
-    law.side_receives u.at.interface (end_in e.side u.at.binding) (end_in (other e.side) u.at.binding).out p m u.at.at.end end r u.at.shows may.sound may.counted
+    law.side_receives (machine_end u.at.interface e.side u.at.binding) p m u.at.at.end end r u.at.shows may.sound may.counted
     may.few may.fits may.some (ring_next law w s d c place e u at o p shown may which now) a
 
 -- where the channel waits then

@@ -2,7 +2,6 @@
 use Rattle.std.proofs.Common.{◌≡◌, sym, ◌∙◌, ap, subst, ℕ, Option, Some, None, slice_get, arith}
 use Rattle.std.specs.Prelude.{Result}
 use Rattle.fl_base.specs.declared.identity.EndId.{EndId}
-use Rattle.fl_base.specs.Ends.{other}
 use Rattle.fl_link.specs.Looks.{Look}
 use Rattle.fl_link.specs.Queue.{QueuePuts}
 use Rattle.fl_ring.specs.Side.{SidePuts}
@@ -13,7 +12,8 @@ use Rattle.fl_endpoint.specs.Events.{Writes}
 use Rattle.fl_core.specs.View.{TheSeat, with_end}
 use Rattle.fl_node.specs.View.{TheCore, with_board}
 use Rattle.fl_node.specs.Ends.{WritesAt, TriggersIf, woken_by}
-use Rattle.fl_queues.specs.State.{State, end_in}
+use Rattle.fl_queues.specs.State.{State}
+use Rattle.fl_shows.specs.Ends.{machine_end}
 use Rattle.fl_shows.specs.EndLaws.{WriteShows, WriteAgrees, OthersStay}
 use Rattle.fl_shows.specs.RingLaws.{RingPuts, QueuePutShows, PicturesGoOn}
 use Rattle.fl_shows.specs.FragmentLaws.{CallsCarried, CallsAreCarried, LabelsStay}
@@ -67,10 +67,10 @@ its_write puts w s e n place h k k2 p q r a there =
 -- the write agrees with the machine's
 pub write_agrees : {P : Type 0} (puts : P → Look → P → Type 0) → WriteShows puts → (w : TheWorld) (s : State) (e : EndId) (n place : ℕ) → Shows w s
     → (h : Stands w s e n place) (p q : P) (r : Result WriteAnswer EndFault) (t : TheEnd) → Writes puts h.at.end p r t q
-    → WriteAgrees puts h.interface (end_in e.side h.binding) (end_in (other e.side) h.binding).out p r t q
+    → WriteAgrees puts (machine_end h.interface e.side h.binding) p r t q
 write_agrees puts law w s e n place shown h p q r t a =
     let long = long_enough s e h.binding shown.sound h.binding_is in
-    law h.interface (end_in e.side h.binding) (end_in (other e.side) h.binding).out p q h.at.end t r h.shows
+    law (machine_end h.interface e.side h.binding) p q h.at.end t r h.shows
     (shown.sound.counted e h.binding h.interface h.binding_is h.interface_is) (omega (arith, long)) a
 
 -- the board once the end has written

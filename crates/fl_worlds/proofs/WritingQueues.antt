@@ -34,7 +34,7 @@ use Rattle.fl_queues.specs.Sending.{writes_to, writes_fragment}
 use Rattle.fl_shows.specs.Fragments.{frag_of, calls_off_links}
 use Rattle.fl_shows.specs.Queues.{QueueShows}
 use Rattle.fl_shows.specs.StateLaws.{StandsFor}
-use Rattle.fl_shows.specs.Ends.{EndShows}
+use Rattle.fl_shows.specs.Ends.{EndShows, machine_end}
 use Rattle.fl_shows.specs.EndLaws.{with_out, WriteAgrees, HasMore}
 use Rattle.fl_worlds.specs.View.{TheWorld, with_core, with_queue}
 use Rattle.fl_worlds.specs.Picture.{IsWire, IsPicture, Shows}
@@ -258,7 +258,7 @@ by_result : (law : WriteLaws) (w w2 : TheWorld) (s : State) (a : Answer) (e : En
     (k k2 : TheCore) (q left : TheQueue) (r : Result WriteAnswer EndFault) (wrote : WritesAt QueuePuts place k q r k2 left) → Shows w s
     → h.port.wire ≡ Queues out from → slice_get w.cores n ≡ Some k → q ≡ x.there
     → Writes QueuePuts h.at.end q r wrote.writes.end left
-    → WriteAgrees QueuePuts h.interface (end_in e.side h.binding) (end_in (other e.side) h.binding).out q r wrote.writes.end left
+    → WriteAgrees QueuePuts (machine_end h.interface e.side h.binding) q r wrote.writes.end left
     → IsWritten r a → w2 ≡ with_queue (with_core w n k2) out left → Agrees (writes_fragment e s) a w2
 by_result law w w2 s a e n place out from h x k k2 q left (Ok (Written number count)) wrote shown wire here queue its g told rest =
     let next : StandsFor s e h.interface (end_in e.side h.binding) local

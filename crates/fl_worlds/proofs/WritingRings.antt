@@ -30,7 +30,7 @@ use Rattle.fl_shows.specs.Fragments.{Streams, frag_of}
 use Rattle.fl_shows.specs.FragmentLaws.{CallsAreCarried}
 use Rattle.fl_shows.specs.Rings.{which_of, RingShows}
 use Rattle.fl_shows.specs.RingLaws.{AllCarried, IsPutOf, PutAgrees}
-use Rattle.fl_shows.specs.Ends.{EndShows}
+use Rattle.fl_shows.specs.Ends.{EndShows, machine_end}
 use Rattle.fl_shows.specs.EndLaws.{with_out, WriteAgrees, HasMore}
 use Rattle.fl_worlds.specs.View.{TheWorld, ring_at, which_at, with_core, with_ring}
 use Rattle.fl_worlds.specs.Picture.{Carries, IsPicture, Shows}
@@ -200,7 +200,7 @@ still_there w w2 s e n place h at t left after same =
 by_result : (law : WriteLaws) (w w2 : TheWorld) (s : State) (a : Answer) (e : EndId) (n place : ℕ) (h : Stands w s e n place) (at : RingEnd) (x : RingWrite w s e n place h at)
     (m : ℕ) (side left : DuoSide) (t : TheEnd) (r : Result WriteAnswer EndFault) → Shows w s → IsSide m at → side.which ≡ which_at m → side.duo.now ≡ x.duo
     → Writes SidePuts h.at.end side r t left
-    → WriteAgrees SidePuts h.interface (end_in e.side h.binding) (end_in (other e.side) h.binding).out side r t left
+    → WriteAgrees SidePuts (machine_end h.interface e.side h.binding) side r t left
     → IsWritten r a → After w w2 s e n place h at t left.duo.now → Agrees (writes_fragment e s) a w2
 by_result law w w2 s a e n place h at x m side left t (Ok (Written number count)) shown is which duo wrote g told after =
     written_agrees law w w2 s a e n place h at x left.duo.now t g.1.0 number count after.core shown g.0 (its_next law w s e n place h at x g.1.0 shown g.0 g.1.1)
