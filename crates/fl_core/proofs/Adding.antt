@@ -1,14 +1,17 @@
 -- An end is added at a dispatcher, or there is no room: k is the board before, and base the same by its fields.
 use Rattle.std.proofs.Common.{◌≡◌, sym, ap, ◌∙◌, subst, ℕ, ◌<◌, List, [], ◌∷◌, ◌++◌, length, slice_set, slice_index_or, Ok, Err, arith}
-use Rattle.fl_endpoint.specs.View.{TheEnd}
+use Rattle.fl_base.specs.declared.fragment.Frag.{Frag}
+use Rattle.fl_machine.specs.Reassembling.{TheReassembly}
+use Rattle.fl_endpoint.specs.View.{TheEnd, with_parts}
 use Rattle.fl_core.specs.declared.kind.Kind.{Kind}
 use Rattle.fl_core.specs.declared.fault.BoardFault.{BoardFault}
 use Rattle.fl_core.specs.declared.fault.BoardFault.TheVariants.{NotBound, Registered, NotRegistered, TooManyEnds, Failed, Memory}
 use Rattle.fl_core.specs.View.{TheDispatcher, TheSeat, TheBoard, with_new_end}
 use Rattle.fl_core.specs.Sound.{IsBoard}
 use Rattle.fl_core.specs.Events.{Adds}
-use Rattle.fl_core.specs.Inside.{HasNoRoom}
+use Rattle.fl_core.specs.Inside.{HasNoRoom, seats_of, GoTogether}
 use Rattle.fl_core.proofs.Places.{set_same}
+use Rattle.fl_core.proofs.Together.{one_more}
 use Rattle.fl_core.proofs.Dispatchers.{finds, finds_before}
 use Rattle.fl_core.proofs.Kept.{new_end_kept}
 
@@ -52,3 +55,10 @@ module _ (k base : TheBoard) (same : base ≡ k) (n : ℕ) (below : n < length k
     pub added_adds : Adds k n s kind (Ok place) (with_both base n d ends seats)
     added_adds =
         (place_is ∙ ap (λ (x : TheBoard). length x.seats) same, (d, finds_before k base same n below d read value view, room, grown ∙ ap (λ (x : TheBoard). with_new_end x n d s kind) same))
+
+-- an end that has taken nothing, with a place of its own
+pub new_seat : (seats : List TheSeat) (calls : List TheReassembly) → GoTogether seats calls → (s : TheEnd) (r : TheReassembly) (n channel : ℕ) (kind : Kind) → s.parts ≡ [] → r.parts ≡ []
+    → seats_of (seats ++ record { end = s; dispatcher = n; channel = channel; kind = kind } ∷ []) (calls ++ r ∷ []) ≡ seats_of seats calls ++ record { end = s; dispatcher = n; channel = channel; kind = kind } ∷ []
+new_seat seats calls together s r n channel kind alone none =
+    one_more seats calls together (record { end = s; dispatcher = n; channel = channel; kind = kind }) r
+    ∙ ap (λ (xs : List Frag). seats_of seats calls ++ record { end = with_parts s xs; dispatcher = n; channel = channel; kind = kind } ∷ []) (none ∙ sym alone)

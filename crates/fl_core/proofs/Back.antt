@@ -60,3 +60,7 @@ module _ (k : TheBoard) (n : ℕ) (d : TheDispatcher) (s : TheEnd) (kind : Kind)
     back =
         ap (λ (x : List TheDispatcher). let y : TheBoard = record { dispatchers = x; seats = seats } in y) dispatchers_before
         ∙ ap (λ (x : List TheSeat). let y : TheBoard = record { dispatchers = k.dispatchers; seats = x } in y) parts.0
+
+    -- the same, for other seats that are these
+    pub back_as : (others : List TheSeat) → others ≡ seats → (let x : TheBoard = record { dispatchers = slice_set base.dispatchers last.dispatcher (record { lists = d2.lists; ends = ends }); seats = others } in x) ≡ k
+    back_as others e = ap (λ (x : List TheSeat). let y : TheBoard = record { dispatchers = slice_set base.dispatchers last.dispatcher (record { lists = d2.lists; ends = ends }); seats = x } in y) e ∙ back

@@ -2,9 +2,12 @@ pub mod Places
 pub mod Registered
 pub mod Kept
 pub mod Readiness
+pub mod Together
+pub mod Asides
 pub mod Seats
 pub mod Picks
 pub mod Parts
+pub mod Looking
 pub mod Dispatchers
 pub mod Turning
 pub mod Due

@@ -16,13 +16,12 @@ use Rattle.fl_core.specs.Turns.{lent}
 use Rattle.fl_core.specs.Events.{ChangesLists, Joins, Registers}
 use Rattle.fl_core.proofs.Places.{one_stands, set_same}
 use Rattle.fl_core.proofs.Registered.{Listed, pushed_each, unlinked_each, triggered_each, triggered_size}
-use Rattle.fl_core.proofs.Seats.{reads, reads_before}
 use Rattle.fl_core.proofs.Turning.{pending_fits, waits_fits}
 use Rattle.fl_core.proofs.Kept.{lists_kept}
 
-module _ (k base : TheBoard) (same : base ≡ k) (e : ℕ) (below : e < length k.seats) (s read : TheSeat) (value : read ≡ slice_index_or base.seats e read) (view : s ≡ read) (sound : IsBoard base) where
+module _ (k base : TheBoard) (same : base ≡ k) (e : ℕ) (s : TheSeat) (here : slice_get base.seats e ≡ Some s) (sound : IsBoard base) where
   seated : IsSeated base.dispatchers e s
-  seated = sound.seats e s (reads k base same e below s read value view)
+  seated = sound.seats e s here
 
   pub dispatcher_below : s.dispatcher < length base.dispatchers
   dispatcher_below = slice_get_within base.dispatchers s.dispatcher seated.dispatcher seated.dispatcher_is
@@ -33,7 +32,7 @@ module _ (k base : TheBoard) (same : base ≡ k) (e : ℕ) (below : e < length k
       let at : slice_get k.dispatchers s.dispatcher ≡ Some seated.dispatcher = subst (λ (x : TheBoard). slice_get x.dispatchers s.dispatcher ≡ Some seated.dispatcher) same seated.dispatcher_is in
       record {
         seat = s;
-        seat_is = reads_before k base same e below s read value view;
+        seat_is = subst (λ (x : TheBoard). slice_get x.seats e ≡ Some s) same here;
         dispatcher = seated.dispatcher;
         dispatcher_is = at;
         lists = seated.dispatcher.lists;
@@ -59,7 +58,7 @@ module _ (k base : TheBoard) (same : base ≡ k) (e : ℕ) (below : e < length k
     pub lists_event : (Event : TheSeat → ThreeLists → ThreeLists → Type 0) (w : ThreeLists) → Event s d.lists w → ChangesLists k e Event (with_lists base s.dispatcher d w)
     lists_event Event w event = record {
       seat = s;
-      seat_is = reads_before k base same e below s read value view;
+      seat_is = subst (λ (x : TheBoard). slice_get x.seats e ≡ Some s) same here;
       dispatcher = d;
       dispatcher_is = subst (λ (x : TheBoard). slice_get x.dispatchers s.dispatcher ≡ Some d) same stands;
       lists = w;
@@ -82,7 +81,7 @@ module _ (k base : TheBoard) (same : base ≡ k) (e : ℕ) (below : e < length k
     -- it is registered, while the end is ready
     pub kept_pushed : (v : ThreeLists) (to : Place) → IsReady s.end → MayWaitIn s.kind to → v ≡ pushed d.lists s.channel to → IsApart v → IsBoard (with_lists base s.dispatcher d v)
     kept_pushed v to ready fits v_is apart =
-        let turn : MayTurn base.seats d.ends to s.channel = record { place = e; place_is = leads_back; seat = s; seat_is = reads k base same e below s read value view; ready = ready; waits = fits } in
+        let turn : MayTurn base.seats d.ends to s.channel = record { place = e; place_is = leads_back; seat = s; seat_is = here; ready = ready; waits = fits } in
         kept (pushed d.lists s.channel to) v v_is (pushed_size d.lists s.channel to) (pushed_each (MayTurn base.seats d.ends) d.lists known.registered s.channel to turn) apart
 
     -- it is triggered

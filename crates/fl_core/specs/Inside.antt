@@ -1,5 +1,6 @@
--- A working file, on which no public promise rests by itself: the parts of a turn, by what the end answered.
-use Rattle.std.specs.Prelude.{◌≡◌, ◌<◌, ◌≤◌, ℕ, Result, Ok, Err}
+-- A working file, on which no public promise rests by itself: what a board stores, and the parts of a turn, by what the end
+-- answered.
+use Rattle.std.specs.Prelude.{◌≡◌, ◌<◌, ◌≤◌, ℕ, List, [], ◌∷◌, Result, Ok, Err}
 use Rattle.std.specs.Allocator.{alloc_error}
 use Rattle.std.specs.declared.alloc.AllocError.{AllocError}
 use Rattle.fl_lists.specs.declared.place.Place.TheVariants as place
@@ -16,7 +17,60 @@ use Rattle.fl_core.specs.declared.answer.AckAnswer.{AckAnswer}
 use Rattle.fl_core.specs.declared.answer.AckAnswer.TheVariants as ack
 use Rattle.fl_core.specs.declared.fault.BoardFault.{BoardFault}
 use Rattle.fl_core.specs.declared.fault.BoardFault.TheVariants as board
-use Rattle.fl_core.specs.Turns.{GoesOn, put_off, Lent}
+use Rattle.fl_waitset.specs.declared.waitset.Pick.{Pick}
+use Rattle.fl_base.specs.declared.fragment.Frag.{Frag}
+use Rattle.fl_machine.specs.Reassembling.{TheReassembly, ChangesPlace}
+use Rattle.fl_compile.specs.Programs.{program_of}
+use Rattle.fl_endpoint.specs.View.{TheEnd, with_parts}
+use Rattle.fl_endpoint.specs.Accounts.{Sound}
+use Rattle.fl_core.specs.View.{TheDispatcher, TheSeat, TheBoard}
+use Rattle.fl_core.specs.Sound.{IsBoard}
+use Rattle.fl_core.specs.Turns.{GoesOn, put_off, Lent, Moment, moment, LooksAt}
+
+-- ---- what a board stores: its seats, each with an end by itself, and for each seat a place, with what was taken there
+
+-- a seat, with these fragments taken by its end
+abbrev pub seat_with : TheSeat → List Frag → TheSeat
+seat_with s parts = record { end = with_parts s.end parts; dispatcher = s.dispatcher; channel = s.channel; kind = s.kind }
+
+-- each seat, with what was taken at its place
+abbrev pub seats_of : List TheSeat → List TheReassembly → List TheSeat
+seats_of [] calls = []
+seats_of (s ∷ seats) [] = []
+seats_of (s ∷ seats) (r ∷ calls) = seat_with s r.parts ∷ seats_of seats calls
+
+-- a place is of an end's program, and the end is sound with what was taken there
+pub record Belongs (r : TheReassembly) (s : TheEnd) : Type 0 where
+  pub program : program_of r.program ≡ program_of s.program
+  pub sound : Sound (with_parts s r.parts)
+
+-- there is a place for each seat, and it belongs to the seat's end
+abbrev pub GoTogether : List TheSeat → List TheReassembly → Type 0
+GoTogether [] [] = Unit {0}
+GoTogether [] (r ∷ calls) = ⊥
+GoTogether (s ∷ seats) [] = ⊥
+GoTogether (s ∷ seats) (r ∷ calls) = Belongs r s.end × GoTogether seats calls
+
+abbrev pub board_of : List TheDispatcher → List TheSeat → List TheReassembly → TheBoard
+board_of dispatchers seats calls = record { dispatchers = dispatchers; seats = seats_of seats calls }
+
+pub record IsStored (dispatchers : List TheDispatcher) (seats : List TheSeat) (calls : List TheReassembly) : Type 0 where
+  pub board : IsBoard (board_of dispatchers seats calls)
+  pub together : GoTogether seats calls
+
+-- ---- the parts of a turn
+
+-- the turn, where what was taken at the end's place stands beside the end
+abbrev pub LooksWith : {T : Type 0} → (T → Look → T → Type 0) → Pick → Kind → Moment T → Result TurnAnswer AllocError → Moment T
+    → TheReassembly → TheReassembly → Type 0
+LooksWith takes pick kind a answer b was is =
+    (is.program ≡ was.program)
+    × LooksAt takes pick kind (moment a.lists (with_parts a.end was.parts) a.side) answer (moment b.lists (with_parts b.end is.parts) b.side)
+
+-- of all places, the end's alone has changed
+abbrev pub LooksAtPlace : {T : Type 0} → (T → Look → T → Type 0) → Pick → Kind → Moment T → Result TurnAnswer AllocError → Moment T
+    → List TheReassembly → ℕ → List TheReassembly → Type 0
+LooksAtPlace takes pick kind a answer b before place after = ChangesPlace before place (LooksWith takes pick kind a answer b) after
 
 -- what an end answered says where its channel goes
 abbrev pub Settles : {T : Type 0} → (T → Look → T → Type 0) → Kind → ℕ → Lent T → ReceiveAnswer → Lent T → Type 0

@@ -1,7 +1,8 @@
 //! One core: its dispatchers, their ends, and the turns that dispatchers take.
 //!
 //! A [`Board`] is what a core has of these, without the links that its ends use: the side that an event needs is lent to it.
-//! So the same `Board` serves a world that is run event by event, and a core that has a thread of its own.
+//! So the same `Board` serves a world that is run event by event, and a core that has a thread of its own. What its ends have
+//! taken of calls that aren't whole yet it has for all of them in one, a place for each.
 //!
 //! Contract for the layers above: a `Board` is its dispatchers, each with three lists of channels, and its ends, by place
 //! (`specs/View.antt`). One event is one method, and one exact relation between the board before and after, by cases on the

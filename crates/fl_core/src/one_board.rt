@@ -3,7 +3,8 @@
 ghost use Rattle.std.specs.Prelude.{◌≡◌, ◌<◌, ℕ, [], length, slice_get, Some, IfOk, IfErr, OnOk, OnErr, vec_len};
 ghost use Rattle.std.specs.Vec.{vec_capacity};
 ghost use Rattle.fl_value.specs.Value.{call_of};
-ghost use Rattle.fl_endpoint.specs.View.{TheEnd, interface_in, bound};
+ghost use Rattle.fl_endpoint.specs.View.{TheEnd, with_parts, interface_in, bound};
+ghost use Rattle.fl_endpoint.specs.Accounts.{Sound};
 ghost use Rattle.fl_endpoint.specs.Events.{Calls, Writes, ShowsNext, SetsRule, Exchanges};
 ghost use Rattle.fl_core.specs.Sound.{IsBoard};
 ghost use Rattle.fl_core.specs.View.{TheDispatcher, TheBoard, with_dispatcher, with_new_end};
@@ -16,8 +17,12 @@ use crate::fault::BoardFault;
 use crate::kind::Kind;
 use crate::seat::Seat;
 use fl_base::{ChanId, Circuit, Frag, MAX_CHANNELS, MsgNo};
-use fl_endpoint::{End, EndFault, WriteAnswer};
+use fl_endpoint::{
+    End, EndFault, WriteAnswer, bind_accounts, call_accounts, exchange_accounts, rule_accounts,
+    write_accounts,
+};
 use fl_link::PutSide;
+use fl_machine::Reassemblies;
 use fl_value::Call;
 use std::alloc::{AllocError, Global};
 use std::marker::Model;
@@ -32,6 +37,8 @@ pub struct Board {
     alloc: Global,
     pub(crate) dispatchers: Vec<Dispatcher>,
     pub(crate) seats: Vec<Seat>,
+    // for each seat, at its place, what was taken of the call that comes to its end
+    pub(crate) calls: Reassemblies,
     // memory that calls write their numbers to
     spare: Vec<u64>,
 }
@@ -40,15 +47,15 @@ impl Model for Board {
     ghost use Rattle.std.specs.Coded.{codes};
     ghost use Rattle.fl_compile.specs.contracts.program.Program.{the_row};
     ghost use Rattle.fl_core.specs.View.{TheBoard};
-    ghost use Rattle.fl_core.specs.Sound.{IsBoard};
+    ghost use Rattle.fl_core.specs.Inside.{board_of, IsStored};
 
     ghost Value = { TheBoard };
 
     ghost coded = { Prim.hlevel (codes, the_row.coded) };
 
-    ghost view = { λ k. record { dispatchers = k.dispatchers.items; seats = k.seats.items } };
+    ghost view = { λ k. board_of k.dispatchers.items k.seats.items k.calls };
 
-    ghost invariant = { λ k. IsBoard (record { dispatchers = k.dispatchers.items; seats = k.seats.items }) };
+    ghost invariant = { λ k. IsStored k.dispatchers.items k.seats.items k.calls };
 }
 
 // Room for one end more at a dispatcher with these ends, and on the board.
@@ -81,6 +88,7 @@ impl Board {
             alloc,
             dispatchers: Vec::new(alloc),
             seats: Vec::new(alloc),
+            calls: Reassemblies::new(alloc),
             spare: Vec::new(alloc),
         }
     }
@@ -146,6 +154,10 @@ impl Board {
         match make_room(&mut at.ends, &mut self.seats) {
             Err(fault) => Err(fault),
             Ok(()) => {
+                end.sound();
+                let Ok(()) = end.add_place(&mut self.calls) else {
+                    return Err(BoardFault::Memory);
+                };
                 let channel = ChanId(at.ends.len() as u16);
                 at.ends.push_reserved(place);
                 self.seats.push_reserved(Seat {
@@ -171,16 +183,26 @@ impl Board {
         };
         let at = &mut self.dispatchers[seat.dispatcher];
         at.ends.pop();
+        self.calls.take_back();
     }
 
-    /// The end at a place.
+    /// The end at a place, by itself: it shows all but what was taken of the call under way.
     #[inline]
     pub fn end(&self, e: usize) -> &End
         requires { e < length self.now.seats }
-        ensures end { Holds self.now e (λ s. result.now ≡ s.end) }
+        ensures end { Holds self.now e (λ s. s.end ≡ with_parts result.now s.end.parts) }
     {
         let seat = &self.seats[e];
         &seat.end
+    }
+
+    /// What is known of an end at any time. It does nothing.
+    #[inline]
+    pub fn end_sound(&self, e: usize)
+        requires { e < length self.now.seats }
+        ensures sound { Holds self.now e (λ s. Sound s.end) }
+    {
+        let _seat = &self.seats[e];
     }
 
     /// Binds an end to a circuit; 0 off links. An end that is bound already stays as it is.
@@ -188,6 +210,9 @@ impl Board {
         requires { e < length self.old.seats }
         ensures binds { ChangesEnd self.old e (λ s t. t ≡ bound s circuit.0) self.new }
     {
+        // It has 16 bits, which the proof knows once it is read.
+        let _number = circuit.0;
+        bind_accounts();
         let seat = &mut self.seats[e];
         seat.end.bind(circuit);
     }
@@ -201,6 +226,7 @@ impl Board {
         ensures sets { ChangesEnd self.old e (λ s t. SetsRule s msg.0 reply.0 result t) self.new }
         ensures kept { OnErr result (self.new ≡ self.old) }
     {
+        rule_accounts();
         let seat = &mut self.seats[e];
         seat.end.reply_rule(msg, reply)
     }
@@ -212,6 +238,8 @@ impl Board {
         requires interface { Holds self.old e (λ s. interface_in s.end ≡ interface_in other.old) }
         ensures exchanges { ChangesEnd self.old e (λ s t. Exchanges s other.old t other.new) self.new }
     {
+        other.sound();
+        exchange_accounts();
         let seat = &mut self.seats[e];
         seat.end.exchange_rules(other);
     }
@@ -226,6 +254,7 @@ impl Board {
         ensures calls { ChangesEnd self.old e (λ s t. Calls s (call_of call.now) result t) self.new }
         ensures kept { OnErr result (self.new ≡ self.old) }
     {
+        call_accounts();
         let seat = &mut self.seats[e];
         seat.end.call(call, &mut self.spare)
     }
@@ -254,6 +283,7 @@ impl Board {
         ensures writes { ChangesEnd self.old e (λ s t. Writes P.puts s out.old result t out.new) self.new }
         ensures kept { OnErr result (self.new ≡ self.old) }
     {
+        write_accounts::<P>();
         let seat = &mut self.seats[e];
         seat.end.write(out)
     }

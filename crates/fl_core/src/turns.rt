@@ -5,6 +5,7 @@ ghost use Rattle.fl_core.specs.View.{due, channel_of};
 ghost use Rattle.fl_core.specs.Turns.{Turns, over};
 
 use crate::answer::TurnAnswer;
+use crate::law::turn_accounts;
 use crate::one_board::Board;
 use crate::waiting::look_at;
 use fl_base::ChanId;
@@ -70,6 +71,15 @@ impl Board {
             unreachable!();
         };
         let seat = &mut self.seats[e];
-        look_at(&mut at.waitset, pick, &mut seat.end, seat.kind, from)
+        turn_accounts::<T>();
+        look_at(
+            &mut at.waitset,
+            pick,
+            &mut seat.end,
+            seat.kind,
+            from,
+            &mut self.calls,
+            e,
+        )
     }
 }

@@ -5,9 +5,10 @@ ghost use Rattle.fl_waitset.specs.Waiting.{IsWaitset, registered_answer, next_pi
 ghost use Rattle.fl_endpoint.specs.Events.{IsReady};
 ghost use Rattle.fl_lists.specs.declared.place.Place.{Place};
 ghost use Rattle.fl_lists.specs.ThreeLists.{list_at};
-ghost use Rattle.fl_core.specs.Turns.{WaitsIn, put_off, lent, moment, Examines, LooksAt};
+ghost use Rattle.fl_endpoint.specs.Lent.{IsPlaceOf};
+ghost use Rattle.fl_core.specs.Turns.{WaitsIn, put_off, lent, moment, Examines};
 ghost use Rattle.fl_core.specs.Events.{Joins};
-ghost use Rattle.fl_core.specs.Inside.{Settles, MayCome, Refuses};
+ghost use Rattle.fl_core.specs.Inside.{Settles, MayCome, Refuses, LooksAtPlace};
 
 use crate::answer::TurnAnswer;
 use crate::fault::BoardFault;
@@ -15,6 +16,7 @@ use crate::kind::Kind;
 use fl_base::ChanId;
 use fl_endpoint::{End, EndFault, ReceiveAnswer};
 use fl_link::{Sight, TakeSide};
+use fl_machine::Reassemblies;
 use fl_waitset::{Pick, Place, Waitset};
 use std::alloc::AllocError;
 
@@ -138,19 +140,23 @@ fn examine<T: TakeSide>(waitset: &mut Waitset, c: ChanId, from: &mut T) -> bool
     }
 }
 
-/// The turn of what a waitset picked, at its end.
+/// The turn of what a waitset picked, at its end and the end's place among calls.
 pub(crate) fn look_at<T: TakeSide>(
     waitset: &mut Waitset,
     pick: Pick,
     end: &mut End,
     kind: Kind,
     from: &mut T,
+    calls: &mut Reassemblies,
+    place: usize,
 ) -> Result<TurnAnswer, AllocError>
     requires waitset { IsWaitset waitset.old }
     requires picked { next_pick waitset.old ≡ Ok pick }
     requires ready { IsReady end.old }
+    requires place { IsPlaceOf end.old calls.old place }
     ensures waitset { IsWaitset waitset.new }
-    ensures looks { LooksAt T.takes pick kind (moment waitset.old end.old from.old) result (moment waitset.new end.new from.new) }
+    ensures looks { LooksAtPlace T.takes pick kind (moment waitset.old end.old from.old) result (moment waitset.new end.new from.new)
+        calls.old place calls.new }
 {
     let c = match pick {
         Pick::Pending(c) => c,
@@ -161,7 +167,7 @@ pub(crate) fn look_at<T: TakeSide>(
             return Ok(TurnAnswer::Quiet);
         }
     };
-    match end.receive(from) {
+    match end.receive(from, calls, place) {
         Err(fault) => refuse(waitset, c, fault),
         Ok(answer) => {
             settle(waitset, c, kind, &answer, from);

@@ -33,6 +33,7 @@ pub use answer::{ReceiveAnswer, WriteAnswer};
 pub use end::End;
 pub use fault::EndFault;
 pub use law::{
-    accounts_add_up, bind_accounts, call_accounts, handles_in_order, on_another_circuit,
-    receive_accounts, replies_add_up, rule_accounts, since_made, takes_in_order, write_accounts,
+    accounts_add_up, bind_accounts, call_accounts, exchange_accounts, handles_in_order,
+    on_another_circuit, receive_accounts, replies_add_up, rule_accounts, since_made,
+    takes_in_order, write_accounts,
 };

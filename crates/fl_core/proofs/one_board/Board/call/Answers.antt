@@ -1,11 +1,26 @@
+use Rattle.std.proofs.Common.{arith}
 use Rattle.fl_value.specs.Value.{call_of}
+use Rattle.fl_endpoint.specs.View.{with_parts}
 use Rattle.fl_endpoint.specs.Events.{Calls}
+use Rattle.fl_core.proofs.Asides.{calls_with}
 use Rattle.fl_core.proofs.Readiness.{calls_ready}
-use Rattle.fl_core.proofs.Seats.{end_event, end_event_kept}
+use Rattle.fl_core.proofs.Together.{below_seats}
+use Rattle.fl_core.proofs.Seats.{here, end_event, end_event_kept}
 use Rattle.fl_core.proofs.one_board.Board.call.Goals as goal
 
 pub invariant_of-self : goal.invariant_of-self
-invariant_of-self c = end_event_kept c.args.self.now _ c.self.view_is c.args.e c.requires _ _ c.index_mut-seat.ensures.value c.seat.view_is c.self.invariant c.call.new.self (calls_ready c.seat.inside.end c.call.new.self _ _ c.call.ensures.calls)
+invariant_of-self c =
+    let at = here c.args.self.now c.self.inside.dispatchers.items c.self.inside.seats.items c.self.inside.calls c.self.view_is c.self.invariant c.args.e c.requires _ _ c.index_mut-seat.ensures.value c.seat.view_is in
+    let event = calls_with at.call.parts c.seat.inside.end c.call.new.self (call_of c.args.call.now) c.call.result c.call.ensures.calls in
+    let adds = c.call_accounts.ensures.account (with_parts c.seat.inside.end at.call.parts) (with_parts c.call.new.self at.call.parts) (call_of c.args.call.now) c.call.result at.of.sound event in
+    end_event_kept c.args.self.now c.self.inside.dispatchers.items c.self.inside.seats.items c.self.inside.calls c.self.view_is c.self.invariant c.args.e c.requires _ _ c.index_mut-seat.ensures.value c.seat.view_is c.call.new.self adds.account.program adds.sound (calls_ready c.seat.inside.end c.call.new.self _ _ c.call.ensures.calls)
 
 pub returns-clause-calls : goal.returns-clause-calls
-returns-clause-calls c = end_event c.args.self.now _ c.self.view_is c.args.e c.requires _ _ c.index_mut-seat.ensures.value c.seat.view_is (λ s t. Calls s (call_of c.args.call.now) c.call.result t) c.call.new.self c.call.ensures.calls
+returns-clause-calls c =
+    let at = here c.args.self.now c.self.inside.dispatchers.items c.self.inside.seats.items c.self.inside.calls c.self.view_is c.self.invariant c.args.e c.requires _ _ c.index_mut-seat.ensures.value c.seat.view_is in
+    end_event c.args.self.now c.self.inside.dispatchers.items c.self.inside.seats.items c.self.inside.calls c.self.view_is c.self.invariant c.args.e c.requires _ _ c.index_mut-seat.ensures.value c.seat.view_is (λ s t. Calls s (call_of c.args.call.now) c.call.result t) c.call.new.self (calls_with at.call.parts c.seat.inside.end c.call.new.self (call_of c.args.call.now) c.call.result c.call.ensures.calls)
+
+pub index_mut-seat-requires : goal.index_mut-seat-requires
+index_mut-seat-requires c =
+    let within = below_seats c.args.self.now c.self.inside.dispatchers.items c.self.inside.seats.items c.self.inside.calls c.self.view_is c.self.invariant.together c.args.e c.requires in
+    omega (arith, within, c.self.inside.seats.ok.0)

@@ -1,6 +1,12 @@
-use Rattle.std.proofs.Common.{refl}
+use Rattle.std.proofs.Common.{refl, arith}
+use Rattle.fl_core.proofs.Together.{below_seats}
 use Rattle.fl_core.proofs.Seats.{reads_before}
 use Rattle.fl_core.proofs.one_board.Board.end.Goals as goal
 
 pub returns : goal.returns
-returns c = record { end = (_, reads_before c.args.self.now _ c.self.view_is c.args.e c.requires _ _ c.index-seat.ensures c.seat.view_is, refl) }
+returns c = record { end = (_, reads_before c.args.self.now c.self.inside.dispatchers.items c.self.inside.seats.items c.self.inside.calls c.self.view_is c.self.invariant c.args.e c.requires _ _ c.index-seat.ensures c.seat.view_is, refl) }
+
+pub index-seat-requires : goal.index-seat-requires
+index-seat-requires c =
+    let within = below_seats c.args.self.now c.self.inside.dispatchers.items c.self.inside.seats.items c.self.inside.calls c.self.view_is c.self.invariant.together c.args.e c.requires in
+    omega (arith, within, c.self.inside.seats.ok.0)
