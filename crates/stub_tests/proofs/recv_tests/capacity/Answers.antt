@@ -1,11 +1,10 @@
-use Rattle.std.proofs.Common.{◌≡◌, ◌<◌, ◌≤◌, ◌+◌, ℕ, zero, suc, true, ⊎_elim, List, [], ◌∷◌, length, map, refl, sym, ◌∙◌, ap, subst, arith}
+use Rattle.std.proofs.Common.{◌≡◌, ◌<◌, ◌≤◌, ℕ, zero, suc, true, ⊎_elim, List, [], ◌∷◌, length, refl, ◌∙◌, subst, arith}
 use Rattle.std.specs.Prelude.{slice_get}
 use Rattle.std.proofs.lemmas.List.{length-map}
 use Rattle.std.proofs.lemmas.Bool.{cases_lt, and_parts, leb-true, false≢true}
 use Rattle.fl_interface.specs.Interface.{TheMessage, message_of, interface_of}
-use Rattle.fl_value.specs.Value.{Datum, TheCall}
+use Rattle.fl_value.specs.Value.{Datum}
 use Rattle.fl_value.specs.Fits.{fit_message}
-use Rattle.fl_layout.specs.Layouts.{IsCallOf}
 use Rattle.stub_tests.proofs.recv_tests.capacity.Goals.{then-from-len, else-from-len}
 use Rattle.stub_tests.proofs.recv_tests.capacity.Goals as goal
 
