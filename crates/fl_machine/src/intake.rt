@@ -295,7 +295,7 @@ fn greatest(width: u32) -> u64
 
 impl Field {
     #[inline(always)]
-    fn number(width: u32, least: u64, last: u64) -> Field
+    pub(crate) fn number(width: u32, least: u64, last: u64) -> Field
         ensures { result ≡ record { mark = Mark.Number; width = width; least = least; last = last; told = true } }
     {
         Field {

@@ -1,12 +1,12 @@
 //! Numbers that lie in one fragment, taken outside loops: what a run stores of loops and of numbers that were begun isn't needed then.
 
-ghost use Rattle.std.specs.Prelude.{◌≡◌, ◌+◌, ◌<◌, ◌≤◌, ◌++◌, ◌^◌, ℕ, List, true, take, length, IfSome, IfNone, IsTrue};
+ghost use Rattle.std.specs.Prelude.{◌≡◌, ◌%◌, ◌+◌, ◌<◌, ◌≤◌, ◌++◌, ◌^◌, ℕ, List, true, take, length, IfSome, IfNone, IsTrue};
 ghost use Rattle.fl_stub.specs.declared.op.Column.TheVariants.{Receive as receive};
 ghost use Rattle.fl_stub.specs.Structure.{IsCode};
 ghost use Rattle.fl_stub.specs.Frames.{block_of};
 ghost use Rattle.fl_stub.specs.Streams.{IsPayload};
-ghost use Rattle.fl_stub.specs.Rests.{told};
-ghost use Rattle.fl_machine.specs.Taking.{words_bytes, bytes_left, IsFed, IsFedBy, IsAtField};
+ghost use Rattle.fl_stub.specs.Rests.{told, is_taken, taken_field};
+ghost use Rattle.fl_machine.specs.Taking.{words_bytes, bytes_left, field_view, IsFed, IsFedBy, IsAtField};
 ghost use Rattle.fl_machine.specs.Plain.{is_plain as is_plain_op, plain_behind, HasNumber};
 
 use crate::intake::{Field, Intake, end_of, is_last, low_part, op_at, spread, word_at};
@@ -99,6 +99,33 @@ pub(crate) fn take_plain(ops: &[Op], places: &mut [u64; 8], words: &[u64; 7]) ->
     None
 }
 
+// What a plain instruction takes, and its number by the bytes from a place on, if all are there and it is right: a number of eight bytes,
+// which may be any, is told before the others.
+#[inline(always)]
+fn plain_number(op: Op, buffer: &[u8; 64], used: usize) -> Option<(Field, u64)>
+    requires inside { used ≤ 56 }
+    requires taken { is_plain_op op ≡ true → is_taken op ≡ true }
+    requires narrow { (f : Field) → is_plain_op op ≡ true → ((at : ℕ) → 0 % 8 ≡ at % 8 → field_view f ≡ taken_field op at) → f.width ≤ 8 }
+    ensures plain { IfSome result (λ r. is_plain_op op ≡ true) }
+    ensures field { IfSome result (λ r. (at : ℕ) → 0 % 8 ≡ at % 8 → field_view r.0 ≡ taken_field op at) }
+    ensures number { IfSome result (λ r. HasNumber r.0 buffer.now used r.1) }
+{
+    if let Op::Read(8) = op {
+        if used > 48 {
+            return None;
+        }
+        return Some((Field::number(8, 0, u64::MAX), word_at(buffer, used)));
+    }
+    if !is_plain(op) {
+        return None;
+    }
+    let field = Field::of(op, 0);
+    let Some(number) = number_at(field, buffer, used) else {
+        return None;
+    };
+    Some((field, number))
+}
+
 // Puts a field's number on a tape behind so many, if it is one of the call's; how many they are then, if there is room.
 #[inline(always)]
 fn put_on(tape: &mut [u64], count: usize, field: Field, number: u64) -> Option<usize>
@@ -148,11 +175,7 @@ impl Intake {
         let Some(op) = op_at(ops, place) else {
             return None;
         };
-        if !is_plain(op) {
-            return None;
-        }
-        let field = Field::of(op, 0);
-        let Some(number) = number_at(field, buffer, used) else {
+        let Some((field, number)) = plain_number(op, buffer, used) else {
             return None;
         };
         let Some(more) = put_on(tape, count, field, number) else {
