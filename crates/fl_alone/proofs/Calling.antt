@@ -14,7 +14,7 @@ use Rattle.fl_node.specs.Ends.{OnBoard}
 use Rattle.fl_queues.specs.Events.{Event, call, reply, Answer, accepted, done, refused}
 use Rattle.fl_worlds.specs.View.{TheWorld, Spot, made, with_core}
 use Rattle.fl_worlds.specs.Sending.{IsCalled, CallsAt, MakesCall}
-use Rattle.fl_worlds.specs.Taking.{IsRuled, RulesAt, SetsReply}
+use Rattle.fl_worlds.specs.Taking.{IsRuled, reply_rule, RulesAt, SetsReply}
 use Rattle.fl_worlds.specs.Step.{Steps}
 use Rattle.fl_worlds.specs.Laws.{StepAgrees, StepsAgree}
 use Rattle.fl_running.specs.Desks.{advanced as one_more}
@@ -130,7 +130,7 @@ rule_agrees : {S : Type 0} (law : StepsAgree) (w : TheWorld) (s m : TheRun S) (a
 rule_agrees {S} law w s m a name msg answer place r x before sound at on =
     let h = stands w s a name place x at in
     let whole = whole_of w s a x before in
-    let by : RulesAt (made 0 place) name msg answer (world_with w s) (rule_answer r) (world_with w m) = record {
+    let by : RulesAt (made 0 place) (reply_rule name msg answer) (world_with w s) (rule_answer r) (world_with w m) = record {
       before = s.core;
       before_is = refl;
       whole = whole;
@@ -140,7 +140,7 @@ rule_agrees {S} law w s m a name msg answer place r x before sound at on =
       rest = core_world w s m on.rest;
     } in
     let does : SetsReply name msg answer (world_with w s) (rule_answer r) (world_with w m)
-    = subst (λ (spot : Spot). RulesAt spot name msg answer (world_with w s) (rule_answer r) (world_with w m))
+    = subst (λ (spot : Spot). RulesAt spot (reply_rule name msg answer) (world_with w s) (rule_answer r) (world_with w m))
     (sym (spot_is (world_with w s) a.state name 0 place h x.shows.picture)) by in
     let steps : Steps (reply name msg answer) (world_with w s) (rule_answer r) (world_with w m)
     = record { made = world_with w m; does = does; rest = sym (settled_same w m (rule_answer r)) } in

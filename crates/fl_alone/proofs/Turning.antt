@@ -18,7 +18,7 @@ use Rattle.fl_queues.specs.Events.{turn}
 use Rattle.fl_shows.proofs.Tests.{lt_true}
 use Rattle.fl_worlds.specs.View.{Given, If, TheWorld, has_dispatcher}
 use Rattle.fl_worlds.specs.Lending.{Refuses, DoesNothing, OverQueue}
-use Rattle.fl_worlds.specs.Taking.{turn_answer, TurnsWith, TurnsAt, HasTurn}
+use Rattle.fl_worlds.specs.Taking.{turn_answer, as_turn, TurnsWith, TurnsAt, HasTurn}
 use Rattle.fl_worlds.specs.Step.{Steps}
 use Rattle.fl_worlds.specs.Laws.{StepAgrees, StepsAgree}
 use Rattle.fl_worlds.proofs.FramesBase.{same_some}
@@ -55,7 +55,7 @@ turn_agrees : {S : Type 0} (law : StepsAgree) (w : TheWorld) (s m : TheRun S) (a
     → StepAgrees (turn (here d)) a.state (turn_answer name answer) (world_with w m)
 turn_agrees {S} law w s m a d name place from answer x before sound at takes is_due ready on =
     let whole = whole_of w s a x before in
-    let lent : OverQueue (world_with w s) 0 from (TurnsWith QueueTakes d place name (turn_answer name answer)) (world_with w m) = record {
+    let lent : OverQueue (world_with w s) 0 from (TurnsWith QueueTakes (as_turn d place name (turn_answer name answer))) (world_with w m) = record {
       before = s.core;
       before_is = refl;
       whole = whole;

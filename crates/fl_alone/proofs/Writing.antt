@@ -13,7 +13,7 @@ use Rattle.fl_node.specs.View.{TheCore, place_of, outlet_of}
 use Rattle.fl_node.specs.Ends.{WritesAt}
 use Rattle.fl_queues.specs.Events.{write, Answer, nothing, full, written, refused}
 use Rattle.fl_worlds.specs.View.{TheWorld, Spot, made, with_core, with_queue}
-use Rattle.fl_worlds.specs.Lending.{OverQueue}
+use Rattle.fl_worlds.specs.Lending.{answer_at, OverQueue}
 use Rattle.fl_worlds.specs.Sending.{IsWritten, WritesWith, WritesBy, WritesFragment}
 use Rattle.fl_worlds.specs.Step.{settled_by, Steps}
 use Rattle.fl_worlds.specs.Laws.{StepAgrees, StepsAgree}
@@ -63,7 +63,7 @@ write_steps {S} ways law w s t a name place answer k x at (m, (e, found, on), sa
     let there : e ≡ place = same_some (place_of s.core name) e place found at in
     let whole = whole_of w s a x before in
     let kept = write_keeps s.core m.core e on.before on.after answer before on.event in
-    let over : OverQueue (world_with w s) 0 k.out (WritesWith QueuePuts place (write_answer answer)) (world_with w m) = record {
+    let over : OverQueue (world_with w s) 0 k.out (WritesWith QueuePuts (answer_at place (write_answer answer))) (world_with w m) = record {
       before = s.core;
       before_is = refl;
       whole = whole;

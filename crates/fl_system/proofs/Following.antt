@@ -29,7 +29,7 @@ use Rattle.fl_queues.specs.Events.{Answer}
 use Rattle.fl_worlds.specs.declared.binding.Binding.{Binding}
 use Rattle.fl_worlds.specs.View.{TheWorld, ring_at, which_at, with_ring}
 use Rattle.fl_worlds.specs.Lending.{OverSide, front_for}
-use Rattle.fl_worlds.specs.Linking.{LinkEnd, offers_in, link_id, LooksWith, HearsWith, HearsFirst, IsHeard, HasRules, ForwardsBy, ForwardsFirst}
+use Rattle.fl_worlds.specs.Linking.{LinkEnd, offers_in, link_id, LooksWith, incoming, HearsWith, HearsFirst, IsHeard, HasRules, ForwardsBy, ForwardsFirst}
 use Rattle.fl_lines.specs.declared.answer.Answer.{Answer as RustAnswer}
 use Rattle.fl_lines.specs.Events.{answer_of}
 use Rattle.fl_system.specs.declared.moving.Passing.{Passing}
@@ -171,7 +171,7 @@ forward_kept law w w2 w3 n m l known knows o h a is r forgets =
 -- ---- a message isn't heard
 
 -- after want of memory all is as it was
-pub unheard_same : (w w2 : TheWorld) (n m : ℕ) (o : Offers) (l : LinkId) (f : Frag) → OverSide w n m (HearsWith o l f (Err Memory)) w2 → w2 ≡ w
+pub unheard_same : (w w2 : TheWorld) (n m : ℕ) (o : Offers) (l : LinkId) (f : Frag) → OverSide w n m (HearsWith (incoming o l f) (Err Memory)) w2 → w2 ≡ w
 unheard_same w w2 n m o l f h =
     h.rest
     ∙ ap (λ (xs : List TheCore). record w { cores = xs; rings = slice_set w.rings (ring_at m) h.left.duo.now }) (ap (slice_set w.cores n) h.event.0 ∙ set_same w.cores n h.before h.before_is)
@@ -179,28 +179,28 @@ unheard_same w w2 n m o l f h =
     (ap (λ (x : DuoSide). slice_set w.rings (ring_at m) x.duo.now) h.event.1 ∙ ap (slice_set w.rings (ring_at m)) h.lent.ring ∙ set_same w.rings (ring_at m) h.ring h.ring_is)
 
 -- what isn't heard is answered, and no rules are brought
-left_told : (w w2 w3 : TheWorld) (n : ℕ) (at : LinkEnd) (f : Frag) (fault : LinkFault) → OverSide w n at.side (HearsWith (offers_in w) (link_id at.link) f (Err fault)) w2
+left_told : (w w2 w3 : TheWorld) (n : ℕ) (at : LinkEnd) (f : Frag) (fault : LinkFault) → OverSide w n at.side (HearsWith (incoming (offers_in w) (link_id at.link) f) (Err fault)) w2
     → (r : Result RustAnswer AllocError) → OnOk r (w3 ≡ w2) → IfOk r (λ x. IsHeard (Err fault) (answer_of x)) → IfOk r (λ x. HearsFirst n at f w (answer_of x) w3)
 left_told w w2 w3 n at f fault hears (Ok x) same answer = record { told = Err fault; heard = w2; hears = hears; answer = answer; rules = same }
 left_told w w2 w3 n at f fault hears (Err e) same answer = tt
 
 pub left_first : (w w2 w3 : TheWorld) (n : ℕ) (at : LinkEnd) (f : Frag) (o : Result MonitorAnswer LinkFault)
-    → OverSide w n at.side (HearsWith (offers_in w) (link_id at.link) f o) w2 → (fault : LinkFault) → o ≡ Err fault
+    → OverSide w n at.side (HearsWith (incoming (offers_in w) (link_id at.link) f) o) w2 → (fault : LinkFault) → o ≡ Err fault
     → (r : Result RustAnswer AllocError) → OnOk r (w3 ≡ w2) → IfOk r (λ x. IsHeard (Err fault) (answer_of x)) → IfOk r (λ x. HearsFirst n at f w (answer_of x) w3)
 left_first w w2 w3 n at f o hears fault is =
-    left_told w w2 w3 n at f fault (subst (λ (x : Result MonitorAnswer LinkFault). OverSide w n at.side (HearsWith (offers_in w) (link_id at.link) f x) w2) is hears)
+    left_told w w2 w3 n at f fault (subst (λ (x : Result MonitorAnswer LinkFault). OverSide w n at.side (HearsWith (incoming (offers_in w) (link_id at.link) f) x) w2) is hears)
 
-left_for_memory : (w w2 w3 : TheWorld) (n m known : ℕ) (o : Offers) (l : LinkId) (f : Frag) (fault : LinkFault) → OverSide w n m (HearsWith o l f (Err fault)) w2
+left_for_memory : (w w2 w3 : TheWorld) (n m known : ℕ) (o : Offers) (l : LinkId) (f : Frag) (fault : LinkFault) → OverSide w n m (HearsWith (incoming o l f) (Err fault)) w2
     → (r : Result RustAnswer AllocError) → OnErr r (fault ≡ Memory) → OnErr r (Forgot w2 m known w3) → OnErr r (Forgot w m known w3)
 left_for_memory w w2 w3 n m known o l f fault h (Ok x) is forgot = tt
 left_for_memory w w2 w3 n m known o l f fault h (Err e) is forgot =
     subst (λ (x : TheWorld). Forgot x m known w3)
-    (unheard_same w w2 n m o l f (subst (λ (x : LinkFault). OverSide w n m (HearsWith o l f (Err x)) w2) is h)) forgot
+    (unheard_same w w2 n m o l f (subst (λ (x : LinkFault). OverSide w n m (HearsWith (incoming o l f) (Err x)) w2) is h)) forgot
 
-pub left_forgot : (w w2 w3 : TheWorld) (n m known : ℕ) (o : Offers) (l : LinkId) (f : Frag) (told : Result MonitorAnswer LinkFault) → OverSide w n m (HearsWith o l f told) w2
+pub left_forgot : (w w2 w3 : TheWorld) (n m known : ℕ) (o : Offers) (l : LinkId) (f : Frag) (told : Result MonitorAnswer LinkFault) → OverSide w n m (HearsWith (incoming o l f) told) w2
     → (fault : LinkFault) → told ≡ Err fault → (r : Result RustAnswer AllocError) → OnErr r (fault ≡ Memory) → OnErr r (Forgot w2 m known w3) → OnErr r (Forgot w m known w3)
 left_forgot w w2 w3 n m known o l f told h fault is =
-    left_for_memory w w2 w3 n m known o l f fault (subst (λ (x : Result MonitorAnswer LinkFault). OverSide w n m (HearsWith o l f x) w2) is h)
+    left_for_memory w w2 w3 n m known o l f fault (subst (λ (x : Result MonitorAnswer LinkFault). OverSide w n m (HearsWith (incoming o l f) x) w2) is h)
 
 -- ---- a fragment moves
 

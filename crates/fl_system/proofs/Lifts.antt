@@ -13,7 +13,7 @@ use Rattle.fl_base.specs.declared.identity.LinkId.{LinkId}
 use Rattle.fl_node.specs.declared.answer.MonitorAnswer.{MonitorAnswer}
 use Rattle.fl_node.specs.declared.fault.LinkFault.{LinkFault}
 use Rattle.fl_node.specs.Hearing.{Offers}
-use Rattle.fl_worlds.specs.Linking.{HearsWith}
+use Rattle.fl_worlds.specs.Linking.{incoming, HearsWith}
 use Rattle.fl_node.specs.View.{TheCore}
 use Rattle.std.specs.declared.alloc.AllocError.{AllocError}
 use Rattle.fl_lines.specs.declared.answer.Answer.{Answer as RustAnswer}
@@ -275,5 +275,5 @@ ring_read w base same m i at h = subst (λ (j : ℕ). j < length base.rings) (sy
 
 -- what is lent when a message is heard
 pub hears_in : (m : ℕ) (o o2 : Offers) → o ≡ o2 → (l : LinkId) (f : Frag) (r : Result MonitorAnswer LinkFault) (k k2 : TheCore) (p q : TheDuo)
-    → ByRing m (HearsWith o l f r) k p k2 q → ByRing m (HearsWith o2 l f r) k p k2 q
-hears_in m o o2 same l f r k k2 p q h = subst (λ (x : Offers). ByRing m (HearsWith x l f r) k p k2 q) same h
+    → ByRing m (HearsWith (incoming o l f) r) k p k2 q → ByRing m (HearsWith (incoming o2 l f) r) k p k2 q
+hears_in m o o2 same l f r k k2 p q h = subst (λ (x : Offers). ByRing m (HearsWith (incoming x l f) r) k p k2 q) same h

@@ -28,7 +28,7 @@ use Rattle.fl_queues.specs.Events.{Answer, refused}
 use Rattle.fl_lines.specs.Events.{id_of}
 use Rattle.fl_worlds.specs.declared.binding.Binding.{Binding}
 use Rattle.fl_worlds.specs.View.{TheWorld, IsWhole}
-use Rattle.fl_worlds.specs.Binding.{IsJoined, JoinsByQueues, BindsByQueues, new_queue}
+use Rattle.fl_worlds.specs.Binding.{queue_pair, IsJoined, JoinsByQueues, BindsByQueues, new_queue}
 use Rattle.fl_system.specs.declared.binding.Wish.{Wish}
 use Rattle.fl_system.specs.Queued.{IsOnQueue, Lists, JoinsIn, MayJoin, MayJoinAt, JoinsAt, joining, IsJoining, JoinsOrNot}
 use Rattle.fl_system.specs.Wishes.{request, OfWish, IsNewAt, HasDispatcher, IsNewEnd, both_places}
@@ -154,7 +154,7 @@ may_join n j cores (k, is, may) x there = subst (λ (y : TheCore). MayJoin j y) 
 
 module _ (x : Wish) (n q : ℕ) (w : TheWorld) (s t : TheEnd) (one : IsNewEnd x.interface w s) (other : IsNewEnd x.interface w t) where
   is_joined : (p : Program) → slice_get w.programs x.interface ≡ Some p → (forth back : TheQueue) (k k2 : TheCore)
-      → JoinsIn (joining x n q s t) forth back k k2 → IsJoined (request x p) n q k forth back k2
+      → JoinsIn (joining x n q s t) forth back k k2 → IsJoined (request x p) n (queue_pair q forth back) k k2
   is_joined p is forth back k k2 h = record {
     client_program = one.program;
     client_copy = one.copy p is;
@@ -220,12 +220,12 @@ module _ (x : Wish) (w base : TheWorld) (same : base ≡ w) (j : Joining) (made 
       (bindings : List Binding)
       (all_bindings : bindings ≡ base.bindings ++ record { interface = x.interface; client = x.client.core; server = x.server.core; unmade = None } ∷ []) where
     joined : (p : Program) → slice_get base.programs x.interface ≡ Some p
-        → IsJoined (request x p) (length base.bindings) (length base.queues) h.core (new_queue slots) (new_queue slots) h.after
+        → IsJoined (request x p) (length base.bindings) (queue_pair (length base.queues) (new_queue slots) (new_queue slots)) h.core h.after
     joined p is =
         let over = is_joined x (length base.bindings) (length base.queues) base made.client made.server made.new_client made.new_server p is forth back h.core h.after
         (subst (λ (i : Joining). JoinsIn i forth back h.core h.after) made.is h.joins.event) in
-        subst (λ (f : TheQueue). IsJoined (request x p) (length base.bindings) (length base.queues) h.core f (new_queue slots) h.after) new_forth
-        (subst (λ (b : TheQueue). IsJoined (request x p) (length base.bindings) (length base.queues) h.core forth b h.after) new_back over)
+        subst (λ (f : TheQueue). IsJoined (request x p) (length base.bindings) (queue_pair (length base.queues) f (new_queue slots)) h.core h.after) new_forth
+        (subst (λ (b : TheQueue). IsJoined (request x p) (length base.bindings) (queue_pair (length base.queues) forth b) h.core h.after) new_back over)
 
     queues_are : queues ≡ base.queues ++ new_queue slots ∷ new_queue slots ∷ []
     queues_are = all_queues ∙ ap₂ (λ (f b : TheQueue). base.queues ++ f ∷ b ∷ []) (same_forth ∙ new_forth) (same_back ∙ new_back)

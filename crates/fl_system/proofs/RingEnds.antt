@@ -38,10 +38,10 @@ use Rattle.fl_lines.specs.declared.answer.Answer.{Answer as RustAnswer}
 use Rattle.fl_lines.specs.Events.{id_of, answer_of}
 use Rattle.fl_worlds.specs.declared.binding.Binding.{Binding}
 use Rattle.fl_worlds.specs.View.{If, TheWorld, IsWhole}
-use Rattle.fl_worlds.specs.Lending.{Refuses}
+use Rattle.fl_worlds.specs.Lending.{answer_at, Refuses}
 use Rattle.fl_worlds.specs.Taking.{RegistersWith}
 use Rattle.fl_worlds.specs.Making.{new_duo}
-use Rattle.fl_worlds.specs.Binding.{Request, JoinsSide, JoinsByRing, BindsByRing}
+use Rattle.fl_worlds.specs.Binding.{Request, end_for, JoinsSide, JoinsByRing, BindsByRing}
 use Rattle.fl_system.specs.declared.binding.Wish.{Wish}
 use Rattle.fl_system.specs.declared.by_ring.Joiner.{Joiner}
 use Rattle.fl_system.specs.Parts.{InCore, ByRing}
@@ -89,7 +89,7 @@ left_same takes s kind w v p q (Err fault.NotRegistered) h = absurd h
 left_same takes s kind w v p q (Err fault.TooManyEnds) h = absurd h
 left_same takes s kind w v p q (Err fault.Memory) h = absurd h
 
-module _ (m e : ℕ) (a : Answer) (k k2 : TheCore) (r r2 : TheDuo) (on : TakesFromRing k e) (h : ByRing m (RegistersWith SideTakes e a) k r k2 r2) where
+module _ (m e : ℕ) (a : Answer) (k k2 : TheCore) (r r2 : TheDuo) (on : TakesFromRing k e) (h : ByRing m (RegistersWith SideTakes (answer_at e a)) k r k2 r2) where
   side_same : h.over.left ≡ h.over.side
   side_same =
       let c = h.over.event.1.event in
@@ -230,11 +230,11 @@ server_room w i at n side x h there new = joiner_room w i at (server_of n) side 
 joins_side : (want : Wish) (w : TheWorld) (p : Program) → slice_get w.programs want.interface ≡ Some p → (at : RustDispatcherId) (name : EndId) (side : ℕ) (s : TheEnd)
     → IsNewEnd want.interface w s → (ring : TheDuo) → ring ≡ new_duo ring.size → (k k2 : TheCore)
     → Joins (record { at = at; name = name; side = side; end = s }) ring k k2
-    → JoinsSide (request want p) (id_of at) name side (new_duo ring.size) k k2
+    → JoinsSide (request want p) (end_for (id_of at) name) side (new_duo ring.size) k k2
 joins_side want w p there at name side s new ring fresh_ring k k2 h =
     let g : Joins (record { at = at; name = name; side = side; end = fresh new.program (Some 0) }) ring k k2
     = subst (λ (t : TheEnd). Joins (record { at = at; name = name; side = side; end = t }) ring k k2) new.end h in
-    let over : JoinsSide (request want p) (id_of at) name side ring k k2 = record {
+    let over : JoinsSide (request want p) (end_for (id_of at) name) side ring k k2 = record {
       program = new.program;
       copy = new.copy p there;
       place = g.place;
@@ -245,7 +245,7 @@ joins_side want w p there at name side s new ring fresh_ring k k2 h =
       answer = g.registers.answer;
       registers = g.registers.registers;
     } in
-    subst (λ (r : TheDuo). JoinsSide (request want p) (id_of at) name side r k k2) fresh_ring over
+    subst (λ (r : TheDuo). JoinsSide (request want p) (end_for (id_of at) name) side r k k2) fresh_ring over
 
 abbrev binding_of : Wish → Binding
 binding_of want = record { interface = want.interface; client = want.client.core; server = want.server.core; unmade = None }

@@ -21,7 +21,7 @@ use Rattle.fl_node.specs.View.{TheCore, place_of, client_of, server_of}
 use Rattle.fl_queues.specs.Binding.{all_differ}
 use Rattle.fl_queues.specs.Events.{DispatcherId, Answer}
 use Rattle.fl_worlds.specs.declared.binding.Binding.{Binding}
-use Rattle.fl_worlds.specs.Binding.{may_be_route, OpensBy, AsksBy}
+use Rattle.fl_worlds.specs.Binding.{may_be_route, by_cores, OpensBy, AsksBy}
 use Rattle.fl_worlds.specs.Lending.{Refuses}
 use Rattle.fl_worlds.specs.Making.{is_core, core_id}
 use Rattle.fl_worlds.specs.View.{TheWorld, IsWhole}
@@ -116,7 +116,7 @@ module _ (w : TheWorld) (x : Wish) (l : LinkId) (own kept : Program) (a : Answer
 
   -- at the core as it was before
   by_begun : (o : Begun) (cores : List ℕ) (h : Begins (map core_id cores) o) → Keeps o (unmade_binding x kept) w.bindings a bindings2
-      → (p : Program) → slice_get w.programs x.interface ≡ Some p → OpensBy (Ok l) (request x p) cores h.before w a (world_of w cores2 bindings2)
+      → (p : Program) → slice_get w.programs x.interface ≡ Some p → OpensBy (Ok l) (by_cores (request x p) cores) h.before w a (world_of w cores2 bindings2)
   by_begun begun.There cores h keeps p is =
       let (there, same) = h.event.event in
       let ends = or_cases (is_some (place_of h.before (client_of (length w.bindings)))) (is_some (place_of h.before (server_of (length w.bindings)))) there in
@@ -151,7 +151,7 @@ module _ (w : TheWorld) (x : Wish) (l : LinkId) (own kept : Program) (a : Answer
   opens_on_link path o h keeps = λ p k cores is core_is along.
       let it = subst (λ (q : List CoreId). Begins q o) along h in
       let same = one_value it.before k (sym it.before_is ∙ core_is) in
-      subst (λ (c : TheCore). OpensBy (Ok l) (request x p) cores c w a (world_of w cores2 bindings2)) same (by_begun o cores it keeps p is)
+      subst (λ (c : TheCore). OpensBy (Ok l) (by_cores (request x p) cores) c w a (world_of w cores2 bindings2)) same (by_begun o cores it keeps p is)
 
 pub opened_on_link : (w base : TheWorld) → base ≡ w → (x : Wish) (l : LinkId) (path : List CoreId) (own kept : Program)
     → IsCopyOf x.interface w own → IsCopyOf x.interface w kept

@@ -15,7 +15,7 @@ use Rattle.fl_lines.specs.declared.event.Event.{Event as RustEvent}
 use Rattle.fl_worlds.specs.View.{TheWorld, If, Given, has_dispatcher}
 use Rattle.fl_worlds.specs.Lending.{Refuses, DoesNothing}
 use Rattle.fl_worlds.specs.Making.{new_duo, has_program, is_core, has_link, AddsInterface, SetsCores, AddsLink, AddsDispatcher, Exports}
-use Rattle.fl_worlds.specs.Binding.{Request, has_both_places, wanted_from, Binds, BindsBy, BindsByQueues, BindsByRing}
+use Rattle.fl_worlds.specs.Binding.{Request, has_both_places, wanted_from, named_request, Binds, BindsBy, BindsByQueues, BindsByRing}
 use Rattle.fl_worlds.specs.Step.{Does, Steps, settled, fresh_world}
 use Rattle.fl_system.specs.Stepping.{leaves_cores_open}
 use Rattle.fl_worlds.specs.Apart.{AllUnused, is_making, KeepsUnused}
@@ -84,7 +84,7 @@ module _ (w : TheWorld) (a : Answer) (w2 : TheWorld) where
   binds_kind want client i name (by_route cores) makes h = absurd (cc)
 
   binds_grows : (client : DispatcherId) (i : ℕ) (name : List ℕ) (kind : Kind) → is_making (bind client i name kind) ≡ true
-      → Binds client i name kind w a w2 → Grows w w2
+      → Binds (named_request client i name kind) w a w2 → Grows w w2
   binds_grows client i name kind makes h =
       by_if (not (has_dispatcher w client)) h (refuses 92) λ h1.
       by_given (slice_get w.programs i) h1 (refuses 92) λ p h2.

@@ -12,7 +12,7 @@ use Rattle.fl_queues.specs.Events.{Answer}
 use Rattle.fl_worlds.specs.declared.binding.Binding.{Binding}
 use Rattle.fl_worlds.specs.View.{TheWorld, ring_at, which_at, with_ring}
 use Rattle.fl_worlds.specs.Lending.{DoesNothing}
-use Rattle.fl_worlds.specs.Linking.{WithRules, HasRules, TakesRules, MovesOn, IsNoWay}
+use Rattle.fl_worlds.specs.Linking.{WithRules, HasRules, TakesRules, move_of, MovesOn, IsNoWay}
 use Rattle.fl_system.specs.declared.moving.Passing.{Passing}
 use Rattle.fl_system.specs.Parts.{InCore}
 use Rattle.fl_system.specs.Passing.{StandsAt}
@@ -54,7 +54,7 @@ Forgets ahead w m known w2 = ⊥
 
 -- over two of the world's rings, or there is no way
 abbrev pub GoesOn : Passing → TheWorld → Answer → TheWorld → Type 0
-GoesOn p w a w2 = MovesOn p.from p.onto p.frag p.circuit w a w2 ⊎ (IsNoWay p.from p.onto w × DoesNothing w a w2)
+GoesOn p w a w2 = MovesOn (move_of p.from p.onto p.frag p.circuit) w a w2 ⊎ (IsNoWay p.from p.onto w × DoesNothing w a w2)
 
 -- ---- rules are brought
 

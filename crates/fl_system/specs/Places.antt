@@ -8,7 +8,7 @@ use Rattle.fl_queues.specs.Given.{given}
 use Rattle.fl_queues.specs.Events.{DispatcherId, Answer}
 use Rattle.fl_worlds.specs.View as view
 use Rattle.fl_worlds.specs.View.{TheWorld}
-use Rattle.fl_worlds.specs.Taking.{TurnsOver}
+use Rattle.fl_worlds.specs.Taking.{as_turn, TurnsOver}
 use Rattle.fl_worlds.specs.Linking as linking
 use Rattle.fl_system.specs.declared.places.Spot.{Spot}
 use Rattle.fl_system.specs.declared.places.Spot.TheVariants.{Nowhere, Unmade, Made}
@@ -66,4 +66,4 @@ pub record IsDueOver (cores : List TheCore) (n : ℕ) (at : Due) (i : Inlet) : T
 
 -- it has the turn, over that
 abbrev pub TurnsFrom : Inlet → ℕ → Due → TheWorld → Answer → TheWorld → Type 0
-TurnsFrom i n at w a w2 = TurnsOver i (record { core = n; place = at.dispatcher }) at.end at.name w a w2
+TurnsFrom i n at w a w2 = TurnsOver i n (as_turn at.dispatcher at.end at.name a) w w2

@@ -16,7 +16,7 @@ use Rattle.fl_node.specs.Making.{Asked, Asks}
 use Rattle.fl_node.specs.View.{TheCore}
 use Rattle.fl_queues.specs.Events.{Answer, done, nothing, refused}
 use Rattle.fl_worlds.specs.declared.binding.Binding.{Binding}
-use Rattle.fl_worlds.specs.Binding.{OpensBy, OpensFrom}
+use Rattle.fl_worlds.specs.Binding.{by_cores, OpensBy, OpensFrom}
 use Rattle.fl_worlds.specs.Making.{core_id}
 use Rattle.fl_worlds.specs.View.{TheWorld, IsWhole}
 use Rattle.fl_system.specs.declared.binding.Wish.{Wish}
@@ -77,7 +77,7 @@ pub record MayOpenFrom (x : Wish) (path : List CoreId) (w : TheWorld) (may : Res
 -- a circuit is opened on link l, whatever program and core stand there
 abbrev pub OpensOnLink : Wish → LinkId → List CoreId → TheWorld → Answer → TheWorld → Type 0
 OpensOnLink x l path w a w2 = (p : Program) (k : TheCore) (cores : List ℕ) → slice_get w.programs x.interface ≡ Some p
-    → slice_get w.cores x.client.core ≡ Some k → path ≡ map core_id cores → OpensBy (Ok l) (request x p) cores k w a w2
+    → slice_get w.cores x.client.core ≡ Some k → path ≡ map core_id cores → OpensBy (Ok l) (by_cores (request x p) cores) k w a w2
 
 -- a circuit is opened, or not, whatever program stands there
 abbrev pub OpensAlong : Wish → List CoreId → TheWorld → Answer → TheWorld → Type 0

@@ -12,7 +12,7 @@ use Rattle.fl_queues.specs.Binding.{same_dispatcher}
 use Rattle.fl_lines.specs.Events.{id_of}
 use Rattle.fl_worlds.specs.View.{TheWorld}
 use Rattle.fl_worlds.specs.Lending.{Refuses}
-use Rattle.fl_worlds.specs.Binding.{Request, has_places, BindsBy, Binds}
+use Rattle.fl_worlds.specs.Binding.{Request, has_places, BindsBy, named_request, Binds}
 use Rattle.fl_system.specs.declared.binding.Wish.{Wish}
 
 -- what is asked for, with the program of its interface
@@ -26,8 +26,8 @@ OfWish x w Event = (p : Program) → slice_get w.programs x.interface ≡ Some p
 -- what these names ask for, of which the event is made; or the number by which it is refused, whatever joins the ends
 abbrev pub IsWish : DispatcherId → ℕ → List ℕ → TheWorld → Result Wish ℕ → Type 0
 IsWish client i name w (Ok x) =
-    (kind : Kind) (a : Answer) (w2 : TheWorld) → OfWish x w (λ r. BindsBy r kind w a w2) → Binds client i name kind w a w2
-IsWish client i name w (Err fault) = (kind : Kind) (a : Answer) (w2 : TheWorld) → Refuses fault w a w2 → Binds client i name kind w a w2
+    (kind : Kind) (a : Answer) (w2 : TheWorld) → OfWish x w (λ r. BindsBy r kind w a w2) → Binds (named_request client i name kind) w a w2
+IsWish client i name w (Err fault) = (kind : Kind) (a : Answer) (w2 : TheWorld) → Refuses fault w a w2 → Binds (named_request client i name kind) w a w2
 
 -- ---- ends that are there
 

@@ -5,7 +5,7 @@ ghost use Rattle.fl_lines.specs.Asked.{kind_of};
 ghost use Rattle.fl_lines.specs.Events.{id_of, answer_of};
 ghost use Rattle.fl_lines.specs.Views.{back_end_of};
 ghost use Rattle.fl_worlds.specs.View.{has_dispatcher};
-ghost use Rattle.fl_worlds.specs.Binding.{has_places, HasEndOf, BindsBy, Binds};
+ghost use Rattle.fl_worlds.specs.Binding.{has_places, HasEndOf, BindsBy, named_request, Binds};
 ghost use Rattle.fl_system.specs.Wishes.{OfWish, IsWish, has_end_in, has_end_of, IsNewAt, HasDispatcher, places_in, both_places};
 ghost use Rattle.fl_system.specs.Wishes.{IsCopyOf, IsNewEnd};
 
@@ -198,7 +198,8 @@ impl World {
         service: &[u8],
         back_end: BackEnd<'_>,
     ) -> Result<Answer, AllocError>
-        ensures binds { IfOk result (λ a. Binds (id_of client) interface service.now (kind_of (back_end_of back_end.entry)) self.old (answer_of a) self.new) }
+        ensures binds { IfOk result (λ a. Binds
+            (named_request (id_of client) interface service.now (kind_of (back_end_of back_end.entry))) self.old (answer_of a) self.new) }
         ensures kept { OnErr result (self.new ≡ self.old) }
     {
         match self.wish(client, interface, service) {

@@ -9,7 +9,7 @@ ghost use Rattle.fl_ring.specs.Duo.{side_of};
 ghost use Rattle.fl_ring.specs.Side.{SameSide, SidePuts, SideTakes};
 ghost use Rattle.fl_worlds.specs.View.{ring_at, which_at};
 ghost use Rattle.fl_worlds.specs.Lending.{OverSide, front_for};
-ghost use Rattle.fl_worlds.specs.Linking.{LooksWith, HearsWith, ArrivesWith, offers_in, moved_answer};
+ghost use Rattle.fl_worlds.specs.Linking.{LooksWith, incoming, HearsWith, inbound, ArrivesWith, offers_in, moved_answer};
 ghost use Rattle.fl_lines.specs.Events.{answer_of};
 ghost use Rattle.fl_system.specs.Places.{HasLink};
 ghost use Rattle.fl_system.specs.Parts.{ByRing};
@@ -63,7 +63,7 @@ fn hear_by_side(
     requires link { at.link.0 < length core.old.lanes }
     requires seen { front_for side.old ≡ saw (bare frag.now) }
     ensures same { SameSide side.old side.new }
-    ensures hears { HearsWith (record { names = names.now; programs = programs.now }) at.link frag.now result core.old side.old core.new side.new }
+    ensures hears { HearsWith (incoming (record { names = names.now; programs = programs.now }) at.link frag.now) result core.old side.old core.new side.new }
 {
     core.hear(at.link, side, frag, names, programs)
 }
@@ -79,7 +79,7 @@ fn hear_by_ring(
 ) -> Result<MonitorAnswer, LinkFault>
     requires link { at.link.0 < length core.old.lanes }
     requires seen { front_of (side_of (which_at at.side) ring.old).waiting ≡ saw (bare frag.now) }
-    ensures hears { ByRing at.side (HearsWith (record { names = names.now; programs = programs.now }) at.link frag.now result)
+    ensures hears { ByRing at.side (HearsWith (incoming (record { names = names.now; programs = programs.now }) at.link frag.now) result)
         core.old ring.old core.new ring.new }
 {
     whole(core);
@@ -113,7 +113,7 @@ fn arrive_by_side(
     requires seen { front_for side.old ≡ saw (bare frag.now) }
     requires call { is_ack_only (with_circuit 0 frag.now) ≡ false }
     ensures same { SameSide side.old side.new }
-    ensures arrives { ArrivesWith at.link.0 frag.now name (answer_of result) core.old side.old core.new side.new }
+    ensures arrives { ArrivesWith (inbound at.link.0 frag.now name) (answer_of result) core.old side.old core.new side.new }
 {
     match core.arrive(at.link, side, frag, name) {
         Ok(outcome) => moved(outcome),
@@ -126,7 +126,7 @@ fn arrive_by_ring(core: &mut Core, at: Lane, ring: &mut OneDuo, frag: &Frag, nam
     requires link { at.link.0 < length core.old.lanes }
     requires seen { front_of (side_of (which_at at.side) ring.old).waiting ≡ saw (bare frag.now) }
     requires call { is_ack_only (with_circuit 0 frag.now) ≡ false }
-    ensures arrives { ByRing at.side (ArrivesWith at.link.0 frag.now name (answer_of result)) core.old ring.old core.new ring.new }
+    ensures arrives { ByRing at.side (ArrivesWith (inbound at.link.0 frag.now name) (answer_of result)) core.old ring.old core.new ring.new }
 {
     whole(core);
     let mut side = ring.side(which_at(at.side));
@@ -187,7 +187,7 @@ impl World {
         requires ring { ring_at at.side < length self.old.rings }
         requires seen { StandsAt self.old.rings at.side frag.now }
         requires call { is_ack_only (with_circuit 0 frag.now) ≡ false }
-        ensures arrives { OverSide self.old n at.side (ArrivesWith at.link.0 frag.now name (answer_of result)) self.new }
+        ensures arrives { OverSide self.old n at.side (ArrivesWith (inbound at.link.0 frag.now name) (answer_of result)) self.new }
     {
         let ring = &mut self.rings[ring_at(at.side)];
         arrive_by_ring(&mut self.cores[n], at, ring, frag, name)
@@ -203,7 +203,7 @@ impl World {
         requires link { HasLink self.old.cores n at.link.0 }
         requires ring { ring_at at.side < length self.old.rings }
         requires seen { StandsAt self.old.rings at.side frag.now }
-        ensures hears { OverSide self.old n at.side (HearsWith (offers_in self.old) at.link frag.now result) self.new }
+        ensures hears { OverSide self.old n at.side (HearsWith (incoming (offers_in self.old) at.link frag.now) result) self.new }
     {
         let ring = &mut self.rings[ring_at(at.side)];
         hear_by_ring(

@@ -8,7 +8,7 @@ ghost use Rattle.fl_ring.specs.Duo.{side_of, got};
 ghost use Rattle.fl_ring.specs.Side.{SameSide, SidePuts};
 ghost use Rattle.fl_node.specs.View.{TheCore};
 ghost use Rattle.fl_worlds.specs.View.{which_at, made};
-ghost use Rattle.fl_worlds.specs.Lending.{AtCore};
+ghost use Rattle.fl_worlds.specs.Lending.{answer_at, AtCore};
 ghost use Rattle.fl_worlds.specs.Sending.{IsCalled, MakesCall, IsShown, PreviewsWith, PreviewsOver, PreviewsAt, Previews, HasOutlet};
 ghost use Rattle.fl_worlds.specs.Sending.{IsWritten, WritesWith, WritesOver, WritesBy, WritesFragment};
 ghost use Rattle.fl_lines.specs.Events.{answer_of};
@@ -228,7 +228,7 @@ fn wrote(outcome: Result<WriteAnswer, EndFault>) -> Answer
 #[inline(always)]
 fn write_by_queue(core: &mut Core, place: usize, queue: &mut QueueLink) -> Answer
     requires place { place < length core.old.board.seats }
-    ensures writes { ByQueue (WritesWith QueuePuts place (answer_of result)) core.old queue.old core.new queue.new }
+    ensures writes { ByQueue (WritesWith QueuePuts (answer_at place (answer_of result))) core.old queue.old core.new queue.new }
 {
     whole(core);
     let outcome = core.write(place, queue);
@@ -241,7 +241,7 @@ fn write_by_queue(core: &mut Core, place: usize, queue: &mut QueueLink) -> Answe
 fn write_by_side(core: &mut Core, place: usize, side: &mut DuoSide<'_>) -> Answer
     requires place { place < length core.old.board.seats }
     ensures same { SameSide side.old side.new }
-    ensures writes { WritesWith SidePuts place (answer_of result) core.old side.old core.new side.new }
+    ensures writes { WritesWith SidePuts (answer_at place (answer_of result)) core.old side.old core.new side.new }
 {
     wrote(core.write(place, side))
 }
@@ -250,7 +250,7 @@ fn write_by_side(core: &mut Core, place: usize, side: &mut DuoSide<'_>) -> Answe
 #[inline(always)]
 fn write_by_ring(core: &mut Core, place: usize, ring: &mut OneDuo, m: usize) -> Answer
     requires place { place < length core.old.board.seats }
-    ensures writes { ByRing m (WritesWith SidePuts place (answer_of result)) core.old ring.old core.new ring.new }
+    ensures writes { ByRing m (WritesWith SidePuts (answer_at place (answer_of result))) core.old ring.old core.new ring.new }
 {
     whole(core);
     let mut side = ring.side(which_at(m));

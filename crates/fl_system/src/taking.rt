@@ -10,8 +10,8 @@ ghost use Rattle.fl_core.specs.Turns.{Turns, over};
 ghost use Rattle.fl_node.specs.View.{TheCore, arrivals_of, inlet_of};
 ghost use Rattle.fl_node.specs.Ends.{OnBoard};
 ghost use Rattle.fl_worlds.specs.View.{made};
-ghost use Rattle.fl_worlds.specs.Lending.{AtCore};
-ghost use Rattle.fl_worlds.specs.Taking.{turn_answer, TurnsWith, TurnsArrivals, TurnsAt, due_at, HasTurn};
+ghost use Rattle.fl_worlds.specs.Lending.{answer_at, AtCore};
+ghost use Rattle.fl_worlds.specs.Taking.{turn_answer, as_turn, TurnsWith, TurnsArrivals, TurnsAt, due_at, HasTurn};
 ghost use Rattle.fl_worlds.specs.Taking.{AcksWith, AcksOver, AcksAt, Acknowledges, HasInlet};
 ghost use Rattle.fl_worlds.specs.Taking.{TellsNothing, IsRegistered, RegistersWith, RegistersArrivals, RegistersOver, RegistersBy, RegistersChannel};
 ghost use Rattle.fl_worlds.specs.Taking.{DeregistersIn, DeregistersBy, DeregistersChannel, IsRuled, SetsReply};
@@ -76,7 +76,8 @@ fn turn_by_queue(core: &mut Core, at: Due, queue: &mut QueueLink) -> Result<Answ
     requires due { due core.old.board at.dispatcher ≡ Some at.end }
     requires end { at.end < length core.old.board.seats }
     requires lent { arrivals_of core.old at.end ≡ None }
-    ensures turns { IfOk result (λ a. ByQueue (TurnsWith QueueTakes at.dispatcher at.end at.name (answer_of a)) core.old queue.old core.new queue.new) }
+    ensures turns { IfOk result (λ a. ByQueue
+        (TurnsWith QueueTakes (as_turn at.dispatcher at.end at.name (answer_of a))) core.old queue.old core.new queue.new) }
     ensures kept { OnErr result (core.new ≡ core.old) }
     ensures left { OnErr result (queue.new ≡ queue.old) }
 {
@@ -134,7 +135,7 @@ fn turn_by_ring(core: &mut Core, at: Due, ring: &mut OneDuo, m: usize) -> Result
     requires due { due core.old.board at.dispatcher ≡ Some at.end }
     requires end { at.end < length core.old.board.seats }
     requires lent { arrivals_of core.old at.end ≡ None }
-    ensures turns { IfOk result (λ a. ByRing m (TurnsWith SideTakes at.dispatcher at.end at.name (answer_of a)) core.old ring.old core.new ring.new) }
+    ensures turns { IfOk result (λ a. ByRing m (TurnsWith SideTakes (as_turn at.dispatcher at.end at.name (answer_of a))) core.old ring.old core.new ring.new) }
     ensures kept { OnErr result (core.new ≡ core.old) }
     ensures left { OnErr result (ring.new ≡ ring.old) }
 {
@@ -156,7 +157,7 @@ fn turn_in(core: &mut Core, at: Due) -> Result<Answer, AllocError>
     requires due { due core.old.board at.dispatcher ≡ Some at.end }
     requires end { at.end < length core.old.board.seats }
     requires own { IsSome (arrivals_of core.old at.end) }
-    ensures turns { IfOk result (λ a. InCore (TurnsArrivals at.dispatcher at.end at.name (answer_of a)) core.old core.new) }
+    ensures turns { IfOk result (λ a. InCore (TurnsArrivals (as_turn at.dispatcher at.end at.name (answer_of a))) core.old core.new) }
     ensures kept { OnErr result (core.new ≡ core.old) }
 {
     whole(core);
@@ -285,7 +286,7 @@ fn ack_by_side(core: &Core, place: usize, side: &mut DuoSide<'_>) -> Result<AckA
 fn ack_by_ring(core: &Core, place: usize, ring: &mut OneDuo, m: usize) -> Answer
     requires place { place < length core.now.board.seats }
     requires lent { arrivals_of core.now place ≡ None }
-    ensures acks { ByRing m (AcksWith place (answer_of result)) core.now ring.old core.now ring.new }
+    ensures acks { ByRing m (AcksWith (answer_at place (answer_of result))) core.now ring.old core.now ring.new }
 {
     whole(core);
     let mut side = ring.side(which_at(m));
@@ -350,7 +351,7 @@ impl World {
     fn ack_over_side(&mut self, n: usize, place: usize, m: usize) -> Answer
         requires end { HasEnd self.old.cores n place }
         requires inlet { HasInlet self.old n place (Inlet.Side m) }
-        ensures acks { (k : TheCore) → AcksOver (Inlet.Side m) k n place self.old (answer_of result) self.new }
+        ensures acks { (k : TheCore) → AcksOver (Inlet.Side m) k n (answer_at place (answer_of result)) self.old self.new }
     {
         let Some(ring) = self.rings.get_mut(ring_at(m)) else {
             return Answer::Nothing;
@@ -375,7 +376,7 @@ fn registered(outcome: Result<(), BoardFault>) -> Answer
 fn register_by_queue(core: &mut Core, place: usize, queue: &mut QueueLink) -> Answer
     requires place { place < length core.old.board.seats }
     requires lent { arrivals_of core.old place ≡ None }
-    ensures registers { ByQueue (RegistersWith QueueTakes place (answer_of result)) core.old queue.old core.new queue.new }
+    ensures registers { ByQueue (RegistersWith QueueTakes (answer_at place (answer_of result))) core.old queue.old core.new queue.new }
 {
     whole(core);
     let outcome = core.register(place, queue);
@@ -388,7 +389,7 @@ fn register_by_side(core: &mut Core, place: usize, side: &mut DuoSide<'_>) -> An
     requires place { place < length core.old.board.seats }
     requires lent { arrivals_of core.old place ≡ None }
     ensures same { SameSide side.old side.new }
-    ensures registers { RegistersWith SideTakes place (answer_of result) core.old side.old core.new side.new }
+    ensures registers { RegistersWith SideTakes (answer_at place (answer_of result)) core.old side.old core.new side.new }
 {
     registered(core.register(place, side))
 }
@@ -397,7 +398,7 @@ fn register_by_side(core: &mut Core, place: usize, side: &mut DuoSide<'_>) -> An
 pub(crate) fn register_by_ring(core: &mut Core, place: usize, ring: &mut OneDuo, m: usize) -> Answer
     requires place { place < length core.old.board.seats }
     requires lent { arrivals_of core.old place ≡ None }
-    ensures registers { ByRing m (RegistersWith SideTakes place (answer_of result)) core.old ring.old core.new ring.new }
+    ensures registers { ByRing m (RegistersWith SideTakes (answer_at place (answer_of result))) core.old ring.old core.new ring.new }
 {
     whole(core);
     let mut side = ring.side(which_at(m));
@@ -409,7 +410,7 @@ pub(crate) fn register_by_ring(core: &mut Core, place: usize, ring: &mut OneDuo,
 // The same for an end that has an arrival queue.
 fn register_in(core: &mut Core, place: usize) -> Answer
     requires own { IsSome (arrivals_of core.old place) }
-    ensures registers { InCore (RegistersArrivals place (answer_of result)) core.old core.new }
+    ensures registers { InCore (RegistersArrivals (answer_at place (answer_of result))) core.old core.new }
 {
     whole(core);
     let outcome = core.register_arrivals(place);
@@ -420,7 +421,7 @@ fn register_in(core: &mut Core, place: usize) -> Answer
 // The channel of the end at a place of a core's board is deregistered.
 fn deregister_in(core: &mut Core, place: usize) -> Answer
     requires place { place < length core.old.board.seats }
-    ensures deregisters { InCore (DeregistersIn place (answer_of result)) core.old core.new }
+    ensures deregisters { InCore (DeregistersIn (answer_at place (answer_of result))) core.old core.new }
 {
     whole(core);
     let outcome = core.deregister(place);

@@ -34,6 +34,7 @@ use Rattle.fl_shows.proofs.Sides.{take_agrees}
 use Rattle.fl_shows.proofs.Tests.{unless_is, past_not}
 use Rattle.fl_worlds.specs.View.{TheWorld, Spot, nowhere, unmade, made, spot_of, with_core, with_ring, ring_at, which_at}
 use Rattle.fl_worlds.specs.Picture.{IsWire, Carries, IsPicture, Shows}
+use Rattle.fl_worlds.specs.Lending.{answer_at}
 use Rattle.fl_worlds.specs.Taking.{IsAcked, AcksOver, AcksAt, TellsNothing}
 use Rattle.fl_worlds.specs.Laws.{Agrees, AcknowledgesAgree}
 use Rattle.fl_worlds.proofs.Frames.{Stands}
@@ -226,7 +227,7 @@ acked w v s e n place h m o a p q r shown which now world acks is = by r acks is
     by (Err Memory) u i = absurd u
 
 acks_over : (w v : TheWorld) (s : State) (e : EndId) (n place : ℕ) (h : Stands w s e n place) (a : Answer) (core : TheCore) → Shows w s → core ≡ h.core
-    → (wire : Wire) → h.port.wire ≡ wire → AcksOver (inlet_by wire) core n place w a v → Agrees (acks_by e h.binding s) a v
+    → (wire : Wire) → h.port.wire ≡ wire → AcksOver (inlet_by wire) core n (answer_at place a) w v → Agrees (acks_by e h.binding s) a v
 acks_over w v s e n place h a core shown same (Queues out from) q u =
     let k = subst (IsWire w h.core s e h.binding) q h.wire in
     let x = seat_here w s e n place h core u.0.0 same u.0.1 in
@@ -270,4 +271,4 @@ acknowledges_agree e w v s a shown event = by (spot_of w e) refl event
         let i = inlet_is w s e n place h u.0 u.1.0 in
         let core : u.1.0.core ≡ h.core = same_some (slice_get w.cores n) u.1.0.core h.core u.1.0.core_is h.core_is in
         agrees_by (acknowledges_end e s) (acks_by e h.binding s) a v (acks_at e s (Some h.binding) h.binding_is)
-        (acks_over w v s e n place h a u.1.0.core shown core h.port.wire refl (subst (λ y. AcksOver y u.1.0.core n place w a v) i u.1.1))
+        (acks_over w v s e n place h a u.1.0.core shown core h.port.wire refl (subst (λ y. AcksOver y u.1.0.core n (answer_at place a) w v) i u.1.1))

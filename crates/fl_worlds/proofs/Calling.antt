@@ -24,7 +24,7 @@ use Rattle.fl_shows.proofs.Tests.{unless_is, past_not}
 use Rattle.fl_worlds.specs.View.{TheWorld, Spot, nowhere, unmade, made, spot_of}
 use Rattle.fl_worlds.specs.Picture.{IsPicture, Shows}
 use Rattle.fl_worlds.specs.Sending.{IsCalled, CallsAt}
-use Rattle.fl_worlds.specs.Taking.{IsRuled, RulesAt}
+use Rattle.fl_worlds.specs.Taking.{IsRuled, reply_rule, RulesAt}
 use Rattle.fl_worlds.specs.Laws.{Agrees, CallsAgree, RepliesAgree}
 use Rattle.fl_worlds.proofs.FramesBase.{end_of_binding}
 use Rattle.fl_worlds.proofs.FramesWhole.{prefix_same}
@@ -162,7 +162,7 @@ rule_becomes w v s e msg answer h a r shown u is =
 pub replies_agree : RepliesAgree
 replies_agree e msg answer w v s a shown event = by (spot_of w e) refl event
   where
-    by : (spot : Spot) → spot_of w e ≡ spot → RulesAt spot e msg answer w a v → Agrees (sets_rule e msg answer s) a v
+    by : (spot : Spot) → spot_of w e ≡ spot → RulesAt spot (reply_rule e msg answer) w a v → Agrees (sets_rule e msg answer s) a v
     by nowhere q u =
         agrees_by (sets_rule e msg answer s) (answers s (refused 92)) a v (not_set e msg answer s (find_none w s e shown.picture q))
         (refuses w v s a 92 shown.picture u)

@@ -18,7 +18,7 @@ use Rattle.fl_shows.proofs.Tests.{lt_true}
 use Rattle.fl_laws.proofs.Small.{is_not}
 use Rattle.fl_worlds.specs.View.{Given, If, TheWorld, has_dispatcher}
 use Rattle.fl_worlds.specs.Lending.{Refuses}
-use Rattle.fl_worlds.specs.Binding.{BindsBy, wanted_from, Binds}
+use Rattle.fl_worlds.specs.Binding.{BindsBy, wanted_from, named_request, Binds}
 use Rattle.fl_worlds.specs.Picture.{Shows}
 use Rattle.fl_worlds.specs.Laws.{Agrees, BindsAgree}
 use Rattle.fl_worlds.proofs.MakingBase.{refuses, by_if, by_both, map_some, at_map, same_found}
@@ -81,7 +81,7 @@ module _ (client : DispatcherId) (i : ℕ) (name : List ℕ) (kind : Kind) (w w2
             (subst (λ o. Given o (Refuses 70 w a w2) Then) ((names_agree s.services w.names h.picture.names).unnamed name q) e)
         by (Some place) q = at_place place q (slice_get s.services place) refl
 
-  pub bind_agrees : Binds client i name kind w a w2 → Agrees (binds client i name kind s) a w2
+  pub bind_agrees : Binds (named_request client i name kind) w a w2 → Agrees (binds client i name kind s) a w2
   bind_agrees e =
       by_found (has_dispatcher w client) (dispatcher_of s client) _ _ _ _ a w2 (same_dispatcher w s client h.picture) (refuses 92 w w2 s a h.picture)
       (λ d q. by_both (slice_get w.programs i) (slice_get s.interfaces i) _ _ _ _ a w2

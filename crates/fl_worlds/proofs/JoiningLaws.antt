@@ -21,7 +21,7 @@ use Rattle.fl_laws.proofs.Small.{is_not}
 use Rattle.fl_worlds.specs.View.{If, TheWorld}
 use Rattle.fl_worlds.specs.Lending.{Refuses, DoesNothing}
 use Rattle.fl_worlds.specs.Making.{new_duo}
-use Rattle.fl_worlds.specs.Binding.{Request, has_places as has_world_places, has_both_places as has_both_world_places, HasEndOf, new_queue, IsJoined, JoinsByQueues, BindsByQueues, JoinsSide, JoinsByRing, BindsByRing}
+use Rattle.fl_worlds.specs.Binding.{Request, has_places as has_world_places, has_both_places as has_both_world_places, HasEndOf, new_queue, queue_pair, end_for, IsJoined, JoinsByQueues, BindsByQueues, JoinsSide, JoinsByRing, BindsByRing}
 use Rattle.fl_worlds.specs.Picture.{IsPicture, Shows}
 use Rattle.fl_worlds.specs.Laws.{Agrees}
 use Rattle.fl_worlds.proofs.MakingBase.{refuses, by_if, same_found}
@@ -96,8 +96,8 @@ module _ (client : DispatcherId) (i : ℕ) (p : Program) (planned : Planned) (se
       → Agrees (answers (binds_both (length s.bindings) m (with_new_binding m local 2 (Some (fresh_queue slots)) s)) done) a w2
   queued slots same e =
       let j = e.1 in
-      let joined : IsJoined want (length s.bindings) (length w.queues) j.core (new_queue slots) (new_queue slots) j.after =
-      subst (λ n. IsJoined want n (length w.queues) j.core (new_queue slots) (new_queue slots) j.after) h.picture.bindings.count j.joined in
+      let joined : IsJoined want (length s.bindings) (queue_pair (length w.queues) (new_queue slots) (new_queue slots)) j.core j.after =
+      subst (λ n. IsJoined want n (queue_pair (length w.queues) (new_queue slots) (new_queue slots)) j.core j.after) h.picture.bindings.count j.joined in
       let reached = queues.reached client i p planned service iref slots w s h.sound h.picture interface_is program_is same j.core j.after j.core_is j.whole j.still joined in
       let shown = queues.queues_shown client i p planned service iref slots w s h.sound h.picture interface_is program_is same j.core j.after j.core_is j.whole j.still joined in
       record {
@@ -122,10 +122,10 @@ module _ (client : DispatcherId) (i : ℕ) (p : Program) (planned : Planned) (se
   ringed size apart e =
       let j = e.1 in
       let count = h.picture.bindings.count in
-      let jc : JoinsSide want client (client_of (length s.bindings)) (2 * length w.rings) (new_duo size) j.first j.first_after =
-      subst (λ n. JoinsSide want client (client_of n) (2 * length w.rings) (new_duo size) j.first j.first_after) count j.client in
-      let js : JoinsSide want service.dispatcher (server_of (length s.bindings)) (2 * length w.rings + 1) (new_duo size) j.second j.second_after =
-      subst (λ n. JoinsSide want service.dispatcher (server_of n) (2 * length w.rings + 1) (new_duo size) j.second j.second_after) count j.server in
+      let jc : JoinsSide want (end_for client (client_of (length s.bindings))) (2 * length w.rings) (new_duo size) j.first j.first_after =
+      subst (λ n. JoinsSide want (end_for client (client_of n)) (2 * length w.rings) (new_duo size) j.first j.first_after) count j.client in
+      let js : JoinsSide want (end_for service.dispatcher (server_of (length s.bindings))) (2 * length w.rings + 1) (new_duo size) j.second j.second_after =
+      subst (λ n. JoinsSide want (end_for service.dispatcher (server_of n)) (2 * length w.rings + 1) (new_duo size) j.second j.second_after) count j.server in
       let reached = rings.reached client i p planned service iref size w s h.sound h.picture interface_is program_is apart j.first j.first_after j.second j.second_after
       j.first_is j.second_is j.first_whole j.first_still j.second_whole j.second_still jc js in
       let shown = rings.ring_shown client i p planned service iref size w s h.sound h.picture interface_is program_is apart j.first j.first_after j.second j.second_after

@@ -28,7 +28,7 @@ use Rattle.fl_shows.proofs.Tests.{lt_true, le_true, le_false}
 use Rattle.fl_worlds.specs.View.{If, TheWorld, IsWhole}
 use Rattle.fl_worlds.specs.Lending.{Refuses}
 use Rattle.fl_worlds.specs.Making.{core_id}
-use Rattle.fl_worlds.specs.Binding.{Request, IsCopy, opening_for, AsksBy, OpensOn, OpensBy, OpensFrom, may_be_route, BindsByRoute}
+use Rattle.fl_worlds.specs.Binding.{Request, IsCopy, opening_for, AsksBy, by_cores, OpensOn, OpensBy, OpensFrom, may_be_route, BindsByRoute}
 use Rattle.fl_worlds.specs.Picture.{CoreShows, IsPicture, Shows}
 use Rattle.fl_worlds.specs.Laws.{Agrees}
 use Rattle.fl_worlds.proofs.MakingBase.{refuses}
@@ -163,7 +163,7 @@ module _ (client : DispatcherId) (i : ℕ) (p : Program) (planned : Planned) (se
         opened (Err (fault.Monitor monitor.Differs)) after still asks comes = absurd asks.1.0
         opened (Err (fault.Monitor monitor.PlansDiffer)) after still asks comes = absurd asks.1.0
 
-      on_link : OpensOn want cores l core w a w2 → Agrees (opens_at m cores k s l.0) a w2
+      on_link : OpensOn (by_cores want cores) l core w a w2 → Agrees (opens_at m cores k s l.0) a w2
       on_link e =
           opened e.program e.copy e.result e.after e.still
           (subst (λ c. Asks (asked client.place e.program l (opening_for want c cores)) core e.result e.after) h.picture.bindings.count e.asks) e.follows
@@ -195,7 +195,7 @@ module _ (client : DispatcherId) (i : ℕ) (p : Program) (planned : Planned) (se
         (λ r. here r ∙ ap (λ o. given o (answers s (refused 73)) (opens_at m cores k s)) (sym (link_true r) ∙ q)) elsewhere
 
     with_link : (l : LinkId) → first_link core.monitor.circuits (map core_id cores) server (length w.cores) ≡ Some l.0
-        → OpensOn want cores l core w a w2 → Agrees outcome a w2
+        → OpensOn (by_cores want cores) l core w a w2 → Agrees outcome a w2
     with_link l q e = by_bool routed (Agrees outcome a w2)
         (λ r. (let to : link_to (slice_index cores 1) k ≡ Some l.0 = sym (link_true r) ∙ q in
         let is : outcome ≡ opens_at m cores k s l.0 = here r ∙ ap (λ o. given o (answers s (refused 73)) (opens_at m cores k s)) to in
@@ -203,7 +203,7 @@ module _ (client : DispatcherId) (i : ℕ) (p : Program) (planned : Planned) (se
         (λ r. absurd (let none : None ≡ Some l.0 = sym (link_false r) ∙ q in cc))
 
     from_here : (may : Result LinkId MonitorFault) → MayOpen (may_want p p (core_id server) (map core_id cores) (length w.cores)) core.monitor.circuits may
-        → OpensBy may want cores core w a w2 → Agrees outcome a w2
+        → OpensBy may (by_cores want cores) core w a w2 → Agrees outcome a w2
     from_here (Ok l) may (inl e) = with_link l may.1 e
     from_here (Ok l) may (inr e) = absurd (has_no_end w s n h.picture e.0)
     from_here (Err monitor.NoRoute) may e = refused_as 73 outcome w w2 s a h.picture (no_link may.1) e

@@ -33,7 +33,7 @@ use Rattle.fl_laws.proofs.Replies.{length_changed}
 use Rattle.fl_laws.proofs.Small.{changed_here}
 use Rattle.fl_worlds.specs.declared.binding.Binding.{Binding as TheBinding}
 use Rattle.fl_worlds.specs.View.{TheWorld, IsWhole, core_in, with_core}
-use Rattle.fl_worlds.specs.Binding.{Request, binding_for, new_queue, IsJoined}
+use Rattle.fl_worlds.specs.Binding.{Request, binding_for, new_queue, queue_pair, IsJoined}
 use Rattle.fl_worlds.specs.Picture.{wire_of, TakesFrom, IsMade, SitsAt, BindingShows, IsSilent, IsPicture}
 use Rattle.fl_worlds.proofs.MakingBase.{some_is, same_found}
 use Rattle.fl_worlds.proofs.MakingGrows.{CoresGrow, cores_same, cores_set, ring_between}
@@ -56,7 +56,7 @@ module _ (client : DispatcherId) (i : ℕ) (p : Program) (planned : Planned) (se
     (sound : Sound s) (h : IsPicture w s) (interface_is : slice_get s.interfaces i ≡ Some planned) (program_is : planned_of p ≡ planned)
     (same_core : client.core ≡ service.dispatcher.core) (core after : TheCore) (core_is : slice_get w.cores client.core ≡ Some core)
     (before_whole : IsWhole core) (after_whole : IsWhole after)
-    (j : IsJoined (request client i p service iref) (length s.bindings) (length w.queues) core (new_queue slots) (new_queue slots) after) where
+    (j : IsJoined (request client i p service iref) (length s.bindings) (queue_pair (length w.queues) (new_queue slots) (new_queue slots)) core after) where
   abbrev n : ℕ
   n = client.core
 

@@ -36,7 +36,7 @@ use Rattle.fl_laws.proofs.Views.{changed_later}
 use Rattle.fl_worlds.specs.declared.binding.Binding.{Binding as TheBinding}
 use Rattle.fl_worlds.specs.View.{TheWorld, IsWhole, core_in, with_core}
 use Rattle.fl_worlds.specs.Making.{new_duo}
-use Rattle.fl_worlds.specs.Binding.{Request, IsCopy, binding_for, JoinsSide}
+use Rattle.fl_worlds.specs.Binding.{Request, IsCopy, binding_for, end_for, JoinsSide}
 use Rattle.fl_worlds.specs.Picture.{IsMade, SitsAt, BindingShows, IsSilent, CoreShows, IsPicture}
 use Rattle.fl_worlds.proofs.MakingBase.{some_is, same_found}
 use Rattle.fl_worlds.proofs.MakingGrows.{CoresGrow, cores_same, cores_set, ring_between, IsNewRing}
@@ -62,7 +62,7 @@ pub record Sided (want : Request) (k : Core) (c c2 : TheCore) (place : ℕ) (por
   pub arrivals : c2.arrivals ≡ c.arrivals
 
 sided : (want : Request) (k : Core) (c c2 : TheCore) (d : DispatcherId) (e : EndId) (m : ℕ) (ring : TheDuo) → CoreShows k c → IsWhole c → AllFree k
-    → JoinsSide want d e m ring c c2 → Sided want k c c2 d.place (record { name = e; wire = OverRing m })
+    → JoinsSide want (end_for d e) m ring c c2 → Sided want k c c2 d.place (record { name = e; wire = OverRing m })
 sided want k c c2 d e m ring h whole free j =
     let port : Port = record { name = e; wire = OverRing m } in
     let (at, added) = ported k c j.added d.place (fresh j.program (Some 0)) port j.place h (is_even c whole.core) j.adds in
@@ -117,8 +117,8 @@ module _ (client : DispatcherId) (i : ℕ) (p : Program) (planned : Planned) (se
     (apart : client.core ≢ service.dispatcher.core) (first first_after second second_after : TheCore)
     (first_is : slice_get w.cores client.core ≡ Some first) (second_is : slice_get w.cores service.dispatcher.core ≡ Some second)
     (first_whole : IsWhole first) (first_still : IsWhole first_after) (second_whole : IsWhole second) (second_still : IsWhole second_after)
-    (jc : JoinsSide (request client i p service iref) client (client_of (length s.bindings)) (2 * length w.rings) (new_duo size) first first_after)
-    (js : JoinsSide (request client i p service iref) service.dispatcher (server_of (length s.bindings)) (2 * length w.rings + 1) (new_duo size) second second_after)
+    (jc : JoinsSide (request client i p service iref) (end_for client (client_of (length s.bindings))) (2 * length w.rings) (new_duo size) first first_after)
+    (js : JoinsSide (request client i p service iref) (end_for service.dispatcher (server_of (length s.bindings))) (2 * length w.rings + 1) (new_duo size) second second_after)
   where
     abbrev a : ℕ
     a = client.core

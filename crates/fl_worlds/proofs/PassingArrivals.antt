@@ -60,7 +60,7 @@ use Rattle.fl_shows.specs.RingLaws.{IsPutOf, QueuePutAgrees}
 use Rattle.fl_worlds.specs.View.{TheWorld, side_number, with_core, with_ring}
 use Rattle.fl_worlds.specs.Lending.{OverSide}
 use Rattle.fl_worlds.specs.Picture.{TakesFrom, IsWire, IsMade, Carries, IsPicture, Shows, DispatcherShows}
-use Rattle.fl_worlds.specs.Linking.{ArrivesWith, IsMoved, moved_answer}
+use Rattle.fl_worlds.specs.Linking.{inbound, ArrivesWith, IsMoved, moved_answer}
 use Rattle.fl_worlds.specs.Laws.{Agrees}
 use Rattle.fl_worlds.proofs.Frames.{Stands, OutStays, RingFrame, PassFrame, ArrivalsFrame, ListsFrame}
 use Rattle.fl_worlds.proofs.PassingFirst.{CallFirst}
@@ -322,7 +322,7 @@ module _ (law : Pictures) (frame : RingFrame) (frame_pass : PassFrame) (frame_ar
   looked : IsPicture (with_ring w n d1) (change_ring n (looks link.ring.side) s)
   looked = frame w s n x.ring (looks link.ring.side) d1 shows.picture x.ring_is seen
 
-  module _ (a : Answer) (v2 : TheWorld) (h : Over (with_ring w link.ring.ring d1) core link.ring t.c d1 (ArrivesWith l frag to a) v2) where
+  module _ (a : Answer) (v2 : TheWorld) (h : Over (with_ring w link.ring.ring d1) core link.ring t.c d1 (ArrivesWith (inbound l frag to) a) v2) where
     arrived : (r : Arrives SideTakes frag to t.c h.side moving.Moved h.after h.left) → a ≡ forwarded
         → Agrees (follows_entry here c.call c.passing.core c.hop.way (change_ring n (looks link.ring.side) s)) a v2
     arrived r answer =

@@ -36,7 +36,7 @@ use Rattle.fl_shows.specs.RingLaws.{IsFirst, TakeAgrees}
 use Rattle.fl_worlds.specs.View.{TheWorld, side_number, with_core, with_ring}
 use Rattle.fl_worlds.specs.Lending.{OverSide, IsStray, front_for}
 use Rattle.fl_worlds.specs.Picture.{lane_of, Carries, IsPicture, Shows}
-use Rattle.fl_worlds.specs.Linking.{LinkEnd as TheLinkEnd, lane_to, HearsFirst, MovesOn, ArrivesWith, LooksWith, ForwardsBy, ForwardsFirst}
+use Rattle.fl_worlds.specs.Linking.{LinkEnd as TheLinkEnd, lane_to, HearsFirst, MovesOn, inbound, ArrivesWith, LooksWith, ForwardsBy, ForwardsFirst}
 use Rattle.fl_worlds.specs.Laws.{Agrees, ForwardsAgree}
 use Rattle.fl_worlds.specs.Hearing.{HearsAgrees}
 use Rattle.fl_worlds.proofs.Frames.{RingFrame, PassFrame, ArrivalsFrame, ListsFrame}
@@ -175,14 +175,14 @@ module _ (law : Pictures) (frame : Passages) (w : TheWorld) (s : State) (shows :
           ])
 
       arrives : circuit_of frag.control ≢ 0 → (to : EndId) → way_at t.c.monitor.circuits l (circuit_of frag.control) ≡ Some (to_end to) → o.after ≡ t.c
-          → OverSide looked core (side_number link.ring) (ArrivesWith l frag to a) w2 → Agrees (forwards core neighbour s) a w2
+          → OverSide looked core (side_number link.ring) (ArrivesWith (inbound l frag to) a) w2 → Agrees (forwards core neighbour s) a w2
       arrives some to way after follows =
           let c = call some in
           let leads : c.hop.way ≡ to_end to = way_is front.first frag c (to_end to) way in
           agrees_at _ _ a w2 (call_is front.first frag c front.there)
           (arrives_agree law frame.ring frame.pass frame.arrivals frame.lists w s shows core neighbour l link t front.first frag c x o.left.duo.now front.there shown to leads a w2
-          (over (with_ring w n o.left.duo.now) core link.ring t.c o.left.duo.now (ArrivesWith l frag to a) w2 t.c_is (get_set w.rings n x.duo o.left.duo.now x.duo_is)
-          (subst (λ (v : TheWorld). OverSide v core (side_number link.ring) (ArrivesWith l frag to a) w2) (looked_is after) follows)))
+          (over (with_ring w n o.left.duo.now) core link.ring t.c o.left.duo.now (ArrivesWith (inbound l frag to) a) w2 t.c_is (get_set w.rings n x.duo o.left.duo.now x.duo_is)
+          (subst (λ (v : TheWorld). OverSide v core (side_number link.ring) (ArrivesWith (inbound l frag to) a) w2) (looked_is after) follows)))
 
     nothing_stands : SideTakes o.side missed o.left → o.after ≡ t.c → a ≡ nothing → w2 ≡ looked → Agrees (forwards core neighbour s) a w2
     nothing_stands takes_it after answer rest =

@@ -49,7 +49,7 @@ use Rattle.fl_shows.specs.Rings.{RingShows}
 use Rattle.fl_shows.proofs.Hearing.{hear_agrees}
 use Rattle.fl_worlds.specs.View.{TheWorld, with_core, with_ring}
 use Rattle.fl_worlds.specs.Picture.{Carries, IsPicture, Shows}
-use Rattle.fl_worlds.specs.Linking.{HearsWith, HearsFirst, IsHeard, ThenRules, offers_in, link_id}
+use Rattle.fl_worlds.specs.Linking.{incoming, HearsWith, HearsFirst, IsHeard, ThenRules, offers_in, link_id}
 use Rattle.fl_worlds.specs.Laws.{Agrees}
 use Rattle.fl_worlds.specs.Hearing.{IsMessage}
 use Rattle.fl_worlds.proofs.Frames.{RingFrame, MonitorFrame, RouteFrame, RouteStays}
@@ -204,7 +204,7 @@ module _ (law : Pictures) (frame : HearFrames) (w : TheWorld) (s : State) (shows
         (opens : (left : DuoSide) (after : TheMonitor) → MonitorShows comes.core after → EndOpens left after)
         (makes : (left : DuoSide) (after : TheMonitor) → MonitorShows comes.core after → ServerIsMade left after)
         (a : Answer) (w2 first_world : TheWorld) (r : Result MonitorAnswer LinkFault)
-        (o : Over (with_ring w n d1) core link.ring t.c d1 (HearsWith offers (link_id l) frag r) first_world) where
+        (o : Over (with_ring w n d1) core link.ring t.c d1 (HearsWith (incoming offers (link_id l) frag) r) first_world) where
       same_message : (n : Message) → Says frag n → n ≡ message_of m
       same_message n h = said.only frag n msg.frag_is h
 

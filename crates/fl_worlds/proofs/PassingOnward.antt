@@ -31,7 +31,7 @@ use Rattle.fl_shows.specs.RingLaws.{IsPutOf, PutAgrees, sure_for_data, room_for_
 use Rattle.fl_worlds.specs.View.{TheWorld, side_number, ring_at, with_ring}
 use Rattle.fl_worlds.specs.Lending.{IsLent, DoesNothing}
 use Rattle.fl_worlds.specs.Picture.{Carries, IsPicture, Shows}
-use Rattle.fl_worlds.specs.Linking.{MovesOn, IsNoWay, moved_answer}
+use Rattle.fl_worlds.specs.Linking.{move_of, MovesOn, IsNoWay, moved_answer}
 use Rattle.fl_worlds.specs.Laws.{Agrees}
 use Rattle.fl_worlds.proofs.Frames.{RingFrame, PassFrame}
 use Rattle.fl_worlds.proofs.PassingFirst.{CallFirst, told_some}
@@ -156,7 +156,7 @@ module _ (law : Pictures) (frame : RingFrame) (frame_pass : PassFrame) (w : TheW
   its_passed : StationPassed s c.call.end c.passing.binding c.call.station
   its_passed = station_passed law s shows.sound here c.call first c.route c.hop c.passing
 
-  module _ (a : Answer) (w2 : TheWorld) (m : MovesOn (side_number link.ring) (side_number next_there.0.ring) frag circuit (with_ring w link.ring.ring d1) a w2) where
+  module _ (a : Answer) (w2 : TheWorld) (m : MovesOn (move_of (side_number link.ring) (side_number next_there.0.ring) frag circuit) (with_ring w link.ring.ring d1) a w2) where
     from_is : m.ring ≡ d1
     from_is =
         some_is m.ring d1 (sym m.ring_is ∙ ap (slice_get (slice_set w.rings n d1)) (ring_of_number link.ring) ∙ get_set w.rings n x.duo d1 x.duo_is)

@@ -40,7 +40,7 @@ use Rattle.fl_shows.proofs.Tests.{true_lt, false_lt}
 use Rattle.fl_worlds.specs.View.{Given, If, TheWorld, ring_at, with_core, with_ring, with_queue}
 use Rattle.fl_worlds.specs.Picture.{name_at, DispatcherShows, TakesFrom, IsWire, IsPicture, Shows}
 use Rattle.fl_worlds.specs.Lending.{Refuses, DoesNothing, OverQueue, OverSide, AtCore}
-use Rattle.fl_worlds.specs.Taking.{turn_answer, TurnsWith, TurnsArrivals, TurnsOver, TurnsAt, due_at}
+use Rattle.fl_worlds.specs.Taking.{turn_answer, as_turn, TurnsWith, TurnsArrivals, TurnsOver, TurnsAt, due_at}
 use Rattle.fl_worlds.specs.Laws.{Agrees, TurnsAgree}
 use Rattle.fl_worlds.proofs.Frames.{Stands}
 use Rattle.fl_worlds.proofs.FramesBase.{gets, same_some, not_both, end_of_binding}
@@ -175,7 +175,7 @@ core_same w s e n place h core there is = subst IsCore (same_some (slice_get w.c
 local_turn : (law : TurnLaws) (w w2 : TheWorld) (s : State) (a : Answer) (d : DispatcherId) (c place out from : ℕ) (cs : List ℕ) (e : EndId) (u : DueAt w s d c place e) → Shows w s
     → MayReceive w s d c place e u → u.machine.lists.pending ≡ c ∷ cs → next_pick u.there.lists ≡ Ok (pick.Pending (record { 0 = c }))
     → u.at.port.wire ≡ Queues out from → IsWire w u.at.core s e u.at.binding (Queues out from)
-    → OverQueue w d.core from (TurnsWith QueueTakes d.place place e a) w2 → Agrees (gives (chosen d c e) s) a w2
+    → OverQueue w d.core from (TurnsWith QueueTakes (as_turn d.place place e a)) w2 → Agrees (gives (chosen d c e) s) a w2
 local_turn law w w2 s a d c place out from cs e u shown may due picks wire wired over =
     let t = wired.1 in
     let queue : over.queue ≡ t.there = same_some (slice_get w.queues from) over.queue t.there over.queue_is t.there_is in
@@ -193,7 +193,7 @@ arriving_turn : (law : TurnLaws) (w w2 : TheWorld) (s : State) (a : Answer) (d :
     (cs : List ℕ) (e : EndId) (u : DueAt w s d c place e) → Shows w s
     → MayReceive w s d c place e u → u.machine.lists.pending ≡ c ∷ cs → next_pick u.there.lists ≡ Ok (pick.Pending (record { 0 = c }))
     → u.at.port.wire ≡ Circuit link arrivals → IsWire w u.at.core s e u.at.binding (Circuit link arrivals)
-    → AtCore w d.core (TurnsArrivals d.place place e a) w2 → Agrees (gives (chosen d c e) s) a w2
+    → AtCore w d.core (TurnsArrivals (as_turn d.place place e a)) w2 → Agrees (gives (chosen d c e) s) a w2
 arriving_turn law w w2 s a d c place link arrivals cs e u shown may due picks wire wired over =
     let t = wired.1 in
     let ev = over.event.2 in
@@ -236,7 +236,7 @@ pub record SideTurn (w w2 : TheWorld) (s : State) (a : Answer) (d : DispatcherId
 
 side_turn : (w w2 : TheWorld) (s : State) (a : Answer) (d : DispatcherId) (c place m : ℕ) (e : EndId) (u : DueAt w s d c place e) (at : RingEnd)
     (o : OwnRing w s d c place e u at) (picked : Pick) → IsSide m at → u.at.port.wire ≡ OverRing m
-    → next_pick u.there.lists ≡ Ok picked → OverSide w d.core m (TurnsWith SideTakes d.place place e a) w2 → SideTurn w w2 s a d c place e u at o picked
+    → next_pick u.there.lists ≡ Ok picked → OverSide w d.core m (TurnsWith SideTakes (as_turn d.place place e a)) w2 → SideTurn w w2 s a d c place e u at o picked
 side_turn w w2 s a d c place m e u at o picked is wire picks over =
     let k = turn_of SideTakes w s d c place e u picked over.side over.event.0 over.before over.after.board over.left over.before_is picks over.event.2.event in
     let kind_is : u.at.at.kind ≡ kind.Ring
@@ -263,7 +263,7 @@ no_side w s d c place m e u at o is none = not_both (slice_get w.rings at.ring) 
 
 pending_by_wire : (law : TurnLaws) (w w2 : TheWorld) (s : State) (a : Answer) (d : DispatcherId) (c place : ℕ) (cs : List ℕ) (e : EndId) (u : DueAt w s d c place e) (wire : Wire) → Shows w s
     → MayReceive w s d c place e u → u.machine.lists.pending ≡ c ∷ cs → next_pick u.there.lists ≡ Ok (pick.Pending (record { 0 = c }))
-    → u.at.port.wire ≡ wire → IsWire w u.at.core s e u.at.binding wire → TurnsOver (inlet_by wire) d place e w a w2 → Agrees (gives (chosen d c e) s) a w2
+    → u.at.port.wire ≡ wire → IsWire w u.at.core s e u.at.binding wire → TurnsOver (inlet_by wire) d.core (as_turn d.place place e a) w w2 → Agrees (gives (chosen d c e) s) a w2
 pending_by_wire law w w2 s a d c place cs e u (Queues out from) shown may due picks wire wired event = elim event [
   | inl over ↦ local_turn law w w2 s a d c place out from cs e u shown may due picks wire wired over
   | inr (stray, none) ↦ not_both (slice_get w.queues from) wired.1.there stray wired.1.there_is
@@ -287,7 +287,7 @@ no_queue {P} x q h r = not_both x.queue q (none_of x.queue h) r
 
 polled_by_wire : (law : TurnLaws) (w w2 : TheWorld) (s : State) (a : Answer) (d : DispatcherId) (c place : ℕ) (e : EndId) (u : DueAt w s d c place e) (wire : Wire) → Shows w s
     → IsNone (end_in e.side u.at.binding).queue → next_pick u.there.lists ≡ Ok (pick.Polled (record { 0 = c }))
-    → u.at.port.wire ≡ wire → IsWire w u.at.core s e u.at.binding wire → TurnsOver (inlet_by wire) d place e w a w2 → Agrees (examines (chosen d c e) s) a w2
+    → u.at.port.wire ≡ wire → IsWire w u.at.core s e u.at.binding wire → TurnsOver (inlet_by wire) d.core (as_turn d.place place e a) w w2 → Agrees (examines (chosen d c e) s) a w2
 polled_by_wire law w w2 s a d c place e u (Queues out from) shown none picks wire wired event =
     no_queue (end_in e.side u.at.binding) wired.1.queue none wired.1.queue_is
 polled_by_wire law w w2 s a d c place e u (OverRing m) shown none picks wire wired event =
@@ -377,7 +377,7 @@ pending_due law w w2 s a d c place cs x shown ps picks is there event =
     let listed = shown.sound.listed Pending event.0 u.at.binding (listed_by w s d c place event.0 u Pending (first_in c cs u.machine.lists.pending (same_lists u))) in
     let may = may_receive law w s d c place event.0 u shown listed.0 in
     let i_is = inlet_found w s event.0 d.core place u.at event.2.core u.at.port.wire event.1 event.2.core_is refl event.2.inlet_is in
-    let over : TurnsOver (inlet_by u.at.port.wire) d place event.0 w a w2 = subst (λ (i : Inlet). TurnsOver i d place event.0 w a w2) i_is event.3 in
+    let over : TurnsOver (inlet_by u.at.port.wire) d.core (as_turn d.place place event.0 a) w w2 = subst (λ (i : Inlet). TurnsOver i d.core (as_turn d.place place event.0 a) w w2) i_is event.3 in
     let k = pending_by_wire law w w2 s a d c place cs event.0 u u.at.port.wire shown may (same_lists u) (same_picks u) refl u.at.wire over in
     let to : turns d s ≡ gives (chosen d c event.0) s = turns_found d s x.machine x.machine_is ∙ pending_turns d s x.machine c event.0 is (same_end u) in
     record {
@@ -405,7 +405,7 @@ polled_due law w w2 s a d c place cs x shown ps picks is there event =
     let u = due_end w s d c place x event.0 event.2.core shown there event.2.core_is event.2.name_is in
     let listed = shown.sound.listed Polled event.0 u.at.binding (listed_by w s d c place event.0 u Polled (first_in c cs u.machine.lists.polled (same_lists u))) in
     let i_is = inlet_found w s event.0 d.core place u.at event.2.core u.at.port.wire event.1 event.2.core_is refl event.2.inlet_is in
-    let over : TurnsOver (inlet_by u.at.port.wire) d place event.0 w a w2 = subst (λ (i : Inlet). TurnsOver i d place event.0 w a w2) i_is event.3 in
+    let over : TurnsOver (inlet_by u.at.port.wire) d.core (as_turn d.place place event.0 a) w w2 = subst (λ (i : Inlet). TurnsOver i d.core (as_turn d.place place event.0 a) w w2) i_is event.3 in
     let k = polled_by_wire law w w2 s a d c place event.0 u u.at.port.wire shown listed.1 (same_picks u) refl u.at.wire over in
     let to : turns d s ≡ examines (chosen d c event.0) s = turns_found d s x.machine x.machine_is ∙ polled_turns d s x.machine c event.0 is (same_end u) in
     record {

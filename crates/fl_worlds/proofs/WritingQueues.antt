@@ -38,7 +38,7 @@ use Rattle.fl_shows.specs.Ends.{EndShows, machine_end}
 use Rattle.fl_shows.specs.EndLaws.{with_out, WriteAgrees, HasMore}
 use Rattle.fl_worlds.specs.View.{TheWorld, with_core, with_queue}
 use Rattle.fl_worlds.specs.Picture.{IsWire, IsPicture, Shows}
-use Rattle.fl_worlds.specs.Lending.{OverQueue}
+use Rattle.fl_worlds.specs.Lending.{answer_at, OverQueue}
 use Rattle.fl_worlds.specs.Sending.{IsWritten, WritesWith}
 use Rattle.fl_worlds.specs.Laws.{Agrees}
 use Rattle.fl_worlds.proofs.Frames.{Stands}
@@ -316,7 +316,7 @@ by_result law w w2 s a e n place out from h x k k2 q left (Err fault) wrote show
 -- a write over a queue that is lent
 pub queue_write_agrees : (law : WriteLaws) (w w2 : TheWorld) (s : State) (a : Answer) (e : EndId) (n place out from : ℕ) (h : Stands w s e n place)
     (x : HasPeer w s e n place h out from) → Shows w s → h.port.wire ≡ Queues out from
-    → OverQueue w n out (WritesWith QueuePuts place a) w2 → Agrees (writes_fragment e s) a w2
+    → OverQueue w n out (WritesWith QueuePuts (answer_at place a)) w2 → Agrees (writes_fragment e s) a w2
 queue_write_agrees law w w2 s a e n place out from h x shown wire over =
     let r = over.event.0 in
     let wrote = over.event.1 in

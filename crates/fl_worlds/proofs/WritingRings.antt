@@ -34,7 +34,7 @@ use Rattle.fl_shows.specs.Ends.{EndShows, machine_end}
 use Rattle.fl_shows.specs.EndLaws.{with_out, WriteAgrees, HasMore}
 use Rattle.fl_worlds.specs.View.{TheWorld, ring_at, which_at, with_core, with_ring}
 use Rattle.fl_worlds.specs.Picture.{Carries, IsPicture, Shows}
-use Rattle.fl_worlds.specs.Lending.{OverSide}
+use Rattle.fl_worlds.specs.Lending.{answer_at, OverSide}
 use Rattle.fl_worlds.specs.Sending.{IsWritten, WritesWith}
 use Rattle.fl_worlds.specs.Laws.{Agrees}
 use Rattle.fl_worlds.proofs.Frames.{Stands}
@@ -239,7 +239,7 @@ by_result law w w2 s a e n place h at x m side left t (Err fault) shown is which
 pub ring_write_agrees : (law : WriteLaws) (w w2 : TheWorld) (s : State) (a : Answer) (e : EndId) (n place m : ℕ) (h : Stands w s e n place) (at : RingEnd) → Shows w s
     → outlet_by s e.side h.binding.back ≡ Some (ring_side at) → IsSide m at
     → ((k : TheCore) (r : Result WriteAnswer EndFault) → slice_get w.cores n ≡ Some k → woken_by k place r ≡ None)
-    → OverSide w n m (WritesWith SidePuts place a) w2 → Agrees (writes_fragment e s) a w2
+    → OverSide w n m (WritesWith SidePuts (answer_at place a)) w2 → Agrees (writes_fragment e s) a w2
 ring_write_agrees law w w2 s a e n place m h at shown outlet is none over =
     let r = over.event.0 in
     let wrote = over.event.1 in

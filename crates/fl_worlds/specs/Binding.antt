@@ -78,25 +78,34 @@ HasEndOf n core w =
 
 -- ---- by queues
 
--- the two ends and their queues: that of number q leads to the server, the next to the client
-pub record IsJoined (want : Request) (n q : ℕ) (before : TheCore) (forth back : TheQueue) (after : TheCore) : Type 0 where
+-- two queues, the first of this number and the other of the next: that leads to the server, this to the client
+pub record QueuePair : Type 0 where
+  pub first : ℕ
+  pub forth : TheQueue
+  pub back : TheQueue
+
+abbrev pub queue_pair : ℕ → TheQueue → TheQueue → QueuePair
+queue_pair q forth back = record { first = q; forth = forth; back = back }
+
+-- the two ends of binding n, over their queues
+pub record IsJoined (want : Request) (n : ℕ) (queues : QueuePair) (before after : TheCore) : Type 0 where
   pub client_program : Program
   pub client_copy : IsCopy want client_program
   pub client : ℕ
   pub with_client : TheCore
-  pub adds_client : AddsPort want.client.place (fresh client_program (Some 0)) (record { name = client_of n; wire = Queues q (q + 1) }) before
-      (Ok client) with_client
+  pub adds_client : AddsPort want.client.place (fresh client_program (Some 0))
+      (record { name = client_of n; wire = Queues queues.first (queues.first + 1) }) before (Ok client) with_client
   pub server_program : Program
   pub server_copy : IsCopy want server_program
   pub server : ℕ
   pub with_both : TheCore
-  pub adds_server : AddsPort want.server.place (fresh server_program (Some 0)) (record { name = server_of n; wire = Queues (q + 1) q }) with_client
-      (Ok server) with_both
+  pub adds_server : AddsPort want.server.place (fresh server_program (Some 0))
+      (record { name = server_of n; wire = Queues (queues.first + 1) queues.first }) with_client (Ok server) with_both
   pub client_answer : Result (Unit {0}) BoardFault
   pub client_listed : TheCore
-  pub registers_client : OnBoard with_both (λ b c. RegistersAt QueueTakes client client_answer b back c back) client_listed
+  pub registers_client : OnBoard with_both (λ b c. RegistersAt QueueTakes client client_answer b queues.back c queues.back) client_listed
   pub server_answer : Result (Unit {0}) BoardFault
-  pub registers_server : OnBoard client_listed (λ b c. RegistersAt QueueTakes server server_answer b forth c forth) after
+  pub registers_server : OnBoard client_listed (λ b c. RegistersAt QueueTakes server server_answer b queues.forth c queues.forth) after
 
 abbrev pub new_queue : ℕ → TheQueue
 new_queue slots = record { items = []; untold = 0; sent = 0; capacity = slots; acked = false }
@@ -107,7 +116,7 @@ pub record JoinsByQueues (want : Request) (slots : ℕ) (w w2 : TheWorld) : Type
   pub whole : IsWhole core
   pub after : TheCore
   pub still : IsWhole after
-  pub joined : IsJoined want (length w.bindings) (length w.queues) core (new_queue slots) (new_queue slots) after
+  pub joined : IsJoined want (length w.bindings) (queue_pair (length w.queues) (new_queue slots) (new_queue slots)) core after
   pub rest : w2 ≡ record (with_core w want.client.core after) {
     queues = w.queues ++ new_queue slots ∷ new_queue slots ∷ [];
     bindings = w.bindings ++ binding_for want None ∷ [];
@@ -122,13 +131,21 @@ BindsByQueues want slots w a w2 =
 
 -- ---- by a ring
 
--- an end is added over a side of a new ring, and registered
-pub record JoinsSide (want : Request) (d : DispatcherId) (name : EndId) (m : ℕ) (ring : TheDuo) (before after : TheCore) : Type 0 where
+-- an end that is made: its dispatcher, and its name
+pub record NewEnd : Type 0 where
+  pub dispatcher : DispatcherId
+  pub name : EndId
+
+abbrev pub end_for : DispatcherId → EndId → NewEnd
+end_for d name = record { dispatcher = d; name = name }
+
+-- it is added over side m, of a new ring, and registered
+pub record JoinsSide (want : Request) (end : NewEnd) (m : ℕ) (ring : TheDuo) (before after : TheCore) : Type 0 where
   pub program : Program
   pub copy : IsCopy want program
   pub place : ℕ
   pub added : TheCore
-  pub adds : AddsPort d.place (fresh program (Some 0)) (record { name = name; wire = Ring m }) before (Ok place) added
+  pub adds : AddsPort end.dispatcher.place (fresh program (Some 0)) (record { name = end.name; wire = Ring m }) before (Ok place) added
   pub side : DuoSide
   pub lent : IsLent m ring side
   pub answer : Result (Unit {0}) BoardFault
@@ -140,13 +157,14 @@ pub record JoinsByRing (want : Request) (size : ℕ) (w w2 : TheWorld) : Type 0 
   pub first_whole : IsWhole first
   pub first_after : TheCore
   pub first_still : IsWhole first_after
-  pub client : JoinsSide want want.client (client_of (length w.bindings)) (2 * length w.rings) (new_duo size) first first_after
+  pub client : JoinsSide want (end_for want.client (client_of (length w.bindings))) (2 * length w.rings) (new_duo size) first first_after
   pub second : TheCore
   pub second_is : slice_get w.cores want.server.core ≡ Some second
   pub second_whole : IsWhole second
   pub second_after : TheCore
   pub second_still : IsWhole second_after
-  pub server : JoinsSide want want.server (server_of (length w.bindings)) (2 * length w.rings + 1) (new_duo size) second second_after
+  pub server : JoinsSide want (end_for want.server (server_of (length w.bindings))) (2 * length w.rings + 1) (new_duo size)
+      second second_after
   pub rest : w2 ≡ record (with_core (with_core w want.client.core first_after) want.server.core second_after) {
     rings = w.rings ++ new_duo size ∷ [];
     bindings = w.bindings ++ binding_for want None ∷ [];
@@ -180,19 +198,28 @@ AsksBy want (Err (fault.Board board.Memory)) w after a w2 = ⊥
 AsksBy want (Err (fault.Monitor monitor.Memory)) w after a w2 = ⊥
 AsksBy want (Err other) w after a w2 = Refuses (open_number other) w a w2
 
-pub record OpensOn (want : Request) (cores : List ℕ) (l : LinkId) (core : TheCore) (w : TheWorld) (a : Answer) (w2 : TheWorld) : Type 0 where
+-- what is asked for, and the cores of the circuit's route
+pub record RouteRequest : Type 0 where
+  pub want : Request
+  pub cores : List ℕ
+
+abbrev pub by_cores : Request → List ℕ → RouteRequest
+by_cores want cores = record { want = want; cores = cores }
+
+-- on this link, from this core, which is the client's
+pub record OpensOn (asks_for : RouteRequest) (l : LinkId) (core : TheCore) (w : TheWorld) (a : Answer) (w2 : TheWorld) : Type 0 where
   pub program : Program
-  pub copy : IsCopy want program
+  pub copy : IsCopy asks_for.want program
   pub result : Result ℕ OpenFault
   pub after : TheCore
   pub still : IsWhole after
-  pub asks : Asks (asked want.client.place program l (opening_for want (length w.bindings) cores)) core result after
-  pub follows : AsksBy want result w after a w2
+  pub asks : Asks (asked asks_for.want.client.place program l (opening_for asks_for.want (length w.bindings) asks_for.cores)) core result after
+  pub follows : AsksBy asks_for.want result w after a w2
 
 -- whether a circuit may be opened from this core, and on which link
-abbrev pub OpensBy : Result LinkId MonitorFault → Request → List ℕ → TheCore → TheWorld → Answer → TheWorld → Type 0
-OpensBy (Err fault) want cores core w a w2 = Refuses (monitor_number fault) w a w2
-OpensBy (Ok l) want cores core w a w2 = OpensOn want cores l core w a w2 ⊎ (HasEndOf (length w.bindings) want.client.core w × DoesNothing w a w2)
+abbrev pub OpensBy : Result LinkId MonitorFault → RouteRequest → TheCore → TheWorld → Answer → TheWorld → Type 0
+OpensBy (Err fault) x core w a w2 = Refuses (monitor_number fault) w a w2
+OpensBy (Ok l) x core w a w2 = OpensOn x l core w a w2 ⊎ (HasEndOf (length w.bindings) x.want.client.core w × DoesNothing w a w2)
 
 pub record OpensFrom (want : Request) (cores : List ℕ) (w : TheWorld) (a : Answer) (w2 : TheWorld) : Type 0 where
   pub core : TheCore
@@ -200,7 +227,7 @@ pub record OpensFrom (want : Request) (cores : List ℕ) (w : TheWorld) (a : Ans
   pub whole : IsWhole core
   pub may : Result LinkId MonitorFault
   pub may_open : MayOpen (wanted want.program want.program (core_id want.server.core) (map core_id cores) (length w.cores)) core.monitor.circuits may
-  pub opens : OpensBy may want cores core w a w2
+  pub opens : OpensBy may (by_cores want cores) core w a w2
 
 -- a route of 2 to 16 of the world's cores, none twice
 abbrev pub may_be_route : List ℕ → TheWorld → Bool
@@ -226,12 +253,22 @@ wanted_from client i p r = record {
   iref = r.iref;
 }
 
+-- what is asked for: the client's dispatcher, the interface, the service's name, and what is to join the ends
+pub record NamedRequest : Type 0 where
+  pub client : DispatcherId
+  pub interface : ℕ
+  pub name : List ℕ
+  pub kind : Kind
+
+abbrev pub named_request : DispatcherId → ℕ → List ℕ → Kind → NamedRequest
+named_request client i name kind = record { client = client; interface = i; name = name; kind = kind }
+
 -- the refusals stand in the order in which they are answered
-abbrev pub Binds : DispatcherId → ℕ → List ℕ → Kind → TheWorld → Answer → TheWorld → Type 0
-Binds client i name kind w a w2 =
-    If (not (has_dispatcher w client)) (Refuses 92 w a w2)
-    (Given (slice_get w.programs i) (Refuses 92 w a w2) λ p.
+abbrev pub Binds : NamedRequest → TheWorld → Answer → TheWorld → Type 0
+Binds x w a w2 =
+    If (not (has_dispatcher w x.client)) (Refuses 92 w a w2)
+    (Given (slice_get w.programs x.interface) (Refuses 92 w a w2) λ p.
     If (nat_le 1024 (length w.bindings)) (Refuses 94 w a w2)
-    (Given (by_name name w.names) (Refuses 70 w a w2) λ r.
-    If (not (r.service.interface == i)) (Refuses 72 w a w2)
-    (BindsBy (wanted_from client i p r) kind w a w2)))
+    (Given (by_name x.name w.names) (Refuses 70 w a w2) λ r.
+    If (not (r.service.interface == x.interface)) (Refuses 72 w a w2)
+    (BindsBy (wanted_from x.client x.interface p r) x.kind w a w2)))

@@ -17,7 +17,7 @@ use Rattle.fl_queues.specs.Worlds.{start_with}
 use Rattle.fl_worlds.specs.View.{TheWorld}
 use Rattle.fl_worlds.specs.Picture.{IsPicture, Shows}
 use Rattle.fl_worlds.specs.Making.{AddsInterface, SetsCores, AddsLink, AddsDispatcher, Exports}
-use Rattle.fl_worlds.specs.Binding.{Binds}
+use Rattle.fl_worlds.specs.Binding.{named_request, Binds}
 use Rattle.fl_worlds.specs.Sending.{MakesCall, Previews, WritesFragment}
 use Rattle.fl_worlds.specs.Taking.{HasTurn, Acknowledges, RegistersChannel, DeregistersChannel, SetsReply}
 use Rattle.fl_worlds.specs.Linking.{WritesMessage, AcksLink, Forwards}
@@ -50,7 +50,7 @@ abbrev pub ExportsAgree : Type 0
 ExportsAgree = (name : List ℕ) (d : DispatcherId) (i : ℕ) → Agree (Exports name d i) (exports name d i)
 
 abbrev pub BindsAgree : Type 0
-BindsAgree = (client : DispatcherId) (i : ℕ) (name : List ℕ) (kind : Kind) → Agree (Binds client i name kind) (binds client i name kind)
+BindsAgree = (client : DispatcherId) (i : ℕ) (name : List ℕ) (kind : Kind) → Agree (Binds (named_request client i name kind)) (binds client i name kind)
 
 -- ---- what ends do
 

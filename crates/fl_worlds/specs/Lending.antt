@@ -11,6 +11,14 @@ use Rattle.fl_queues.specs.Events.{Answer, nothing, refused}
 use Rattle.fl_worlds.specs.declared.binding.Binding.{Binding}
 use Rattle.fl_worlds.specs.View.{TheWorld, ring_at, which_at, IsWhole, with_core, with_ring, with_queue, with_binding, keeping}
 
+-- what is answered of the end at a place of a core
+pub record AnswerAt : Type 0 where
+  pub place : ℕ
+  pub answer : Answer
+
+abbrev pub answer_at : ℕ → Answer → AnswerAt
+answer_at place a = record { place = place; answer = a }
+
 -- the event is refused, and nothing has changed
 abbrev pub Refuses : ℕ → TheWorld → Answer → TheWorld → Type 0
 Refuses fault w a w2 = (a ≡ refused fault) × (w2 ≡ w)

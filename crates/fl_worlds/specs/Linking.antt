@@ -95,9 +95,18 @@ IsHeard (Ok (told.OpeningRefused e reason)) a = a ≡ opening_refused reason e
 IsHeard (Err Memory) a = ⊥
 IsHeard (Err fault) a = a ≡ refused (link_number fault)
 
--- the fragment says a message, of which this is told
-abbrev pub HearsWith : Offers → LinkId → Frag → Result MonitorAnswer LinkFault → TheCore → DuoSide → TheCore → DuoSide → Type 0
-HearsWith o l frag r k p k2 q = HearsFrag o l frag k r k2 × TakesHeard SideTakes frag p r q
+-- a fragment that comes over a link to a core, while this is offered
+pub record Incoming : Type 0 where
+  pub offers : Offers
+  pub link : LinkId
+  pub frag : Frag
+
+abbrev pub incoming : Offers → LinkId → Frag → Incoming
+incoming o l frag = record { offers = o; link = l; frag = frag }
+
+-- it says a message, of which this is told
+abbrev pub HearsWith : Incoming → Result MonitorAnswer LinkFault → TheCore → DuoSide → TheCore → DuoSide → Type 0
+HearsWith x r k p k2 q = HearsFrag x.offers x.link x.frag k r k2 × TakesHeard SideTakes x.frag p r q
 
 -- the end at a place of core n has just been made for a binding, which keeps one for it
 pub record HasRules (w : TheWorld) (n place binding : ℕ) : Type 0 where
@@ -145,7 +154,7 @@ link_id l = record { 0 = l }
 pub record HearsFirst (core : ℕ) (at : LinkEnd) (frag : Frag) (w : TheWorld) (a : Answer) (w2 : TheWorld) : Type 0 where
   pub told : Result MonitorAnswer LinkFault
   pub heard : TheWorld
-  pub hears : OverSide w core at.side (HearsWith (offers_in w) (link_id at.link) frag told) heard
+  pub hears : OverSide w core at.side (HearsWith (incoming (offers_in w) (link_id at.link) frag) told) heard
   pub answer : IsHeard told a
   pub rules : ThenRules told heard w2
 
@@ -156,24 +165,33 @@ moved_answer outcome.Moved = forwarded
 moved_answer outcome.Full = full
 moved_answer outcome.Spent = full
 
--- from one side to another, with this circuit's number
-pub record MovesOn (from onto : ℕ) (frag : Frag) (circuit : Circuit) (w : TheWorld) (a : Answer) (w2 : TheWorld) : Type 0 where
-  pub apart : ring_at from ≢ ring_at onto
+-- a fragment that is to go on, from one side to another, with this circuit's number
+pub record Move : Type 0 where
+  pub from : ℕ
+  pub onto : ℕ
+  pub frag : Frag
+  pub circuit : Circuit
+
+abbrev pub move_of : ℕ → ℕ → Frag → Circuit → Move
+move_of from onto frag circuit = record { from = from; onto = onto; frag = frag; circuit = circuit }
+
+pub record MovesOn (x : Move) (w : TheWorld) (a : Answer) (w2 : TheWorld) : Type 0 where
+  pub apart : ring_at x.from ≢ ring_at x.onto
   pub ring : TheDuo
-  pub ring_is : slice_get w.rings (ring_at from) ≡ Some ring
+  pub ring_is : slice_get w.rings (ring_at x.from) ≡ Some ring
   pub side : DuoSide
-  pub lent : IsLent from ring side
+  pub lent : IsLent x.from ring side
   pub next : TheDuo
-  pub next_is : slice_get w.rings (ring_at onto) ≡ Some next
+  pub next_is : slice_get w.rings (ring_at x.onto) ≡ Some next
   pub next_side : DuoSide
-  pub next_lent : IsLent onto next next_side
+  pub next_lent : IsLent x.onto next next_side
   pub outcome : Outcome
   pub put_side : DuoSide
-  pub puts : SidePuts next_side (put_label outcome (bare (with_circuit circuit.0 frag))) put_side
+  pub puts : SidePuts next_side (put_label outcome (bare (with_circuit x.circuit.0 x.frag))) put_side
   pub left_side : DuoSide
-  pub left : Leaves SideTakes outcome (bare frag) (record { before = side; after = left_side })
+  pub left : Leaves SideTakes outcome (bare x.frag) (record { before = side; after = left_side })
   pub answer : a ≡ moved_answer outcome
-  pub rest : w2 ≡ with_ring (with_ring w (ring_at from) left_side.duo.now) (ring_at onto) put_side.duo.now
+  pub rest : w2 ≡ with_ring (with_ring w (ring_at x.from) left_side.duo.now) (ring_at x.onto) put_side.duo.now
 
 -- as in no world that shows a state: it would go back onto the ring that it comes from, or to none
 abbrev pub IsNoWay : ℕ → ℕ → TheWorld → Type 0
@@ -183,8 +201,17 @@ abbrev pub IsMoved : Result Outcome LinkFault → Answer → Type 0
 IsMoved (Ok outcome) a = a ≡ moved_answer outcome
 IsMoved (Err fault) a = a ≡ refused (link_number fault)
 
-abbrev pub ArrivesWith : ℕ → Frag → EndId → Answer → TheCore → DuoSide → TheCore → DuoSide → Type 0
-ArrivesWith l frag e a k p k2 q = (r : Result Outcome LinkFault) × ArrivesAt SideTakes l frag e k p r k2 q × IsMoved r a
+-- a fragment that is to arrive, from a link, at an end
+pub record Inbound : Type 0 where
+  pub link : ℕ
+  pub frag : Frag
+  pub end : EndId
+
+abbrev pub inbound : ℕ → Frag → EndId → Inbound
+inbound l frag e = record { link = l; frag = frag; end = e }
+
+abbrev pub ArrivesWith : Inbound → Answer → TheCore → DuoSide → TheCore → DuoSide → Type 0
+ArrivesWith x a k p k2 q = (r : Result Outcome LinkFault) × ArrivesAt SideTakes x.link x.frag x.end k p r k2 q × IsMoved r a
 
 abbrev pub LooksWith : ℕ → Result Ahead LinkFault → TheCore → DuoSide → TheCore → DuoSide → Type 0
 LooksWith l ahead k p k2 q = LooksAhead SideTakes front_for l k p ahead k2 q
@@ -197,8 +224,8 @@ ForwardsBy (Ok Nothing) core at w a w2 = DoesNothing w a w2
 ForwardsBy (Ok Acknowledged) core at w a w2 = (a ≡ done) × (w2 ≡ w)
 ForwardsBy (Ok (Message frag)) core at w a w2 = HearsFirst core at frag w a w2
 ForwardsBy (Ok (Onward frag side circuit)) core at w a w2 =
-    MovesOn at.side side frag circuit w a w2 ⊎ (IsNoWay at.side side w × DoesNothing w a w2)
-ForwardsBy (Ok (Arrival frag e)) core at w a w2 = OverSide w core at.side (ArrivesWith at.link frag e a) w2
+    MovesOn (move_of at.side side frag circuit) w a w2 ⊎ (IsNoWay at.side side w × DoesNothing w a w2)
+ForwardsBy (Ok (Arrival frag e)) core at w a w2 = OverSide w core at.side (ArrivesWith (inbound at.link frag e) a) w2
 ForwardsBy (Err fault) core at w a w2 = Refuses (link_number fault) w a w2
 
 -- the link is looked at, and then what stands first there is followed

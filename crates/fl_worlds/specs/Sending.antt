@@ -21,7 +21,7 @@ use Rattle.fl_node.specs.View.{TheCore, outlet_of}
 use Rattle.fl_node.specs.Ends.{OnBoard, WritesAt}
 use Rattle.fl_queues.specs.Events.{Answer, accepted, nothing, full, written, words, refused}
 use Rattle.fl_worlds.specs.View.{TheWorld, ring_at, which_at, Spot, nowhere, unmade, made, spot_of}
-use Rattle.fl_worlds.specs.Lending.{Refuses, AtCore, OverQueue, OverSide, AtUnmade, KeepsNone, IsStray}
+use Rattle.fl_worlds.specs.Lending.{AnswerAt, answer_at, Refuses, AtCore, OverQueue, OverSide, AtUnmade, KeepsNone, IsStray}
 
 -- ---- a call
 
@@ -85,12 +85,12 @@ IsWritten (Ok write.Full) a = a ≡ full
 IsWritten (Ok write.Nothing) a = a ≡ nothing
 IsWritten (Err fault) a = a ≡ refused (fault_number fault)
 
-abbrev pub WritesWith : {P : Type 0} → (P → Look → P → Type 0) → ℕ → Answer → TheCore → P → TheCore → P → Type 0
-WritesWith puts place a k p k2 q = (r : Result WriteAnswer EndFault) × WritesAt puts place k p r k2 q × IsWritten r a
+abbrev pub WritesWith : {P : Type 0} → (P → Look → P → Type 0) → AnswerAt → TheCore → P → TheCore → P → Type 0
+WritesWith puts at k p k2 q = (r : Result WriteAnswer EndFault) × WritesAt puts at.place k p r k2 q × IsWritten r at.answer
 
 abbrev pub WritesOver : Outlet → ℕ → ℕ → TheWorld → Answer → TheWorld → Type 0
-WritesOver (outlet.Queue q) n place w a w2 = OverQueue w n q (WritesWith QueuePuts place a) w2 ⊎ IsStray w.queues q w a w2
-WritesOver (outlet.Side m) n place w a w2 = OverSide w n m (WritesWith SidePuts place a) w2 ⊎ IsStray w.rings (ring_at m) w a w2
+WritesOver (outlet.Queue q) n place w a w2 = OverQueue w n q (WritesWith QueuePuts (answer_at place a)) w2 ⊎ IsStray w.queues q w a w2
+WritesOver (outlet.Side m) n place w a w2 = OverSide w n m (WritesWith SidePuts (answer_at place a)) w2 ⊎ IsStray w.rings (ring_at m) w a w2
 
 abbrev pub WritesBy : Spot → TheWorld → Answer → TheWorld → Type 0
 WritesBy nowhere w a w2 = Refuses 92 w a w2

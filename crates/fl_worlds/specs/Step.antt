@@ -4,7 +4,7 @@ use Rattle.fl_queues.specs.Events.{Event, add_interface, set_cores, add_link, ad
 use Rattle.fl_queues.specs.Events.{turn, acknowledge, register, deregister, reply, monitor_write, forward, monitor_acknowledge, Answer, refused}
 use Rattle.fl_worlds.specs.View.{TheWorld}
 use Rattle.fl_worlds.specs.Making.{fresh_cores, AddsInterface, SetsCores, AddsLink, AddsDispatcher, Exports}
-use Rattle.fl_worlds.specs.Binding.{Binds}
+use Rattle.fl_worlds.specs.Binding.{named_request, Binds}
 use Rattle.fl_worlds.specs.Sending.{MakesCall, Previews, WritesFragment}
 use Rattle.fl_worlds.specs.Taking.{HasTurn, Acknowledges, RegistersChannel, DeregistersChannel, SetsReply}
 use Rattle.fl_worlds.specs.Linking.{WritesMessage, AcksLink, Forwards}
@@ -15,7 +15,7 @@ Does (set_cores n) w a w2 = SetsCores n w a w2
 Does (add_link x y size) w a w2 = AddsLink x y size w a w2
 Does (add_dispatcher core) w a w2 = AddsDispatcher core w a w2
 Does (export name d i) w a w2 = Exports name d i w a w2
-Does (bind client i name kind) w a w2 = Binds client i name kind w a w2
+Does (bind client i name kind) w a w2 = Binds (named_request client i name kind) w a w2
 Does (call e c) w a w2 = MakesCall e c w a w2
 Does (show e) w a w2 = Previews e w a w2
 Does (write e) w a w2 = WritesFragment e w a w2

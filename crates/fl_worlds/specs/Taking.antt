@@ -29,7 +29,7 @@ use Rattle.fl_node.specs.Ends.{OnBoard, OverArrivals, RegistersAt}
 use Rattle.fl_queues.specs.Events.{DispatcherId, Answer, done, nothing, full, handle, part, ready, quiet, refused}
 use Rattle.fl_queues.specs.Given.{given}
 use Rattle.fl_worlds.specs.View.{Given, If, TheWorld, has_dispatcher, ring_at, Spot, nowhere, unmade, made, spot_of}
-use Rattle.fl_worlds.specs.Lending.{Refuses, DoesNothing, AtCore, OverQueue, OverSide, AtUnmade, KeepsNone, IsStray}
+use Rattle.fl_worlds.specs.Lending.{AnswerAt, answer_at, Refuses, DoesNothing, AtCore, OverQueue, OverSide, AtUnmade, KeepsNone, IsStray}
 
 -- ---- a turn
 
@@ -51,24 +51,36 @@ pub record IsDue (w : TheWorld) (d : DispatcherId) (e : ℕ) (name : EndId) (i :
   pub name_is : place_of core name ≡ Some e
   pub inlet_is : inlet_of core e ≡ Some i
 
-abbrev pub TurnsWith : {T : Type 0} → (T → Look → T → Type 0) → ℕ → ℕ → EndId → Answer → TheCore → T → TheCore → T → Type 0
-TurnsWith takes n e name a k p k2 q =
-    (r : TurnAnswer) × Holds k.board e (λ s. Sound s.end) × OnBoard k (λ b c. Turns takes n e (over b p) (Ok r) (over c q)) k2
-    × (a ≡ turn_answer name r)
+-- a turn: its dispatcher and its end, by their places at their core, the end's name, and what is answered
+pub record Turn : Type 0 where
+  pub dispatcher : ℕ
+  pub end : ℕ
+  pub name : EndId
+  pub answer : Answer
 
-abbrev pub TurnsArrivals : ℕ → ℕ → EndId → Answer → TheCore → TheCore → Type 0
-TurnsArrivals n e name a k k2 =
-    (r : TurnAnswer) × Holds k.board e (λ s. Sound s.end)
-    × OverArrivals k e (λ b p c q. Turns QueueTakes n e (over b p) (Ok r) (over c q)) k2 × (a ≡ turn_answer name r)
+abbrev pub as_turn : ℕ → ℕ → EndId → Answer → Turn
+as_turn n e name a = record { dispatcher = n; end = e; name = name; answer = a }
 
-abbrev pub TurnsOver : Inlet → DispatcherId → ℕ → EndId → TheWorld → Answer → TheWorld → Type 0
-TurnsOver (inlet.Queue q) d e name w a w2 = OverQueue w d.core q (TurnsWith QueueTakes d.place e name a) w2 ⊎ IsStray w.queues q w a w2
-TurnsOver (inlet.Side m) d e name w a w2 = OverSide w d.core m (TurnsWith SideTakes d.place e name a) w2 ⊎ IsStray w.rings (ring_at m) w a w2
-TurnsOver inlet.Arrivals d e name w a w2 = AtCore w d.core (TurnsArrivals d.place e name a) w2
+abbrev pub TurnsWith : {T : Type 0} → (T → Look → T → Type 0) → Turn → TheCore → T → TheCore → T → Type 0
+TurnsWith takes x k p k2 q =
+    (r : TurnAnswer) × Holds k.board x.end (λ s. Sound s.end)
+    × OnBoard k (λ b c. Turns takes x.dispatcher x.end (over b p) (Ok r) (over c q)) k2 × (x.answer ≡ turn_answer x.name r)
+
+abbrev pub TurnsArrivals : Turn → TheCore → TheCore → Type 0
+TurnsArrivals x k k2 =
+    (r : TurnAnswer) × Holds k.board x.end (λ s. Sound s.end)
+    × OverArrivals k x.end (λ b p c q. Turns QueueTakes x.dispatcher x.end (over b p) (Ok r) (over c q)) k2
+    × (x.answer ≡ turn_answer x.name r)
+
+-- a turn at core n, by where its end takes from
+abbrev pub TurnsOver : Inlet → ℕ → Turn → TheWorld → TheWorld → Type 0
+TurnsOver (inlet.Queue q) n x w w2 = OverQueue w n q (TurnsWith QueueTakes x) w2 ⊎ IsStray w.queues q w x.answer w2
+TurnsOver (inlet.Side m) n x w w2 = OverSide w n m (TurnsWith SideTakes x) w2 ⊎ IsStray w.rings (ring_at m) w x.answer w2
+TurnsOver inlet.Arrivals n x w w2 = AtCore w n (TurnsArrivals x) w2
 
 -- the end that is due at a dispatcher has the turn
 abbrev pub TurnsAt : DispatcherId → ℕ → TheWorld → Answer → TheWorld → Type 0
-TurnsAt d e w a w2 = (name : EndId) × (i : Inlet) × IsDue w d e name i × TurnsOver i d e name w a w2
+TurnsAt d e w a w2 = (name : EndId) × (i : Inlet) × IsDue w d e name i × TurnsOver i d.core (as_turn d.place e name a) w w2
 
 abbrev pub due_at : TheWorld → DispatcherId → Option ℕ
 due_at w d = given (slice_get w.cores d.core) None λ k. due k.board d.place
@@ -86,8 +98,9 @@ IsAcked (Ok ack.Nothing) a = a ≡ nothing
 IsAcked (Ok ack.Full) a = a ≡ full
 IsAcked (Err fault) a = a ≡ refused (board_number fault)
 
-abbrev pub AcksWith : ℕ → Answer → TheCore → DuoSide → TheCore → DuoSide → Type 0
-AcksWith place a k p k2 q = (r : Result AckAnswer BoardFault) × Holds k.board place (λ s. Acks SideTakes s.kind s.end p r q) × (k2 ≡ k) × IsAcked r a
+abbrev pub AcksWith : AnswerAt → TheCore → DuoSide → TheCore → DuoSide → Type 0
+AcksWith at k p k2 q =
+    (r : Result AckAnswer BoardFault) × Holds k.board at.place (λ s. Acks SideTakes s.kind s.end p r q) × (k2 ≡ k) × IsAcked r at.answer
 
 -- where it takes from a queue it has nothing to tell
 abbrev pub TellsNothing : TheEnd → Answer → Type 0
@@ -99,15 +112,16 @@ pub record HasInlet (w : TheWorld) (n place : ℕ) (i : Inlet) : Type 0 where
   pub core_is : slice_get w.cores n ≡ Some core
   pub inlet_is : inlet_of core place ≡ Some i
 
-abbrev pub AcksOver : Inlet → TheCore → ℕ → ℕ → TheWorld → Answer → TheWorld → Type 0
-AcksOver (inlet.Side m) k n place w a w2 = OverSide w n m (AcksWith place a) w2 ⊎ IsStray w.rings (ring_at m) w a w2
-AcksOver (inlet.Queue q) k n place w a w2 = Holds k.board place (λ s. TellsNothing s.end a) × (w2 ≡ w)
-AcksOver inlet.Arrivals k n place w a w2 = Holds k.board place (λ s. TellsNothing s.end a) × (w2 ≡ w)
+-- at core n, which is k
+abbrev pub AcksOver : Inlet → TheCore → ℕ → AnswerAt → TheWorld → TheWorld → Type 0
+AcksOver (inlet.Side m) k n at w w2 = OverSide w n m (AcksWith at) w2 ⊎ IsStray w.rings (ring_at m) w at.answer w2
+AcksOver (inlet.Queue q) k n at w w2 = Holds k.board at.place (λ s. TellsNothing s.end at.answer) × (w2 ≡ w)
+AcksOver inlet.Arrivals k n at w w2 = Holds k.board at.place (λ s. TellsNothing s.end at.answer) × (w2 ≡ w)
 
 abbrev pub AcksAt : Spot → TheWorld → Answer → TheWorld → Type 0
 AcksAt nowhere w a w2 = Refuses 92 w a w2
 AcksAt unmade w a w2 = Refuses 43 w a w2
-AcksAt (made n place) w a w2 = (i : Inlet) × ((h : HasInlet w n place i) × AcksOver i h.core n place w a w2)
+AcksAt (made n place) w a w2 = (i : Inlet) × ((h : HasInlet w n place i) × AcksOver i h.core n (answer_at place a) w w2)
 
 abbrev pub Acknowledges : EndId → TheWorld → Answer → TheWorld → Type 0
 Acknowledges e w a w2 = AcksAt (spot_of w e) w a w2
@@ -118,18 +132,19 @@ abbrev pub IsRegistered : Result (Unit {0}) BoardFault → Answer → Type 0
 IsRegistered (Ok unit) a = a ≡ done
 IsRegistered (Err fault) a = a ≡ refused (board_number fault)
 
-abbrev pub RegistersWith : {T : Type 0} → (T → Look → T → Type 0) → ℕ → Answer → TheCore → T → TheCore → T → Type 0
-RegistersWith takes place a k p k2 q =
-    (r : Result (Unit {0}) BoardFault) × OnBoard k (λ b c. RegistersAt takes place r b p c q) k2 × IsRegistered r a
+abbrev pub RegistersWith : {T : Type 0} → (T → Look → T → Type 0) → AnswerAt → TheCore → T → TheCore → T → Type 0
+RegistersWith takes at k p k2 q =
+    (r : Result (Unit {0}) BoardFault) × OnBoard k (λ b c. RegistersAt takes at.place r b p c q) k2 × IsRegistered r at.answer
 
-abbrev pub RegistersArrivals : ℕ → Answer → TheCore → TheCore → Type 0
-RegistersArrivals place a k k2 =
-    (r : Result (Unit {0}) BoardFault) × OverArrivals k place (λ b p c q. RegistersAt QueueTakes place r b p c q) k2 × IsRegistered r a
+abbrev pub RegistersArrivals : AnswerAt → TheCore → TheCore → Type 0
+RegistersArrivals at k k2 =
+    (r : Result (Unit {0}) BoardFault)
+    × OverArrivals k at.place (λ b p c q. RegistersAt QueueTakes at.place r b p c q) k2 × IsRegistered r at.answer
 
 abbrev pub RegistersOver : Inlet → ℕ → ℕ → TheWorld → Answer → TheWorld → Type 0
-RegistersOver (inlet.Queue q) n place w a w2 = OverQueue w n q (RegistersWith QueueTakes place a) w2 ⊎ IsStray w.queues q w a w2
-RegistersOver (inlet.Side m) n place w a w2 = OverSide w n m (RegistersWith SideTakes place a) w2 ⊎ IsStray w.rings (ring_at m) w a w2
-RegistersOver inlet.Arrivals n place w a w2 = AtCore w n (RegistersArrivals place a) w2
+RegistersOver (inlet.Queue q) n place w a w2 = OverQueue w n q (RegistersWith QueueTakes (answer_at place a)) w2 ⊎ IsStray w.queues q w a w2
+RegistersOver (inlet.Side m) n place w a w2 = OverSide w n m (RegistersWith SideTakes (answer_at place a)) w2 ⊎ IsStray w.rings (ring_at m) w a w2
+RegistersOver inlet.Arrivals n place w a w2 = AtCore w n (RegistersArrivals (answer_at place a)) w2
 
 abbrev pub RegistersBy : Spot → TheWorld → Answer → TheWorld → Type 0
 RegistersBy nowhere w a w2 = Refuses 92 w a w2
@@ -139,14 +154,15 @@ RegistersBy (made n place) w a w2 = (i : Inlet) × HasInlet w n place i × Regis
 abbrev pub RegistersChannel : EndId → TheWorld → Answer → TheWorld → Type 0
 RegistersChannel e w a w2 = RegistersBy (spot_of w e) w a w2
 
-abbrev pub DeregistersIn : ℕ → Answer → TheCore → TheCore → Type 0
-DeregistersIn place a k k2 =
-    (r : Result (Unit {0}) BoardFault) × OnBoard k (λ b c. ChangesLists b place (λ s w v. Deregisters s w r v) c) k2 × IsRegistered r a
+abbrev pub DeregistersIn : AnswerAt → TheCore → TheCore → Type 0
+DeregistersIn at k k2 =
+    (r : Result (Unit {0}) BoardFault)
+    × OnBoard k (λ b c. ChangesLists b at.place (λ s w v. Deregisters s w r v) c) k2 × IsRegistered r at.answer
 
 abbrev pub DeregistersBy : Spot → TheWorld → Answer → TheWorld → Type 0
 DeregistersBy nowhere w a w2 = Refuses 92 w a w2
 DeregistersBy unmade w a w2 = Refuses 43 w a w2
-DeregistersBy (made n place) w a w2 = AtCore w n (DeregistersIn place a) w2
+DeregistersBy (made n place) w a w2 = AtCore w n (DeregistersIn (answer_at place a)) w2
 
 abbrev pub DeregistersChannel : EndId → TheWorld → Answer → TheWorld → Type 0
 DeregistersChannel e w a w2 = DeregistersBy (spot_of w e) w a w2
@@ -157,13 +173,23 @@ abbrev pub IsRuled : Result (Unit {0}) EndFault → Answer → Type 0
 IsRuled (Ok unit) a = a ≡ done
 IsRuled (Err fault) a = a ≡ refused (fault_number fault)
 
-abbrev pub RulesAt : Spot → EndId → ℕ → ℕ → TheWorld → Answer → TheWorld → Type 0
-RulesAt nowhere e msg reply w a w2 = Refuses 92 w a w2
-RulesAt unmade e msg reply w a w2 =
-    (AtUnmade w e.binding (λ s t. (r : Result (Unit {0}) EndFault) × SetsRule s msg reply r t × IsRuled r a) w2)
-    ⊎ (KeepsNone w e.binding × Refuses 92 w a w2)
-RulesAt (made n place) e msg reply w a w2 =
-    AtCore w n (λ k k2. (r : Result (Unit {0}) EndFault) × OnBoard k (λ b c. ChangesEnd b place (λ s t. SetsRule s msg reply r t) c) k2 × IsRuled r a) w2
+-- at this end a message is answered by this reply
+pub record ReplyRule : Type 0 where
+  pub end : EndId
+  pub message : ℕ
+  pub reply : ℕ
+
+abbrev pub reply_rule : EndId → ℕ → ℕ → ReplyRule
+reply_rule e msg reply = record { end = e; message = msg; reply = reply }
+
+abbrev pub RulesAt : Spot → ReplyRule → TheWorld → Answer → TheWorld → Type 0
+RulesAt nowhere x w a w2 = Refuses 92 w a w2
+RulesAt unmade x w a w2 =
+    (AtUnmade w x.end.binding (λ s t. (r : Result (Unit {0}) EndFault) × SetsRule s x.message x.reply r t × IsRuled r a) w2)
+    ⊎ (KeepsNone w x.end.binding × Refuses 92 w a w2)
+RulesAt (made n place) x w a w2 =
+    AtCore w n (λ k k2. (r : Result (Unit {0}) EndFault)
+    × OnBoard k (λ b c. ChangesEnd b place (λ s t. SetsRule s x.message x.reply r t) c) k2 × IsRuled r a) w2
 
 abbrev pub SetsReply : EndId → ℕ → ℕ → TheWorld → Answer → TheWorld → Type 0
-SetsReply e msg reply w a w2 = RulesAt (spot_of w e) e msg reply w a w2
+SetsReply e msg reply w a w2 = RulesAt (spot_of w e) (reply_rule e msg reply) w a w2
