@@ -1,5 +1,8 @@
 //! The two ends of a binding over queues, and what they answer.
 
+ghost use Rattle.std.specs.Prelude.{◌≡◌};
+ghost use Rattle.fl_endpoint.specs.Lent.{IsPlaceOf};
+
 use crate::sides::Refusing;
 use crate::tables::Row;
 use fl_base::{Circuit, Frag, MsgNo, Side};
@@ -8,6 +11,7 @@ use fl_compile::{Program, compile};
 use fl_endpoint::{End, EndFault, ReceiveAnswer, WriteAnswer};
 use fl_lex::{Tokens, lex};
 use fl_link::{PutFault, QueueLink};
+use fl_machine::Reassemblies;
 use fl_parse::{Tree, parse};
 use fl_value::{Call, PlanNo, ValueFault, print_call, read_call};
 use std::alloc::{AllocError, Global};
@@ -81,11 +85,13 @@ pub struct Example {
     pub handled: &'static [u8],
 }
 
-// An end, and the queue that it puts to.
+// An end, with the place of the calls that come to it, and the queue that it puts to.
 #[derive(Drop)]
 struct Half {
     end: End,
+    calls: Reassemblies,
     out: QueueLink,
+    ghost placed: { IsPlaceOf end calls 0 },
 }
 
 // The two ends of a binding, and the texts of the calls that they handled, a line each.
@@ -135,8 +141,12 @@ fn queue(alloc: Global, size: usize) -> Result<QueueLink, AllocError> {
 
 fn make_half(alloc: Global, plan: PlanNo, example: &Example) -> Result<Half, AllocError> {
     let program = program(alloc, example.text, plan)?;
+    let end = end(alloc, program, example.circuit)?;
+    let mut calls = Reassemblies::new(alloc);
+    end.add_place(&mut calls)?;
     Ok(Half {
-        end: end(alloc, program, example.circuit)?,
+        end,
+        calls,
         out: queue(alloc, example.size)?,
     })
 }
@@ -173,20 +183,26 @@ fn put(queue: &mut QueueLink, control: u64, words: [u64; 7]) -> Said {
 }
 
 // A call as it was read.
-fn say(alloc: Global, end: &mut End, read: Result<Call, ValueFault>) -> Said {
+fn say(alloc: Global, end: &mut End, read: Result<Call, ValueFault>) -> Said
+    ensures program { end.new.program ≡ end.old.program }
+{
     match read {
         Ok(call) => said_of(end.call(&call, &mut Vec::new(alloc))),
         Err(_) => Said::Refused(90),
     }
 }
 
-fn call(alloc: Global, end: &mut End, text: &[u8]) -> Said {
+fn call(alloc: Global, end: &mut End, text: &[u8]) -> Said
+    ensures program { end.new.program ≡ end.old.program }
+{
     let read = read_call(alloc, text, end.program().interface());
     say(alloc, end, read)
 }
 
 // The same, read by the interface of another text.
-fn call_by(alloc: Global, end: &mut End, other: &[u8], text: &[u8]) -> Result<Said, AllocError> {
+fn call_by(alloc: Global, end: &mut End, other: &[u8], text: &[u8]) -> Result<Said, AllocError>
+    ensures program { end.new.program ≡ end.old.program }
+{
     let program = program(alloc, other, PlanNo::Two)?;
     let read = read_call(alloc, text, program.interface());
     Ok(say(alloc, end, read))
@@ -208,7 +224,9 @@ fn handle(
 }
 
 // What an end answers that takes no memory.
-fn ask(end: &mut End, deed: Deed) -> Said {
+fn ask(end: &mut End, deed: Deed) -> Said
+    ensures program { end.new.program ≡ end.old.program }
+{
     match deed {
         Deed::Rule(msg, reply) => said_of(end.reply_rule(msg, reply)),
         Deed::RuleFor(msg) => Said::Rule(end.rule_for(msg)),
@@ -249,7 +267,7 @@ impl Half {
         from: &mut QueueLink,
         handled: &mut Vec<u8>,
     ) -> Result<Said, AllocError> {
-        match self.end.receive(from) {
+        match self.end.receive(from, &mut self.calls, 0) {
             Ok(ReceiveAnswer::Handle(call)) => handle(alloc, handled, &self.end, &call),
             Ok(ReceiveAnswer::Part) => Ok(Said::Part),
             Ok(ReceiveAnswer::Quiet) => Ok(Said::Quiet),

@@ -55,7 +55,7 @@ pub(crate) fn sound_at<S>(run: &Running<S>, name: EndId, e: usize)
     requires place { place_of run.now.core name ≡ Some e }
     ensures sound { IsSoundAt (run_of run.now) name }
 {
-    run.core.board().end(e).sound();
+    run.core.board().end_sound(e);
 }
 
 impl<S: PutSide + TakeSide + Drop> Running<S> {

@@ -66,7 +66,7 @@ fn sound(core: &Core, e: usize)
     requires there { e < length core.now.board.seats }
     ensures sound { Holds core.now.board e (λ s. Sound s.end) }
 {
-    core.board().end(e).sound();
+    core.board().end_sound(e);
 }
 
 // A dispatcher of a core has a turn, over the queue of the end that is due.

@@ -46,7 +46,7 @@ fn sound_at(core: &Core, e: usize)
     requires there { e < length core.now.board.seats }
     ensures end { (seat : TheSeat) → slice_get core.now.board.seats e ≡ Some seat → IsEnd seat.end }
 {
-    core.board().end(e).sound();
+    core.board().end_sound(e);
 }
 
 // What is known of each end of a core, and of its circuits. It does nothing.

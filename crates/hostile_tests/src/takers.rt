@@ -1,5 +1,7 @@
 //! An end that is given fragments, alone and at a board.
 
+ghost use Rattle.fl_endpoint.specs.Lent.{IsPlaceOf};
+
 use fl_base::{Circuit, Frag};
 use fl_check::{TextFault, check};
 use fl_compile::{Program, compile};
@@ -8,6 +10,7 @@ use fl_endpoint::{End, EndFault, ReceiveAnswer};
 use fl_interface::Interface;
 use fl_lex::lex;
 use fl_link::QueueLink;
+use fl_machine::Reassemblies;
 use fl_parse::parse;
 use fl_value::{Call, PlanNo, read_call};
 use std::alloc::{AllocError, Global};
@@ -66,24 +69,30 @@ fn said_of_receive(answer: Result<ReceiveAnswer, EndFault>) -> Said {
     }
 }
 
-/// A new end of a program, and the queue that it takes from.
+/// A new end of a program, with the place of the calls that come to it, and the queue that it takes from.
 #[derive(Drop)]
 pub struct Taker {
     end: End,
+    calls: Reassemblies,
     from: QueueLink,
+    ghost placed: { IsPlaceOf end calls 0 },
 }
 
 impl Taker {
     pub fn new(alloc: Global, program: &Program) -> Result<Taker, AllocError> {
+        let end = end(alloc, program)?;
+        let mut calls = Reassemblies::new(alloc);
+        end.add_place(&mut calls)?;
         Ok(Taker {
-            end: end(alloc, program)?,
+            end,
+            calls,
             from: queue(alloc)?,
         })
     }
 
     /// What the end answers to what stands first.
     pub fn receives(&mut self) -> Said {
-        said_of_receive(self.end.receive(&mut self.from))
+        said_of_receive(self.end.receive(&mut self.from, &mut self.calls, 0))
     }
 
     /// What it answers to a fragment that is put there.
