@@ -121,7 +121,8 @@ fn examine<T: TakeSide>(waitset: &mut Waitset, c: ChanId, from: &mut T) -> bool
     requires waitset { IsWaitset waitset.old }
     requires first { next_pick waitset.old ≡ Ok (Pick.Polled c) }
     ensures waitset { IsWaitset waitset.new }
-    ensures examines { Examines T.takes c.0 (lent waitset.old from.old) (Ok (if result then TurnAnswer.Ready else TurnAnswer.Quiet)) (lent waitset.new from.new) }
+    ensures examines { Examines T.takes c.0 (lent waitset.old from.old) (Ok (if result then TurnAnswer.Ready else TurnAnswer.Quiet))
+        (lent waitset.new from.new) }
 {
     match from.peek() {
         Sight::Data(_) => {

@@ -173,7 +173,7 @@ fn put_of_end(out: &mut Vec<u8>, word: &[u8], names: &Names, end: EndId) -> Resu
     put_end(out, names, end)
 }
 
-// The same of any fragments.
+// The text of a fragment that was written, whatever its number and how many there are.
 #[tactic(auto, using(crate::proofs::Kept::pieces))]
 #[inline(never)]
 fn put_any_written(out: &mut Vec<u8>, k: usize, n: usize) -> Result<(), AllocError>
@@ -186,7 +186,7 @@ fn put_any_written(out: &mut Vec<u8>, k: usize, n: usize) -> Result<(), AllocErr
     put_number(out, n)
 }
 
-// The text of a fragment that was written, where a call has fewer than ten.
+// The same, where a call has fewer than ten.
 #[inline(always)]
 fn few_written(k: u8, n: u8) -> [u8; 14]
     requires first { k < 10 }

@@ -11,7 +11,7 @@
 //! - `item.rt`: a script's lines, and its items: lines and blocks
 //! - `printing.rt`: commands as text
 //! - `answer.rt`: answers, and their texts
-//! - `table.rt`: lists of names that are asked by a map
+//! - `table.rt`: lists of names, asked from the front where they are few, else by a map
 //! - `asking.rt`: what a line asks, told from its words at once where it gives no name
 //! - `names.rt`: the names of a script, and what its commands ask by them
 //! - `event.rt`, `fault.rt`: what a command asks of the machine, and why it asks nothing

@@ -1,4 +1,4 @@
-//! A list of names that is asked by a map.
+//! A list of names, which is asked from its front where they are few, and else by a map.
 
 ghost use Rattle.std.specs.Prelude.{◌≡◌, ◌++◌, ◌∷◌, [], OnOk, OnErr, None, option_map, slice_get, map};
 ghost use Rattle.std.specs.Str.{bytes_eq};

@@ -29,7 +29,8 @@ fn is_refused(answer: &Answer) -> bool
 }
 
 impl World {
-    // What the event does. Each kind of event is a function by itself, so that none prepares what another needs.
+    // What the event does. Most kinds of event are functions out of line, so that none prepares what another needs; a call, a write and
+    // a turn are in line, here and where they are asked by themselves (`machine.rt`).
     fn does(&mut self, event: &Event<'_>) -> Result<Answer, AllocError>
         ensures does { IfOk result (λ a. Does (event_of event.now) self.old (answer_of a) self.new) }
         ensures kept { OnErr result (self.new ≡ self.old) }

@@ -147,7 +147,8 @@ fn print_nested(
     closing: u8,
 ) -> Result<(), AllocError>
     ensures printed { OnOk result (out.new.items ≡ out.old.items ++ opening ∷ (printed_values (data_from (map datum_of values.now)) ++ closing ∷ [])) }
-    ensures begun { OnErr result (BeginsToAppend out.old.items out.new.items (opening ∷ (printed_values (data_from (map datum_of values.now)) ++ closing ∷ []))) }
+    ensures begun { OnErr result (BeginsToAppend out.old.items out.new.items
+        (opening ∷ (printed_values (data_from (map datum_of values.now)) ++ closing ∷ []))) }
 {
     out.push(opening)?;
     print_values(out, values)?;
