@@ -1,6 +1,6 @@
 //! Tapes of numbers at many places, all in one block of memory.
 
-ghost use Rattle.std.specs.Prelude.{◌≡◌, ◌<◌, ◌++◌, ◌∷◌, [], length, List, OnOk, OnErr, slice_get, slice_set, Some};
+ghost use Rattle.std.specs.Prelude.{◌≡◌, ◌<◌, ◌++◌, ◌∷◌, [], length, List, OnOk, OnErr};
 ghost use Rattle.fl_machine.specs.Tapes.{TheTape, IsTapes, IsOpened, IsThere, LiesAt, tapes_of, not_there};
 
 use std::alloc::{AllocError, Global};
@@ -53,7 +53,7 @@ impl Tapes {
         Ok(())
     }
 
-    // Takes back the tape that was added last.
+    // Takes back the tape that was added last. Where it is there its numbers stay in the block, and are nobody's.
     pub(crate) fn take_back(&mut self)
         requires tapes { IsTapes self.old }
         ensures tapes { IsTapes self.new }
