@@ -1,8 +1,8 @@
 //! Values and calls from their text.
 
-ghost use Rattle.std.specs.Prelude.{◌≡◌, ℕ, ◌+◌, ◌<◌, ◌≤◌, List, map, true, length, IfOk, IfErr, IfSome, IfNone};
+ghost use Rattle.std.specs.Prelude.{◌≡◌, ℕ, ℤ, ◌+◌, ◌<◌, ◌≤◌, List, map, true, length, IfOk, IfErr, IfSome, IfNone};
 ghost use Rattle.fl_value.specs.Value.{Datum, Data, datum_of, data_from};
-ghost use Rattle.fl_value.specs.CallText.{SpellsValue, Listed, Enclosed, NoneEnclosed, Token, a_mark, is_mark, is_close, depth_of, greatest_depth};
+ghost use Rattle.fl_value.specs.CallText.{SpellsValue, Listed, Enclosed, NoneEnclosed, Token, a_number, a_mark, is_mark, is_close, depth_of, greatest_depth};
 ghost use Rattle.fl_value.specs.Fault.{Refuses};
 
 use crate::fault::ValueFault;
@@ -26,6 +26,19 @@ fn read_value(alloc: Global, bytes: &[u8], depth: u32) -> Result<(Value, &[u8]),
     if let Some((number, rest)) = read_number(bytes) {
         return Ok((Value::Int(number), rest));
     }
+    read_other(alloc, bytes, depth)
+}
+
+/// The same, where no number stands. Out of line, so that a number prepares nothing of it.
+#[cycle(values)]
+#[inline(never)]
+fn read_other(alloc: Global, bytes: &[u8], depth: u32) -> Result<(Value, &[u8]), ValueFault>
+    requires other { (z : ℤ) (rest : List ℕ) → Token (a_number z) bytes.now rest → ⊥ }
+    ensures found { IfOk result (λ r. SpellsValue (datum_of r.0) bytes.now r.1.now) }
+    ensures shallow { IfOk result (λ r. depth_of (datum_of r.0) ≤ depth) }
+    ensures shorter { IfOk result (λ r. length r.1.now < length bytes.now) }
+    ensures fault { IfErr result (λ e. Refuses e ((d : Datum) (rest : List ℕ) → depth_of d ≤ depth → SpellsValue d bytes.now rest → ⊥)) }
+{
     if let Some((text, rest)) = read_text(alloc, bytes)? {
         return Ok((Value::Text(text), rest));
     }

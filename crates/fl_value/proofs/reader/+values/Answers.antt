@@ -17,33 +17,33 @@ read_nested-returns-in_err-found-clause-opened t c =
     let p = err_from_is_err_and c.from_residual.result c.from_residual.ensures.1 in
     rw p.1 (c.in-Some.inside.now, c.in-Some.ensures.found)
 
-pub read_value-returns-in-Some-2-clause-shorter : goal.read_value-returns-in-Some-2-clause-shorter
-read_value-returns-in-Some-2-clause-shorter t c =
-    let found = rw c.in-Some-2.is at c.in_ok-text.ensures.found in
-    token_shorter (a_text c.in-Some-2.text.items) c.args.bytes.now c.in-Some-2.rest.now found
+pub read_other-returns-in-Some-clause-shorter : goal.read_other-returns-in-Some-clause-shorter
+read_other-returns-in-Some-clause-shorter t c =
+    let found = rw c.in-Some.is at c.in_ok-text.ensures.found in
+    token_shorter (a_text c.in-Some.text.items) c.args.bytes.now c.in-Some.rest.now found
 
-pub read_value-returns-in_err-values-clause-fault : goal.read_value-returns-in_err-values-clause-fault
-read_value-returns-in_err-values-clause-fault t c =
+pub read_other-returns-in_err-values-clause-fault : goal.read_other-returns-in_err-values-clause-fault
+read_other-returns-in_err-values-clause-fault t c =
     let p = err_from_is_err_and c.from_residual-in_err-values.result c.from_residual-in_err-values.ensures.1 in
-    let no_text = rw c.in_default-2.is at c.in_ok-text.ensures.none in
+    let no_text = rw c.in_default.is at c.in_ok-text.ensures.none in
     let opened = c.in_err-values.ensures.opened in
     let others = other_opened 91 123 125 c.args.depth c.args.bytes.now opened.0 (differ 91 123 refl) opened.1 in
-    rw (p.1, p.2) (refuse_weaker c.in_err-values.field-0.0 (λ lists. no_kind c.args.bytes.now c.args.depth c.in_default.ensures.none no_text lists others) c.in_err-values.ensures.fault)
+    rw (p.1, p.2) (refuse_weaker c.in_err-values.field-0.0 (λ lists. no_kind c.args.bytes.now c.args.depth c.requires.other no_text lists others) c.in_err-values.ensures.fault)
 
-pub read_value-returns-in_err-values-2-clause-fault : goal.read_value-returns-in_err-values-2-clause-fault
-read_value-returns-in_err-values-2-clause-fault t c =
+pub read_other-returns-in_err-values-2-clause-fault : goal.read_other-returns-in_err-values-2-clause-fault
+read_other-returns-in_err-values-2-clause-fault t c =
     let p = err_from_is_err_and c.from_residual-in_err-values-2.result c.from_residual-in_err-values-2.ensures.1 in
-    let no_text = rw c.in_default-2.is at c.in_ok-text.ensures.none in
-    let no_list = rw c.in_default-3.is at c.in_ok-values.ensures.none in
-    let nothing = no_kind c.args.bytes.now c.args.depth c.in_default.ensures.none no_text (not_enclosed 91 93 c.args.depth c.args.bytes.now no_list) in
+    let no_text = rw c.in_default.is at c.in_ok-text.ensures.none in
+    let no_list = rw c.in_default-2.is at c.in_ok-values.ensures.none in
+    let nothing = no_kind c.args.bytes.now c.args.depth c.requires.other no_text (not_enclosed 91 93 c.args.depth c.args.bytes.now no_list) in
     rw (p.1, p.2) (refuse_weaker c.in_err-values-2.field-0.0 nothing c.in_err-values-2.ensures.fault)
 
-pub read_value-returns-clause-fault : goal.read_value-returns-clause-fault
-read_value-returns-clause-fault t c =
-    let no_text = rw c.in_default-2.is at c.in_ok-text.ensures.none in
-    let no_list = rw c.in_default-3.is at c.in_ok-values.ensures.none in
-    let no_struct = rw c.in_default-4.is at c.in_ok-values-2.ensures.none in
-    no_kind c.args.bytes.now c.args.depth c.in_default.ensures.none no_text (not_enclosed 91 93 c.args.depth c.args.bytes.now no_list) (not_enclosed 123 125 c.args.depth c.args.bytes.now no_struct)
+pub read_other-returns-clause-fault : goal.read_other-returns-clause-fault
+read_other-returns-clause-fault t c =
+    let no_text = rw c.in_default.is at c.in_ok-text.ensures.none in
+    let no_list = rw c.in_default-2.is at c.in_ok-values.ensures.none in
+    let no_struct = rw c.in_default-3.is at c.in_ok-values-2.ensures.none in
+    no_kind c.args.bytes.now c.args.depth c.requires.other no_text (not_enclosed 91 93 c.args.depth c.args.bytes.now no_list) (not_enclosed 123 125 c.args.depth c.args.bytes.now no_struct)
 
 pub read_values-returns-in_err-value-clause-fault : goal.read_values-returns-in_err-value-clause-fault
 read_values-returns-in_err-value-clause-fault t c =

@@ -5,13 +5,16 @@ use Rattle.fl_value.proofs.Nested.{Commas}
 use Rattle.fl_value.proofs.reader.+values.Given as goal
 
 abbrev pub decreases-read_value : goal.decreases-read_value
-decreases-read_value l = 3 * l.depth + 1
+decreases-read_value l = 4 * l.depth + 2
+
+abbrev pub decreases-read_other : goal.decreases-read_other
+decreases-read_other l = 4 * l.depth + 1
 
 abbrev pub decreases-read_nested : goal.decreases-read_nested
-decreases-read_nested l = 3 * l.depth
+decreases-read_nested l = 4 * l.depth
 
 abbrev pub decreases-read_values : goal.decreases-read_values
-decreases-read_values l = 3 * l.depth + 2
+decreases-read_values l = 4 * l.depth + 3
 
 abbrev pub invariant-read_values-loop-values : goal.invariant-read_values-loop-values
 invariant-read_values-loop-values l = record {
