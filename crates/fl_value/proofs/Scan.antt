@@ -1,5 +1,5 @@
 -- Runs of bytes that pass a test, and what stands where in a text.
-use Rattle.std.proofs.Common.{◌≡◌, ◌≤◌, ◌<◌, ◌+◌, ◌-◌, ◌*◌, ◌^◌, ℕ, zero, suc, List, [], ◌∷◌, ◌++◌, length, take, drop, arith, ◌&&◌, get_or, refl, ap, sym, ◌∙◌, Bool, true, false, append_assoc, cond}
+use Rattle.std.proofs.Common.{◌≡◌, ◌≤◌, ◌<◌, ◌+◌, ◌-◌, ◌*◌, ◌^◌, ℕ, zero, suc, List, [], ◌∷◌, ◌++◌, length, take, drop, arith, add-one, pow-suc, ◌&&◌, get_or, refl, ap, sym, ◌∙◌, Bool, true, false, append_assoc, cond}
 use Rattle.std.proofs.lemmas.Bool.Decides.{nat_tests}
 use Rattle.std.proofs.lemmas.Int.Digits.{digits_value-lt, digits_value_more}
 use Rattle.std.proofs.lemmas.Str.Parse.{digit_from_value}
@@ -126,9 +126,31 @@ pub room : (digits : List ℕ) (i value : ℕ) → AllDigits 10 digits → lengt
 room digits i value all few within e =
     omega (arith, e, small_value (take i digits) 19 (digits_prefix digits i all) (omega (arith, length-take-le i digits, few)))
 
-pub short_room : (digits : List ℕ) (i value : ℕ) → AllDigits 10 digits → length digits ≤ 19 → i < length digits → value ≡ digits_value 10 (take i digits) → value < 10 ^ 18
-short_room digits i value all few within e =
-    omega (arith, e, small_value (take i digits) 18 (digits_prefix digits i all) (omega (arith, length-take-le i digits, few)))
+-- one digit more, where those before it are few enough
+pub record DigitMore (bytes : List ℕ) (count value : ℕ) : Type 0 where
+  pub least : 48 ≤ get_or bytes count 0
+  pub most : get_or bytes count 0 ≤ 57
+  pub value_is : value * 10 + (get_or bytes count 0 - 48) ≡ digits_value 10 (take (count + 1) bytes)
+  pub small : value * 10 + (get_or bytes count 0 - 48) < 10 ^ (count + 1)
+  pub room : count < 19 → value < 10 ^ 18
+
+pub digit_more : (bytes : List ℕ) (count value : ℕ) → count < length bytes → is_digit (get_or bytes count 0) ≡ true → value ≡ digits_value 10 (take count bytes) → value < 10 ^ count
+    → DigitMore bytes count value
+digit_more bytes count value within digit is small =
+    let d = get_or bytes count 0 in
+    let least = leb-true 48 d (first_so (nat_le 48 d) (nat_le d 57) digit) in
+    let most = leb-true d 57 (second_so (nat_le 48 d) (nat_le d 57) digit) in
+    let worth : digit_value d ≡ d - 48 = digit_is d (digit_low d digit) in
+    let more = digits_value_more 10 bytes count within in
+    let next : value * 10 + (d - 48) ≡ digits_value 10 (take (count + 1) bytes) = omega (arith, is, more, worth) in
+    let wide : 10 ^ (count + 1) ≡ 10 ^ count * 10 = ap (λ (k : ℕ). 10 ^ k) (add-one count) ∙ pow-suc 10 count in
+    record {
+      least = least;
+      most = most;
+      value_is = next;
+      small = omega (arith, small, wide, most);
+      room = λ few. let high : 10 ^ count ≤ 10 ^ 18 = pow-le-pow_right {n = 10} (omega arith) {i = count} {j = 18} (omega (arith, few)) in omega (arith, small, high);
+    }
 
 pub digit_step : (digits : List ℕ) (i value more : ℕ) → AllDigits 10 digits → i < length digits → value ≡ digits_value 10 (take i digits) → more ≡ get_or digits i 0 - 48 → value * 10 + more ≡ digits_value 10 (take (i + 1) digits)
 digit_step digits i value more all within e f =

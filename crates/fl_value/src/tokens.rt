@@ -1,6 +1,6 @@
 //! The tokens of a call's text: numbers, texts in quotes, and marks.
 
-ghost use Rattle.std.specs.Prelude.{◌≡◌, ◌+◌, ◌<◌, ◌≤◌, ◌^◌, ℕ, ℤ, pos, neg_ℤ, List, ◌∷◌, IfSome, IfNone, IfOk, MatchOption, length, drop, true};
+ghost use Rattle.std.specs.Prelude.{◌≡◌, ◌+◌, ◌<◌, ◌≤◌, ◌^◌, ℕ, ℤ, pos, neg_ℤ, List, ◌∷◌, IfSome, IfNone, IfOk, MatchOption, length, take, drop, true};
 ghost use Rattle.std.specs.List.{prefix_len, list_all};
 ghost use Rattle.std.specs.Char.{digit_value};
 ghost use Rattle.std.specs.Str.Parse.{digits_value};
@@ -64,24 +64,8 @@ fn count_digits(bytes: &[u8]) -> usize
     bytes.len()
 }
 
-/// The number that at most 19 digits write: it fits a word.
-#[inline(always)]
-fn short_value(digits: &[u8]) -> u64
-    requires digits { list_all is_digit digits.now ≡ true }
-    requires few { length digits.now ≤ 19 }
-    ensures value { result ≡ digits_value 10 digits.now }
-{
-    let mut value = 0;
-    for digit in digits {
-        value = value * 10 + u64::from(*digit - b'0');
-    }
-    value
-}
-
 /// The number that at most 20 digits write: 20 may be more than a word.
-#[cold]
-#[inline(never)]
-fn long_value(digits: &[u8]) -> u128
+fn digits_value(digits: &[u8]) -> u128
     requires digits { list_all is_digit digits.now ≡ true }
     requires few { length digits.now ≤ 20 }
     ensures value { result ≡ digits_value 10 digits.now }
@@ -94,22 +78,10 @@ fn long_value(digits: &[u8]) -> u128
     value
 }
 
-/// The number that at most 20 digits write.
-fn digits_value(digits: &[u8]) -> u128
-    requires digits { list_all is_digit digits.now ≡ true }
-    requires few { length digits.now ≤ 20 }
-    ensures value { result ≡ digits_value 10 digits.now }
-    ensures small { result < 10 ^ 20 }
-{
-    if digits.len() < 20 {
-        return u128::from(short_value(digits));
-    }
-    long_value(digits)
-}
-
 /// The number of 1 to 20 digits that the bytes begin with, and what follows it.
-#[inline(always)]
-fn read_digits(bytes: &[u8]) -> Option<(u128, &[u8])>
+#[cold]
+#[inline(never)]
+fn long_digits(bytes: &[u8]) -> Option<(u128, &[u8])>
     ensures found { IfSome result (λ r. Digits r.0 bytes.now r.1.now) }
     ensures small { IfSome result (λ r. r.0 < 10 ^ 20) }
     ensures none { IfNone result ((n : ℕ) (rest : List ℕ) → Digits n bytes.now rest → ⊥) }
@@ -119,6 +91,43 @@ fn read_digits(bytes: &[u8]) -> Option<(u128, &[u8])>
         return None;
     }
     Some((digits_value(&bytes[..count]), &bytes[count..]))
+}
+
+/// The first digits that the bytes begin with, at most 19: the number that they write, which fits a word, and how many they are.
+#[inline(always)]
+fn short_digits(bytes: &[u8]) -> (u64, usize)
+    ensures value { result.0 ≡ digits_value 10 (take result.1 bytes.now) }
+    ensures all { result.1 < 19 → result.1 ≡ prefix_len is_digit bytes.now }
+    ensures within { result.1 ≤ length bytes.now }
+{
+    let mut value = 0;
+    let mut count = 0;
+    while count < 19 && count < bytes.len() {
+        let byte = bytes[count];
+        if !is_digit(byte) {
+            return (value, count);
+        }
+        value = value * 10 + u64::from(byte - b'0');
+        count += 1;
+    }
+    (value, count)
+}
+
+/// The same as by `long_digits`: fewer than 19 digits are gone over once.
+#[inline(always)]
+fn read_digits(bytes: &[u8]) -> Option<(u128, &[u8])>
+    ensures found { IfSome result (λ r. Digits r.0 bytes.now r.1.now) }
+    ensures small { IfSome result (λ r. r.0 < 10 ^ 20) }
+    ensures none { IfNone result ((n : ℕ) (rest : List ℕ) → Digits n bytes.now rest → ⊥) }
+{
+    let (value, count) = short_digits(bytes);
+    if count == 0 {
+        return None;
+    }
+    if count < 19 {
+        return Some((u128::from(value), &bytes[count..]));
+    }
+    long_digits(bytes)
 }
 
 fn positive(value: u128) -> i128

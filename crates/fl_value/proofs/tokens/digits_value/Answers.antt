@@ -1,7 +1,7 @@
 use Rattle.std.proofs.Common.{◌≡◌, length, take, arith}
 use Rattle.std.proofs.lemmas.List.{length-take-le}
 use Rattle.fl_value.proofs.Scan.{all_digits, digits_prefix, small_value, room, digit_step}
-use Rattle.fl_value.proofs.tokens.long_value.Goals as goal
+use Rattle.fl_value.proofs.tokens.digits_value.Goals as goal
 
 pub overflow_mul-value : goal.overflow_mul-value
 overflow_mul-value c =
