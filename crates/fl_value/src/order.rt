@@ -96,18 +96,20 @@ fn count_before(rank: u8, arguments: &[ArgType]) -> usize
 /// The arguments' values in declared order, from those in the plan's order.
 ///
 /// An argument's value stands behind those of the later arguments that the plan puts before it: the earlier
-/// ones have been taken out.
+/// ones have been taken out. `kept` tells whether the plan's order is the declared one.
 pub(crate) fn declared_order(
     alloc: Global,
     plan: PlanNo,
+    kept: bool,
     arguments: &[ArgType],
     laid_out: Vec<Value>,
 ) -> Result<Vec<Value>, AllocError>
+    requires kept { kept ≡ never_falls plan (map arg_type_of arguments.now) }
     requires as_many { length laid_out.items ≡ length arguments.now }
     ensures many { IfOk result (λ values. length values.items ≡ length arguments.now) }
     ensures back { IfOk result (λ values. values_of (arranged kind plan (beside arguments.now values.items)) ≡ map datum_of laid_out.items) }
 {
-    if plan.never_falls(arguments) {
+    if kept {
         return Ok(laid_out);
     }
     let mut left = laid_out;

@@ -5,7 +5,7 @@ ghost use Rattle.std.specs.Option.{option_map};
 ghost use Rattle.std.specs.List.{list_all};
 ghost use Rattle.fl_interface.specs.Interface.{scalar, enumeration, text, sized, type_of, arg_type_of, interface_of};
 ghost use Rattle.fl_value.specs.Value.{TheCall, number, string, elements, data_of, datum_of, call_of};
-ghost use Rattle.fl_value.specs.Plan.{rank_of};
+ghost use Rattle.fl_value.specs.Plan.{rank_of, never_falls};
 ghost use Rattle.fl_value.specs.Fits.{is_text_byte};
 ghost use Rattle.fl_value.specs.Taken.{unsigned_back, signed_back, scalar_back, ValueAt, ArgumentAt, LengthAt, BytesAt, InTurn, TheOne, NoneOf};
 ghost use Rattle.fl_value.specs.Taken.{TheValues, MoreRead, NoneRead, types_of_rank, types_by_ranks, planned_types, arg_types, HasTape};
@@ -281,29 +281,19 @@ fn read_sized<'a>(
     read_elements(alloc, elements, count, element)
 }
 
-/// The value of a type that the tape begins with, and what follows it: a scalar, the most common, without a call.
+/// The scalar that an argument is, where the tape begins with one, and what follows it. None as well where the argument is no scalar.
 #[inline(always)]
-fn read_fixed<'a>(
-    alloc: Global,
-    tape: &'a [u64],
-    fixed: &FixedType,
-) -> Result<Option<(Value, &'a [u64])>, AllocError>
-    ensures found { IfOk result (λ o. IfSome o (λ r. TheOne (ValueAt (type_of fixed.now) tape.now) (datum_of r.0) r.1.now)) }
-    ensures none { IfOk result (λ o. IfNone o (NoneOf (ValueAt (type_of fixed.now) tape.now))) }
+fn read_scalar_argument<'a>(tape: &'a [u64], argument: &ArgType) -> Option<(i128, &'a [u64])>
+    ensures found { IfSome result (λ r. TheOne (ArgumentAt (arg_type_of argument.now) tape.now) (number r.0) r.1.now) }
 {
-    match fixed {
-        FixedType::Scalar(scalar) => {
-            let Some((number, rest)) = read_scalar(tape, *scalar) else {
-                return Ok(None);
-            };
-            Ok(Some((Value::Int(number), rest)))
-        }
-        _ => read_value(alloc, tape, fixed),
+    match argument {
+        ArgType::Fixed(FixedType::Scalar(scalar)) => read_scalar(tape, *scalar),
+        _ => None,
     }
 }
 
-/// The argument that the tape begins with, and what follows it.
-#[inline(always)]
+/// The argument that the tape begins with, and what follows it. Out of line, so that a scalar prepares nothing of it.
+#[inline(never)]
 fn read_argument<'a>(
     alloc: Global,
     tape: &'a [u64],
@@ -313,7 +303,7 @@ fn read_argument<'a>(
     ensures none { IfOk result (λ o. IfNone o (NoneOf (ArgumentAt (arg_type_of argument.now) tape.now))) }
 {
     match argument {
-        ArgType::Fixed(fixed) => read_fixed(alloc, tape, fixed),
+        ArgType::Fixed(fixed) => read_value(alloc, tape, fixed),
         ArgType::Text(most) => {
             let Some((bytes, rest)) = read_string(alloc, tape, *most)? else {
                 return Ok(None);
@@ -349,6 +339,11 @@ fn read_rank<'a>(
         if plan.rank_of(argument) != rank {
             continue;
         }
+        if let Some((number, after)) = read_scalar_argument(rest, argument) {
+            values.push(Value::Int(number))?;
+            rest = after;
+            continue;
+        }
         let Some((value, after)) = read_argument(alloc, rest, argument)? else {
             return Ok(None);
         };
@@ -381,17 +376,19 @@ fn read_ranks<'a>(
     Ok(Some((values, rest)))
 }
 
-/// All arguments in the plan's order, and what follows them on the tape.
+/// All arguments in the plan's order, and what follows them on the tape. `kept` tells whether that order is the declared one.
 fn read_arguments<'a>(
     alloc: Global,
     tape: &'a [u64],
     plan: PlanNo,
+    kept: bool,
     arguments: &[ArgType],
 ) -> Result<Option<(Vec<Value>, &'a [u64])>, AllocError>
+    requires kept { kept ≡ never_falls plan (arg_types arguments.now) }
     ensures found { IfOk result (λ o. IfSome o (λ r. TheValues (InTurn ArgumentAt (planned_types plan (arg_types arguments.now)) tape.now) r.0.items r.1.now)) }
     ensures none { IfOk result (λ o. IfNone o (NoneOf (InTurn ArgumentAt (planned_types plan (arg_types arguments.now)) tape.now))) }
 {
-    if plan.never_falls(arguments) {
+    if kept {
         let values = Vec::with_capacity(alloc, arguments.len())?;
         return read_rank(alloc, tape, PlanNo::One, 0, arguments, values);
     }
@@ -418,12 +415,13 @@ pub fn unflatten(
     let Some(message) = interface.messages.get(usize::from(msg.0)) else {
         return Ok(None);
     };
-    let Some((arranged, rest)) = read_arguments(alloc, tape, plan, &message.args)? else {
+    let kept = plan.never_falls(&message.args);
+    let Some((arranged, rest)) = read_arguments(alloc, tape, plan, kept, &message.args)? else {
         return Ok(None);
     };
     if !rest.is_empty() {
         return Ok(None);
     }
-    let args = declared_order(alloc, plan, &message.args, arranged)?;
+    let args = declared_order(alloc, plan, kept, &message.args, arranged)?;
     Ok(Some(Call { msg, args }))
 }

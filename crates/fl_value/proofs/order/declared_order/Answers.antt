@@ -64,16 +64,16 @@ returns-clause-back c =
     let end : rearranged Two (map arg_type_of (drop index arguments)) [] ≡ map datum_of c.loop-index.left.items
     = ap (λ (ts : List ArgType). rearranged Two (map arg_type_of ts) []) (drop_all index arguments c.loop-index-test.false) ∙ ap (map datum_of) (sym none) in
     let all = c.loop-index.invariant.back [] (omega arith) end in
-    let two : c.args.plan ≡ Two = falls c.args.plan (map arg_type_of arguments) (sym c.if-never_falls.ensures.same) in
+    let two : c.args.plan ≡ Two = falls c.args.plan (map arg_type_of arguments) (sym c.requires.kept ∙ c.if-kept.false) in
     let whole : index ≡ length arguments = omega (arith, c.loop-index.invariant.many, c.loop-index-test.false) in
     let values = map datum_of c.loop-index.values.items in
     let long = length-map c.loop-index.values.items datum_of ∙ c.loop-index.invariant.few ∙ whole ∙ sym (length-map arguments arg_type_of) in
     subst (λ (plan : PlanNo). values_of (arranged kind plan (zip (map arg_type_of arguments) values)) ≡ map datum_of c.args.laid_out.items) (sym two)
     (seconds_arranged Two (map arg_type_of arguments) values long ∙ ap (rearranged Two (map arg_type_of arguments)) (sym (append-nil values)) ∙ all)
 
-pub returns-then-never_falls-clause-back : goal.returns-then-never_falls-clause-back
-returns-then-never_falls-clause-back c =
+pub returns-then-kept-clause-back : goal.returns-then-kept-clause-back
+returns-then-kept-clause-back c =
     let values = map datum_of c.args.laid_out.items in
     let types = map arg_type_of c.args.arguments.now in
     let long = length-map c.args.laid_out.items datum_of ∙ c.requires.as_many ∙ sym (length-map c.args.arguments.now arg_type_of) in
-    ap values_of (kept_arguments c.args.plan types values (sym c.if-never_falls.ensures.same)) ∙ seconds_arranged One types values long
+    ap values_of (kept_arguments c.args.plan types values (sym c.requires.kept ∙ c.if-kept.true)) ∙ seconds_arranged One types values long
