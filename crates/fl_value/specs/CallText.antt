@@ -7,7 +7,8 @@ use Rattle.std.specs.List.{list_all}
 use Rattle.std.specs.Char.{digit_value}
 use Rattle.std.specs.Str.Parse.{digits_value}
 use Rattle.fl_lex.specs.Words.{is_digit, is_name}
-use Rattle.fl_value.specs.Value.{Datum, number, string, elements, fields, Data, nothing_more, also, data_from}
+use Rattle.fl_value.specs.declared.value.Value.{Value}
+use Rattle.fl_value.specs.Value.{Datum, number, string, elements, fields, Data, nothing_more, also, data_from, datum_of}
 
 -- a space or a tab
 abbrev pub is_blank : ℕ → Bool
@@ -142,6 +143,14 @@ Enclosed opening closing ds bytes rest =
 -- no values stand so that nest less deep
 abbrev pub NoneEnclosed : ℕ → ℕ → ℕ → List ℕ → Type 0
 NoneEnclosed opening closing depth bytes = (ds : Data) (rest : List ℕ) → 1 + greatest_depth ds ≤ depth → Enclosed opening closing ds bytes rest → ⊥
+
+-- one value more behind others: that which stands up to a place, nested at most so deep
+pub record Pushes (before after : List Value) (depth : ℕ) (bytes rest : List ℕ) : Type 0 where
+  pub value : Value
+  pub items : after ≡ before ++ value ∷ []
+  pub spelled : SpellsValue (datum_of value) bytes rest
+  pub shallow : depth_of (datum_of value) ≤ depth
+  pub shorter : length rest < length bytes
 
 -- ---- the law of one reading
 

@@ -1,12 +1,13 @@
 //! Values and calls from their text.
 
-ghost use Rattle.std.specs.Prelude.{◌≡◌, ℕ, ℤ, ◌+◌, ◌<◌, ◌≤◌, List, map, true, length, IfOk, IfErr, IfSome, IfNone};
+ghost use Rattle.std.specs.Prelude.{◌≡◌, ℕ, ◌+◌, ◌<◌, ◌≤◌, List, map, true, length, IfOk, IfErr, IfSome, IfNone};
 ghost use Rattle.fl_value.specs.Value.{Datum, Data, datum_of, data_from};
-ghost use Rattle.fl_value.specs.CallText.{SpellsValue, Listed, Enclosed, NoneEnclosed, Token, a_number, a_mark, is_mark, is_close, depth_of, greatest_depth};
+ghost use Rattle.fl_value.specs.CallText.{SpellsValue, Listed, Enclosed, NoneEnclosed, Token, a_mark, is_mark, is_close, depth_of, greatest_depth};
+ghost use Rattle.fl_value.specs.CallText.{Pushes};
 ghost use Rattle.fl_value.specs.Fault.{Refuses};
 
 use crate::fault::ValueFault;
-use crate::tokens::{read_mark, read_number, read_text};
+use crate::tokens::{read_mark, read_number, read_short, read_text};
 use crate::value::Value;
 use std::alloc::Global;
 
@@ -16,7 +17,6 @@ const FEW: usize = 8;
 /// The value that the bytes begin with, its arrays and structs nested at most so deep, and what
 /// follows it.
 #[cycle(values)]
-#[inline(always)]
 fn read_value(alloc: Global, bytes: &[u8], depth: u32) -> Result<(Value, &[u8]), ValueFault>
     ensures found { IfOk result (λ r. SpellsValue (datum_of r.0) bytes.now r.1.now) }
     ensures shallow { IfOk result (λ r. depth_of (datum_of r.0) ≤ depth) }
@@ -26,19 +26,6 @@ fn read_value(alloc: Global, bytes: &[u8], depth: u32) -> Result<(Value, &[u8]),
     if let Some((number, rest)) = read_number(bytes) {
         return Ok((Value::Int(number), rest));
     }
-    read_other(alloc, bytes, depth)
-}
-
-/// The same, where no number stands. Out of line, so that a number prepares nothing of it.
-#[cycle(values)]
-#[inline(never)]
-fn read_other(alloc: Global, bytes: &[u8], depth: u32) -> Result<(Value, &[u8]), ValueFault>
-    requires other { (z : ℤ) (rest : List ℕ) → Token (a_number z) bytes.now rest → ⊥ }
-    ensures found { IfOk result (λ r. SpellsValue (datum_of r.0) bytes.now r.1.now) }
-    ensures shallow { IfOk result (λ r. depth_of (datum_of r.0) ≤ depth) }
-    ensures shorter { IfOk result (λ r. length r.1.now < length bytes.now) }
-    ensures fault { IfErr result (λ e. Refuses e ((d : Datum) (rest : List ℕ) → depth_of d ≤ depth → SpellsValue d bytes.now rest → ⊥)) }
-{
     if let Some((text, rest)) = read_text(alloc, bytes)? {
         return Ok((Value::Text(text), rest));
     }
@@ -49,6 +36,46 @@ fn read_other(alloc: Global, bytes: &[u8], depth: u32) -> Result<(Value, &[u8]),
         return Ok((Value::Fields(values), rest));
     }
     Err(ValueFault::NotACall)
+}
+
+/// Puts the value that the bytes begin with behind others, and tells what follows it. Out of line, so that a short number prepares
+/// nothing of it.
+#[cycle(values)]
+#[inline(never)]
+fn push_any<'a>(
+    alloc: Global,
+    values: &mut Vec<Value>,
+    bytes: &'a [u8],
+    depth: u32,
+) -> Result<&'a [u8], ValueFault>
+    ensures found { IfOk result (λ rest. Pushes values.old.items values.new.items depth bytes.now rest.now) }
+    ensures fault { IfErr result (λ e. Refuses e ((d : Datum) (rest : List ℕ) → depth_of d ≤ depth → SpellsValue d bytes.now rest → ⊥)) }
+{
+    let (value, rest) = read_value(alloc, bytes, depth)?;
+    values.push(value)?;
+    Ok(rest)
+}
+
+/// The same: a number of few digits, the most common value, without a call.
+#[cycle(values)]
+#[inline(always)]
+fn push_value<'a>(
+    alloc: Global,
+    values: &mut Vec<Value>,
+    bytes: &'a [u8],
+    depth: u32,
+) -> Result<&'a [u8], ValueFault>
+    ensures found { IfOk result (λ rest. Pushes values.old.items values.new.items depth bytes.now rest.now) }
+    ensures fault { IfErr result (λ e. Refuses e ((d : Datum) (rest : List ℕ) → depth_of d ≤ depth → SpellsValue d bytes.now rest → ⊥)) }
+{
+    let Some((number, rest)) = read_short(bytes) else {
+        return match push_any(alloc, values, bytes, depth) {
+            Ok(rest) => Ok(rest),
+            Err(fault) => Err(fault),
+        };
+    };
+    values.push(Value::Int(i128::from(number)))?;
+    Ok(rest)
 }
 
 /// The values between an opening and a closing mark, and what follows them; none where the opening
@@ -103,8 +130,7 @@ pub(crate) fn read_values(
     values.reserve(FEW)?;
     let mut start = bytes;
     loop {
-        let (value, after) = read_value(alloc, start, depth)?;
-        values.push(value)?;
+        let after = push_value(alloc, &mut values, start, depth)?;
         let Some(next) = read_mark(after, b',') else {
             let Some(rest) = read_mark(after, closing) else {
                 return Err(ValueFault::NotACall);

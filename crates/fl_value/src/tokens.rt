@@ -79,9 +79,7 @@ fn digits_value(digits: &[u8]) -> u128
 }
 
 /// The number of 1 to 20 digits that the bytes begin with, and what follows it.
-#[cold]
-#[inline(never)]
-fn long_digits(bytes: &[u8]) -> Option<(u128, &[u8])>
+fn read_digits(bytes: &[u8]) -> Option<(u128, &[u8])>
     ensures found { IfSome result (λ r. Digits r.0 bytes.now r.1.now) }
     ensures small { IfSome result (λ r. r.0 < 10 ^ 20) }
     ensures none { IfNone result ((n : ℕ) (rest : List ℕ) → Digits n bytes.now rest → ⊥) }
@@ -93,41 +91,38 @@ fn long_digits(bytes: &[u8]) -> Option<(u128, &[u8])>
     Some((digits_value(&bytes[..count]), &bytes[count..]))
 }
 
-/// The first digits that the bytes begin with, at most 19: the number that they write, which fits a word, and how many they are.
+/// The digits that the bytes begin with: the number that they write, if they are at most 19, and how many they are.
 #[inline(always)]
 fn short_digits(bytes: &[u8]) -> (u64, usize)
-    ensures value { result.0 ≡ digits_value 10 (take result.1 bytes.now) }
-    ensures all { result.1 < 19 → result.1 ≡ prefix_len is_digit bytes.now }
+    ensures value { result.1 ≤ 19 → result.0 ≡ digits_value 10 (take result.1 bytes.now) }
+    ensures all { result.1 ≡ prefix_len is_digit bytes.now }
     ensures within { result.1 ≤ length bytes.now }
 {
-    let mut value = 0;
+    let mut value = 0u64;
     let mut count = 0;
-    while count < 19 && count < bytes.len() {
+    while count < bytes.len() {
         let byte = bytes[count];
         if !is_digit(byte) {
             return (value, count);
         }
-        value = value * 10 + u64::from(byte - b'0');
+        value = value.wrapping_mul(10).wrapping_add(u64::from(byte - b'0'));
         count += 1;
     }
     (value, count)
 }
 
-/// The same as by `long_digits`: fewer than 19 digits are gone over once.
+/// The number of at most 19 digits that the bytes begin with, perhaps after blanks, and what follows it. None where another number
+/// stands as well.
 #[inline(always)]
-fn read_digits(bytes: &[u8]) -> Option<(u128, &[u8])>
-    ensures found { IfSome result (λ r. Digits r.0 bytes.now r.1.now) }
-    ensures small { IfSome result (λ r. r.0 < 10 ^ 20) }
-    ensures none { IfNone result ((n : ℕ) (rest : List ℕ) → Digits n bytes.now rest → ⊥) }
+pub(crate) fn read_short(bytes: &[u8]) -> Option<(u64, &[u8])>
+    ensures found { IfSome result (λ r. Token (a_number (pos r.0)) bytes.now r.1.now) }
 {
-    let (value, count) = short_digits(bytes);
-    if count == 0 {
+    let start = skip_blanks(bytes);
+    let (value, count) = short_digits(start);
+    if count == 0 || count > 19 {
         return None;
     }
-    if count < 19 {
-        return Some((u128::from(value), &bytes[count..]));
-    }
-    long_digits(bytes)
+    Some((value, &start[count..]))
 }
 
 fn positive(value: u128) -> i128
@@ -145,7 +140,6 @@ fn negative(value: u128) -> i128
 }
 
 /// The number that the bytes begin with, perhaps after blanks, and what follows it.
-#[inline(always)]
 pub(crate) fn read_number(bytes: &[u8]) -> Option<(i128, &[u8])>
     ensures found { IfSome result (λ r. Token (a_number r.0) bytes.now r.1.now) }
     ensures none { IfNone result ((z : ℤ) (rest : List ℕ) → Token (a_number z) bytes.now rest → ⊥) }

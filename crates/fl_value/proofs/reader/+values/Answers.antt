@@ -1,7 +1,13 @@
-use Rattle.std.proofs.Common.{◌≤◌, ◌-◌, map, arith, refl, ap, sym, subst, ◌∙◌}
+use Rattle.std.proofs.Common.{rules, pos, ℤ, [], ◌∷◌, ◌++◌, ◌≡◌, ◌≤◌, ◌-◌, map, arith, refl, ap, sym, subst, ◌∙◌}
+use Rattle.std.proofs.lemmas.Int.{to_z-of_z}
+use mir.Syntax.{w128}
+use mir.Val.{SFits}
 use Rattle.std.proofs.lemmas.Result.{err_from_is_err_and}
-use Rattle.fl_value.specs.Value.{datum_of, data_from}
-use Rattle.fl_value.specs.CallText.{SpellsValues, a_text, greatest_depth}
+use Rattle.fl_value.specs.declared.value.Value.TheVariants.{Int}
+use Rattle.fl_value.specs.declared.value.Value.TheViews.{the_lemmas}
+use Rattle.fl_value.specs.declared.value.Value.TheFolds.{fold_out-Value}
+use Rattle.fl_value.specs.Value.{Datum, number, datum_step, datum_of, data_from}
+use Rattle.fl_value.specs.CallText.{SpellsValue, SpellsValues, a_number, a_text, depth_of, greatest_depth}
 use Rattle.fl_value.proofs.Once.{token_shorter, differ}
 use Rattle.fl_value.proofs.Nested.{Commas, values_last, depth_last, commas_more, commas_end, no_value, no_mark, refuse_weaker, no_kind, not_enclosed, other_opened, not_inside}
 use Rattle.fl_value.proofs.reader.+values.Goals as goal
@@ -17,67 +23,84 @@ read_nested-returns-in_err-found-clause-opened t c =
     let p = err_from_is_err_and c.from_residual.result c.from_residual.ensures.1 in
     rw p.1 (c.in-Some.inside.now, c.in-Some.ensures.found)
 
-pub read_other-returns-in-Some-clause-shorter : goal.read_other-returns-in-Some-clause-shorter
-read_other-returns-in-Some-clause-shorter t c =
-    let found = rw c.in-Some.is at c.in_ok-text.ensures.found in
-    token_shorter (a_text c.in-Some.text.items) c.args.bytes.now c.in-Some.rest.now found
+pub read_value-returns-in-Some-2-clause-shorter : goal.read_value-returns-in-Some-2-clause-shorter
+read_value-returns-in-Some-2-clause-shorter t c =
+    let found = rw c.in-Some-2.is at c.in_ok-text.ensures.found in
+    token_shorter (a_text c.in-Some-2.text.items) c.args.bytes.now c.in-Some-2.rest.now found
 
-pub read_other-returns-in_err-values-clause-fault : goal.read_other-returns-in_err-values-clause-fault
-read_other-returns-in_err-values-clause-fault t c =
+pub read_value-returns-in_err-values-clause-fault : goal.read_value-returns-in_err-values-clause-fault
+read_value-returns-in_err-values-clause-fault t c =
     let p = err_from_is_err_and c.from_residual-in_err-values.result c.from_residual-in_err-values.ensures.1 in
-    let no_text = rw c.in_default.is at c.in_ok-text.ensures.none in
+    let no_text = rw c.in_default-2.is at c.in_ok-text.ensures.none in
     let opened = c.in_err-values.ensures.opened in
     let others = other_opened 91 123 125 c.args.depth c.args.bytes.now opened.0 (differ 91 123 refl) opened.1 in
-    rw (p.1, p.2) (refuse_weaker c.in_err-values.field-0.0 (λ lists. no_kind c.args.bytes.now c.args.depth c.requires.other no_text lists others) c.in_err-values.ensures.fault)
+    rw (p.1, p.2) (refuse_weaker c.in_err-values.field-0.0 (λ lists. no_kind c.args.bytes.now c.args.depth c.in_default.ensures.none no_text lists others) c.in_err-values.ensures.fault)
 
-pub read_other-returns-in_err-values-2-clause-fault : goal.read_other-returns-in_err-values-2-clause-fault
-read_other-returns-in_err-values-2-clause-fault t c =
+pub read_value-returns-in_err-values-2-clause-fault : goal.read_value-returns-in_err-values-2-clause-fault
+read_value-returns-in_err-values-2-clause-fault t c =
     let p = err_from_is_err_and c.from_residual-in_err-values-2.result c.from_residual-in_err-values-2.ensures.1 in
-    let no_text = rw c.in_default.is at c.in_ok-text.ensures.none in
-    let no_list = rw c.in_default-2.is at c.in_ok-values.ensures.none in
-    let nothing = no_kind c.args.bytes.now c.args.depth c.requires.other no_text (not_enclosed 91 93 c.args.depth c.args.bytes.now no_list) in
+    let no_text = rw c.in_default-2.is at c.in_ok-text.ensures.none in
+    let no_list = rw c.in_default-3.is at c.in_ok-values.ensures.none in
+    let nothing = no_kind c.args.bytes.now c.args.depth c.in_default.ensures.none no_text (not_enclosed 91 93 c.args.depth c.args.bytes.now no_list) in
     rw (p.1, p.2) (refuse_weaker c.in_err-values-2.field-0.0 nothing c.in_err-values-2.ensures.fault)
 
-pub read_other-returns-clause-fault : goal.read_other-returns-clause-fault
-read_other-returns-clause-fault t c =
-    let no_text = rw c.in_default.is at c.in_ok-text.ensures.none in
-    let no_list = rw c.in_default-2.is at c.in_ok-values.ensures.none in
-    let no_struct = rw c.in_default-3.is at c.in_ok-values-2.ensures.none in
-    no_kind c.args.bytes.now c.args.depth c.requires.other no_text (not_enclosed 91 93 c.args.depth c.args.bytes.now no_list) (not_enclosed 123 125 c.args.depth c.args.bytes.now no_struct)
+pub read_value-returns-clause-fault : goal.read_value-returns-clause-fault
+read_value-returns-clause-fault t c =
+    let no_text = rw c.in_default-2.is at c.in_ok-text.ensures.none in
+    let no_list = rw c.in_default-3.is at c.in_ok-values.ensures.none in
+    let no_struct = rw c.in_default-4.is at c.in_ok-values-2.ensures.none in
+    no_kind c.args.bytes.now c.args.depth c.in_default.ensures.none no_text (not_enclosed 91 93 c.args.depth c.args.bytes.now no_list) (not_enclosed 123 125 c.args.depth c.args.bytes.now no_struct)
 
-pub read_values-returns-in_err-value-clause-fault : goal.read_values-returns-in_err-value-clause-fault
-read_values-returns-in_err-value-clause-fault t c =
-    let p = err_from_is_err_and c.from_residual-in_err-value.result c.from_residual-in_err-value.ensures.1 in
+pub read_values-returns-in_err-after-clause-fault : goal.read_values-returns-in_err-after-clause-fault
+read_values-returns-in_err-after-clause-fault t c =
+    let p = err_from_is_err_and c.from_residual-in_err-after.result c.from_residual-in_err-after.ensures.1 in
     let values = data_from (map datum_of c.loop-values.values.items) in
     let nothing = no_value values c.args.closing c.args.depth c.args.bytes.now c.loop-values.start.now c.requires.closing c.loop-values.invariant.before c.loop-values.invariant.unclosed in
-    rw (p.1, p.2) (refuse_weaker c.in_err-value.field-0.0 nothing c.in_err-value.ensures.fault)
+    rw (p.1, p.2) (refuse_weaker c.in_err-after.field-0.0 nothing c.in_err-after.ensures.fault)
 
 pub read_values-returns-in_default-read_mark-2-clause-fault : goal.read_values-returns-in_default-read_mark-2-clause-fault
 read_values-returns-in_default-read_mark-2-clause-fault t c =
+    let p = c.in_ok-after.ensures.found in
     let values = data_from (map datum_of c.loop-values.values.items) in
-    no_mark values (datum_of c.in_ok-value.value) c.args.closing c.args.depth c.args.bytes.now c.loop-values.start.now c.in_ok-value.after.now c.requires.closing c.loop-values.invariant.before c.loop-values.invariant.unclosed c.in_ok-value.ensures.found c.in_default-read_mark.ensures.none c.in_default-read_mark-2.ensures.none
+    no_mark values (datum_of p.value) c.args.closing c.args.depth c.args.bytes.now c.loop-values.start.now c.in_ok-after.after.now c.requires.closing c.loop-values.invariant.before c.loop-values.invariant.unclosed p.spelled c.in_default-read_mark.ensures.none c.in_default-read_mark-2.ensures.none
 
 pub read_values-returns-in_default-read_mark-clause-found : goal.read_values-returns-in_default-read_mark-clause-found
 read_values-returns-in_default-read_mark-clause-found t c =
+    let p = c.in_ok-after.ensures.found in
     let values = data_from (map datum_of c.loop-values.values.items) in
-    let all = commas_end values (datum_of c.in_ok-value.value) c.args.bytes.now c.loop-values.start.now c.in_ok-value.after.now c.loop-values.invariant.before c.in_ok-value.ensures.found in
-    let same = ap (λ vs. data_from (map datum_of vs)) c.in_ok-push.ensures.items ∙ values_last c.loop-values.values.items c.in_ok-value.value in
-    (c.in_ok-value.after.now, subst (λ ds. SpellsValues ds c.args.bytes.now c.in_ok-value.after.now) (sym same) all, c.in-Some-read_mark-2.ensures.found)
+    let all = commas_end values (datum_of p.value) c.args.bytes.now c.loop-values.start.now c.in_ok-after.after.now c.loop-values.invariant.before p.spelled in
+    let same = ap (λ vs. data_from (map datum_of vs)) p.items ∙ values_last c.loop-values.values.items p.value in
+    (c.in_ok-after.after.now, subst (λ ds. SpellsValues ds c.args.bytes.now c.in_ok-after.after.now) (sym same) all, c.in-Some-read_mark-2.ensures.found)
 
 pub read_values-returns-in_default-read_mark-clause-shallow : goal.read_values-returns-in_default-read_mark-clause-shallow
 read_values-returns-in_default-read_mark-clause-shallow t c =
+    let p = c.in_ok-after.ensures.found in
     let values = data_from (map datum_of c.loop-values.values.items) in
-    let same = ap (λ vs. data_from (map datum_of vs)) c.in_ok-push.ensures.items ∙ values_last c.loop-values.values.items c.in_ok-value.value in
-    subst (λ ds. greatest_depth ds ≤ c.args.depth) (sym same) (depth_last values (datum_of c.in_ok-value.value) c.args.depth c.loop-values.invariant.shallow c.in_ok-value.ensures.shallow)
+    let same = ap (λ vs. data_from (map datum_of vs)) p.items ∙ values_last c.loop-values.values.items p.value in
+    subst (λ ds. greatest_depth ds ≤ c.args.depth) (sym same) (depth_last values (datum_of p.value) c.args.depth c.loop-values.invariant.shallow p.shallow)
 
 pub read_values-loop-values-preserved : goal.read_values-loop-values-preserved
 read_values-loop-values-preserved t c =
+    let p = c.in_ok-after.ensures.found in
     let values = data_from (map datum_of c.loop-values.values.items) in
-    let value = datum_of c.in_ok-value.value in
-    let same = ap (λ vs. data_from (map datum_of vs)) c.in_ok-push.ensures.items ∙ values_last c.loop-values.values.items c.in_ok-value.value in
+    let value = datum_of p.value in
+    let same = ap (λ vs. data_from (map datum_of vs)) p.items ∙ values_last c.loop-values.values.items p.value in
     record {
-      before = subst (λ ds. Commas ds c.args.bytes.now c.in-Some-read_mark.next.now) (sym same) (commas_more values value c.args.bytes.now c.loop-values.start.now c.in_ok-value.after.now c.in-Some-read_mark.next.now c.loop-values.invariant.before c.in_ok-value.ensures.found c.in-Some-read_mark.ensures.found);
-      shallow = subst (λ ds. greatest_depth ds ≤ c.args.depth) (sym same) (depth_last values value c.args.depth c.loop-values.invariant.shallow c.in_ok-value.ensures.shallow);
-      near = omega (arith, c.loop-values.invariant.near, c.in_ok-value.ensures.shorter, c.in-Some-read_mark.ensures.shorter);
+      before = subst (λ ds. Commas ds c.args.bytes.now c.in-Some-read_mark.next.now) (sym same) (commas_more values value c.args.bytes.now c.loop-values.start.now c.in_ok-after.after.now c.in-Some-read_mark.next.now c.loop-values.invariant.before p.spelled c.in-Some-read_mark.ensures.found);
+      shallow = subst (λ ds. greatest_depth ds ≤ c.args.depth) (sym same) (depth_last values value c.args.depth c.loop-values.invariant.shallow p.shallow);
+      near = omega (arith, c.loop-values.invariant.near, p.shorter, c.in-Some-read_mark.ensures.shorter);
       unclosed = c.loop-values.invariant.unclosed;
+    }
+
+pub push_value-returns-clause-found : goal.push_value-returns-clause-found
+push_value-returns-clause-found t c =
+    let seen : datum_of (Int (pos c.in-Some.number)) ≡ number (pos c.in-Some.number) = search (rules, the_lemmas, fold_out-Value Datum datum_step) in
+    let found = c.in-Some.ensures.found in
+    let fits : SFits w128 c.from.result = search rules in
+    record {
+      value = Int (pos c.in-Some.number);
+      items = c.in_ok-push.ensures.items ∙ ap (λ (z : ℤ). c.args.values.now.items ++ Int z ∷ []) (to_z-of_z w128 c.from.result fits ∙ c.from.ensures);
+      spelled = subst (λ (d : Datum). SpellsValue d c.args.bytes.now c.in-Some.rest.now) (sym seen) found;
+      shallow = subst (λ (d : Datum). depth_of d ≤ c.args.depth) (sym seen) (omega arith);
+      shorter = token_shorter (a_number (pos c.in-Some.number)) c.args.bytes.now c.in-Some.rest.now found;
     }

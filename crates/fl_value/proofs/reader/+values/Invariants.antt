@@ -5,16 +5,19 @@ use Rattle.fl_value.proofs.Nested.{Commas}
 use Rattle.fl_value.proofs.reader.+values.Given as goal
 
 abbrev pub decreases-read_value : goal.decreases-read_value
-decreases-read_value l = 4 * l.depth + 2
-
-abbrev pub decreases-read_other : goal.decreases-read_other
-decreases-read_other l = 4 * l.depth + 1
+decreases-read_value l = 5 * l.depth + 1
 
 abbrev pub decreases-read_nested : goal.decreases-read_nested
-decreases-read_nested l = 4 * l.depth
+decreases-read_nested l = 5 * l.depth
+
+abbrev pub decreases-push_any : goal.decreases-push_any
+decreases-push_any l = 5 * l.depth + 2
+
+abbrev pub decreases-push_value : goal.decreases-push_value
+decreases-push_value l = 5 * l.depth + 3
 
 abbrev pub decreases-read_values : goal.decreases-read_values
-decreases-read_values l = 4 * l.depth + 3
+decreases-read_values l = 5 * l.depth + 4
 
 abbrev pub invariant-read_values-loop-values : goal.invariant-read_values-loop-values
 invariant-read_values-loop-values l = record {

@@ -6,12 +6,10 @@ use Rattle.fl_value.proofs.tokens.short_digits.Given as goal
 
 abbrev pub invariant-loop-count : goal.invariant-loop-count
 invariant-loop-count l = record {
-  value : l.value ≡ digits_value 10 (take l.count l.bytes);
-  small : l.value < 10 ^ l.count;
-  few : l.count ≤ 19;
+  value : l.count ≤ 19 → (l.value ≡ digits_value 10 (take l.count l.bytes)) × (l.value < 10 ^ l.count);
   within : l.count ≤ length l.bytes;
   same : l.count + prefix_len is_digit (drop l.count l.bytes) ≡ prefix_len is_digit l.bytes;
 }
 
 abbrev pub decreases-loop-count : goal.decreases-loop-count
-decreases-loop-count l = 19 - l.count
+decreases-loop-count l = length l.bytes - l.count
