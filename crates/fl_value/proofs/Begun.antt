@@ -1,6 +1,6 @@
 -- A text that is appended in pieces: what is left of it, and what stands where a piece is refused.
 use Rattle.std.proofs.Common.{◌≡◌, ◌++◌, List, [], ℕ, cond, refl, sym, ap, ◌∙◌, append_assoc, append-nil}
-use Rattle.std.specs.Prelude.{Result, Ok, Err, OnErr, is_ok}
+use Rattle.std.specs.Prelude.{Result, Ok, Err, OnOk, OnErr, is_ok}
 use Rattle.fl_value.specs.Printed.{BeginsToAppend}
 
 -- a prefix of the text was appended, and this of it is left
@@ -44,3 +44,7 @@ on_refusal (Err e) p = p
 pub begun_at_once : {T E : Type 0} (r : Result T E) (old new all text : List ℕ) → new ≡ cond (is_ok r) all old → OnErr r (BeginsToAppend old new text)
 begun_at_once (Ok x) old new all text same = tt
 begun_at_once (Err e) old new all text same = not_begun old new text same
+
+pub printed_at_once : {T E : Type 0} (r : Result T E) (old new all text : List ℕ) → new ≡ cond (is_ok r) all old → all ≡ old ++ text → OnOk r (new ≡ old ++ text)
+printed_at_once (Ok x) old new all text same whole = same ∙ whole
+printed_at_once (Err e) old new all text same whole = tt

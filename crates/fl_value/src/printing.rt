@@ -1,6 +1,6 @@
 //! Calls as text, each in one form: what answers show.
 
-ghost use Rattle.std.specs.Prelude.{◌≡◌, ◌++◌, ◌∷◌, [], ◌<◌, ◌≤◌, List, OnOk, OnErr, map, length};
+ghost use Rattle.std.specs.Prelude.{◌≡◌, ◌++◌, ◌∷◌, [], ◌<◌, ◌≤◌, List, OnOk, OnErr, IfSome, map, length};
 ghost use Rattle.std.specs.List.{list_all, prefix_len};
 ghost use Rattle.std.specs.Char.{digit_char};
 ghost use Rattle.std.specs.Fmt.{decimal, signed_decimal};
@@ -122,6 +122,28 @@ fn print_separator(out: &mut Vec<u8>, index: usize) -> Result<(), AllocError>
     out.extend_from_slice(b", ")
 }
 
+/// The digit that a value is printed as, where it is a number of one digit.
+#[inline(always)]
+fn digit_of(value: &Value) -> Option<u8>
+    ensures below { IfSome result (λ digit. digit < 10) }
+    ensures same { IfSome result (λ digit. printed_value (datum_of value.now) ≡ decimal digit) }
+{
+    match value {
+        Value::Int(number) if 0 <= *number && *number < 10 => Some(*number as u8),
+        _ => None,
+    }
+}
+
+/// Appends a number of one digit behind another value, all at once.
+#[inline(always)]
+fn print_next_digit(out: &mut Vec<u8>, digit: u8) -> Result<(), AllocError>
+    requires below { digit < 10 }
+    ensures printed { OnOk result (out.new.items ≡ out.old.items ++ 44 ∷ 32 ∷ decimal digit) }
+    ensures begun { OnErr result (BeginsToAppend out.old.items out.new.items (44 ∷ 32 ∷ decimal digit)) }
+{
+    out.extend_from_slice(&[b',', b' ', b'0' + digit])
+}
+
 /// Appends a value.
 #[cycle(printing)]
 #[inline(always)]
@@ -156,6 +178,22 @@ fn print_nested(
     Ok(())
 }
 
+/// Appends a value, and what stands between it and the one before it.
+#[cycle(printing)]
+#[inline(always)]
+fn print_item(out: &mut Vec<u8>, index: usize, value: &Value) -> Result<(), AllocError>
+    ensures printed { OnOk result (out.new.items ≡ out.old.items ++ (separator index ++ printed_value (datum_of value.now))) }
+    ensures begun { OnErr result (BeginsToAppend out.old.items out.new.items (separator index ++ printed_value (datum_of value.now))) }
+{
+    if index != 0 {
+        if let Some(digit) = digit_of(value) {
+            return print_next_digit(out, digit);
+        }
+    }
+    print_separator(out, index)?;
+    print_value(out, value)
+}
+
 /// Appends values with `, ` between any two.
 #[cycle(printing)]
 #[inline(always)]
@@ -164,8 +202,7 @@ fn print_values(out: &mut Vec<u8>, values: &[Value]) -> Result<(), AllocError>
     ensures begun { OnErr result (BeginsToAppend out.old.items out.new.items (printed_values (data_from (map datum_of values.now)))) }
 {
     for (index, value) in values.iter().enumerate() {
-        print_separator(out, index)?;
-        print_value(out, value)?;
+        print_item(out, index, value)?;
     }
     Ok(())
 }

@@ -4,7 +4,7 @@ use Rattle.std.proofs.lemmas.List.{drop_all}
 use Rattle.fl_value.specs.declared.value.Value.{Value}
 use Rattle.fl_value.specs.Value.{Datum, Data, datum_of, data_from, nothing_more, also}
 use Rattle.fl_value.specs.Printed.{printed_value, printed_values, separator, BeginsToAppend}
-use Rattle.fl_value.proofs.Begun.{IsLeft, one_piece_less, none_left, begun_left, begun_piece, not_begun, on_refusal}
+use Rattle.fl_value.proofs.Begun.{IsLeft, one_piece_less, none_left, all_left, begun_left, begun_piece, not_begun, on_refusal}
 use Rattle.fl_value.proofs.Prints.{printed_from}
 use Rattle.fl_value.proofs.Turns.{map_dropped}
 use Rattle.fl_value.proofs.printing.+printing.Goals as goal
@@ -27,33 +27,20 @@ from_none : (k : ℕ) → printed_from k nothing_more ≡ []
 from_none zero = refl
 from_none (suc k) = refl
 
--- the value at k is left, and those behind it
-value_left : (k : ℕ) (d : Datum) (ds : Data) (old out between whole : List ℕ) → IsLeft old out whole (printed_from k (also d ds)) → between ≡ out ++ separator k
-    → IsLeft old between whole (printed_value d ++ printed_from (suc k) ds)
-value_left k d ds old out between whole left first =
-    one_piece_less old out between whole (printed_from k (also d ds)) (separator k) (printed_value d ++ printed_from (suc k) ds) left (from_one k d ds) first
+one_item : (k : ℕ) (d : Datum) (ds : Data) → printed_from k (also d ds) ≡ (separator k ++ printed_value d) ++ printed_from (suc k) ds
+one_item k d ds = from_one k d ds ∙ sym (append_assoc (separator k) (printed_value d) (printed_from (suc k) ds))
 
-one_more : (k : ℕ) (d : Datum) (ds : Data) (old out between printed whole : List ℕ) → IsLeft old out whole (printed_from k (also d ds)) → between ≡ out ++ separator k
-    → printed ≡ between ++ printed_value d → IsLeft old printed whole (printed_from (k + 1) ds)
-one_more k d ds old out between printed whole left first second =
+one_more : (k : ℕ) (d : Datum) (ds : Data) (old out printed whole : List ℕ) → IsLeft old out whole (printed_from k (also d ds))
+    → printed ≡ out ++ (separator k ++ printed_value d) → IsLeft old printed whole (printed_from (k + 1) ds)
+one_more k d ds old out printed whole left now =
     let next : suc k ≡ k + 1 = omega arith in
     subst (λ (j : ℕ). IsLeft old printed whole (printed_from j ds)) next
-    (one_piece_less old between printed whole (printed_value d ++ printed_from (suc k) ds) (printed_value d) (printed_from (suc k) ds) (value_left k d ds old out between whole left first) refl second)
+    (one_piece_less old out printed whole (printed_from k (also d ds)) (separator k ++ printed_value d) (printed_from (suc k) ds) left (one_item k d ds) now)
 
 all_done : (k : ℕ) (values : List Value) (old out whole : List ℕ) → length values ≤ k → IsLeft old out whole (printed_from k (data_from (map datum_of (drop k values)))) → out ≡ old ++ whole
 all_done k values old out whole past left =
     none_left old out whole (printed_from k (data_from (map datum_of (drop k values))))
     (ap (λ (vs : List Value). printed_from k (data_from (map datum_of vs))) (drop_all k values past) ∙ from_none k) left
-
-begun_separator : (k : ℕ) (d : Datum) (ds : Data) (old out new whole : List ℕ) → IsLeft old out whole (printed_from k (also d ds)) → BeginsToAppend out new (separator k)
-    → BeginsToAppend old new whole
-begun_separator k d ds old out new whole left begun =
-    begun_piece old out new whole (printed_from k (also d ds)) (separator k) (printed_value d ++ printed_from (suc k) ds) left (from_one k d ds) begun
-
-begun_value : (k : ℕ) (d : Datum) (ds : Data) (old out between new whole : List ℕ) → IsLeft old out whole (printed_from k (also d ds)) → between ≡ out ++ separator k
-    → BeginsToAppend between new (printed_value d) → BeginsToAppend old new whole
-begun_value k d ds old out between new whole left first begun =
-    begun_piece old between new whole (printed_value d ++ printed_from (suc k) ds) (printed_value d) (printed_from (suc k) ds) (value_left k d ds old out between whole left first) refl begun
 
 -- refused between two marks, and at the second
 begun_inside : (opening closing : ℕ) (old opened new inner : List ℕ) → opened ≡ old ++ opening ∷ [] → BeginsToAppend opened new inner → BeginsToAppend old new (opening ∷ (inner ++ closing ∷ []))
@@ -101,10 +88,10 @@ print_values-loop-index-preserved t c =
     let whole = printed_values (data_from (map datum_of values)) in
     let later = data_from (map datum_of (drop (k + 1) values)) in
     let left = subst (λ (ds : List Datum). IsLeft old out whole (printed_from k (data_from ds))) (map_dropped datum_of values k value c.loop-index-test.true c.index-values-index.is) c.loop-index.invariant in
-    one_more k (datum_of value) later old out c.print_separator.new.out.items c.print_value.new.out.items whole left c.in_ok-print_separator.ensures.printed c.in_ok-print_value.ensures.printed
+    one_more k (datum_of value) later old out c.print_item.new.out.items whole left c.in_ok-print_item.ensures.printed
 
-pub print_values-returns-in_err-print_separator-clause-begun : goal.print_values-returns-in_err-print_separator-clause-begun
-print_values-returns-in_err-print_separator-clause-begun t c =
+pub print_values-returns-in_err-print_item-clause-begun : goal.print_values-returns-in_err-print_item-clause-begun
+print_values-returns-in_err-print_item-clause-begun t c =
     let k = c.loop-index.index in
     let value = c.index-values-index.result in
     let values = c.args.values.now in
@@ -113,20 +100,16 @@ print_values-returns-in_err-print_separator-clause-begun t c =
     let whole = printed_values (data_from (map datum_of values)) in
     let later = data_from (map datum_of (drop (k + 1) values)) in
     let left = subst (λ (ds : List Datum). IsLeft old out whole (printed_from k (data_from ds))) (map_dropped datum_of values k value c.loop-index-test.true c.index-values-index.is) c.loop-index.invariant in
-    on_refusal c.from_residual.result (begun_separator k (datum_of value) later old out c.print_separator.new.out.items whole left c.in_err-print_separator.ensures.begun)
+    on_refusal c.from_residual.result
+    (begun_piece old out c.print_item.new.out.items whole (printed_from k (also (datum_of value) later)) (separator k ++ printed_value (datum_of value)) (printed_from (suc k) later) left
+    (one_item k (datum_of value) later) c.in_err-print_item.ensures.begun)
 
-pub print_values-returns-in_err-print_value-clause-begun : goal.print_values-returns-in_err-print_value-clause-begun
-print_values-returns-in_err-print_value-clause-begun t c =
-    let k = c.loop-index.index in
-    let value = c.index-values-index.result in
-    let values = c.args.values.now in
-    let old = c.args.out.now.items in
-    let out = c.loop-index.out.items in
-    let whole = printed_values (data_from (map datum_of values)) in
-    let later = data_from (map datum_of (drop (k + 1) values)) in
-    let left = subst (λ (ds : List Datum). IsLeft old out whole (printed_from k (data_from ds))) (map_dropped datum_of values k value c.loop-index-test.true c.index-values-index.is) c.loop-index.invariant in
-    on_refusal c.from_residual-in_err-print_value.result
-    (begun_value k (datum_of value) later old out c.print_separator.new.out.items c.print_value.new.out.items whole left c.in_ok-print_separator.ensures.printed c.in_err-print_value.ensures.begun)
+pub print_item-returns-in_err-print_separator-clause-begun : goal.print_item-returns-in_err-print_separator-clause-begun
+print_item-returns-in_err-print_separator-clause-begun t c =
+    let piece = separator c.args.index in
+    let rest = printed_value (datum_of c.args.value.now) in
+    on_refusal c.from_residual.result
+    (begun_piece c.args.out.now.items c.args.out.now.items c.print_separator.new.out.items (piece ++ rest) (piece ++ rest) piece rest (all_left c.args.out.now.items (piece ++ rest)) refl c.in_err-print_separator.ensures.begun)
 
 pub print_values-returns : goal.print_values-returns
 print_values-returns t c = record {
