@@ -21,7 +21,7 @@ use Rattle.fl_core.specs.Sound.{MayTurn, IsBoard}
 use Rattle.fl_core.specs.Accounts.{TurnAccounts}
 use Rattle.fl_core.specs.Inside.{seat_with, seats_of, Belongs, GoTogether, board_of, IsStored, LooksAtPlace}
 use Rattle.fl_core.proofs.Places.{one_stands, set_same}
-use Rattle.fl_core.proofs.Together.{Placed, read_seat, seat_of, set_both, set_both_together}
+use Rattle.fl_core.proofs.Together.{Placed, read_seat, seat_of, set_both, set_both_together, as_place}
 use Rattle.fl_core.proofs.Dispatchers.{finds, finds_before, due_is, may_turn}
 use Rattle.fl_core.proofs.Picks.{list_of}
 use Rattle.fl_core.proofs.Turning.{ready_due, turn_kept}
@@ -54,7 +54,7 @@ module _ (k : TheBoard) (dispatchers : List TheDispatcher) (seats : List TheSeat
     here = read_seat seats calls stored.together e due_below s seen value_s view_s
 
     pub place_due : IsPlaceOf s.end calls e
-    place_due = (here.call, here.call_is, record { program = here.of.program; plain = here.of.sound.plain })
+    place_due = as_place s.end calls e here.call here.call_is here.of
 
     pub ready : IsReady s.end
     ready = ready_due (board_of dispatchers seats calls) stored.board n d found pick picked e end_due (seat_with s here.call.parts) here.there

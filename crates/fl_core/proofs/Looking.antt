@@ -1,5 +1,5 @@
 -- A turn of the end whose channel is pending, by what the end answered.
-use Rattle.std.proofs.Common.{◌≡◌, refl, sym, ◌∙◌, subst, ℕ, true, List, Option, None, IsSome, Result, Ok, Err}
+use Rattle.std.proofs.Common.{◌≡◌, refl, sym, ◌∙◌, subst, ℕ, true, List, Option, None, IsSome, Result, Ok, Err, slice_get}
 use Rattle.std.proofs.lemmas.Bool.{false≢true}
 use Rattle.std.specs.declared.alloc.AllocError.{AllocError}
 use Rattle.fl_base.specs.declared.identity.ChanId.{ChanId}
@@ -21,6 +21,7 @@ use Rattle.fl_core.specs.declared.answer.TurnAnswer.TheVariants.{Handle, Part, Q
 use Rattle.fl_core.specs.Turns.{lent, moment, Gives, Examines, LooksAt}
 use Rattle.fl_core.specs.Inside.{Settles, MayCome, Refuses, LooksAtPlace}
 use Rattle.fl_core.proofs.Places.{set_same}
+use Rattle.fl_core.proofs.Together.{standing}
 
 -- what a turn answers for what the end answered
 abbrev pub answer_of : ReceiveAnswer → TurnAnswer
@@ -110,10 +111,12 @@ module _ {T : Type 0} (takes : T → Look → T → Type 0) (kind : Kind) (w v :
 -- a channel that is polled: the end takes nothing
 pub looks_polled : {T : Type 0} (takes : T → Look → T → Type 0) (kind : Kind) (c : ChanId) (picked : Pick) (w v : ThreeLists) (s : TheEnd) (p q : T) (answer : Result TurnAnswer AllocError) (calls : List TheReassembly) (place : ℕ)
     → picked ≡ pick.Polled c → IsPlaceOf s calls place → Examines takes c.0 (lent w p) answer (lent v q) → LooksAtPlace takes picked kind (moment w s p) answer (moment v s q) calls place calls
-looks_polled takes kind c picked w v s p q answer calls place picked_is here h = record {
-  was = here.0;
-  was_there = here.1;
-  is = here.0;
-  event = (refl, subst (λ (x : Pick). LooksAt takes x kind (moment w (with_parts s here.0.parts) p) answer (moment v (with_parts s here.0.parts) q)) (sym picked_is) (h, refl));
-  after_is = sym (set_same calls place here.0 here.1);
-}
+looks_polled takes kind c picked w v s p q answer calls place picked_is known h =
+    let (r, there) = standing s (slice_get calls place) known in
+    record {
+      was = r;
+      was_there = there;
+      is = r;
+      event = (refl, subst (λ (x : Pick). LooksAt takes x kind (moment w (with_parts s r.parts) p) answer (moment v (with_parts s r.parts) q)) (sym picked_is) (h, refl));
+      after_is = sym (set_same calls place r there);
+    }

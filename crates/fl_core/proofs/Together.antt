@@ -1,5 +1,6 @@
 -- A board's seats and the places of their ends: what stands at one, and what a change of one makes of the seats.
 use Rattle.std.proofs.Common.{◌≡◌, refl, sym, ap, ◌∙◌, subst, ℕ, zero, suc, ◌<◌, List, [], ◌∷◌, ◌++◌, length, slice_get, slice_set, slice_index_or, Option, None, Some, arith}
+use Rattle.std.specs.Prelude.{IsSomeAnd}
 use Rattle.std.proofs.lemmas.Option.{slice_get_read}
 use Rattle.fl_compile.specs.declared.program.Program.{Program}
 use Rattle.fl_compile.specs.Programs.{program_of}
@@ -7,6 +8,7 @@ use Rattle.fl_base.specs.declared.fragment.Frag.{Frag}
 use Rattle.fl_machine.specs.Reassembling.{TheReassembly}
 use Rattle.fl_endpoint.specs.View.{TheEnd, with_parts}
 use Rattle.fl_endpoint.specs.Accounts.{Sound}
+use Rattle.fl_endpoint.specs.Lent.{IsOf, IsPlaceOf}
 use Rattle.fl_core.specs.View.{TheDispatcher, TheSeat, TheBoard}
 use Rattle.fl_core.specs.Inside.{seat_with, seats_of, Belongs, GoTogether, board_of}
 
@@ -149,3 +151,13 @@ still_of s t r of same sound = record { program = of.program ∙ ap (λ (p : Pro
 -- a place that is added for an end belongs to it
 pub new_belongs : (s : TheEnd) (r : TheReassembly) → program_of r.program ≡ program_of s.program → r.parts ≡ [] → s.parts ≡ [] → Sound s → Belongs r s
 new_belongs s r program none alone sound = record { program = program; sound = subst (λ (xs : List Frag). Sound (with_parts s xs)) (sym (none ∙ sym alone)) sound }
+
+-- ---- what is lent to an end
+
+-- what stands at a place is of the end
+pub as_place : (s : TheEnd) (calls : List TheReassembly) (e : ℕ) (r : TheReassembly) → slice_get calls e ≡ Some r → Belongs r s → IsPlaceOf s calls e
+as_place s calls e r there of = subst (λ (o : Option TheReassembly). IsSomeAnd o (λ x. IsOf s x)) (sym there) (record { program = of.program; plain = of.sound.plain })
+
+pub standing : (s : TheEnd) (o : Option TheReassembly) → IsSomeAnd o (λ x. IsOf s x) → (r : TheReassembly) × (o ≡ Some r)
+standing s None h = absurd h
+standing s (Some r) h = (r, refl)

@@ -1,6 +1,6 @@
 -- The place that is lent to an end: what is known of it, and what a receive comes to there.
-use Rattle.std.proofs.Common.{◌≡◌, ℕ, zero, suc, ◌<◌, true, List, [], ◌∷◌, ◌++◌, map, length, Some, Result, Ok, Err, refl, sym, ap, subst, ◌∙◌}
-use Rattle.std.specs.Prelude.{slice_get, slice_set}
+use Rattle.std.proofs.Common.{◌≡◌, ℕ, zero, suc, ◌<◌, true, List, [], ◌∷◌, ◌++◌, map, length, Some, Result, Ok, Err, refl, sym, ap, subst, ◌∙◌, Option, None}
+use Rattle.std.specs.Prelude.{slice_get, slice_set, IsSomeAnd}
 use Rattle.std.proofs.lemmas.Option.{slice_get_within}
 use Rattle.fl_base.specs.declared.fragment.Frag.{Frag}
 use Rattle.fl_base.specs.Control.{bare}
@@ -111,13 +111,24 @@ still_of s t r parts same of plain = record { program = of.program ∙ ap (λ (p
 
 -- ---- the place of an end
 
+-- what stands there is of the end
+pub as_place : (s : TheEnd) (calls : List TheReassembly) (place : ℕ) (r : TheReassembly) → slice_get calls place ≡ Some r → IsOf s r → IsPlaceOf s calls place
+as_place s calls place r there of = subst (λ (o : Option TheReassembly). IsSomeAnd o (λ x. IsOf s x)) (sym there) of
+
+standing : (s : TheEnd) (o : Option TheReassembly) → IsSomeAnd o (λ x. IsOf s x) → (r : TheReassembly) × (o ≡ Some r) × IsOf s r
+standing s None h = absurd h
+standing s (Some r) h = (r, refl, h)
+
 -- it stays one
 pub still_place : (calls : List TheReassembly) (place : ℕ) (Event : TheReassembly → TheReassembly → Type 0) (after : List TheReassembly) (t : TheEnd) → ((was is : TheReassembly) → Event was is → IsOf t is)
     → ChangesPlace calls place Event after → IsPlaceOf t after place
 still_place calls place Event after t of h =
-    (h.is, ap (λ (x : List TheReassembly). slice_get x place) h.after_is ∙ set_here calls place h.was h.is h.was_there, of h.was h.is h.event)
+    as_place t after place h.is (ap (λ (x : List TheReassembly). slice_get x place) h.after_is ∙ set_here calls place h.was h.is h.was_there) (of h.was h.is h.event)
 
-module _ (s : TheEnd) (calls : List TheReassembly) (place : ℕ) (here : IsPlaceOf s calls place) where
+module _ (s : TheEnd) (calls : List TheReassembly) (place : ℕ) (known : IsPlaceOf s calls place) where
+  here : (r : TheReassembly) × (slice_get calls place ≡ Some r) × IsOf s r
+  here = standing s (slice_get calls place) known
+
   pub place_below : place < length calls
   place_below = slice_get_within calls place here.0 here.1
 

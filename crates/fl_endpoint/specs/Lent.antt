@@ -1,5 +1,5 @@
 -- A place of `Reassemblies` that is lent to an end: what was taken of the call under way stands there.
-use Rattle.std.specs.Prelude.{◌≡◌, ℕ, List, [], ◌∷◌, ◌++◌, map, slice_get, Some, Result}
+use Rattle.std.specs.Prelude.{◌≡◌, ℕ, List, [], ◌∷◌, ◌++◌, map, slice_get, IsSomeAnd, Result}
 use Rattle.fl_compile.specs.Programs.{program_of}
 use Rattle.fl_link.specs.Looks.{Look}
 use Rattle.fl_machine.specs.Reassembling.{TheReassembly, ChangesPlace}
@@ -17,7 +17,7 @@ pub record IsOf (s : TheEnd) (r : TheReassembly) : Type 0 where
 
 -- such a place is there
 abbrev pub IsPlaceOf : TheEnd → List TheReassembly → ℕ → Type 0
-IsPlaceOf s calls place = (r : TheReassembly) × (slice_get calls place ≡ Some r) × IsOf s r
+IsPlaceOf s calls place = IsSomeAnd (slice_get calls place) (λ r. IsOf s r)
 
 -- one place more, the end's, between two calls
 abbrev pub AddsPlace : TheEnd → List TheReassembly → List TheReassembly → Type 0
