@@ -1,8 +1,9 @@
 //! A call back from its tape. The tape may come from anywhere: what no fitting call has is refused.
 
-ghost use Rattle.std.specs.Prelude.{◌≡◌, ◌≤◌, ◌++◌, ◌^◌, List, length, true, false, map, replicate, Some, IfOk, IfSome, IfNone};
+ghost use Rattle.std.specs.Prelude.{◌≡◌, ◌<◌, ◌≤◌, ◌++◌, ◌∷◌, [], ◌^◌, List, length, true, false, map, replicate, Some, IfOk, IfSome, IfNone};
 ghost use Rattle.std.specs.Option.{option_map};
 ghost use Rattle.std.specs.List.{list_all};
+ghost use Rattle.std.specs.Int.{to_le_bytes, w64};
 ghost use Rattle.fl_interface.specs.Interface.{scalar, enumeration, text, sized, type_of, arg_type_of, interface_of};
 ghost use Rattle.fl_value.specs.Value.{TheCall, number, string, elements, data_of, datum_of, call_of};
 ghost use Rattle.fl_value.specs.Plan.{rank_of, never_falls};
@@ -184,6 +185,24 @@ fn read_length(tape: &[u64], most: u32) -> Option<(u32, &[u64])>
     Some((*length as u32, rest))
 }
 
+/// Eight bytes as a number, the first of them lowest.
+#[inline(always)]
+fn packed(a: u64, b: u64, c: u64, d: u64, e: u64, f: u64, g: u64, h: u64) -> u64
+    requires a { a < 256 }
+    requires b { b < 256 }
+    requires c { c < 256 }
+    requires d { d < 256 }
+    requires e { e < 256 }
+    requires f { f < 256 }
+    requires g { g < 256 }
+    requires h { h < 256 }
+    ensures bytes { to_le_bytes w64 result ≡ a ∷ b ∷ c ∷ d ∷ e ∷ f ∷ g ∷ h ∷ [] }
+{
+    let low = a + b * 0x100 + c * 0x1_0000 + d * 0x100_0000;
+    let high = e + f * 0x100 + g * 0x1_0000 + h * 0x100_0000;
+    low + high * 0x1_0000_0000
+}
+
 /// Appends numbers that are bytes, eight at a time, up to eight of which one is none or up to the last few; and tells what is left.
 fn push_eights<'a>(bytes: &mut Vec<u8>, numbers: &'a [u64]) -> Result<&'a [u64], AllocError>
     ensures put { IfOk result (λ rest. bytes.new.items ++ rest.now ≡ bytes.old.items ++ numbers.now) }
@@ -193,9 +212,7 @@ fn push_eights<'a>(bytes: &mut Vec<u8>, numbers: &'a [u64]) -> Result<&'a [u64],
         if a | b | c | d | e | f | g | h > 0xff {
             return Ok(rest);
         }
-        bytes.extend_from_slice(&[
-            *a as u8, *b as u8, *c as u8, *d as u8, *e as u8, *f as u8, *g as u8, *h as u8,
-        ])?;
+        bytes.extend_from_slice(&packed(*a, *b, *c, *d, *e, *f, *g, *h).to_le_bytes())?;
         rest = after;
     }
     Ok(rest)

@@ -23,26 +23,26 @@ all_few : (r : List ℕ) → bit_or (bit_or (bit_or (bit_or (bit_or (bit_or (bit
     → (get_or r 0 0 < 256) × (get_or r 1 0 < 256) × (get_or r 2 0 < 256) × (get_or r 3 0 < 256) × (get_or r 4 0 < 256) × (get_or r 5 0 < 256) × (get_or r 6 0 < 256) × (get_or r 7 0 < 256)
 all_few r few = few_of_eight (get_or r 0 0) (get_or r 1 0) (get_or r 2 0) (get_or r 3 0) (get_or r 4 0) (get_or r 5 0) (get_or r 6 0) (get_or r 7 0) few
 
-pub overflow_cast-a : goal.overflow_cast-a
-overflow_cast-a c = omega (arith, (all_few c.loop-rest.rest.now c.if-a-b-gt255.false).0)
+pub packed-requires-clause-a : goal.packed-requires-clause-a
+packed-requires-clause-a c = (all_few c.loop-rest.rest.now c.if-a-b-gt255.false).0
 
-pub overflow_cast-b : goal.overflow_cast-b
-overflow_cast-b c = omega (arith, (all_few c.loop-rest.rest.now c.if-a-b-gt255.false).1)
+pub packed-requires-clause-b : goal.packed-requires-clause-b
+packed-requires-clause-b c = (all_few c.loop-rest.rest.now c.if-a-b-gt255.false).1
 
-pub overflow_cast-c : goal.overflow_cast-c
-overflow_cast-c c = omega (arith, (all_few c.loop-rest.rest.now c.if-a-b-gt255.false).2)
+pub packed-requires-clause-c : goal.packed-requires-clause-c
+packed-requires-clause-c c = (all_few c.loop-rest.rest.now c.if-a-b-gt255.false).2
 
-pub overflow_cast-d : goal.overflow_cast-d
-overflow_cast-d c = omega (arith, (all_few c.loop-rest.rest.now c.if-a-b-gt255.false).3)
+pub packed-requires-clause-d : goal.packed-requires-clause-d
+packed-requires-clause-d c = (all_few c.loop-rest.rest.now c.if-a-b-gt255.false).3
 
-pub overflow_cast-e : goal.overflow_cast-e
-overflow_cast-e c = omega (arith, (all_few c.loop-rest.rest.now c.if-a-b-gt255.false).4)
+pub packed-requires-clause-e : goal.packed-requires-clause-e
+packed-requires-clause-e c = (all_few c.loop-rest.rest.now c.if-a-b-gt255.false).4
 
-pub overflow_cast-f : goal.overflow_cast-f
-overflow_cast-f c = omega (arith, (all_few c.loop-rest.rest.now c.if-a-b-gt255.false).5)
+pub packed-requires-clause-f : goal.packed-requires-clause-f
+packed-requires-clause-f c = (all_few c.loop-rest.rest.now c.if-a-b-gt255.false).5
 
-pub overflow_cast-g : goal.overflow_cast-g
-overflow_cast-g c = omega (arith, (all_few c.loop-rest.rest.now c.if-a-b-gt255.false).6)
+pub packed-requires-clause-g : goal.packed-requires-clause-g
+packed-requires-clause-g c = (all_few c.loop-rest.rest.now c.if-a-b-gt255.false).6
 
-pub overflow_cast-h : goal.overflow_cast-h
-overflow_cast-h c = omega (arith, (all_few c.loop-rest.rest.now c.if-a-b-gt255.false).7)
+pub packed-requires-clause-h : goal.packed-requires-clause-h
+packed-requires-clause-h c = (all_few c.loop-rest.rest.now c.if-a-b-gt255.false).7
