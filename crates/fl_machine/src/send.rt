@@ -242,7 +242,7 @@ fn number_at(
     }
 }
 
-// The numbers that a fragment begins with, as long as each is followed by another; the place behind them.
+// The numbers that a fragment begins with, outside loops, as long as each is followed by another; the place behind them.
 #[inline(always)]
 fn put_numbers(buffer: &mut [u8; 56], cursor: &mut Cursor, ops: &[Op], tape: &[u64]) -> usize
     requires spot { IsSpot ops.now (spot_of tape.now cursor.old) }
@@ -253,7 +253,7 @@ fn put_numbers(buffer: &mut [u8; 56], cursor: &mut Cursor, ops: &[Op], tape: &[u
     ensures settled { IsSettled ops.now (spot_of tape.now cursor.new) }
     ensures puts { PutsRun ops.now (spot_of tape.now cursor.old) (spot_of tape.now cursor.new) [] buffer.new result }
 {
-    if cursor.is_idle() {
+    if cursor.is_idle() || cursor.depth != 0 {
         return 0;
     }
     let mut place = cursor.place;
