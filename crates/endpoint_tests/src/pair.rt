@@ -1,7 +1,6 @@
 //! The two ends of a binding over queues, and what they answer.
 
 ghost use Rattle.std.specs.Prelude.{◌≡◌};
-ghost use Rattle.fl_endpoint.specs.Lent.{IsPlaceOf};
 
 use crate::sides::Refusing;
 use crate::tables::Row;
@@ -15,6 +14,7 @@ use fl_machine::Reassemblies;
 use fl_parse::{Tree, parse};
 use fl_value::{Call, PlanNo, ValueFault, print_call, read_call};
 use std::alloc::{AllocError, Global};
+use std::marker::Model;
 
 /// What is done at an end.
 #[derive(Clone, Copy)]
@@ -91,7 +91,21 @@ struct Half {
     end: End,
     calls: Reassemblies,
     out: QueueLink,
-    ghost placed: { IsPlaceOf end calls 0 },
+}
+
+impl Model for Half {
+    ghost use Rattle.std.specs.Coded.{codes};
+    ghost use Rattle.fl_compile.specs.contracts.program.Program.{the_row};
+    ghost use Rattle.fl_endpoint.specs.View.{TheEnd};
+    ghost use Rattle.fl_endpoint.specs.Lent.{IsPlaceOf};
+
+    ghost Value = { TheEnd };
+
+    ghost coded = { Prim.hlevel (codes, the_row.coded) };
+
+    ghost view = { λ h. h.end };
+
+    ghost invariant = { λ h. IsPlaceOf h.end h.calls 0 };
 }
 
 // The two ends of a binding, and the texts of the calls that they handled, a line each.

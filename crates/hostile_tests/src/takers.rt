@@ -1,7 +1,5 @@
 //! An end that is given fragments, alone and at a board.
 
-ghost use Rattle.fl_endpoint.specs.Lent.{IsPlaceOf};
-
 use fl_base::{Circuit, Frag};
 use fl_check::{TextFault, check};
 use fl_compile::{Program, compile};
@@ -14,6 +12,7 @@ use fl_machine::Reassemblies;
 use fl_parse::parse;
 use fl_value::{Call, PlanNo, read_call};
 use std::alloc::{AllocError, Global};
+use std::marker::Model;
 
 pub const PLANS: [PlanNo; 2] = [PlanNo::One, PlanNo::Two];
 
@@ -75,7 +74,21 @@ pub struct Taker {
     end: End,
     calls: Reassemblies,
     from: QueueLink,
-    ghost placed: { IsPlaceOf end calls 0 },
+}
+
+impl Model for Taker {
+    ghost use Rattle.std.specs.Coded.{codes};
+    ghost use Rattle.fl_compile.specs.contracts.program.Program.{the_row};
+    ghost use Rattle.fl_endpoint.specs.View.{TheEnd};
+    ghost use Rattle.fl_endpoint.specs.Lent.{IsPlaceOf};
+
+    ghost Value = { TheEnd };
+
+    ghost coded = { Prim.hlevel (codes, the_row.coded) };
+
+    ghost view = { λ t. t.end };
+
+    ghost invariant = { λ t. IsPlaceOf t.end t.calls 0 };
 }
 
 impl Taker {
