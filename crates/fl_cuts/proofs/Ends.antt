@@ -29,7 +29,7 @@ use Rattle.fl_queues.specs.Calls.{Planned, fragments, total, whole_in, stream}
 use Rattle.fl_queues.specs.Rings.{Label, there_is_room}
 use Rattle.fl_queues.specs.Ends.{Direction, taken_of, accepts, writes, End, is_bound, holds_back, with_rule as machine_rule, Taken, whole, a_part, takes_one, handled, comes_to, replies}
 use Rattle.fl_queues.specs.SoundCalls.{AllFit}
-use Rattle.fl_shows.specs.Ends.{circuit_of, parts_of, EndShows}
+use Rattle.fl_shows.specs.Ends.{circuit_of, parts_of, EndShows, MachineEnd}
 use Rattle.fl_shows.specs.EndLaws.{with_out, TakeShows}
 use Rattle.fl_shows.proofs.Streams.{length_frags, length_stream, whole_append, whole_short, whole_one}
 use Rattle.fl_shows.proofs.Calling.{idle_is, bound_is, unbound_is, call_agrees, write_agrees}
@@ -45,6 +45,9 @@ use Rattle.fl_cuts.proofs.Counted.{Counts, written_counts, called_counts, replie
 -- of what the other end sends nothing
 abbrev nothing_known : Direction
 nothing_known = record { accepted = []; waiting = []; passed = [] }
+
+abbrev machine_of : EndCut → MachineEnd
+machine_of x = record { interface = x.planned; end = x.end; peer = nothing_known }
 
 abbrev plain : TheEnd → TheEnd
 plain s = record s { parts = []; failed = false }
@@ -117,7 +120,7 @@ refused_call x c answer s t h e calls = record { after = x; calls = calls; shows
 
 pub call_shows : (x : EndCut) (c : TheCall) (answer : Result (Unit {0}) EndFault) (s t : TheEnd) → ShowsEnd x s → EndCalls s c answer t → Called x c answer t
 call_shows x c (Ok done) s t h a =
-    let g = call_agrees x.port.name c x.planned x.end nothing_known (plain s) (plain t) (Ok done) (plainly x s h) h.counted
+    let g = call_agrees x.port.name c (machine_of x) (plain s) (plain t) (Ok done) (plainly x s h) h.counted
     (plain_calls s t c (Ok done) (λ e. absurd (cc)) a) in
     let idle = idle_is x.planned x.end nothing_known (plain s) (plainly x s h) a.2 in
     record {
@@ -129,19 +132,19 @@ call_shows x c (Ok done) s t h a =
       seat = refl;
     }
 call_shows x c (Err UnknownMessage) s t h a =
-    let g = call_agrees x.port.name c x.planned x.end nothing_known (plain s) (plain t) (Err UnknownMessage) (plainly x s h) h.counted
+    let g = call_agrees x.port.name c (machine_of x) (plain s) (plain t) (Err UnknownMessage) (plainly x s h) h.counted
     (plain_calls s t c (Err UnknownMessage) (λ e. absurd (cc)) a) in
     refused_call x c (Err UnknownMessage) s t h a.1 (g.0, refl)
 call_shows x c (Err Misfit) s t h a =
-    let g = call_agrees x.port.name c x.planned x.end nothing_known (plain s) (plain t) (Err Misfit) (plainly x s h) h.counted
+    let g = call_agrees x.port.name c (machine_of x) (plain s) (plain t) (Err Misfit) (plainly x s h) h.counted
     (plain_calls s t c (Err Misfit) (λ e. absurd (cc)) a) in
     refused_call x c (Err Misfit) s t h a.2 (g.0, refl)
 call_shows x c (Err NotBound) s t h a =
-    let g = call_agrees x.port.name c x.planned x.end nothing_known (plain s) (plain t) (Err NotBound) (plainly x s h) h.counted
+    let g = call_agrees x.port.name c (machine_of x) (plain s) (plain t) (Err NotBound) (plainly x s h) h.counted
     (plain_calls s t c (Err NotBound) (λ e. absurd (cc)) a) in
     refused_call x c (Err NotBound) s t h a.2 (g.0, refl)
 call_shows x c (Err Busy) s t h a =
-    let g = call_agrees x.port.name c x.planned x.end nothing_known (plain s) (plain t) (Err Busy) (plainly x s h) h.counted
+    let g = call_agrees x.port.name c (machine_of x) (plain s) (plain t) (Err Busy) (plainly x s h) h.counted
     (plain_calls s t c (Err Busy) (λ e. absurd (cc)) a) in
     refused_call x c (Err Busy) s t h a.3 (g.0, refl)
 call_shows x c (Err Memory) s t h a = refused_call x c (Err Memory) s t h a.3 refl
@@ -168,7 +171,7 @@ pub record Ruled (x : EndCut) (msg reply : ℕ) (answer : Result (Unit {0}) EndF
 pub rule_shows : (x : EndCut) (msg reply : ℕ) (answer : Result (Unit {0}) EndFault) (s t : TheEnd) → ShowsEnd x s → EndSets s msg reply answer t
     → Ruled x msg reply answer t
 rule_shows x msg reply (Ok done) s t h a =
-    let g = rule_agrees x.planned msg reply x.end nothing_known (plain s) (plain t) (Ok done) (plainly x s h) (plain_rule s t msg reply (Ok done) a) in
+    let g = rule_agrees msg reply (machine_of x) (plain s) (plain t) (Ok done) (plainly x s h) (plain_rule s t msg reply (Ok done) a) in
     record {
       after = record x { end = machine_rule msg reply x.end };
       sets = (g.0, g.1, refl);
@@ -177,11 +180,11 @@ rule_shows x msg reply (Ok done) s t h a =
       seat = refl;
     }
 rule_shows x msg reply (Err UnknownMessage) s t h a =
-    let g = rule_agrees x.planned msg reply x.end nothing_known (plain s) (plain t) (Err UnknownMessage) (plainly x s h)
+    let g = rule_agrees msg reply (machine_of x) (plain s) (plain t) (Err UnknownMessage) (plainly x s h)
     (plain_rule s t msg reply (Err UnknownMessage) a) in
     record { after = x; sets = (g.0, refl); shows = same x s t h a.1; port = refl; seat = refl }
 rule_shows x msg reply (Err Misfit) s t h a =
-    let g = rule_agrees x.planned msg reply x.end nothing_known (plain s) (plain t) (Err Misfit) (plainly x s h) (plain_rule s t msg reply (Err Misfit) a) in
+    let g = rule_agrees msg reply (machine_of x) (plain s) (plain t) (Err Misfit) (plainly x s h) (plain_rule s t msg reply (Err Misfit) a) in
     record { after = x; sets = (g.0, g.1, refl); shows = same x s t h a.3; port = refl; seat = refl }
 rule_shows x msg reply (Err fault) s t h a = absurd a
 
@@ -217,7 +220,7 @@ module _ {T V : Type 0} (puts : T → Look → T → Type 0) (Shows : V → T �
   pub write_shows : PutLaw puts Shows places → (x : EndCut) (v : V) (answer : Result WriteAnswer EndFault) (s t : TheEnd) (p q : T) → ShowsEnd x s → Shows v p
       → EndWrites puts s p answer t q → Wrote Shows places x v answer t q
   write_shows law x v (Ok (write.Written number count)) s t p q h k a =
-      let g = write_agrees puts x.planned x.end nothing_known p q (plain s) (plain t) (Ok (write.Written number count)) (plainly x s h) h.counted h.stations
+      let g = write_agrees puts (machine_of x) p q (plain s) (plain t) (Ok (write.Written number count)) (plainly x s h) h.counted h.stations
       (plain_writes puts s t p q (Ok (write.Written number count)) (λ e. absurd (cc)) a) in
       let w = law.one (next_label x) v p q g.1.0 k g.1.2 in
       record {
@@ -231,12 +234,12 @@ module _ {T V : Type 0} (puts : T → Look → T → Type 0) (Shows : V → T �
         seat = refl;
       }
   write_shows law x v (Ok write.Full) s t p q h k a =
-      let g = write_agrees puts x.planned x.end nothing_known p q (plain s) (plain t) (Ok write.Full) (plainly x s h) h.counted h.stations
+      let g = write_agrees puts (machine_of x) p q (plain s) (plain t) (Ok write.Full) (plainly x s h) h.counted h.stations
       (plain_writes puts s t p q (Ok write.Full) (λ e. absurd (cc)) a) in
       let w = law.full (next_label x) v p q k g.1 in
       record { after = x; side = w.0; does = (g.0, g.2, w.1, refl); shows = same x s t h a.3; side_shows = w.2; port = refl; seat = refl }
   write_shows law x v (Ok write.Nothing) s t p q h k a =
-      let g = write_agrees puts x.planned x.end nothing_known p q (plain s) (plain t) (Ok write.Nothing) (plainly x s h) h.counted h.stations
+      let g = write_agrees puts (machine_of x) p q (plain s) (plain t) (Ok write.Nothing) (plainly x s h) h.counted h.stations
       (plain_writes puts s t p q (Ok write.Nothing) (λ e. absurd (cc)) a) in
       record {
         after = x;
@@ -248,7 +251,7 @@ module _ {T V : Type 0} (puts : T → Look → T → Type 0) (Shows : V → T �
         seat = refl;
       }
   write_shows law x v (Err Spent) s t p q h k a =
-      let g = write_agrees puts x.planned x.end nothing_known p q (plain s) (plain t) (Err Spent) (plainly x s h) h.counted h.stations
+      let g = write_agrees puts (machine_of x) p q (plain s) (plain t) (Err Spent) (plainly x s h) h.counted h.stations
       (plain_writes puts s t p q (Err Spent) (λ e. absurd (cc)) a) in
       let w = law.over (next_label x) v p q k g.1 in
       record { after = x; side = w.0; does = (g.0, g.2, w.1, refl); shows = same x s t h a.3; side_shows = w.2; port = refl; seat = refl }

@@ -4,7 +4,6 @@ use Rattle.std.specs.Prelude.{Ok}
 use Rattle.std.specs.List.{flat_map}
 use Rattle.std.proofs.lemmas.List.Concat.{flat_map-cons}
 use Rattle.fl_base.specs.declared.identity.EndId.{EndId}
-use Rattle.fl_base.specs.Ends.{other}
 use Rattle.fl_interface.specs.SameTypes.{same_arguments}
 use Rattle.fl_endpoint.specs.Events.{SetsRule}
 use Rattle.fl_core.specs.View.{TheSeat}
@@ -20,6 +19,7 @@ use Rattle.fl_queues.specs.Step.{settles, step}
 use Rattle.fl_queues.specs.Taking.{sets_rule, has_message, arguments_of}
 use Rattle.fl_laws.proofs.SoundSteps.{steps_are_sound}
 use Rattle.fl_shows.specs.EndLaws.{are_messages, have_same_arguments}
+use Rattle.fl_shows.specs.Ends.{machine_end}
 use Rattle.fl_shows.proofs.Rules.{rule_agrees}
 use Rattle.fl_shows.proofs.Tests.{past_not}
 use Rattle.fl_worlds.specs.declared.binding.Binding.{Binding as TheBinding}
@@ -108,7 +108,7 @@ module _ (w : TheWorld) (s : State) (e : EndId) (msg answer : ℕ) (cores : List
       ∙ ap (λ (y : TheSeat). with_end_at h.core place y board.end) seat in
       let event : SetsRule h.at.end msg answer (Ok tt) board.end = subst (λ (y : TheSeat). SetsRule y.end msg answer (Ok tt) board.end) seat board.event in
       let end = end_in e.side h.binding in
-      let g = rule_agrees h.interface msg answer end (end_in (other e.side) h.binding).out h.at.end board.end (Ok tt) h.shows event in
+      let g = rule_agrees msg answer (machine_end h.interface e.side h.binding) h.at.end board.end (Ok tt) h.shows event in
       let stays : EndStays h.interface end (with_rule msg answer end) = record {
         seat = refl;
         queue = refl;
