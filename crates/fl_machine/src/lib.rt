@@ -9,7 +9,7 @@
 //! - `cursor.rt`: where a run of send code stands, and how it goes on by an instruction
 //! - `send.rt`: `SendRun`, and a call's first fragment without one
 //! - `intake.rt`: where a run of receive code stands, and how it takes bytes
-//! - `plain.rt`: calls of one fragment, taken by code without loops
+//! - `plain.rt`: numbers that lie in one fragment, taken outside loops: those of a call of one fragment, and those that others begin with
 //! - `recv.rt`: `RecvRun`
 //! - `reassembly.rt`: what is taken of a call on a tape, which gives calls of what it takes and needs no way back
 //! - `reassemblies.rt`: `Reassemblies`, calls put together at many places
