@@ -39,8 +39,8 @@ ruled_kept msg reply b s t is o sets a ruled = inl (record { before = s; before_
 
 -- ---- an end on a board that is lent
 
-pub sound_holds : (k : TheCore) (b : TheBoard) → b ≡ k.board → (e : ℕ) (t : TheEnd) → Holds b e (λ s. t ≡ s.end) → Sound t → Holds k.board e (λ s. Sound s.end)
-sound_holds k b same e t h sound = subst (λ (x : TheBoard). Holds x e (λ s. Sound s.end)) same (h.0, h.1, subst Sound h.2 sound)
+pub sound_holds : (k : TheCore) (b : TheBoard) → b ≡ k.board → (e : ℕ) → Holds b e (λ s. Sound s.end) → Holds k.board e (λ s. Sound s.end)
+sound_holds k b same e h = subst (λ (x : TheBoard). Holds x e (λ s. Sound s.end)) same h
 
 bound_from : (o : Option ℕ) → is_circuit o ≡ true → IsSome o
 bound_from None h = absurd (cc)

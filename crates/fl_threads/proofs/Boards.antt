@@ -7,6 +7,7 @@ use Rattle.fl_core.proofs.kind.Kind.TheSendSync as kind
 use Rattle.fl_node.proofs.wire.Port.TheSendSync as port
 use Rattle.fl_node.proofs.wire.Lane.TheSendSync as lane
 use Rattle.fl_endpoint.specs.contracts.end.End as End
+use Rattle.fl_machine.specs.contracts.reassemblies.Reassemblies as Reassemblies
 use Rattle.fl_base.proofs.identity.ChanId.TheSendSync as channel
 use Rattle.fl_core.specs.View.{TheBoard, TheSeat}
 use Rattle.fl_core.specs.declared.seat.Seat as SeatCode
@@ -42,21 +43,21 @@ seat_inside end = recorded_send (SeatInside.the_field).row _ _ (SeatInside.the_t
 seat_sends : IsSend End.the_row → IsSend Seat.the_row
 seat_sends end = view_send SeatInside.the_row TheSeat SeatCode.the_code Seat.the_view Seat.the_invariant (seat_inside end)
 
-board_inside : IsSend End.the_row → IsSend BoardInside.the_row
-board_inside end = recorded_send (BoardInside.the_field).row _ _ (BoardInside.the_type).to_one
+board_inside : IsSend End.the_row → IsSend Reassemblies.the_row → IsSend BoardInside.the_row
+board_inside end calls = recorded_send (BoardInside.the_field).row _ _ (BoardInside.the_type).to_one
     (struct_send (shape BoardInside.the_type) (
       search (sendable, crosses) depth 20,
       (
         search (sendable, crosses, dispatcher.the_send) depth 40,
         (
           search (sendable, crosses, seat_sends end) depth 40,
-          (search (sendable, crosses) depth 40, tt),
+          (calls, (search (sendable, crosses) depth 40, tt)),
         ),
       ),
     ))
 
-pub board_sends : IsSend End.the_row → IsSend Board.the_row
-board_sends end = view_send BoardInside.the_row TheBoard BoardCode.the_code Board.the_view Board.the_invariant (board_inside end)
+pub board_sends : IsSend End.the_row → IsSend Reassemblies.the_row → IsSend Board.the_row
+board_sends end calls = view_send BoardInside.the_row TheBoard BoardCode.the_code Board.the_view Board.the_invariant (board_inside end calls)
 
 core_inside : IsSend Board.the_row → IsSend Monitor.the_row → IsSend Messenger.the_row → IsSend QueueLink.the_row → IsSend CoreInside.the_row
 core_inside board monitor messenger queue = recorded_send (CoreInside.the_field).row _ _ (CoreInside.the_type).to_one

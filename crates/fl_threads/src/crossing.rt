@@ -3,6 +3,7 @@
 ghost use denote.Param.Send.{IsSend, IsSync};
 ghost use Rattle.fl_value.specs.contracts.value.Call as CallRows;
 ghost use Rattle.fl_compile.specs.contracts.program.Program as ProgramRows;
+ghost use Rattle.fl_machine.specs.contracts.reassemblies.Reassemblies as ReassembliesRows;
 ghost use Rattle.fl_endpoint.specs.contracts.end.End as EndRows;
 ghost use Rattle.fl_core.specs.contracts.one_board.Board as BoardRows;
 ghost use Rattle.fl_monitor.specs.contracts.messenger.Messenger as MessengerRows;
@@ -20,6 +21,7 @@ ghost use Rattle.fl_threads.specs.contracts.fork.Done as DoneRows;
 use fl_compile::Program;
 use fl_endpoint::End;
 use fl_link::QueueLink;
+use fl_machine::Reassemblies;
 use fl_monitor::{Messenger, Monitor};
 use fl_nameserv::Names;
 use fl_ring::SharedSide;
@@ -56,9 +58,17 @@ fn end_sent()
     sent::<End>();
 }
 
+fn calls_sent()
+    ensures sent { IsSend ReassembliesRows.the_row }
+{
+    program_sent();
+    sent::<Reassemblies>();
+}
+
 fn board_sent()
     ensures sent { IsSend BoardRows.the_row }
 {
+    calls_sent();
     end_sent();
 }
 

@@ -3,5 +3,5 @@ use Rattle.fl_threads.proofs.crossing.board_sent.Goals as goal
 
 pub returns : goal.returns
 returns c = record {
-  sent = board_sends c.end_sent.ensures.sent;
+  sent = board_sends c.end_sent.ensures.sent c.calls_sent.ensures.sent;
 }
