@@ -9,7 +9,7 @@ use Rattle.fl_waitset.specs.declared.waitset.Pick.{Pick}
 use Rattle.fl_waitset.specs.declared.waitset.Pick.TheVariants as pick
 use Rattle.fl_waitset.specs.Waiting.{next_pick, triggered}
 use Rattle.fl_waitset.proofs.Moves.{idle_moves}
-use Rattle.fl_hop.proofs.Lists.{within, index_there}
+use Rattle.fl_hop.proofs.Lists.{index_there}
 use Rattle.fl_link.specs.Looks.{Look}
 use Rattle.fl_link.specs.Queue.{TheQueue, QueuePuts, QueueTakes}
 use Rattle.fl_value.specs.Value.{TheCall}
@@ -96,7 +96,7 @@ triggered_board (Some e) b b2 sound h =
     let known = sound.dispatchers h.seat.dispatcher h.dispatcher h.dispatcher_is in
     let apart : IsApart h.lists = subst IsApart (sym h.event) (triggered_apart h.dispatcher.lists h.seat.channel known.apart) in
     subst IsBoard (sym h.board)
-    (kept_triggered b b refl e (within b.seats e h.seat h.seat_is) h.seat h.seat (sym (index_there b.seats e h.seat h.seat h.seat_is)) refl sound
+    (kept_triggered b b refl e h.seat h.seat_is sound
     h.dispatcher h.dispatcher (sym (index_there b.dispatchers h.seat.dispatcher h.dispatcher h.dispatcher h.dispatcher_is)) refl h.lists h.event apart)
 
 turned_board : (b b2 : TheBoard) (n e : ℕ) (p q : TheQueue) (answer : TurnAnswer) → IsBoard b → Turns QueueTakes n e (over b p) (Ok answer)
