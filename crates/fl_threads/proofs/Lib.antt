@@ -9,4 +9,5 @@ pub mod Owning
 pub mod Ringing
 pub mod Seats
 pub mod Sending
+pub mod Taking
 pub mod Wording

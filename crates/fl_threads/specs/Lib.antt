@@ -1,4 +1,4 @@
--- The public promise rests on Ran, and that on Begins, Tells and Shares; Stations, Dealing and Faults have what the code's own functions say.
+-- The public promise rests on Ran, and that on Begins, Tells and Shares; Stations, Dealing, Taking and Faults have what the code's own functions say.
 pub mod Faults
 pub mod Begins
 pub mod Tells
@@ -6,3 +6,4 @@ pub mod Shares
 pub mod Stations
 pub mod Dealing
 pub mod Ran
+pub mod Taking

@@ -68,7 +68,8 @@ fn report_on(
     ensures heard { OnOk result (HeardAsTold (length joined.now.owners.items) (seats_left (map outcome_of done.items))) }
     ensures near { OnOk result ((after : List Pair) → AreDealt owners.items (sides_of after) (sides_left (map outcome_of done.items)) → Each IsNear after) }
 {
-    let report = tell(alloc, joined, &done)?;
+    let mut done = done;
+    let report = tell(alloc, joined, &mut done)?;
     let jobs = joined.owners.as_slice().len();
     put_together(alloc, own, jobs, owners, done)?;
     Ok(report)

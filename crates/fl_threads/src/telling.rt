@@ -1,9 +1,10 @@
 //! What came of a run: the report.
 
-ghost use Rattle.std.specs.Prelude.{◌≡◌, ◌+◌, ◌*◌, ◌++◌, ◌<◌, ◌≤◌, false, if◌then◌else◌, map, take, length, slice_get, Some, IfOk, IfSome, OnOk};
+ghost use Rattle.std.specs.Prelude.{ℕ, ◌≡◌, ◌+◌, ◌*◌, ◌++◌, ◌<◌, ◌≤◌, [], false, if◌then◌else◌, map, take, length, slice_get, Some, IfOk, IfSome, OnOk};
 ghost use Rattle.std.specs.Option.{option_map};
 ghost use Rattle.std.specs.List.{list_any, flat_map};
 ghost use Rattle.fl_value.specs.Value.{datum_of, call_of};
+ghost use Rattle.fl_queues.specs.Given.{given};
 ghost use Rattle.fl_node.specs.View.{slot_of};
 ghost use Rattle.fl_running.specs.Jobs.{calls_of_job, calls_of_jobs};
 ghost use Rattle.fl_jobs.specs.Report.{complete, turns_out};
@@ -11,7 +12,10 @@ ghost use Rattle.fl_jobs.specs.Reports.{both_of, report_of, ending_of};
 ghost use Rattle.fl_dockets.specs.Dockets.{docket_of, reply_by};
 ghost use Rattle.fl_dockets.specs.Joined.{HasDockets};
 ghost use Rattle.fl_dockets.specs.State.{joined_of};
-ghost use Rattle.fl_threads.specs.Tells.{desk_left, handled_at, made_at, made_by, both_at, refusal_at, by_binding, left_off, was_told, turns_in, Tells};
+ghost use Rattle.fl_threads.specs.Shares.{sides_left};
+ghost use Rattle.fl_threads.specs.Tells.{Each2, desk_left, handled_by, handled_at, made_at, made_by, both_at, refusal_at, by_binding, left_off, was_told};
+ghost use Rattle.fl_threads.specs.Tells.{turns_in, seats_left, Tells};
+ghost use Rattle.fl_threads.specs.Taking.{KeepsFrom};
 ghost use Rattle.fl_threads.specs.Stations.{outcome_of, has_left_off, has_been_told};
 
 use crate::fork::Done;
@@ -22,6 +26,7 @@ use fl_jobs::{BothEnds, Ending, Report};
 use fl_running::{Desk, End, Job};
 use fl_value::{Call, Value};
 use std::alloc::{AllocError, Global};
+use std::mem;
 
 // ---- copies of calls
 
@@ -56,16 +61,6 @@ fn copy_as(alloc: Global, msg: MsgNo, call: &Call) -> Result<Call, AllocError>
         msg,
         args: copy_values(alloc, &call.args)?,
     })
-}
-
-fn copy_calls(alloc: Global, calls: &[Call]) -> Result<Vec<Call>, AllocError>
-    ensures equal { IfOk result (λ copies. map call_of copies.items ≡ map call_of calls.now) }
-{
-    let mut copies = Vec::with_capacity(alloc, calls.len())?;
-    for call in calls {
-        copies.push(copy_as(alloc, call.msg, call)?)?;
-    }
-    Ok(copies)
 }
 
 // ---- the calls that an end made
@@ -183,18 +178,40 @@ fn desk_left<'a>(done: &'a [Done], joined: &Joined, end: EndId) -> Option<&'a De
     one.station.running.desks.get(slot_of(end))
 }
 
-fn handled_at(
-    alloc: Global,
-    done: &[Done],
-    joined: &Joined,
-    end: EndId,
-) -> Result<Vec<Call>, AllocError>
-    requires few { end.binding < 1024 }
-    ensures handled { IfOk result (λ calls. map call_of calls.items ≡ handled_at (joined_of joined.now) (map outcome_of done.now) end) }
+// The calls that the desk at a place handled, moved out of it: what is left there is a desk that handled none.
+fn take_handled(alloc: Global, desks: &mut Vec<Desk>, place: usize) -> Vec<Call>
+    ensures handled { map call_of result.items ≡ given (slice_get desks.old.items place) [] handled_by }
+    ensures others { (n : ℕ) → place < n → slice_get desks.new.items n ≡ slice_get desks.old.items n }
 {
-    match desk_left(done, joined, end) {
-        None => Ok(Vec::new(alloc)),
-        Some(desk) => copy_calls(alloc, desk.handled()),
+    match desks.get_mut(place) {
+        None => Vec::new(alloc),
+        Some(desk) => {
+            let none = Desk::new(alloc, Vec::new(alloc), 0);
+            mem::replace(desk, none).into_handled()
+        }
+    }
+}
+
+// Those of a core's desk.
+fn take_from(alloc: Global, one: &mut Done, place: usize) -> Vec<Call>
+    ensures handled { map call_of result.items ≡ given (slice_get (outcome_of one.old).run.desks place) [] handled_by }
+    ensures rest { KeepsFrom (place + 1) (outcome_of one.old) (outcome_of one.new) }
+{
+    take_handled(alloc, &mut one.station.running.desks, place)
+}
+
+// Those of an end's.
+fn take_at(alloc: Global, done: &mut Vec<Done>, joined: &Joined, end: EndId) -> Vec<Call>
+    requires few { end.binding < 1024 }
+    ensures handled { map call_of result.items ≡ handled_at (joined_of joined.now) (map outcome_of done.old.items) end }
+    ensures rest { Each2 (KeepsFrom (slot_of end + 1)) (map outcome_of done.old.items) (map outcome_of done.new.items) }
+{
+    match core_at(&joined.bindings, end) {
+        None => Vec::new(alloc),
+        Some(core) => match done.get_mut(core) {
+            None => Vec::new(alloc),
+            Some(one) => take_from(alloc, one, slot_of(end)),
+        },
     }
 }
 
@@ -235,21 +252,17 @@ fn refusal_at(done: &[Done], joined: &Joined, binding: usize) -> Option<u32>
 
 // ---- bindings
 
-// The calls that both ends of a binding handled.
-fn both_handled(
-    alloc: Global,
-    done: &[Done],
-    joined: &Joined,
-    binding: usize,
-) -> Result<BothEnds, AllocError>
+// The calls that both ends of a binding handled, moved out of their desks.
+fn both_handled(alloc: Global, done: &mut Vec<Done>, joined: &Joined, binding: usize) -> BothEnds
     requires few { binding < 1024 }
-    ensures handled { IfOk result (λ both. both_of both ≡ both_at (handled_at (joined_of joined.now) (map outcome_of done.now)) binding) }
+    ensures handled { both_of result ≡ both_at (handled_at (joined_of joined.now) (map outcome_of done.old.items)) binding }
+    ensures rest { Each2 (KeepsFrom (2 * (binding + 1))) (map outcome_of done.old.items) (map outcome_of done.new.items) }
 {
     let side = Side::Client;
-    let client = handled_at(alloc, done, joined, EndId { binding, side })?;
+    let client = take_at(alloc, done, joined, EndId { binding, side });
     let side = Side::Server;
-    let server = handled_at(alloc, done, joined, EndId { binding, side })?;
-    Ok(BothEnds { client, server })
+    let server = take_at(alloc, done, joined, EndId { binding, side });
+    BothEnds { client, server }
 }
 
 // The calls that they made.
@@ -270,16 +283,20 @@ fn both_made(
     Ok(BothEnds { client, server })
 }
 
-// What was handled, by binding.
-#[tactic(auto, using(crate::proofs::Lists::both_more))]
-fn all_handled(alloc: Global, done: &[Done], joined: &Joined) -> Result<Vec<BothEnds>, AllocError>
+// What was handled, by binding, moved out of the desks.
+fn all_handled(
+    alloc: Global,
+    done: &mut Vec<Done>,
+    joined: &Joined,
+) -> Result<Vec<BothEnds>, AllocError>
     requires few { length joined.now.bindings.items ≤ 1024 }
     ensures handled { IfOk result (λ all. map both_of all.items
-        ≡ by_binding (joined_of joined.now) (both_at (handled_at (joined_of joined.now) (map outcome_of done.now)))) }
+        ≡ by_binding (joined_of joined.now) (both_at (handled_at (joined_of joined.now) (map outcome_of done.old.items)))) }
+    ensures rest { OnOk result (Each2 (KeepsFrom (2 * length joined.now.bindings.items)) (map outcome_of done.old.items) (map outcome_of done.new.items)) }
 {
     let mut all = Vec::new(alloc);
     for binding in 0..joined.bindings.as_slice().len() {
-        all.push(both_handled(alloc, done, joined, binding)?)?;
+        all.push(both_handled(alloc, done, joined, binding))?;
     }
     Ok(all)
 }
@@ -387,18 +404,29 @@ fn turns_of(alloc: Global, done: &[Done]) -> Result<Vec<u64>, AllocError>
     Ok(turns)
 }
 
-/// The report of a run, by what the cores came to.
-pub(crate) fn tell(alloc: Global, joined: &Joined, done: &[Done]) -> Result<Report, AllocError>
+/// The report of a run, by what the cores came to. The calls that they handled are moved into it; their seats and sides of rings stay.
+#[tactic(auto, using(crate::proofs::Taking::same_seats, crate::proofs::Taking::same_sides))]
+pub(crate) fn tell(
+    alloc: Global,
+    joined: &Joined,
+    done: &mut Vec<Done>,
+) -> Result<Report, AllocError>
     requires few { length joined.now.bindings.items ≤ 1024 }
     requires dockets { HasDockets joined.now.bindings.items joined.now.dockets.items }
-    ensures tells { IfOk result (λ r. Tells (joined_of joined.now) (map outcome_of done.now) (report_of r)) }
+    ensures tells { IfOk result (λ r. Tells (joined_of joined.now) (map outcome_of done.old.items) (report_of r)) }
+    ensures seats { OnOk result (seats_left (map outcome_of done.new.items) ≡ seats_left (map outcome_of done.old.items)) }
+    ensures sides { OnOk result (sides_left (map outcome_of done.new.items) ≡ sides_left (map outcome_of done.old.items)) }
 {
     let ending = ending_of(done)?;
+    let made = all_made(alloc, done, joined)?;
+    let refused = all_refused(alloc, done, joined)?;
+    let turns = turns_of(alloc, done)?;
+    let handled = all_handled(alloc, done, joined)?;
     Ok(Report {
-        made: all_made(alloc, done, joined)?,
-        handled: all_handled(alloc, done, joined)?,
-        refused: all_refused(alloc, done, joined)?,
-        turns: turns_of(alloc, done)?,
+        made,
+        handled,
+        refused,
+        turns,
         ending,
     })
 }
