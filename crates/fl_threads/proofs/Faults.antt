@@ -16,3 +16,6 @@ job_refused p jobs job.Memory is = tt
 pub run_stopped : (p : Parts) (jobs : List Job) (s : Stop) → IsRunFault p jobs (by_stop s)
 run_stopped p jobs stop.Memory = tt
 run_stopped p jobs stop.Thread = tt
+
+-- why there is none
+pub ruleset no_report = (job_refused, run_stopped)

@@ -5,6 +5,7 @@ pub mod Together
 pub mod Handing
 pub mod Keeping
 pub mod Lists
+pub mod Moving
 pub mod Owning
 pub mod Ringing
 pub mod Seats

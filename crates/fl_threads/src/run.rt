@@ -13,6 +13,7 @@ ghost use Rattle.fl_threads.specs.Shares.{sides_left};
 ghost use Rattle.fl_threads.specs.Tells.{seats_left, HeardAsTold, Tells};
 ghost use Rattle.fl_threads.specs.Stations.{outcome_of, IsRest};
 ghost use Rattle.fl_threads.specs.Ran.{Keeps, CoresRan, RanFrom};
+ghost use Rattle.fl_threads.specs.Taking.{HavePlaces};
 
 use crate::fault::{RunFault, Stop};
 use crate::fork::{Done, run_each};
@@ -25,6 +26,7 @@ use fl_running::Gate;
 use fl_tally::{EndSeat, Plan};
 use fl_worlds::Parts;
 use std::alloc::{AllocError, Global};
+use std::mem;
 use std::sync::Wait;
 use std::thread::Threads;
 
@@ -52,26 +54,28 @@ fn seat_of_all(alloc: Global, cores: usize, owners: &[usize]) -> Result<EndSeat,
     EndSeat::new(alloc, plan)
 }
 
-// The report of cores that ran. Their seats are put in the run's own, and their rings together again.
+// The report of cores that ran. Their seats are put in the run's own, and their rings together again; the jobs' calls are in the report then.
 fn report_on(
     alloc: Global,
-    joined: &Joined,
+    joined: &mut Joined,
     own: EndSeat,
     owners: Vec<usize>,
     done: Vec<Done>,
 ) -> Result<Report, AllocError>
-    requires few { length joined.now.bindings.items ≤ 1024 }
-    requires dockets { HasDockets joined.now.bindings.items joined.now.dockets.items }
-    requires rest { IsRest own (length joined.now.owners.items) (seats_left (map outcome_of done.items)) }
+    requires few { length joined.old.bindings.items ≤ 1024 }
+    requires dockets { HasDockets joined.old.bindings.items joined.old.dockets.items }
+    requires places { HavePlaces (joined_of joined.old).dockets joined.old.jobs.items }
+    requires rest { IsRest own (length joined.old.owners.items) (seats_left (map outcome_of done.items)) }
     requires rings { HoldRings owners.items (sides_left (map outcome_of done.items)) }
-    ensures tells { IfOk result (λ r. Tells (joined_of joined.now) (map outcome_of done.items) (report_of r)) }
-    ensures heard { OnOk result (HeardAsTold (length joined.now.owners.items) (seats_left (map outcome_of done.items))) }
+    ensures tells { IfOk result (λ r. Tells (joined_of joined.old) (map outcome_of done.items) (report_of r)) }
+    ensures heard { OnOk result (HeardAsTold (length joined.old.owners.items) (seats_left (map outcome_of done.items))) }
     ensures near { OnOk result ((after : List Pair) → AreDealt owners.items (sides_of after) (sides_left (map outcome_of done.items)) → Each IsNear after) }
 {
     let mut done = done;
-    let report = tell(alloc, joined, &mut done)?;
-    let jobs = joined.owners.as_slice().len();
-    put_together(alloc, own, jobs, owners, done)?;
+    let jobs = mem::replace(&mut joined.jobs, Vec::new(alloc));
+    let report = tell(alloc, jobs, joined, &mut done)?;
+    let count = joined.owners.as_slice().len();
+    put_together(alloc, own, count, owners, done)?;
     Ok(report)
 }
 
@@ -87,21 +91,23 @@ fn run_joined<R: Threads + Wait + Sync, G: Gate + Sync>(
     requires few { length parts.cores.items ≤ 16 }
     requires bindings { AreBindings (length parts.cores.items) joined.bindings.items joined.owners.items }
     requires dockets { HasDockets joined.bindings.items joined.dockets.items }
+    requires places { HavePlaces (joined_of joined).dockets joined.jobs.items }
     ensures ran { IfOk result (λ r. CoresRan parts (joined_of joined) limit (report_of r)) }
 {
+    let mut joined = joined;
     let mut own = seat_of_all(alloc, parts.cores.as_slice().len(), &joined.owners)?;
     let wired = wire(alloc, parts, &joined, &mut own)?;
     rings_hold();
     let (ran, own) = run_each(rt, alloc, gate, own, wired.stations, &joined.jobs, limit);
     let done = ran?;
-    Ok(report_on(alloc, &joined, own, wired.owners, done)?)
+    Ok(report_on(alloc, &mut joined, own, wired.owners, done)?)
 }
 
 /// Runs the cores of a world's parts on threads of their own, each with its jobs, until all have finished or so many turns of one are counted.
 ///
 /// # Errors
 /// [`RunFault`]: a job is refused, out of memory, or a thread doesn't start. Every thread was joined then.
-#[tactic(auto, using(crate::proofs::Keeping::keeps_ran, crate::proofs::Faults::job_refused, crate::proofs::Faults::run_stopped))]
+#[tactic(auto, using(crate::proofs::Keeping::keeps_ran, crate::proofs::Moving::have_places, crate::proofs::Faults::no_report))]
 pub fn run_parts<R: Threads + Wait + Sync, G: Gate + Sync>(
     rt: &R,
     alloc: Global,

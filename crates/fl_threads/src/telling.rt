@@ -1,6 +1,6 @@
 //! What came of a run: the report.
 
-ghost use Rattle.std.specs.Prelude.{ℕ, ◌≡◌, ◌+◌, ◌*◌, ◌++◌, ◌<◌, ◌≤◌, [], false, if◌then◌else◌, map, take, length, slice_get, Some, IfOk, IfSome, OnOk};
+ghost use Rattle.std.specs.Prelude.{ℕ, ◌≡◌, ◌≢◌, ◌+◌, ◌*◌, ◌++◌, ◌<◌, ◌≤◌, [], false, if◌then◌else◌, map, take, length, slice_get, Some, IfOk, IfSome, OnOk};
 ghost use Rattle.std.specs.Option.{option_map};
 ghost use Rattle.std.specs.List.{list_any, flat_map};
 ghost use Rattle.fl_value.specs.Value.{datum_of, call_of};
@@ -9,13 +9,13 @@ ghost use Rattle.fl_node.specs.View.{slot_of};
 ghost use Rattle.fl_running.specs.Jobs.{calls_of_job, calls_of_jobs};
 ghost use Rattle.fl_jobs.specs.Report.{complete, turns_out};
 ghost use Rattle.fl_jobs.specs.Reports.{both_of, report_of, ending_of};
-ghost use Rattle.fl_dockets.specs.Dockets.{docket_of, reply_by};
+ghost use Rattle.fl_dockets.specs.Dockets.{docket_of, end_of, reply_by};
 ghost use Rattle.fl_dockets.specs.Joined.{HasDockets};
 ghost use Rattle.fl_dockets.specs.State.{joined_of};
 ghost use Rattle.fl_threads.specs.Shares.{sides_left};
 ghost use Rattle.fl_threads.specs.Tells.{Each2, desk_left, handled_by, handled_at, made_at, made_by, both_at, refusal_at, by_binding, left_off, was_told};
 ghost use Rattle.fl_threads.specs.Tells.{turns_in, seats_left, Tells};
-ghost use Rattle.fl_threads.specs.Taking.{KeepsFrom};
+ghost use Rattle.fl_threads.specs.Taking.{KeepsFrom, AreOnce, KeepsOthers, KeepsJobs, HavePlaces, with_jobs};
 ghost use Rattle.fl_threads.specs.Stations.{outcome_of, has_left_off, has_been_told};
 
 use crate::fork::Done;
@@ -65,44 +65,49 @@ fn copy_as(alloc: Global, msg: MsgNo, call: &Call) -> Result<Call, AllocError>
 
 // ---- the calls that an end made
 
-// The call of a job, if it is one, is added.
-fn add_call(alloc: Global, calls: &mut Vec<Call>, job: &Job) -> Result<(), AllocError>
-    ensures added { OnOk result (map call_of calls.new.items ≡ map call_of calls.old.items ++ calls_of_job (Some job.now)) }
+// The call of a job, if it is one, is moved behind these.
+fn move_call(alloc: Global, calls: &mut Vec<Call>, job: &mut Job) -> Result<(), AllocError>
+    ensures moved { OnOk result (map call_of calls.new.items ≡ map call_of calls.old.items ++ calls_of_job (Some job.old)) }
+    ensures end { end_of job.new ≡ end_of job.old }
 {
     match job {
         Job::Open(_) => Ok(()),
         Job::Reply { .. } => Ok(()),
         Job::Call { call, .. } => {
-            let copy = copy_as(alloc, call.msg, call)?;
-            calls.push(copy)?;
+            let args = mem::replace(&mut call.args, Vec::new(alloc));
+            let msg = call.msg;
+            calls.push(Call { msg, args })?;
             Ok(())
         }
     }
 }
 
 // That of the job at a place.
-fn add_at(
+fn move_at(
     alloc: Global,
     calls: &mut Vec<Call>,
-    jobs: &[Job],
+    jobs: &mut Vec<Job>,
     place: usize,
 ) -> Result<(), AllocError>
-    ensures added { OnOk result (map call_of calls.new.items ≡ map call_of calls.old.items ++ calls_of_job (slice_get jobs.now place)) }
+    ensures moved { OnOk result (map call_of calls.new.items ≡ map call_of calls.old.items ++ calls_of_job (slice_get jobs.old.items place)) }
+    ensures ends { map end_of jobs.new.items ≡ map end_of jobs.old.items }
+    ensures others { (n : ℕ) → n ≢ place → slice_get jobs.new.items n ≡ slice_get jobs.old.items n }
 {
-    match jobs.get(place) {
+    match jobs.get_mut(place) {
         None => Ok(()),
-        Some(job) => add_call(alloc, calls, job),
+        Some(job) => move_call(alloc, calls, job),
     }
 }
 
-// The calls of the jobs at these places.
-#[tactic(auto, using(crate::proofs::Lists::calls_more))]
-fn calls_of_jobs(alloc: Global, jobs: &[Job], places: &[usize]) -> Result<Vec<Call>, AllocError>
-    ensures calls { IfOk result (λ calls. map call_of calls.items ≡ calls_of_jobs jobs.now places.now) }
+// Those of the jobs at these places.
+fn move_calls(alloc: Global, jobs: &mut Vec<Job>, places: &[usize]) -> Result<Vec<Call>, AllocError>
+    requires once { AreOnce places.now }
+    ensures moved { IfOk result (λ calls. map call_of calls.items ≡ calls_of_jobs jobs.old.items places.now) }
+    ensures rest { OnOk result (KeepsOthers places.now (length places.now) jobs.old.items jobs.new.items) }
 {
     let mut calls = Vec::new(alloc);
     for k in 0..places.len() {
-        add_at(alloc, &mut calls, jobs, places[k])?;
+        move_at(alloc, &mut calls, jobs, places[k])?;
     }
     Ok(calls)
 }
@@ -152,16 +157,18 @@ fn first(places: &[usize], count: usize) -> &[usize]
     }
 }
 
-// The calls of an end's jobs that are done, and the replies by its rules.
+// The calls of an end's jobs that are done, moved out of these, and the replies by its rules.
 fn made_by(
     alloc: Global,
-    jobs: &[Job],
+    jobs: &mut Vec<Job>,
     docket: &Docket,
     desk: &Desk,
 ) -> Result<Vec<Call>, AllocError>
-    ensures made { IfOk result (λ calls. map call_of calls.items ≡ made_by jobs.now (docket_of docket.now) desk.now) }
+    requires once { AreOnce docket.now.jobs.items }
+    ensures made { IfOk result (λ calls. map call_of calls.items ≡ made_by jobs.old.items (docket_of docket.now) desk.now) }
+    ensures rest { OnOk result (KeepsOthers docket.now.jobs.items (length docket.now.jobs.items) jobs.old.items jobs.new.items) }
 {
-    let mut calls = calls_of_jobs(alloc, jobs, first(&docket.jobs, desk.done()))?;
+    let mut calls = move_calls(alloc, jobs, first(&docket.jobs, desk.done()))?;
     add_replies(alloc, &mut calls, docket, desk.handled())?;
     Ok(calls)
 }
@@ -215,19 +222,23 @@ fn take_at(alloc: Global, done: &mut Vec<Done>, joined: &Joined, end: EndId) -> 
     }
 }
 
+// The calls that an end made.
 fn made_at(
     alloc: Global,
+    jobs: &mut Vec<Job>,
     done: &[Done],
     joined: &Joined,
     end: EndId,
 ) -> Result<Vec<Call>, AllocError>
     requires few { end.binding < 1024 }
     requires docket { slot_of end < length joined.now.dockets.items }
-    ensures made { IfOk result (λ calls. map call_of calls.items ≡ made_at (joined_of joined.now) (map outcome_of done.now) end) }
+    requires places { HavePlaces (joined_of joined.now).dockets jobs.old.items }
+    ensures made { IfOk result (λ calls. map call_of calls.items ≡ made_at (with_jobs jobs.old.items (joined_of joined.now)) (map outcome_of done.now) end) }
+    ensures rest { OnOk result (KeepsJobs (slot_of end + 1) jobs.old.items jobs.new.items) }
 {
     match desk_left(done, joined, end) {
         None => Ok(Vec::new(alloc)),
-        Some(desk) => made_by(alloc, &joined.jobs, &joined.dockets[slot_of(end)], desk),
+        Some(desk) => made_by(alloc, jobs, &joined.dockets[slot_of(end)], desk),
     }
 }
 
@@ -268,18 +279,21 @@ fn both_handled(alloc: Global, done: &mut Vec<Done>, joined: &Joined, binding: u
 // The calls that they made.
 fn both_made(
     alloc: Global,
+    jobs: &mut Vec<Job>,
     done: &[Done],
     joined: &Joined,
     binding: usize,
 ) -> Result<BothEnds, AllocError>
     requires few { binding < 1024 }
     requires dockets { 2 * binding + 1 < length joined.now.dockets.items }
-    ensures made { IfOk result (λ both. both_of both ≡ both_at (made_at (joined_of joined.now) (map outcome_of done.now)) binding) }
+    requires places { HavePlaces (joined_of joined.now).dockets jobs.old.items }
+    ensures made { IfOk result (λ both. both_of both ≡ both_at (made_at (with_jobs jobs.old.items (joined_of joined.now)) (map outcome_of done.now)) binding) }
+    ensures rest { OnOk result (KeepsJobs (2 * (binding + 1)) jobs.old.items jobs.new.items) }
 {
     let side = Side::Client;
-    let client = made_at(alloc, done, joined, EndId { binding, side })?;
+    let client = made_at(alloc, jobs, done, joined, EndId { binding, side })?;
     let side = Side::Server;
-    let server = made_at(alloc, done, joined, EndId { binding, side })?;
+    let server = made_at(alloc, jobs, done, joined, EndId { binding, side })?;
     Ok(BothEnds { client, server })
 }
 
@@ -302,16 +316,21 @@ fn all_handled(
 }
 
 // What was made, by binding.
-#[tactic(auto, using(crate::proofs::Lists::both_more))]
-fn all_made(alloc: Global, done: &[Done], joined: &Joined) -> Result<Vec<BothEnds>, AllocError>
+fn all_made(
+    alloc: Global,
+    jobs: &mut Vec<Job>,
+    done: &[Done],
+    joined: &Joined,
+) -> Result<Vec<BothEnds>, AllocError>
     requires few { length joined.now.bindings.items ≤ 1024 }
     requires dockets { HasDockets joined.now.bindings.items joined.now.dockets.items }
+    requires places { HavePlaces (joined_of joined.now).dockets jobs.old.items }
     ensures made { IfOk result (λ all. map both_of all.items
-        ≡ by_binding (joined_of joined.now) (both_at (made_at (joined_of joined.now) (map outcome_of done.now)))) }
+        ≡ by_binding (joined_of joined.now) (both_at (made_at (with_jobs jobs.old.items (joined_of joined.now)) (map outcome_of done.now)))) }
 {
     let mut all = Vec::new(alloc);
     for binding in 0..joined.bindings.as_slice().len() {
-        all.push(both_made(alloc, done, joined, binding)?)?;
+        all.push(both_made(alloc, jobs, done, joined, binding)?)?;
     }
     Ok(all)
 }
@@ -404,21 +423,24 @@ fn turns_of(alloc: Global, done: &[Done]) -> Result<Vec<u64>, AllocError>
     Ok(turns)
 }
 
-/// The report of a run, by what the cores came to. The calls that they handled are moved into it; their seats and sides of rings stay.
+/// The report of a run with these jobs, by what the cores came to. The calls are moved into it; the cores' seats and sides of rings stay.
 #[tactic(auto, using(crate::proofs::Taking::same_seats, crate::proofs::Taking::same_sides))]
 pub(crate) fn tell(
     alloc: Global,
+    jobs: Vec<Job>,
     joined: &Joined,
     done: &mut Vec<Done>,
 ) -> Result<Report, AllocError>
     requires few { length joined.now.bindings.items ≤ 1024 }
     requires dockets { HasDockets joined.now.bindings.items joined.now.dockets.items }
-    ensures tells { IfOk result (λ r. Tells (joined_of joined.now) (map outcome_of done.old.items) (report_of r)) }
+    requires places { HavePlaces (joined_of joined.now).dockets jobs.items }
+    ensures tells { IfOk result (λ r. Tells (with_jobs jobs.items (joined_of joined.now)) (map outcome_of done.old.items) (report_of r)) }
     ensures seats { OnOk result (seats_left (map outcome_of done.new.items) ≡ seats_left (map outcome_of done.old.items)) }
     ensures sides { OnOk result (sides_left (map outcome_of done.new.items) ≡ sides_left (map outcome_of done.old.items)) }
 {
+    let mut jobs = jobs;
     let ending = ending_of(done)?;
-    let made = all_made(alloc, done, joined)?;
+    let made = all_made(alloc, &mut jobs, done, joined)?;
     let refused = all_refused(alloc, done, joined)?;
     let turns = turns_of(alloc, done)?;
     let handled = all_handled(alloc, done, joined)?;

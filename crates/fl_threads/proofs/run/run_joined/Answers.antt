@@ -19,6 +19,7 @@ report_on-requires g c =
     record {
       few = c.requires.bindings.few;
       dockets = c.requires.dockets;
+      places = c.requires.places;
       rest = rest_joined c.args.parts (joined_of c.args.joined) c.args.limit (length c.args.joined.owners.items) c.in_ok-wired.wired.stations.items
           c.in_ok-done.done.items c.in_ok-wired.wired.owners.items c.in_ok-own.own c.wire.new.own c.run_each-ran.result.1
           (subst (λ (r : Result (Vec Done Global) Stop). IfOk r (λ _. c.run_each-ran.result.1 ≡ c.wire.new.own)) c.in_ok-done.was c.run_each-ran.ensures.own)

@@ -29,7 +29,7 @@ returns-in-Some-get_mut-clause-handled c =
     (ap (λ (bs : List Bound). core_at bs c.args.end) (sym c.deref.ensures.value) ∙ sym c.in-Some.ensures.core)
     c.in-Some-get_mut.ensures.item.3.0 c.in-Some-get_mut.ensures.value
     (subst (λ (slot : ℕ). map call_of c.take_from.result.items
-        ≡ given {Y = List TheCall} (slice_get c.in-Some-get_mut.one.now.station.running.value.desks.items slot) [] handled_by) c.slot_of.ensures.slot c.take_from.ensures.handled)
+    ≡ given {Y = List TheCall} (slice_get c.in-Some-get_mut.one.now.station.running.value.desks.items slot) [] handled_by) c.slot_of.ensures.slot c.take_from.ensures.handled)
 
 pub returns-in-Some-get_mut-clause-rest : goal.returns-in-Some-get_mut-clause-rest
 returns-in-Some-get_mut-clause-rest c =
