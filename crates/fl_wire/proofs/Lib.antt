@@ -18,3 +18,5 @@ pub mod Unread
 pub mod Exits
 pub mod Defaults
 pub mod OneWord
+pub mod Texts
+pub mod Ranks

@@ -1,8 +1,8 @@
 -- A number at a multiple of its width stands in one word.
-use Rattle.std.proofs.Common.{◌≡◌, ℕ, zero, suc, ◌+◌, ◌*◌, ◌/◌, ◌%◌, ◌^◌, ◌<◌, List, ◌∙◌, ap, arith}
+use Rattle.std.proofs.Common.{◌≡◌, ℕ, zero, suc, ◌+◌, ◌-◌, ◌*◌, ◌/◌, ◌%◌, ◌^◌, ◌<◌, ◌≤◌, List, sym, ◌∙◌, ap, arith}
 use Rattle.std.specs.Prelude.{slice_get, slice_index}
 use Rattle.std.specs.Int.{byte_at}
-use Rattle.std.proofs.lemmas.Nat.{from_le_bytes-to_le_bytes_8}
+use Rattle.std.proofs.lemmas.Nat.{from_le_bytes-to_le_bytes_8, shr-shr, shr_le}
 use Rattle.fl_base.specs.declared.fragment.Frag.{Frag}
 use Rattle.fl_wire.specs.Standing.{words_in, word_in, byte_in}
 use Rattle.fl_wire.proofs.Numbers.{from_low}
@@ -89,3 +89,20 @@ pub same_byte : (frags : List Frag) (p : ℕ) → byte_at (p % 8) (word_in frags
 same_byte frags p =
     let e : p / 8 / 7 ≡ p / 56 = omega arith in
     ap (λ (n : ℕ). byte_at (p % 8) (slice_index (words_in (slice_get frags n)) (p / 8 % 7))) e
+
+-- a word whose bytes from one on are 0
+zero_byte : (w s j : ℕ) → w / 2 ^ (8 * s) ≡ 0 → s ≤ j → j < 8 → byte_at j w ≡ 0
+zero_byte w s j none from low =
+    let d = j - s in
+    let there : 8 * j ≡ 8 * s + 8 * d = omega (arith, from) in
+    let nothing : 0 / 2 ^ (8 * d) ≡ 0 = omega (arith, shr_le 0 (8 * d)) in
+    let whole : w / 2 ^ (8 * j) ≡ 0 = ap (λ (n : ℕ). w / 2 ^ n) there ∙ sym (shr-shr w (8 * s) (8 * d)) ∙ ap (λ (n : ℕ). n / 2 ^ (8 * d)) none ∙ nothing in
+    let same : j ≡ j + 0 = omega arith in
+    ap (λ (n : ℕ). byte_at n w) same ∙ sym (one_byte w j low) ∙ ap (λ (n : ℕ). n % 256) whole
+
+pub zeros_there : (frags : List Frag) (p q w : ℕ) → w ≡ word_in frags (p / 8) → w / 2 ^ (8 * (p % 8)) ≡ 0 → p ≤ q → q < p + (8 - p % 8) → byte_in frags q ≡ 0
+zeros_there frags p q w is none from below =
+    let same : q / 8 ≡ p / 8 = omega (arith, from, below) in
+    let later : p % 8 ≤ q % 8 = omega (arith, from, below) in
+    let low : q % 8 < 8 = omega arith in
+    sym (same_byte frags q) ∙ ap (λ (n : ℕ). byte_at (q % 8) (word_in frags n)) same ∙ ap (byte_at (q % 8)) (sym is) ∙ zero_byte w (p % 8) (q % 8) none later low

@@ -1,7 +1,8 @@
 //! The arguments of a call from the bytes of its fragments.
 
 ghost use Rattle.std.specs.Prelude.{◌≡◌, ◌*◌, ◌<◌, ◌≤◌, map, length, IfOk, IfErr};
-ghost use Rattle.fl_interface.specs.Interface.{arg_type_of};
+ghost use Rattle.fl_interface.specs.Interface.{TheArgType, arg_type_of};
+ghost use Rattle.fl_value.specs.Plan.{rank_of};
 ghost use Rattle.fl_value.specs.Value.{datum_of};
 ghost use Rattle.fl_wire.specs.Shapes.{ReadAt, StopsAt, starts_after, next_argument, calls_of};
 ghost use Rattle.fl_wire.specs.Whole.{Whole, StopsWhole};
@@ -60,6 +61,17 @@ fn blanks(alloc: Global, count: usize) -> Result<Vec<Value>, AllocError>
     Ok(values)
 }
 
+/// How many ranks the arguments of a plan have.
+fn ranks_of(plan: PlanNo) -> u8
+    ensures all { (t : TheArgType) → rank_of plan t < result }
+    ensures few { result ≤ 5 }
+{
+    match plan {
+        PlanNo::One => 1,
+        PlanNo::Two => RANKS,
+    }
+}
+
 /// The arguments of a call, in declared order, and where the last one ends: the plan lays them out rank by
 /// rank.
 pub(crate) fn read_arguments(
@@ -75,7 +87,7 @@ pub(crate) fn read_arguments(
     let mut values = blanks(alloc, types.len())?;
     let mut at = 0;
     let mut after_dynamic = false;
-    for rank in 0..RANKS {
+    for rank in 0..ranks_of(plan) {
         for (j, ty) in types.iter().enumerate() {
             if plan.rank_of(ty) != rank {
                 continue;

@@ -1,6 +1,8 @@
 //! The fragments of a payload.
 
-ghost use Rattle.std.specs.Prelude.{◌≡◌, ◌+◌, ◌-◌, ◌*◌, ◌/◌, ◌<◌, true, drop, slice_get, IfOk};
+ghost use Rattle.std.specs.Prelude.{◌≡◌, ◌+◌, ◌-◌, ◌*◌, ◌/◌, ◌<◌, ◌≤◌, true, map, length, drop, slice_get, slice_index, IfOk};
+ghost use Rattle.std.specs.List.{range_with_len};
+ghost use Rattle.std.specs.Int.{from_le_bytes, w64};
 ghost use Rattle.fl_interface.specs.Interface.{interface_of};
 ghost use Rattle.fl_value.specs.Value.{call_of};
 ghost use Rattle.fl_value.specs.Fits.{fits_of};
@@ -23,12 +25,33 @@ fn rest_from(payload: &[u8], k: usize) -> &[u8]
     }
 }
 
+// The word that eight bytes from a place on are.
+#[inline(always)]
+fn whole_word(bytes: &[u8], start: usize) -> u64
+    requires inside { start + 8 ≤ length bytes.now }
+    ensures word { result ≡ from_le_bytes w64 (map (slice_index bytes.now) (range_with_len start 8)) }
+{
+    u64::from_le_bytes([
+        bytes[start],
+        bytes[start + 1],
+        bytes[start + 2],
+        bytes[start + 3],
+        bytes[start + 4],
+        bytes[start + 5],
+        bytes[start + 6],
+        bytes[start + 7],
+    ])
+}
+
 // Word `index` of some bytes, little-endian, with zeros after the end.
 fn word_at(bytes: &[u8], index: usize) -> u64
     requires small { index < 7 }
     ensures word { result ≡ word bytes.now index }
 {
     let start = 8 * index;
+    if start + 8 <= bytes.len() {
+        return whole_word(bytes, start);
+    }
     let byte = |k: usize| bytes.get(start + k).copied().unwrap_or(0);
     u64::from_le_bytes([
         byte(0),

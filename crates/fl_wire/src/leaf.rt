@@ -86,12 +86,33 @@ fn number_at(frags: &[Frag], place: usize, width: usize) -> u64
     }
 }
 
+/// What is left of a word from payload byte `p` on: 0 where all these bytes are.
+#[inline(always)]
+fn rest_of_word(frags: &[Frag], p: usize) -> u64
+    ensures zeros { result ≡ 0 → (q : ℕ) → p ≤ q → q < p + (8 - p % 8) → byte_in frags.now q ≡ 0 }
+{
+    word_at(frags, p / 8) >> (8 * (p % 8))
+}
+
+/// Past bytes that are all 0, word by word, up to a place or to a word of which one isn't.
+#[inline(always)]
+fn past_zeros(frags: &[Frag], at: usize, end: usize) -> usize
+    ensures later { at ≤ result }
+    ensures zeros { (p : ℕ) → at ≤ p → p < result → byte_in frags.now p ≡ 0 }
+{
+    let mut p = at;
+    while p < end && rest_of_word(frags, p) == 0 {
+        p += (end - p).min(8 - p % 8);
+    }
+    p
+}
+
 /// Past bytes that are all 0; a stop at the first that isn't.
 pub(crate) fn read_zeros(frags: &[Frag], at: usize, end: usize) -> Result<(), Stop>
     ensures zeros { IfOk result (λ u. (p : ℕ) → at ≤ p → p < end → byte_in frags.now p ≡ 0) }
     ensures wrong { IfErr result (λ stop. (stop ≡ Padding) × FirstNonzero frags.now at end) }
 {
-    for p in at..end {
+    for p in past_zeros(frags, at, end)..end {
         if byte_at(frags, p) != 0 {
             return Err(Stop::Padding);
         }

@@ -12,6 +12,7 @@
 //! - `encode.rt`: the payload of a call
 //! - `fragments.rt`: fragments of a payload
 //! - `leaf.rt`: one leaf of a payload from the bytes of fragments, and why a reading stops
+//! - `text.rt`: many bytes of fragments at once, for strings
 //! - `value.rt`: values from the bytes of fragments
 //! - `call.rt`: the arguments of a call from the bytes of its fragments
 //! - `header.rt`: which fragments may be those of one call, by their control words
@@ -30,6 +31,7 @@ mod law;
 mod leaf;
 mod reader;
 mod reading;
+mod text;
 mod types;
 mod value;
 

@@ -8,6 +8,7 @@ ghost use Rattle.fl_wire.specs.Standing.{signed_half, number_back, word_in};
 ghost use Rattle.fl_wire.specs.Shapes.{ReadAt, StopsAt, values_of, fields_of, elements_of, text_byte, texts_of, length_below, arguments_of};
 
 use crate::leaf::{Stop, byte_of, read_number, read_padding, word_at};
+use crate::text::{are_text_bytes, bytes_from};
 use fl_base::{FRAG_BYTES, Frag};
 use fl_interface::{ArgType, FixedType, Scalar, greatest_alignment};
 use fl_value::Value;
@@ -197,8 +198,13 @@ pub(crate) fn read_elements(
     Ok((values, end))
 }
 
-/// So many bytes of a string, and where the last one ends.
-fn read_text(alloc: Global, frags: &[Frag], at: usize, count: u64) -> Result<(Vec<u8>, usize), Stop>
+/// So many bytes of a string, and where the last one ends: one by one, so that the first fault is found.
+fn read_text_slowly(
+    alloc: Global,
+    frags: &[Frag],
+    at: usize,
+    count: u64,
+) -> Result<(Vec<u8>, usize), Stop>
     requires within { at ≤ 56 * length frags.now }
     ensures within { IfOk result (λ r. r.1 ≤ 56 * length frags.now) }
     ensures later { IfOk result (λ r. at ≤ r.1) }
@@ -215,6 +221,24 @@ fn read_text(alloc: Global, frags: &[Frag], at: usize, count: u64) -> Result<(Ve
         end += 1;
     }
     Ok((bytes, end))
+}
+
+/// So many bytes of a string, and where the last one ends: word by word, where all are there and none is 0.
+fn read_text(alloc: Global, frags: &[Frag], at: usize, count: u64) -> Result<(Vec<u8>, usize), Stop>
+    requires within { at ≤ 56 * length frags.now }
+    ensures within { IfOk result (λ r. r.1 ≤ 56 * length frags.now) }
+    ensures later { IfOk result (λ r. at ≤ r.1) }
+    ensures read { IfOk result (λ r. ReadAt (texts_of count) frags.now at r.0.items r.1) }
+    ensures stop { IfErr result (λ stop. StopsAt stop (texts_of count) frags.now at) }
+{
+    let long = count as usize;
+    if at % 8 == 0 && long <= frags.len() * FRAG_BYTES - at {
+        let bytes = bytes_from(alloc, frags, at, long)?;
+        if are_text_bytes(&bytes) {
+            return Ok((bytes, at + long));
+        }
+    }
+    read_text_slowly(alloc, frags, at, count)
 }
 
 /// The word in which a payload byte stands, if the one in hand is that of the byte before.

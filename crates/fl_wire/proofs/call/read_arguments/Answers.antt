@@ -5,8 +5,9 @@ use Rattle.fl_interface.specs.Interface.{text, arg_type_of}
 use Rattle.fl_value.specs.Value.{Datum, datum_of}
 use Rattle.fl_value.specs.Plan.{is_dynamic, rank_of}
 use Rattle.fl_wire.specs.Shapes.{Shape, next_argument, calls_of}
-use Rattle.fl_wire.proofs.Steps.{Come, come_stop, come_read, come_done}
-use Rattle.fl_wire.proofs.Calls.{FitRead, rank_at, left_in, left_from, itself, come_same, none_fit, calls_start, into_rank, past_other, past_fit, past_rank, rank_fit, begins_next, next_fit, all_read, come_fits}
+use Rattle.fl_wire.proofs.Steps.{Come, come_stop, come_read}
+use Rattle.fl_wire.proofs.Calls.{FitRead, rank_at, left_in, left_from, itself, come_same, none_fit, calls_start, into_rank, past_other, past_fit, past_rank, rank_fit, begins_next, next_fit, come_fits}
+use Rattle.fl_wire.proofs.Ranks.{ranks_read}
 use Rattle.fl_wire.proofs.call.read_arguments.Goals as goal
 
 pub loop-j-preserved-then-rank_of-rank : goal.loop-j-preserved-then-rank_of-rank
@@ -120,10 +121,11 @@ returns-clause-read c =
     let after = c.loop-rank.after_dynamic in
     let at = c.loop-rank.at in
     let long : length vs ≡ length ts = length-map c.loop-rank.values.items datum_of ∙ inv.long ∙ sym (length-map types arg_type_of) in
-    let last : c.loop-rank.rank ≡ 5 = omega (arith, c.loop-rank-test.false, c.loop-rank.auto.rank-end) in
+    let ranks = c.ranks_of-rank-end.result in
+    let last : c.loop-rank.rank ≡ ranks = omega (arith, c.loop-rank-test.false, c.loop-rank.auto.rank-end) in
     let come = subst (λ (n : ℕ). Come (calls_of plan ts) (left_from plan n ts vs after) frags 0 at itself) last inv.come in
     let fit = subst (λ (n : ℕ). FitRead plan n 0 ts vs) last inv.fit in
-    come_done (calls_of plan ts) (left_from plan 5 ts vs after) frags 0 at at itself vs come (omega arith) (all_read plan ts vs after frags at long fit)
+    ranks_read plan ranks ts vs after frags at c.ranks_of-rank-end.ensures.all c.ranks_of-rank-end.ensures.few long fit come
 
 pub loop-rank-init : goal.loop-rank-init
 loop-rank-init c =
@@ -145,5 +147,5 @@ loop-j-init c =
       within = inv.within;
       fit = inv.fit;
       come = come_same (calls_of plan ts) (left_from plan rank ts vs after) (left_in plan rank 0 ts vs after) c.args.frags.now 0 c.loop-rank.at itself itself inv.come
-          (into_rank plan rank ts vs after (omega (arith, c.loop-rank-test.true)));
+          (into_rank plan rank ts vs after (omega (arith, c.loop-rank-test.true, c.ranks_of-rank-end.ensures.few)));
     }

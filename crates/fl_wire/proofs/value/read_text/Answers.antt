@@ -1,24 +1,17 @@
-use Rattle.std.proofs.Common.{arith, ◌≡◌, ◌+◌, ◌/◌, ap, ◌∙◌}
-use Rattle.std.proofs.lemmas.Result.{err_from_is_err_and}
-use Rattle.fl_wire.specs.Standing.{word_in}
-use Rattle.fl_wire.proofs.Parts.{texts_on, texts_stop, texts_end}
+use Rattle.std.proofs.Common.{◌≡◌, ◌+◌, ◌*◌, ◌≤◌, true, List, ℕ, length, sym, ◌∙◌, ap, subst, arith}
+use Rattle.std.specs.List.{list_all}
+use Rattle.fl_value.specs.Fits.{is_text_byte}
+use Rattle.fl_wire.specs.Shapes.{texts_of, ReadAt}
+use Rattle.fl_wire.proofs.Texts.{stretch, texts_there}
 use Rattle.fl_wire.proofs.value.read_text.Goals as goal
 
-pub returns-in_err-byte-clause-stop : goal.returns-in_err-byte-clause-stop
-returns-in_err-byte-clause-stop c =
-    let p = err_from_is_err_and c.from_residual-in_err-byte.result c.from_residual-in_err-byte.ensures.1 in
-    rw (p.1, p.2) (texts_stop c.args.count c.loop-index._index c.args.frags.now c.args.at c.loop-index.end c.loop-index.bytes.items c.in_err-byte.field-0.0 c.loop-index-test.true c.loop-index.invariant.come c.in_err-byte.ensures.stop)
-
-pub loop-index-preserved : goal.loop-index-preserved
-loop-index-preserved c = record {
-  within = c.in_ok-byte.ensures.within;
-  later = omega (arith, c.loop-index.invariant.later);
-  known = λ within.
-      let same : c.loop-index.end / 8 ≡ (c.loop-index.end + 1) / 8 = omega (arith, within) in
-      c.word_around-word.ensures.word ∙ ap (word_in c.args.frags.now) same;
-  come = texts_on c.args.count c.loop-index._index c.args.frags.now c.args.at c.loop-index.end c.loop-index.bytes.items c.push.new.self.items c.in_ok-byte.byte c.loop-index-test.true
-      c.loop-index.invariant.come c.in_ok-byte.ensures.within c.in_ok-byte.ensures.read c.in_ok-push.ensures.items;
-}
-
-pub returns-clause-read : goal.returns-clause-read
-returns-clause-read c = texts_end c.args.count c.loop-index._index c.args.frags.now c.args.at c.loop-index.end c.loop-index.bytes.items c.loop-index-test.false c.loop-index.invariant.come
+pub returns-then-are_text_bytes-clause-read : goal.returns-then-are_text_bytes-clause-read
+returns-then-are_text_bytes-clause-read c =
+    let frags = c.args.frags.now in
+    let at = c.args.at in
+    let n = c.args.count in
+    let bytes = c.in_ok-bytes.ensures.bytes in
+    let room : at + n ≤ 56 * length frags = omega (arith, c.if-long-frags.true, c.requires.within) in
+    let all : list_all is_text_byte (stretch frags at n) ≡ true
+    = ap (list_all is_text_byte) (sym (c.deref.ensures.value ∙ bytes)) ∙ sym c.are_text_bytes.ensures.same ∙ c.if-are_text_bytes.true in
+    subst (λ (bs : List ℕ). ReadAt (texts_of n) frags at bs (at + n)) (sym bytes) (texts_there frags n at room all)

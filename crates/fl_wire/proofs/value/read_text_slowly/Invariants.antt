@@ -2,7 +2,7 @@ use Rattle.std.proofs.Common.{◌≤◌, ◌-◌, ◌*◌, ◌++◌, length, Lis
 use Rattle.fl_wire.specs.Shapes.{texts_of}
 use Rattle.fl_wire.specs.Standing.{word_in}
 use Rattle.fl_wire.proofs.Steps.{Come}
-use Rattle.fl_wire.proofs.value.read_text.Given as goal
+use Rattle.fl_wire.proofs.value.read_text_slowly.Given as goal
 
 -- the bytes so far, and those that are left
 abbrev pub invariant-loop-index : goal.invariant-loop-index
