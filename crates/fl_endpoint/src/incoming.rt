@@ -5,7 +5,7 @@ ghost use Rattle.fl_interface.specs.Interface.{interface_of};
 ghost use Rattle.fl_value.specs.Value.{call_of};
 ghost use Rattle.fl_value.specs.Fits.{fits_of};
 ghost use Rattle.fl_compile.specs.Programs.{program_of};
-ghost use Rattle.fl_machine.specs.Receiving.{HoldsTapes};
+ghost use Rattle.fl_machine.specs.Receiving.{HoldsParts};
 ghost use Rattle.fl_base.specs.Control.{bare};
 ghost use Rattle.fl_endpoint.specs.View.{reply_to};
 ghost use Rattle.fl_endpoint.specs.Rules.{rules_of};
@@ -16,21 +16,21 @@ use crate::outgoing::Queued;
 use crate::rules::Rules;
 use fl_base::{Frag, MsgNo};
 use fl_compile::Program;
-use fl_layout::Plans;
+use fl_layout::{Plans, fragment_count};
 use fl_value::Call;
 use std::alloc::{AllocError, Global};
 
-// How many numbers the longest tape of any call has.
-pub(crate) fn tape_capacity(plans: &Plans) -> usize
-    ensures enough { HoldsTapes plans.now.plan (interface_of plans.now.interface) result }
+// How many fragments the longest call has.
+pub(crate) fn most_fragments(plans: &Plans) -> usize
+    ensures enough { HoldsParts plans.now.plan (interface_of plans.now.interface) result }
 {
     let mut most = 0;
     for msg in 0..256_u16 {
         if usize::from(msg) < plans.interface.messages.len() {
-            most = plans.tape_capacity(MsgNo(msg)).max(most);
+            most = plans.greatest(MsgNo(msg)).max(most);
         }
     }
-    most
+    fragment_count(most)
 }
 
 /// The fragment with epoch 0 and nothing told: these belong to the side that it came by.

@@ -14,7 +14,7 @@ ghost use Rattle.fl_endpoint.specs.Events.{Readies, Admits, Calls, Writes, Shows
 
 use crate::answer::{ReceiveAnswer, WriteAnswer};
 use crate::fault::EndFault;
-use crate::incoming::{reply_by_rule, tape_capacity, without_stamp};
+use crate::incoming::{most_fragments, reply_by_rule, without_stamp};
 use crate::outgoing::{MOST_WAITING, Outgoing, Queued};
 use crate::rules::{Rules, message};
 use fl_base::{Circuit, Frag, MsgNo};
@@ -304,7 +304,7 @@ impl Parts {
         ensures kept { OnErr result (calls.new ≡ calls.old) }
     {
         let program = self.program.duplicate(self.alloc)?;
-        let capacity = tape_capacity(program.plans());
+        let capacity = most_fragments(program.plans());
         calls.add(program, capacity)
     }
 

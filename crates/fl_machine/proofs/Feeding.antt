@@ -265,9 +265,9 @@ few_fed plan i tape b f ops x = ⊎_elim
 
 -- the call goes on
 pub goes_on : (plan : PlanNo) (i : TheInterface) (tape : List ℕ) (b : Begun) (f : Frag) (ops : List Op) (tape2 : List ℕ) (b2 : Begun) (x : Taking plan i tape b f ops) → b2.msg.0 ≡ b.msg.0 → b2.fed ≡ b.fed + 1
-    → Stands ops (take b2.intake.count tape2) b2.intake (x.bytes ++ words_bytes f.words) → BeginsPayload (block_of ops) (x.bytes ++ words_bytes f.words)
+    → b2.intake.count ≤ length tape2 → Stands ops (take b2.intake.count tape2) b2.intake (x.bytes ++ words_bytes f.words) → BeginsPayload (block_of ops) (x.bytes ++ words_bytes f.words)
     → IsBegun plan i tape2 b2
-goes_on plan i tape b f ops tape2 b2 x own fed stands begins =
+goes_on plan i tape b f ops tape2 b2 x own fed within stands begins =
     let blocks = one_block plan i b.msg.0 x.message ops x.has x.ops_are in
     let more = x.bytes ++ words_bytes f.words in
     record {
@@ -276,18 +276,19 @@ goes_on plan i tape b f ops tape2 b2 x own fed stands begins =
       bytes = more;
       long = x.grown.long ∙ ap (λ (n : ℕ). 56 * n) (sym fed);
       small = x.grown.small;
+      within = within;
       stands = subst (λ (o : List Op). Stands o (take b2.intake.count tape2) b2.intake more) x.ops_are stands;
       begins = λ some. subst (λ (k : Block). BeginsPayload k more) blocks begins;
     }
 
 pub adds_part : (plan : PlanNo) (i : TheInterface) (tape : List ℕ) (b : Begun) (f : Frag) (ops : List Op) (tape2 : List ℕ) (b2 : Begun) (x : Taking plan i tape b f ops) → b2.msg.0 ≡ b.msg.0 → b2.fed ≡ b.fed + 1
-    → Stands ops (take b2.intake.count tape2) b2.intake (x.bytes ++ words_bytes f.words) → BeginsPayload (block_of ops) (x.bytes ++ words_bytes f.words)
+    → b2.intake.count ≤ length tape2 → Stands ops (take b2.intake.count tape2) b2.intake (x.bytes ++ words_bytes f.words) → BeginsPayload (block_of ops) (x.bytes ++ words_bytes f.words)
     → AddsPart plan i (parts_of plan i tape b) f (let t : TheHeld = record { parts = parts_of plan i tape2 b2; whole = [] } in t)
 unfolding goes_on
-adds_part plan i tape b f ops tape2 b2 x own fed stands begins =
+adds_part plan i tape b f ops tape2 b2 x own fed within stands begins =
     let blocks = one_block plan i b.msg.0 x.message ops x.has x.ops_are in
     let more = x.bytes ++ words_bytes f.words in
-    let y = goes_on plan i tape b f ops tape2 b2 x own fed stands begins in
+    let y = goes_on plan i tape b f ops tape2 b2 x own fed within stands begins in
     let has2 : HasMessage i b2.msg.0 x.message = subst (λ (n : ℕ). HasMessage i n x.message) (sym own) x.has in
     record {
       part = part_of plan i b.msg.0 x.message (parts_of plan i tape b ++ f ∷ []) more (b.fed + 1) x.has x.grown.bare_are x.grown.many x.grown.long
@@ -339,8 +340,8 @@ has_fault plan i tape b f ops mark fault tells x header own is l =
 
 -- a call that is to begin
 pub none_begun : (plan : PlanNo) (i : TheInterface) (tape : List ℕ) (b : Begun) (f : Frag) → is_within_limits i ≡ true → interface_words_fit i ≡ true → start_fault i f ≡ None → b.msg.0 ≡ message_of f.control → b.fed ≡ 0
-    → ((ops : List Op) → IsCode Receive ops (block_of ops) → Stands ops [] b.intake []) → IsBegun plan i tape b
-none_begun plan i tape b f within words none own fed stands =
+    → b.intake.count ≡ 0 → ((ops : List Op) → IsCode Receive ops (block_of ops) → Stands ops [] b.intake []) → IsBegun plan i tape b
+none_begun plan i tape b f within words none own fed nothing_taken stands =
     let nothing : TheMessage = record { name = []; args = [] } in
     let m = get_or i.messages b.msg.0 nothing in
     let known : slice_get i.messages b.msg.0 ≡ Some m = slice_get-get_or i.messages b.msg.0 nothing (omega (arith, own, start_known i f none)) in
@@ -348,14 +349,14 @@ none_begun plan i tape b f within words none own fed stands =
     let ops = message_code Receive plan m in
     let code = compiles_to_code Receive plan i b.msg.0 m has in
     let s : Stands ops [] b.intake [] = stands ops (subst (λ (k : Block). IsCode Receive ops k) (sym (one_block plan i b.msg.0 m ops has refl)) code) in
-    let count : 0 ≡ b.intake.count = s.long in
     record {
       message = m;
       known = known;
       bytes = [];
       long = omega (arith, fed);
       small = λ p. omega arith;
-      stands = subst (λ (t : List ℕ). Stands ops t b.intake []) (ap (λ (n : ℕ). take n tape) count) s;
+      within = omega (arith, nothing_taken);
+      stands = subst (λ (t : List ℕ). Stands ops t b.intake []) (ap (λ (n : ℕ). take n tape) (sym nothing_taken)) s;
       begins = λ some. absurd (omega (arith, some, fed));
     }
 

@@ -422,12 +422,16 @@ pub room_on : (ops : List Op) (count count2 bytes bytes2 places : ℕ) → HasRo
 room_on ops count count2 bytes bytes2 places (inl fits) less = inl fits
 room_on ops count count2 bytes bytes2 places (inr room) less = inr (omega (arith, room, less))
 
-pub room_told : (ops : List Op) (tape : List ℕ) (c : Intake) (all left : List ℕ) (f : Field) (low bytes : ℕ) → IsFed ops (take c.count tape) c all left → HasField ops c f → f.least ≤ low → low ≤ f.last
+pub room_told : (ops : List Op) (before tape : List ℕ) (c : Intake) (all left : List ℕ) (f : Field) (low bytes : ℕ) → IsFed ops (before ++ take c.count tape) c all left → HasField ops c f → f.least ≤ low → low ≤ f.last
     → c.count ≤ length tape → HasRoom ops c.count bytes (length tape) → 0 < bytes → f.told ≡ true → c.count < length tape
-room_told ops tape c all left f low bytes fed field least high within (inl fits) some told_so =
-    let room = room_here ops (take c.count tape) c all left f low (length tape) fed field least high fits told_so in
-    omega (arith, room, length-take-le c.count tape within)
-room_told ops tape c all left f low bytes fed field least high within (inr room) some told_so = omega (arith, room, some)
+room_told ops before tape c all left f low bytes fed field least high within (inl fits) some told_so =
+    let room = room_here ops (before ++ take c.count tape) c all left f low (length tape) fed field least high fits told_so in
+    omega (arith, room, length-append before (take c.count tape), length-take-le c.count tape within)
+room_told ops before tape c all left f low bytes fed field least high within (inr room) some told_so = omega (arith, room, some)
+
+-- numbers behind others, and more behind these
+pub behind_more : (before taken taken2 more : List ℕ) → taken2 ≡ taken ++ more → before ++ taken2 ≡ (before ++ taken) ++ more
+behind_more before taken taken2 more is = ap (λ (t : List ℕ). before ++ t) is ∙ sym (append_assoc before taken more)
 
 pub whole_here : (ops : List Op) (taken taken2 : List ℕ) (c c1 c2 c3 : Intake) (all left rest : List ℕ) (f : Field) (low n : ℕ) → IsFed ops taken c all left → HasField ops c f
     → Grows c.have c.value low n left rest → c.have + n ≡ f.width → low ≤ f.last → f.least ≤ low
@@ -481,7 +485,6 @@ settled_stands ops taken bytes c d idle p s =
         bytes_are = a.bytes_are ∙ (λ i. a.done ++ number_bytes (sym have i) (sym value i));
         quiet = λ busy. absurd (busy (have ∙ idle));
       };
-      long = s.long ∙ sym (ap Intake.count p.others);
       shows = subst (λ (v : ℕ). Follows (length bytes) bytes (bytes_given (block_of ops) (taken ++ v ∷ []))) (sym value) s.shows;
     }
   where
@@ -493,13 +496,12 @@ pub fed_first : (ops : List Op) (taken bytes words : List ℕ) (c : Intake) → 
 fed_first ops taken bytes words c s = record { prefix = bytes; at = s.at; joined = refl }
 
 -- all bytes of a fragment taken, and the call goes on
-pub stands_after : (ops : List Op) (taken : List ℕ) (c : Intake) (all left : List ℕ) → IsFed ops taken c all left → left ≡ [] → length taken ≡ c.count → Stands ops taken c all
-stands_after ops taken c all left fed none long =
+pub stands_after : (ops : List Op) (taken : List ℕ) (c : Intake) (all left : List ℕ) → IsFed ops taken c all left → left ≡ [] → Stands ops taken c all
+stands_after ops taken c all left fed none =
     let a = fed.at in
     let is : all ≡ fed.prefix = fed.joined ∙ ap (λ (x : List ℕ). fed.prefix ++ x) none ∙ append-nil fed.prefix in
     record {
       at = subst (λ (x : List ℕ). IsAt ops taken c x) (sym is) a;
-      long = long;
       shows = shows_bytes (block_of ops) (rest_of ops c (length a.done)) taken a.done all c.have c.value a.reach a.waiting (is ∙ a.bytes_are);
     }
 
@@ -572,9 +574,6 @@ same_stance ops c d s e = subst (λ (x : Intake). IsTaking ops x) (sym e) s
 
 pub same_field : (ops : List Op) (c d : Intake) (f : Field) → HasField ops c f → d ≡ record c { count = d.count } → HasField ops d f
 same_field ops c d f h e = subst (λ (x : Intake). HasField ops x f) (sym e) (record { op = h.op; there = h.there; taken = h.taken; view = h.view; wide = h.wide })
-
-pub counted_tape : (ops : List Op) (tape : List ℕ) (c : Intake) (bytes : List ℕ) → Stands ops (take c.count tape) c bytes → c.count ≤ length tape
-counted_tape ops tape c bytes s = let long = s.long in omega (arith, long, length-take c.count tape)
 
 pub nothing_left : (buffer : List ℕ) (used : ℕ) → 56 ≤ used → drop used (take 56 buffer) ≡ []
 nothing_left buffer used past = drop_all used (take 56 buffer) (omega (arith, past, length-take 56 buffer))

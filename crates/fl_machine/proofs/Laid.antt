@@ -1,4 +1,4 @@
--- Tapes in a block: what an update of one leaves of the others.
+-- Rooms in a block: what an update of one leaves of the others.
 use Rattle.std.proofs.Common.{◌≡◌, ◌≢◌, ℕ, zero, suc, ◌+◌, ◌-◌, ◌<◌, ◌≤◌, ◌⊎◌, inl, inr, ⊎_elim, List, [], ◌∷◌, ◌++◌, map, length, take, drop, get_or, set, Some, None, refl, sym, subst, ap, ◌∙◌, arith}
 use Rattle.std.specs.Prelude.{slice_get, Option, option_map}
 use Rattle.std.specs.List.{sum_by}
@@ -6,8 +6,9 @@ use Rattle.std.proofs.lemmas.List.{length-append, length-take-le, length-drop, t
 use Rattle.std.proofs.lemmas.List.Sums.{sum_by_push, sum_by-set, get_or-le-sum_by}
 use Rattle.std.proofs.lemmas.Option.{none-some, same_Some, slice_get_within, get_or_from_slice_get, slice_get-map}
 use Rattle.std.proofs.lemmas.Slice.{drop-append-drop}
-use Rattle.fl_machine.specs.declared.tapes.Span.{Span}
-use Rattle.fl_machine.specs.Tapes.{IsOpened, numbers_from, tape_in, owed_from, owed_for, IsWithin, AreApart, AreLaid, AreTapes}
+use Rattle.fl_base.specs.declared.fragment.Frag.{Frag}
+use Rattle.fl_machine.specs.declared.rooms.Span.{Span}
+use Rattle.fl_machine.specs.Rooms.{IsOpened, frags_from, room_in, owed_from, owed_for, IsWithin, AreApart, AreLaid, AreRooms}
 
 -- ---- lists
 
@@ -54,73 +55,73 @@ pub map_at : {X Y : Type 0} (f g : X → Y) (xs : List X) (i : ℕ) (x : X) → 
     → map g xs ≡ set (map f xs) i (g x)
 map_at f g xs i x at same = ap (map g) (sym (set_there xs i x at)) ∙ map_changed f g xs i x same
 
--- ---- numbers of a block
+-- ---- fragments of a block
 
 -- behind a block that became longer they are as they were
-longer : (block more : List ℕ) (size start : ℕ) → start + size ≤ length block → take size (drop start (block ++ more)) ≡ take size (drop start block)
+longer : (block more : List Frag) (size start : ℕ) → start + size ≤ length block → take size (drop start (block ++ more)) ≡ take size (drop start block)
 longer block more size start h =
     ap (take size) (drop-append-le start block more (omega (arith, h)))
     ∙ take-append-le size (drop start block) more (omega (arith, h, length-drop start block))
 
-abbrev pub written : List ℕ → ℕ → List ℕ → List ℕ
-written block start numbers = take start block ++ (numbers ++ drop (length numbers) (drop start block))
+abbrev pub written : List Frag → ℕ → List Frag → List Frag
+written block start frags = take start block ++ (frags ++ drop (length frags) (drop start block))
 
-pub written_length : (block : List ℕ) (start : ℕ) (numbers : List ℕ) → start + length numbers ≤ length block → length (written block start numbers) ≡ length block
-written_length block start numbers h =
-    length-append (take start block) (numbers ++ drop (length numbers) (drop start block))
-    ∙ omega (arith, h, length-take-le start block (omega (arith, h)), length-append numbers (drop (length numbers) (drop start block)), length-drop (length numbers) (drop start block), length-drop start block)
+pub written_length : (block : List Frag) (start : ℕ) (frags : List Frag) → start + length frags ≤ length block → length (written block start frags) ≡ length block
+written_length block start frags h =
+    length-append (take start block) (frags ++ drop (length frags) (drop start block))
+    ∙ omega (arith, h, length-take-le start block (omega (arith, h)), length-append frags (drop (length frags) (drop start block)), length-drop (length frags) (drop start block), length-drop start block)
 
--- the numbers written
-written_here : (block : List ℕ) (start : ℕ) (numbers : List ℕ) → start + length numbers ≤ length block → take (length numbers) (drop start (written block start numbers)) ≡ numbers
-written_here block start numbers h =
-    ap (take (length numbers)) (drop_at (take start block) (numbers ++ drop (length numbers) (drop start block)) start (length-take-le start block (omega (arith, h))))
-    ∙ take_at numbers (drop (length numbers) (drop start block)) (length numbers) refl
+-- the fragments written
+written_here : (block : List Frag) (start : ℕ) (frags : List Frag) → start + length frags ≤ length block → take (length frags) (drop start (written block start frags)) ≡ frags
+written_here block start frags h =
+    ap (take (length frags)) (drop_at (take start block) (frags ++ drop (length frags) (drop start block)) start (length-take-le start block (omega (arith, h))))
+    ∙ take_at frags (drop (length frags) (drop start block)) (length frags) refl
 
 -- those before them
-written_before : (block : List ℕ) (start : ℕ) (numbers : List ℕ) (size at : ℕ) → start + length numbers ≤ length block → at + size ≤ start
-    → take size (drop at (written block start numbers)) ≡ take size (drop at block)
-written_before block start numbers size at h before =
-    let rest = numbers ++ drop (length numbers) (drop start block) in
+written_before : (block : List Frag) (start : ℕ) (frags : List Frag) (size at : ℕ) → start + length frags ≤ length block → at + size ≤ start
+    → take size (drop at (written block start frags)) ≡ take size (drop at block)
+written_before block start frags size at h before =
+    let rest = frags ++ drop (length frags) (drop start block) in
     sym (drop-take at size (take start block ++ rest))
     ∙ ap (drop at) (take-append-le (at + size) (take start block) rest (omega (arith, h, before, length-take-le start block (omega (arith, h)))) ∙ take-take (at + size) start block before)
     ∙ drop-take at size block
 
 -- those behind them
-written_behind : (block : List ℕ) (start : ℕ) (numbers : List ℕ) (size at : ℕ) → start + length numbers ≤ length block → start + length numbers ≤ at
-    → take size (drop at (written block start numbers)) ≡ take size (drop at block)
-written_behind block start numbers size at h behind =
-    let n = length numbers in
-    let front : drop start (written block start numbers) ≡ numbers ++ drop n (drop start block)
-    = drop_at (take start block) (numbers ++ drop n (drop start block)) start (length-take-le start block (omega (arith, h))) in
+written_behind : (block : List Frag) (start : ℕ) (frags : List Frag) (size at : ℕ) → start + length frags ≤ length block → start + length frags ≤ at
+    → take size (drop at (written block start frags)) ≡ take size (drop at block)
+written_behind block start frags size at h behind =
+    let n = length frags in
+    let front : drop start (written block start frags) ≡ frags ++ drop n (drop start block)
+    = drop_at (take start block) (frags ++ drop n (drop start block)) start (length-take-le start block (omega (arith, h))) in
     let left : start + (at - start) ≡ at = omega (arith, behind) in
     ap (take size)
-    (ap (λ (k : ℕ). drop k (written block start numbers)) (sym left)
-    ∙ sym (drop-drop (at - start) start (written block start numbers))
+    (ap (λ (k : ℕ). drop k (written block start frags)) (sym left)
+    ∙ sym (drop-drop (at - start) start (written block start frags))
     ∙ ap (drop (at - start)) front
-    ∙ drop-append-drop n (drop start block) numbers (at - start) (omega (arith, behind)) refl
+    ∙ drop-append-drop n (drop start block) frags (at - start) (omega (arith, behind)) refl
     ∙ drop-drop (at - start) start block
     ∙ ap (λ (k : ℕ). drop k block) left)
 
--- ---- tapes
+-- ---- rooms
 
--- a tape's numbers are as they were in a block that became longer
-tape_longer : (block more : List ℕ) (s : Span) → IsWithin (length block) s → tape_in (block ++ more) s ≡ tape_in block s
-tape_longer block more s within = ap (λ (o : Option (List ℕ)). record { size = s.size; numbers = o }) (by_start s.start within)
+-- a room's fragments are as they were in a block that became longer
+room_longer : (block more : List Frag) (s : Span) → IsWithin (length block) s → room_in (block ++ more) s ≡ room_in block s
+room_longer block more s within = ap (λ (o : Option (List Frag)). record { size = s.size; frags = o }) (by_start s.start within)
   where
-    by_start : (o : Option ℕ) → ((start : ℕ) → o ≡ Some start → start + s.size ≤ length block) → numbers_from (block ++ more) s.size o ≡ numbers_from block s.size o
+    by_start : (o : Option ℕ) → ((start : ℕ) → o ≡ Some start → start + s.size ≤ length block) → frags_from (block ++ more) s.size o ≡ frags_from block s.size o
     by_start None h = refl
     by_start (Some start) h = ap Some (longer block more s.size start (h start refl))
 
--- and where another tape's are written
-tape_written : (block : List ℕ) (start : ℕ) (numbers : List ℕ) (s u : Span) → s.start ≡ Some start → s.size ≡ length numbers → start + length numbers ≤ length block
-    → AreApart s u → tape_in (written block start numbers) u ≡ tape_in block u
-tape_written block start numbers s u at size h apart = ap (λ (o : Option (List ℕ)). record { size = u.size; numbers = o }) (by_start u.start (λ other e. apart start other at e))
+-- and where another room's are written
+room_written : (block : List Frag) (start : ℕ) (frags : List Frag) (s u : Span) → s.start ≡ Some start → s.size ≡ length frags → start + length frags ≤ length block
+    → AreApart s u → room_in (written block start frags) u ≡ room_in block u
+room_written block start frags s u at size h apart = ap (λ (o : Option (List Frag)). record { size = u.size; frags = o }) (by_start u.start (λ other e. apart start other at e))
   where
-    by_start : (o : Option ℕ) → ((other : ℕ) → o ≡ Some other → (start + s.size ≤ other) ⊎ (other + u.size ≤ start)) → numbers_from (written block start numbers) u.size o ≡ numbers_from block u.size o
+    by_start : (o : Option ℕ) → ((other : ℕ) → o ≡ Some other → (start + s.size ≤ other) ⊎ (other + u.size ≤ start)) → frags_from (written block start frags) u.size o ≡ frags_from block u.size o
     by_start None apart = refl
     by_start (Some other) apart = ap Some (⊎_elim
-        (λ (behind : start + s.size ≤ other). written_behind block start numbers u.size other h (omega (arith, behind, size)))
-        (λ (before : other + u.size ≤ start). written_before block start numbers u.size other h before)
+        (λ (behind : start + s.size ≤ other). written_behind block start frags u.size other h (omega (arith, behind, size)))
+        (λ (before : other + u.size ≤ start). written_before block start frags u.size other h before)
         (apart other refl))
 
 -- one more that isn't there yet
@@ -173,8 +174,8 @@ laid_opened long more ss k x laid at end = record {
 
 -- ---- what the functions do
 
-pub are_added : (long capacity more : ℕ) (ss : List Span) (owed size : ℕ) → AreTapes long capacity ss owed → long + (owed + size) ≤ more
-    → AreTapes long more (ss ++ record { size = size; start = None } ∷ []) (owed + size)
+pub are_added : (long capacity more : ℕ) (ss : List Span) (owed size : ℕ) → AreRooms long capacity ss owed → long + (owed + size) ≤ more
+    → AreRooms long more (ss ++ record { size = size; start = None } ∷ []) (owed + size)
 are_added long capacity more ss owed size t room =
     let x : Span = record { size = size; start = None } in
     record {
@@ -183,8 +184,8 @@ are_added long capacity more ss owed size t room =
       reserved = room;
     }
 
-pub are_opened : (long capacity more : ℕ) (ss : List Span) (owed k : ℕ) (s : Span) → AreTapes long capacity ss owed → slice_get ss k ≡ Some s → s.start ≡ None → capacity ≤ more
-    → AreTapes (long + s.size) more (set ss k (record { size = s.size; start = Some long })) (owed - s.size)
+pub are_opened : (long capacity more : ℕ) (ss : List Span) (owed k : ℕ) (s : Span) → AreRooms long capacity ss owed → slice_get ss k ≡ Some s → s.start ≡ None → capacity ≤ more
+    → AreRooms (long + s.size) more (set ss k (record { size = s.size; start = Some long })) (owed - s.size)
 are_opened long capacity more ss owed k s t at none grown =
     let x : Span = record { size = s.size; start = Some long } in
     let inside : k < length ss = slice_get_within ss k s at in
@@ -198,14 +199,14 @@ are_opened long capacity more ss owed k s t at none grown =
       reserved = omega (arith, less, t.reserved, grown);
     }
 
--- how many numbers a tape takes that isn't there yet
-pub is_owed : (long capacity : ℕ) (ss : List Span) (owed k : ℕ) (s : Span) → AreTapes long capacity ss owed → slice_get ss k ≡ Some s → s.start ≡ None → s.size ≤ owed
+-- how many fragments a room takes that isn't there yet
+pub is_owed : (long capacity : ℕ) (ss : List Span) (owed k : ℕ) (s : Span) → AreRooms long capacity ss owed → slice_get ss k ≡ Some s → s.start ≡ None → s.size ≤ owed
 is_owed long capacity ss owed k s t at none =
     let own : owed_for s ≡ s.size = ap (owed_from s.size) none in
     let read : owed_for (get_or ss k s) ≡ owed_for s = ap owed_for (get_or_from_slice_get ss k s s at) in
     omega (arith, own, read, t.owed_is, get_or-le-sum_by owed_for ss k s (slice_get_within ss k s at))
 
-pub are_before : (long capacity : ℕ) (ss : List Span) (s : Span) (owed : ℕ) → AreTapes long capacity (ss ++ s ∷ []) owed → AreTapes long capacity ss (owed - owed_for s)
+pub are_before : (long capacity : ℕ) (ss : List Span) (s : Span) (owed : ℕ) → AreRooms long capacity (ss ++ s ∷ []) owed → AreRooms long capacity ss (owed - owed_for s)
 are_before long capacity ss s owed t =
     let sum : sum_by owed_for (ss ++ s ∷ []) ≡ sum_by owed_for ss + owed_for s = sum_by_push owed_for ss s in
     record {
@@ -214,46 +215,46 @@ are_before long capacity ss s owed t =
       reserved = omega (arith, t.reserved);
     }
 
-pub is_opened : (block more : List ℕ) (capacity : ℕ) (ss : List Span) (owed k : ℕ) (s : Span) → AreTapes (length block) capacity ss owed → slice_get ss k ≡ Some s → length more ≡ s.size
-    → IsOpened (map (tape_in block) ss) k (map (tape_in (block ++ more)) (set ss k (record { size = s.size; start = Some (length block) })))
+pub is_opened : (block more : List Frag) (capacity : ℕ) (ss : List Span) (owed k : ℕ) (s : Span) → AreRooms (length block) capacity ss owed → slice_get ss k ≡ Some s → length more ≡ s.size
+    → IsOpened (map (room_in block) ss) k (map (room_in (block ++ more)) (set ss k (record { size = s.size; start = Some (length block) })))
 is_opened block more capacity ss owed k s t at long =
     let x : Span = record { size = s.size; start = Some (length block) } in
     record {
-      was = tape_in block s;
-      was_there = slice_get-map (tape_in block) ss k ∙ ap (option_map (tape_in block)) at;
-      numbers = take s.size (drop (length block) (block ++ more));
-      long = ap (λ (xs : List ℕ). length (take s.size xs)) (drop_at block more (length block) refl) ∙ length-take-le s.size more (omega (arith, long));
-      after_is = map_changed (tape_in block) (tape_in (block ++ more)) ss k x (λ j u e n. tape_longer block more u (t.laid.within j u e));
+      was = room_in block s;
+      was_there = slice_get-map (room_in block) ss k ∙ ap (option_map (room_in block)) at;
+      frags = take s.size (drop (length block) (block ++ more));
+      long = ap (λ (xs : List Frag). length (take s.size xs)) (drop_at block more (length block) refl) ∙ length-take-le s.size more (omega (arith, long));
+      after_is = map_changed (room_in block) (room_in (block ++ more)) ss k x (λ j u e n. room_longer block more u (t.laid.within j u e));
     }
 
-pub is_open : (block : List ℕ) (capacity : ℕ) (ss : List Span) (owed k : ℕ) (s : Span) (start : ℕ) → AreTapes (length block) capacity ss owed → slice_get ss k ≡ Some s → s.start ≡ Some start
-    → IsOpened (map (tape_in block) ss) k (map (tape_in block) ss)
+pub is_open : (block : List Frag) (capacity : ℕ) (ss : List Span) (owed k : ℕ) (s : Span) (start : ℕ) → AreRooms (length block) capacity ss owed → slice_get ss k ≡ Some s → s.start ≡ Some start
+    → IsOpened (map (room_in block) ss) k (map (room_in block) ss)
 is_open block capacity ss owed k s start t at some =
     let inside : start + s.size ≤ length block = t.laid.within k s at start some in
     record {
-      was = tape_in block s;
-      was_there = slice_get-map (tape_in block) ss k ∙ ap (option_map (tape_in block)) at;
-      numbers = take s.size (drop start block);
+      was = room_in block s;
+      was_there = slice_get-map (room_in block) ss k ∙ ap (option_map (room_in block)) at;
+      frags = take s.size (drop start block);
       long = length-take-le s.size (drop start block) (omega (arith, inside, length-drop start block));
-      after_is = map_at (tape_in block) (tape_in block) ss k s at (λ j u e n. refl)
-          ∙ ap (λ (o : Option (List ℕ)). set (map (tape_in block) ss) k (record { size = s.size; numbers = o })) (ap (numbers_from block s.size) some);
+      after_is = map_at (room_in block) (room_in block) ss k s at (λ j u e n. refl)
+          ∙ ap (λ (o : Option (List Frag)). set (map (room_in block) ss) k (record { size = s.size; frags = o })) (ap (frags_from block s.size) some);
     }
 
--- numbers are written where a tape lies
-pub is_written : (block : List ℕ) (capacity : ℕ) (ss : List Span) (owed k : ℕ) (s : Span) (start : ℕ) (numbers : List ℕ) → AreTapes (length block) capacity ss owed
-    → slice_get ss k ≡ Some s → s.start ≡ Some start → length numbers ≡ s.size
-    → map (tape_in (written block start numbers)) ss ≡ set (map (tape_in block) ss) k (record { size = s.size; numbers = Some numbers })
-is_written block capacity ss owed k s start numbers t at some long =
+-- fragments are written where a room lies
+pub is_written : (block : List Frag) (capacity : ℕ) (ss : List Span) (owed k : ℕ) (s : Span) (start : ℕ) (frags : List Frag) → AreRooms (length block) capacity ss owed
+    → slice_get ss k ≡ Some s → s.start ≡ Some start → length frags ≡ s.size
+    → map (room_in (written block start frags)) ss ≡ set (map (room_in block) ss) k (record { size = s.size; frags = Some frags })
+is_written block capacity ss owed k s start frags t at some long =
     let inside : start + s.size ≤ length block = t.laid.within k s at start some in
-    let room : start + length numbers ≤ length block = omega (arith, inside, long) in
-    map_at (tape_in block) (tape_in (written block start numbers)) ss k s at
-    (λ j u e n. tape_written block start numbers s u some (sym long) room (t.laid.apart k j s u at e (λ (q : k ≡ j). n (sym q))))
-    ∙ ap (λ (o : Option (List ℕ)). set (map (tape_in block) ss) k (record { size = s.size; numbers = o }))
-    (ap (numbers_from (written block start numbers) s.size) some
-    ∙ ap (λ (n : ℕ). Some (take n (drop start (written block start numbers)))) (sym long)
-    ∙ ap Some (written_here block start numbers room))
+    let room : start + length frags ≤ length block = omega (arith, inside, long) in
+    map_at (room_in block) (room_in (written block start frags)) ss k s at
+    (λ j u e n. room_written block start frags s u some (sym long) room (t.laid.apart k j s u at e (λ (q : k ≡ j). n (sym q))))
+    ∙ ap (λ (o : Option (List Frag)). set (map (room_in block) ss) k (record { size = s.size; frags = o }))
+    (ap (frags_from (written block start frags) s.size) some
+    ∙ ap (λ (n : ℕ). Some (take n (drop start (written block start frags)))) (sym long)
+    ∙ ap Some (written_here block start frags room))
 
-pub are_same : {long many capacity owed left : ℕ} {ss us : List Span} → AreTapes long capacity ss owed → many ≡ long → us ≡ ss → left ≡ owed → AreTapes many capacity us left
+pub are_same : {long many capacity owed left : ℕ} {ss us : List Span} → AreRooms long capacity ss owed → many ≡ long → us ≡ ss → left ≡ owed → AreRooms many capacity us left
 are_same {long} {many} {capacity} {owed} {left} {ss} {us} t p q r =
-    subst (λ (n : ℕ). AreTapes n capacity us left) (sym p)
-    (subst (λ (xs : List Span). AreTapes long capacity xs left) (sym q) (subst (λ (n : ℕ). AreTapes long capacity ss n) (sym r) t))
+    subst (λ (n : ℕ). AreRooms n capacity us left) (sym p)
+    (subst (λ (xs : List Span). AreRooms long capacity xs left) (sym q) (subst (λ (n : ℕ). AreRooms long capacity ss n) (sym r) t))

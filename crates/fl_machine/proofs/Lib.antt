@@ -7,6 +7,7 @@ pub mod Intakes
 pub mod Begun
 pub mod Spans
 pub mod Feeding
+pub mod Looking
 pub mod Storing
 pub mod Rounds
 pub mod Circuits
@@ -14,3 +15,4 @@ pub mod Plains
 pub mod Emits
 pub mod Laid
 pub mod Joined
+pub mod Parts

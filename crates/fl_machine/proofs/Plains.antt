@@ -104,7 +104,6 @@ plain_new ops code = record {
     bytes_are = refl;
     quiet = λ busy. absurd (busy refl);
   };
-  long = refl;
   shows = record { each = λ p inside. absurd (omega (arith, inside)) };
 }
 
@@ -224,7 +223,7 @@ pub plain_ends : (plan : PlanNo) (i : TheInterface) (f : Frag) (code : TheCode) 
     → IsEnded plan i tape e × AddsLast plan i [] f (let t : TheHeld = record { parts = []; whole = whole_of plan i tape e } in t)
 plain_ends plan i f code ops tape e within words line none own exact lent few whole =
     let b : Begun = record { msg = e.msg; fed = 0; intake = plain_intake 0 0 0 } in
-    let begun = none_begun plan i [] b f within words none own refl plain_new in
+    let begun = none_begun plan i [] b f within words none own refl refl plain_new in
     let control : body f.control ≡ control_word true e.msg.0 0 = start_control i f none ∙ ap (λ (m : ℕ). control_word true m 0) (sym own) in
     let x = taking plan i [] b f code ops within words line begun control exact lent in
     let empty : x.bytes ≡ [] = no_bytes x.bytes x.long in

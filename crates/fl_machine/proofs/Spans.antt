@@ -9,7 +9,7 @@ use Rattle.fl_machine.specs.declared.intake.Field.{Field}
 use Rattle.fl_machine.specs.declared.intake.Intake.{Intake}
 use Rattle.fl_machine.specs.Cursors.{no_loop}
 use Rattle.fl_machine.specs.Taking.{IsFed, HasField, Grows, IsRunOf, AreWithin, inner_loop, after_bytes}
-use Rattle.fl_machine.proofs.Intakes.{here_of, Turned, turned_inner, run_again, run_field, run_turn, first_left}
+use Rattle.fl_machine.proofs.Intakes.{here_of, Turned, turned_inner, run_again, run_field, run_turn, first_left, behind_more}
 use Rattle.fl_machine.proofs.Eights.{set_again}
 
 -- one more byte behind others, and wider bounds
@@ -114,20 +114,20 @@ span_far (suc n) c f one deep few long more =
     on ∙ (λ i. record c { loops = loops i; count = count i; phase = phase i })
 
 -- the bytes of a fragment from a place on, put on the tape
-pub span : (ops : List Op) (tape tape2 buffer all : List ℕ) (c d : Intake) (f : Field) (used many : ℕ) → HasField ops c f → IsRunOf ops c f → f.width ≡ 1 → many ≢ 0 → many ≤ (inner_loop c).turns
+pub span : (ops : List Op) (before tape tape2 buffer all : List ℕ) (c d : Intake) (f : Field) (used many : ℕ) → HasField ops c f → IsRunOf ops c f → f.width ≡ 1 → many ≢ 0 → many ≤ (inner_loop c).turns
     → c.depth ≤ 8 → length c.loops ≡ 8 → used + many ≤ 56 → length buffer ≡ 64 → AreWithin f.least f.last (take many (drop used buffer)) → d ≡ after_bytes c many
     → take (c.count + many) tape2 ≡ take c.count tape ++ take many (drop used buffer)
-    → IsFed ops (take c.count tape) c all (drop used (take 56 buffer)) → IsFed ops (take d.count tape2) d all (drop (used + many) (take 56 buffer))
-span ops tape tape2 buffer all c d f used many field run one some few deep long inside whole right is put fed =
+    → IsFed ops (before ++ take c.count tape) c all (drop used (take 56 buffer)) → IsFed ops (before ++ take d.count tape2) d all (drop (used + many) (take 56 buffer))
+span ops before tape tape2 buffer all c d f used many field run one some few deep long inside whole right is put fed =
     let bytes = take many (drop used buffer) in
     let rest = drop (used + many) (take 56 buffer) in
     let there : many ≤ length (drop used buffer) = omega (arith, inside, whole, length-drop used buffer) in
     let bytes_long : length bytes ≡ many = length-take-le many (drop used buffer) there in
     let one_more : many ≡ suc (many - 1) = omega (arith, some) in
-    let s = spanned bytes ops (take c.count tape) c f rest field run one (omega (arith, few, bytes_long)) deep long right in
+    let s = spanned bytes ops (before ++ take c.count tape) c f rest field run one (omega (arith, few, bytes_long)) deep long right in
     let last : span_turns (length bytes) c f ≡ d
     = ap (λ (k : ℕ). span_turns k c f) (bytes_long ∙ one_more) ∙ span_far (many - 1) c f one run.deep deep long (omega (arith, few, some)) ∙ ap (after_bytes c) (sym one_more) ∙ sym is in
-    let numbers : take c.count tape ++ bytes ≡ take d.count tape2 = sym put ∙ sym (ap (λ (x : Intake). take x.count tape2) is) in
+    let numbers : (before ++ take c.count tape) ++ bytes ≡ before ++ take d.count tape2 = sym (behind_more before (take c.count tape) (take d.count tape2) bytes (ap (λ (x : Intake). take x.count tape2) is ∙ put)) in
     subst (λ (t : List ℕ). IsFed ops t d all rest) numbers
-    (subst (λ (x : Intake). IsFed ops (take c.count tape ++ bytes) x all rest) last
-    (s.fed all (subst (λ (left : List ℕ). IsFed ops (take c.count tape) c all left) (first_left buffer used many inside) fed)))
+    (subst (λ (x : Intake). IsFed ops ((before ++ take c.count tape) ++ bytes) x all rest) last
+    (s.fed all (subst (λ (left : List ℕ). IsFed ops (before ++ take c.count tape) c all left) (first_left buffer used many inside) fed)))

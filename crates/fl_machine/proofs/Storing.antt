@@ -50,6 +50,7 @@ stand_same plan i n tape tape2 (Inside b) same few (some, x) = (
     bytes = x.bytes;
     long = x.long;
     small = x.small;
+    within = omega (arith, x.within, same.long);
     stands = subst (λ (t : List ℕ). Stands (message_code Receive plan x.message) t b.intake x.bytes) (sym (fewer n b.intake.count tape tape2 same few)) x.stands;
     begins = x.begins;
   },

@@ -6,12 +6,13 @@ pub mod Rounds
 pub mod Laws
 pub mod Faults
 -- Working files: what runs store as the first group sees it (`Cursors`, `Taking`, `Runs`,
--- `Reassembled`, `Tapes`, `Places`), how a fragment is filled, and code without loops.
+-- `Reassembled`, `Rooms`, `Places`, `Kept`), how a fragment is filled, and code without loops.
 pub mod Cursors
 pub mod Taking
 pub mod Runs
 pub mod Reassembled
 pub mod Filling
 pub mod Plain
-pub mod Tapes
+pub mod Rooms
 pub mod Places
+pub mod Kept

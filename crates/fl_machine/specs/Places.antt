@@ -1,50 +1,51 @@
 -- Working file: what is stored of calls that are put together again at many places.
 use Rattle.std.specs.Prelude.{◌≡◌, ℕ, List, [], ◌∷◌, slice_get, Option, Some, None}
+use Rattle.fl_base.specs.declared.fragment.Frag.{Frag}
 use Rattle.fl_compile.specs.Programs.{TheProgram, program_of}
-use Rattle.fl_machine.specs.Receiving.{HoldsTapes}
+use Rattle.fl_machine.specs.Receiving.{HoldsParts}
 use Rattle.fl_machine.specs.Reassembling.{TheReassembly, IsUnderWay, reassembly_on}
-use Rattle.fl_machine.specs.Tapes.{TheTape, IsTapes, tapes_of}
+use Rattle.fl_machine.specs.Rooms.{TheRoom, IsRooms, rooms_of}
 use Rattle.fl_machine.specs.declared.recv.Begun.{Begun}
 use Rattle.fl_machine.specs.declared.reassembly.Place.{Place}
 use Rattle.fl_machine.specs.declared.reassemblies.Places.{Places}
 
--- the numbers of a tape; none where it isn't there
-abbrev pub numbers_of : Option (List ℕ) → List ℕ
-numbers_of None = []
-numbers_of (Some numbers) = numbers
+-- the fragments of a room; none where it isn't there
+abbrev pub frags_in : Option (List Frag) → List Frag
+frags_in None = []
+frags_in (Some frags) = frags
 
-abbrev pub reassembly_at : Place → TheTape → TheReassembly
-reassembly_at p t = reassembly_on p.program (numbers_of t.numbers) p.begun
+abbrev pub reassembly_at : Place → TheRoom → TheReassembly
+reassembly_at p t = reassembly_on p.program (frags_in t.frags) p.begun
 
--- of each place what it stores, with its tape
-abbrev pub joined : List Place → List TheTape → List TheReassembly
+-- of each place what it stores, with its room
+abbrev pub joined : List Place → List TheRoom → List TheReassembly
 joined [] ts = []
 joined (p ∷ ps) [] = []
 joined (p ∷ ps) (t ∷ ts) = reassembly_at p t ∷ joined ps ts
 
 abbrev pub reassemblies : Places → List TheReassembly
-reassemblies s = joined s.places.items (tapes_of s.tapes)
+reassemblies s = joined s.places.items (rooms_of s.rooms)
 
--- the numbers of a call under way are on its tape, which is there then
-abbrev pub StandsOn : TheProgram → Option (List ℕ) → Option Begun → Type 0
+-- the fragments of a call under way are in its room, which is there then
+abbrev pub StandsOn : TheProgram → Option (List Frag) → Option Begun → Type 0
 StandsOn p None begun = begun ≡ None
-StandsOn p (Some tape) begun = IsUnderWay p tape begun
+StandsOn p (Some room) begun = IsUnderWay p room begun
 
--- a tape has room for each call's numbers
-pub record IsPlace (p : Place) (t : TheTape) : Type 0 where
-  pub holds : HoldsTapes (program_of p.program).plan (program_of p.program).interface t.size
-  pub stands : StandsOn (program_of p.program) t.numbers p.begun
+-- a room holds each call's fragments
+pub record IsPlace (p : Place) (t : TheRoom) : Type 0 where
+  pub holds : HoldsParts (program_of p.program).plan (program_of p.program).interface t.size
+  pub stands : StandsOn (program_of p.program) t.frags p.begun
 
--- each place has its tape
-abbrev pub AreJoined : List Place → List TheTape → Type 0
+-- each place has its room
+abbrev pub AreJoined : List Place → List TheRoom → Type 0
 AreJoined [] [] = Unit {0}
 AreJoined [] (t ∷ ts) = ⊥
 AreJoined (p ∷ ps) [] = ⊥
 AreJoined (p ∷ ps) (t ∷ ts) = IsPlace p t × AreJoined ps ts
 
 pub record ArePlaces (s : Places) : Type 0 where
-  pub tapes : IsTapes s.tapes
-  pub joined : AreJoined s.places.items (tapes_of s.tapes)
+  pub rooms : IsRooms s.rooms
+  pub joined : AreJoined s.places.items (rooms_of s.rooms)
 
 -- no call is under way at a place
 pub record IsBetween (s : Places) (place : ℕ) : Type 0 where

@@ -1,6 +1,6 @@
 -- Calls that are put together again: what a reassembly has taken of the call under way, and what taking one fragment more
 -- comes to.
-use Rattle.std.specs.Prelude.{◌≡◌, ℕ, true, List, [], ◌∷◌, ◌++◌, slice_get, slice_set, Option, Some, None, Result, Ok, Err}
+use Rattle.std.specs.Prelude.{◌≡◌, ℕ, ◌≤◌, true, List, [], ◌∷◌, ◌++◌, length, take, slice_get, slice_set, Option, Some, None, Result, Ok, Err}
 use Rattle.fl_base.specs.declared.fragment.Frag.{Frag}
 use Rattle.fl_base.specs.Control.{bare}
 use Rattle.fl_interface.specs.Interface.{TheInterface}
@@ -10,9 +10,9 @@ use Rattle.fl_value.specs.Fits.{fits_of}
 use Rattle.fl_wire.specs.Reading.{Means, IsPart}
 use Rattle.fl_compile.specs.declared.program.Program.{Program}
 use Rattle.fl_compile.specs.Programs.{TheProgram, program_of}
-use Rattle.fl_machine.specs.Receiving.{IsRefused, StandsIn, parts_in}
+use Rattle.fl_machine.specs.Receiving.{IsRefused}
+use Rattle.fl_machine.specs.Kept.{IsKeptIn}
 use Rattle.fl_machine.specs.declared.recv.Begun.{Begun}
-use Rattle.fl_machine.specs.declared.recv.Stand.TheVariants.{Inside as UnderWay}
 use Rattle.fl_machine.specs.declared.reassembly.Taken.{Taken}
 use Rattle.fl_machine.specs.declared.reassembly.Taken.TheVariants.{Part, Whole}
 use Rattle.fl_machine.specs.declared.reassembly.TakeFault.{TakeFault}
@@ -63,14 +63,15 @@ pub record ChangesPlace (before : List TheReassembly) (place : ℕ) (Event : The
 
 -- ---- what is stored
 
-abbrev pub parts_under : TheProgram → List ℕ → Option Begun → List Frag
-parts_under p tape None = []
-parts_under p tape (Some b) = parts_in p tape b
+-- the fragments of a call under way are the first of its room
+abbrev pub parts_under : List Frag → Option Begun → List Frag
+parts_under room None = []
+parts_under room (Some b) = take b.fed room
 
-abbrev pub IsUnderWay : TheProgram → List ℕ → Option Begun → Type 0
-IsUnderWay p tape None = Unit {0}
-IsUnderWay p tape (Some b) = StandsIn p tape (UnderWay b)
+abbrev pub IsUnderWay : TheProgram → List Frag → Option Begun → Type 0
+IsUnderWay p room None = Unit {0}
+IsUnderWay p room (Some b) = (b.fed ≤ length room) × IsKeptIn p (take b.fed room) b
 
--- a program, and the fragments of a call under way whose numbers lie on a tape
-abbrev pub reassembly_on : Program → List ℕ → Option Begun → TheReassembly
-reassembly_on program tape begun = record { program = program; parts = parts_under (program_of program) tape begun }
+-- a program, and the fragments of a call under way that lie in a room
+abbrev pub reassembly_on : Program → List Frag → Option Begun → TheReassembly
+reassembly_on program room begun = record { program = program; parts = parts_under room begun }

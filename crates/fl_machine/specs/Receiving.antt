@@ -11,6 +11,7 @@ use Rattle.fl_value.specs.Value.{TheCall}
 use Rattle.fl_value.specs.Fits.{fits_of}
 use Rattle.fl_value.specs.Tape.{tape_of}
 use Rattle.fl_layout.specs.Layouts.{tape_length}
+use Rattle.fl_layout.specs.Places.{count}
 use Rattle.fl_wire.specs.Reading.{Means, IsPart, IsWrong}
 use Rattle.fl_wire.specs.Wrong.{HasFault}
 use Rattle.fl_wire.specs.declared.fault.WireFault.{WireFault}
@@ -154,6 +155,10 @@ Undoes r s = s ≡ undone r r.before
 abbrev pub HoldsTapes : PlanNo → TheInterface → ℕ → Type 0
 HoldsTapes plan i capacity = (c : TheCall) → fits_of i c ≡ true → tape_length plan i c ≤ capacity
 
+-- a call has no more fragments than so many
+abbrev pub HoldsParts : PlanNo → TheInterface → ℕ → Type 0
+HoldsParts plan i capacity = (c : TheCall) → fits_of i c ≡ true → count plan i c ≤ capacity
+
 -- a tape of so many places has room for a fragment's numbers behind so many: for each call's, or for one a byte
 abbrev pub HasPlaces : TheProgram → ℕ → ℕ → Type 0
 HasPlaces p count places = HoldsTapes p.plan p.interface places ⊎ (count + 56 ≤ places)
@@ -165,6 +170,7 @@ pub record IsBegun (plan : PlanNo) (i : TheInterface) (tape : List ℕ) (b : Beg
   pub bytes : List ℕ
   pub long : length bytes ≡ 56 * b.fed
   pub small : (p : ℕ) → slice_index bytes p < 256
+  pub within : b.intake.count ≤ length tape
   pub stands : Stands (message_code Receive plan message) (take b.intake.count tape) b.intake bytes
   pub begins : 0 < b.fed → BeginsPayload (message_block Receive plan message) bytes
 

@@ -55,23 +55,22 @@ pub record IsAt (ops : List Op) (taken : List ℕ) (c : Intake) (bytes : List �
 -- a run of receive code stands after these bytes, having taken these numbers from them
 pub record Stands (ops : List Op) (taken : List ℕ) (c : Intake) (bytes : List ℕ) : Type 0 where
   pub at : IsAt ops taken c bytes
-  pub long : length taken ≡ c.count
   pub shows : Follows (length bytes) bytes (bytes_given (block_of ops) (so_far taken c))
 
 -- what the words of a fragment come to, behind the bytes where a run stands: the run goes on behind them, and they are some
--- of the first bytes of a payload
+-- of the first bytes of a payload. Of the numbers taken only the last lie on the tape, behind those before
 abbrev pub TakesPart : List Op → List ℕ → Intake → List ℕ → List ℕ → Intake → Type 0
-TakesPart ops tape c words after d = (bytes : List ℕ) → Stands ops (take c.count tape) c bytes
-    → Stands ops (take d.count after) d (bytes ++ words_bytes words) × BeginsPayload (block_of ops) (bytes ++ words_bytes words)
+TakesPart ops tape c words after d = (before bytes : List ℕ) → Stands ops (before ++ take c.count tape) c bytes
+    → Stands ops (before ++ take d.count after) d (bytes ++ words_bytes words) × BeginsPayload (block_of ops) (bytes ++ words_bytes words)
 
 -- they are a whole payload, with these numbers
 abbrev pub TakesWhole : List Op → List ℕ → Intake → List ℕ → List ℕ → Type 0
-TakesWhole ops tape c words taken = (bytes : List ℕ) → Stands ops (take c.count tape) c bytes
-    → IsPayload (block_of ops) (bytes ++ words_bytes words) taken
+TakesWhole ops tape c words taken = (before bytes : List ℕ) → Stands ops (before ++ take c.count tape) c bytes
+    → IsPayload (block_of ops) (bytes ++ words_bytes words) (before ++ taken)
 
 -- no payload begins so
 abbrev pub TakesWrong : List Op → List ℕ → Intake → List ℕ → Mark → Type 0
-TakesWrong ops tape c words mark = (bytes : List ℕ) → Stands ops (take c.count tape) c bytes
+TakesWrong ops tape c words mark = (before bytes : List ℕ) → Stands ops (before ++ take c.count tape) c bytes
     → LeavesPayloads (block_of ops) (bytes ++ words_bytes words) mark
 
 -- a run stands after some bytes, having taken these numbers, and others are still to be taken
@@ -84,9 +83,9 @@ pub record IsFed (ops : List Op) (taken : List ℕ) (c : Intake) (all left : Lis
 abbrev pub bytes_left : List ℕ → ℕ → List ℕ
 bytes_left buffer used = drop used (take 56 buffer)
 
--- a run whose numbers are the first of a tape, fed up to a place of a fragment
-abbrev pub IsFedBy : List Op → List ℕ → Intake → List ℕ → List ℕ → ℕ → Type 0
-IsFedBy ops tape c all buffer used = IsFed ops (take c.count tape) c all (bytes_left buffer used)
+-- a run whose numbers are those taken before and then the first of a tape, fed up to a place of a fragment
+abbrev pub IsFedBy : List Op → List ℕ → List ℕ → Intake → List ℕ → List ℕ → ℕ → Type 0
+IsFedBy ops before tape c all buffer used = IsFed ops (before ++ take c.count tape) c all (bytes_left buffer used)
 
 -- a tape of so many places has room, behind so many numbers, for those of so many bytes: it has room for those of each payload,
 -- or for one a byte

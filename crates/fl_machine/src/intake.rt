@@ -604,7 +604,8 @@ impl Intake {
         requires run { IsRunOf ops.now self.old field }
         requires stance { IsTaking ops.now self.old }
         requires count { self.old.count ≤ length tape.old }
-        ensures fed { (all : List ℕ) → IsFedBy ops.now tape.old self.old all buffer.now used → IsFedBy ops.now tape.new self.new all buffer.now result }
+        ensures fed { (before all : List ℕ) → IsFedBy ops.now before tape.old self.old all buffer.now used
+            → IsFedBy ops.now before tape.new self.new all buffer.now result }
         ensures end { (used ≤ result) × (result ≤ 56) }
         ensures field { HasField ops.now self.new field }
         ensures run { IsRunOf ops.now self.new field }
@@ -638,10 +639,11 @@ impl Intake {
         requires room { used < 56 }
         requires settled { IsAtField ops.now self.old }
         requires field { HasField ops.now self.old field }
-        requires fed { (all : List ℕ) × IsFedBy ops.now tape.old self.old all buffer.now used }
+        requires fed { (before all : List ℕ) × IsFedBy ops.now before tape.old self.old all buffer.now used }
         requires tape { HasRoom ops.now self.old.count (56 - used) (length tape.old) }
         requires count { self.old.count ≤ length tape.old }
-        ensures fed { (all : List ℕ) → IsFedBy ops.now tape.old self.old all buffer.now used → IsFedBy ops.now tape.new self.new all buffer.now result }
+        ensures fed { (before all : List ℕ) → IsFedBy ops.now before tape.old self.old all buffer.now used
+            → IsFedBy ops.now before tape.new self.new all buffer.now result }
         ensures end { (used ≤ result) × (result ≤ 56) }
         ensures settled { IsAtField ops.now self.new }
         ensures field { HasField ops.now self.new field }
@@ -679,12 +681,12 @@ impl Intake {
         requires room { used < 56 }
         requires settled { IsAtField ops.now self.old }
         requires field { HasField ops.now self.old field }
-        requires fed { (all : List ℕ) × IsFedBy ops.now tape.old self.old all buffer.now used }
+        requires fed { (before all : List ℕ) × IsFedBy ops.now before tape.old self.old all buffer.now used }
         requires tape { HasRoom ops.now self.old.count (56 - used) (length tape.old) }
         requires count { self.old.count ≤ length tape.old }
-        ensures fed { IfOk result (λ end. (all : List ℕ) → IsFedBy ops.now tape.old self.old all buffer.now used
-            → IsFedBy ops.now tape.new self.new all buffer.now end) }
-        ensures wrong { IfErr result (λ mark. (all : List ℕ) → IsFedBy ops.now tape.old self.old all buffer.now used
+        ensures fed { IfOk result (λ end. (before all : List ℕ) → IsFedBy ops.now before tape.old self.old all buffer.now used
+            → IsFedBy ops.now before tape.new self.new all buffer.now end) }
+        ensures wrong { IfErr result (λ mark. (before all : List ℕ) → IsFedBy ops.now before tape.old self.old all buffer.now used
             → LeavesPayloads (block_of ops.now) all mark) }
         ensures end { IfOk result (λ end. (used < end) × (end ≤ 56)) }
         ensures settled { IfOk result (λ end. IsAtField ops.now self.new) }
@@ -724,12 +726,12 @@ impl Intake {
         requires room { used < 56 }
         requires settled { IsAtField ops.now self.old }
         requires field { HasField ops.now self.old field }
-        requires fed { (all : List ℕ) × IsFedBy ops.now tape.old self.old all buffer.now used }
+        requires fed { (before all : List ℕ) × IsFedBy ops.now before tape.old self.old all buffer.now used }
         requires tape { HasRoom ops.now self.old.count (56 - used) (length tape.old) }
         requires count { self.old.count ≤ length tape.old }
-        ensures fed { IfOk result (λ end. (all : List ℕ) → IsFedBy ops.now tape.old self.old all buffer.now used
-            → IsFedBy ops.now tape.new self.new all buffer.now end) }
-        ensures wrong { IfErr result (λ mark. (all : List ℕ) → IsFedBy ops.now tape.old self.old all buffer.now used
+        ensures fed { IfOk result (λ end. (before all : List ℕ) → IsFedBy ops.now before tape.old self.old all buffer.now used
+            → IsFedBy ops.now before tape.new self.new all buffer.now end) }
+        ensures wrong { IfErr result (λ mark. (before all : List ℕ) → IsFedBy ops.now before tape.old self.old all buffer.now used
             → LeavesPayloads (block_of ops.now) all mark) }
         ensures end { IfOk result (λ end. (used < end) × (end ≤ 56)) }
         ensures settled { IfOk result (λ end. IsAtField ops.now self.new) }
@@ -766,7 +768,8 @@ impl Intake {
         words: &[u64; 7],
     ) -> Result<Fed, Mark>
         requires code { IsCode receive ops.now (block_of ops.now) }
-        requires stands { (bytes : List ℕ) × Stands ops.now (take self.old.count tape.old) self.old bytes }
+        requires stands { (before bytes : List ℕ) × Stands ops.now (before ++ take self.old.count tape.old) self.old bytes }
+        requires count { self.old.count ≤ length tape.old }
         requires room { HasRoom ops.now self.old.count 56 (length tape.old) }
         ensures part { IfOk result (λ fed. fed ≡ part → TakesPart ops.now tape.old self.old words.now tape.new self.new) }
         ensures whole { IfOk result (λ fed. fed ≡ whole → TakesWhole ops.now tape.old self.old words.now (take self.new.count tape.new)) }

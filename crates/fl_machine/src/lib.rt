@@ -11,9 +11,9 @@
 //! - `intake.rt`: where a run of receive code stands, and how it takes bytes
 //! - `plain.rt`: numbers that lie in one fragment, taken outside loops: those of a call of one fragment, and those that others begin with
 //! - `recv.rt`: `RecvRun`
-//! - `reassembly.rt`: what is taken of a call on a tape, which gives calls of what it takes and needs no way back
+//! - `reassembly.rt`: what is taken of a call under way: its fragments are kept, and read once they are all there
 //! - `reassemblies.rt`: `Reassemblies`, calls put together at many places
-//! - `tapes.rt`: tapes of numbers at many places, in one block of memory
+//! - `rooms.rt`: rooms for the fragments of calls under way at many places, in one block of memory
 //! - `law.rt`: what runs of the compiler's code give and take
 #![tactic(auto)]
 
@@ -24,8 +24,8 @@ mod plain;
 mod reassemblies;
 mod reassembly;
 mod recv;
+mod rooms;
 mod send;
-mod tapes;
 
 pub use cursor::{Cursor, Loop};
 pub use intake::{Fed, Intake};

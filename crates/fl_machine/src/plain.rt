@@ -161,10 +161,11 @@ impl Intake {
     ) -> Option<(usize, usize)>
         requires inside { used ≤ 56 }
         requires count { count ≤ length tape.old }
-        requires fed { (all : List ℕ) × IsFed ops.now (take count tape.old) (plain_behind self.now place count used) all (bytes_left buffer.now used) }
-        ensures fed { IfSome result (λ r. (all : List ℕ)
-            → IsFed ops.now (take count tape.old) (plain_behind self.now place count used) all (bytes_left buffer.now used)
-            → IsFed ops.now (take r.0 tape.new) (plain_behind self.now (place + 1) r.0 r.1) all (bytes_left buffer.now r.1)) }
+        requires fed { (before all : List ℕ)
+            × IsFed ops.now (before ++ take count tape.old) (plain_behind self.now place count used) all (bytes_left buffer.now used) }
+        ensures fed { IfSome result (λ r. (before all : List ℕ)
+            → IsFed ops.now (before ++ take count tape.old) (plain_behind self.now place count used) all (bytes_left buffer.now used)
+            → IsFed ops.now (before ++ take r.0 tape.new) (plain_behind self.now (place + 1) r.0 r.1) all (bytes_left buffer.now r.1)) }
         ensures end { IfSome result (λ r. (used < r.1) × (r.1 ≤ 56)) }
         ensures more { IfSome result (λ r. (count ≤ r.0) × (r.0 + used ≤ count + r.1) × (r.0 ≤ length tape.new)) }
         ensures place { IfSome result (λ r. place + 1 < 2 ^ 64) }
@@ -189,9 +190,10 @@ impl Intake {
     #[inline(always)]
     pub(crate) fn take_numbers(&mut self, ops: &[Op], tape: &mut [u64], buffer: &[u8; 64]) -> usize
         requires settled { IsAtField ops.now self.old }
-        requires fed { (all : List ℕ) × IsFedBy ops.now tape.old self.old all buffer.now 0 }
+        requires fed { (before all : List ℕ) × IsFedBy ops.now before tape.old self.old all buffer.now 0 }
         requires count { self.old.count ≤ length tape.old }
-        ensures fed { (all : List ℕ) → IsFedBy ops.now tape.old self.old all buffer.now 0 → IsFedBy ops.now tape.new self.new all buffer.now result }
+        ensures fed { (before all : List ℕ) → IsFedBy ops.now before tape.old self.old all buffer.now 0
+            → IsFedBy ops.now before tape.new self.new all buffer.now result }
         ensures end { result ≤ 56 }
         ensures settled { IsAtField ops.now self.new }
         ensures kept { take self.old.count tape.new ≡ take self.old.count tape.old }

@@ -2,25 +2,25 @@
 
 ghost use Rattle.std.specs.Prelude.{◌≡◌, ◌<◌, ◌++◌, ◌∷◌, [], length, List, OnOk, OnErr};
 ghost use Rattle.fl_compile.specs.Programs.{program_of};
-ghost use Rattle.fl_machine.specs.Receiving.{HoldsTapes};
+ghost use Rattle.fl_machine.specs.Receiving.{HoldsParts};
 ghost use Rattle.fl_machine.specs.Reassembling.{TheReassembly, Takes, ChangesPlace, new_reassembly, without_parts};
 ghost use Rattle.fl_machine.specs.Places.{ArePlaces, IsBetween, IsInside, reassemblies};
-ghost use Rattle.fl_machine.specs.Tapes.{IsThere, tapes_of};
+ghost use Rattle.fl_machine.specs.Rooms.{IsThere, rooms_of};
 
 use crate::reassembly::{Place, TakeFault, Taken, has_few_args, tell};
 use crate::recv::begin_plain;
-use crate::tapes::Tapes;
+use crate::rooms::Rooms;
 use fl_base::Frag;
 use fl_compile::Program;
 use std::alloc::{AllocError, Global};
 use std::marker::Model;
 
-// What is stored at all places. A place's tape is there once a call came that wants one: most calls of one fragment don't.
+// What is stored at all places. A place's room is there once a call came that wants one: most calls of one fragment don't.
 #[derive(Drop)]
 pub(crate) struct Places {
     alloc: Global,
     places: Vec<Place>,
-    tapes: Tapes,
+    rooms: Rooms,
 }
 
 /// Calls that are put together again from their fragments, at many places: each has a program, and of its call under way the
@@ -50,13 +50,13 @@ impl Places {
     // One place more.
     fn add(&mut self, program: Program, capacity: usize) -> Result<(), AllocError>
         requires are { ArePlaces self.old }
-        requires room { HoldsTapes (program_of program).plan (program_of program).interface capacity }
+        requires room { HoldsParts (program_of program).plan (program_of program).interface capacity }
         ensures are { ArePlaces self.new }
         ensures added { OnOk result (reassemblies self.new ≡ reassemblies self.old ++ new_reassembly program ∷ []) }
         ensures kept { OnErr result (reassemblies self.new ≡ reassemblies self.old) }
     {
         self.places.reserve(1)?;
-        self.tapes.add(capacity)?;
+        self.rooms.add(capacity)?;
         self.places.push_reserved(Place {
             program,
             begun: None,
@@ -72,20 +72,20 @@ impl Places {
         ensures before { (places : List TheReassembly) (last : TheReassembly) → reassemblies self.old ≡ places ++ last ∷ [] → reassemblies self.new ≡ places }
     {
         self.places.pop();
-        self.tapes.take_back();
+        self.rooms.take_back();
     }
 
-    // Takes a fragment at a place whose tape is there.
+    // Takes a fragment at a place whose room is there.
     fn take_there(&mut self, place: usize, frag: &Frag) -> Result<Taken, TakeFault>
         requires are { ArePlaces self.old }
-        requires there { IsThere (tapes_of self.old.tapes) place }
+        requires there { IsThere (rooms_of self.old.rooms) place }
         ensures are { ArePlaces self.new }
         ensures takes { ChangesPlace (reassemblies self.old) place (λ s t. Takes s frag.now result t) (reassemblies self.new) }
     {
         let alloc = self.alloc;
-        let (start, end) = self.tapes.bounds(place);
+        let (start, end) = self.rooms.bounds(place);
         let at = &mut self.places[place];
-        at.take_on(alloc, &mut self.tapes.block[start..end], frag)
+        at.take_on(alloc, &mut self.rooms.block[start..end], frag)
     }
 
     // Takes a fragment of the call under way. Out of line, so that a call of one fragment has nothing of it.
@@ -99,7 +99,7 @@ impl Places {
         self.take_there(place, frag)
     }
 
-    // Takes a fragment between two calls, on the place's tape. Out of line, so that a call of one fragment has nothing of it.
+    // Takes a fragment between two calls, in the place's room. Out of line, so that a call of one fragment has nothing of it.
     #[inline(never)]
     fn take_begun(&mut self, place: usize, frag: &Frag) -> Result<Taken, TakeFault>
         requires are { ArePlaces self.old }
@@ -107,12 +107,12 @@ impl Places {
         ensures are { ArePlaces self.new }
         ensures takes { ChangesPlace (reassemblies self.old) place (λ s t. Takes s frag.now result t) (reassemblies self.new) }
     {
-        self.tapes.open(place);
+        self.rooms.open(place);
         self.take_there(place, frag)
     }
 
     // Takes a fragment between two calls. Where its call has few arguments it is mostly all of it, and there are no loops: then it is
-    // read without the tape, which lies in memory that is seldom touched.
+    // read without the room, which lies in memory that is seldom touched.
     #[inline(always)]
     fn take_first(&mut self, place: usize, frag: &Frag) -> Result<Taken, TakeFault>
         requires are { ArePlaces self.old }
@@ -167,7 +167,7 @@ impl Reassemblies {
             stored: Places {
                 alloc,
                 places: Vec::new(alloc),
-                tapes: Tapes::new(alloc),
+                rooms: Rooms::new(alloc),
             },
         }
     }
@@ -179,14 +179,14 @@ impl Reassemblies {
         self.stored.places.len()
     }
 
-    /// One place more, between two calls of a program. `capacity` is how many numbers a tape may have: at least as many as the
-    /// tape of any call (`fl_layout` tells the greatest of each message). Of the memory that is taken for them nothing is touched
+    /// One place more, between two calls of a program. `capacity` is how many fragments a call may have: at least as many as
+    /// any call (`fl_layout` tells the greatest payload of each message). Of the memory that is taken for them nothing is touched
     /// before a call comes that has several fragments, many arguments or loops.
     ///
     /// # Errors
     /// Out of memory (E99), and nothing else. Nothing changes then.
     pub fn add(&mut self, program: Program, capacity: usize) -> Result<(), AllocError>
-        requires room { HoldsTapes (program_of program).plan (program_of program).interface capacity }
+        requires room { HoldsParts (program_of program).plan (program_of program).interface capacity }
         ensures added { OnOk result (self.new ≡ self.old ++ new_reassembly program ∷ []) }
         ensures kept { OnErr result (self.new ≡ self.old) }
     {

@@ -1,19 +1,22 @@
 //! A program's calls that are put together again from their fragments, one after another.
 
-ghost use Rattle.std.specs.Prelude.{◌≡◌, [], length, IsSome, None, IfOk, IfErr};
+ghost use Rattle.std.specs.Prelude.{◌≡◌, ◌<◌, ◌≤◌, ◌++◌, ◌∷◌, [], length, IsSome, Some, None, IfOk};
+ghost use Rattle.fl_base.specs.Control.{bare};
+ghost use Rattle.fl_value.specs.Value.{TheCall, call_of};
 ghost use Rattle.fl_compile.specs.Programs.{program_of};
 ghost use Rattle.fl_machine.specs.Faults.{take_number};
-ghost use Rattle.fl_machine.specs.Receiving.{HoldsTapes, StandsIn, AddsUpTo, IsRefusedIn, parts_in, stand_after};
-ghost use Rattle.fl_machine.specs.declared.recv.Stand.TheVariants.{Inside as inside, After as after};
+ghost use Rattle.fl_machine.specs.Receiving.{HoldsParts, StandsIn, AddsUpTo};
+ghost use Rattle.fl_machine.specs.Kept.{IsKeptIn, IsPartIn, EndsCallIn, HasFrags};
+ghost use Rattle.fl_machine.specs.declared.recv.Stand.TheVariants.{After as after};
 ghost use Rattle.fl_machine.specs.Reassembling.{Takes, IsUnderWay, new_reassembly, parts_under, reassembly_on};
 
 use crate::intake::Fed;
-use crate::recv::{Begun, Ended, begin, go_on, whole};
+use crate::recv::{Begun, Ended, begin, look_on, whole};
 use fl_base::Frag;
 use fl_compile::Program;
 use fl_value::Call;
-use fl_wire::WireFault;
-use std::alloc::Global;
+use fl_wire::{WireFault, read_call_frags};
+use std::alloc::{AllocError, Global};
 
 /// What taking a fragment came to.
 #[derive(Debug, Drop)]
@@ -45,7 +48,7 @@ impl TakeFault {
     }
 }
 
-// A program, and of its call under way what isn't on the tape.
+// A program, and of its call under way what isn't in the room.
 #[derive(Drop)]
 pub(crate) struct Place {
     pub(crate) program: Program,
@@ -81,122 +84,152 @@ pub(crate) fn tell(
     }
 }
 
-// A call whose last fragment came to this: one that goes on is under way then, and one that is whole is told.
+// The fragment with epoch 0 and nothing told.
 #[inline(always)]
-fn keep(
-    alloc: Global,
-    program: &Program,
-    under: &mut Option<Begun>,
-    begun: &Begun,
-    tape: &[u64],
-    frag: &Frag,
-    fed: Fed,
-) -> Result<Taken, TakeFault>
-    requires under_way { IsUnderWay (program_of program.now) tape.now under.old }
-    requires stands { StandsIn (program_of program.now) tape.now (stand_after begun.now fed) }
-    requires adds { AddsUpTo (program_of program.now) (parts_under (program_of program.now) tape.now under.old) frag.now tape.now (stand_after begun.now fed) }
-    ensures under_way { IsUnderWay (program_of program.now) tape.now under.new }
-    ensures takes { Takes (reassembly_on program.now tape.now under.old) frag.now result (reassembly_on program.now tape.now under.new) }
+fn without_stamp(frag: &Frag) -> Frag
+    ensures bare { result ≡ bare frag.now }
 {
-    let _plan = program.plan();
-    match fed {
-        Fed::Part => {
-            *under = Some(*begun);
-            Ok(Taken::Part)
-        }
-        Fed::Whole => match whole(alloc, program, begun.ended(), tape) {
-            Ok(call) => Ok(Taken::Whole(call)),
-            Err(_) => Err(TakeFault::Memory),
-        },
+    Frag {
+        words: frag.words,
+        control: 2 * (frag.control / 2 % 140_737_488_355_328),
     }
 }
 
-// Takes a fragment between two calls, on a tape.
+// Keeps a fragment behind which a call goes on.
+#[inline(always)]
+fn keep(
+    program: &Program,
+    under: &mut Option<Begun>,
+    begun: &Begun,
+    room: &mut [Frag],
+    frag: &Frag,
+) -> Result<Taken, TakeFault>
+    requires under_way { IsUnderWay (program_of program.now) room.old under.old }
+    requires part { IsPartIn (program_of program.now) (parts_under room.old under.old ++ frag.now ∷ []) }
+    requires kept { IsKeptIn (program_of program.now) (parts_under room.old under.old ++ bare frag.now ∷ []) begun.now }
+    requires some { 0 < begun.now.fed }
+    requires inside { begun.now.fed ≤ length room.old }
+    ensures under_way { IsUnderWay (program_of program.now) room.new under.new }
+    ensures takes { Takes (reassembly_on program.now room.old under.old) frag.now result (reassembly_on program.now room.new under.new) }
+{
+    let _plan = program.plan();
+    let last = begun.fed() - 1;
+    room[last] = without_stamp(frag);
+    *under = Some(*begun);
+    Ok(Taken::Part)
+}
+
+// The call whose fragments these are.
+#[inline(always)]
+fn read(alloc: Global, program: &Program, frags: &[Frag]) -> Result<Call, AllocError>
+    requires whole { (call : TheCall) × HasFrags (program_of program.now) call frags.now }
+    ensures call { IfOk result (λ call. (c : TheCall) → HasFrags (program_of program.now) c frags.now → call_of call ≡ c) }
+{
+    let interface = program.interface();
+    match read_call_frags(alloc, interface, program.plan(), frags)? {
+        Some(call) => Ok(call),
+        None => unreachable!(),
+    }
+}
+
+// Takes the last fragment of the call under way.
+#[inline(always)]
+fn take_last(
+    alloc: Global,
+    program: &Program,
+    begun: &Begun,
+    room: &mut [Frag],
+    frag: &Frag,
+) -> Result<Taken, TakeFault>
+    requires under_way { IsUnderWay (program_of program.now) room.old (Some begun.now) }
+    requires ends { EndsCallIn (program_of program.now) (parts_under room.old (Some begun.now)) frag.now }
+    requires inside { begun.now.fed < length room.old }
+    ensures under_way { IsUnderWay (program_of program.now) room.new (Some begun.now) }
+    ensures takes { Takes (reassembly_on program.now room.old (Some begun.now)) frag.now result
+        (reassembly_on program.now room.new (Some begun.now)) }
+{
+    let _plan = program.plan();
+    let count = begun.fed();
+    room[count] = without_stamp(frag);
+    match read(alloc, program, &room[..count + 1]) {
+        Ok(call) => Ok(Taken::Whole(call)),
+        Err(_) => Err(TakeFault::Memory),
+    }
+}
+
+// Takes a fragment between two calls.
 #[inline(always)]
 fn take_begun(
     alloc: Global,
     program: &Program,
     under: &mut Option<Begun>,
-    tape: &mut [u64],
+    room: &mut [Frag],
     frag: &Frag,
 ) -> Result<Taken, TakeFault>
     requires between { under.old ≡ None }
-    requires holds { HoldsTapes (program_of program.now).plan (program_of program.now).interface (length tape.old) }
-    ensures under_way { IsUnderWay (program_of program.now) tape.new under.new }
-    ensures takes { Takes (reassembly_on program.now tape.old under.old) frag.now result (reassembly_on program.now tape.new under.new) }
+    requires holds { HoldsParts (program_of program.now).plan (program_of program.now).interface (length room.old) }
+    ensures under_way { IsUnderWay (program_of program.now) room.new under.new }
+    ensures takes { Takes (reassembly_on program.now room.old under.old) frag.now result (reassembly_on program.now room.new under.new) }
 {
     let _plan = program.plan();
+    let mut numbers = [0; 56];
     let mut begun = Begun::new();
-    match begin(program, &mut begun, tape, frag) {
-        Ok(fed) => keep(alloc, program, under, &begun, tape, frag, fed),
+    match begin(program, &mut begun, &mut numbers, frag) {
+        Ok(Fed::Part) => {
+            begun.forget();
+            keep(program, under, &begun, room, frag)
+        }
+        Ok(Fed::Whole) => tell(alloc, program, begun.ended(), &numbers, frag),
         Err(fault) => Err(TakeFault::Wire(fault)),
     }
 }
 
-// Takes a fragment of the call under way: its numbers are then on the tape behind the others.
-#[inline(always)]
-fn look_on(
-    program: &Program,
-    begun: &mut Begun,
-    tape: &mut [u64],
-    frag: &Frag,
-) -> Result<Fed, WireFault>
-    requires begun { StandsIn (program_of program.now) tape.old (inside begun.old) }
-    requires holds { HoldsTapes (program_of program.now).plan (program_of program.now).interface (length tape.old) }
-    ensures begun { StandsIn (program_of program.now) tape.new (inside begun.old) }
-    ensures parts { parts_in (program_of program.now) tape.new begun.old ≡ parts_in (program_of program.now) tape.old begun.old }
-    ensures stands { IfOk result (λ fed. StandsIn (program_of program.now) tape.new (stand_after begun.new fed)) }
-    ensures adds { IfOk result (λ fed.
-        AddsUpTo (program_of program.now) (parts_in (program_of program.now) tape.old begun.old) frag.now tape.new (stand_after begun.new fed)) }
-    ensures wrong { IfErr result (λ fault. IsRefusedIn (program_of program.now) (parts_in (program_of program.now) tape.old begun.old) frag.now fault) }
-{
-    go_on(program, begun, tape, frag)
-}
-
-// Takes a fragment of the call under way, on its tape.
+// Takes a fragment of the call under way.
 #[inline(always)]
 fn take_next(
     alloc: Global,
     program: &Program,
     under: &mut Option<Begun>,
-    tape: &mut [u64],
+    room: &mut [Frag],
     frag: &Frag,
 ) -> Result<Taken, TakeFault>
     requires some { IsSome under.old }
-    requires under_way { IsUnderWay (program_of program.now) tape.old under.old }
-    requires holds { HoldsTapes (program_of program.now).plan (program_of program.now).interface (length tape.old) }
-    ensures under_way { IsUnderWay (program_of program.now) tape.new under.new }
-    ensures takes { Takes (reassembly_on program.now tape.old under.old) frag.now result (reassembly_on program.now tape.new under.new) }
+    requires under_way { IsUnderWay (program_of program.now) room.old under.old }
+    requires holds { HoldsParts (program_of program.now).plan (program_of program.now).interface (length room.old) }
+    ensures under_way { IsUnderWay (program_of program.now) room.new under.new }
+    ensures takes { Takes (reassembly_on program.now room.old under.old) frag.now result (reassembly_on program.now room.new under.new) }
 {
     let _plan = program.plan();
-    let Some(mut begun) = *under else {
+    let Some(begun) = *under else {
         unreachable!();
     };
-    match look_on(program, &mut begun, tape, frag) {
-        Ok(fed) => keep(alloc, program, under, &begun, tape, frag, fed),
+    let mut next = begun;
+    match look_on(program, &mut next, frag) {
+        Ok(Fed::Part) => keep(program, under, &next, room, frag),
+        Ok(Fed::Whole) => take_last(alloc, program, &begun, room, frag),
         Err(fault) => Err(TakeFault::Wire(fault)),
     }
 }
 
 impl Place {
-    // Takes a fragment, on the place's tape.
+    // Takes a fragment, in the place's room.
     #[inline(always)]
     pub(crate) fn take_on(
         &mut self,
         alloc: Global,
-        tape: &mut [u64],
+        room: &mut [Frag],
         frag: &Frag,
     ) -> Result<Taken, TakeFault>
-        requires under_way { IsUnderWay (program_of self.old.program) tape.old self.old.begun }
-        requires holds { HoldsTapes (program_of self.old.program).plan (program_of self.old.program).interface (length tape.old) }
+        requires under_way { IsUnderWay (program_of self.old.program) room.old self.old.begun }
+        requires holds { HoldsParts (program_of self.old.program).plan (program_of self.old.program).interface (length room.old) }
         ensures program { self.new.program ≡ self.old.program }
-        ensures under_way { IsUnderWay (program_of self.old.program) tape.new self.new.begun }
-        ensures takes { Takes (reassembly_on self.old.program tape.old self.old.begun) frag.now result
-            (reassembly_on self.old.program tape.new self.new.begun) }
+        ensures under_way { IsUnderWay (program_of self.old.program) room.new self.new.begun }
+        ensures takes { Takes (reassembly_on self.old.program room.old self.old.begun) frag.now result
+            (reassembly_on self.old.program room.new self.new.begun) }
     {
         match self.begun {
-            Some(_) => take_next(alloc, &self.program, &mut self.begun, tape, frag),
-            None => take_begun(alloc, &self.program, &mut self.begun, tape, frag),
+            Some(_) => take_next(alloc, &self.program, &mut self.begun, room, frag),
+            None => take_begun(alloc, &self.program, &mut self.begun, room, frag),
         }
     }
 

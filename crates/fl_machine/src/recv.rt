@@ -1,6 +1,6 @@
 //! Runs of receive code.
 
-ghost use Rattle.std.specs.Prelude.{◌≡◌, ◌≢◌, ◌==◌, ◌≤◌, ◌++◌, ◌∷◌, [], true, take, length, None, IfOk, IfErr, IfSome};
+ghost use Rattle.std.specs.Prelude.{◌≡◌, ◌≢◌, ◌==◌, ◌≤◌, ◌++◌, ◌∷◌, [], true, take, length, List, None, IfOk, IfErr, IfSome};
 ghost use Rattle.fl_base.specs.Control.{message_of, control_word, body};
 ghost use Rattle.fl_value.specs.Value.{call_of};
 ghost use Rattle.fl_value.specs.Fits.{fits_of};
@@ -12,6 +12,7 @@ ghost use Rattle.fl_machine.specs.Receiving.{plan_in, interface_in, fed_by, Adds
 ghost use Rattle.fl_machine.specs.Receiving.{undone, Undoes, Feeds, stored_of, receiving, HoldsTapes, IsBegun, IsStored};
 ghost use Rattle.fl_machine.specs.Receiving.{parts_in, StandsIn, AddsUpTo, HasFaultIn, IsRefusedIn, HasPlaces, MeansWhole};
 ghost use Rattle.fl_machine.specs.Receiving.{IsNew, ended_as, stand_after};
+ghost use Rattle.fl_machine.specs.Kept.{counting, IsKeptIn, GoesOn, Ends, IsFaulty, Refuses};
 ghost use Rattle.fl_machine.specs.declared.recv.Stand.TheVariants.{Inside as inside, After as after};
 
 use crate::intake::{Fed, Intake};
@@ -107,6 +108,22 @@ fn fault_of(mark: Mark) -> WireFault
 }
 
 impl Begun {
+    // How many fragments were fed.
+    #[inline(always)]
+    pub(crate) fn fed(&self) -> usize
+        ensures fed { result ≡ self.now.fed }
+    {
+        self.fed
+    }
+
+    // Forgets the numbers taken, where the fragments are kept.
+    #[inline(always)]
+    pub(crate) fn forget(&mut self)
+        ensures forgets { self.new ≡ counting 0 self.old }
+    {
+        self.intake.count = 0;
+    }
+
     // A call that is to begin.
     #[inline(always)]
     pub(crate) fn new() -> Begun
@@ -165,6 +182,38 @@ impl Begun {
         match self.intake.take_words(code.ops(), tape, &frag.words) {
             Ok(Fed::Part) => {
                 self.fed += 1;
+                Ok(Fed::Part)
+            }
+            Ok(Fed::Whole) => Ok(Fed::Whole),
+            Err(mark) => Err(fault_of(mark)),
+        }
+    }
+
+    // As `take`, but none of its numbers is kept.
+    #[inline(always)]
+    fn look(&mut self, program: &Program, frag: &Frag) -> Result<Fed, WireFault>
+        requires kept { (parts : List Frag) × IsKeptIn (program_of program.now) parts self.old }
+        requires header { (parts : List Frag) → IsKeptIn (program_of program.now) parts self.old
+            → header_fault (program_of program.now).interface parts frag.now ≡ None }
+        requires message { message_of frag.now.control ≡ self.old.msg.0 }
+        requires control { body frag.now.control ≡ control_word (self.old.fed == 0) self.old.msg.0 0 }
+        ensures part { IfOk result (λ fed. fed ≡ Fed.Part → GoesOn (program_of program.now) self.old frag.now self.new) }
+        ensures whole { IfOk result (λ fed. fed ≡ Fed.Whole → Ends (program_of program.now) self.old frag.now) }
+        ensures wrong { IfErr result (λ fault. IsFaulty (program_of program.now) self.old frag.now fault) }
+    {
+        tells_faults();
+        is_line(frag);
+        let Some(code) = program.receive_code(self.msg) else {
+            unreachable!();
+        };
+        let mut numbers = [0; 56];
+        match self
+            .intake
+            .take_words(code.ops(), &mut numbers, &frag.words)
+        {
+            Ok(Fed::Part) => {
+                self.fed += 1;
+                self.intake.count = 0;
                 Ok(Fed::Part)
             }
             Ok(Fed::Whole) => Ok(Fed::Whole),
@@ -242,6 +291,21 @@ pub(crate) fn go_on(
         return Err(fault);
     }
     begun.take(program, tape, frag)
+}
+
+// As `go_on`, but none of the fragment's numbers is kept.
+pub(crate) fn look_on(program: &Program, begun: &mut Begun, frag: &Frag) -> Result<Fed, WireFault>
+    requires kept { (parts : List Frag) × IsKeptIn (program_of program.now) parts begun.old }
+    ensures part { IfOk result (λ fed. fed ≡ Fed.Part → GoesOn (program_of program.now) begun.old frag.now begun.new) }
+    ensures whole { IfOk result (λ fed. fed ≡ Fed.Whole → Ends (program_of program.now) begun.old frag.now) }
+    ensures wrong { IfErr result (λ fault. Refuses (program_of program.now) begun.old frag.now fault) }
+{
+    let _interface = program.interface();
+    let msg = begun.msg;
+    if let Some(fault) = follow_fault(msg, frag) {
+        return Err(fault);
+    }
+    begun.look(program, frag)
 }
 
 // The call of a whole tape.

@@ -2,13 +2,13 @@
 
 ghost use Rattle.std.specs.Prelude.{◌≡◌};
 ghost use Rattle.fl_interface.specs.Interface.{interface_of};
-ghost use Rattle.fl_machine.specs.Receiving.{HoldsTapes};
+ghost use Rattle.fl_machine.specs.Receiving.{HoldsParts, HoldsTapes};
 
 use crate::compile_tests::interface;
 use crate::rows::wrong;
 use fl_base::{Frag, MsgNo};
 use fl_compile::compile;
-use fl_layout::Plans;
+use fl_layout::{Plans, fragment_count};
 use fl_machine::{Fed, Reassemblies, RecvRun, TakeFault, Taken, takes_fragments};
 use fl_value::{Call, PlanNo, print_call};
 use std::alloc::{AllocError, Global};
@@ -65,6 +65,19 @@ fn capacity(plans: &Plans) -> usize
         }
     }
     most
+}
+
+// How many fragments the longest call has.
+fn fragments(plans: &Plans) -> usize
+    ensures enough { HoldsParts plans.now.plan (interface_of plans.now.interface) result }
+{
+    let mut most = 0;
+    for msg in 0..256_u16 {
+        if usize::from(msg) < plans.interface.messages.len() {
+            most = plans.greatest(MsgNo(msg)).max(most);
+        }
+    }
+    fragment_count(most)
 }
 
 // A run of an interface's program; fails only where memory runs out.
@@ -205,7 +218,7 @@ fn add(alloc: Global, calls: &mut Reassemblies, text: &[u8]) -> Result<(), Alloc
         return Err(AllocError);
     };
     let program = compile(alloc, &interface, PlanNo::One)?;
-    let most = capacity(program.plans());
+    let most = fragments(program.plans());
     calls.add(program, most)
 }
 

@@ -16,7 +16,7 @@ pub take-requires-clause-begun : goal.take-requires-clause-begun
 take-requires-clause-begun c =
     let p = c.args.program.now in
     let none : start_fault (interface_of p.compiled.value.plans.interface) c.args.frag.now ≡ None = search rules in
-    none_begun p.plan (interface_of p.compiled.value.plans.interface) c.args.tape.now _ c.args.frag.now p.compiled.value.plans.interface.within p.words none c.msg-begun.ensures refl c.requires.new.stands
+    none_begun p.plan (interface_of p.compiled.value.plans.interface) c.args.tape.now _ c.args.frag.now p.compiled.value.plans.interface.within p.words none c.msg-begun.ensures refl c.requires.new.none c.requires.new.stands
 
 pub take-requires-clause-control : goal.take-requires-clause-control
 take-requires-clause-control c =

@@ -14,6 +14,5 @@ returns-clause-stands c ops code = record {
     bytes_are = refl;
     quiet = λ busy. absurd (busy refl);
   };
-  long = refl;
   shows = record { each = λ p inside. absurd (omega (arith, inside)) };
 }

@@ -5,7 +5,7 @@ use Rattle.fl_machine.specs.Taking.{HasRoom}
 use Rattle.fl_machine.proofs.intake.Intake.take_next.Goals as goal
 
 pub take_field-requires-clause-fed : goal.take_field-requires-clause-fed
-take_field-requires-clause-fed c = let (all, fed) = c.requires.fed in (all, c.take_run-start.ensures.fed all fed)
+take_field-requires-clause-fed c = let (before, all, fed) = c.requires.fed in (before, all, c.take_run-start.ensures.fed before all fed)
 
 pub take_field-requires-clause-tape : goal.take_field-requires-clause-tape
 take_field-requires-clause-tape c =
@@ -15,10 +15,10 @@ take_field-requires-clause-tape c =
     (room_on c.args.ops.now c.args.self.now.count c.take_run-start.new.self.count (56 - c.args.used) (56 - c.take_run-start.result) (length c.args.tape.now) c.requires.tape (omega (arith, pace, end.0, end.1)))
 
 pub returns-clause-fed : goal.returns-clause-fed
-returns-clause-fed c = IfOk-weaker c.take_field.result _ _ (λ end h all fed. h all (c.take_run-start.ensures.fed all fed)) c.take_field.ensures.fed
+returns-clause-fed c = IfOk-weaker c.take_field.result _ _ (λ end h before all fed. h before all (c.take_run-start.ensures.fed before all fed)) c.take_field.ensures.fed
 
 pub returns-clause-wrong : goal.returns-clause-wrong
-returns-clause-wrong c = IfErr-weaker c.take_field.result _ _ (λ mark h all fed. h all (c.take_run-start.ensures.fed all fed)) c.take_field.ensures.wrong
+returns-clause-wrong c = IfErr-weaker c.take_field.result _ _ (λ mark h before all fed. h before all (c.take_run-start.ensures.fed before all fed)) c.take_field.ensures.wrong
 
 pub returns-clause-kept : goal.returns-clause-kept
 returns-clause-kept c =

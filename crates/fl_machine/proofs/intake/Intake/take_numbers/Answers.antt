@@ -1,4 +1,4 @@
-use Rattle.std.proofs.Common.{◌≡◌, ℕ, List, take, refl, sym, ◌∙◌, ap, subst, arith}
+use Rattle.std.proofs.Common.{◌≡◌, ◌++◌, ℕ, List, take, refl, sym, ◌∙◌, ap, subst, arith}
 use Rattle.fl_machine.specs.declared.intake.Intake.{Intake}
 use Rattle.fl_machine.specs.Taking.{IsFed, bytes_left}
 use Rattle.fl_machine.specs.Plain.{plain_behind}
@@ -13,12 +13,12 @@ loop-more-init c = record {
   within = c.requires.count;
   long = refl;
   kept = refl;
-  fed = λ all fed. plain_begin c.args.ops.now (take c.args.self.now.count c.args.tape.now) c.args.self.now all _ fed (omega (arith, c.if-self-ne0.false));
+  fed = λ before all fed. plain_begin c.args.ops.now (before ++ take c.args.self.now.count c.args.tape.now) c.args.self.now all _ fed (omega (arith, c.if-self-ne0.false));
   pace = omega arith;
 }
 
 pub take_number-requires-clause-fed : goal.take_number-requires-clause-fed
-take_number-requires-clause-fed c = let (all, fed) = c.requires.fed in (all, c.loop-more.invariant.fed all fed)
+take_number-requires-clause-fed c = let (before, all, fed) = c.requires.fed in (before, all, c.loop-more.invariant.fed before all fed)
 
 pub loop-more-preserved : goal.loop-more-preserved
 loop-more-preserved c =
@@ -32,20 +32,20 @@ loop-more-preserved c =
       within = e.more.2;
       long = e.long ∙ i.long;
       kept = take_kept c.args.self.now.count c.loop-more.count c.take_number.new.tape c.loop-more.tape i.more e.kept ∙ i.kept;
-      fed = λ all fed. e.fed all (i.fed all fed);
+      fed = λ before all fed. e.fed before all (i.fed before all fed);
       pace = omega (arith, i.pace, pace);
     }
 
 pub settle-requires : goal.settle-requires
-settle-requires c = let (all, fed) = c.requires.fed in (c.loop-more.invariant.fed all fed).at.stance
+settle-requires c = let (before, all, fed) = c.requires.fed in (c.loop-more.invariant.fed before all fed).at.stance
 
 pub returns-clause-fed : goal.returns-clause-fed
-returns-clause-fed c all fed =
+returns-clause-fed c before all fed =
     let same : c.take_number.new.tape ≡ c.loop-more.tape = c.in_default.ensures.none in
-    let here = c.loop-more.invariant.fed all fed in
+    let here = c.loop-more.invariant.fed before all fed in
     let behind = plain_behind c.args.self.now c.loop-more.place c.loop-more.count c.loop-more.used in
     let passes = c.settle.ensures.passes in
     let count : c.settle.new.self.count ≡ c.loop-more.count = ap Intake.count passes.others in
-    let settled = plain_settled c.args.ops.now (take c.loop-more.count c.loop-more.tape) behind c.settle.new.self all (bytes_left c.args.buffer.now c.loop-more.used) here refl refl passes in
-    subst (λ (k : ℕ). IsFed c.args.ops.now (take k c.take_number.new.tape) c.settle.new.self all (bytes_left c.args.buffer.now c.loop-more.used)) (sym count)
-    (subst (λ (t : List ℕ). IsFed c.args.ops.now (take c.loop-more.count t) c.settle.new.self all (bytes_left c.args.buffer.now c.loop-more.used)) (sym same) settled)
+    let settled = plain_settled c.args.ops.now (before ++ take c.loop-more.count c.loop-more.tape) behind c.settle.new.self all (bytes_left c.args.buffer.now c.loop-more.used) here refl refl passes in
+    subst (λ (k : ℕ). IsFed c.args.ops.now (before ++ take k c.take_number.new.tape) c.settle.new.self all (bytes_left c.args.buffer.now c.loop-more.used)) (sym count)
+    (subst (λ (t : List ℕ). IsFed c.args.ops.now (before ++ take c.loop-more.count t) c.settle.new.self all (bytes_left c.args.buffer.now c.loop-more.used)) (sym same) settled)

@@ -1,4 +1,4 @@
-use Rattle.std.proofs.Common.{◌≡◌, ◌+◌, ◌-◌, ◌≤◌, ℕ, List, length, take, drop}
+use Rattle.std.proofs.Common.{◌≡◌, ◌+◌, ◌-◌, ◌≤◌, ◌++◌, ℕ, List, length, take, drop}
 use Rattle.fl_machine.specs.Taking.{IsFed}
 use Rattle.fl_machine.specs.Plain.{plain_behind}
 use Rattle.fl_machine.proofs.intake.Intake.take_numbers.Given as goal
@@ -10,8 +10,8 @@ invariant-loop-more l = record {
   within : l.count ≤ length l.tape;
   long : length l.tape ≡ length l.fn.tape;
   kept : take l.fn.self.count l.tape ≡ take l.fn.self.count l.fn.tape;
-  fed : (all : List ℕ) → IsFed l.ops (take l.fn.self.count l.fn.tape) l.fn.self all (drop 0 (take 56 l.buffer))
-      → IsFed l.ops (take l.count l.tape) (plain_behind l.fn.self l.place l.count l.used) all (drop l.used (take 56 l.buffer));
+  fed : (before all : List ℕ) → IsFed l.ops (before ++ take l.fn.self.count l.fn.tape) l.fn.self all (drop 0 (take 56 l.buffer))
+      → IsFed l.ops (before ++ take l.count l.tape) (plain_behind l.fn.self l.place l.count l.used) all (drop l.used (take 56 l.buffer));
   pace : l.count ≤ l.fn.self.count + l.used;
 }
 

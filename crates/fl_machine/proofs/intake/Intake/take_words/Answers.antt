@@ -1,31 +1,28 @@
-use Rattle.std.proofs.Common.{◌≡◌, ◌≤◌, ◌-◌, ◌++◌, ℕ, List, length, take, sym, ◌∙◌, subst, arith}
-use Rattle.std.proofs.lemmas.List.{length-take-le}
+use Rattle.std.proofs.Common.{◌≡◌, ◌-◌, ◌++◌, ℕ, List, length, take, sym, ◌∙◌, subst, arith}
 use Rattle.std.proofs.lemmas.Result.{IfOk-weaker, IfErr-weaker, err_from_is_err_and}
 use Rattle.fl_stub.specs.declared.mark.Mark.{Mark}
 use Rattle.fl_stub.specs.Frames.{block_of}
 use Rattle.fl_stub.specs.Streams.{LeavesPayloads}
 use Rattle.fl_machine.specs.Taking.{IsFed, Stands, words_bytes, HasRoom}
-use Rattle.fl_machine.proofs.Intakes.{fed_first, stands_after, begins_after, payload_whole, payload_wrong, payload_ends, counted_tape, nothing_left, take_kept, room_on}
+use Rattle.fl_machine.proofs.Intakes.{fed_first, stands_after, begins_after, payload_whole, payload_wrong, payload_ends, nothing_left, take_kept, room_on}
 use Rattle.fl_machine.proofs.intake.Intake.take_words.Goals as goal
 
 pub resume-requires : goal.resume-requires
-resume-requires c = (_, c.requires.stands.0, c.requires.stands.1)
+resume-requires c = let (before, bytes, s) = c.requires.stands in (before ++ take c.args.self.now.count c.args.tape.now, bytes, s)
 
 pub take_numbers-used-requires-clause-fed : goal.take_numbers-used-requires-clause-fed
 take_numbers-used-requires-clause-fed c =
-    let (bytes, s) = c.requires.stands in
+    let (before, bytes, s) = c.requires.stands in
     let same = c.resume.ensures.count in (
+      before,
       bytes ++ words_bytes c.args.words.now,
-      subst (λ (left : List ℕ). IsFed c.args.ops.now (take c.resume.new.self.count c.args.tape.now) c.resume.new.self (bytes ++ words_bytes c.args.words.now) left) (sym c.spread.ensures)
-          (fed_first c.args.ops.now (take c.resume.new.self.count c.args.tape.now) bytes (words_bytes c.args.words.now) c.resume.new.self
-          (subst (λ (k : ℕ). Stands c.args.ops.now (take k c.args.tape.now) c.resume.new.self bytes) (sym same) (c.resume.ensures.stands (take c.args.self.now.count c.args.tape.now) bytes s))),
+      subst (λ (left : List ℕ). IsFed c.args.ops.now (before ++ take c.resume.new.self.count c.args.tape.now) c.resume.new.self (bytes ++ words_bytes c.args.words.now) left) (sym c.spread.ensures)
+          (fed_first c.args.ops.now (before ++ take c.resume.new.self.count c.args.tape.now) bytes (words_bytes c.args.words.now) c.resume.new.self
+          (subst (λ (k : ℕ). Stands c.args.ops.now (before ++ take k c.args.tape.now) c.resume.new.self bytes) (sym same) (c.resume.ensures.stands (before ++ take c.args.self.now.count c.args.tape.now) bytes s))),
     )
 
 pub take_numbers-used-requires-clause-count : goal.take_numbers-used-requires-clause-count
-take_numbers-used-requires-clause-count c =
-    let same = c.resume.ensures.count in
-    let long : c.args.self.now.count ≤ length c.args.tape.now = counted_tape c.args.ops.now c.args.tape.now c.args.self.now c.requires.stands.0 c.requires.stands.1 in
-    omega (arith, same, long)
+take_numbers-used-requires-clause-count c = let same = c.resume.ensures.count in omega (arith, same, c.requires.count)
 
 pub loop-used-init : goal.loop-used-init
 loop-used-init c =
@@ -39,15 +36,15 @@ loop-used-init c =
       e.count.1,
       e.long,
       take_kept c.args.self.now.count c.resume.new.self.count c.take_numbers-used.new.tape c.args.tape.now (omega (arith, same)) e.kept,
-      λ bytes s. e.fed (bytes ++ words_bytes c.args.words.now)
-          (subst (λ (left : List ℕ). IsFed c.args.ops.now (take c.resume.new.self.count c.args.tape.now) c.resume.new.self (bytes ++ words_bytes c.args.words.now) left) (sym c.spread.ensures)
-          (fed_first c.args.ops.now (take c.resume.new.self.count c.args.tape.now) bytes (words_bytes c.args.words.now) c.resume.new.self
-          (subst (λ (k : ℕ). Stands c.args.ops.now (take k c.args.tape.now) c.resume.new.self bytes) (sym same) (c.resume.ensures.stands (take c.args.self.now.count c.args.tape.now) bytes s)))),
+      λ before bytes s. e.fed before (bytes ++ words_bytes c.args.words.now)
+          (subst (λ (left : List ℕ). IsFed c.args.ops.now (before ++ take c.resume.new.self.count c.args.tape.now) c.resume.new.self (bytes ++ words_bytes c.args.words.now) left) (sym c.spread.ensures)
+          (fed_first c.args.ops.now (before ++ take c.resume.new.self.count c.args.tape.now) bytes (words_bytes c.args.words.now) c.resume.new.self
+          (subst (λ (k : ℕ). Stands c.args.ops.now (before ++ take k c.args.tape.now) c.resume.new.self bytes) (sym same) (c.resume.ensures.stands (before ++ take c.args.self.now.count c.args.tape.now) bytes s)))),
       omega (arith, same, pace),
     )
 
 pub field-requires-clause-stance : goal.field-requires-clause-stance
-field-requires-clause-stance c = (c.loop-used.invariant.6 c.requires.stands.0 c.requires.stands.1).at.stance
+field-requires-clause-stance c = let (before, bytes, s) = c.requires.stands in (c.loop-used.invariant.6 before bytes s).at.stance
 
 pub returns-in_default-clause-part : goal.returns-in_default-clause-part
 returns-in_default-clause-part c = IfOk-weaker c.end_of.result _ _ (λ fed h e. let z = sym h.0 ∙ e in absurd (cc)) c.end_of.ensures.whole
@@ -56,24 +53,24 @@ pub returns-in_default-clause-whole : goal.returns-in_default-clause-whole
 returns-in_default-clause-whole c =
     let long : length c.spread.new.buffer ≡ 64 = omega arith in
     IfOk-weaker c.end_of.result _ _
-    (λ fed h e bytes s. payload_whole c.args.ops.now (take c.loop-used.self.count c.loop-used.tape) c.loop-used.self (bytes ++ words_bytes c.args.words.now) c.spread.new.buffer c.loop-used.used
-    (c.loop-used.invariant.6 bytes s) c.in_default.ensures.none long h.1)
+    (λ fed h e before bytes s. payload_whole c.args.ops.now (before ++ take c.loop-used.self.count c.loop-used.tape) c.loop-used.self (bytes ++ words_bytes c.args.words.now) c.spread.new.buffer c.loop-used.used
+    (c.loop-used.invariant.6 before bytes s) c.in_default.ensures.none long h.1)
     c.end_of.ensures.whole
 
 pub returns-in_default-clause-wrong : goal.returns-in_default-clause-wrong
 returns-in_default-clause-wrong c =
     let long : length c.spread.new.buffer ≡ 64 = omega arith in
     IfErr-weaker c.end_of.result _ _
-    (λ mark h bytes s. subst (λ (m : Mark). LeavesPayloads (block_of c.args.ops.now) (bytes ++ words_bytes c.args.words.now) m) (sym h.0)
-    (payload_wrong c.args.ops.now (take c.loop-used.self.count c.loop-used.tape) c.loop-used.self (bytes ++ words_bytes c.args.words.now) c.spread.new.buffer c.loop-used.used
-    (c.loop-used.invariant.6 bytes s) c.in_default.ensures.none long h.1))
+    (λ mark h before bytes s. subst (λ (m : Mark). LeavesPayloads (block_of c.args.ops.now) (bytes ++ words_bytes c.args.words.now) m) (sym h.0)
+    (payload_wrong c.args.ops.now (before ++ take c.loop-used.self.count c.loop-used.tape) c.loop-used.self (bytes ++ words_bytes c.args.words.now) c.spread.new.buffer c.loop-used.used
+    (c.loop-used.invariant.6 before bytes s) c.in_default.ensures.none long h.1))
     c.end_of.ensures.wrong
 
 pub returns-in_default-clause-kept : goal.returns-in_default-clause-kept
 returns-in_default-clause-kept c = c.loop-used.invariant.5
 
 pub take_next-requires-clause-fed : goal.take_next-requires-clause-fed
-take_next-requires-clause-fed c = (_, c.loop-used.invariant.6 c.requires.stands.0 c.requires.stands.1)
+take_next-requires-clause-fed c = let (before, bytes, s) = c.requires.stands in (before, bytes ++ words_bytes c.args.words.now, c.loop-used.invariant.6 before bytes s)
 
 pub take_next-requires-clause-tape : goal.take_next-requires-clause-tape
 take_next-requires-clause-tape c =
@@ -85,7 +82,7 @@ take_next-requires-clause-tape c =
 pub returns-in_err-used-clause-wrong : goal.returns-in_err-used-clause-wrong
 returns-in_err-used-clause-wrong c =
     let p = err_from_is_err_and c.from_residual.result c.from_residual.ensures.1 in
-    rw (p.1, p.2) (λ bytes s. c.in_err-used.ensures.wrong (bytes ++ words_bytes c.args.words.now) (c.loop-used.invariant.6 bytes s))
+    rw (p.1, p.2) (λ before bytes s. c.in_err-used.ensures.wrong before (bytes ++ words_bytes c.args.words.now) (c.loop-used.invariant.6 before bytes s))
 
 pub returns-in_err-used-clause-kept : goal.returns-in_err-used-clause-kept
 returns-in_err-used-clause-kept c =
@@ -103,22 +100,21 @@ loop-used-preserved c =
       c.in_ok-used.ensures.count.1,
       c.in_ok-used.ensures.long ∙ c.loop-used.invariant.4,
       take_kept c.args.self.now.count c.loop-used.self.count c.take_next.new.tape c.loop-used.tape less c.in_ok-used.ensures.kept ∙ c.loop-used.invariant.5,
-      λ bytes s. c.in_ok-used.ensures.fed (bytes ++ words_bytes c.args.words.now) (c.loop-used.invariant.6 bytes s),
+      λ before bytes s. c.in_ok-used.ensures.fed before (bytes ++ words_bytes c.args.words.now) (c.loop-used.invariant.6 before bytes s),
       omega (arith, few, pace),
     )
 
 pub returns-in-Some-field-clause-part : goal.returns-in-Some-field-clause-part
-returns-in-Some-field-clause-part c e bytes s =
-    let fed = c.loop-used.invariant.6 bytes s in
-    let none = nothing_left c.spread.new.buffer c.loop-used.used c.loop-used-test.false in
-    let long = c.loop-used.invariant.3 in (
-      stands_after c.args.ops.now (take c.loop-used.self.count c.loop-used.tape) c.loop-used.self (bytes ++ words_bytes c.args.words.now) _ fed none (length-take-le c.loop-used.self.count c.loop-used.tape long),
-      begins_after c.args.ops.now (take c.loop-used.self.count c.loop-used.tape) c.loop-used.self (bytes ++ words_bytes c.args.words.now) _ c.in-Some-field.field-0 fed c.in-Some-field.ensures.some none,
+returns-in-Some-field-clause-part c e before bytes s =
+    let fed = c.loop-used.invariant.6 before bytes s in
+    let none = nothing_left c.spread.new.buffer c.loop-used.used c.loop-used-test.false in (
+      stands_after c.args.ops.now (before ++ take c.loop-used.self.count c.loop-used.tape) c.loop-used.self (bytes ++ words_bytes c.args.words.now) _ fed none,
+      begins_after c.args.ops.now (before ++ take c.loop-used.self.count c.loop-used.tape) c.loop-used.self (bytes ++ words_bytes c.args.words.now) _ c.in-Some-field.field-0 fed c.in-Some-field.ensures.some none,
     )
 
 pub returns-in-None-clause-whole : goal.returns-in-None-clause-whole
-returns-in-None-clause-whole c e bytes s =
-    payload_ends c.args.ops.now (take c.loop-used.self.count c.loop-used.tape) c.loop-used.self (bytes ++ words_bytes c.args.words.now) _ (c.loop-used.invariant.6 bytes s) c.in-None.ensures.none
+returns-in-None-clause-whole c e before bytes s =
+    payload_ends c.args.ops.now (before ++ take c.loop-used.self.count c.loop-used.tape) c.loop-used.self (bytes ++ words_bytes c.args.words.now) _ (c.loop-used.invariant.6 before bytes s) c.in-None.ensures.none
     (nothing_left c.spread.new.buffer c.loop-used.used c.loop-used-test.false)
 
 pub returns-in_default-clause-grows : goal.returns-in_default-clause-grows

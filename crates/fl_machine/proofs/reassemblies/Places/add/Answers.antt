@@ -1,7 +1,7 @@
 use Rattle.std.proofs.Common.{◌≡◌, ◌++◌, ◌∷◌, [], List, None, sym, ◌∙◌, ap, subst}
 use Rattle.fl_machine.specs.declared.reassembly.Place.{Place}
 use Rattle.fl_machine.specs.Places.{AreJoined, joined}
-use Rattle.fl_machine.specs.Tapes.{TheTape, not_there, tapes_of}
+use Rattle.fl_machine.specs.Rooms.{TheRoom, not_there, rooms_of}
 use Rattle.fl_machine.proofs.Joined.{are_pushed, joined_push, new_place}
 use Rattle.fl_machine.proofs.reassemblies.Places.add.Goals as goal
 
@@ -11,10 +11,10 @@ returns-clause-are c =
     let p : Place = record { program = c.args.program; begun = None } in
     let pushed : c.push_reserved.new.self.items ≡ s.places.items ++ p ∷ [] = c.push_reserved.ensures.items ∙ ap (λ (ps : List Place). ps ++ p ∷ []) c.in_ok-reserve.ensures.items in
     record {
-      tapes = c.in_ok-add.ensures.tapes;
-      joined = subst (λ (ps : List Place). AreJoined ps (tapes_of c.add.new.self)) (sym pushed)
-          (subst (λ (ts : List TheTape). AreJoined (s.places.items ++ p ∷ []) ts) (sym c.in_ok-add.ensures.added)
-          (are_pushed s.places.items (tapes_of s.tapes) p (not_there c.args.capacity) c.requires.are.joined (new_place c.args.program c.args.capacity c.requires.room)));
+      rooms = c.in_ok-add.ensures.rooms;
+      joined = subst (λ (ps : List Place). AreJoined ps (rooms_of c.add.new.self)) (sym pushed)
+          (subst (λ (ts : List TheRoom). AreJoined (s.places.items ++ p ∷ []) ts) (sym c.in_ok-add.ensures.added)
+          (are_pushed s.places.items (rooms_of s.rooms) p (not_there c.args.capacity) c.requires.are.joined (new_place c.args.program c.args.capacity c.requires.room)));
     }
 
 pub returns-clause-added : goal.returns-clause-added
@@ -22,6 +22,6 @@ returns-clause-added c =
     let s = c.args.self.now in
     let p : Place = record { program = c.args.program; begun = None } in
     let pushed : c.push_reserved.new.self.items ≡ s.places.items ++ p ∷ [] = c.push_reserved.ensures.items ∙ ap (λ (ps : List Place). ps ++ p ∷ []) c.in_ok-reserve.ensures.items in
-    ap (λ (ps : List Place). joined ps (tapes_of c.add.new.self)) pushed
+    ap (λ (ps : List Place). joined ps (rooms_of c.add.new.self)) pushed
     ∙ ap (joined (s.places.items ++ p ∷ [])) c.in_ok-add.ensures.added
-    ∙ joined_push s.places.items (tapes_of s.tapes) p (not_there c.args.capacity) c.requires.are.joined
+    ∙ joined_push s.places.items (rooms_of s.rooms) p (not_there c.args.capacity) c.requires.are.joined
