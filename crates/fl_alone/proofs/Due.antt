@@ -23,7 +23,7 @@ use Rattle.fl_worlds.proofs.WritingPieces.{dispatcher_shown}
 use Rattle.fl_running.specs.declared.job.Job.{Job}
 use Rattle.fl_running.specs.declared.job.Job.TheVariants as job
 use Rattle.fl_running.specs.Run.{Ways, TheRun, lends_in, lent_due}
-use Rattle.fl_running.specs.Steps.{is_before_calls as is_before, awaits, TurnsIf, TurnsAt, TakesTurn}
+use Rattle.fl_running.specs.Steps.{is_before_calls as is_before, awaits, due_turn, TurnsIf, TurnsAt, TakesTurn}
 use Rattle.fl_alone.specs.Turns.{Alone, next_job, here, end_due, due_at, is_before_calls, turns_at, takes_turn}
 use Rattle.fl_alone.specs.Shown.{world_with, ShowsAlone}
 use Rattle.fl_alone.proofs.Standing.{Wired, wired}
@@ -150,12 +150,12 @@ turn_here {S} ways law w jobs s t a d name place x due_is at u =
     let one : v.0 ≡ name = one_name s.core place v.0 name x.core v.1 at in
     let waits : awaits jobs s v.0 ≡ is_before_calls (next_job jobs a name)
     = ap (awaits jobs s) one ∙ ap is_before (same_job jobs s a name x.desks (is_few s.core name place at)) ∙ same_before (next_job jobs a name) in
-    let y : TurnsIf ways (is_before_calls (next_job jobs a name)) d name (record { end = place; inlet = inlet.Queue k.from }) s t
-    = subst (λ b. TurnsIf ways b d name (record { end = place; inlet = inlet.Queue k.from }) s t) waits
-    (subst (λ n. TurnsIf ways (awaits jobs s v.0) d n (record { end = place; inlet = inlet.Queue k.from }) s t) one v.2) in
+    let y : TurnsIf ways (is_before_calls (next_job jobs a name)) (due_turn d name (record { end = place; inlet = inlet.Queue k.from })) s t
+    = subst (λ b. TurnsIf ways b (due_turn d name (record { end = place; inlet = inlet.Queue k.from })) s t) waits
+    (subst (λ n. TurnsIf ways (awaits jobs s v.0) (due_turn d n (record { end = place; inlet = inlet.Queue k.from })) s t) one v.2) in
     by k (is_before_calls (next_job jobs a name)) y
   where
-    by : (k : Wired s name place) (b : Bool) → TurnsIf ways b d name (record { end = place; inlet = inlet.Queue k.from }) s t
+    by : (k : Wired s name place) (b : Bool) → TurnsIf ways b (due_turn d name (record { end = place; inlet = inlet.Queue k.from })) s t
         → ShowsAlone w t (if b then a else turns_at d a)
     by k true v = subst (λ (r : TheRun S). ShowsAlone w r a) (sym v) x
     by k false v = (turn_steps ways law w s t a d name place v.0 k x at v.1).shows

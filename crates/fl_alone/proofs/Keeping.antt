@@ -34,7 +34,7 @@ use Rattle.fl_hop.specs.Joined.{Sound as IsTable}
 use Rattle.fl_laws.proofs.Waitsets.{push_apart, unlink_apart}
 use Rattle.fl_node.specs.View.{TheCore, with_board}
 use Rattle.fl_node.specs.Sound.{IsCore, kinds_seated}
-use Rattle.fl_node.specs.Ends.{OnBoard, TriggersIf, woken_by, WritesAt}
+use Rattle.fl_node.specs.Ends.{at_side, OnBoard, TriggersIf, woken_by, WritesAt}
 use Rattle.fl_node.proofs.Kept.{board_kept}
 use Rattle.fl_node.proofs.Seated.{end_kinds, turn_kinds, triggers_kinds}
 use Rattle.fl_shows.proofs.Tests.{then_is, else_is}
@@ -130,7 +130,7 @@ rule_keeps k k2 e msg answer r sound h =
     (λ x y event. sets_ready x y msg answer r event) h.event)
     (end_kinds k.board k2.board e (λ x y. SetsRule x msg answer r y) h.event)
 
-pub write_keeps : (k k2 : TheCore) (e : ℕ) (p q : TheQueue) (r : Result WriteAnswer EndFault) → IsSound k → WritesAt QueuePuts e k p r k2 q → IsSound k2
+pub write_keeps : (k k2 : TheCore) (e : ℕ) (p q : TheQueue) (r : Result WriteAnswer EndFault) → IsSound k → WritesAt QueuePuts e (at_side k p) r (at_side k2 q) → IsSound k2
 write_keeps k k2 e p q r sound h =
     let wrote = end_board k.board h.wrote e (λ x y. Writes QueuePuts x p r y q) sound.board (λ x y event. writes_ready QueuePuts x y p q r event) h.writes in
     board_sound k k2 sound h.rest (triggered_board (woken_by k e r) h.wrote k2.board wrote h.triggers)

@@ -23,7 +23,7 @@ use Rattle.fl_running.specs.declared.job.Job.{Job}
 use Rattle.fl_running.specs.declared.job.Job.TheVariants as job
 use Rattle.fl_running.specs.declared.job.Wish.{Wish}
 use Rattle.fl_running.specs.Run.{Ways, TheRun, lends_out, lent_post, next_job as job_there}
-use Rattle.fl_running.specs.Steps.{lacks_to_call, may_ask, OpensIf, CallsAt, RulesAt, Tries, WritesFrom, Serves}
+use Rattle.fl_running.specs.Steps.{lacks_to_call, may_ask, OpensIf, CallsAt, reply_rule, RulesAt, Tries, WritesFrom, Serves}
 use Rattle.fl_alone.specs.Turns.{Alone, goes, is_there, tries, serves, next_job}
 use Rattle.fl_alone.specs.Shown.{ShowsAlone}
 use Rattle.fl_alone.proofs.Standing.{stands, wired, post_lent}
@@ -109,7 +109,7 @@ tries_at ways law w s t a name place (Some (job.Call f c)) x at u =
     let k = calls_are ways law w s t a name (call_of c) v.0 x (not_memory v.0 v.2) v.1 in
     record { shows = k.shows; places = k.places }
 tries_at ways law w s t a name place (Some (job.Reply f msg answer)) x at u =
-    let v : RulesAt ways name msg answer (Some place) s t = subst (λ o. RulesAt ways name msg answer o s t) at u in
+    let v : RulesAt ways (reply_rule name msg answer) (Some place) s t = subst (λ o. RulesAt ways (reply_rule name msg answer) o s t) at u in
     let k = rules_are ways law w s t a name msg answer v.0 x v.1 in
     record { shows = k.shows; places = k.places }
 
@@ -122,7 +122,7 @@ away_tries : {S : Type 0} (ways : Ways S) (w : TheWorld) (s t : TheRun S) (a : A
 away_tries ways w s t a name None x away u = u
 away_tries ways w s t a name (Some (job.Open wish)) x away u = subst (λ b. OpensIf ways b name wish s t) (asks_nothing w s a wish x) u
 away_tries ways w s t a name (Some (job.Call f c)) x away u = subst (λ o. CallsAt ways name c o s t) away u
-away_tries ways w s t a name (Some (job.Reply f msg answer)) x away u = subst (λ o. RulesAt ways name msg answer o s t) away u
+away_tries ways w s t a name (Some (job.Reply f msg answer)) x away u = subst (λ o. RulesAt ways (reply_rule name msg answer) o s t) away u
 
 writes_at : {S : Type 0} (ways : Ways S) (law : StepsAgree) (w : TheWorld) (s t : TheRun S) (a : Alone) (name : EndId) (place : ℕ)
     → ShowsAlone w s a → place_of s.core name ≡ Some place → WritesFrom ways name (lent_post s name) s t → Goes w s t (goes (write name) a)

@@ -10,7 +10,7 @@ use Rattle.fl_endpoint.specs.Faults.{fault_number}
 use Rattle.fl_node.specs.declared.wire.Outlet.{Outlet}
 use Rattle.fl_node.specs.declared.wire.Outlet.TheVariants as outlet
 use Rattle.fl_node.specs.View.{TheCore, place_of, outlet_of}
-use Rattle.fl_node.specs.Ends.{WritesAt}
+use Rattle.fl_node.specs.Ends.{at_side, WritesAt}
 use Rattle.fl_queues.specs.Events.{write, Answer, nothing, full, written, refused}
 use Rattle.fl_worlds.specs.View.{TheWorld, Spot, made, with_core, with_queue}
 use Rattle.fl_worlds.specs.Lending.{answer_at, OverQueue}
@@ -72,7 +72,7 @@ write_steps {S} ways law w s t a name place answer k x at (m, (e, found, on), sa
       after = m.core;
       still = whole_after s.core m.core whole kept (ap (λ (c : TheCore). c.monitor) on.event.rest);
       left = on.after;
-      event = (answer, subst (λ (i : ℕ). WritesAt QueuePuts i s.core on.before answer m.core on.after) there on.event, is_written answer);
+      event = (answer, subst (λ (i : ℕ). WritesAt QueuePuts i (at_side s.core on.before) answer (at_side m.core on.after)) there on.event, is_written answer);
       rest = wrote_world w s m k.out on.after on.rest;
     } in
     let by : WritesBy (made 0 place) (world_with w s) (write_answer answer) (world_with w m)

@@ -19,7 +19,7 @@ use Rattle.fl_core.specs.View.{TheDispatcher, TheSeat, TheBoard, channel_of, due
 use Rattle.fl_core.specs.Turns.{moment, over, LooksAt, Turns}
 use Rattle.fl_core.specs.Sound.{MayTurn, IsBoard}
 use Rattle.fl_core.specs.Accounts.{TurnAccounts}
-use Rattle.fl_core.specs.Inside.{seat_with, seats_of, Belongs, GoTogether, board_of, IsStored, LooksAtPlace}
+use Rattle.fl_core.specs.Inside.{seat_with, seats_of, Belongs, GoTogether, board_of, IsStored, end_turn, LooksAtPlace}
 use Rattle.fl_core.proofs.Places.{one_stands, set_same}
 use Rattle.fl_core.proofs.Together.{Placed, read_seat, seat_of, set_both, set_both_together, as_place}
 use Rattle.fl_core.proofs.Dispatchers.{finds, finds_before, due_is, may_turn}
@@ -60,7 +60,7 @@ module _ (k : TheBoard) (dispatchers : List TheDispatcher) (seats : List TheSeat
     ready = ready_due (board_of dispatchers seats calls) stored.board n d found pick picked e end_due (seat_with s here.call.parts) here.there
 
     module _ {T : Type 0} (takes : T → Look → T → Type 0) (w : ThreeLists) (t : TheEnd) (p q : T) (answer : Result TurnAnswer AllocError) (after : List TheReassembly)
-        (looks : LooksAtPlace takes pick s.kind (moment d.lists s.end p) answer (moment w t q) calls e after) where
+        (looks : LooksAtPlace takes (end_turn pick s.kind (moment d.lists s.end p) answer (moment w t q)) calls e after) where
       was_is : looks.was ≡ here.call
       was_is = one_stands calls e looks.was here.call looks.was_there here.call_is
 
@@ -102,7 +102,7 @@ module _ (k : TheBoard) (dispatchers : List TheDispatcher) (seats : List TheSeat
 
     -- where memory ran out, the board is as it was
     module _ {T : Type 0} (takes : T → Look → T → Type 0) (w : ThreeLists) (t : TheEnd) (p q : T) (after : List TheReassembly) where
-      same_board : (error : AllocError) → LooksAtPlace takes pick s.kind (moment d.lists s.end p) (Err error) (moment w t q) calls e after
+      same_board : (error : AllocError) → LooksAtPlace takes (end_turn pick s.kind (moment d.lists s.end p) (Err error) (moment w t q)) calls e after
           → board_of (slice_set dispatchers n (record { lists = w; ends = d.ends })) (slice_set seats e (seat_of s t)) after ≡ k
       same_board error looks =
           let as_it_was = same_looks takes pick s.kind d.lists w (with_parts s.end here.call.parts) (with_parts t looks.is.parts) p q error (looks_here takes w t p q (Err error) after looks) in
@@ -113,7 +113,7 @@ module _ (k : TheBoard) (dispatchers : List TheDispatcher) (seats : List TheSeat
           ∙ ap (λ (x : List TheSeat). let y : TheBoard = record { dispatchers = dispatchers; seats = x } in y) (set_same (seats_of seats calls) e (seat_with s here.call.parts) here.there)
           ∙ same
 
-      pub due_same : (answer : Result TurnAnswer AllocError) → LooksAtPlace takes pick s.kind (moment d.lists s.end p) answer (moment w t q) calls e after
+      pub due_same : (answer : Result TurnAnswer AllocError) → LooksAtPlace takes (end_turn pick s.kind (moment d.lists s.end p) answer (moment w t q)) calls e after
           → OnErr answer (board_of (slice_set dispatchers n (record { lists = w; ends = d.ends })) (slice_set seats e (seat_of s t)) after ≡ k)
       due_same (Ok done) looks = tt
       due_same (Err error) looks = same_board error looks

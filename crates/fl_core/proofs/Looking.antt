@@ -14,12 +14,12 @@ use Rattle.fl_endpoint.specs.declared.answer.ReceiveAnswer.{ReceiveAnswer}
 use Rattle.fl_endpoint.specs.declared.answer.ReceiveAnswer.TheVariants as receive
 use Rattle.fl_endpoint.specs.View.{TheEnd, with_parts}
 use Rattle.fl_endpoint.specs.Events.{IsReady, Receives}
-use Rattle.fl_endpoint.specs.Lent.{IsPlaceOf, ReceivesAt}
+use Rattle.fl_endpoint.specs.Lent.{IsPlaceOf, receipt, ReceivesAt}
 use Rattle.fl_core.specs.declared.kind.Kind.{Kind}
 use Rattle.fl_core.specs.declared.answer.TurnAnswer.{TurnAnswer}
 use Rattle.fl_core.specs.declared.answer.TurnAnswer.TheVariants.{Handle, Part, Quiet, Full, Nothing}
 use Rattle.fl_core.specs.Turns.{lent, moment, Gives, Examines, LooksAt}
-use Rattle.fl_core.specs.Inside.{Settles, MayCome, Refuses, LooksAtPlace}
+use Rattle.fl_core.specs.Inside.{Settles, MayCome, Refuses, end_turn, LooksAtPlace}
 use Rattle.fl_core.proofs.Places.{set_same}
 use Rattle.fl_core.proofs.Together.{standing}
 
@@ -72,8 +72,8 @@ module _ {T : Type 0} (takes : T → Look → T → Type 0) (kind : Kind) (w v :
     as_picked : (answer : Result TurnAnswer AllocError) (r u : TheEnd) → Gives takes kind c.0 (moment w r p) answer (moment v u q) → LooksAt takes picked kind (moment w r p) answer (moment v u q)
     as_picked answer r u h = subst (λ (x : Pick). LooksAt takes x kind (moment w r p) answer (moment v u q)) (sym picked_is) h
 
-    pub looks_pending : (answer : ReceiveAnswer) → ReceivesAt takes s p (Ok answer) t m calls place after → Settles takes kind c.0 (lent w m) answer (lent v q)
-        → LooksAtPlace takes picked kind (moment w s p) (Ok (answer_of answer)) (moment v t q) calls place after
+    pub looks_pending : (answer : ReceiveAnswer) → ReceivesAt takes (receipt s p (Ok answer) t m) calls place after → Settles takes kind c.0 (lent w m) answer (lent v q)
+        → LooksAtPlace takes (end_turn picked kind (moment w s p) (Ok (answer_of answer)) (moment v t q)) calls place after
     looks_pending answer h settles = record {
       was = h.was;
       was_there = h.was_there;
@@ -87,12 +87,12 @@ module _ {T : Type 0} (takes : T → Look → T → Type 0) (kind : Kind) (w v :
     }
 
     -- the same, where the answer is known
-    pub looks_as : (x answer : ReceiveAnswer) → x ≡ answer → ReceivesAt takes s p (Ok x) t m calls place after → Settles takes kind c.0 (lent w m) x (lent v q)
-        → LooksAtPlace takes picked kind (moment w s p) (Ok (answer_of answer)) (moment v t q) calls place after
-    looks_as x answer e h settles = subst (λ (a : ReceiveAnswer). LooksAtPlace takes picked kind (moment w s p) (Ok (answer_of a)) (moment v t q) calls place after) e (looks_pending x h settles)
+    pub looks_as : (x answer : ReceiveAnswer) → x ≡ answer → ReceivesAt takes (receipt s p (Ok x) t m) calls place after → Settles takes kind c.0 (lent w m) x (lent v q)
+        → LooksAtPlace takes (end_turn picked kind (moment w s p) (Ok (answer_of answer)) (moment v t q)) calls place after
+    looks_as x answer e h settles = subst (λ (a : ReceiveAnswer). LooksAtPlace takes (end_turn picked kind (moment w s p) (Ok (answer_of a)) (moment v t q)) calls place after) e (looks_pending x h settles)
 
-    pub looks_refused : (fault : EndFault) (answer : Result TurnAnswer AllocError) → ReceivesAt takes s p (Err fault) t q calls place after → Refuses c.0 w fault answer v
-        → LooksAtPlace takes picked kind (moment w s p) answer (moment v t q) calls place after
+    pub looks_refused : (fault : EndFault) (answer : Result TurnAnswer AllocError) → ReceivesAt takes (receipt s p (Err fault) t q) calls place after → Refuses c.0 w fault answer v
+        → LooksAtPlace takes (end_turn picked kind (moment w s p) answer (moment v t q)) calls place after
     looks_refused fault answer h refuses = record {
       was = h.was;
       was_there = h.was_there;
@@ -105,12 +105,12 @@ module _ {T : Type 0} (takes : T → Look → T → Type 0) (kind : Kind) (w v :
       after_is = h.after_is;
     }
 
-  pub may_come : (fault : EndFault) → ReceivesAt takes s p (Err fault) t q calls place after → MayCome fault
+  pub may_come : (fault : EndFault) → ReceivesAt takes (receipt s p (Err fault) t q) calls place after → MayCome fault
   may_come fault h = comes takes kind 0 w v (with_parts s h.was.parts) (with_parts t h.is.parts) p q q ready fault h.event.receives
 
 -- a channel that is polled: the end takes nothing
 pub looks_polled : {T : Type 0} (takes : T → Look → T → Type 0) (kind : Kind) (c : ChanId) (picked : Pick) (w v : ThreeLists) (s : TheEnd) (p q : T) (answer : Result TurnAnswer AllocError) (calls : List TheReassembly) (place : ℕ)
-    → picked ≡ pick.Polled c → IsPlaceOf s calls place → Examines takes c.0 (lent w p) answer (lent v q) → LooksAtPlace takes picked kind (moment w s p) answer (moment v s q) calls place calls
+    → picked ≡ pick.Polled c → IsPlaceOf s calls place → Examines takes c.0 (lent w p) answer (lent v q) → LooksAtPlace takes (end_turn picked kind (moment w s p) answer (moment v s q)) calls place calls
 looks_polled takes kind c picked w v s p q answer calls place picked_is known h =
     let (r, there) = standing s (slice_get calls place) known in
     record {

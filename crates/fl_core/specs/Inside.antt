@@ -60,17 +60,31 @@ pub record IsStored (dispatchers : List TheDispatcher) (seats : List TheSeat) (c
 
 -- ---- the parts of a turn
 
--- the turn, where what was taken at the end's place stands beside the end
-abbrev pub LooksWith : {T : Type 0} → (T → Look → T → Type 0) → Pick → Kind → Moment T → Result TurnAnswer AllocError → Moment T
-    → TheReassembly → TheReassembly → Type 0
-LooksWith takes pick kind a answer b was is =
+-- the turn of the end that is due: what was picked, how its dispatcher's lists, the end and the side were, what is answered, and
+-- how they are then
+pub record EndTurn (T : Type 0) : Type 0 where
+  pub picked : Pick
+  pub kind : Kind
+  pub before : Moment T
+  pub answer : Result TurnAnswer AllocError
+  pub after : Moment T
+
+abbrev pub end_turn : {T : Type 0} → Pick → Kind → Moment T → Result TurnAnswer AllocError → Moment T → EndTurn T
+end_turn picked kind a answer b = record { picked = picked; kind = kind; before = a; answer = answer; after = b }
+
+-- a moment, where what was taken at the end's place stands beside the end
+abbrev pub moment_with : {T : Type 0} → Moment T → List Frag → Moment T
+moment_with a parts = moment a.lists (with_parts a.end parts) a.side
+
+-- so the turn is
+abbrev pub LooksWith : {T : Type 0} → (T → Look → T → Type 0) → EndTurn T → TheReassembly → TheReassembly → Type 0
+LooksWith takes x was is =
     (is.program ≡ was.program)
-    × LooksAt takes pick kind (moment a.lists (with_parts a.end was.parts) a.side) answer (moment b.lists (with_parts b.end is.parts) b.side)
+    × LooksAt takes x.picked x.kind (moment_with x.before was.parts) x.answer (moment_with x.after is.parts)
 
 -- of all places, the end's alone has changed
-abbrev pub LooksAtPlace : {T : Type 0} → (T → Look → T → Type 0) → Pick → Kind → Moment T → Result TurnAnswer AllocError → Moment T
-    → List TheReassembly → ℕ → List TheReassembly → Type 0
-LooksAtPlace takes pick kind a answer b before place after = ChangesPlace before place (LooksWith takes pick kind a answer b) after
+abbrev pub LooksAtPlace : {T : Type 0} → (T → Look → T → Type 0) → EndTurn T → List TheReassembly → ℕ → List TheReassembly → Type 0
+LooksAtPlace takes x before place after = ChangesPlace before place (LooksWith takes x) after
 
 -- what an end answered says where its channel goes
 abbrev pub Settles : {T : Type 0} → (T → Look → T → Type 0) → Kind → ℕ → Lent T → ReceiveAnswer → Lent T → Type 0

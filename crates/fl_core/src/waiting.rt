@@ -8,7 +8,7 @@ ghost use Rattle.fl_lists.specs.ThreeLists.{list_at};
 ghost use Rattle.fl_endpoint.specs.Lent.{IsPlaceOf};
 ghost use Rattle.fl_core.specs.Turns.{WaitsIn, put_off, lent, moment, Examines};
 ghost use Rattle.fl_core.specs.Events.{Joins};
-ghost use Rattle.fl_core.specs.Inside.{Settles, MayCome, Refuses, LooksAtPlace};
+ghost use Rattle.fl_core.specs.Inside.{Settles, MayCome, Refuses, end_turn, LooksAtPlace};
 
 use crate::answer::TurnAnswer;
 use crate::fault::BoardFault;
@@ -156,7 +156,7 @@ pub(crate) fn look_at<T: TakeSide>(
     requires ready { IsReady end.old }
     requires place { IsPlaceOf end.old calls.old place }
     ensures waitset { IsWaitset waitset.new }
-    ensures looks { LooksAtPlace T.takes pick kind (moment waitset.old end.old from.old) result (moment waitset.new end.new from.new)
+    ensures looks { LooksAtPlace T.takes (end_turn pick kind (moment waitset.old end.old from.old) result (moment waitset.new end.new from.new))
         calls.old place calls.new }
 {
     let c = match pick {

@@ -37,7 +37,7 @@ use Rattle.fl_node.specs.declared.wire.Inlet.TheVariants as inlet
 use Rattle.fl_monitor.specs.Routing.{given as given_at}
 use Rattle.fl_node.specs.View.{TheCore, with_board, place_in, place_of, kind_of, side_of_link, outlet_by, outlet_of, inlet_by, inlet_of, joined_by, joined_to}
 use Rattle.fl_node.specs.Sound.{IsCore}
-use Rattle.fl_node.specs.Ends.{OnBoard, TriggersIf, WritesAt, woken_by as node_woken}
+use Rattle.fl_node.specs.Ends.{at_side, OnBoard, TriggersIf, WritesAt, woken_by as node_woken}
 use Rattle.fl_running.specs.Run.{TheRun}
 use Rattle.fl_running.specs.Deeds.{Deed, called, ruled, wrote, acked, turned, OnCore, OnRing, OnQueue, IsSound, IsSoundAt}
 use Rattle.fl_queues.specs.Given.{given}
@@ -268,7 +268,7 @@ uses_in k e n h =
 -- ---- a write
 
 pub side_writes_follow : (a : Cut) (s m t : TheRun TheSide) (name : EndId) (n : ℕ) (answer : Result WriteAnswer EndFault) (e : ℕ) → ShowsCut a s → IsSound s.core
-    → place_of s.core name ≡ Some e → outlet_of s.core e ≡ Some (outlet.Side n) → OnRing n s (λ k p k2 q. WritesAt SharedPuts e k p answer k2 q) m
+    → place_of s.core name ≡ Some e → outlet_of s.core e ≡ Some (outlet.Side n) → OnRing n s (λ k p k2 q. WritesAt SharedPuts e (at_side k p) answer (at_side k2 q)) m
     → t ≡ record m { desks = t.desks } → After (wrote name (outlet.Side n) answer) a s t
 side_writes_follow a s m t name n answer e h sound at out on desks =
     let wrote_at = on.event in
@@ -310,7 +310,7 @@ side_writes_follow a s m t name n answer e h sound at out on desks =
 
 pub queue_writes_follow : (a : Cut) (s m t : TheRun TheSide) (name : EndId) (n : ℕ) (answer : Result WriteAnswer EndFault) (e : ℕ) → ShowsCut a s
     → IsSound s.core → place_of s.core name ≡ Some e → outlet_of s.core e ≡ Some (outlet.Queue n)
-    → OnQueue n s (λ k p k2 q. WritesAt QueuePuts e k p answer k2 q) m
+    → OnQueue n s (λ k p k2 q. WritesAt QueuePuts e (at_side k p) answer (at_side k2 q)) m
     → t ≡ record m { desks = t.desks } → After (wrote name (outlet.Queue n) answer) a s t
 queue_writes_follow a s m t name n answer e h sound at out on desks =
     let wrote_at = on.event in

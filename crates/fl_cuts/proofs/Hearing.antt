@@ -57,7 +57,7 @@ use Rattle.fl_node.specs.declared.wire.Port.{Port}
 use Rattle.fl_node.specs.declared.wire.Wire.{Wire}
 use Rattle.fl_node.specs.declared.wire.Wire.TheVariants.{Queues, Ring as OverRing, Circuit as ByCircuit}
 use Rattle.fl_node.specs.View.{TheCore, with_monitor, with_failed, failed_at, place_in, place_of, arriving, arriving_at, arrivals_by, circuit_port, server_of, kind_of, new_arrivals as node_arrivals}
-use Rattle.fl_node.specs.Hearing.{Offers, known_for, may_offer, offer_of, offer_for, MakesServer as NodeMakes, Binds, BindsIf as NodeBindsIf, Follows as NodeFollows, HearsAll, HearsFrag, TakesHeard}
+use Rattle.fl_node.specs.Hearing.{Offers, known_for, may_offer, offer_of, offer_for, offering, MakesServer as NodeMakes, Binds, BindsIf as NodeBindsIf, Follows as NodeFollows, HearsAll, HearsFrag, TakesHeard}
 use Rattle.fl_node.specs.Sound.{IsPlaced}
 use Rattle.fl_running.specs.Run.{TheRun}
 use Rattle.fl_running.specs.Deeds.{OnRing, IsSound}
@@ -311,7 +311,7 @@ offer_fits services o k (OpenCircuit c binding service path) names x e = by (ser
 
 makes_server : (asked : Option Service) (programs : List Program) (offer : Option Offered) (l : LinkId) (n stations : ℕ) (d : DispatcherId) (c : Circuit) (a : Cut) (s t : TheRun TheSide)
     → Fits asked offer → map (λ (p : Program). planned_of p) programs ≡ a.plans → ShowsCut a s → map (λ (y : TheSeat). y.kind) s.core.board.seats ≡ map (λ (q : Port). kind_of q.wire) s.core.ports → IsBoard s.core.board → 1 ≤ stations
-    → NodeMakes programs offer l n d.place c s.core t.core → t ≡ record s { core = t.core } → Made asked stations n d c.0 l a t
+    → NodeMakes (offering programs offer l) n d.place c s.core t.core → t ≡ record s { core = t.core } → Made asked stations n d c.0 l a t
 makes_server asked programs offer l n stations d c a s t fits lent_plans h kinds sound some make rest =
     let (e_is, (w, w_is, few, board_is)) = make.adds in
     let copy = make.program_is in
@@ -538,7 +538,7 @@ binds_if name c (Some x) a s t h kinds placed sound at none b rest =
 follows_on : (asked : Option Service) (programs : List Program) (offer : Option Offered) (l : LinkId) (stations : ℕ) (w : MachineHeard) (x : Heard) (told : MonitorAnswer) (a : Cut)
     (s t : TheRun TheSide) → Fits asked offer → map (λ (p : Program). planned_of p) programs ≡ a.plans → ShowsCut a s → map (λ (y : TheSeat). y.kind) s.core.board.seats ≡ map (λ (q : Port). kind_of q.wire) s.core.ports
     → ((who : EndId) (f : ℕ) → place_of s.core who ≡ Some f → IsPlaced s.core.ports who f) → IsBoard s.core.board → 1 ≤ stations
-    → ((e : EndId) (c number : ℕ) (at : EndAt a e) → w ≡ end_opened e c → arrivals_by at.end.port.wire ≡ Some number → IsUnbound at.end) → SameHeard w x → NodeFollows programs offer l x s.core told t.core
+    → ((e : EndId) (c number : ℕ) (at : EndAt a e) → w ≡ end_opened e c → arrivals_by at.end.port.wire ≡ Some number → IsUnbound at.end) → SameHeard w x → NodeFollows (offering programs offer l) x s.core told t.core
     → t ≡ record s { core = t.core } → Followed asked l stations w told a t
 follows_on asked programs offer l stations no_outbox x told a s t fits lent_plans h kinds placed sound some free same f rest = absurd same
 follows_on asked programs offer l stations astray x told a s t fits lent_plans h kinds placed sound some free same f rest = absurd same
@@ -552,8 +552,8 @@ follows_on asked programs offer l stations (opening_went_on u0 u1) (was.EndRefus
 follows_on asked programs offer l stations (server_made u0 u1 u2) (was.OpeningWentOn v0 v1 v2) told a s t fits lent_plans h kinds placed sound some free same f rest = absurd same
 follows_on asked programs offer l stations (server_made u0 u1 u2) (was.ServerMade v0 v1 v2) told a s t fits lent_plans h kinds placed sound some free same f rest =
     let (same_n, same_d, same_c) = same in
-    let make : NodeMakes programs offer l u0 u1.place v2 s.core t.core = subst (λ (n : ℕ). NodeMakes programs offer l n u1.place v2 s.core t.core) same_n
-    (subst (λ (d : ℕ). NodeMakes programs offer l v0 d v2 s.core t.core) same_d f.1) in
+    let make : NodeMakes (offering programs offer l) u0 u1.place v2 s.core t.core = subst (λ (n : ℕ). NodeMakes (offering programs offer l) n u1.place v2 s.core t.core) same_n
+    (subst (λ (d : ℕ). NodeMakes (offering programs offer l) v0 d v2 s.core t.core) same_d f.1) in
     let one = makes_server asked programs offer l u0 stations u1 v2 a s t fits lent_plans h kinds sound some make rest in
     let request : Request = record { service = asked; stations = stations; link = l } in
     record {

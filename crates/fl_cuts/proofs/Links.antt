@@ -39,8 +39,8 @@ use Rattle.fl_node.specs.declared.wire.Wire.{Wire}
 use Rattle.fl_node.specs.declared.wire.Wire.TheVariants.{Queues, Ring as OverRing, Circuit}
 use Rattle.fl_node.specs.View.{TheCore, with_monitor, failed_at, place_in, place_of, side_of_link, arrivals_by, arrivals_of, arriving, arriving_at, inlet_by, inlet_of, kind_of}
 use Rattle.fl_node.specs.Sound.{IsCore}
-use Rattle.fl_node.specs.Ends.{OverArrivals}
-use Rattle.fl_node.specs.Links.{MonitorWrites, IsLane, LooksAhead, ArrivesAt, Acknowledges}
+use Rattle.fl_node.specs.Ends.{at_side, OverArrivals}
+use Rattle.fl_node.specs.Links.{MonitorWrites, IsLane, LooksAhead, inbound, ArrivesAt, Acknowledges}
 use Rattle.fl_running.specs.Run.{TheRun}
 use Rattle.fl_running.specs.Deeds.{looked, passed, arrived, said, told as has_told, turned, OnCore, OnRing, IsSound, IsSoundAt}
 use Rattle.fl_queues.specs.Given.{given}
@@ -123,7 +123,7 @@ way_is : (a : Cut) (s : TheRun TheSide) (l c : ℕ) (way : Way) → ShowsCut a s
 way_is a s l c way h e = ap (λ (t : TheCircuits). way_at t l c) (sym h.monitor.circuits) ∙ e
 
 finds_so : (front : TheSide → Look) (l : ℕ) (answer : Result Ahead LinkFault) (a : Cut) (s : TheRun TheSide) (v : SideCut) (p q : TheSide) (k2 : TheCore)
-    → ShowsCut a s → ShowsSide v p → LooksAhead SharedTakes front l s.core p answer k2 q → Found answer l a v q s.core k2
+    → ShowsCut a s → ShowsSide v p → LooksAhead SharedTakes front l (at_side s.core p) answer (at_side k2 q) → Found answer l a v q s.core k2
 finds_so front l (Ok ahead.Nothing) a s v p q k2 h k (seen_, same) =
     let w = look_agrees some_label v p q missed k seen_.finds in
     record { side = w.0; finds = (lane_is a s l false h seen_.lane, (some_label, w.1)); shows = w.2; core = same }
@@ -193,7 +193,7 @@ unlinked k l n h e =
     absurd (cc)
 
 pub looks_follow : (front : TheSide → Look) (a : Cut) (s m t : TheRun TheSide) (n : ℕ) (l : LinkId) (answer : Result Ahead LinkFault) → ShowsCut a s
-    → side_of_link s.core.lanes l.0 ≡ Some n → OnRing n s (λ k p k2 q. LooksAhead SharedTakes front l.0 k p answer k2 q) m → t ≡ record m { desks = t.desks }
+    → side_of_link s.core.lanes l.0 ≡ Some n → OnRing n s (λ k p k2 q. LooksAhead SharedTakes front l.0 (at_side k p) answer (at_side k2 q)) m → t ≡ record m { desks = t.desks }
     → After (looked n l answer) a s t
 looks_follow front a s m t n l answer h lane on desks =
     let v = there ShowsSide a.sides s.rings n on.before h.sides on.before_is in
@@ -335,7 +335,7 @@ monitor_run : (s m : TheRun TheSide) (monitor : TheMonitor) (rings : List TheSid
 monitor_run s m monitor rings rest core = rest ∙ ap (λ (k : TheCore). record s { core = k; rings = rings }) core
 
 pub says_follow : OutboxesAreShown → (a : Cut) (s m t : TheRun TheSide) (n : ℕ) (l : LinkId) (answer : MonitorWrite) → ShowsCut a s
-    → side_of_link s.core.lanes l.0 ≡ Some n → OnRing n s (λ k p k2 q. MonitorWrites SharedPuts l.0 k p answer k2 q) m → t ≡ record m { desks = t.desks }
+    → side_of_link s.core.lanes l.0 ≡ Some n → OnRing n s (λ k p k2 q. MonitorWrites SharedPuts l.0 (at_side k p) answer (at_side k2 q)) m → t ≡ record m { desks = t.desks }
     → After (said n l answer) a s t
 says_follow law a s m t n l write.Written h lane on desks =
     let (f, rest, waits, put, core) = on.event in
@@ -484,7 +484,7 @@ arrived_run : (s m : TheRun TheSide) (arrivals : List TheQueue) (rings : List Th
 arrived_run s m arrivals rings rest core = rest ∙ ap (λ (k : TheCore). record s { core = k; rings = rings }) core
 
 pub arrives_follow : (a : Cut) (s m t : TheRun TheSide) (n : ℕ) (l : LinkId) (frag : Frag) (name : EndId) (answer : Result Outcome LinkFault) → ShowsCut a s
-    → IsCore s.core → side_of_link s.core.lanes l.0 ≡ Some n → OnRing n s (λ k p k2 q. ArrivesAt SharedTakes l.0 frag name k p answer k2 q) m
+    → IsCore s.core → side_of_link s.core.lanes l.0 ≡ Some n → OnRing n s (λ k p k2 q. ArrivesAt SharedTakes (inbound l.0 frag name) (at_side k p) answer (at_side k2 q)) m
     → t ≡ record m { desks = t.desks } → After (arrived n l frag name answer) a s t
 arrives_follow a s m t n l frag name (Ok Moved) h core lane on desks =
     let x = on.event in

@@ -26,7 +26,7 @@ use Rattle.fl_node.specs.declared.answer.MonitorAnswer.{MonitorAnswer}
 use Rattle.fl_node.specs.declared.answer.MonitorAnswer.TheVariants as answer
 use Rattle.fl_node.specs.declared.wire.Inlet.TheVariants as inlet
 use Rattle.fl_node.specs.declared.wire.Outlet.TheVariants as outlet
-use Rattle.fl_node.specs.Hearing.{known_for, offer_for, Follows as NodeFollows, HearsAll, HearsFrag, TakesHeard}
+use Rattle.fl_node.specs.Hearing.{known_for, offer_for, offering, Follows as NodeFollows, HearsAll, HearsFrag, TakesHeard}
 use Rattle.fl_node.specs.View.{TheCore, with_monitor}
 use Rattle.fl_running.specs.declared.job.Job.{Job}
 use Rattle.fl_running.specs.declared.plan.Plan.{Plan}
@@ -182,8 +182,8 @@ done_back services a s m t n l frag msg o before after told_so h before_is takes
     let shows : ShowsCut next (heard_run s all.monitor (slice_set s.rings n after))
     = heard_shows a s sides (refusing l.0 o a).core all.monitor (slice_set s.rings n after) h (set_both ShowsSide a.sides s.rings n one.0 after h.sides one.2)
     shown keeps.waits number in
-    let follows : NodeFollows s.offers.programs (offer_for s.offers s.core msg) l (was.OpeningFailed o.binding 73) (with_monitor s.core all.monitor) told_so m.core
-    = subst (λ (w : Heard). NodeFollows s.offers.programs (offer_for s.offers s.core msg) l w (with_monitor s.core all.monitor) told_so m.core) w_is all.follows in
+    let follows : NodeFollows (offering s.offers.programs (offer_for s.offers s.core msg) l) (was.OpeningFailed o.binding 73) (with_monitor s.core all.monitor) told_so m.core
+    = subst (λ (w : Heard). NodeFollows (offering s.offers.programs (offer_for s.offers s.core msg) l) w (with_monitor s.core all.monitor) told_so m.core) w_is all.follows in
     let run : m ≡ heard_run s all.monitor (slice_set s.rings n after)
     = rest ∙ ap (λ (k : TheCore). record s { core = k; rings = slice_set s.rings n after }) follows.1 in (
       follows.0,

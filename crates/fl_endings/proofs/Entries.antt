@@ -31,8 +31,8 @@ use Rattle.fl_monitor.specs.declared.heard.Heard.TheVariants as outcome
 use Rattle.fl_monitor.specs.declared.message.Message.{Message}
 use Rattle.fl_monitor.specs.declared.message.Message.TheVariants.{OpenCircuit, CircuitOpened, CircuitRefused}
 use Rattle.fl_node.specs.View.{TheCore, arriving_at, client_of, server_of, with_monitor}
-use Rattle.fl_node.specs.Links.{LooksAhead, ArrivesAt, MonitorWrites}
-use Rattle.fl_node.specs.Hearing.{Offers, known_for, offer_for, HearsFrag, HearsMessage, HearsAll, Follows, BindsIf}
+use Rattle.fl_node.specs.Links.{LooksAhead, inbound, ArrivesAt, MonitorWrites}
+use Rattle.fl_node.specs.Hearing.{Offers, known_for, offer_for, HearsFrag, HearsMessage, HearsAll, offering, Follows, BindsIf}
 use Rattle.fl_node.specs.Making.{Asked, Asks}
 use Rattle.fl_node.specs.declared.answer.Ahead.{Ahead}
 use Rattle.fl_node.specs.declared.answer.Ahead.TheVariants as ahead
@@ -46,6 +46,7 @@ use Rattle.fl_node.specs.declared.fault.OpenFault.TheVariants as opening
 use Rattle.fl_node.specs.declared.wire.Arriving.{Arriving}
 use Rattle.fl_node.specs.declared.wire.Outlet.TheVariants as outlet
 use Rattle.fl_node.specs.declared.wire.Inlet.TheVariants as inlet
+use Rattle.fl_node.specs.Ends.{at_side}
 use Rattle.fl_running.specs.Run.{TheRun}
 use Rattle.fl_running.specs.Deeds.{Deed, looked, passed, arrived, heard, said, told, opened, called, ruled, wrote, acked, turned, Does}
 use Rattle.fl_logs.proofs.Leading.{end_binding}
@@ -65,7 +66,7 @@ bound_monitor None c k k2 f = ap (λ (x : TheCore). x.monitor) f
 bound_monitor (Some at) c k k2 f = ap (λ (x : TheCore). x.monitor) f.rest
 
 module _ (o : Offers) (l : LinkId) (msg : Message) (k k2 : TheCore) (m : TheMonitor) (answered : MonitorAnswer) where
-  monitor_then : (y : Heard) → Follows o.programs (offer_for o k msg) l y (with_monitor k m) answered k2 → k2.monitor ≡ m
+  monitor_then : (y : Heard) → Follows (offering o.programs (offer_for o k msg) l) y (with_monitor k m) answered k2 → k2.monitor ≡ m
   monitor_then (outcome.ServerMade binding dispatcher c) f = ap (λ (x : TheCore). x.monitor) f.1.rest
   monitor_then (outcome.EndOpened e c) f = bound_monitor (arriving_at (with_monitor k m) e) c (with_monitor k m) k2 f.1
   monitor_then (outcome.EndRefused e reason) f = ap (λ (x : TheCore). x.monitor) f.1
@@ -186,7 +187,7 @@ module _ (o : Offers) (l : LinkId) (k : TheCore) (sound : Sound k.monitor.circui
       }
 
   by_heard : (msg : Message) (m : TheMonitor) (y : Heard) → ComesTo (known_for o k msg) k.monitor.circuits l msg y → k2.monitor.circuits ≡ table_after k.monitor.circuits l msg y
-      → Follows o.programs (offer_for o k msg) l y (with_monitor k m) (heard_as.OpeningRefused e reason) k2 → IsGone e k k2
+      → Follows (offering o.programs (offer_for o k msg) l) y (with_monitor k m) (heard_as.OpeningRefused e reason) k2 → IsGone e k k2
   by_heard msg m (outcome.ServerMade binding dispatcher c) comes table f = absurd (let clash = f.0 in cc)
   by_heard msg m (outcome.EndOpened name c) comes table f = absurd (let clash = f.0 in cc)
   by_heard msg m (outcome.EndRefused name number) comes table f =
@@ -221,7 +222,7 @@ module _ (s m : TheRun TheSide) (sound : Sound s.core.monitor.circuits) (e : End
   monitors : m.core.monitor ≡ s.core.monitor → Came
   monitors same = tables (ap (λ (x : TheMonitor). x.circuits) same)
 
-  ahead_came : (l : ℕ) (p : TheSide) (answer : Result Ahead LinkFault) (q : TheSide) → LooksAhead shared_ways.takes shared_ways.front l s.core p answer m.core q → Came
+  ahead_came : (l : ℕ) (p : TheSide) (answer : Result Ahead LinkFault) (q : TheSide) → LooksAhead shared_ways.takes shared_ways.front l (at_side s.core p) answer (at_side m.core q) → Came
   ahead_came l p (Ok ahead.Nothing) q h = monitors (ap (λ (x : TheCore). x.monitor) h.1)
   ahead_came l p (Ok ahead.Acknowledged) q h = monitors (ap (λ (x : TheCore). x.monitor) h.1)
   ahead_came l p (Ok (ahead.Message frag)) q h = monitors (ap (λ (x : TheCore). x.monitor) h.1)
@@ -233,7 +234,7 @@ module _ (s m : TheRun TheSide) (sound : Sound s.core.monitor.circuits) (e : End
   ahead_came l p (Err (link.Wire f)) q h = absurd h
   ahead_came l p (Err link.Memory) q h = absurd h
 
-  arrives_came : (l : ℕ) (frag : Frag) (f : EndId) (p : TheSide) (answer : Result Outcome LinkFault) (q : TheSide) → ArrivesAt shared_ways.takes l frag f s.core p answer m.core q → Came
+  arrives_came : (l : ℕ) (frag : Frag) (f : EndId) (p : TheSide) (answer : Result Outcome LinkFault) (q : TheSide) → ArrivesAt shared_ways.takes (inbound l frag f) (at_side s.core p) answer (at_side m.core q) → Came
   arrives_came l frag f p (Ok result) q h = monitors (ap (λ (x : TheCore). x.monitor) h.rest)
   arrives_came l frag f p (Err link.Astray) q h = monitors (ap (λ (x : TheCore). x.monitor) h.1)
   arrives_came l frag f p (Err link.Failed) q h = absurd h
@@ -241,7 +242,7 @@ module _ (s m : TheRun TheSide) (sound : Sound s.core.monitor.circuits) (e : End
   arrives_came l frag f p (Err (link.Wire g)) q h = absurd h
   arrives_came l frag f p (Err link.Memory) q h = absurd h
 
-  says_came : (l : ℕ) (p : TheSide) (answer : MonitorWrite) (q : TheSide) → MonitorWrites shared_ways.puts l s.core p answer m.core q → Came
+  says_came : (l : ℕ) (p : TheSide) (answer : MonitorWrite) (q : TheSide) → MonitorWrites shared_ways.puts l (at_side s.core p) answer (at_side m.core q) → Came
   says_came l p said_as.Written q h = tables (ap (λ (x : TheCore). x.monitor.circuits) h.4)
   says_came l p said_as.Full q h = monitors (ap (λ (x : TheCore). x.monitor) h.2)
   says_came l p said_as.Spent q h = monitors (ap (λ (x : TheCore). x.monitor) h.2)

@@ -23,9 +23,9 @@ use Rattle.fl_monitor.specs.declared.heard.Heard.{Heard}
 use Rattle.fl_monitor.specs.declared.heard.Heard.TheVariants as outcome
 use Rattle.fl_monitor.specs.declared.message.Message.{Message}
 use Rattle.fl_node.specs.View.{TheCore, with_monitor, arriving_at}
-use Rattle.fl_node.specs.Ends.{TriggersIf, woken_by}
-use Rattle.fl_node.specs.Links.{LooksAhead, ArrivesAt, MonitorWrites, reached}
-use Rattle.fl_node.specs.Hearing.{Offers, HearsFrag, HearsMessage, HearsAll, Follows, BindsIf}
+use Rattle.fl_node.specs.Ends.{at_side, TriggersIf, woken_by}
+use Rattle.fl_node.specs.Links.{LooksAhead, inbound, ArrivesAt, MonitorWrites, reached}
+use Rattle.fl_node.specs.Hearing.{Offers, HearsFrag, HearsMessage, HearsAll, offering, Follows, BindsIf}
 use Rattle.fl_node.specs.Making.{Asks, Asked}
 use Rattle.fl_node.specs.declared.answer.Ahead.{Ahead}
 use Rattle.fl_node.specs.declared.answer.Ahead.TheVariants as ahead
@@ -128,7 +128,7 @@ core_same k k2 same = keeps_same k.board k2.board (ap (λ (x : TheCore). x.board
 core_board : (k k2 : TheCore) → k2.board ≡ k.board → CoreKeeps k k2
 core_board k k2 same = keeps_same k.board k2.board same
 
-ahead_keeps : {S : Type 0} (w : Ways S) (l : ℕ) (k : TheCore) (p : S) (answer : Result Ahead LinkFault) (k2 : TheCore) (q : S) → LooksAhead w.takes w.front l k p answer k2 q → CoreKeeps k k2
+ahead_keeps : {S : Type 0} (w : Ways S) (l : ℕ) (k : TheCore) (p : S) (answer : Result Ahead LinkFault) (k2 : TheCore) (q : S) → LooksAhead w.takes w.front l (at_side k p) answer (at_side k2 q) → CoreKeeps k k2
 ahead_keeps w l k p (Ok ahead.Nothing) k2 q h = core_same k k2 h.1
 ahead_keeps w l k p (Ok ahead.Acknowledged) k2 q h = core_same k k2 h.1
 ahead_keeps w l k p (Ok (ahead.Message frag)) k2 q h = core_same k k2 h.1
@@ -141,7 +141,7 @@ ahead_keeps w l k p (Err (link.Wire f)) k2 q h = absurd h
 ahead_keeps w l k p (Err link.Memory) k2 q h = absurd h
 
 arrives_keeps : {S : Type 0} (w : Ways S) (l : ℕ) (frag : Frag) (e : EndId) (k : TheCore) (p : S) (answer : Result Outcome LinkFault) (k2 : TheCore) (q : S)
-    → ArrivesAt w.takes l frag e k p answer k2 q → CoreKeeps k k2
+    → ArrivesAt w.takes (inbound l frag e) (at_side k p) answer (at_side k2 q) → CoreKeeps k k2
 arrives_keeps w l frag e k p (Ok result) k2 q h = keeps_triggers (reached h.end result) k.board k2.board h.triggers
 arrives_keeps w l frag e k p (Err link.Astray) k2 q h = core_board k k2 (ap (λ (x : TheCore). x.board) h.1)
 arrives_keeps w l frag e k p (Err link.Failed) k2 q h = absurd h
@@ -154,7 +154,7 @@ binds_keep None c k k2 h = core_same k k2 h
 binds_keep (Some at) c k k2 h = keeps_then k.board h.bound_board k2.board (keeps_end k.board h.bound_board at.end _ h.binds) (keeps_lists h.bound_board k2.board at.end _ h.registers)
 
 follows_keep : (programs : List Program) (offer : Option Offered) (l : LinkId) (heard : Heard) (k : TheCore) (answered : MonitorAnswer) (k2 : TheCore)
-    → Follows programs offer l heard k answered k2 → CoreKeeps k k2
+    → Follows (offering programs offer l) heard k answered k2 → CoreKeeps k k2
 follows_keep programs offer l (outcome.ServerMade binding dispatcher c) k answered k2 h =
     keeps_then k.board h.1.added k2.board (keeps_adds k.board h.1.added dispatcher h.1.end _ _ h.1.adds) (keeps_lists h.1.added k2.board h.1.end _ h.1.joins.1)
 follows_keep programs offer l (outcome.EndOpened e c) k answered k2 h = binds_keep (arriving_at k e) c k k2 h.1
@@ -191,7 +191,7 @@ hears_keep o l frag k (Err link.Astray) k2 h = message_keeps o l h.0 k (Err link
 hears_keep o l frag k (Err link.Marked) k2 h = message_keeps o l h.0 k (Err link.Marked) k2 h.2
 hears_keep o l frag k (Ok answered) k2 h = message_keeps o l h.0 k (Ok answered) k2 h.2
 
-says_keep : {S : Type 0} (w : Ways S) (l : ℕ) (k : TheCore) (p : S) (answer : MonitorWrite) (k2 : TheCore) (q : S) → MonitorWrites w.puts l k p answer k2 q → CoreKeeps k k2
+says_keep : {S : Type 0} (w : Ways S) (l : ℕ) (k : TheCore) (p : S) (answer : MonitorWrite) (k2 : TheCore) (q : S) → MonitorWrites w.puts l (at_side k p) answer (at_side k2 q) → CoreKeeps k k2
 says_keep w l k p said_as.Written k2 q h = core_board k k2 (ap (λ (x : TheCore). x.board) h.4)
 says_keep w l k p said_as.Full k2 q h = core_same k k2 h.2
 says_keep w l k p said_as.Spent k2 q h = core_same k k2 h.2

@@ -23,7 +23,7 @@ use Rattle.fl_endpoint.specs.declared.fault.EndFault.{EndFault}
 use Rattle.fl_endpoint.specs.declared.fault.EndFault.TheVariants.{Spent, Busy, UnknownMessage, Misfit, NotBound, Failed, Wire, Memory}
 use Rattle.fl_endpoint.specs.View.{TheEnd, with_parts, interface_in, with_handled, with_failed}
 use Rattle.fl_endpoint.specs.Events.{IsOpen, Readies, AreCall, Handles, TakesIn, Receives}
-use Rattle.fl_endpoint.specs.Lent.{IsOf, IsPlaceOf, TakesInWith, TakesInAt, ReceivesWith, ReceivesAt}
+use Rattle.fl_endpoint.specs.Lent.{IsOf, IsPlaceOf, taking, TakesInWith, TakesInAt, receipt, ReceivesWith, ReceivesAt}
 use Rattle.fl_endpoint.proofs.Sounds.{bare_more, are_call}
 
 -- an element that replaces itself changes nothing
@@ -146,31 +146,31 @@ module _ (s : TheEnd) (calls : List TheReassembly) (place : ℕ) (known : IsPlac
 
   module _ (f : Frag) (bare_is : bare f ≡ f) (after : List TheReassembly) where
     -- what is so with what stood there is so with what stands there, where that is the same
-    takes_same : (answer : Result ReceiveAnswer EndFault) (t : TheEnd) (was is : TheReassembly) → is ≡ was → TakesInWith s f answer t was was → TakesInWith s f answer t was is
-    takes_same answer t was is e h = subst (λ (x : TheReassembly). TakesInWith s f answer t was x) (sym e) h
+    takes_same : (answer : Result ReceiveAnswer EndFault) (t : TheEnd) (was is : TheReassembly) → is ≡ was → TakesInWith (taking s f answer t) was was → TakesInWith (taking s f answer t) was is
+    takes_same answer t was is e h = subst (λ (x : TheReassembly). TakesInWith (taking s f answer t) was x) (sym e) h
 
     pub refused_at : (fault : WireFault) (t : TheEnd) → t ≡ with_failed s → ChangesPlace calls place (λ a b. Takes a f (Err (refused.Wire fault)) b) after
-        → TakesInAt s f (Err (Wire fault)) t calls place after
-    refused_at fault t t_is h = changes_as (λ a b. Takes a f (Err (refused.Wire fault)) b) (TakesInWith s f (Err (Wire fault)) t) after
+        → TakesInAt (taking s f (Err (Wire fault)) t) calls place after
+    refused_at fault t t_is h = changes_as (λ a b. Takes a f (Err (refused.Wire fault)) b) (TakesInWith (taking s f (Err (Wire fault)) t)) after
         (λ was is of e. takes_same (Err (Wire fault)) t was is e.1 (record {
           of = still_of s t was was.parts (ap (λ (x : TheEnd). x.program) t_is) of of.plain;
           program = refl;
           takes_in = (subst (λ (p : TheProgram). IsRefused p.plan p.interface was.parts f fault) of.program e.0, ap (λ (x : TheEnd). with_parts x was.parts) t_is);
         })) h
 
-    pub part_at : ChangesPlace calls place (λ a b. Takes a f (Ok taken.Part) b) after → TakesInAt s f (Ok Part) s calls place after
-    part_at h = changes_as (λ a b. Takes a f (Ok taken.Part) b) (TakesInWith s f (Ok Part) s) after
+    pub part_at : ChangesPlace calls place (λ a b. Takes a f (Ok taken.Part) b) after → TakesInAt (taking s f (Ok Part) s) calls place after
+    part_at h = changes_as (λ a b. Takes a f (Ok taken.Part) b) (TakesInWith (taking s f (Ok Part) s)) after
         (λ was is of e.
         let is_more : is ≡ record { program = was.program; parts = was.parts ++ f ∷ [] } = e.1 ∙ ap (λ (x : Frag). let r : TheReassembly = record { program = was.program; parts = was.parts ++ x ∷ [] } in r) bare_is in
-        subst (λ (x : TheReassembly). TakesInWith s f (Ok Part) s was x) (sym is_more) (record {
+        subst (λ (x : TheReassembly). TakesInWith (taking s f (Ok Part) s) was x) (sym is_more) (record {
           of = still_of s s was (was.parts ++ f ∷ []) refl of (bare_more was.parts f of.plain bare_is);
           program = refl;
           takes_in = (subst (λ (p : TheProgram). IsPart p.plan p.interface (was.parts ++ f ∷ [])) of.program e.0, refl);
         })) h
 
     module _ (law : OneReading) (words : interface_words_fit (interface_in s) ≡ true) where
-      pub memory_at : ChangesPlace calls place (λ a b. Takes a f (Err refused.Memory) b) after → TakesInAt s f (Err Memory) s calls place after
-      memory_at h = changes_as (λ a b. Takes a f (Err refused.Memory) b) (TakesInWith s f (Err Memory) s) after
+      pub memory_at : ChangesPlace calls place (λ a b. Takes a f (Err refused.Memory) b) after → TakesInAt (taking s f (Err Memory) s) calls place after
+      memory_at h = changes_as (λ a b. Takes a f (Err refused.Memory) b) (TakesInWith (taking s f (Err Memory) s)) after
           (λ was is of e. takes_same (Err Memory) s was is e.1 (record {
             of = of;
             program = refl;
@@ -178,8 +178,8 @@ module _ (s : TheEnd) (calls : List TheReassembly) (place : ℕ) (known : IsPlac
           })) h
 
       pub whole_refused : (call : Call) → ChangesPlace calls place (λ a b. Takes a f (Ok (taken.Whole call)) b) after → (fault : EndFault) (t : TheEnd) → Handles s (call_of call) (Err fault) t
-          → TakesInAt s f (Err fault) t calls place after
-      whole_refused call h fault t handles = changes_as (λ a b. Takes a f (Ok (taken.Whole call)) b) (TakesInWith s f (Err fault) t) after
+          → TakesInAt (taking s f (Err fault) t) calls place after
+      whole_refused call h fault t handles = changes_as (λ a b. Takes a f (Ok (taken.Whole call)) b) (TakesInWith (taking s f (Err fault) t)) after
           (λ was is of e. takes_same (Err fault) t was is e.1 (record {
             of = still_of s t was was.parts (handled_program s (call_of call) (Err fault) t handles) of of.plain;
             program = refl;
@@ -199,7 +199,7 @@ module _ (s : TheEnd) (calls : List TheReassembly) (place : ℕ) (known : IsPlac
 
       -- until it is done with
       pub whole_handled : OneReading → interface_words_fit (interface_in s) ≡ true → (answer : ReceiveAnswer) (t : TheEnd) (last : List TheReassembly) → Handles s (call_of call) (Ok answer) t
-          → ChangesPlace after place (λ a b. b ≡ without_parts a) last → TakesInAt s f (Ok answer) t calls place last
+          → ChangesPlace after place (λ a b. b ≡ without_parts a) last → TakesInAt (taking s f (Ok answer) t) calls place last
       whole_handled law words answer t last handles done =
           let there : slice_get calls place ≡ Some done.was = ap (λ (x : List TheReassembly). slice_get x place) (sym whole_stays) ∙ done.was_there in
           let same : done.was ≡ h.was = cc (there, h.was_there) in
@@ -209,7 +209,7 @@ module _ (s : TheEnd) (calls : List TheReassembly) (place : ℕ) (known : IsPlac
             was = h.was;
             was_there = h.was_there;
             is = done.is;
-            event = subst (λ (x : TheReassembly). TakesInWith s f (Ok answer) t h.was x) (sym is_empty) (record {
+            event = subst (λ (x : TheReassembly). TakesInWith (taking s f (Ok answer) t) h.was x) (sym is_empty) (record {
               of = still_of s t h.was [] (handled_program s (call_of call) (Ok answer) t handles) of refl;
               program = refl;
               takes_in = handled_in (with_parts s h.was.parts) f (call_of call) (Ok answer) (with_parts t []) (are_whole s h.was f (call_of call) law words of bare_is h.event.0) (handled_with s h.was.parts (call_of call) answer t handles);
@@ -220,10 +220,10 @@ module _ (s : TheEnd) (calls : List TheReassembly) (place : ℕ) (known : IsPlac
   -- ---- a receive
 
   module _ {T : Type 0} (takes : T → Look → T → Type 0) (p q : T) where
-    pub receives_kept : (answer : Result ReceiveAnswer EndFault) → ((parts : List Frag) → Receives takes (with_parts s parts) p answer (with_parts s parts) q) → ReceivesAt takes s p answer s q calls place calls
-    receives_kept answer h = stays_as (ReceivesWith takes s p answer s q) (λ r of. record { of = of; program = refl; receives = h r.parts })
+    pub receives_kept : (answer : Result ReceiveAnswer EndFault) → ((parts : List Frag) → Receives takes (with_parts s parts) p answer (with_parts s parts) q) → ReceivesAt takes (receipt s p answer s q) calls place calls
+    receives_kept answer h = stays_as (ReceivesWith takes (receipt s p answer s q)) (λ r of. record { of = of; program = refl; receives = h r.parts })
 
-    pub not_ready : (fault : EndFault) → Readies s (Err fault) → q ≡ p → ReceivesAt takes s p (Err fault) s q calls place calls
+    pub not_ready : (fault : EndFault) → Readies s (Err fault) → q ≡ p → ReceivesAt takes (receipt s p (Err fault) s q) calls place calls
     not_ready NotBound h e = receives_kept (Err NotBound) (λ parts. (h, e, refl))
     not_ready Failed h e = receives_kept (Err Failed) (λ parts. (h, e, refl))
     not_ready Spent h e = absurd h
@@ -252,10 +252,10 @@ module _ (s : TheEnd) (calls : List TheReassembly) (place : ℕ) (known : IsPlac
       takes_with was is Empty m sees takes_it h = absurd h
       takes_with was is HeldBack m sees takes_it h = absurd h
 
-      pub leaves_at : (fault : EndFault) → takes p (saw f) q → TakesInAt s f (Err fault) t calls place after → ReceivesAt takes s p (Err fault) t q calls place after
-      leaves_at fault sees h = changes_as (TakesInWith s f (Err fault) t) (ReceivesWith takes s p (Err fault) t q) after
+      pub leaves_at : (fault : EndFault) → takes p (saw f) q → TakesInAt (taking s f (Err fault) t) calls place after → ReceivesAt takes (receipt s p (Err fault) t q) calls place after
+      leaves_at fault sees h = changes_as (TakesInWith (taking s f (Err fault) t)) (ReceivesWith takes (receipt s p (Err fault) t q)) after
           (λ was is of e. record { of = e.of; program = e.program; receives = leaves_with was is fault sees e.takes_in }) h
 
-      pub takes_at : (answer : ReceiveAnswer) (m : T) → takes p (saw f) m → takes m (found f) q → TakesInAt s f (Ok answer) t calls place after → ReceivesAt takes s p (Ok answer) t q calls place after
-      takes_at answer m sees takes_it h = changes_as (TakesInWith s f (Ok answer) t) (ReceivesWith takes s p (Ok answer) t q) after
+      pub takes_at : (answer : ReceiveAnswer) (m : T) → takes p (saw f) m → takes m (found f) q → TakesInAt (taking s f (Ok answer) t) calls place after → ReceivesAt takes (receipt s p (Ok answer) t q) calls place after
+      takes_at answer m sees takes_it h = changes_as (TakesInWith (taking s f (Ok answer) t)) (ReceivesWith takes (receipt s p (Ok answer) t q)) after
           (λ was is of e. record { of = e.of; program = e.program; receives = takes_with was is answer m sees takes_it e.takes_in }) h

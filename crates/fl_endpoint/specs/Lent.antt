@@ -25,23 +25,43 @@ AddsPlace s before after = (r : TheReassembly) × IsOf s r × (r.parts ≡ []) �
 
 -- ---- what a receive comes to at an end with its place
 
--- the place stays the end's, with its program, and the end takes a fragment in
-pub record TakesInWith (s : TheEnd) (f : Frag) (answer : Result ReceiveAnswer EndFault) (t : TheEnd) (was is : TheReassembly) : Type 0 where
-  pub of : IsOf t is
-  pub program : is.program ≡ was.program
-  pub takes_in : TakesIn (with_parts s was.parts) f answer (with_parts t is.parts)
+-- an end that takes a fragment in: how it was, what it answers, and how it is then
+pub record Taking : Type 0 where
+  pub before : TheEnd
+  pub frag : Frag
+  pub answer : Result ReceiveAnswer EndFault
+  pub after : TheEnd
 
--- so it stays, and the end receives
-pub record ReceivesWith {T : Type 0} (takes : T → Look → T → Type 0) (s : TheEnd) (p : T) (answer : Result ReceiveAnswer EndFault) (t : TheEnd) (q : T)
-    (was is : TheReassembly) : Type 0 where
-  pub of : IsOf t is
+abbrev pub taking : TheEnd → Frag → Result ReceiveAnswer EndFault → TheEnd → Taking
+taking s f answer t = record { before = s; frag = f; answer = answer; after = t }
+
+-- the place stays the end's, with its program, and the end takes the fragment in
+pub record TakesInWith (x : Taking) (was is : TheReassembly) : Type 0 where
+  pub of : IsOf x.after is
   pub program : is.program ≡ was.program
-  pub receives : Receives takes (with_parts s was.parts) p answer (with_parts t is.parts) q
+  pub takes_in : TakesIn (with_parts x.before was.parts) x.frag x.answer (with_parts x.after is.parts)
 
 -- of all places, the end's alone has changed
-abbrev pub TakesInAt : TheEnd → Frag → Result ReceiveAnswer EndFault → TheEnd → List TheReassembly → ℕ → List TheReassembly → Type 0
-TakesInAt s f answer t before place after = ChangesPlace before place (TakesInWith s f answer t) after
+abbrev pub TakesInAt : Taking → List TheReassembly → ℕ → List TheReassembly → Type 0
+TakesInAt x before place after = ChangesPlace before place (TakesInWith x) after
 
-abbrev pub ReceivesAt : {T : Type 0} → (T → Look → T → Type 0) → TheEnd → T → Result ReceiveAnswer EndFault → TheEnd → T
-    → List TheReassembly → ℕ → List TheReassembly → Type 0
-ReceivesAt takes s p answer t q before place after = ChangesPlace before place (ReceivesWith takes s p answer t q) after
+-- an end that receives from a side: how both were, what it answers, and how both are then
+pub record Receipt (T : Type 0) : Type 0 where
+  pub before : TheEnd
+  pub side_before : T
+  pub answer : Result ReceiveAnswer EndFault
+  pub after : TheEnd
+  pub side_after : T
+
+abbrev pub receipt : {T : Type 0} → TheEnd → T → Result ReceiveAnswer EndFault → TheEnd → T → Receipt T
+receipt s p answer t q = record { before = s; side_before = p; answer = answer; after = t; side_after = q }
+
+-- the place stays the end's, with its program, and the end receives
+pub record ReceivesWith {T : Type 0} (takes : T → Look → T → Type 0) (x : Receipt T) (was is : TheReassembly) : Type 0 where
+  pub of : IsOf x.after is
+  pub program : is.program ≡ was.program
+  pub receives : Receives takes (with_parts x.before was.parts) x.side_before x.answer (with_parts x.after is.parts) x.side_after
+
+-- of all places, the end's alone has changed
+abbrev pub ReceivesAt : {T : Type 0} → (T → Look → T → Type 0) → Receipt T → List TheReassembly → ℕ → List TheReassembly → Type 0
+ReceivesAt takes x before place after = ChangesPlace before place (ReceivesWith takes x) after

@@ -3,7 +3,7 @@
 ghost use Rattle.std.specs.Prelude.{◌≡◌, [], length, Some, None, IfOk, OnOk, OnErr};
 ghost use Rattle.fl_value.specs.Value.{call_of};
 ghost use Rattle.fl_endpoint.specs.Accounts.{Sound};
-ghost use Rattle.fl_endpoint.specs.Lent.{IsPlaceOf, AddsPlace, ReceivesAt};
+ghost use Rattle.fl_endpoint.specs.Lent.{IsPlaceOf, AddsPlace, receipt, ReceivesAt};
 ghost use Rattle.fl_endpoint.specs.Rules.{rule_of};
 ghost use Rattle.fl_endpoint.specs.Inside.{circuit_of};
 ghost use Rattle.fl_endpoint.specs.View.{interface_in, fresh, bound, is_circuit, is_busy, rule_at, has_rules};
@@ -251,7 +251,7 @@ impl End {
         place: usize,
     ) -> Result<ReceiveAnswer, EndFault>
         requires place { IsPlaceOf self.old calls.old place }
-        ensures receives { ReceivesAt T.takes self.old from.old result self.new from.new calls.old place calls.new }
+        ensures receives { ReceivesAt T.takes (receipt self.old from.old result self.new from.new) calls.old place calls.new }
         ensures place { IsPlaceOf self.new calls.new place }
     {
         self.parts.receive(from, calls, place)

@@ -6,7 +6,7 @@ ghost use Rattle.fl_value.specs.Fits.{fits_of};
 ghost use Rattle.fl_base.specs.Control.{bare};
 ghost use Rattle.fl_endpoint.specs.Accounts.{Sound};
 ghost use Rattle.fl_endpoint.specs.Rules.{rule_of};
-ghost use Rattle.fl_endpoint.specs.Lent.{IsPlaceOf, AddsPlace, TakesInAt, ReceivesAt};
+ghost use Rattle.fl_endpoint.specs.Lent.{IsPlaceOf, AddsPlace, taking, TakesInAt, receipt, ReceivesAt};
 ghost use Rattle.fl_endpoint.specs.Stored.{IsOwn};
 ghost use Rattle.fl_endpoint.specs.Inside.{circuit_of};
 ghost use Rattle.fl_endpoint.specs.View.{interface_in, fresh, bound, is_circuit, is_busy, rule_at, has_rules, holds_back};
@@ -320,7 +320,7 @@ impl Parts {
         requires bound { self.old.circuit ≡ Some circuit.0 }
         requires takes { holds_back self.old ≡ false }
         requires place { IsPlaceOf self.old calls.old place }
-        ensures takes_in { TakesInAt self.old frag.now result self.new calls.old place calls.new }
+        ensures takes_in { TakesInAt (taking self.old frag.now result self.new) calls.old place calls.new }
     {
         // What is known of the end is known once it is read.
         let _circuit = self.circuit;
@@ -349,7 +349,7 @@ impl Parts {
         place: usize,
     ) -> Result<ReceiveAnswer, EndFault>
         requires place { IsPlaceOf self.old calls.old place }
-        ensures receives { ReceivesAt T.takes self.old from.old result self.new from.new calls.old place calls.new }
+        ensures receives { ReceivesAt T.takes (receipt self.old from.old result self.new from.new) calls.old place calls.new }
         ensures place { IsPlaceOf self.new calls.new place }
     {
         let circuit = match self.ready() {

@@ -26,7 +26,7 @@ use Rattle.fl_running.specs.declared.run.End.{End as EndOf}
 use Rattle.fl_running.specs.declared.run.End.TheVariants.{Finished, Unfinished, Told}
 use Rattle.fl_running.specs.Run.{Ways, TheRun, next_job, lent_lane, lent_post, lent_due, lent_berth}
 use Rattle.fl_running.specs.Deeds.{Deed, looked, passed, arrived, heard, said, told, opened, called, ruled, wrote, acked, turned, Does, Happens}
-use Rattle.fl_running.specs.Steps.{Deals, ForwardsOver, Forwards, SaysOver, Says, TellsOver, Tells, may_ask, OpensIf, CallsAt, Tries, WritesFrom, Serves, AcksFrom, Acknowledges, RulesAt, awaits, TurnsIf, TurnsAt, TakesTurn}
+use Rattle.fl_running.specs.Steps.{Deals, ForwardsOver, Forwards, SaysOver, Says, TellsOver, Tells, may_ask, OpensIf, CallsAt, Tries, WritesFrom, Serves, AcksFrom, Acknowledges, reply_rule, RulesAt, awaits, due_turn, TurnsIf, TurnsAt, TakesTurn}
 use Rattle.fl_running.specs.Turn.{Swept, At, OneTurn, Turned}
 use Rattle.fl_running.specs.Jobs.{calls_of_job}
 use Rattle.fl_running.specs.Ran.{Task, GoesOn}
@@ -147,7 +147,7 @@ module _ {S : Type 0} (w : Ways S) (jobs : List Job) where
   calls name e call (Some place) s t next h = one (called name (call_of call) h.0) s t tt (ap calls_of_job next) h.1
 
   sets_rule : (name : EndId) (e : EndId) (msg reply : MsgNo) (o : Option ℕ) (s t : TheRun S) → next_job jobs s name ≡ Some (job.Reply e msg reply)
-      → RulesAt w name msg reply o s t → Went s t
+      → RulesAt w (reply_rule name msg reply) o s t → Went s t
   sets_rule name e msg reply None s t next h = nothing s t h
   sets_rule name e msg reply (Some place) s t next h = one (ruled name msg reply h.0) s t tt (e, next) h.1
 
@@ -174,7 +174,7 @@ module _ {S : Type 0} (w : Ways S) (jobs : List Job) where
   -- ---- for each dispatcher
 
   turns_if : (b : Bool) (d : ℕ) (name : EndId) (due : _) (s t : TheRun S) → lent_due s d ≡ Some due → place_of s.core name ≡ Some due.end → awaits jobs s name ≡ b
-      → TurnsIf w b d name due s t → Went s t
+      → TurnsIf w b (due_turn d name due) s t → Went s t
   turns_if true d name due s t is place waits h = nothing s t h
   turns_if false d name due s t is place waits h = one (turned d name due.inlet h.0) s t tt (due, is, place, refl, waits) h.1
 

@@ -29,9 +29,9 @@ use Rattle.fl_monitor.specs.declared.message.Message.{Message}
 use Rattle.fl_monitor.proofs.Single.{says_the_same}
 use Rattle.fl_node.specs.View.{TheCore, place_of, place_in, slot_of, client_of, server_of, with_monitor, arriving_at}
 use Rattle.fl_node.specs.Sound.{IsCore}
-use Rattle.fl_node.specs.Links.{LooksAhead, ArrivesAt, MonitorWrites}
+use Rattle.fl_node.specs.Links.{LooksAhead, inbound, ArrivesAt, MonitorWrites}
 use Rattle.fl_nameserv.specs.Registrations.{TheRegistration, by_iref}
-use Rattle.fl_node.specs.Hearing.{Offers, has_place, known_for, offer_for, IsCopyFor, HearsAll, Follows, BindsIf}
+use Rattle.fl_node.specs.Hearing.{Offers, has_place, known_for, offer_for, IsCopyFor, HearsAll, offering, Follows, BindsIf}
 use Rattle.fl_node.specs.Making.{asked, Asks}
 use Rattle.fl_node.specs.declared.answer.Ahead.{Ahead}
 use Rattle.fl_node.specs.declared.answer.Ahead.TheVariants as ahead
@@ -46,6 +46,7 @@ use Rattle.fl_node.specs.declared.fault.OpenFault.TheVariants as opening
 use Rattle.fl_node.specs.declared.wire.Arriving.{Arriving}
 use Rattle.fl_node.specs.declared.wire.Outlet.TheVariants as outlet
 use Rattle.fl_node.specs.declared.wire.Inlet.TheVariants as inlet
+use Rattle.fl_node.specs.Ends.{at_side}
 use Rattle.fl_node.proofs.Named.{put_elsewhere, here_or_not}
 use Rattle.fl_node.proofs.Offers.{made_for, made_new, offer_found}
 use Rattle.fl_running.specs.declared.job.Job.{Job}
@@ -110,7 +111,7 @@ module _ (name : EndId) (k : TheCore) (absent : place_of k name ≡ None) where
   pub alike : (k2 : TheCore) → k2 ≡ k → place_of k2 name ≡ None
   alike k2 same = places_stay k2 (ap (λ (c : TheCore). c.places) same)
 
-  ahead_none : {S : Type 0} (w : Ways S) (l : ℕ) (p : S) (answer : Result Ahead LinkFault) (k2 : TheCore) (q : S) → LooksAhead w.takes w.front l k p answer k2 q → Absent k2
+  ahead_none : {S : Type 0} (w : Ways S) (l : ℕ) (p : S) (answer : Result Ahead LinkFault) (k2 : TheCore) (q : S) → LooksAhead w.takes w.front l (at_side k p) answer (at_side k2 q) → Absent k2
   ahead_none w l p (Ok ahead.Nothing) k2 q h = alike k2 h.1
   ahead_none w l p (Ok ahead.Acknowledged) k2 q h = alike k2 h.1
   ahead_none w l p (Ok (ahead.Message frag)) k2 q h = alike k2 h.1
@@ -122,7 +123,7 @@ module _ (name : EndId) (k : TheCore) (absent : place_of k name ≡ None) where
   ahead_none w l p (Err (link.Wire f)) k2 q h = absurd h
   ahead_none w l p (Err link.Memory) k2 q h = absurd h
 
-  arrives_none : {S : Type 0} (w : Ways S) (l : ℕ) (frag : Frag) (n : EndId) (p : S) (answer : Result Outcome LinkFault) (k2 : TheCore) (q : S) → ArrivesAt w.takes l frag n k p answer k2 q → Absent k2
+  arrives_none : {S : Type 0} (w : Ways S) (l : ℕ) (frag : Frag) (n : EndId) (p : S) (answer : Result Outcome LinkFault) (k2 : TheCore) (q : S) → ArrivesAt w.takes (inbound l frag n) (at_side k p) answer (at_side k2 q) → Absent k2
   arrives_none w l frag n p (Ok result) k2 q h = places_stay k2 (ap (λ (c : TheCore). c.places) h.rest)
   arrives_none w l frag n p (Err link.Astray) k2 q h = places_stay k2 (ap (λ (c : TheCore). c.places) h.1)
   arrives_none w l frag n p (Err link.Failed) k2 q h = absurd h
@@ -130,7 +131,7 @@ module _ (name : EndId) (k : TheCore) (absent : place_of k name ≡ None) where
   arrives_none w l frag n p (Err (link.Wire f)) k2 q h = absurd h
   arrives_none w l frag n p (Err link.Memory) k2 q h = absurd h
 
-  says_none : {S : Type 0} (w : Ways S) (l : ℕ) (p : S) (answer : MonitorWrite) (k2 : TheCore) (q : S) → MonitorWrites w.puts l k p answer k2 q → Absent k2
+  says_none : {S : Type 0} (w : Ways S) (l : ℕ) (p : S) (answer : MonitorWrite) (k2 : TheCore) (q : S) → MonitorWrites w.puts l (at_side k p) answer (at_side k2 q) → Absent k2
   says_none w l p said_as.Written k2 q h = places_stay k2 (ap (λ (c : TheCore). c.places) h.4)
   says_none w l p said_as.Full k2 q h = alike k2 h.2
   says_none w l p said_as.Spent k2 q h = alike k2 h.2
@@ -193,7 +194,7 @@ module _ (name : EndId) (k : TheCore) (absent : place_of k name ≡ None) where
           }
 
       follows_come : (m : TheMonitor) (h : Heard) (answered : MonitorAnswer) (k2 : TheCore) → ComesTo (known_for o k msg) k.monitor.circuits l msg h
-          → Follows o.programs (offer_for o k msg) l h (with_monitor k m) answered k2 → Comes k2
+          → Follows (offering o.programs (offer_for o k msg) l) h (with_monitor k m) answered k2 → Comes k2
       follows_come m (outcome.ServerMade binding dispatcher c) answered k2 comes f =
           let new = made_for (known_for o k msg) k.monitor.circuits l msg (outcome.ServerMade binding dispatcher c) _ comes refl in
           let few = made_new o k msg _ new in

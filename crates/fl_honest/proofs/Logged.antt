@@ -45,9 +45,10 @@ use Rattle.fl_node.specs.declared.wire.Outlet.TheVariants as outlet
 use Rattle.fl_node.specs.declared.wire.Inlet.TheVariants as inlet
 use Rattle.fl_node.specs.View.{TheCore, arriving_at, with_monitor}
 use Rattle.fl_node.specs.Sound.{IsCore}
-use Rattle.fl_node.specs.Links.{LooksAhead, ArrivesAt}
+use Rattle.fl_node.specs.Links.{LooksAhead, inbound, ArrivesAt}
 use Rattle.fl_node.specs.Making.{Asked, Asks}
-use Rattle.fl_node.specs.Hearing.{Offers, known_for, offer_for, HearsAll, Follows, BindsIf}
+use Rattle.fl_node.specs.Hearing.{Offers, known_for, offer_for, HearsAll, offering, Follows, BindsIf}
+use Rattle.fl_node.specs.Ends.{at_side}
 use Rattle.fl_running.specs.declared.job.Job.{Job}
 use Rattle.fl_running.specs.declared.job.Wish.{Wish}
 use Rattle.fl_running.specs.Run.{Ways, TheRun}
@@ -118,7 +119,7 @@ eq_true a b is = grind (arith, nat_tests, is)
 -- ---- what becomes of the monitor
 
 pub follows_monitor : (o : Offers) (l : LinkId) (msg : Message) (h : Heard) (k : TheCore) (m : TheMonitor) (answer : MonitorAnswer) (k2 : TheCore)
-    → Follows o.programs (offer_for o k msg) l h (with_monitor k m) answer k2 → k2.monitor ≡ m
+    → Follows (offering o.programs (offer_for o k msg) l) h (with_monitor k m) answer k2 → k2.monitor ≡ m
 follows_monitor o l msg (outcome.ServerMade binding dispatcher c) k m answer k2 f = ap (λ (x : TheCore). x.monitor) f.1.rest
 follows_monitor o l msg (outcome.EndOpened e c) k m answer k2 f = by (arriving_at (with_monitor k m) e) f.1 where
   by : (at : Option Arriving) → BindsIf at c (with_monitor k m) k2 → k2.monitor ≡ m
@@ -129,7 +130,7 @@ follows_monitor o l msg (outcome.OpeningWentOn binding n c) k m answer k2 f = ap
 follows_monitor o l msg (outcome.OpeningFailed binding reason) k m answer k2 f = ap (λ (x : TheCore). x.monitor) f.1
 follows_monitor o l msg (outcome.AnswerWentOn binding n c) k m answer k2 f = ap (λ (x : TheCore). x.monitor) f.1
 
-pub ahead_monitor : {S : Type 0} (w : Ways S) (l : ℕ) (k : TheCore) (p : S) (answer : Result Ahead LinkFault) (k2 : TheCore) (q : S) → LooksAhead w.takes w.front l k p answer k2 q → k2.monitor ≡ k.monitor
+pub ahead_monitor : {S : Type 0} (w : Ways S) (l : ℕ) (k : TheCore) (p : S) (answer : Result Ahead LinkFault) (k2 : TheCore) (q : S) → LooksAhead w.takes w.front l (at_side k p) answer (at_side k2 q) → k2.monitor ≡ k.monitor
 ahead_monitor w l k p (Ok ahead.Nothing) k2 q h = ap (λ (x : TheCore). x.monitor) h.1
 ahead_monitor w l k p (Ok ahead.Acknowledged) k2 q h = ap (λ (x : TheCore). x.monitor) h.1
 ahead_monitor w l k p (Ok (ahead.Message frag)) k2 q h = ap (λ (x : TheCore). x.monitor) h.1
@@ -142,7 +143,7 @@ ahead_monitor w l k p (Err (link.Wire f)) k2 q h = absurd h
 ahead_monitor w l k p (Err link.Memory) k2 q h = absurd h
 
 pub arrives_monitor : {S : Type 0} (w : Ways S) (l : ℕ) (frag : Frag) (e : EndId) (k : TheCore) (p : S) (answer : Result Outcome LinkFault) (k2 : TheCore) (q : S)
-    → ArrivesAt w.takes l frag e k p answer k2 q → k2.monitor ≡ k.monitor
+    → ArrivesAt w.takes (inbound l frag e) (at_side k p) answer (at_side k2 q) → k2.monitor ≡ k.monitor
 arrives_monitor w l frag e k p (Ok result) k2 q h = ap (λ (x : TheCore). x.monitor) h.rest
 arrives_monitor w l frag e k p (Err link.Astray) k2 q h = ap (λ (x : TheCore). x.monitor) h.1
 arrives_monitor w l frag e k p (Err link.Failed) k2 q h = absurd h

@@ -50,7 +50,7 @@ use Rattle.fl_node.specs.declared.fault.LinkFault.{LinkFault}
 use Rattle.fl_node.specs.declared.fault.OpenFault.{OpenFault}
 use Rattle.fl_node.specs.declared.fault.OpenFault.TheVariants as opening
 use Rattle.fl_node.specs.Faults.{open_number}
-use Rattle.fl_node.specs.Hearing.{known_for, offer_for, HearsAll, Follows}
+use Rattle.fl_node.specs.Hearing.{known_for, offer_for, HearsAll, offering, Follows}
 use Rattle.fl_node.specs.Making.{asked}
 use Rattle.fl_node.specs.View.{TheCore, place_of, slot_of, client_of, with_monitor}
 use Rattle.fl_running.specs.declared.job.Job.{Job}
@@ -276,7 +276,7 @@ client_end t sound l n hop e here at way = elim (sound.toward l n hop.binding (E
 
 -- and just then it is told
 told_so : (programs : List Program) (offer : Option Offered) (l : LinkId) (h : Heard) (k : TheCore) (f : EndId) (reason : ℕ) (k2 : TheCore)
-    → Follows programs offer l h k (heard_as.OpeningRefused f reason) k2 → h ≡ outcome.EndRefused f reason
+    → Follows (offering programs offer l) h k (heard_as.OpeningRefused f reason) k2 → h ≡ outcome.EndRefused f reason
 told_so programs offer l (outcome.EndRefused e r) k f reason k2 x =
     let same : r ≡ reason = cc (x.0) in
     let ends : e ≡ f = cc (x.0) in

@@ -23,7 +23,7 @@ use Rattle.fl_node.specs.View.{place_of, client_of, server_of}
 use Rattle.fl_node.specs.Sound.{IsCore}
 use Rattle.fl_running.specs.declared.job.Job.{Job as CoreJob}
 use Rattle.fl_running.specs.Run.{Ways, TheRun}
-use Rattle.fl_running.specs.Deeds.{Deed, looked, passed, arrived, heard, said, told, opened, called, ruled, wrote, acked, turned, TurnsOver}
+use Rattle.fl_running.specs.Deeds.{Deed, looked, passed, arrived, heard, said, told, opened, called, ruled, wrote, acked, turned, dispatcher_turn, TurnsOver}
 use Rattle.fl_running.specs.Jobs.{calls_of_jobs}
 use Rattle.fl_logs.specs.Logs.{DesksTellHandled, Goes, handled_in, handled_at}
 use Rattle.fl_logs.specs.Made.{LogsMakeJobs, DoneAreFirst, made_in, made_at, done_of}
@@ -64,7 +64,7 @@ turns_bound takes d e b p call c q h =
     (looks_bound takes h.picked h.seat.kind (moment h.dispatcher.lists h.seat.end p) call (moment h.lists h.end q) h.looks)
 
 module _ {S : Type 0} (w : Ways S) where
-  over_bound : (d e : ℕ) (from : Inlet) (call : Call) (s m : TheRun S) → TurnsOver w d e from (Ok (turn.Handle call)) s m → SeatsBound s.core.board.seats e
+  over_bound : (d e : ℕ) (from : Inlet) (call : Call) (s m : TheRun S) → TurnsOver w (dispatcher_turn d e (Ok (turn.Handle call))) from s m → SeatsBound s.core.board.seats e
   over_bound d e (inlet.Queue n) call s m h = turns_bound QueueTakes d e s.core.board h.before call m.core.board h.after h.event.event
   over_bound d e (inlet.Side n) call s m h = turns_bound w.takes d e s.core.board h.before call m.core.board h.after h.event.event
   over_bound d e inlet.Arrivals call s m h = turns_bound QueueTakes d e s.core.board h.event.before call m.core.board h.event.after h.event.event

@@ -23,7 +23,7 @@ use Rattle.fl_monitor.specs.declared.opening.Opening.{Opening}
 use Rattle.fl_node.specs.View.{TheCore, place_of, client_of, server_of, with_monitor}
 use Rattle.fl_node.specs.Sound.{IsCore}
 use Rattle.fl_node.specs.Links.{MonitorWrites}
-use Rattle.fl_node.specs.Hearing.{known_for, offer_for, HearsFrag, HearsMessage, HearsAll, Follows, MakesServer}
+use Rattle.fl_node.specs.Hearing.{known_for, offer_for, HearsFrag, HearsMessage, HearsAll, offering, Follows, MakesServer}
 use Rattle.fl_node.specs.Making.{Asked, Asks, Begins}
 use Rattle.fl_node.specs.declared.answer.MonitorWrite.{MonitorWrite}
 use Rattle.fl_node.specs.declared.answer.MonitorWrite.TheVariants as said_as
@@ -35,6 +35,7 @@ use Rattle.fl_node.specs.declared.fault.OpenFault.{OpenFault}
 use Rattle.fl_node.specs.declared.fault.OpenFault.TheVariants as opening
 use Rattle.fl_node.specs.declared.wire.Outlet.TheVariants as outlet
 use Rattle.fl_node.specs.declared.wire.Inlet.TheVariants as inlet
+use Rattle.fl_node.specs.Ends.{at_side}
 use Rattle.fl_node.proofs.Offers.{made_for, made_new}
 use Rattle.fl_running.specs.declared.job.Job.{Job}
 use Rattle.fl_running.specs.declared.job.Wish.{Wish}
@@ -110,7 +111,7 @@ module _ {S : Type 0} (w : Ways S) (jobs : List Job) (s m : TheRun S) (core : Is
     -- a server's end that it makes
     server_stands : (monitor : TheMonitor) (binding dispatcher : ℕ) (c : Number)
         → ComesTo (known_for s.offers s.core msg) s.core.monitor.circuits l msg (outcome.ServerMade binding dispatcher c)
-        → MakesServer s.offers.programs (offer_for s.offers s.core msg) l binding dispatcher c (with_monitor s.core monitor) m.core → Stands (server_of binding) m.core
+        → MakesServer (offering s.offers.programs (offer_for s.offers s.core msg) l) binding dispatcher c (with_monitor s.core monitor) m.core → Stands (server_of binding) m.core
     server_stands monitor binding dispatcher c comes f =
         let new = made_new s.offers s.core msg _ (made_for (known_for s.offers s.core msg) s.core.monitor.circuits l msg (outcome.ServerMade binding dispatcher c) _ comes refl) in
         record {
@@ -124,7 +125,7 @@ module _ {S : Type 0} (w : Ways S) (jobs : List Job) (s m : TheRun S) (core : Is
         }
 
     new_stands : (monitor : TheMonitor) (h : Heard) (answered : MonitorAnswer) → ComesTo (known_for s.offers s.core msg) s.core.monitor.circuits l msg h
-        → Follows s.offers.programs (offer_for s.offers s.core msg) l h (with_monitor s.core monitor) answered m.core → (i : ℕ) (name : EndId) → new_by l h i name
+        → Follows (offering s.offers.programs (offer_for s.offers s.core msg) l) h (with_monitor s.core monitor) answered m.core → (i : ℕ) (name : EndId) → new_by l h i name
         → IsNewEnd jobs s m.core name
     new_stands monitor (outcome.ServerMade binding dispatcher c) answered comes f i name new = record {
       stands = subst (λ (e : EndId). Stands e m.core) (sym new.1) (server_stands monitor binding dispatcher c comes f.1);
@@ -173,7 +174,7 @@ module _ {S : Type 0} (w : Ways S) (jobs : List Job) (s m : TheRun S) (core : Is
 
   -- ---- by the monitor, and by a job
 
-  says : (l : ℕ) (p : S) (answer : MonitorWrite) (q : S) → MonitorWrites w.puts l s.core p answer m.core q → Comes
+  says : (l : ℕ) (p : S) (answer : MonitorWrite) (q : S) → MonitorWrites w.puts l (at_side s.core p) answer (at_side m.core q) → Comes
   says l p said_as.Written q h = same_table (ap (λ (x : TheCore). x.monitor.circuits) h.4)
   says l p said_as.Full q h = same_core h.2
   says l p said_as.Spent q h = same_core h.2

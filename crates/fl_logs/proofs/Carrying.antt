@@ -32,9 +32,9 @@ use Rattle.fl_monitor.specs.declared.heard.Heard.{Heard}
 use Rattle.fl_monitor.specs.declared.heard.Heard.TheVariants as outcome
 use Rattle.fl_monitor.specs.declared.message.Message.{Message}
 use Rattle.fl_node.specs.View.{TheCore, place_of, slot_of, client_of, server_of, with_monitor, with_failed, arriving_at}
-use Rattle.fl_node.specs.Ends.{OnBoard, WritesAt}
-use Rattle.fl_node.specs.Links.{LooksAhead, ArrivesAt, MonitorWrites}
-use Rattle.fl_node.specs.Hearing.{Offers, known_for, offer_for, HearsFrag, HearsMessage, HearsAll, Follows, BindsIf}
+use Rattle.fl_node.specs.Ends.{at_side, OnBoard, WritesAt}
+use Rattle.fl_node.specs.Links.{LooksAhead, inbound, ArrivesAt, MonitorWrites}
+use Rattle.fl_node.specs.Hearing.{Offers, known_for, offer_for, HearsFrag, HearsMessage, HearsAll, offering, Follows, BindsIf}
 use Rattle.fl_node.specs.Making.{Asked, Asks}
 use Rattle.fl_node.specs.declared.answer.Ahead.{Ahead}
 use Rattle.fl_node.specs.declared.answer.Ahead.TheVariants as ahead
@@ -54,7 +54,7 @@ use Rattle.fl_node.specs.declared.wire.Inlet.TheVariants as inlet
 use Rattle.fl_node.proofs.Offers.{made_for, made_new}
 use Rattle.fl_running.specs.declared.job.Job.{Job}
 use Rattle.fl_running.specs.Run.{Ways, TheRun}
-use Rattle.fl_running.specs.Deeds.{Deed, looked, passed, arrived, heard, said, told, opened, called, ruled, wrote, acked, turned, Does, TurnsOver, WritesOver, IsSoundAt, ActsSoundly}
+use Rattle.fl_running.specs.Deeds.{Deed, looked, passed, arrived, heard, said, told, opened, called, ruled, wrote, acked, turned, Does, dispatcher_turn, TurnsOver, WritesOver, IsSoundAt, ActsSoundly}
 use Rattle.fl_logs.specs.Logs.{InPlace, Goes, call_in, handled_in, handled_at}
 use Rattle.fl_logs.specs.Made.{made_by}
 use Rattle.fl_logs.specs.Carried.{Traffic, EndGoes, rules_by, rules_in, rules_at, reply_in, sent_in, sent_at, calls_handled, traffic}
@@ -111,7 +111,7 @@ module _ (name : EndId) (e : ℕ) (x : TheEnd) (k : TheCore) (here : IsHere name
 
   -- ---- links
 
-  ahead_goes : {S : Type 0} (w : Ways S) (l : ℕ) (p : S) (answer : Result Ahead LinkFault) (k2 : TheCore) (q : S) → LooksAhead w.takes w.front l k p answer k2 q → Rests k2
+  ahead_goes : {S : Type 0} (w : Ways S) (l : ℕ) (p : S) (answer : Result Ahead LinkFault) (k2 : TheCore) (q : S) → LooksAhead w.takes w.front l (at_side k p) answer (at_side k2 q) → Rests k2
   ahead_goes w l p (Ok ahead.Nothing) k2 q h = alike k2 h.1
   ahead_goes w l p (Ok ahead.Acknowledged) k2 q h = alike k2 h.1
   ahead_goes w l p (Ok (ahead.Message frag)) k2 q h = alike k2 h.1
@@ -124,7 +124,7 @@ module _ (name : EndId) (e : ℕ) (x : TheEnd) (k : TheCore) (here : IsHere name
   ahead_goes w l p (Err link.Memory) k2 q h = absurd h
 
   arrives_goes : {S : Type 0} (w : Ways S) (l : ℕ) (frag : Frag) (n : EndId) (p : S) (answer : Result Outcome LinkFault) (k2 : TheCore) (q : S)
-      → ArrivesAt w.takes l frag n k p answer k2 q → Rests k2
+      → ArrivesAt w.takes (inbound l frag n) (at_side k p) answer (at_side k2 q) → Rests k2
   arrives_goes w l frag n p (Ok result) k2 q h =
       same_end_there k2 (triggers_same _ k.board k2.board e x h.triggers here.has) (sits_same k.places k2.places name e (ap (λ (c : TheCore). c.places) h.rest) here.sits)
   arrives_goes w l frag n p (Err link.Astray) k2 q h = failed k2 l h.1
@@ -133,7 +133,7 @@ module _ (name : EndId) (e : ℕ) (x : TheEnd) (k : TheCore) (here : IsHere name
   arrives_goes w l frag n p (Err (link.Wire f)) k2 q h = absurd h
   arrives_goes w l frag n p (Err link.Memory) k2 q h = absurd h
 
-  says_goes : {S : Type 0} (w : Ways S) (l : ℕ) (p : S) (answer : MonitorWrite) (k2 : TheCore) (q : S) → MonitorWrites w.puts l k p answer k2 q → Rests k2
+  says_goes : {S : Type 0} (w : Ways S) (l : ℕ) (p : S) (answer : MonitorWrite) (k2 : TheCore) (q : S) → MonitorWrites w.puts l (at_side k p) answer (at_side k2 q) → Rests k2
   says_goes w l p said_as.Written k2 q h = untouched k2 (ap (λ (c : TheCore). c.board) h.4) (ap (λ (c : TheCore). c.places) h.4)
   says_goes w l p said_as.Full k2 q h = alike k2 h.2
   says_goes w l p said_as.Spent k2 q h = alike k2 h.2
@@ -169,7 +169,7 @@ module _ (name : EndId) (e : ℕ) (x : TheEnd) (k : TheCore) (here : IsHere name
         same_end_there k2 (lists_same h.bound_board k2.board at.end e x _ h.registers has) sits
 
   follows_go : (o : Offers) (l : LinkId) (msg : Message) (m : TheMonitor) (h : Heard) (answered : MonitorAnswer) (k2 : TheCore) → ComesTo (known_for o k msg) k.monitor.circuits l msg h
-      → Follows o.programs (offer_for o k msg) l h (with_monitor k m) answered k2 → Rests k2
+      → Follows (offering o.programs (offer_for o k msg) l) h (with_monitor k m) answered k2 → Rests k2
   follows_go o l msg m (outcome.ServerMade binding dispatcher c) answered k2 comes f =
       let new = made_new o k msg _ (made_for (known_for o k msg) k.monitor.circuits l msg (outcome.ServerMade binding dispatcher c) _ comes refl) in
       let has = added_same k.board f.1.added dispatcher e f.1.end _ x _ f.1.adds here.has in
@@ -255,7 +255,7 @@ module _ (name : EndId) (e : ℕ) (x : TheEnd) (k : TheCore) (here : IsHere name
         (same_end n name) k2 k2.board h.event.seat h.event.end refl h.event.seat_is (ap (λ (b : TheBoard). b.seats) h.event.board) (λ z has. has) (ap (λ (y : TheCore). y.places) h.rest)
         (λ was. subst (λ (s : TheEnd). EndGoes still s h.event.end × (h.event.end.rules ≡ rules_by msg reply answer s.rules)) was (rules_go h.event.seat.end msg reply answer h.event.end h.event.event))
 
-    writes_at : {P : Type 0} (puts : P → Look → P → Type 0) (p q : P) (answer : Result WriteAnswer EndFault) (k2 : TheCore) → (h : WritesAt puts f k p answer k2 q)
+    writes_at : {P : Type 0} (puts : P → Look → P → Type 0) (p q : P) (answer : Result WriteAnswer EndFault) (k2 : TheCore) → (h : WritesAt puts f (at_side k p) answer (at_side k2 q))
         → WentOn name e (record { sent = []; handled = []; put = if same_end n name then if_wrote answer h.writes.seat.end.outgoing.unwritten else []; took = [] })
         (if same_end n name then x.rules else x.rules) x k2
     writes_at puts p q answer k2 h =
@@ -315,7 +315,7 @@ write_put w e (outlet.Side n) answer s m h = if_wrote answer h.event.writes.seat
 abbrev pub turn_over_took : {T : Type 0} (takes : T → Look → T → Type 0) (d e : ℕ) (b : TheBoard) (p : T) (answer : TurnAnswer) (c : TheBoard) (q : T) → Turns takes d e (over b p) (Ok answer) (over c q) → List Frag
 turn_over_took takes d e b p answer c q h = turn_took takes h.picked h.seat.kind (moment h.dispatcher.lists h.seat.end p) answer (moment h.lists h.end q) h.looks
 
-abbrev pub turns_took : {S : Type 0} (w : Ways S) (d e : ℕ) (from : Inlet) (answer : TurnAnswer) (s m : TheRun S) → TurnsOver w d e from (Ok answer) s m → List Frag
+abbrev pub turns_took : {S : Type 0} (w : Ways S) (d e : ℕ) (from : Inlet) (answer : TurnAnswer) (s m : TheRun S) → TurnsOver w (dispatcher_turn d e (Ok answer)) from s m → List Frag
 turns_took w d e (inlet.Queue n) answer s m h = turn_over_took QueueTakes d e s.core.board h.before answer m.core.board h.after h.event.event
 turns_took w d e (inlet.Side n) answer s m h = turn_over_took w.takes d e s.core.board h.before answer m.core.board h.after h.event.event
 turns_took w d e inlet.Arrivals answer s m h = turn_over_took QueueTakes d e s.core.board h.event.before answer m.core.board h.event.after h.event.event
@@ -377,7 +377,7 @@ module _ {S : Type 0} (w : Ways S) (jobs : List Job) (name : EndId) (e : ℕ) wh
       (plain_rules n _ x m.core (writes_at name e x s.core here w n f at w.puts h.before h.after answer m.core h.event))
 
   turned_goes : (d : ℕ) (n : EndId) (from : Inlet) (answer : TurnAnswer) (s m : TheRun S) (x : TheEnd) → IsHere name e x s.core → IsSoundAt s n → (f : ℕ) → place_of s.core n ≡ Some f
-      → (h : TurnsOver w d f from (Ok answer) s m) → WentOn name e (event_traffic x.rules (turned d n from answer) [] (turns_took w d f from answer s m h)) x.rules x m.core
+      → (h : TurnsOver w (dispatcher_turn d f (Ok answer)) from s m) → WentOn name e (event_traffic x.rules (turned d n from answer) [] (turns_took w d f from answer s m h)) x.rules x m.core
   turned_goes d n from answer s m x here sound f at h =
       subst (λ (xs : List Frag). WentOn name e (record {
         sent = if same_end n name then reply_in x.rules answer else [];
@@ -387,7 +387,7 @@ module _ {S : Type 0} (w : Ways S) (jobs : List Job) (name : EndId) (e : ℕ) wh
       }) x.rules x m.core)
       (sym (none_by (same_end n name)))
       (plain_rules n _ x m.core (by from h)) where
-        by : (o : Inlet) → (g : TurnsOver w d f o (Ok answer) s m)
+        by : (o : Inlet) → (g : TurnsOver w (dispatcher_turn d f (Ok answer)) o s m)
             → WentOn name e (record {
               sent = if same_end n name then reply_in x.rules answer else [];
               handled = map call_of (if same_end n name then call_in answer else []);

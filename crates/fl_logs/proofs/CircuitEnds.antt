@@ -26,7 +26,7 @@ use Rattle.fl_monitor.specs.declared.message.Message.{Message}
 use Rattle.fl_node.specs.View.{TheCore, place_of, arrivals_of, arrivals_by, arriving, arriving_at, new_arrivals, with_monitor, inlet_by}
 use Rattle.fl_node.specs.Sound.{IsCore}
 use Rattle.fl_node.specs.Links.{LooksAhead, MonitorWrites}
-use Rattle.fl_node.specs.Hearing.{Offers, offer_for, HearsFrag, HearsMessage, HearsAll, Follows, BindsIf}
+use Rattle.fl_node.specs.Hearing.{Offers, offer_for, HearsFrag, HearsMessage, HearsAll, offering, Follows, BindsIf}
 use Rattle.fl_node.specs.Making.{Asked, Asks}
 use Rattle.fl_node.specs.declared.answer.Ahead.{Ahead}
 use Rattle.fl_node.specs.declared.answer.Ahead.TheVariants as ahead
@@ -45,6 +45,7 @@ use Rattle.fl_node.specs.declared.wire.Wire.TheVariants.{Circuit}
 use Rattle.fl_node.specs.declared.wire.Outlet.TheVariants as outlet
 use Rattle.fl_node.specs.declared.wire.Inlet.{Inlet}
 use Rattle.fl_node.specs.declared.wire.Inlet.TheVariants as inlet
+use Rattle.fl_node.specs.Ends.{at_side}
 use Rattle.fl_running.specs.declared.job.Job.{Job}
 use Rattle.fl_running.specs.Run.{Ways, TheRun}
 use Rattle.fl_running.specs.Deeds.{Deed, looked, passed, arrived, heard, said, told, opened, called, ruled, wrote, acked, turned, Does}
@@ -76,7 +77,7 @@ same_queues k m i same = bears_same QueuePuts QueueTakes k.arrivals m.arrivals i
 more_queues : (k m : TheCore) (i : ℕ) (q : TheQueue) → m.arrivals ≡ k.arrivals ++ q ∷ [] → ArrivalsBear k m i [] []
 more_queues k m i q more p at = (p, ap (λ (xs : List TheQueue). slice_get xs i) more ∙ push_stays k.arrivals q i p at, idle QueuePuts QueueTakes p p refl)
 
-ahead_queues : {S : Type 0} (w : Ways S) (l : ℕ) (k : TheCore) (p : S) (answer : Result Ahead LinkFault) (k2 : TheCore) (q : S) → LooksAhead w.takes w.front l k p answer k2 q → k2.arrivals ≡ k.arrivals
+ahead_queues : {S : Type 0} (w : Ways S) (l : ℕ) (k : TheCore) (p : S) (answer : Result Ahead LinkFault) (k2 : TheCore) (q : S) → LooksAhead w.takes w.front l (at_side k p) answer (at_side k2 q) → k2.arrivals ≡ k.arrivals
 ahead_queues w l k p (Ok ahead.Nothing) k2 q h = ap (λ (x : TheCore). x.arrivals) h.1
 ahead_queues w l k p (Ok ahead.Acknowledged) k2 q h = ap (λ (x : TheCore). x.arrivals) h.1
 ahead_queues w l k p (Ok (ahead.Message frag)) k2 q h = ap (λ (x : TheCore). x.arrivals) h.1
@@ -88,7 +89,7 @@ ahead_queues w l k p (Err link.Marked) k2 q h = ap (λ (x : TheCore). x.arrivals
 ahead_queues w l k p (Err (link.Wire f)) k2 q h = absurd h
 ahead_queues w l k p (Err link.Memory) k2 q h = absurd h
 
-says_queues : {S : Type 0} (w : Ways S) (l : ℕ) (k : TheCore) (p : S) (answer : MonitorWrite) (k2 : TheCore) (q : S) → MonitorWrites w.puts l k p answer k2 q → k2.arrivals ≡ k.arrivals
+says_queues : {S : Type 0} (w : Ways S) (l : ℕ) (k : TheCore) (p : S) (answer : MonitorWrite) (k2 : TheCore) (q : S) → MonitorWrites w.puts l (at_side k p) answer (at_side k2 q) → k2.arrivals ≡ k.arrivals
 says_queues w l k p said_as.Written k2 q h = ap (λ (x : TheCore). x.arrivals) h.4
 says_queues w l k p said_as.Full k2 q h = ap (λ (x : TheCore). x.arrivals) h.2
 says_queues w l k p said_as.Spent k2 q h = ap (λ (x : TheCore). x.arrivals) h.2
@@ -102,7 +103,7 @@ module _ (k k2 : TheCore) (i : ℕ) where
   binds_rest m None c h = same_queues k k2 i (ap (λ (x : TheCore). x.arrivals) h)
   binds_rest m (Some x) c h = same_queues k k2 i (ap (λ (x : TheCore). x.arrivals) h.rest)
 
-  follows_rest : (programs : List Program) (offer : Option Offered) (l : LinkId) (h : Heard) (m : TheMonitor) (answered : MonitorAnswer) → Follows programs offer l h (with_monitor k m) answered k2 → Rests
+  follows_rest : (programs : List Program) (offer : Option Offered) (l : LinkId) (h : Heard) (m : TheMonitor) (answered : MonitorAnswer) → Follows (offering programs offer l) h (with_monitor k m) answered k2 → Rests
   follows_rest programs offer l (outcome.ServerMade binding dispatcher c) m answered f = more_queues k k2 i new_arrivals (ap (λ (x : TheCore). x.arrivals) f.1.rest)
   follows_rest programs offer l (outcome.EndOpened e c) m answered f = binds_rest m (arriving_at (with_monitor k m) e) c f.1
   follows_rest programs offer l (outcome.EndRefused e reason) m answered f = same_queues k k2 i (ap (λ (x : TheCore). x.arrivals) f.1)

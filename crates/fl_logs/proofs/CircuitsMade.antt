@@ -23,8 +23,8 @@ use Rattle.fl_monitor.specs.declared.heard.Heard.TheVariants as outcome
 use Rattle.fl_monitor.specs.declared.message.Message.{Message}
 use Rattle.fl_node.specs.View.{TheCore, place_of, place_in, arrivals_of, arriving, slot_of, client_of, server_of, circuit_port, new_arrivals, with_monitor, arriving_at}
 use Rattle.fl_node.specs.Sound.{IsCore}
-use Rattle.fl_node.specs.Links.{LooksAhead, ArrivesAt, MonitorWrites}
-use Rattle.fl_node.specs.Hearing.{Offers, known_for, offer_for, HearsFrag, HearsMessage, HearsAll, Follows, BindsIf}
+use Rattle.fl_node.specs.Links.{LooksAhead, inbound, ArrivesAt, MonitorWrites}
+use Rattle.fl_node.specs.Hearing.{Offers, known_for, offer_for, HearsFrag, HearsMessage, HearsAll, offering, Follows, BindsIf}
 use Rattle.fl_node.specs.Making.{Asked, Asks}
 use Rattle.fl_node.specs.declared.answer.Ahead.{Ahead}
 use Rattle.fl_node.specs.declared.answer.Ahead.TheVariants as ahead
@@ -41,6 +41,7 @@ use Rattle.fl_node.specs.declared.wire.Port.{Port}
 use Rattle.fl_node.specs.declared.wire.Wire.TheVariants.{Circuit}
 use Rattle.fl_node.specs.declared.wire.Outlet.TheVariants as outlet
 use Rattle.fl_node.specs.declared.wire.Inlet.TheVariants as inlet
+use Rattle.fl_node.specs.Ends.{at_side}
 use Rattle.fl_node.proofs.Named.{put_here, put_elsewhere, here_or_not}
 use Rattle.fl_node.proofs.Offers.{made_for, made_new}
 use Rattle.fl_running.specs.declared.job.Job.{Job}
@@ -99,7 +100,7 @@ module _ (name : EndId) (k : TheCore) (core : IsCore k) (absent : Absent name k)
     at_last : place ≡ length k.ports
     at_last = last ∙ sym (length-map k.board.seats (λ (s : TheSeat). s.end.circuit)) ∙ sym (as_many k core)
 
-  ahead_makes : {S : Type 0} (w : Ways S) (l : ℕ) (p : S) (answer : Result Ahead LinkFault) (k2 : TheCore) (q : S) → LooksAhead w.takes w.front l k p answer k2 q → Comes k2
+  ahead_makes : {S : Type 0} (w : Ways S) (l : ℕ) (p : S) (answer : Result Ahead LinkFault) (k2 : TheCore) (q : S) → LooksAhead w.takes w.front l (at_side k p) answer (at_side k2 q) → Comes k2
   ahead_makes w l p (Ok ahead.Nothing) k2 q h = alike k2 h.1
   ahead_makes w l p (Ok ahead.Acknowledged) k2 q h = alike k2 h.1
   ahead_makes w l p (Ok (ahead.Message frag)) k2 q h = alike k2 h.1
@@ -111,7 +112,7 @@ module _ (name : EndId) (k : TheCore) (core : IsCore k) (absent : Absent name k)
   ahead_makes w l p (Err (link.Wire f)) k2 q h = absurd h
   ahead_makes w l p (Err link.Memory) k2 q h = absurd h
 
-  arrives_makes : {S : Type 0} (w : Ways S) (l : ℕ) (frag : Frag) (n : EndId) (p : S) (answer : Result Outcome LinkFault) (k2 : TheCore) (q : S) → ArrivesAt w.takes l frag n k p answer k2 q → Comes k2
+  arrives_makes : {S : Type 0} (w : Ways S) (l : ℕ) (frag : Frag) (n : EndId) (p : S) (answer : Result Outcome LinkFault) (k2 : TheCore) (q : S) → ArrivesAt w.takes (inbound l frag n) (at_side k p) answer (at_side k2 q) → Comes k2
   arrives_makes w l frag n p (Ok result) k2 q h = places_stay k2 (ap (λ (c : TheCore). c.places) h.rest)
   arrives_makes w l frag n p (Err link.Astray) k2 q h = places_stay k2 (ap (λ (c : TheCore). c.places) h.1)
   arrives_makes w l frag n p (Err link.Failed) k2 q h = absurd h
@@ -119,7 +120,7 @@ module _ (name : EndId) (k : TheCore) (core : IsCore k) (absent : Absent name k)
   arrives_makes w l frag n p (Err (link.Wire f)) k2 q h = absurd h
   arrives_makes w l frag n p (Err link.Memory) k2 q h = absurd h
 
-  says_makes : {S : Type 0} (w : Ways S) (l : ℕ) (p : S) (answer : MonitorWrite) (k2 : TheCore) (q : S) → MonitorWrites w.puts l k p answer k2 q → Comes k2
+  says_makes : {S : Type 0} (w : Ways S) (l : ℕ) (p : S) (answer : MonitorWrite) (k2 : TheCore) (q : S) → MonitorWrites w.puts l (at_side k p) answer (at_side k2 q) → Comes k2
   says_makes w l p said_as.Written k2 q h = places_stay k2 (ap (λ (c : TheCore). c.places) h.4)
   says_makes w l p said_as.Full k2 q h = alike k2 h.2
   says_makes w l p said_as.Spent k2 q h = alike k2 h.2
@@ -130,7 +131,7 @@ module _ (name : EndId) (k : TheCore) (core : IsCore k) (absent : Absent name k)
   binds_make m (Some at) c k2 h = places_stay k2 (ap (λ (y : TheCore). y.places) h.rest)
 
   follows_make : (o : Offers) (l : LinkId) (msg : Message) (m : TheMonitor) (h : Heard) (answered : MonitorAnswer) (k2 : TheCore) → ComesTo (known_for o k msg) k.monitor.circuits l msg h
-      → Follows o.programs (offer_for o k msg) l h (with_monitor k m) answered k2 → Comes k2
+      → Follows (offering o.programs (offer_for o k msg) l) h (with_monitor k m) answered k2 → Comes k2
   follows_make o l msg m (outcome.ServerMade binding dispatcher c) answered k2 comes f =
       let new = made_new o k msg _ (made_for (known_for o k msg) k.monitor.circuits l msg (outcome.ServerMade binding dispatcher c) _ comes refl) in
       one_made k2 f.1.end (server_of binding) l f.1.adds.0 new.0 (ap (λ (y : TheCore). y.ports) f.1.rest) (ap (λ (y : TheCore). y.places) f.1.rest) (ap (λ (y : TheCore). y.arrivals) f.1.rest)

@@ -20,8 +20,8 @@ use Rattle.fl_monitor.specs.declared.heard.Heard.{Heard}
 use Rattle.fl_monitor.specs.declared.heard.Heard.TheVariants as outcome
 use Rattle.fl_monitor.specs.declared.message.Message.{Message}
 use Rattle.fl_node.specs.View.{TheCore, with_board, with_monitor, with_circuit_port, circuit_port, new_arrivals, failed_at, with_failed, arriving_at}
-use Rattle.fl_node.specs.Links.{LooksAhead, ArrivesAt, MonitorWrites}
-use Rattle.fl_node.specs.Hearing.{Offers, HearsFrag, HearsMessage, HearsAll, Follows, BindsIf}
+use Rattle.fl_node.specs.Links.{LooksAhead, inbound, ArrivesAt, MonitorWrites}
+use Rattle.fl_node.specs.Hearing.{Offers, HearsFrag, HearsMessage, HearsAll, offering, Follows, BindsIf}
 use Rattle.fl_node.specs.Making.{Asks, Asked}
 use Rattle.fl_node.specs.declared.answer.Ahead.{Ahead}
 use Rattle.fl_node.specs.declared.answer.Ahead.TheVariants as ahead
@@ -41,6 +41,7 @@ use Rattle.fl_node.specs.declared.wire.Wire.{Wire}
 use Rattle.fl_node.specs.declared.wire.Wire.TheVariants.{Circuit}
 use Rattle.fl_node.specs.declared.wire.Outlet.TheVariants as outlet
 use Rattle.fl_node.specs.declared.wire.Inlet.TheVariants as inlet
+use Rattle.fl_node.specs.Ends.{at_side}
 use Rattle.fl_running.specs.Run.{Ways, TheRun}
 use Rattle.fl_running.specs.Deeds.{Deed, looked, passed, arrived, heard, said, told, opened, called, ruled, wrote, acked, turned, Does}
 use Rattle.fl_logs.specs.Logs.{SidesGo}
@@ -170,7 +171,7 @@ grows_port k k2 b m e name l h = subst (λ (x : TheCore). Grows k x) (sym h) (re
 
 -- ---- by what happened
 
-ahead_grows : {S : Type 0} (w : Ways S) (l : ℕ) (k : TheCore) (p : S) (answer : Result Ahead LinkFault) (k2 : TheCore) (q : S) → LooksAhead w.takes w.front l k p answer k2 q → Grows k k2
+ahead_grows : {S : Type 0} (w : Ways S) (l : ℕ) (k : TheCore) (p : S) (answer : Result Ahead LinkFault) (k2 : TheCore) (q : S) → LooksAhead w.takes w.front l (at_side k p) answer (at_side k2 q) → Grows k k2
 ahead_grows w l k p (Ok ahead.Nothing) k2 q h = grows_same k k2 h.1
 ahead_grows w l k p (Ok ahead.Acknowledged) k2 q h = grows_same k k2 h.1
 ahead_grows w l k p (Ok (ahead.Message frag)) k2 q h = grows_same k k2 h.1
@@ -183,7 +184,7 @@ ahead_grows w l k p (Err (link.Wire f)) k2 q h = absurd h
 ahead_grows w l k p (Err link.Memory) k2 q h = absurd h
 
 arrives_grows : {S : Type 0} (w : Ways S) (l : ℕ) (frag : Frag) (e : EndId) (k : TheCore) (p : S) (answer : Result Outcome LinkFault) (k2 : TheCore) (q : S)
-    → ArrivesAt w.takes l frag e k p answer k2 q → Grows k k2
+    → ArrivesAt w.takes (inbound l frag e) (at_side k p) answer (at_side k2 q) → Grows k k2
 arrives_grows w l frag e k p (Ok result) k2 q h = subst (λ (x : TheCore). Grows k x) (sym h.rest) (record {
   lanes = lanes_same k.lanes k.lanes refl;
   ports = ports_same k.ports k.ports refl;
@@ -200,7 +201,7 @@ binds_grow None c k k2 h = grows_same k k2 h
 binds_grow (Some at) c k k2 h = grows_board k k2 k2.board h.rest
 
 follows_grow : (programs : List Program) (offer : Option Offered) (l : LinkId) (heard : Heard) (k : TheCore) (answered : MonitorAnswer) (k2 : TheCore)
-    → Follows programs offer l heard k answered k2 → Grows k k2
+    → Follows (offering programs offer l) heard k answered k2 → Grows k k2
 follows_grow programs offer l (outcome.ServerMade binding dispatcher c) k answered k2 h = grows_port k k2 k2.board k.monitor h.1.end _ l h.1.rest
 follows_grow programs offer l (outcome.EndOpened e c) k answered k2 h = binds_grow (arriving_at k e) c k k2 h.1
 follows_grow programs offer l (outcome.EndRefused e reason) k answered k2 h = grows_same k k2 h.1
@@ -238,7 +239,7 @@ hears_grow o l frag k (Err link.Astray) k2 h = message_grows o l h.0 k (Err link
 hears_grow o l frag k (Err link.Marked) k2 h = message_grows o l h.0 k (Err link.Marked) k2 h.2
 hears_grow o l frag k (Ok answered) k2 h = message_grows o l h.0 k (Ok answered) k2 h.2
 
-says_grow : {S : Type 0} (w : Ways S) (l : ℕ) (k : TheCore) (p : S) (answer : MonitorWrite) (k2 : TheCore) (q : S) → MonitorWrites w.puts l k p answer k2 q → Grows k k2
+says_grow : {S : Type 0} (w : Ways S) (l : ℕ) (k : TheCore) (p : S) (answer : MonitorWrite) (k2 : TheCore) (q : S) → MonitorWrites w.puts l (at_side k p) answer (at_side k2 q) → Grows k k2
 says_grow w l k p said_as.Written k2 q h = grows_monitor k k2 _ h.4
 says_grow w l k p said_as.Full k2 q h = grows_same k k2 h.2
 says_grow w l k p said_as.Spent k2 q h = grows_same k k2 h.2

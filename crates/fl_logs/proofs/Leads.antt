@@ -27,8 +27,8 @@ use Rattle.fl_monitor.specs.declared.heard.Heard.TheVariants as outcome
 use Rattle.fl_monitor.specs.declared.message.Message.{Message}
 use Rattle.fl_node.specs.View.{TheCore, place_of, arrivals_of, arriving, arriving_at, client_of, server_of, circuit_port, with_monitor, with_failed}
 use Rattle.fl_node.specs.Sound.{IsCore}
-use Rattle.fl_node.specs.Links.{LooksAhead, ArrivesAt, MonitorWrites}
-use Rattle.fl_node.specs.Hearing.{Offers, known_for, offer_for, HearsFrag, HearsMessage, HearsAll, Follows, BindsIf, MakesServer}
+use Rattle.fl_node.specs.Links.{LooksAhead, inbound, ArrivesAt, MonitorWrites}
+use Rattle.fl_node.specs.Hearing.{Offers, known_for, offer_for, HearsFrag, HearsMessage, HearsAll, offering, Follows, BindsIf, MakesServer}
 use Rattle.fl_node.specs.Making.{Asked, Asks, Begins}
 use Rattle.fl_node.specs.declared.answer.Ahead.{Ahead}
 use Rattle.fl_node.specs.declared.answer.Ahead.TheVariants as ahead
@@ -45,6 +45,7 @@ use Rattle.fl_node.specs.declared.wire.Port.{Port}
 use Rattle.fl_node.specs.declared.wire.Wire.TheVariants.{Circuit}
 use Rattle.fl_node.specs.declared.wire.Outlet.TheVariants as outlet
 use Rattle.fl_node.specs.declared.wire.Inlet.TheVariants as inlet
+use Rattle.fl_node.specs.Ends.{at_side}
 use Rattle.fl_node.proofs.Offers.{made_for, made_new}
 use Rattle.fl_running.specs.declared.job.Job.{Job}
 use Rattle.fl_running.specs.Run.{Ways, TheRun}
@@ -95,7 +96,7 @@ module _ (k : TheCore) (led : IsLed k) where
 
   -- ---- links
 
-  ahead_led : {S : Type 0} (w : Ways S) (l : ℕ) (p : S) (answer : Result Ahead LinkFault) (k2 : TheCore) (q : S) → LooksAhead w.takes w.front l k p answer k2 q → IsLed k2
+  ahead_led : {S : Type 0} (w : Ways S) (l : ℕ) (p : S) (answer : Result Ahead LinkFault) (k2 : TheCore) (q : S) → LooksAhead w.takes w.front l (at_side k p) answer (at_side k2 q) → IsLed k2
   ahead_led w l p (Ok ahead.Nothing) k2 q h = alike k2 h.1
   ahead_led w l p (Ok ahead.Acknowledged) k2 q h = alike k2 h.1
   ahead_led w l p (Ok (ahead.Message frag)) k2 q h = alike k2 h.1
@@ -107,7 +108,7 @@ module _ (k : TheCore) (led : IsLed k) where
   ahead_led w l p (Err (link.Wire f)) k2 q h = absurd h
   ahead_led w l p (Err link.Memory) k2 q h = absurd h
 
-  arrives_led : {S : Type 0} (w : Ways S) (l : ℕ) (frag : Frag) (e : EndId) (p : S) (answer : Result Outcome LinkFault) (k2 : TheCore) (q : S) → ArrivesAt w.takes l frag e k p answer k2 q → IsLed k2
+  arrives_led : {S : Type 0} (w : Ways S) (l : ℕ) (frag : Frag) (e : EndId) (p : S) (answer : Result Outcome LinkFault) (k2 : TheCore) (q : S) → ArrivesAt w.takes (inbound l frag e) (at_side k p) answer (at_side k2 q) → IsLed k2
   arrives_led w l frag e p (Ok result) k2 q h =
       rests k2 (ap (λ (x : TheCore). x.monitor) h.rest) (ap (λ (x : TheCore). x.ports) h.rest) (triggers_same _ k.board k2.board h.triggers)
   arrives_led w l frag e p (Err link.Astray) k2 q h = failed k2 l h.1
@@ -116,7 +117,7 @@ module _ (k : TheCore) (led : IsLed k) where
   arrives_led w l frag e p (Err (link.Wire f)) k2 q h = absurd h
   arrives_led w l frag e p (Err link.Memory) k2 q h = absurd h
 
-  says_led : {S : Type 0} (w : Ways S) (l : ℕ) (p : S) (answer : MonitorWrite) (k2 : TheCore) (q : S) → MonitorWrites w.puts l k p answer k2 q → IsLed k2
+  says_led : {S : Type 0} (w : Ways S) (l : ℕ) (p : S) (answer : MonitorWrite) (k2 : TheCore) (q : S) → MonitorWrites w.puts l (at_side k p) answer (at_side k2 q) → IsLed k2
   says_led w l p said_as.Written k2 q h =
       by_parts k2 _ k.ports (circuits_of k.board.seats) (ap (λ (x : TheCore). x.monitor) h.4) (ap (λ (x : TheCore). x.ports) h.4) (ap (λ (x : TheCore). circuits_of x.board.seats) h.4)
       (ends_led k led) (zero_less k.monitor.outboxes l h.0 h.1 h.2 led.says)
@@ -193,7 +194,7 @@ module _ (k : TheCore) (core : IsCore k) (sound : Sound k.monitor.circuits) (led
   -- a server's end is made
   makes_led : (m : TheMonitor) (binding dispatcher : ℕ) (c : Number) → ComesTo (known_for o k msg) k.monitor.circuits l msg (outcome.ServerMade binding dispatcher c)
       → (table : m.circuits ≡ table_after k.monitor.circuits l msg (outcome.ServerMade binding dispatcher c)) → OnZero m.outboxes
-      → (k2 : TheCore) → MakesServer o.programs (offer_for o k msg) l binding dispatcher c (with_monitor k m) k2 → IsLed k2
+      → (k2 : TheCore) → MakesServer (offering o.programs (offer_for o k msg) l) binding dispatcher c (with_monitor k m) k2 → IsLed k2
   makes_led m binding dispatcher c comes table zero k2 f =
       let h : Heard = outcome.ServerMade binding dispatcher c in
       let made = server_made (known_for o k msg) k.monitor.circuits l msg binding dispatcher c sound comes in
@@ -211,7 +212,7 @@ module _ (k : TheCore) (core : IsCore k) (sound : Sound k.monitor.circuits) (led
       (ends_more m.circuits k.ports (circuits_of k.board.seats) port l (length k.arrivals) (Some c.0) (as_many k core) refl new (ends_then h m comes table zero)) zero
 
   follows_led : (h : Heard) (m : TheMonitor) (answered : MonitorAnswer) (k2 : TheCore) → ComesTo (known_for o k msg) k.monitor.circuits l msg h → m.circuits ≡ table_after k.monitor.circuits l msg h → OnZero m.outboxes
-      → Follows o.programs (offer_for o k msg) l h (with_monitor k m) answered k2 → IsLed k2
+      → Follows (offering o.programs (offer_for o k msg) l) h (with_monitor k m) answered k2 → IsLed k2
   follows_led (outcome.ServerMade binding dispatcher c) m answered k2 comes table zero f = makes_led m binding dispatcher c comes table zero k2 f.1
   follows_led (outcome.EndOpened e c) m answered k2 comes table zero f =
       binds_led m e c (ends_then (outcome.EndOpened e c) m comes table zero) zero
@@ -249,7 +250,7 @@ module _ (k : TheCore) (core : IsCore k) (sound : Sound k.monitor.circuits) (led
     bound_monitor e c None f = ap (λ (x : TheCore). x.monitor) f
     bound_monitor e c (Some at) f = ap (λ (x : TheCore). x.monitor) f.rest
 
-    monitor_then : (y : Heard) → Follows o.programs (offer_for o k msg) l y (with_monitor k h.monitor) answered k2 → k2.monitor ≡ h.monitor
+    monitor_then : (y : Heard) → Follows (offering o.programs (offer_for o k msg) l) y (with_monitor k h.monitor) answered k2 → k2.monitor ≡ h.monitor
     monitor_then (outcome.ServerMade binding dispatcher c) f = ap (λ (x : TheCore). x.monitor) f.1.rest
     monitor_then (outcome.EndOpened e c) f = bound_monitor e c (arriving_at (with_monitor k h.monitor) e) f.1
     monitor_then (outcome.EndRefused e reason) f = ap (λ (x : TheCore). x.monitor) f.1
@@ -393,7 +394,7 @@ module _ {S : Type 0} (w : Ways S) (jobs : List Job) (s m : TheRun S) (core : Is
   monitor_stays : m.core.monitor ≡ s.core.monitor → Became s.core m.core
   monitor_stays same = same_later s.core m.core same
 
-  ahead_later : (l : ℕ) (p : S) (answer : Result Ahead LinkFault) (q : S) → LooksAhead w.takes w.front l s.core p answer m.core q → Became s.core m.core
+  ahead_later : (l : ℕ) (p : S) (answer : Result Ahead LinkFault) (q : S) → LooksAhead w.takes w.front l (at_side s.core p) answer (at_side m.core q) → Became s.core m.core
   ahead_later l p (Ok ahead.Nothing) q h = monitor_stays (ap (λ (x : TheCore). x.monitor) h.1)
   ahead_later l p (Ok ahead.Acknowledged) q h = monitor_stays (ap (λ (x : TheCore). x.monitor) h.1)
   ahead_later l p (Ok (ahead.Message frag)) q h = monitor_stays (ap (λ (x : TheCore). x.monitor) h.1)
@@ -405,7 +406,7 @@ module _ {S : Type 0} (w : Ways S) (jobs : List Job) (s m : TheRun S) (core : Is
   ahead_later l p (Err (link.Wire f)) q h = absurd h
   ahead_later l p (Err link.Memory) q h = absurd h
 
-  arrives_later : (l : ℕ) (frag : Frag) (e : EndId) (p : S) (answer : Result Outcome LinkFault) (q : S) → ArrivesAt w.takes l frag e s.core p answer m.core q → Became s.core m.core
+  arrives_later : (l : ℕ) (frag : Frag) (e : EndId) (p : S) (answer : Result Outcome LinkFault) (q : S) → ArrivesAt w.takes (inbound l frag e) (at_side s.core p) answer (at_side m.core q) → Became s.core m.core
   arrives_later l frag e p (Ok result) q h = monitor_stays (ap (λ (x : TheCore). x.monitor) h.rest)
   arrives_later l frag e p (Err link.Astray) q h = monitor_stays (ap (λ (x : TheCore). x.monitor) h.1)
   arrives_later l frag e p (Err link.Failed) q h = absurd h
@@ -413,7 +414,7 @@ module _ {S : Type 0} (w : Ways S) (jobs : List Job) (s m : TheRun S) (core : Is
   arrives_later l frag e p (Err (link.Wire f)) q h = absurd h
   arrives_later l frag e p (Err link.Memory) q h = absurd h
 
-  says_later : (l : ℕ) (p : S) (answer : MonitorWrite) (q : S) → MonitorWrites w.puts l s.core p answer m.core q → Became s.core m.core
+  says_later : (l : ℕ) (p : S) (answer : MonitorWrite) (q : S) → MonitorWrites w.puts l (at_side s.core p) answer (at_side m.core q) → Became s.core m.core
   says_later l p said_as.Written q h = same_table s.core m.core (ap (λ (x : TheCore). x.monitor.circuits) h.4)
   says_later l p said_as.Full q h = monitor_stays (ap (λ (x : TheCore). x.monitor) h.2)
   says_later l p said_as.Spent q h = monitor_stays (ap (λ (x : TheCore). x.monitor) h.2)

@@ -30,7 +30,7 @@ use Rattle.fl_running.specs.declared.lent.Berth.{Berth}
 use Rattle.fl_running.specs.declared.plan.Plan.{Plan}
 use Rattle.fl_running.specs.Run.{Ways, TheRun, next_job, lent_lane, lent_post, lent_due, lent_berth}
 use Rattle.fl_running.specs.Deeds.{Deed, looked, passed, arrived, heard, said, told, opened, called, ruled, wrote, acked, turned, Does, Happens}
-use Rattle.fl_running.specs.Steps.{Deals, ForwardsOver, Forwards, SaysOver, Says, TellsOver, Tells, may_ask, OpensIf, CallsAt, Tries, WritesFrom, Serves, AcksFrom, Acknowledges, RulesAt, awaits, TurnsIf, TurnsAt, TakesTurn}
+use Rattle.fl_running.specs.Steps.{Deals, ForwardsOver, Forwards, SaysOver, Says, TellsOver, Tells, may_ask, OpensIf, CallsAt, Tries, WritesFrom, Serves, AcksFrom, Acknowledges, reply_rule, RulesAt, awaits, due_turn, TurnsIf, TurnsAt, TakesTurn}
 use Rattle.fl_running.specs.Turn.{Swept, At, OneTurn, Turned}
 use Rattle.fl_running.specs.Jobs.{calls_of_job}
 use Rattle.fl_logs.specs.Logs.{LeadsTo, GoesOnOver, InPlace, Goes, handled_by, handles_in, handles, Logged}
@@ -160,7 +160,7 @@ module _ {S : Type 0} (w : Ways S) (jobs : List Job) where
   calls name e call None s t next h = nothing w jobs s t h
   calls name e call (Some place) s t next h = one (called name (call_of call) h.0) s t (λ d. refl) (ap calls_of_job next) h.1
 
-  sets_rule : (name : EndId) (e : EndId) (msg reply : MsgNo) (o : Option ℕ) (s t : TheRun S) → next_job jobs s name ≡ Some (job.Reply e msg reply) → RulesAt w name msg reply o s t
+  sets_rule : (name : EndId) (e : EndId) (msg reply : MsgNo) (o : Option ℕ) (s t : TheRun S) → next_job jobs s name ≡ Some (job.Reply e msg reply) → RulesAt w (reply_rule name msg reply) o s t
       → Plain w jobs s t
   sets_rule name e msg reply None s t next h = nothing w jobs s t h
   sets_rule name e msg reply (Some place) s t next h = one (ruled name msg reply h.0) s t (λ d. refl) (e, next) h.1
@@ -217,7 +217,7 @@ module _ {S : Type 0} (w : Ways S) (jobs : List Job) where
   takes_none e s t h = record { log = []; goes = h; few = λ d. least (e == d) }
 
   turns_if : (b : Bool) (e : ℕ) (name : EndId) (due : Due) (s t : TheRun S) → lent_due s e ≡ Some due → place_of s.core name ≡ Some due.end → awaits jobs s name ≡ b
-      → TurnsIf w b e name due s t → Logged w jobs (λ d. if e == d then 1 else 0) s t
+      → TurnsIf w b (due_turn e name due) s t → Logged w jobs (λ d. if e == d then 1 else 0) s t
   turns_if true e name due s t is place waits h = takes_none e s t h
   turns_if false e name due s t is place waits h = record {
     log = turned e name due.inlet h.0 ∷ [];

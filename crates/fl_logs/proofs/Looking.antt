@@ -36,7 +36,7 @@ use Rattle.fl_hop.specs.declared.forward.Outcome.{Outcome}
 use Rattle.fl_hop.specs.declared.forward.Outcome.TheVariants.{Moved, Full, Spent}
 use Rattle.fl_monitor.specs.Monitors.{waiting_for}
 use Rattle.fl_node.specs.View.{TheCore}
-use Rattle.fl_node.specs.Links.{MonitorWrites, LooksAhead, ArrivesAt, Acknowledges}
+use Rattle.fl_node.specs.Links.{MonitorWrites, LooksAhead, inbound, ArrivesAt, Acknowledges}
 use Rattle.fl_node.specs.Hearing.{TakesHeard}
 use Rattle.fl_node.specs.declared.answer.Ahead.{Ahead}
 use Rattle.fl_node.specs.declared.answer.Ahead.TheVariants as ahead
@@ -48,6 +48,7 @@ use Rattle.fl_node.specs.declared.fault.LinkFault.{LinkFault}
 use Rattle.fl_node.specs.declared.fault.LinkFault.TheVariants as link
 use Rattle.fl_node.specs.declared.wire.Outlet.TheVariants as outlet
 use Rattle.fl_node.specs.declared.wire.Inlet.TheVariants as inlet
+use Rattle.fl_node.specs.Ends.{at_side}
 use Rattle.fl_running.specs.declared.job.Job.{Job}
 use Rattle.fl_running.specs.Run.{Ways, TheRun}
 use Rattle.fl_running.specs.Deeds.{Deed, looked, passed, arrived, heard, said, told, opened, called, ruled, wrote, acked, turned, OnRing, Does}
@@ -125,7 +126,7 @@ module _ {S : Type 0} (puts takes : S → Look → S → Type 0) where
 
   -- ---- parts of events
 
-  pub ahead_looks : (front : S → Look) (l : ℕ) (k : TheCore) (p : S) (answer : Result Ahead LinkFault) (k2 : TheCore) (q : S) → LooksAhead takes front l k p answer k2 q → Bears [] [] p q
+  pub ahead_looks : (front : S → Look) (l : ℕ) (k : TheCore) (p : S) (answer : Result Ahead LinkFault) (k2 : TheCore) (q : S) → LooksAhead takes front l (at_side k p) answer (at_side k2 q) → Bears [] [] p q
   ahead_looks front l k p (Ok ahead.Nothing) k2 q h = take_one p q _ h.0.finds
   ahead_looks front l k p (Ok ahead.Acknowledged) k2 q h = take_two p h.0.finds.0 q _ _ h.0.finds.1 h.0.finds.2
   ahead_looks front l k p (Ok (ahead.Message frag)) k2 q h = take_one p q _ h.0.finds.0
@@ -137,7 +138,7 @@ module _ {S : Type 0} (puts takes : S → Look → S → Type 0) where
   ahead_looks front l k p (Err (link.Wire f)) k2 q h = absurd h
   ahead_looks front l k p (Err link.Memory) k2 q h = absurd h
 
-  pub arrives_looks : (l : ℕ) (frag : Frag) (e : EndId) (k : TheCore) (p : S) (answer : Result Outcome LinkFault) (k2 : TheCore) (q : S) → ArrivesAt takes l frag e k p answer k2 q
+  pub arrives_looks : (l : ℕ) (frag : Frag) (e : EndId) (k : TheCore) (p : S) (answer : Result Outcome LinkFault) (k2 : TheCore) (q : S) → ArrivesAt takes (inbound l frag e) (at_side k p) answer (at_side k2 q)
       → Bears [] (if_arrived answer (bare frag)) p q
   arrives_looks l frag e k p (Ok Moved) k2 q h = take_one p q _ h.left
   arrives_looks l frag e k p (Ok Full) k2 q h = idle p q h.left
@@ -155,7 +156,7 @@ module _ {S : Type 0} (puts takes : S → Look → S → Type 0) where
   heard_looks frag p (Ok (heard_as.OpeningRefused e reason)) q h = take_one p q _ h
   heard_looks frag p (Err f) q h = idle p q h
 
-  pub said_looks : (l : ℕ) (k : TheCore) (p : S) (answer : MonitorWrite) (k2 : TheCore) (q : S) → MonitorWrites puts l k p answer k2 q
+  pub said_looks : (l : ℕ) (k : TheCore) (p : S) (answer : MonitorWrite) (k2 : TheCore) (q : S) → MonitorWrites puts l (at_side k p) answer (at_side k2 q)
       → Bears (if_said answer (waiting_for k.monitor.outboxes l)) [] p q
   said_looks l k p said_as.Written k2 q h =
       subst (λ (xs : List Frag). Bears (take 1 xs) [] p q) (sym h.2) (put_one p q _ h.3)

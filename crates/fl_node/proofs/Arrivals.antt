@@ -13,7 +13,7 @@ use Rattle.fl_hop.specs.OfCircuit.{as_carried}
 use Rattle.fl_core.specs.View.{TheBoard}
 use Rattle.fl_node.specs.declared.wire.Arriving.{Arriving}
 use Rattle.fl_node.specs.View.{TheCore, arriving_at}
-use Rattle.fl_node.specs.Ends.{TriggersIf}
+use Rattle.fl_node.specs.Ends.{at_side, TriggersIf}
 use Rattle.fl_node.specs.Links.{Arrives, reached}
 
 -- where it didn't move nobody is told
@@ -25,9 +25,9 @@ not_moved e Spent h = refl
 pub arrives_done : {T : Type 0} (takes : T → Look → T → Type 0) (k base : TheCore) → base ≡ k → (frag : Frag) (name : EndId) (at : Arriving) (p q : T) (outcome : Outcome) (x read y : TheQueue)
     (b : TheBoard) → arriving_at k name ≡ Some at → at.queue < length k.arrivals → read ≡ slice_index_or base.arrivals at.queue read → x ≡ read
     → QueuePuts x (put_label outcome (as_carried frag)) y → Leaves takes outcome (bare frag) (record { before = p; after = q }) → TriggersIf (reached at.end outcome) base.board b
-    → Arrives takes frag name k p outcome (record base { board = b; arrivals = slice_set base.arrivals at.queue y }) q
+    → Arrives takes frag name (at_side k p) outcome (at_side (record base { board = b; arrivals = slice_set base.arrivals at.queue y }) q)
 arrives_done takes k base same frag name at p q outcome x read y b is below value view puts left triggers =
-    subst (λ (c : TheCore). Arrives takes frag name c p outcome (record base { board = b; arrivals = slice_set base.arrivals at.queue y }) q) same (record {
+    subst (λ (c : TheCore). Arrives takes frag name (at_side c p) outcome (at_side (record base { board = b; arrivals = slice_set base.arrivals at.queue y }) q)) same (record {
       end = at.end;
       queue = at.queue;
       at = subst (λ (c : TheCore). arriving_at c name ≡ Some at) (sym same) is;

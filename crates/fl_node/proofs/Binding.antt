@@ -10,6 +10,7 @@ use Rattle.fl_core.specs.declared.kind.Kind.TheVariants.{Queue}
 use Rattle.fl_core.specs.declared.fault.BoardFault.{BoardFault}
 use Rattle.fl_core.specs.View.{TheBoard}
 use Rattle.fl_core.specs.Events.{Adds, ChangesEnd}
+use Rattle.fl_core.specs.Turns.{over}
 use Rattle.fl_core.proofs.Places.{set_same}
 use Rattle.fl_node.specs.declared.wire.Arriving.{Arriving}
 use Rattle.fl_node.specs.declared.hearing.Made.{Made}
@@ -28,7 +29,7 @@ end_made source place s made b b2 copy n c is same n_is c_is adds =
 
 module _ (k base : TheCore) (same : base ≡ k) (at : Arriving) (c : Circuit) (b1 b2 : TheBoard) (p read q : TheQueue) (r : Result (Unit {0}) BoardFault)
     (binds : ChangesEnd base.board at.end (λ s t. t ≡ bound s c.0) b1) (below : at.queue < length k.arrivals) (value : read ≡ slice_index_or base.arrivals at.queue read) (view : p ≡ read)
-    (registers : RegistersAt QueueTakes at.end r b1 p b2 q) where
+    (registers : RegistersAt QueueTakes at.end (over b1 p) r (over b2 q)) where
   stands : slice_get base.arrivals at.queue ≡ Some p
   stands = slice_get_read base.arrivals (length base.arrivals) at.queue read refl (subst (λ (x : TheCore). at.queue < length x.arrivals) (sym same) below) value ∙ ap Some (sym view)
 
@@ -45,7 +46,7 @@ module _ (k base : TheCore) (same : base ≡ k) (at : Arriving) (c : Circuit) (b
     queue = p;
     queue_is = stands;
     answer = r;
-    registers = subst (λ (x : TheQueue). RegistersAt QueueTakes at.end r b1 p b2 x) left registers;
+    registers = subst (λ (x : TheQueue). RegistersAt QueueTakes at.end (over b1 p) r (over b2 x)) left registers;
     rest = as_before;
   })
 

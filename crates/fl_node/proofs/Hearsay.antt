@@ -28,8 +28,8 @@ use Rattle.fl_node.specs.declared.answer.MonitorAnswer.TheVariants.{Full, Done, 
 use Rattle.fl_node.specs.declared.fault.LinkFault.{LinkFault}
 use Rattle.fl_node.specs.View.{TheCore, with_monitor, server_of, place_of}
 use Rattle.fl_node.specs.Sound.{IsCore, kinds_seated}
-use Rattle.fl_node.specs.Hearing.{Offers, here_for, known_for, offer_for, Follows, MakesServer, HearsAll, HearsMessage}
-use Rattle.fl_node.specs.Inside.{server_in, LeadsTo, EndFor, HearsWith, Unheard}
+use Rattle.fl_node.specs.Hearing.{Offers, here_for, known_for, offer_for, offering, Follows, MakesServer, HearsAll, HearsMessage}
+use Rattle.fl_node.specs.Inside.{server_in, LeadsTo, EndFor, for_message, core_parts, HearsWith, Unheard}
 use Rattle.fl_monitor.specs.Routing.{given}
 use Rattle.fl_node.proofs.Kept.{parts_kept}
 use Rattle.fl_node.proofs.Offers.{offer_found, offer_leads, made_for, made_new}
@@ -45,7 +45,7 @@ hears_kept kn l m n n2 fault.NoRoute h = absurd h
 hears_kept kn l m n n2 fault.UsedUp h = absurd h
 hears_kept kn l m n n2 fault.PlansDiffer h = absurd h
 
-pub with_kept : (kn : Known) (l : LinkId) (m : Message) (source : TheProgram) (b b2 : TheBoard) (n n2 : TheMonitor) (f : MonitorFault) → HearsWith kn l m source b n (Err f) b2 n2 → (b2 ≡ b) × (n2 ≡ n)
+pub with_kept : (kn : Known) (l : LinkId) (m : Message) (source : TheProgram) (b b2 : TheBoard) (n n2 : TheMonitor) (f : MonitorFault) → HearsWith (for_message kn l m source) (core_parts b n) (Err f) (core_parts b2 n2) → (b2 ≡ b) × (n2 ≡ n)
 with_kept kn l m source b b2 n n2 fault.Memory h = h
 with_kept kn l m source b b2 n n2 fault.Astray h = (h.1, h.2)
 with_kept kn l m source b b2 n n2 fault.OutboxFull h = (h.1, h.2)
@@ -80,7 +80,7 @@ roomy_kept k b m lanes ports arrivals sound kinds links lanes_are ports_are arri
     subst (λ (ps : List Port). IsCore (record { board = b; monitor = m; ports = ps; places = k.places; lanes = lanes; arrivals = arrivals })) (sym ports_are)
     (parts_kept k b m lanes arrivals sound kinds links lanes_are (ap length arrivals_are))
 
-full_follows : (programs : List Program) (offer : Option Offered) (l : LinkId) (h : Heard) (k k2 : TheCore) → Follows programs offer l h k Full k2 → ⊥
+full_follows : (programs : List Program) (offer : Option Offered) (l : LinkId) (h : Heard) (k k2 : TheCore) → Follows (offering programs offer l) h k Full k2 → ⊥
 full_follows programs offer l (heard.ServerMade b d c) k k2 f = absurd (cc (f.0))
 full_follows programs offer l (heard.EndOpened e c) k k2 f = absurd (cc (f.0))
 full_follows programs offer l (heard.EndRefused e reason) k k2 f = absurd (cc (f.0))
@@ -104,7 +104,7 @@ module _ (o : Offers) (l : LinkId) (m : Message) (k base : TheCore) (same : base
       offer_leads o base l m offer f h made (subst (λ (x : Here). ComesTo (record { names = o.names; here = x }) base.monitor.circuits l m h) at_base comes) makes
 
   pub all_heard : (n2 : TheMonitor) (h : Heard) (told : MonitorAnswer) (k2 : TheCore) → Hears (record { names = o.names; here = here }) l m base.monitor (Ok h) n2
-      → Follows o.programs (offer_for o base m) l h (with_monitor base n2) told k2 → HearsAll o l m k told k2
+      → Follows (offering o.programs (offer_for o base m) l) h (with_monitor base n2) told k2 → HearsAll o l m k told k2
   all_heard n2 h told k2 hears follows = subst (λ (x : TheCore). HearsAll o l m x told k2) same (record {
     heard = h;
     monitor = n2;
@@ -113,7 +113,7 @@ module _ (o : Offers) (l : LinkId) (m : Message) (k base : TheCore) (same : base
   })
 
   pub message_heard : (n2 : TheMonitor) (h : Heard) (told : MonitorAnswer) (k2 : TheCore) → Hears (record { names = o.names; here = here }) l m base.monitor (Ok h) n2
-      → Follows o.programs (offer_for o base m) l h (with_monitor base n2) told k2 → HearsMessage o l m k (Ok told) k2
+      → Follows (offering o.programs (offer_for o base m) l) h (with_monitor base n2) told k2 → HearsMessage o l m k (Ok told) k2
   message_heard n2 h told k2 hears follows = not_full o l m k k2 told (all_heard n2 h told k2 hears follows)
 
   -- the end that is made has a number in range, and a new name
@@ -123,10 +123,10 @@ module _ (o : Offers) (l : LinkId) (m : Message) (k base : TheCore) (same : base
       made_new o base m made (made_for (known_for o base m) base.monitor.circuits l m h made (subst (λ (x : Here). ComesTo (record { names = o.names; here = x }) base.monitor.circuits l m h) at_base comes) makes)
 
 pub follows_server : (programs : List Program) (offer : Option Offered) (l : LinkId) (h : Heard) (made : Made) (k k2 : TheCore) → server_in h ≡ Some made
-    → MakesServer programs offer l made.binding made.dispatcher made.circuit k k2 → Follows programs offer l h k (Opened (server_of made.binding)) k2
+    → MakesServer (offering programs offer l) made.binding made.dispatcher made.circuit k k2 → Follows (offering programs offer l) h k (Opened (server_of made.binding)) k2
 follows_server programs offer l (heard.ServerMade b d c) made k k2 is h =
     let same : made ≡ (let x : Made = record { binding = b; dispatcher = d; circuit = c } in x) = cc (is) in
-    (ap (λ (x : Made). Opened (server_of x.binding)) same, subst (λ (x : Made). MakesServer programs offer l x.binding x.dispatcher x.circuit k k2) same h)
+    (ap (λ (x : Made). Opened (server_of x.binding)) same, subst (λ (x : Made). MakesServer (offering programs offer l) x.binding x.dispatcher x.circuit k k2) same h)
 follows_server programs offer l (heard.EndOpened e c) made k k2 is h = absurd (cc (is))
 follows_server programs offer l (heard.EndRefused e reason) made k k2 is h = absurd (cc (is))
 follows_server programs offer l (heard.OpeningWentOn b n c) made k k2 is h = absurd (cc (is))

@@ -9,7 +9,7 @@ use Rattle.fl_core.specs.declared.kind.Kind.TheVariants as kind
 use Rattle.fl_core.specs.declared.fault.BoardFault.{BoardFault}
 use Rattle.fl_core.specs.declared.fault.BoardFault.TheVariants.{NotBound, Registered, NotRegistered, TooManyEnds, Failed, Memory}
 use Rattle.fl_core.specs.View.{TheSeat, TheBoard}
-use Rattle.fl_core.specs.Turns.{WaitsIn, lent}
+use Rattle.fl_core.specs.Turns.{WaitsIn, lent, over}
 use Rattle.fl_core.specs.Events.{Registers}
 use Rattle.fl_node.specs.Ends.{RegistersAt}
 
@@ -31,5 +31,5 @@ registers_leave s w v p q (Err NotRegistered) h = absurd h
 registers_leave s w v p q (Err TooManyEnds) h = absurd h
 registers_leave s w v p q (Err Memory) h = absurd h
 
-pub registering_leaves : (e : ℕ) (r : Result (Unit {0}) BoardFault) (b c : TheBoard) (p q : TheQueue) → RegistersAt QueueTakes e r b p c q → q ≡ p
+pub registering_leaves : (e : ℕ) (r : Result (Unit {0}) BoardFault) (b c : TheBoard) (p q : TheQueue) → RegistersAt QueueTakes e (over b p) r (over c q) → q ≡ p
 registering_leaves e r b c p q h = registers_leave h.seat h.dispatcher.lists h.lists p q r h.event

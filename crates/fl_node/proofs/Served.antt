@@ -7,6 +7,7 @@ use Rattle.fl_link.specs.Queue.{TheQueue, QueueTakes}
 use Rattle.fl_endpoint.specs.View.{fresh}
 use Rattle.fl_core.specs.declared.fault.BoardFault.{BoardFault}
 use Rattle.fl_core.specs.View.{TheBoard}
+use Rattle.fl_core.specs.Turns.{over}
 use Rattle.fl_monitor.specs.declared.fate.Here.{Here}
 use Rattle.fl_monitor.specs.declared.heard.Heard.{Heard}
 use Rattle.fl_monitor.specs.declared.message.Message.{Message}
@@ -19,7 +20,7 @@ use Rattle.fl_node.specs.declared.answer.MonitorAnswer.TheVariants.{Opened}
 use Rattle.fl_node.specs.View.{TheCore, with_monitor, slot_of, server_of, circuit_port, with_circuit_port, new_arrivals}
 use Rattle.fl_node.specs.Sound.{IsCore}
 use Rattle.fl_node.specs.Ends.{RegistersAt}
-use Rattle.fl_node.specs.Hearing.{Offers, here_for, offer_for, Follows, Joins, HearsAll, HearsMessage}
+use Rattle.fl_node.specs.Hearing.{Offers, here_for, offer_for, offering, Follows, Joins, HearsAll, HearsMessage}
 use Rattle.fl_node.specs.Inside.{server_in, EndFor}
 use Rattle.fl_node.proofs.Seated.{lists_kinds}
 use Rattle.fl_node.proofs.Kept.{parts_kept}
@@ -38,13 +39,13 @@ same_room base n2 b2 ports arrivals b_is ports_are arrivals_are =
 module _ (o : Offers) (l : LinkId) (m : Message) (k base : TheCore) (same : base ≡ k) (here : Here) (here_is : here ≡ here_for o k m) (n2 : TheMonitor) (h : Heard)
     (hears : Hears (record { names = o.names; here = here }) l m base.monitor (Ok h) n2) where
   pub none_served : (told : MonitorAnswer) (k2 : TheCore) (b2 : TheBoard) (ports : List Port) (arrivals : List TheQueue) → b2 ≡ base.board → ports ≡ base.ports → arrivals ≡ base.arrivals
-      → Follows o.programs (offer_for o base m) l h (record base { board = b2; monitor = n2; ports = ports; arrivals = arrivals }) told k2 → HearsMessage o l m k (Ok told) k2
+      → Follows (offering o.programs (offer_for o base m) l) h (record base { board = b2; monitor = n2; ports = ports; arrivals = arrivals }) told k2 → HearsMessage o l m k (Ok told) k2
   none_served told k2 b2 ports arrivals b_is ports_are arrivals_are follows =
       message_heard o l m k base same here here_is n2 h told k2 hears
-      (subst (λ (x : TheCore). Follows o.programs (offer_for o base m) l h x told k2) (same_room base n2 b2 ports arrivals b_is ports_are arrivals_are) follows)
+      (subst (λ (x : TheCore). Follows (offering o.programs (offer_for o base m) l) h x told k2) (same_room base n2 b2 ports arrivals b_is ports_are arrivals_are) follows)
 
   module _ (made : Made) (makes : server_in h ≡ Some made) (source : Program) (place : ℕ) (b2 b3 : TheBoard) (r : Result (Unit {0}) BoardFault) (queue q : TheQueue)
-      (ended : EndFor (program_of source) place (server_in h) base.board b2) (queue_is : queue ≡ new_arrivals) (registers : RegistersAt QueueTakes place r b2 queue b3 q)
+      (ended : EndFor (program_of source) place (server_in h) base.board b2) (queue_is : queue ≡ new_arrivals) (registers : RegistersAt QueueTakes place (over b2 queue) r (over b3 q))
       (ports0 ports : List Port) (arrivals0 arrivals : List TheQueue) (places : List (Option ℕ)) (ports0_are : ports0 ≡ base.ports) (arrivals0_are : arrivals0 ≡ base.arrivals)
       (ports_are : ports ≡ ports0 ++ circuit_port (server_of made.binding) l (length arrivals0) ∷ []) (places_are : places ≡ slice_set base.places (slot_of (server_of made.binding)) (Some place))
       (arrivals_are : arrivals ≡ arrivals0 ++ q ∷ []) where
@@ -77,8 +78,8 @@ module _ (o : Offers) (l : LinkId) (m : Message) (k base : TheCore) (same : base
 
     joins : Joins place b2 b3
     joins =
-        let empty = subst (λ (x : TheQueue). RegistersAt QueueTakes place r b2 x b3 q) queue_is registers in
-        (r, subst (λ (x : TheQueue). RegistersAt QueueTakes place r b2 new_arrivals b3 x) left empty)
+        let empty = subst (λ (x : TheQueue). RegistersAt QueueTakes place (over b2 x) r (over b3 q)) queue_is registers in
+        (r, subst (λ (x : TheQueue). RegistersAt QueueTakes place (over b2 new_arrivals) r (over b3 x)) left empty)
 
     pub server_served : (offer : Offered) → offer_for o k m ≡ Some offer → slice_get o.programs offer.interface ≡ Some source
         → HearsAll o l m k (Opened (server_of made.binding)) (record base { board = b3; monitor = n2; ports = ports; places = places; arrivals = arrivals })

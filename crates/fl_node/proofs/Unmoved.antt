@@ -11,7 +11,7 @@ use Rattle.fl_core.specs.declared.fault.BoardFault.{BoardFault}
 use Rattle.fl_core.specs.declared.fault.BoardFault.TheVariants.{NotBound, Registered, NotRegistered, TooManyEnds, Failed, Memory}
 use Rattle.fl_core.specs.View.{TheSeat, TheBoard}
 use Rattle.fl_core.specs.Events.{Registers}
-use Rattle.fl_core.specs.Turns.{Moment, Over, Lent, LooksAt, Turns}
+use Rattle.fl_core.specs.Turns.{Moment, Over, Lent, LooksAt, over, Turns}
 use Rattle.fl_core.proofs.Places.{set_same}
 use Rattle.fl_node.specs.View.{TheCore}
 use Rattle.fl_node.specs.Ends.{RegistersAt}
@@ -35,7 +35,7 @@ refused s a b NotRegistered h = absurd h
 refused s a b TooManyEnds h = absurd h
 refused s a b Memory h = absurd h
 
-pub register_unmoved : (e : ℕ) (r : Result (Unit {0}) BoardFault) (b c : TheBoard) (p q : TheQueue) → RegistersAt QueueTakes e r b p c q → OnErr r (q ≡ p)
+pub register_unmoved : (e : ℕ) (r : Result (Unit {0}) BoardFault) (b c : TheBoard) (p q : TheQueue) → RegistersAt QueueTakes e (over b p) r (over c q) → OnErr r (q ≡ p)
 register_unmoved e (Ok done) b c p q h = tt
 register_unmoved e (Err fault) b c p q h =
     refused h.seat (record { lists = h.dispatcher.lists; side = p }) (record { lists = h.lists; side = q }) fault h.event

@@ -1,5 +1,4 @@
--- What events at ends, and turns, come to at a core: the board's own relations, on the sides that the core's wires name. The side that is lent
--- goes from p to q.
+-- What events at ends, and turns, come to at a core: the board's own relations, on the sides that the core's wires name.
 use Rattle.std.specs.Prelude.{ℕ, ◌≡◌, slice_get, slice_set, Option, Some, None, Result, Ok}
 use Rattle.fl_waitset.specs.Waiting.{triggered}
 use Rattle.fl_link.specs.Looks.{Look}
@@ -11,8 +10,16 @@ use Rattle.fl_endpoint.specs.Events.{Writes}
 use Rattle.fl_core.specs.declared.fault.BoardFault.{BoardFault}
 use Rattle.fl_core.specs.View.{TheBoard}
 use Rattle.fl_core.specs.Events.{ChangesEnd, ChangesLists, Registers}
-use Rattle.fl_core.specs.Turns.{lent}
+use Rattle.fl_core.specs.Turns.{lent, Over}
 use Rattle.fl_node.specs.View.{TheCore, with_board, arrivals_of, joined_to}
+
+-- a core, and the side that is lent
+pub record AtSide (T : Type 0) : Type 0 where
+  pub core : TheCore
+  pub side : T
+
+abbrev pub at_side : {T : Type 0} → TheCore → T → AtSide T
+at_side k p = record { core = k; side = p }
 
 -- ---- where an event happens
 
@@ -42,8 +49,8 @@ TriggersIf None b c = c ≡ b
 TriggersIf (Some e) b c = Triggers e b c
 
 -- the channel of the end at place e is registered, over the side from which it takes
-abbrev pub RegistersAt : {T : Type 0} → (T → Look → T → Type 0) → ℕ → Result (Unit {0}) BoardFault → TheBoard → T → TheBoard → T → Type 0
-RegistersAt takes e answer b p c q = ChangesLists b e (λ s w v. Registers takes s (lent w p) answer (lent v q)) c
+abbrev pub RegistersAt : {T : Type 0} → (T → Look → T → Type 0) → ℕ → Over T → Result (Unit {0}) BoardFault → Over T → Type 0
+RegistersAt takes e a answer b = ChangesLists a.board e (λ s w v. Registers takes s (lent w a.side) answer (lent v b.side)) b.board
 
 -- ---- a fragment is written
 
@@ -54,8 +61,8 @@ woken_by k e answer = None
 
 -- the end at place e writes, and then the end that is joined to it by a queue is told
 pub record WritesAt {P : Type 0} (puts : P → Look → P → Type 0)
-    (e : ℕ) (k : TheCore) (p : P) (answer : Result WriteAnswer EndFault) (k2 : TheCore) (q : P) : Type 0 where
+    (e : ℕ) (before : AtSide P) (answer : Result WriteAnswer EndFault) (after : AtSide P) : Type 0 where
   pub wrote : TheBoard
-  pub writes : ChangesEnd k.board e (λ s t. Writes puts s p answer t q) wrote
-  pub triggers : TriggersIf (woken_by k e answer) wrote k2.board
-  pub rest : k2 ≡ with_board k k2.board
+  pub writes : ChangesEnd before.core.board e (λ s t. Writes puts s before.side answer t after.side) wrote
+  pub triggers : TriggersIf (woken_by before.core e answer) wrote after.core.board
+  pub rest : after.core ≡ with_board before.core after.core.board

@@ -33,6 +33,7 @@ use Rattle.fl_node.specs.declared.answer.MonitorAnswer.TheVariants.{Full, Done, 
 use Rattle.fl_node.specs.declared.fault.LinkFault.{LinkFault}
 use Rattle.fl_node.specs.declared.fault.LinkFault.TheVariants.{Wire, Astray, Memory}
 use Rattle.fl_node.specs.View.{TheCore, with_board, with_monitor, with_failed, with_circuit_port, client_of, server_of, place_of, arriving_at, new_arrivals}
+use Rattle.fl_core.specs.Turns.{over}
 use Rattle.fl_node.specs.Ends.{RegistersAt}
 
 -- ---- what a core knows when it hears a message
@@ -87,17 +88,27 @@ pub record IsCopyFor (programs : List Program) (offer : Option Offered) (program
 
 -- the end at a place is registered, over an empty arrival queue that is its own
 abbrev pub Joins : ℕ → TheBoard → TheBoard → Type 0
-Joins e b c = (r : Result (Unit {0}) BoardFault) × RegistersAt QueueTakes e r b new_arrivals c new_arrivals
+Joins e b c = (r : Result (Unit {0}) BoardFault) × RegistersAt QueueTakes e (over b new_arrivals) r (over c new_arrivals)
+
+-- what a server's end may be made of, where a message asks for one: the programs that are lent, the offer of the service, and the link that
+-- the message came over
+pub record Offering : Type 0 where
+  pub programs : List Program
+  pub offer : Option Offered
+  pub link : LinkId
+
+abbrev pub offering : List Program → Option Offered → LinkId → Offering
+offering programs offer l = record { programs = programs; offer = offer; link = l }
 
 -- the server's end of the binding is there, with the offered program, at this dispatcher, with an arrival queue, bound to the circuit and registered
-pub record MakesServer (programs : List Program) (offer : Option Offered) (l : LinkId) (binding dispatcher : ℕ) (c : Circuit) (k k2 : TheCore) : Type 0 where
+pub record MakesServer (x : Offering) (binding dispatcher : ℕ) (c : Circuit) (k k2 : TheCore) : Type 0 where
   pub program : Program
-  pub program_is : IsCopyFor programs offer program
+  pub program_is : IsCopyFor x.programs x.offer program
   pub end : ℕ
   pub added : TheBoard
   pub adds : Adds k.board dispatcher (fresh program (Some c.0)) Queue (Ok end) added
   pub joins : Joins end added k2.board
-  pub rest : k2 ≡ with_circuit_port k k2.board end (server_of binding) l
+  pub rest : k2 ≡ with_circuit_port k k2.board end (server_of binding) x.link
 
 -- the end of a name is bound to the circuit, and registered over its arrival queue
 pub record Binds (at : Arriving) (c : Circuit) (k k2 : TheCore) : Type 0 where
@@ -106,7 +117,7 @@ pub record Binds (at : Arriving) (c : Circuit) (k k2 : TheCore) : Type 0 where
   pub queue : TheQueue
   pub queue_is : slice_get k.arrivals at.queue ≡ Some queue
   pub answer : Result (Unit {0}) BoardFault
-  pub registers : RegistersAt QueueTakes at.end answer bound_board queue k2.board queue
+  pub registers : RegistersAt QueueTakes at.end (over bound_board queue) answer (over k2.board queue)
   pub rest : k2 ≡ with_board k k2.board
 
 -- an end that isn't at this core isn't bound
@@ -115,14 +126,14 @@ BindsIf None c k k2 = k2 ≡ k
 BindsIf (Some at) c k k2 = Binds at c k k2
 
 -- what the core does when its monitor has heard the message, and what it answers
-abbrev pub Follows : List Program → Option Offered → LinkId → Heard → TheCore → MonitorAnswer → TheCore → Type 0
-Follows programs offer l (heard.ServerMade binding dispatcher c) k told k2 =
-    (told ≡ Opened (server_of binding)) × MakesServer programs offer l binding dispatcher c k k2
-Follows programs offer l (heard.EndOpened e c) k told k2 = (told ≡ Opened e) × BindsIf (arriving_at k e) c k k2
-Follows programs offer l (heard.EndRefused e reason) k told k2 = (told ≡ OpeningRefused e reason) × (k2 ≡ k)
-Follows programs offer l (heard.OpeningWentOn binding n c) k told k2 = (told ≡ Done) × (k2 ≡ k)
-Follows programs offer l (heard.OpeningFailed binding reason) k told k2 = (told ≡ Done) × (k2 ≡ k)
-Follows programs offer l (heard.AnswerWentOn binding n c) k told k2 = (told ≡ Done) × (k2 ≡ k)
+abbrev pub Follows : Offering → Heard → TheCore → MonitorAnswer → TheCore → Type 0
+Follows x (heard.ServerMade binding dispatcher c) k told k2 =
+    (told ≡ Opened (server_of binding)) × MakesServer x binding dispatcher c k k2
+Follows x (heard.EndOpened e c) k told k2 = (told ≡ Opened e) × BindsIf (arriving_at k e) c k k2
+Follows x (heard.EndRefused e reason) k told k2 = (told ≡ OpeningRefused e reason) × (k2 ≡ k)
+Follows x (heard.OpeningWentOn binding n c) k told k2 = (told ≡ Done) × (k2 ≡ k)
+Follows x (heard.OpeningFailed binding reason) k told k2 = (told ≡ Done) × (k2 ≡ k)
+Follows x (heard.AnswerWentOn binding n c) k told k2 = (told ≡ Done) × (k2 ≡ k)
 
 -- ---- a message is heard
 
@@ -131,7 +142,7 @@ pub record HearsAll (o : Offers) (l : LinkId) (m : Message) (k : TheCore) (told 
   pub heard : Heard
   pub monitor : TheMonitor
   pub hears : Hears (known_for o k m) l m k.monitor (Ok heard) monitor
-  pub follows : Follows o.programs (offer_for o k m) l heard (with_monitor k monitor) told k2
+  pub follows : Follows (offering o.programs (offer_for o k m) l) heard (with_monitor k monitor) told k2
 
 abbrev pub HearsMessage : Offers → LinkId → Message → TheCore → Result MonitorAnswer LinkFault → TheCore → Type 0
 HearsMessage o l m k (Ok Full) k2 = Hears (known_for o k m) l m k.monitor (Err monitor.OutboxFull) k.monitor × (k2 ≡ k)

@@ -55,11 +55,31 @@ EndFor source place None b b2 = b2 ≡ b
 EndFor source place (Some made) b b2 =
     (program : Program) × (program_of program ≡ source) × Adds b made.dispatcher (fresh program (Some made.circuit.0)) Queue (Ok place) b2
 
--- a message is heard while an end is ready for it
-abbrev pub HearsWith : Known → LinkId → Message → TheProgram → TheBoard → TheMonitor → Result Joined MonitorFault → TheBoard → TheMonitor → Type 0
-HearsWith k l m source b n (Ok j) b2 n2 = Hears k l m n (Ok j.heard) n2 × EndFor source j.place (server_in j.heard) b b2
-HearsWith k l m source b n (Err Memory) b2 n2 = (b2 ≡ b) × (n2 ≡ n)
-HearsWith k l m source b n (Err fault) b2 n2 = Hears k l m n (Err fault) n × (b2 ≡ b) × (n2 ≡ n)
+-- a message for which an end is ready: what is known, the link that it came over, itself, and the end's program
+pub record ForMessage : Type 0 where
+  pub known : Known
+  pub link : LinkId
+  pub message : Message
+  pub program : TheProgram
+
+abbrev pub for_message : Known → LinkId → Message → TheProgram → ForMessage
+for_message known l m program = record { known = known; link = l; message = m; program = program }
+
+-- the parts of a core by which it hears: its board and its monitor
+pub record CoreParts : Type 0 where
+  pub board : TheBoard
+  pub monitor : TheMonitor
+
+abbrev pub core_parts : TheBoard → TheMonitor → CoreParts
+core_parts b n = record { board = b; monitor = n }
+
+-- the message is heard while the end is ready
+abbrev pub HearsWith : ForMessage → CoreParts → Result Joined MonitorFault → CoreParts → Type 0
+HearsWith x a (Ok j) b =
+    Hears x.known x.link x.message a.monitor (Ok j.heard) b.monitor × EndFor x.program j.place (server_in j.heard) a.board b.board
+HearsWith x a (Err Memory) b = (b.board ≡ a.board) × (b.monitor ≡ a.monitor)
+HearsWith x a (Err fault) b =
+    Hears x.known x.link x.message a.monitor (Err fault) a.monitor × (b.board ≡ a.board) × (b.monitor ≡ a.monitor)
 
 -- why a message wasn't heard, and what is answered then; what comes there has failed where the message was out of place
 abbrev pub Unheard : LinkId → MonitorFault → List Lane → Result MonitorAnswer LinkFault → List Lane → Type 0

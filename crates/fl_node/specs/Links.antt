@@ -1,5 +1,5 @@
 -- What events on links come to at a core, by cases on the answer, exactly: the monitor writes, a look at what stands first, and a fragment that
--- arrives for an end. The side that is lent goes from p to q.
+-- arrives for an end.
 use Rattle.std.specs.Prelude.{ℕ, ◌≡◌, ◌≢◌, ◌∷◌, Bool, false, true, List, [], slice_get, Option, Some, None, Result, Ok, Err}
 use Rattle.fl_base.specs.declared.fragment.Frag.{Frag}
 use Rattle.fl_base.specs.declared.identity.EndId.{EndId}
@@ -28,18 +28,18 @@ use Rattle.fl_node.specs.declared.fault.LinkFault.{LinkFault}
 use Rattle.fl_node.specs.declared.fault.LinkFault.TheVariants.{Failed, Astray, Marked}
 use Rattle.fl_node.specs.declared.wire.Lane.{Lane}
 use Rattle.fl_node.specs.View.{TheCore, with_monitor, with_failed, with_arrivals, side_of_link, arriving, arriving_at, with_board}
-use Rattle.fl_node.specs.Ends.{TriggersIf}
+use Rattle.fl_node.specs.Ends.{AtSide, TriggersIf}
 
 -- ---- the monitor writes
 
 -- the first message that waits for link l goes on the link, where there is room
-abbrev pub MonitorWrites : {P : Type 0} → (P → Look → P → Type 0) → ℕ → TheCore → P → MonitorWrite → TheCore → P → Type 0
-MonitorWrites puts l k p write.Written k2 q =
-    (f : Frag) × (rest : List Frag) × (waiting_for k.monitor.outboxes l ≡ f ∷ rest) × puts p (placed f) q
-    × (k2 ≡ with_monitor k (without_first l k.monitor))
-MonitorWrites puts l k p write.Full k2 q = (waiting_for k.monitor.outboxes l ≢ []) × puts p no_room q × (k2 ≡ k)
-MonitorWrites puts l k p write.Spent k2 q = (waiting_for k.monitor.outboxes l ≢ []) × puts p spent q × (k2 ≡ k)
-MonitorWrites puts l k p write.Nothing k2 q = (waiting_for k.monitor.outboxes l ≡ []) × (k2 ≡ k) × (q ≡ p)
+abbrev pub MonitorWrites : {P : Type 0} → (P → Look → P → Type 0) → ℕ → AtSide P → MonitorWrite → AtSide P → Type 0
+MonitorWrites puts l a write.Written b =
+    (f : Frag) × (rest : List Frag) × (waiting_for a.core.monitor.outboxes l ≡ f ∷ rest) × puts a.side (placed f) b.side
+    × (b.core ≡ with_monitor a.core (without_first l a.core.monitor))
+MonitorWrites puts l a write.Full b = (waiting_for a.core.monitor.outboxes l ≢ []) × puts a.side no_room b.side × (b.core ≡ a.core)
+MonitorWrites puts l a write.Spent b = (waiting_for a.core.monitor.outboxes l ≢ []) × puts a.side spent b.side × (b.core ≡ a.core)
+MonitorWrites puts l a write.Nothing b = (waiting_for a.core.monitor.outboxes l ≡ []) × (b.core ≡ a.core) × (b.side ≡ a.side)
 
 -- ---- a look
 
@@ -49,32 +49,53 @@ pub record IsLane (k : TheCore) (l : ℕ) (failed : Bool) : Type 0 where
   pub lane_is : slice_get k.lanes l ≡ Some lane
   pub failed_is : lane.failed ≡ failed
 
--- the link has not failed, and the core's table finds this there
-pub record Seen {T : Type 0} (takes : T → Look → T → Type 0) (front : T → Look) (l : ℕ) (k : TheCore)
+-- a link of a core
+pub record LinkOf : Type 0 where
+  pub core : TheCore
+  pub link : ℕ
+
+abbrev pub link_of : TheCore → ℕ → LinkOf
+link_of k l = record { core = k; link = l }
+
+-- the link has not failed, and the core's table finds this there; the side goes from p to q
+pub record Seen {T : Type 0} (takes : T → Look → T → Type 0) (front : T → Look) (at : LinkOf)
     (found : Result First HopFault) (p q : T) : Type 0 where
-  pub lane : IsLane k l false
-  pub finds : Finds takes front (record { table = k.monitor.circuits; link = l }) found (record { before = p; after = q })
+  pub lane : IsLane at.core at.link false
+  pub finds : Finds takes front (record { table = at.core.monitor.circuits; link = at.link }) found (record { before = p; after = q })
 
--- what stands first goes on over a link: by the side of that link's ring
-pub record GoesOver {T : Type 0} (takes : T → Look → T → Type 0) (front : T → Look) (l : ℕ) (k : TheCore)
-    (frag : Frag) (side : ℕ) (circuit : Circuit) (p q : T) : Type 0 where
+-- a fragment that goes on, to this side, on this circuit
+pub record Going : Type 0 where
+  pub frag : Frag
+  pub side : ℕ
+  pub circuit : Circuit
+
+abbrev pub going : Frag → ℕ → Circuit → Going
+going frag side circuit = record { frag = frag; side = side; circuit = circuit }
+
+-- it stands first, and goes on over a link: by the side of that link's ring
+pub record GoesOver {T : Type 0} (takes : T → Look → T → Type 0) (front : T → Look) (at : LinkOf) (x : Going) (p q : T) : Type 0 where
   pub link : LinkId
-  pub seen : Seen takes front l k (Ok (first.Goes frag (Link link circuit))) p q
-  pub side_is : side_of_link k.lanes link.0 ≡ Some side
+  pub seen : Seen takes front at (Ok (first.Goes x.frag (Link link x.circuit))) p q
+  pub side_is : side_of_link at.core.lanes link.0 ≡ Some x.side
 
-abbrev pub LooksAhead : {T : Type 0} → (T → Look → T → Type 0) → (T → Look) → ℕ
-    → TheCore → T → Result Ahead LinkFault → TheCore → T → Type 0
-LooksAhead takes front l k p (Ok Nothing) k2 q = Seen takes front l k (Ok first.Nothing) p q × (k2 ≡ k)
-LooksAhead takes front l k p (Ok Acknowledged) k2 q = Seen takes front l k (Ok first.Acknowledged) p q × (k2 ≡ k)
-LooksAhead takes front l k p (Ok (Message frag)) k2 q = Seen takes front l k (Ok (first.Monitor frag)) p q × (k2 ≡ k)
-LooksAhead takes front l k p (Ok (Onward frag side circuit)) k2 q = GoesOver takes front l k frag side circuit p q × (k2 ≡ k)
-LooksAhead takes front l k p (Ok (Arrival frag e)) k2 q = Seen takes front l k (Ok (first.Goes frag (End e))) p q × (k2 ≡ k)
+abbrev pub LooksAhead : {T : Type 0} → (T → Look → T → Type 0) → (T → Look) → ℕ → AtSide T → Result Ahead LinkFault → AtSide T → Type 0
+LooksAhead takes front l a (Ok Nothing) b = Seen takes front (link_of a.core l) (Ok first.Nothing) a.side b.side × (b.core ≡ a.core)
+LooksAhead takes front l a (Ok Acknowledged) b =
+    Seen takes front (link_of a.core l) (Ok first.Acknowledged) a.side b.side × (b.core ≡ a.core)
+LooksAhead takes front l a (Ok (Message frag)) b =
+    Seen takes front (link_of a.core l) (Ok (first.Monitor frag)) a.side b.side × (b.core ≡ a.core)
+LooksAhead takes front l a (Ok (Onward frag side circuit)) b =
+    GoesOver takes front (link_of a.core l) (going frag side circuit) a.side b.side × (b.core ≡ a.core)
+LooksAhead takes front l a (Ok (Arrival frag e)) b =
+    Seen takes front (link_of a.core l) (Ok (first.Goes frag (End e))) a.side b.side × (b.core ≡ a.core)
 -- what comes there failed earlier, and isn't looked at
-LooksAhead takes front l k p (Err Failed) k2 q = IsLane k l true × (k2 ≡ k) × (q ≡ p)
+LooksAhead takes front l a (Err Failed) b = IsLane a.core l true × (b.core ≡ a.core) × (b.side ≡ a.side)
 -- it fails now: a circuit without an entry, or a fragment of the wrong form
-LooksAhead takes front l k p (Err Astray) k2 q = Seen takes front l k (Err hop.Astray) p q × (k2 ≡ with_failed k l)
-LooksAhead takes front l k p (Err Marked) k2 q = Seen takes front l k (Err hop.Marked) p q × (k2 ≡ with_failed k l)
-LooksAhead takes front l k p (Err fault) k2 q = ⊥
+LooksAhead takes front l a (Err Astray) b =
+    Seen takes front (link_of a.core l) (Err hop.Astray) a.side b.side × (b.core ≡ with_failed a.core l)
+LooksAhead takes front l a (Err Marked) b =
+    Seen takes front (link_of a.core l) (Err hop.Marked) a.side b.side × (b.core ≡ with_failed a.core l)
+LooksAhead takes front l a (Err fault) b = ⊥
 
 -- ---- a fragment arrives for an end
 
@@ -84,24 +105,33 @@ reached e outcome.Moved = Some e
 reached e outcome = None
 
 -- it is taken, stands last in the end's arrival queue, on circuit 0, and the end's channel is triggered; where the queue has no room it is left
-pub record Arrives {T : Type 0} (takes : T → Look → T → Type 0) (frag : Frag) (name : EndId) (k : TheCore) (p : T)
-    (outcome : Outcome) (k2 : TheCore) (q : T) : Type 0 where
+pub record Arrives {T : Type 0} (takes : T → Look → T → Type 0) (frag : Frag) (name : EndId) (a : AtSide T)
+    (outcome : Outcome) (b : AtSide T) : Type 0 where
   pub end : ℕ
   pub queue : ℕ
-  pub at : arriving_at k name ≡ Some (arriving end queue)
+  pub at : arriving_at a.core name ≡ Some (arriving end queue)
   pub before : TheQueue
-  pub before_is : slice_get k.arrivals queue ≡ Some before
+  pub before_is : slice_get a.core.arrivals queue ≡ Some before
   pub after : TheQueue
   pub puts : QueuePuts before (put_label outcome (as_carried frag)) after
-  pub left : Leaves takes outcome (bare frag) (record { before = p; after = q })
-  pub triggers : TriggersIf (reached end outcome) k.board k2.board
-  pub rest : k2 ≡ with_board (with_arrivals k queue after) k2.board
+  pub left : Leaves takes outcome (bare frag) (record { before = a.side; after = b.side })
+  pub triggers : TriggersIf (reached end outcome) a.core.board b.core.board
+  pub rest : b.core ≡ with_board (with_arrivals a.core queue after) b.core.board
 
--- an end to which an entry of link l leads isn't at this core: the fragment is left
-abbrev pub ArrivesAt : {T : Type 0} → (T → Look → T → Type 0) → ℕ → Frag → EndId → TheCore → T → Result Outcome LinkFault → TheCore → T → Type 0
-ArrivesAt takes l frag name k p (Ok outcome) k2 q = Arrives takes frag name k p outcome k2 q
-ArrivesAt takes l frag name k p (Err Astray) k2 q = (arriving_at k name ≡ None) × (k2 ≡ with_failed k l) × (q ≡ p)
-ArrivesAt takes l frag name k p (Err fault) k2 q = ⊥
+-- a fragment that is to arrive, from a link, at an end
+pub record Inbound : Type 0 where
+  pub link : ℕ
+  pub frag : Frag
+  pub end : EndId
+
+abbrev pub inbound : ℕ → Frag → EndId → Inbound
+inbound l frag e = record { link = l; frag = frag; end = e }
+
+-- an end to which an entry of the link leads isn't at this core: the fragment is left
+abbrev pub ArrivesAt : {T : Type 0} → (T → Look → T → Type 0) → Inbound → AtSide T → Result Outcome LinkFault → AtSide T → Type 0
+ArrivesAt takes x a (Ok outcome) b = Arrives takes x.frag x.end a outcome b
+ArrivesAt takes x a (Err Astray) b = (arriving_at a.core x.end ≡ None) × (b.core ≡ with_failed a.core x.link) × (b.side ≡ a.side)
+ArrivesAt takes x a (Err fault) b = ⊥
 
 -- ---- a core acknowledges
 

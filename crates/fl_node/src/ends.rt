@@ -9,7 +9,7 @@ ghost use Rattle.fl_core.specs.View.{due};
 ghost use Rattle.fl_core.specs.Events.{ChangesEnd, ChangesLists, Holds, Deregisters, Acks};
 ghost use Rattle.fl_core.specs.Turns.{Turns, over};
 ghost use Rattle.fl_node.specs.View.{arrivals_of};
-ghost use Rattle.fl_node.specs.Ends.{OnBoard, OverArrivals, RegistersAt, TriggersIf, woken_by, WritesAt};
+ghost use Rattle.fl_node.specs.Ends.{at_side, OnBoard, OverArrivals, RegistersAt, TriggersIf, woken_by, WritesAt};
 
 use crate::one_core::Core;
 use fl_base::{Frag, MsgNo};
@@ -72,7 +72,7 @@ impl Core {
     /// As the end's: E43, E64, E33. The core is as it was then.
     pub fn write<P: PutSide>(&mut self, e: usize, out: &mut P) -> Result<WriteAnswer, EndFault>
         requires { e < length self.old.board.seats }
-        ensures writes { WritesAt P.puts e self.old out.old result self.new out.new }
+        ensures writes { WritesAt P.puts e (at_side self.old out.old) result (at_side self.new out.new) }
         ensures kept { OnErr result (self.new ≡ self.old) }
     {
         match self.board.write(e, out) {
@@ -117,7 +117,7 @@ impl Core {
     pub fn register<T: TakeSide>(&mut self, e: usize, from: &mut T) -> Result<(), BoardFault>
         requires there { e < length self.old.board.seats }
         requires lent { arrivals_of self.old e ≡ None }
-        ensures registers { OnBoard self.old (λ b c. RegistersAt T.takes e result b from.old c from.new) self.new }
+        ensures registers { OnBoard self.old (λ b c. RegistersAt T.takes e (over b from.old) result (over c from.new)) self.new }
         ensures kept { OnErr result (self.new ≡ self.old) }
     {
         self.board.register(e, from)
@@ -129,7 +129,7 @@ impl Core {
     /// As [`Core::register`].
     pub fn register_arrivals(&mut self, e: usize) -> Result<(), BoardFault>
         requires { IsSome (arrivals_of self.old e) }
-        ensures registers { OverArrivals self.old e (λ b p c q. RegistersAt QueueTakes e result b p c q) self.new }
+        ensures registers { OverArrivals self.old e (λ b p c q. RegistersAt QueueTakes e (over b p) result (over c q)) self.new }
         ensures kept { OnErr result (self.new ≡ self.old) }
     {
         let Some(a) = self.arrivals_of(e) else {

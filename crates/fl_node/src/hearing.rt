@@ -1,19 +1,17 @@
 //! What a core makes of a monitors' message.
 
-ghost use Rattle.std.specs.Prelude.{◌≡◌, ◌<◌, ◌==◌, ℕ, List, Option, length, slice_get, Some, None, IfSome, IfErr, true};
+ghost use Rattle.std.specs.Prelude.{◌≡◌, ◌<◌, ◌==◌, length, slice_get, Some, None, IfSome, IfErr, true};
 ghost use Rattle.fl_base.specs.Control.{bare};
-ghost use Rattle.fl_base.specs.declared.identity.LinkId.{LinkId as TheLink};
-ghost use Rattle.fl_compile.specs.declared.program.Program.{Program as TheProgram};
 ghost use Rattle.fl_compile.specs.Programs.{program_of};
 ghost use Rattle.fl_link.specs.Looks.{saw};
 ghost use Rattle.fl_core.specs.View.{TheBoard};
 ghost use Rattle.fl_monitor.specs.Hearing.{circuit_in};
 ghost use Rattle.fl_monitor.specs.Saying.{SaysSome};
-ghost use Rattle.fl_node.specs.declared.hearing.Offered.{Offered as TheOffer};
 ghost use Rattle.fl_node.specs.View.{arriving_at};
 ghost use Rattle.fl_node.specs.Making.{HasPlace};
-ghost use Rattle.fl_node.specs.Hearing.{Offers, here_for, has_end, has_place, offer_of, offer_for, BindsIf, Follows, HearsMessage, HearsFrag, TakesHeard};
-ghost use Rattle.fl_node.specs.Inside.{server_in, LeadsTo, HearsWith, MayRefuse, Unheard};
+ghost use Rattle.fl_node.specs.Hearing.{Offers, here_for, has_end, has_place, offer_of, offer_for};
+ghost use Rattle.fl_node.specs.Hearing.{BindsIf, Offering, Follows, HearsMessage, HearsFrag, TakesHeard};
+ghost use Rattle.fl_node.specs.Inside.{server_in, LeadsTo, for_message, core_parts, HearsWith, MayRefuse, Unheard};
 
 use crate::answer::MonitorAnswer;
 use crate::fault::LinkFault;
@@ -113,8 +111,8 @@ fn hear_with_end(
     requires there { dispatcher < length board.old.dispatchers }
     requires place { HasPlace board.old dispatcher }
     requires leads { LeadsTo (record { names = names.now; here = here }) monitor.old.circuits link message.now dispatcher (circuit_in message.now) }
-    ensures hears { HearsWith (record { names = names.now; here = here }) link message.now (program_of program.now)
-        board.old monitor.old result board.new monitor.new }
+    ensures hears { HearsWith (for_message (record { names = names.now; here = here }) link message.now (program_of program.now))
+        (core_parts board.old monitor.old) result (core_parts board.new monitor.new) }
 {
     let Ok(copy) = program.duplicate(alloc) else {
         return Err(MonitorFault::Memory);
@@ -224,7 +222,7 @@ impl Core {
     // What follows where a message makes no server's end.
     fn follow(&mut self, heard: Heard) -> MonitorAnswer
         requires { server_in heard ≡ None }
-        ensures follows { (programs : List TheProgram) (offer : Option TheOffer) (l : TheLink) → Follows programs offer l heard self.old result self.new }
+        ensures follows { (x : Offering) → Follows x heard self.old result self.new }
     {
         match heard {
             Heard::ServerMade { .. } => unreachable!(),

@@ -4,8 +4,9 @@ ghost use Rattle.std.specs.Prelude.{◌≡◌, ◌<◌, false, length};
 ghost use Rattle.fl_base.specs.Control.{is_ack_only, with_circuit, bare};
 ghost use Rattle.fl_link.specs.Looks.{saw, tells};
 ghost use Rattle.fl_node.specs.View.{failed_at, with_failed};
-ghost use Rattle.fl_node.specs.Links.{MonitorWrites, LooksAhead, ArrivesAt, Acknowledges};
+ghost use Rattle.fl_node.specs.Links.{MonitorWrites, LooksAhead, inbound, ArrivesAt, Acknowledges};
 ghost use Rattle.fl_node.specs.Inside.{FailsFor};
+ghost use Rattle.fl_node.specs.Ends.{at_side};
 
 use crate::answer::{Ahead, MonitorWrite};
 use crate::fault::LinkFault;
@@ -32,7 +33,7 @@ pub(crate) fn fail(lanes: &mut Vec<Lane>, link: LinkId)
 impl Core {
     /// Puts the message that waits first for a link on it, over the core's side of the link ([`Core::side`]). Takes no memory.
     pub fn monitor_write<P: PutSide>(&mut self, link: LinkId, out: &mut P) -> MonitorWrite
-        ensures writes { MonitorWrites P.puts link.0 self.old out.old result self.new out.new }
+        ensures writes { MonitorWrites P.puts link.0 (at_side self.old out.old) result (at_side self.new out.new) }
     {
         let Some(frag) = self.monitor.next_out(link) else {
             return MonitorWrite::Nothing;
@@ -55,7 +56,7 @@ impl Core {
     /// (E63): it is left, and what comes there has failed for good.
     pub fn look<T: TakeSide>(&mut self, link: LinkId, from: &mut T) -> Result<Ahead, LinkFault>
         requires { link.0 < length self.old.lanes }
-        ensures looks { LooksAhead T.takes T.front link.0 self.old from.old result self.new from.new }
+        ensures looks { LooksAhead T.takes T.front link.0 (at_side self.old from.old) result (at_side self.new from.new) }
     {
         if self.lanes[usize::from(link.0)].failed {
             return Err(LinkFault::Failed);
@@ -100,7 +101,7 @@ impl Core {
         requires there { link.0 < length self.old.lanes }
         requires seen { T.front from.old ≡ saw (bare frag.now) }
         requires call { is_ack_only (with_circuit 0 frag.now) ≡ false }
-        ensures arrives { ArrivesAt T.takes link.0 frag.now name self.old from.old result self.new from.new }
+        ensures arrives { ArrivesAt T.takes (inbound link.0 frag.now name) (at_side self.old from.old) result (at_side self.new from.new) }
     {
         let Some(at) = self.arriving_at(name) else {
             fail(&mut self.lanes, link);

@@ -24,9 +24,10 @@ use Rattle.fl_node.specs.declared.wire.Outlet.TheVariants as outlet
 use Rattle.fl_node.specs.declared.wire.Inlet.TheVariants as inlet
 use Rattle.fl_node.specs.declared.wire.Arriving.{Arriving}
 use Rattle.fl_node.specs.View.{TheCore, arriving_at, with_monitor}
-use Rattle.fl_node.specs.Links.{LooksAhead, ArrivesAt}
+use Rattle.fl_node.specs.Links.{LooksAhead, inbound, ArrivesAt}
 use Rattle.fl_node.specs.Making.{Asked, Asks}
-use Rattle.fl_node.specs.Hearing.{Offers, known_for, offer_for, HearsAll, Follows, BindsIf}
+use Rattle.fl_node.specs.Hearing.{Offers, known_for, offer_for, HearsAll, offering, Follows, BindsIf}
+use Rattle.fl_node.specs.Ends.{at_side}
 use Rattle.fl_node.proofs.Begun.{opens_length}
 use Rattle.fl_node.proofs.Hearsay.{hears_length}
 use Rattle.fl_running.specs.declared.job.Job.{Job}
@@ -41,7 +42,7 @@ links_of k = length k.monitor.circuits.links
 
 -- what follows a message at a core leaves the monitor as that heard it
 follows_monitor : (o : Offers) (l : LinkId) (msg : Message) (h : Heard) (k : TheCore) (m : TheMonitor) (answer : MonitorAnswer) (k2 : TheCore)
-    → Follows o.programs (offer_for o k msg) l h (with_monitor k m) answer k2 → k2.monitor ≡ m
+    → Follows (offering o.programs (offer_for o k msg) l) h (with_monitor k m) answer k2 → k2.monitor ≡ m
 follows_monitor o l msg (outcome.ServerMade binding dispatcher c) k m answer k2 f = ap (λ (x : TheCore). x.monitor) f.1.rest
 follows_monitor o l msg (outcome.EndOpened e c) k m answer k2 f = by (arriving_at (with_monitor k m) e) f.1 where
   by : (at : Option Arriving) → BindsIf at c (with_monitor k m) k2 → k2.monitor ≡ m
@@ -59,7 +60,7 @@ module _ {S : Type 0} (w : Ways S) (s m : TheRun S) where
   rests : m.core.monitor ≡ s.core.monitor → Stay
   rests same = ap (λ (x : TheMonitor). length x.circuits.links) same
 
-  looks : (l : ℕ) (p : S) (answer : Result Ahead LinkFault) (q : S) → LooksAhead w.takes w.front l s.core p answer m.core q → Stay
+  looks : (l : ℕ) (p : S) (answer : Result Ahead LinkFault) (q : S) → LooksAhead w.takes w.front l (at_side s.core p) answer (at_side m.core q) → Stay
   looks l p (Ok ahead.Nothing) q h = ap links_of h.1
   looks l p (Ok ahead.Acknowledged) q h = ap links_of h.1
   looks l p (Ok (ahead.Message frag)) q h = ap links_of h.1
@@ -71,7 +72,7 @@ module _ {S : Type 0} (w : Ways S) (s m : TheRun S) where
   looks l p (Err (link.Wire f)) q h = absurd h
   looks l p (Err link.Memory) q h = absurd h
 
-  arrives : (l : ℕ) (frag : Frag) (e : EndId) (p : S) (answer : Result Outcome LinkFault) (q : S) → ArrivesAt w.takes l frag e s.core p answer m.core q → Stay
+  arrives : (l : ℕ) (frag : Frag) (e : EndId) (p : S) (answer : Result Outcome LinkFault) (q : S) → ArrivesAt w.takes (inbound l frag e) (at_side s.core p) answer (at_side m.core q) → Stay
   arrives l frag e p (Ok result) q h = ap links_of h.rest
   arrives l frag e p (Err link.Astray) q h = ap links_of h.1
   arrives l frag e p (Err link.Failed) q h = absurd h

@@ -15,7 +15,7 @@ use Rattle.fl_running.specs.declared.run.End.TheVariants.{Finished, Unfinished}
 use Rattle.fl_running.specs.declared.run.Part.{Part}
 use Rattle.fl_running.specs.declared.word.Word.{Word}
 use Rattle.fl_running.specs.Run.{Ways, TheRun}
-use Rattle.fl_running.specs.Deeds.{TurnsOver, turned, Does}
+use Rattle.fl_running.specs.Deeds.{dispatcher_turn, TurnsOver, turned, Does}
 use Rattle.fl_running.specs.Turn.{OneTurn}
 use Rattle.fl_running.specs.Words.{SaidNothing, stock}
 use Rattle.fl_running.specs.Ran.{Task, Moment, moment, Counted, TellsEnd, SomeTurns, HaveEnded, GoesOn, CoreRan}
@@ -40,9 +40,9 @@ seen_heard v u count same = ap (λ (x : TheSeat). x.knows.heard) same
 
 -- a turn that was answered
 pub turn_done : {S : Type 0} (w : Ways S) (d e : ℕ) (name : EndId) (from : Inlet) (result : Result TurnAnswer AllocError) (answer : TurnAnswer) (s t : TheRun S)
-    → TurnsOver w d e from result s t → result ≡ Ok answer → place_of s.core name ≡ Some e → due s.core.board d ≡ Some e → Does w (turned d name from answer) s t
+    → TurnsOver w (dispatcher_turn d e result) from s t → result ≡ Ok answer → place_of s.core name ≡ Some e → due s.core.board d ≡ Some e → Does w (turned d name from answer) s t
 turn_done w d e name from result answer s t turns is place due_is =
-    (e, place, due_is, subst (λ (r : Result TurnAnswer AllocError). TurnsOver w d e from r s t) is turns)
+    (e, place, due_is, subst (λ (r : Result TurnAnswer AllocError). TurnsOver w (dispatcher_turn d e r) from s t) is turns)
 
 module _ {S : Type 0} (w : Ways S) (t : Task) (a b : Moment S) (part : Part) (u : TheSeat) (counted : Counted w t a part b) where
   -- a core that reached its limit

@@ -11,15 +11,15 @@ use Rattle.fl_node.specs.declared.wire.Inlet.TheVariants.{Queue, Side}
 use Rattle.fl_node.specs.View.{TheCore}
 use Rattle.fl_node.specs.Ends.{OnBoard}
 use Rattle.fl_running.specs.Run.{Ways, TheRun, lends_in}
-use Rattle.fl_running.specs.Deeds.{TurnsOver}
+use Rattle.fl_running.specs.Deeds.{dispatcher_turn, TurnsOver}
 
 pub over_queue : {S : Type 0} (w : Ways S) (d e n : ℕ) (i : Inlet) (answer : Result TurnAnswer AllocError) (s : TheRun S) (k2 : TheCore) (p q : TheQueue)
     → i ≡ Queue n → lends_in s i ≡ true → p ≡ slice_index_or s.queues n p → OnBoard s.core (λ b c. Turns QueueTakes d e (over b p) answer (over c q)) k2
-    → TurnsOver w d e i answer s (record s { core = k2; queues = slice_set s.queues n q })
+    → TurnsOver w (dispatcher_turn d e answer) i s (record s { core = k2; queues = slice_set s.queues n q })
 over_queue {S} w d e n i answer s k2 p q is lent value turns =
     let lends : lends_in s (Queue n) ≡ true = subst (λ (j : Inlet). lends_in s j ≡ true) is lent in
     let below : n < length s.queues = ltb-true n (length s.queues) lends in
-    subst (λ (j : Inlet). TurnsOver w d e j answer s (record s { core = k2; queues = slice_set s.queues n q })) (sym is) (record {
+    subst (λ (j : Inlet). TurnsOver w (dispatcher_turn d e answer) j s (record s { core = k2; queues = slice_set s.queues n q })) (sym is) (record {
       before = p;
       before_is = slice_get_read s.queues (length s.queues) n p refl below value;
       after = q;
@@ -29,11 +29,11 @@ over_queue {S} w d e n i answer s k2 p q is lent value turns =
 
 pub over_side : {S : Type 0} (w : Ways S) (d e n : ℕ) (i : Inlet) (answer : Result TurnAnswer AllocError) (s : TheRun S) (k2 : TheCore) (p q : S)
     → i ≡ Side n → lends_in s i ≡ true → p ≡ slice_index_or s.rings n p → OnBoard s.core (λ b c. Turns w.takes d e (over b p) answer (over c q)) k2
-    → TurnsOver w d e i answer s (record s { core = k2; rings = slice_set s.rings n q })
+    → TurnsOver w (dispatcher_turn d e answer) i s (record s { core = k2; rings = slice_set s.rings n q })
 over_side {S} w d e n i answer s k2 p q is lent value turns =
     let lends : lends_in s (Side n) ≡ true = subst (λ (j : Inlet). lends_in s j ≡ true) is lent in
     let below : n < length s.rings = ltb-true n (length s.rings) lends in
-    subst (λ (j : Inlet). TurnsOver w d e j answer s (record s { core = k2; rings = slice_set s.rings n q })) (sym is) (record {
+    subst (λ (j : Inlet). TurnsOver w (dispatcher_turn d e answer) j s (record s { core = k2; rings = slice_set s.rings n q })) (sym is) (record {
       before = p;
       before_is = slice_get_read s.rings (length s.rings) n p refl below value;
       after = q;

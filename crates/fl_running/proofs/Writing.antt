@@ -8,13 +8,13 @@ use Rattle.fl_endpoint.specs.declared.fault.EndFault.{EndFault}
 use Rattle.fl_node.specs.declared.wire.Outlet.{Outlet}
 use Rattle.fl_node.specs.declared.wire.Outlet.TheVariants as outlet
 use Rattle.fl_node.specs.View.{TheCore}
-use Rattle.fl_node.specs.Ends.{WritesAt}
+use Rattle.fl_node.specs.Ends.{at_side, WritesAt}
 use Rattle.fl_running.specs.Run.{Ways, TheRun, lends_out}
 use Rattle.fl_running.specs.Deeds.{WritesOver}
 
 module _ {S : Type 0} (w : Ways S) (e n : ℕ) (out : Outlet) (answer : Result WriteAnswer EndFault) (s : TheRun S) (core : TheCore) where
   pub over_queue : (before after : TheQueue) → out ≡ outlet.Queue n → lends_out s out ≡ true → before ≡ get_or s.queues n before
-      → WritesAt QueuePuts e s.core before answer core after
+      → WritesAt QueuePuts e (at_side s.core before) answer (at_side core after)
       → WritesOver w e out answer s (record s { core = core; queues = slice_set s.queues n after })
   over_queue before after is lent read event =
       let within : nat_lt n (length s.queues) ≡ true = ap (lends_out s) (sym is) ∙ lent in
@@ -28,7 +28,7 @@ module _ {S : Type 0} (w : Ways S) (e n : ℕ) (out : Outlet) (answer : Result W
       })
 
   pub over_ring : (before after : S) → out ≡ outlet.Side n → lends_out s out ≡ true → before ≡ get_or s.rings n before
-      → WritesAt w.puts e s.core before answer core after
+      → WritesAt w.puts e (at_side s.core before) answer (at_side core after)
       → WritesOver w e out answer s (record s { core = core; rings = slice_set s.rings n after })
   over_ring before after is lent read event =
       let within : nat_lt n (length s.rings) ≡ true = ap (lends_out s) (sym is) ∙ lent in

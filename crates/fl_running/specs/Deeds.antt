@@ -44,8 +44,8 @@ use Rattle.fl_node.specs.declared.wire.Inlet.TheVariants as inlet
 use Rattle.fl_node.specs.View.{TheCore, place_of}
 use Rattle.fl_node.specs.Making.{asked, Asks}
 use Rattle.fl_node.specs.Sound.{IsCore}
-use Rattle.fl_node.specs.Ends.{OnBoard, OverArrivals, WritesAt}
-use Rattle.fl_node.specs.Links.{MonitorWrites, LooksAhead, ArrivesAt, Acknowledges}
+use Rattle.fl_node.specs.Ends.{at_side, OnBoard, OverArrivals, WritesAt}
+use Rattle.fl_node.specs.Links.{MonitorWrites, LooksAhead, inbound, ArrivesAt, Acknowledges}
 use Rattle.fl_node.specs.Hearing.{HearsFrag, TakesHeard}
 use Rattle.fl_running.specs.declared.job.Wish.{Wish}
 use Rattle.fl_running.specs.Desks.{advanced, with_handled, with_refusal}
@@ -110,12 +110,22 @@ PutsAt w n look s t = OnRing n s (λ k p k2 q. w.puts p look q × (k2 ≡ k)) t
 abbrev pub TakesAt : {S : Type 0} → Ways S → ℕ → Look → TheRun S → TheRun S → Type 0
 TakesAt w n look s t = OnRing n s (λ k p k2 q. w.takes p look q × (k2 ≡ k)) t
 
--- a fragment passes on from side n to side m, with a circuit's number; where there is no room it is left
-abbrev pub PassesOn : {S : Type 0} → Ways S → ℕ → ℕ → Frag → Circuit → Outcome → TheRun S → TheRun S → Type 0
-PassesOn {S} w n m frag c Moved s t =
-    (mid : TheRun S) × PutsAt w m (placed (bare (with_circuit c.0 frag))) s mid × TakesAt w n (found (bare frag)) mid t
-PassesOn w n m frag c Full s t = PutsAt w m no_room s t
-PassesOn w n m frag c Spent s t = PutsAt w m spent s t
+-- a fragment that is to pass on, from one side to another, with a circuit's number
+pub record Passing : Type 0 where
+  pub from : ℕ
+  pub onto : ℕ
+  pub frag : Frag
+  pub circuit : Circuit
+
+abbrev pub passing : ℕ → ℕ → Frag → Circuit → Passing
+passing from onto frag c = record { from = from; onto = onto; frag = frag; circuit = c }
+
+-- where there is no room it is left
+abbrev pub PassesOn : {S : Type 0} → Ways S → Passing → Outcome → TheRun S → TheRun S → Type 0
+PassesOn {S} w x Moved s t =
+    (mid : TheRun S) × PutsAt w x.onto (placed (bare (with_circuit x.circuit.0 x.frag))) s mid × TakesAt w x.from (found (bare x.frag)) mid t
+PassesOn w x Full s t = PutsAt w x.onto no_room s t
+PassesOn w x Spent s t = PutsAt w x.onto spent s t
 
 -- a copy of the program at a place
 pub record IsCopyOf (programs : List Program) (n : ℕ) (program : Program) : Type 0 where
@@ -129,28 +139,37 @@ pub record AsksFor (programs : List Program) (wish : Wish) (k : TheCore) (answer
   pub copy : IsCopyOf programs wish.interface program
   pub asks : Asks (asked wish.dispatcher program wish.link wish.opening) k answer k2
 
--- a turn at the end at place e
-abbrev pub TurnsOver : {S : Type 0} → Ways S → ℕ → ℕ → Inlet → Result TurnAnswer AllocError → TheRun S → TheRun S → Type 0
-TurnsOver w d e (inlet.Queue n) answer s t =
-    OnQueue n s (λ k p k2 q. OnBoard k (λ b c. Turns QueueTakes d e (over b p) answer (over c q)) k2) t
-TurnsOver w d e (inlet.Side n) answer s t =
-    OnRing n s (λ k p k2 q. OnBoard k (λ b c. Turns w.takes d e (over b p) answer (over c q)) k2) t
-TurnsOver w d e inlet.Arrivals answer s t =
-    OnCore s (λ k k2. OverArrivals k e (λ b p c q. Turns QueueTakes d e (over b p) answer (over c q)) k2) t
+-- a dispatcher's turn: at the end at a place, and with what answer
+pub record DispatcherTurn : Type 0 where
+  pub dispatcher : ℕ
+  pub end : ℕ
+  pub answer : Result TurnAnswer AllocError
+
+abbrev pub dispatcher_turn : ℕ → ℕ → Result TurnAnswer AllocError → DispatcherTurn
+dispatcher_turn d e answer = record { dispatcher = d; end = e; answer = answer }
+
+-- over where its end takes from
+abbrev pub TurnsOver : {S : Type 0} → Ways S → DispatcherTurn → Inlet → TheRun S → TheRun S → Type 0
+TurnsOver w x (inlet.Queue n) s t =
+    OnQueue n s (λ k p k2 q. OnBoard k (λ b c. Turns QueueTakes x.dispatcher x.end (over b p) x.answer (over c q)) k2) t
+TurnsOver w x (inlet.Side n) s t =
+    OnRing n s (λ k p k2 q. OnBoard k (λ b c. Turns w.takes x.dispatcher x.end (over b p) x.answer (over c q)) k2) t
+TurnsOver w x inlet.Arrivals s t =
+    OnCore s (λ k k2. OverArrivals k x.end (λ b p c q. Turns QueueTakes x.dispatcher x.end (over b p) x.answer (over c q)) k2) t
 
 -- a write of the end at place e
 abbrev pub WritesOver : {S : Type 0} → Ways S → ℕ → Outlet → Result WriteAnswer EndFault → TheRun S → TheRun S → Type 0
-WritesOver w e (outlet.Queue n) answer s t = OnQueue n s (λ k p k2 q. WritesAt QueuePuts e k p answer k2 q) t
-WritesOver w e (outlet.Side n) answer s t = OnRing n s (λ k p k2 q. WritesAt w.puts e k p answer k2 q) t
+WritesOver w e (outlet.Queue n) answer s t = OnQueue n s (λ k p k2 q. WritesAt QueuePuts e (at_side k p) answer (at_side k2 q)) t
+WritesOver w e (outlet.Side n) answer s t = OnRing n s (λ k p k2 q. WritesAt w.puts e (at_side k p) answer (at_side k2 q)) t
 
 -- ---- one event: of what does it, and of the desks
 
 abbrev pub Does : {S : Type 0} → Ways S → Deed → TheRun S → TheRun S → Type 0
-Does w (looked n l answer) s t = OnRing n s (λ k p k2 q. LooksAhead w.takes w.front l.0 k p answer k2 q) t
-Does w (passed n m frag c outcome) s t = PassesOn w n m frag c outcome s t
-Does w (arrived n l frag e answer) s t = OnRing n s (λ k p k2 q. ArrivesAt w.takes l.0 frag e k p answer k2 q) t
+Does w (looked n l answer) s t = OnRing n s (λ k p k2 q. LooksAhead w.takes w.front l.0 (at_side k p) answer (at_side k2 q)) t
+Does w (passed n m frag c outcome) s t = PassesOn w (passing n m frag c) outcome s t
+Does w (arrived n l frag e answer) s t = OnRing n s (λ k p k2 q. ArrivesAt w.takes (inbound l.0 frag e) (at_side k p) answer (at_side k2 q)) t
 Does w (heard n l frag answer) s t = OnRing n s (λ k p k2 q. HearsFrag s.offers l frag k answer k2 × TakesHeard w.takes frag p answer q) t
-Does w (said n l answer) s t = OnRing n s (λ k p k2 q. MonitorWrites w.puts l.0 k p answer k2 q) t
+Does w (said n l answer) s t = OnRing n s (λ k p k2 q. MonitorWrites w.puts l.0 (at_side k p) answer (at_side k2 q)) t
 Does w (told n l answer) s t = OnRing n s (λ k p k2 q. Acknowledges w.takes p answer q × (k2 ≡ k)) t
 Does w (opened name wish answer) s t = OnCore s (λ k k2. AsksFor s.offers.programs wish k answer k2) t
 Does w (called name c answer) s t =
@@ -161,7 +180,7 @@ Does w (wrote name out answer) s t = (e : ℕ) × IsAt s name e × WritesOver w 
 Does w (acked name n answer) s t =
     (e : ℕ) × IsAt s name e × OnRing n s (λ k p k2 q. Holds k.board e (λ x. Acks w.takes x.kind x.end p answer q) × (k2 ≡ k)) t
 Does w (turned d name from answer) s t =
-    (e : ℕ) × IsAt s name e × (due s.core.board d ≡ Some e) × TurnsOver w d e from (Ok answer) s t
+    (e : ℕ) × IsAt s name e × (due s.core.board d ≡ Some e) × TurnsOver w (dispatcher_turn d e (Ok answer)) from s t
 
 -- what is noted at the desk of the client's end: that its opening is refused
 abbrev pub NotesHeard : {S : Type 0} → Result MonitorAnswer LinkFault → TheRun S → TheRun S → Type 0

@@ -108,17 +108,26 @@ CallsAt w name call None s t = t ≡ s
 CallsAt w name call (Some e) s t =
     (answer : Result (Unit {0}) EndFault) × Happens w (called name (call_of call) answer) s t × (lacks_to_call answer ≡ false)
 
--- a reply rule is set where its end is there
-abbrev pub RulesAt : {S : Type 0} → Ways S → EndId → MsgNo → MsgNo → Option ℕ → TheRun S → TheRun S → Type 0
-RulesAt w name msg reply None s t = t ≡ s
-RulesAt w name msg reply (Some e) s t = (answer : Result (Unit {0}) EndFault) × Happens w (ruled name msg reply answer) s t
+-- at this end a message is answered by this reply
+pub record ReplyRule : Type 0 where
+  pub end : EndId
+  pub message : MsgNo
+  pub reply : MsgNo
+
+abbrev pub reply_rule : EndId → MsgNo → MsgNo → ReplyRule
+reply_rule name msg reply = record { end = name; message = msg; reply = reply }
+
+-- the rule is set where its end is there
+abbrev pub RulesAt : {S : Type 0} → Ways S → ReplyRule → Option ℕ → TheRun S → TheRun S → Type 0
+RulesAt w x None s t = t ≡ s
+RulesAt w x (Some e) s t = (answer : Result (Unit {0}) EndFault) × Happens w (ruled x.end x.message x.reply answer) s t
 
 -- by the job
 abbrev pub Tries : {S : Type 0} → Ways S → EndId → Option Job → TheRun S → TheRun S → Type 0
 Tries w name None s t = t ≡ s
 Tries w name (Some (job.Open wish)) s t = OpensIf w (may_ask s wish) name wish s t
 Tries w name (Some (job.Call e call)) s t = CallsAt w name call (place_of s.core name) s t
-Tries w name (Some (job.Reply e msg reply)) s t = RulesAt w name msg reply (place_of s.core name) s t
+Tries w name (Some (job.Reply e msg reply)) s t = RulesAt w (reply_rule name msg reply) (place_of s.core name) s t
 
 abbrev pub WritesFrom : {S : Type 0} → Ways S → EndId → Option Post → TheRun S → TheRun S → Type 0
 WritesFrom w name None s t = t ≡ s
@@ -148,13 +157,23 @@ is_before_calls (Some (job.Call e call)) = false
 abbrev pub awaits : {S : Type 0} → List Job → TheRun S → EndId → Bool
 awaits jobs s name = is_before_calls (next_job jobs s name)
 
-abbrev pub TurnsIf : {S : Type 0} → Ways S → Bool → ℕ → EndId → Due → TheRun S → TheRun S → Type 0
-TurnsIf w true d name due s t = t ≡ s
-TurnsIf w false d name due s t = (answer : TurnAnswer) × Happens w (turned d name due.inlet answer) s t
+-- a turn that is due: its dispatcher, and the end's name and place
+pub record DueTurn : Type 0 where
+  pub dispatcher : ℕ
+  pub name : EndId
+  pub due : Due
+
+abbrev pub due_turn : ℕ → EndId → Due → DueTurn
+due_turn d name due = record { dispatcher = d; name = name; due = due }
+
+-- an end that awaits something has none
+abbrev pub TurnsIf : {S : Type 0} → Ways S → Bool → DueTurn → TheRun S → TheRun S → Type 0
+TurnsIf w true x s t = t ≡ s
+TurnsIf w false x s t = (answer : TurnAnswer) × Happens w (turned x.dispatcher x.name x.due.inlet answer) s t
 
 abbrev pub TurnsAt : {S : Type 0} → Ways S → List Job → ℕ → Option Due → TheRun S → TheRun S → Type 0
 TurnsAt w jobs d None s t = t ≡ s
-TurnsAt w jobs d (Some due) s t = (name : EndId) × (place_of s.core name ≡ Some due.end) × TurnsIf w (awaits jobs s name) d name due s t
+TurnsAt w jobs d (Some due) s t = (name : EndId) × (place_of s.core name ≡ Some due.end) × TurnsIf w (awaits jobs s name) (due_turn d name due) s t
 
 abbrev pub TakesTurn : {S : Type 0} → Ways S → List Job → ℕ → TheRun S → TheRun S → Type 0
 TakesTurn w jobs d s t = TurnsAt w jobs d (lent_due s d) s t

@@ -13,7 +13,7 @@ use Rattle.fl_running.specs.declared.job.Job.{Job}
 use Rattle.fl_running.specs.declared.lent.Due.{Due}
 use Rattle.fl_running.specs.declared.plan.Plan.{Plan}
 use Rattle.fl_running.specs.Run.{Ways, TheRun, lent_lane, lent_due}
-use Rattle.fl_running.specs.Deeds.{looked, turned, TurnsOver, Does, Happens}
+use Rattle.fl_running.specs.Deeds.{looked, turned, dispatcher_turn, TurnsOver, Does, Happens}
 use Rattle.fl_running.specs.Steps.{Forwards, Says, Serves, awaits, TakesTurn}
 use Rattle.fl_running.specs.Turn.{Swept, At, ForEach, Turned}
 
@@ -33,7 +33,8 @@ pub record LeavesJob {S : Type 0} (name : EndId) (s t : TheRun S) : Type 0 where
 -- for a dispatcher: the end that was due saw a fragment and left it; or it handled a call, and that doesn't stand at its desk
 abbrev pub LeavesCall : {S : Type 0} → Ways S → ℕ → EndId → Due → TheRun S → TheRun S → Type 0
 LeavesCall w d name due s t =
-    ((error : AllocError) × TurnsOver w d due.end due.inlet (Err error) s t) ⊎ ((call : Call) × Does w (turned d name due.inlet (Handle call)) s t)
+    ((error : AllocError) × TurnsOver w (dispatcher_turn d due.end (Err error)) due.inlet s t)
+    ⊎ ((call : Call) × Does w (turned d name due.inlet (Handle call)) s t)
 
 pub record LeavesTurn {S : Type 0} (w : Ways S) (jobs : List Job) (d : ℕ) (s t : TheRun S) : Type 0 where
   pub due : Due

@@ -6,8 +6,8 @@ ghost use Rattle.fl_core.specs.View.{due};
 ghost use Rattle.fl_core.specs.declared.answer.TurnAnswer.TheVariants.{Handle};
 ghost use Rattle.fl_node.specs.View.{place_of, inlet_of};
 ghost use Rattle.fl_running.specs.Run.{ways, run_of, lends_in};
-ghost use Rattle.fl_running.specs.Deeds.{TurnsOver, turned, Does, NotesTurned};
-ghost use Rattle.fl_running.specs.Steps.{awaits, TurnsIf, TakesTurn};
+ghost use Rattle.fl_running.specs.Deeds.{dispatcher_turn, TurnsOver, turned, Does, NotesTurned};
+ghost use Rattle.fl_running.specs.Steps.{awaits, due_turn, TurnsIf, TakesTurn};
 ghost use Rattle.fl_running.specs.Turn.{Swept};
 ghost use Rattle.fl_running.specs.Stops.{LeavesCall, LeavesTurn, StopsIn};
 
@@ -33,7 +33,7 @@ fn turn_over<S: PutSide + TakeSide + Drop>(
     requires due { due run.old.core.board dispatcher ≡ Some e }
     requires inlet { inlet_of run.old.core e ≡ Some inlet }
     requires lent { lends_in (run_of run.old) inlet ≡ true }
-    ensures turns { TurnsOver (ways S.puts S.takes S.front) dispatcher e inlet result (run_of run.old) (run_of run.new) }
+    ensures turns { TurnsOver (ways S.puts S.takes S.front) (dispatcher_turn dispatcher e result) inlet (run_of run.old) (run_of run.new) }
 {
     match inlet {
         Inlet::Queue(n) => run.core.turn(dispatcher, e, &mut run.queues[n]),
@@ -67,7 +67,8 @@ fn turn_named<S: PutSide + TakeSide + Drop>(
     requires inlet { inlet_of run.old.core e ≡ Some inlet }
     requires lent { lends_in (run_of run.old) inlet ≡ true }
     ensures turned { IfOk result (λ answer. Does (ways S.puts S.takes S.front) (turned dispatcher name inlet answer) (run_of run.old) (run_of run.new)) }
-    ensures left { IfErr result (λ error. TurnsOver (ways S.puts S.takes S.front) dispatcher e inlet (Err error) (run_of run.old) (run_of run.new)) }
+    ensures left { IfErr result (λ error. TurnsOver (ways S.puts S.takes S.front) (dispatcher_turn dispatcher e (Err error)) inlet
+        (run_of run.old) (run_of run.new)) }
 {
     let answer = turn_over(run, dispatcher, e, inlet)?;
     if found_something(&answer) {
@@ -123,7 +124,7 @@ fn turn_at<S: PutSide + TakeSide + Drop>(
     requires due { due run.old.core.board dispatcher ≡ Some at.end }
     requires inlet { inlet_of run.old.core at.end ≡ Some at.inlet }
     requires lent { lends_in (run_of run.old) at.inlet ≡ true }
-    ensures turns { OnOk result (TurnsIf (ways S.puts S.takes S.front) (awaits jobs.now (run_of run.old) name) dispatcher name at
+    ensures turns { OnOk result (TurnsIf (ways S.puts S.takes S.front) (awaits jobs.now (run_of run.old) name) (due_turn dispatcher name at)
         (run_of run.old) (run_of run.new)) }
     ensures left { OnErr result ((awaits jobs.now (run_of run.old) name ≡ false)
         × LeavesCall (ways S.puts S.takes S.front) dispatcher name at (run_of run.old) (run_of run.new)) }

@@ -8,7 +8,7 @@ ghost use Rattle.fl_running.specs.Run.{ways, run_of, AtDesk, lends_out, lent_pos
 ghost use Rattle.fl_running.specs.Desks.{advanced};
 ghost use Rattle.fl_running.specs.Inside.{HasNext};
 ghost use Rattle.fl_running.specs.Deeds.{called, ruled, wrote, acked, Does, NotesCalled};
-ghost use Rattle.fl_running.specs.Steps.{lacks_to_call, Tries, WritesFrom, Serves, Acknowledges, CallsAt, RulesAt};
+ghost use Rattle.fl_running.specs.Steps.{lacks_to_call, Tries, WritesFrom, Serves, Acknowledges, CallsAt, reply_rule, RulesAt};
 ghost use Rattle.fl_running.specs.Turn.{ForEach};
 ghost use Rattle.fl_running.specs.Stops.{LeavesJob, StopsAmong};
 
@@ -145,7 +145,7 @@ fn try_rule<S: PutSide + TakeSide + Drop>(
     reply: MsgNo,
 )
     requires left { HasNext name (run_of run.old) }
-    ensures rules { RulesAt (ways S.puts S.takes S.front) name msg reply (place_of run.old.core name) (run_of run.old) (run_of run.new) }
+    ensures rules { RulesAt (ways S.puts S.takes S.front) (reply_rule name msg reply) (place_of run.old.core name) (run_of run.old) (run_of run.new) }
 {
     sound(run);
     match run.core.place(name) {

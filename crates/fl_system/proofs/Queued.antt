@@ -15,7 +15,7 @@ use Rattle.fl_core.specs.declared.fault.BoardFault.{BoardFault}
 use Rattle.fl_core.specs.declared.fault.BoardFault.TheVariants as fault
 use Rattle.fl_core.specs.View.{TheSeat, TheBoard}
 use Rattle.fl_core.specs.Events.{Registers}
-use Rattle.fl_core.specs.Turns.{WaitsIn, lent}
+use Rattle.fl_core.specs.Turns.{WaitsIn, lent, over}
 use Rattle.fl_monitor.specs.Routing.{given}
 use Rattle.fl_node.specs.declared.wire.Port.{Port}
 use Rattle.fl_node.specs.declared.joining.Joining.{Joining}
@@ -55,12 +55,12 @@ takes_nothing s w v p q (Err fault.TooManyEnds) h = absurd h
 takes_nothing s w v p q (Err fault.Memory) h = absurd h
 
 module _ (e : ℕ) (p q : TheQueue) (r : Result (Unit {0}) BoardFault) (k k2 : TheCore)
-    (h : OnBoard k (λ b c. RegistersAt QueueTakes e r b p c q) k2) where
+    (h : OnBoard k (λ b c. RegistersAt QueueTakes e (over b p) r (over c q)) k2) where
   pub queue_stays : q ≡ p
   queue_stays = takes_nothing h.event.seat h.event.dispatcher.lists h.event.lists p q r h.event.event
 
   pub lists : Lists e p k k2
-  lists = (r, subst (λ (x : TheQueue). OnBoard k (λ b c. RegistersAt QueueTakes e r b p c x) k2) queue_stays h)
+  lists = (r, subst (λ (x : TheQueue). OnBoard k (λ b c. RegistersAt QueueTakes e (over b p) r (over c x)) k2) queue_stays h)
 
 pub still_on_queue : (e f : ℕ) (q : TheQueue) (k k2 : TheCore) → Lists e q k k2 → IsOnQueue k f → IsOnQueue k2 f
 still_on_queue e f q k k2 h on = record {
@@ -222,10 +222,10 @@ module _ (x : Wish) (w base : TheWorld) (same : base ≡ w) (j : Joining) (made 
     joined : (p : Program) → slice_get base.programs x.interface ≡ Some p
         → IsJoined (request x p) (length base.bindings) (queue_pair (length base.queues) (new_queue slots) (new_queue slots)) h.core h.after
     joined p is =
-        let over = is_joined x (length base.bindings) (length base.queues) base made.client made.server made.new_client made.new_server p is forth back h.core h.after
+        let both = is_joined x (length base.bindings) (length base.queues) base made.client made.server made.new_client made.new_server p is forth back h.core h.after
         (subst (λ (i : Joining). JoinsIn i forth back h.core h.after) made.is h.joins.event) in
         subst (λ (f : TheQueue). IsJoined (request x p) (length base.bindings) (queue_pair (length base.queues) f (new_queue slots)) h.core h.after) new_forth
-        (subst (λ (b : TheQueue). IsJoined (request x p) (length base.bindings) (queue_pair (length base.queues) forth b) h.core h.after) new_back over)
+        (subst (λ (b : TheQueue). IsJoined (request x p) (length base.bindings) (queue_pair (length base.queues) forth b) h.core h.after) new_back both)
 
     queues_are : queues ≡ base.queues ++ new_queue slots ∷ new_queue slots ∷ []
     queues_are = all_queues ∙ ap₂ (λ (f b : TheQueue). base.queues ++ f ∷ b ∷ []) (same_forth ∙ new_forth) (same_back ∙ new_back)

@@ -23,7 +23,7 @@ use Rattle.fl_core.specs.declared.kind.Kind.TheVariants.{Ring as RingKind}
 use Rattle.fl_core.specs.declared.fault.BoardFault.{BoardFault}
 use Rattle.fl_core.specs.declared.fault.BoardFault.TheVariants as fault
 use Rattle.fl_core.specs.View.{TheSeat, TheBoard}
-use Rattle.fl_core.specs.Turns.{WaitsIn, lent}
+use Rattle.fl_core.specs.Turns.{WaitsIn, lent, over}
 use Rattle.fl_core.specs.Events.{Registers}
 use Rattle.fl_monitor.specs.Routing.{given}
 use Rattle.fl_node.specs.declared.wire.Port.{Port}
@@ -107,7 +107,7 @@ module _ (m e : ℕ) (a : Answer) (k k2 : TheCore) (r r2 : TheDuo) (on : TakesFr
       side = h.over.side;
       lent = h.over.lent;
       answer = h.over.event.0;
-      registers = subst (λ (q : DuoSide). OnBoard k (λ b c. RegistersAt SideTakes e h.over.event.0 b h.over.side c q) k2) side_same h.over.event.1;
+      registers = subst (λ (q : DuoSide). OnBoard k (λ b c. RegistersAt SideTakes e (over b h.over.side) h.over.event.0 (over c q)) k2) side_same h.over.event.1;
     };
   }
 

@@ -3,6 +3,7 @@ use Rattle.std.specs.Prelude.{ℕ, ◌≡◌, ◌<◌, ◌+◌, ◌⊎◌, List,
 use Rattle.fl_link.specs.Queue.{TheQueue, QueueTakes}
 use Rattle.fl_endpoint.specs.View.{TheEnd}
 use Rattle.fl_core.specs.declared.fault.BoardFault.{BoardFault}
+use Rattle.fl_core.specs.Turns.{over}
 use Rattle.fl_node.specs.declared.joining.Joining.{Joining}
 use Rattle.fl_node.specs.declared.joining.BothEnds.{BothEnds}
 use Rattle.fl_node.specs.View.{TheCore, arrivals_of}
@@ -25,7 +26,7 @@ pub record IsOnQueue (k : TheCore) (e : ℕ) : Type 0 where
 
 -- its channel is registered, or that is refused, over a queue that stays as it is
 abbrev pub Lists : ℕ → TheQueue → TheCore → TheCore → Type 0
-Lists e q k k2 = (answer : Result (Unit {0}) BoardFault) × OnBoard k (λ b c. RegistersAt QueueTakes e answer b q c q) k2
+Lists e q k k2 = (answer : Result (Unit {0}) BoardFault) × OnBoard k (λ b c. RegistersAt QueueTakes e (over b q) answer (over c q)) k2
 
 -- the same of both ends, the client's first: each takes from the queue to which the other puts
 pub record ListsBoth (ends : BothEnds) (forth back : TheQueue) (k k2 : TheCore) : Type 0 where

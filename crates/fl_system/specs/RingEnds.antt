@@ -8,6 +8,7 @@ use Rattle.fl_endpoint.specs.View.{TheEnd}
 use Rattle.fl_core.specs.View.{TheSeat}
 use Rattle.fl_core.specs.declared.kind.Kind.TheVariants.{Ring as RingKind}
 use Rattle.fl_core.specs.declared.fault.BoardFault.{BoardFault}
+use Rattle.fl_core.specs.Turns.{over}
 use Rattle.fl_node.specs.View.{TheCore, place_of, arrivals_of}
 use Rattle.fl_node.specs.declared.wire.Wire.TheVariants.{Ring}
 use Rattle.fl_node.specs.Ends.{OnBoard, RegistersAt}
@@ -47,7 +48,7 @@ pub record RegistersOver (m place : ℕ) (ring : TheDuo) (k k2 : TheCore) : Type
   pub side : DuoSide
   pub lent : IsLent m ring side
   pub answer : Result (Unit {0}) BoardFault
-  pub registers : OnBoard k (λ b c. RegistersAt SideTakes place answer b side c side) k2
+  pub registers : OnBoard k (λ b c. RegistersAt SideTakes place (over b side) answer (over c side)) k2
 
 -- an end is added, and then registered
 pub record Joins (x : Joiner) (ring : TheDuo) (k k2 : TheCore) : Type 0 where

@@ -9,11 +9,12 @@ ghost use Rattle.fl_ring.specs.Duo.{side_of};
 ghost use Rattle.fl_ring.specs.Side.{SameSide, SidePuts, SideTakes};
 ghost use Rattle.fl_worlds.specs.View.{ring_at, which_at};
 ghost use Rattle.fl_worlds.specs.Lending.{OverSide, front_for};
-ghost use Rattle.fl_worlds.specs.Linking.{LooksWith, incoming, HearsWith, inbound, ArrivesWith, offers_in, moved_answer};
+ghost use Rattle.fl_worlds.specs.Linking.{LooksWith, incoming, HearsWith, ArrivesWith, offers_in, moved_answer};
 ghost use Rattle.fl_lines.specs.Events.{answer_of};
 ghost use Rattle.fl_system.specs.Places.{HasLink};
 ghost use Rattle.fl_system.specs.Parts.{ByRing};
 ghost use Rattle.fl_system.specs.Passing.{StandsAt, Passes};
+ghost use Rattle.fl_node.specs.Links.{inbound};
 
 use crate::lending::{ring_at, which_at, whole};
 use crate::places::Lane;

@@ -56,17 +56,33 @@ pub record StationRan (jobs : List Job) (limit : ℕ) (s : Station) (d : Done) :
   pub ran : RanTo jobs limit (station_of s) (outcome_of d)
   pub left : IsLeftSound (outcome_of d)
 
--- a station of the next core stands behind the others, with a seat cut off everybody's
-pub record AddsStation (c : TheCommon) (core : TheCore) (rings : List TheSide) (queues : List TheQueue) (own own2 : TheSeat) (before after : List Station)
-    : Type 0 where
+-- a core, and its share of the sides and queues
+pub record CoreShare : Type 0 where
+  pub core : TheCore
+  pub rings : List TheSide
+  pub queues : List TheQueue
+
+abbrev pub core_share : TheCore → List TheSide → List TheQueue → CoreShare
+core_share core rings queues = record { core = core; rings = rings; queues = queues }
+
+-- everybody's seat, and the stations that were made so far, each with a seat cut off it
+pub record Stationed : Type 0 where
+  pub own : TheSeat
+  pub stations : List Station
+
+abbrev pub stationed : TheSeat → List Station → Stationed
+stationed own stations = record { own = own; stations = stations }
+
+-- a station of the next core stands behind the others
+pub record AddsStation (c : TheCommon) (x : CoreShare) (before after : Stationed) : Type 0 where
   pub station : Station
-  pub added : after ≡ before ++ station ∷ []
+  pub added : after.stations ≡ before.stations ++ station ∷ []
   pub ready : IsReady station
-  pub begins : IsStation c (length before) core (station_of station)
-  pub seat : station.ticket.seat ≡ knowing own (core_alone own.knows)
-  pub left : own2 ≡ knowing own (without_core own.knows)
-  pub rings_are : station.running.value.rings.items ≡ rings
-  pub queues_are : station.running.value.queues.items ≡ queues
+  pub begins : IsStation c (length before.stations) x.core (station_of station)
+  pub seat : station.ticket.seat ≡ knowing before.own (core_alone before.own.knows)
+  pub left : after.own ≡ knowing before.own (without_core before.own.knows)
+  pub rings_are : station.running.value.rings.items ≡ x.rings
+  pub queues_are : station.running.value.queues.items ≡ x.queues
 
 abbrev pub AllReady : List Station → Type 0
 AllReady [] = Unit {0}

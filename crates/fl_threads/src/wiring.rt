@@ -12,7 +12,7 @@ ghost use Rattle.fl_threads.specs.Begins.{core_at, owns, ends_at, ends_from, wor
 ghost use Rattle.fl_threads.specs.Begins.{IsAlone, IsStation, AreStations};
 ghost use Rattle.fl_threads.specs.Shares.{sides_given, queues_given};
 ghost use Rattle.fl_threads.specs.Dealing.{Wires};
-ghost use Rattle.fl_threads.specs.Stations.{IsReady, AllReady, AddsStation, station_of, common_of, seats_given, AreSeats, left_view};
+ghost use Rattle.fl_threads.specs.Stations.{IsReady, AllReady, core_share, stationed, AddsStation, station_of, common_of, seats_given, AreSeats, left_view};
 
 use crate::sharing::{Owners, deal_queues, deal_sides};
 use fl_base::{EndId, LinkId, Side};
@@ -285,7 +285,8 @@ impl Common<'_> {
         requires dockets { HasDockets self.now.joined.now.bindings.items self.now.joined.now.dockets.items }
         requires few { length stations.old.items < self.now.cores }
         requires own { own.old.knows ≡ left_view self.now.cores self.now.joined.now.owners.items (length stations.old.items) }
-        ensures adds { OnOk result (AddsStation (common_of self.now) core rings.items queues.items own.old own.new stations.old.items stations.new.items) }
+        ensures adds { OnOk result (AddsStation (common_of self.now) (core_share core rings.items queues.items)
+            (stationed own.old stations.old.items) (stationed own.new stations.new.items)) }
     {
         let k = stations.as_slice().len();
         let seat = own.split()?;

@@ -12,7 +12,7 @@ use Rattle.fl_endpoint.specs.View.{TheEnd}
 use Rattle.fl_endpoint.specs.Events.{IsReady}
 use Rattle.fl_core.specs.View.{TheDispatcher, TheSeat, TheBoard, with_new_end, with_lists}
 use Rattle.fl_core.specs.Events.{Registers}
-use Rattle.fl_core.specs.Turns.{WaitsIn, lent}
+use Rattle.fl_core.specs.Turns.{WaitsIn, lent, over}
 use Rattle.fl_core.specs.declared.kind.Kind.{Kind}
 use Rattle.fl_core.specs.declared.fault.BoardFault.{BoardFault}
 use Rattle.fl_core.specs.declared.fault.BoardFault.TheVariants.{NotBound, Registered, NotRegistered, TooManyEnds, Failed, Memory}
@@ -271,7 +271,7 @@ IsFreeAt k place c = (z : Dispatcher) → slice_get k.dispatchers place ≡ Some
 
 pub core_lists : {T : Type 0} (takes : T → Look → T → Type 0) (k : Core) (c c2 : TheCore) (e : ℕ) (seat : TheSeat) (to : Place) (p q : T) (answer : Result (Unit {0}) BoardFault)
     → CoreShows k c → slice_get c.board.seats e ≡ Some seat → IsReady seat.end → IsFreeAt k seat.dispatcher seat.channel → WaitsOnly takes seat.kind p to
-    → OnBoard c (λ b b2. RegistersAt takes e answer b p b2 q) c2 → Listed k c c2 seat.dispatcher seat.channel to
+    → OnBoard c (λ b b2. RegistersAt takes e (over b p) answer (over b2 q)) c2 → Listed k c c2 seat.dispatcher seat.channel to
 core_lists takes k c c2 e seat to p q answer h at ready free only on =
     let ev = on.event in
     let same : ev.seat ≡ seat = same_found (slice_get c.board.seats e) ev.seat seat ev.seat_is at in

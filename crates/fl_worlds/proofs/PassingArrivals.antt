@@ -31,8 +31,8 @@ use Rattle.fl_node.specs.declared.wire.Arriving.{Arriving}
 use Rattle.fl_node.specs.declared.fault.LinkFault.{LinkFault}
 use Rattle.fl_node.specs.declared.fault.LinkFault.TheVariants as fault
 use Rattle.fl_node.specs.View.{TheCore, place_of, arrivals_by, arrivals_of, arriving, arriving_at, with_board, with_arrivals}
-use Rattle.fl_node.specs.Ends.{Triggers, TriggersIf}
-use Rattle.fl_node.specs.Links.{Arrives, ArrivesAt, reached}
+use Rattle.fl_node.specs.Ends.{at_side, Triggers, TriggersIf}
+use Rattle.fl_node.specs.Links.{Arrives, inbound, ArrivesAt, reached}
 use Rattle.fl_queues.specs.Given.{given, changed_at}
 use Rattle.fl_queues.specs.Events.{DispatcherId, Answer, nothing, full, forwarded}
 use Rattle.fl_queues.specs.Calls.{Planned}
@@ -60,7 +60,7 @@ use Rattle.fl_shows.specs.RingLaws.{IsPutOf, QueuePutAgrees}
 use Rattle.fl_worlds.specs.View.{TheWorld, side_number, with_core, with_ring}
 use Rattle.fl_worlds.specs.Lending.{OverSide}
 use Rattle.fl_worlds.specs.Picture.{TakesFrom, IsWire, IsMade, Carries, IsPicture, Shows, DispatcherShows}
-use Rattle.fl_worlds.specs.Linking.{inbound, ArrivesWith, IsMoved, moved_answer}
+use Rattle.fl_worlds.specs.Linking.{ArrivesWith, IsMoved, moved_answer}
 use Rattle.fl_worlds.specs.Laws.{Agrees}
 use Rattle.fl_worlds.proofs.Frames.{Stands, OutStays, RingFrame, PassFrame, ArrivalsFrame, ListsFrame}
 use Rattle.fl_worlds.proofs.PassingFirst.{CallFirst}
@@ -323,7 +323,7 @@ module _ (law : Pictures) (frame : RingFrame) (frame_pass : PassFrame) (frame_ar
   looked = frame w s n x.ring (looks link.ring.side) d1 shows.picture x.ring_is seen
 
   module _ (a : Answer) (v2 : TheWorld) (h : Over (with_ring w link.ring.ring d1) core link.ring t.c d1 (ArrivesWith (inbound l frag to) a) v2) where
-    arrived : (r : Arrives SideTakes frag to t.c h.side moving.Moved h.after h.left) → a ≡ forwarded
+    arrived : (r : Arrives SideTakes frag to (at_side t.c h.side) moving.Moved (at_side h.after h.left)) → a ≡ forwarded
         → Agrees (follows_entry here c.call c.passing.core c.hop.way (change_ring n (looks link.ring.side) s)) a v2
     arrived r answer =
         let g : Ring → Ring = λ y. takes link.ring.side (looks link.ring.side y) in
@@ -381,7 +381,7 @@ module _ (law : Pictures) (frame : RingFrame) (frame_pass : PassFrame) (frame_ar
         (agrees_with _ forwarded a _ v2 (sym answer) world
         (with_rings_like _ _ _ (sym (changed_twice s.rings n (takes link.ring.side) (looks link.ring.side))) passed))
 
-    left_alone : (r : Arrives SideTakes frag to t.c h.side moving.Full h.after h.left) → a ≡ full
+    left_alone : (r : Arrives SideTakes frag to (at_side t.c h.side) moving.Full (at_side h.after h.left)) → a ≡ full
         → Agrees (follows_entry here c.call c.passing.core c.hop.way (change_ring n (looks link.ring.side) s)) a v2
     left_alone r answer =
         let comes = arrival (looks link.ring.side) d1 looked in
@@ -407,7 +407,7 @@ module _ (law : Pictures) (frame : RingFrame) (frame_pass : PassFrame) (frame_ar
         ∙ ap (λ (cs : List TheCore). record w { cores = cs; rings = slice_set w.rings n d1 }) (set_same w.cores core t.c t.c_is) in
         agrees_at _ _ a v2 (follows_is (looks link.ring.side) d1 looked none_free put.0) (agrees_with _ full a _ v2 (sym answer) world looked)
 
-    by_result : (r : Result Moving LinkFault) → ArrivesAt SideTakes l frag to t.c h.side r h.after h.left → IsMoved r a
+    by_result : (r : Result Moving LinkFault) → ArrivesAt SideTakes (inbound l frag to) (at_side t.c h.side) r (at_side h.after h.left) → IsMoved r a
         → Agrees (follows_entry here c.call c.passing.core c.hop.way (change_ring n (looks link.ring.side) s)) a v2
     by_result (Ok moving.Moved) does answer = arrived does answer
     by_result (Ok moving.Full) does answer = left_alone does answer

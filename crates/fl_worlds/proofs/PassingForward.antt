@@ -21,7 +21,8 @@ use Rattle.fl_node.specs.declared.fault.LinkFault.{LinkFault}
 use Rattle.fl_node.specs.declared.fault.LinkFault.TheVariants as fault
 use Rattle.fl_node.specs.declared.wire.Lane.{Lane}
 use Rattle.fl_node.specs.View.{TheCore, side_of_link}
-use Rattle.fl_node.specs.Links.{LooksAhead}
+use Rattle.fl_node.specs.Links.{LooksAhead, inbound}
+use Rattle.fl_node.specs.Ends.{at_side}
 use Rattle.fl_queues.specs.Given.{given, changed_at}
 use Rattle.fl_queues.specs.Events.{Answer, done, nothing, refused}
 use Rattle.fl_queues.specs.Rings.{Label, next_of, says, acknowledges, RingLabel, Ring, RingSide, first_for, looks, takes}
@@ -36,7 +37,7 @@ use Rattle.fl_shows.specs.RingLaws.{IsFirst, TakeAgrees}
 use Rattle.fl_worlds.specs.View.{TheWorld, side_number, with_core, with_ring}
 use Rattle.fl_worlds.specs.Lending.{OverSide, IsStray, front_for}
 use Rattle.fl_worlds.specs.Picture.{lane_of, Carries, IsPicture, Shows}
-use Rattle.fl_worlds.specs.Linking.{LinkEnd as TheLinkEnd, lane_to, HearsFirst, MovesOn, inbound, ArrivesWith, LooksWith, ForwardsBy, ForwardsFirst}
+use Rattle.fl_worlds.specs.Linking.{LinkEnd as TheLinkEnd, lane_to, HearsFirst, MovesOn, ArrivesWith, LooksWith, ForwardsBy, ForwardsFirst}
 use Rattle.fl_worlds.specs.Laws.{Agrees, ForwardsAgree}
 use Rattle.fl_worlds.specs.Hearing.{HearsAgrees}
 use Rattle.fl_worlds.proofs.Frames.{RingFrame, PassFrame, ArrivalsFrame, ListsFrame}
@@ -206,7 +207,7 @@ module _ (law : Pictures) (frame : Passages) (w : TheWorld) (s : State) (shows :
         (with_rings_like _ _ _ (sym (changed_twice s.rings n (takes side) (looks side)))
         (ring_now (λ r. takes side (looks side r)) o.left.duo.now left)))
 
-    by_ahead : (e : Result Ahead LinkFault) → LooksAhead SideTakes front_for l t.c o.side e o.after o.left → ForwardsBy e core (lane_at l link) looked a w2
+    by_ahead : (e : Result Ahead LinkFault) → LooksAhead SideTakes front_for l (at_side t.c o.side) e (at_side o.after o.left) → ForwardsBy e core (lane_at l link) looked a w2
         → Agrees (forwards core neighbour s) a w2
     by_ahead (Ok Nothing) (seen, after) (answer, rest) = nothing_stands seen.finds after answer rest
     by_ahead (Ok Acknowledged) (seen, after) (answer, rest) =

@@ -24,7 +24,7 @@ use Rattle.fl_node.specs.declared.answer.MonitorAnswer.{MonitorAnswer}
 use Rattle.fl_node.specs.declared.answer.MonitorAnswer.TheVariants as told
 use Rattle.fl_node.specs.declared.fault.LinkFault.{LinkFault}
 use Rattle.fl_node.specs.declared.fault.LinkFault.TheVariants as fault
-use Rattle.fl_node.specs.Hearing.{Offers, offer_for, known_for, MakesServer, BindsIf, Follows, HearsAll, HearsMessage, HearsFrag, TakesHeard}
+use Rattle.fl_node.specs.Hearing.{Offers, offer_for, known_for, MakesServer, BindsIf, offering, Follows, HearsAll, HearsMessage, HearsFrag, TakesHeard}
 use Rattle.fl_node.specs.View.{TheCore, with_monitor, arriving_at}
 use Rattle.fl_queues.specs.Given.{given, changed_at}
 use Rattle.fl_queues.specs.Events.{Answer, done, full, opened, opening_refused}
@@ -195,7 +195,7 @@ module _ (law : Pictures) (frame : HearFrames) (w : TheWorld) (s : State) (shows
     abbrev pub ServerIsMade : DuoSide → TheMonitor → Type 0
     ServerIsMade left after =
         IsCore t.c → (b dispatcher : ℕ) (c : Circuit) (d : DispatcherId) (k2 : TheCore) (v : TheWorld) → IsCore k2 → comes.heard ≡ server_made b d c.0 → dispatcher ≡ d.place
-        → MakesServer offers.programs (offer_for offers t.c (message_of m)) (link_id l) b dispatcher c (with_monitor t.c after) k2
+        → MakesServer (offering offers.programs (offer_for offers t.c (message_of m)) (link_id l)) b dispatcher c (with_monitor t.c after) k2
         → ThenRules (Ok (told.Opened (server_of b))) (with_heard w core n left.duo.now k2) v
         → IsPicture (with_heard w core n left.duo.now (with_monitor t.c after)) (heard_state s core n side comes.core)
         → IsPicture v (binds_end (end_id b Server) c.0 (seats d (end_id b Server) (change_route b grants (heard_state s core n side comes.core))))
@@ -245,7 +245,7 @@ module _ (law : Pictures) (frame : HearFrames) (w : TheWorld) (s : State) (shows
         two_rings = ap (λ (rs : List Ring). record (change_core core (λ (k : Core). comes.core) s) { rings = rs }) (sym (changed_twice s.rings n (takes side) (looks side)))
 
         by_heard : (answer : MonitorAnswer) → IsHeard (Ok answer) a → ThenRules (Ok answer) first_world w2 → (machine : MachineHeard) → comes.heard ≡ machine
-            → (h : Heard) → SameHeard machine h → Follows offers.programs (offer_for offers t.c (message_of m)) (link_id l) h (with_monitor t.c after) answer o.after
+            → (h : Heard) → SameHeard machine h → Follows (offering offers.programs (offer_for offers t.c (message_of m)) (link_id l)) h (with_monitor t.c after) answer o.after
             → Agrees (forwards_said here m seen) a w2
         by_heard answer its rules (opening_went_on b c) is (heard.OpeningWentOn binding lk circuit) same does =
             goes_as (opening_went_on b c) b (with_number c) done is refl (more_numbers c) (subst (λ (y : MonitorAnswer). ThenRules (Ok y) first_world w2) does.0 rules) does.1

@@ -10,6 +10,7 @@ use Rattle.fl_ring.specs.Duo.{TheDuo}
 use Rattle.fl_endpoint.specs.View.{TheEnd, bound}
 use Rattle.fl_core.specs.View.{TheBoard, TheSeat, with_end}
 use Rattle.fl_core.specs.declared.kind.Kind.{Kind}
+use Rattle.fl_core.specs.Turns.{over}
 use Rattle.fl_monitor.specs.Monitors.{TheMonitor}
 use Rattle.fl_monitor.specs.Routing.{given as given_here}
 use Rattle.fl_node.specs.declared.answer.MonitorAnswer.TheVariants as told
@@ -224,11 +225,11 @@ module _ (frame : HearFrames) (frame_end : EndFrame) (frame_lists : ListsFrame) 
         (sym h.queue_is ∙ ap (λ (k : TheCore). slice_get k.arrivals arrival1.place) (sym core1) ∙ ap (λ (x : Arriving). slice_get made1.core.arrivals x.queue) (sym same_place)
         ∙ ap (λ (k : TheCore). slice_get k.arrivals arrival2.place) (sym core2) ∙ arrival2.takes.there_is)
 
-    registers : RegistersAt QueueTakes made2.place h.answer made2.core.board arrival2.takes.there k2.board arrival2.takes.there
+    registers : RegistersAt QueueTakes made2.place (over made2.core.board arrival2.takes.there) h.answer (over k2.board arrival2.takes.there)
     registers =
-        subst (λ (x : Arriving). RegistersAt QueueTakes x.end h.answer made2.core.board arrival2.takes.there k2.board arrival2.takes.there) (sym same_place)
-        (subst (λ (b : TheBoard). RegistersAt QueueTakes made1.place h.answer b arrival2.takes.there k2.board arrival2.takes.there) board_is
-        (subst (λ (x : TheQueue). RegistersAt QueueTakes made1.place h.answer h.bound_board x k2.board x) queue_is h.registers))
+        subst (λ (x : Arriving). RegistersAt QueueTakes x.end (over made2.core.board arrival2.takes.there) h.answer (over k2.board arrival2.takes.there)) (sym same_place)
+        (subst (λ (b : TheBoard). RegistersAt QueueTakes made1.place (over b arrival2.takes.there) h.answer (over k2.board arrival2.takes.there)) board_is
+        (subst (λ (x : TheQueue). RegistersAt QueueTakes made1.place (over h.bound_board x) h.answer (over k2.board x)) queue_is h.registers))
 
     p3 : IsPicture (with_core w2 d.core (with_board made2.core k2.board)) (registers_end e s2)
     p3 =

@@ -16,7 +16,7 @@ use Rattle.fl_core.specs.declared.fault.BoardFault.{BoardFault}
 use Rattle.fl_core.specs.declared.fault.BoardFault.TheVariants as fault
 use Rattle.fl_core.specs.View.{TheBoard, TheDispatcher, TheSeat, with_lists}
 use Rattle.fl_core.specs.Events.{Registers}
-use Rattle.fl_core.specs.Turns.{WaitsIn, lent}
+use Rattle.fl_core.specs.Turns.{WaitsIn, lent, over}
 use Rattle.fl_node.specs.declared.wire.Wire.{Wire}
 use Rattle.fl_node.specs.declared.wire.Port.{Port}
 use Rattle.fl_node.specs.View.{TheCore, kind_of, with_board}
@@ -77,7 +77,7 @@ module _ (frame : ListsFrame) (w : TheWorld) (s : State) (e : EndId) (n place : 
       ∙ mapped_get (λ (x : Port). kind_of x.wire) h.core.ports place h.port h.port_is)
       ∙ ap kind_of arrival.wire
 
-  module _ (board : TheBoard) (answer : Result (Unit {0}) BoardFault) (r : RegistersAt QueueTakes place answer h.core.board arrival.takes.there board arrival.takes.there) where
+  module _ (board : TheBoard) (answer : Result (Unit {0}) BoardFault) (r : RegistersAt QueueTakes place (over h.core.board arrival.takes.there) answer (over board arrival.takes.there)) where
     seat_is : r.seat ≡ h.at
     seat_is = some_is r.seat h.at (sym r.seat_is ∙ h.at_is)
 

@@ -13,6 +13,7 @@ use Rattle.fl_node.specs.declared.answer.MonitorWrite.{MonitorWrite}
 use Rattle.fl_node.specs.declared.answer.MonitorWrite.TheVariants as write
 use Rattle.fl_node.specs.View.{TheCore, with_monitor}
 use Rattle.fl_node.specs.Links.{MonitorWrites, Acknowledges}
+use Rattle.fl_node.specs.Ends.{at_side}
 use Rattle.fl_queues.specs.Given.{given, changed_at}
 use Rattle.fl_queues.specs.Events.{Answer, done, nothing, full, written, refused}
 use Rattle.fl_queues.specs.Rings.{Said, says, acknowledges, Ring, RingSide, RingEnd, makes_sure, puts, owes, Room, room, there_is_room, for_data, for_acknowledgement}
@@ -168,7 +169,7 @@ module _ (law : Pictures) (frame : RingFrame) (w : TheWorld) (s : State) (shows 
           (ring_changed (makes_sure for_data side) h.left.duo.now shown))
 
       -- what stands first in the outbox, by what waits there
-      by_first : (o : Option Said) → slice_get link.outbox 0 ≡ o → (r : MonitorWrite) → MonitorWrites SidePuts l t.c h.side r h.after h.left → a ≡ write_answer r
+      by_first : (o : Option Said) → slice_get link.outbox 0 ≡ o → (r : MonitorWrite) → MonitorWrites SidePuts l (at_side t.c h.side) r (at_side h.after h.left) → a ≡ write_answer r
           → Agrees (monitor_writes_on (end_at core neighbour l link) link s) a w2
       by_first None q write.Written (f, rest, waits, puts_it, after) answer =
           absurd (let u : None ≡ Some f = sym (sends.none q) ∙ ap (λ (fs : List Frag). slice_get fs 0) waits in cc)

@@ -18,7 +18,7 @@ use Rattle.fl_core.specs.declared.fault.BoardFault.{BoardFault}
 use Rattle.fl_core.specs.declared.fault.BoardFault.TheVariants.{NotBound, Registered, NotRegistered, TooManyEnds, Failed, Memory}
 use Rattle.fl_core.specs.View.{TheSeat}
 use Rattle.fl_core.specs.Events.{Registers}
-use Rattle.fl_core.specs.Turns.{WaitsIn, lent}
+use Rattle.fl_core.specs.Turns.{WaitsIn, lent, over}
 use Rattle.fl_node.specs.declared.wire.Wire.{Wire}
 use Rattle.fl_node.specs.declared.wire.Wire.TheVariants.{Queues, Ring as OverRing, Circuit}
 use Rattle.fl_node.specs.declared.wire.Inlet.{Inlet}
@@ -190,7 +190,7 @@ record Joined (w v : TheWorld) (s : State) (e : EndId) (n place : ℕ) (h : Stan
 joined : {T : Type 0} (takes : T → Look → T → Type 0) (w : TheWorld) (s : State) (e : EndId) (n place : ℕ) (h : Stands w s e n place)
     (c : Channel w s e n place h) (a : Answer) (before after : TheCore) (p q : T) → before ≡ h.core
     → ((x : Place) → WaitsIn takes h.at.kind p x q → (x ≡ waits_in (end_in e.side h.binding).queue) × (q ≡ p))
-    → (r : Result (Unit {0}) BoardFault) → OnBoard before (λ b d. RegistersAt takes place r b p d q) after → IsRegistered r a
+    → (r : Result (Unit {0}) BoardFault) → OnBoard before (λ b d. RegistersAt takes place (over b p) r (over d q)) after → IsRegistered r a
     → Joined w (with_core w n after) s e n place h c a × (q ≡ p)
 joined takes w s e n place h c a before after p q core waits r board is =
     let m = lists_become w s e n place h c (λ t l k. Registers takes t (lent l p) r (lent k q)) before after core board in

@@ -17,6 +17,7 @@ use Rattle.fl_endpoint.specs.View.{TheEnd, TheOutgoing, fresh, nothing_to_send}
 use Rattle.fl_core.specs.View.{TheDispatcher, TheSeat}
 use Rattle.fl_core.specs.declared.kind.Kind.TheVariants.{Queue as QueueKind}
 use Rattle.fl_core.specs.declared.fault.BoardFault.{BoardFault}
+use Rattle.fl_core.specs.Turns.{over}
 use Rattle.fl_hop.proofs.Lists.{set_here}
 use Rattle.fl_monitor.specs.Monitors.{TheMonitor}
 use Rattle.fl_node.specs.declared.answer.MonitorAnswer.TheVariants as told
@@ -297,8 +298,7 @@ module _ (frame : HearFrames) (frame_unmade : UnmadeFrame) (frame_lists : ListsF
         (unregistered (length at.dispatcher.ends) at.dispatcher.lists
         (free_above at.dispatcher (length at.dispatcher.ends) (shows.sound.waitsets d at.dispatcher was) (omega arith)))
 
-    abbrev registers : RegistersAt QueueTakes (length k0.board.seats) answer (core_with k0 d.place listed t2 n lid).board new_arrivals
-        (born_board k0 d.place listed t2 lists) new_arrivals
+    abbrev registers : RegistersAt QueueTakes (length k0.board.seats) (over (core_with k0 d.place listed t2 n lid).board new_arrivals) answer (over (born_board k0 d.place listed t2 lists) new_arrivals)
     registers = record {
       seat = new_seat t2 d.place (length listed.ends) QueueKind;
       seat_is = get_last k0.board.seats (new_seat t2 d.place (length listed.ends) QueueKind);

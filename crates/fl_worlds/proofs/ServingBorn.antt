@@ -11,7 +11,7 @@ use Rattle.fl_link.specs.Queue.{QueueTakes}
 use Rattle.fl_endpoint.specs.View.{TheEnd, fresh, interface_in}
 use Rattle.fl_core.specs.View.{TheBoard, TheDispatcher, TheSeat, with_lists, with_end}
 use Rattle.fl_core.specs.Events.{Registers}
-use Rattle.fl_core.specs.Turns.{lent}
+use Rattle.fl_core.specs.Turns.{lent, over}
 use Rattle.fl_core.specs.declared.kind.Kind.TheVariants.{Queue as QueueKind}
 use Rattle.fl_core.specs.declared.fault.BoardFault.{BoardFault}
 use Rattle.fl_core.specs.declared.fault.BoardFault.TheVariants.{NotBound, Registered, NotRegistered, TooManyEnds, Failed, Memory}
@@ -20,7 +20,7 @@ use Rattle.fl_node.specs.declared.hearing.Offered.{Offered}
 use Rattle.fl_node.specs.declared.wire.Wire.{Wire}
 use Rattle.fl_node.specs.declared.wire.Wire.TheVariants.{Queues, Ring, Circuit}
 use Rattle.fl_node.specs.Ends.{RegistersAt}
-use Rattle.fl_node.specs.Hearing.{MakesServer}
+use Rattle.fl_node.specs.Hearing.{offering, MakesServer}
 use Rattle.fl_node.specs.Sound.{IsWired, IsCore}
 use Rattle.fl_node.specs.View.{TheCore, new_arrivals, place_of, slot_of, with_board, with_monitor, with_circuit_port}
 use Rattle.fl_queues.specs.Binding.{end_id}
@@ -58,16 +58,16 @@ pub record Born (c c2 : TheCore) (place n : ℕ) (l : LinkId) (t : TheEnd) : Typ
   pub registers : JoinsNew t place listed answer lists
   pub core_is : c2 ≡ born_core c place listed t lists n l
 
-pub born : (programs : List Program) (offer : Option Offered) (l : LinkId) (n place : ℕ) (c : Number) (k k2 : TheCore) (mk : MakesServer programs offer l n place c k k2)
+pub born : (programs : List Program) (offer : Option Offered) (l : LinkId) (n place : ℕ) (c : Number) (k k2 : TheCore) (mk : MakesServer (offering programs offer l) n place c k k2)
     → Born k k2 place n l (fresh mk.program (Some c.0))
 born programs offer l n place c k k2 mk =
     let t : TheEnd = fresh mk.program (Some c.0) in
     let x = mk.adds.1.0 in
     let xt : slice_get k.board.dispatchers place ≡ Some x = mk.adds.1.1 in
     let answer : Result (Unit {0}) BoardFault = mk.joins.0 in
-    let j : RegistersAt QueueTakes (length k.board.seats) answer (board_with k place x t) new_arrivals k2.board new_arrivals =
-    subst (λ (m : ℕ). RegistersAt QueueTakes m answer (board_with k place x t) new_arrivals k2.board new_arrivals) mk.adds.0
-    (subst (λ (b : TheBoard). RegistersAt QueueTakes mk.end answer b new_arrivals k2.board new_arrivals) mk.adds.1.3 mk.joins.1) in
+    let j : RegistersAt QueueTakes (length k.board.seats) (over (board_with k place x t) new_arrivals) answer (over k2.board new_arrivals) =
+    subst (λ (m : ℕ). RegistersAt QueueTakes m (over (board_with k place x t) new_arrivals) answer (over k2.board new_arrivals)) mk.adds.0
+    (subst (λ (b : TheBoard). RegistersAt QueueTakes mk.end (over b new_arrivals) answer (over k2.board new_arrivals)) mk.adds.1.3 mk.joins.1) in
     let seat : j.seat ≡ new_seat t place (length x.ends) QueueKind =
     some_is j.seat (new_seat t place (length x.ends) QueueKind) (sym j.seat_is ∙ get_last k.board.seats (new_seat t place (length x.ends) QueueKind)) in
     let there : j.dispatcher ≡ wider k x =

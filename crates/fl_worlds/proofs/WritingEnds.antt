@@ -11,7 +11,7 @@ use Rattle.fl_endpoint.specs.View.{TheEnd}
 use Rattle.fl_endpoint.specs.Events.{Writes}
 use Rattle.fl_core.specs.View.{TheSeat, with_end}
 use Rattle.fl_node.specs.View.{TheCore, with_board}
-use Rattle.fl_node.specs.Ends.{WritesAt, TriggersIf, woken_by}
+use Rattle.fl_node.specs.Ends.{at_side, WritesAt, TriggersIf, woken_by}
 use Rattle.fl_queues.specs.State.{State}
 use Rattle.fl_shows.specs.Ends.{machine_end}
 use Rattle.fl_shows.specs.EndLaws.{WriteShows, WriteAgrees, OthersStay}
@@ -53,14 +53,14 @@ all_carried law w s h =
 -- ---- the end of a write's event is the one that stands there
 
 pub at_end : {P : Type 0} (puts : P → Look → P → Type 0) (w : TheWorld) (s : State) (e : EndId) (n place : ℕ) (h : Stands w s e n place) (k k2 : TheCore) (p q : P)
-    (r : Result WriteAnswer EndFault) (a : WritesAt puts place k p r k2 q) → slice_get w.cores n ≡ Some k → a.writes.seat ≡ h.at
+    (r : Result WriteAnswer EndFault) (a : WritesAt puts place (at_side k p) r (at_side k2 q)) → slice_get w.cores n ≡ Some k → a.writes.seat ≡ h.at
 at_end puts w s e n place h k k2 p q r a there =
     let same : h.core ≡ k = same_some (slice_get w.cores n) h.core k h.core_is there in
     same_some (slice_get k.board.seats place) a.writes.seat h.at a.writes.seat_is
     (ap (λ (c : TheCore). slice_get c.board.seats place) (sym same) ∙ h.at_is)
 
 pub its_write : {P : Type 0} (puts : P → Look → P → Type 0) (w : TheWorld) (s : State) (e : EndId) (n place : ℕ) (h : Stands w s e n place) (k k2 : TheCore) (p q : P)
-    (r : Result WriteAnswer EndFault) (a : WritesAt puts place k p r k2 q) → slice_get w.cores n ≡ Some k → Writes puts h.at.end p r a.writes.end q
+    (r : Result WriteAnswer EndFault) (a : WritesAt puts place (at_side k p) r (at_side k2 q)) → slice_get w.cores n ≡ Some k → Writes puts h.at.end p r a.writes.end q
 its_write puts w s e n place h k k2 p q r a there =
     subst (λ (at : TheSeat). Writes puts at.end p r a.writes.end q) (at_end puts w s e n place h k k2 p q r a there) a.writes.event
 
@@ -75,7 +75,7 @@ write_agrees puts law w s e n place shown h p q r t a =
 
 -- the board once the end has written
 pub wrote_board : {P : Type 0} (puts : P → Look → P → Type 0) (w : TheWorld) (s : State) (e : EndId) (n place : ℕ) (h : Stands w s e n place) (k k2 : TheCore) (p q : P)
-    (r : Result WriteAnswer EndFault) (a : WritesAt puts place k p r k2 q) → slice_get w.cores n ≡ Some k
+    (r : Result WriteAnswer EndFault) (a : WritesAt puts place (at_side k p) r (at_side k2 q)) → slice_get w.cores n ≡ Some k
     → a.wrote ≡ with_end h.core.board place h.at a.writes.end
 wrote_board puts w s e n place h k k2 p q r a there =
     let same : k ≡ h.core = same_some (slice_get w.cores n) k h.core there h.core_is in
@@ -85,7 +85,7 @@ wrote_board puts w s e n place h k k2 p q r a there =
 
 -- where no other end is told of it, that is all
 pub wrote_core : {P : Type 0} (puts : P → Look → P → Type 0) (w : TheWorld) (s : State) (e : EndId) (n place : ℕ) (h : Stands w s e n place) (k k2 : TheCore) (p q : P)
-    (r : Result WriteAnswer EndFault) (a : WritesAt puts place k p r k2 q) → slice_get w.cores n ≡ Some k → woken_by k place r ≡ None
+    (r : Result WriteAnswer EndFault) (a : WritesAt puts place (at_side k p) r (at_side k2 q)) → slice_get w.cores n ≡ Some k → woken_by k place r ≡ None
     → k2 ≡ with_board h.core (with_end h.core.board place h.at a.writes.end)
 wrote_core puts w s e n place h k k2 p q r a there none =
     let same : k ≡ h.core = same_some (slice_get w.cores n) k h.core there h.core_is in

@@ -21,7 +21,7 @@ use Rattle.fl_node.specs.declared.wire.Wire.{Wire}
 use Rattle.fl_node.specs.declared.wire.Wire.TheVariants.{Queues}
 use Rattle.fl_node.specs.declared.wire.Port.{Port}
 use Rattle.fl_node.specs.View.{TheCore, place_of, with_board, joined_by as joined_for, joined_to}
-use Rattle.fl_node.specs.Ends.{WritesAt, TriggersIf, Triggers}
+use Rattle.fl_node.specs.Ends.{at_side, WritesAt, TriggersIf, Triggers}
 use Rattle.fl_queues.specs.Given.{given}
 use Rattle.fl_queues.specs.Calls.{Planned}
 use Rattle.fl_queues.specs.Events.{Answer, DispatcherId, nothing, full, written, refused}
@@ -255,7 +255,7 @@ written_agrees law w w2 s a e n place out from h x left t f number count k b2 sh
 -- ---- the write
 
 by_result : (law : WriteLaws) (w w2 : TheWorld) (s : State) (a : Answer) (e : EndId) (n place out from : ℕ) (h : Stands w s e n place) (x : HasPeer w s e n place h out from)
-    (k k2 : TheCore) (q left : TheQueue) (r : Result WriteAnswer EndFault) (wrote : WritesAt QueuePuts place k q r k2 left) → Shows w s
+    (k k2 : TheCore) (q left : TheQueue) (r : Result WriteAnswer EndFault) (wrote : WritesAt QueuePuts place (at_side k q) r (at_side k2 left)) → Shows w s
     → h.port.wire ≡ Queues out from → slice_get w.cores n ≡ Some k → q ≡ x.there
     → Writes QueuePuts h.at.end q r wrote.writes.end left
     → WriteAgrees QueuePuts (machine_end h.interface e.side h.binding) q r wrote.writes.end left

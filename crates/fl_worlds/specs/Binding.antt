@@ -18,6 +18,7 @@ use Rattle.fl_nameserv.specs.Registrations.{TheRegistration, by_name}
 use Rattle.fl_core.specs.View.{TheBoard}
 use Rattle.fl_core.specs.declared.fault.BoardFault.{BoardFault}
 use Rattle.fl_core.specs.declared.fault.BoardFault.TheVariants as board
+use Rattle.fl_core.specs.Turns.{over}
 use Rattle.fl_monitor.specs.declared.fault.MonitorFault.{MonitorFault}
 use Rattle.fl_monitor.specs.declared.fault.MonitorFault.TheVariants as monitor
 use Rattle.fl_monitor.specs.declared.opening.Opening.{Opening}
@@ -103,9 +104,9 @@ pub record IsJoined (want : Request) (n : ℕ) (queues : QueuePair) (before afte
       (record { name = server_of n; wire = Queues (queues.first + 1) queues.first }) with_client (Ok server) with_both
   pub client_answer : Result (Unit {0}) BoardFault
   pub client_listed : TheCore
-  pub registers_client : OnBoard with_both (λ b c. RegistersAt QueueTakes client client_answer b queues.back c queues.back) client_listed
+  pub registers_client : OnBoard with_both (λ b c. RegistersAt QueueTakes client (over b queues.back) client_answer (over c queues.back)) client_listed
   pub server_answer : Result (Unit {0}) BoardFault
-  pub registers_server : OnBoard client_listed (λ b c. RegistersAt QueueTakes server server_answer b queues.forth c queues.forth) after
+  pub registers_server : OnBoard client_listed (λ b c. RegistersAt QueueTakes server (over b queues.forth) server_answer (over c queues.forth)) after
 
 abbrev pub new_queue : ℕ → TheQueue
 new_queue slots = record { items = []; untold = 0; sent = 0; capacity = slots; acked = false }
@@ -149,7 +150,7 @@ pub record JoinsSide (want : Request) (end : NewEnd) (m : ℕ) (ring : TheDuo) (
   pub side : DuoSide
   pub lent : IsLent m ring side
   pub answer : Result (Unit {0}) BoardFault
-  pub registers : OnBoard added (λ b c. RegistersAt SideTakes place answer b side c side) after
+  pub registers : OnBoard added (λ b c. RegistersAt SideTakes place (over b side) answer (over c side)) after
 
 pub record JoinsByRing (want : Request) (size : ℕ) (w w2 : TheWorld) : Type 0 where
   pub first : TheCore

@@ -29,9 +29,9 @@ use Rattle.fl_node.specs.declared.fault.LinkFault.{LinkFault}
 use Rattle.fl_node.specs.declared.fault.LinkFault.TheVariants.{Memory}
 use Rattle.fl_node.specs.Faults.{link_number}
 use Rattle.fl_node.specs.View.{TheCore, side_of_link}
-use Rattle.fl_node.specs.Ends.{OnBoard}
+use Rattle.fl_node.specs.Ends.{at_side, OnBoard}
 use Rattle.fl_node.specs.Hearing.{Offers, HearsFrag, TakesHeard}
-use Rattle.fl_node.specs.Links.{MonitorWrites, LooksAhead, ArrivesAt, Acknowledges}
+use Rattle.fl_node.specs.Links.{MonitorWrites, LooksAhead, Inbound, inbound, ArrivesAt, Acknowledges}
 use Rattle.fl_queues.specs.Given.{given}
 use Rattle.fl_queues.specs.Events.{Answer, done, nothing, full, written, forwarded, opened, opening_refused, refused}
 use Rattle.fl_worlds.specs.declared.binding.Binding.{Binding}
@@ -62,7 +62,7 @@ write_answer write.Spent = full
 write_answer write.Nothing = nothing
 
 abbrev pub MonitorWritesWith : ℕ → Answer → TheCore → DuoSide → TheCore → DuoSide → Type 0
-MonitorWritesWith l a k p k2 q = (r : MonitorWrite) × MonitorWrites SidePuts l k p r k2 q × (a ≡ write_answer r)
+MonitorWritesWith l a k p k2 q = (r : MonitorWrite) × MonitorWrites SidePuts l (at_side k p) r (at_side k2 q) × (a ≡ write_answer r)
 
 abbrev pub WritesMessage : ℕ → ℕ → TheWorld → Answer → TheWorld → Type 0
 WritesMessage core neighbour w a w2 =
@@ -201,20 +201,11 @@ abbrev pub IsMoved : Result Outcome LinkFault → Answer → Type 0
 IsMoved (Ok outcome) a = a ≡ moved_answer outcome
 IsMoved (Err fault) a = a ≡ refused (link_number fault)
 
--- a fragment that is to arrive, from a link, at an end
-pub record Inbound : Type 0 where
-  pub link : ℕ
-  pub frag : Frag
-  pub end : EndId
-
-abbrev pub inbound : ℕ → Frag → EndId → Inbound
-inbound l frag e = record { link = l; frag = frag; end = e }
-
 abbrev pub ArrivesWith : Inbound → Answer → TheCore → DuoSide → TheCore → DuoSide → Type 0
-ArrivesWith x a k p k2 q = (r : Result Outcome LinkFault) × ArrivesAt SideTakes x.link x.frag x.end k p r k2 q × IsMoved r a
+ArrivesWith x a k p k2 q = (r : Result Outcome LinkFault) × ArrivesAt SideTakes x (at_side k p) r (at_side k2 q) × IsMoved r a
 
 abbrev pub LooksWith : ℕ → Result Ahead LinkFault → TheCore → DuoSide → TheCore → DuoSide → Type 0
-LooksWith l ahead k p k2 q = LooksAhead SideTakes front_for l k p ahead k2 q
+LooksWith l ahead k p k2 q = LooksAhead SideTakes front_for l (at_side k p) ahead (at_side k2 q)
 
 -- ---- a core forwards
 

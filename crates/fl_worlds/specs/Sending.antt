@@ -18,7 +18,7 @@ use Rattle.fl_core.specs.Events.{ChangesEnd, Holds}
 use Rattle.fl_node.specs.declared.wire.Outlet.{Outlet}
 use Rattle.fl_node.specs.declared.wire.Outlet.TheVariants as outlet
 use Rattle.fl_node.specs.View.{TheCore, outlet_of}
-use Rattle.fl_node.specs.Ends.{OnBoard, WritesAt}
+use Rattle.fl_node.specs.Ends.{at_side, OnBoard, WritesAt}
 use Rattle.fl_queues.specs.Events.{Answer, accepted, nothing, full, written, words, refused}
 use Rattle.fl_worlds.specs.View.{TheWorld, ring_at, which_at, Spot, nowhere, unmade, made, spot_of}
 use Rattle.fl_worlds.specs.Lending.{AnswerAt, answer_at, Refuses, AtCore, OverQueue, OverSide, AtUnmade, KeepsNone, IsStray}
@@ -86,7 +86,7 @@ IsWritten (Ok write.Nothing) a = a ≡ nothing
 IsWritten (Err fault) a = a ≡ refused (fault_number fault)
 
 abbrev pub WritesWith : {P : Type 0} → (P → Look → P → Type 0) → AnswerAt → TheCore → P → TheCore → P → Type 0
-WritesWith puts at k p k2 q = (r : Result WriteAnswer EndFault) × WritesAt puts at.place k p r k2 q × IsWritten r at.answer
+WritesWith puts at k p k2 q = (r : Result WriteAnswer EndFault) × WritesAt puts at.place (at_side k p) r (at_side k2 q) × IsWritten r at.answer
 
 abbrev pub WritesOver : Outlet → ℕ → ℕ → TheWorld → Answer → TheWorld → Type 0
 WritesOver (outlet.Queue q) n place w a w2 = OverQueue w n q (WritesWith QueuePuts (answer_at place a)) w2 ⊎ IsStray w.queues q w a w2

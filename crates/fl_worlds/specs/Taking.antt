@@ -134,12 +134,12 @@ IsRegistered (Err fault) a = a ≡ refused (board_number fault)
 
 abbrev pub RegistersWith : {T : Type 0} → (T → Look → T → Type 0) → AnswerAt → TheCore → T → TheCore → T → Type 0
 RegistersWith takes at k p k2 q =
-    (r : Result (Unit {0}) BoardFault) × OnBoard k (λ b c. RegistersAt takes at.place r b p c q) k2 × IsRegistered r at.answer
+    (r : Result (Unit {0}) BoardFault) × OnBoard k (λ b c. RegistersAt takes at.place (over b p) r (over c q)) k2 × IsRegistered r at.answer
 
 abbrev pub RegistersArrivals : AnswerAt → TheCore → TheCore → Type 0
 RegistersArrivals at k k2 =
     (r : Result (Unit {0}) BoardFault)
-    × OverArrivals k at.place (λ b p c q. RegistersAt QueueTakes at.place r b p c q) k2 × IsRegistered r at.answer
+    × OverArrivals k at.place (λ b p c q. RegistersAt QueueTakes at.place (over b p) r (over c q)) k2 × IsRegistered r at.answer
 
 abbrev pub RegistersOver : Inlet → ℕ → ℕ → TheWorld → Answer → TheWorld → Type 0
 RegistersOver (inlet.Queue q) n place w a w2 = OverQueue w n q (RegistersWith QueueTakes (answer_at place a)) w2 ⊎ IsStray w.queues q w a w2

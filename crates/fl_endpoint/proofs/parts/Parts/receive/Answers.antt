@@ -4,7 +4,7 @@ use Rattle.fl_link.specs.Looks.{saw, found, found_ack}
 use Rattle.fl_endpoint.specs.declared.answer.ReceiveAnswer.TheVariants.{Quiet, Empty, HeldBack}
 use Rattle.fl_endpoint.specs.View.{holds_back}
 use Rattle.fl_endpoint.specs.Events.{IsReady, IsOpen}
-use Rattle.fl_endpoint.specs.Lent.{TakesInWith}
+use Rattle.fl_endpoint.specs.Lent.{taking, TakesInWith}
 use Rattle.fl_endpoint.proofs.Lendings.{still_place, not_ready, receives_kept, leaves_at, takes_at}
 use Rattle.fl_endpoint.proofs.parts.Parts.receive.Goals as goal
 
@@ -47,8 +47,8 @@ returns-in-Ok-take_in-clause-receives g c =
 
 pub returns-in-Err-take_in-clause-place : goal.returns-in-Err-take_in-clause-place
 returns-in-Err-take_in-clause-place g c =
-    still_place c.args.calls.now c.args.place (TakesInWith c.args.self.now c.without_stamp.result c.take_in.result c.take_in.new.self) c.take_in.new.calls c.take_in.new.self (λ was is e. e.of) c.take_in.ensures.takes_in
+    still_place c.args.calls.now c.args.place (TakesInWith (taking c.args.self.now c.without_stamp.result c.take_in.result c.take_in.new.self)) c.take_in.new.calls c.take_in.new.self (λ was is e. e.of) c.take_in.ensures.takes_in
 
 pub returns-in-Ok-take_in-clause-place : goal.returns-in-Ok-take_in-clause-place
 returns-in-Ok-take_in-clause-place g c =
-    still_place c.args.calls.now c.args.place (TakesInWith c.args.self.now c.without_stamp.result c.take_in.result c.take_in.new.self) c.take_in.new.calls c.take_in.new.self (λ was is e. e.of) c.take_in.ensures.takes_in
+    still_place c.args.calls.now c.args.place (TakesInWith (taking c.args.self.now c.without_stamp.result c.take_in.result c.take_in.new.self)) c.take_in.new.calls c.take_in.new.self (λ was is e. e.of) c.take_in.ensures.takes_in

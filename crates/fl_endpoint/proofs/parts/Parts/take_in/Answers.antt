@@ -7,7 +7,7 @@ use Rattle.fl_machine.specs.declared.reassembly.TakeFault.{TakeFault}
 use Rattle.fl_endpoint.specs.View.{TheEnd, interface_in, with_failed}
 use Rattle.fl_wire.specs.declared.fault.WireFault.{WireFault}
 use Rattle.fl_endpoint.specs.declared.fault.EndFault.TheVariants.{Wire}
-use Rattle.fl_endpoint.specs.Lent.{TakesInAt}
+use Rattle.fl_endpoint.specs.Lent.{taking, TakesInAt}
 use Rattle.fl_endpoint.specs.Inside.{end_of}
 use Rattle.fl_endpoint.proofs.Sounds.{sound_failed}
 use Rattle.fl_endpoint.proofs.Lendings.{place_below, refused_at, part_at, memory_at, whole_refused, whole_fits, below_after, whole_handled}
@@ -28,7 +28,7 @@ returns-in-Err-Wire c =
     let takes = subst (λ (x : TakeFault). ChangesPlace c.args.calls.now c.args.place (λ a b. Takes a c.args.frag.now (Err x) b) c.take.new.self) c.in-Err-Wire.field-0-is c.in-Err-Wire.ensures.takes in
     let failed : with_failed (end_of c.self.inside) ≡ with_failed c.args.self.now = ap (λ (s : TheEnd). with_failed s) c.self.view_is in
     record {
-      takes_in = subst (λ (x : WireFault). TakesInAt c.args.self.now c.args.frag.now (Err (Wire x)) (with_failed (end_of c.self.inside)) c.args.calls.now c.args.place c.take.new.self) (sym c.in-Err-Wire.fault-is)
+      takes_in = subst (λ (x : WireFault). TakesInAt (taking c.args.self.now c.args.frag.now (Err (Wire x)) (with_failed (end_of c.self.inside))) c.args.calls.now c.args.place c.take.new.self) (sym c.in-Err-Wire.fault-is)
           (refused_at c.args.self.now c.args.calls.now c.args.place c.requires.place c.args.frag.now c.requires.bare c.take.new.self c.in-Err-Wire.fault (with_failed (end_of c.self.inside)) failed takes);
     }
 

@@ -5,7 +5,7 @@ use Rattle.fl_core.specs.View.{TheBoard}
 use Rattle.fl_node.specs.contracts.one_core.Core.{the_view}
 use Rattle.fl_monitor.specs.Monitors.{TheMonitor}
 use Rattle.fl_node.specs.Sound.{kinds_seated}
-use Rattle.fl_node.specs.Hearing.{Offers, offer_for}
+use Rattle.fl_node.specs.Hearing.{Offers, offer_for, offering}
 use Rattle.fl_node.proofs.Hearsay.{leads_so, with_kept, unheard_length, roomy_kept, hears_length, end_none}
 use Rattle.fl_node.proofs.Served.{none_served, server_kept, server_served}
 use Rattle.fl_node.proofs.one_core.Core.hear_offered.Goals as goal
@@ -38,7 +38,7 @@ returns-in-None c =
     let o : Offers = record { names = c.args.names.now; programs = c.args.programs.now } in
     let none = sym c.server_in.ensures.made ∙ c.in-None.is in
     let kept = end_none (program_of c.index-programs-offer.result) c.in-Ok-hear_with_end.joined.place _ c.self.inside.board c.hear_with_end.new.board none c.in-Ok-hear_with_end.ensures.hears.1 in
-    record { hears = none_served o c.args.link c.args.message.now c.args.self.now _ c.self.view_is c.here_for-here.result (c.here_for-here.ensures.here o (sym c.requires.offer)) c.hear_with_end.new.monitor c.in-Ok-hear_with_end.joined.heard c.in-Ok-hear_with_end.ensures.hears.0 c.follow.result c.follow.new.self c.hear_with_end.new.board c.make_arrivals.new.ports.items c.make_arrivals.new.arrivals.items kept c.make_arrivals.ensures.ports c.make_arrivals.ensures.arrivals (c.follow.ensures.follows o.programs (offer_for o (the_view c.self.inside) c.args.message.now) c.args.link) }
+    record { hears = none_served o c.args.link c.args.message.now c.args.self.now _ c.self.view_is c.here_for-here.result (c.here_for-here.ensures.here o (sym c.requires.offer)) c.hear_with_end.new.monitor c.in-Ok-hear_with_end.joined.heard c.in-Ok-hear_with_end.ensures.hears.0 c.follow.result c.follow.new.self c.hear_with_end.new.board c.make_arrivals.new.ports.items c.make_arrivals.new.arrivals.items kept c.make_arrivals.ensures.ports c.make_arrivals.ensures.arrivals (c.follow.ensures.follows (offering o.programs (offer_for o (the_view c.self.inside) c.args.message.now) c.args.link)) }
 
 pub returns-in-Some : goal.returns-in-Some
 returns-in-Some c =

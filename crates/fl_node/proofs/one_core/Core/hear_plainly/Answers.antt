@@ -1,7 +1,7 @@
 use Rattle.std.proofs.Common.{sym, refl, ap}
 use Rattle.fl_monitor.specs.Monitors.{TheMonitor}
 use Rattle.fl_node.specs.contracts.one_core.Core.{the_view}
-use Rattle.fl_node.specs.Hearing.{Offers, offer_for}
+use Rattle.fl_node.specs.Hearing.{Offers, offer_for, offering}
 use Rattle.fl_node.proofs.Kept.{parts_kept}
 use Rattle.fl_node.proofs.Hearsay.{hears_kept, unheard_length, message_heard}
 use Rattle.std.proofs.Common.{length}
@@ -13,4 +13,4 @@ invariant_of-self c = parts_kept _ c.self.inside.board c.on_message.new.self c.u
 pub returns-in-None : goal.returns-in-None
 returns-in-None c =
     let o : Offers = record { names = c.args.names.now; programs = c.args.programs.now } in
-    record { hears = message_heard o c.args.link c.args.message.now c.args.self.now _ c.self.view_is c.here_for-here.result (c.here_for-here.ensures.here o (sym c.requires)) c.on_message.new.self c.in-Ok.heard c.follow.result c.follow.new.self c.in-Ok.ensures.hears (c.follow.ensures.follows o.programs (offer_for o (the_view c.self.inside) c.args.message.now) c.args.link) }
+    record { hears = message_heard o c.args.link c.args.message.now c.args.self.now _ c.self.view_is c.here_for-here.result (c.here_for-here.ensures.here o (sym c.requires)) c.on_message.new.self c.in-Ok.heard c.follow.result c.follow.new.self c.in-Ok.ensures.hears (c.follow.ensures.follows (offering o.programs (offer_for o (the_view c.self.inside) c.args.message.now) c.args.link)) }
