@@ -1,4 +1,5 @@
 pub mod Members
+pub mod Numbers
 pub mod Chains
 pub mod Rings
 pub mod Tables

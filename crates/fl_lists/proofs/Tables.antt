@@ -6,8 +6,9 @@ use Rattle.fl_lists.specs.declared.place.Place.{Place}
 use Rattle.fl_lists.specs.declared.place.Place.TheVariants.{Idle, Polled, Pending}
 use Rattle.fl_lists.specs.declared.node.Node.{Node}
 use Rattle.fl_lists.specs.ThreeLists.{ThreeLists, list_at, is_in, without, place_of, unlinked, pushed, moved, popped, NoRepeat, IsApart}
-use Rattle.fl_lists.specs.Table.{free_node, node_at, next_at, prev_at, place_at, Joined, TakenOut, PutBefore, ChangesFew, head_of, Chain, Ring, list_from, lists_of, IsTable, TheLists}
+use Rattle.fl_lists.specs.Table.{free_node, node_at, next_at, prev_at, place_at, Joined, TakenOut, PutBefore, ChangesFew, head_of, index_of, indexes, numbers, Chain, Ring, list_from, lists_of, IsTable, TheLists}
 use Rattle.fl_lists.proofs.Members.{different, first_is_in, without_first, without_later, without_none, left_out}
+use Rattle.fl_lists.proofs.Numbers.{head_before, head_within, is_in-indexes, without-indexes, indexes_push, NoRepeat_of, number_back, numbers-indexes}
 use Rattle.fl_lists.proofs.Rings.{same_or_not, placed_below, list_is, prev_placed, next_placed, last_placed, in_list, ring_without, ring_push, ring_besides_out, ring_besides_in}
 
 -- two values with the same lists are the same
@@ -54,152 +55,149 @@ unlinked_list w c Idle = refl
 unlinked_list w c Polled = refl
 unlinked_list w c Pending = refl
 
--- the heads stand behind the nodes
-head_behind : (len c : ℕ) (p : Place) → c < len - 3 → c ≢ head_of len p
-head_behind len c Idle h e = omega arith
-head_behind len c Polled h e = omega arith
-head_behind len c Pending h e = omega arith
-
-pub head_within : (len : ℕ) (p : Place) → 3 ≤ len → head_of len p < len
-head_within len Idle h = omega arith
-head_within len Polled h = omega arith
-head_within len Pending h = omega arith
-
 -- a table with these rings has these lists
-rings_give : (nodes : List Node) (w : ThreeLists) → 3 ≤ length nodes → length nodes - 3 ≡ w.size
-    → ((p : Place) → Ring nodes (head_of (length nodes) p) p (list_at w p)) → IsTable nodes × (lists_of nodes ≡ w)
-rings_give nodes w heads size rings =
+rings_give : (nodes : List Node) (w : ThreeLists) → 3 ≤ length nodes → length nodes ≤ 65536 → length nodes - 3 ≡ w.size
+    → ((p : Place) → Ring nodes (head_of p) p (indexes (list_at w p))) → IsTable nodes × (lists_of nodes ≡ w)
+rings_give nodes w heads short size rings =
     let same : (p : Place) → list_from nodes p ≡ list_at w p =
-    λ p. list_is nodes (head_of (length nodes) p) p (list_at w p) (rings p) in (
+    λ p. ap (λ (ks : List ℕ). numbers ks) (list_is nodes (head_of p) p (indexes (list_at w p)) (rings p))
+    ∙ numbers-indexes (list_at w p) in (
       record {
         heads = heads;
-        ring = λ p. subst (λ (ys : List ℕ). Ring nodes (head_of (length nodes) p) p ys) (sym (same p)) (rings p);
+        short = short;
+        ring = λ p. subst (λ (ys : List ℕ). Ring nodes (head_of p) p (indexes ys)) (sym (same p)) (rings p);
       },
       same_lists (lists_of nodes) w size (λ p. list_there nodes p ∙ same p),
     )
 
 module _ (nodes : List Node) (table : IsTable nodes) where
-  ring_at : (p : Place) → Ring nodes (head_of (length nodes) p) p (list_at (lists_of nodes) p)
+  ring_at : (p : Place) → Ring nodes (head_of p) p (indexes (list_at (lists_of nodes) p))
   ring_at p =
-      subst (λ (ys : List ℕ). Ring nodes (head_of (length nodes) p) p ys) (sym (list_there nodes p)) (table.ring p)
+      subst (λ (ys : List ℕ). Ring nodes (head_of p) p (indexes ys)) (sym (list_there nodes p)) (table.ring p)
 
-  listed_at : (c : ℕ) (p : Place) → c < length nodes - 3 → place_at nodes c ≡ Some p → is_in c (list_at (lists_of nodes) p) ≡ true
-  listed_at c p below h = in_list nodes _ p _ (ring_at p) c h (head_behind (length nodes) c p below)
+  head_placed : (p : Place) → place_at nodes (head_of p) ≡ Some p
+  head_placed p = (ring_at p).placed _ (first_is_in (head_of p) (indexes (list_at (lists_of nodes) p)))
 
-  placed_at : (c : ℕ) (p : Place) → is_in c (list_at (lists_of nodes) p) ≡ true → place_at nodes c ≡ Some p
-  placed_at c p i = (ring_at p).placed c (or_right _ _ i)
+  listed_at : (c : ℕ) (p : Place) → place_at nodes (index_of c) ≡ Some p → is_in c (list_at (lists_of nodes) p) ≡ true
+  listed_at c p h =
+      sym (is_in-indexes c (list_at (lists_of nodes) p)) ∙ in_list nodes _ p _ (ring_at p) (index_of c) h (head_before c p)
 
-  -- no list has a head, so its nodes stand before the heads
+  placed_at : (c : ℕ) (p : Place) → is_in c (list_at (lists_of nodes) p) ≡ true → place_at nodes (index_of c) ≡ Some p
+  placed_at c p i =
+      (ring_at p).placed (index_of c) (or_right _ _ (is_in-indexes c (list_at (lists_of nodes) p) ∙ i))
+
+  -- a node in a list stands behind the heads
   node_below : (c : ℕ) (p : Place) → is_in c (list_at (lists_of nodes) p) ≡ true → c < length nodes - 3
   node_below c p i =
-      let here = placed_at c p i in
-      let within : c < length nodes = placed_below nodes c p here in
-      let no_head : (q : Place) → c ≢ head_of (length nodes) q = λ q e.
-      let at_head : place_at nodes (head_of (length nodes) q) ≡ Some q = (ring_at q).placed _ (first_is_in (head_of (length nodes) q) (list_at (lists_of nodes) q)) in
-      let there : place_at nodes c ≡ Some q = subst (λ (z : ℕ). place_at nodes z ≡ Some q) (sym e) at_head in
-      let same : q ≡ p = cc (there, here) in
-      different c (head_of (length nodes) p) _ i (ring_at p).once.0 (e ∙ ap (head_of (length nodes)) same) in
-      let idle = no_head Idle in
-      let polled = no_head Polled in
-      let pending = no_head Pending in
-      let heads = table.heads in
+      let within : index_of c < length nodes = placed_below nodes (index_of c) p (placed_at c p i) in
       omega arith
 
   pub apart_lists : IsApart (lists_of nodes)
   apart_lists = record {
-    once = λ p. (ring_at p).once.1;
+    once = λ p. NoRepeat_of (list_at (lists_of nodes) p) (ring_at p).once.1;
     one_list = λ p q c i j. let here = placed_at c p i in let there = placed_at c q j in cc (here, there);
     below = λ p c i. node_below c p i;
   }
 
-  missing_at : (c : ℕ) (p : Place) → place_at nodes c ≡ None → is_in c (list_at (lists_of nodes) p) ≡ false
+  missing_at : (c : ℕ) (p : Place) → place_at nodes (index_of c) ≡ None → is_in c (list_at (lists_of nodes) p) ≡ false
   missing_at c p free = elim (cases_Bool (is_in c (list_at (lists_of nodes) p))) [
     | inl i ↦ let here = placed_at c p i in absurd (cc (free, here))
     | inr missed ↦ missed
   ]
 
   -- the place that a node tells is the list that it is in
-  pub place_is : (c : ℕ) → c < length nodes - 3 → place_of (lists_of nodes) c ≡ place_at nodes c
-  place_is c below = go (place_at nodes c) refl where
+  pub place_is : (c : ℕ) → place_of (lists_of nodes) c ≡ place_at nodes (index_of c)
+  place_is c = go (place_at nodes (index_of c)) refl where
     w : ThreeLists
     w = lists_of nodes
 
-    other : (p q : Place) → place_at nodes c ≡ Some p → p ≢ q → is_in c (list_at w q) ≡ false
+    other : (p q : Place) → place_at nodes (index_of c) ≡ Some p → p ≢ q → is_in c (list_at w q) ≡ false
     other p q h ne = elim (cases_Bool (is_in c (list_at w q))) [
       | inl i ↦ let there = placed_at c q i in absurd (ne (cc (h, there)))
       | inr missed ↦ missed
     ]
 
-    go : (o : Option Place) → place_at nodes c ≡ o → place_of w c ≡ o
+    go : (o : Option Place) → place_at nodes (index_of c) ≡ o → place_of w c ≡ o
     go None h =
         cond-false _ _ _ (missing_at c Idle h) ∙ cond-false _ _ _ (missing_at c Polled h)
         ∙ cond-false _ _ _ (missing_at c Pending h)
-    go (Some Idle) h = cond-true _ _ _ (listed_at c Idle below h)
+    go (Some Idle) h = cond-true _ _ _ (listed_at c Idle h)
     go (Some Polled) h =
-        cond-false _ _ _ (other Polled Idle h (λ e. cc)) ∙ cond-true _ _ _ (listed_at c Polled below h)
+        cond-false _ _ _ (other Polled Idle h (λ e. cc)) ∙ cond-true _ _ _ (listed_at c Polled h)
     go (Some Pending) h =
         cond-false _ _ _ (other Pending Idle h (λ e. cc)) ∙ cond-false _ _ _ (other Pending Polled h (λ e. cc))
-        ∙ cond-true _ _ _ (listed_at c Pending below h)
+        ∙ cond-true _ _ _ (listed_at c Pending h)
 
   -- where c is in a list, its neighbours and itself are of one place
-  pub neighbours : (c : ℕ) (p : Place) → c < length nodes - 3 → place_at nodes c ≡ Some p
-      → (place_at nodes (prev_at nodes c) ≡ Some p) × (place_at nodes (next_at nodes c) ≡ Some p)
-  neighbours c p below h =
-      let i = listed_at c p below h in
-      (prev_placed nodes _ p _ (ring_at p) c i, next_placed nodes _ p _ (ring_at p) c i)
+  pub neighbours : (c : ℕ) (p : Place) → place_at nodes (index_of c) ≡ Some p
+      → (place_at nodes (prev_at nodes (index_of c)) ≡ Some p) × (place_at nodes (next_at nodes (index_of c)) ≡ Some p)
+  neighbours c p h =
+      let i = is_in-indexes c (list_at (lists_of nodes) p) ∙ listed_at c p h in
+      (prev_placed nodes _ p _ (ring_at p) (index_of c) i, next_placed nodes _ p _ (ring_at p) (index_of c) i)
 
-  pub last_below : (p : Place) → prev_at nodes (head_of (length nodes) p) < length nodes
+  pub last_below : (p : Place) → prev_at nodes (head_of p) < length nodes
   last_below p = placed_below nodes _ p (last_placed nodes _ p _ (ring_at p))
 
-  pub table_out : (new : List Node) (c : ℕ) (p : Place) → TakenOut nodes new c → c < length nodes - 3 → place_at nodes c ≡ Some p
+  pub table_out : (new : List Node) (c : ℕ) (p : Place) → TakenOut nodes new (index_of c) → place_at nodes (index_of c) ≡ Some p
       → IsTable new × (lists_of new ≡ unlinked (lists_of nodes) c)
-  table_out new c p t below h =
-      let near = neighbours c p below h in
-      let old_rings : (q : Place) → Ring new (head_of (length nodes) q) q (without c (list_at (lists_of nodes) q)) =
+  table_out new c p t h =
+      let w = lists_of nodes in
+      let near = neighbours c p h in
+      let at_indexes : (q : Place) → Ring new (head_of q) q (without (index_of c) (indexes (list_at (lists_of nodes) q))) =
       λ q. elim (same_or_not q p) [
-        | inl e ↦ ring_without nodes _ q _ (ring_at q) new c t (listed_at c q below (h ∙ ap (λ (z : Place). Some z) (sym e)))
-        | inr ne ↦ ring_besides_out nodes _ q _ (ring_at q) new c p t ne h near.0 near.1
+        | inl e ↦
+            ring_without nodes _ q _ (ring_at q) new (index_of c) t
+            (is_in-indexes c (list_at (lists_of nodes) q) ∙ listed_at c q (h ∙ ap (λ (z : Place). Some z) (sym e)))
+        | inr ne ↦ ring_besides_out nodes _ q _ (ring_at q) new (index_of c) p t ne h near.0 near.1
       ] in
       let size = t.size in
       let heads = table.heads in
-      rings_give new (unlinked (lists_of nodes) c) (omega arith) (ap (λ (n : ℕ). n - 3) size) (λ q.
-      subst (λ (n : ℕ). Ring new (head_of n q) q (list_at (unlinked (lists_of nodes) c) q)) (sym size)
-      (subst (λ (ys : List ℕ). Ring new (head_of (length nodes) q) q ys) (sym (unlinked_list (lists_of nodes) c q)) (old_rings q)))
+      let short = table.short in
+      rings_give new (unlinked (lists_of nodes) c) (omega arith) (omega arith) (ap (λ (n : ℕ). n - 3) size) (λ q.
+      subst (λ (ys : List ℕ). Ring new (head_of q) q (indexes ys)) (sym (unlinked_list (lists_of nodes) c q))
+      (subst (λ (ks : List ℕ). Ring new (head_of q) q ks) (without-indexes c (list_at (lists_of nodes) q)) (at_indexes q)))
 
-  pub table_in : (new : List Node) (c : ℕ) (p : Place) → PutBefore nodes new c (head_of (length nodes) p) p → place_at nodes c ≡ None
-      → IsTable new × (lists_of new ≡ pushed (lists_of nodes) c p)
+  pub table_in : (new : List Node) (c : ℕ) (p : Place) → PutBefore nodes new (index_of c) (head_of p) p
+      → place_at nodes (index_of c) ≡ None → IsTable new × (lists_of new ≡ pushed (lists_of nodes) c p)
   table_in new c p t free =
-      let w = lists_of nodes in
-      let at_head : place_at nodes (head_of (length nodes) p) ≡ Some p = (ring_at p).placed _ (first_is_in (head_of (length nodes) p) (list_at (lists_of nodes) p)) in
       let at_last = last_placed nodes _ p _ (ring_at p) in
-      let old_rings : (q : Place) → Ring new (head_of (length nodes) q) q (list_at (pushed (lists_of nodes) c p) q) =
+      let new_rings : (q : Place) → Ring new (head_of q) q (indexes (list_at (pushed (lists_of nodes) c p) q)) =
       λ q. elim (same_or_not p q) [
         | inl e ↦
-            subst (λ (z : Place). Ring new (head_of (length nodes) z) z (list_at (pushed (lists_of nodes) c p) z)) e
-            (subst (λ (ys : List ℕ). Ring new (head_of (length nodes) p) p ys) (sym (pushed_this (lists_of nodes) c p))
-            (ring_push nodes _ p _ (ring_at p) new c t free))
+            subst (λ (z : Place). Ring new (head_of z) z (indexes (list_at (pushed (lists_of nodes) c p) z))) e
+            (subst (λ (ys : List ℕ). Ring new (head_of p) p (indexes ys)) (sym (pushed_this (lists_of nodes) c p))
+            (subst (λ (ks : List ℕ). Ring new (head_of p) p ks) (indexes_push (list_at (lists_of nodes) p) c)
+            (ring_push nodes _ p _ (ring_at p) new (index_of c) t free)))
         | inr ne ↦
-            subst (λ (ys : List ℕ). Ring new (head_of (length nodes) q) q ys)
+            subst (λ (ys : List ℕ). Ring new (head_of q) q (indexes ys))
             (sym (pushed_other (lists_of nodes) c p q (λ s. ne (sym s))))
-            (ring_besides_in nodes _ q _ (ring_at q) new c _ p t (λ s. ne (sym s)) free at_head at_last)
+            (ring_besides_in nodes _ q _ (ring_at q) new (index_of c) _ p t (λ s. ne (sym s)) free (head_placed p) at_last)
       ] in
       let size = t.size in
       let heads = table.heads in
-      rings_give new (pushed (lists_of nodes) c p) (omega arith)
-      (ap (λ (n : ℕ). n - 3) size ∙ sym (pushed_size (lists_of nodes) c p)) (λ q.
-      subst (λ (n : ℕ). Ring new (head_of n q) q (list_at (pushed (lists_of nodes) c p) q)) (sym size) (old_rings q))
+      let short = table.short in
+      rings_give new (pushed (lists_of nodes) c p) (omega arith) (omega arith)
+      (ap (λ (n : ℕ). n - 3) size ∙ sym (pushed_size (lists_of nodes) c p)) new_rings
 
-  -- what comes after a head is the first of its list
-  pub front_is : (p : Place) (head : ℕ) → head ≡ head_of (length nodes) p
-      → (if next_at nodes head == head then None else Some (next_at nodes head)) ≡ slice_get (list_at (lists_of nodes) p) 0
-  front_is p head e = subst (λ (h : ℕ). (if next_at nodes h == h then None else Some (next_at nodes h)) ≡ slice_get (list_at (lists_of nodes) p) 0) (sym e)
-      (go (head_of (length nodes) p) (list_at (lists_of nodes) p) (ring_at p).chain (ring_at p).once) where
-        go : (h : ℕ) (xs : List ℕ) → Chain (next_at nodes) (prev_at nodes) h xs h → NoRepeat (h ∷ xs)
-            → (if next_at nodes h == h then None else Some (next_at nodes h)) ≡ slice_get xs 0
-        go h [] chain once = cond-true _ _ _ (eq-eqb _ _ chain.0)
-        go h (x ∷ xs) chain once =
-            cond-false _ _ _ (ne_eqb _ _ (λ s. eqb-false x h (or_parts _ _ once.0).0 (sym chain.0 ∙ s)))
-            ∙ ap (λ (z : ℕ). Some z) chain.0
+  -- what comes after a head is the node of the first of its list
+  pub front_is : (p : Place)
+      → (if next_at nodes (head_of p) == head_of p then None else Some (next_at nodes (head_of p) - 3)) ≡ slice_get (list_at (lists_of nodes) p) 0
+  front_is p = go (head_of p) (list_at (lists_of nodes) p) (ring_at p).chain (ring_at p).once where
+    go : (h : ℕ) (xs : List ℕ) → Chain (next_at nodes) (prev_at nodes) h (indexes xs) h → NoRepeat (h ∷ indexes xs)
+        → (if next_at nodes h == h then None else Some (next_at nodes h - 3)) ≡ slice_get xs 0
+    go h [] chain once = cond-true _ _ _ (eq-eqb _ _ chain.0)
+    go h (x ∷ xs) chain once =
+        cond-false _ _ _ (ne_eqb _ _ (λ s. eqb-false (index_of x) h (or_parts _ _ once.0).0 (sym chain.0 ∙ s)))
+        ∙ ap (λ (z : ℕ). Some (z - 3)) chain.0 ∙ ap (λ (z : ℕ). Some z) (number_back x)
+
+  -- what comes after a head, if it isn't the head, is the node of a number
+  pub next_is : (p : Place) → next_at nodes (head_of p) ≢ head_of p
+      → (c : ℕ) × (next_at nodes (head_of p) ≡ index_of c) × (is_in c (list_at (lists_of nodes) p) ≡ true)
+  next_is p other = go (list_at (lists_of nodes) p) (ring_at p).chain where
+    go : (xs : List ℕ) → Chain (next_at nodes) (prev_at nodes) (head_of p) (indexes xs) (head_of p)
+        → (c : ℕ) × (next_at nodes (head_of p) ≡ index_of c) × (is_in c xs ≡ true)
+    go [] chain = absurd (other chain.0)
+    go (x ∷ xs) chain = (x, chain.0, first_is_in x xs)
 
 -- at most two nodes beside c have other links
 pub few_out : (old new : List Node) (c : ℕ) → TakenOut old new c → ChangesFew 2 c old new
@@ -320,92 +318,84 @@ apart_now items now table seen = subst (λ (w : TheLists). IsApart w.lists) seen
 
 -- what `unlink` and `push_back` need of the table, and what they leave
 module _ (items : List Node) (c : ℕ) (now : TheLists) (table : IsTable items) (seen : record { lists = lists_of items; table = items } ≡ now) (below : c < now.lists.size) where
-  below_here : c < length items - 3
-  below_here = subst (λ (w : TheLists). c < w.lists.size) (sym seen) below
+  pub index_below : index_of c < length items
+  index_below = let here : c < length items - 3 = subst (λ (w : TheLists). c < w.lists.size) (sym seen) below in omega arith
 
-  pub place_here : place_of now.lists c ≡ place_at items c
-  place_here = subst (λ (w : TheLists). place_of w.lists c ≡ place_at items c) seen (place_is items table c below_here)
+  pub index_short : c < 65533
+  index_short = let here = index_below in let short = table.short in omega arith
 
-  pub read_place : (x : Node) → x ≡ get_or items c x → x.place ≡ place_of now.lists c
-  read_place x e =
-      let here = below_here in
-      ap (λ (n : Node). n.place) (get_or_read items c x (omega arith) e free_node) ∙ sym place_here
+  pub place_here : place_of now.lists c ≡ place_at items (index_of c)
+  place_here = subst (λ (w : TheLists). place_of w.lists c ≡ place_at items (index_of c)) seen (place_is items table c)
 
-  pub linked_here : IsSome (place_of now.lists c) → (p : Place) × (place_at items c ≡ Some p)
-  linked_here h =
-      let there = subst (λ (w : TheLists). IsSome (place_of w.lists c)) (sym seen) h in
-      let found = some_place _ there in
-      (found.0, sym (place_is items table c below_here) ∙ found.1)
+  pub read_place : (x : Node) → x ≡ get_or items (index_of c) x → x.place ≡ place_of now.lists c
+  read_place x e = ap (λ (n : Node). n.place) (get_or_read items (index_of c) x index_below e free_node) ∙ sym place_here
 
-  pub free_here : place_of now.lists c ≡ None → place_at items c ≡ None
-  free_here h =
-      let there = subst (λ (w : TheLists). place_of w.lists c ≡ None) (sym seen) h in
-      sym (place_is items table c below_here) ∙ there
+  pub linked_here : IsSome (place_of now.lists c) → (p : Place) × (place_at items (index_of c) ≡ Some p)
+  linked_here h = let found = some_place _ h in (found.0, sym place_here ∙ found.1)
 
-  pub prev_below : IsSome (place_of now.lists c) → prev_at items c < length items
-  prev_below h = let found = linked_here h in placed_below items _ found.0 (neighbours items table c found.0 below_here found.1).0
+  pub free_here : place_of now.lists c ≡ None → place_at items (index_of c) ≡ None
+  free_here h = sym place_here ∙ h
 
-  pub next_below : IsSome (place_of now.lists c) → next_at items c < length items
-  next_below h = let found = linked_here h in placed_below items _ found.0 (neighbours items table c found.0 below_here found.1).1
+  pub prev_below : IsSome (place_of now.lists c) → prev_at items (index_of c) < length items
+  prev_below h = let found = linked_here h in placed_below items _ found.0 (neighbours items table c found.0 found.1).0
 
-  -- a node of a number is no head
-  pub no_head : (head : ℕ) (p : Place) → head ≡ head_of (length items) p → head ≢ c
-  no_head head p at e = head_behind (length items) c p below_here (sym e ∙ at)
+  pub next_below : IsSome (place_of now.lists c) → next_at items (index_of c) < length items
+  next_below h = let found = linked_here h in placed_below items _ found.0 (neighbours items table c found.0 found.1).1
 
   -- the table after `unlink` has written it back
-  pub unlinks : (lent new : List Node) (len : ℕ) → lent ≡ items → length lent ≡ len → length new ≡ length lent → TakenOut lent new c
-      → IsSome (place_of now.lists c) → Left 2 c now (take len (new ++ drop (length new) items)) (unlinked now.lists c)
-  unlinks lent new len same long kept t h =
+  pub unlinks : (lent new : List Node) (len k : ℕ) → k ≡ index_of c → lent ≡ items → length lent ≡ len → length new ≡ length lent
+      → TakenOut lent new k → IsSome (place_of now.lists c)
+      → Left 2 (index_of c) now (take len (new ++ drop (length new) items)) (unlinked now.lists c)
+  unlinks lent new len k at same long kept t h =
       let whole = written len items new (ap length (sym same) ∙ long) (kept ∙ ap length same) in
-      let t_here = subst (λ (xs : List Node). TakenOut xs new c) same t in
+      let t_here = subst (λ (n : ℕ). TakenOut items new n) at (subst (λ (xs : List Node). TakenOut xs new k) same t) in
       let found = linked_here h in
-      let out = table_out items table new c found.0 t_here below_here found.1 in
-      subst (λ (xs : List Node). Left 2 c now xs (unlinked now.lists c)) (sym whole) record {
+      let out = table_out items table new c found.0 t_here found.1 in
+      subst (λ (xs : List Node). Left 2 (index_of c) now xs (unlinked now.lists c)) (sym whole) record {
         table = out.0;
         lists = out.1 ∙ ap (λ (w : TheLists). unlinked w.lists c) seen;
-        few = subst (λ (w : TheLists). ChangesFew 2 c w.table new) seen (few_out items new c t_here);
+        few = subst (λ (w : TheLists). ChangesFew 2 (index_of c) w.table new) seen (few_out items new (index_of c) t_here);
         apart = apart_lists new out.0;
       }
 
   -- the table after `push_back` has written it back
-  pub pushes : (lent new : List Node) (len head : ℕ) (p : Place) → head ≡ head_of (length items) p → lent ≡ items → length lent ≡ len
-      → length new ≡ length lent → PutBefore lent new c head p
-      → place_of now.lists c ≡ None → Left 2 c now (take len (new ++ drop (length new) items)) (pushed now.lists c p)
-  pushes lent new len head p e same long kept t h =
+  pub pushes : (lent new : List Node) (len k head : ℕ) (p : Place) → k ≡ index_of c → head ≡ head_of p → lent ≡ items
+      → length lent ≡ len → length new ≡ length lent → PutBefore lent new k head p → place_of now.lists c ≡ None
+      → Left 2 (index_of c) now (take len (new ++ drop (length new) items)) (pushed now.lists c p)
+  pushes lent new len k head p at e same long kept t h =
       let whole = written len items new (ap length (sym same) ∙ long) (kept ∙ ap length same) in
-      let t_here = subst (λ (xs : List Node). PutBefore xs new c head p) same t in
-      let t_head = subst (λ (k : ℕ). PutBefore items new c k p) e t_here in
+      let t_here = subst (λ (xs : List Node). PutBefore xs new k head p) same t in
+      let t_head = subst (λ (n : ℕ). PutBefore items new n (head_of p) p) at (subst (λ (n : ℕ). PutBefore items new k n p) e t_here) in
       let come = table_in items table new c p t_head (free_here h) in
-      subst (λ (xs : List Node). Left 2 c now xs (pushed now.lists c p)) (sym whole) record {
+      subst (λ (xs : List Node). Left 2 (index_of c) now xs (pushed now.lists c p)) (sym whole) record {
         table = come.0;
         lists = come.1 ∙ ap (λ (w : TheLists). pushed w.lists c p) seen;
-        few = subst (λ (w : TheLists). ChangesFew 2 c w.table new) seen (few_in items new c head p t_here);
+        few = subst (λ (w : TheLists). ChangesFew 2 (index_of c) w.table new) seen (few_in items new (index_of c) (head_of p) p t_head);
         apart = apart_lists new come.0;
       }
 
   -- the table after `move_to_back` has written it back
-  pub moves : (lent new : List Node) (len head : ℕ) (p : Place) → head ≡ head_of (length items) p → lent ≡ items → length lent ≡ len
-      → length new ≡ length lent
-      → (between : List Node) × Joined lent between (prev_at lent c) (next_at lent c) × PutBefore between new c head p
-      → IsSome (place_of now.lists c) → Left 4 c now (take len (new ++ drop (length new) items)) (moved now.lists c p)
-  moves lent new len head p e same long kept m h =
+  pub moves : (lent new : List Node) (len k head : ℕ) (p : Place) → k ≡ index_of c → head ≡ head_of p → lent ≡ items
+      → length lent ≡ len → length new ≡ length lent
+      → (between : List Node) × Joined lent between (prev_at lent k) (next_at lent k) × PutBefore between new k head p
+      → IsSome (place_of now.lists c)
+      → Left 4 (index_of c) now (take len (new ++ drop (length new) items)) (moved now.lists c p)
+  moves lent new len k head p at e same long kept m h =
       let whole = written len items new (ap length (sym same) ∙ long) (kept ∙ ap length same) in
-      let here = below_here in
-      let apart : c ≢ head_of (length items) p = head_behind (length items) c p here in
-      let m_here = subst (λ (xs : List Node). (between : List Node) × Joined xs between (prev_at xs c) (next_at xs c) × PutBefore between new c head p) same m in
-      let m_head = subst (λ (k : ℕ). (between : List Node) × Joined items between (prev_at items c) (next_at items c) × PutBefore between new c k p) e m_here in
-      let size = m_head.1.size in
-      let steps = by_two items m_head.0 new c (head_of (length items) p) p (omega arith) (λ s. apart (sym s)) m_head.1 m_head.2 in
-      let free = set m_head.0 c free_node in
+      let m_here = subst (λ (xs : List Node). (between : List Node) × Joined xs between (prev_at xs k) (next_at xs k) × PutBefore between new k head p) same m in
+      let m_head = subst (λ (n : ℕ). (between : List Node) × Joined items between (prev_at items k) (next_at items k) × PutBefore between new k n p) e m_here in
+      let m_at = subst (λ (n : ℕ). (between : List Node) × Joined items between (prev_at items n) (next_at items n) × PutBefore between new n (head_of p) p) at m_head in
+      let size = m_at.1.size in
+      let there = index_below in
+      let steps = by_two items m_at.0 new (index_of c) (head_of p) p (omega arith) (λ s. head_before c p (sym s)) m_at.1 m_at.2 in
+      let free = set m_at.0 (index_of c) free_node in
       let found = linked_here h in
-      let out = table_out items table free c found.0 steps.0 here found.1 in
-      let same_size : length free ≡ length items = steps.0.size in
-      let in_free = subst (λ (n : ℕ). PutBefore free new c (head_of n p) p) (sym same_size) steps.1 in
-      let come = table_in free out.0 new c p in_free (steps.0.places c ∙ cond-true _ _ _ (eq-eqb c c refl)) in
-      subst (λ (xs : List Node). Left 4 c now xs (moved now.lists c p)) (sym whole) record {
+      let out = table_out items table free c found.0 steps.0 found.1 in
+      let come = table_in free out.0 new c p steps.1 (steps.0.places (index_of c) ∙ cond-true _ _ _ (eq-eqb (index_of c) (index_of c) refl)) in
+      subst (λ (xs : List Node). Left 4 (index_of c) now xs (moved now.lists c p)) (sym whole) record {
         table = come.0;
         lists = come.1 ∙ ap (λ (w : ThreeLists). pushed w c p) (out.1 ∙ ap (λ (w : TheLists). unlinked w.lists c) seen);
-        few = subst (λ (w : TheLists). ChangesFew 4 c w.table new) seen (few_both 2 2 c items free new (few_out items free c steps.0) (few_in free new c _ p steps.1));
+        few = subst (λ (w : TheLists). ChangesFew 4 (index_of c) w.table new) seen (few_both 2 2 (index_of c) items free new (few_out items free (index_of c) steps.0) (few_in free new (index_of c) _ p steps.1));
         apart = apart_lists new come.0;
       }
 
@@ -494,14 +484,14 @@ ring_alone nodes head p here others = record {
 }
 
 -- a table of free nodes in which three heads have been written
-pub first_is_table : (items : List Node) (len : ℕ) (a b d : Node) → 3 ≤ len → items ≡ replicate len free_node
-    → a ≡ record { prev = len - 3; next = len - 3; place = Some Idle } → b ≡ record { prev = len - 2; next = len - 2; place = Some Polled }
-    → d ≡ record { prev = len - 1; next = len - 1; place = Some Pending }
-    → IsTable (set (set (set items (len - 3) a) (len - 2) b) (len - 1) d)
+pub first_is_table : (items : List Node) (len : ℕ) (a b d : Node) → 3 ≤ len → len ≤ 65536 → items ≡ replicate len free_node
+    → a ≡ record { prev = 0; next = 0; place = Some Idle } → b ≡ record { prev = 1; next = 1; place = Some Polled }
+    → d ≡ record { prev = 2; next = 2; place = Some Pending }
+    → IsTable (set (set (set items 0 a) 1 b) 2 d)
 unfolding head_alone
-first_is_table items len a b d heads free is_a is_b is_d = (rings_give nodes w heads_there size rings).0 where
+first_is_table items len a b d heads short free is_a is_b is_d = (rings_give nodes w heads_there short_there size rings).0 where
   nodes : List Node
-  nodes = set (set (set items (len - 3) a) (len - 2) b) (len - 1) d
+  nodes = set (set (set items 0 a) 1 b) 2 d
 
   w : ThreeLists
   w = record { size = len - 3; idle = []; polled = []; pending = [] }
@@ -509,34 +499,37 @@ first_is_table items len a b d heads free is_a is_b is_d = (rings_give nodes w h
   long : length items ≡ len
   long = ap length free ∙ length-replicate len free_node
 
-  long_1 : length (set items (len - 3) a) ≡ len
-  long_1 = length-set items (len - 3) a ∙ long
+  long_1 : length (set items 0 a) ≡ len
+  long_1 = length-set items 0 a ∙ long
 
-  long_2 : length (set (set items (len - 3) a) (len - 2) b) ≡ len
-  long_2 = length-set (set items (len - 3) a) (len - 2) b ∙ long_1
+  long_2 : length (set (set items 0 a) 1 b) ≡ len
+  long_2 = length-set (set items 0 a) 1 b ∙ long_1
 
   long_3 : length nodes ≡ len
-  long_3 = length-set (set (set items (len - 3) a) (len - 2) b) (len - 1) d ∙ long_2
+  long_3 = length-set (set (set items 0 a) 1 b) 2 d ∙ long_2
 
   heads_there : 3 ≤ length nodes
   heads_there = omega (arith, long_3)
 
+  short_there : length nodes ≤ 65536
+  short_there = omega (arith, long_3)
+
   size : length nodes - 3 ≡ w.size
   size = ap (λ (n : ℕ). n - 3) long_3
 
-  at_d : node_at nodes (len - 1) ≡ d
-  at_d = get_or-set_same (set (set items (len - 3) a) (len - 2) b) (len - 1) d free_node (omega (arith, long_2))
+  at_d : node_at nodes 2 ≡ d
+  at_d = get_or-set_same (set (set items 0 a) 1 b) 2 d free_node (omega (arith, long_2))
 
-  at_b : node_at nodes (len - 2) ≡ b
+  at_b : node_at nodes 1 ≡ b
   at_b =
-      get_or-set_other (set (set items (len - 3) a) (len - 2) b) (len - 1) (len - 2) d free_node (omega arith)
-      ∙ get_or-set_same (set items (len - 3) a) (len - 2) b free_node (omega (arith, long_1))
+      get_or-set_other (set (set items 0 a) 1 b) 2 1 d free_node (omega arith)
+      ∙ get_or-set_same (set items 0 a) 1 b free_node (omega (arith, long_1))
 
-  at_a : node_at nodes (len - 3) ≡ a
+  at_a : node_at nodes 0 ≡ a
   at_a =
-      get_or-set_other (set (set items (len - 3) a) (len - 2) b) (len - 1) (len - 3) d free_node (omega arith)
-      ∙ get_or-set_other (set items (len - 3) a) (len - 2) (len - 3) b free_node (omega arith)
-      ∙ get_or-set_same items (len - 3) a free_node (omega (arith, long))
+      get_or-set_other (set (set items 0 a) 1 b) 2 0 d free_node (omega arith)
+      ∙ get_or-set_other (set items 0 a) 1 0 b free_node (omega arith)
+      ∙ get_or-set_same items 0 a free_node (omega (arith, long))
 
   free_at : (k : ℕ) → node_at items k ≡ free_node
   free_at k = elim (cases_lt k len) [
@@ -544,58 +537,90 @@ first_is_table items len a b d heads free is_a is_b is_d = (rings_give nodes w h
     | inr past ↦ get_or_past items k free_node (omega (arith, long))
   ]
 
-  elsewhere : (k : ℕ) → k ≢ len - 3 → k ≢ len - 2 → k ≢ len - 1 → place_at nodes k ≡ None
+  elsewhere : (k : ℕ) → k ≢ 0 → k ≢ 1 → k ≢ 2 → place_at nodes k ≡ None
   elsewhere k not_a not_b not_d = ap (λ (n : Node). n.place)
-      (get_or-set_other (set (set items (len - 3) a) (len - 2) b) (len - 1) k d free_node not_d
-      ∙ get_or-set_other (set items (len - 3) a) (len - 2) k b free_node not_b
-      ∙ get_or-set_other items (len - 3) k a free_node not_a ∙ free_at k)
+      (get_or-set_other (set (set items 0 a) 1 b) 2 k d free_node not_d
+      ∙ get_or-set_other (set items 0 a) 1 k b free_node not_b
+      ∙ get_or-set_other items 0 k a free_node not_a ∙ free_at k)
 
-  place_a : (k : ℕ) → k ≡ len - 3 → place_at nodes k ≡ Some Idle
+  place_a : (k : ℕ) → k ≡ 0 → place_at nodes k ≡ Some Idle
   place_a k e = ap (place_at nodes) e ∙ ap (λ (n : Node). n.place) (at_a ∙ is_a)
 
-  place_b : (k : ℕ) → k ≡ len - 2 → place_at nodes k ≡ Some Polled
+  place_b : (k : ℕ) → k ≡ 1 → place_at nodes k ≡ Some Polled
   place_b k e = ap (place_at nodes) e ∙ ap (λ (n : Node). n.place) (at_b ∙ is_b)
 
-  place_d : (k : ℕ) → k ≡ len - 1 → place_at nodes k ≡ Some Pending
+  place_d : (k : ℕ) → k ≡ 2 → place_at nodes k ≡ Some Pending
   place_d k e = ap (place_at nodes) e ∙ ap (λ (n : Node). n.place) (at_d ∙ is_d)
 
-  only : (p : Place) (k : ℕ) → k ≢ head_of len p → place_at nodes k ≢ Some p
-  only p k ne h = elim (cases_eq k (len - 3)) [
+  only : (p : Place) (k : ℕ) → k ≢ head_of p → place_at nodes k ≢ Some p
+  only p k ne h = elim (cases_eq k 0) [
     | inl e ↦ other_head Idle (place_a k e) e
-    | inr not_a ↦ elim (cases_eq k (len - 2)) [
+    | inr not_a ↦ elim (cases_eq k 1) [
       | inl e ↦ other_head Polled (place_b k e) e
-      | inr not_b ↦ elim (cases_eq k (len - 1)) [
+      | inr not_b ↦ elim (cases_eq k 2) [
         | inl e ↦ other_head Pending (place_d k e) e
         | inr not_d ↦ let none = elsewhere k not_a not_b not_d in cc (none, h)
       ]
     ]
   ] where
-    other_head : (q : Place) → place_at nodes k ≡ Some q → k ≡ head_of len q → ⊥
-    other_head q there at = let same : q ≡ p = cc (there, h) in ne (at ∙ ap (head_of len) same)
+    other_head : (q : Place) → place_at nodes k ≡ Some q → k ≡ head_of q → ⊥
+    other_head q there at = let same : q ≡ p = cc (there, h) in ne (at ∙ ap (head_of) same)
 
-  alone : (p : Place) → Ring nodes (head_of len p) p []
-  alone Idle = ring_alone nodes (len - 3) Idle (at_a ∙ is_a) (only Idle)
-  alone Polled = ring_alone nodes (len - 2) Polled (at_b ∙ is_b) (only Polled)
-  alone Pending = ring_alone nodes (len - 1) Pending (at_d ∙ is_d) (only Pending)
+  alone : (p : Place) → Ring nodes (head_of p) p []
+  alone Idle = ring_alone nodes 0 Idle (at_a ∙ is_a) (only Idle)
+  alone Polled = ring_alone nodes 1 Polled (at_b ∙ is_b) (only Polled)
+  alone Pending = ring_alone nodes 2 Pending (at_d ∙ is_d) (only Pending)
 
-  rings : (p : Place) → Ring nodes (head_of (length nodes) p) p (list_at w p)
-  rings Idle = subst (λ (n : ℕ). Ring nodes (head_of n Idle) Idle []) (sym long_3) (alone Idle)
-  rings Polled = subst (λ (n : ℕ). Ring nodes (head_of n Polled) Polled []) (sym long_3) (alone Polled)
-  rings Pending = subst (λ (n : ℕ). Ring nodes (head_of n Pending) Pending []) (sym long_3) (alone Pending)
+  rings : (p : Place) → Ring nodes (head_of p) p (indexes (list_at w p))
+  rings Idle = alone Idle
+  rings Polled = alone Polled
+  rings Pending = alone Pending
 
--- what comes after a head, if it isn't the head, is a node
-pub front_within : (nodes : List Node) (now : TheLists) (p : Place) (head len : ℕ) (first : Node) → IsTable nodes
-    → record { lists = lists_of nodes; table = nodes } ≡ now
-    → head ≡ head_of len p → len ≡ length nodes → first ≡ get_or nodes head first → first.next ≢ head
-    → first.next < now.lists.size
-front_within nodes now p head len first table seen at long read other =
-    let here : head ≡ head_of (length nodes) p = at ∙ ap (λ (n : ℕ). head_of n p) long in
+-- what comes after a head, if it isn't the head, is the node of a number
+pub front_next : (nodes : List Node) (p : Place) (head : ℕ) (first : Node) → IsTable nodes
+    → head ≡ head_of p → first ≡ get_or nodes head first → first.next ≡ next_at nodes (head_of p)
+front_next nodes p head first table at read =
     let heads = table.heads in
-    let below : head < length nodes = subst (λ (h : ℕ). h < length nodes) (sym here) (head_within (length nodes) p heads) in
-    let next : first.next ≡ next_at nodes head = ap (λ (n : Node). n.next) (get_or_read nodes head first below read free_node) in
-    let told = sym (front_is nodes table p head here) ∙ cond-false _ _ _ (ne_eqb _ _ (λ e. other (next ∙ e))) in
-    let within = node_below nodes table (next_at nodes head) p (front_in _ _ told) in
-    subst (λ (w : TheLists). first.next < w.lists.size) seen (subst (λ (k : ℕ). k < length nodes - 3) (sym next) within)
+    let here = head_within (length nodes) p heads in
+    let below : head < length nodes = subst (λ (h : ℕ). h < length nodes) (sym at) here in
+    ap (λ (n : Node). n.next) (get_or_read nodes head first below read free_node) ∙ ap (next_at nodes) at
+
+pub front_index : (nodes : List Node) (p : Place) (head : ℕ) (first : Node) → IsTable nodes
+    → head ≡ head_of p → first ≡ get_or nodes head first → first.next ≢ head → 3 ≤ first.next
+front_index nodes p head first table at read other =
+    let next = front_next nodes p head first table at read in
+    let found = next_is nodes table p (λ e. other (next ∙ e ∙ sym at)) in
+    let told = found.1 in
+    omega (arith, next)
+
+pub front_within : (nodes : List Node) (now : TheLists) (p : Place) (head : ℕ) (first : Node) → IsTable nodes
+    → record { lists = lists_of nodes; table = nodes } ≡ now
+    → head ≡ head_of p → first ≡ get_or nodes head first → first.next ≢ head → first.next - 3 < now.lists.size
+front_within nodes now p head first table seen at read other =
+    let next = front_next nodes p head first table at read in
+    let found = next_is nodes table p (λ e. other (next ∙ e ∙ sym at)) in
+    let told = found.1 in
+    let within : found.0 < length nodes - 3 = node_below nodes table found.0 p found.2 in
+    let here : first.next - 3 < length nodes - 3 = omega (arith, next) in
+    subst (λ (w : TheLists). first.next - 3 < w.lists.size) seen here
+
+pub front_is_none : (nodes : List Node) (now : TheLists) (p : Place) (head : ℕ) (first : Node) → IsTable nodes
+    → record { lists = lists_of nodes; table = nodes } ≡ now
+    → head ≡ head_of p → first ≡ get_or nodes head first → first.next ≡ head → None ≡ slice_get (list_at now.lists p) 0
+front_is_none nodes now p head first table seen at read none =
+    let next = front_next nodes p head first table at read in
+    subst (λ (w : TheLists). None ≡ slice_get (list_at w.lists p) 0) seen
+    (sym (cond-true _ _ _ (eq-eqb _ _ (sym next ∙ none ∙ at))) ∙ front_is nodes table p)
+
+pub front_is_some : (nodes : List Node) (now : TheLists) (p : Place) (head : ℕ) (first : Node) → IsTable nodes
+    → record { lists = lists_of nodes; table = nodes } ≡ now
+    → head ≡ head_of p → first ≡ get_or nodes head first → first.next ≢ head
+    → Some (first.next - 3) ≡ slice_get (list_at now.lists p) 0
+front_is_some nodes now p head first table seen at read other =
+    let next = front_next nodes p head first table at read in
+    subst (λ (w : TheLists). Some (first.next - 3) ≡ slice_get (list_at w.lists p) 0) seen
+    (ap (λ (n : ℕ). Some (n - 3)) next
+    ∙ sym (cond-false _ _ _ (ne_eqb _ _ (λ e. other (next ∙ e ∙ sym at)))) ∙ front_is nodes table p)
 
 -- behind what leads to the end of a chain nothing comes
 nothing_behind : (next prev : ℕ → ℕ) (a b : ℕ) (xs : List ℕ) → Chain next prev a xs b → is_in b xs ≡ false → next a ≡ b → xs ≡ []
@@ -625,7 +650,7 @@ last_stays next prev a b c (x ∷ xs) chain once out i e =
 
 -- the list of this place ends in c: to move c to its back changes nothing
 last_moved : (nodes : List Node) (table : IsTable nodes) (c : ℕ) (p : Place) → is_in c (list_at (lists_of nodes) p) ≡ true
-    → next_at nodes c ≡ head_of (length nodes) p → lists_of nodes ≡ moved (lists_of nodes) c p
+    → next_at nodes (index_of c) ≡ head_of p → lists_of nodes ≡ moved (lists_of nodes) c p
 last_moved nodes table c p i e = same_lists w (moved w c p) (sym (pushed_size (unlinked w c) c p)) at where
   w : ThreeLists
   w = lists_of nodes
@@ -633,13 +658,24 @@ last_moved nodes table c p i e = same_lists w (moved w c p) (sym (pushed_size (u
   apart : IsApart w
   apart = apart_lists nodes table
 
-  ring : Ring nodes (head_of (length nodes) p) p (list_at w p)
+  ring : Ring nodes (head_of p) p (indexes (list_at w p))
   ring = ring_at nodes table p
+
+  there : is_in (index_of c) (indexes (list_at w p)) ≡ true
+  there = is_in-indexes c (list_at w p) ∙ i
+
+  -- with numbers in place of indexes
+  same : without c (list_at w p) ++ c ∷ [] ≡ list_at w p
+  same =
+      sym (numbers-indexes (without c (list_at w p) ++ c ∷ []))
+      ∙ ap (λ (ks : List ℕ). numbers ks) (sym (indexes_push (without c (list_at w p)) c)
+      ∙ ap (λ (ks : List ℕ). ks ++ index_of c ∷ []) (sym (without-indexes c (list_at w p)))
+      ∙ last_stays (next_at nodes) (prev_at nodes) _ _ (index_of c) (indexes (list_at w p)) ring.chain ring.once.1 ring.once.0 there e)
+      ∙ numbers-indexes (list_at w p)
 
   here : list_at w p ≡ list_at (moved w c p) p
   here =
-      sym (last_stays (next_at nodes) (prev_at nodes) _ _ c (list_at w p) ring.chain ring.once.1 ring.once.0 i e)
-      ∙ ap (λ (ys : List ℕ). ys ++ c ∷ []) (sym (unlinked_list w c p)) ∙ sym (pushed_this (unlinked w c) c p)
+      sym same ∙ ap (λ (ys : List ℕ). ys ++ c ∷ []) (sym (unlinked_list w c p)) ∙ sym (pushed_this (unlinked w c) c p)
 
   missing : (q : Place) → q ≢ p → is_in c (list_at w q) ≡ false
   missing q ne = elim (cases_Bool (is_in c (list_at w q))) [
@@ -654,19 +690,16 @@ last_moved nodes table c p i e = same_lists w (moved w c p) (sym (pushed_size (u
   ]
 
 -- `move_to_back` of what leads to the head of its place
-pub moves_last : (items : List Node) (now : TheLists) (c len head : ℕ) (p : Place) (x : Node) → IsTable items
+pub moves_last : (items : List Node) (now : TheLists) (c head : ℕ) (p : Place) (x : Node) → IsTable items
     → record { lists = lists_of items; table = items } ≡ now → c < now.lists.size → IsSome (place_of now.lists c)
-    → head ≡ head_of len p → len ≡ length items → x ≡ get_or items c x → x.next ≡ head → now.lists ≡ moved now.lists c p
-moves_last items now c len head p x table seen below linked at long read next =
-    let here = below_here items c now table seen below in
+    → head ≡ head_of p → x ≡ get_or items (index_of c) x → x.next ≡ head → now.lists ≡ moved now.lists c p
+moves_last items now c head p x table seen below linked at read next =
     let found = linked_here items c now table seen below linked in
-    let to_head : next_at items c ≡ head_of (length items) p =
-    ap (λ (n : Node). n.next) (sym (get_or_read items c x (omega arith) read free_node)) ∙ next ∙ at
-    ∙ ap (λ (n : ℕ). head_of n p) long in
-    let near : place_at items (next_at items c) ≡ Some found.0 = (neighbours items table c found.0 here found.1).1 in
-    let at_head : place_at items (head_of (length items) p) ≡ Some p =
-    (ring_at items table p).placed _ (first_is_in (head_of (length items) p) (list_at (lists_of items) p)) in
-    let there : place_at items (head_of (length items) p) ≡ Some found.0 = subst (λ (k : ℕ). place_at items k ≡ Some found.0) to_head near in
+    let to_head : next_at items (index_of c) ≡ head_of p =
+    ap (λ (n : Node). n.next) (sym (get_or_read items (index_of c) x (index_below items c now table seen below) read free_node)) ∙ next ∙ at in
+    let near : place_at items (next_at items (index_of c)) ≡ Some found.0 = (neighbours items table c found.0 found.1).1 in
+    let at_head : place_at items (head_of p) ≡ Some p = head_placed items table p in
+    let there : place_at items (head_of p) ≡ Some found.0 = subst (λ (k : ℕ). place_at items k ≡ Some found.0) to_head near in
     let same : found.0 ≡ p = cc (there, at_head) in
-    let i = listed_at items table c p here (found.1 ∙ ap (λ (q : Place). Some q) same) in
+    let i = listed_at items table c p (found.1 ∙ ap (λ (q : Place). Some q) same) in
     subst (λ (w : TheLists). w.lists ≡ moved w.lists c p) seen (last_moved items table c p i to_head)

@@ -1,5 +1,5 @@
 -- How one table of nodes holds three lists.
-use Rattle.std.specs.Prelude.{ℕ, ◌≡◌, ◌≢◌, ◌-◌, ◌≤◌, ◌==◌, true, false, if◌then◌else◌, List, [], ◌∷◌, length, zero, suc, Option, Some, None, slice_index_or}
+use Rattle.std.specs.Prelude.{ℕ, ◌≡◌, ◌≢◌, ◌+◌, ◌-◌, ◌≤◌, ◌==◌, true, false, if◌then◌else◌, List, [], ◌∷◌, length, map, zero, suc, Option, Some, None, slice_index_or}
 use Rattle.fl_lists.specs.declared.place.Place.{Place}
 use Rattle.fl_lists.specs.declared.place.Place.TheVariants.{Idle, Polled, Pending}
 use Rattle.fl_lists.specs.declared.node.Node.{Node}
@@ -42,17 +42,28 @@ pub record PutBefore (old new : List Node) (at head : ℕ) (place : Place) : Typ
   pub places : (k : ℕ) → place_at new k ≡ (if k == at then Some place else place_at old k)
   pub size : length new ≡ length old
 
--- beside `moved`, at most `most` nodes or heads differ
+-- beside the node at index `moved`, at most `most` nodes or heads differ
 pub record ChangesFew (most moved : ℕ) (old new : List Node) : Type 0 where
   pub changed : List ℕ
   pub few : length changed ≤ most
   pub others : (k : ℕ) → k ≢ moved → is_in k changed ≡ false → node_at new k ≡ node_at old k
 
--- the last three nodes of the table are the heads of the three lists
-abbrev pub head_of : ℕ → Place → ℕ
-head_of len Idle = len - 3
-head_of len Polled = len - 2
-head_of len Pending = len - 1
+-- the first three nodes of the table are the heads of the three lists
+abbrev pub head_of : Place → ℕ
+head_of Idle = 0
+head_of Polled = 1
+head_of Pending = 2
+
+-- and behind them stand the nodes of the numbers
+abbrev pub index_of : ℕ → ℕ
+index_of c = c + 3
+
+abbrev pub indexes : List ℕ → List ℕ
+indexes xs = map index_of xs
+
+-- the numbers whose nodes stand at these indexes
+abbrev pub numbers : List ℕ → List ℕ
+numbers ks = map (λ k. k - 3) ks
 
 -- `next` leads from a over the list to b, and `prev` leads back
 abbrev pub Chain : (ℕ → ℕ) → (ℕ → ℕ) → ℕ → List ℕ → ℕ → Type 0
@@ -73,8 +84,7 @@ walk next head (suc steps) a = if a == head then [] else a ∷ walk next head st
 
 -- the list in this place: from the first node on, by `next`
 abbrev pub list_from : List Node → Place → List ℕ
-list_from nodes place =
-    let head = head_of (length nodes) place in walk (next_at nodes) head (length nodes) (next_at nodes head)
+list_from nodes place = numbers (walk (next_at nodes) (head_of place) (length nodes) (next_at nodes (head_of place)))
 
 abbrev pub lists_of : List Node → ThreeLists
 lists_of nodes = record {
@@ -84,10 +94,11 @@ lists_of nodes = record {
   pending = list_from nodes Pending;
 }
 
--- the table holds three heads, and each list is a ring
+-- the table holds three heads, its indexes have 16 bits, and each list is a ring
 pub record IsTable (nodes : List Node) : Type 0 where
   pub heads : 3 ≤ length nodes
-  pub ring : (place : Place) → Ring nodes (head_of (length nodes) place) place (list_from nodes place)
+  pub short : length nodes ≤ 65536
+  pub ring : (place : Place) → Ring nodes (head_of place) place (indexes (list_from nodes place))
 
 -- what callers see of a `Lists`: its three lists, and the table that holds them
 pub record TheLists : Type 0 where
