@@ -1,5 +1,5 @@
 -- Code without loops, instruction by instruction.
-use Rattle.std.proofs.Common.{◌≡◌, ◌≢◌, ℕ, ◌+◌, ◌%◌, ◌<◌, ◌≤◌, inl, true, false, List, [], ◌∷◌, ◌++◌, take, drop, length, slice_get, Some, None, refl, sym, ◌∙◌, ap, subst, arith}
+use Rattle.std.proofs.Common.{◌≡◌, ◌≢◌, ℕ, ◌+◌, ◌-◌, ◌%◌, ◌<◌, ◌≤◌, inl, true, false, List, [], ◌∷◌, ◌++◌, take, drop, length, slice_get, Some, None, refl, sym, ◌∙◌, ap, subst, arith}
 use Rattle.std.specs.Option.{option_map}
 use Rattle.fl_base.specs.declared.fragment.Frag.{Frag}
 use Rattle.fl_base.specs.Control.{control_word, message_of, body}
@@ -160,16 +160,16 @@ plain_step ops taken taken2 all buffer place count count2 used op f x fed there 
 -- ---- where a fragment begins
 
 -- a run that has got no byte of a number
-pub plain_begin : (ops : List Op) (taken : List ℕ) (c : Intake) (all left : List ℕ) → IsFed ops taken c all left → c.have ≡ 0 → IsFed ops taken (plain_behind c c.place c.count 0) all left
-plain_begin ops taken c all left fed idle =
+pub plain_begin : (ops : List Op) (taken : List ℕ) (c : Intake) (phase : ℕ) (all left : List ℕ) → IsFed ops taken c all left → c.have ≡ 0 → phase % 8 ≡ c.phase % 8
+    → IsFed ops taken (plain_behind c c.place c.count phase) all left
+plain_begin ops taken c phase all left fed idle same =
     let a = fed.at in
-    let same = a.phase in
     record {
       prefix = fed.prefix;
       at = record {
         done = a.done;
         stance = a.stance;
-        phase = omega (arith, same);
+        phase = same ∙ a.phase;
         reach = a.reach;
         waiting = inl (refl, refl);
         bytes_are = a.bytes_are ∙ ap (λ (w : ℕ). a.done ++ number_bytes w c.value) idle;
@@ -178,14 +178,18 @@ plain_begin ops taken c all left fed idle =
       joined = fed.joined;
     }
 
-pub plain_on : (ops : List Op) (taken taken2 all buffer : List ℕ) (c : Intake) (place count count2 used : ℕ) (op : Op) (f : Field) (x : ℕ)
-    → IsFed ops taken (plain_behind c place count used) all (drop used (take 56 buffer)) → slice_get ops place ≡ Some op → is_plain op ≡ true
+pub plain_on : (ops : List Op) (taken taken2 all buffer : List ℕ) (c : Intake) (place count count2 used phase : ℕ) (op : Op) (f : Field) (x : ℕ)
+    → IsFed ops taken (plain_behind c place count phase) all (drop used (take 56 buffer)) → slice_get ops place ≡ Some op → is_plain op ≡ true
     → ((at : ℕ) → 0 % 8 ≡ at % 8 → field_view f ≡ taken_field op at) → HasNumber f buffer used x → taken2 ≡ taken ++ told f.told x
-    → IsFed ops taken2 (plain_behind c (place + 1) count2 (used + f.width)) all (drop (used + f.width) (take 56 buffer))
-plain_on ops taken taken2 all buffer c place count count2 used op f x fed there plain view number put =
-    let made = plain_over ops taken taken2 all buffer (plain_behind c place count used) count2 used op f x fed refl refl there plain view number put in
-    let phase : ((c.phase % 8 + used) % 8 % 8 + f.width) % 8 ≡ (c.phase % 8 + (used + f.width)) % 8 = omega arith in
-    subst (λ (p : ℕ). IsFed ops taken2 (record (plain_behind c (place + 1) count2 0) { phase = p }) all (drop (used + f.width) (take 56 buffer))) phase made
+    → IsFed ops taken2 (plain_behind c (place + 1) count2 ((phase % 8 + (used + f.width - used)) % 8)) all (drop (used + f.width) (take 56 buffer))
+plain_on ops taken taken2 all buffer c place count count2 used phase op f x fed there plain view number put =
+    let made = plain_over ops taken taken2 all buffer (plain_behind c place count phase) count2 used op f x fed refl refl there plain view number put in
+    let same : (phase % 8 + f.width) % 8 ≡ (phase % 8 + (used + f.width - used)) % 8 = omega arith in
+    subst (λ (p : ℕ). IsFed ops taken2 (plain_behind c (place + 1) count2 p) all (drop (used + f.width) (take 56 buffer))) same made
+
+-- further on by more bytes
+pub phase_further : (phase from used end : ℕ) → from ≤ used → used ≤ end → ((phase % 8 + (used - from)) % 8 % 8 + (end - used)) % 8 ≡ (phase % 8 + (end - from)) % 8
+phase_further phase from used end first second = omega (arith, first, second)
 
 pub plain_wide : (ops : List Op) (taken : List ℕ) (c : Intake) (all left : List ℕ) (op : Op) (f : Field) → slice_get ops c.place ≡ Some op → is_plain op ≡ true → IsFed ops taken c all left
     → ((at : ℕ) → 0 % 8 ≡ at % 8 → field_view f ≡ taken_field op at) → 0 < f.width

@@ -1,6 +1,6 @@
 -- Bytes taken by a loop over one byte, several at once.
 use Rattle.std.proofs.Common.{◌≡◌, ◌≢◌, Bool, ℕ, zero, suc, ◌+◌, ◌-◌, ◌%◌, ◌^◌, ◌<◌, ◌≤◌, List, [], ◌∷◌, ◌++◌, length, take, drop, get_or, get_or-set_same, slice_set, refl, sym, ◌∙◌, ap, subst, arith, append_assoc}
-use Rattle.std.proofs.lemmas.List.{append-nil, length-set, length-drop, length-take-le, take_more, take_more_set, get_or-drop}
+use Rattle.std.proofs.lemmas.List.{append-nil, length-set, length-drop, length-take-le, take_more, take_more_set, get_or-drop, set-get_or}
 use Rattle.fl_stub.specs.declared.op.Op.{Op}
 use Rattle.fl_stub.specs.Meaning.{number_bytes}
 use Rattle.fl_stub.specs.Rests.{told}
@@ -8,7 +8,7 @@ use Rattle.fl_machine.specs.declared.cursor.Loop.{Loop}
 use Rattle.fl_machine.specs.declared.intake.Field.{Field}
 use Rattle.fl_machine.specs.declared.intake.Intake.{Intake}
 use Rattle.fl_machine.specs.Cursors.{no_loop}
-use Rattle.fl_machine.specs.Taking.{IsFed, HasField, Grows, IsRunOf, AreWithin, inner_loop, after_bytes}
+use Rattle.fl_machine.specs.Taking.{IsFed, HasField, Grows, IsRunOf, AreWithin, inner_loop, after_bytes, run_at}
 use Rattle.fl_machine.proofs.Intakes.{here_of, Turned, turned_inner, run_again, run_field, run_turn, first_left, behind_more}
 use Rattle.fl_machine.proofs.Eights.{set_again}
 
@@ -131,3 +131,28 @@ span ops before tape tape2 buffer all c d f used many field run one some few dee
     subst (λ (t : List ℕ). IsFed ops t d all rest) numbers
     (subst (λ (x : Intake). IsFed ops ((before ++ take c.count tape) ++ bytes) x all rest) last
     (s.fed all (subst (λ (left : List ℕ). IsFed ops (before ++ take c.count tape) c all left) (first_left buffer used many inside) fed)))
+
+-- a loop over one number, turn by turn
+pub run_inner : (c : Intake) (left count phase : ℕ) → 0 < c.depth → c.depth ≤ 8 → length c.loops ≡ 8 → inner_loop (run_at c left count phase) ≡ record { start = (inner_loop c).start; turns = left }
+run_inner c left count phase deep few long =
+    let inner : Loop = record { start = (inner_loop c).start; turns = left } in
+    get_or-set_same c.loops (c.depth - 1) inner no_loop (omega (arith, deep, few, long))
+
+pub run_first : (c : Intake) → c ≡ run_at c (inner_loop c).turns c.count c.phase
+run_first c = sym (ap (λ (x : List Loop). record c { loops = x }) (set-get_or c.loops (c.depth - 1) no_loop))
+
+pub run_turned : (c : Intake) (left count phase : ℕ) (f : Field) → 0 < c.depth → c.depth ≤ 8 → length c.loops ≡ 8
+    → Turned (run_at c left count phase) (run_at c (left - 1) (count + 1) ((phase % 8 + f.width) % 8)) f
+run_turned c left count phase f deep few long =
+    let last = c.depth - 1 in
+    let before : Loop = record { start = (inner_loop c).start; turns = left } in
+    let after : Loop = record { start = (inner_loop c).start; turns = left - 1 } in
+    let is = run_inner c left count phase deep few long in
+    record {
+      others = refl;
+      loops = sym (set_again c.loops last before after)
+          ∙ ap (λ (l : Loop). slice_set (slice_set c.loops last before) last (record { start = l.start; turns = l.turns - 1 })) (sym is);
+    }
+
+pub run_long : (c : Intake) (left count phase : ℕ) → length c.loops ≡ 8 → length (run_at c left count phase).loops ≡ 8
+run_long c left count phase long = length-set c.loops (c.depth - 1) (record { start = (inner_loop c).start; turns = left }) ∙ long

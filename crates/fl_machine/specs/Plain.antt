@@ -22,9 +22,9 @@ is_plain op = false
 abbrev pub plain_intake : ℕ → ℕ → ℕ → Intake
 plain_intake place count used = record { place = place; loops = []; depth = 0; count = count; phase = used % 8; value = 0; have = 0 }
 
--- where a run stands behind plain instructions from where it stood: at this place, with so many numbers, and so many bytes further
+-- where a run stands behind plain instructions from where it stood: at this place, with so many numbers, at this place in the payload
 abbrev pub plain_behind : Intake → ℕ → ℕ → ℕ → Intake
-plain_behind c place count used = record c { place = place; count = count; phase = (c.phase % 8 + used) % 8; value = 0; have = 0 }
+plain_behind c place count phase = record c { place = place; count = count; phase = phase; value = 0; have = 0 }
 
 -- the bytes of a field from a place on are this number, which is right
 pub record HasNumber (f : Field) (buffer : List ℕ) (used number : ℕ) : Type 0 where

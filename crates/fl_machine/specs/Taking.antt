@@ -165,3 +165,11 @@ after_bytes c many = record c {
   count = c.count + many;
   phase = (c.phase % 8 + many) % 8;
 }
+
+-- in a loop over one number, with so many turns after this one, behind so many numbers, at this place in the payload
+abbrev pub run_at : Intake → ℕ → ℕ → ℕ → Intake
+run_at c left count phase = record c {
+  loops = slice_set c.loops (c.depth - 1) (record { start = (inner_loop c).start; turns = left });
+  count = count;
+  phase = phase;
+}

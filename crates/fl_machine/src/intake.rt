@@ -47,7 +47,7 @@ pub struct Intake {
     // The next instruction.
     pub(crate) place: usize,
     // The open loops, the innermost last, and how many.
-    loops: [Loop; 8],
+    pub(crate) loops: [Loop; 8],
     pub(crate) depth: usize,
     // How many numbers were taken.
     pub(crate) count: usize,
@@ -534,31 +534,14 @@ impl Intake {
     }
 
     // The turns that the innermost loop makes after this one.
-    fn turns_left(&self) -> u64
+    #[inline(always)]
+    pub(crate) fn turns_left(&self) -> u64
         requires low { 0 < self.now.depth }
         requires high { self.now.depth ≤ 8 }
-        ensures { result ≡ (inner_loop self.now).turns }
+        ensures turns { result ≡ (inner_loop self.now).turns }
+        ensures wide { length self.now.loops ≡ 8 }
     {
         self.loops[self.depth - 1].turns
-    }
-
-    // A number of a loop over one number alone, and on to that of its next turn.
-    fn take_turn(&mut self, tape: &mut [u64], field: Field, number: u64)
-        requires low { 0 < self.old.depth }
-        requires high { self.old.depth ≤ 8 }
-        requires narrow { field.width ≤ 8 }
-        requires room { self.old.count < length tape.old }
-        requires more { 0 < (inner_loop self.old).turns }
-        ensures others { self.new
-            ≡ record self.old { loops = self.new.loops; count = self.old.count + 1; phase = (self.old.phase % 8 + field.width) % 8 } }
-        ensures loops { self.new.loops ≡ slice_set self.old.loops (self.old.depth - 1) (turned (inner_loop self.old) 1) }
-        ensures tape { tape.new ≡ slice_set tape.old self.old.count number }
-        ensures wide { length self.old.loops ≡ 8 }
-    {
-        tape[self.count] = number;
-        self.count += 1;
-        self.phase = (self.phase % 8 + field.width) % 8;
-        self.loops[self.depth - 1].turns -= 1;
     }
 
     // Past so many numbers of one byte that were put on the tape, in a loop over one.
@@ -655,22 +638,13 @@ impl Intake {
         if !self.is_run(ops, field) {
             return used;
         }
-        let width = field.width as usize;
-        let mut end = self.take_bytes(ops, tape, field, buffer, used);
-        while end + width <= 56 && self.turns_left() > 0 {
-            let number = low_part(word_at(buffer, end), width);
-            if number < field.least || number > field.last {
-                return end;
-            }
-            self.take_turn(tape, field, number);
-            end += width;
-        }
-        end
+        let start = self.take_bytes(ops, tape, field, buffer, used);
+        self.take_turns(ops, tape, field, buffer, start)
     }
 
     // Takes those of a field's bytes that are there; where the next bytes are.
     #[inline(always)]
-    fn take_field(
+    pub(crate) fn take_field(
         &mut self,
         ops: &[Op],
         tape: &mut [u64],
@@ -744,7 +718,7 @@ impl Intake {
         if start == 56 {
             return Ok(start);
         }
-        self.take_field(ops, tape, field, buffer, start)
+        self.take_fields(ops, tape, field, buffer, start)
     }
 
     // On to the next bytes, unless the next instruction has got some.
@@ -782,7 +756,7 @@ impl Intake {
         let mut buffer = [0; 64];
         spread(&mut buffer, words);
         self.resume(ops);
-        let mut used = self.take_numbers(ops, tape, &buffer);
+        let mut used = self.take_numbers(ops, tape, &buffer, 0);
         while used < 56 {
             let Some(field) = self.field(ops) else {
                 return end_of(&buffer, used);

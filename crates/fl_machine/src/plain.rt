@@ -1,16 +1,18 @@
 //! Numbers that lie in one fragment, taken outside loops: what a run stores of loops and of numbers that were begun isn't needed then.
 
-ghost use Rattle.std.specs.Prelude.{◌≡◌, ◌%◌, ◌+◌, ◌<◌, ◌≤◌, ◌++◌, ◌^◌, ℕ, List, true, take, length, IfSome, IfNone, IsTrue};
+ghost use Rattle.std.specs.Prelude.{◌≡◌, ◌%◌, ◌+◌, ◌-◌, ◌<◌, ◌≤◌, ◌++◌, ◌^◌, ℕ, List, true, take, length};
+ghost use Rattle.std.specs.Prelude.{slice_set, IfSome, IfNone, IfOk, IfErr, IsTrue};
 ghost use Rattle.fl_stub.specs.declared.op.Column.TheVariants.{Receive as receive};
 ghost use Rattle.fl_stub.specs.Structure.{IsCode};
 ghost use Rattle.fl_stub.specs.Frames.{block_of};
-ghost use Rattle.fl_stub.specs.Streams.{IsPayload};
+ghost use Rattle.fl_stub.specs.Streams.{IsPayload, LeavesPayloads};
 ghost use Rattle.fl_stub.specs.Rests.{told, is_taken, taken_field};
-ghost use Rattle.fl_machine.specs.Taking.{words_bytes, bytes_left, field_view, IsFed, IsFedBy, IsAtField};
+ghost use Rattle.fl_machine.specs.Taking.{words_bytes, bytes_left, field_view, IsFed, IsFedBy, IsAtField, HasField, HasRoom, IsRunOf, run_at};
 ghost use Rattle.fl_machine.specs.Plain.{is_plain as is_plain_op, plain_behind, HasNumber};
 
+use crate::cursor::is_op;
 use crate::intake::{Field, Intake, end_of, is_last, low_part, op_at, spread, word_at};
-use fl_stub::Op;
+use fl_stub::{Mark, Op};
 
 // Whether an instruction takes bytes wherever it stands, and one number or zeros by them.
 #[inline(always)]
@@ -146,7 +148,85 @@ fn put_on(tape: &mut [u64], count: usize, field: Field, number: u64) -> Option<u
     Some(count + 1)
 }
 
+// The next number of a loop over one number, if its turn isn't the last, all its bytes are there, and it is right.
+#[inline(always)]
+fn turn_number(field: Field, buffer: &[u8; 64], used: usize, left: u64) -> Option<u64>
+    requires inside { used ≤ 56 }
+    requires narrow { field.width ≤ 8 }
+    ensures more { IfSome result (λ number. 0 < left) }
+    ensures number { IfSome result (λ number. HasNumber field buffer.now used number) }
+{
+    if left == 0 {
+        return None;
+    }
+    number_at(field, buffer, used)
+}
+
+// Puts a number on a tape, at a place that it has.
+#[inline(always)]
+fn put_at(tape: &mut [u64], count: usize, number: u64)
+    requires { count < length tape.old }
+    ensures { tape.new ≡ slice_set tape.old count number }
+{
+    tape[count] = number;
+}
+
 impl Intake {
+    // Where a loop over one number is left: with so many turns after this one, behind so many numbers, at this place in the payload.
+    #[inline(always)]
+    fn leave_run(&mut self, left: u64, count: usize, phase: u32)
+        requires low { 0 < self.old.depth }
+        requires high { self.old.depth ≤ 8 }
+        ensures { self.new ≡ run_at self.old left count phase }
+    {
+        self.loops[self.depth - 1].turns = left;
+        self.count = count;
+        self.phase = phase;
+    }
+
+    // Takes the numbers of a loop over one number, but that of its last turn, as long as they are right and all their bytes are there;
+    // where the next bytes are.
+    #[inline(always)]
+    pub(crate) fn take_turns(
+        &mut self,
+        ops: &[Op],
+        tape: &mut [u64],
+        field: Field,
+        buffer: &[u8; 64],
+        used: usize,
+    ) -> usize
+        requires inside { used ≤ 56 }
+        requires narrow { field.width ≤ 8 }
+        requires field { HasField ops.now self.old field }
+        requires run { IsRunOf ops.now self.old field }
+        requires fed { (before all : List ℕ) × IsFedBy ops.now before tape.old self.old all buffer.now used }
+        requires tape { HasRoom ops.now self.old.count (56 - used) (length tape.old) }
+        requires count { self.old.count ≤ length tape.old }
+        ensures fed { (before all : List ℕ) → IsFedBy ops.now before tape.old self.old all buffer.now used
+            → IsFedBy ops.now before tape.new self.new all buffer.now result }
+        ensures end { (used ≤ result) × (result ≤ 56) }
+        ensures settled { IsAtField ops.now self.new }
+        ensures field { HasField ops.now self.new field }
+        ensures kept { take self.old.count tape.new ≡ take self.old.count tape.old }
+        ensures long { length tape.new ≡ length tape.old }
+        ensures count { (self.old.count ≤ self.new.count) × (self.new.count ≤ length tape.new) }
+        ensures pace { self.new.count + used ≤ self.old.count + result }
+    {
+        let mut left = self.turns_left();
+        let mut count = self.count;
+        let mut phase = self.phase;
+        let mut end = used;
+        while let Some(number) = turn_number(field, buffer, end, left) {
+            put_at(tape, count, number);
+            left -= 1;
+            count += 1;
+            phase = (phase % 8 + field.width) % 8;
+            end += field.width as usize;
+        }
+        self.leave_run(left, count, phase);
+        end
+    }
+
     // Takes the number of an instruction, if it is plain, all its bytes are there, and it is right: how many numbers there are then,
     // and where the next bytes are. The run stands where it stood before so many instructions, which were plain.
     #[inline(always)]
@@ -161,11 +241,12 @@ impl Intake {
     ) -> Option<(usize, usize)>
         requires inside { used ≤ 56 }
         requires count { count ≤ length tape.old }
-        requires fed { (before all : List ℕ)
-            × IsFed ops.now (before ++ take count tape.old) (plain_behind self.now place count used) all (bytes_left buffer.now used) }
-        ensures fed { IfSome result (λ r. (before all : List ℕ)
-            → IsFed ops.now (before ++ take count tape.old) (plain_behind self.now place count used) all (bytes_left buffer.now used)
-            → IsFed ops.now (before ++ take r.0 tape.new) (plain_behind self.now (place + 1) r.0 r.1) all (bytes_left buffer.now r.1)) }
+        requires fed { (before all : List ℕ) × (phase : ℕ)
+            × IsFed ops.now (before ++ take count tape.old) (plain_behind self.now place count phase) all (bytes_left buffer.now used) }
+        ensures fed { IfSome result (λ r. (before all : List ℕ) (phase : ℕ)
+            → IsFed ops.now (before ++ take count tape.old) (plain_behind self.now place count phase) all (bytes_left buffer.now used)
+            → IsFed ops.now (before ++ take r.0 tape.new) (plain_behind self.now (place + 1) r.0 ((phase % 8 + (r.1 - used)) % 8)) all
+                (bytes_left buffer.now r.1)) }
         ensures end { IfSome result (λ r. (used < r.1) × (r.1 ≤ 56)) }
         ensures more { IfSome result (λ r. (count ≤ r.0) × (r.0 + used ≤ count + r.1) × (r.0 ≤ length tape.new)) }
         ensures place { IfSome result (λ r. place + 1 < 2 ^ 64) }
@@ -185,39 +266,90 @@ impl Intake {
         Some((more, used + field.width as usize))
     }
 
-    /// Takes the numbers that a fragment begins with, outside loops, as long as instructions are plain, and all bytes are there and
-    /// right; where the next bytes are.
+    // Whether the innermost loop is over the next instruction alone.
     #[inline(always)]
-    pub(crate) fn take_numbers(&mut self, ops: &[Op], tape: &mut [u64], buffer: &[u8; 64]) -> usize
+    fn is_alone(&self, ops: &[Op]) -> bool
+        requires { self.now.depth ≤ 8 }
+    {
+        if self.depth == 0 || self.place >= ops.len() {
+            return false;
+        }
+        self.loops[self.depth - 1].start == self.place && is_op(ops, self.place + 1, Op::Back)
+    }
+
+    /// Takes numbers from a place of a fragment on, as long as instructions are plain, and all bytes are there and right; where the next
+    /// bytes are. None in a loop over one number alone, which `take_run` takes.
+    #[inline(always)]
+    pub(crate) fn take_numbers(
+        &mut self,
+        ops: &[Op],
+        tape: &mut [u64],
+        buffer: &[u8; 64],
+        used: usize,
+    ) -> usize
+        requires inside { used ≤ 56 }
         requires settled { IsAtField ops.now self.old }
-        requires fed { (before all : List ℕ) × IsFedBy ops.now before tape.old self.old all buffer.now 0 }
+        requires fed { (before all : List ℕ) × IsFedBy ops.now before tape.old self.old all buffer.now used }
         requires count { self.old.count ≤ length tape.old }
-        ensures fed { (before all : List ℕ) → IsFedBy ops.now before tape.old self.old all buffer.now 0
+        ensures fed { (before all : List ℕ) → IsFedBy ops.now before tape.old self.old all buffer.now used
             → IsFedBy ops.now before tape.new self.new all buffer.now result }
-        ensures end { result ≤ 56 }
+        ensures end { (used ≤ result) × (result ≤ 56) }
         ensures settled { IsAtField ops.now self.new }
         ensures kept { take self.old.count tape.new ≡ take self.old.count tape.old }
         ensures long { length tape.new ≡ length tape.old }
         ensures count { (self.old.count ≤ self.new.count) × (self.new.count ≤ length tape.new) }
-        ensures pace { self.new.count ≤ self.old.count + result }
+        ensures pace { self.new.count + used ≤ self.old.count + result }
     {
-        if self.have != 0 || self.depth != 0 {
-            return 0;
+        if self.have != 0 || self.is_alone(ops) {
+            return used;
         }
         let mut place = self.place;
         let mut count = self.count;
-        let mut used = 0;
-        while let Some((more, end)) = self.take_number(ops, place, tape, count, buffer, used) {
+        let mut end = used;
+        while let Some((more, next)) = self.take_number(ops, place, tape, count, buffer, end) {
             place += 1;
             count = more;
-            used = end;
+            end = next;
         }
         self.place = place;
         self.count = count;
-        self.phase = (self.phase % 8 + used as u32) % 8;
+        self.phase = (self.phase % 8 + (end - used) as u32) % 8;
         self.value = 0;
         self.have = 0;
         self.settle(ops);
-        used
+        end
+    }
+
+    // Takes those of a field's bytes that are there, and the plain numbers behind it; where the next bytes are.
+    #[inline(always)]
+    pub(crate) fn take_fields(
+        &mut self,
+        ops: &[Op],
+        tape: &mut [u64],
+        field: Field,
+        buffer: &[u8; 64],
+        used: usize,
+    ) -> Result<usize, Mark>
+        requires room { used < 56 }
+        requires settled { IsAtField ops.now self.old }
+        requires field { HasField ops.now self.old field }
+        requires fed { (before all : List ℕ) × IsFedBy ops.now before tape.old self.old all buffer.now used }
+        requires tape { HasRoom ops.now self.old.count (56 - used) (length tape.old) }
+        requires count { self.old.count ≤ length tape.old }
+        ensures fed { IfOk result (λ end. (before all : List ℕ) → IsFedBy ops.now before tape.old self.old all buffer.now used
+            → IsFedBy ops.now before tape.new self.new all buffer.now end) }
+        ensures wrong { IfErr result (λ mark. (before all : List ℕ) → IsFedBy ops.now before tape.old self.old all buffer.now used
+            → LeavesPayloads (block_of ops.now) all mark) }
+        ensures end { IfOk result (λ end. (used < end) × (end ≤ 56)) }
+        ensures settled { IfOk result (λ end. IsAtField ops.now self.new) }
+        ensures kept { take self.old.count tape.new ≡ take self.old.count tape.old }
+        ensures long { length tape.new ≡ length tape.old }
+        ensures count { (self.old.count ≤ self.new.count) × (self.new.count ≤ length tape.new) }
+        ensures pace { IfOk result (λ end. self.new.count + used ≤ self.old.count + end) }
+    {
+        match self.take_field(ops, tape, field, buffer, used) {
+            Ok(end) => Ok(self.take_numbers(ops, tape, buffer, end)),
+            Err(mark) => Err(mark),
+        }
     }
 }

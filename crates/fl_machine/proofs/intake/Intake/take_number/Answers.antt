@@ -6,40 +6,40 @@ use Rattle.fl_machine.proofs.intake.Intake.take_number.Goals as goal
 
 pub plain_number-requires-clause-taken : goal.plain_number-requires-clause-taken
 plain_number-requires-clause-taken c plain =
-    let (before, all, fed) = c.requires.fed in
+    let (before, all, phase, fed) = c.requires.fed in
     let there : slice_get c.args.ops.now c.args.place ≡ Some c.in-Some.op = sym c.op_at.ensures ∙ c.in-Some.is in
-    plain_takes c.args.ops.now (plain_behind c.args.self.now c.args.place c.args.count c.args.used) c.in-Some.op there plain fed.at.stance
+    plain_takes c.args.ops.now (plain_behind c.args.self.now c.args.place c.args.count phase) c.in-Some.op there plain fed.at.stance
 
 pub plain_number-requires-clause-narrow : goal.plain_number-requires-clause-narrow
 plain_number-requires-clause-narrow c f plain view =
-    let (before, all, fed) = c.requires.fed in
+    let (before, all, phase, fed) = c.requires.fed in
     let there : slice_get c.args.ops.now c.args.place ≡ Some c.in-Some.op = sym c.op_at.ensures ∙ c.in-Some.is in
-    plain_narrow c.args.ops.now (before ++ take c.args.count c.args.tape.now) (plain_behind c.args.self.now c.args.place c.args.count c.args.used) all _ c.in-Some.op f there plain fed view
+    plain_narrow c.args.ops.now (before ++ take c.args.count c.args.tape.now) (plain_behind c.args.self.now c.args.place c.args.count phase) all _ c.in-Some.op f there plain fed view
 
 pub returns-clause-fed : goal.returns-clause-fed
-returns-clause-fed c before all fed =
+returns-clause-fed c before all phase fed =
     let there : slice_get c.args.ops.now c.args.place ≡ Some c.in-Some.op = sym c.op_at.ensures ∙ c.in-Some.is in
     let e = c.in-Some-plain_number.ensures in
     plain_on c.args.ops.now (before ++ take c.args.count c.args.tape.now) (before ++ take c.in-Some-put_on.more c.put_on.new.tape) all c.args.buffer.now c.args.self.now
-    c.args.place c.args.count c.in-Some-put_on.more c.args.used c.in-Some.op c.in-Some-plain_number.field c.in-Some-plain_number.number
+    c.args.place c.args.count c.in-Some-put_on.more c.args.used phase c.in-Some.op c.in-Some-plain_number.field c.in-Some-plain_number.number
     fed there e.plain e.field e.number
     (behind_more before (take c.args.count c.args.tape.now) (take c.in-Some-put_on.more c.put_on.new.tape) _ c.in-Some-put_on.ensures.tape)
 
 pub returns-clause-end : goal.returns-clause-end
 returns-clause-end c =
-    let (before, all, fed) = c.requires.fed in
+    let (before, all, phase, fed) = c.requires.fed in
     let there : slice_get c.args.ops.now c.args.place ≡ Some c.in-Some.op = sym c.op_at.ensures ∙ c.in-Some.is in
     let e = c.in-Some-plain_number.ensures in
-    let some = plain_wide c.args.ops.now (before ++ take c.args.count c.args.tape.now) (plain_behind c.args.self.now c.args.place c.args.count c.args.used) all _
+    let some = plain_wide c.args.ops.now (before ++ take c.args.count c.args.tape.now) (plain_behind c.args.self.now c.args.place c.args.count phase) all _
     c.in-Some.op c.in-Some-plain_number.field there e.plain fed e.field in
     (omega (arith, some), e.number.inside)
 
 pub returns-clause-more : goal.returns-clause-more
 returns-clause-more c =
-    let (before, all, fed) = c.requires.fed in
+    let (before, all, phase, fed) = c.requires.fed in
     let there : slice_get c.args.ops.now c.args.place ≡ Some c.in-Some.op = sym c.op_at.ensures ∙ c.in-Some.is in
     let e = c.in-Some-plain_number.ensures in
-    let some = plain_wide c.args.ops.now (before ++ take c.args.count c.args.tape.now) (plain_behind c.args.self.now c.args.place c.args.count c.args.used) all _
+    let some = plain_wide c.args.ops.now (before ++ take c.args.count c.args.tape.now) (plain_behind c.args.self.now c.args.place c.args.count phase) all _
     c.in-Some.op c.in-Some-plain_number.field there e.plain fed e.field in
     let more = c.in-Some-put_on.ensures.more in
     let least = more.0 in

@@ -30,7 +30,7 @@ loop-used-init c =
     let e = c.take_numbers-used.ensures in
     let least = e.count.0 in
     let pace = e.pace in (
-      e.end,
+      e.end.1,
       e.settled,
       omega (arith, same, least),
       e.count.1,
