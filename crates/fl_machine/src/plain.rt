@@ -246,7 +246,7 @@ impl Intake {
         ensures fed { IfSome result (λ r. (before all : List ℕ) (phase : ℕ)
             → IsFed ops.now (before ++ take count tape.old) (plain_behind self.now place count phase) all (bytes_left buffer.now used)
             → IsFed ops.now (before ++ take r.0 tape.new) (plain_behind self.now (place + 1) r.0 ((phase % 8 + (r.1 - used)) % 8)) all
-                (bytes_left buffer.now r.1)) }
+            (bytes_left buffer.now r.1)) }
         ensures end { IfSome result (λ r. (used < r.1) × (r.1 ≤ 56)) }
         ensures more { IfSome result (λ r. (count ≤ r.0) × (r.0 + used ≤ count + r.1) × (r.0 ≤ length tape.new)) }
         ensures place { IfSome result (λ r. place + 1 < 2 ^ 64) }
