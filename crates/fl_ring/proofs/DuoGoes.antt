@@ -1,16 +1,23 @@
 -- Each call of a side as a step of the ring.
-use Rattle.std.proofs.Common.{ℕ, ◌≡◌, ◌<◌, ◌≤◌, ◌+◌, ◌-◌, ◌/◌, ◌%◌, ◌^◌, true, false, nat_le, List, [], ◌∷◌, ◌++◌, length, ap, subst, ◌∙◌, sym, refl, arith}
+use Rattle.std.proofs.Common.{ℕ, ◌≡◌, ◌<◌, ◌≤◌, ◌+◌, ◌-◌, ◌/◌, ◌%◌, ◌^◌, true, false, nat_le, List, [], ◌∷◌, ◌++◌, length, ap, subst, ◌∙◌, sym, refl, arith, Result, Ok, Err, OnOk}
 use Rattle.std.proofs.lemmas.Bool.{leb-true, leb-false}
 use Rattle.fl_base.specs.declared.fragment.Frag.{Frag}
 use Rattle.fl_base.specs.Control.{told_of, is_ack_only, bare}
 use Rattle.fl_link.specs.Cursor.{epoch_at}
-use Rattle.fl_link.specs.Looks.{placed, found, found_ack, told}
+use Rattle.fl_link.specs.Looks.{Look, placed, no_room, spent, found, found_ack, missed, told, peeked}
+use Rattle.fl_link.specs.Queue.{front_of}
+use Rattle.fl_link.specs.declared.fault.PutFault.{PutFault}
+use Rattle.fl_link.specs.declared.fault.PutFault.TheVariants.{Full, Spent}
+use Rattle.fl_link.specs.declared.sides.Sight.{Sight}
+use Rattle.fl_link.specs.declared.sides.Sight.TheVariants.{Data, Acknowledgement, Empty}
 use Rattle.fl_link.proofs.Carried.{stamped-bare}
 use Rattle.fl_link.proofs.Conserved.{bare-ack}
 use Rattle.fl_ring.specs.Counts.{count_from, known_after}
-use Rattle.fl_ring.specs.Duo.{TheHalf, HalfPuts, HalfTakes, with_known, with_written, with_arrived, with_taken, written, free, counts_by, looked, got, acknowledgement}
-use Rattle.fl_ring.specs.Halves.{InStep, half_of}
+use Rattle.fl_ring.specs.Duo.{TheHalf, TheDuo, HalfPuts, HalfTakes, AtSide, DuoTakes, side_of, with_known, with_written, with_arrived, with_taken, written, free, counts_by, looked, got, acknowledgement}
+use Rattle.fl_ring.specs.Halves.{InStep, half_of, duo_of}
 use Rattle.fl_ring.specs.declared.halves.Half.{Half}
+use Rattle.fl_ring.specs.declared.one_duo.Which.{Which}
+use Rattle.fl_ring.specs.declared.one_duo.Which.TheVariants.{One, Two}
 use Rattle.fl_ring.proofs.Numbers.{count_again}
 use Rattle.fl_ring.proofs.Ways.{length-standing}
 use Rattle.fl_ring.proofs.RingSteps.{front_data, front_ack}
@@ -97,3 +104,55 @@ too_few n k ws a m b known short =
     let c : ℕ = counts_by n k (half_of n ws a b) in
     let none : nat_le k (free n a.put.index c) ≡ false = subst (λ (x : Half). nat_le k (free n a.put.index x.known) ≡ false) known short in
     (leb-false k (free n a.put.index c) none, ap (λ (x : Half). half_of n ws x b) known, ap (λ (x : Half). half_of n ws b x) known)
+
+-- a look that found nothing
+pub miss_goes : (n : ℕ) (ws : List ℕ) (a m b : Half) → (half_of n ws a b).waiting ≡ [] → m ≡ a → InStep n ws m b
+    → InStep n ws m b × (m.base ≡ a.base) × HalfTakes n (half_of n ws a b) (half_of n ws b a) missed (half_of n ws m b) (half_of n ws b m)
+miss_goes n ws a m b none same steps = (steps, ap (λ (x : Half). x.base) same, (none, ap (λ (x : Half). half_of n ws x b) same, ap (λ (x : Half). half_of n ws b x) same))
+
+-- a look that found a fragment, which stays
+pub record Saw (n : ℕ) (ws : List ℕ) (a m b : Half) : Type 0 where
+  pub base : m.base ≡ a.base
+  pub mine : half_of n ws m b ≡ with_known (half_of n ws a b) (looked (half_of n ws a b))
+  pub theirs : half_of n ws b m ≡ half_of n ws b a
+
+pub look_goes : (n : ℕ) (ws : List ℕ) (a m b : Half) (frag : Frag) (rest : List Frag) → (half_of n ws a b).waiting ≡ frag ∷ rest
+    → m ≡ record a { known = count_from a.known (told_of frag.control) } → Saw n ws a m b
+look_goes n ws a m b frag rest first known =
+    let same : count_from a.known (told_of frag.control) ≡ looked (half_of n ws a b) = sym (ap (λ (xs : List Frag). known_after a.known xs) first) in
+    let is : m ≡ record a { known = looked (half_of n ws a b) } = known ∙ ap (λ (k : ℕ). let x : Half = record a { known = k } in x) same in
+    record { base = ap (λ (x : Half). x.base) is; mine = ap (λ (x : Half). half_of n ws x b) is; theirs = ap (λ (x : Half). half_of n ws b x) is }
+
+-- ---- a step of a side as one of the ring
+
+pub one_kept : (n : ℕ) (ws : List ℕ) (a m b : Half) → a.base ≡ 0 → m.base ≡ a.base → InStep n ws m b → (m.base ≡ 0) × InStep m.put.size ws m b
+one_kept n ws a m b first same s = (same ∙ first, subst (λ (k : ℕ). InStep k ws m b) (sym s.there.put_size) s)
+
+pub one_steps : (R : ℕ → TheHalf → TheHalf → Look → TheHalf → TheHalf → Type 0) (n : ℕ) (ws ws' : List ℕ) (a m b : Half) (look : Look) (w : Which) (s : TheDuo) → w ≡ One → duo_of n ws a b ≡ s
+    → InStep n ws' m b → R n (half_of n ws a b) (half_of n ws b a) look (half_of n ws' m b) (half_of n ws' b m) → AtSide R w s look (duo_of m.put.size ws' m b)
+one_steps R n ws ws' a m b look w s is shown steps goes =
+    subst (λ (x : Which). AtSide R x s look (duo_of m.put.size ws' m b)) (sym is)
+    (subst (λ (d : TheDuo). AtSide R One d look (duo_of m.put.size ws' m b)) shown
+    (subst (λ (k : ℕ). AtSide R One (duo_of n ws a b) look (duo_of k ws' m b)) (sym steps.there.put_size) (goes, refl)))
+
+pub two_steps : (R : ℕ → TheHalf → TheHalf → Look → TheHalf → TheHalf → Type 0) (n : ℕ) (ws ws' : List ℕ) (a b m : Half) (look : Look) (w : Which) (s : TheDuo) → w ≡ Two → duo_of n ws a b ≡ s
+    → R n (half_of n ws b a) (half_of n ws a b) look (half_of n ws' m a) (half_of n ws' a m) → AtSide R w s look (duo_of n ws' a m)
+two_steps R n ws ws' a b m look w s is shown goes =
+    subst (λ (x : Which). AtSide R x s look (duo_of n ws' a m)) (sym is)
+    (subst (λ (d : TheDuo). AtSide R Two d look (duo_of n ws' a m)) shown (goes, refl))
+
+-- what a look sees is what stands first
+front_is : (n : ℕ) (s p t q : TheHalf) (r : Sight) → HalfTakes n s p (peeked r) t q → front_of s.waiting ≡ peeked r
+front_is n s p t q (Data frag) h = h.0
+front_is n s p t q Acknowledgement h = h.0
+front_is n s p t q Empty h = ap front_of h.0
+
+pub duo_front : (w : Which) (s t : TheDuo) (r : Sight) → DuoTakes w s (peeked r) t → front_of (side_of w s).waiting ≡ peeked r
+duo_front One s t r h = front_is s.size s.one s.two t.one t.two r h.0
+duo_front Two s t r h = front_is s.size s.two s.one t.two t.one r h.0
+
+-- a put came to one of three
+pub put_went : (r : Result (Unit {0}) PutFault) (P : Look → Type 0) (frag : Frag) → OnOk r (P (placed frag)) → (r ≡ Err Full → P no_room) → (r ≡ Err Spent → P spent) → (look : Look) × P look
+put_went (Ok u) P frag put full last = (placed frag, put)
+put_went (Err Full) P frag put full last = (no_room, full refl)
+put_went (Err Spent) P frag put full last = (spent, last refl)

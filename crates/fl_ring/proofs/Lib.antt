@@ -5,12 +5,15 @@ pub mod DuoSteps
 pub mod DuoViews
 pub mod DuoWrites
 pub mod Forgets
+pub mod Fronts
+pub mod NewRings
 pub mod Numbers
 pub mod Places
 pub mod Published
 pub mod RingSteps
 pub mod SharedDuoMakes
 pub mod SharedDuoRuns
+pub mod SharedDuoSides
 pub mod SharedDuoSteps
 pub mod SharedDuos
 pub mod SharedLooks

@@ -93,20 +93,21 @@ first_epoch n i p lt =
     let none : i / n ≡ zero = ap (λ (x : ℕ). x / n) e ∙ div-mul-add zero n i lt in
     ap (λ (x : ℕ). (x + 1) % 2) none
 
-all_zero : (k i : ℕ) → get_or (replicate k zero) i zero ≡ zero
+pub all_zero : (k i : ℕ) → get_or (replicate k zero) i zero ≡ zero
 all_zero zero i = refl
 all_zero (suc k) zero = refl
 all_zero (suc k) (suc i) = all_zero k i
 
-new_marked : (n : ℕ) (ws : List ℕ) → 0 < n → 8 * n ≤ length ws → ((i : ℕ) → get_or ws i 0 ≡ 0) → Marked 0 n ws 0 0
-new_marked n ws p wide zeros = record {
+-- in the way at b
+pub new_marked : (b n : ℕ) (ws : List ℕ) → 0 < n → b + 8 * n ≤ length ws → ((i : ℕ) → get_or ws i 0 ≡ 0) → Marked b n ws 0 0
+new_marked b n ws p wide zeros = record {
   some = p;
   wide = omega arith;
   order = omega arith;
   within = omega arith;
   full = λ i le lt. absurd (omega arith);
   free = λ i le lt e.
-      let h : 0 ≡ 1 = sym (ap epoch_of (zeros (slot 0 n i + 7))) ∙ e ∙ first_epoch n i p (omega arith) in
+      let h : 0 ≡ 1 = sym (ap epoch_of (zeros (slot b n i + 7))) ∙ e ∙ first_epoch n i p (omega arith) in
       omega arith;
 }
 
@@ -114,7 +115,7 @@ pub new_holds : (n : ℕ) (ws : List ℕ) → 0 < n → length ws ≡ 8 * n + 8 
 new_holds n ws p wide zeros = record {
   wide = wide;
   way = record {
-    holds = record { marked = new_marked n ws p (omega arith) zeros; stand = λ i d le lt. absurd (omega arith) };
+    holds = record { marked = new_marked 0 n ws p (omega arith) zeros; stand = λ i d le lt. absurd (omega arith) };
     told_got = omega arith;
     got_sent = ([], refl);
     known_told = omega arith;

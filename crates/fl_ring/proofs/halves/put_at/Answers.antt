@@ -1,5 +1,6 @@
-use Rattle.std.proofs.Common.{◌≡◌, ◌<◌, ◌^◌, ap, ◌∙◌, sym, arith, true, nat_le}
+use Rattle.std.proofs.Common.{ℕ, ◌≡◌, ◌<◌, ◌^◌, List, ap, subst, ◌∙◌, sym, refl, arith, true, nat_le}
 use Rattle.fl_ring.specs.Duo.{free}
+use Rattle.fl_ring.specs.Halves.{InStep}
 use Rattle.fl_ring.specs.declared.halves.Half.{Half}
 use Rattle.fl_ring.proofs.DuoGoes.{put_goes, too_few, room_for}
 use Rattle.fl_ring.proofs.halves.put_at.Goals as goal
@@ -24,3 +25,23 @@ returns-then-not-has_free-clause-full c = λ _ n b s.
     let unspent : m.put.index < 2 ^ 62 = omega (arith, s.there.most, c.index.ensures.index) in
     let short = too_few n 2 c.args.words.now.items m c.has_free.new.mine b found.1 (sym found.0 ∙ c.if-not-has_free.true) in
     (found.2, ap (λ (x : Half). x.base) found.1, (unspent, short.0, short.1, short.2))
+
+pub has_free-requires : goal.has_free-requires
+has_free-requires c =
+    let (n, b, s) = c.requires.steps in
+    (n, b, subst (λ (ws : List ℕ). InStep n ws c.args.mine.now b) (sym c.deref.ensures.value) s)
+
+pub returns-then-index-eq-SPENT-clause-spent : goal.returns-then-index-eq-SPENT-clause-spent
+returns-then-index-eq-SPENT-clause-spent c = λ _ n b s.
+    let last : c.args.mine.now.put.index ≡ 2 ^ 62 = sym c.index.ensures.index ∙ c.if-index-eq-SPENT.true in
+    (s, refl, (last, refl, refl))
+
+pub write-requires : goal.write-requires
+write-requires c =
+    let (n, b, s) = c.requires.steps in
+    let m = c.args.mine.now in
+    let checked = rw c.deref.ensures.value at c.has_free.ensures.free in
+    let found = checked n b s in
+    let sent : c.has_free.new.mine.put.index ≡ m.put.index = ap (λ (x : Half). x.put.index) found.1 in
+    let within = room_for 2 n m.put.index c.has_free.new.mine.known (omega arith) (sym found.0 ∙ c.if-not-has_free.false) in
+    (n, b, found.2, omega (arith, s.there.most, c.index.ensures.index, c.if-index-eq-SPENT.false), omega arith)

@@ -1,7 +1,7 @@
 use Rattle.std.proofs.Common.{◌∙◌, ap, sym}
 use Rattle.fl_link.specs.Cursor.{TheCursor}
 use Rattle.fl_ring.specs.declared.halves.Half.{Half}
-use Rattle.fl_ring.proofs.DuoGoes.{take_goes, took_data, took_ack}
+use Rattle.fl_ring.proofs.DuoGoes.{miss_goes, take_goes, took_data, took_ack}
 use Rattle.fl_ring.proofs.halves.take_at.Goals as goal
 
 pub returns-then-is_ack_only-clause-look : goal.returns-then-is_ack_only-clause-look
@@ -19,3 +19,8 @@ returns-clause-look c n b s =
     let k = take_goes n c.args.words.now c.args.mine.now m (record { base = m.base; other = m.other; put = m.put; take = c.advance.new.self; known = m.known; told = m.told }) b c.in-Some.frag l.0.0 l.0.1 l.1 (c.in-Some.ensures.steps n b s)
     (ap (λ (p : TheCursor). let y : Half = record { base = m.base; other = m.other; put = m.put; take = p; known = m.known; told = m.told } in y) c.advance.ensures.next) in
     (k.steps, ap (λ (x : Half). x.base) l.1, took_data n c.args.words.now c.args.mine.now (record { base = m.base; other = m.other; put = m.put; take = c.advance.new.self; known = m.known; told = m.told }) b c.in-Some.frag k (sym c.is_ack_only.ensures ∙ c.if-is_ack_only.false))
+
+pub returns-in_default-clause-look : goal.returns-in_default-clause-look
+returns-in_default-clause-look c n b s =
+    let l = c.in_default.ensures.looks n b s in
+    miss_goes n c.args.words.now c.args.mine.now c.look_back.new.mine b l.0 l.1 (c.in_default.ensures.steps n b s)

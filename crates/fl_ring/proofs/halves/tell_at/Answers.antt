@@ -1,6 +1,6 @@
-use Rattle.std.proofs.Common.{◌≡◌, ◌<◌, ◌≤◌, ◌/◌, ◌^◌, length, ap, ◌∙◌, sym, refl, inl, inr, arith, true, nat_le}
+use Rattle.std.proofs.Common.{ℕ, ◌≡◌, ◌<◌, ◌≤◌, ◌/◌, ◌^◌, List, length, ap, subst, ◌∙◌, sym, refl, inl, inr, arith, true, nat_le}
 use Rattle.fl_ring.specs.Duo.{free}
-use Rattle.fl_ring.specs.Halves.{half_of}
+use Rattle.fl_ring.specs.Halves.{InStep, half_of}
 use Rattle.fl_ring.specs.declared.halves.Half.{Half}
 use Rattle.fl_ring.proofs.DuoGoes.{tell_goes, too_few, room_for, untold_is}
 use Rattle.fl_ring.proofs.halves.tell_at.Goals as goal
@@ -48,3 +48,18 @@ returns-clause-tell c = λ n b s.
     let within = room_for 1 n m.put.index c.has_free.new.mine.known (omega arith) enough in
     let w = c.write.ensures.steps n b found.2 (omega arith) (omega arith) in
     (w.0, c.write.ensures.place ∙ ap (λ (x : Half). x.base) found.1, tell_goes n c.args.words.now.items c.write.new.words.items m c.has_free.new.mine c.write.new.mine b s much unspent found.1 enough w.1 w.2)
+
+pub has_free-requires : goal.has_free-requires
+has_free-requires c =
+    let (n, b, s) = c.requires in
+    (n, b, subst (λ (ws : List ℕ). InStep n ws c.args.mine.now b) (sym c.deref.ensures.value) s)
+
+pub write-requires : goal.write-requires
+write-requires c =
+    let (n, b, s) = c.requires in
+    let m = c.args.mine.now in
+    let checked = rw c.deref.ensures.value at c.has_free.ensures.free in
+    let found = checked n b s in
+    let sent : c.has_free.new.mine.put.index ≡ m.put.index = ap (λ (x : Half). x.put.index) found.1 in
+    let within = room_for 1 n m.put.index c.has_free.new.mine.known (omega arith) (sym found.0 ∙ c.if-not-has_free.false) in
+    (n, b, found.2, omega (arith, s.there.most, c.index-sent.ensures.index, c.if-sent-eq-SPENT.false), omega arith)

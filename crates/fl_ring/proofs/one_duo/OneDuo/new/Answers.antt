@@ -1,4 +1,5 @@
-use Rattle.std.proofs.Common.{rules}
+use Rattle.std.proofs.Common.{rules, arith}
+use Rattle.fl_ring.proofs.NewRings.{new_duo, new_duo_shows}
 use Rattle.fl_ring.proofs.one_duo.OneDuo.new.Goals as goal
 
 pub returns-in_default-clause-bad_size : goal.returns-in_default-clause-bad_size
@@ -9,3 +10,10 @@ returns-clause-sized c = search rules
 
 pub returns-clause-bad_size : goal.returns-clause-bad_size
 returns-clause-bad_size c = search rules
+
+pub invariant_of-result : goal.invariant_of-result
+invariant_of-result c =
+    new_duo c.args.size c.in-Ok.words.items c.new.result c.new-2.result (omega (arith, c.if-size-lt4.false)) (omega (arith, c.if-size-gt-MAX_QUEUE.false)) (c.in-Ok.ensures.items_if_clones_equal (λ _ e. e)) c.new.ensures.start c.new-2.ensures.start
+
+pub returns-clause-made : goal.returns-clause-made
+returns-clause-made c = new_duo_shows c.args.size c.in-Ok.words.items c.new.result c.new-2.result c.new.ensures.start c.new-2.ensures.start
