@@ -1,25 +1,26 @@
-//! Tests of one core's board, over its public calls alone. They stand here and not in `fl_core`, since a crate with tests is proved
-//! twice.
+//! Tests of ends, boards, monitors, cores and running cores, over their public calls alone: one crate, since each crate of
+//! tests begins with reading all that it stands on, and proves how each of its types is dropped.
 //!
-//! - `tables.rt`, `boards.rt`: tables, of which a test tells the first row that isn't so, and all of them
-//! - `rig.rt`: a board with its ends and their queues, driven by deeds whose answers are words
-//! - `rows.rt`: worked rows of deeds and answers
-//! - `refusals.rt`: what is refused, and limits
-//! - `faults.rt`: the numbers and words of the faults
+//! - `tables.rt`: tables, of which a test tells the first row that isn't so
+//! - `endpoint.rt`: ends of bindings over queues
+//! - `cores.rt`: the board of one core
+//! - `monitor.rt`: monitors' messages, circuits and names
+//! - `node.rt`: whole cores
+//! - `running.rt`: one running core
 //!
 //! `rt try --test --fail-alloc N` runs each with its Nth allocation refused: then the tests whose names end in
-//! `without_memory` have to pass, and others end with out of memory.
+//! `without_memory` and those of `node.rt` have to pass, and others end with out of memory or pass.
 #![tactic(auto)]
 
 #[cfg(test)]
-mod boards;
+mod cores;
 #[cfg(test)]
-mod faults;
+mod endpoint;
 #[cfg(test)]
-mod refusals;
+mod monitor;
 #[cfg(test)]
-mod rig;
+mod node;
 #[cfg(test)]
-mod rows;
+mod running;
 #[cfg(test)]
 mod tables;

@@ -1,19 +1,26 @@
-//! Worked texts of interfaces, from bytes to what they stand for.
-//!
-//! Tests alone, over the public calls of `fl_lex`, `fl_parse` and `fl_check`: with tests of its own each of
-//! those crates would be proved twice.
+//! Tests of interfaces' texts, values, layouts, payloads, code and images, over the public calls of their crates: one crate,
+//! since each crate of tests begins with reading all that it stands on.
 //!
 //! - `rows.rt`: tables, of which a test tells the first row that isn't so
-//! - `lexing.rt`: tokens, and faults of bytes
-//! - `parsing.rt`: trees, faults of tokens, and printed texts
-//! - `checking.rt`: interfaces, faults of declarations, and faults in words
+//! - `text.rt`: `fl_lex`, `fl_parse` and `fl_check`
+//! - `wire.rt`: `fl_value`, `fl_layout` and `fl_wire`
+//! - `stub.rt`: `fl_stub`, `fl_compile` and `fl_machine`
+//! - `image.rt`: `fl_image`
+//! - `show.rt`: `fl_show`
+//!
+//! With a request for memory refused (`rt try --test --fail-alloc N`) the tests whose names end in `without_memory` have
+//! to pass, and the others end with out of memory.
 #![tactic(auto)]
 
 #[cfg(test)]
-mod checking;
-#[cfg(test)]
-mod lexing;
-#[cfg(test)]
-mod parsing;
+mod image;
 #[cfg(test)]
 mod rows;
+#[cfg(test)]
+mod show;
+#[cfg(test)]
+mod stub;
+#[cfg(test)]
+mod text;
+#[cfg(test)]
+mod wire;

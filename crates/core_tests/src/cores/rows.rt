@@ -1,0 +1,238 @@
+//! Worked rows of deeds and answers. Each is told with the mistake that it would show.
+
+use crate::cores::rig::{Binding, Deed, Example, Said, Step};
+use fl_base::Circuit;
+use fl_core::{Kind, one_dispatcher_changes, one_end_changes, turn_accounts};
+use fl_link::QueueLink;
+
+const PING: &[u8] = b"interface i { message ping(uint32 v); }";
+
+const BLOB: &[u8] = b"interface i { message blob(string s); }";
+
+const ECHO: &[u8] = b"interface i { rpc echo(in uint32 x, out uint32 y); }";
+
+const LONG: &[u8] = b"blob(\"aaaaaaaaaaaaaaaaaaaaaaaaaaaaaaaaaaaaaaaaaaaaaaaaa\")";
+
+// One call: its fragment, and the turn that handles it.
+const ONE: &[Step] = &[
+    (0, Deed::Call(b"ping(7)"), Said::Done),
+    (0, Deed::Show, Said::Stands(3, [7, 0, 0, 0, 0, 0, 0])),
+    (0, Deed::Write, Said::Written(1, 1)),
+    (1, Deed::Turn(b"ping(7)"), Said::Handled(1)),
+    (1, Deed::Turn(b""), Said::Nothing),
+    (1, Deed::Ack, Said::Nothing),
+];
+
+// What calls and writes refuse.
+const REFUSED: &[Step] = &[
+    (0, Deed::Call(b"ping(4294967296)"), Said::Refused(42)),
+    (0, Deed::Call(b"ping(\"x\")"), Said::Refused(42)),
+    (0, Deed::Call(b"pong(1)"), Said::Refused(41)),
+    (0, Deed::Call(b"ping(7"), Said::Refused(90)),
+    (0, Deed::Write, Said::Nothing),
+];
+
+// A ring of two slots, which a write can't fill beyond what is told.
+const RING: &[Step] = &[
+    (0, Deed::Call(b"ping(1)"), Said::Done),
+    (0, Deed::Write, Said::Written(1, 1)),
+    (0, Deed::Call(b"ping(2)"), Said::Done),
+    (0, Deed::Write, Said::Written(1, 1)),
+    (0, Deed::Call(b"ping(3)"), Said::Done),
+    (0, Deed::Write, Said::Full),
+    (1, Deed::Turn(b""), Said::Ready(1)),
+    (1, Deed::Turn(b"ping(1)"), Said::Handled(1)),
+    (0, Deed::Write, Said::Full),
+    (1, Deed::Ack, Said::Done),
+    (0, Deed::Write, Said::Written(1, 1)),
+];
+
+// A call of two fragments: an end is busy until its last is written.
+const PARTS: &[Step] = &[
+    (0, Deed::Call(LONG), Said::Done),
+    (0, Deed::Write, Said::Written(1, 2)),
+    (0, Deed::Call(b"blob(\"x\")"), Said::Refused(40)),
+    (1, Deed::Turn(b""), Said::Part(1)),
+    (0, Deed::Write, Said::Written(2, 2)),
+    (0, Deed::Call(b"blob(\"x\")"), Said::Done),
+    (1, Deed::Turn(LONG), Said::Handled(1)),
+];
+
+// A reply by rule.
+const REPLY: &[Step] = &[
+    (1, Deed::Reply, Said::Done),
+    (0, Deed::Call(b"echo_call(9)"), Said::Done),
+    (0, Deed::Write, Said::Written(1, 1)),
+    (1, Deed::Turn(b"echo_call(9)"), Said::Handled(1)),
+    (1, Deed::Show, Said::Stands(0x1_0003, [9, 0, 0, 0, 0, 0, 0])),
+    (1, Deed::Write, Said::Written(1, 1)),
+    (0, Deed::Turn(b"echo_response(9)"), Said::Handled(0)),
+];
+
+// Three bindings of dispatcher 0: p and q by rings, r by a queue. What is pending comes first, and what is polled in turn.
+const ORDER: &[Step] = &[
+    (4, Deed::Call(b"ping(1)"), Said::Done),
+    (4, Deed::Write, Said::Written(1, 1)),
+    (4, Deed::Call(b"ping(2)"), Said::Done),
+    (4, Deed::Write, Said::Written(1, 1)),
+    (0, Deed::Turn(b"ping(1)"), Said::Handled(5)),
+    (0, Deed::Turn(b"ping(2)"), Said::Handled(5)),
+    (0, Deed::Turn(b""), Said::Quiet(1)),
+    (0, Deed::Turn(b""), Said::Quiet(3)),
+    (0, Deed::Turn(b""), Said::Quiet(1)),
+    (5, Deed::Register, Said::Refused(50)),
+    (5, Deed::Deregister, Said::Done),
+    (5, Deed::Deregister, Said::Refused(51)),
+    (4, Deed::Call(b"ping(3)"), Said::Done),
+    (4, Deed::Write, Said::Written(1, 1)),
+    (0, Deed::Turn(b""), Said::Quiet(3)),
+    (5, Deed::Register, Said::Done),
+    (0, Deed::Turn(b"ping(3)"), Said::Handled(5)),
+];
+
+// Two queues of one dispatcher take turns, though one holds two fragments.
+const TURNS: &[Step] = &[
+    (0, Deed::Call(b"ping(1)"), Said::Done),
+    (0, Deed::Write, Said::Written(1, 1)),
+    (0, Deed::Call(b"ping(2)"), Said::Done),
+    (0, Deed::Write, Said::Written(1, 1)),
+    (2, Deed::Call(b"ping(3)"), Said::Done),
+    (2, Deed::Write, Said::Written(1, 1)),
+    (1, Deed::Turn(b"ping(1)"), Said::Handled(1)),
+    (1, Deed::Turn(b"ping(3)"), Said::Handled(3)),
+    (1, Deed::Turn(b"ping(2)"), Said::Handled(1)),
+];
+
+// 17 calls are answered by rule, one reply in transmission and 16 that wait; then no fragment is taken until one is written.
+const WAITING: &[Step] = &[
+    (1, Deed::Reply, Said::Done),
+    (0, Deed::Send(b"echo_call(1)"), Said::Written(1, 1)),
+    (0, Deed::Send(b"echo_call(2)"), Said::Written(1, 1)),
+    (0, Deed::Send(b"echo_call(3)"), Said::Written(1, 1)),
+    (0, Deed::Send(b"echo_call(4)"), Said::Written(1, 1)),
+    (0, Deed::Send(b"echo_call(5)"), Said::Written(1, 1)),
+    (0, Deed::Send(b"echo_call(6)"), Said::Written(1, 1)),
+    (0, Deed::Send(b"echo_call(7)"), Said::Written(1, 1)),
+    (0, Deed::Send(b"echo_call(8)"), Said::Written(1, 1)),
+    (0, Deed::Send(b"echo_call(9)"), Said::Written(1, 1)),
+    (0, Deed::Send(b"echo_call(10)"), Said::Written(1, 1)),
+    (0, Deed::Send(b"echo_call(11)"), Said::Written(1, 1)),
+    (0, Deed::Send(b"echo_call(12)"), Said::Written(1, 1)),
+    (0, Deed::Send(b"echo_call(13)"), Said::Written(1, 1)),
+    (0, Deed::Send(b"echo_call(14)"), Said::Written(1, 1)),
+    (0, Deed::Send(b"echo_call(15)"), Said::Written(1, 1)),
+    (0, Deed::Send(b"echo_call(16)"), Said::Written(1, 1)),
+    (0, Deed::Send(b"echo_call(17)"), Said::Written(1, 1)),
+    (0, Deed::Send(b"echo_call(18)"), Said::Written(1, 1)),
+    (1, Deed::Turn(b"echo_call(1)"), Said::Handled(1)),
+    (1, Deed::Turn(b"echo_call(2)"), Said::Handled(1)),
+    (1, Deed::Turn(b"echo_call(3)"), Said::Handled(1)),
+    (1, Deed::Turn(b"echo_call(4)"), Said::Handled(1)),
+    (1, Deed::Turn(b"echo_call(5)"), Said::Handled(1)),
+    (1, Deed::Turn(b"echo_call(6)"), Said::Handled(1)),
+    (1, Deed::Turn(b"echo_call(7)"), Said::Handled(1)),
+    (1, Deed::Turn(b"echo_call(8)"), Said::Handled(1)),
+    (1, Deed::Turn(b"echo_call(9)"), Said::Handled(1)),
+    (1, Deed::Turn(b"echo_call(10)"), Said::Handled(1)),
+    (1, Deed::Turn(b"echo_call(11)"), Said::Handled(1)),
+    (1, Deed::Turn(b"echo_call(12)"), Said::Handled(1)),
+    (1, Deed::Turn(b"echo_call(13)"), Said::Handled(1)),
+    (1, Deed::Turn(b"echo_call(14)"), Said::Handled(1)),
+    (1, Deed::Turn(b"echo_call(15)"), Said::Handled(1)),
+    (1, Deed::Turn(b"echo_call(16)"), Said::Handled(1)),
+    (1, Deed::Turn(b"echo_call(17)"), Said::Handled(1)),
+    (1, Deed::Turn(b""), Said::Full),
+    (1, Deed::Turn(b""), Said::Full),
+    (1, Deed::Write, Said::Written(1, 1)),
+    (1, Deed::Turn(b"echo_call(18)"), Said::Handled(1)),
+];
+
+// A binding of dispatcher 0 to dispatcher 1 by queues.
+const QUEUES: Binding = Binding {
+    text: PING,
+    at: [0, 1],
+    circuit: Some(Circuit(0)),
+    kind: Kind::Queue,
+    is_acked: false,
+    size: 4,
+};
+
+// One of dispatcher 2 to dispatcher 0 by rings.
+const RINGS: Binding = Binding {
+    text: PING,
+    at: [2, 0],
+    circuit: Some(Circuit(0)),
+    kind: Kind::Ring,
+    is_acked: true,
+    size: 4,
+};
+
+pub const EXAMPLES: &[Example] = &[
+    Example {
+        dispatchers: 2,
+        bindings: &[QUEUES],
+        rows: ONE,
+    },
+    Example {
+        dispatchers: 2,
+        bindings: &[Binding { size: 1, ..QUEUES }],
+        rows: REFUSED,
+    },
+    Example {
+        dispatchers: 2,
+        bindings: &[Binding {
+            at: [0, 1],
+            size: 2,
+            ..RINGS
+        }],
+        rows: RING,
+    },
+    Example {
+        dispatchers: 2,
+        bindings: &[Binding {
+            text: BLOB,
+            ..QUEUES
+        }],
+        rows: PARTS,
+    },
+    Example {
+        dispatchers: 2,
+        bindings: &[Binding {
+            text: ECHO,
+            ..QUEUES
+        }],
+        rows: REPLY,
+    },
+    Example {
+        dispatchers: 2,
+        bindings: &[Binding {
+            text: ECHO,
+            size: 32,
+            ..QUEUES
+        }],
+        rows: WAITING,
+    },
+    Example {
+        dispatchers: 3,
+        bindings: &[
+            RINGS,
+            RINGS,
+            Binding {
+                at: [1, 0],
+                ..QUEUES
+            },
+        ],
+        rows: ORDER,
+    },
+    Example {
+        dispatchers: 2,
+        bindings: &[QUEUES, QUEUES],
+        rows: TURNS,
+    },
+];
+
+pub fn laws() {
+    one_end_changes();
+    one_dispatcher_changes();
+    turn_accounts::<QueueLink>();
+}

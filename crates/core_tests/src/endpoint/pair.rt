@@ -1,0 +1,388 @@
+//! The two ends of a binding over queues, and what they answer.
+
+ghost use Rattle.std.specs.Prelude.{◌≡◌};
+
+use crate::endpoint::sides::Refusing;
+use crate::tables::Row;
+use fl_base::{Circuit, Frag, MsgNo, Side};
+use fl_check::check;
+use fl_compile::{Program, compile};
+use fl_endpoint::{End, EndFault, ReceiveAnswer, WriteAnswer};
+use fl_lex::{Tokens, lex};
+use fl_link::{PutFault, QueueLink};
+use fl_machine::Reassemblies;
+use fl_parse::{Tree, parse};
+use fl_value::{Call, PlanNo, ValueFault, print_call, read_call};
+use std::alloc::{AllocError, Global};
+use std::marker::Model;
+
+/// What is done at an end.
+#[derive(Clone, Copy)]
+pub enum Deed {
+    /// A call by its text, read by the interface of the ends.
+    Call(&'static [u8]),
+    /// Such a call, and a write.
+    Send(&'static [u8]),
+    /// A call by its text, read by another interface.
+    CallBy(&'static [u8], &'static [u8]),
+    Show,
+    Write,
+    Receive,
+    /// A receive, where memory that runs out once is met by asking again.
+    ReceiveAtLast,
+    /// A look at what a write would put on a side that refuses it, and such a write.
+    ShowRefused(PutFault),
+    WriteRefused(PutFault),
+    /// A fragment of these words is put before the end.
+    Put(u64, [u64; 7]),
+    /// The same, and a receive.
+    Take(u64, [u64; 7]),
+    /// A reply rule, from one message to another.
+    Rule(MsgNo, MsgNo),
+    RuleFor(MsgNo),
+    Bind(Circuit),
+    Look,
+    Count,
+}
+
+/// What an end answers.
+#[derive(Clone, Copy, PartialEq, Eq)]
+pub enum Said {
+    Done,
+    Written(usize, usize),
+    Full,
+    Nothing,
+    /// A fragment's control word and words.
+    Shown(u64, [u64; 7]),
+    Handled,
+    Part,
+    Quiet,
+    Empty,
+    HeldBack,
+    Refused(u8),
+    Rule(Option<MsgNo>),
+    /// Its circuit, and whether it is bound, busy, failed, and has rules.
+    Seen(Option<Circuit>, [bool; 4]),
+    /// How many replies wait, and how many messages its interface has.
+    Counts(usize, usize),
+}
+
+/// A deed at an end, and what the end answers.
+pub type Step = (Side, Deed, Said);
+
+/// What the ends of a new binding answer under both plans, and the texts of the calls that they handle, a line each.
+#[derive(Clone, Copy)]
+pub struct Example {
+    pub text: &'static [u8],
+    /// That of both ends; none where they aren't bound yet.
+    pub circuit: Option<Circuit>,
+    /// How many fragments there is room for each way.
+    pub size: usize,
+    /// How it begins: each of these is tried with a new binding.
+    pub starts: &'static [&'static [Step]],
+    /// How each goes on.
+    pub rows: &'static [Step],
+    pub handled: &'static [u8],
+}
+
+// An end, with the place of the calls that come to it, and the queue that it puts to.
+#[derive(Drop)]
+struct Half {
+    end: End,
+    calls: Reassemblies,
+    out: QueueLink,
+}
+
+impl Model for Half {
+    ghost use Rattle.std.specs.Coded.{codes};
+    ghost use Rattle.fl_compile.specs.contracts.program.Program.{the_row};
+    ghost use Rattle.fl_endpoint.specs.View.{TheEnd};
+    ghost use Rattle.fl_endpoint.specs.Lent.{IsPlaceOf};
+
+    ghost Value = { TheEnd };
+
+    ghost coded = { Prim.hlevel (codes, the_row.coded) };
+
+    ghost view = { λ h. h.end };
+
+    ghost invariant = { λ h. IsPlaceOf h.end h.calls 0 };
+}
+
+// The two ends of a binding, and the texts of the calls that they handled, a line each.
+#[derive(Drop)]
+struct Pair {
+    alloc: Global,
+    client: Half,
+    server: Half,
+    handled: Vec<u8>,
+}
+
+fn program_of_tree(alloc: Global, tree: &Tree, plan: PlanNo) -> Result<Program, AllocError> {
+    match check(alloc, tree) {
+        Ok(interface) => compile(alloc, &interface, plan),
+        Err(_) => Err(AllocError),
+    }
+}
+
+fn program_of(alloc: Global, tokens: &Tokens, plan: PlanNo) -> Result<Program, AllocError> {
+    match parse(alloc, tokens) {
+        Ok(tree) => program_of_tree(alloc, &tree, plan),
+        Err(_) => Err(AllocError),
+    }
+}
+
+// The program of a text; none only where memory runs out.
+fn program(alloc: Global, text: &[u8], plan: PlanNo) -> Result<Program, AllocError> {
+    match lex(alloc, text) {
+        Ok(tokens) => program_of(alloc, &tokens, plan),
+        Err(_) => Err(AllocError),
+    }
+}
+
+fn end(alloc: Global, program: Program, circuit: Option<Circuit>) -> Result<End, AllocError> {
+    match circuit {
+        Some(circuit) => End::new(alloc, program, circuit),
+        None => End::unbound(alloc, program),
+    }
+}
+
+fn queue(alloc: Global, size: usize) -> Result<QueueLink, AllocError> {
+    match QueueLink::local(alloc, size) {
+        Ok(queue) => Ok(queue),
+        Err(_) => Err(AllocError),
+    }
+}
+
+fn make_half(alloc: Global, plan: PlanNo, example: &Example) -> Result<Half, AllocError> {
+    let program = program(alloc, example.text, plan)?;
+    let end = end(alloc, program, example.circuit)?;
+    let mut calls = Reassemblies::new(alloc);
+    end.add_place(&mut calls)?;
+    Ok(Half {
+        end,
+        calls,
+        out: queue(alloc, example.size)?,
+    })
+}
+
+fn said_of(answer: Result<(), EndFault>) -> Said {
+    match answer {
+        Ok(()) => Said::Done,
+        Err(fault) => Said::Refused(fault.number()),
+    }
+}
+
+fn said_of_show(answer: Result<Option<Frag>, EndFault>) -> Said {
+    match answer {
+        Ok(Some(frag)) => Said::Shown(frag.control, frag.words),
+        Ok(None) => Said::Nothing,
+        Err(fault) => Said::Refused(fault.number()),
+    }
+}
+
+fn said_of_write(answer: Result<WriteAnswer, EndFault>) -> Said {
+    match answer {
+        Ok(WriteAnswer::Written { number, count }) => Said::Written(number, count),
+        Ok(WriteAnswer::Full) => Said::Full,
+        Ok(WriteAnswer::Nothing) => Said::Nothing,
+        Err(fault) => Said::Refused(fault.number()),
+    }
+}
+
+fn put(queue: &mut QueueLink, control: u64, words: [u64; 7]) -> Said {
+    match queue.put(&Frag { words, control }) {
+        Ok(()) => Said::Done,
+        Err(_) => Said::Full,
+    }
+}
+
+// A call as it was read.
+fn say(alloc: Global, end: &mut End, read: Result<Call, ValueFault>) -> Said
+    ensures program { end.new.program ≡ end.old.program }
+{
+    match read {
+        Ok(call) => said_of(end.call(&call, &mut Vec::new(alloc))),
+        Err(_) => Said::Refused(90),
+    }
+}
+
+fn call(alloc: Global, end: &mut End, text: &[u8]) -> Said
+    ensures program { end.new.program ≡ end.old.program }
+{
+    let read = read_call(alloc, text, end.program().interface());
+    say(alloc, end, read)
+}
+
+// The same, read by the interface of another text.
+fn call_by(alloc: Global, end: &mut End, other: &[u8], text: &[u8]) -> Result<Said, AllocError>
+    ensures program { end.new.program ≡ end.old.program }
+{
+    let program = program(alloc, other, PlanNo::Two)?;
+    let read = read_call(alloc, text, program.interface());
+    Ok(say(alloc, end, read))
+}
+
+// Adds the line of a call that an end handles.
+fn handle(
+    alloc: Global,
+    handled: &mut Vec<u8>,
+    end: &End,
+    call: &Call,
+) -> Result<Said, AllocError> {
+    let messages = &end.program().interface().messages;
+    if let Some(message) = messages.get(usize::from(call.msg.0)) {
+        print_call(alloc, handled, &message.name.bytes, &call.args)?;
+    }
+    handled.push(b'\n')?;
+    Ok(Said::Handled)
+}
+
+// What an end answers that takes no memory.
+fn ask(end: &mut End, deed: Deed) -> Said
+    ensures program { end.new.program ≡ end.old.program }
+{
+    match deed {
+        Deed::Rule(msg, reply) => said_of(end.reply_rule(msg, reply)),
+        Deed::RuleFor(msg) => Said::Rule(end.rule_for(msg)),
+        Deed::ShowRefused(fault) => said_of_show(end.show(&Refusing(fault))),
+        Deed::WriteRefused(fault) => said_of_write(end.write(&mut Refusing(fault))),
+        Deed::Bind(circuit) => {
+            end.bind(circuit);
+            Said::Done
+        }
+        Deed::Look => {
+            let is = [
+                end.is_bound(),
+                end.is_busy(),
+                end.is_failed(),
+                end.has_rules(),
+            ];
+            Said::Seen(end.circuit(), is)
+        }
+        _ => Said::Counts(
+            end.replies_waiting(),
+            end.program().interface().messages.len(),
+        ),
+    }
+}
+
+impl Half {
+    fn send(&mut self, alloc: Global, text: &[u8]) -> Said {
+        let said = call(alloc, &mut self.end, text);
+        if said != Said::Done {
+            return said;
+        }
+        said_of_write(self.end.write(&mut self.out))
+    }
+
+    fn receive(
+        &mut self,
+        alloc: Global,
+        from: &mut QueueLink,
+        handled: &mut Vec<u8>,
+    ) -> Result<Said, AllocError> {
+        match self.end.receive(from, &mut self.calls, 0) {
+            Ok(ReceiveAnswer::Handle(call)) => handle(alloc, handled, &self.end, &call),
+            Ok(ReceiveAnswer::Part) => Ok(Said::Part),
+            Ok(ReceiveAnswer::Quiet) => Ok(Said::Quiet),
+            Ok(ReceiveAnswer::Empty) => Ok(Said::Empty),
+            Ok(ReceiveAnswer::HeldBack) => Ok(Said::HeldBack),
+            Err(fault) => Ok(Said::Refused(fault.number())),
+        }
+    }
+
+    fn receive_at_last(
+        &mut self,
+        alloc: Global,
+        from: &mut QueueLink,
+        handled: &mut Vec<u8>,
+    ) -> Result<Said, AllocError> {
+        match self.receive(alloc, from, handled) {
+            Ok(Said::Refused(99)) => self.receive(alloc, from, handled),
+            said => said,
+        }
+    }
+
+    fn answer(
+        &mut self,
+        alloc: Global,
+        deed: Deed,
+        from: &mut QueueLink,
+        handled: &mut Vec<u8>,
+    ) -> Result<Said, AllocError> {
+        match deed {
+            Deed::Call(text) => Ok(call(alloc, &mut self.end, text)),
+            Deed::Send(text) => Ok(self.send(alloc, text)),
+            Deed::CallBy(other, text) => call_by(alloc, &mut self.end, other, text),
+            Deed::Show => Ok(said_of_show(self.end.show(&self.out))),
+            Deed::Write => Ok(said_of_write(self.end.write(&mut self.out))),
+            Deed::Receive => self.receive(alloc, from, handled),
+            Deed::ReceiveAtLast => self.receive_at_last(alloc, from, handled),
+            Deed::Put(control, words) => Ok(put(from, control, words)),
+            Deed::Take(control, words) => {
+                put(from, control, words);
+                self.receive(alloc, from, handled)
+            }
+            _ => Ok(ask(&mut self.end, deed)),
+        }
+    }
+}
+
+impl Pair {
+    fn new(alloc: Global, plan: PlanNo, example: &Example) -> Result<Pair, AllocError> {
+        Ok(Pair {
+            alloc,
+            client: make_half(alloc, plan, example)?,
+            server: make_half(alloc, plan, example)?,
+            handled: Vec::new(alloc),
+        })
+    }
+
+    fn answer(&mut self, side: Side, deed: Deed) -> Result<Said, AllocError> {
+        let (client, server) = (&mut self.client, &mut self.server);
+        match side {
+            Side::Client => client.answer(self.alloc, deed, &mut server.out, &mut self.handled),
+            Side::Server => server.answer(self.alloc, deed, &mut client.out, &mut self.handled),
+        }
+    }
+
+    // Whether the ends answer so to deeds, one after another.
+    fn answers(&mut self, rows: &[Step]) -> Result<bool, AllocError> {
+        for (side, deed, said) in rows {
+            if self.answer(*side, *deed)? != *said {
+                return Ok(false);
+            }
+        }
+        Ok(true)
+    }
+
+    fn has_handled(&self, text: &[u8]) -> bool {
+        self.handled.as_slice() == text
+    }
+
+    fn goes(&mut self, example: &Example, start: &[Step]) -> Result<bool, AllocError> {
+        Ok(self.answers(start)? && self.answers(example.rows)? && self.has_handled(example.handled))
+    }
+}
+
+// Whether both ends of a new binding answer so, from one of the beginnings on.
+fn goes(
+    alloc: Global,
+    plan: PlanNo,
+    example: &Example,
+    start: &[Step],
+) -> Result<bool, AllocError> {
+    let mut pair = Pair::new(alloc, plan, example)?;
+    pair.goes(example, start)
+}
+
+impl Row for Example {
+    fn holds(&self, alloc: Global) -> Result<bool, AllocError> {
+        for start in self.starts {
+            if !goes(alloc, PlanNo::One, self, start)? || !goes(alloc, PlanNo::Two, self, start)? {
+                return Ok(false);
+            }
+        }
+        Ok(true)
+    }
+}

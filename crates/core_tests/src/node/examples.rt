@@ -1,0 +1,67 @@
+//! Worked examples, each on a new line of cores, and all tables of them.
+
+use crate::node::forged::{ASTRAY, ASTRAY_BACK, FRAGMENTS, is_astray, is_forged};
+use crate::node::line::{Line, Plan, Step, Words, make_line};
+use crate::node::rows::{Row, all_hold};
+use crate::node::scripts::{PLAN, SCRIPTS};
+use crate::node::words::Word;
+use fl_base::Frag;
+use std::alloc::{AllocError, Global};
+use std::test::Fail;
+
+/// A message that comes to core 1 on a link.
+pub type Said = (u16, Words);
+
+/// An example.
+#[derive(Clone, Copy)]
+pub enum Example {
+    /// A line's plan, and what its steps come to, in parts.
+    Script(Plan, &'static [&'static [(Step, Word)]]),
+    /// What is heard first, and what is out of its place then.
+    Astray(&'static [Said], Said),
+    /// An opening that makes an end, the control word and the first word of a fragment behind it, and what that is refused for.
+    Forged(Said, u64, u64, u8),
+}
+
+fn plan_of(example: &Example) -> Plan {
+    match example {
+        Example::Script(plan, _) => *plan,
+        Example::Astray(_, _) | Example::Forged(_, _, _, _) => PLAN,
+    }
+}
+
+fn starting(control: u64, word: u64) -> Frag {
+    Frag {
+        words: [word, 0, 0, 0, 0, 0, 0],
+        control,
+    }
+}
+
+fn is_so(line: &mut Line, example: &Example) -> Result<bool, AllocError> {
+    match example {
+        Example::Script(_, parts) => line.follows_all(parts),
+        Example::Astray(before, said) => Ok(is_astray(line, before, *said)),
+        Example::Forged(opening, control, word, fault) => Ok(is_forged(
+            line,
+            *opening,
+            starting(*control, *word),
+            *fault,
+        )),
+    }
+}
+
+// A function that owns a line is dear to prove, so there is one.
+impl Row for Example {
+    fn holds(&self, alloc: Global) -> Result<bool, AllocError> {
+        let mut line = make_line(alloc, plan_of(self))?;
+        is_so(&mut line, self)
+    }
+}
+
+#[test]
+fn cores(rt: HostRuntime) -> Result<(), Fail> {
+    all_hold(rt.alloc(), "scripts", SCRIPTS)?;
+    all_hold(rt.alloc(), "messages from the lower core", ASTRAY)?;
+    all_hold(rt.alloc(), "messages from the higher core", ASTRAY_BACK)?;
+    all_hold(rt.alloc(), "fragments", FRAGMENTS)
+}

@@ -1,0 +1,401 @@
+//! Three cores in a line, with rings between them, driven by steps whose answers are words.
+
+use crate::node::ends::{
+    adds, adds_dispatcher, comes_and_goes, exchanges, joins, link_comes_and_goes, links, queues_of,
+    side_of,
+};
+use crate::node::events::{Deed, asks, say_to, turn};
+use crate::node::known::{Known, make_core, make_known};
+use crate::node::rings::{Ring, make_ring, pass_down, pass_up};
+use crate::node::words::{State, Word, state_of};
+use fl_base::{Circuit, CoreId, EndId, Frag, IRef, LinkId, Side};
+use fl_link::QueueLink;
+use fl_monitor::{Message, Path};
+use fl_node::Core;
+use fl_ring::Which;
+use std::alloc::{AllocError, Global};
+
+/// A way of messages between two cores next to each other: from the first core on, on to the last, and back.
+#[derive(Clone, Copy)]
+pub enum Leg {
+    Out,
+    On,
+    Back,
+    Home,
+}
+
+/// One of the two cores at which ends are.
+#[derive(Clone, Copy)]
+pub enum At {
+    First,
+    Last,
+}
+
+/// A message of monitors.
+#[derive(Clone, Copy)]
+pub enum Words {
+    /// A circuit, a binding, a service and a route.
+    Open(u16, u32, u32, &'static [CoreId]),
+    Opened(u16),
+    Refused(u16, u32),
+}
+
+/// A step.
+#[derive(Clone, Copy)]
+pub enum Step {
+    /// The first core begins the circuit of a binding.
+    Open(u32),
+    /// The middle core does, over its link to the last.
+    OpenOn(u32),
+    /// The monitor at a leg's beginning writes.
+    Say(Leg),
+    /// The core at a leg's end forwards what isn't to be passed on.
+    Hear(Leg),
+    /// A message, or any fragment, is put at a leg's beginning.
+    Tell(Leg, Words),
+    Put(Leg, Frag),
+    /// The middle core passes on what came by this leg.
+    Pass(Leg),
+    /// An end at a core makes a call with this argument, and writes its fragment.
+    Send(At, i128),
+    /// A turn of a core's dispatcher.
+    Turn(At),
+    /// An end more at a core's first dispatcher.
+    Add(At, EndId),
+    /// At the first core: an end or a link that is added and taken back, a dispatcher or a link more, both ends of a binding at two
+    /// dispatchers, where an end is, what queues it has, and which side a link has.
+    ComeAndGo(EndId),
+    LinkComesAndGoes(CoreId),
+    AddDispatcher,
+    AddLink(CoreId, usize),
+    Join(usize, usize, usize),
+    Place(EndId),
+    Queues(usize),
+    Ends,
+    SideOf(LinkId),
+    /// An end of this name is added, and exchanges rules with one that has a rule.
+    Exchange(EndId),
+    /// Bindings from 0 on are opened until one is refused.
+    OpenEach,
+    /// The same, where each opening is said and heard by the middle core, which says nothing.
+    TakeEach,
+    /// Those of the middle core, each said, and heard by nobody.
+    OpenOnEach,
+    /// So many ends more at a core's first dispatcher, two of each binding from 0 on.
+    Fill(At, usize),
+}
+
+/// What differs between lines: where the service is, if there is one; the link and the route along which the first core asks for
+/// circuits; and whether the rings are over shared words.
+#[derive(Clone, Copy)]
+pub struct Plan {
+    pub service: Option<u8>,
+    pub link: LinkId,
+    pub route: &'static [CoreId],
+    pub is_shared: bool,
+}
+
+const ON: &[CoreId] = &[CoreId(1), CoreId(2)];
+
+// Cores 0, 1 and 2.
+#[derive(Drop)]
+struct Cores {
+    first: Core,
+    middle: Core,
+    last: Core,
+}
+
+// The rings between them.
+#[derive(Drop)]
+struct Rings {
+    near: Ring,
+    far: Ring,
+}
+
+/// Cores without ends, and what is between them.
+#[derive(Drop)]
+pub struct Line {
+    cores: Cores,
+    rings: Rings,
+    known: Known,
+    plan: Plan,
+}
+
+fn make_cores(alloc: Global) -> Result<Cores, AllocError> {
+    Ok(Cores {
+        first: make_core(alloc, 0, &[1])?,
+        middle: make_core(alloc, 1, &[0, 2])?,
+        last: make_core(alloc, 2, &[1])?,
+    })
+}
+
+fn make_rings(alloc: Global, is_shared: bool) -> Result<Rings, AllocError> {
+    Ok(Rings {
+        near: make_ring(alloc, is_shared)?,
+        far: make_ring(alloc, is_shared)?,
+    })
+}
+
+/// A line of three cores.
+pub fn make_line(alloc: Global, plan: Plan) -> Result<Line, AllocError> {
+    Ok(Line {
+        known: make_known(alloc, plan.service)?,
+        rings: make_rings(alloc, plan.is_shared)?,
+        cores: make_cores(alloc)?,
+        plan,
+    })
+}
+
+// The message of these words; none where the route is too long.
+fn message(words: Words) -> Option<Message> {
+    match words {
+        Words::Open(circuit, binding, service, cores) => Some(Message::OpenCircuit {
+            circuit: Circuit(circuit),
+            binding,
+            service: IRef(service),
+            path: Path::new(cores)?,
+        }),
+        Words::Opened(circuit) => Some(Message::CircuitOpened {
+            circuit: Circuit(circuit),
+        }),
+        Words::Refused(circuit, reason) => Some(Message::CircuitRefused {
+            circuit: Circuit(circuit),
+            reason,
+        }),
+    }
+}
+
+// The names of ends, two of each binding from 0.
+fn nth_name(place: usize) -> EndId {
+    let side = if place % 2 == 0 {
+        Side::Client
+    } else {
+        Side::Server
+    };
+    EndId {
+        binding: place / 2,
+        side,
+    }
+}
+
+// Of all that were done one by one, what the last came to: the place of the first that isn't as the others, and what it came to.
+fn until(count: usize, word: Word) -> Word {
+    match word {
+        Word::Refused(fault) => Word::Until(count, fault),
+        Word::Full => Word::Times(count),
+        Word::NoMemory => Word::NoMemory,
+        _ => Word::Other,
+    }
+}
+
+impl Cores {
+    fn states(&self) -> [State; 3] {
+        [
+            state_of(&self.first),
+            state_of(&self.middle),
+            state_of(&self.last),
+        ]
+    }
+
+    fn at(&mut self, at: At) -> &mut Core {
+        match at {
+            At::First => &mut self.first,
+            At::Last => &mut self.last,
+        }
+    }
+}
+
+// What is done at the first core alone.
+fn makes(core: &mut Core, known: &Known, step: Step) -> Word {
+    match step {
+        Step::ComeAndGo(name) => comes_and_goes(core, known, name),
+        Step::LinkComesAndGoes(neighbour) => link_comes_and_goes(core, neighbour),
+        Step::AddDispatcher => adds_dispatcher(core),
+        Step::AddLink(neighbour, side) => links(core, neighbour, side),
+        Step::Join(binding, client, server) => joins(core, known, binding, client, server),
+        Step::Place(name) => Word::At(core.place(name)),
+        Step::Queues(e) => queues_of(core, e),
+        Step::Ends => Word::Times(core.board().ends()),
+        Step::SideOf(link) => side_of(core, link),
+        Step::Exchange(name) => exchanges(core, known, name),
+        _ => Word::Other,
+    }
+}
+
+impl Line {
+    // What is done at a leg's beginning.
+    fn acts_from(&mut self, leg: Leg, deed: Deed) -> Word {
+        let (cores, rings, known) = (&mut self.cores, &mut self.rings, &self.known);
+        let (near, far) = (LinkId(0), LinkId(1));
+        match leg {
+            Leg::Out => rings
+                .near
+                .act(Which::One, &mut cores.first, near, deed, known),
+            Leg::On => rings
+                .far
+                .act(Which::One, &mut cores.middle, far, deed, known),
+            Leg::Back => rings
+                .far
+                .act(Which::Two, &mut cores.last, near, deed, known),
+            Leg::Home => rings
+                .near
+                .act(Which::Two, &mut cores.middle, near, deed, known),
+        }
+    }
+
+    // The core at a leg's end hears: there the leg begins that leads back.
+    fn hears(&mut self, leg: Leg) -> Word {
+        match leg {
+            Leg::Out => self.acts_from(Leg::Home, Deed::Hear),
+            Leg::On => self.acts_from(Leg::Back, Deed::Hear),
+            Leg::Back => self.acts_from(Leg::On, Deed::Hear),
+            Leg::Home => self.acts_from(Leg::Out, Deed::Hear),
+        }
+    }
+
+    fn tells(&mut self, leg: Leg, words: Words) -> Word {
+        let Some(message) = message(words) else {
+            return Word::Other;
+        };
+        match self.known.messenger.frag(&message) {
+            Ok(frag) => self.acts_from(leg, Deed::Put(frag)),
+            Err(_) => Word::NoMemory,
+        }
+    }
+
+    fn passes(&mut self, leg: Leg) -> Word {
+        let (cores, rings) = (&mut self.cores, &mut self.rings);
+        match leg {
+            Leg::Out => pass_up(&mut cores.middle, &mut rings.near, &mut rings.far),
+            Leg::Back => pass_down(&mut cores.middle, &mut rings.near, &mut rings.far),
+            Leg::On | Leg::Home => Word::Other,
+        }
+    }
+
+    fn sends(&mut self, at: At, v: i128) -> Word {
+        match at {
+            At::First => self.acts_from(Leg::Out, Deed::Send(v)),
+            At::Last => self.acts_from(Leg::Back, Deed::Send(v)),
+        }
+    }
+
+    fn step_once(&mut self, step: Step) -> Word {
+        let (cores, known, plan) = (&mut self.cores, &self.known, self.plan);
+        match step {
+            Step::Open(binding) => asks(&mut cores.first, known, plan.link, plan.route, binding),
+            Step::OpenOn(binding) => asks(&mut cores.middle, known, LinkId(1), ON, binding),
+            Step::Turn(at) => turn(cores.at(at)),
+            Step::Add(at, name) => adds(cores.at(at), known, name),
+            Step::Say(leg) => self.acts_from(leg, Deed::Say),
+            Step::Hear(leg) => self.hears(leg),
+            Step::Tell(leg, words) => self.tells(leg, words),
+            Step::Put(leg, frag) => self.acts_from(leg, Deed::Put(frag)),
+            Step::Pass(leg) => self.passes(leg),
+            Step::Send(at, v) => self.sends(at, v),
+            _ => makes(&mut cores.first, known, step),
+        }
+    }
+
+    /// Does a step. Where it is refused for want of memory, all cores are as they were, and it is done again.
+    pub fn step(&mut self, step: Step) -> Word {
+        let before = self.cores.states();
+        let word = self.step_once(step);
+        if word != Word::NoMemory {
+            return word;
+        }
+        if self.cores.states() != before {
+            return Word::Changed;
+        }
+        self.step_once(step)
+    }
+
+    // How many circuits the first core begins while nothing is said, and what the next is answered.
+    fn opens_each(&mut self) -> Word {
+        for binding in 0..1_024 {
+            let word = self.step(Step::Open(binding));
+            if word != Word::Begun {
+                return until(binding as usize, word);
+            }
+        }
+        Word::Times(1_024)
+    }
+
+    // How many openings the middle core takes while it says nothing.
+    fn takes_each(&mut self) -> Word {
+        for binding in 0..1_024 {
+            self.step(Step::Open(binding));
+            self.step(Step::Say(Leg::Out));
+            let word = self.step(Step::Hear(Leg::Out));
+            if word != Word::Done {
+                return until(binding as usize, word);
+            }
+        }
+        Word::Times(1_024)
+    }
+
+    // How many circuits the middle core begins, and what the next is answered; what it says goes to this queue.
+    fn opens_on_each(&mut self, out: &mut QueueLink) -> Word {
+        for binding in 0..1_024 {
+            let word = self.step(Step::OpenOn(binding));
+            if word != Word::Begun {
+                return until(binding as usize, word);
+            }
+            if say_to(&mut self.cores.middle, out) != Word::Written {
+                return Word::Other;
+            }
+        }
+        Word::Times(1_024)
+    }
+
+    fn fills(&mut self, at: At, count: usize) -> Word {
+        for place in 0..count {
+            let word = self.step(Step::Add(at, nth_name(place)));
+            if word != Word::At(Some(place)) {
+                return until(place, word);
+            }
+        }
+        Word::Times(count)
+    }
+
+    fn opens_on_each_to_a_queue(&mut self) -> Word {
+        match QueueLink::local(self.known.alloc, 1_024) {
+            Ok(mut out) => self.opens_on_each(&mut out),
+            Err(_) => Word::NoMemory,
+        }
+    }
+
+    // What a step or many steps come to.
+    fn comes_to(&mut self, step: Step) -> Word {
+        match step {
+            Step::OpenEach => self.opens_each(),
+            Step::TakeEach => self.takes_each(),
+            Step::OpenOnEach => self.opens_on_each_to_a_queue(),
+            Step::Fill(at, count) => self.fills(at, count),
+            _ => self.step(step),
+        }
+    }
+
+    // Whether the steps come to these words.
+    fn follows(&mut self, rows: &[(Step, Word)]) -> Result<bool, AllocError> {
+        for (step, wanted) in rows {
+            let word = self.comes_to(*step);
+            if word == Word::NoMemory {
+                return Err(AllocError);
+            }
+            if word != *wanted {
+                return Ok(false);
+            }
+        }
+        Ok(true)
+    }
+
+    /// The same of steps in parts.
+    pub fn follows_all(&mut self, parts: &[&[(Step, Word)]]) -> Result<bool, AllocError> {
+        for rows in parts {
+            if !self.follows(rows)? {
+                return Ok(false);
+            }
+        }
+        Ok(true)
+    }
+}

@@ -1,0 +1,7 @@
+//! One running core, over its public calls alone: over local queues, and over a ring whose other side is driven by hand.
+//!
+//! - `rig.rt`: cores with a binding, their jobs and their tickets
+//! - `runs.rt`: whole runs
+
+mod rig;
+mod runs;

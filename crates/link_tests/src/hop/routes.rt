@@ -1,0 +1,274 @@
+//! Circuits over two links and over one, with real rings between the cores.
+
+use crate::hop::fragments::{call, put};
+use crate::hop::openings::table;
+use crate::rows::Row;
+use fl_base::{Circuit, Frag, LinkId};
+use fl_hop::{
+    Circuits, First, Forwarded, HopFault, Outcome, Way, deliver, forward_adds, later_on,
+    openings_lead, passage_adds, stretches_join,
+};
+use fl_link::{QueueLink, Sight, TakeSide, Told};
+use fl_ring::{SharedSide, duo};
+use std::alloc::Global;
+use std::test::Fail;
+
+const MOVED: Result<Forwarded, HopFault> = Ok(Forwarded::Onward(Outcome::Moved));
+
+const FULL: Result<Forwarded, HopFault> = Ok(Forwarded::Onward(Outcome::Full));
+
+// Takes the first fragment of a link to an arrival queue, and says whether it was moved.
+fn arrive(circuits: &Circuits, from: &mut SharedSide, queue: &mut QueueLink) -> bool {
+    match circuits.look(LinkId(0), from) {
+        Ok(First::Goes(frag, way)) => match way {
+            Way::End(_) => deliver(from, queue, &frag) == Outcome::Moved,
+            Way::Link(_, _) => false,
+        },
+        _ => false,
+    }
+}
+
+// A monitor's message goes over a link, and is taken there.
+fn message(
+    circuits: &Circuits,
+    link: LinkId,
+    out: &mut SharedSide,
+    sides: &mut [SharedSide],
+) -> bool {
+    let sent = put(out, call(0, 0));
+    let seen = match circuits.forward(link, sides) {
+        Ok(Forwarded::Monitor(frag)) => frag.circuit().0 == 0,
+        _ => false,
+    };
+    let taken = match sides.get_mut(usize::from(link.0)) {
+        Some(side) => match side.take() {
+            Sight::Data(_) => true,
+            _ => false,
+        },
+        None => false,
+    };
+    sent && seen && taken
+}
+
+// Whether the first fragment that comes out of an arrival queue is this call's, with the circuit set aside.
+fn comes_out(queue: &mut QueueLink, v: u64) -> bool {
+    let frag = Frag {
+        words: [v, 0, 0, 0, 0, 0, 0],
+        control: 3,
+    };
+    queue.take() == Sight::Data(frag)
+}
+
+// The calls of a binding between the first core and the last of three, once its circuit is open.
+fn calls(
+    cores: &Cores,
+    client: &mut SharedSide,
+    sides: &mut [SharedSide; 2],
+    server: &mut SharedSide,
+    queue: &mut QueueLink,
+) -> [bool; 16] {
+    let (near, far) = (LinkId(0), LinkId(1));
+    let (middle, last) = (&cores.middle, &cores.last);
+    [
+        put(client, call(0, 1)),
+        put(client, call(1, 1)),
+        put(client, call(2, 1)),
+        middle.forward(near, sides) == MOVED,
+        middle.forward(near, sides) == MOVED,
+        middle.forward(near, sides) == MOVED,
+        sides[0].tell() == Ok(Told::Written),
+        put(client, call(3, 1)),
+        middle.forward(near, sides) == FULL,
+        arrive(last, server, queue),
+        arrive(last, server, queue),
+        server.tell() == Ok(Told::Written),
+        middle.forward(near, sides) == MOVED,
+        middle.forward(far, sides) == Ok(Forwarded::Acknowledged),
+        middle.forward(far, sides) == Ok(Forwarded::Nothing),
+        middle.forward(LinkId(2), sides) == Err(HopFault::NoLink),
+    ]
+}
+
+// The circuit of binding 0 is opened over three cores, and told of in monitors' messages.
+fn opening(
+    cores: &mut Cores,
+    client: &mut [SharedSide; 1],
+    sides: &mut [SharedSide; 2],
+    server: &mut [SharedSide; 1],
+) -> [bool; 8] {
+    let (near, far) = (LinkId(0), LinkId(1));
+    [
+        cores.first.open(near, 0) == Ok(Circuit(1)),
+        message(&cores.middle, near, &mut client[0], sides),
+        cores.middle.pass_on(near, Circuit(1), far, 0) == Ok(Circuit(1)),
+        message(&cores.last, near, &mut sides[1], server),
+        cores.last.arrive(near, Circuit(1), 0) == Ok(()),
+        server[0].tell() == Ok(Told::Nothing),
+        message(&cores.middle, far, &mut server[0], sides),
+        message(&cores.first, near, &mut sides[0], client),
+    ]
+}
+
+#[derive(Drop)]
+struct Cores {
+    first: Circuits,
+    middle: Circuits,
+    last: Circuits,
+}
+
+fn make_cores(alloc: Global) -> Result<Cores, HopFault> {
+    Ok(Cores {
+        first: table(alloc, 0, &[1])?,
+        middle: table(alloc, 1, &[0, 2])?,
+        last: table(alloc, 2, &[1])?,
+    })
+}
+
+/// Three cores in a line, four slots on each link. The fourth call finds no room, until the last core tells what it took.
+pub fn line_of_three(alloc: Global) -> Result<bool, Fail> {
+    let mut cores = make_cores(alloc)?;
+    let mut queue = QueueLink::local(alloc, 16)?;
+    let (a, b) = duo(alloc, 4)?;
+    let (c, d) = duo(alloc, 4)?;
+    let (mut client, mut sides, mut server) = ([a], [b, c], [d]);
+    Ok(
+        opening(&mut cores, &mut client, &mut sides, &mut server) == [true; 8]
+            && calls(
+                &cores,
+                &mut client[0],
+                &mut sides,
+                &mut server[0],
+                &mut queue,
+            ) == [true; 16]
+            && comes_out(&mut queue, 0)
+            && comes_out(&mut queue, 1),
+    )
+}
+
+// The circuits of two bindings are opened over a link.
+fn two_openings(client: &mut Circuits, server: &mut Circuits) -> bool {
+    let link = LinkId(0);
+    client.open(link, 0) == Ok(Circuit(1))
+        && server.arrive(link, Circuit(1), 0) == Ok(())
+        && client.open(link, 1) == Ok(Circuit(3))
+        && server.arrive(link, Circuit(3), 1) == Ok(())
+}
+
+fn four_calls(out: &mut SharedSide) -> bool {
+    put(out, call(0, 1)) && put(out, call(1, 3)) && put(out, call(2, 1)) && put(out, call(3, 3))
+}
+
+fn four_arrive(
+    server: &Circuits,
+    side: &mut SharedSide,
+    one: &mut QueueLink,
+    two: &mut QueueLink,
+) -> bool {
+    arrive(server, side, one)
+        && arrive(server, side, two)
+        && arrive(server, side, one)
+        && comes_out(one, 0)
+        && comes_out(one, 2)
+        && arrive(server, side, two)
+        && comes_out(two, 1)
+        && comes_out(two, 3)
+}
+
+/// Two bindings share a link: each end gets its own fragments, in order, with the circuit set aside.
+pub fn shared_link(alloc: Global) -> Result<bool, Fail> {
+    let mut client = table(alloc, 0, &[1])?;
+    let mut server = table(alloc, 1, &[0])?;
+    let mut one = QueueLink::local(alloc, 16)?;
+    let mut two = QueueLink::local(alloc, 16)?;
+    let (mut out, mut side) = duo(alloc, 8)?;
+    Ok(
+        two_openings(&mut client, &mut server)
+            && four_calls(&mut out)
+            && four_arrive(&server, &mut side, &mut one, &mut two),
+    )
+}
+
+// Whether the next fragment of a link is this call's, on this circuit.
+fn brings(side: &mut SharedSide, v: u64, circuit: u16) -> bool {
+    match side.take() {
+        Sight::Data(frag) => frag.words[0] == v && frag.circuit() == Circuit(circuit),
+        _ => false,
+    }
+}
+
+// Of two openings that passed the middle core the first is refused further on, and the second's server calls before its
+// answer comes.
+fn overtaken(
+    middle: &mut Circuits,
+    sides: &mut [SharedSide; 2],
+    client: &mut SharedSide,
+    server: &mut SharedSide,
+) -> [bool; 12] {
+    let (near, far) = (LinkId(0), LinkId(1));
+    [
+        middle.pass_on(near, Circuit(1), far, 0) == Ok(Circuit(1)),
+        middle.pass_on(near, Circuit(3), far, 1) == Ok(Circuit(3)),
+        put(server, call(7, 3)),
+        middle.forward(far, sides) == MOVED,
+        middle.answer(far, Circuit(1)).is_ok(),
+        middle.remove(far, Circuit(1)).is_some(),
+        middle.answer(far, Circuit(3)).is_ok(),
+        put(client, call(8, 3)),
+        middle.forward(near, sides) == MOVED,
+        middle.pass_on(near, Circuit(5), far, 2) == Ok(Circuit(5)),
+        put(client, call(9, 1)),
+        middle.forward(near, sides) == Err(HopFault::Astray),
+    ]
+}
+
+/// The laws by which steps at a core join, over a shared ring's side and an arrival queue: they may be called where circuits are.
+pub fn know_stretches() {
+    openings_lead();
+    later_on();
+    stretches_join();
+    passage_adds::<SharedSide, QueueLink>();
+    forward_adds::<SharedSide>();
+}
+
+/// A refused opening leaves no entry and gives its numbers to nobody; a call from the server may come before the answer.
+pub fn refused_and_overtaken(alloc: Global) -> Result<bool, Fail> {
+    let mut middle = table(alloc, 1, &[0, 2])?;
+    let (mut client, b) = duo(alloc, 8)?;
+    let (c, mut server) = duo(alloc, 8)?;
+    let mut sides = [b, c];
+    Ok(
+        overtaken(&mut middle, &mut sides, &mut client, &mut server) == [true; 12]
+            && brings(&mut client, 7, 3)
+            && brings(&mut server, 8, 3)
+            && client.take() == Sight::Empty
+            && server.take() == Sight::Empty,
+    )
+}
+
+/// A fragment of a circuit without an entry stays, and so does one that would only acknowledge at its end: its control word, and
+/// what a forward answers to it twice, where number 1 leads to an end.
+pub struct Stays(u64, HopFault);
+
+pub const STAY: &[Stays] = &[
+    Stays(0x0003_0000_0003, HopFault::Astray),
+    Stays(0x0001_0000_0004, HopFault::Marked),
+];
+
+impl Row for Stays {
+    fn holds(&self, alloc: Global) -> Result<bool, Fail> {
+        let link = LinkId(0);
+        let mut server = table(alloc, 1, &[0])?;
+        server.arrive(link, Circuit(1), 0)?;
+        let (mut out, side) = duo(alloc, 4)?;
+        let mut sides = [side];
+        let frag = Frag {
+            words: [0; 7],
+            control: self.0,
+        };
+        Ok(
+            put(&mut out, frag)
+                && server.forward(link, &mut sides) == Err(self.1)
+                && server.forward(link, &mut sides) == Err(self.1),
+        )
+    }
+}

@@ -1,0 +1,17 @@
+//! Tests of lists, waitsets, links, rings and circuits, over their public calls alone: one crate, since each crate of tests
+//! begins with reading all that it stands on.
+//!
+//! - `rows.rt`: tables, of which a test tells the first row that isn't so
+//! - `ring.rt`: lists, waitsets, links and rings
+//! - `hop.rt`: circuits at cores
+//!
+//! `rt try --test --fail-alloc N` runs each with its Nth allocation refused: then the tests whose names end in
+//! `without_memory` have to pass, and others end with want of memory.
+#![tactic(auto)]
+
+#[cfg(test)]
+mod hop;
+#[cfg(test)]
+mod ring;
+#[cfg(test)]
+mod rows;

@@ -1,0 +1,193 @@
+//! Worked examples: queues that fill, and a fragment passed on.
+
+use crate::ring::fragments::{Step, arrived, fill, pass_on, ping};
+use crate::rows::{Row, all_hold};
+use fl_base::Frag;
+use fl_link::{
+    Cursor, Passed, PutFault, PutSide, QueueLink, Sight, Told, calls_alone, filters_join,
+    looks_join, queue_conserves,
+};
+use std::alloc::Global;
+use std::test::Fail;
+
+// Puts the fragment and takes it again; says whether a look sees a fragment of a call. `None` where it
+// isn't put, or the take gets something else than the look saw.
+fn is_data(queue: &mut QueueLink, frag: &Frag) -> Option<bool> {
+    if queue.put(frag) != Ok(()) {
+        return None;
+    }
+    let seen = queue.peek();
+    if queue.take() != seen {
+        return None;
+    }
+    Some(seen != Sight::Acknowledgement)
+}
+
+fn with_last_word(word: u64, control: u64) -> Frag {
+    Frag {
+        words: [0, 0, 0, 0, 0, 0, word],
+        control,
+    }
+}
+
+// Takes a step, and says whether the queue answers so.
+fn answers(queue: &mut QueueLink, step: Step) -> bool {
+    match step {
+        Step::Put(v, answer) => queue.put(&ping(v)) == answer,
+        Step::Peek(v, control) => queue.peek() == arrived(v, control),
+        Step::Take(v, control) => queue.take() == arrived(v, control),
+        Step::TakeNothing => queue.take() == Sight::Empty,
+        Step::TakeAcknowledgement => queue.take() == Sight::Acknowledgement,
+        Step::Tell(told) => queue.tell() == told,
+        Step::TellFull => false,
+        Step::Room(room) => queue.room() == room,
+        Step::NextEpoch(epoch) => queue.next_epoch() == epoch,
+        Step::NextTold(told) => queue.next_told() == told,
+        Step::Known(known) => queue.known() == known,
+        Step::Form(word, control, is) => {
+            is_data(queue, &with_last_word(word, control)) == Some(is)
+        }
+    }
+}
+
+// Whether the queue answers so to the steps in turn.
+fn follows(queue: &mut QueueLink, steps: &[Step]) -> bool {
+    for step in steps {
+        if !answers(queue, *step) {
+            return false;
+        }
+    }
+    true
+}
+
+// Whether the queue is acked, its slots, and the steps that it takes.
+struct Script(bool, usize, &'static [Step]);
+
+// A local queue frees a slot by a take.
+const LOCAL: &[Step] = &[
+    Step::Put(7, Ok(())),
+    Step::Put(8, Ok(())),
+    Step::Room(false),
+    Step::Put(9, Err(PutFault::Full)),
+    Step::Peek(7, 3),
+    Step::Take(7, 3),
+    Step::Put(9, Ok(())),
+    Step::Tell(Told::Nothing),
+    Step::Take(8, 3),
+    Step::Take(9, 3),
+    Step::TakeNothing,
+];
+
+// An acked queue frees a slot by a tell.
+const ACKED: &[Step] = &[
+    Step::Put(1, Ok(())),
+    Step::Put(2, Ok(())),
+    Step::Put(3, Err(PutFault::Full)),
+    Step::Take(1, 3),
+    Step::Put(9, Err(PutFault::Full)),
+    Step::Tell(Told::Written),
+    Step::NextEpoch(0),
+    Step::Put(9, Ok(())),
+    Step::Take(2, 3),
+    Step::Take(9, 2),
+];
+
+// Bit 2 alone makes no acknowledgement: the rest has to be 0 too.
+const FORMS: &[Step] = &[
+    Step::Form(0, 4, false),
+    Step::Form(1, 4, true),
+    Step::Form(0, 6, true),
+    Step::Form(0, 12, true),
+];
+
+const SCRIPTS: &[Script] = &[
+    Script(false, 2, LOCAL),
+    Script(true, 2, ACKED),
+    Script(false, 1, FORMS),
+];
+
+impl Row for Script {
+    fn holds(&self, alloc: Global) -> Result<bool, Fail> {
+        let mut queue = if self.0 {
+            QueueLink::acked(alloc, self.1)?
+        } else {
+            QueueLink::local(alloc, self.1)?
+        };
+        Ok(follows(&mut queue, self.2))
+    }
+}
+
+fn place_and_epoch(cursor: &Cursor) -> (usize, u64) {
+    (cursor.place(), cursor.epoch())
+}
+
+// The index needn't begin at 0: 65,530 is in the third place of a round of four whose epoch is 1.
+fn goes_round() -> bool {
+    let mut cursor = Cursor::at(4, 65_530);
+    let begins = cursor.index() == 65_530 && cursor.size() == 4;
+    let third = place_and_epoch(&cursor);
+    cursor.advance();
+    let fourth = place_and_epoch(&cursor);
+    cursor.advance();
+    begins && third == (2, 1) && fourth == (3, 1) && place_and_epoch(&cursor) == (0, 0)
+}
+
+const ACKNOWLEDGEMENT: Frag = Frag {
+    words: [0; 7],
+    control: 4,
+};
+
+// One of four fragments goes on to a queue of one; the next stays first.
+fn moves_one(from: &mut QueueLink, to: &mut QueueLink) -> bool {
+    pass_on(from, to) == Passed::Nothing
+        && fill(from, 5) == 4
+        && pass_on(from, to) == Passed::Moved
+        && pass_on(from, to) == Passed::Full
+        && follows(to, &[Step::Take(5, 3), Step::NextTold(0), Step::Known(0)])
+        && follows(from, &[Step::Peek(6, 3)])
+}
+
+// What only acknowledges goes no further.
+fn keeps_acknowledgement(from: &mut QueueLink, to: &mut QueueLink) -> bool {
+    from.put(&ACKNOWLEDGEMENT) == Ok(())
+        && pass_on(from, to) == Passed::Acknowledged
+        && follows(from, &[Step::TakeNothing])
+        && follows(to, &[Step::TakeNothing])
+}
+
+fn passes_on(alloc: Global) -> Result<bool, Fail> {
+    let mut to = QueueLink::local(alloc, 1)?;
+    let mut from = QueueLink::acked(alloc, 4)?;
+    let mut acknowledges = QueueLink::local(alloc, 1)?;
+    Ok(moves_one(&mut from, &mut to) && keeps_acknowledgement(&mut acknowledges, &mut to))
+}
+
+// Examples of other things than one queue.
+#[derive(Clone, Copy)]
+enum Example {
+    Cursor,
+    PassesOn,
+}
+
+impl Row for Example {
+    fn holds(&self, alloc: Global) -> Result<bool, Fail> {
+        match self {
+            Example::Cursor => Ok(goes_round()),
+            Example::PassesOn => passes_on(alloc),
+        }
+    }
+}
+
+#[test]
+fn queues(rt: HostRuntime) -> Result<(), Fail> {
+    looks_join::<QueueLink>();
+    filters_join();
+    calls_alone();
+    queue_conserves();
+    all_hold(rt.alloc(), "scripts", SCRIPTS)?;
+    all_hold(
+        rt.alloc(),
+        "examples",
+        &[Example::Cursor, Example::PassesOn],
+    )
+}

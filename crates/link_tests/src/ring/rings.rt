@@ -1,0 +1,403 @@
+//! Worked examples: rings with one owner that fill and wrap, counts that ride in control words.
+
+ghost use Rattle.std.specs.Prelude.{◌≡◌, false, OnOk, OnErr};
+ghost use Rattle.fl_base.specs.Control.{is_ack_only, bare};
+ghost use Rattle.fl_link.specs.Looks.{placed, peeked, taken};
+ghost use Rattle.fl_ring.specs.Duo.{DuoPuts, DuoTakes};
+
+use crate::ring::fragments::{Step, arrived, fill, pass_on, ping};
+use crate::rows::{Row, all_hold};
+use fl_base::Frag;
+use fl_link::{Link, Passed, PutFault, PutSide, QueueLink, Sight, TakeSide, Told};
+use fl_ring::{OneDuo, OneRing, Which, count_from, duo_conserves, forgets_looks, ring_conserves};
+use std::alloc::{AllocError, Global};
+use std::test::Fail;
+
+// What the putting side says of itself: room, epoch due, count told next, count known.
+fn said<P: PutSide>(side: &P) -> (bool, u64, u16, u64) {
+    (
+        side.room(),
+        side.next_epoch(),
+        side.next_told(),
+        side.known(),
+    )
+}
+
+// What a look sees, which the take gets; and whether the tell after it wrote.
+fn look_take_tell<T: TakeSide>(side: &mut T) -> (Sight, Sight, bool) {
+    let seen = side.peek();
+    let got = side.take();
+    (seen, got, side.tell() == Ok(Told::Written))
+}
+
+// What is done through a lent side is done to the ring.
+fn put_by_side(duo: &mut OneDuo, which: Which, frag: &Frag) -> Result<(), PutFault>
+    requires { is_ack_only frag.now ≡ false }
+    ensures placed { OnOk result (DuoPuts which duo.old (placed (bare frag.now)) duo.new) }
+{
+    let mut side = duo.side(which);
+    side.put(frag)
+}
+
+fn take_by_side(duo: &mut OneDuo, which: Which) -> Sight
+    ensures look { DuoTakes which duo.old (taken result) duo.new }
+{
+    let mut side = duo.side(which);
+    side.take()
+}
+
+fn look_by_side(duo: &mut OneDuo, which: Which) -> Sight
+    ensures look { DuoTakes which duo.old (peeked result) duo.new }
+{
+    let mut side = duo.side(which);
+    side.peek()
+}
+
+// Looks at a side, and forgets what the look told.
+fn look_and_forget(duo: &mut OneDuo, which: Which) -> Sight
+    ensures forgotten { duo.new ≡ duo.old }
+{
+    let known = duo.known(which);
+    let seen = duo.peek(which);
+    forgets_looks();
+    duo.forget(which, known);
+    seen
+}
+
+// Looks at a lent side and then takes memory; where there is none the ring is as it was.
+fn look_and_take_memory(
+    alloc: Global,
+    duo: &mut OneDuo,
+    which: Which,
+) -> Result<Vec<u64>, AllocError>
+    ensures unchanged { OnErr result (duo.new ≡ duo.old) }
+{
+    let known = duo.known(which);
+    let _ = look_by_side(duo, which);
+    match Vec::with_capacity(alloc, 8) {
+        Ok(room) => Ok(room),
+        Err(fault) => {
+            forgets_looks();
+            duo.forget(which, known);
+            Err(fault)
+        }
+    }
+}
+
+// Whether each of these words stands in its place.
+fn stand(words: &[u64], wanted: &[(usize, u64)]) -> bool {
+    for (i, value) in wanted {
+        if words.get(*i) != Some(value) {
+            return false;
+        }
+    }
+    true
+}
+
+// How many words there are, if all are 0.
+fn zeros(words: &[u64]) -> Option<usize> {
+    for word in words {
+        if *word != 0 {
+            return None;
+        }
+    }
+    Some(words.len())
+}
+
+// Takes a step, and says whether the ring answers so.
+fn ring_answers(ring: &mut OneRing, step: Step) -> bool {
+    match step {
+        Step::Put(v, answer) => ring.put(&ping(v)) == answer,
+        Step::Take(v, control) => ring.take() == arrived(v, control),
+        Step::Tell(told) => ring.tell() == told,
+        _ => false,
+    }
+}
+
+// A step, and words that stand there then.
+const RING_OF_TWO: &[(Step, &[(usize, u64)])] = &[
+    (Step::Put(7, Ok(())), &[]),
+    (Step::Put(7, Ok(())), &[(7, 3), (15, 3)]),
+    (Step::Put(7, Err(PutFault::Full)), &[]),
+    (Step::Take(7, 3), &[]),
+    (Step::Put(7, Err(PutFault::Full)), &[]),
+    (Step::Tell(Told::Written), &[(16, 1)]),
+    (Step::Put(7, Ok(())), &[(7, 2), (15, 3)]),
+];
+
+fn ring_follows(ring: &mut OneRing, rows: &[(Step, &[(usize, u64)])]) -> bool {
+    for (step, words) in rows {
+        if !ring_answers(ring, *step) || !stand(ring.words(), words) {
+            return false;
+        }
+    }
+    true
+}
+
+fn a_ring_of_two(alloc: Global) -> Result<bool, Fail> {
+    let mut ring = OneRing::new(alloc, 2)?;
+    Ok(ring_follows(&mut ring, RING_OF_TWO))
+}
+
+fn begins_with_zeros(alloc: Global) -> Result<bool, Fail> {
+    let ring = OneRing::new(alloc, 4)?;
+    Ok(zeros(ring.words()) == Some(33))
+}
+
+// Takes a step at this side, and says whether it answers so.
+fn duo_answers(duo: &mut OneDuo, which: Which, step: Step) -> bool {
+    match step {
+        Step::Put(v, answer) => put_by_side(duo, which, &ping(v)) == answer,
+        Step::Take(v, control) => take_by_side(duo, which) == arrived(v, control),
+        Step::TakeAcknowledgement => take_by_side(duo, which) == Sight::Acknowledgement,
+        Step::Tell(told) => duo.tell(which) == Ok(told),
+        _ => false,
+    }
+}
+
+// Whose step it is, the step, and words that stand there then.
+type DuoRow = (Which, Step, &'static [(usize, u64)]);
+
+const DUO_OF_FOUR: &[DuoRow] = &[
+    (Which::One, Step::Put(0, Ok(())), &[]),
+    (Which::One, Step::Put(1, Ok(())), &[]),
+    (Which::One, Step::Put(2, Ok(())), &[]),
+    (Which::One, Step::Put(3, Err(PutFault::Full)), &[]),
+    (Which::Two, Step::Take(0, 3), &[]),
+    (Which::Two, Step::Tell(Told::Nothing), &[]),
+    (Which::One, Step::Put(4, Err(PutFault::Full)), &[]),
+    (Which::Two, Step::Take(1, 3), &[]),
+    (
+        Which::Two,
+        Step::Tell(Told::Written),
+        &[(39, 0x0002_0000_0000_0005)],
+    ),
+    (Which::One, Step::Put(4, Ok(())), &[]),
+    (Which::One, Step::TakeAcknowledgement, &[]),
+    (
+        Which::One,
+        Step::Put(5, Ok(())),
+        &[(7, 0x0001_0000_0000_0002)],
+    ),
+];
+
+fn duo_follows(duo: &mut OneDuo, rows: &[DuoRow]) -> bool {
+    for (which, step, words) in rows {
+        if !duo_answers(duo, *which, *step) || !stand(duo.words(), words) {
+            return false;
+        }
+    }
+    true
+}
+
+// It begins with zeros.
+fn a_duo_of_four(alloc: Global) -> Result<bool, Fail> {
+    let mut duo = OneDuo::new(alloc, 4)?;
+    Ok(zeros(duo.words()) == Some(64) && duo_follows(&mut duo, DUO_OF_FOUR))
+}
+
+// Side one puts a fragment and side two takes it, and answers with one that tells so.
+const ASKED_AND_ANSWERED: &[DuoRow] = &[
+    (Which::One, Step::Put(7, Ok(())), &[]),
+    (Which::Two, Step::Take(7, 3), &[]),
+    (Which::Two, Step::Put(8, Ok(())), &[]),
+];
+
+// A look tells side one that its fragment was taken; forgotten, it is told again by the next.
+fn forgets(duo: &mut OneDuo) -> bool {
+    let answer = arrived(8, 0x0001_0000_0000_0003);
+    look_and_forget(duo, Which::One) == answer
+        && duo.known(Which::One) == 0
+        && duo.peek(Which::One) == answer
+        && duo.known(Which::One) == 1
+}
+
+fn forgets_what_a_look_told(alloc: Global) -> Result<bool, Fail> {
+    let mut duo = OneDuo::new(alloc, 4)?;
+    let forgets = duo_follows(&mut duo, ASKED_AND_ANSWERED) && forgets(&mut duo);
+    let room = look_and_take_memory(alloc, &mut duo, Which::One)?;
+    Ok(forgets && room.is_empty())
+}
+
+// What a tell of side two of a duo does after the fragment `v`, and then a look of side one: side two tells
+// each second one, by a fragment of its own.
+fn told_and_passed(v: u64) -> (Told, Passed) {
+    if v % 2 == 0 {
+        return (Told::Nothing, Passed::Nothing);
+    }
+    (Told::Written, Passed::Acknowledged)
+}
+
+fn put_local(queue: &mut QueueLink, v: u64) -> bool {
+    PutSide::put(queue, &ping(v)) == Ok(())
+}
+
+fn take_local(queue: &mut QueueLink) -> Sight {
+    TakeSide::take(queue)
+}
+
+// Whether a fragment goes from a local queue through an acked one into a ring.
+fn goes_to_ring(local: &mut QueueLink, acked: &mut QueueLink, ring: &mut OneRing, v: u64) -> bool {
+    put_local(local, v)
+        && pass_on(local, acked) == Passed::Moved
+        && pass_on(acked, ring) == Passed::Moved
+        && TakeSide::tell(acked) == Ok(Told::Written)
+}
+
+// Whether it goes from there through a duo into the local queue, and what the duo's sides tell then.
+fn goes_from_ring(local: &mut QueueLink, ring: &mut OneRing, duo: &mut OneDuo, v: u64) -> bool {
+    let (told, passed) = told_and_passed(v);
+    pass_on(&mut duo.side(Which::Two), local) == Passed::Nothing
+        && pass_on(ring, &mut duo.side(Which::One)) == Passed::Moved
+        && pass_on(&mut duo.side(Which::Two), local) == Passed::Moved
+        && take_local(local) == arrived(v, 3)
+        && ring.tell() == Told::Written
+        && duo.tell(Which::Two) == Ok(told)
+        && pass_on(&mut duo.side(Which::One), local) == passed
+}
+
+// Ten of them, so that each link wraps round.
+fn ten_go_through(
+    local: &mut QueueLink,
+    acked: &mut QueueLink,
+    ring: &mut OneRing,
+    duo: &mut OneDuo,
+) -> bool {
+    for v in 0..10 {
+        if !goes_to_ring(local, acked, ring, v) || !goes_from_ring(local, ring, duo, v) {
+            return false;
+        }
+    }
+    true
+}
+
+fn passes_through_each(alloc: Global) -> Result<bool, Fail> {
+    let mut local = QueueLink::local(alloc, 1)?;
+    let mut acked = QueueLink::acked(alloc, 2)?;
+    let mut ring = OneRing::new(alloc, 2)?;
+    let mut duo = OneDuo::new(alloc, 4)?;
+    Ok(ten_go_through(&mut local, &mut acked, &mut ring, &mut duo))
+}
+
+// What a link says of itself.
+type Said = (bool, u64, u16, u64);
+
+// How many fragments fill the link; what it says then; what a look, a take and a tell do; and what it says then.
+type OfItself = (u64, Said, (Sight, Sight, bool), Said);
+
+fn of_itself<L: Link>(link: &mut L) -> OfItself {
+    let filled = fill(link, 0);
+    let full = said(link);
+    let looked = look_take_tell(link);
+    (filled, full, looked, said(link))
+}
+
+// The same of a duo that is filled by side two and read by side one; and what that one says then.
+fn duo_of_itself(duo: &mut OneDuo) -> (OfItself, Said) {
+    let filled = fill(&mut duo.side(Which::Two), 0);
+    let full = said(&duo.side(Which::Two));
+    let looked = look_take_tell(&mut duo.side(Which::One));
+    let two = said(&duo.side(Which::Two));
+    ((filled, full, looked, two), said(&duo.side(Which::One)))
+}
+
+// What a look and a take get of the first fragment, and whether a tell then writes.
+fn first(tells: bool) -> (Sight, Sight, bool) {
+    (arrived(0, 3), arrived(0, 3), tells)
+}
+
+fn a_local_queue(alloc: Global) -> Result<bool, Fail> {
+    let mut queue = QueueLink::local(alloc, 2)?;
+    let wanted = (2, (false, 1, 0, 0), first(false), (true, 1, 0, 0));
+    Ok(of_itself(&mut queue) == wanted)
+}
+
+fn an_acked_queue(alloc: Global) -> Result<bool, Fail> {
+    let mut queue = QueueLink::acked(alloc, 2)?;
+    let wanted = (2, (false, 0, 0, 0), first(true), (true, 0, 0, 0));
+    Ok(of_itself(&mut queue) == wanted)
+}
+
+fn a_ring(alloc: Global) -> Result<bool, Fail> {
+    let mut ring = OneRing::new(alloc, 2)?;
+    let wanted = (2, (false, 0, 0, 0), first(true), (true, 0, 0, 1));
+    Ok(of_itself(&mut ring) == wanted)
+}
+
+fn a_duo(alloc: Global) -> Result<bool, Fail> {
+    let mut duo = OneDuo::new(alloc, 4)?;
+    let two = (false, 1, 0, 0);
+    Ok(duo_of_itself(&mut duo) == ((3, two, first(false), two), (true, 1, 1, 0)))
+}
+
+// What is known, a number of 16 bits, and the count that it names.
+struct Count(u64, u16, u64);
+
+const COUNTS: &[Count] = &[
+    Count(0, 0, 0),
+    Count(0, 2, 2),
+    Count(65_530, 65_535, 65_535),
+    Count(65_530, 0, 65_536),
+    Count(65_536, 65_535, 131_071),
+];
+
+impl Row for Count {
+    // The counts are far from the end of all counts.
+    fn holds(&self, _alloc: Global) -> Result<bool, Fail> {
+        let known = self.0;
+        if known >= 1 << 62 {
+            return Ok(false);
+        }
+        Ok(count_from(known, self.1) == self.2)
+    }
+}
+
+#[derive(Clone, Copy)]
+enum Example {
+    RingOfTwo,
+    BeginsWithZeros,
+    DuoOfFour,
+    Forgets,
+    PassesThroughEach,
+    // what each tells of itself
+    LocalQueue,
+    AckedQueue,
+    Ring,
+    Duo,
+}
+
+const EXAMPLES: &[Example] = &[
+    Example::RingOfTwo,
+    Example::BeginsWithZeros,
+    Example::DuoOfFour,
+    Example::Forgets,
+    Example::PassesThroughEach,
+    Example::LocalQueue,
+    Example::AckedQueue,
+    Example::Ring,
+    Example::Duo,
+];
+
+impl Row for Example {
+    fn holds(&self, alloc: Global) -> Result<bool, Fail> {
+        match self {
+            Example::RingOfTwo => a_ring_of_two(alloc),
+            Example::BeginsWithZeros => begins_with_zeros(alloc),
+            Example::DuoOfFour => a_duo_of_four(alloc),
+            Example::Forgets => forgets_what_a_look_told(alloc),
+            Example::PassesThroughEach => passes_through_each(alloc),
+            Example::LocalQueue => a_local_queue(alloc),
+            Example::AckedQueue => an_acked_queue(alloc),
+            Example::Ring => a_ring(alloc),
+            Example::Duo => a_duo(alloc),
+        }
+    }
+}
+
+#[test]
+fn rings(rt: HostRuntime) -> Result<(), Fail> {
+    ring_conserves();
+    duo_conserves();
+    all_hold(rt.alloc(), "counts", COUNTS)?;
+    all_hold(rt.alloc(), "examples", EXAMPLES)
+}

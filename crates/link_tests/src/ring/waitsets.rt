@@ -1,0 +1,270 @@
+//! Waitsets: worked examples, and random calls beside slow lists.
+
+use crate::ring::slow::{Slow, next_random, random_place};
+use crate::rows::{Row, all_hold};
+use fl_base::ChanId;
+use fl_waitset::{Pick, Place, WaitFault, Waitset};
+use std::alloc::{AllocError, Global};
+use std::test::Fail;
+
+// A call of a waitset.
+#[derive(Clone, Copy)]
+enum Asked {
+    Register(ChanId),
+    RegisterPolled(ChanId),
+    Deregister(ChanId),
+    Trigger(ChanId),
+    PutBack(ChanId, Place),
+    NextEvent,
+}
+
+// A pick where it is asked for the next event, else nothing.
+type Answer = Result<Option<Pick>, WaitFault>;
+
+fn done(answer: Result<(), WaitFault>) -> Answer {
+    match answer {
+        Ok(()) => Ok(None),
+        Err(fault) => Err(fault),
+    }
+}
+
+fn picked(answer: Result<Pick, WaitFault>) -> Answer {
+    match answer {
+        Ok(pick) => Ok(Some(pick)),
+        Err(fault) => Err(fault),
+    }
+}
+
+// What the waitset answers.
+fn ask(waitset: &mut Waitset, asked: Asked) -> Answer {
+    match asked {
+        Asked::Register(c) => done(waitset.register(c)),
+        Asked::RegisterPolled(c) => done(waitset.register_polled(c)),
+        Asked::Deregister(c) => done(waitset.deregister(c)),
+        Asked::Trigger(c) => done(waitset.trigger(c)),
+        Asked::PutBack(c, place) => done(waitset.put_back(c, place)),
+        Asked::NextEvent => picked(waitset.next_event()),
+    }
+}
+
+// Two channels, and one that there isn't.
+
+const A: ChanId = ChanId(0);
+
+const B: ChanId = ChanId(1);
+
+const NONE: ChanId = ChanId(2);
+
+// A waitset of two channels is asked these in turn.
+struct Script(&'static [(Asked, Answer)]);
+
+const ANSWERS: &[(Asked, Answer)] = &[
+    (Asked::NextEvent, Err(WaitFault::NoEvent)),
+    (Asked::Register(NONE), Err(WaitFault::NoChannel)),
+    (Asked::Trigger(A), Ok(None)),
+    (
+        Asked::PutBack(A, Place::Idle),
+        Err(WaitFault::NotRegistered),
+    ),
+    (Asked::Register(A), Ok(None)),
+    (Asked::RegisterPolled(A), Err(WaitFault::Registered)),
+    (Asked::RegisterPolled(B), Ok(None)),
+    (Asked::NextEvent, Ok(Some(Pick::Polled(B)))),
+    (Asked::Trigger(A), Ok(None)),
+    (Asked::Trigger(A), Ok(None)),
+    (Asked::Trigger(B), Ok(None)),
+    (Asked::NextEvent, Ok(Some(Pick::Pending(A)))),
+    (Asked::PutBack(B, Place::Pending), Ok(None)),
+    (Asked::PutBack(A, Place::Pending), Ok(None)),
+    (Asked::NextEvent, Ok(Some(Pick::Pending(B)))),
+    (Asked::Deregister(B), Ok(None)),
+    (Asked::Deregister(B), Err(WaitFault::NotRegistered)),
+    (Asked::NextEvent, Ok(Some(Pick::Pending(A)))),
+    (Asked::Deregister(NONE), Err(WaitFault::NoChannel)),
+];
+
+fn answers(waitset: &mut Waitset, rows: &[(Asked, Answer)]) -> bool {
+    for (asked, answer) in rows {
+        if ask(waitset, *asked) != *answer {
+            return false;
+        }
+    }
+    true
+}
+
+impl Row for Script {
+    fn holds(&self, alloc: Global) -> Result<bool, Fail> {
+        let mut waitset = Waitset::new(alloc, 2)?;
+        Ok(answers(&mut waitset, self.0))
+    }
+}
+
+const CHANNELS: u16 = 6;
+
+// What the slow lists answer to a call for a channel that has to be registered, or has not to be.
+fn slow_answer(slow: &Slow, c: ChanId, registered: bool) -> Answer {
+    if c.0 >= CHANNELS {
+        return Err(WaitFault::NoChannel);
+    }
+    match slow.place_of(c.0) {
+        Some(_) => if registered {
+            Ok(None)
+        } else {
+            Err(WaitFault::Registered)
+        },
+        None => if registered {
+            Err(WaitFault::NotRegistered)
+        } else {
+            Ok(None)
+        },
+    }
+}
+
+// The channel goes to the back of this list, or out of all.
+fn go(slow: &mut Slow, c: ChanId, to: Option<Place>) -> Result<(), AllocError> {
+    slow.remove(c.0);
+    match to {
+        Some(place) => slow.push(c.0, place),
+        None => Ok(()),
+    }
+}
+
+// A trigger moves a channel that is idle, and is heard by none that isn't registered.
+fn slow_trigger(slow: &mut Slow, c: ChanId) -> Result<Answer, AllocError> {
+    if c.0 >= CHANNELS {
+        return Ok(Err(WaitFault::NoChannel));
+    }
+    if slow.place_of(c.0) == Some(Place::Idle) {
+        go(slow, c, Some(Place::Pending))?;
+    }
+    Ok(Ok(None))
+}
+
+fn slow_next(slow: &Slow) -> Answer {
+    if let Some(c) = slow.first(Place::Pending) {
+        return Ok(Some(Pick::Pending(ChanId(c))));
+    }
+    match slow.first(Place::Polled) {
+        Some(c) => Ok(Some(Pick::Polled(ChanId(c)))),
+        None => Err(WaitFault::NoEvent),
+    }
+}
+
+fn slow_move(
+    slow: &mut Slow,
+    c: ChanId,
+    registered: bool,
+    to: Option<Place>,
+) -> Result<Answer, AllocError> {
+    let answer = slow_answer(slow, c, registered);
+    if answer.is_ok() {
+        go(slow, c, to)?;
+    }
+    Ok(answer)
+}
+
+// What the slow lists answer.
+fn ask_slow(slow: &mut Slow, asked: Asked) -> Result<Answer, AllocError> {
+    match asked {
+        Asked::Register(c) => slow_move(slow, c, false, Some(Place::Idle)),
+        Asked::RegisterPolled(c) => slow_move(slow, c, false, Some(Place::Polled)),
+        Asked::Deregister(c) => slow_move(slow, c, true, None),
+        Asked::Trigger(c) => slow_trigger(slow, c),
+        Asked::PutBack(c, place) => slow_move(slow, c, true, Some(place)),
+        Asked::NextEvent => Ok(slow_next(slow)),
+    }
+}
+
+fn random_call(random: u64) -> Asked {
+    let c = ChanId(((random >> 40) % 7) as u16);
+    match (random >> 33) % 6 {
+        0 => Asked::Register(c),
+        1 => Asked::RegisterPolled(c),
+        2 => Asked::Deregister(c),
+        3 | 4 => Asked::Trigger(c),
+        _ => Asked::PutBack(c, random_place(random)),
+    }
+}
+
+// Whether the two answer alike to a call, and to the question for the next event after it.
+fn alike(fast: &mut Waitset, slow: &mut Slow, asked: Asked) -> Result<bool, AllocError> {
+    Ok(ask(fast, asked) == ask_slow(slow, asked)? && picked(fast.next_event()) == slow_next(slow))
+}
+
+// Whether so many random calls are answered alike; `random` goes on.
+fn call_each(
+    fast: &mut Waitset,
+    slow: &mut Slow,
+    calls: usize,
+    random: &mut u64,
+) -> Result<bool, AllocError> {
+    for _ in 0..calls {
+        *random = next_random(*random);
+        if !alike(fast, slow, random_call(*random))? {
+            return Ok(false);
+        }
+    }
+    Ok(true)
+}
+
+fn pick_of(answer: Answer) -> Option<ChanId> {
+    match answer {
+        Ok(Some(Pick::Pending(c) | Pick::Polled(c))) => Some(c),
+        _ => None,
+    }
+}
+
+// Whether the two pick the same channels until none waits, where each is taken out.
+fn drain(fast: &mut Waitset, slow: &mut Slow) -> Result<bool, AllocError> {
+    for _ in 0..CHANNELS {
+        let Some(c) = pick_of(slow_next(slow)) else {
+            break;
+        };
+        if !alike(fast, slow, Asked::Deregister(c))? {
+            return Ok(false);
+        }
+    }
+    Ok(picked(fast.next_event()) == Err(WaitFault::NoEvent))
+}
+
+// Whether the same channels are idle: no call shows in which order they stood, so each in turn is triggered.
+fn drain_idle(fast: &mut Waitset, slow: &mut Slow) -> Result<bool, AllocError> {
+    for c in 0..CHANNELS {
+        if !alike(fast, slow, Asked::Trigger(ChanId(c)))? {
+            return Ok(false);
+        }
+    }
+    drain(fast, slow)
+}
+
+// So many random calls over six channels and one that there isn't.
+struct Random(usize);
+
+fn agree_after(alloc: Global, calls: usize, random: &mut u64) -> Result<bool, Fail> {
+    let mut fast = Waitset::new(alloc, usize::from(CHANNELS))?;
+    let mut slow = Slow::new(alloc);
+    Ok(
+        call_each(&mut fast, &mut slow, calls, random)?
+            && drain(&mut fast, &mut slow)?
+            && drain_idle(&mut fast, &mut slow)?,
+    )
+}
+
+// After each number of calls the lists agree.
+impl Row for Random {
+    fn holds(&self, alloc: Global) -> Result<bool, Fail> {
+        let mut random: u64 = 1;
+        for calls in 0..self.0 {
+            if !agree_after(alloc, calls, &mut random)? {
+                return Ok(false);
+            }
+        }
+        Ok(true)
+    }
+}
+
+#[test]
+fn waitsets_answer(rt: HostRuntime) -> Result<(), Fail> {
+    all_hold(rt.alloc(), "scripts", &[Script(ANSWERS)])?;
+    all_hold(rt.alloc(), "random calls", &[Random(80)])
+}

@@ -1,0 +1,180 @@
+//! One thing more than a world holds: what the last line of each script asks is refused. And the longest script.
+
+use crate::program::scripts::{Row, Script, is_transcript};
+use std::alloc::{AllocError, Global};
+use std::test::Fail;
+
+/// A script and its transcript: how they begin, lines that stand there so many times with their number in the place of `@`, and how they end.
+pub struct Limit {
+    first: Script,
+    times: u32,
+    lines: Script,
+    last: Script,
+}
+
+const NOTHING: Script = Script(b"", b"");
+
+const LINKED: Script = Script(
+    b"idl\ninterface i { message m(); }\n.\ncores 2\nlink 0 1 4\ndisp d 0\ndisp e 1\nexport s e i\n",
+    b"ok\nok\nok\nok\nok\nok\n",
+);
+
+pub const LIMITS: &[Limit] = &[
+    // interfaces
+    Limit {
+        first: NOTHING,
+        times: 64,
+        lines: Script(b"idl\ninterface i@ { message m(); }\n.\n", b"ok\n"),
+        last: Script(b"idl\ninterface j { message m(); }\n.\n", b"refused E94\n"),
+    },
+    // dispatchers
+    Limit {
+        first: NOTHING,
+        times: 256,
+        lines: Script(b"disp d@ 0\n", b"ok\n"),
+        last: Script(b"disp e 0\n", b"refused E94\n"),
+    },
+    // services
+    Limit {
+        first: Script(
+            b"idl\ninterface i { message m(); }\n.\ndisp d 0\n",
+            b"ok\nok\n",
+        ),
+        times: 256,
+        lines: Script(b"export s@ d i\n", b"ok\n"),
+        last: Script(b"export t d i\n", b"refused E94\n"),
+    },
+    // bindings: their limit is told before those of a dispatcher's ends, which are used up as well
+    Limit {
+        first: Script(
+            b"idl\ninterface i { message m(); }\n.\ndisp d 0\ndisp e 0\nexport s e i\n",
+            b"ok\nok\nok\nok\n",
+        ),
+        times: 1024,
+        lines: Script(b"bind p@ d i s local 1\n", b"ok\n"),
+        last: Script(b"bind q d i s local 1\n", b"refused E94\n"),
+    },
+    // ends: a dispatcher has 1,024 at most, and a binding to itself takes two of them
+    Limit {
+        first: Script(
+            b"idl\ninterface i { message m(); }\n.\ndisp d 0\nexport s d i\n",
+            b"ok\nok\nok\n",
+        ),
+        times: 512,
+        lines: Script(b"bind p@ d i s local 1\n", b"ok\n"),
+        last: Script(b"bind q d i s local 1\n", b"refused E54\n"),
+    },
+    // circuits: a monitor opens 1,023 on a link, whatever became of them
+    Limit {
+        first: LINKED,
+        times: 1023,
+        lines: Script(
+            b"\
+bind p@ d i s hop 0 1
+mwrite 0 1
+forward 1 0
+mack 1 0
+mwrite 1 0
+forward 0 1
+mack 0 1
+",
+            b"\
+ok
+written 1 of 1
+opened p@.s
+nothing
+written 1 of 1
+opened p@.c
+nothing
+",
+        ),
+        last: Script(b"bind q d i s hop 0 1\n", b"refused E74\n"),
+    },
+    // messages: a link's outbox holds 64
+    Limit {
+        first: LINKED,
+        times: 64,
+        lines: Script(b"bind p@ d i s hop 0 1\n", b"ok\n"),
+        last: Script(b"bind q d i s hop 0 1\n", b"refused E75\n"),
+    },
+    // a script of 1,048,576 bytes is run
+    Limit {
+        first: NOTHING,
+        times: 1_048_576,
+        lines: Script(b"\n", b""),
+        last: NOTHING,
+    },
+    // one byte more is refused whole
+    Limit {
+        first: NOTHING,
+        times: 1_048_576,
+        lines: Script(b"\n", b""),
+        last: Script(b"\n", b"refused E91\n"),
+    },
+];
+
+fn digit(number: u32) -> u8 {
+    b'0' + (number % 10) as u8
+}
+
+// A number of four digits.
+fn digits(number: u32) -> [u8; 4] {
+    [
+        digit(number / 1000),
+        digit(number / 100),
+        digit(number / 10),
+        digit(number),
+    ]
+}
+
+// A line with its number in the place of `@`.
+fn push_line(text: &mut Vec<u8>, line: &[u8], number: u32) -> Result<(), AllocError> {
+    for byte in line {
+        if *byte == b'@' {
+            text.extend_from_slice(&digits(number))?;
+        } else {
+            text.push(*byte)?;
+        }
+    }
+    Ok(())
+}
+
+fn push_lines(text: &mut Vec<u8>, line: &[u8], times: u32) -> Result<(), AllocError> {
+    for number in 0..times {
+        push_line(text, line, number)?;
+    }
+    Ok(())
+}
+
+// A text that begins so, goes on by these lines and ends so.
+fn text_of(
+    alloc: Global,
+    first: &[u8],
+    times: u32,
+    lines: &[u8],
+    last: &[u8],
+) -> Result<Vec<u8>, AllocError> {
+    let mut text = Vec::from_slice(alloc, first)?;
+    push_lines(&mut text, lines, times)?;
+    text.extend_from_slice(last)?;
+    Ok(text)
+}
+
+// Whether a script has its limit's transcript.
+fn is_limit(alloc: Global, limit: &Limit, script: &[u8]) -> Result<bool, Fail> {
+    let wanted = text_of(
+        alloc,
+        limit.first.1,
+        limit.times,
+        limit.lines.1,
+        limit.last.1,
+    )?;
+    Ok(is_transcript(alloc, script, &wanted)?)
+}
+
+impl Row for Limit {
+    fn holds(&self, alloc: Global) -> Result<bool, Fail> {
+        let script = text_of(alloc, self.first.0, self.times, self.lines.0, self.last.0)?;
+        is_limit(alloc, self, &script)
+    }
+}

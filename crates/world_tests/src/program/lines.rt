@@ -1,0 +1,20 @@
+//! Lines without an answer, carriage returns, blocks left open, words that are no command, and numbers of cores.
+
+use crate::program::scripts::Script;
+
+pub const ROWS: &[Script] = &[
+    Script(b"", b""),
+    Script(b"\n  \t\n# disp d 0\r\n", b""),
+    Script(
+        b"disp d 0\r\ndisp d 0\ndisp e 1\ndisp 1 0\ndisp d\nnope\nturn x\n",
+        b"ok\nrefused E92\nrefused E73\nrefused E90\nrefused E90\nrefused E90\nrefused E92\n",
+    ),
+    Script(b"idl\ninterface i {\n.\n", b"refused E7 at 14\n"),
+    Script(b"idl\ninterface i { }\ndisp d 0\n", b"refused E90\n"),
+    Script(b"idl x\ndisp d 0", b"refused E90\nok\n"),
+    Script(
+        b"cores 16\ndisp d 15\ndisp e 16\n",
+        b"ok\nok\nrefused E73\n",
+    ),
+    Script(b"cores 17\n", b"refused E94\n"),
+];
