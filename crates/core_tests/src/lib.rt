@@ -1,7 +1,7 @@
 //! Tests of ends, boards, monitors, cores and running cores, over their public calls alone: one crate, since each crate of
 //! tests begins with reading all that it stands on, and proves how each of its types is dropped.
 //!
-//! - `tables.rt`: tables, of which a test tells the first row that isn't so
+//! - `tables.rt`: tables, of which a test tells the first row that isn't so; `texts.rt`: programs of texts
 //! - `endpoint.rt`: ends of bindings over queues
 //! - `cores.rt`: the board of one core
 //! - `monitor.rt`: monitors' messages, circuits and names
@@ -24,3 +24,5 @@ mod node;
 mod running;
 #[cfg(test)]
 mod tables;
+#[cfg(test)]
+mod texts;

@@ -1,6 +1,5 @@
 //! Whole cores, over their public calls alone.
 //!
-//! - `rows.rt`: tables, of which a test tells the first row that isn't so
 //! - `words.rt`: what steps come to, and what is compared of a core
 //! - `known.rt`: what the cores know in common, and how they are made
 //! - `events.rt`: a core's events, whose answers are words
@@ -21,6 +20,5 @@ mod forged;
 mod known;
 mod line;
 mod rings;
-mod rows;
 mod scripts;
 mod words;

@@ -1,7 +1,7 @@
 //! Tests of interfaces' texts, values, layouts, payloads, code and images, over the public calls of their crates: one crate,
 //! since each crate of tests begins with reading all that it stands on.
 //!
-//! - `rows.rt`: tables, of which a test tells the first row that isn't so
+//! - `rows.rt`: tables, of which a test tells the first row that isn't so; `interfaces.rt`: interfaces made from their texts
 //! - `text.rt`: `fl_lex`, `fl_parse` and `fl_check`
 //! - `wire.rt`: `fl_value`, `fl_layout` and `fl_wire`
 //! - `stub.rt`: `fl_stub`, `fl_compile` and `fl_machine`
@@ -14,6 +14,8 @@
 
 #[cfg(test)]
 mod image;
+#[cfg(test)]
+mod interfaces;
 #[cfg(test)]
 mod rows;
 #[cfg(test)]

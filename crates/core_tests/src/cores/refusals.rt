@@ -1,10 +1,12 @@
 //! What is refused, limits, and no memory.
 
-use crate::cores::rig::{Binding, Deed, Example, Said, Step, add_end, program};
+use crate::cores::rig::{Binding, Deed, Example, Said, Step, add_end};
 use crate::tables::Row;
+use crate::texts::program;
 use fl_base::Circuit;
 use fl_core::{Board, BoardFault, Kind};
 use fl_endpoint::End;
+use fl_value::PlanNo;
 use std::alloc::{AllocError, Global};
 
 const SHORT: &[u8] = b"interface i { message m(bool b, string s[2]); }";
@@ -94,7 +96,7 @@ pub const EXAMPLES: &[Example] = &[
 ];
 
 fn unbound(alloc: Global) -> Result<End, AllocError> {
-    End::unbound(alloc, program(alloc, ECHO)?)
+    End::unbound(alloc, program(alloc, ECHO, PlanNo::One)?)
 }
 
 fn ends_at(board: &Board, dispatcher: usize) -> usize {

@@ -1,14 +1,11 @@
 //! A board with its ends and their queues, driven by deeds whose answers are words.
 
 use crate::tables::Row;
+use crate::texts::program;
 use fl_base::{Circuit, Frag, MsgNo};
-use fl_check::check;
-use fl_compile::{Program, compile};
 use fl_core::{AckAnswer, Board, BoardFault, Kind, TurnAnswer};
 use fl_endpoint::{End, EndFault, WriteAnswer};
-use fl_lex::{Tokens, lex};
 use fl_link::{QueueLink, Sight};
-use fl_parse::{Tree, parse};
 use fl_value::{Call, PlanNo, print_call, read_call};
 use std::alloc::{AllocError, Global};
 
@@ -93,30 +90,8 @@ struct Rig {
     queues: Vec<QueueLink>,
 }
 
-fn program_of_tree(alloc: Global, tree: &Tree) -> Result<Program, AllocError> {
-    match check(alloc, tree) {
-        Ok(interface) => compile(alloc, &interface, PlanNo::One),
-        Err(_) => Err(AllocError),
-    }
-}
-
-fn program_of(alloc: Global, tokens: &Tokens) -> Result<Program, AllocError> {
-    match parse(alloc, tokens) {
-        Ok(tree) => program_of_tree(alloc, &tree),
-        Err(_) => Err(AllocError),
-    }
-}
-
-/// The program of a text; none only where memory runs out.
-pub fn program(alloc: Global, text: &[u8]) -> Result<Program, AllocError> {
-    match lex(alloc, text) {
-        Ok(tokens) => program_of(alloc, &tokens),
-        Err(_) => Err(AllocError),
-    }
-}
-
 fn make_end(alloc: Global, binding: &Binding) -> Result<End, AllocError> {
-    let program = program(alloc, binding.text)?;
+    let program = program(alloc, binding.text, PlanNo::One)?;
     match binding.circuit {
         Some(circuit) => End::new(alloc, program, circuit),
         None => End::unbound(alloc, program),

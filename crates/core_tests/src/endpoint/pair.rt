@@ -4,14 +4,12 @@ ghost use Rattle.std.specs.Prelude.{◌≡◌};
 
 use crate::endpoint::sides::Refusing;
 use crate::tables::Row;
+use crate::texts::program;
 use fl_base::{Circuit, Frag, MsgNo, Side};
-use fl_check::check;
-use fl_compile::{Program, compile};
+use fl_compile::Program;
 use fl_endpoint::{End, EndFault, ReceiveAnswer, WriteAnswer};
-use fl_lex::{Tokens, lex};
 use fl_link::{PutFault, QueueLink};
 use fl_machine::Reassemblies;
-use fl_parse::{Tree, parse};
 use fl_value::{Call, PlanNo, ValueFault, print_call, read_call};
 use std::alloc::{AllocError, Global};
 use std::marker::Model;
@@ -115,28 +113,6 @@ struct Pair {
     client: Half,
     server: Half,
     handled: Vec<u8>,
-}
-
-fn program_of_tree(alloc: Global, tree: &Tree, plan: PlanNo) -> Result<Program, AllocError> {
-    match check(alloc, tree) {
-        Ok(interface) => compile(alloc, &interface, plan),
-        Err(_) => Err(AllocError),
-    }
-}
-
-fn program_of(alloc: Global, tokens: &Tokens, plan: PlanNo) -> Result<Program, AllocError> {
-    match parse(alloc, tokens) {
-        Ok(tree) => program_of_tree(alloc, &tree, plan),
-        Err(_) => Err(AllocError),
-    }
-}
-
-// The program of a text; none only where memory runs out.
-fn program(alloc: Global, text: &[u8], plan: PlanNo) -> Result<Program, AllocError> {
-    match lex(alloc, text) {
-        Ok(tokens) => program_of(alloc, &tokens, plan),
-        Err(_) => Err(AllocError),
-    }
 }
 
 fn end(alloc: Global, program: Program, circuit: Option<Circuit>) -> Result<End, AllocError> {

@@ -1,9 +1,8 @@
 //! What may be asked for: the service's interface, its plan, and the route.
 
 use crate::monitor::monitors::{FIRST, LINE, monitor};
-use crate::monitor::texts::interface;
+use crate::texts::program;
 use fl_base::{CoreId, LinkId};
-use fl_compile::{Program, compile};
 use fl_monitor::MonitorFault;
 use fl_value::PlanNo;
 use std::alloc::Global;
@@ -12,11 +11,6 @@ use std::test::Fail;
 const SAME: &[u8] = b"interface i { message m(uint8 a, uint64 b); };";
 
 const OTHER: &[u8] = b"interface i { message m(uint8 a, uint32 b); };";
-
-fn program(alloc: Global, text: &[u8], plan: PlanNo) -> Result<Program, Fail> {
-    let interface = interface(alloc, text)?;
-    Ok(compile(alloc, &interface, plan)?)
-}
 
 // The service's text, its plan and its core, the route, and what core 0 answers, the client's program being that of the first text under plan 1.
 type Row = (

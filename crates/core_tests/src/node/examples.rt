@@ -2,9 +2,9 @@
 
 use crate::node::forged::{ASTRAY, ASTRAY_BACK, FRAGMENTS, is_astray, is_forged};
 use crate::node::line::{Line, Plan, Step, Words, make_line};
-use crate::node::rows::{Row, all_hold};
 use crate::node::scripts::{PLAN, SCRIPTS};
 use crate::node::words::Word;
+use crate::tables::{Row, all_hold};
 use fl_base::Frag;
 use std::alloc::{AllocError, Global};
 use std::test::Fail;
@@ -51,10 +51,18 @@ fn is_so(line: &mut Line, example: &Example) -> Result<bool, AllocError> {
 }
 
 // A function that owns a line is dear to prove, so there is one.
+fn holds_once(alloc: Global, example: &Example) -> Result<bool, AllocError> {
+    let mut line = make_line(alloc, plan_of(example))?;
+    is_so(&mut line, example)
+}
+
+// Where memory is refused while the row's cores are made, they are made again.
 impl Row for Example {
     fn holds(&self, alloc: Global) -> Result<bool, AllocError> {
-        let mut line = make_line(alloc, plan_of(self))?;
-        is_so(&mut line, self)
+        match holds_once(alloc, self) {
+            Ok(holds) => Ok(holds),
+            Err(_) => holds_once(alloc, self),
+        }
     }
 }
 

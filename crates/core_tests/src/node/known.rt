@@ -1,32 +1,16 @@
 //! What the cores know in common, and how they are made.
 
+use crate::texts::program;
 use fl_base::{CoreId, MsgNo};
-use fl_check::{TextFault, check};
-use fl_compile::{Program, compile};
-use fl_interface::Interface;
-use fl_lex::lex;
+use fl_compile::Program;
 use fl_monitor::Messenger;
 use fl_nameserv::{Names, Service};
 use fl_node::Core;
-use fl_parse::parse;
 use fl_value::{Call, PlanNo, Value};
 use std::alloc::{AllocError, Global};
 
+// The interface of all tests.
 const PING: &[u8] = b"interface i { message ping(uint32 v); }";
-
-fn interface(alloc: Global, text: &[u8]) -> Result<Interface, TextFault> {
-    let tokens = lex(alloc, text)?;
-    let tree = parse(alloc, &tokens)?;
-    Ok(check(alloc, &tree)?)
-}
-
-// The program of the interface of all tests.
-fn program(alloc: Global) -> Result<Program, AllocError> {
-    match interface(alloc, PING) {
-        Ok(interface) => compile(alloc, &interface, PlanNo::One),
-        Err(_) => Err(AllocError),
-    }
-}
 
 /// The names, the programs of the services, and that of the ends; and what writes messages.
 #[derive(Drop)]
@@ -62,7 +46,7 @@ fn make_names(alloc: Global, core: Option<u8>) -> Result<Names, AllocError> {
 
 fn make_programs(alloc: Global) -> Result<Vec<Program>, AllocError> {
     let mut programs = Vec::with_capacity(alloc, 1)?;
-    programs.push(program(alloc)?)?;
+    programs.push(program(alloc, PING, PlanNo::One)?)?;
     Ok(programs)
 }
 
@@ -72,7 +56,7 @@ pub fn make_known(alloc: Global, core: Option<u8>) -> Result<Known, AllocError> 
         alloc,
         names: make_names(alloc, core)?,
         programs: make_programs(alloc)?,
-        program: program(alloc)?,
+        program: program(alloc, PING, PlanNo::One)?,
         messenger: Messenger::new(alloc)?,
     })
 }

@@ -4,16 +4,12 @@ ghost use Rattle.std.specs.Prelude.{◌≡◌, ◌<◌, None, length, IfOk};
 ghost use Rattle.fl_node.specs.View.{arrivals_by, arrivals_of};
 ghost use Rattle.core_tests.specs.Tickets.{IsNew};
 
+use crate::texts::program;
 use fl_base::{Circuit, CoreId, EndId, MsgNo, Side};
-use fl_check::{TextFault, check};
-use fl_compile::{Program, compile};
 use fl_endpoint::End;
-use fl_interface::Interface;
-use fl_lex::lex;
 use fl_link::{QueueLink, TakeSide};
 use fl_nameserv::Names;
 use fl_node::{Core, Port, Wire};
-use fl_parse::parse;
 use fl_ring::SharedSide;
 use fl_running::{Desk, Gate, Job, Plan, Running, Ticket, Word};
 use fl_tally::EndSeat;
@@ -29,19 +25,6 @@ impl Gate for Open {
 }
 
 const PING: &[u8] = b"interface i { message ping(uint32 v); }";
-
-fn interface(alloc: Global, text: &[u8]) -> Result<Interface, TextFault> {
-    let tokens = lex(alloc, text)?;
-    let tree = parse(alloc, &tokens)?;
-    Ok(check(alloc, &tree)?)
-}
-
-fn program(alloc: Global) -> Result<Program, AllocError> {
-    let Ok(interface) = interface(alloc, PING) else {
-        return Err(AllocError);
-    };
-    compile(alloc, &interface, PlanNo::One)
-}
 
 /// An end of binding 0.
 pub fn name(side: Side) -> EndId {
@@ -171,7 +154,7 @@ fn add<T: TakeSide>(
 
 // An end that isn't at a core yet.
 fn end(alloc: Global) -> Result<End, AllocError> {
-    End::new(alloc, program(alloc)?, Circuit(0))
+    End::new(alloc, program(alloc, PING, PlanNo::One)?, Circuit(0))
 }
 
 // A core with so many dispatchers.

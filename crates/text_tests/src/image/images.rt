@@ -1,11 +1,8 @@
 //! Images of texts, spoiled images, and what is answered to them.
 
-use fl_check::{TextFault, check};
+use crate::interfaces::interface;
 use fl_compile::compile;
 use fl_image::{is_writable, read_image, write_image};
-use fl_interface::Interface;
-use fl_lex::lex;
-use fl_parse::parse;
 use fl_value::PlanNo;
 use std::alloc::{AllocError, Global};
 use std::test::Fail;
@@ -16,12 +13,6 @@ pub const PING: [u8; 37] = [
     0x07, 0x02, 0x00, 0x00, 0x00, 0x01, 0x04, 0x00, 0x08, 0x00, 0x00, 0x02, 0x00, 0x00, 0x00, 0x11,
     0x04, 0x00, 0x18, 0x00, 0x00,
 ];
-
-fn interface(alloc: Global, text: &[u8]) -> Result<Interface, TextFault> {
-    let tokens = lex(alloc, text)?;
-    let tree = parse(alloc, &tokens)?;
-    Ok(check(alloc, &tree)?)
-}
 
 /// The image of a text under a plan.
 pub fn image_of(alloc: Global, text: &[u8], plan: PlanNo) -> Result<Vec<u8>, Fail> {

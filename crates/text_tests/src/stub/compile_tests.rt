@@ -1,12 +1,9 @@
 //! The code of messages under both plans.
 
+use crate::interfaces::interface;
 use crate::stub::rows::wrong;
 use fl_base::MsgNo;
-use fl_check::{TextFault, check};
 use fl_compile::{Program, compile};
-use fl_interface::Interface;
-use fl_lex::lex;
-use fl_parse::parse;
 use fl_stub::{Column, Op, VerifiedCode};
 use fl_value::PlanNo;
 use std::alloc::{AllocError, Global};
@@ -378,12 +375,6 @@ const ROWS: &[Row] = &[
         ],
     },
 ];
-
-pub(crate) fn interface(alloc: Global, text: &[u8]) -> Result<Interface, TextFault> {
-    let tokens = lex(alloc, text)?;
-    let tree = parse(alloc, &tokens)?;
-    Ok(check(alloc, &tree)?)
-}
 
 fn compiled(alloc: Global, text: &[u8], plan: PlanNo) -> Result<Program, Fail> {
     let interface = interface(alloc, text)?;

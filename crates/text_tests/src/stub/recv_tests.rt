@@ -4,7 +4,7 @@ ghost use Rattle.std.specs.Prelude.{◌≡◌};
 ghost use Rattle.fl_interface.specs.Interface.{interface_of};
 ghost use Rattle.fl_machine.specs.Receiving.{HoldsParts, HoldsTapes};
 
-use crate::stub::compile_tests::interface;
+use crate::interfaces::interface;
 use crate::stub::rows::wrong;
 use fl_base::{Frag, MsgNo};
 use fl_compile::compile;

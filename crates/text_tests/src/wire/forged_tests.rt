@@ -1,7 +1,7 @@
 //! What lists of fragments read as, under both plans: whole calls and a rest, and of forged ones the first fault.
 
+use crate::interfaces::interface;
 use crate::rows::{Row, all_hold};
-use crate::wire::interfaces::interface;
 use fl_base::Frag;
 use fl_interface::Interface;
 use fl_value::{Call, PlanNo, print_call};

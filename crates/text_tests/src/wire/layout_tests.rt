@@ -1,9 +1,10 @@
 //! The worked rows of layouts under both plans: lengths of payloads and tapes, fragments, places and sizes of
 //! arguments.
 
+use crate::interfaces::interface;
 use crate::rows::{Row, all_hold};
-use crate::wire::interfaces::{STRING, interface, letters};
 use crate::wire::payload_tests::sent;
+use crate::wire::strings::{STRING, letters};
 use fl_base::MsgNo;
 use fl_layout::{Plans, plan};
 use fl_value::{Call, PlanNo, ValueFault, fits, read_call};

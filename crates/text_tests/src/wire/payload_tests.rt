@@ -2,8 +2,8 @@
 //! plans, and the calls read back. A fragment has epoch 0 until it is put; what `show` writes, 3 and 1, has the
 //! epoch that a local queue sets.
 
+use crate::interfaces::interface;
 use crate::rows::{Row, all_hold};
-use crate::wire::interfaces::interface;
 use fl_base::{Frag, MsgNo};
 use fl_interface::Interface;
 use fl_value::{Call, PlanNo, ValueFault, fits, print_call, read_call};

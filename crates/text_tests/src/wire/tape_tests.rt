@@ -1,7 +1,7 @@
 //! Tapes: the numbers of calls in each plan's order, and lists of numbers that are no call's.
 
+use crate::interfaces::interface;
 use crate::rows::{Row, all_hold};
-use crate::wire::interfaces::interface;
 use fl_base::MsgNo;
 use fl_interface::Interface;
 use fl_value::{PlanNo, ValueFault, flatten, one_call_of_a_tape, read_call, unflatten};

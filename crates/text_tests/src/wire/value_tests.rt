@@ -1,8 +1,8 @@
 //! Calls as text: which texts are calls, which calls fit, how they are printed, and that they come back from their
 //! tapes.
 
+use crate::interfaces::interface;
 use crate::rows::{Row, all_hold};
-use crate::wire::interfaces::interface;
 use fl_base::MsgNo;
 use fl_interface::Interface;
 use fl_value::{
