@@ -1,4 +1,4 @@
-use Rattle.std.proofs.Common.{◌∙◌, arith}
+use Rattle.std.proofs.Common.{◌∙◌}
 use Rattle.fl_machine.proofs.Intakes.{take_kept}
 use Rattle.fl_machine.proofs.intake.Intake.take_fields.Goals as goal
 

@@ -1,4 +1,4 @@
-use Rattle.std.proofs.Common.{◌≡◌, ◌<◌, ◌≤◌, ◌+◌, ◌-◌, ◌%◌, ◌^◌, ◌++◌, [], ℕ, List, length, take, drop, refl, sym, ◌∙◌, ap, subst, arith}
+use Rattle.std.proofs.Common.{◌≡◌, ◌<◌, ◌+◌, ◌-◌, ◌%◌, ◌^◌, ◌++◌, [], ℕ, length, take, drop, refl, sym, ◌∙◌, ap, subst, arith}
 use Rattle.fl_machine.specs.declared.cursor.Loop.{Loop}
 use Rattle.fl_machine.specs.declared.intake.Intake.{Intake}
 use Rattle.fl_machine.specs.Taking.{IsFed, IsRunOf, HasRoom, Grows, inner_loop, run_at}

@@ -1,4 +1,4 @@
-use Rattle.std.proofs.Common.{◌≡◌, ◌+◌, ◌-◌, ◌≤◌, ◌++◌, ℕ, List, length, take, drop}
+use Rattle.std.proofs.Common.{◌≡◌, ◌+◌, ◌≤◌, ◌++◌, ℕ, List, length, take, drop}
 use Rattle.fl_machine.specs.Taking.{IsFed, IsRunOf, run_at}
 use Rattle.fl_machine.proofs.intake.Intake.take_turns.Given as goal
 
