@@ -269,26 +269,3 @@ puts_alone ops s t put buffer end p spot longer within = record {
   longer = longer;
   within = within;
 }
-
--- a number's first byte and then others
-pub puts_then : (ops : List Op) (s t u : TheSpot) (put buffer after : List ℕ) (at end : ℕ) → (p : Puts ops s t put buffer at) → PutsRun ops t u (put ++ p.more) after end → IsSpot ops u → at ≤ end → end ≤ 56
-    → Puts ops s u put after end
-puts_then ops s t u put buffer after at end p q spot later within =
-    let joined : put ++ (p.more ++ q.more) ≡ (put ++ p.more) ++ q.more = sym (append_assoc put p.more q.more) in
-    let a = p.longer in
-    record {
-      more = p.more ++ q.more;
-      spot = spot;
-      bytes = p.bytes ∙ ap (λ (x : List ℕ). p.more ++ x) q.bytes ∙ sym (append_assoc p.more q.more (bytes_from ops u));
-      holds = subst (λ (x : List ℕ). Holds after x) (sym joined) q.holds;
-      long = ap length joined ∙ q.long;
-      longer = omega (arith, a, later);
-      within = within;
-    }
-
--- one byte more behind those of a run
-pub puts_one : (ops : List Op) (s t u : TheSpot) (put buffer : List ℕ) (at byte : ℕ) → PutsRun ops s t put buffer at → length buffer ≡ 56 → at < 56 → Gives ops t u byte
-    → PutsRun ops s u put (slice_set buffer at byte) (at + 1)
-puts_one ops s t u put buffer at byte p long inside g =
-    let q = puts_after ops s t u put buffer (slice_set buffer at byte) at (at + 1) p (puts_byte ops t u buffer (put ++ p.more) at byte long p.long inside p.holds g) in
-    record { more = q.more; bytes = q.bytes; holds = q.holds; long = q.long }

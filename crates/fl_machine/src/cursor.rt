@@ -390,7 +390,6 @@ impl Cursor {
     }
 
     /// The next of a number's bytes.
-    #[inline(always)]
     pub(crate) fn next_byte(&mut self, ops: &[Op], tape: &[u64]) -> u8
         requires spot { IsSpot ops.now (spot_of tape.now self.old) }
         requires busy { self.old.width ≢ 0 }

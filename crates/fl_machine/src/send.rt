@@ -95,30 +95,6 @@ fn put_number(buffer: &mut [u8; 56], at: usize, number: u64)
     buffer[at + 7] = bytes[7];
 }
 
-// The bytes of a number that are still to be given, one after another, as long as any is free; the place behind them.
-#[inline(always)]
-fn put_rest(
-    buffer: &mut [u8; 56],
-    at: usize,
-    cursor: &mut Cursor,
-    ops: &[Op],
-    tape: &[u64],
-) -> usize
-    requires place { at ≤ 56 }
-    requires spot { IsSpot ops.now (spot_of tape.now cursor.old) }
-    ensures place { (at ≤ result) × (result ≤ 56) }
-    ensures spot { IsSpot ops.now (spot_of tape.now cursor.new) }
-    ensures puts { (put : List ℕ) → length put ≡ at → Holds buffer.old put
-        → PutsRun ops.now (spot_of tape.now cursor.old) (spot_of tape.now cursor.new) put buffer.new result }
-{
-    let mut end = at;
-    while end < 56 && !cursor.is_idle() {
-        buffer[end] = cursor.next_byte(ops, tape);
-        end += 1;
-    }
-    end
-}
-
 // The next bytes of a number, put at a place; the place behind them.
 #[inline(always)]
 fn put_last(
@@ -136,7 +112,7 @@ fn put_last(
 {
     if at > 48 {
         buffer[at] = cursor.next_byte(ops, tape);
-        return put_rest(buffer, at + 1, cursor, ops, tape);
+        return at + 1;
     }
     let (number, width) = cursor.take_bytes(ops, tape);
     put_number(buffer, at, number);

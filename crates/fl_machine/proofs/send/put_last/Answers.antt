@@ -1,17 +1,13 @@
-use Rattle.std.proofs.Common.{◌+◌, ◌++◌, ◌≤◌, slice_set, ℕ, List, ap, sym, subst, ◌∙◌, arith}
+use Rattle.std.proofs.Common.{◌+◌, ◌≤◌, ℕ, List, ap, sym, subst, ◌∙◌, arith}
 use Rattle.fl_machine.specs.Cursors.{spot_of}
 use Rattle.fl_machine.specs.Filling.{Puts}
-use Rattle.fl_machine.proofs.Pours.{puts_number, puts_byte, puts_then, over_eight}
+use Rattle.fl_machine.proofs.Pours.{puts_number, puts_byte, over_eight}
 use Rattle.fl_machine.proofs.send.put_last.Goals as goal
 
 pub returns-then-at-gt48 : goal.returns-then-at-gt48
 returns-then-at-gt48 c put long holds =
-    let old = spot_of c.args.tape.now c.args.cursor.now in
-    let first = spot_of c.args.tape.now c.next_byte.new.self in
-    let p = puts_byte c.args.ops.now old first c.args.buffer.now put c.args.at c.next_byte.result c.told-buffer long c.requires.place holds c.next_byte.ensures in
-    let e = c.put_rest.ensures in
-    puts_then c.args.ops.now old first (spot_of c.args.tape.now c.put_rest.new.cursor) put (slice_set c.args.buffer.now c.args.at c.next_byte.result) c.put_rest.new.buffer (c.args.at + 1) c.put_rest.result p
-    (e.puts (put ++ p.more) p.long p.holds) e.spot e.place.0 e.place.1
+    puts_byte c.args.ops.now (spot_of c.args.tape.now c.args.cursor.now) (spot_of c.args.tape.now c.next_byte.new.self) c.args.buffer.now put c.args.at c.next_byte.result
+    c.told-buffer long c.requires.place holds c.next_byte.ensures
 
 pub returns : goal.returns
 returns c put long holds =
