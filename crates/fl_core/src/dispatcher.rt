@@ -8,9 +8,9 @@ use fl_waitset::Waitset;
 use std::alloc::{AllocError, Global};
 use std::marker::Model;
 
-// There is room for so many ends at first: it is taken just before the waitset's, so that a turn of a dispatcher with few ends
-// meets the two side by side.
-const FIRST_ENDS: usize = 4;
+// There is room for so many ends at first: it is taken just before the waitset's, so that a turn of a dispatcher
+// with few ends meets the two side by side.
+const FIRST_ENDS: usize = 6;
 
 /// A dispatcher: its waitset, and the end of each of its channels, by the end's place on the board.
 #[derive(Drop)]
