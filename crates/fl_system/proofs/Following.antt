@@ -1,5 +1,5 @@
 -- What a core follows after a look, and what is left of the look where it isn't followed.
-use Rattle.std.proofs.Common.{◌≡◌, ◌≢◌, ◌<◌, ◌↔◌, refl, sym, ap, ◌∙◌, subst, ℕ, zero, suc, Bool, true, false, IsTrue, List, [], ◌∷◌, length, slice_get, slice_set, slice_index_or, length-set, Some, None, Result, Ok, Err, IfOk, OnOk, OnErr, inl, inr}
+use Rattle.std.proofs.Common.{◌≡◌, ◌≢◌, ◌<◌, refl, sym, ap, ◌∙◌, subst, ℕ, zero, suc, List, [], ◌∷◌, length, slice_get, slice_set, slice_index_or, length-set, Some, None, Result, Ok, Err, IfOk, OnOk, OnErr, inl, inr}
 use Rattle.std.proofs.lemmas.Result.{IfOk-weaker}
 use Rattle.std.proofs.lemmas.Option.{slice_get_within, same_Some}
 use Rattle.std.specs.declared.alloc.AllocError.{AllocError}
@@ -13,11 +13,7 @@ use Rattle.fl_ring.specs.Laws.{ForgetsLooks}
 use Rattle.fl_ring.specs.Side.{SameSide, SideTakes}
 use Rattle.fl_ring.specs.declared.one_duo.Which.{Which}
 use Rattle.fl_ring.specs.declared.duo_side.DuoSide.{DuoSide}
-use Rattle.fl_endpoint.specs.View.{TheEnd, interface_in}
-use Rattle.fl_endpoint.specs.Events.{Exchanges}
-use Rattle.fl_core.specs.View.{TheSeat, TheBoard}
-use Rattle.fl_core.specs.Events.{ChangesEnd, Holds}
-use Rattle.fl_node.specs.Ends.{OnBoard}
+use Rattle.fl_endpoint.specs.View.{TheEnd}
 use Rattle.fl_node.specs.declared.answer.Ahead.{Ahead}
 use Rattle.fl_node.specs.declared.answer.Ahead.TheVariants as ahead
 use Rattle.fl_node.specs.declared.answer.MonitorAnswer.{MonitorAnswer}
@@ -32,12 +28,14 @@ use Rattle.fl_worlds.specs.Lending.{OverSide, front_for}
 use Rattle.fl_worlds.specs.Linking.{LinkEnd, offers_in, link_id, LooksWith, incoming, HearsWith, HearsFirst, IsHeard, HasRules, ForwardsBy, ForwardsFirst}
 use Rattle.fl_lines.specs.declared.answer.Answer.{Answer as RustAnswer}
 use Rattle.fl_lines.specs.Events.{answer_of}
-use Rattle.fl_system.specs.declared.moving.Passing.{Passing}
-use Rattle.fl_system.specs.Places.{HasLink}
-use Rattle.fl_system.specs.Parts.{InCore}
-use Rattle.fl_system.specs.Passing.{StandsAt, PassesOver}
-use Rattle.fl_system.specs.Following.{KnowsAt, MayForgetAt, Forgot, MayFollow, Forgets, GoesOn, TakesRulesOf, TakesKept, TakesRulesOrNone}
-use Rattle.fl_system.proofs.Lifts.{stands}
+use Rattle.fl_acts.specs.declared.moving.Passing.{Passing}
+use Rattle.fl_acts.specs.Places.{HasLink}
+use Rattle.fl_acts.specs.Parts.{InCore}
+use Rattle.fl_acts.specs.Passing.{StandsAt, PassesOver}
+use Rattle.fl_acts.specs.Following.{TakesRulesOf, TakesKept}
+use Rattle.fl_system.specs.Following.{KnowsAt, MayForgetAt, Forgot, MayFollow, Forgets, GoesOn, TakesRulesOrNone}
+use Rattle.fl_acts.proofs.Lifts.{stands}
+use Rattle.fl_acts.proofs.Following.{set_same}
 
 -- ---- lists
 
@@ -45,11 +43,6 @@ set_here : {X : Type 0} (xs : List X) (i : ℕ) (x y : X) → slice_get xs i ≡
 set_here [] i x y e = absurd (cc)
 set_here (z ∷ xs) zero x y e = refl
 set_here (z ∷ xs) (suc i) x y e = set_here xs i x y e
-
-set_same : {X : Type 0} (xs : List X) (i : ℕ) (x : X) → slice_get xs i ≡ Some x → slice_set xs i x ≡ xs
-set_same [] i x e = refl
-set_same (z ∷ xs) zero x e = let same : z ≡ x = same_Some z x e in ap (λ y. y ∷ xs) (sym same)
-set_same (z ∷ xs) (suc i) x e = ap (λ ys. z ∷ ys) (set_same xs i x e)
 
 set_twice : {X : Type 0} (xs : List X) (i : ℕ) (x y : X) → slice_set (slice_set xs i x) i y ≡ slice_set xs i y
 set_twice [] i x y = refl
@@ -287,52 +280,3 @@ takes_kept w base same n place i below there k read value view b bread bvalue bv
       ap (λ (xs : List TheCore). record base { cores = xs; bindings = slice_set base.bindings i b2 }) (ap (slice_set base.cores n) h.1 ∙ set_same base.cores n k core_is)
           ∙ ap (λ (xs : List Binding). record base { bindings = xs }) (ap (slice_set base.bindings i) h.2 ∙ set_same base.bindings i b binding_is),
     ))
-
--- ---- an end gets the rules of another
-
-like_from : (b : Bool) (P : Type 0) → (IsTrue b ↔ P) → b ≡ true → P
-like_from true P e h = e.0 refl
-like_from false P e h = absurd (cc)
-
-unlike_from : (b : Bool) (P : Type 0) → (IsTrue b ↔ P) → b ≡ false → P → ⊥
-unlike_from true P e h p = absurd (cc)
-unlike_from false P e h p = let no : false ≡ true = e.1 p in absurd (cc)
-
-pub holds_like : (k : TheCore) (b : TheBoard) → b ≡ k.board → (e : ℕ) (t o : TheEnd) → Holds b e (λ s. t ≡ s.end) → (x : Bool) → (IsTrue x ↔ interface_in t ≡ interface_in o)
-    → x ≡ true → Holds k.board e (λ s. interface_in s.end ≡ interface_in o)
-holds_like k b same e t o h x exact is =
-    subst (λ (y : TheBoard). Holds y e (λ s. interface_in s.end ≡ interface_in o)) same
-    (h.0, h.1, subst (λ (y : TheEnd). interface_in y ≡ interface_in o) h.2 (like_from x (interface_in t ≡ interface_in o) exact is))
-
-pub holds_other : (k : TheCore) (b : TheBoard) → b ≡ k.board → (e : ℕ) (t o : TheEnd) → Holds b e (λ s. t ≡ s.end) → (x : Bool) → (IsTrue x ↔ interface_in t ≡ interface_in o)
-    → x ≡ false → Holds k.board e (λ s. interface_in s.end ≢ interface_in o)
-holds_other k b same e t o h x exact is =
-    subst (λ (y : TheBoard). Holds y e (λ s. interface_in s.end ≢ interface_in o)) same
-    (h.0, h.1, subst (λ (y : TheEnd). interface_in y ≢ interface_in o) h.2 (unlike_from x (interface_in t ≡ interface_in o) exact is))
-
-pub exchanged : (k k2 : TheCore) (place : ℕ) (o p : TheEnd) → Holds k.board place (λ s. interface_in s.end ≡ interface_in o)
-    → OnBoard k (λ b c. ChangesEnd b place (λ s t. Exchanges s o t p) c) k2 → TakesRulesOf o place k k2
-exchanged k k2 place o p like h =
-    let seat : like.0 ≡ h.event.seat = same_Some like.0 h.event.seat (sym like.1 ∙ h.event.seat_is) in
-    record {
-      event = record {
-        seat = h.event.seat;
-        seat_is = h.event.seat_is;
-        end = h.event.end;
-        event = inl (subst (λ (x : TheSeat). interface_in x.end ≡ interface_in o) seat like.2, h.event.event.0);
-        board = h.event.board;
-      };
-      rest = h.rest;
-    }
-
-pub not_exchanged : (k : TheCore) (place : ℕ) (o : TheEnd) → Holds k.board place (λ s. interface_in s.end ≢ interface_in o) → TakesRulesOf o place k k
-not_exchanged k place o h = record {
-  event = record {
-    seat = h.0;
-    seat_is = h.1;
-    end = h.0.end;
-    event = inr (h.2, refl);
-    board = ap (λ (xs : List TheSeat). record { dispatchers = k.board.dispatchers; seats = xs }) (sym (set_same k.board.seats place h.0 h.1));
-  };
-  rest = refl;
-}

@@ -1,7 +1,6 @@
 -- What happens at the parts of a world, as an event of the world: w is the world before, and base the same by its fields.
 use Rattle.std.proofs.Common.{◌≡◌, ◌%◌, ◌⊎◌, refl, sym, ap, ◌∙◌, subst, ℕ, ◌<◌, ◌≤◌, length-set, length, slice_get, slice_set, slice_index_or, List, Option, Some, None, Result, Ok, Err, IfOk, OnErr, inl, inr}
-use Rattle.std.proofs.lemmas.List.{set-get_or}
-use Rattle.std.proofs.lemmas.Option.{slice_get_read, slice_get_within}
+use Rattle.std.proofs.lemmas.Option.{slice_get_within}
 use Rattle.fl_base.specs.declared.identity.EndId.{EndId}
 use Rattle.fl_link.specs.Cursor.{epoch_at}
 use Rattle.fl_link.specs.Queue.{TheQueue, next_epoch_of}
@@ -19,7 +18,7 @@ use Rattle.std.specs.declared.alloc.AllocError.{AllocError}
 use Rattle.fl_lines.specs.declared.answer.Answer.{Answer as RustAnswer}
 use Rattle.fl_lines.specs.Events.{answer_of}
 use Rattle.fl_node.specs.declared.wire.Inlet.{Inlet}
-use Rattle.fl_system.specs.declared.taking.Due.{Due}
+use Rattle.fl_acts.specs.declared.taking.Due.{Due}
 use Rattle.fl_queues.specs.Events.{Answer}
 use Rattle.fl_worlds.specs.declared.binding.Binding.{Binding}
 use Rattle.fl_queues.specs.Given.{given}
@@ -27,15 +26,11 @@ use Rattle.fl_worlds.specs.Sending.{PreviewsWith, PreviewsOver}
 use Rattle.fl_node.specs.declared.wire.Outlet.TheVariants as outlet
 use Rattle.fl_worlds.specs.View.{TheWorld, ring_at, which_at, nowhere, unmade, spot_at, spot_of, core_in}
 use Rattle.fl_worlds.specs.Lending.{AtCore, OverQueue, OverSide, KeepsNone, IsStray}
-use Rattle.fl_system.specs.Places.{HasEnd, HasLink, IsDueOver}
-use Rattle.fl_system.specs.Parts.{InCore, ByQueue, ByRing, KeptOrNone, AtUnmadeOrNone}
-
-pub one_value : {X : Type 0} (x y : X) → Some x ≡ Some y → x ≡ y
-one_value x y h = cc
-
--- what was read at a place stands there
-pub stands : {X : Type 0} (xs : List X) (n : ℕ) (x read : X) → n < length xs → read ≡ slice_index_or xs n read → x ≡ read → slice_get xs n ≡ Some x
-stands xs n x read below value view = slice_get_read xs (length xs) n read refl below value ∙ ap Some (sym view)
+use Rattle.fl_acts.specs.Places.{HasEnd, HasLink}
+use Rattle.fl_system.specs.Places.{IsDueOver}
+use Rattle.fl_acts.specs.Parts.{InCore, ByQueue, ByRing, KeptOrNone}
+use Rattle.fl_system.specs.Parts.{AtUnmadeOrNone}
+use Rattle.fl_acts.proofs.Lifts.{one_value, put_back, stands}
 
 pub at_core : (w base : TheWorld) → base ≡ w → (n : ℕ) → n < length base.cores → (k read : TheCore) → read ≡ slice_index_or base.cores n read → k ≡ read
     → (Event : TheCore → TheCore → Type 0) (k2 : TheCore) → InCore Event k k2 → AtCore w n Event (record base { cores = slice_set base.cores n k2 })
@@ -118,10 +113,6 @@ on_err P (Err f) h e is = h
 
 pub few_kept : {X : Type 0} (xs : List X) (n : ℕ) (x : X) → length xs ≤ 16 → length (slice_set xs n x) ≤ 16
 few_kept xs n x h = subst (λ (l : ℕ). l ≤ 16) (sym (length-set xs n x)) h
-
--- what stood at a place was put there again
-pub put_back : {X : Type 0} (xs : List X) (n : ℕ) (x k read : X) → read ≡ slice_index_or xs n read → k ≡ read → x ≡ k → slice_set xs n x ≡ xs
-put_back xs n x k read value view same = ap (slice_set xs n) (same ∙ view ∙ value) ∙ set-get_or xs n read
 
 pub core_put_back : (w base : TheWorld) → base ≡ w → (n : ℕ) (k2 k read : TheCore) → read ≡ slice_index_or base.cores n read → k ≡ read → k2 ≡ k
     → record base { cores = slice_set base.cores n k2 } ≡ w

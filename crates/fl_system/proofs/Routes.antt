@@ -1,11 +1,10 @@
 -- A binding by a route: from the parts of a world to the world.
-use Rattle.std.proofs.Common.{◌≡◌, ◌∙◌, refl, sym, ap, ap₂, subst, ℕ, ◌<◌, ◌≤◌, Bool, true, nat_lt, nat_le, List, [], ◌∷◌, length, length-set, map, slice_get, slice_set, slice_index_or, Some, Result, Ok, Err, IfOk, inl, inr, arith}
+use Rattle.std.proofs.Common.{◌≡◌, ◌∙◌, refl, sym, ap, ap₂, subst, ℕ, ◌<◌, ◌≤◌, Bool, true, nat_lt, nat_le, List, [], ◌∷◌, length, length-set, map, slice_get, slice_set, slice_index_or, Some, Result, Ok, Err, inl, inr, arith}
 use Rattle.std.specs.Prelude.{◌&&◌, is_some}
 use Rattle.std.specs.List.{list_all}
-use Rattle.std.specs.declared.alloc.AllocError.{AllocError}
 use Rattle.std.proofs.lemmas.Bool.{and_parts, or_cases, ltb-true, lt-ltb}
 use Rattle.std.proofs.lemmas.List.{set-get_or}
-use Rattle.std.proofs.lemmas.Option.{slice_get_within, get_or_from_slice_get}
+use Rattle.std.proofs.lemmas.Option.{get_or_from_slice_get}
 use Rattle.fl_base.specs.declared.identity.CoreId.{CoreId}
 use Rattle.fl_base.specs.declared.identity.LinkId.{LinkId}
 use Rattle.fl_compile.specs.declared.program.Program.{Program}
@@ -19,19 +18,21 @@ use Rattle.fl_node.specs.declared.fault.OpenFault.TheVariants as fault
 use Rattle.fl_node.specs.Making.{asked, Asks}
 use Rattle.fl_node.specs.View.{TheCore, place_of, client_of, server_of}
 use Rattle.fl_queues.specs.Binding.{all_differ}
-use Rattle.fl_queues.specs.Events.{DispatcherId, Answer}
+use Rattle.fl_queues.specs.Events.{Answer}
 use Rattle.fl_worlds.specs.declared.binding.Binding.{Binding}
 use Rattle.fl_worlds.specs.Binding.{may_be_route, by_cores, OpensBy, AsksBy}
 use Rattle.fl_worlds.specs.Lending.{Refuses}
 use Rattle.fl_worlds.specs.Making.{is_core, core_id}
 use Rattle.fl_worlds.specs.View.{TheWorld, IsWhole}
 use Rattle.fl_system.specs.declared.binding.Wish.{Wish}
-use Rattle.fl_system.specs.declared.by_route.Begun.{Begun}
-use Rattle.fl_system.specs.declared.by_route.Begun.TheVariants as begun
-use Rattle.fl_system.specs.Parts.{InCore}
-use Rattle.fl_system.specs.Wishes.{request, HasDispatcher, IsCopyOf}
-use Rattle.fl_system.specs.Routes.{IsNumberOf, BeginsIn, AtOne, Keeps, opening_along, unmade_binding, MayOpenFrom, OpensOnLink}
-use Rattle.fl_system.proofs.Lifts.{one_value, stands}
+use Rattle.fl_acts.specs.declared.by_route.Begun.{Begun}
+use Rattle.fl_acts.specs.declared.by_route.Begun.TheVariants as begun
+use Rattle.fl_acts.specs.Wishes.{HasDispatcher}
+use Rattle.fl_system.specs.Wishes.{request, IsCopyOf}
+use Rattle.fl_acts.specs.Routes.{IsNumberOf, BeginsIn, AtOne}
+use Rattle.fl_system.specs.Routes.{Keeps, opening_along, unmade_binding, MayOpenFrom, OpensOnLink}
+use Rattle.fl_acts.proofs.Lifts.{one_value, stands}
+use Rattle.fl_acts.proofs.Routes.{core_below}
 
 -- ---- a route
 
@@ -57,17 +58,6 @@ small_route w base same cores few may =
     all_small cores (length w.cores) (subst (λ (v : TheWorld). length v.cores ≤ 16) same few) (are_cores cores w may)
 
 -- ---- the client's core
-
-pub core_below : (cores : List TheCore) (d : DispatcherId) → HasDispatcher cores d → d.core < length cores
-core_below cores d h = slice_get_within cores d.core h.core h.core_is
-
--- among all cores
-pub at_one : (cores : List TheCore) (n : ℕ) → n < length cores → (read : TheCore) → read ≡ slice_index_or cores n read
-    → (Event : Begun → TheCore → TheCore → Type 0) (k2 : TheCore) (r : Result Begun AllocError) → IfOk r (λ o. InCore (Event o) read k2)
-    → IfOk r (λ o. AtOne cores n (Event o) (slice_set cores n k2))
-at_one cores n below read value Event k2 (Ok o) h =
-    record { before = read; before_is = stands cores n read read below value refl; after = k2; event = h; rest = refl }
-at_one cores n below read value Event k2 (Err e) h = tt
 
 -- none has come or gone
 pub as_many : (cores cores2 : List TheCore) (n : ℕ) (Event : TheCore → TheCore → Type 0) → AtOne cores n Event cores2 → length cores2 ≡ length cores

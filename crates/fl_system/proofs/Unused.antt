@@ -19,7 +19,7 @@ use Rattle.fl_worlds.specs.Binding.{Request, has_both_places, wanted_from, named
 use Rattle.fl_worlds.specs.Step.{Does, Steps, settled, fresh_world}
 use Rattle.fl_system.specs.Stepping.{leaves_cores_open}
 use Rattle.fl_worlds.specs.Apart.{AllUnused, is_making, KeepsUnused}
-use Rattle.fl_system.proofs.Lifts.{one_value}
+use Rattle.fl_acts.proofs.Lifts.{one_value}
 use Rattle.fl_system.proofs.Runs.{stays_open, closes, mapped_more}
 
 -- ---- one ring more, or none

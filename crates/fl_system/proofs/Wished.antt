@@ -1,5 +1,5 @@
 -- What is looked at before a binding is made, from the facts of the code; and what is asked for, from the names.
-use Rattle.std.proofs.Common.{◌≡◌, ◌≢◌, ◌≤◌, ◌<◌, ◌+◌, ◌&&◌, ◌||◌, ◌==◌, not, nat_le, refl, sym, ap, ap₂, ◌∙◌, subst, ℕ, zero, suc, Bool, true, false, if◌then◌else◌, List, [], ◌∷◌, length, slice_get, slice_index_or, Option, Some, None, is_some, Ok, Err, arith}
+use Rattle.std.proofs.Common.{◌≡◌, ◌≢◌, ◌≤◌, ◌<◌, ◌+◌, ◌&&◌, ◌||◌, ◌==◌, not, nat_le, refl, sym, ap, ap₂, ◌∙◌, subst, ℕ, Bool, true, false, if◌then◌else◌, List, length, slice_get, slice_index_or, Option, Some, None, is_some, Ok, Err}
 use Rattle.std.proofs.lemmas.Bool.{eqb-true, ne_eqb, eq-eqb, le-leb, lt-leb, or_cases, and_parts}
 use Rattle.std.proofs.lemmas.Option.{slice_get_within, slice_get_past, same_Some}
 use Rattle.fl_compile.specs.declared.program.Program.{Program}
@@ -8,7 +8,6 @@ use Rattle.fl_nameserv.specs.declared.registration.Registration.{Registration}
 use Rattle.fl_nameserv.specs.Lent.{registration_of}
 use Rattle.fl_nameserv.specs.Registrations.{TheRegistration, by_name}
 use Rattle.fl_core.specs.View.{TheDispatcher, TheBoard}
-use Rattle.fl_core.specs.Sound.{IsBoard}
 use Rattle.fl_node.specs.View.{TheCore, place_of, client_of, server_of}
 use Rattle.fl_queues.specs.Given.{given}
 use Rattle.fl_queues.specs.Events.{DispatcherId}
@@ -19,8 +18,10 @@ use Rattle.fl_worlds.specs.declared.binding.Binding.{Binding}
 use Rattle.fl_worlds.specs.View.{Given, If, TheWorld, has_dispatcher}
 use Rattle.fl_worlds.specs.Binding.{Request, HasEndOf, has_places, BindsBy, wanted_from}
 use Rattle.fl_system.specs.declared.binding.Wish.{Wish}
-use Rattle.fl_system.specs.Wishes.{request, IsWish, has_end_in, has_end_of, IsNewAt, HasDispatcher, places_in, both_places, IsCopyOf}
-use Rattle.fl_system.proofs.Lifts.{stands}
+use Rattle.fl_acts.specs.Wishes.{has_end_in, HasDispatcher, places_in}
+use Rattle.fl_system.specs.Wishes.{request, IsWish, has_end_of, IsNewAt, both_places, IsCopyOf}
+use Rattle.fl_acts.proofs.Lifts.{stands}
+use Rattle.fl_acts.proofs.Wished.{at_place}
 
 -- ---- tests
 
@@ -48,11 +49,6 @@ pub given_some : {X : Type 0} (Otherwise : Type 0) (Then : X → Type 0) (o : Op
 given_some Otherwise Then None x h t = absurd (cc)
 given_some Otherwise Then (Some y) x h t = subst Then (sym (same_Some y x h)) t
 
-at_place : {X : Type 0} (xs : List X) (n : ℕ) → n < length xs → (x : X) × (slice_get xs n ≡ Some x)
-at_place [] n h = absurd (omega (arith, h))
-at_place (x ∷ xs) zero h = (x, refl)
-at_place (x ∷ xs) (suc n) h = at_place xs n (omega (arith, h))
-
 -- ---- ends that are there
 
 pub end_there : (n core : ℕ) (w : TheWorld) → has_end_of n core w ≡ true → HasEndOf n core w
@@ -69,22 +65,6 @@ none_there n core w h k is =
     record { client = is_none (place_of k (client_of n)) both.0; server = is_none (place_of k (server_of n)) both.1 }
 
 -- ---- places at dispatchers
-
-module _ (b : TheBoard) (sound : IsBoard b) (n : ℕ) (below : n < length b.dispatchers) (count : ℕ)
-    (count_is : (d : TheDispatcher) → slice_get b.dispatchers n ≡ Some d → count ≡ length d.ends) where
-  pub ends_few : count ≤ 1024
-  ends_few =
-      let it = at_place b.dispatchers n below in
-      let same = count_is it.0 it.1 in
-      let most = (sound.dispatchers n it.0 it.1).few in
-      omega (arith, same, most)
-
-  pub places_told : (more : ℕ) → nat_le (count + more) 1024 ≡ places_in b n more
-  places_told more =
-      let it = at_place b.dispatchers n below in
-      let found : places_in b n more ≡ nat_le (length it.0.ends + more) 1024
-      = ap (λ (o : Option TheDispatcher). given o false (λ d. nat_le (length d.ends + more) 1024)) it.1 in
-      ap (λ (k : ℕ). nat_le (k + more) 1024) (count_is it.0 it.1) ∙ sym found
 
 pub no_places : (b : TheBoard) (n more : ℕ) → length b.dispatchers ≤ n → false ≡ places_in b n more
 no_places b n more past = sym (ap (λ (o : Option TheDispatcher). given o false (λ d. nat_le (length d.ends + more) 1024)) (slice_get_past b.dispatchers n past))

@@ -1,21 +1,15 @@
 -- What a look at a link leaves, and what it takes to follow what was seen to be ahead: the same as the world's relations, at its parts.
-use Rattle.std.specs.Prelude.{ℕ, ◌≡◌, ◌⊎◌, false, List, slice_get, Some, None}
+use Rattle.std.specs.Prelude.{ℕ, ◌≡◌, ◌⊎◌, false, List, slice_get, Some}
 use Rattle.fl_base.specs.Control.{is_ack_only, with_circuit}
 use Rattle.fl_ring.specs.Duo.{TheDuo, CountsAreNear, MayForget, side_of, across, knowing}
-use Rattle.fl_endpoint.specs.View.{TheEnd}
-use Rattle.fl_core.specs.Events.{ChangesEnd}
 use Rattle.fl_node.specs.declared.answer.Ahead.{Ahead}
 use Rattle.fl_node.specs.declared.answer.Ahead.TheVariants.{Message, Onward, Arrival}
-use Rattle.fl_node.specs.View.{TheCore}
-use Rattle.fl_node.specs.Ends.{OnBoard}
 use Rattle.fl_queues.specs.Events.{Answer}
-use Rattle.fl_worlds.specs.declared.binding.Binding.{Binding}
 use Rattle.fl_worlds.specs.View.{TheWorld, ring_at, which_at, with_ring}
 use Rattle.fl_worlds.specs.Lending.{DoesNothing}
-use Rattle.fl_worlds.specs.Linking.{WithRules, HasRules, TakesRules, move_of, MovesOn, IsNoWay}
-use Rattle.fl_system.specs.declared.moving.Passing.{Passing}
-use Rattle.fl_system.specs.Parts.{InCore}
-use Rattle.fl_system.specs.Passing.{StandsAt}
+use Rattle.fl_worlds.specs.Linking.{HasRules, TakesRules, move_of, MovesOn, IsNoWay}
+use Rattle.fl_acts.specs.declared.moving.Passing.{Passing}
+use Rattle.fl_acts.specs.Passing.{StandsAt}
 
 -- ---- what is known of side m of a ring
 
@@ -57,16 +51,6 @@ abbrev pub GoesOn : Passing → TheWorld → Answer → TheWorld → Type 0
 GoesOn p w a w2 = MovesOn (move_of p.from p.onto p.frag p.circuit) w a w2 ⊎ (IsNoWay p.from p.onto w × DoesNothing w a w2)
 
 -- ---- rules are brought
-
--- the end at a place of a core gets the rules of another, where the two are of one interface
-abbrev pub TakesRulesOf : TheEnd → ℕ → TheCore → TheCore → Type 0
-TakesRulesOf o place k k2 = OnBoard k (λ b c. ChangesEnd b place (λ s t. WithRules s o t) c) k2
-
--- it gets those of the end that a binding keeps for it, and the binding keeps none any more; or it keeps none
-abbrev pub TakesKept : ℕ → TheCore → Binding → TheCore → Binding → Type 0
-TakesKept place k b k2 b2 =
-    ((o : TheEnd) × (b.unmade ≡ Some o) × InCore (TakesRulesOf o place) k k2 × (b2 ≡ record b { unmade = None }))
-    ⊎ ((b.unmade ≡ None) × (k2 ≡ k) × (b2 ≡ b))
 
 -- the same in the world
 abbrev pub TakesRulesOrNone : TheWorld → ℕ → ℕ → ℕ → TheWorld → Type 0

@@ -2,7 +2,6 @@
 -- fl_worlds says of a world of the parts that an event touches.
 pub mod Places
 pub mod Parts
-pub mod Passing
 pub mod Following
 pub mod Wishes
 pub mod RingEnds

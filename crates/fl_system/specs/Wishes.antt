@@ -1,11 +1,10 @@
 -- What is asked for when a binding is made, in the code's own words for it; and what is looked at before one is.
-use Rattle.std.specs.Prelude.{ℕ, ◌≡◌, ◌<◌, ◌+◌, ◌&&◌, ◌||◌, nat_le, Bool, false, if◌then◌else◌, List, length}
-use Rattle.std.specs.Prelude.{slice_get, Some, None, is_some, Result, Ok, Err}
+use Rattle.std.specs.Prelude.{ℕ, ◌≡◌, ◌&&◌, Bool, false, if◌then◌else◌, List}
+use Rattle.std.specs.Prelude.{slice_get, Some, Result, Ok, Err}
 use Rattle.fl_compile.specs.declared.program.Program.{Program}
 use Rattle.fl_compile.specs.Programs.{program_of}
 use Rattle.fl_endpoint.specs.View.{TheEnd, fresh}
-use Rattle.fl_core.specs.View.{TheBoard}
-use Rattle.fl_node.specs.View.{TheCore, place_of, client_of, server_of}
+use Rattle.fl_node.specs.View.{TheCore}
 use Rattle.fl_queues.specs.Given.{given}
 use Rattle.fl_queues.specs.Events.{DispatcherId, Kind, Answer}
 use Rattle.fl_queues.specs.Binding.{same_dispatcher}
@@ -14,6 +13,7 @@ use Rattle.fl_worlds.specs.View.{TheWorld}
 use Rattle.fl_worlds.specs.Lending.{Refuses}
 use Rattle.fl_worlds.specs.Binding.{Request, has_places, BindsBy, named_request, Binds}
 use Rattle.fl_system.specs.declared.binding.Wish.{Wish}
+use Rattle.fl_acts.specs.Wishes.{IsNewIn, client, core, has_end_in, server}
 
 -- what is asked for, with the program of its interface
 abbrev pub request : Wish → Program → Request
@@ -31,32 +31,13 @@ IsWish client i name w (Err fault) = (kind : Kind) (a : Answer) (w2 : TheWorld) 
 
 -- ---- ends that are there
 
--- an end of binding n is at the core
-abbrev pub has_end_in : ℕ → TheCore → Bool
-has_end_in n k = is_some (place_of k (client_of n)) || is_some (place_of k (server_of n))
-
 abbrev pub has_end_of : ℕ → ℕ → TheWorld → Bool
 has_end_of n core w = given (slice_get w.cores core) false (has_end_in n)
-
--- neither of its ends is
-pub record IsNewIn (n : ℕ) (k : TheCore) : Type 0 where
-  pub client : place_of k (client_of n) ≡ None
-  pub server : place_of k (server_of n) ≡ None
 
 abbrev pub IsNewAt : ℕ → ℕ → TheWorld → Type 0
 IsNewAt n core w = (k : TheCore) → slice_get w.cores core ≡ Some k → IsNewIn n k
 
 -- ---- places at dispatchers
-
--- there is such a dispatcher
-pub record HasDispatcher (cores : List TheCore) (d : DispatcherId) : Type 0 where
-  pub core : TheCore
-  pub core_is : slice_get cores d.core ≡ Some core
-  pub there : d.place < length core.board.dispatchers
-
--- a dispatcher of a board has places for so many ends more
-abbrev pub places_in : TheBoard → ℕ → ℕ → Bool
-places_in b place n = given (slice_get b.dispatchers place) false λ x. nat_le (length x.ends + n) 1024
 
 -- there are places for both ends of a binding
 abbrev pub both_places : DispatcherId → DispatcherId → TheWorld → Bool

@@ -6,16 +6,16 @@ ghost use Rattle.fl_lines.specs.Events.{id_of, answer_of};
 ghost use Rattle.fl_lines.specs.Views.{back_end_of};
 ghost use Rattle.fl_worlds.specs.View.{has_dispatcher};
 ghost use Rattle.fl_worlds.specs.Binding.{has_places, HasEndOf, BindsBy, named_request, Binds};
-ghost use Rattle.fl_system.specs.Wishes.{OfWish, IsWish, has_end_in, has_end_of, IsNewAt, HasDispatcher, places_in, both_places};
+ghost use Rattle.fl_acts.specs.Wishes.{HasDispatcher};
+ghost use Rattle.fl_system.specs.Wishes.{OfWish, IsWish, has_end_of, IsNewAt, both_places};
 ghost use Rattle.fl_system.specs.Wishes.{IsCopyOf, IsNewEnd};
 
 use crate::world::World;
-use fl_base::{Circuit, EndId, IRef, MAX_BINDINGS, MAX_CHANNELS, Side};
+use fl_acts::{has_end, has_places};
+use fl_base::{Circuit, IRef, MAX_BINDINGS};
 use fl_compile::Program;
-use fl_core::Board;
 use fl_endpoint::End;
 use fl_lines::{Answer, BackEnd, DispatcherId};
-use fl_node::Core;
 use std::alloc::AllocError;
 
 /// What is asked for, once its names are known.
@@ -28,33 +28,6 @@ pub(crate) struct Wish {
 }
 
 // ---- what is looked at first
-
-// Whether an end of a binding is at a core.
-pub(crate) fn has_end(core: &Core, binding: usize) -> bool
-    ensures has { result ≡ has_end_in binding core.now }
-{
-    let client = EndId {
-        binding,
-        side: Side::Client,
-    };
-    let server = EndId {
-        binding,
-        side: Side::Server,
-    };
-    core.place(client).is_some() || core.place(server).is_some()
-}
-
-// Whether a dispatcher of a board has places for so many ends more.
-fn has_places(board: &Board, place: usize, count: usize) -> bool
-    requires few { count < 3 }
-    ensures places { result ≡ places_in board.now place count }
-{
-    if place >= board.dispatchers() {
-        return false;
-    }
-    board.sound();
-    board.ends_at(place) + count <= MAX_CHANNELS
-}
 
 impl World {
     // Whether an end of this binding is at a core.

@@ -1,103 +1,22 @@
 //! A binding within a core is made, with its two queues.
 
-ghost use Rattle.std.specs.Prelude.{◌≡◌, ◌<◌, ◌≤◌, ◌+◌, ◌++◌, [], ◌∷◌, length, true, IfOk, OnOk, OnErr, vec_len, vec_capacity};
+ghost use Rattle.std.specs.Prelude.{◌≡◌, ◌<◌, length, true, IfOk, OnErr};
 ghost use Rattle.fl_queues.specs.Events.{done};
 ghost use Rattle.fl_lines.specs.Events.{id_of, answer_of};
 ghost use Rattle.fl_worlds.specs.View.{has_dispatcher};
-ghost use Rattle.fl_worlds.specs.Binding.{BindsByQueues, JoinsByQueues, new_queue};
-ghost use Rattle.fl_system.specs.Parts.{InCore};
-ghost use Rattle.fl_system.specs.Queued.{IsOnQueue, Lists, ListsBoth, MayJoin, JoinsIn, MayJoinAt, JoinsAt, IsJoining, JoinsOrNot};
-ghost use Rattle.fl_system.specs.Wishes.{OfWish, HasDispatcher, IsNewAt};
+ghost use Rattle.fl_worlds.specs.Binding.{BindsByQueues, JoinsByQueues};
+ghost use Rattle.fl_system.specs.Queued.{IsJoining, JoinsOrNot};
+ghost use Rattle.fl_acts.specs.Wishes.{HasDispatcher};
+ghost use Rattle.fl_system.specs.Wishes.{OfWish, IsNewAt};
 
 use crate::binding::Wish;
-use crate::lending::whole;
 use crate::world::World;
+use fl_acts::{join_at, new_queue, push_both};
 use fl_base::MAX_QUEUE;
 use fl_lines::Answer;
-use fl_link::QueueLink;
-use fl_node::{BothEnds, Core, Joining, Newcomer};
+use fl_node::{Joining, Newcomer};
 use fl_worlds::Binding;
-use std::alloc::{AllocError, Global};
-
-// A queue of so many slots, with nothing in it.
-fn new_queue(alloc: Global, slots: u32) -> Result<QueueLink, AllocError>
-    ensures fresh { IfOk result (λ q. q ≡ new_queue slots) }
-{
-    match QueueLink::local(alloc, slots as usize) {
-        Ok(queue) => Ok(queue),
-        Err(_) => Err(AllocError),
-    }
-}
-
-// The channel of an end is registered, over its queue, from which nothing is taken.
-fn register(core: &mut Core, place: usize, queue: &mut QueueLink)
-    requires end { IsOnQueue core.old place }
-    ensures lists { Lists place queue.old core.old core.new }
-    ensures queue { queue.new ≡ queue.old }
-{
-    let _answer = core.register(place, queue);
-}
-
-// The same for both ends: each takes from the queue to which the other puts.
-fn register_both(core: &mut Core, ends: BothEnds, forth: &mut QueueLink, back: &mut QueueLink)
-    requires client { IsOnQueue core.old ends.client }
-    requires server { IsOnQueue core.old ends.server }
-    ensures lists { ListsBoth ends forth.old back.old core.old core.new }
-    ensures forth { forth.new ≡ forth.old }
-    ensures back { back.new ≡ back.old }
-{
-    register(core, ends.client, back);
-    register(core, ends.server, forth);
-}
-
-// Both ends are added to a core and registered; or there is no memory for them.
-fn join(
-    core: &mut Core,
-    both: Joining,
-    forth: &mut QueueLink,
-    back: &mut QueueLink,
-) -> Result<(), AllocError>
-    requires may { MayJoin both core.old }
-    ensures joins { OnOk result (InCore (JoinsIn both forth.old back.old) core.old core.new) }
-    ensures forth { forth.new ≡ forth.old }
-    ensures back { back.new ≡ back.old }
-    ensures kept { OnErr result (core.new ≡ core.old) }
-{
-    whole(core);
-    let Ok(ends) = core.add_both(both) else {
-        return Err(AllocError);
-    };
-    register_both(core, ends, forth, back);
-    whole(core);
-    Ok(())
-}
-
-// The same at core n.
-fn join_at(
-    cores: &mut [Core],
-    n: usize,
-    both: Joining,
-    forth: &mut QueueLink,
-    back: &mut QueueLink,
-) -> Result<(), AllocError>
-    requires there { n < length cores.old }
-    requires may { MayJoinAt n both cores.old }
-    ensures joins { OnOk result (JoinsAt n both forth.old back.old cores.old cores.new) }
-    ensures forth { forth.new ≡ forth.old }
-    ensures back { back.new ≡ back.old }
-    ensures kept { OnErr result (cores.new ≡ cores.old) }
-{
-    join(&mut cores[n], both, forth, back)
-}
-
-// Two queues go behind the others, where there is room for them.
-fn push_both(queues: &mut Vec<QueueLink>, forth: QueueLink, back: QueueLink)
-    requires room { vec_len queues.old + 2 ≤ vec_capacity queues.old }
-    ensures both { queues.new.items ≡ queues.old.items ++ forth ∷ back ∷ [] }
-{
-    queues.push_reserved(forth);
-    queues.push_reserved(back);
-}
+use std::alloc::AllocError;
 
 impl World {
     // The two ends that are asked for, over the two queues behind the others.

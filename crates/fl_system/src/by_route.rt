@@ -1,195 +1,26 @@
 //! A binding is begun whose fragments go along a circuit.
 
-ghost use Rattle.std.specs.Prelude.{◌≡◌, ◌<◌, ◌≤◌, ◌⊎◌, ◌++◌, length, map, nat_lt, true, None, IfOk, OnOk, OnErr, vec_len};
-ghost use Rattle.std.specs.List.{list_all};
+ghost use Rattle.std.specs.Prelude.{◌≡◌, ◌<◌, length, map, true, IfOk, OnErr, vec_len};
 ghost use Rattle.std.specs.Vec.{vec_capacity};
-ghost use Rattle.fl_core.specs.declared.fault.BoardFault.{BoardFault};
 ghost use Rattle.fl_lines.specs.Events.{id_of, answer_of};
-ghost use Rattle.fl_lists.specs.ThreeLists.{is_in};
-ghost use Rattle.fl_monitor.specs.declared.fault.MonitorFault.{MonitorFault};
-ghost use Rattle.fl_monitor.specs.Monitors.{MayOpen, wanted};
-ghost use Rattle.fl_node.specs.declared.fault.OpenFault.{OpenFault};
-ghost use Rattle.fl_node.specs.Making.{asked};
-ghost use Rattle.fl_node.specs.View.{client_of, place_of};
-ghost use Rattle.fl_queues.specs.Binding.{all_differ};
 ghost use Rattle.fl_worlds.specs.Binding.{BindsByRoute, may_be_route};
 ghost use Rattle.fl_worlds.specs.Making.{core_id};
-ghost use Rattle.fl_worlds.specs.View.{has_dispatcher, IsWhole};
-ghost use Rattle.fl_system.specs.Parts.{InCore};
-ghost use Rattle.fl_system.specs.Wishes.{OfWish, HasDispatcher};
-ghost use Rattle.fl_system.specs.Routes.{IsNumberOf, BeginsIn, AtOne, Keeps, unmade_binding};
+ghost use Rattle.fl_worlds.specs.View.{has_dispatcher};
+ghost use Rattle.fl_acts.specs.Wishes.{HasDispatcher};
+ghost use Rattle.fl_system.specs.Wishes.{OfWish};
+ghost use Rattle.fl_system.specs.Routes.{Keeps, unmade_binding};
 ghost use Rattle.fl_system.specs.Routes.{MayOpenFrom, OpensOnLink, OpensAlong};
 
-use crate::binding::{Wish, has_end};
-use crate::lending::whole;
+use crate::binding::Wish;
 use crate::world::World;
+use fl_acts::{Begun, all_differ, are_cores, begin_at, may_open_in, path_over};
 use fl_base::{CoreId, LinkId, MAX_CORES};
 use fl_compile::Program;
-use fl_core::BoardFault;
 use fl_endpoint::End;
-use fl_lines::{Answer, DispatcherId};
+use fl_lines::Answer;
 use fl_monitor::{MonitorFault, Opening, Path};
-use fl_node::{Core, OpenFault};
 use fl_worlds::Binding;
 use std::alloc::{AllocError, Global};
-
-/// What a core makes of an opening.
-#[derive(Clone, Copy, Debug, PartialEq, Eq)]
-pub(crate) enum Begun {
-    /// An end of the binding is there already.
-    There,
-    /// It is refused, by this number.
-    Refused(u8),
-    /// The client's end is there, and the opening waits.
-    Waits,
-}
-
-// ---- a route
-
-// Whether a core is among these.
-fn is_in(core: u32, cores: &[u32]) -> bool
-    ensures is_in { result ≡ is_in core cores.now }
-{
-    cores.iter().any(|one| *one == core)
-}
-
-// Whether none of these stands twice.
-fn all_differ(cores: &[u32]) -> bool
-    ensures differ { result ≡ all_differ cores.now }
-{
-    let [first, rest @ ..] = cores else {
-        return true;
-    };
-    !is_in(*first, rest) && all_differ(rest)
-}
-
-// Whether all are cores of a world of so many.
-fn are_cores(cores: &[u32], count: usize) -> bool
-    ensures all { result ≡ list_all (λ n. nat_lt n count) cores.now }
-{
-    cores.iter().all(|one| (*one as usize) < count)
-}
-
-// Puts the cores' identities behind those that are there.
-fn push_ids(ids: &mut Vec<CoreId>, cores: &[u32]) -> Result<(), AllocError>
-    requires small { list_all (λ n. nat_lt n 256) cores.now ≡ true }
-    ensures ids { OnOk result (ids.new.items ≡ ids.old.items ++ map core_id cores.now) }
-{
-    let [first, rest @ ..] = cores else {
-        return Ok(());
-    };
-    ids.push(CoreId(*first as u8))?;
-    push_ids(ids, rest)
-}
-
-// The route over these cores.
-fn path_over(alloc: Global, cores: &[u32]) -> Result<Path, AllocError>
-    requires few { length cores.now ≤ 16 }
-    requires small { list_all (λ n. nat_lt n 256) cores.now ≡ true }
-    ensures path { IfOk result (λ path. path ≡ map core_id cores.now) }
-{
-    let mut ids = Vec::new(alloc);
-    push_ids(&mut ids, cores)?;
-    let Some(path) = Path::new(ids.as_slice()) else {
-        unreachable!();
-    };
-    Ok(path)
-}
-
-// ---- at a core
-
-// On which link a circuit may be opened along a route, of so many cores in all, to a service of the client's own program.
-fn may_open_in(
-    core: &Core,
-    program: &Program,
-    server: CoreId,
-    path: &Path,
-    count: usize,
-) -> Result<LinkId, MonitorFault>
-    ensures whole { IsWhole core.now }
-    ensures may { MayOpen (wanted program.now program.now server path.now count) core.now.monitor.circuits result }
-{
-    whole(core);
-    core.monitor()
-        .may_open(program, program, server, path.cores(), count)
-}
-
-// The number of a fault that isn't for want of memory.
-fn number_of(fault: OpenFault) -> Result<u8, AllocError>
-    ensures number { IfOk result (λ n. IsNumberOf fault n) }
-    ensures memory { OnErr result ((fault ≡ OpenFault.Board BoardFault.Memory) ⊎ (fault ≡ OpenFault.Monitor MonitorFault.Memory)) }
-{
-    match fault {
-        OpenFault::Board(BoardFault::Memory) => Err(AllocError),
-        OpenFault::Monitor(MonitorFault::Memory) => Err(AllocError),
-        _ => Ok(fault.number()),
-    }
-}
-
-// A core begins a circuit for a binding of which it has no end.
-fn open_in(
-    core: &mut Core,
-    dispatcher: usize,
-    program: Program,
-    link: LinkId,
-    opening: &Opening,
-) -> Result<Begun, AllocError>
-    requires dispatcher { dispatcher < length core.old.board.dispatchers }
-    requires few { opening.now.binding < 1024 }
-    requires new { place_of core.old (client_of opening.now.binding) ≡ None }
-    ensures begins { IfOk result (λ o. InCore (BeginsIn (asked dispatcher program link opening.now) o) core.old core.new) }
-    ensures kept { OnErr result (core.new ≡ core.old) }
-{
-    whole(core);
-    let outcome = core.open(dispatcher, program, link, opening);
-    whole(core);
-    match outcome {
-        Ok(_) => Ok(Begun::Waits),
-        Err(fault) => Ok(Begun::Refused(number_of(fault)?)),
-    }
-}
-
-// The same where it may have one.
-fn begin(
-    core: &mut Core,
-    dispatcher: usize,
-    program: Program,
-    link: LinkId,
-    opening: &Opening,
-) -> Result<Begun, AllocError>
-    requires dispatcher { dispatcher < length core.old.board.dispatchers }
-    requires few { opening.now.binding < 1024 }
-    ensures begins { IfOk result (λ o. InCore (BeginsIn (asked dispatcher program link opening.now) o) core.old core.new) }
-    ensures kept { OnErr result (core.new ≡ core.old) }
-{
-    whole(core);
-    if has_end(core, opening.binding as usize) {
-        return Ok(Begun::There);
-    }
-    open_in(core, dispatcher, program, link, opening)
-}
-
-// The same at a dispatcher's core, among all cores.
-fn begin_at(
-    cores: &mut [Core],
-    client: DispatcherId,
-    program: Program,
-    link: LinkId,
-    opening: &Opening,
-) -> Result<Begun, AllocError>
-    requires client { HasDispatcher cores.old (id_of client) }
-    requires few { opening.now.binding < 1024 }
-    ensures begins { IfOk result (λ o. AtOne cores.old client.core (BeginsIn (asked client.place program link opening.now) o) cores.new) }
-    ensures kept { OnErr result (cores.new ≡ cores.old) }
-{
-    begin(
-        &mut cores[client.core as usize],
-        client.place,
-        program,
-        link,
-        opening,
-    )
-}
 
 // ---- among the bindings
 

@@ -11,7 +11,6 @@
 //! - `booting.rt`: a world after a set-up
 //! - `parts.rt`: a world taken apart
 //! - `places.rt`: where ends and links are
-//! - `lending.rt`: sides of rings, lent
 //! - `sending.rt`: calls and writes of ends
 //! - `taking.rt`: turns, and what ends say of themselves
 //! - `linking.rt`: events of links
@@ -27,7 +26,6 @@ mod by_queues;
 mod by_ring;
 mod by_route;
 mod forwarding;
-mod lending;
 mod linking;
 mod machine;
 mod making;

@@ -1,90 +1,26 @@
 //! Interfaces, cores, links, dispatchers and services are made.
 
-ghost use Rattle.std.specs.Prelude.{ℕ, ◌≡◌, ◌≢◌, ◌≤◌, ◌<◌, ◌-◌, ◌^◌, length, IfOk, OnOk, OnErr, bytes_eq};
-ghost use Rattle.fl_base.specs.declared.identity.CoreId.{CoreId};
+ghost use Rattle.std.specs.Prelude.{◌≡◌, ◌≢◌, ◌≤◌, ◌<◌, length, IfOk, OnErr};
 ghost use Rattle.fl_interface.specs.Interface.{interface_of};
-ghost use Rattle.fl_compile.specs.Programs.{program_of};
 ghost use Rattle.fl_ring.specs.Duo.{MayHaveSlots};
-ghost use Rattle.fl_node.specs.View.{TheCore};
-ghost use Rattle.fl_node.specs.Making.{linked, IsLinked};
+ghost use Rattle.fl_node.specs.Making.{IsLinked};
 ghost use Rattle.fl_queues.specs.Events.{done};
-ghost use Rattle.fl_worlds.specs.View.{IsWhole};
-ghost use Rattle.fl_worlds.specs.Making.{has_program, has_link, new_duo, WithProgram, AddsInterface, fresh_cores, SetsCores, AddsLink, AddsDispatcher, Exports};
+ghost use Rattle.fl_worlds.specs.Making.{has_program, has_link, new_duo, WithProgram, AddsInterface, SetsCores, AddsLink, AddsDispatcher, Exports};
 ghost use Rattle.fl_worlds.specs.Making as making;
 ghost use Rattle.fl_lines.specs.Events.{answer_of, id_of};
 ghost use Rattle.fl_worlds.specs.Step.{fresh_world};
-ghost use Rattle.fl_system.specs.Parts.{LinksBoth, is_no_pair};
+ghost use Rattle.fl_system.specs.Parts.{is_no_pair};
 
-use crate::lending::whole;
 use crate::world::World;
+use fl_acts::{fresh_cores, has_name, link_both};
 use fl_base::{CoreId, MAX_CORES, MAX_DISPATCHERS, MAX_INTERFACES, MAX_SERVICES};
-use fl_compile::{Program, compile};
+use fl_compile::compile;
 use fl_interface::Interface;
 use fl_lines::{Answer, DispatcherId};
 use fl_nameserv::{Names, Service};
-use fl_node::Core;
 use fl_ring::{OneDuo, RingFault};
 use fl_value::PlanNo;
 use std::alloc::{AllocError, Global};
-
-// So many cores with nothing on them.
-fn fresh_cores(alloc: Global, n: u32) -> Result<Vec<Core>, AllocError>
-    requires { n ≤ 16 }
-    ensures { IfOk result (λ cores. cores.items ≡ fresh_cores n) }
-{
-    let mut cores = Vec::new(alloc);
-    for core in 0..n {
-        let core = Core::new(alloc, CoreId(core as u8))?;
-        cores.push(core)?;
-    }
-    Ok(cores)
-}
-
-// Whether a program's interface has this name.
-fn has_name(program: &Program, name: &[u8]) -> bool
-    ensures has { result ≡ bytes_eq name.now (program_of program.now).interface.name }
-{
-    name == program.interface().name.bytes.as_slice()
-}
-
-// Adds a link to a core, over this side of a ring.
-fn link(core: &mut Core, neighbour: CoreId, side: usize) -> Result<(), AllocError>
-    ensures whole { IsWhole core.old }
-    ensures links { OnOk result (core.new ≡ linked core.old neighbour side) }
-    ensures kept { OnErr result (core.new ≡ core.old) }
-{
-    whole(core);
-    match core.add_link(neighbour, side) {
-        Ok(_) => Ok(()),
-        Err(_) => Err(AllocError),
-    }
-}
-
-// Takes back the link that a core has just got.
-fn unlink(core: &mut Core)
-    requires { IsLinked core.old }
-    ensures before { (k : TheCore) (neighbour : CoreId) (side : ℕ) → core.old ≡ linked k neighbour side → core.new ≡ k }
-{
-    core.take_back_link()
-}
-
-// A link between two cores, over a ring whose first side is this one.
-fn link_both(cores: &mut [Core], a: usize, b: usize, side: usize) -> Result<(), AllocError>
-    requires few { length cores.old ≤ 16 }
-    requires a { a < length cores.old }
-    requires b { b < length cores.old }
-    requires apart { a ≢ b }
-    requires side { side < 2 ^ 64 - 1 }
-    ensures links { OnOk result (LinksBoth a b side cores.old cores.new) }
-    ensures kept { OnErr result (cores.new ≡ cores.old) }
-{
-    link(&mut cores[a], CoreId(b as u8), side)?;
-    if let Err(error) = link(&mut cores[b], CoreId(a as u8), side + 1) {
-        unlink(&mut cores[a]);
-        return Err(error);
-    }
-    Ok(())
-}
 
 impl World {
     /// A world of one core, with nothing on it.

@@ -1,7 +1,7 @@
 use Rattle.std.proofs.Common.{refl}
 use Rattle.fl_value.specs.Value.{call_of}
 use Rattle.fl_lines.specs.Events.{answer_of}
-use Rattle.fl_system.specs.Parts.{CallsIn}
+use Rattle.fl_acts.specs.Parts.{CallsIn}
 use Rattle.fl_system.proofs.Lifts.{core_read, core_if_ok}
 use Rattle.fl_system.proofs.world.World.call_made.Goals as goal
 

@@ -1,7 +1,7 @@
 use Rattle.std.proofs.Common.{refl}
 use Rattle.fl_value.specs.Value.{call_of}
 use Rattle.fl_lines.specs.Events.{answer_of}
-use Rattle.fl_system.specs.Parts.{CallsWith}
+use Rattle.fl_acts.specs.Parts.{CallsWith}
 use Rattle.fl_system.proofs.Lifts.{binding_read, unmade_if_ok}
 use Rattle.fl_system.proofs.world.World.call_unmade.Goals as goal
 

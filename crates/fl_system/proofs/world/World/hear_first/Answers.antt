@@ -1,5 +1,5 @@
 use Rattle.fl_worlds.specs.Linking.{offers_in}
-use Rattle.fl_system.specs.Places.{lane_from}
+use Rattle.fl_acts.specs.Places.{lane_from}
 use Rattle.fl_system.proofs.Following.{left_first, left_forgot}
 use Rattle.fl_system.proofs.world.World.hear_first.Goals as goal
 

@@ -1,7 +1,8 @@
 use Rattle.std.proofs.Common.{◌≡◌, refl, subst, List, slice_get, Some}
 use Rattle.fl_link.specs.Queue.{TheQueue}
 use Rattle.fl_worlds.specs.View.{TheWorld}
-use Rattle.fl_system.proofs.Lifts.{stands, core_is_read, queue_previews}
+use Rattle.fl_acts.proofs.Lifts.{stands}
+use Rattle.fl_system.proofs.Lifts.{core_is_read, queue_previews}
 use Rattle.fl_system.proofs.world.World.show_over_queue.Goals as goal
 
 pub returns-in-Some : goal.returns-in-Some

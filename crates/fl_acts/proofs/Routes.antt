@@ -1,0 +1,24 @@
+-- A binding by a route: from the parts of a world to the world.
+use Rattle.std.proofs.Common.{◌≡◌, refl, ℕ, ◌<◌, List, length, slice_set, slice_index_or, Result, Ok, Err, IfOk}
+use Rattle.std.specs.declared.alloc.AllocError.{AllocError}
+use Rattle.std.proofs.lemmas.Option.{slice_get_within}
+use Rattle.fl_node.specs.View.{TheCore}
+use Rattle.fl_queues.specs.Events.{DispatcherId}
+use Rattle.fl_acts.specs.declared.by_route.Begun.{Begun}
+use Rattle.fl_acts.specs.Parts.{InCore}
+use Rattle.fl_acts.specs.Wishes.{HasDispatcher}
+use Rattle.fl_acts.specs.Routes.{AtOne}
+use Rattle.fl_acts.proofs.Lifts.{stands}
+
+-- ---- the client's core
+
+pub core_below : (cores : List TheCore) (d : DispatcherId) → HasDispatcher cores d → d.core < length cores
+core_below cores d h = slice_get_within cores d.core h.core h.core_is
+
+-- among all cores
+pub at_one : (cores : List TheCore) (n : ℕ) → n < length cores → (read : TheCore) → read ≡ slice_index_or cores n read
+    → (Event : Begun → TheCore → TheCore → Type 0) (k2 : TheCore) (r : Result Begun AllocError) → IfOk r (λ o. InCore (Event o) read k2)
+    → IfOk r (λ o. AtOne cores n (Event o) (slice_set cores n k2))
+at_one cores n below read value Event k2 (Ok o) h =
+    record { before = read; before_is = stands cores n read read below value refl; after = k2; event = h; rest = refl }
+at_one cores n below read value Event k2 (Err e) h = tt

@@ -1,0 +1,21 @@
+-- What a look at a link leaves, and what it takes to follow what was seen to be ahead: the same as the world's relations, at its parts.
+use Rattle.std.specs.Prelude.{ℕ, ◌≡◌, ◌⊎◌, Some, None}
+use Rattle.fl_endpoint.specs.View.{TheEnd}
+use Rattle.fl_core.specs.Events.{ChangesEnd}
+use Rattle.fl_node.specs.View.{TheCore}
+use Rattle.fl_node.specs.Ends.{OnBoard}
+use Rattle.fl_worlds.specs.declared.binding.Binding.{Binding}
+use Rattle.fl_worlds.specs.Linking.{WithRules}
+use Rattle.fl_acts.specs.Parts.{InCore}
+
+-- ---- rules are brought
+
+-- the end at a place of a core gets the rules of another, where the two are of one interface
+abbrev pub TakesRulesOf : TheEnd → ℕ → TheCore → TheCore → Type 0
+TakesRulesOf o place k k2 = OnBoard k (λ b c. ChangesEnd b place (λ s t. WithRules s o t) c) k2
+
+-- it gets those of the end that a binding keeps for it, and the binding keeps none any more; or it keeps none
+abbrev pub TakesKept : ℕ → TheCore → Binding → TheCore → Binding → Type 0
+TakesKept place k b k2 b2 =
+    ((o : TheEnd) × (b.unmade ≡ Some o) × InCore (TakesRulesOf o place) k k2 × (b2 ≡ record b { unmade = None }))
+    ⊎ ((b.unmade ≡ None) × (k2 ≡ k) × (b2 ≡ b))

@@ -1,0 +1,9 @@
+-- What events come to at the parts of a world that they touch, from what fl_worlds says of a world.
+pub mod Places
+pub mod Parts
+pub mod Passing
+pub mod Following
+pub mod Wishes
+pub mod RingEnds
+pub mod Queued
+pub mod Routes

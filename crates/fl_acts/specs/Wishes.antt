@@ -1,0 +1,30 @@
+-- What is asked for when a binding is made, in the code's own words for it; and what is looked at before one is.
+use Rattle.std.specs.Prelude.{ℕ, ◌≡◌, ◌<◌, ◌+◌, ◌||◌, nat_le, Bool, false, List, length}
+use Rattle.std.specs.Prelude.{slice_get, Some, None, is_some}
+use Rattle.fl_core.specs.View.{TheBoard}
+use Rattle.fl_node.specs.View.{TheCore, place_of, client_of, server_of}
+use Rattle.fl_queues.specs.Given.{given}
+use Rattle.fl_queues.specs.Events.{DispatcherId}
+
+-- ---- ends that are there
+
+-- an end of binding n is at the core
+abbrev pub has_end_in : ℕ → TheCore → Bool
+has_end_in n k = is_some (place_of k (client_of n)) || is_some (place_of k (server_of n))
+
+-- neither of its ends is
+pub record IsNewIn (n : ℕ) (k : TheCore) : Type 0 where
+  pub client : place_of k (client_of n) ≡ None
+  pub server : place_of k (server_of n) ≡ None
+
+-- ---- places at dispatchers
+
+-- there is such a dispatcher
+pub record HasDispatcher (cores : List TheCore) (d : DispatcherId) : Type 0 where
+  pub core : TheCore
+  pub core_is : slice_get cores d.core ≡ Some core
+  pub there : d.place < length core.board.dispatchers
+
+-- a dispatcher of a board has places for so many ends more
+abbrev pub places_in : TheBoard → ℕ → ℕ → Bool
+places_in b place n = given (slice_get b.dispatchers place) false λ x. nat_le (length x.ends + n) 1024

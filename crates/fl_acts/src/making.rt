@@ -1,0 +1,81 @@
+//! Interfaces, cores, links, dispatchers and services are made.
+
+ghost use Rattle.std.specs.Prelude.{ℕ, ◌≡◌, ◌≢◌, ◌≤◌, ◌<◌, ◌-◌, ◌^◌, length, IfOk, OnOk, OnErr, bytes_eq};
+ghost use Rattle.fl_base.specs.declared.identity.CoreId.{CoreId};
+ghost use Rattle.fl_compile.specs.Programs.{program_of};
+ghost use Rattle.fl_node.specs.View.{TheCore};
+ghost use Rattle.fl_node.specs.Making.{linked, IsLinked};
+ghost use Rattle.fl_worlds.specs.View.{IsWhole};
+ghost use Rattle.fl_worlds.specs.Making.{fresh_cores};
+ghost use Rattle.fl_acts.specs.Parts.{LinksBoth};
+
+use crate::lending::whole;
+use fl_base::CoreId;
+use fl_compile::Program;
+use fl_node::Core;
+use std::alloc::{AllocError, Global};
+
+/// So many cores with nothing on them.
+///
+/// # Errors
+/// Want of memory.
+pub fn fresh_cores(alloc: Global, n: u32) -> Result<Vec<Core>, AllocError>
+    requires { n ≤ 16 }
+    ensures { IfOk result (λ cores. cores.items ≡ fresh_cores n) }
+{
+    let mut cores = Vec::new(alloc);
+    for core in 0..n {
+        let core = Core::new(alloc, CoreId(core as u8))?;
+        cores.push(core)?;
+    }
+    Ok(cores)
+}
+
+/// Whether a program's interface has this name.
+pub fn has_name(program: &Program, name: &[u8]) -> bool
+    ensures has { result ≡ bytes_eq name.now (program_of program.now).interface.name }
+{
+    name == program.interface().name.bytes.as_slice()
+}
+
+// Adds a link to a core, over this side of a ring.
+fn link(core: &mut Core, neighbour: CoreId, side: usize) -> Result<(), AllocError>
+    ensures whole { IsWhole core.old }
+    ensures links { OnOk result (core.new ≡ linked core.old neighbour side) }
+    ensures kept { OnErr result (core.new ≡ core.old) }
+{
+    whole(core);
+    match core.add_link(neighbour, side) {
+        Ok(_) => Ok(()),
+        Err(_) => Err(AllocError),
+    }
+}
+
+// Takes back the link that a core has just got.
+fn unlink(core: &mut Core)
+    requires { IsLinked core.old }
+    ensures before { (k : TheCore) (neighbour : CoreId) (side : ℕ) → core.old ≡ linked k neighbour side → core.new ≡ k }
+{
+    core.take_back_link()
+}
+
+/// A link between two cores, over a ring whose first side is this one.
+///
+/// # Errors
+/// Want of memory.
+pub fn link_both(cores: &mut [Core], a: usize, b: usize, side: usize) -> Result<(), AllocError>
+    requires few { length cores.old ≤ 16 }
+    requires a { a < length cores.old }
+    requires b { b < length cores.old }
+    requires apart { a ≢ b }
+    requires side { side < 2 ^ 64 - 1 }
+    ensures links { OnOk result (LinksBoth a b side cores.old cores.new) }
+    ensures kept { OnErr result (cores.new ≡ cores.old) }
+{
+    link(&mut cores[a], CoreId(b as u8), side)?;
+    if let Err(error) = link(&mut cores[b], CoreId(a as u8), side + 1) {
+        unlink(&mut cores[a]);
+        return Err(error);
+    }
+    Ok(())
+}
