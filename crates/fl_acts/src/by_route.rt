@@ -28,7 +28,7 @@ use fl_node::{Core, OpenFault};
 use std::alloc::{AllocError, Global};
 
 /// What a core makes of an opening.
-#[derive(Clone, Copy, Debug, PartialEq, Eq)]
+#[derive(Clone, Copy)]
 pub enum Begun {
     /// An end of the binding is there already.
     There,

@@ -109,38 +109,38 @@ pub fn take_rules_of(core: &mut Core, place: usize, binding: &mut Binding)
 // ---- a fragment moves on
 
 // It moves onto a ring behind the one that it comes from, in the order of the rings.
-fn move_up(passing: Passing, rings: &mut [OneDuo]) -> Answer
-    requires up { ring_at passing.from < ring_at passing.onto }
-    requires onto { ring_at passing.onto < length rings.old }
-    requires seen { StandsAt rings.old passing.from passing.frag }
-    requires call { is_ack_only (with_circuit passing.circuit.0 passing.frag) ≡ false }
-    ensures passes { PassesOver passing rings.old (answer_of result) rings.new }
+fn move_up(passing: &Passing, rings: &mut [OneDuo]) -> Answer
+    requires up { ring_at passing.now.from < ring_at passing.now.onto }
+    requires onto { ring_at passing.now.onto < length rings.old }
+    requires seen { StandsAt rings.old passing.now.from passing.now.frag }
+    requires call { is_ack_only (with_circuit passing.now.circuit.0 passing.now.frag) ≡ false }
+    ensures passes { PassesOver passing.now rings.old (answer_of result) rings.new }
 {
     let (low, high) = rings.split_at_mut(ring_at(passing.onto));
-    move_between(&passing, &mut low[ring_at(passing.from)], &mut high[0])
+    move_between(passing, &mut low[ring_at(passing.from)], &mut high[0])
 }
 
 // It moves onto a ring before it.
-fn move_down(passing: Passing, rings: &mut [OneDuo]) -> Answer
-    requires down { ring_at passing.onto < ring_at passing.from }
-    requires from { ring_at passing.from < length rings.old }
-    requires seen { StandsAt rings.old passing.from passing.frag }
-    requires call { is_ack_only (with_circuit passing.circuit.0 passing.frag) ≡ false }
-    ensures passes { PassesOver passing rings.old (answer_of result) rings.new }
+fn move_down(passing: &Passing, rings: &mut [OneDuo]) -> Answer
+    requires down { ring_at passing.now.onto < ring_at passing.now.from }
+    requires from { ring_at passing.now.from < length rings.old }
+    requires seen { StandsAt rings.old passing.now.from passing.now.frag }
+    requires call { is_ack_only (with_circuit passing.now.circuit.0 passing.now.frag) ≡ false }
+    ensures passes { PassesOver passing.now rings.old (answer_of result) rings.new }
 {
     let (low, high) = rings.split_at_mut(ring_at(passing.from));
-    move_between(&passing, &mut high[0], &mut low[ring_at(passing.onto)])
+    move_between(passing, &mut high[0], &mut low[ring_at(passing.onto)])
 }
 
 /// It moves among the world's rings.
-pub fn move_among(passing: Passing, rings: &mut [OneDuo]) -> Answer
-    requires apart { ring_at passing.from ≢ ring_at passing.onto }
-    requires from { ring_at passing.from < length rings.old }
-    requires onto { ring_at passing.onto < length rings.old }
-    requires seen { StandsAt rings.old passing.from passing.frag }
-    requires call { is_ack_only (with_circuit passing.circuit.0 passing.frag) ≡ false }
-    ensures passes { PassesOver passing rings.old (answer_of result) rings.new }
-    ensures apart { ring_at passing.from ≢ ring_at passing.onto }
+pub fn move_among(passing: &Passing, rings: &mut [OneDuo]) -> Answer
+    requires apart { ring_at passing.now.from ≢ ring_at passing.now.onto }
+    requires from { ring_at passing.now.from < length rings.old }
+    requires onto { ring_at passing.now.onto < length rings.old }
+    requires seen { StandsAt rings.old passing.now.from passing.now.frag }
+    requires call { is_ack_only (with_circuit passing.now.circuit.0 passing.now.frag) ≡ false }
+    ensures passes { PassesOver passing.now rings.old (answer_of result) rings.new }
+    ensures apart { ring_at passing.now.from ≢ ring_at passing.now.onto }
 {
     if ring_at(passing.from) < ring_at(passing.onto) {
         move_up(passing, rings)

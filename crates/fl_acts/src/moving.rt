@@ -147,7 +147,7 @@ pub fn arrive_by_ring(
 }
 
 /// A fragment that is to move on: from one side of a ring to a side of another, with this circuit's number there.
-#[derive(Clone, Copy, Debug, PartialEq, Eq)]
+#[derive(Clone, Copy)]
 pub struct Passing {
     pub frag: Frag,
     pub from: usize,

@@ -10,7 +10,7 @@ use fl_node::Core;
 use fl_worlds::Binding;
 
 /// Where an end is.
-#[derive(Clone, Copy, Debug, PartialEq, Eq)]
+#[derive(Clone, Copy)]
 pub enum Spot {
     /// There is no such binding.
     Nowhere,
@@ -21,7 +21,7 @@ pub enum Spot {
 }
 
 /// A core's end of a link: the link there, and the core's side of its ring.
-#[derive(Clone, Copy, Debug, PartialEq, Eq)]
+#[derive(Clone, Copy)]
 pub struct Lane {
     pub link: LinkId,
     pub side: usize,

@@ -32,7 +32,7 @@ use std::alloc::AllocError;
 // ---- turns
 
 /// The end that is due at a dispatcher of a core.
-#[derive(Clone, Copy, Debug, PartialEq, Eq)]
+#[derive(Clone, Copy)]
 pub struct Due {
     /// The dispatcher's place.
     pub dispatcher: usize,

@@ -73,7 +73,7 @@ impl World {
             Ahead::Nothing => Ok(Answer::Nothing),
             Ahead::Acknowledged => Ok(Answer::Done),
             Ahead::Message(frag) => self.hear_first(n, at, &frag, known),
-            Ahead::Onward(frag, onto, circuit) => Ok(self.move_on(Passing {
+            Ahead::Onward(frag, onto, circuit) => Ok(self.move_on(&Passing {
                 frag,
                 from: at.side,
                 onto,
@@ -84,10 +84,10 @@ impl World {
     }
 
     // What stands first, and was seen, moves on.
-    fn move_on(&mut self, passing: Passing) -> Answer
-        requires seen { StandsAt self.old.rings passing.from passing.frag }
-        requires call { is_ack_only (with_circuit passing.circuit.0 passing.frag) ≡ false }
-        ensures goes { GoesOn passing self.old (answer_of result) self.new }
+    fn move_on(&mut self, passing: &Passing) -> Answer
+        requires seen { StandsAt self.old.rings passing.now.from passing.now.frag }
+        requires call { is_ack_only (with_circuit passing.now.circuit.0 passing.now.frag) ≡ false }
+        ensures goes { GoesOn passing.now self.old (answer_of result) self.new }
     {
         let (from, onto) = (ring_at(passing.from), ring_at(passing.onto));
         if from == onto {

@@ -9,4 +9,4 @@ returns c =
     let many = as_many _ _ _ _ c.move_among.ensures.passes in
     let left : (with_items c.self.inside.rings c.move_among.new.rings).items ≡ c.move_among.new.rings =
     with_items_is c.self.inside.rings c.move_among.new.rings (omega (arith, many, c.deref_mut.ensures.len)) in
-    record { goes = goes_on c.args.self.now _ c.self.view_is c.args.passing _ _ _ _ c.deref_mut.ensures.value left c.move_among.ensures.apart c.move_among.ensures.passes }
+    record { goes = goes_on c.args.self.now _ c.self.view_is c.args.passing.now _ _ _ _ c.deref_mut.ensures.value left c.move_among.ensures.apart c.move_among.ensures.passes }
