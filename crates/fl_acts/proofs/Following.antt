@@ -1,4 +1,4 @@
--- What a core follows after a look, and what is left of the look where it isn't followed.
+-- An end gets the rules of another, where the two are of one interface.
 use Rattle.std.proofs.Common.{◌≡◌, ◌≢◌, ◌↔◌, refl, sym, ap, ◌∙◌, subst, ℕ, zero, suc, Bool, true, false, IsTrue, List, [], ◌∷◌, slice_get, slice_set, Some, inl, inr}
 use Rattle.std.proofs.lemmas.Option.{same_Some}
 use Rattle.fl_endpoint.specs.View.{TheEnd, interface_in}

@@ -1,4 +1,4 @@
--- What happens at the parts of a world, as an event of the world: w is the world before, and base the same by its fields.
+-- What was read at a place of a list stands there.
 use Rattle.std.proofs.Common.{◌≡◌, refl, sym, ap, ◌∙◌, ℕ, ◌<◌, length, slice_get, slice_set, slice_index_or, List, Some}
 use Rattle.std.proofs.lemmas.List.{set-get_or}
 use Rattle.std.proofs.lemmas.Option.{slice_get_read}

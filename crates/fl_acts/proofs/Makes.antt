@@ -1,4 +1,4 @@
--- Cores that are made, a link between two, and an interface.
+-- Cores that are made, and a link between two.
 use Rattle.std.proofs.Common.{◌≡◌, ◌≢◌, refl, sym, ap, ap₂, ◌∙◌, ℕ, zero, suc, ◌+◌, ◌<◌, length, map, slice_set, slice_index_or, List, [], ◌∷◌, ◌++◌, arith, add-one}
 use Rattle.std.specs.List.{range_with_len}
 use Rattle.std.proofs.lemmas.List.{map-append, set-get_or, set-set, get_or-set_same, get_or-set_other}

@@ -1,4 +1,4 @@
--- A binding by a route: from the parts of a world to the world.
+-- A binding by a route: one of all cores has changed.
 use Rattle.std.proofs.Common.{◌≡◌, refl, ℕ, ◌<◌, List, length, slice_set, slice_index_or, Result, Ok, Err, IfOk}
 use Rattle.std.specs.declared.alloc.AllocError.{AllocError}
 use Rattle.std.proofs.lemmas.Option.{slice_get_within}

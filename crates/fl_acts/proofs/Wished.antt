@@ -1,4 +1,4 @@
--- What is looked at before a binding is made, from the facts of the code; and what is asked for, from the names.
+-- What a board says of its dispatchers' places.
 use Rattle.std.proofs.Common.{◌≡◌, ◌≤◌, ◌<◌, ◌+◌, nat_le, refl, sym, ap, ◌∙◌, ℕ, zero, suc, false, List, [], ◌∷◌, length, slice_get, Option, Some, arith}
 use Rattle.fl_core.specs.View.{TheDispatcher, TheBoard}
 use Rattle.fl_core.specs.Sound.{IsBoard}

@@ -1,4 +1,4 @@
--- What a look at a link leaves, and what it takes to follow what was seen to be ahead: the same as the world's relations, at its parts.
+-- An end at a core gets the rules of another that a binding kept for it.
 use Rattle.std.specs.Prelude.{ℕ, ◌≡◌, ◌⊎◌, Some, None}
 use Rattle.fl_endpoint.specs.View.{TheEnd}
 use Rattle.fl_core.specs.Events.{ChangesEnd}

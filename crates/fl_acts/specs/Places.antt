@@ -1,4 +1,4 @@
--- Where things are in a world, in the code's own words for it.
+-- Where ends and links are, in the code's own words for it.
 use Rattle.std.specs.Prelude.{ℕ, ◌≡◌, ◌<◌, List, length, slice_get, Option, Some, None}
 use Rattle.fl_hop.specs.Table.{link_of}
 use Rattle.fl_node.specs.View.{TheCore, side_of_link}

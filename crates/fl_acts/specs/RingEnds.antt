@@ -1,4 +1,4 @@
--- What comes of a binding over a new ring: at a core, at the cores of its two ends, and in the world.
+-- What comes of a binding over a new ring: at a core, and at the cores of its two ends.
 use Rattle.std.specs.Prelude.{ℕ, ◌≡◌, ◌<◌, List, length, slice_get, slice_set, Some, None, Result, Ok}
 use Rattle.fl_base.specs.declared.identity.EndId.{EndId}
 use Rattle.fl_ring.specs.Duo.{TheDuo}

@@ -1,4 +1,4 @@
--- A binding by a route, at the parts of a world that it touches: the client's core, and the list of bindings.
+-- A binding by a route, at the client's core.
 use Rattle.std.specs.Prelude.{ℕ, ◌≡◌, true, List, slice_get, slice_set, Some, Ok, Err}
 use Rattle.fl_core.specs.declared.fault.BoardFault.TheVariants as board
 use Rattle.fl_monitor.specs.declared.fault.MonitorFault.TheVariants as monitor
@@ -7,7 +7,6 @@ use Rattle.fl_node.specs.declared.fault.OpenFault.TheVariants as fault
 use Rattle.fl_node.specs.Faults.{open_number}
 use Rattle.fl_node.specs.Making.{Asked, Asks}
 use Rattle.fl_node.specs.View.{TheCore}
-use Rattle.fl_queues.specs.Events.{refused}
 use Rattle.fl_acts.specs.declared.by_route.Begun.{Begun}
 use Rattle.fl_acts.specs.declared.by_route.Begun.TheVariants as begun
 use Rattle.fl_acts.specs.Parts.{InCore}

@@ -1,4 +1,4 @@
--- What is asked for when a binding is made, in the code's own words for it; and what is looked at before one is.
+-- What is looked at before a binding is made: ends that a core has, and places at its dispatchers.
 use Rattle.std.specs.Prelude.{ℕ, ◌≡◌, ◌<◌, ◌+◌, ◌||◌, nat_le, Bool, false, List, length}
 use Rattle.std.specs.Prelude.{slice_get, Some, None, is_some}
 use Rattle.fl_core.specs.View.{TheBoard}

@@ -1,4 +1,4 @@
-//! Bindings are made: what is asked for, and what each of the three ways to join two ends looks at first.
+//! What each of the three ways to join two ends looks at first, at a core.
 
 ghost use Rattle.std.specs.Prelude.{◌≡◌, ◌<◌};
 ghost use Rattle.fl_acts.specs.Wishes.{has_end_in, places_in};
@@ -6,8 +6,6 @@ ghost use Rattle.fl_acts.specs.Wishes.{has_end_in, places_in};
 use fl_base::{EndId, MAX_CHANNELS, Side};
 use fl_core::Board;
 use fl_node::Core;
-
-// ---- what is looked at first
 
 /// Whether an end of a binding is at a core.
 pub fn has_end(core: &Core, binding: usize) -> bool

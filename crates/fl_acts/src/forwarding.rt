@@ -1,4 +1,4 @@
-//! What was seen to stand first on a link is followed.
+//! What was seen to stand first on a link is followed: what is answered, rules that are brought, and a fragment that moves on.
 
 ghost use Rattle.std.specs.Prelude.{◌≡◌, ◌≢◌, ◌<◌, ◌↔◌, true, false, IsTrue, length, None, IfOk, OnErr, Ok, Err};
 ghost use Rattle.fl_base.specs.Control.{is_ack_only, with_circuit};

@@ -1,7 +1,8 @@
-//! What a core does in a world, over what an event lends it: a queue, a side of a ring, an end that a binding keeps.
+//! What a core does in a world, over what an event lends it: a queue, a side of a ring, or an end that a binding
+//! keeps.
 //!
-//! Contract for the layers above: each function says what its event comes to at the parts of a world that it touches (`specs/`), in the words in which
-//! `fl_worlds` says it of a world. `fl_system` puts these parts into its world and takes them out of it.
+//! Contract for the layers above: each function says what its event comes to at the parts of a world that it
+//! touches (`specs/`), in the words in which `fl_worlds` says it of a world. `fl_system` lends its world's parts.
 //!
 //! - `places.rt`: where ends and links are
 //! - `lending.rt`: sides of rings, lent
@@ -11,7 +12,8 @@
 //! - `moving.rt`: what stands first on a link is looked at, and moves
 //! - `forwarding.rt`: what was seen there is followed
 //! - `making.rt`: cores, and links between two
-//! - `binding.rt`: what is looked at before a binding is made; `by_queues.rt`, `by_ring.rt` and `by_route.rt`: the three ways to make one
+//! - `binding.rt`: what is looked at before a binding is made; `by_queues.rt`, `by_ring.rt` and `by_route.rt`: the
+//!   three ways to make one
 #![tactic(auto)]
 
 mod binding;

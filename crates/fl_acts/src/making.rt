@@ -1,4 +1,4 @@
-//! Interfaces, cores, links, dispatchers and services are made.
+//! Cores are made, and links between two.
 
 ghost use Rattle.std.specs.Prelude.{ℕ, ◌≡◌, ◌≢◌, ◌≤◌, ◌<◌, ◌-◌, ◌^◌, length, IfOk, OnOk, OnErr, bytes_eq};
 ghost use Rattle.fl_base.specs.declared.identity.CoreId.{CoreId};

@@ -1,4 +1,4 @@
--- Cores that are made, a link between two, and an interface.
+-- Cores that are made, and an interface, in a world.
 use Rattle.std.proofs.Common.{◌≡◌, refl, sym, ap, ap₂, ◌∙◌, subst, ℕ, ◌+◌, ◌≤◌, length, List, [], ◌∷◌, ◌++◌, true}
 use Rattle.std.proofs.lemmas.List.FromFn.{length-map-range_with_len}
 use Rattle.fl_interface.specs.Interface.{TheInterface}

@@ -1,4 +1,4 @@
--- Both ends of a binding are added to a core and registered over their queues, and the world with them.
+-- A binding within a core, from its core and its queues to the world.
 use Rattle.std.proofs.Common.{◌≡◌, ◌≢◌, ◌≤◌, ◌||◌, not, nat_lt, true, false, ◌<◌, ◌+◌, refl, sym, ap, ap₂, ◌∙◌, subst, ℕ, length, length-set, slice_get, slice_set, List, [], ◌∷◌, ◌++◌, Some, None, Ok}
 use Rattle.std.proofs.lemmas.Bool.{lt-ltb, le-ltb, eq-eqb, ne_eqb}
 use Rattle.std.proofs.lemmas.Option.{slice_get_within, same_Some}

@@ -1,4 +1,4 @@
--- The ends of a binding over a new ring, from what cores say of them.
+-- A binding over a new ring, from the cores of its ends to the world.
 use Rattle.std.proofs.Common.{◌≡◌, ◌≢◌, ◌<◌, ◌+◌, ◌*◌, ◌⊎◌, sym, ap, ap₂, ◌∙◌, subst, inl, inr, ℕ, Bool, true, not}
 use Rattle.std.proofs.Common.{List, [], ◌∷◌, ◌++◌, length, length-set, slice_get, slice_set, Some, None, Result, Ok, Err, IfOk}
 use Rattle.std.proofs.lemmas.Bool.{ne_eqb}

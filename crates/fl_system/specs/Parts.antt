@@ -1,8 +1,6 @@
--- What an event comes to at the parts of a world that it touches: a core, and the queue or the ring that is lent to it, or a
--- binding that keeps an end.
+-- An end that isn't made, and two cores that can't be linked, in a world.
 use Rattle.std.specs.Prelude.{ℕ, ◌⊎◌, ◌==◌, ◌||◌, ◌&&◌, not, Bool}
 use Rattle.fl_endpoint.specs.View.{TheEnd}
-use Rattle.fl_node.specs.Making.{linked}
 use Rattle.fl_queues.specs.Events.{Answer}
 use Rattle.fl_worlds.specs.View.{TheWorld}
 use Rattle.fl_worlds.specs.Lending.{Refuses, AtUnmade, KeepsNone}

@@ -1,4 +1,4 @@
--- Where things are in a world, in the code's own words for it.
+-- What is due at a dispatcher of a world, in the code's own words for it.
 use Rattle.std.specs.Prelude.{ℕ, ◌≡◌, ◌<◌, List, length, slice_get, Some}
 use Rattle.fl_core.specs.View.{due}
 use Rattle.fl_node.specs.declared.wire.Inlet.{Inlet}

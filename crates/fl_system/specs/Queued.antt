@@ -1,7 +1,6 @@
--- A binding within a core is made, at the parts of a world that it touches: a core, and the two queues.
+-- A binding within a core is made, in a world.
 use Rattle.std.specs.Prelude.{ℕ, ◌≡◌, ◌+◌, ◌⊎◌, length}
 use Rattle.fl_endpoint.specs.View.{TheEnd}
-use Rattle.fl_core.specs.Turns.{over}
 use Rattle.fl_node.specs.declared.joining.Joining.{Joining}
 use Rattle.fl_queues.specs.Events.{Answer, done}
 use Rattle.fl_worlds.specs.View.{TheWorld}

@@ -1,4 +1,4 @@
--- What comes of a binding over a new ring: at a core, at the cores of its two ends, and in the world.
+-- What comes of a binding over a new ring, in a world.
 use Rattle.std.specs.Prelude.{ℕ, ◌≡◌, ◌⊎◌, not, List, [], ◌∷◌, ◌++◌, length}
 use Rattle.fl_base.specs.declared.identity.EndId.{EndId}
 use Rattle.fl_ring.specs.Duo.{TheDuo}

@@ -1,4 +1,4 @@
--- A binding by a route, at the parts of a world that it touches: the client's core, and the list of bindings.
+-- A binding by a route, among the bindings and in a world.
 use Rattle.std.specs.Prelude.{ℕ, ◌≡◌, List, [], ◌∷◌, ◌++◌, length, map, slice_get, Some, None, Result, Ok}
 use Rattle.fl_base.specs.declared.identity.CoreId.{CoreId}
 use Rattle.fl_base.specs.declared.identity.LinkId.{LinkId}
