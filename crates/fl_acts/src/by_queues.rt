@@ -66,7 +66,7 @@ fn join(
     Ok(())
 }
 
-/// The same at core n.
+/// Both ends are added to core n and registered; or there is no memory for them.
 ///
 /// # Errors
 /// Want of memory.

@@ -21,8 +21,10 @@ use std::alloc::AllocError;
 /// An end that is to be made at a dispatcher, over a side of a new ring.
 #[derive(Drop)]
 pub struct Joiner {
+    /// Its dispatcher.
     pub at: DispatcherId,
     pub name: EndId,
+    /// The side of the ring, by its number.
     pub side: usize,
     pub end: End,
 }

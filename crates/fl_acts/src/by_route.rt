@@ -169,7 +169,7 @@ fn begin(
     open_in(core, dispatcher, program, link, opening)
 }
 
-/// The same at a dispatcher's core, among all cores.
+/// A dispatcher's core, among all cores, begins a circuit for a binding, unless it has an end of that.
 ///
 /// # Errors
 /// Want of memory.

@@ -132,7 +132,7 @@ fn move_down(passing: &Passing, rings: &mut [OneDuo]) -> Answer
     move_between(passing, &mut high[0], &mut low[ring_at(passing.onto)])
 }
 
-/// It moves among the world's rings.
+/// A fragment moves on, from one of the world's rings onto another.
 pub fn move_among(passing: &Passing, rings: &mut [OneDuo]) -> Answer
     requires apart { ring_at passing.now.from ≢ ring_at passing.now.onto }
     requires from { ring_at passing.now.from < length rings.old }

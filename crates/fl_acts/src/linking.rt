@@ -34,7 +34,7 @@ fn write_by_side(core: &mut Core, link: LinkId, side: &mut DuoSide<'_>) -> Answe
     told(core.monitor_write(link, side))
 }
 
-/// The same over side m of a ring.
+/// A core's monitor writes, over side m of a ring.
 pub fn monitor_write_by_ring(core: &mut Core, link: LinkId, ring: &mut OneDuo, m: usize) -> Answer
     ensures writes { ByRing m (MonitorWritesWith link.0 (answer_of result)) core.old ring.old core.new ring.new }
 {
@@ -54,7 +54,7 @@ fn ack_by_side(core: &Core, link: LinkId, side: &mut DuoSide<'_>) -> Answer
     acked(core.monitor_ack(link, side))
 }
 
-/// The same over side m of a ring.
+/// A core acknowledges what it took on a link, over side m of a ring.
 pub fn monitor_ack_by_ring(core: &Core, link: LinkId, ring: &mut OneDuo, m: usize) -> Answer
     requires link { link.0 < length core.now.lanes }
     ensures acks { ByRing m (AcksLinkWith (answer_of result)) core.now ring.old core.now ring.new }

@@ -36,7 +36,7 @@ fn look_by_side(core: &mut Core, at: Lane, side: &mut DuoSide<'_>) -> Result<Ahe
     core.look(at.link, side)
 }
 
-/// The same over the link's side of a ring.
+/// A core looks at what stands first on a link, over the link's side of a ring.
 ///
 /// # Errors
 /// As the core answers.
@@ -70,7 +70,7 @@ fn hear_by_side(
     core.hear(at.link, side, frag, names, programs)
 }
 
-/// The same over the link's side of a ring.
+/// A core hears what stands first on a link, over the link's side of a ring.
 ///
 /// # Errors
 /// As the core answers.
@@ -126,7 +126,7 @@ fn arrive_by_side(
     }
 }
 
-/// The same over the link's side of a ring.
+/// What stands first on a link arrives for an end of the core, over the link's side of a ring.
 pub fn arrive_by_ring(
     core: &mut Core,
     at: Lane,
@@ -150,8 +150,11 @@ pub fn arrive_by_ring(
 #[derive(Clone, Copy)]
 pub struct Passing {
     pub frag: Frag,
+    /// The side on which it stands first, by its number.
     pub from: usize,
+    /// The side onto which it goes.
     pub onto: usize,
+    /// Its circuit's number there.
     pub circuit: Circuit,
 }
 

@@ -24,6 +24,7 @@ pub enum Spot {
 #[derive(Clone, Copy)]
 pub struct Lane {
     pub link: LinkId,
+    /// The side, by its number.
     pub side: usize,
 }
 

@@ -107,7 +107,7 @@ pub fn show_by_queue(core: &Core, place: usize, queue: &QueueLink) -> Answer
     shown(core.show(place, queue))
 }
 
-/// The same over side m of a ring.
+/// The end at a place of a core's board shows its next fragment, over side m of a ring.
 pub fn show_by_ring(core: &Core, place: usize, ring: &mut OneDuo, m: usize) -> Answer
     requires place { place < length core.now.board.seats }
     ensures shows { PreviewsWith (epoch_at ring.old.size (side_of (which_at m) ring.old).sent) (got (side_of (which_at m) ring.old) % 65536)
@@ -160,7 +160,7 @@ fn write_by_side(core: &mut Core, place: usize, side: &mut DuoSide<'_>) -> Answe
     wrote(core.write(place, side))
 }
 
-/// The same over side m of a ring.
+/// The end at a place of a core's board writes, over side m of a ring.
 #[inline(always)]
 pub fn write_by_ring(core: &mut Core, place: usize, ring: &mut OneDuo, m: usize) -> Answer
     requires place { place < length core.old.board.seats }

@@ -36,7 +36,7 @@ use std::alloc::AllocError;
 pub struct Due {
     /// The dispatcher's place.
     pub dispatcher: usize,
-    /// The end's place on the board, and its name.
+    /// The end's place on the board.
     pub end: usize,
     pub name: EndId,
 }
@@ -127,7 +127,7 @@ fn turn_over(
     answer
 }
 
-/// The same; after want of memory the ring is as it was.
+/// A dispatcher of a core has a turn, over side m of a ring. After want of memory the ring is as it was.
 ///
 /// # Errors
 /// Want of memory.
@@ -158,7 +158,7 @@ pub fn turn_by_ring(
     }
 }
 
-/// The same where the end that is due has an arrival queue.
+/// A dispatcher of a core has a turn, where the end that is due has an arrival queue.
 ///
 /// # Errors
 /// Want of memory.
@@ -203,7 +203,7 @@ fn ack_by_side(core: &Core, place: usize, side: &mut DuoSide<'_>) -> Result<AckA
     core.ack(place, side)
 }
 
-/// The same over side m of a ring.
+/// The end at a place of a core's board acknowledges, over side m of a ring.
 pub fn ack_by_ring(core: &Core, place: usize, ring: &mut OneDuo, m: usize) -> Answer
     requires place { place < length core.now.board.seats }
     requires lent { arrivals_of core.now place ≡ None }
@@ -263,7 +263,7 @@ fn register_by_side(core: &mut Core, place: usize, side: &mut DuoSide<'_>) -> An
     registered(core.register(place, side))
 }
 
-/// The same over side m of a ring.
+/// The channel of the end at a place of a core's board is registered, over side m of a ring.
 pub fn register_by_ring(core: &mut Core, place: usize, ring: &mut OneDuo, m: usize) -> Answer
     requires place { place < length core.old.board.seats }
     requires lent { arrivals_of core.old place ≡ None }
@@ -276,7 +276,7 @@ pub fn register_by_ring(core: &mut Core, place: usize, ring: &mut OneDuo, m: usi
     answer
 }
 
-/// The same for an end that has an arrival queue.
+/// The channel of an end that has an arrival queue is registered.
 pub fn register_in(core: &mut Core, place: usize) -> Answer
     requires own { IsSome (arrivals_of core.old place) }
     ensures registers { InCore (RegistersArrivals (answer_at place (answer_of result))) core.old core.new }
