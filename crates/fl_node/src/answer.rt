@@ -3,7 +3,7 @@
 use fl_base::{Circuit, EndId, Frag};
 
 /// What a write of the core's monitor came to.
-#[derive(Clone, Copy, Debug, PartialEq, Eq)]
+#[derive(Clone, Copy)]
 pub enum MonitorWrite {
     /// The message that was next is on the link.
     Written,
@@ -16,7 +16,7 @@ pub enum MonitorWrite {
 }
 
 /// What stands first on a link, and what it needs.
-#[derive(Clone, Copy, Debug, PartialEq, Eq)]
+#[derive(Clone, Copy)]
 pub enum Ahead {
     /// Nothing.
     Nothing,
@@ -31,7 +31,7 @@ pub enum Ahead {
 }
 
 /// What hearing a monitors' message came to.
-#[derive(Clone, Copy, Debug, PartialEq, Eq)]
+#[derive(Clone, Copy)]
 pub enum MonitorAnswer {
     /// The outbox that is needed is full, and the message is left.
     Full,

@@ -9,7 +9,7 @@ use fl_wire::WireFault;
 use thiserror::Error;
 
 /// Why no circuit was begun: the core is as it was.
-#[derive(Clone, Copy, Debug, PartialEq, Eq, Drop, Error)]
+#[derive(Clone, Copy, Debug, Drop, Error)]
 pub enum OpenFault {
     /// The client's dispatcher has 1,024 ends (E54); out of memory for the end (E99).
     #[error("the client's end is refused")]
@@ -33,7 +33,7 @@ impl OpenFault {
 }
 
 /// Why what stands first on a link was left.
-#[derive(Clone, Copy, Debug, PartialEq, Eq, Drop, Error)]
+#[derive(Clone, Copy, Debug, Drop, Error)]
 pub enum LinkFault {
     /// With its circuit set aside it would be a fragment that only acknowledges, which no call's is (E63). What comes on the link has failed for good.
     #[error("a fragment of a circuit has the form of one that only acknowledges")]

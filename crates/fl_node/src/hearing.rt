@@ -29,7 +29,7 @@ use fl_wire::WireFault;
 use std::alloc::Global;
 
 /// A place for the end of a service that is offered at a core.
-#[derive(Clone, Copy, Debug, PartialEq, Eq)]
+#[derive(Clone, Copy)]
 pub struct Offered {
     /// The dispatcher that offers it.
     pub dispatcher: usize,
@@ -38,7 +38,7 @@ pub struct Offered {
 }
 
 // The server's end that a message makes.
-#[derive(Clone, Copy, Debug, PartialEq, Eq)]
+#[derive(Clone, Copy)]
 pub(crate) struct Made {
     pub(crate) binding: usize,
     pub(crate) dispatcher: usize,
@@ -46,7 +46,7 @@ pub(crate) struct Made {
 }
 
 // What a message came to, and the place of the end that was ready for it.
-#[derive(Clone, Copy, Debug, PartialEq, Eq)]
+#[derive(Clone, Copy)]
 pub(crate) struct Joined {
     pub(crate) heard: Heard,
     pub(crate) place: usize,

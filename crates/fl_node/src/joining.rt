@@ -30,7 +30,7 @@ pub struct Joining {
 }
 
 /// The places of a binding's two ends.
-#[derive(Clone, Copy, Debug, PartialEq, Eq)]
+#[derive(Clone, Copy)]
 pub struct BothEnds {
     pub client: usize,
     pub server: usize,

@@ -3,7 +3,7 @@
 use fl_base::{EndId, LinkId};
 
 /// How an end is joined to the other end of its binding. Queues and sides of rings stand outside of a core, and each is known to it by a number.
-#[derive(Clone, Copy, Debug, PartialEq, Eq)]
+#[derive(Clone, Copy)]
 pub enum Wire {
     /// Both ends are at this core, with a queue each way: the end puts to one and takes from the other.
     Queues { out: usize, from: usize },
@@ -14,7 +14,7 @@ pub enum Wire {
 }
 
 /// Where an end puts its fragments: the side that a write is lent.
-#[derive(Clone, Copy, Debug, PartialEq, Eq)]
+#[derive(Clone, Copy, PartialEq, Eq)]
 pub enum Outlet {
     /// A queue within the core.
     Queue(usize),
@@ -23,7 +23,7 @@ pub enum Outlet {
 }
 
 /// Where an end takes fragments from: the side that a turn is lent, and so is what registers or acknowledges.
-#[derive(Clone, Copy, Debug, PartialEq, Eq)]
+#[derive(Clone, Copy, PartialEq, Eq)]
 pub enum Inlet {
     /// A queue within the core.
     Queue(usize),
@@ -34,14 +34,14 @@ pub enum Inlet {
 }
 
 /// An end at a core: its name and its wire.
-#[derive(Clone, Copy, Debug, PartialEq, Eq)]
+#[derive(Clone, Copy)]
 pub struct Port {
     pub name: EndId,
     pub wire: Wire,
 }
 
 /// A link at a core.
-#[derive(Clone, Copy, Debug, PartialEq, Eq)]
+#[derive(Clone, Copy)]
 pub struct Lane {
     /// The core's side of the link's ring, by its number.
     pub side: usize,
@@ -50,7 +50,7 @@ pub struct Lane {
 }
 
 /// Where fragments for an end of a circuit arrive.
-#[derive(Clone, Copy, Debug, PartialEq, Eq)]
+#[derive(Clone, Copy)]
 pub struct Arriving {
     /// The end's place.
     pub end: usize,

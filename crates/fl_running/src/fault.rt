@@ -5,7 +5,7 @@ ghost use Rattle.std.specs.Prelude.{◌≡◌};
 use thiserror::Error;
 
 /// Why a run of cores ends early.
-#[derive(Clone, Copy, Debug, PartialEq, Eq, Error)]
+#[derive(Clone, Copy, Debug, Error)]
 pub enum CoresFault {
     /// Out of memory (E99).
     #[error("out of memory")]

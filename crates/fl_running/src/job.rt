@@ -18,7 +18,7 @@ pub struct Wish {
 }
 
 /// A job at an end.
-#[derive(Debug, Drop)]
+#[derive(Drop)]
 pub enum Job {
     /// A circuit is asked for, and with it the client's end is made.
     Open(Wish),

@@ -11,21 +11,21 @@ use fl_base::{EndId, LinkId};
 use fl_node::{Inlet, Outlet};
 
 /// The place of an end, and where it puts.
-#[derive(Clone, Copy, Debug, PartialEq, Eq)]
+#[derive(Clone, Copy)]
 pub struct Post {
     pub end: usize,
     pub outlet: Outlet,
 }
 
 /// The place of an end that is due, and where it takes from.
-#[derive(Clone, Copy, Debug, PartialEq, Eq)]
+#[derive(Clone, Copy)]
 pub struct Due {
     pub end: usize,
     pub inlet: Inlet,
 }
 
 /// The place of an end of a ring, and its side.
-#[derive(Clone, Copy, Debug, PartialEq, Eq)]
+#[derive(Clone, Copy)]
 pub struct Berth {
     pub end: usize,
     pub side: usize,

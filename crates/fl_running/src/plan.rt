@@ -5,7 +5,7 @@ use fl_base::{EndId, LinkId};
 /// The links, ends and dispatchers of a core, in the order in which its turns go over them.
 ///
 /// An end that isn't made yet has its place here too.
-#[derive(Debug, Drop)]
+#[derive(Drop)]
 pub struct Plan {
     /// Its links, in order of making.
     pub links: Vec<LinkId>,

@@ -33,7 +33,7 @@ pub enum End {
 }
 
 /// A core's share of the report, beside what its desks have.
-#[derive(Clone, Copy, Debug, PartialEq, Eq)]
+#[derive(Clone, Copy)]
 pub struct Part {
     /// How many turns were counted.
     pub turns: u64,

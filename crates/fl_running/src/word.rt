@@ -11,7 +11,7 @@ use fl_base::EndId;
 use fl_tally::EndSeat;
 
 /// What a core knows, at an end, of the opening of its binding. A word of the run's table is named by the job's place among those that open.
-#[derive(Clone, Copy, Debug, PartialEq, Eq)]
+#[derive(Clone, Copy)]
 pub enum Word {
     /// No job opens the binding.
     Silent,

@@ -9,7 +9,7 @@ use std::alloc::{AllocError, AllocFailed};
 use thiserror::Error;
 
 /// Why there is no report of a run of parts. Every thread was joined then.
-#[derive(Clone, Copy, Debug, PartialEq, Eq, Error)]
+#[derive(Clone, Copy, Debug, Error)]
 pub enum RunFault {
     /// The job at this place, from 1, is refused, with the fault's number.
     #[error("a job is refused")]
@@ -36,7 +36,7 @@ impl RunFault {
 }
 
 /// Why a run ends without a report, once its jobs are joined.
-#[derive(Clone, Copy, Debug, PartialEq, Eq, Error)]
+#[derive(Clone, Copy, Debug, Error)]
 pub(crate) enum Stop {
     /// Out of memory (E99).
     #[error("out of memory")]

@@ -106,7 +106,7 @@ fn own_queues(owners: &mut Vec<usize>, k: usize, core: &Core)
 }
 
 /// To which core each side of a ring goes, and each queue. What no core names goes to core 0.
-#[derive(Debug, Drop)]
+#[derive(Drop)]
 pub(crate) struct Owners {
     pub(crate) sides: Vec<usize>,
     pub(crate) queues: Vec<usize>,
