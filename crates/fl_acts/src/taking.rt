@@ -41,8 +41,9 @@ pub struct Due {
     pub name: EndId,
 }
 
-// What is answered for a turn that looked at an end.
-#[inline(always)]
+// What is answered for a turn that looked at an end. Out of line, so that the answer is made in memory once: in line it
+// is moved on by pieces, and each move waits for the stores of the one before.
+#[inline(never)]
 fn turned(answer: TurnAnswer, end: EndId) -> Answer
     ensures turned { answer_of result ≡ turn_answer end answer }
 {

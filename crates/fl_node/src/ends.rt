@@ -70,6 +70,7 @@ impl Core {
     ///
     /// # Errors
     /// As the end's: E43, E64, E33. The core is as it was then.
+    #[inline(always)]
     pub fn write<P: PutSide>(&mut self, e: usize, out: &mut P) -> Result<WriteAnswer, EndFault>
         requires { e < length self.old.board.seats }
         ensures writes { WritesAt P.puts e (at_side self.old out.old) result (at_side self.new out.new) }

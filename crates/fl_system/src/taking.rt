@@ -82,7 +82,7 @@ impl World {
         }
     }
 
-    #[inline(always)]
+    #[inline(never)]
     fn turn_over_queue(&mut self, n: usize, at: Due, q: usize) -> Result<Answer, AllocError>
         requires due { IsDueOver self.old.cores n at (Inlet.Queue q) }
         ensures turns { IfOk result (λ a. TurnsFrom (Inlet.Queue q) n at self.old (answer_of a) self.new) }
