@@ -1,4 +1,4 @@
-//! Scripts and their transcripts, worked out apart from this repository (`program_tests` has them among others).
+//! Scripts and their transcripts, worked out apart from this repository (`program` has them among others).
 
 /// A script and its transcript.
 #[derive(Clone, Copy)]
