@@ -7,7 +7,6 @@ use Rattle.fl_queues.specs.Events.{DispatcherId, Answer}
 use Rattle.fl_worlds.specs.View.{TheWorld}
 use Rattle.fl_worlds.specs.Taking.{as_turn, TurnsOver}
 use Rattle.fl_acts.specs.declared.taking.Due.{Due}
-use Rattle.fl_acts.specs.Places.{core, core_is, within}
 
 -- the end at place e is due at a dispatcher
 pub record HasDue (cores : List TheCore) (d : DispatcherId) (e : ℕ) : Type 0 where

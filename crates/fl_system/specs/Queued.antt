@@ -8,7 +8,6 @@ use Rattle.fl_worlds.specs.Lending.{DoesNothing}
 use Rattle.fl_worlds.specs.Binding.{HasEndOf, JoinsByQueues}
 use Rattle.fl_system.specs.declared.binding.Wish.{Wish}
 use Rattle.fl_system.specs.Wishes.{OfWish, IsNewEnd}
-use Rattle.fl_acts.specs.Queued.{client, core, server}
 
 -- ---- in the world
 

@@ -12,7 +12,7 @@ use Rattle.fl_worlds.specs.Lending.{Refuses, DoesNothing}
 use Rattle.fl_worlds.specs.Binding.{Request, has_both_places, HasEndOf, JoinsByRing}
 use Rattle.fl_system.specs.Wishes.{IsNewEnd}
 use Rattle.fl_acts.specs.declared.by_ring.Joiner.{Joiner}
-use Rattle.fl_acts.specs.RingEnds.{JoinsBoth, client, core, new, rest, server, side}
+use Rattle.fl_acts.specs.RingEnds.{JoinsBoth}
 
 -- ---- in a world
 

@@ -13,7 +13,7 @@ use Rattle.fl_worlds.specs.View.{TheWorld}
 use Rattle.fl_worlds.specs.Lending.{Refuses}
 use Rattle.fl_worlds.specs.Binding.{Request, has_places, BindsBy, named_request, Binds}
 use Rattle.fl_system.specs.declared.binding.Wish.{Wish}
-use Rattle.fl_acts.specs.Wishes.{IsNewIn, client, core, has_end_in, server}
+use Rattle.fl_acts.specs.Wishes.{IsNewIn, has_end_in}
 
 -- what is asked for, with the program of its interface
 abbrev pub request : Wish → Program → Request
