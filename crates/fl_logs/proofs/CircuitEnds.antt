@@ -45,7 +45,7 @@ use Rattle.fl_node.specs.declared.wire.Wire.TheVariants.{Circuit}
 use Rattle.fl_node.specs.declared.wire.Outlet.TheVariants as outlet
 use Rattle.fl_node.specs.declared.wire.Inlet.{Inlet}
 use Rattle.fl_node.specs.declared.wire.Inlet.TheVariants as inlet
-use Rattle.fl_node.specs.Ends.{at_side}
+use Rattle.fl_node.specs.Ends.{at_side as lent}
 use Rattle.fl_running.specs.declared.job.Job.{Job}
 use Rattle.fl_running.specs.Run.{Ways, TheRun}
 use Rattle.fl_running.specs.Deeds.{Deed, looked, passed, arrived, heard, said, told, opened, called, ruled, wrote, acked, turned, Does}
@@ -77,7 +77,7 @@ same_queues k m i same = bears_same QueuePuts QueueTakes k.arrivals m.arrivals i
 more_queues : (k m : TheCore) (i : ℕ) (q : TheQueue) → m.arrivals ≡ k.arrivals ++ q ∷ [] → ArrivalsBear k m i [] []
 more_queues k m i q more p at = (p, ap (λ (xs : List TheQueue). slice_get xs i) more ∙ push_stays k.arrivals q i p at, idle QueuePuts QueueTakes p p refl)
 
-ahead_queues : {S : Type 0} (w : Ways S) (l : ℕ) (k : TheCore) (p : S) (answer : Result Ahead LinkFault) (k2 : TheCore) (q : S) → LooksAhead w.takes w.front l (at_side k p) answer (at_side k2 q) → k2.arrivals ≡ k.arrivals
+ahead_queues : {S : Type 0} (w : Ways S) (l : ℕ) (k : TheCore) (p : S) (answer : Result Ahead LinkFault) (k2 : TheCore) (q : S) → LooksAhead w.takes w.front l (lent k p) answer (lent k2 q) → k2.arrivals ≡ k.arrivals
 ahead_queues w l k p (Ok ahead.Nothing) k2 q h = ap (λ (x : TheCore). x.arrivals) h.1
 ahead_queues w l k p (Ok ahead.Acknowledged) k2 q h = ap (λ (x : TheCore). x.arrivals) h.1
 ahead_queues w l k p (Ok (ahead.Message frag)) k2 q h = ap (λ (x : TheCore). x.arrivals) h.1
@@ -89,7 +89,7 @@ ahead_queues w l k p (Err link.Marked) k2 q h = ap (λ (x : TheCore). x.arrivals
 ahead_queues w l k p (Err (link.Wire f)) k2 q h = absurd h
 ahead_queues w l k p (Err link.Memory) k2 q h = absurd h
 
-says_queues : {S : Type 0} (w : Ways S) (l : ℕ) (k : TheCore) (p : S) (answer : MonitorWrite) (k2 : TheCore) (q : S) → MonitorWrites w.puts l (at_side k p) answer (at_side k2 q) → k2.arrivals ≡ k.arrivals
+says_queues : {S : Type 0} (w : Ways S) (l : ℕ) (k : TheCore) (p : S) (answer : MonitorWrite) (k2 : TheCore) (q : S) → MonitorWrites w.puts l (lent k p) answer (lent k2 q) → k2.arrivals ≡ k.arrivals
 says_queues w l k p said_as.Written k2 q h = ap (λ (x : TheCore). x.arrivals) h.4
 says_queues w l k p said_as.Full k2 q h = ap (λ (x : TheCore). x.arrivals) h.2
 says_queues w l k p said_as.Spent k2 q h = ap (λ (x : TheCore). x.arrivals) h.2
