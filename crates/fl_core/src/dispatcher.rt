@@ -8,10 +8,6 @@ use fl_waitset::Waitset;
 use std::alloc::{AllocError, Global};
 use std::marker::Model;
 
-// There is room for so many ends at first: it is taken just before the waitset's, so that a turn of a dispatcher
-// with few ends meets the two side by side.
-const FIRST_ENDS: usize = 6;
-
 /// A dispatcher: its waitset, and the end of each of its channels, by the end's place on the board.
 #[derive(Drop)]
 pub(crate) struct Dispatcher {
@@ -32,10 +28,12 @@ impl Dispatcher {
     pub(crate) fn new(alloc: Global) -> Result<Dispatcher, AllocError>
         ensures made { IfOk result (λ d. d ≡ new_dispatcher) }
     {
-        let ends = Vec::with_capacity(alloc, FIRST_ENDS)?;
         let Ok(waitset) = Waitset::new(alloc, MAX_CHANNELS) else {
             return Err(AllocError);
         };
-        Ok(Dispatcher { waitset, ends })
+        Ok(Dispatcher {
+            waitset,
+            ends: Vec::new(alloc),
+        })
     }
 }

@@ -2,6 +2,7 @@
 
 ghost use Rattle.std.specs.Prelude.{◌≡◌, pos, ◌<◌, ◌≤◌, ◌+◌, ◌*◌, ◌^◌, map, length, get_or, true};
 ghost use Rattle.std.specs.List.{list_all};
+ghost use Rattle.fl_interface.specs.Sizes.{round_up};
 ghost use Rattle.fl_layout.specs.declared.extent.Fill.TheVariants.{Full};
 ghost use Rattle.fl_value.specs.Value.{number, datum_of};
 ghost use Rattle.fl_layout.specs.Extents.{start_of, end_of, end_of_all, due_after, count_by, count_in, count_at, filled_up, filled_by};
@@ -9,6 +10,26 @@ ghost use Rattle.fl_layout.specs.Extents.{numbers_in, numbers_in_all, most_of, i
 
 use crate::extent::{Extent, Fill, Placed};
 use fl_value::Value;
+
+// The next multiple of an alignment. Those that types have are told one by one, so that none is divided by: a
+// division by what isn't known before takes long.
+#[inline(always)]
+fn next_multiple(at: usize, align: usize) -> usize
+    requires some { 0 < align }
+    requires few { align ≤ 8 }
+    requires fits { at < 2 ^ 50 }
+    ensures same { result ≡ round_up at align }
+{
+    if align == 8 {
+        return at.next_multiple_of(8);
+    }
+    match align {
+        1 => at,
+        2 => at.next_multiple_of(2),
+        4 => at.next_multiple_of(4),
+        _ => at.next_multiple_of(align),
+    }
+}
 
 // Where an argument ends, and the alignment that is due after it.
 #[derive(Clone, Copy)]
@@ -27,7 +48,7 @@ impl End {
         ensures start { result ≡ start_of self.at self.due extent }
     {
         match extent {
-            Extent::Fixed { align, .. } => self.at.next_multiple_of(self.due.max(align as usize)),
+            Extent::Fixed { align, .. } => next_multiple(self.at, self.due.max(align as usize)),
             _ => self.at.next_multiple_of(8),
         }
     }
@@ -47,7 +68,7 @@ impl End {
     {
         match extent {
             Extent::Fixed { size, align, .. } => End {
-                at: self.at.next_multiple_of(self.due.max(align as usize)) + size as usize,
+                at: next_multiple(self.at, self.due.max(align as usize)) + size as usize,
                 due: 1,
             },
             Extent::Text { .. } => End {

@@ -3,3 +3,4 @@ pub mod Numbers
 pub mod Chains
 pub mod Rings
 pub mod Tables
+pub mod Sized

@@ -141,7 +141,7 @@ module _ (nodes : List Node) (head : ℕ) (place : Place) (xs : List ℕ) (ring 
       }
 
   -- a ring stays where no link of its nodes changes
-  ring_kept : (new : List Node)
+  pub ring_kept : (new : List Node)
       → ((k : ℕ) → is_in k (head ∷ xs) ≡ true → next_at new k ≡ next_at nodes k)
       → ((k : ℕ) → is_in k (head ∷ xs) ≡ true → prev_at new k ≡ prev_at nodes k)
       → ((k : ℕ) → place_at nodes k ≡ Some place → place_at new k ≡ Some place)

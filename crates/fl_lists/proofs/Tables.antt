@@ -1,14 +1,14 @@
 -- A whole table after a node is taken out or put in, and what the three lists are then.
-use Rattle.std.proofs.Common.{◌≡◌, ◌≢◌, ℕ, ◌+◌, ◌-◌, ◌<◌, ◌≤◌, ◌==◌, true, false, if◌then◌else◌, inl, inr, List, [], ◌∷◌, ◌++◌, length, sym, ◌∙◌, ap, subst, refl, arith, Option, Some, None, get_or, drop, slice_get, IsSome, is_some, take, set, replicate, length-append}
+use Rattle.std.proofs.Common.{◌≡◌, ◌≢◌, ℕ, ◌+◌, ◌-◌, ◌<◌, ◌≤◌, ◌==◌, true, false, if◌then◌else◌, inl, inr, List, [], ◌∷◌, ◌++◌, length, sym, ◌∙◌, ap, subst, refl, arith, Option, Some, None, drop, slice_get, IsSome, is_some, set, replicate, length-append}
 use Rattle.std.proofs.lemmas.Bool.{false≢true, eqb-true, eqb-false, eq-eqb, ne_eqb, cases_eq, cases_lt, cases_Bool, or_cases, or_parts, or_from, or_left, or_right, cond-true, cond-false}
-use Rattle.std.proofs.lemmas.List.{take_at, get_or_read, get_or-set_same, get_or-set_other, get_or-replicate, get_or_past, length-set, length-replicate}
+use Rattle.std.proofs.lemmas.List.{get_or-set_same, get_or-set_other, get_or-replicate, get_or_past, length-set, length-replicate}
 use Rattle.fl_lists.specs.declared.place.Place.{Place}
 use Rattle.fl_lists.specs.declared.place.Place.TheVariants.{Idle, Polled, Pending}
 use Rattle.fl_lists.specs.declared.node.Node.{Node}
-use Rattle.fl_lists.specs.ThreeLists.{ThreeLists, list_at, is_in, without, place_of, unlinked, pushed, moved, popped, NoRepeat, IsApart}
-use Rattle.fl_lists.specs.Table.{free_node, node_at, next_at, prev_at, place_at, Joined, TakenOut, PutBefore, ChangesFew, head_of, index_of, indexes, numbers, Chain, Ring, list_from, lists_of, IsTable, TheLists}
-use Rattle.fl_lists.proofs.Members.{different, first_is_in, without_first, without_later, without_none, left_out}
-use Rattle.fl_lists.proofs.Numbers.{head_before, head_within, is_in-indexes, without-indexes, indexes_push, NoRepeat_of, number_back, numbers-indexes}
+use Rattle.fl_lists.specs.ThreeLists.{ThreeLists, list_at, is_in, without, place_of, unlinked, pushed, moved, popped, empty, NoRepeat, IsApart}
+use Rattle.fl_lists.specs.Table.{free_node, node_at, next_at, prev_at, place_at, AllFree, Joined, TakenOut, PutBefore, ChangesFew, head_of, index_of, indexes, numbers, Chain, Ring, list_from, lists_of, IsTable}
+use Rattle.fl_lists.proofs.Members.{first_is_in, without_first, without_later, without_none, left_out}
+use Rattle.fl_lists.proofs.Numbers.{head_before, is_in-indexes, without-indexes, indexes_push, NoRepeat_of, number_back, numbers-indexes}
 use Rattle.fl_lists.proofs.Rings.{same_or_not, placed_below, list_is, prev_placed, next_placed, last_placed, in_list, ring_without, ring_push, ring_besides_out, ring_besides_in}
 
 -- two values with the same lists are the same
@@ -56,7 +56,7 @@ unlinked_list w c Polled = refl
 unlinked_list w c Pending = refl
 
 -- a table with these rings has these lists
-rings_give : (nodes : List Node) (w : ThreeLists) → 3 ≤ length nodes → length nodes ≤ 65536 → length nodes - 3 ≡ w.size
+pub rings_give : (nodes : List Node) (w : ThreeLists) → 3 ≤ length nodes → length nodes ≤ 65536 → length nodes - 3 ≡ w.size
     → ((p : Place) → Ring nodes (head_of p) p (indexes (list_at w p))) → IsTable nodes × (lists_of nodes ≡ w)
 rings_give nodes w heads short size rings =
     let same : (p : Place) → list_from nodes p ≡ list_at w p =
@@ -71,7 +71,7 @@ rings_give nodes w heads short size rings =
     )
 
 module _ (nodes : List Node) (table : IsTable nodes) where
-  ring_at : (p : Place) → Ring nodes (head_of p) p (indexes (list_at (lists_of nodes) p))
+  pub ring_at : (p : Place) → Ring nodes (head_of p) p (indexes (list_at (lists_of nodes) p))
   ring_at p =
       subst (λ (ys : List ℕ). Ring nodes (head_of p) p (indexes ys)) (sym (list_there nodes p)) (table.ring p)
 
@@ -241,10 +241,6 @@ few_both m n c old between new f g = record {
       g.others k ne parts.1 ∙ f.others k ne parts.0;
 }
 
--- what a Vec holds after a write to all of its elements
-pub written : (len : ℕ) (old new : List Node) → length old ≡ len → length new ≡ length old → take len (new ++ drop (length new) old) ≡ new
-written len old new a b = grind (arith, take_at new (drop (length new) old) len)
-
 -- Where the neighbours of c are joined, and then c is put before a head, that is what taking c out and putting it there
 -- would leave: c is written whole.
 by_two : (old mid new : List Node) (c head : ℕ) (p : Place) → c < length mid → head ≢ c
@@ -307,96 +303,68 @@ some_place (Some p) h = (p, refl)
 some_place None h = absurd (false≢true h)
 
 -- a table that holds these lists, and in which few nodes differ from before
-pub record Left (most c : ℕ) (before : TheLists) (xs : List Node) (w : ThreeLists) : Type 0 where
-  pub table : IsTable xs
-  pub lists : lists_of xs ≡ w
-  pub few : ChangesFew most c before.table xs
-  pub apart : IsApart (lists_of xs)
+pub record Left (most c : ℕ) (old new : List Node) (w : ThreeLists) : Type 0 where
+  pub table : IsTable new
+  pub lists : lists_of new ≡ w
+  pub few : ChangesFew most c old new
 
-pub apart_now : (items : List Node) (now : TheLists) → IsTable items → record { lists = lists_of items; table = items } ≡ now → IsApart now.lists
-apart_now items now table seen = subst (λ (w : TheLists). IsApart w.lists) seen (apart_lists items table)
+-- what each call needs of the table, and what it leaves
+module _ (nodes : List Node) (c : ℕ) (table : IsTable nodes) where
+  pub linked_here : IsSome (place_of (lists_of nodes) c) → (p : Place) × (place_at nodes (index_of c) ≡ Some p)
+  linked_here h = let found = some_place _ h in (found.0, sym (place_is nodes table c) ∙ found.1)
 
--- what `unlink` and `push_back` need of the table, and what they leave
-module _ (items : List Node) (c : ℕ) (now : TheLists) (table : IsTable items) (seen : record { lists = lists_of items; table = items } ≡ now) (below : c < now.lists.size) where
-  pub index_below : index_of c < length items
-  index_below = let here : c < length items - 3 = subst (λ (w : TheLists). c < w.lists.size) (sym seen) below in omega arith
+  pub read_place : (k : ℕ) → k ≡ index_of c → place_at nodes k ≡ place_of (lists_of nodes) c
+  read_place k at = ap (place_at nodes) at ∙ sym (place_is nodes table c)
 
-  pub index_short : c < 65533
-  index_short = let here = index_below in let short = table.short in omega arith
+  -- what has no node is in no list
+  pub past_place : (k : ℕ) → k ≡ index_of c → length nodes ≤ k → None ≡ place_of (lists_of nodes) c
+  past_place k at past = sym (ap (λ (n : Node). n.place) (get_or_past nodes k free_node past)) ∙ read_place k at
 
-  pub place_here : place_of now.lists c ≡ place_at items (index_of c)
-  place_here = subst (λ (w : TheLists). place_of w.lists c ≡ place_at items (index_of c)) seen (place_is items table c)
+  -- what is in a list has a node
+  pub linked_below : IsSome (place_of (lists_of nodes) c) → index_of c < length nodes
+  linked_below h = let found = linked_here h in placed_below nodes (index_of c) found.0 found.1
 
-  pub read_place : (x : Node) → x ≡ get_or items (index_of c) x → x.place ≡ place_of now.lists c
-  read_place x e = ap (λ (n : Node). n.place) (get_or_read items (index_of c) x index_below e free_node) ∙ sym place_here
+  pub linked_short : IsSome (place_of (lists_of nodes) c) → c < 65533
+  linked_short h = let below = linked_below h in let short = table.short in omega arith
 
-  pub linked_here : IsSome (place_of now.lists c) → (p : Place) × (place_at items (index_of c) ≡ Some p)
-  linked_here h = let found = some_place _ h in (found.0, sym place_here ∙ found.1)
+  pub prev_below : IsSome (place_of (lists_of nodes) c) → prev_at nodes (index_of c) < length nodes
+  prev_below h = let found = linked_here h in placed_below nodes _ found.0 (neighbours nodes table c found.0 found.1).0
 
-  pub free_here : place_of now.lists c ≡ None → place_at items (index_of c) ≡ None
-  free_here h = sym place_here ∙ h
+  pub next_below : IsSome (place_of (lists_of nodes) c) → next_at nodes (index_of c) < length nodes
+  next_below h = let found = linked_here h in placed_below nodes _ found.0 (neighbours nodes table c found.0 found.1).1
 
-  pub prev_below : IsSome (place_of now.lists c) → prev_at items (index_of c) < length items
-  prev_below h = let found = linked_here h in placed_below items _ found.0 (neighbours items table c found.0 found.1).0
-
-  pub next_below : IsSome (place_of now.lists c) → next_at items (index_of c) < length items
-  next_below h = let found = linked_here h in placed_below items _ found.0 (neighbours items table c found.0 found.1).1
-
-  -- the table after `unlink` has written it back
-  pub unlinks : (lent new : List Node) (len k : ℕ) → k ≡ index_of c → lent ≡ items → length lent ≡ len → length new ≡ length lent
-      → TakenOut lent new k → IsSome (place_of now.lists c)
-      → Left 2 (index_of c) now (take len (new ++ drop (length new) items)) (unlinked now.lists c)
-  unlinks lent new len k at same long kept t h =
-      let whole = written len items new (ap length (sym same) ∙ long) (kept ∙ ap length same) in
-      let t_here = subst (λ (n : ℕ). TakenOut items new n) at (subst (λ (xs : List Node). TakenOut xs new k) same t) in
+  pub unlinks : (new : List Node) (k : ℕ) → k ≡ index_of c → TakenOut nodes new k → IsSome (place_of (lists_of nodes) c)
+      → Left 2 (index_of c) nodes new (unlinked (lists_of nodes) c)
+  unlinks new k at t h =
+      let t_here = subst (λ (n : ℕ). TakenOut nodes new n) at t in
       let found = linked_here h in
-      let out = table_out items table new c found.0 t_here found.1 in
-      subst (λ (xs : List Node). Left 2 (index_of c) now xs (unlinked now.lists c)) (sym whole) record {
-        table = out.0;
-        lists = out.1 ∙ ap (λ (w : TheLists). unlinked w.lists c) seen;
-        few = subst (λ (w : TheLists). ChangesFew 2 (index_of c) w.table new) seen (few_out items new (index_of c) t_here);
-        apart = apart_lists new out.0;
-      }
+      let out = table_out nodes table new c found.0 t_here found.1 in
+      record { table = out.0; lists = out.1; few = few_out nodes new (index_of c) t_here }
 
-  -- the table after `push_back` has written it back
-  pub pushes : (lent new : List Node) (len k head : ℕ) (p : Place) → k ≡ index_of c → head ≡ head_of p → lent ≡ items
-      → length lent ≡ len → length new ≡ length lent → PutBefore lent new k head p → place_of now.lists c ≡ None
-      → Left 2 (index_of c) now (take len (new ++ drop (length new) items)) (pushed now.lists c p)
-  pushes lent new len k head p at e same long kept t h =
-      let whole = written len items new (ap length (sym same) ∙ long) (kept ∙ ap length same) in
-      let t_here = subst (λ (xs : List Node). PutBefore xs new k head p) same t in
-      let t_head = subst (λ (n : ℕ). PutBefore items new n (head_of p) p) at (subst (λ (n : ℕ). PutBefore items new k n p) e t_here) in
-      let come = table_in items table new c p t_head (free_here h) in
-      subst (λ (xs : List Node). Left 2 (index_of c) now xs (pushed now.lists c p)) (sym whole) record {
-        table = come.0;
-        lists = come.1 ∙ ap (λ (w : TheLists). pushed w.lists c p) seen;
-        few = subst (λ (w : TheLists). ChangesFew 2 (index_of c) w.table new) seen (few_in items new (index_of c) (head_of p) p t_head);
-        apart = apart_lists new come.0;
-      }
+  pub pushes : (new : List Node) (k head : ℕ) (p : Place) → k ≡ index_of c → head ≡ head_of p → PutBefore nodes new k head p
+      → place_of (lists_of nodes) c ≡ None → Left 2 (index_of c) nodes new (pushed (lists_of nodes) c p)
+  pushes new k head p at e t h =
+      let t_here = subst (λ (n : ℕ). PutBefore nodes new n (head_of p) p) at (subst (λ (n : ℕ). PutBefore nodes new k n p) e t) in
+      let come = table_in nodes table new c p t_here (sym (place_is nodes table c) ∙ h) in
+      record { table = come.0; lists = come.1; few = few_in nodes new (index_of c) (head_of p) p t_here }
 
-  -- the table after `move_to_back` has written it back
-  pub moves : (lent new : List Node) (len k head : ℕ) (p : Place) → k ≡ index_of c → head ≡ head_of p → lent ≡ items
-      → length lent ≡ len → length new ≡ length lent
-      → (between : List Node) × Joined lent between (prev_at lent k) (next_at lent k) × PutBefore between new k head p
-      → IsSome (place_of now.lists c)
-      → Left 4 (index_of c) now (take len (new ++ drop (length new) items)) (moved now.lists c p)
-  moves lent new len k head p at e same long kept m h =
-      let whole = written len items new (ap length (sym same) ∙ long) (kept ∙ ap length same) in
-      let m_here = subst (λ (xs : List Node). (between : List Node) × Joined xs between (prev_at xs k) (next_at xs k) × PutBefore between new k head p) same m in
-      let m_head = subst (λ (n : ℕ). (between : List Node) × Joined items between (prev_at items k) (next_at items k) × PutBefore between new k n p) e m_here in
-      let m_at = subst (λ (n : ℕ). (between : List Node) × Joined items between (prev_at items n) (next_at items n) × PutBefore between new n (head_of p) p) at m_head in
+  pub moves : (new : List Node) (k head : ℕ) (p : Place) → k ≡ index_of c → head ≡ head_of p
+      → (between : List Node) × Joined nodes between (prev_at nodes k) (next_at nodes k) × PutBefore between new k head p
+      → IsSome (place_of (lists_of nodes) c) → Left 4 (index_of c) nodes new (moved (lists_of nodes) c p)
+  moves new k head p at e m h =
+      let m_head = subst (λ (n : ℕ). (between : List Node) × Joined nodes between (prev_at nodes k) (next_at nodes k) × PutBefore between new k n p) e m in
+      let m_at = subst (λ (n : ℕ). (between : List Node) × Joined nodes between (prev_at nodes n) (next_at nodes n) × PutBefore between new n (head_of p) p) at m_head in
       let size = m_at.1.size in
-      let there = index_below in
-      let steps = by_two items m_at.0 new (index_of c) (head_of p) p (omega arith) (λ s. head_before c p (sym s)) m_at.1 m_at.2 in
+      let there = linked_below h in
+      let steps = by_two nodes m_at.0 new (index_of c) (head_of p) p (omega arith) (λ s. head_before c p (sym s)) m_at.1 m_at.2 in
       let free = set m_at.0 (index_of c) free_node in
       let found = linked_here h in
-      let out = table_out items table free c found.0 steps.0 found.1 in
+      let out = table_out nodes table free c found.0 steps.0 found.1 in
       let come = table_in free out.0 new c p steps.1 (steps.0.places (index_of c) ∙ cond-true _ _ _ (eq-eqb (index_of c) (index_of c) refl)) in
-      subst (λ (xs : List Node). Left 4 (index_of c) now xs (moved now.lists c p)) (sym whole) record {
+      record {
         table = come.0;
-        lists = come.1 ∙ ap (λ (w : ThreeLists). pushed w c p) (out.1 ∙ ap (λ (w : TheLists). unlinked w.lists c) seen);
-        few = subst (λ (w : TheLists). ChangesFew 4 (index_of c) w.table new) seen (few_both 2 2 (index_of c) items free new (few_out items free (index_of c) steps.0) (few_in free new (index_of c) _ p steps.1));
-        apart = apart_lists new come.0;
+        lists = come.1 ∙ ap (λ (w : ThreeLists). pushed w c p) out.1;
+        few = few_both 2 2 (index_of c) nodes free new (few_out nodes free (index_of c) steps.0) (few_in free new (index_of c) _ p steps.1);
       }
 
 -- a node that was taken out is free
@@ -484,28 +452,22 @@ ring_alone nodes head p here others = record {
 }
 
 -- a table of free nodes in which three heads have been written
-pub first_is_table : (items : List Node) (len : ℕ) (a b d : Node) → 3 ≤ len → len ≤ 65536 → items ≡ replicate len free_node
+pub first_is_table : (items : List Node) (a b d : Node) → 3 ≤ length items → length items ≤ 65536 → AllFree items
     → a ≡ record { prev = 0; next = 0; place = Some Idle } → b ≡ record { prev = 1; next = 1; place = Some Polled }
     → d ≡ record { prev = 2; next = 2; place = Some Pending }
-    → IsTable (set (set (set items 0 a) 1 b) 2 d)
+    → let nodes = set (set (set items 0 a) 1 b) 2 d in IsTable nodes × (lists_of nodes ≡ empty (length items - 3))
 unfolding head_alone
-first_is_table items len a b d heads short free is_a is_b is_d = (rings_give nodes w heads_there short_there size rings).0 where
+first_is_table items a b d heads short free_at is_a is_b is_d = rings_give nodes (empty (length items - 3)) heads_there short_there size rings where
   nodes : List Node
   nodes = set (set (set items 0 a) 1 b) 2 d
 
-  w : ThreeLists
-  w = record { size = len - 3; idle = []; polled = []; pending = [] }
+  long_1 : length (set items 0 a) ≡ length items
+  long_1 = length-set items 0 a
 
-  long : length items ≡ len
-  long = ap length free ∙ length-replicate len free_node
-
-  long_1 : length (set items 0 a) ≡ len
-  long_1 = length-set items 0 a ∙ long
-
-  long_2 : length (set (set items 0 a) 1 b) ≡ len
+  long_2 : length (set (set items 0 a) 1 b) ≡ length items
   long_2 = length-set (set items 0 a) 1 b ∙ long_1
 
-  long_3 : length nodes ≡ len
+  long_3 : length nodes ≡ length items
   long_3 = length-set (set (set items 0 a) 1 b) 2 d ∙ long_2
 
   heads_there : 3 ≤ length nodes
@@ -514,7 +476,7 @@ first_is_table items len a b d heads short free is_a is_b is_d = (rings_give nod
   short_there : length nodes ≤ 65536
   short_there = omega (arith, long_3)
 
-  size : length nodes - 3 ≡ w.size
+  size : length nodes - 3 ≡ length items - 3
   size = ap (λ (n : ℕ). n - 3) long_3
 
   at_d : node_at nodes 2 ≡ d
@@ -529,13 +491,7 @@ first_is_table items len a b d heads short free is_a is_b is_d = (rings_give nod
   at_a =
       get_or-set_other (set (set items 0 a) 1 b) 2 0 d free_node (omega arith)
       ∙ get_or-set_other (set items 0 a) 1 0 b free_node (omega arith)
-      ∙ get_or-set_same items 0 a free_node (omega (arith, long))
-
-  free_at : (k : ℕ) → node_at items k ≡ free_node
-  free_at k = elim (cases_lt k len) [
-    | inl below ↦ ap (λ (xs : List Node). node_at xs k) free ∙ get_or-replicate len k free_node free_node below
-    | inr past ↦ get_or_past items k free_node (omega (arith, long))
-  ]
+      ∙ get_or-set_same items 0 a free_node (omega arith)
 
   elsewhere : (k : ℕ) → k ≢ 0 → k ≢ 1 → k ≢ 2 → place_at nodes k ≡ None
   elsewhere k not_a not_b not_d = ap (λ (n : Node). n.place)
@@ -571,56 +527,33 @@ first_is_table items len a b d heads short free is_a is_b is_d = (rings_give nod
   alone Polled = ring_alone nodes 1 Polled (at_b ∙ is_b) (only Polled)
   alone Pending = ring_alone nodes 2 Pending (at_d ∙ is_d) (only Pending)
 
-  rings : (p : Place) → Ring nodes (head_of p) p (indexes (list_at w p))
+  rings : (p : Place) → Ring nodes (head_of p) p (indexes (list_at (empty (length items - 3)) p))
   rings Idle = alone Idle
   rings Polled = alone Polled
   rings Pending = alone Pending
 
--- what comes after a head, if it isn't the head, is the node of a number
-pub front_next : (nodes : List Node) (p : Place) (head : ℕ) (first : Node) → IsTable nodes
-    → head ≡ head_of p → first ≡ get_or nodes head first → first.next ≡ next_at nodes (head_of p)
-front_next nodes p head first table at read =
-    let heads = table.heads in
-    let here = head_within (length nodes) p heads in
-    let below : head < length nodes = subst (λ (h : ℕ). h < length nodes) (sym at) here in
-    ap (λ (n : Node). n.next) (get_or_read nodes head first below read free_node) ∙ ap (next_at nodes) at
+-- a table of copies of one free node
+pub all_free : (items : List Node) (len : ℕ) → items ≡ replicate len free_node → AllFree items
+all_free items len same = λ k. elim (cases_lt k len) [
+  | inl below ↦ ap (λ (xs : List Node). node_at xs k) same ∙ get_or-replicate len k free_node free_node below
+  | inr past ↦ get_or_past items k free_node (omega (arith, ap length same ∙ length-replicate len free_node))
+]
 
-pub front_index : (nodes : List Node) (p : Place) (head : ℕ) (first : Node) → IsTable nodes
-    → head ≡ head_of p → first ≡ get_or nodes head first → first.next ≢ head → 3 ≤ first.next
-front_index nodes p head first table at read other =
-    let next = front_next nodes p head first table at read in
-    let found = next_is nodes table p (λ e. other (next ∙ e ∙ sym at)) in
-    let told = found.1 in
-    omega (arith, next)
+-- what comes after the head of a list, which stands at index k
+module _ (nodes : List Node) (p : Place) (k : ℕ) (table : IsTable nodes) (at : k ≡ head_of p) where
+  pub front_index : next_at nodes k ≢ k → 3 ≤ next_at nodes k
+  front_index = subst (λ (h : ℕ). next_at nodes h ≢ h → 3 ≤ next_at nodes h) (sym at) (λ other.
+      let found = next_is nodes table p other in
+      let told = found.1 in
+      omega arith)
 
-pub front_within : (nodes : List Node) (now : TheLists) (p : Place) (head : ℕ) (first : Node) → IsTable nodes
-    → record { lists = lists_of nodes; table = nodes } ≡ now
-    → head ≡ head_of p → first ≡ get_or nodes head first → first.next ≢ head → first.next - 3 < now.lists.size
-front_within nodes now p head first table seen at read other =
-    let next = front_next nodes p head first table at read in
-    let found = next_is nodes table p (λ e. other (next ∙ e ∙ sym at)) in
-    let told = found.1 in
-    let within : found.0 < length nodes - 3 = node_below nodes table found.0 p found.2 in
-    let here : first.next - 3 < length nodes - 3 = omega (arith, next) in
-    subst (λ (w : TheLists). first.next - 3 < w.lists.size) seen here
+  pub front_is_none : next_at nodes k ≡ k → None ≡ slice_get (list_at (lists_of nodes) p) 0
+  front_is_none = subst (λ (h : ℕ). next_at nodes h ≡ h → None ≡ slice_get (list_at (lists_of nodes) p) 0) (sym at) (λ none.
+      sym (cond-true _ _ _ (eq-eqb _ _ none)) ∙ front_is nodes table p)
 
-pub front_is_none : (nodes : List Node) (now : TheLists) (p : Place) (head : ℕ) (first : Node) → IsTable nodes
-    → record { lists = lists_of nodes; table = nodes } ≡ now
-    → head ≡ head_of p → first ≡ get_or nodes head first → first.next ≡ head → None ≡ slice_get (list_at now.lists p) 0
-front_is_none nodes now p head first table seen at read none =
-    let next = front_next nodes p head first table at read in
-    subst (λ (w : TheLists). None ≡ slice_get (list_at w.lists p) 0) seen
-    (sym (cond-true _ _ _ (eq-eqb _ _ (sym next ∙ none ∙ at))) ∙ front_is nodes table p)
-
-pub front_is_some : (nodes : List Node) (now : TheLists) (p : Place) (head : ℕ) (first : Node) → IsTable nodes
-    → record { lists = lists_of nodes; table = nodes } ≡ now
-    → head ≡ head_of p → first ≡ get_or nodes head first → first.next ≢ head
-    → Some (first.next - 3) ≡ slice_get (list_at now.lists p) 0
-front_is_some nodes now p head first table seen at read other =
-    let next = front_next nodes p head first table at read in
-    subst (λ (w : TheLists). Some (first.next - 3) ≡ slice_get (list_at w.lists p) 0) seen
-    (ap (λ (n : ℕ). Some (n - 3)) next
-    ∙ sym (cond-false _ _ _ (ne_eqb _ _ (λ e. other (next ∙ e ∙ sym at)))) ∙ front_is nodes table p)
+  pub front_is_some : next_at nodes k ≢ k → Some (next_at nodes k - 3) ≡ slice_get (list_at (lists_of nodes) p) 0
+  front_is_some = subst (λ (h : ℕ). next_at nodes h ≢ h → Some (next_at nodes h - 3) ≡ slice_get (list_at (lists_of nodes) p) 0) (sym at) (λ other.
+      sym (cond-false _ _ _ (ne_eqb _ _ other)) ∙ front_is nodes table p)
 
 -- behind what leads to the end of a chain nothing comes
 nothing_behind : (next prev : ℕ → ℕ) (a b : ℕ) (xs : List ℕ) → Chain next prev a xs b → is_in b xs ≡ false → next a ≡ b → xs ≡ []
@@ -689,17 +622,15 @@ last_moved nodes table c p i e = same_lists w (moved w c p) (sym (pushed_size (u
     | inr ne ↦ sym (pushed_other (unlinked w c) c p q ne ∙ unlinked_list w c q ∙ without_none c (list_at w q) (missing q ne))
   ]
 
--- `move_to_back` of what leads to the head of its place
-pub moves_last : (items : List Node) (now : TheLists) (c head : ℕ) (p : Place) (x : Node) → IsTable items
-    → record { lists = lists_of items; table = items } ≡ now → c < now.lists.size → IsSome (place_of now.lists c)
-    → head ≡ head_of p → x ≡ get_or items (index_of c) x → x.next ≡ head → now.lists ≡ moved now.lists c p
-moves_last items now c head p x table seen below linked at read next =
-    let found = linked_here items c now table seen below linked in
-    let to_head : next_at items (index_of c) ≡ head_of p =
-    ap (λ (n : Node). n.next) (sym (get_or_read items (index_of c) x (index_below items c now table seen below) read free_node)) ∙ next ∙ at in
-    let near : place_at items (next_at items (index_of c)) ≡ Some found.0 = (neighbours items table c found.0 found.1).1 in
-    let at_head : place_at items (head_of p) ≡ Some p = head_placed items table p in
-    let there : place_at items (head_of p) ≡ Some found.0 = subst (λ (k : ℕ). place_at items k ≡ Some found.0) to_head near in
+-- to move what leads to the head of its place to the back there changes nothing
+pub moves_last : (nodes : List Node) (c head : ℕ) (p : Place) → IsTable nodes → IsSome (place_of (lists_of nodes) c)
+    → head ≡ head_of p → next_at nodes (index_of c) ≡ head → lists_of nodes ≡ moved (lists_of nodes) c p
+moves_last nodes c head p table linked at next =
+    let found = linked_here nodes c table linked in
+    let to_head : next_at nodes (index_of c) ≡ head_of p = next ∙ at in
+    let near : place_at nodes (next_at nodes (index_of c)) ≡ Some found.0 = (neighbours nodes table c found.0 found.1).1 in
+    let at_head : place_at nodes (head_of p) ≡ Some p = head_placed nodes table p in
+    let there : place_at nodes (head_of p) ≡ Some found.0 = subst (λ (k : ℕ). place_at nodes k ≡ Some found.0) to_head near in
     let same : found.0 ≡ p = cc (there, at_head) in
-    let i = listed_at items table c p (found.1 ∙ ap (λ (q : Place). Some q) same) in
-    subst (λ (w : TheLists). w.lists ≡ moved w.lists c p) seen (last_moved items table c p i to_head)
+    let i = listed_at nodes table c p (found.1 ∙ ap (λ (q : Place). Some q) same) in
+    last_moved nodes table c p i to_head

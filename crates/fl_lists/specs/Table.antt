@@ -1,5 +1,5 @@
 -- How one table of nodes holds three lists.
-use Rattle.std.specs.Prelude.{ℕ, ◌≡◌, ◌≢◌, ◌+◌, ◌-◌, ◌≤◌, ◌==◌, true, false, if◌then◌else◌, List, [], ◌∷◌, length, map, zero, suc, Option, Some, None, slice_index_or}
+use Rattle.std.specs.Prelude.{ℕ, ◌≡◌, ◌≢◌, ◌+◌, ◌-◌, ◌≤◌, ◌==◌, true, false, if◌then◌else◌, List, [], ◌∷◌, length, map, zero, suc, Option, Some, None, Bool, slice_index_or}
 use Rattle.fl_lists.specs.declared.place.Place.{Place}
 use Rattle.fl_lists.specs.declared.place.Place.TheVariants.{Idle, Polled, Pending}
 use Rattle.fl_lists.specs.declared.node.Node.{Node}
@@ -84,7 +84,8 @@ walk next head (suc steps) a = if a == head then [] else a ∷ walk next head st
 
 -- the list in this place: from the first node on, by `next`
 abbrev pub list_from : List Node → Place → List ℕ
-list_from nodes place = numbers (walk (next_at nodes) (head_of place) (length nodes) (next_at nodes (head_of place)))
+list_from nodes place =
+    let head = head_of place in numbers (walk (next_at nodes) head (length nodes) (next_at nodes head))
 
 abbrev pub lists_of : List Node → ThreeLists
 lists_of nodes = record {
@@ -100,7 +101,44 @@ pub record IsTable (nodes : List Node) : Type 0 where
   pub short : length nodes ≤ 65536
   pub ring : (place : Place) → Ring nodes (head_of place) place (indexes (list_from nodes place))
 
+-- a table in which nothing stands
+abbrev pub AllFree : List Node → Type 0
+AllFree nodes = (k : ℕ) → node_at nodes k ≡ free_node
+
+-- two tables of the same nodes: one may be longer by free ones
+abbrev pub SameNodes : List Node → List Node → Type 0
+SameNodes xs ys = (k : ℕ) → node_at ys k ≡ node_at xs k
+
+-- the same lists, of the numbers below another size
+abbrev pub sized : ℕ → ThreeLists → ThreeLists
+sized n w = record w { size = n }
+
 -- what callers see of a `Lists`: its three lists, and the table that holds them
 pub record TheLists : Type 0 where
   pub lists : ThreeLists
   pub table : List Node
+
+-- the table that is in use: the near one, or the large one
+abbrev pub in_use : Bool → List Node → List Node → List Node
+in_use few near nodes = if few then near else nodes
+
+abbrev pub seen_of : Bool → List Node → List Node → ℕ → TheLists
+seen_of few near nodes n =
+    record { lists = sized n (lists_of (in_use few near nodes)); table = in_use few near nodes }
+
+-- the lists are those of a table with nodes of some of the numbers, or of all
+pub record IsOver (w : TheLists) : Type 0 where
+  pub table : IsTable w.table
+  pub within : length w.table ≤ w.lists.size + 3
+  pub short : w.lists.size ≤ 65533
+  pub lists : w.lists ≡ sized w.lists.size (lists_of w.table)
+
+-- the near table has eight nodes, and the large one those of all numbers, which are free while the near one is in
+-- use; `n` is the size
+pub record IsHeld (few : Bool) (near nodes : List Node) (n : ℕ) : Type 0 where
+  pub table : IsTable (in_use few near nodes)
+  pub within : length (in_use few near nodes) ≤ n + 3
+  pub eight : length near ≡ 8
+  pub whole : length nodes ≡ n + 3
+  pub short : n ≤ 65533
+  pub free : few ≡ true → AllFree nodes

@@ -7,9 +7,11 @@
 //!
 //! - `place.rt`: `Place`, which of the three lists
 //! - `node.rt`: a node, and how one is taken out of its list and put at the back of another
-//! - `lists.rt`: `Lists`
+//! - `in_table.rt`: the three lists in one table
+//! - `lists.rt`: `Lists`, which chooses between a small table and a large one
 #![tactic(auto)]
 
+mod in_table;
 mod lists;
 mod node;
 mod place;

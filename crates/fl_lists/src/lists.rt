@@ -1,10 +1,11 @@
-//! The three lists over one table.
+//! The three lists over a table: a small one at first, and then a large one.
 
 ghost use Rattle.std.specs.Prelude.{◌≡◌, ◌<◌, IfOk, IfSome, IsSome, MatchOption, slice_get};
 ghost use Rattle.fl_lists.specs.ThreeLists.{list_at, place_of, unlinked, pushed, moved, popped, empty, IsApart};
-ghost use Rattle.fl_lists.specs.Table.{head_of, index_of, ChangesFew};
+ghost use Rattle.fl_lists.specs.Table.{index_of, ChangesFew};
 
-use crate::node::{FREE, Node, head, move_before, put_before, take_out};
+use crate::in_table::{first_of, move_last, place_in, push, push_wider, put_heads, unlink};
+use crate::node::{FREE, Node};
 use crate::place::Place;
 use std::alloc::{AllocError, Global};
 use std::marker::Model;
@@ -16,45 +17,34 @@ use std::marker::Model;
 /// that the lists of few low numbers lie side by side: the node after a head is the first of its
 /// list, and the node before it is the last. So a number that is put in or taken out changes two
 /// nodes beside its own (clauses `few`), and nothing is ever searched for.
+///
+/// While only numbers below `FEW` were ever put in, the table is a small one that lies where the
+/// `Lists` itself lies, and no other memory is met.
 #[derive(Drop)]
 pub struct Lists {
+    // the table while `few`
+    near: [Node; FEW + 3],
+    few: bool,
+    size: usize,
+    // the table from then on; until then all of its nodes are free
     nodes: Vec<Node>,
 }
 
 impl Model for Lists {
-    ghost use Rattle.fl_lists.specs.Table.{TheLists, lists_of, IsTable};
+    ghost use Rattle.fl_lists.specs.Table.{TheLists, seen_of, IsHeld};
 
     ghost Value = { TheLists };
 
-    ghost view = { λ a. record { lists = lists_of a.nodes.items; table = a.nodes.items } };
+    ghost view = { λ a. seen_of a.few a.near a.nodes.items a.size };
 
-    ghost invariant = { λ a. IsTable a.nodes.items };
+    ghost invariant = { λ a. IsHeld a.few a.near a.nodes.items a.size };
 }
 
 /// The most numbers: their nodes and the heads have indexes of 16 bits.
 const MOST: usize = 65_533;
 
-/// The index of the head of a list.
-#[inline]
-fn head_index(place: Place) -> u16
-    ensures index { result ≡ head_of place }
-    ensures within { result < 3 }
-{
-    match place {
-        Place::Idle => 0,
-        Place::Polled => 1,
-        Place::Pending => 2,
-    }
-}
-
-/// The index of the node of a number.
-#[inline]
-fn node_index(c: usize) -> u16
-    requires short { c < 65533 }
-    ensures index { result ≡ index_of c }
-{
-    (c + 3) as u16
-}
+/// So many numbers have nodes that lie near.
+const FEW: usize = 5;
 
 impl Lists {
     /// Empty lists of the numbers below `size`.
@@ -69,10 +59,23 @@ impl Lists {
         }
         let len = size + 3;
         let mut nodes = vec![in alloc; FREE; len]?;
-        nodes[0] = head(0, Place::Idle);
-        nodes[1] = head(1, Place::Polled);
-        nodes[2] = head(2, Place::Pending);
-        Ok(Lists { nodes })
+        let mut near = [FREE; FEW + 3];
+        if size < FEW {
+            put_heads(&mut nodes);
+            return Ok(Lists {
+                near,
+                few: false,
+                size,
+                nodes,
+            });
+        }
+        put_heads(&mut near);
+        Ok(Lists {
+            near,
+            few: true,
+            size,
+            nodes,
+        })
     }
 
     /// The nodes are the numbers below this.
@@ -81,7 +84,7 @@ impl Lists {
         ensures size { result ≡ self.now.lists.size }
         ensures apart { IsApart self.now.lists }
     {
-        self.nodes.len() - 3
+        self.size
     }
 
     /// The list that `c` is in; `None` where it is in none.
@@ -91,7 +94,11 @@ impl Lists {
         ensures place { result ≡ place_of self.now.lists c }
         ensures apart { IsApart self.now.lists }
     {
-        self.nodes[c + 3].place
+        if self.few {
+            place_in(&self.near, c)
+        } else {
+            place_in(&self.nodes, c)
+        }
     }
 
     /// The first of a list; `None` where it is empty.
@@ -101,12 +108,11 @@ impl Lists {
         ensures within { IfSome result (λ c. c < self.now.lists.size) }
         ensures apart { IsApart self.now.lists }
     {
-        let head = head_index(place);
-        let first = self.nodes[usize::from(head)].next;
-        if first == head {
-            return None;
+        if self.few {
+            first_of(&self.near, place)
+        } else {
+            first_of(&self.nodes, place)
         }
-        Some(usize::from(first) - 3)
     }
 
     /// Puts `c`, which is in no list, at the back of one.
@@ -118,8 +124,14 @@ impl Lists {
         ensures few { ChangesFew 2 (index_of c) self.old.table self.new.table }
         ensures apart { IsApart self.new.lists }
     {
-        let head = head_index(place);
-        put_before(&mut self.nodes, node_index(c), head, place);
+        if !self.few {
+            push(&mut self.nodes, c, place);
+        } else if c < FEW {
+            push(&mut self.near, c, place);
+        } else {
+            push_wider(&self.near, &mut self.nodes, c, place);
+            self.few = false;
+        }
     }
 
     /// Takes `c` out of the list that it is in.
@@ -131,7 +143,11 @@ impl Lists {
         ensures few { ChangesFew 2 (index_of c) self.old.table self.new.table }
         ensures apart { IsApart self.new.lists }
     {
-        take_out(&mut self.nodes, node_index(c));
+        if self.few {
+            unlink(&mut self.near, c);
+        } else {
+            unlink(&mut self.nodes, c);
+        }
     }
 
     /// Moves `c` from the list that it is in to the back of one, which may be the same.
@@ -143,12 +159,11 @@ impl Lists {
         ensures few { ChangesFew 4 (index_of c) self.old.table self.new.table }
         ensures apart { IsApart self.new.lists }
     {
-        let head = head_index(place);
-        if self.nodes[c + 3].next == head {
-            // it is the last there
-            return;
+        if self.few {
+            move_last(&mut self.near, c, place);
+        } else {
+            move_last(&mut self.nodes, c, place);
         }
-        move_before(&mut self.nodes, node_index(c), head, place);
     }
 
     /// Takes the first out of a list; `None` where it is empty.

@@ -19,7 +19,7 @@ use Rattle.fl_machine.specs.declared.intake.Fed.TheVariants.{Part}
 use Rattle.fl_machine.specs.declared.recv.Begun.{Begun}
 use Rattle.fl_machine.specs.Receiving.{HoldsParts, StandsIn, AddsUpTo, stand_after}
 use Rattle.fl_machine.specs.Kept.{counting, IsKeptIn, IsPartIn, EndsCallIn, HasFrags}
-use Rattle.fl_machine.specs.Reassembling.{IsUnderWay, parts_under}
+use Rattle.fl_machine.specs.Reassembling.{IsUnderWay, GoesOnFrom, parts_under}
 use Rattle.fl_machine.proofs.Feeding.{few_messages}
 use Rattle.fl_machine.proofs.Looking.{forgotten, kept_length}
 
@@ -99,16 +99,11 @@ read_whole p frags found c within reads has =
 
 -- ---- the first fragment of a call that goes on
 
-pub record FirstPart (p : TheProgram) (room : List Frag) (o : Option Begun) (f : Frag) (d : Begun) : Type 0 where
-  pub under_way : IsUnderWay p room o
-  pub part : IsPartIn p (parts_under room o ++ f ∷ [])
-  pub kept : IsKeptIn p (parts_under room o ++ bare f ∷ []) d
-
 pub first_part : (p : TheProgram) (tape : List ℕ) (room : List Frag) (o : Option Begun) (f : Frag) (b d : Begun) (fed : Fed) → o ≡ None → fed ≡ Part
-    → StandsIn p tape (stand_after b fed) → AddsUpTo p [] f tape (stand_after b fed) → d ≡ counting 0 b → FirstPart p room o f d
+    → StandsIn p tape (stand_after b fed) → AddsUpTo p [] f tape (stand_after b fed) → d ≡ counting 0 b → GoesOnFrom p room o f d
 first_part p tape room o f b d fed none part stands adds forgets =
     let s = subst (λ (x : Fed). StandsIn p tape (stand_after b x)) part stands in
     let a = subst (λ (x : Fed). AddsUpTo p [] f tape (stand_after b x)) part adds in
     let k = forgotten p.plan p.interface tape b s.0 s.1 in
     let kept : IsKeptIn p (bare f ∷ []) d = subst (λ (x : Begun). IsKeptIn p (bare f ∷ []) x) (sym forgets) (subst (λ (fs : List Frag). IsKeptIn p fs (counting 0 b)) a.parts_are k) in
-    subst (λ (x : Option Begun). FirstPart p room x f d) (sym none) (record { under_way = tt; part = a.part; kept = kept })
+    subst (λ (x : Option Begun). GoesOnFrom p room x f d) (sym none) (record { under_way = tt; part = a.part; kept = kept })

@@ -11,7 +11,7 @@ use Rattle.fl_wire.specs.Reading.{Means, IsPart}
 use Rattle.fl_compile.specs.declared.program.Program.{Program}
 use Rattle.fl_compile.specs.Programs.{TheProgram, program_of}
 use Rattle.fl_machine.specs.Receiving.{IsRefused}
-use Rattle.fl_machine.specs.Kept.{IsKeptIn}
+use Rattle.fl_machine.specs.Kept.{IsKeptIn, IsPartIn}
 use Rattle.fl_machine.specs.declared.recv.Begun.{Begun}
 use Rattle.fl_machine.specs.declared.reassembly.Taken.{Taken}
 use Rattle.fl_machine.specs.declared.reassembly.Taken.TheVariants.{Part, Whole}
@@ -75,3 +75,10 @@ IsUnderWay p room (Some b) = (b.fed ≤ length room) × IsKeptIn p (take b.fed r
 -- a program, and the fragments of a call under way that lie in a room
 abbrev pub reassembly_on : Program → List Frag → Option Begun → TheReassembly
 reassembly_on program room begun = record { program = program; parts = parts_under room begun }
+
+-- with a fragment behind the parts of a call, if one is under way, the call goes on
+pub record GoesOnFrom (p : TheProgram) (room : List Frag) (o : Option Begun) (f : Frag) (next : Begun)
+    : Type 0 where
+  pub under_way : IsUnderWay p room o
+  pub part : IsPartIn p (parts_under room o ++ f ∷ [])
+  pub kept : IsKeptIn p (parts_under room o ++ bare f ∷ []) next

@@ -1,6 +1,7 @@
 -- Working file: a run of receive code that stands between two bytes of a call.
-use Rattle.std.specs.Prelude.{◌≡◌, ◌≢◌, ℕ, suc, ◌+◌, ◌-◌, ◌%◌, ◌^◌, ◌<◌, ◌≤◌, ◌⊎◌, true, false, List, [], ◌∷◌, ◌++◌}
-use Rattle.std.specs.Prelude.{flat_map, take, drop, length, slice_get, slice_index, slice_index_or, slice_set, Some}
+use Rattle.std.specs.Prelude.{◌≡◌, ◌≢◌, ℕ, suc, ◌+◌, ◌-◌, ◌%◌, ◌^◌, ◌<◌, ◌≤◌, ◌⊎◌, true, false, List, [], ◌∷◌}
+use Rattle.std.specs.Prelude.{◌++◌, flat_map, take, drop, length, slice_get, slice_index, slice_index_or}
+use Rattle.std.specs.Prelude.{slice_set, Some}
 use Rattle.fl_stub.specs.declared.op.Op.{Op}
 use Rattle.fl_stub.specs.declared.op.Op.TheVariants.{Back}
 use Rattle.fl_stub.specs.declared.mark.Mark.{Mark}
@@ -10,7 +11,8 @@ use Rattle.fl_stub.specs.Frames.{block_of}
 use Rattle.fl_stub.specs.Meaning.{Turns, number_bytes}
 use Rattle.fl_stub.specs.Given.{bytes_given}
 use Rattle.fl_stub.specs.Streams.{Follows, BeginsPayload, IsPayload, LeavesPayloads}
-use Rattle.fl_stub.specs.Rests.{TheField, Rest, rest_all, rest_from, steps_left, left_behind, is_taken, taken_field, is_silent}
+use Rattle.fl_stub.specs.Rests.{TheField, Rest, rest_all, rest_from, steps_left, left_behind, is_taken}
+use Rattle.fl_stub.specs.Rests.{taken_field, is_silent}
 use Rattle.fl_stub.specs.Rests.{Reaches, LeadsTo, IsPartOfField, IsStance}
 use Rattle.fl_machine.specs.declared.intake.Field.{Field}
 use Rattle.fl_machine.specs.declared.intake.Intake.{Intake}
@@ -57,11 +59,14 @@ pub record Stands (ops : List Op) (taken : List ℕ) (c : Intake) (bytes : List 
   pub at : IsAt ops taken c bytes
   pub shows : Follows (length bytes) bytes (bytes_given (block_of ops) (so_far taken c))
 
--- what the words of a fragment come to, behind the bytes where a run stands: the run goes on behind them, and they are some
--- of the first bytes of a payload. Of the numbers taken only the last lie on the tape, behind those before
+-- what the words of a fragment come to, behind the bytes where a run stands: the run goes on behind them, and
+-- they are some of the first bytes of a payload. Of the numbers taken only the last lie on the tape, behind
+-- those before
 abbrev pub TakesPart : List Op → List ℕ → Intake → List ℕ → List ℕ → Intake → Type 0
-TakesPart ops tape c words after d = (before bytes : List ℕ) → Stands ops (before ++ take c.count tape) c bytes
-    → Stands ops (before ++ take d.count after) d (bytes ++ words_bytes words) × BeginsPayload (block_of ops) (bytes ++ words_bytes words)
+TakesPart ops tape c words after d = (before bytes : List ℕ)
+    → Stands ops (before ++ take c.count tape) c bytes
+    → Stands ops (before ++ take d.count after) d (bytes ++ words_bytes words)
+    × BeginsPayload (block_of ops) (bytes ++ words_bytes words)
 
 -- they are a whole payload, with these numbers
 abbrev pub TakesWhole : List Op → List ℕ → Intake → List ℕ → List ℕ → Type 0
@@ -85,12 +90,14 @@ bytes_left buffer used = drop used (take 56 buffer)
 
 -- a run whose numbers are those taken before and then the first of a tape, fed up to a place of a fragment
 abbrev pub IsFedBy : List Op → List ℕ → List ℕ → Intake → List ℕ → List ℕ → ℕ → Type 0
-IsFedBy ops before tape c all buffer used = IsFed ops (before ++ take c.count tape) c all (bytes_left buffer used)
+IsFedBy ops before tape c all buffer used =
+    IsFed ops (before ++ take c.count tape) c all (bytes_left buffer used)
 
--- a tape of so many places has room, behind so many numbers, for those of so many bytes: it has room for those of each payload,
--- or for one a byte
+-- a tape of so many places has room, behind so many numbers, for those of so many bytes: it has room for
+-- those of each payload, or for one a byte
 abbrev pub HasRoom : List Op → ℕ → ℕ → ℕ → Type 0
-HasRoom ops count left places = ((t full : List ℕ) → Turns (block_of ops) t full → length t ≤ places) ⊎ (count + left ≤ places)
+HasRoom ops count left places =
+    ((t full : List ℕ) → Turns (block_of ops) t full → length t ≤ places) ⊎ (count + left ≤ places)
 
 -- an instruction that takes bytes, and what it takes
 pub record HasField (ops : List Op) (c : Intake) (f : Field) : Type 0 where
@@ -166,7 +173,8 @@ after_bytes c many = record c {
   phase = (c.phase % 8 + many) % 8;
 }
 
--- in a loop over one number, with so many turns after this one, behind so many numbers, at this place in the payload
+-- in a loop over one number, with so many turns after this one, behind so many numbers, at this place in the
+-- payload
 abbrev pub run_at : Intake → ℕ → ℕ → ℕ → Intake
 run_at c left count phase = record c {
   loops = slice_set c.loops (c.depth - 1) (record { start = (inner_loop c).start; turns = left });

@@ -1,4 +1,6 @@
-//! Numbers that lie in one fragment, taken outside loops: what a run stores of loops and of numbers that were begun isn't needed then.
+//! Numbers that lie in one fragment, taken without what a run stores of numbers that were begun: those of
+//! plain instructions one after another, and those of a loop over one number, whose place and count are kept
+//! in locals meanwhile.
 
 ghost use Rattle.std.specs.Prelude.{◌≡◌, ◌%◌, ◌+◌, ◌-◌, ◌<◌, ◌≤◌, ◌++◌, ◌^◌, ℕ, List, true, take, length};
 ghost use Rattle.std.specs.Prelude.{slice_set, IfSome, IfNone, IfOk, IfErr, IsTrue};
@@ -7,7 +9,8 @@ ghost use Rattle.fl_stub.specs.Structure.{IsCode};
 ghost use Rattle.fl_stub.specs.Frames.{block_of};
 ghost use Rattle.fl_stub.specs.Streams.{IsPayload, LeavesPayloads};
 ghost use Rattle.fl_stub.specs.Rests.{told, is_taken, taken_field};
-ghost use Rattle.fl_machine.specs.Taking.{words_bytes, bytes_left, field_view, IsFed, IsFedBy, IsAtField, HasField, HasRoom, IsRunOf, run_at};
+ghost use Rattle.fl_machine.specs.Taking.{words_bytes, bytes_left, field_view, IsFed, IsFedBy, IsAtField};
+ghost use Rattle.fl_machine.specs.Taking.{HasField, HasRoom, IsRunOf, run_at};
 ghost use Rattle.fl_machine.specs.Plain.{is_plain as is_plain_op, plain_behind, HasNumber};
 
 use crate::cursor::is_op;
@@ -49,7 +52,8 @@ fn number_at(field: Field, buffer: &[u8; 64], used: usize) -> Option<u64>
 fn put(places: &mut [u64; 8], count: usize, field: Field, number: u64) -> Option<usize>
     requires few { count ≤ 8 }
     ensures few { IfSome result (λ more. more ≤ 8) }
-    ensures tape { IfSome result (λ more. take more places.new ≡ take count places.old ++ told field.told number) }
+    ensures tape { IfSome result
+        (λ more. take more places.new ≡ take count places.old ++ told field.told number) }
 {
     if !field.told {
         return Some(count);
@@ -61,13 +65,15 @@ fn put(places: &mut [u64; 8], count: usize, field: Field, number: u64) -> Option
     Some(count + 1)
 }
 
-/// Takes the words of a call's only fragment: how many numbers they are, which are then the first of the places. `None` for code
-/// with loops, for more than eight numbers, and where the words aren't all of a call. Takes no memory.
+/// Takes the words of a call's only fragment: how many numbers they are, which are then the first of the
+/// places. `None` for code with loops, for more than eight numbers, and where the words aren't all of a call.
+/// Takes no memory.
 #[inline(always)]
 pub(crate) fn take_plain(ops: &[Op], places: &mut [u64; 8], words: &[u64; 7]) -> Option<usize>
     requires code { IsCode receive ops.now (block_of ops.now) }
     ensures few { IfSome result (λ count. count ≤ 8) }
-    ensures whole { IfSome result (λ count. IsPayload (block_of ops.now) (words_bytes words.now) (take count places.new)) }
+    ensures whole { IfSome result
+        (λ count. IsPayload (block_of ops.now) (words_bytes words.now) (take count places.new)) }
 {
     let mut buffer = [0; 64];
     spread(&mut buffer, words);
@@ -101,13 +107,14 @@ pub(crate) fn take_plain(ops: &[Op], places: &mut [u64; 8], words: &[u64; 7]) ->
     None
 }
 
-// What a plain instruction takes, and its number by the bytes from a place on, if all are there and it is right: a number of eight bytes,
-// which may be any, is told before the others.
+// What a plain instruction takes, and its number by the bytes from a place on, if all are there and it is
+// right: a number of eight bytes, which may be any, is told before the others.
 #[inline(always)]
 fn plain_number(op: Op, buffer: &[u8; 64], used: usize) -> Option<(Field, u64)>
     requires inside { used ≤ 56 }
     requires taken { is_plain_op op ≡ true → is_taken op ≡ true }
-    requires narrow { (f : Field) → is_plain_op op ≡ true → ((at : ℕ) → 0 % 8 ≡ at % 8 → field_view f ≡ taken_field op at) → f.width ≤ 8 }
+    requires narrow { (f : Field) → is_plain_op op ≡ true
+        → ((at : ℕ) → 0 % 8 ≡ at % 8 → field_view f ≡ taken_field op at) → f.width ≤ 8 }
     ensures plain { IfSome result (λ r. is_plain_op op ≡ true) }
     ensures field { IfSome result (λ r. (at : ℕ) → 0 % 8 ≡ at % 8 → field_view r.0 ≡ taken_field op at) }
     ensures number { IfSome result (λ r. HasNumber r.0 buffer.now used r.1) }
@@ -128,11 +135,13 @@ fn plain_number(op: Op, buffer: &[u8; 64], used: usize) -> Option<(Field, u64)>
     Some((field, number))
 }
 
-// Puts a field's number on a tape behind so many, if it is one of the call's; how many they are then, if there is room.
+// Puts a field's number on a tape behind so many, if it is one of the call's; how many they are then, if
+// there is room.
 #[inline(always)]
 fn put_on(tape: &mut [u64], count: usize, field: Field, number: u64) -> Option<usize>
     requires count { count ≤ length tape.old }
-    ensures tape { IfSome result (λ more. take more tape.new ≡ take count tape.old ++ told field.told number) }
+    ensures tape { IfSome result
+        (λ more. take more tape.new ≡ take count tape.old ++ told field.told number) }
     ensures more { IfSome result (λ more. (count ≤ more) × (more ≤ count + 1) × (more ≤ length tape.new)) }
     ensures kept { take count tape.new ≡ take count tape.old }
     ensures long { length tape.new ≡ length tape.old }
@@ -148,7 +157,8 @@ fn put_on(tape: &mut [u64], count: usize, field: Field, number: u64) -> Option<u
     Some(count + 1)
 }
 
-// The next number of a loop over one number, if its turn isn't the last, all its bytes are there, and it is right.
+// The next number of a loop over one number, if its turn isn't the last, all its bytes are there, and it is
+// right.
 #[inline(always)]
 fn turn_number(field: Field, buffer: &[u8; 64], used: usize, left: u64) -> Option<u64>
     requires inside { used ≤ 56 }
@@ -172,7 +182,8 @@ fn put_at(tape: &mut [u64], count: usize, number: u64)
 }
 
 impl Intake {
-    // Where a loop over one number is left: with so many turns after this one, behind so many numbers, at this place in the payload.
+    // Where a loop over one number is left: with so many turns after this one, behind so many numbers, at
+    // this place in the payload.
     #[inline(always)]
     fn leave_run(&mut self, left: u64, count: usize, phase: u32)
         requires low { 0 < self.old.depth }
@@ -184,8 +195,8 @@ impl Intake {
         self.phase = phase;
     }
 
-    // Takes the numbers of a loop over one number, but that of its last turn, as long as they are right and all their bytes are there;
-    // where the next bytes are.
+    // Takes the numbers of a loop over one number, but that of its last turn, as long as they are right and
+    // all their bytes are there; where the next bytes are.
     #[inline(always)]
     pub(crate) fn take_turns(
         &mut self,
@@ -227,8 +238,9 @@ impl Intake {
         end
     }
 
-    // Takes the number of an instruction, if it is plain, all its bytes are there, and it is right: how many numbers there are then,
-    // and where the next bytes are. The run stands where it stood before so many instructions, which were plain.
+    // Takes the number of an instruction, if it is plain, all its bytes are there, and it is right: how many
+    // numbers there are then, and where the next bytes are. The run stands where it stood before so many
+    // instructions, which were plain.
     #[inline(always)]
     fn take_number(
         &self,
@@ -242,13 +254,17 @@ impl Intake {
         requires inside { used ≤ 56 }
         requires count { count ≤ length tape.old }
         requires fed { (before all : List ℕ) × (phase : ℕ)
-            × IsFed ops.now (before ++ take count tape.old) (plain_behind self.now place count phase) all (bytes_left buffer.now used) }
+            × IsFed ops.now (before ++ take count tape.old) (plain_behind self.now place count phase) all
+            (bytes_left buffer.now used) }
         ensures fed { IfSome result (λ r. (before all : List ℕ) (phase : ℕ)
-            → IsFed ops.now (before ++ take count tape.old) (plain_behind self.now place count phase) all (bytes_left buffer.now used)
-            → IsFed ops.now (before ++ take r.0 tape.new) (plain_behind self.now (place + 1) r.0 ((phase % 8 + (r.1 - used)) % 8)) all
+            → IsFed ops.now (before ++ take count tape.old) (plain_behind self.now place count phase) all
+            (bytes_left buffer.now used)
+            → IsFed ops.now (before ++ take r.0 tape.new)
+            (plain_behind self.now (place + 1) r.0 ((phase % 8 + (r.1 - used)) % 8)) all
             (bytes_left buffer.now r.1)) }
         ensures end { IfSome result (λ r. (used < r.1) × (r.1 ≤ 56)) }
-        ensures more { IfSome result (λ r. (count ≤ r.0) × (r.0 + used ≤ count + r.1) × (r.0 ≤ length tape.new)) }
+        ensures more { IfSome result (λ r. (count ≤ r.0) × (r.0 + used ≤ count + r.1)
+            × (r.0 ≤ length tape.new)) }
         ensures place { IfSome result (λ r. place + 1 < 2 ^ 64) }
         ensures kept { take count tape.new ≡ take count tape.old }
         ensures long { length tape.new ≡ length tape.old }
@@ -277,8 +293,9 @@ impl Intake {
         self.loops[self.depth - 1].start == self.place && is_op(ops, self.place + 1, Op::Back)
     }
 
-    /// Takes numbers from a place of a fragment on, as long as instructions are plain, and all bytes are there and right; where the next
-    /// bytes are. None in a loop over one number alone, which `take_run` takes.
+    /// Takes numbers from a place of a fragment on, as long as instructions are plain, and all bytes are
+    /// there and right; where the next bytes are. None in a loop over one number alone, which `take_run`
+    /// takes.
     #[inline(always)]
     pub(crate) fn take_numbers(
         &mut self,
@@ -320,7 +337,8 @@ impl Intake {
         end
     }
 
-    // Takes those of a field's bytes that are there, and the plain numbers behind it; where the next bytes are.
+    // Takes those of a field's bytes that are there, and the plain numbers behind it; where the next bytes
+    // are.
     #[inline(always)]
     pub(crate) fn take_fields(
         &mut self,
@@ -336,9 +354,11 @@ impl Intake {
         requires fed { (before all : List ℕ) × IsFedBy ops.now before tape.old self.old all buffer.now used }
         requires tape { HasRoom ops.now self.old.count (56 - used) (length tape.old) }
         requires count { self.old.count ≤ length tape.old }
-        ensures fed { IfOk result (λ end. (before all : List ℕ) → IsFedBy ops.now before tape.old self.old all buffer.now used
+        ensures fed { IfOk result (λ end. (before all : List ℕ)
+            → IsFedBy ops.now before tape.old self.old all buffer.now used
             → IsFedBy ops.now before tape.new self.new all buffer.now end) }
-        ensures wrong { IfErr result (λ mark. (before all : List ℕ) → IsFedBy ops.now before tape.old self.old all buffer.now used
+        ensures wrong { IfErr result (λ mark. (before all : List ℕ)
+            → IsFedBy ops.now before tape.old self.old all buffer.now used
             → LeavesPayloads (block_of ops.now) all mark) }
         ensures end { IfOk result (λ end. (used < end) × (end ≤ 56)) }
         ensures settled { IfOk result (λ end. IsAtField ops.now self.new) }

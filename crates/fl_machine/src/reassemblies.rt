@@ -21,6 +21,8 @@ pub(crate) struct Places {
     alloc: Global,
     places: Vec<Place>,
     rooms: Rooms,
+    // Where the numbers of one fragment are put: at most one a byte.
+    numbers: [u64; 56],
 }
 
 /// Calls that are put together again from their fragments, at many places: each has a program, and of its call under way the
@@ -76,6 +78,7 @@ impl Places {
     }
 
     // Takes a fragment at a place whose room is there.
+    #[inline(always)]
     fn take_there(&mut self, place: usize, frag: &Frag) -> Result<Taken, TakeFault>
         requires are { ArePlaces self.old }
         requires there { IsThere (rooms_of self.old.rooms) place }
@@ -85,7 +88,12 @@ impl Places {
         let alloc = self.alloc;
         let (start, end) = self.rooms.bounds(place);
         let at = &mut self.places[place];
-        at.take_on(alloc, &mut self.rooms.block[start..end], frag)
+        at.take_on(
+            alloc,
+            &mut self.numbers,
+            &mut self.rooms.block[start..end],
+            frag,
+        )
     }
 
     // Takes a fragment of the call under way. Out of line, so that a call of one fragment has nothing of it.
@@ -168,6 +176,7 @@ impl Reassemblies {
                 alloc,
                 places: Vec::new(alloc),
                 rooms: Rooms::new(alloc),
+                numbers: [0; 56],
             },
         }
     }

@@ -1,14 +1,16 @@
 //! A program's calls that are put together again from their fragments, one after another.
 
-ghost use Rattle.std.specs.Prelude.{◌≡◌, ◌<◌, ◌≤◌, ◌++◌, ◌∷◌, [], length, IsSome, Some, None, IfOk};
+ghost use Rattle.std.specs.Prelude.{◌≡◌, ◌<◌, ◌≤◌, [], length, Option, IsSome, Some, None, IfOk};
 ghost use Rattle.fl_base.specs.Control.{bare};
 ghost use Rattle.fl_value.specs.Value.{TheCall, call_of};
 ghost use Rattle.fl_compile.specs.Programs.{program_of};
 ghost use Rattle.fl_machine.specs.Faults.{take_number};
 ghost use Rattle.fl_machine.specs.Receiving.{HoldsParts, StandsIn, AddsUpTo};
-ghost use Rattle.fl_machine.specs.Kept.{IsKeptIn, IsPartIn, EndsCallIn, HasFrags};
+ghost use Rattle.fl_machine.specs.Kept.{EndsCallIn, HasFrags};
+ghost use Rattle.fl_machine.specs.declared.recv.Begun.{Begun};
 ghost use Rattle.fl_machine.specs.declared.recv.Stand.TheVariants.{After as after};
-ghost use Rattle.fl_machine.specs.Reassembling.{Takes, IsUnderWay, new_reassembly, parts_under, reassembly_on};
+ghost use Rattle.fl_machine.specs.Reassembling.{Takes, IsUnderWay, GoesOnFrom};
+ghost use Rattle.fl_machine.specs.Reassembling.{new_reassembly, parts_under, reassembly_on};
 
 use crate::intake::Fed;
 use crate::recv::{Begun, Ended, begin, look_on, whole};
@@ -95,27 +97,26 @@ fn without_stamp(frag: &Frag) -> Frag
     }
 }
 
-// Keeps a fragment behind which a call goes on.
+// Keeps a fragment behind which a call goes on, in a room that has those before it.
 #[inline(always)]
 fn keep(
     program: &Program,
-    under: &mut Option<Begun>,
     begun: &Begun,
     room: &mut [Frag],
     frag: &Frag,
 ) -> Result<Taken, TakeFault>
-    requires under_way { IsUnderWay (program_of program.now) room.old under.old }
-    requires part { IsPartIn (program_of program.now) (parts_under room.old under.old ++ frag.now ∷ []) }
-    requires kept { IsKeptIn (program_of program.now) (parts_under room.old under.old ++ bare frag.now ∷ []) begun.now }
+    requires goes_on { (o : Option Begun)
+        × GoesOnFrom (program_of program.now) room.old o frag.now begun.now }
     requires some { 0 < begun.now.fed }
     requires inside { begun.now.fed ≤ length room.old }
-    ensures under_way { IsUnderWay (program_of program.now) room.new under.new }
-    ensures takes { Takes (reassembly_on program.now room.old under.old) frag.now result (reassembly_on program.now room.new under.new) }
+    ensures under_way { IsUnderWay (program_of program.now) room.new (Some begun.now) }
+    ensures takes { (o : Option Begun) → GoesOnFrom (program_of program.now) room.old o frag.now begun.now
+        → Takes (reassembly_on program.now room.old o) frag.now result
+        (reassembly_on program.now room.new (Some begun.now)) }
 {
     let _plan = program.plan();
     let last = begun.fed() - 1;
     room[last] = without_stamp(frag);
-    *under = Some(*begun);
     Ok(Taken::Part)
 }
 
@@ -163,6 +164,7 @@ fn take_begun(
     alloc: Global,
     program: &Program,
     under: &mut Option<Begun>,
+    numbers: &mut [u64; 56],
     room: &mut [Frag],
     frag: &Frag,
 ) -> Result<Taken, TakeFault>
@@ -172,15 +174,48 @@ fn take_begun(
     ensures takes { Takes (reassembly_on program.now room.old under.old) frag.now result (reassembly_on program.now room.new under.new) }
 {
     let _plan = program.plan();
-    let mut numbers = [0; 56];
     let mut begun = Begun::new();
-    match begin(program, &mut begun, &mut numbers, frag) {
+    match begin(program, &mut begun, numbers, frag) {
         Ok(Fed::Part) => {
             begun.forget();
-            keep(program, under, &begun, room, frag)
+            *under = Some(begun);
+            keep(program, &begun, room, frag)
         }
-        Ok(Fed::Whole) => tell(alloc, program, begun.ended(), &numbers, frag),
+        Ok(Fed::Whole) => tell(alloc, program, begun.ended(), &*numbers, frag),
         Err(fault) => Err(TakeFault::Wire(fault)),
+    }
+}
+
+// Takes a fragment of the call under way, where the call lies: behind its last fragment, or one at fault, it
+// stands as it stood.
+#[inline(always)]
+fn take_under(
+    alloc: Global,
+    program: &Program,
+    begun: &mut Begun,
+    numbers: &mut [u64; 56],
+    room: &mut [Frag],
+    frag: &Frag,
+) -> Result<Taken, TakeFault>
+    requires under_way { IsUnderWay (program_of program.now) room.old (Some begun.old) }
+    requires holds { HoldsParts (program_of program.now).plan (program_of program.now).interface
+        (length room.old) }
+    ensures under_way { IsUnderWay (program_of program.now) room.new (Some begun.new) }
+    ensures takes { Takes (reassembly_on program.now room.old (Some begun.old)) frag.now result
+        (reassembly_on program.now room.new (Some begun.new)) }
+{
+    let _plan = program.plan();
+    let before = *begun;
+    match look_on(program, begun, numbers, frag) {
+        Ok(Fed::Part) => keep(program, begun, room, frag),
+        Ok(Fed::Whole) => {
+            *begun = before;
+            take_last(alloc, program, begun, room, frag)
+        }
+        Err(fault) => {
+            *begun = before;
+            Err(TakeFault::Wire(fault))
+        }
     }
 }
 
@@ -190,6 +225,7 @@ fn take_next(
     alloc: Global,
     program: &Program,
     under: &mut Option<Begun>,
+    numbers: &mut [u64; 56],
     room: &mut [Frag],
     frag: &Frag,
 ) -> Result<Taken, TakeFault>
@@ -199,24 +235,19 @@ fn take_next(
     ensures under_way { IsUnderWay (program_of program.now) room.new under.new }
     ensures takes { Takes (reassembly_on program.now room.old under.old) frag.now result (reassembly_on program.now room.new under.new) }
 {
-    let _plan = program.plan();
-    let Some(begun) = *under else {
+    let Some(begun) = under else {
         unreachable!();
     };
-    let mut next = begun;
-    match look_on(program, &mut next, frag) {
-        Ok(Fed::Part) => keep(program, under, &next, room, frag),
-        Ok(Fed::Whole) => take_last(alloc, program, &begun, room, frag),
-        Err(fault) => Err(TakeFault::Wire(fault)),
-    }
+    take_under(alloc, program, begun, numbers, room, frag)
 }
 
 impl Place {
-    // Takes a fragment, in the place's room.
+    // Takes a fragment, in the place's room. Its numbers are put where those of any fragment may lie.
     #[inline(always)]
     pub(crate) fn take_on(
         &mut self,
         alloc: Global,
+        numbers: &mut [u64; 56],
         room: &mut [Frag],
         frag: &Frag,
     ) -> Result<Taken, TakeFault>
@@ -228,8 +259,8 @@ impl Place {
             (reassembly_on self.old.program room.new self.new.begun) }
     {
         match self.begun {
-            Some(_) => take_next(alloc, &self.program, &mut self.begun, room, frag),
-            None => take_begun(alloc, &self.program, &mut self.begun, room, frag),
+            Some(_) => take_next(alloc, &self.program, &mut self.begun, numbers, room, frag),
+            None => take_begun(alloc, &self.program, &mut self.begun, numbers, room, frag),
         }
     }
 

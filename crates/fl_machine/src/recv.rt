@@ -189,9 +189,14 @@ impl Begun {
         }
     }
 
-    // As `take`, but none of its numbers is kept.
+    // As `take`, but none of its numbers is kept: they are put where those of any fragment may lie.
     #[inline(always)]
-    fn look(&mut self, program: &Program, frag: &Frag) -> Result<Fed, WireFault>
+    fn look(
+        &mut self,
+        program: &Program,
+        numbers: &mut [u64; 56],
+        frag: &Frag,
+    ) -> Result<Fed, WireFault>
         requires kept { (parts : List Frag) × IsKeptIn (program_of program.now) parts self.old }
         requires header { (parts : List Frag) → IsKeptIn (program_of program.now) parts self.old
             → header_fault (program_of program.now).interface parts frag.now ≡ None }
@@ -206,11 +211,7 @@ impl Begun {
         let Some(code) = program.receive_code(self.msg) else {
             unreachable!();
         };
-        let mut numbers = [0; 56];
-        match self
-            .intake
-            .take_words(code.ops(), &mut numbers, &frag.words)
-        {
+        match self.intake.take_words(code.ops(), numbers, &frag.words) {
             Ok(Fed::Part) => {
                 self.fed += 1;
                 self.intake.count = 0;
@@ -294,7 +295,13 @@ pub(crate) fn go_on(
 }
 
 // As `go_on`, but none of the fragment's numbers is kept.
-pub(crate) fn look_on(program: &Program, begun: &mut Begun, frag: &Frag) -> Result<Fed, WireFault>
+#[inline(always)]
+pub(crate) fn look_on(
+    program: &Program,
+    begun: &mut Begun,
+    numbers: &mut [u64; 56],
+    frag: &Frag,
+) -> Result<Fed, WireFault>
     requires kept { (parts : List Frag) × IsKeptIn (program_of program.now) parts begun.old }
     ensures part { IfOk result (λ fed. fed ≡ Fed.Part → GoesOn (program_of program.now) begun.old frag.now begun.new) }
     ensures whole { IfOk result (λ fed. fed ≡ Fed.Whole → Ends (program_of program.now) begun.old frag.now) }
@@ -305,7 +312,7 @@ pub(crate) fn look_on(program: &Program, begun: &mut Begun, frag: &Frag) -> Resu
     if let Some(fault) = follow_fault(msg, frag) {
         return Err(fault);
     }
-    begun.look(program, frag)
+    begun.look(program, numbers, frag)
 }
 
 // The call of a whole tape.

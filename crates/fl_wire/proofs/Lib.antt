@@ -20,3 +20,4 @@ pub mod Defaults
 pub mod OneWord
 pub mod Texts
 pub mod Ranks
+pub mod Scalars

@@ -1,6 +1,6 @@
 //! The arguments of a call from the bytes of its fragments.
 
-ghost use Rattle.std.specs.Prelude.{◌≡◌, ◌*◌, ◌<◌, ◌≤◌, map, length, IfOk, IfErr};
+ghost use Rattle.std.specs.Prelude.{◌≡◌, ◌*◌, ◌<◌, ◌≤◌, map, length, IfOk, IfErr, IfSome};
 ghost use Rattle.fl_interface.specs.Interface.{TheArgType, arg_type_of};
 ghost use Rattle.fl_value.specs.Plan.{rank_of};
 ghost use Rattle.fl_value.specs.Value.{datum_of};
@@ -9,7 +9,7 @@ ghost use Rattle.fl_wire.specs.Whole.{Whole, StopsWhole};
 
 use crate::leaf::{Stop, read_padding, read_zeros};
 use crate::types::is_dynamic;
-use crate::value::read_argument;
+use crate::value::{read_argument, read_scalar_argument};
 use fl_base::{FRAG_BYTES, Frag};
 use fl_interface::ArgType;
 use fl_layout::fragment_count;
@@ -72,9 +72,52 @@ fn ranks_of(plan: PlanNo) -> u8
     }
 }
 
+// Whether the last argument is of a fixed size. Where it isn't, not all are scalars: that is told before memory
+// is taken.
+#[inline(always)]
+fn ends_fixed(types: &[ArgType]) -> bool {
+    match types.last() {
+        Some(last) => !is_dynamic(last),
+        None => false,
+    }
+}
+
+/// The arguments of a call, and where the last one ends, if all are scalars that the plan keeps in declared
+/// order, and the bytes are a call's. Many calls are such, and want no blanks and no search for each rank.
+fn read_scalars(
+    alloc: Global,
+    frags: &[Frag],
+    plan: PlanNo,
+    types: &[ArgType],
+) -> Option<(Vec<Value>, usize)>
+    ensures within { IfSome result (λ r. r.1 ≤ 56 * length frags.now) }
+    ensures read { IfSome result (λ r.
+        ReadAt (calls_of plan (map arg_type_of types.now)) frags.now 0 (map datum_of r.0.items) r.1) }
+{
+    if !ends_fixed(types) {
+        return None;
+    }
+    let Ok(mut values) = Vec::with_capacity(alloc, types.len()) else {
+        return None;
+    };
+    let mut at = 0;
+    let mut least = 0;
+    for ty in types {
+        let Some((value, end, rank)) = read_scalar_argument(frags, at, plan, least, ty) else {
+            return None;
+        };
+        let Ok(()) = values.push(value) else {
+            return None;
+        };
+        at = end;
+        least = rank;
+    }
+    Some((values, at))
+}
+
 /// The arguments of a call, in declared order, and where the last one ends: the plan lays them out rank by
 /// rank.
-pub(crate) fn read_arguments(
+fn read_ranks(
     alloc: Global,
     frags: &[Frag],
     plan: PlanNo,
@@ -99,6 +142,25 @@ pub(crate) fn read_arguments(
         }
     }
     Ok((values, at))
+}
+
+/// The arguments of a call, in declared order, and where the last one ends.
+pub(crate) fn read_arguments(
+    alloc: Global,
+    frags: &[Frag],
+    plan: PlanNo,
+    types: &[ArgType],
+) -> Result<(Vec<Value>, usize), Stop>
+    ensures within { IfOk result (λ r. r.1 ≤ 56 * length frags.now) }
+    ensures read { IfOk result (λ r.
+        ReadAt (calls_of plan (map arg_type_of types.now)) frags.now 0 (map datum_of r.0.items) r.1) }
+    ensures stop { IfErr result (λ stop.
+        StopsAt stop (calls_of plan (map arg_type_of types.now)) frags.now 0) }
+{
+    match read_scalars(alloc, frags, plan, types) {
+        Some(read) => Ok(read),
+        None => read_ranks(alloc, frags, plan, types),
+    }
 }
 
 /// The arguments of a call and the number of its fragments: what follows the last argument in these is 0.

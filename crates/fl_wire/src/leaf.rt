@@ -53,6 +53,7 @@ pub(crate) fn byte_at(frags: &[Frag], p: usize) -> u8
 }
 
 /// Word `w` of some fragments' payloads; 0 past their end.
+#[inline(always)]
 pub(crate) fn word_at(frags: &[Frag], w: usize) -> u64
     ensures word { result ≡ word_in frags.now w }
 {
@@ -70,6 +71,7 @@ pub(crate) fn byte_of(word: u64, p: usize) -> u8
 }
 
 // The number of so many bytes at a multiple of their number, so that it stands in one word.
+#[inline(always)]
 fn number_at(frags: &[Frag], place: usize, width: usize) -> u64
     requires width { (width ≡ 1) ⊎ ((width ≡ 2) ⊎ ((width ≡ 4) ⊎ (width ≡ 8))) }
     requires aligned { place % width ≡ 0 }
@@ -108,6 +110,7 @@ fn past_zeros(frags: &[Frag], at: usize, end: usize) -> usize
 }
 
 /// Past bytes that are all 0; a stop at the first that isn't.
+#[inline(always)]
 pub(crate) fn read_zeros(frags: &[Frag], at: usize, end: usize) -> Result<(), Stop>
     ensures zeros { IfOk result (λ u. (p : ℕ) → at ≤ p → p < end → byte_in frags.now p ≡ 0) }
     ensures wrong { IfErr result (λ stop. (stop ≡ Padding) × FirstNonzero frags.now at end) }
@@ -120,7 +123,24 @@ pub(crate) fn read_zeros(frags: &[Frag], at: usize, end: usize) -> Result<(), St
     Ok(())
 }
 
+// The next multiple of an alignment. It is told which one, so that none is divided by, which takes long.
+#[inline(always)]
+fn next_multiple(at: usize, align: usize) -> usize
+    requires align { (align ≡ 1) ⊎ ((align ≡ 2) ⊎ ((align ≡ 4) ⊎ (align ≡ 8))) }
+    requires fits { at < 2 ^ 63 }
+    ensures same { result ≡ round_up at align }
+    ensures near { result < at + 8 }
+{
+    match align {
+        1 => at,
+        2 => at.next_multiple_of(2),
+        4 => at.next_multiple_of(4),
+        _ => at.next_multiple_of(8),
+    }
+}
+
 /// The next multiple of an alignment, past bytes that are all 0.
+#[inline(always)]
 fn skip(frags: &[Frag], at: usize, align: usize) -> Result<usize, Stop>
     requires align { (align ≡ 1) ⊎ ((align ≡ 2) ⊎ ((align ≡ 4) ⊎ (align ≡ 8))) }
     requires within { at ≤ 56 * length frags.now }
@@ -128,7 +148,7 @@ fn skip(frags: &[Frag], at: usize, align: usize) -> Result<usize, Stop>
     ensures zeros { IfOk result (λ place. (p : ℕ) → at ≤ p → p < place → byte_in frags.now p ≡ 0) }
     ensures wrong { IfErr result (λ stop. (stop ≡ Padding) × FirstNonzero frags.now at (round_up at align)) }
 {
-    let place = at.next_multiple_of(align);
+    let place = next_multiple(at, align);
     read_zeros(frags, at, place)?;
     Ok(place)
 }
@@ -147,6 +167,7 @@ pub(crate) fn read_padding(frags: &[Frag], at: usize, align: usize) -> Result<us
 }
 
 /// The next number of so many bytes, and where it ends.
+#[inline(always)]
 pub(crate) fn read_number(frags: &[Frag], at: usize, width: usize) -> Result<(u64, usize), Stop>
     requires width { (width ≡ 1) ⊎ ((width ≡ 2) ⊎ ((width ≡ 4) ⊎ (width ≡ 8))) }
     requires within { at ≤ 56 * length frags.now }

@@ -1,9 +1,11 @@
 //! Values from the bytes of fragments.
 
-ghost use Rattle.std.specs.Prelude.{◌≡◌, ◌+◌, ◌*◌, ◌<◌, ◌≤◌, map, length, IfOk, IfErr, ◌/◌, ◌%◌};
+ghost use Rattle.std.specs.Prelude.{◌≡◌, ◌+◌, ◌*◌, ◌/◌, ◌%◌, ◌<◌, ◌≤◌, map, length, false};
+ghost use Rattle.std.specs.Prelude.{IfOk, IfErr, IfSome};
 ghost use Rattle.fl_interface.specs.Interface.{scalar, enumeration, fixed, type_of, arg_type_of, fields_from};
 ghost use Rattle.fl_value.specs.Value.{number, string, elements, fields, datum_of, data_from};
 ghost use Rattle.fl_value.specs.Fits.{least_above, how_many_below};
+ghost use Rattle.fl_value.specs.Plan.{is_dynamic, rank_of};
 ghost use Rattle.fl_wire.specs.Standing.{signed_half, number_back, word_in};
 ghost use Rattle.fl_wire.specs.Shapes.{ReadAt, StopsAt, values_of, fields_of, elements_of, text_byte, texts_of, length_below, arguments_of};
 
@@ -11,10 +13,11 @@ use crate::leaf::{Stop, byte_of, read_number, read_padding, word_at};
 use crate::text::{are_text_bytes, bytes_from};
 use fl_base::{FRAG_BYTES, Frag};
 use fl_interface::{ArgType, FixedType, Scalar, greatest_alignment};
-use fl_value::Value;
+use fl_value::{PlanNo, Value};
 use std::alloc::Global;
 
 // Half of the numbers that a signed scalar has; 0 for scalars without a sign.
+#[inline(always)]
 fn half_of(kind: Scalar) -> u64
     ensures half { result ≡ signed_half (fixed (scalar kind)) }
 {
@@ -28,6 +31,7 @@ fn half_of(kind: Scalar) -> u64
 }
 
 // The number that has these bits.
+#[inline(always)]
 fn number_from(kind: Scalar, raw: u64) -> i128
     ensures number { result ≡ number_back (fixed (scalar kind)) raw }
 {
@@ -41,6 +45,7 @@ fn number_from(kind: Scalar, raw: u64) -> i128
 }
 
 // The greatest bits that a scalar has.
+#[inline(always)]
 fn greatest_bits(kind: Scalar) -> u64
     ensures bits { 1 + result ≡ least_above kind + how_many_below kind }
 {
@@ -54,6 +59,7 @@ fn greatest_bits(kind: Scalar) -> u64
 }
 
 // A number as a value.
+#[inline(always)]
 fn int_value(z: i128) -> Value
     ensures value { datum_of result ≡ number z }
 {
@@ -82,6 +88,7 @@ fn fields_value(values: Vec<Value>) -> Value
 }
 
 /// The next scalar, and where it ends.
+#[inline(always)]
 fn read_scalar(frags: &[Frag], at: usize, kind: Scalar) -> Result<(Value, usize), Stop>
     requires within { at ≤ 56 * length frags.now }
     ensures within { IfOk result (λ r. r.1 ≤ 56 * length frags.now) }
@@ -94,6 +101,65 @@ fn read_scalar(frags: &[Frag], at: usize, kind: Scalar) -> Result<(Value, usize)
         return Err(Stop::Value);
     }
     Ok((int_value(number_from(kind, raw)), end))
+}
+
+// As `read_scalar`. A number of eight bytes that may be any, at its place, is told before the others: then
+// nothing more is asked of it.
+#[inline(always)]
+fn read_told_scalar(frags: &[Frag], at: usize, kind: Scalar) -> Result<(Value, usize), Stop>
+    requires within { at ≤ 56 * length frags.now }
+    ensures within { IfOk result (λ r. r.1 ≤ 56 * length frags.now) }
+    ensures later { IfOk result (λ r. at ≤ r.1) }
+    ensures read { IfOk result (λ r. ReadAt (values_of (scalar kind)) frags.now at (datum_of r.0) r.1) }
+{
+    match kind {
+        Scalar::Uint64 if at % 8 == 0 => read_scalar(frags, at, Scalar::Uint64),
+        _ => read_scalar(frags, at, kind),
+    }
+}
+
+// The rank of a scalar argument; that of numbers of eight bytes is told first.
+#[inline(always)]
+fn rank_of_scalar(plan: PlanNo, ty: &ArgType, kind: Scalar) -> u8
+    requires kind { arg_type_of ty.now ≡ fixed (scalar kind) }
+    ensures rank { result ≡ rank_of plan (arg_type_of ty.now) }
+{
+    match kind {
+        Scalar::Uint64 => 0,
+        _ => plan.rank_of(ty),
+    }
+}
+
+/// The next argument, where it ends, and its rank, if it is a scalar of no rank below a least one, and all its
+/// bytes are there and right.
+#[inline(always)]
+pub(crate) fn read_scalar_argument(
+    frags: &[Frag],
+    at: usize,
+    plan: PlanNo,
+    least: u8,
+    ty: &ArgType,
+) -> Option<(Value, usize, u8)>
+    requires within { at ≤ 56 * length frags.now }
+    ensures within { IfSome result (λ r. r.1 ≤ 56 * length frags.now) }
+    ensures later { IfSome result (λ r. at ≤ r.1) }
+    ensures fixed { IfSome result (λ r. is_dynamic (arg_type_of ty.now) ≡ false) }
+    ensures read { IfSome result
+        (λ r. ReadAt (arguments_of (arg_type_of ty.now)) frags.now at (datum_of r.0) r.1) }
+    ensures rank { IfSome result (λ r. r.2 ≡ rank_of plan (arg_type_of ty.now)) }
+    ensures up { IfSome result (λ r. least ≤ r.2) }
+{
+    let ArgType::Fixed(FixedType::Scalar(kind)) = ty else {
+        return None;
+    };
+    let rank = rank_of_scalar(plan, ty, *kind);
+    if rank < least {
+        return None;
+    }
+    match read_told_scalar(frags, at, *kind) {
+        Ok((value, end)) => Some((value, end, rank)),
+        Err(_) => None,
+    }
 }
 
 /// The next enumerator of so many, and where it ends.

@@ -1,5 +1,5 @@
 //! Whole runs: words, a file and standard input in; standard output, standard error and a status out. What each command does
-//! by itself is tested in `world_tests` (`command`).
+//! by itself is tested in `program_tests` (`command`).
 
 use crate::run::run;
 use fl_command::{Fault, FileStore, finish};

@@ -1,5 +1,5 @@
-use Rattle.fl_lists.proofs.Tables.{apart_now}
+use Rattle.fl_lists.proofs.Sized.{apart_over, over_held}
 use Rattle.fl_lists.proofs.lists.Lists.size.Goals as goal
 
 pub returns-clause-apart : goal.returns-clause-apart
-returns-clause-apart c = apart_now c.self.inside.nodes.items c.args.self.now c.self.invariant c.self.view_is
+returns-clause-apart c = apart_over c.args.self.now (over_held _ _ _ _ _ c.self.invariant c.self.view_is)

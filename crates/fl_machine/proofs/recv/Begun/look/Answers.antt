@@ -12,10 +12,10 @@ take_words-requires-clause-stands c =
     (k.taken, x.bytes, kept_stands p.plan (interface_of p.compiled.value.plans.interface) parts c.args.self.now c.args.frag.now c.ops.result.now _ k x)
 
 pub take_words-requires-clause-count : goal.take_words-requires-clause-count
-take_words-requires-clause-count c = let (parts, k) = c.requires.kept in omega (arith, k.none)
+take_words-requires-clause-count c = let (parts, k) = c.requires.kept in omega (arith, k.none, c.told-numbers)
 
 pub take_words-requires-clause-room : goal.take_words-requires-clause-room
-take_words-requires-clause-room c = let (parts, k) = c.requires.kept in inr (omega (arith, k.none))
+take_words-requires-clause-room c = let (parts, k) = c.requires.kept in inr (omega (arith, k.none, c.told-numbers))
 
 pub overflow_add-self : goal.overflow_add-self
 overflow_add-self c =

@@ -8,7 +8,7 @@ use Rattle.fl_wire.specs.Shapes.{Shape, next_argument, calls_of}
 use Rattle.fl_wire.proofs.Steps.{Come, come_stop, come_read}
 use Rattle.fl_wire.proofs.Calls.{FitRead, rank_at, left_in, left_from, itself, come_same, none_fit, calls_start, into_rank, past_other, past_fit, past_rank, rank_fit, begins_next, next_fit, come_fits}
 use Rattle.fl_wire.proofs.Ranks.{ranks_read}
-use Rattle.fl_wire.proofs.call.read_arguments.Goals as goal
+use Rattle.fl_wire.proofs.call.read_ranks.Goals as goal
 
 pub loop-j-preserved-then-rank_of-rank : goal.loop-j-preserved-then-rank_of-rank
 loop-j-preserved-then-rank_of-rank c =

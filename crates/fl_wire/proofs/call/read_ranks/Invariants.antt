@@ -4,7 +4,7 @@ use Rattle.fl_value.specs.Value.{datum_of}
 use Rattle.fl_wire.specs.Shapes.{calls_of}
 use Rattle.fl_wire.proofs.Steps.{Come}
 use Rattle.fl_wire.proofs.Calls.{FitRead, left_in, left_from, itself}
-use Rattle.fl_wire.proofs.call.read_arguments.Given as goal
+use Rattle.fl_wire.proofs.call.read_ranks.Given as goal
 
 -- the ranks so far, and those that are left
 abbrev pub invariant-loop-rank : goal.invariant-loop-rank
