@@ -79,11 +79,17 @@ fn read_word(bytes: &[u8]) -> Option<(&[u8], &[u8])>
 
 /// The name and the values that a call's text spells: `name(v, v)`, where a value is a number, a
 /// text in quotes, `[v, v]` for an array or `{v, v}` for a struct. The name is lent by the bytes.
+/// The values stand in the memory of `room`, whose own values are dropped: the list of a call that
+/// was done, or a new one.
 ///
 /// # Errors
 ///
 /// `NotACall` where the bytes spell no call, and `Memory`.
-pub fn read_spoken(alloc: Global, bytes: &[u8]) -> Result<(&[u8], Vec<Value>), ValueFault>
+pub fn read_spoken(
+    alloc: Global,
+    bytes: &[u8],
+    room: Vec<Value>,
+) -> Result<(&[u8], Vec<Value>), ValueFault>
     ensures found { IfOk result (λ t. SpellsCall bytes.now t.0.now (map datum_of t.1.items)) }
     ensures fault { IfErr result (λ e. Refuses e ((name : List ℕ) (values : List Datum) → SpellsCall bytes.now name values → ⊥)) }
 {
@@ -93,7 +99,7 @@ pub fn read_spoken(alloc: Global, bytes: &[u8]) -> Result<(&[u8], Vec<Value>), V
     let Some(inside) = read_mark(after, b'(') else {
         return Err(ValueFault::NotACall);
     };
-    let (args, end) = read_values(alloc, inside, b')', MAX_DEPTH)?;
+    let (args, end) = read_values(alloc, inside, b')', MAX_DEPTH, room)?;
     if !skip_blanks(end).is_empty() {
         return Err(ValueFault::NotACall);
     }
@@ -109,7 +115,7 @@ pub fn read_call_text(alloc: Global, bytes: &[u8]) -> Result<CallText, ValueFaul
     ensures found { IfOk result (λ t. SpellsCall bytes.now t.name.bytes.items (map datum_of t.args.items)) }
     ensures fault { IfErr result (λ e. Refuses e ((name : List ℕ) (values : List Datum) → SpellsCall bytes.now name values → ⊥)) }
 {
-    let (name, args) = read_spoken(alloc, bytes)?;
+    let (name, args) = read_spoken(alloc, bytes, Vec::new(alloc))?;
     let bytes = Vec::from_slice(alloc, name)?;
     Ok(CallText {
         name: Word { bytes },

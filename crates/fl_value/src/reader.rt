@@ -104,11 +104,12 @@ fn read_nested(
     if depth == 0 {
         return Err(ValueFault::NotACall);
     }
-    let found = read_values(alloc, inside, closing, depth - 1)?;
+    let found = read_values(alloc, inside, closing, depth - 1, Vec::new(alloc))?;
     Ok(Some(found))
 }
 
-/// The values up to a closing mark, with a comma between any two, and what follows the mark.
+/// The values up to a closing mark, with a comma between any two, and what follows the mark. They stand in the memory of `room`,
+/// whose own values are dropped.
 #[cycle(values)]
 #[inline(always)]
 pub(crate) fn read_values(
@@ -116,6 +117,7 @@ pub(crate) fn read_values(
     bytes: &[u8],
     closing: u8,
     depth: u32,
+    room: Vec<Value>,
 ) -> Result<(Vec<Value>, &[u8]), ValueFault>
     requires closing { is_close closing ≡ true }
     ensures found { IfOk result (λ r. Listed closing (data_from (map datum_of r.0.items)) bytes.now r.1.now) }
@@ -123,7 +125,8 @@ pub(crate) fn read_values(
     ensures shorter { IfOk result (λ r. length r.1.now < length bytes.now) }
     ensures fault { IfErr result (λ e. Refuses e ((ds : Data) (rest : List ℕ) → greatest_depth ds ≤ depth → Listed closing ds bytes.now rest → ⊥)) }
 {
-    let mut values = Vec::new(alloc);
+    let mut values = room;
+    values.clear();
     if let Some(rest) = read_mark(bytes, closing) {
         return Ok((values, rest));
     }
