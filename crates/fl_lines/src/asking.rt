@@ -40,34 +40,39 @@ impl Names {
     }
 
     /// The call that a text spells, at the end of a name: the text is read first, then the end is looked up, then the
-    /// message.
+    /// message. Its arguments stand in the memory of `room`, whose own values are dropped.
     ///
     /// # Errors
     /// The text is none (E90), the name unknown (E92), or there is no such message (E41). Want of memory (E99).
     #[inline(always)]
-    pub fn call_at(&self, end: EndName<'_>, text: &[u8]) -> Result<(EndId, Call), LineFault>
+    pub fn call_at(
+        &self,
+        end: EndName<'_>,
+        text: &[u8],
+        room: Vec<Value>,
+    ) -> Result<(EndId, Call), LineFault>
         ensures tells { CallTells (names_of self.now) (end_name_of end.entry) text.now (told_as a_call result) }
     {
-        match read_spoken(self.alloc, text) {
+        match read_spoken(self.alloc, text, room) {
             Ok((name, args)) => self.spoken_call(end, name, args),
             Err(ValueFault::NotACall) => Err(LineFault::NotACall),
             Err(_) => Err(LineFault::Memory),
         }
     }
 
-    /// The call of a line, from what stands behind its first word.
+    /// The call of a line, from what stands behind its first word. `room` is as for [`Names::call_at`].
     ///
     /// # Errors
     /// It is no such line, or no call (E90); the name is unknown (E92); there is no such message (E41). Want of memory (E99).
     #[inline(always)]
-    pub fn call_line(&self, rest: &[u8]) -> Result<(EndId, Call), LineFault>
+    pub fn call_line(&self, rest: &[u8], room: Vec<Value>) -> Result<(EndId, Call), LineFault>
         ensures tells { LineTells (names_of self.now) (command_by Verb.Call rest.now) (told_as a_call result) }
     {
         let (word, behind) = next_word(rest);
         let Some(end) = end_name(word) else {
             return Err(LineFault::Unread);
         };
-        self.call_at(end, skip_blanks(behind))
+        self.call_at(end, skip_blanks(behind), room)
     }
 
     // The end of a line that has an end alone.

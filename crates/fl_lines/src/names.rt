@@ -310,7 +310,7 @@ impl Names {
         ensures asks { AsksAs (names_of self.now) (call (end_name_of end.entry) text.now) result }
         ensures new { IfOk result (λ a. IsNew (names_of self.now) a.naming) }
     {
-        match self.call_at(end, text) {
+        match self.call_at(end, text, Vec::new(self.alloc)) {
             Ok((end, call)) => self.asked(Event::Call(end, call)),
             Err(fault) => Err(fault),
         }

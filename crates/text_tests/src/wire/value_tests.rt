@@ -188,7 +188,7 @@ const REFUSED: &[Refused] = &[
 ];
 
 fn name_of(alloc: Global, text: &[u8]) -> Result<&[u8], ValueFault> {
-    let (name, _values) = read_spoken(alloc, text)?;
+    let (name, _values) = read_spoken(alloc, text, Vec::new(alloc))?;
     Ok(name)
 }
 

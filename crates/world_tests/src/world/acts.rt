@@ -149,7 +149,7 @@ fn back_end(joint: Joint) -> BackEnd<'static> {
 
 fn calling(alloc: Global, end: EndId, msg: u16, text: &[u8]) -> Result<Event<'static>, AllocError> {
     let msg = MsgNo(msg);
-    match read_spoken(alloc, text) {
+    match read_spoken(alloc, text, Vec::new(alloc)) {
         Ok((_name, args)) => Ok(Event::Call(end, Call { msg, args })),
         Err(_) => Err(AllocError),
     }
