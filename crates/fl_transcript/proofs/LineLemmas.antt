@@ -20,7 +20,7 @@ use Rattle.fl_lines.specs.Names.{Names}
 use Rattle.fl_lines.specs.Reading.{line_with}
 use Rattle.fl_lines.specs.Told.{names_of}
 use Rattle.fl_transcript.specs.declared.script.Script.{Script as RustScript}
-use Rattle.fl_transcript.specs.Shown.{Answered, Answers, AnswersBy, AnswersEvent}
+use Rattle.fl_transcript.specs.Shown.{IsAt, Answered, Answers, AnswersBy, AnswersEvent}
 use Rattle.fl_transcript.specs.Steps.{Steps}
 use Rattle.fl_transcript.specs.Transcript.{Script, line, Does, effect_of, writes_refusal}
 
@@ -95,6 +95,14 @@ line_stepped shows old new before after o event outcome result tells names steps
     line_asked shows old new before after o event result tells
     (asked_outcome shows old new before after (event_of event) outcome result names steps put none)
 
+-- a script whose names and system are those of before is where it was, whatever room it has
+same_place : {M : Type 0} (shows : M → State → Type 0) (old now : RustScript M) (s : Script) → names_of now.names ≡ names_of old.names
+    → now.machine ≡ old.machine → IsAt shows old s → IsAt shows now s
+same_place shows old now s names machine at = record {
+  names = names ∙ at.names;
+  shown = subst (λ m. shows m s.state) (sym machine) at.shown;
+}
+
 -- a line that asks nothing was refused
 pub line_refused : {M T E : Type 0} (shows : M → State → Type 0) (old new : RustScript M) (before after : List ℕ) (o : Option Command)
     (fault : LineFault) (result : Result T E) → LineTells (names_of old.names) o (Err fault)
@@ -104,3 +112,13 @@ line_refused shows old new before after o fault result tells ok memory =
     told_line shows old new before after o (Err fault) result tells
     (on_ok_weaker result (λ f. λ s at asked told. subst (λ (a : Asked). Answered shows new before after (effect_of s a)) told (f s at)) ok)
     (λ bad. memory (cc))
+
+-- the same where the room had been taken out before
+pub roomless_refused : {M T E : Type 0} (shows : M → State → Type 0) (old now new : RustScript M) (before after : List ℕ) (o : Option Command)
+    (fault : LineFault) (result : Result T E) → names_of now.names ≡ names_of old.names → now.machine ≡ old.machine
+    → LineTells (names_of old.names) o (Err fault)
+    → OnOk result (AnswersBy shows now new before after (λ s. writes_refusal s (number_of fault))) → (fault ≡ Memory → OnOk result ⊥)
+    → OnOk result (Answers shows old new before after (λ s. Does s (a_line (line_with o))))
+roomless_refused shows old now new before after o fault result names machine tells ok memory =
+    line_refused shows old new before after o fault result tells
+    (on_ok_weaker result (λ f. λ s at. f s (same_place shows old now s names machine at)) ok) memory

@@ -23,8 +23,9 @@ use fl_lines::{
     Answer, Asked, Command, LineFault, Names, Part, Verb, print_answer, print_fault, read_command,
 };
 use fl_text::{TextRead, read_text};
-use fl_value::PlanNo;
+use fl_value::{PlanNo, Value};
 use std::alloc::{AllocError, Global};
+use std::mem;
 
 /// A script's names, and the system on which it runs.
 #[derive(Drop)]
@@ -32,6 +33,8 @@ pub struct Script<M> {
     pub alloc: Global,
     pub names: Names,
     pub machine: M,
+    // The last call's arguments: their memory is that of the next one's.
+    room: Vec<Value>,
 }
 
 impl<M: QueueMachine> Script<M> {
@@ -46,6 +49,7 @@ impl<M: QueueMachine> Script<M> {
             alloc,
             names: Names::new(alloc),
             machine: M::new(alloc)?,
+            room: Vec::new(alloc),
         })
     }
 
@@ -192,9 +196,11 @@ impl<M: QueueMachine> Script<M> {
         ensures ok { OnOk result (Answers M.shows self.old self.new out.old.items out.new.items
             (λ s. Does s (a_line (line_with (command_by Verb.Call rest.now))))) }
     {
-        match self.names.call_line(rest) {
+        let room = mem::replace(&mut self.room, Vec::new(self.alloc));
+        match self.names.call_line(rest, room) {
             Ok((end, call)) => {
                 let outcome = self.machine.step_call(end, &call);
+                self.room = call.args;
                 self.put_outcome(&outcome, out)
             }
             Err(fault) => self.refuse_by(fault, out),
