@@ -15,8 +15,8 @@ returns-in-Ok g c =
           c.step_call-outcome.result c.put_outcome.result tells refl c.step_call-outcome.ensures.steps c.put_outcome.ensures.put c.put_outcome.ensures.none;
     }
 
-pub returns : goal.returns
-returns g c =
+pub returns-in-Err : goal.returns-in-Err
+returns-in-Err g c =
     let tells = rw c.in-Err.is at c.call_line.ensures.tells in
     record {
       ok =
