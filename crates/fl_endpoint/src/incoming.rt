@@ -25,10 +25,8 @@ pub(crate) fn most_fragments(plans: &Plans) -> usize
     ensures enough { HoldsParts plans.now.plan (interface_of plans.now.interface) result }
 {
     let mut most = 0;
-    for msg in 0..256_u16 {
-        if usize::from(msg) < plans.interface.messages.len() {
-            most = plans.greatest(MsgNo(msg)).max(most);
-        }
+    for msg in 0..plans.interface.messages.len() {
+        most = plans.greatest(MsgNo(msg as u16)).max(most);
     }
     fragment_count(most)
 }
