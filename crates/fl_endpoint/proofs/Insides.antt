@@ -1,8 +1,8 @@
 -- Ends by their fields: what a change of the calls that are to be sent makes of them.
-use Rattle.std.proofs.Common.{◌≡◌, ℕ, ◌+◌, ◌<◌, true, false, List, [], ◌∷◌, ◌++◌, length, Option, Some, None, refl, sym, ap, subst, ◌∙◌, arith, rules}
+use Rattle.std.proofs.Common.{◌≡◌, ℕ, ◌+◌, ◌<◌, ◌≤◌, true, false, List, [], ◌∷◌, ◌++◌, map, length, Option, Some, None, refl, sym, ap, subst, ◌∙◌, arith, rules}
 use Rattle.std.specs.Prelude.{IsSome, IfSome, slice_get, slice_set}
 use Rattle.std.specs.Option.{is_some, option_map}
-use Rattle.std.proofs.lemmas.List.{length-map}
+use Rattle.std.proofs.lemmas.List.{length-map, map-append}
 use Rattle.fl_base.specs.declared.fragment.Frag.{Frag}
 use Rattle.fl_interface.specs.Interface.{TheMessage, TheInterface}
 use Rattle.fl_value.specs.Value.{TheCall}
@@ -18,7 +18,7 @@ use Rattle.fl_endpoint.specs.declared.outgoing.Sending.{Sending}
 use Rattle.fl_endpoint.specs.declared.outgoing.Outgoing.{Outgoing}
 use Rattle.fl_endpoint.specs.declared.rules.Rules.{Rules}
 use Rattle.fl_endpoint.specs.declared.parts.Parts.TheInside.{Inside}
-use Rattle.fl_endpoint.specs.Stored.{queued_frags, sending_frags, outgoing_of, IsOwn, IsQueued, AreQueued, Queues, QueuesReply, IsInTransmission, IsOutgoing}
+use Rattle.fl_endpoint.specs.Stored.{queued_frags, sending_frags, count_in, outgoing_of, IsOwn, IsQueued, AreQueued, Queues, QueuesReply, IsInTransmission, IsOutgoing}
 use Rattle.fl_endpoint.specs.Inside.{circuit_of, program_in, end_of, IsEnd}
 use Rattle.fl_endpoint.proofs.Sounds.{has_room, sound_exchanged}
 
@@ -35,6 +35,56 @@ queued_more p (y ∷ ys) x h q = (h.0, queued_more p ys x h.1 q)
 pub length_more : {A : Type 0} (xs : List A) (x : A) → length (xs ++ x ∷ []) ≡ length xs + 1
 length_more [] x = refl
 length_more (y ∷ ys) x = let h = length_more ys x in omega (arith, h)
+
+-- with a reply, where there is one
+pub accepted_one : (p : TheProgram) (circuit : ℕ) (o after : TheOutgoing) (reply : Option Queued) (call : Queued) → reply ≡ Some call
+    → after ≡ queued o (queued_frags p circuit call) → after ≡ queued_if o (option_map (queued_frags p circuit) reply)
+accepted_one p circuit o after None call e h = absurd cc
+accepted_one p circuit o after (Some x) call e h = let same : call ≡ x = cc in h ∙ ap (λ (y : Queued). queued o (queued_frags p circuit y)) same
+
+pub accepted_none : (p : TheProgram) (circuit : ℕ) (o : TheOutgoing) (reply : Option Queued) → reply ≡ None → o ≡ queued_if o (option_map (queued_frags p circuit) reply)
+accepted_none p circuit o None e = refl
+accepted_none p circuit o (Some x) e = absurd cc
+
+-- one that waits more, or none more
+pub waits_more : (p : TheProgram) (before after : Outgoing) (call : Queued) → true ≡ is_some before.sending → IsOutgoing p before → IsQueued p call
+    → length before.waiting.items < 16 → after.sending ≡ before.sending → after.run ≡ before.run → after.waiting.items ≡ before.waiting.items ++ call ∷ [] → IsOutgoing p after
+waits_more p before after call busy is q few sending run items =
+    let long = ap length items ∙ length_more before.waiting.items call in
+    record {
+      now = subst (λ (o : Option Sending). IsInTransmission p o after.run after.waiting.items) (sym sending)
+          (subst (λ (r : Option TheSending). IsInTransmission p before.sending r after.waiting.items) (sym run)
+          (still_now p before.sending before.run before.waiting.items after.waiting.items busy is.now));
+      waiting = subst (λ (xs : List Queued). AreQueued p xs) (sym items) (queued_more p before.waiting.items call is.waiting q);
+      few = omega (arith, long, few);
+    }
+
+pub waits_as : (p : TheProgram) (before after : Outgoing) → IsOutgoing p before → after.sending ≡ before.sending → after.run ≡ before.run
+    → after.waiting.items ≡ before.waiting.items → IsOutgoing p after
+waits_as p before after is sending run items = record {
+  now = subst (λ (o : Option Sending). IsInTransmission p o after.run after.waiting.items) (sym sending)
+      (subst (λ (r : Option TheSending). IsInTransmission p before.sending r after.waiting.items) (sym run)
+      (subst (λ (xs : List Queued). IsInTransmission p before.sending before.run xs) (sym items) is.now));
+  waiting = subst (λ (xs : List Queued). AreQueued p xs) (sym items) is.waiting;
+  few = subst (λ (xs : List Queued). length xs ≤ 16) (sym items) is.few;
+}
+
+pub no_sending : (o : Option Sending) → false ≡ is_some o → o ≡ None
+no_sending None e = refl
+no_sending (Some s) e = absurd cc
+
+-- behind the call in transmission
+pub queued_waits : (p : TheProgram) (circuit : ℕ) (before : Outgoing) (items : List Queued) (call : Queued) → true ≡ is_some before.sending → items ≡ before.waiting.items ++ call ∷ []
+    → ◌≡◌ {A = TheOutgoing} (record { unwritten = sending_frags p before.sending before.run; count = count_in before.sending; waiting = map (queued_frags p circuit) items })
+    (queued (outgoing_of p circuit before) (queued_frags p circuit call))
+queued_waits p circuit before items call busy e = by before.sending busy
+  where
+    by : (o : Option Sending) → true ≡ is_some o
+        → ◌≡◌ {A = TheOutgoing} (record { unwritten = sending_frags p o before.run; count = count_in o; waiting = map (queued_frags p circuit) items })
+        (queued (record { unwritten = sending_frags p o before.run; count = count_in o; waiting = map (queued_frags p circuit) before.waiting.items }) (queued_frags p circuit call))
+    by None busy = absurd cc
+    by (Some s) busy = ap (λ (xs : List (List Frag)). record { unwritten = sending_frags p (Some s) before.run; count = s.count; waiting = xs })
+        (ap (map (queued_frags p circuit)) e ∙ map-append (queued_frags p circuit) before.waiting.items (call ∷ []))
 
 -- ---- ends
 
@@ -66,6 +116,20 @@ pub written_end : (e : Inside) (out : Outgoing) (rest : List Frag) (circuit : �
 written_end e out rest circuit bound is =
     end_with_outgoing e out circuit (wrote rest (outgoing_of (program_in e) circuit e.outgoing)) bound is
     ∙ ap (λ (k : ℕ). record (end_of e) { outgoing = wrote rest (outgoing_of (program_in e) k e.outgoing) }) (sym (number_is (circuit_of e.circuit) circuit bound))
+
+-- what is to be sent is as it was, and so is the end
+pub kept_end : (e : Inside) (out : Outgoing) (circuit : ℕ) → circuit_of e.circuit ≡ Some circuit
+    → outgoing_of (program_in e) circuit out ≡ outgoing_of (program_in e) circuit e.outgoing
+    → end_of (end_with e out) ≡ end_of e
+kept_end e out circuit bound is =
+    end_with_outgoing e out circuit (outgoing_of (program_in e) circuit e.outgoing) bound is
+    ∙ ap (λ (k : ℕ). record (end_of e) { outgoing = outgoing_of (program_in e) k e.outgoing }) (sym (number_is (circuit_of e.circuit) circuit bound))
+
+pub kept_is_end : (e : Inside) (out : Outgoing) → IsOutgoing (program_in e) out → end_of (end_with e out) ≡ end_of e → Sound (end_of e) → IsEnd (end_with e out)
+kept_is_end e out outgoing view sound = record {
+  outgoing = outgoing;
+  sound = subst (λ (s : TheEnd). Sound s) (sym view) sound;
+}
 
 -- ---- calls handled
 
@@ -102,6 +166,11 @@ handled_is_end e out c outgoing view sound = record {
 pub busy_sending : (p : TheProgram) (o : Option Sending) (run : Option TheSending) (f : Frag) (rest : List Frag) → sending_frags p o run ≡ f ∷ rest → IsSome o
 busy_sending p None run f rest e = absurd cc
 busy_sending p (Some s) run f rest e = refl
+
+-- none where nothing is to be written
+pub none_sending : (p : TheProgram) (o : Option Sending) (run : Option TheSending) → sending_frags p o run ≡ [] → o ≡ None
+none_sending p None run e = refl
+none_sending p (Some s) run e = absurd cc
 
 -- the next fragment, if there is one, is carried unchanged
 pub next_own : (p : TheProgram) (o : Option Sending) (run : Option TheSending) (xs : List Queued) → IsInTransmission p o run xs → IfSome (slice_get (sending_frags p o run) 0) IsOwn

@@ -1,7 +1,6 @@
 -- A working file, on which no public promise rests by itself: what an end stores of the calls that it sends, and the fragments
 -- that this stands for.
 use Rattle.std.specs.Prelude.{◌≡◌, ℕ, ◌+◌, ◌≤◌, true, false, IsSome, List, [], ◌∷◌, map, length, slice_get, Option, Some, None}
-use Rattle.std.specs.VecDeque.{deque_capacity}
 use Rattle.fl_base.specs.declared.fragment.Frag.{Frag}
 use Rattle.fl_base.specs.Control.{is_ack_only, bare}
 use Rattle.fl_interface.specs.Interface.{TheMessage}
@@ -114,4 +113,3 @@ pub record IsOutgoing (program : TheProgram) (out : Outgoing) : Type 0 where
   pub now : IsInTransmission program out.sending out.run out.waiting.items
   pub waiting : AreQueued program out.waiting.items
   pub few : length out.waiting.items ≤ 16
-  pub room : 16 ≤ deque_capacity out.waiting

@@ -45,8 +45,8 @@ impl Model for End {
 }
 
 impl End {
-    /// An end that is bound to a circuit; 0 off links that circuits share. All the memory that a write ever needs is
-    /// taken here.
+    /// An end that is bound to a circuit; 0 off links that circuits share. It has no memory for replies that wait: what
+    /// a reply takes it takes with the receive that it answers, so that a write never needs any.
     ///
     /// # Errors
     /// Out of memory (E99).

@@ -1,8 +1,7 @@
 //! What an end is to send: the call in transmission, and the replies that wait.
 
-ghost use Rattle.std.specs.Prelude.{◌≡◌, ◌+◌, ◌<◌, ◌≤◌, ◌++◌, ◌∷◌, [], ℕ, List, true, false, length, map, slice_get, Some, None, IsSome, IfOk, IfSome};
+ghost use Rattle.std.specs.Prelude.{◌≡◌, ◌+◌, ◌<◌, ◌≤◌, ◌∷◌, [], ℕ, List, true, false, length, map, slice_get, Some, None, IsSome, IfOk, IfSome, OnOk, OnErr};
 ghost use Rattle.std.specs.Option.{option_map};
-ghost use Rattle.std.specs.VecDeque.{deque_capacity};
 ghost use Rattle.fl_base.specs.declared.fragment.Frag.{Frag};
 ghost use Rattle.fl_value.specs.Value.{call_of};
 ghost use Rattle.fl_value.specs.Fits.{fits_of};
@@ -118,17 +117,16 @@ impl Sending {
 }
 
 impl Outgoing {
-    // Nothing to send, with room for the replies that may wait.
-    pub(crate) fn new(alloc: Global) -> Result<Outgoing, AllocError>
-        ensures room { IfOk result (λ out. (p : TheProgram) → IsOutgoing p out) }
-        ensures nothing { IfOk result (λ out. (p : TheProgram) (circuit : ℕ) → outgoing_of p circuit out ≡ nothing_to_send) }
+    // Nothing to send. Takes no memory.
+    pub(crate) fn new(alloc: Global) -> Outgoing
+        ensures in_order { (p : TheProgram) → IsOutgoing p result }
+        ensures nothing { (p : TheProgram) (circuit : ℕ) → outgoing_of p circuit result ≡ nothing_to_send }
     {
-        let waiting = VecDeque::with_capacity(alloc, MOST_WAITING)?;
-        Ok(Outgoing {
+        Outgoing {
             sending: None,
             run: None,
-            waiting,
-        })
+            waiting: VecDeque::new(alloc),
+        }
     }
 
     // Whether a call is in transmission.
@@ -225,9 +223,9 @@ impl Outgoing {
         None
     }
 
-    // One call more to be sent. One that is of one fragment, and in transmission now, gives back its tape. Takes no memory.
+    // A call in transmission, where none is. One of one fragment gives back its tape. Takes no memory.
     #[inline(always)]
-    pub(crate) fn queue(
+    pub(crate) fn begin(
         &mut self,
         program: &Program,
         circuit: Circuit,
@@ -235,29 +233,57 @@ impl Outgoing {
     ) -> Option<Vec<u64>>
         requires outgoing { IsOutgoing (program_of program.now) self.old }
         requires call { IsQueued (program_of program.now) call }
-        requires room { length self.old.waiting.items < 16 }
+        requires idle { self.old.sending ≡ None }
         ensures outgoing { IsOutgoing (program_of program.now) self.new }
         ensures queued { outgoing_of (program_of program.now) circuit.0 self.new
             ≡ queued (outgoing_of (program_of program.now) circuit.0 self.old) (queued_frags (program_of program.now) circuit.0 call) }
     {
-        if self.sending.is_some() {
-            self.waiting.push_back(call).unwrap();
-            return None;
-        }
         self.start(program, circuit, call)
     }
 
-    // The reply, if there is one. Takes no memory.
-    pub(crate) fn accept(&mut self, program: &Program, circuit: Circuit, reply: Option<Queued>)
+    // One call more to be sent. Takes memory where it has to wait; what is to be sent is as it was where that is refused.
+    fn queue(
+        &mut self,
+        program: &Program,
+        circuit: Circuit,
+        call: Queued,
+    ) -> Result<(), AllocError>
+        requires outgoing { IsOutgoing (program_of program.now) self.old }
+        requires call { IsQueued (program_of program.now) call }
+        requires few { length self.old.waiting.items < 16 }
+        ensures outgoing { IsOutgoing (program_of program.now) self.new }
+        ensures queued { OnOk result (outgoing_of (program_of program.now) circuit.0 self.new
+            ≡ queued (outgoing_of (program_of program.now) circuit.0 self.old) (queued_frags (program_of program.now) circuit.0 call)) }
+        ensures kept { OnErr result (outgoing_of (program_of program.now) circuit.0 self.new ≡ outgoing_of (program_of program.now) circuit.0 self.old) }
+    {
+        if self.sending.is_some() {
+            let Ok(()) = self.waiting.push_back(call) else {
+                return Err(AllocError);
+            };
+            return Ok(());
+        }
+        let _tape = self.begin(program, circuit, call);
+        Ok(())
+    }
+
+    // The reply, if there is one. Takes memory where it has to wait; what is to be sent is as it was where that is refused.
+    pub(crate) fn accept(
+        &mut self,
+        program: &Program,
+        circuit: Circuit,
+        reply: Option<Queued>,
+    ) -> Result<(), AllocError>
         requires outgoing { IsOutgoing (program_of program.now) self.old }
         requires call { IfSome reply (λ call. IsQueued (program_of program.now) call) }
-        requires room { IfSome reply (λ call. length self.old.waiting.items < 16) }
+        requires few { IfSome reply (λ call. length self.old.waiting.items < 16) }
         ensures outgoing { IsOutgoing (program_of program.now) self.new }
-        ensures accepted { outgoing_of (program_of program.now) circuit.0 self.new
-            ≡ queued_if (outgoing_of (program_of program.now) circuit.0 self.old) (option_map (queued_frags (program_of program.now) circuit.0) reply) }
+        ensures accepted { OnOk result (outgoing_of (program_of program.now) circuit.0 self.new
+            ≡ queued_if (outgoing_of (program_of program.now) circuit.0 self.old) (option_map (queued_frags (program_of program.now) circuit.0) reply)) }
+        ensures kept { OnErr result (outgoing_of (program_of program.now) circuit.0 self.new ≡ outgoing_of (program_of program.now) circuit.0 self.old) }
     {
-        if let Some(call) = reply {
-            let _tape = self.queue(program, circuit, call);
+        match reply {
+            Some(call) => self.queue(program, circuit, call),
+            None => Ok(()),
         }
     }
 
@@ -266,7 +292,6 @@ impl Outgoing {
         requires idle { self.old.run ≡ None }
         requires waiting { AreQueued (program_of program.now) self.old.waiting.items }
         requires few { length self.old.waiting.items ≤ 16 }
-        requires room { 16 ≤ deque_capacity self.old.waiting }
         ensures outgoing { IsOutgoing (program_of program.now) self.new }
         ensures goes_on { outgoing_of (program_of program.now) circuit.0 self.new
             ≡ goes_on (map (queued_frags (program_of program.now) circuit.0) self.old.waiting.items) }

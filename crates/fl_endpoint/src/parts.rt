@@ -75,7 +75,7 @@ impl Parts {
         ensures sound { IfOk result (λ e. Sound e) }
     {
         let rules = Rules::new(alloc, program.interface().messages.len())?;
-        let outgoing = Outgoing::new(alloc)?;
+        let outgoing = Outgoing::new(alloc);
         Ok(Parts {
             alloc,
             program,
@@ -224,7 +224,7 @@ impl Parts {
         let Ok(queued) = Queued::of(tape, &self.program, call) else {
             return Err(EndFault::Memory);
         };
-        if let Some(tape) = self.outgoing.queue(&self.program, circuit, queued) {
+        if let Some(tape) = self.outgoing.begin(&self.program, circuit, queued) {
             *spare = tape;
         }
         Ok(())
@@ -274,7 +274,9 @@ impl Parts {
         match reply_by_rule(self.alloc, &self.program, &self.rules, &mut call) {
             Err(_) => Err(EndFault::Memory),
             Ok(reply) => {
-                self.outgoing.accept(&self.program, circuit, reply);
+                let Ok(()) = self.outgoing.accept(&self.program, circuit, reply) else {
+                    return Err(EndFault::Memory);
+                };
                 Ok(ReceiveAnswer::Handle(call))
             }
         }

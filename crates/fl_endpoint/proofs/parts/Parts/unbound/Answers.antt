@@ -30,13 +30,13 @@ returns-clause-sound c =
     let many : c.len.result ≡ length (program_of c.args.program).interface.messages
     = long ∙ sym (length-map c.interface.result.now.messages.items message_of) ∙ ap (λ (j : TheInterface). length j.messages) same in
     subst (λ (s : TheEnd). Sound s)
-    (sym (new_end c.args.program (rules_of c.in_ok-rules.rules.replies.items) (outgoing_of (program_of c.args.program) 0 c.in_ok-outgoing.outgoing)
+    (sym (new_end c.args.program (rules_of c.in_ok-rules.rules.replies.items) (outgoing_of (program_of c.args.program) 0 c.new-outgoing.result)
     (c.in_ok-rules.ensures.none ∙ ap (λ (n : ℕ). replicate n None) many)
-    (c.in_ok-outgoing.ensures.nothing (program_of c.args.program) 0)))
+    (c.new-outgoing.ensures.nothing (program_of c.args.program) 0)))
     (sound_fresh c.args.program within words)
 
 pub invariant_of-result : goal.invariant_of-result
 invariant_of-result c = record {
-  outgoing = c.in_ok-outgoing.ensures.room (program_of c.args.program);
+  outgoing = c.new-outgoing.ensures.in_order (program_of c.args.program);
   sound = returns-clause-sound c;
 }
