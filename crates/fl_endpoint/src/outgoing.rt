@@ -242,12 +242,7 @@ impl Outgoing {
     }
 
     // One call more to be sent. Takes memory where it has to wait; what is to be sent is as it was where that is refused.
-    fn queue(
-        &mut self,
-        program: &Program,
-        circuit: Circuit,
-        call: Queued,
-    ) -> Result<(), AllocError>
+    fn queue(&mut self, program: &Program, circuit: Circuit, call: Queued) -> Result<(), AllocError>
         requires outgoing { IsOutgoing (program_of program.now) self.old }
         requires call { IsQueued (program_of program.now) call }
         requires few { length self.old.waiting.items < 16 }

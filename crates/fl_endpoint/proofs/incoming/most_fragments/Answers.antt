@@ -22,12 +22,12 @@ fewer few many fragments less is = omega (arith, less, is)
 pub loop-msg-preserved : goal.loop-msg-preserved
 loop-msg-preserved c = λ k d small of.
     ⊎_elim
-        (λ (before : k < c.loop-msg.msg). let less = c.loop-msg.invariant k d before of in omega (arith, less, c.max-most.ensures))
-        (λ (here : c.loop-msg.msg ≤ k).
-        let same : k ≡ c.loop-msg.msg = omega (arith, here, small) in
-        let less = c.greatest.ensures.greatest.bounds d (record { fits = of.fits; names = of.names ∙ same }) in
-        omega (arith, less, c.max-most.ensures))
-        (cases_lt k c.loop-msg.msg)
+    (λ (before : k < c.loop-msg.msg). let less = c.loop-msg.invariant k d before of in omega (arith, less, c.max-most.ensures))
+    (λ (here : c.loop-msg.msg ≤ k).
+    let same : k ≡ c.loop-msg.msg = omega (arith, here, small) in
+    let less = c.greatest.ensures.greatest.bounds d (record { fits = of.fits; names = of.names ∙ same }) in
+    omega (arith, less, c.max-most.ensures))
+    (cases_lt k c.loop-msg.msg)
 
 pub returns : goal.returns
 returns c = record {
