@@ -1,6 +1,6 @@
 -- The arguments of a call, read in declared order where the plan keeps it.
-use Rattle.std.proofs.Common.{◌≡◌, ℕ, ◌+◌, ◌*◌, ◌<◌, ◌≤◌, ◌&&◌, Bool, true, false, List, [], ◌∷◌, ◌++◌, length, drop, get_or, refl, sym, ◌∙◌, ap, subst, arith, append_assoc}
-use Rattle.std.specs.Prelude.{◌||◌}
+use Rattle.std.proofs.Common.{◌≡◌, ℕ, ◌+◌, ◌*◌, ◌<◌, ◌≤◌, ◌&&◌, ◌/◌, ◌%◌, ◌^◌, pos, inr, Bool, true, false, List, [], ◌∷◌, ◌++◌, length, drop, get_or, refl, sym, ◌∙◌, ap, subst, arith, append_assoc}
+use Rattle.std.specs.Prelude.{◌||◌, slice_get, slice_index}
 use Rattle.std.specs.List.{zip, list_all}
 use Rattle.std.specs.Cmp.{first_so, second_so}
 use Rattle.std.proofs.lemmas.List.{append-nil, drop_more, drop_all}
@@ -8,7 +8,8 @@ use Rattle.std.proofs.lemmas.Bool.{le-leb, false≢true}
 use Rattle.fl_base.specs.declared.fragment.Frag.{Frag}
 use Rattle.fl_interface.specs.declared.interface.Scalar.TheVariants.{Uint64}
 use Rattle.fl_interface.specs.Interface.{TheArgType, fixed, scalar}
-use Rattle.fl_value.specs.Value.{Datum}
+use Rattle.fl_interface.specs.Sizes.{round_up}
+use Rattle.fl_value.specs.Value.{Datum, number}
 use Rattle.fl_value.specs.Fits.{is_argument, are_arguments}
 use Rattle.fl_value.specs.Plan.{is_dynamic, rank_of, rising, never_falls, of_ranks}
 use Rattle.fl_value.specs.declared.value.PlanNo.{PlanNo}
@@ -18,7 +19,12 @@ use Rattle.fl_layout.specs.Leaves.{kind, Leaf, gap, Argument, argument_onto, arg
 use Rattle.fl_layout.specs.Places.{place}
 use Rattle.fl_wire.specs.Alive.{argument_has_values}
 use Rattle.fl_wire.specs.Covered.{holds, is_length}
-use Rattle.fl_wire.specs.Shapes.{Shape, next_argument, arguments_of, calls_of, ReadAt}
+use Rattle.fl_wire.specs.Shapes.{Shape, nothing, next_argument, arguments_of, values_of, calls_of, number_below, ReadAt}
+use Rattle.fl_wire.specs.Standing.{byte_in, word_in, words_in}
+use Rattle.fl_wire.proofs.Numbers.{from_low}
+use Rattle.fl_wire.proofs.OneWord.{eight_in}
+use Rattle.fl_wire.proofs.Sites.{number_got}
+use Rattle.fl_wire.proofs.Parts.{scalar_numbers, scalar_join, begins_scalar, whole_read}
 use Rattle.fl_wire.proofs.Agreement.{over_arguments}
 use Rattle.fl_wire.proofs.Arguments.{arranged_ranks}
 use Rattle.fl_wire.proofs.Steps.{Begins, Come, come_self, come_read, come_join, come_done}
@@ -46,9 +52,44 @@ pub rises_on : (plan : PlanNo) (least : ℕ) (t : TheArgType) (ts : List TheArgT
 rises_on One least t ts up = refl
 rises_on Two least t ts up = rw (le-leb least (rank_of Two t) up) refl
 
+-- the same from a list's place on
+pub up_on : (plan : PlanNo) (ts : List TheArgType) (i least rank : ℕ) (t : TheArgType) → i < length ts → t ≡ get_or ts i t → least ≤ rank → rank ≡ rank_of plan t
+    → never_falls plan ts ≡ rises plan least (drop i ts) → never_falls plan ts ≡ rises plan rank (drop (i + 1) ts)
+up_on plan ts i least rank t small here up is so =
+    let rest = drop (i + 1) ts in
+    let more : drop i ts ≡ t ∷ rest = drop_more ts i t small ∙ ap (λ (u : TheArgType). u ∷ rest) (sym here) in
+    let high : least ≤ rank_of plan t = omega (arith, up, is) in
+    so ∙ ap (rises plan least) more ∙ rises_on plan least t rest high ∙ ap (λ (n : ℕ). rises plan n rest) (sym is)
+
 rises_end : (plan : PlanNo) (least : ℕ) → rises plan least [] ≡ true
 rises_end One least = refl
 rises_end Two least = refl
+
+-- ---- numbers of eight bytes, a word each
+
+-- a place that is a multiple of 8 has no zeros before it
+even_up : (at : ℕ) → at % 8 ≡ 0 → round_up at 8 ≡ at
+even_up at even = omega (arith, even)
+
+pub word_read : (frags : List Frag) (f w raw : ℕ) → w < 7 → raw < 2 ^ 64 → raw ≡ slice_index (words_in (slice_get frags f)) w
+    → ReadAt (number_below 8 (2 ^ (8 * 8))) frags (56 * f + 8 * w) raw (56 * f + 8 * w + 8)
+word_read frags f w raw inside small is = λ low here agree.
+    let at = 56 * f + 8 * w in
+    let even : at % 8 ≡ 0 = omega arith in
+    let frag : at / 8 / 7 ≡ f = omega (arith, inside) in
+    let word : at / 8 % 7 ≡ w = omega (arith, inside) in
+    let there : raw ≡ word_in frags (at / 8)
+    = is ∙ ap (λ (n : ℕ). slice_index (words_in (slice_get frags n)) w) (sym frag) ∙ ap (λ (n : ℕ). slice_index (words_in (slice_get frags (at / 8 / 7))) n) (sym word) in
+    let same = even_up at even in
+    number_got 8 (inr (inr (inr refl))) frags low at raw (at + 8) here agree
+    (λ p after before. absurd (omega (arith, after, before, same)))
+    (there ∙ eight_in frags at even (subst (λ (n : ℕ). n < 2 ^ 64) there small) ∙ ap (λ (n : ℕ). from_low 8 (λ j. byte_in frags (n + j))) (sym same))
+    (ap (λ (n : ℕ). n + 8) (sym same))
+
+pub wide_read : (frags : List Frag) (f at raw : ℕ) → f < length frags → at + 8 ≤ 56 * f + 56 → ReadAt (number_below 8 (2 ^ (8 * 8))) frags at raw (at + 8)
+    → ReadAt (arguments_of (fixed (scalar Uint64))) frags at (number (pos raw)) (at + 8)
+wide_read frags f at raw there within read =
+    whole_read (values_of (scalar Uint64)) (number_below 8 (scalar_numbers Uint64)) frags at (at + 8) (scalar_join Uint64) raw (begins_scalar Uint64) (omega arith) (omega (arith, there, within)) read
 
 -- ---- arguments in declared order
 
@@ -105,6 +146,16 @@ order_on ts i t frags at end xs all d small here short come later within read is
     = come_read (in_order ts false) (in_order (t ∷ rest) false) (next_argument false t) (λ b. in_order rest (is_dynamic t)) frags 0 at end (behind xs) (λ b ds. b ∷ ds) d come' (begins_order t rest false) later within read in
     come_join (in_order ts false) (in_order rest false) frags 0 end (λ ds. behind xs (d ∷ ds)) (behind all) (λ ds. sym (ap (λ (ys : List Datum). ys ++ ds) is ∙ append_assoc xs (d ∷ []) ds))
     (subst (λ (b : Bool). Come (in_order ts false) (in_order rest b) frags 0 end (λ ds. behind xs (d ∷ ds))) short next)
+
+-- one more, a number of eight bytes that is word w of fragment f
+pub wide_on : (ts : List TheArgType) (i : ℕ) (t : TheArgType) (frags : List Frag) (f w at end : ℕ) (xs all : List Datum) (d : Datum) → i < length ts → t ≡ get_or ts i t → t ≡ fixed (scalar Uint64)
+    → Come (in_order ts false) (in_order (drop i ts) false) frags 0 at (behind xs) → 56 * f + 8 * w ≡ at → end ≡ at + 8 → f < length frags → w < 7
+    → ReadAt (arguments_of (fixed (scalar Uint64))) frags (56 * f + 8 * w) d (56 * f + 8 * w + 8) → all ≡ xs ++ d ∷ [] → Come (in_order ts false) (in_order (drop (i + 1) ts) false) frags 0 end (behind all)
+wide_on ts i t frags f w at end xs all d small here wide come place ends there inside read is =
+    let moved : ReadAt (arguments_of (fixed (scalar Uint64))) frags at d (at + 8) = subst (λ (n : ℕ). ReadAt (arguments_of (fixed (scalar Uint64))) frags n d (n + 8)) place read in
+    let ended : ReadAt (arguments_of (fixed (scalar Uint64))) frags at d end = subst (λ (n : ℕ). ReadAt (arguments_of (fixed (scalar Uint64))) frags at d n) (sym ends) moved in
+    order_on ts i t frags at end xs all d small here (ap is_dynamic wide) come (omega (arith, ends)) (omega (arith, ends, place, there, inside))
+    (subst (λ (u : TheArgType). ReadAt (arguments_of u) frags at d end) (sym wide) ended) is
 
 none_read : (frags : List Frag) (at : ℕ) → ReadAt (in_order [] false) frags at [] at
 none_read frags at low here agree = record {

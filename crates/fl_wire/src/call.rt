@@ -1,6 +1,6 @@
 //! The arguments of a call from the bytes of its fragments.
 
-ghost use Rattle.std.specs.Prelude.{◌≡◌, ◌*◌, ◌<◌, ◌≤◌, map, length, IfOk, IfErr, IfSome};
+ghost use Rattle.std.specs.Prelude.{◌≡◌, ◌+◌, ◌*◌, ◌^◌, ◌<◌, ◌≤◌, map, length, IfOk, IfErr, IfSome};
 ghost use Rattle.fl_interface.specs.Interface.{TheArgType, arg_type_of};
 ghost use Rattle.fl_value.specs.Plan.{rank_of};
 ghost use Rattle.fl_value.specs.Value.{datum_of};
@@ -9,7 +9,7 @@ ghost use Rattle.fl_wire.specs.Whole.{Whole, StopsWhole};
 
 use crate::leaf::{Stop, read_padding, read_zeros};
 use crate::types::is_dynamic;
-use crate::value::{read_argument, read_scalar_argument};
+use crate::value::{is_wide, read_argument, read_scalar_argument, read_wide};
 use fl_base::{FRAG_BYTES, Frag};
 use fl_interface::ArgType;
 use fl_layout::fragment_count;
@@ -82,6 +82,21 @@ fn ends_fixed(types: &[ArgType]) -> bool {
     }
 }
 
+// The word after one: of the same fragment, or the first of the next.
+#[inline(always)]
+fn word_after(frag: usize, word: usize) -> (usize, usize)
+    requires inside { word < 7 }
+    requires few { frag < 2 ^ 63 }
+    ensures inside { result.1 < 7 }
+    ensures place { 56 * result.0 + 8 * result.1 ≡ 56 * frag + 8 * word + 8 }
+{
+    if word == 6 {
+        (frag + 1, 0)
+    } else {
+        (frag, word + 1)
+    }
+}
+
 /// The arguments of a call, and where the last one ends, if all are scalars that the plan keeps in declared
 /// order, and the bytes are a call's. Many calls are such, and want no blanks and no search for each rank.
 fn read_scalars(
@@ -100,17 +115,25 @@ fn read_scalars(
     let Ok(mut values) = Vec::with_capacity(alloc, types.len()) else {
         return None;
     };
-    let mut at = 0;
-    let mut least = 0;
+    let (mut at, mut least) = (0, 0);
+    let (mut frag, mut word) = (0, 0);
     for ty in types {
-        let Some((value, end, rank)) = read_scalar_argument(frags, at, plan, least, ty) else {
-            return None;
-        };
-        let Ok(()) = values.push(value) else {
-            return None;
-        };
-        at = end;
-        least = rank;
+        if least == 0 && at % 8 == 0 && is_wide(ty) {
+            if frag >= frags.len() {
+                return None;
+            }
+            let value = read_wide(frags, frag, word);
+            values.push_reserved(value);
+            let after = word_after(frag, word);
+            (at, frag, word) = (at + 8, after.0, after.1);
+        } else {
+            let Some((value, end, rank)) = read_scalar_argument(frags, at, plan, least, ty) else {
+                return None;
+            };
+            values.push_reserved(value);
+            (at, least) = (end, rank);
+            (frag, word) = (end / FRAG_BYTES, end / 8 % 7);
+        }
     }
     Some((values, at))
 }

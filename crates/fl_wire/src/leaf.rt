@@ -1,10 +1,10 @@
 //! One leaf of a payload from the bytes of fragments, and the zeros before it.
 
-ghost use Rattle.std.specs.Prelude.{◌≡◌, ℕ, ◌+◌, ◌-◌, ◌*◌, ◌/◌, ◌%◌, ◌^◌, ◌<◌, ◌≤◌, ◌⊎◌, nat_lt, map, length, if◌then◌else◌, IfOk, IfErr};
+ghost use Rattle.std.specs.Prelude.{◌≡◌, ℕ, ◌+◌, ◌-◌, ◌*◌, ◌/◌, ◌%◌, ◌^◌, ◌<◌, ◌≤◌, ◌⊎◌, nat_lt, map, length, if◌then◌else◌, IfOk, IfErr, slice_get, slice_index};
 ghost use Rattle.std.specs.List.{range_with_len};
 ghost use Rattle.std.specs.Int.{from_le_bytes, w64, byte_at};
 ghost use Rattle.fl_interface.specs.Sizes.{round_up};
-ghost use Rattle.fl_wire.specs.Standing.{FirstNonzero, byte_in, word_in};
+ghost use Rattle.fl_wire.specs.Standing.{FirstNonzero, byte_in, word_in, words_in};
 ghost use Rattle.fl_wire.specs.Shapes.{StopsNumber, padding, number_below, ReadAt, StopsAt};
 ghost use Rattle.fl_wire.specs.declared.leaf.Stop.TheVariants.{Padding, Memory};
 
@@ -59,6 +59,18 @@ pub(crate) fn word_at(frags: &[Frag], w: usize) -> u64
 {
     match frags.get(w / 7) {
         Some(frag) => frag.words[w % 7],
+        None => 0,
+    }
+}
+
+// A word of a fragment; 0 where the fragment isn't there.
+#[inline(always)]
+fn word_of(frags: &[Frag], frag: usize, word: usize) -> u64
+    requires inside { word < 7 }
+    ensures word { result ≡ slice_index (words_in (slice_get frags.now frag)) word }
+{
+    match frags.get(frag) {
+        Some(it) => it.words[word],
         None => 0,
     }
 }
@@ -182,4 +194,13 @@ pub(crate) fn read_number(frags: &[Frag], at: usize, width: usize) -> Result<(u6
         return Err(Stop::Short);
     }
     Ok((number_at(frags, place, width), end))
+}
+
+/// The number that is a word of a fragment; 0 where the fragment isn't there.
+#[inline(always)]
+pub(crate) fn read_word(frags: &[Frag], frag: usize, word: usize) -> u64
+    requires inside { word < 7 }
+    ensures read { ReadAt (number_below 8 (2 ^ (8 * 8))) frags.now (56 * frag + 8 * word) result (56 * frag + 8 * word + 8) }
+{
+    word_of(frags, frag, word)
 }

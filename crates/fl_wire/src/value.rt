@@ -1,15 +1,16 @@
 //! Values from the bytes of fragments.
 
-ghost use Rattle.std.specs.Prelude.{◌≡◌, ◌+◌, ◌*◌, ◌/◌, ◌%◌, ◌<◌, ◌≤◌, map, length, false};
+ghost use Rattle.std.specs.Prelude.{◌≡◌, ◌+◌, ◌*◌, ◌/◌, ◌%◌, ◌<◌, ◌≤◌, map, length, true, false};
 ghost use Rattle.std.specs.Prelude.{IfOk, IfErr, IfSome};
 ghost use Rattle.fl_interface.specs.Interface.{scalar, enumeration, fixed, type_of, arg_type_of, fields_from};
 ghost use Rattle.fl_value.specs.Value.{number, string, elements, fields, datum_of, data_from};
 ghost use Rattle.fl_value.specs.Fits.{least_above, how_many_below};
 ghost use Rattle.fl_value.specs.Plan.{is_dynamic, rank_of};
 ghost use Rattle.fl_wire.specs.Standing.{signed_half, number_back, word_in};
+ghost use Rattle.fl_interface.specs.declared.interface.Scalar.TheVariants.{Uint64};
 ghost use Rattle.fl_wire.specs.Shapes.{ReadAt, StopsAt, values_of, fields_of, elements_of, text_byte, texts_of, length_below, arguments_of};
 
-use crate::leaf::{Stop, byte_of, read_number, read_padding, word_at};
+use crate::leaf::{Stop, byte_of, read_number, read_padding, read_word, word_at};
 use crate::text::{are_text_bytes, bytes_from};
 use fl_base::{FRAG_BYTES, Frag};
 use fl_interface::{ArgType, FixedType, Scalar, greatest_alignment};
@@ -160,6 +161,23 @@ pub(crate) fn read_scalar_argument(
         Ok((value, end)) => Some((value, end, rank)),
         Err(_) => None,
     }
+}
+
+/// Whether arguments of a type are numbers of eight bytes that may be any.
+#[inline(always)]
+pub(crate) fn is_wide(ty: &ArgType) -> bool
+    ensures wide { result ≡ true → arg_type_of ty.now ≡ fixed (scalar Uint64) }
+{
+    matches!(ty, ArgType::Fixed(FixedType::Scalar(Scalar::Uint64)))
+}
+
+/// The argument of such a type that is a word of a fragment; 0 where the fragment isn't there.
+#[inline(always)]
+pub(crate) fn read_wide(frags: &[Frag], frag: usize, word: usize) -> Value
+    requires inside { word < 7 }
+    ensures read { frag < length frags.now → ReadAt (arguments_of (fixed (scalar Uint64))) frags.now (56 * frag + 8 * word) (datum_of result) (56 * frag + 8 * word + 8) }
+{
+    int_value(i128::from(read_word(frags, frag, word)))
 }
 
 /// The next enumerator of so many, and where it ends.
