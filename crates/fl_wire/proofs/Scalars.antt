@@ -19,7 +19,7 @@ use Rattle.fl_layout.specs.Leaves.{kind, Leaf, gap, Argument, argument_onto, arg
 use Rattle.fl_layout.specs.Places.{place}
 use Rattle.fl_wire.specs.Alive.{argument_has_values}
 use Rattle.fl_wire.specs.Covered.{holds, is_length}
-use Rattle.fl_wire.specs.Shapes.{Shape, nothing, next_argument, arguments_of, values_of, calls_of, number_below, ReadAt}
+use Rattle.fl_wire.specs.Shapes.{Shape, next_argument, arguments_of, values_of, calls_of, number_below, ReadAt}
 use Rattle.fl_wire.specs.Standing.{byte_in, word_in, words_in}
 use Rattle.fl_wire.proofs.Numbers.{from_low}
 use Rattle.fl_wire.proofs.OneWord.{eight_in}

@@ -1,7 +1,7 @@
-use Rattle.std.proofs.Common.{◌≡◌, ◌+◌, ◌*◌, ◌%◌, ◌<◌, ◌≤◌, ℕ, ◌∷◌, List, map, length, drop, get_or, arith, refl, sym, subst, ap, ◌∙◌, false}
+use Rattle.std.proofs.Common.{◌≡◌, ◌<◌, map, length, get_or, arith, refl, sym, ap, ◌∙◌}
 use Rattle.std.proofs.lemmas.List.{length-map, get_or-map}
 use Rattle.fl_interface.specs.declared.interface.Scalar.TheVariants.{Uint64}
-use Rattle.fl_interface.specs.Interface.{TheArgType, arg_type_of, fixed, scalar}
+use Rattle.fl_interface.specs.Interface.{arg_type_of, fixed, scalar}
 use Rattle.fl_value.specs.Value.{datum_of}
 use Rattle.fl_value.specs.Plan.{rank_of}
 use Rattle.fl_wire.proofs.Parts.{pushed}

@@ -1,4 +1,4 @@
-use Rattle.std.proofs.Common.{◌≡◌, ◌+◌, ◌*◌, ◌<◌, pos, arith, rules, subst, sym, length}
+use Rattle.std.proofs.Common.{◌≡◌, ◌+◌, ◌*◌, pos, arith, rules, subst, sym}
 use Rattle.fl_interface.specs.declared.interface.Scalar.TheVariants.{Uint64}
 use Rattle.fl_interface.specs.Interface.{fixed, scalar}
 use Rattle.fl_value.specs.Value.{Datum, number, datum_of}
