@@ -1,6 +1,7 @@
 //! One leaf of a payload from the bytes of fragments, and the zeros before it.
 
-ghost use Rattle.std.specs.Prelude.{◌≡◌, ℕ, ◌+◌, ◌-◌, ◌*◌, ◌/◌, ◌%◌, ◌^◌, ◌<◌, ◌≤◌, ◌⊎◌, nat_lt, map, length, if◌then◌else◌, IfOk, IfErr, slice_get, slice_index};
+ghost use Rattle.std.specs.Prelude.{◌≡◌, ℕ, ◌+◌, ◌-◌, ◌*◌, ◌/◌, ◌%◌, ◌^◌, ◌<◌, ◌≤◌, ◌⊎◌, nat_lt, map, length, if◌then◌else◌, IfOk, IfErr};
+ghost use Rattle.std.specs.Prelude.{slice_get, slice_index};
 ghost use Rattle.std.specs.List.{range_with_len};
 ghost use Rattle.std.specs.Int.{from_le_bytes, w64, byte_at};
 ghost use Rattle.fl_interface.specs.Sizes.{round_up};

@@ -175,7 +175,8 @@ pub(crate) fn is_wide(ty: &ArgType) -> bool
 #[inline(always)]
 pub(crate) fn read_wide(frags: &[Frag], frag: usize, word: usize) -> Value
     requires inside { word < 7 }
-    ensures read { frag < length frags.now → ReadAt (arguments_of (fixed (scalar Uint64))) frags.now (56 * frag + 8 * word) (datum_of result) (56 * frag + 8 * word + 8) }
+    ensures read { frag < length frags.now
+        → ReadAt (arguments_of (fixed (scalar Uint64))) frags.now (56 * frag + 8 * word) (datum_of result) (56 * frag + 8 * word + 8) }
 {
     int_value(i128::from(read_word(frags, frag, word)))
 }
