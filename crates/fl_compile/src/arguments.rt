@@ -15,7 +15,7 @@ use fl_stub::{Column, Op};
 use std::alloc::{AllocError, Global};
 
 /// Where the next argument of a message would stand.
-#[derive(Clone, Copy, Debug, PartialEq, Eq)]
+#[derive(Clone, Copy)]
 pub(crate) enum Standing {
     /// So many bytes after the payload's start, or after the last `Align`.
     At(u32),

@@ -15,7 +15,7 @@ use fl_worlds::Parts;
 use std::alloc::Global;
 
 /// What is asked for, and the cores of both ends.
-#[derive(Clone, Copy, Debug, PartialEq, Eq)]
+#[derive(Clone, Copy)]
 pub(crate) struct Asked {
     pub(crate) client: usize,
     pub(crate) server: usize,
@@ -23,7 +23,7 @@ pub(crate) struct Asked {
 }
 
 // The service that is wished for.
-#[derive(Clone, Copy, Debug, PartialEq, Eq)]
+#[derive(Clone, Copy)]
 struct Found {
     core: CoreId,
     iref: IRef,

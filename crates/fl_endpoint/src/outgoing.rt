@@ -21,7 +21,7 @@ use std::collections::VecDeque;
 pub(crate) const MOST_WAITING: usize = 16;
 
 /// A call that is to be sent, as its tape, with the number of its fragments.
-#[derive(Debug, Drop)]
+#[derive(Drop)]
 pub(crate) struct Queued {
     pub(crate) tape: Vec<u64>,
     pub(crate) count: usize,
@@ -29,7 +29,7 @@ pub(crate) struct Queued {
 }
 
 /// The call in transmission: the fragment that is written next, and how many of the call's fragments were written.
-#[derive(Clone, Copy, Debug, PartialEq, Eq)]
+#[derive(Clone, Copy)]
 pub(crate) struct Sending {
     next: Frag,
     written: usize,

@@ -18,7 +18,7 @@ const CAP: u32 = 65536;
 
 /// The size and alignment of a type in bytes, how deep structs and arrays nest in it, and how many arrays stand
 /// on one path through it.
-#[derive(Clone, Copy, Debug)]
+#[derive(Clone, Copy)]
 pub(crate) struct Measured {
     pub size: u32,
     pub align: u32,
@@ -27,7 +27,7 @@ pub(crate) struct Measured {
 }
 
 /// Where the arguments so far may end, and the alignment that is due there.
-#[derive(Clone, Copy, Debug)]
+#[derive(Clone, Copy)]
 pub(crate) struct Extent {
     pub end: u32,
     pub due: u32,

@@ -4,7 +4,7 @@ ghost use Rattle.std.specs.Prelude.{◌≡◌};
 ghost use Rattle.fl_layout.specs.Extents.{is_varying, unit_of};
 
 /// An argument's extent in a payload and on a tape.
-#[derive(Clone, Copy, Debug, PartialEq, Eq)]
+#[derive(Clone, Copy, Debug)]
 pub(crate) enum Extent {
     /// So many bytes, at a multiple of an alignment, with so many numbers.
     Fixed {
@@ -48,14 +48,14 @@ impl Extent {
 }
 
 /// An argument, by its number among those of its message, and its extent.
-#[derive(Clone, Copy, Debug, PartialEq, Eq)]
+#[derive(Clone, Copy, Debug)]
 pub(crate) struct Placed {
     pub argument: u32,
     pub extent: Extent,
 }
 
 /// How far strings and sized arrays are filled.
-#[derive(Clone, Copy, Debug, PartialEq, Eq)]
+#[derive(Clone, Copy)]
 pub(crate) enum Fill {
     Empty,
     Full,

@@ -29,7 +29,7 @@ pub enum Fed {
 }
 
 /// Bytes that are one number, or zeros.
-#[derive(Clone, Copy, Debug, PartialEq, Eq)]
+#[derive(Clone, Copy)]
 pub(crate) struct Field {
     mark: Mark,
     // How many bytes.

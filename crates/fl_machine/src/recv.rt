@@ -27,7 +27,7 @@ use std::marker::Model;
 use std::mem;
 
 /// A call of which so many fragments were fed, or which is to begin.
-#[derive(Clone, Copy, Debug, PartialEq, Eq)]
+#[derive(Clone, Copy)]
 pub(crate) struct Begun {
     msg: MsgNo,
     fed: usize,
@@ -35,14 +35,14 @@ pub(crate) struct Begun {
 }
 
 /// A call that is whole: its tape is the first so many numbers.
-#[derive(Clone, Copy, Debug, PartialEq, Eq)]
+#[derive(Clone, Copy)]
 pub(crate) struct Ended {
     msg: MsgNo,
     count: usize,
 }
 
 /// What the last fragment fed left.
-#[derive(Clone, Copy, Debug, PartialEq, Eq)]
+#[derive(Clone, Copy)]
 pub(crate) enum Stand {
     /// No fragment was fed yet.
     Between,
@@ -53,7 +53,7 @@ pub(crate) enum Stand {
 }
 
 /// What stood before the last accepted feed.
-#[derive(Clone, Copy, Debug, PartialEq, Eq)]
+#[derive(Clone, Copy)]
 pub(crate) struct Before {
     stand: Stand,
     // Whether that feed began a call: then the stand's numbers are on the spare tape.

@@ -22,7 +22,7 @@ pub struct Here {
 }
 
 /// Where an opening goes from here.
-#[derive(Clone, Copy, Debug, PartialEq, Eq)]
+#[derive(Clone, Copy)]
 pub(crate) enum Fate {
     /// On over a link, under a number there.
     GoesOn(LinkId, Circuit),

@@ -21,7 +21,7 @@ use fl_hop::{Circuits, Hop, HopFault, Way};
 use fl_nameserv::Names;
 
 /// What is to be said, and on which link.
-#[derive(Clone, Copy, Debug, PartialEq, Eq)]
+#[derive(Clone, Copy)]
 pub(crate) struct Saying {
     pub(crate) link: LinkId,
     pub(crate) message: Message,

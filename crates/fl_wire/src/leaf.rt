@@ -13,7 +13,7 @@ use fl_base::{FRAG_BYTES, Frag};
 use std::alloc::{AllocError, AllocFailed};
 
 /// Why the reading of a call stops before the call's end.
-#[derive(Clone, Copy, Debug, PartialEq, Eq, Drop)]
+#[derive(Clone, Copy, Drop)]
 pub(crate) enum Stop {
     /// The fragments end first.
     Short,
