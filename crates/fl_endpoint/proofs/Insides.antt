@@ -1,7 +1,8 @@
 -- Ends by their fields: what a change of the calls that are to be sent makes of them.
 use Rattle.std.proofs.Common.{◌≡◌, ℕ, ◌+◌, ◌<◌, ◌≤◌, true, false, List, [], ◌∷◌, ◌++◌, map, length, Option, Some, None, refl, sym, ap, subst, ◌∙◌, arith, rules}
-use Rattle.std.specs.Prelude.{IsSome, IfSome, slice_get, slice_set}
+use Rattle.std.specs.Prelude.{Result, OnOk, IsSome, IfSome, slice_get, slice_set}
 use Rattle.std.specs.Option.{is_some, option_map}
+use Rattle.std.proofs.lemmas.Result.{on_ok_weaker}
 use Rattle.std.proofs.lemmas.List.{length-map, map-append}
 use Rattle.fl_base.specs.declared.fragment.Frag.{Frag}
 use Rattle.fl_interface.specs.Interface.{TheMessage, TheInterface}
@@ -41,6 +42,10 @@ pub accepted_one : (p : TheProgram) (circuit : ℕ) (o after : TheOutgoing) (rep
     → after ≡ queued o (queued_frags p circuit call) → after ≡ queued_if o (option_map (queued_frags p circuit) reply)
 accepted_one p circuit o after None call e h = absurd cc
 accepted_one p circuit o after (Some x) call e h = let same : call ≡ x = cc in h ∙ ap (λ (y : Queued). queued o (queued_frags p circuit y)) same
+
+pub accepted_on_ok : {E : Type 0} (r : Result (Unit {0}) E) (p : TheProgram) (circuit : ℕ) (o after : TheOutgoing) (reply : Option Queued) (call : Queued) → reply ≡ Some call
+    → OnOk r (after ≡ queued o (queued_frags p circuit call)) → OnOk r (after ≡ queued_if o (option_map (queued_frags p circuit) reply))
+accepted_on_ok r p circuit o after reply call e h = on_ok_weaker r (accepted_one p circuit o after reply call e) h
 
 pub accepted_none : (p : TheProgram) (circuit : ℕ) (o : TheOutgoing) (reply : Option Queued) → reply ≡ None → o ≡ queued_if o (option_map (queued_frags p circuit) reply)
 accepted_none p circuit o None e = refl

@@ -262,6 +262,7 @@ impl Outgoing {
     }
 
     // The reply, if there is one. Takes memory where it has to wait; what is to be sent is as it was where that is refused.
+    #[tactic(auto, using(crate::proofs::Insides::accepted_on_ok))]
     pub(crate) fn accept(
         &mut self,
         program: &Program,
