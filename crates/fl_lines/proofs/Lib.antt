@@ -6,6 +6,7 @@ mod PrintLemmas
 mod TableLemmas
 pub mod AskedLemmas
 mod LineEnds
+mod Feeds
 pub mod ItemLemmas
 mod LineLemmas
 mod Alone

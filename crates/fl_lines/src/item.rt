@@ -1,6 +1,7 @@
 //! A script's lines and items: a line outside blocks, a whole `idl` block, or one that the script's end leaves open.
 
 ghost use Rattle.std.specs.Prelude.{◌≡◌, ◌++◌, ◌∷◌, [], ◌<◌, List, length, true, false, IfSome, MatchOption};
+ghost use Rattle.memchr.specs.Find.{IsFirstByte, is_byte};
 ghost use Rattle.fl_value.specs.declared.value.PlanNo.{PlanNo as Plan};
 ghost use Rattle.fl_lines.specs.Items.{Item as TheItem, lines_of, WithoutEnd, EndsBlock, ItemsOf};
 ghost use Rattle.fl_lines.specs.Items.{BlockOf, a_line, a_block, open_block};
@@ -11,6 +12,7 @@ use crate::command::{Line, Opening, Verb};
 use crate::reader::{open_line, read_command};
 use fl_value::PlanNo;
 use memchr::memchr;
+use std::simd::prelude::*;
 
 /// One item of a script.
 #[derive(Clone, Copy)]
@@ -36,6 +38,23 @@ pub enum Part<'a> {
     OpenBlock,
 }
 
+// The place of the first line feed of a text. Most lines are short: their first bytes are looked at together, without a call.
+#[inline(always)]
+fn line_feed(bytes: &[u8]) -> Option<usize>
+    ensures first { IsFirstByte (is_byte 10) bytes.now result }
+{
+    if bytes.len() < 32 {
+        return memchr(b'\n', bytes);
+    }
+    let feeds = u8x32::from_slice(bytes)
+        .simd_eq(u8x32::splat(b'\n'))
+        .to_bitmask();
+    if feeds == 0 {
+        return memchr(b'\n', bytes);
+    }
+    Some(feeds.trailing_zeros() as usize)
+}
+
 // The first line of a text, with its line end, and what stands behind it.
 #[inline(always)]
 fn next_line(bytes: &[u8]) -> (&[u8], &[u8])
@@ -44,7 +63,7 @@ fn next_line(bytes: &[u8]) -> (&[u8], &[u8])
     ensures whole { bytes.now ≡ result.0.now ++ result.1.now }
     ensures some { 0 < length result.0.now }
 {
-    match memchr(b'\n', bytes) {
+    match line_feed(bytes) {
         Some(at) => bytes.split_at(at + 1),
         None => bytes.split_at(bytes.len()),
     }
