@@ -77,13 +77,13 @@ impl Names {
 
     // The end of a line that has an end alone.
     #[inline(always)]
-    fn end_line(&self, rest: &[u8]) -> Result<EndId, LineFault>
+    fn end_line(&self, rest: &[u8], guess: usize) -> Result<EndId, LineFault>
         ensures tells { TellsEnd (names_of self.now) rest.now result }
     {
         let Some(name) = one_end(rest) else {
             return Err(LineFault::Unread);
         };
-        let Some(end) = self.end(name) else {
+        let Some(end) = self.end_near(name, guess) else {
             return Err(LineFault::Name);
         };
         Ok(end)
@@ -97,7 +97,7 @@ impl Names {
     pub fn show_line(&self, rest: &[u8]) -> Result<EndId, LineFault>
         ensures tells { LineTells (names_of self.now) (command_by Verb.Show rest.now) (told_as a_show result) }
     {
-        self.end_line(rest)
+        self.end_line(rest, 0)
     }
 
     /// The same of a `write`.
@@ -105,10 +105,10 @@ impl Names {
     /// # Errors
     /// It is no such line (E90), or the name is unknown (E92).
     #[inline(always)]
-    pub fn write_line(&self, rest: &[u8]) -> Result<EndId, LineFault>
+    pub fn write_line(&self, rest: &[u8], guess: usize) -> Result<EndId, LineFault>
         ensures tells { LineTells (names_of self.now) (command_by Verb.Write rest.now) (told_as a_write result) }
     {
-        self.end_line(rest)
+        self.end_line(rest, guess)
     }
 
     /// The same of an `ack`.
@@ -119,7 +119,7 @@ impl Names {
     pub fn ack_line(&self, rest: &[u8]) -> Result<EndId, LineFault>
         ensures tells { LineTells (names_of self.now) (command_by Verb.Ack rest.now) (told_as an_ack result) }
     {
-        self.end_line(rest)
+        self.end_line(rest, 0)
     }
 
     /// The dispatcher of a `turn`.

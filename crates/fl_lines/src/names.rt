@@ -81,6 +81,18 @@ impl Names {
         })
     }
 
+    /// The end of a name, whose binding's place is guessed.
+    #[inline]
+    pub fn end_near(&self, name: EndName<'_>, guess: usize) -> Option<EndId>
+        ensures same { result ≡ end_at (names_of self.now) (end_name_of name.entry) }
+    {
+        let binding = self.bindings.find_near(name.binding, guess)?;
+        Some(EndId {
+            binding,
+            side: name.side,
+        })
+    }
+
     // The names of the messages of an end's interface.
     fn messages(&self, end: EndId) -> Option<&NameTable>
         ensures same { messages_at (names_of self.now) end ≡ unwrap_or (option_map (λ t. table_of t.now) result) [] }

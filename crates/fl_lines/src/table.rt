@@ -82,6 +82,23 @@ impl NameTable {
         self.find_by_map(name)
     }
 
+    /// The place of a name, looked for at a guess first: scripts say a name several times in a row.
+    #[inline]
+    pub fn find_near(&self, name: &[u8], guess: usize) -> Option<usize>
+        ensures place { result ≡ place_of name.now (table_of self.now) }
+    {
+        let names = self.set.as_slice();
+        if names.len() <= FEW {
+            return place_among(names, name);
+        }
+        if let Some(guessed) = names.get(guess) {
+            if is_same(name, guessed) {
+                return Some(guess);
+            }
+        }
+        self.find_by_map(name)
+    }
+
     /// The name at a place.
     #[inline]
     pub fn get(&self, place: usize) -> Option<&[u8]>

@@ -35,6 +35,8 @@ pub struct Script<M> {
     pub machine: M,
     // The last call's arguments: their memory is that of the next one's.
     room: Vec<Value>,
+    // The binding of the last call: most writes are of the same.
+    last: usize,
 }
 
 impl<M: QueueMachine> Script<M> {
@@ -50,6 +52,7 @@ impl<M: QueueMachine> Script<M> {
             names: Names::new(alloc),
             machine: M::new(alloc)?,
             room: Vec::new(alloc),
+            last: 0,
         })
     }
 
@@ -201,6 +204,7 @@ impl<M: QueueMachine> Script<M> {
             Ok((end, call)) => {
                 let outcome = self.machine.step_call(end, &call);
                 self.room = call.args;
+                self.last = end.binding;
                 self.put_outcome(&outcome, out)
             }
             Err(fault) => self.refuse_by(fault, out),
@@ -212,7 +216,7 @@ impl<M: QueueMachine> Script<M> {
         ensures ok { OnOk result (Answers M.shows self.old self.new out.old.items out.new.items
             (λ s. Does s (a_line (line_with (command_by Verb.Write rest.now))))) }
     {
-        match self.names.write_line(rest) {
+        match self.names.write_line(rest, self.last) {
             Ok(end) => {
                 let outcome = self.machine.step_write(end);
                 self.put_outcome(&outcome, out)
