@@ -1,6 +1,7 @@
 //! A binding within a core is made, with its two queues.
 
-ghost use Rattle.std.specs.Prelude.{◌≡◌, ◌<◌, ◌≤◌, ◌+◌, ◌++◌, [], ◌∷◌, length, IfOk, OnOk, OnErr, vec_len, vec_capacity};
+ghost use Rattle.std.specs.Prelude.{◌≡◌, ◌<◌, ◌≤◌, ◌+◌, ◌++◌, [], ◌∷◌, length, false, IfOk, OnOk, OnErr, vec_len, vec_capacity};
+ghost use Rattle.fl_link.specs.Queue.{MayHave};
 ghost use Rattle.fl_worlds.specs.Binding.{new_queue};
 ghost use Rattle.fl_acts.specs.Parts.{InCore};
 ghost use Rattle.fl_acts.specs.Queued.{IsOnQueue, Lists, ListsBoth, MayJoin, JoinsIn, MayJoinAt, JoinsAt};
@@ -10,11 +11,12 @@ use fl_link::QueueLink;
 use fl_node::{BothEnds, Core, Joining};
 use std::alloc::{AllocError, Global};
 
-/// A queue of so many slots, with nothing in it.
+/// A queue of 1 to 1,024 slots, with nothing in it.
 ///
 /// # Errors
 /// Want of memory.
 pub fn new_queue(alloc: Global, slots: u32) -> Result<QueueLink, AllocError>
+    requires sized { MayHave false slots }
     ensures fresh { IfOk result (λ q. q ≡ new_queue slots) }
 {
     match QueueLink::local(alloc, slots as usize) {

@@ -1,5 +1,5 @@
 -- Lists of names that are asked by a map.
-use Rattle.std.proofs.Common.{◌≡◌, ◌<◌, ◌≤◌, ℕ, ◌+◌, Bool, true, false, cond, not, ◌||◌, if◌then◌else◌, List, [], ◌∷◌, ◌++◌, length, map, position, Option, Some, None, option_map, get_or, slice_get, take, refl, sym, ap, ◌∙◌, arith, suc, zero}
+use Rattle.std.proofs.Common.{true≢false, ◌≡◌, ◌<◌, ◌≤◌, ℕ, ◌+◌, Bool, true, false, cond, not, ◌||◌, if◌then◌else◌, List, [], ◌∷◌, ◌++◌, length, map, position, Option, Some, None, option_map, get_or, slice_get, take, refl, sym, ap, ◌∙◌, arith, suc, zero}
 use Rattle.std.specs.Cmp.{first_so, second_so}
 use Rattle.std.proofs.lemmas.Option.{slice_get-map, get_or_from_slice_get, slice_get_within}
 use Rattle.fl_interface.specs.Limits.{are_distinct, are_messages_within, is_within_limits}
@@ -7,10 +7,13 @@ use Rattle.fl_interface.specs.Interface.{TheMessage, TheInterface, message_of}
 use Rattle.fl_interface.specs.declared.interface.Message.{Message}
 use Rattle.fl_interface.specs.Limits.{is_among}
 use Rattle.std.specs.Prelude.{nat_lt, nat_le, ◌&&◌}
-use Rattle.std.specs.List.{list_any, position_or_len}
+use Rattle.std.specs.List.{IsDistinct, list_any, position_or_len}
 use Rattle.std.specs.Str.{bytes_eq}
 use Rattle.std.specs.Global.{Vec}
 use Rattle.std.proofs.lemmas.Bool.Decides.{nat_tests}
+use Rattle.std.proofs.lemmas.Slice.Eq.{bytes_eq-Decides}
+use Rattle.std.proofs.lemmas.Map.Keys.{IsDistinct-head, IsDistinct-tail}
+use Rattle.std.proofs.lemmas.List.Elements.{All-from_recursion}
 use Rattle.std.proofs.lemmas.List.{map_push}
 use Rattle.fl_lines.specs.Names.{place_of}
 
@@ -66,6 +69,42 @@ name_added q ks ks2 n none same put =
     let new = none_any (is_it n.items) ks (none_past (is_it n.items) ks absent) in
     ap (map items_of) (put_new (list_any (is_it n.items) ks) ks ks2 n new put)
     ∙ (map_push items_of ks n ∙ ap (λ (t : List ℕ). map items_of ks ++ t ∷ []) same)
+
+-- ---- a guessed place
+
+abbrev same_items : Vec ℕ → Vec ℕ → Bool
+same_items k l = bytes_eq k.items l.items
+
+not_same : (x q : List ℕ) → bytes_eq x q ≡ false → bytes_eq q x ≡ false
+not_same x q e = by_turned (bytes_eq q x) refl
+  where
+    by_turned : (b : Bool) → bytes_eq q x ≡ b → b ≡ false
+    by_turned false t = refl
+    by_turned true t = absurd (true≢false (sym ((bytes_eq-Decides x q).1 (sym ((bytes_eq-Decides q x).0 t))) ∙ e))
+
+-- where no two keys are the same, the first one that is a key at a place is there
+first_is_there : (q : List ℕ) (ks : List (Vec ℕ)) (k : ℕ) (key : Vec ℕ) → IsDistinct same_items ks → slice_get ks k ≡ Some key → q ≡ key.items
+    → position_or_len (is_it q) ks ≡ k
+first_is_there q [] k key d at e = absurd (omega (arith, slice_get_within [] k key at))
+first_is_there q (x ∷ ks) zero key d at e =
+    let one : q ≡ x.items = cc in
+    let same = (bytes_eq-Decides q x.items).1 one in rw same refl
+first_is_there q (x ∷ ks) (suc k) key d at e =
+    let within = slice_get_within ks k key at in
+    let there : get_or ks k key ≡ key = get_or_from_slice_get ks k key key at in
+    let apart : bytes_eq x.items key.items ≡ false = ap (λ (y : Vec ℕ). bytes_eq x.items y.items) (sym there) ∙ All-from_recursion (λ (y : Vec ℕ). bytes_eq x.items y.items ≡ false) ks (IsDistinct-head same_items x ks d) k key within in
+    let other : bytes_eq q x.items ≡ false = ap (λ (t : List ℕ). bytes_eq t x.items) e ∙ not_same x.items key.items apart in
+    let rest = first_is_there q ks k key (IsDistinct-tail same_items x ks d) at e in
+    rw (other, rest) (omega arith)
+
+-- a name that stands at its guessed place is found there
+pub place_guessed : (q : List ℕ) (ks : List (Vec ℕ)) (k : ℕ) (key : Vec ℕ) → IsDistinct same_items ks → slice_get ks k ≡ Some key
+    → bytes_eq q key.items ≡ true → Some k ≡ place_of q (map items_of ks)
+unfolding found_at
+place_guessed q ks k key d at same =
+    let there = first_is_there q ks k key d at ((bytes_eq-Decides q key.items).0 same) in
+    let below : nat_lt k (length ks) ≡ true = let w = slice_get_within ks k key at in grind (arith, nat_tests, w) in
+    sym (ap (λ n. found_at n (length ks)) there ∙ rw below refl) ∙ place_found q ks
 
 -- ---- names that all differ
 

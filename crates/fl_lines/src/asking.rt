@@ -75,7 +75,7 @@ impl Names {
         self.call_at(end, skip_blanks(behind), room)
     }
 
-    // The end of a line that has an end alone.
+    // The end of a line that has an end alone; its binding is looked for at the place `guess` first.
     #[inline(always)]
     fn end_line(&self, rest: &[u8], guess: usize) -> Result<EndId, LineFault>
         ensures tells { TellsEnd (names_of self.now) rest.now result }
@@ -100,7 +100,7 @@ impl Names {
         self.end_line(rest, 0)
     }
 
-    /// The same of a `write`.
+    /// The same of a `write`, whose binding is looked for at the place `guess` first. Any guess gives the same answer.
     ///
     /// # Errors
     /// It is no such line (E90), or the name is unknown (E92).

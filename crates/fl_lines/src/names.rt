@@ -81,16 +81,14 @@ impl Names {
         })
     }
 
-    /// The end of a name, whose binding's place is guessed.
+    /// The end of a name, whose binding is looked for at the place `guess` first. Any guess gives the same answer.
     #[inline]
     pub fn end_near(&self, name: EndName<'_>, guess: usize) -> Option<EndId>
         ensures same { result ≡ end_at (names_of self.now) (end_name_of name.entry) }
     {
+        let side = name.side;
         let binding = self.bindings.find_near(name.binding, guess)?;
-        Some(EndId {
-            binding,
-            side: name.side,
-        })
+        Some(EndId { binding, side })
     }
 
     // The names of the messages of an end's interface.

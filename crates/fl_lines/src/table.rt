@@ -82,7 +82,7 @@ impl NameTable {
         self.find_by_map(name)
     }
 
-    /// The place of a name, looked for at a guess first: scripts say a name several times in a row.
+    /// The place of a name, looked for at a guessed place first: scripts say a name several times in a row.
     #[inline]
     pub fn find_near(&self, name: &[u8], guess: usize) -> Option<usize>
         ensures place { result ≡ place_of name.now (table_of self.now) }

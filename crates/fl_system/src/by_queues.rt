@@ -1,7 +1,8 @@
 //! A binding within a core is made, with its two queues.
 
-ghost use Rattle.std.specs.Prelude.{◌≡◌, ◌<◌, length, true, IfOk, OnErr};
+ghost use Rattle.std.specs.Prelude.{◌≡◌, ◌<◌, length, true, false, IfOk, OnErr};
 ghost use Rattle.fl_queues.specs.Events.{done};
+ghost use Rattle.fl_link.specs.Queue.{MayHave};
 ghost use Rattle.fl_lines.specs.Events.{id_of, answer_of};
 ghost use Rattle.fl_worlds.specs.View.{has_dispatcher};
 ghost use Rattle.fl_worlds.specs.Binding.{BindsByQueues, JoinsByQueues};
@@ -44,6 +45,7 @@ impl World {
 
     // The two ends are joined by their queues; or there is no memory for them.
     fn join_by_queues(&mut self, want: Wish, slots: u32) -> Result<Answer, AllocError>
+        requires sized { MayHave false slots }
         requires few { length self.old.bindings < 1024 }
         requires together { want.client.core ≡ want.server.core }
         requires client { HasDispatcher self.old.cores (id_of want.client) }
@@ -72,6 +74,7 @@ impl World {
 
     // The same where the core may have an end of the binding already: nothing is done then.
     fn join_if_new(&mut self, want: Wish, slots: u32) -> Result<Answer, AllocError>
+        requires sized { MayHave false slots }
         requires few { length self.old.bindings < 1024 }
         requires together { want.client.core ≡ want.server.core }
         requires client { HasDispatcher self.old.cores (id_of want.client) }
