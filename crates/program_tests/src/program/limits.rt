@@ -19,6 +19,23 @@ const LINKED: Script = Script(
     b"ok\nok\nok\nok\nok\nok\n",
 );
 
+// The lines of this limit fill dispatcher d; e, at the other core, and f have no ends.
+const CROWDED: Script = Script(
+    b"\
+idl
+interface i { message m(); }
+.
+cores 2
+link 0 1 4
+disp d 0
+disp e 1
+disp f 0
+export s d i
+export t e i
+",
+    b"ok\nok\nok\nok\nok\nok\nok\nok\n",
+);
+
 pub const LIMITS: &[Limit] = &[
     // interfaces
     Limit {
@@ -63,6 +80,16 @@ pub const LIMITS: &[Limit] = &[
         times: 512,
         lines: Script(b"bind p@ d i s local 1\n", b"ok\n"),
         last: Script(b"bind q d i s local 1\n", b"refused E54\n"),
+    },
+    // ends of bindings over rings, at either dispatcher, and of circuits: the same
+    Limit {
+        first: CROWDED,
+        times: 512,
+        lines: Script(b"bind p@ d i s local 1\n", b"ok\n"),
+        last: Script(
+            b"bind q d i t ump 4\nbind q e i s ump 4\nbind q d i t hop 0 1\nbind q f i t ump 4\n",
+            b"refused E54\nrefused E54\nrefused E54\nok\n",
+        ),
     },
     // circuits: a monitor opens 1,023 on a link, whatever became of them
     Limit {
