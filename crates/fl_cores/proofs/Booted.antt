@@ -1,6 +1,6 @@
 -- What a set-up comes to, and why there may be no report.
-use Rattle.std.proofs.Common.{◌≡◌, refl, sym, ap, ◌∙◌, subst, ℕ, suc, ◌+◌, Bool, true, false, ◌&&◌, not, cond, nat_lt, List, [], ◌∷◌, length, map, Some, None, arith}
-use Rattle.std.proofs.lemmas.List.{length-map}
+use Rattle.std.proofs.Common.{◌≡◌, inl, inr, take, refl, sym, ap, ◌∙◌, subst, ℕ, suc, ◌+◌, Bool, true, false, ◌&&◌, not, cond, nat_lt, List, [], ◌∷◌, length, map, Some, None, arith}
+use Rattle.std.proofs.lemmas.List.{length-map, take-map}
 use Rattle.std.specs.List.{list_all, position, position_or_len}
 use Rattle.std.proofs.lemmas.Bool.Decides.{nat_tests}
 use Rattle.fl_lines.specs.declared.event.Event.{Event as RustEvent}
@@ -11,7 +11,9 @@ use Rattle.fl_worlds.specs.declared.parts.Parts.{Parts}
 use Rattle.fl_system.specs.declared.booting.BootFault.{BootFault}
 use Rattle.fl_system.specs.declared.booting.BootFault.TheVariants as boot
 use Rattle.fl_worlds.specs.Apart.{is_making, AreParts}
-use Rattle.fl_system.specs.Booting.{TheConfig, Stands, IsFaultOf}
+use Rattle.fl_system.specs.Booting.{TheConfig, config_by, passes, Stands, IsFaultOf}
+use Rattle.fl_queues.specs.Runs.{answers_to}
+use Rattle.fl_queues.specs.Worlds.{start_with}
 use Rattle.fl_jobs.specs.Jobs.{Job as TheJob}
 use Rattle.fl_threads.specs.Faults.{IsRunFault}
 use Rattle.fl_cores.specs.declared.fault.CoresFault.{CoresFault}
@@ -19,7 +21,7 @@ use Rattle.fl_cores.specs.declared.fault.CoresFault.TheVariants as fault
 use Rattle.fl_threads.specs.declared.fault.RunFault.{RunFault}
 use Rattle.fl_threads.specs.declared.fault.RunFault.TheVariants as run
 use Rattle.fl_cores.specs.Faults.{by_boot, by_run}
-use Rattle.fl_cores.specs.Promised.{is_other, asks_other, cores_by, IsAccepted, Made, IsRefusedAt, IsFault, IsLater}
+use Rattle.fl_cores.specs.Promised.{is_other, asks_other, cores_by, IsAccepted, Made, front_of, IsRefusedAt, IsFault, IsLater}
 
 -- ---- no other event: each makes something at once
 
@@ -50,13 +52,37 @@ cores_are c w p stands parts = ap length parts.cores ∙ stands.1.shown.picture.
 
 pub not_booted : (c : TheConfig) (jobs : List TheJob) (fault : BootFault) → position is_other c.setup ≡ None → IsFaultOf c fault → IsFault c jobs (by_boot fault)
 not_booted c jobs (boot.Refused number place) making is = subst (λ late. IsRefusedAt c number place late) (sym making) is
-not_booted c jobs boot.Memory making is = making
+not_booted c jobs boot.Memory making is = is
+
+-- nor where an event is of no set-up: one before it is refused, or it is
+front_by : (cores place : ℕ) (events before : List RustEvent) → before ≡ take place events
+    → front_of (config_by cores events) place ≡ config_by cores before
+front_by cores place events before same = ap (λ (vs : List Event). record { cores = cores; setup = vs }) (take-map event_of place events ∙ ap (map event_of) (sym same))
+
+pub front_refused : (cores place : ℕ) (events before : List RustEvent) (fault : BootFault) (jobs : List TheJob) → before ≡ take place events
+    → position is_other (map event_of events) ≡ Some place → IsFaultOf (config_by cores before) fault → IsFault (config_by cores events) jobs (by_boot fault)
+front_refused cores place events before (boot.Refused number at) jobs same first is =
+    subst (λ late. IsRefusedAt (config_by cores events) number at late) (sym first)
+    (inl (subst (λ c. IsFaultOf c (boot.Refused number at)) (sym (front_by cores place events before same)) is))
+front_refused cores place events before boot.Memory jobs same first is = is
+
+pub other_refused : (cores place : ℕ) (events before : List RustEvent) (w : TheWorld) (jobs : List TheJob) → before ≡ take place events
+    → position is_other (map event_of events) ≡ Some place → Stands (config_by cores before) w
+    → IsFault (config_by cores events) jobs (fault.Setup 93 (place + 1))
+other_refused cores place events before w jobs same first stands =
+    subst (λ late. IsRefusedAt (config_by cores events) 93 (place + 1) late) (sym first)
+    (inr (record {
+      cores = stands.0;
+      passed = ap (λ (c : TheConfig). list_all passes (answers_to (start_with cores) c.setup)) (front_by cores place events before same) ∙ stands.1.passed;
+      number_is = refl;
+      place_is = refl;
+    }))
 
 -- a fault behind an accepted set-up
 pub late_fault : (c : TheConfig) (jobs : List TheJob) (p : Parts) (f : CoresFault) → IsAccepted c → Made c p → IsLater p jobs f → IsFault c jobs f
 late_fault c jobs p (fault.Setup number place) accepted made is = absurd is
 late_fault c jobs p (fault.Job number place) accepted made is = record { accepted = accepted; parts = p; made = made; refused = is }
-late_fault c jobs p fault.Memory accepted made is = accepted.making
+late_fault c jobs p fault.Memory accepted made is = accepted.cores
 late_fault c jobs p fault.Thread accepted made is = accepted
 
 pub later_fault : (p : Parts) (jobs : List TheJob) (f : RunFault) → IsRunFault p jobs f → IsLater p jobs (by_run f)

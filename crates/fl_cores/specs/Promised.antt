@@ -1,5 +1,5 @@
 -- What is promised of a run of cores, beside what its report will be shown to say of calls.
-use Rattle.std.specs.Prelude.{ℕ, ◌≡◌, ◌+◌, Bool, true, false, not, List, ◌++◌, length, Option, Some, None, position}
+use Rattle.std.specs.Prelude.{ℕ, ◌≡◌, ◌⊎◌, ◌+◌, Bool, true, false, not, List, ◌++◌, length, take, Option, Some, None, position}
 use Rattle.std.specs.List.{list_all}
 use Rattle.fl_queues.specs.Events.{Event}
 use Rattle.fl_lines.specs.declared.event.Event.{Event as RustEvent}
@@ -64,10 +64,21 @@ pub record Reports (c : TheConfig) (jobs : List Job) (limit : ℕ) (r : TheRepor
 
 -- ---- why there is none
 
--- where the first event that isn't of a set-up stands, if there is one: that event is refused (E93), and else what the machine refuses
+-- its events before this one
+abbrev pub front_of : TheConfig → ℕ → TheConfig
+front_of c n = record { cores = c.cores; setup = take n c.setup }
+
+-- the machine refuses none of the events before this one, which isn't of a set-up: it is refused (E93)
+pub record RefusesOther (c : TheConfig) (n number place : ℕ) : Type 0 where
+  pub cores : has_bad_cores c ≡ false
+  pub passed : list_all passes (answers_to (start_with c.cores) (take n c.setup)) ≡ true
+  pub number_is : number ≡ 93
+  pub place_is : place ≡ n + 1
+
+-- the first refusal, by where the first event that isn't of a set-up stands, if there is one: the machine's of an event before it, or else that event's
 abbrev pub IsRefusedAt : TheConfig → ℕ → ℕ → Option ℕ → Type 0
 IsRefusedAt c number place None = IsFaultOf c (boot.Refused number place)
-IsRefusedAt c number place (Some n) = (number ≡ 93) × (place ≡ n + 1)
+IsRefusedAt c number place (Some n) = IsFaultOf (front_of c n) (boot.Refused number place) ⊎ RefusesOther c n number place
 
 abbrev pub IsRefused : TheConfig → ℕ → ℕ → Type 0
 IsRefused c number place = IsRefusedAt c number place (position is_other c.setup)
@@ -79,11 +90,11 @@ pub record RefusesJob (c : TheConfig) (jobs : List Job) (number place : ℕ) : T
   pub made : Made c parts
   pub refused : IsRunFault parts jobs (run.Refused number place)
 
--- a job is refused, or a thread, only where the set-up isn't; and memory only where each event is of a set-up
+-- a job is refused, or a thread, only where the set-up isn't; and memory only where so many cores there may be
 abbrev pub IsFault : TheConfig → List Job → CoresFault → Type 0
 IsFault c jobs (fault.Setup number place) = IsRefused c number place
 IsFault c jobs (fault.Job number place) = RefusesJob c jobs number place
-IsFault c jobs fault.Memory = position is_other c.setup ≡ None
+IsFault c jobs fault.Memory = has_bad_cores c ≡ false
 IsFault c jobs fault.Thread = IsAccepted c
 
 -- a fault behind the set-up that made these parts

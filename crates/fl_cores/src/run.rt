@@ -1,10 +1,11 @@
 //! A run of cores, from their set-up to the report.
 
-ghost use Rattle.std.specs.Prelude.{◌≡◌, ◌≤◌, None, map, position, length, IfOk, IfErr};
+ghost use Rattle.std.specs.Prelude.{◌≡◌, ◌≤◌, Some, None, List, map, position, length, IfOk, IfErr};
 ghost use Rattle.fl_lines.specs.Events.{event_of};
 ghost use Rattle.fl_jobs.specs.Reports.{report_of};
 ghost use Rattle.fl_worlds.specs.Apart.{is_making};
 ghost use Rattle.fl_system.specs.Booting.{config_of, IsFaultOf};
+ghost use Rattle.fl_jobs.specs.Jobs.{Job as TheJob};
 ghost use Rattle.fl_jobs.specs.Views.{job_of};
 ghost use Rattle.fl_cores.specs.Promised.{is_other, asks_other, cores_by, IsAccepted, Made, Reports, IsFault, IsLater};
 ghost use Rattle.fl_threads.specs.Ran.{Keeps, RanFrom};
@@ -105,10 +106,26 @@ fn run_made<R: Threads + Wait + Sync, G: Gate + Sync>(
     }
 }
 
-/// Runs cores on threads of their own, each with its jobs, until all have finished or so many turns of one are counted.
+// Why there is no run of a set-up whose event at this place, from 0, is the first that belongs to none: an event before it is refused, or it is.
+fn refuse_other(alloc: Global, config: &Config<'_>, place: usize) -> CoresFault
+    requires first { position is_other (config_of config.now).setup ≡ Some place }
+    ensures refused { (jobs : List TheJob) → IsFault (config_of config.now) jobs result }
+{
+    let (before, _) = config.setup.as_slice().split_at(place);
+    match World::boot_by(alloc, config.cores, before) {
+        Ok(_) => CoresFault::Setup {
+            number: 93,
+            place: place + 1,
+        },
+        Err(fault) => CoresFault::from(fault),
+    }
+}
+
+/// Runs cores on threads of their own, each with its jobs, until each has finished or counted so many turns.
 ///
 /// # Errors
-/// [`CoresFault`]. Every thread was joined then.
+/// [`CoresFault`]: the first event of the set-up that is refused, by the world or since no set-up has it (93); else the first job that is refused; or want of
+/// memory or of a thread. Every thread was joined then.
 #[tactic(auto, using(crate::proofs::Booted::not_booted, crate::proofs::Booted::late_fault))]
 pub fn run_cores<R: Threads + Wait + Sync, G: Gate + Sync>(
     rt: &R,
@@ -122,10 +139,7 @@ pub fn run_cores<R: Threads + Wait + Sync, G: Gate + Sync>(
     ensures refused { IfErr result (λ fault. IsFault (config_of config.now) (map job_of jobs.entry.items) fault) }
 {
     if let Some(place) = first_other(&config.setup) {
-        return Err(CoresFault::Setup {
-            number: 93,
-            place: place + 1,
-        });
+        return Err(refuse_other(alloc, config, place));
     }
     let parts = boot(alloc, config)?;
     run_made(rt, alloc, parts, jobs, limit, gate)

@@ -22,11 +22,10 @@ use Rattle.fl_worlds.specs.Picture.{Shows}
 use Rattle.fl_worlds.specs.Laws.{StepAgrees, FreshShows}
 use Rattle.fl_worlds.specs.Step.{settled, settled_by, fresh_world}
 use Rattle.fl_transcript.specs.Steps as machine
-use Rattle.fl_system.specs.declared.booting.Config.{Config}
 use Rattle.fl_system.specs.declared.booting.BootFault.{BootFault}
 use Rattle.fl_system.specs.declared.booting.BootFault.TheVariants.{Refused, Memory}
 use Rattle.fl_system.specs.Stepping.{StepsAlike, fault_in, is_interface, leaves_cores_open, RunsAlike, ShowsAfterSome}
-use Rattle.fl_system.specs.Booting.{TheConfig, config_of, has_bad_cores, passes, Passes, IsFaultOf, StopsBy, StopsAt}
+use Rattle.fl_system.specs.Booting.{TheConfig, has_bad_cores, passes, Passes, IsFaultOf, StopsBy, StopsAt}
 
 -- ---- whether the number of cores stands
 
@@ -249,19 +248,16 @@ set_up_stops s xs k x d w (Refused number place) below is h stops = record {
 
 -- ---- a boot
 
-pub good_cores : (c : Config) (n : ℕ) → n ≡ c.cores → 1 ≤ n → n ≤ most_cores → has_bad_cores (config_of c) ≡ false
+pub good_cores : (c : TheConfig) (n : ℕ) → n ≡ c.cores → 1 ≤ n → n ≤ most_cores → has_bad_cores c ≡ false
 good_cores c n same one few =
     ap (λ (m : ℕ). nat_lt m 1 || nat_lt most_cores m) (sym same)
     ∙ ap (λ (b : Bool). b || nat_lt most_cores n) (le-ltb n 1 one) ∙ le-ltb most_cores n few
 
 -- what holds of the set-up in all states that a world of so many cores shows
-pub boots_by : (P : State → List Event → Type 0) (law : FreshShows) (c : Config) (n : ℕ) (vs : List RustEvent) (w : TheWorld) → n ≡ c.cores → 1 ≤ n
-    → n ≤ most_cores → vs ≡ c.setup.items → w ≡ fresh_world n → ((s : State) → Shows w s → P s (map event_of vs))
-    → P (start_with c.cores) (map event_of c.setup.items)
-boots_by P law c n vs w same one few lent fresh h =
-    subst (λ (m : ℕ). P (start_with m) (map event_of c.setup.items)) same
-    (subst (λ (l : List RustEvent). P (start_with n) (map event_of l)) lent
-    (h (start_with n) (subst (λ (x : TheWorld). Shows x (start_with n)) (sym fresh) (law n one few))))
+pub boots_by : (P : State → List Event → Type 0) (law : FreshShows) (c : TheConfig) (n : ℕ) (w : TheWorld) → n ≡ c.cores → 1 ≤ n → n ≤ most_cores
+    → w ≡ fresh_world n → ((s : State) → Shows w s → P s c.setup) → P (start_with c.cores) c.setup
+boots_by P law c n w same one few fresh h =
+    subst (λ (m : ℕ). P (start_with m) c.setup) same (h (start_with n) (subst (λ (x : TheWorld). Shows x (start_with n)) (sym fresh) (law n one few)))
 
 pub stopped : (c : TheConfig) (fault : BootFault) → has_bad_cores c ≡ false → StopsBy (start_with c.cores) c.setup fault → IsFaultOf c fault
 stopped c Memory good h = good

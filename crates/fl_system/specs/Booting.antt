@@ -7,6 +7,7 @@ use Rattle.fl_queues.specs.Making.{most_cores}
 use Rattle.fl_queues.specs.Step.{step}
 use Rattle.fl_queues.specs.Runs.{answers_to, reached}
 use Rattle.fl_queues.specs.Worlds.{start_with}
+use Rattle.fl_lines.specs.declared.event.Event.{Event as RustEvent}
 use Rattle.fl_lines.specs.Events.{event_of}
 use Rattle.fl_worlds.specs.View.{TheWorld}
 use Rattle.fl_worlds.specs.Picture.{Shows}
@@ -20,8 +21,11 @@ pub record TheConfig : Type 0 where
   pub cores : ℕ
   pub setup : List Event
 
+abbrev pub config_by : ℕ → List RustEvent → TheConfig
+config_by cores events = record { cores = cores; setup = map event_of events }
+
 abbrev pub config_of : Config → TheConfig
-config_of c = record { cores = c.cores; setup = map event_of c.setup.items }
+config_of c = config_by c.cores c.setup.items
 
 -- its number of cores isn't 1 to 16
 abbrev pub has_bad_cores : TheConfig → Bool

@@ -7,7 +7,7 @@ ghost use Rattle.fl_queues.specs.State.{State};
 ghost use Rattle.fl_queues.specs.Step.{step};
 ghost use Rattle.fl_worlds.specs.Picture.{Shows};
 ghost use Rattle.fl_worlds.specs.Apart.{AllUnused, is_making, KeepsUnused};
-ghost use Rattle.fl_system.specs.Booting.{config_of, Passes, Stands, IsFaultOf, number_of, StopsBy, StopsAt};
+ghost use Rattle.fl_system.specs.Booting.{config_by, config_of, Passes, Stands, IsFaultOf, number_of, StopsBy, StopsAt};
 ghost use Rattle.fl_system.specs.Stepping.{fault_in};
 
 use crate::world::World;
@@ -89,16 +89,16 @@ impl World {
         Ok(())
     }
 
-    /// A world of so many cores, after a set-up. If that only makes things, but no circuit, the world may be taken apart ([`World::into_parts`]).
+    /// A world of so many cores, after these events. If they only make things, but no circuit, the world may be taken apart ([`World::into_parts`]).
     ///
     /// # Errors
     /// [`BootFault`]: 94 at place 0 where the number of cores isn't 1 to 16; else the first event that is refused; or want of memory.
-    pub fn boot(alloc: Global, config: &Config<'_>) -> Result<World, BootFault>
-        ensures stands { IfOk result (λ w. Stands (config_of config.now) w) }
-        ensures refused { IfErr result (λ fault. IsFaultOf (config_of config.now) fault) }
-        ensures unused { IfOk result (λ w. list_all is_making (config_of config.now).setup ≡ true → AllUnused w.rings) }
+    pub fn boot_by(alloc: Global, cores: u8, events: &[Event<'_>]) -> Result<World, BootFault>
+        ensures stands { IfOk result (λ w. Stands (config_by cores events.now) w) }
+        ensures refused { IfErr result (λ fault. IsFaultOf (config_by cores events.now) fault) }
+        ensures unused { IfOk result (λ w. list_all is_making (map event_of events.now) ≡ true → AllUnused w.rings) }
     {
-        let cores = u32::from(config.cores);
+        let cores = u32::from(cores);
         if cores < 1 || cores as usize > MAX_CORES {
             return Err(BootFault::Refused {
                 number: 94,
@@ -109,9 +109,21 @@ impl World {
         let Ok(mut world) = World::with_cores(alloc, cores) else {
             return Err(BootFault::Memory);
         };
-        match world.set_up(config.setup.as_slice()) {
+        match world.set_up(events) {
             Ok(()) => Ok(world),
             Err(fault) => Err(fault),
         }
+    }
+
+    /// A world of a configuration, by [`World::boot_by`].
+    ///
+    /// # Errors
+    /// As there.
+    pub fn boot(alloc: Global, config: &Config<'_>) -> Result<World, BootFault>
+        ensures stands { IfOk result (λ w. Stands (config_of config.now) w) }
+        ensures refused { IfErr result (λ fault. IsFaultOf (config_of config.now) fault) }
+        ensures unused { IfOk result (λ w. list_all is_making (config_of config.now).setup ≡ true → AllUnused w.rings) }
+    {
+        World::boot_by(alloc, config.cores, config.setup.as_slice())
     }
 }
