@@ -13,10 +13,6 @@ use Rattle.fl_parse.specs.declared.tree.Direction.TheVariants as directions
 use Rattle.fl_parse.specs.Tree.{TheName, TheNumber, TheField, TheShape, plain, bounded, sized, TheArgument, TheDirected, TheDeclaration, alias_of}
 use Rattle.fl_parse.specs.Tree.{typedef_of, enum_of, struct_of, message_of, rpc_of, TheTree}
 
--- a phrase: which lists of tokens are written for which values
-abbrev pub Phrase : Type 0 → Type 1
-Phrase A = List TheToken → A → Type 0
-
 -- one token, that is read as the value
 pub record One {A : Type 0} (read : TheToken → Option A) (tokens : List TheToken) (x : A) : Type 0 where
   pub token : TheToken

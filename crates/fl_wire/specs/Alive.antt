@@ -1,8 +1,7 @@
 -- Working definitions of the reader: types that have a value: every enum has an enumerator. Those of every accepted interface do.
 use Rattle.std.specs.Prelude.{◌&&◌, nat_lt, Bool, true}
-use Rattle.std.specs.List.{list_all}
 use Rattle.fl_interface.specs.Interface.{TheType, scalar, enumeration, structure, array, TheTypes, no_more}
-use Rattle.fl_interface.specs.Interface.{field, TheArgType, fixed, text, sized, TheMessage, TheInterface}
+use Rattle.fl_interface.specs.Interface.{field, TheArgType, fixed, text, sized}
 
 abbrev mutual
   pub has_values : TheType → Bool
@@ -19,6 +18,3 @@ abbrev pub argument_has_values : TheArgType → Bool
 argument_has_values (fixed t) = has_values t
 argument_has_values (text max) = true
 argument_has_values (sized max t) = has_values t
-
-abbrev pub interface_has_values : TheInterface → Bool
-interface_has_values i = list_all (λ m. list_all argument_has_values (TheMessage.args m)) i.messages

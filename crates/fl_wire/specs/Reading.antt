@@ -76,7 +76,3 @@ NoneBeginsWithAnother = (plan : PlanNo) (i : TheInterface) (c d : TheCall) → i
 abbrev pub ReadsOnce : Type 0
 ReadsOnce = (plan : PlanNo) (i : TheInterface) (frags : List Frag) (cs ds : List TheCall) (x y : List Frag) → interface_words_fit i ≡ true
     → Reads plan i frags cs x → Reads plan i frags ds y → (cs ≡ ds) × (x ≡ y)
-
--- another name of `bare`, for crates that still say so
-abbrev pub plain : Frag → Frag
-plain = bare

@@ -135,8 +135,9 @@ const ABOUT_CORES: &str = "Runs a cores file, with a thread for each core";
 
 const AFTER_CORES: &str = "\
 A cores file has the lines of a script that make things (idl, cores, link, disp, export, bind) and those that
-hand in work (reply, call). What they make is set up; then each core runs on a thread of its own and does what
-is handed in at its ends, until all is done, or a core has taken N turns:
+hand in work (reply, call). What they make is set up; a circuit (bind .. hop) is opened while the cores run.
+Each core runs on a thread of its own and does what is handed in at its ends, until all cores are done or it
+has taken N turns:
 
   idl
   interface i { message ping(uint32 v); }
