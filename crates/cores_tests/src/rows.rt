@@ -2,7 +2,9 @@
 
 use crate::gates::{Held, LockStep, Open, Together};
 use crate::texts::{Told, add, add_lines, run, skip_lines};
-use fl_cores::{CoresEnd, CoresFault};
+use fl_cores::{CoresEnd, CoresFault, run_cores};
+use fl_lines::{DispatcherId, Event};
+use fl_system::Config;
 use std::alloc::{AllocError, Global};
 use std::test::Fail;
 
@@ -54,6 +56,33 @@ const FAULTS: &[(CoresFault, u8)] = &[
     (CoresFault::Thread, 3),
 ];
 
+// What two events of a set-up of one core are refused for.
+fn refusal_of(
+    rt: &HostRuntime,
+    alloc: Global,
+    first: Event<'_>,
+    second: Event<'_>,
+) -> Result<Option<CoresFault>, AllocError> {
+    let mut setup = Vec::new(alloc);
+    setup.push(first)?;
+    setup.push(second)?;
+    let config = Config { cores: 1, setup };
+    match run_cores(rt, alloc, &config, Vec::new(alloc), MANY, &Open) {
+        Ok(_) => Ok(None),
+        Err(fault) => Ok(Some(fault)),
+    }
+}
+
+// There is no core 5.
+fn dispatcher() -> Event<'static> {
+    Event::AddDispatcher(5)
+}
+
+// A turn belongs to no set-up.
+fn turn() -> Event<'static> {
+    Event::Turn(DispatcherId { core: 0, place: 0 })
+}
+
 // Two parts of a text.
 fn joined(alloc: Global, one: &[u8], two: &[u8]) -> Result<Vec<u8>, AllocError> {
     let mut text = Vec::new(alloc);
@@ -104,6 +133,23 @@ fn turns_of_one_core(rt: HostRuntime) -> Result<(), Fail> {
         told.text.as_slice(),
         b"handle p.s ping(1)\nhandle p.s ping(2)\nhandle p.s ping(3)\ncomplete\n".as_slice()
     );
+    Ok(())
+}
+
+#[test]
+fn the_first_event_that_is_refused_is_told(rt: HostRuntime) -> Result<(), Fail> {
+    let told = refusal_of(&rt, rt.alloc(), dispatcher(), turn())?;
+    let refused = CoresFault::Setup {
+        number: 73,
+        place: 1,
+    };
+    assert!(rt; told == Some(refused));
+    let told = refusal_of(&rt, rt.alloc(), turn(), dispatcher())?;
+    let refused = CoresFault::Setup {
+        number: 93,
+        place: 1,
+    };
+    assert!(rt; told == Some(refused));
     Ok(())
 }
 
