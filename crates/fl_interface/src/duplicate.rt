@@ -68,7 +68,10 @@ fn duplicate_arg(alloc: Global, arg: &ArgType) -> Result<ArgType, AllocError>
     }
 }
 
-/// An equal type, in memory of its own. Refuses for want of memory alone.
+/// An equal type, in memory of its own.
+///
+/// # Errors
+/// Out of memory (E99), and nothing else.
 #[cycle(duplicate)]
 pub fn duplicate_type(alloc: Global, fixed: &FixedType) -> Result<FixedType, AllocError>
     ensures equal { IfOk result (λ copy. type_of copy ≡ type_of fixed.now) }

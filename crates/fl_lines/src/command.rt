@@ -28,6 +28,9 @@ impl Route<'_> {
     ghost use Rattle.fl_lines.specs.Words.{numbers_in};
 
     /// All cores of the route, in order.
+    ///
+    /// # Errors
+    /// Out of memory (E99), and nothing else.
     pub fn cores(&self, alloc: Global) -> Result<Vec<u32>, AllocError>
         ensures cores { IfOk result (λ v. v.items ≡ self.now.first ∷ numbers_in self.now.others.now) }
     {

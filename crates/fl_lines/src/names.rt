@@ -492,6 +492,9 @@ fn names_in(alloc: Global, interface: &Interface) -> Result<InterfaceNames, Allo
 }
 
 /// The names of an interface, taken before the event that adds it takes the interface itself.
+///
+/// # Errors
+/// Out of memory (E99), and nothing else.
 pub fn names_of_interface(
     alloc: Global,
     interface: &Interface,

@@ -44,8 +44,10 @@ impl Model for QueueLink {
 }
 
 impl QueueLink {
-    /// A queue within one core, of `size` slots, from 1 to 1,024 (else E32); E99 where there is no
-    /// memory for them. A slot is free once its fragment is taken.
+    /// A queue within one core, of `size` slots, from 1 to 1,024. A slot is free once its fragment is taken.
+    ///
+    /// # Errors
+    /// `size` isn't such a number (E32); else out of memory (E99).
     pub fn local(alloc: Global, size: usize) -> Result<QueueLink, LinkFault>
         ensures made { IfOk result (λ q. q ≡ record { items = []; untold = 0; sent = 0; capacity = size; acked = false }) }
         ensures sized { OnOk result (MayHave false size) }
@@ -57,8 +59,11 @@ impl QueueLink {
         QueueLink::make(alloc, size, false)
     }
 
-    /// A queue that frees a slot once its fragment is told, and counts epochs as a ring does. Its
-    /// `size` is a power of two from 2 to 1,024 (else E32); E99 where there is no memory for them.
+    /// A queue that frees a slot once its fragment is told, and counts epochs as a ring does. It has `size`
+    /// slots, a power of two from 2 to 1,024.
+    ///
+    /// # Errors
+    /// `size` isn't such a number (E32); else out of memory (E99).
     pub fn acked(alloc: Global, size: usize) -> Result<QueueLink, LinkFault>
         ensures made { IfOk result (λ q. q ≡ record { items = []; untold = 0; sent = 0; capacity = size; acked = true }) }
         ensures sized { OnOk result (MayHave true size) }
@@ -96,8 +101,11 @@ impl QueueLink {
         self.next.index() < SPENT && self.items.len() + self.untold < self.capacity
     }
 
-    /// Puts the fragment last, with the epoch due and telling nothing. Where every slot is in use
-    /// it is E30, and after 2^62 fragments of an `acked` queue E33.
+    /// Puts the fragment last, with the epoch due and telling nothing.
+    ///
+    /// # Errors
+    /// An `acked` queue has carried 2^62 fragments (E33); else every slot is in use (E30). Nothing has
+    /// changed then.
     #[inline]
     pub fn put(&mut self, frag: &Frag) -> Result<(), PutFault>
         ensures placed { OnOk result (QueueGains self.old (bare frag.now) self.new) }

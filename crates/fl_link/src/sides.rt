@@ -49,6 +49,10 @@ pub trait PutSide {
 
     /// Puts the fragment, in a round of the epoch due. The fragment isn't one that only
     /// acknowledges: these are written by [`TakeSide::tell`].
+    ///
+    /// # Errors
+    /// Too few slots are free (E30); the link has carried 2^62 fragments (E33). Nothing was put then: what
+    /// else the side may have learned its relation `puts` says.
     fn put(&mut self, frag: &Frag) -> Result<(), PutFault>
         requires data { is_ack_only frag.now ≡ false }
         ensures placed { OnOk result (puts self.old (placed (bare frag.now)) self.new) }
@@ -94,8 +98,11 @@ pub trait TakeSide {
         ensures data { (frag : Frag) → front self.old ≡ saw frag → taken result ≡ found frag }
         ensures acknowledgement { front self.old ≡ saw_ack → taken result ≡ found_ack };
 
-    /// Tells the other side what was taken, so that those slots are free. It is refused by `Full`
-    /// alone, also where the link is spent.
+    /// Tells the other side what was taken, so that those slots are free.
+    ///
+    /// # Errors
+    /// There is something to tell, and too few slots are free to write it, or the link has carried all
+    /// fragments that it ever will (both E30, never E33).
     fn tell(&mut self) -> Result<Told, PutFault>
         ensures tell { takes self.old (tells result) self.new }
         ensures never_spent { result ≢ Err PutFault.Spent };

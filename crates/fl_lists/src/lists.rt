@@ -47,9 +47,10 @@ const MOST: usize = 65_533;
 const FEW: usize = 5;
 
 impl Lists {
-    /// Empty lists of the numbers below `size`.
+    /// Empty lists of the numbers below `size`. No other call of `Lists` takes memory.
     ///
-    /// Errors: out of memory, or over 65,533 numbers. No other call of `Lists` takes memory.
+    /// # Errors
+    /// Over 65,533 numbers, or out of memory.
     pub fn new(alloc: Global, size: usize) -> Result<Lists, AllocError>
         ensures made { IfOk result (λ made. made.lists ≡ empty size) }
         ensures apart { IfOk result (λ made. IsApart made.lists) }

@@ -49,8 +49,10 @@ impl Model for OneDuo {
 }
 
 impl OneDuo {
-    /// A ring of `size` slots each way, a power of two from 4 to 1,024 (else E32); E99 where there
-    /// is no memory for them.
+    /// A ring of `size` slots each way, a power of two from 4 to 1,024. Nothing was put yet.
+    ///
+    /// # Errors
+    /// `size` isn't such a number (E32); else out of memory (E99).
     pub fn new(alloc: Global, size: usize) -> Result<OneDuo, RingFault>
         ensures made { IfOk result (λ d. d ≡ record { size = size; one = new_half; two = new_half }) }
         ensures sized { OnOk result (MayHaveSlots size) }
@@ -69,9 +71,13 @@ impl OneDuo {
         })
     }
 
-    /// Puts a fragment at this side, which tells all that the side has taken. E33 after 2^62
-    /// fragments; else E30 where, after a look at the other side's first fragment if too few slots
-    /// were free, fewer than two are free. The fragment isn't one that only acknowledges.
+    /// Puts a fragment at this side, which tells all that the side has taken. The fragment isn't one that
+    /// only acknowledges.
+    ///
+    /// # Errors
+    /// The side has put 2^62 fragments (E33). Else fewer than two slots are free, also after a look at the
+    /// other side's first fragment (E30): the side knows then what that fragment tells, and nothing else has
+    /// changed.
     #[inline]
     pub fn put(&mut self, which: Which, frag: &Frag) -> Result<(), PutFault>
         requires { is_ack_only frag.now ≡ false }
@@ -124,9 +130,12 @@ impl OneDuo {
         }
     }
 
-    /// Tells what this side has taken, by a fragment that only acknowledges: where at least half of
-    /// the slots are read and untold (else there is nothing to tell). E30 where, after a look at the
-    /// other side's first fragment if no slot was free, none is; also after 2^62 fragments.
+    /// Tells what this side has taken, by a fragment that only acknowledges: where at least half of the slots
+    /// are read and untold (else it answers `Nothing`, and nothing has changed).
+    ///
+    /// # Errors
+    /// There is so much to tell, and the side has put 2^62 fragments, or no slot is free, also after a look
+    /// at the other side's first fragment (both E30, never E33): nothing has changed but what the side knows.
     #[inline]
     pub fn tell(&mut self, which: Which) -> Result<Told, PutFault>
         ensures tell { DuoTakes which self.old (tells result) self.new }

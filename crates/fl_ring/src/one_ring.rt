@@ -36,8 +36,10 @@ impl Model for OneRing {
 }
 
 impl OneRing {
-    /// A ring of `size` slots, a power of two from 2 to 1,024 (else E32); E99 where there is no
-    /// memory for them.
+    /// A ring of `size` slots, a power of two from 2 to 1,024. Nothing was put yet.
+    ///
+    /// # Errors
+    /// `size` isn't such a number (E32); else out of memory (E99).
     pub fn new(alloc: Global, size: usize) -> Result<OneRing, RingFault>
         ensures made { IfOk result (λ r. r ≡ record { read = []; items = []; told = 0; capacity = size }) }
         ensures sized { OnOk result (MayHave true size) }
@@ -63,8 +65,10 @@ impl OneRing {
         self.words.as_slice()
     }
 
-    /// Puts the fragment into the next slot, with the epoch due and telling nothing. Where every
-    /// slot is in use it is E30, and after 2^62 fragments E33.
+    /// Puts the fragment into the next slot, with the epoch due and telling nothing.
+    ///
+    /// # Errors
+    /// The ring has carried 2^62 fragments (E33); else every slot is in use (E30). Nothing has changed then.
     pub fn put(&mut self, frag: &Frag) -> Result<(), PutFault>
         ensures placed { OnOk result (RingGains self.old (bare frag.now) self.new) }
         ensures full { result ≡ Err PutFault.Full → RingPuts self.old no_room self.new }

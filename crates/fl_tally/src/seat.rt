@@ -35,7 +35,10 @@ impl Model for EndSeat {
 }
 
 impl EndSeat {
-    /// The seat of all: of each core of the plan, and of the run. E99 where there is no memory for the table.
+    /// The seat of all: of each core of the plan, at most 16, and of the run.
+    ///
+    /// # Errors
+    /// Out of memory for the table (E99), and nothing else.
     pub fn new(alloc: Global, plan: Plan) -> Result<EndSeat, AllocError>
         requires few { plan.cores ≤ 16 }
         requires jobs { vec_len plan.owners ≤ 65536 }
@@ -94,8 +97,10 @@ impl EndSeat {
         self.table.shared.load::<Hear>(&mut self.seat, job + 1)
     }
 
-    /// Cuts off the seat of the first core. E99 where the table's count of owners finds no memory, and then nothing has
-    /// changed.
+    /// Cuts off the seat of the first core of this one, which has told nothing yet. It takes no memory.
+    ///
+    /// # Errors
+    /// The table's owners are too many to be counted (E99). Nothing has changed then.
     pub fn split(&mut self) -> Result<EndSeat, AllocError>
         requires core { 0 < length self.old.knows.cores }
         requires silent { (self.old.knows.finished ≡ 0) × (self.old.knows.stopped ≡ 0) × (self.old.knows.stored ≡ []) }

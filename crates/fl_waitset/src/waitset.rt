@@ -47,9 +47,10 @@ impl Model for Waitset {
 }
 
 impl Waitset {
-    /// A waitset of the channels below `n`, none of them registered.
+    /// A waitset of the channels below `n`, none of them registered. No other call takes memory.
     ///
-    /// Errors: over 1,024 channels (E54); out of memory (E99). No other call takes memory.
+    /// # Errors
+    /// Over 1,024 channels (E54); else out of memory (E99).
     pub fn new(alloc: Global, n: usize) -> Result<Waitset, WaitFault>
         ensures made { IfOk result (λ made. made ≡ empty n) }
         ensures fault { IfErr result (MakingFault n) }
@@ -92,7 +93,9 @@ impl Waitset {
 
     /// Registers a channel whose fragments trigger it, at the back of idle.
     ///
-    /// Errors: no such channel (E53); registered already (E50).
+    /// # Errors
+    /// The waitset has no such channel (E53); else the channel is registered already (E50). Nothing has
+    /// changed then.
     pub fn register(&mut self, c: ChanId) -> Result<(), WaitFault>
         ensures answer { result ≡ register_answer self.old c.0 }
         ensures ok { OnOk result (self.new ≡ pushed self.old c.0 Idle) }
@@ -104,7 +107,9 @@ impl Waitset {
 
     /// Registers a channel whose memory is to be looked at, at the back of polled.
     ///
-    /// Errors: no such channel (E53); registered already (E50).
+    /// # Errors
+    /// The waitset has no such channel (E53); else the channel is registered already (E50). Nothing has
+    /// changed then.
     pub fn register_polled(&mut self, c: ChanId) -> Result<(), WaitFault>
         ensures answer { result ≡ register_answer self.old c.0 }
         ensures ok { OnOk result (self.new ≡ pushed self.old c.0 Polled) }
@@ -116,7 +121,9 @@ impl Waitset {
 
     /// Takes a channel out of the list that it is in.
     ///
-    /// Errors: no such channel (E53); not registered (E51).
+    /// # Errors
+    /// The waitset has no such channel (E53); else the channel isn't registered (E51). Nothing has changed
+    /// then.
     #[inline]
     pub fn deregister(&mut self, c: ChanId) -> Result<(), WaitFault>
         ensures answer { result ≡ registered_answer self.old c.0 }
@@ -134,7 +141,8 @@ impl Waitset {
     /// Tells that a fragment has come to stand on a channel: an idle one goes to the back of
     /// pending. One that is polled or pending stays, and one that isn't registered is not touched.
     ///
-    /// Errors: no such channel (E53).
+    /// # Errors
+    /// The waitset has no such channel (E53). Nothing has changed then.
     #[inline]
     #[tactic(auto, using(crate::proofs::Moves::idle_moves))]
     pub fn trigger(&mut self, c: ChanId) -> Result<(), WaitFault>
@@ -152,7 +160,8 @@ impl Waitset {
     /// The channel that the next turn looks at, which stays where it is: the first pending one,
     /// else the first polled one.
     ///
-    /// Errors: none is pending and none is polled (E52).
+    /// # Errors
+    /// No channel is pending, and none is polled (E52).
     #[inline]
     pub fn next_event(&self) -> Result<Pick, WaitFault>
         ensures pick { result ≡ next_pick self.now }
@@ -169,7 +178,9 @@ impl Waitset {
 
     /// Moves a channel to the back of a list, which may be the one that it is in.
     ///
-    /// Errors: no such channel (E53); not registered (E51).
+    /// # Errors
+    /// The waitset has no such channel (E53); else the channel isn't registered (E51). Nothing has changed
+    /// then.
     #[inline]
     #[tactic(auto, using(crate::proofs::Moves::first_moves))]
     pub fn put_back(&mut self, c: ChanId, place: Place) -> Result<(), WaitFault>

@@ -298,7 +298,8 @@ fn put_arguments(
 /// Each byte is written once. Plan 2 goes over the arguments' types once for each rank. The alignment of an
 /// array's elements is found once, and that of a field each time that a value of its struct is written.
 ///
-/// Fails only where memory runs out.
+/// # Errors
+/// Out of memory (E99), and nothing else.
 pub fn payload(
     alloc: Global,
     interface: &Interface,

@@ -87,7 +87,8 @@ pub fn fragment(payload: &[u8], msg: MsgNo, k: usize) -> Frag
 /// Fragment `k` of a call, with epoch 0 and circuit 0; none past the last one. Each call makes the whole
 /// payload: who wants all fragments calls [`payload`] once, and [`fragment`] for each.
 ///
-/// Fails only where memory runs out.
+/// # Errors
+/// Out of memory (E99), and nothing else.
 pub fn fragment_at(
     alloc: Global,
     interface: &Interface,

@@ -28,7 +28,8 @@ fn had_memory(stop: Stop) -> Result<(), AllocError>
 /// The call whose fragments these are: of a fitting call's first fragments, none until the last one is
 /// there. Of other fragments nothing is said, and the epochs must be 0.
 ///
-/// Fails only where memory runs out.
+/// # Errors
+/// Out of memory (E99), and nothing else.
 pub fn read_call_frags(
     alloc: Global,
     interface: &Interface,

@@ -17,8 +17,10 @@ use fl_link::Cursor;
 use std::alloc::Global;
 use std::sync::Arc;
 
-/// A ring of two directions of `size` slots each, a power of two from 4 to 1,024 (else E32), and its
-/// two sides; E99 where there is no memory for it.
+/// The two sides of a new ring of two directions of `size` slots each, a power of two from 4 to 1,024.
+///
+/// # Errors
+/// `size` isn't such a number (E32); else out of memory (E99).
 pub fn duo(alloc: Global, size: usize) -> Result<(SharedSide, SharedSide), RingFault>
     ensures one { IfOk result (λ sides. sides.0 ≡ started_side sides.1.ring One size 0) }
     ensures two { IfOk result (λ sides. sides.1 ≡ started_side sides.1.ring Two size 0) }
@@ -28,7 +30,11 @@ pub fn duo(alloc: Global, size: usize) -> Result<(SharedSide, SharedSide), RingF
     duo_from(alloc, size, 0)
 }
 
-/// The same ring as though `start` fragments, all blank, had passed each way and all were told.
+/// The two sides of such a ring as [`duo`] makes, as though `start` fragments, all blank, had passed each way
+/// and all were told.
+///
+/// # Errors
+/// As [`duo`], whatever `start` is.
 pub fn duo_from(
     alloc: Global,
     size: usize,

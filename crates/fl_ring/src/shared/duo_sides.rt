@@ -96,9 +96,13 @@ impl SharedSide {
         self.told = taken;
     }
 
-    /// Puts a fragment, which tells all that this side has taken. E33 after 2^62 fragments; else E30
-    /// where, after a look at the other direction if too few slots were known free, fewer than two
-    /// are. The fragment isn't one that only acknowledges.
+    /// Puts a fragment, which tells all that this side has taken. The fragment isn't one that only
+    /// acknowledges.
+    ///
+    /// # Errors
+    /// The side has put 2^62 fragments (E33). Else fewer than two slots are known to be free, also after a
+    /// look at the other direction's next control word (E30): nothing was put, and the side knows what it saw
+    /// there.
     #[inline]
     pub fn try_put(&mut self, frag: &Frag) -> Result<(), PutFault>
         requires { is_ack_only frag.now ≡ false }
@@ -170,9 +174,12 @@ impl SharedSide {
         }
     }
 
-    /// Tells what this side has taken, where that is at least half of the slots: it writes a fragment
-    /// that only acknowledges. E30 where, after a look at the other direction, no slot is free, and
-    /// after 2^62 fragments.
+    /// Tells what this side has taken, where at least half of the slots are taken and untold: it writes a
+    /// fragment that only acknowledges. Else it answers `Nothing`, and nothing has changed.
+    ///
+    /// # Errors
+    /// There is so much to tell, and the side has put 2^62 fragments, or no slot is known to be free, also
+    /// after a look at the other direction's next control word (both E30, never E33): nothing was written.
     #[inline]
     pub fn tell(&mut self) -> Result<Told, PutFault>
         ensures tell { SharedTakes self.old (tells result) self.new }

@@ -15,8 +15,10 @@ use fl_link::Cursor;
 use std::alloc::Global;
 use std::sync::Arc;
 
-/// A ring of `size` slots, a power of two from 2 to 1,024 (else E32), and its two sides; E99 where
-/// there is no memory for it.
+/// The two sides of a new ring of `size` slots, a power of two from 2 to 1,024.
+///
+/// # Errors
+/// `size` isn't such a number (E32); else out of memory (E99).
 pub fn ring(alloc: Global, size: usize) -> Result<(RingTx, RingRx), RingFault>
     ensures sender { IfOk result (λ sides. sides.0 ≡ new_sender sides.1.ring size) }
     ensures receiver { IfOk result (λ sides. sides.1 ≡ new_receiver sides.1.ring size) }

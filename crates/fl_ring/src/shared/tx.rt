@@ -38,8 +38,11 @@ impl Model for RingTx {
 }
 
 impl RingTx {
-    /// Puts the fragment, with the epoch due and telling nothing. After 2^62 fragments it is E33;
-    /// else E30 where a look at the number told has shown that no slot is free.
+    /// Puts the fragment, with the epoch due and telling nothing.
+    ///
+    /// # Errors
+    /// The side has put 2^62 fragments (E33). Else a look at the number told has shown that no slot is free
+    /// (E30): nothing was put, and the side knows that number.
     #[inline]
     pub fn try_put(&mut self, frag: &Frag) -> Result<(), PutFault>
         ensures placed { OnOk result (SenderGains self.old (bare frag.now) self.new) }
