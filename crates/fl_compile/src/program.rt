@@ -47,14 +47,16 @@ impl Program {
     ghost use Rattle.fl_stub.specs.declared.op.Column.TheVariants.{Send, Receive};
     ghost use Rattle.fl_compile.specs.Programs.{program_of, code_in};
 
-    /// The plan.
+    /// The plan under which the interface was compiled: the rule for the order of arguments in every payload.
+    /// Both ends of a binding need the same.
     pub fn plan(&self) -> PlanNo
         ensures plan { result ≡ (program_of self.now).plan }
     {
         self.plan
     }
 
-    /// The interface.
+    /// The interface that was compiled, the program's own copy: the messages that it has code for, and the
+    /// types of their arguments.
     pub fn interface(&self) -> &Interface
         ensures interface { interface_of result.now ≡ (program_of self.now).interface }
         ensures words { interface_words_fit (interface_of result.now) ≡ true }
@@ -90,10 +92,10 @@ impl Program {
         }
     }
 
-    /// An equal program, which shares this one's memory.
+    /// An equal program, which shares this one's memory and takes none.
     ///
     /// # Errors
-    /// Out of memory (E99), and nothing else.
+    /// The owners of that memory are too many to be counted (E99), and nothing else.
     pub fn duplicate(&self, _alloc: Global) -> Result<Program, AllocError>
         ensures equal { IfOk result (λ copy. program_of copy ≡ program_of self.now) }
     {

@@ -93,7 +93,7 @@ impl Board {
         }
     }
 
-    /// What is known of a board at any time.
+    /// What is known of a board at any time. It does nothing.
     pub fn sound(&self)
         ensures sound { IsBoard self.now }
     {

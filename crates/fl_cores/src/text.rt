@@ -71,7 +71,8 @@ fn run_file<R: Threads + Wait + Sync, G: Gate + Sync>(
 /// Runs a cores file and appends what is told of that: its report, or the line that is refused.
 ///
 /// # Errors
-/// Out of memory, or a thread doesn't start. Nothing is appended then.
+/// Out of memory, or a thread doesn't start. (No clause rules out a refused set-up or job of an accepted
+/// file; no such file is known.) Nothing is appended then.
 pub fn run_cores_text<R: Threads + Wait + Sync, G: Gate + Sync>(
     rt: &R,
     alloc: Global,

@@ -79,6 +79,7 @@ impl Docket {
         }
     }
 
+    /// Whether the end has a reply rule.
     pub fn has_rules(&self) -> bool
         ensures ruled { result ≡ is_ruled (docket_of self.now) }
     {

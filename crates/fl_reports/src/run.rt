@@ -20,7 +20,8 @@ use std::thread::Threads;
 /// report is a function of the configuration, the jobs and the limit.
 ///
 /// # Errors
-/// [`CoresFault`]. Every thread was joined then.
+/// [`CoresFault`]: the first event of the set-up that is refused, by the world or since no set-up has it
+/// (93); else the first job that is refused; or want of memory or of a thread. Every thread was joined then.
 pub fn report_cores<R: Threads + Wait + Sync, G: Gate + Sync>(
     rt: &R,
     alloc: Global,
@@ -41,7 +42,8 @@ pub fn report_cores<R: Threads + Wait + Sync, G: Gate + Sync>(
 /// Runs a cores file, as [`run_cores_text`] does, and appends what is told of that: an honest report, or the line that is refused.
 ///
 /// # Errors
-/// Out of memory, or a thread doesn't start. Nothing is appended then.
+/// Out of memory, or a thread doesn't start. (No clause rules out a refused set-up or job of an accepted
+/// file; no such file is known.) Nothing is appended then.
 pub fn report_cores_text<R: Threads + Wait + Sync, G: Gate + Sync>(
     rt: &R,
     alloc: Global,

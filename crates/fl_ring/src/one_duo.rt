@@ -147,7 +147,8 @@ impl OneDuo {
         }
     }
 
-    /// The table: the slots that side one writes, then those of side two. For tests.
+    /// The table, 16 words for each slot of a direction: first the slots that side one writes, of eight words
+    /// each, then those that side two writes.
     pub fn words(&self) -> &[u64]
         ensures stands { DuoStands result.now self.now }
     {

@@ -103,7 +103,8 @@ fn run_joined<R: Threads + Wait + Sync, G: Gate + Sync>(
     Ok(report_on(alloc, &mut joined, own, wired.owners, done)?)
 }
 
-/// Runs the cores of a world's parts on threads of their own, each with its jobs, until all have finished or so many turns of one are counted.
+/// Runs the cores of a world's parts on threads of their own, each with its jobs, until each has finished or
+/// counted so many turns.
 ///
 /// # Errors
 /// [`RunFault`]: a job is refused, out of memory, or a thread doesn't start. Every thread was joined then.

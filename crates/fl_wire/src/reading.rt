@@ -25,8 +25,9 @@ fn had_memory(stop: Stop) -> Result<(), AllocError>
     }
 }
 
-/// The call whose fragments these are: of a fitting call's first fragments, none until the last one is
-/// there. Of other fragments nothing is said, and the epochs must be 0.
+/// The call whose fragments these are: of a fitting call's first fragments, one or more, that call where the
+/// last one is there, else none. Their epochs, circuits and counts told are 0. Of other fragments nothing is
+/// said.
 ///
 /// # Errors
 /// Out of memory (E99), and nothing else.
