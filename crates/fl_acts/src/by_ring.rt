@@ -23,9 +23,11 @@ use std::alloc::AllocError;
 pub struct Joiner {
     /// Its dispatcher.
     pub at: DispatcherId,
+    /// Which end it is.
     pub name: EndId,
     /// The side of the ring, by its number.
     pub side: usize,
+    /// The end itself, which its core takes.
     pub end: End,
 }
 

@@ -149,6 +149,7 @@ pub fn arrive_by_ring(
 /// A fragment that is to move on: from one side of a ring to a side of another, with this circuit's number there.
 #[derive(Clone, Copy)]
 pub struct Passing {
+    /// The fragment, as a look at the first ring saw it.
     pub frag: Frag,
     /// The side on which it stands first, by its number.
     pub from: usize,

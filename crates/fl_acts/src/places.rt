@@ -23,6 +23,7 @@ pub enum Spot {
 /// A core's end of a link: the link there, and the core's side of its ring.
 #[derive(Clone, Copy)]
 pub struct Lane {
+    /// The link, by its place among those of the core.
     pub link: LinkId,
     /// The side, by its number.
     pub side: usize,

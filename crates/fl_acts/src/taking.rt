@@ -38,6 +38,7 @@ pub struct Due {
     pub dispatcher: usize,
     /// The end's place on the board.
     pub end: usize,
+    /// Which end it is.
     pub name: EndId,
 }
 

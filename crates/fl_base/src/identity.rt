@@ -30,7 +30,9 @@ pub struct MsgNo(pub u16);
 /// One of a binding's two ends: the client's, or the service's.
 #[derive(Clone, Copy, Debug, PartialEq, Eq)]
 pub enum Side {
+    /// The end that asked for the binding: `NAME.c`.
     Client,
+    /// The end of the service: `NAME.s`.
     Server,
 }
 
@@ -49,7 +51,9 @@ impl Side {
 /// An end: of which binding, from 0 in order of accepted binds, and on which side.
 #[derive(Clone, Copy, Debug, PartialEq, Eq)]
 pub struct EndId {
+    /// The number of its binding, from 0.
     pub binding: usize,
+    /// Whether it is the client's end or the service's.
     pub side: Side,
 }
 
@@ -68,6 +72,8 @@ impl EndId {
 /// A stretch of a text: the bytes from `start` up to, and without, `end`.
 #[derive(Clone, Copy, Debug, PartialEq, Eq)]
 pub struct Span {
+    /// The place of its first byte, from 0.
     pub start: usize,
+    /// The place behind its last byte; `start` where it is empty.
     pub end: usize,
 }

@@ -8,11 +8,14 @@ ghost use Rattle.fl_dockets.specs.Joined.{core_of};
 use fl_base::{EndId, MsgNo, Side};
 use std::alloc::{AllocError, Global};
 
-/// A binding, by its interface and the cores of its ends.
+/// A binding, by its interface and the cores of its ends, each by its place, from 0.
 #[derive(Clone, Copy, Debug, PartialEq, Eq)]
 pub struct Bound {
+    /// The interface that its ends speak.
     pub interface: usize,
+    /// The core of the client's end.
     pub client: usize,
+    /// The core of the server's end, or the one at which it will be made.
     pub server: usize,
     /// Where a job opens it, that job's place among those that open.
     pub opened: Option<usize>,

@@ -29,7 +29,10 @@ use std::alloc::{AllocError, Global};
 /// The jobs as cores do them, and the bindings that they name.
 #[derive(Drop)]
 pub struct Joined {
+    /// The jobs that are left to cores, in the order in which they were handed in.
     pub jobs: Vec<CoreJob>,
+    /// The bindings that are set up, by their numbers, and behind them those that jobs open, in the order of
+    /// these.
     pub bindings: Vec<Bound>,
     /// By end, as [`slot_of`] numbers them.
     pub dockets: Vec<Docket>,

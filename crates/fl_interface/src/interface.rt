@@ -6,7 +6,9 @@ ghost use Rattle.fl_interface.specs.Types.{message_of};
 ghost use Rattle.fl_interface.specs.Limits.{is_within_limits};
 ghost use Rattle.fl_interface.specs.Counts.{messages_words_fit};
 
-/// A scalar type, by its name in the language.
+/// A scalar type, by its name in the language, where all letters are small. `Bool` and `Char` take 1 byte,
+/// `Iref` takes 4, `Uintptr`, `Intptr`, `Size` and `Errval` take 8, each other one as many bits as its name
+/// says.
 #[derive(Clone, Copy, Debug, PartialEq, Eq)]
 pub enum Scalar {
     Uint8,
@@ -29,6 +31,7 @@ pub enum Scalar {
 /// A type whose values all have one size.
 #[derive(Debug, Drop)]
 pub enum FixedType {
+    /// A scalar.
     Scalar(Scalar),
     /// An enum of so many enumerators; a value is an enumerator's place, from 0.
     Enumeration(u32),
@@ -41,6 +44,7 @@ pub enum FixedType {
 /// The type of an argument: only here may a value's size vary.
 #[derive(Debug, Drop)]
 pub enum ArgType {
+    /// A value of a fixed type.
     Fixed(FixedType),
     /// A string of at most so many bytes.
     Text(u32),
@@ -51,13 +55,16 @@ pub enum ArgType {
 /// A name of the language: a letter or `_`, then letters, digits and `_`, at most 64 bytes.
 #[derive(Debug, Drop)]
 pub struct Word {
+    /// The name's bytes, in order.
     pub bytes: Vec<u8>,
 }
 
 /// A message: its name and its arguments' types, in declared order.
 #[derive(Debug, Drop)]
 pub struct Message {
+    /// Its name: that of a `message`, or an rpc's with `_call` or `_response` behind it.
     pub name: Word,
+    /// The type of each argument.
     pub args: Vec<ArgType>,
 }
 
@@ -66,7 +73,9 @@ pub struct Message {
 /// count of enumerators fits a word of 32 bits.
 #[derive(Debug, Drop)]
 pub struct Interface {
+    /// Its own name.
     pub name: Word,
+    /// Its messages, each at the place that is its number, from 0.
     pub messages: Vec<Message>,
     pub ghost within: { is_within_limits (record { name = name.bytes.items; messages = map message_of messages.items }) ≡ true },
     pub ghost counted: { messages_words_fit (map message_of messages.items) ≡ true },

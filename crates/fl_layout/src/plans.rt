@@ -29,7 +29,9 @@ pub fn fragment_count(len: usize) -> usize
 /// The layout of each message of an interface under a plan, with a copy of the interface.
 #[derive(Debug, Drop)]
 pub struct Plans {
+    /// The copy of the interface that is laid out.
     pub interface: Interface,
+    /// The plan that lays it out.
     pub plan: PlanNo,
     messages: Vec<MessagePlan>,
     ghost laid: { map (λ m. m.placed.items) messages.items ≡ map (placed_of plan) (map message_of interface.messages.items) },

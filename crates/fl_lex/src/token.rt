@@ -3,13 +3,21 @@
 /// A mark of the language.
 #[derive(Clone, Copy, Debug, PartialEq, Eq)]
 pub enum Mark {
+    /// `{`
     OpenBrace,
+    /// `}`
     CloseBrace,
+    /// `(`
     OpenParen,
+    /// `)`
     CloseParen,
+    /// `[`
     OpenBracket,
+    /// `]`
     CloseBracket,
+    /// `,`
     Comma,
+    /// `;`
     Semicolon,
 }
 
@@ -30,8 +38,11 @@ pub enum TokenKind {
 /// where they begin.
 #[derive(Clone, Copy, Debug)]
 pub struct Token<'a> {
+    /// What it is; of a number also its value.
     pub kind: TokenKind,
+    /// Its bytes, as they stand in the text.
     pub text: &'a [u8],
+    /// The place of its first byte in the text, from 0.
     pub at: usize,
 }
 

@@ -17,9 +17,13 @@ use std::alloc::{AllocError, Global};
 /// What the machine answers to an event.
 #[derive(Drop)]
 pub enum Answer {
+    /// `ok`: it is done, and nothing else is to be told of it.
     Done,
+    /// A call is accepted: its end promises to write all its fragments.
     Accepted,
+    /// There was nothing to do.
     Nothing,
+    /// What it would go to has no room; or, at a turn, the end due holds back.
     Full,
     /// Fragment k of n was written.
     Written { k: usize, n: usize },
@@ -31,6 +35,7 @@ pub enum Answer {
     Ready(EndId),
     /// None stands there, or one that only acknowledges and was taken.
     Quiet(EndId),
+    /// A call's fragment went on: onto the next link, or into the arrival queue of its end.
     Forwarded,
     /// An end of a circuit is bound.
     Opened(EndId),

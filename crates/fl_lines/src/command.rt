@@ -11,14 +11,18 @@ use std::alloc::{AllocError, Global};
 /// An end as a script names it: a binding's name, and `.c` for the client's end or `.s` for the service's.
 #[derive(Clone, Copy)]
 pub struct EndName<'a> {
+    /// The binding's name, without `.c` or `.s`.
     pub binding: &'a [u8],
+    /// Which of its two ends.
     pub side: Side,
 }
 
 /// The cores of a circuit's route, as a line has them: the first, and the text of the others, which are numbers.
 #[derive(Clone, Copy)]
 pub struct Route<'a> {
+    /// The first core, the client's.
     pub first: u32,
+    /// The text behind it: the numbers of the other cores, parted by blanks.
     pub others: &'a [u8],
     pub ghost numbers: { is_some (numbers_of (words_of others.now)) ≡ true },
 }
@@ -62,26 +66,28 @@ pub enum BackEnd<'a> {
 /// What a line asks for. Names are lent by the line.
 #[derive(Clone, Copy)]
 pub enum Command<'a> {
-    /// The number of cores.
+    /// `cores`: the number of cores.
     Cores(u32),
-    /// A link between two cores, a ring of so many slots each way.
+    /// `link`: a link between the cores `a` and `b`, a ring of so many slots each way.
     Link {
         a: u32,
         b: u32,
         slots: u32,
     },
-    /// A dispatcher on a core.
+    /// `disp`: a dispatcher of this name on a core.
     Disp {
         name: &'a [u8],
         core: u32,
     },
-    /// A service of a dispatcher, under an interface.
+    /// `export`: a service of this name, which a dispatcher offers under an interface, both told by their
+    /// names.
     Export {
         name: &'a [u8],
         dispatcher: &'a [u8],
         interface: &'a [u8],
     },
-    /// A binding of a client's dispatcher to a service, under an interface.
+    /// `bind`: a binding of this name, of a client's dispatcher to a service, under an interface, the three
+    /// told by their names, and how its ends are to be joined.
     Bind {
         name: &'a [u8],
         client: &'a [u8],
@@ -89,31 +95,38 @@ pub enum Command<'a> {
         service: &'a [u8],
         back_end: BackEnd<'a>,
     },
-    /// An end makes a call, told by its text, which no one has read yet.
+    /// `call`: an end makes a call, told by its text, which no one has read yet.
     Call(EndName<'a>, &'a [u8]),
+    /// `show`: the fragment that the end would write next is asked for.
     Show(EndName<'a>),
+    /// `write`: the end writes its next fragment.
     Write(EndName<'a>),
+    /// `turn`: one turn of the dispatcher of this name.
     Turn(&'a [u8]),
+    /// `ack`: the end acknowledges what it has taken.
     Ack(EndName<'a>),
+    /// `register`: the end's channel goes into its dispatcher's waitset.
     Register(EndName<'a>),
+    /// `deregister`: the end's channel leaves its dispatcher's waitset.
     Deregister(EndName<'a>),
-    /// Where the end handles the first message, it makes the call of the second.
+    /// `reply`: where the end handles the first message, it makes the call of the second, with the same
+    /// arguments. Both are told by their names.
     Reply {
         end: EndName<'a>,
         message: &'a [u8],
         answer: &'a [u8],
     },
-    /// The core's monitor writes its next message onto the link to the neighbour.
+    /// `mwrite`: the core's monitor writes its next message onto the link to the neighbour.
     MonitorWrite {
         core: u32,
         neighbour: u32,
     },
-    /// The core forwards what stands first on the link from the neighbour.
+    /// `forward`: the core forwards what stands first on the link from the neighbour.
     Forward {
         core: u32,
         neighbour: u32,
     },
-    /// The core acknowledges what it has read on the link from the neighbour.
+    /// `mack`: the core acknowledges what it has read on the link from the neighbour.
     MonitorAck {
         core: u32,
         neighbour: u32,
@@ -127,6 +140,7 @@ pub enum Line<'a> {
     Silent,
     /// The head of a block that holds an interface's text, laid out by this plan.
     Heading(PlanNo),
+    /// A command that is read.
     Command(Command<'a>),
     /// Nothing that is read: `refused E90`.
     Unread,
@@ -135,14 +149,18 @@ pub enum Line<'a> {
 /// What a line is by its first word.
 #[derive(Clone, Copy)]
 pub enum Opening<'a> {
+    /// Blank or a comment: no answer.
     Silent,
+    /// The head of a block that holds an interface's text, laid out by this plan.
     Heading(PlanNo),
     /// The word, and what stands behind it: a command, or nothing that is read.
     Command(Verb, &'a [u8]),
+    /// Nothing that is read: `refused E90`.
     Unread,
 }
 
-/// The first word of a command.
+/// The first word of a line: a variant for each word that begins a command, by its name in small letters;
+/// `Idl` for the word that heads a block; `Unknown` for any other word.
 #[derive(Clone, Copy, Debug, PartialEq, Eq)]
 pub enum Verb {
     Idl,

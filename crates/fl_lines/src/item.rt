@@ -28,9 +28,11 @@ pub enum Item<'a> {
 /// One item of a script, told by its first word: what stands behind that isn't read yet.
 #[derive(Clone, Copy)]
 pub enum Part<'a> {
+    /// A line that is blank or a comment: no answer.
     Silent,
     /// A line that begins with this word, and what stands behind it: a command, or nothing that is read.
     Command(Verb, &'a [u8]),
+    /// A line of nothing that is read: `refused E90`.
     Unread,
     /// A block: its plan, and its text with all line ends.
     Block(PlanNo, &'a [u8]),

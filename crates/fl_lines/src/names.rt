@@ -31,15 +31,19 @@ use std::alloc::{AllocError, Global};
 /// All names that a script has given. A thing's place in its list is the place by which the machine knows it.
 #[derive(Drop)]
 pub struct Names {
+    /// Where names find memory.
     pub alloc: Global,
+    /// The interfaces' names.
     pub interfaces: NameTable,
     /// Of each interface, the names of its messages.
     pub messages: Vec<NameTable>,
+    /// The dispatchers' names.
     pub dispatchers: NameTable,
     /// Of each dispatcher, where it is.
     pub placed: Vec<DispatcherId>,
+    /// The bindings' names.
     pub bindings: NameTable,
-    /// Of each binding, its interface.
+    /// Of each binding, its interface, by its place.
     pub spoken: Vec<usize>,
 }
 

@@ -49,6 +49,7 @@ fn place_among(names: &[Vec<u8>], name: &[u8]) -> Option<usize>
 /// Names in order of making, none twice. A look-up takes no memory, and where there are many names no search.
 #[derive(Drop)]
 pub struct NameTable {
+    /// The names, each at its place, from 0 in order of making.
     pub set: IndexSet<Vec<u8>>,
 }
 
@@ -128,6 +129,8 @@ impl NameTable {
 /// The names of an interface: its own, and those of its messages, by number.
 #[derive(Drop)]
 pub struct InterfaceNames {
+    /// The interface's own name.
     pub name: Vec<u8>,
+    /// Its messages' names, each at the place that is its number.
     pub messages: NameTable,
 }

@@ -13,15 +13,20 @@ use fl_endpoint::End;
 /// An end, and the dispatcher at which it is to be.
 #[derive(Drop)]
 pub struct Newcomer {
+    /// The dispatcher's place on the core's board, from 0.
     pub dispatcher: usize,
+    /// The end itself, which the core takes.
     pub end: End,
 }
 
 /// The two ends of a binding that are to be joined by queues within one core.
 #[derive(Drop)]
 pub struct Joining {
+    /// The binding's number.
     pub binding: usize,
+    /// The client's end.
     pub client: Newcomer,
+    /// The server's end.
     pub server: Newcomer,
     /// The queue to which the client's end puts, by its number.
     pub to_server: usize,
@@ -29,10 +34,12 @@ pub struct Joining {
     pub to_client: usize,
 }
 
-/// The places of a binding's two ends.
+/// The places of a binding's two ends on the board of their core, from 0.
 #[derive(Clone, Copy)]
 pub struct BothEnds {
+    /// That of the client's end.
     pub client: usize,
+    /// That of the server's end.
     pub server: usize,
 }
 

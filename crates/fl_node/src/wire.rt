@@ -36,7 +36,9 @@ pub enum Inlet {
 /// An end at a core: its name and its wire.
 #[derive(Clone, Copy)]
 pub struct Port {
+    /// Which end it is.
     pub name: EndId,
+    /// How it is joined to the other end of its binding.
     pub wire: Wire,
 }
 

@@ -13,6 +13,7 @@ use thiserror::Error;
 /// fault alone, then the fault in words with its line and column, then what stands there.
 #[derive(Clone, Copy, Debug, PartialEq, Eq)]
 pub struct Refusal<'a> {
+    /// The text's first fault, with its line and column.
     pub explained: Explained,
     /// The fault's place in bytes from the text's start.
     pub offset: usize,
@@ -38,6 +39,7 @@ impl fmt::Display for Refusal<'_> {
 /// `E82`, then the fault in words.
 #[derive(Clone, Copy, Debug, PartialEq, Eq)]
 pub struct ImageRefusal {
+    /// The first fault of the bytes.
     pub fault: fl_image::Refusal,
 }
 

@@ -41,6 +41,8 @@ pub enum Op {
 /// What code is for: all instructions of verified code are of one column.
 #[derive(Clone, Copy, Debug, PartialEq, Eq)]
 pub enum Column {
+    /// Code that takes a call's numbers from a tape, and gives the bytes of its payload.
     Send,
+    /// Code that takes the bytes of a payload, and puts the call's numbers on a tape.
     Receive,
 }

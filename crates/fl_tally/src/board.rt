@@ -16,7 +16,9 @@ pub struct Plan {
 /// A job whose opening was refused, and the number of the refusal; 0 where it isn't refused yet.
 #[derive(Clone, Copy)]
 pub struct Refusal {
+    /// The job's place among those that open bindings, from 0.
     pub job: u64,
+    /// The number of the fault for which it was refused.
     pub number: u64,
 }
 
@@ -36,8 +38,9 @@ pub struct View {
     pub stored: LinkedList<Refusal>,
     /// What was found in the jobs' words.
     pub heard: LinkedList<Refusal>,
-    /// Each job's core, and how many seats the table has: as the plan has it.
+    /// Each job's core, as the plan has it.
     pub owners: LinkedList<u64>,
+    /// How many seats the table has: one more than the plan has cores.
     pub whole: u64,
 }
 

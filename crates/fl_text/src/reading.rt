@@ -17,7 +17,9 @@ use std::alloc::{AllocError, Global};
 /// What a text is: an interface, or a fault and where it stands.
 #[derive(Debug, Drop)]
 pub enum TextRead {
+    /// The interface that the text stands for.
     Interface(Interface),
+    /// The number of the text's first fault, 1 to 21, and its place in bytes from the text's start.
     Fault { number: u8, offset: usize },
 }
 

@@ -28,7 +28,9 @@ const MAX_WORD: usize = 64;
 /// A call's text, read: the name of a message, and values. No interface has been asked yet.
 #[derive(Debug, Drop)]
 pub struct CallText {
+    /// The message's name.
     pub name: Word,
+    /// The values between the parentheses, in order.
     pub args: Vec<Value>,
 }
 

@@ -18,7 +18,9 @@ pub enum Value {
 /// A call: the message's number and its arguments, in declared order.
 #[derive(Debug, Drop)]
 pub struct Call {
+    /// The message, by its number.
     pub msg: MsgNo,
+    /// A value of each argument.
     pub args: Vec<Value>,
 }
 

@@ -11,12 +11,16 @@ use fl_ring::OneDuo;
 /// (`specs/Apart.antt`).
 #[derive(Drop)]
 pub struct Parts {
+    /// The cores, each at the place that is its number.
     pub cores: Vec<Core>,
     /// Those of links, and those of bindings between two cores.
     pub rings: Vec<OneDuo>,
     /// Those of bindings within a core.
     pub queues: Vec<QueueLink>,
+    /// The interfaces, each compiled under its plan.
     pub programs: Vec<Program>,
+    /// The table of the services' names.
     pub names: Names,
+    /// What the world kept of each binding beside its cores.
     pub bindings: Vec<Binding>,
 }
