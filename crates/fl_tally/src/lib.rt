@@ -6,8 +6,8 @@
 //! at most 1 for having finished, each seat at most 17 for a stop; a job's word is 0 or the refusal that the seat of its
 //! client's core has stored, once.
 //!
-//! Contract for the layers above: [`EndSeat`], by what its seat knows. Nothing here waits or takes memory but
-//! [`EndSeat::new`] and [`EndSeat::split`].
+//! Contract for the layers above: [`EndSeat`], by what its seat knows. Nothing here waits, and nothing takes
+//! memory but [`EndSeat::new`].
 //!
 //! - `board.rt`: the plan, the views and the rule
 //! - `plays.rt`: the kinds of step
