@@ -124,7 +124,8 @@ fn refuse_other(alloc: Global, config: &Config<'_>, place: usize) -> CoresFault
 /// Runs cores on threads of their own, each with its jobs, until each has finished or counted so many turns.
 ///
 /// # Errors
-/// [`CoresFault`]: the first event of the set-up that is refused, by the world or since no set-up has it (93); else the first job that is refused; or want of
+/// [`CoresFault`]: a number of cores outside 1 to 16 (94, at place 0); else the first event of the set-up that
+/// is refused, by the world or since no set-up has it (93); else the first job that is refused; or want of
 /// memory or of a thread. Every thread was joined then.
 #[tactic(auto, using(crate::proofs::Booted::not_booted, crate::proofs::Booted::late_fault))]
 pub fn run_cores<R: Threads + Wait + Sync, G: Gate + Sync>(

@@ -20,8 +20,9 @@ use std::thread::Threads;
 /// report is a function of the configuration, the jobs and the limit.
 ///
 /// # Errors
-/// [`CoresFault`]: the first event of the set-up that is refused, by the world or since no set-up has it
-/// (93); else the first job that is refused; or want of memory or of a thread. Every thread was joined then.
+/// [`CoresFault`]: a number of cores outside 1 to 16 (94, at place 0); else the first event of the set-up that
+/// is refused, by the world or since no set-up has it (93); else the first job that is refused; or want of
+/// memory or of a thread. Every thread was joined then.
 pub fn report_cores<R: Threads + Wait + Sync, G: Gate + Sync>(
     rt: &R,
     alloc: Global,

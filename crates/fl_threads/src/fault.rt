@@ -11,7 +11,7 @@ use thiserror::Error;
 /// Why there is no report of a run of parts. Every thread was joined then.
 #[derive(Clone, Copy, Debug, Error)]
 pub enum RunFault {
-    /// The job at this place, from 1, is refused, with the fault's number.
+    /// The job at this place, from 1, is refused, with the fault's number; at place 0 a binding of the set-up.
     #[error("a job is refused")]
     Refused { number: u8, place: usize },
     /// Out of memory (E99).
