@@ -1,5 +1,5 @@
 -- What a set-up comes to, and why there may be no report.
-use Rattle.std.proofs.Common.{◌≡◌, inl, inr, take, refl, sym, ap, ◌∙◌, subst, ℕ, suc, ◌+◌, Bool, true, false, ◌&&◌, not, cond, nat_lt, List, [], ◌∷◌, length, map, Some, None, arith}
+use Rattle.std.proofs.Common.{◌≡◌, inl, inr, take, ◌≤◌, refl, sym, ap, ◌∙◌, subst, ℕ, suc, ◌+◌, Bool, true, false, ◌&&◌, not, cond, nat_lt, List, [], ◌∷◌, length, map, Some, None, arith}
 use Rattle.std.proofs.lemmas.List.{length-map, take-map}
 use Rattle.std.specs.List.{list_all, position, position_or_len}
 use Rattle.std.proofs.lemmas.Bool.Decides.{nat_tests}
@@ -53,6 +53,18 @@ cores_are c w p stands parts = ap length parts.cores ∙ stands.1.shown.picture.
 pub not_booted : (c : TheConfig) (jobs : List TheJob) (fault : BootFault) → position is_other c.setup ≡ None → IsFaultOf c fault → IsFault c jobs (by_boot fault)
 not_booted c jobs (boot.Refused number place) making is = subst (λ late. IsRefusedAt c number place late) (sym making) is
 not_booted c jobs boot.Memory making is = is
+
+found : (b : Bool) (n m : ℕ) → cond b (Some n) None ≡ Some m → (b ≡ true) × (n ≡ m)
+found true n m e = (refl, cc)
+found false n m e = absurd (cc)
+
+pub other_within : (events : List RustEvent) (place : ℕ) → position is_other (map event_of events) ≡ Some place → place ≤ length events
+other_within events place first =
+    let vs = map event_of events in
+    let at = found (nat_lt (position_or_len is_other vs) (length vs)) (position_or_len is_other vs) place first in
+    let here = at.0 in
+    let same = at.1 in
+    let size = length-map events event_of in grind (arith, nat_tests, here, same, size)
 
 -- nor where an event is of no set-up: one before it is refused, or it is
 front_by : (cores place : ℕ) (events before : List RustEvent) → before ≡ take place events
