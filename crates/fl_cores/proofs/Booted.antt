@@ -11,9 +11,7 @@ use Rattle.fl_worlds.specs.declared.parts.Parts.{Parts}
 use Rattle.fl_system.specs.declared.booting.BootFault.{BootFault}
 use Rattle.fl_system.specs.declared.booting.BootFault.TheVariants as boot
 use Rattle.fl_worlds.specs.Apart.{is_making, AreParts}
-use Rattle.fl_system.specs.Booting.{TheConfig, config_by, passes, Stands, IsFaultOf}
-use Rattle.fl_queues.specs.Runs.{answers_to}
-use Rattle.fl_queues.specs.Worlds.{start_with}
+use Rattle.fl_system.specs.Booting.{TheConfig, config_by, Stands, AcceptsAll, IsFaultOf}
 use Rattle.fl_jobs.specs.Jobs.{Job as TheJob}
 use Rattle.fl_threads.specs.Faults.{IsRunFault}
 use Rattle.fl_cores.specs.declared.fault.CoresFault.{CoresFault}
@@ -78,17 +76,12 @@ front_refused cores place events before (boot.Refused number at) jobs same first
     (inl (subst (λ c. IsFaultOf c (boot.Refused number at)) (sym (front_by cores place events before same)) is))
 front_refused cores place events before boot.Memory jobs same first is = is
 
-pub other_refused : (cores place : ℕ) (events before : List RustEvent) (w : TheWorld) (jobs : List TheJob) → before ≡ take place events
-    → position is_other (map event_of events) ≡ Some place → Stands (config_by cores before) w
+pub other_refused : (cores place : ℕ) (events before : List RustEvent) (jobs : List TheJob) → before ≡ take place events
+    → position is_other (map event_of events) ≡ Some place → AcceptsAll (config_by cores before)
     → IsFault (config_by cores events) jobs (fault.Setup 93 (place + 1))
-other_refused cores place events before w jobs same first stands =
+other_refused cores place events before jobs same first accepts =
     subst (λ late. IsRefusedAt (config_by cores events) 93 (place + 1) late) (sym first)
-    (inr (record {
-      cores = stands.0;
-      passed = ap (λ (c : TheConfig). list_all passes (answers_to (start_with cores) c.setup)) (front_by cores place events before same) ∙ stands.1.passed;
-      number_is = refl;
-      place_is = refl;
-    }))
+    (inr (record { accepts = subst AcceptsAll (sym (front_by cores place events before same)) accepts; number_is = refl; place_is = refl }))
 
 -- a fault behind an accepted set-up
 pub late_fault : (c : TheConfig) (jobs : List TheJob) (p : Parts) (f : CoresFault) → IsAccepted c → Made c p → IsLater p jobs f → IsFault c jobs f

@@ -17,7 +17,7 @@ use Rattle.fl_jobs.specs.Printed.{refusal_text, report_text}
 use Rattle.fl_system.specs.declared.booting.BootFault.TheVariants as boot
 use Rattle.fl_worlds.specs.declared.parts.Parts.{Parts}
 use Rattle.fl_worlds.specs.Apart.{is_making, AreParts}
-use Rattle.fl_system.specs.Booting.{TheConfig, has_bad_cores, passes, Stands, IsFaultOf}
+use Rattle.fl_system.specs.Booting.{TheConfig, has_bad_cores, passes, Stands, AcceptsAll, IsFaultOf}
 use Rattle.fl_cores.specs.declared.fault.CoresFault.{CoresFault}
 use Rattle.fl_cores.specs.declared.fault.CoresFault.TheVariants as fault
 use Rattle.fl_cores.specs.declared.text.CoresEnd.{CoresEnd}
@@ -70,8 +70,7 @@ front_of c n = record { cores = c.cores; setup = take n c.setup }
 
 -- the machine refuses none of the events before this one, which isn't of a set-up: it is refused (E93)
 pub record RefusesOther (c : TheConfig) (n number place : ℕ) : Type 0 where
-  pub cores : has_bad_cores c ≡ false
-  pub passed : list_all passes (answers_to (start_with c.cores) (take n c.setup)) ≡ true
+  pub accepts : AcceptsAll (front_of c n)
   pub number_is : number ≡ 93
   pub place_is : place ≡ n + 1
 

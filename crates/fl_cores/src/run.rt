@@ -107,13 +107,14 @@ fn run_made<R: Threads + Wait + Sync, G: Gate + Sync>(
 }
 
 // Why there is no run of a set-up whose event at this place, from 0, is the first that belongs to none: an event before it is refused, or it is.
+#[tactic(auto, using(crate::proofs::Booted::other_within, crate::proofs::Booted::front_refused, crate::proofs::Booted::other_refused))]
 fn refuse_other(alloc: Global, config: &Config<'_>, place: usize) -> CoresFault
     requires first { position is_other (config_of config.now).setup ≡ Some place }
     ensures refused { (jobs : List TheJob) → IsFault (config_of config.now) jobs result }
 {
     let (before, _) = config.setup.as_slice().split_at(place);
-    match World::boot_by(alloc, config.cores, before) {
-        Ok(_) => CoresFault::Setup {
+    match World::rehearse(alloc, config.cores, before) {
+        Ok(()) => CoresFault::Setup {
             number: 93,
             place: place + 1,
         },

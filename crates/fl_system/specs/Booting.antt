@@ -57,6 +57,10 @@ pub record Stops (s : State) (events : List Event) (number place : ℕ) : Type 0
 abbrev pub Stands : TheConfig → TheWorld → Type 0
 Stands c w = (has_bad_cores c ≡ false) × Passes (start_with c.cores) c.setup w
 
+-- so many cores there may be, and the machine refuses none of the events
+abbrev pub AcceptsAll : TheConfig → Type 0
+AcceptsAll c = (has_bad_cores c ≡ false) × (list_all passes (answers_to (start_with c.cores) c.setup) ≡ true)
+
 -- why there is none: the number of cores, at place 0; the set-up's first refused event; or want of memory, of which the machine knows nothing
 abbrev pub IsFaultOf : TheConfig → BootFault → Type 0
 IsFaultOf c (Refused number place) =

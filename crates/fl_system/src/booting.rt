@@ -7,7 +7,7 @@ ghost use Rattle.fl_queues.specs.State.{State};
 ghost use Rattle.fl_queues.specs.Step.{step};
 ghost use Rattle.fl_worlds.specs.Picture.{Shows};
 ghost use Rattle.fl_worlds.specs.Apart.{AllUnused, is_making, KeepsUnused};
-ghost use Rattle.fl_system.specs.Booting.{config_by, config_of, Passes, Stands, IsFaultOf, number_of, StopsBy, StopsAt};
+ghost use Rattle.fl_system.specs.Booting.{config_by, config_of, Passes, Stands, AcceptsAll, IsFaultOf, number_of, StopsBy, StopsAt};
 ghost use Rattle.fl_system.specs.Stepping.{fault_in};
 
 use crate::world::World;
@@ -111,6 +111,20 @@ impl World {
         };
         match world.set_up(events) {
             Ok(()) => Ok(world),
+            Err(fault) => Err(fault),
+        }
+    }
+
+    /// Does these events on a world of its own, which is dropped then: whether a world of so many cores accepts them.
+    ///
+    /// # Errors
+    /// As [`World::boot_by`].
+    pub fn rehearse(alloc: Global, cores: u8, events: &[Event<'_>]) -> Result<(), BootFault>
+        ensures accepted { OnOk result (AcceptsAll (config_by cores events.now)) }
+        ensures refused { IfErr result (λ fault. IsFaultOf (config_by cores events.now) fault) }
+    {
+        match World::boot_by(alloc, cores, events) {
+            Ok(_) => Ok(()),
             Err(fault) => Err(fault),
         }
     }
