@@ -103,25 +103,29 @@ reads_by text o short h = by (is_too_long text) short h where
   by true e k = absurd (cc)
   by false e k = k
 
-pub refused_there : (T : Type 0) (r : Reading) (after : Reading) (line : ℕ) (bytes rest text : List ℕ) (item : Item) (stop : Stop) (result : Result CoresText AllocError)
+pub stops_there : (T : Type 0) (r : Reading) (after : Reading) (line : ℕ) (bytes rest text : List ℕ) (item : Item) (stop : Stop)
     → SomeItems → ((items : List Item) → ItemsOf rest items → ItemsOf bytes (item ∷ items)) → ComesTo {T = T} (Err stop) after (Does r item)
     → ((o : Outcome) → ReadsFrom r line bytes o → ReadsFrom beginning 1 text o)
-    → IfOk result (λ t. (number : ℕ) × (stop ≡ Refused number) × (outcome_of t ≡ refused_at line number))
-    → is_too_long text ≡ false → IfOk result (λ t. Reads text (outcome_of t))
-refused_there T r after line bytes rest text item (Refused n) (Err e) some joins does whole h short = tt
-refused_there T r after line bytes rest text item Memory (Err e) some joins does whole h short = tt
-refused_there T r after line bytes rest text item Memory (Ok t) some joins does whole h short = absurd (let e : Memory ≡ Refused h.0 = h.1 in cc)
-refused_there T r after line bytes rest text item (Refused n) (Ok t) some joins does whole h short =
-    let e : Refused n ≡ Refused h.0 = h.1 in
-    let same : n ≡ h.0 = cc in
+    → is_too_long text ≡ false → (number : ℕ) → stop ≡ Refused number → Reads text (refused_at line number)
+stops_there T r after line bytes rest text item Memory some joins does whole short number e = absurd (cc)
+stops_there T r after line bytes rest text item (Refused n) some joins does whole short number e =
+    let same : n ≡ number = cc in
     let there = read_stop r line n bytes rest item some joins does in
-    let told : outcome_of t ≡ refused_at line n = h.2 ∙ ap (refused_at line) (sym same) in
-    reads_by text (outcome_of t) short (subst (λ (o : Outcome). ReadsFrom beginning 1 text o) (sym told) (whole (refused_at line n) there))
+    subst (λ (k : ℕ). Reads text (refused_at line k)) same (reads_by text (refused_at line n) short (whole (refused_at line n) there))
 
-pub read_to_end : (r : Reading) (line : ℕ) (rest text : List ℕ) (file : CoresFile) → length rest ≡ 0 → file ≡ file_of r
-    → ((o : Outcome) → ReadsFrom r line rest o → ReadsFrom beginning 1 text o) → is_too_long text ≡ false → Reads text (is_file file)
-read_to_end r line rest text file none is whole short =
-    reads_by text (is_file file) short (subst (λ (f : CoresFile). ReadsFrom beginning 1 text (is_file f)) (sym is) (whole (is_file (file_of r)) (read_end r line rest none)))
+pub refused_there : (line : ℕ) (text : List ℕ) (stop : Stop) (result : Result CoresText AllocError)
+    → ((number : ℕ) → stop ≡ Refused number → Reads text (refused_at line number))
+    → IfOk result (λ t. (number : ℕ) × (stop ≡ Refused number) × (outcome_of t ≡ refused_at line number))
+    → IfOk result (λ t. Reads text (outcome_of t))
+refused_there line text stop (Err e) told h = tt
+refused_there line text stop (Ok t) told h = subst (Reads text) (sym h.2) (told h.0 h.1)
+
+pub read_to_end : (r : Reading) (line : ℕ) (rest text : List ℕ) → length rest ≡ 0
+    → ((o : Outcome) → ReadsFrom r line rest o → ReadsFrom beginning 1 text o) → is_too_long text ≡ false → Reads text (is_file (file_of r))
+read_to_end r line rest text none whole short = reads_by text (is_file (file_of r)) short (whole (is_file (file_of r)) (read_end r line rest none))
+
+pub reads_file : (text : List ℕ) (file : CoresFile) (r : Reading) → file ≡ file_of r → Reads text (is_file (file_of r)) → Reads text (is_file file)
+reads_file text file r e h = subst (λ (f : CoresFile). Reads text (is_file f)) (sym e) h
 
 -- ---- the number of a line
 

@@ -1,13 +1,14 @@
 -- Lists seen by a function of their elements.
-use Rattle.std.proofs.Common.{◌≡◌, ◌∙◌, refl, sym, ap, ℕ, zero, suc, ◌+◌, ◌||◌, ◌++◌, arith, Bool, List, [], ◌∷◌, map, slice_get, slice_set, Option, Some, None}
+use Rattle.std.proofs.Common.{◌≡◌, ◌<◌, ◌≤◌, ◌∙◌, refl, sym, ap, ℕ, zero, suc, ◌+◌, ◌||◌, ◌++◌, arith, Bool, List, [], ◌∷◌}
+use Rattle.std.proofs.Common.{length, map, take, drop, get_or, set, slice_get, slice_set, Option, Some, None}
 use Rattle.std.specs.List.{list_any, flat_map, range_with_len}
 use Rattle.std.proofs.lemmas.List.{append-nil}
 use Rattle.std.proofs.lemmas.List.Concat.{flat_map-append, flat_map-cons}
 use Rattle.std.proofs.lemmas.List.Folds.{flat_map-map}
 use Rattle.std.proofs.lemmas.List.FromFn.{map-range_with_len_more}
 use Rattle.fl_queues.specs.Given.{given, changed_at}
-use Rattle.fl_jobs.specs.CoresFile.{Reading, CoresFile, which_opened, numbers_of, job_by, file_by, file_of}
-use Rattle.fl_jobs.specs.Jobs.{Job}
+use Rattle.fl_jobs.specs.CoresFile.{Reading, which_opened, numbers_of, with_numbers, file_by, file_left, file_of}
+use Rattle.fl_jobs.specs.Draft.{Draft}
 
 pub any_map : {X Y : Type 0} (p : Y → Bool) (f : X → Y) (xs : List X) → list_any p (map f xs) ≡ list_any (λ x. p (f x)) xs
 any_map p f [] = refl
@@ -31,14 +32,30 @@ map_past v f [] n e = refl
 map_past v f (z ∷ xs) zero e = absurd (cc)
 map_past v f (z ∷ xs) (suc n) e = ap (λ ys. v z ∷ ys) (map_past v f xs n e) ∙ sym (later f (v z) (map v xs) n (slice_get (map v xs) n))
 
+-- ---- all elements changed, one after the other
+
+-- what is changed so far, and the rest as it will be
+abbrev pub front_of : {X Y : Type 0} → (X → Y) → (Y → Y) → ℕ → List X → List Y
+front_of v f n xs = map v (take n xs) ++ map f (map v (drop n xs))
+
+pub front_more : {X Y : Type 0} (v : X → Y) (f : Y → Y) (xs : List X) (n : ℕ) (x y : X) → n < length xs → x ≡ get_or xs n x → v y ≡ f (v x)
+    → front_of v f (suc n) (set xs n y) ≡ front_of v f n xs
+front_more v f [] n x y h e is = absurd (omega arith)
+front_more v f (z ∷ xs) zero x y h e is = ap (λ k. k ∷ map f (map v xs)) (is ∙ ap (λ k. f (v k)) e)
+front_more v f (z ∷ xs) (suc n) x y h e is = ap (λ ys. v z ∷ ys) (front_more v f xs n x y (omega arith) e is)
+
+pub front_all : {X Y : Type 0} (v : X → Y) (f : Y → Y) (xs : List X) (n : ℕ) → length xs ≤ n → front_of v f n xs ≡ map v xs
+front_all v f [] zero h = refl
+front_all v f [] (suc n) h = refl
+front_all v f (z ∷ xs) zero h = absurd (omega arith)
+front_all v f (z ∷ xs) (suc n) h = ap (λ ys. v z ∷ ys) (front_all v f xs n (omega arith))
+
 -- ---- a file, with bindings numbered
 
-abbrev pub with_parts : Reading → List Job → List ℕ → CoresFile
-with_parts r jobs numbers = record { cores = r.draft.cores; setup = r.draft.setup; jobs = jobs; names = r.names; numbers = numbers }
-
-pub file_is : (r : Reading) (numbers : List ℕ) (jobs : List Job) → numbers ≡ numbers_of (which_opened r.draft.bindings)
-    → jobs ≡ map (job_by numbers) r.draft.jobs → with_parts r jobs numbers ≡ file_of r
-file_is r numbers jobs e h = ap (λ (js : List Job). with_parts r js numbers) h ∙ ap (λ (ns : List ℕ). file_by ns r) e
+pub file_is : (r : Reading) (numbers : List ℕ) (d : Draft) → numbers ≡ numbers_of (which_opened r.draft.bindings) → d ≡ with_numbers numbers r.draft
+    → file_left numbers (record { names = r.names; draft = d }) ≡ file_of r
+file_is r numbers d e h =
+    ap (λ (x : Draft). file_left numbers (record { names = r.names; draft = x })) h ∙ ap (λ (ns : List ℕ). file_by ns r) e
 
 -- ---- one rank more
 

@@ -93,6 +93,10 @@ job_by numbers (opens wish) = opens wish
 job_by numbers (replies e msg answer) = replies (end_by numbers e) msg answer
 job_by numbers (calls e c) = calls (end_by numbers e) c
 
+-- a draft whose jobs name their ends by numbers
+abbrev pub with_numbers : List ℕ → Draft → Draft
+with_numbers numbers d = record d { jobs = map (job_by numbers) d.jobs }
+
 -- ---- a whole file
 
 pub record CoresFile : Type 0 where
@@ -113,6 +117,10 @@ file_by numbers r = record {
   names = r.names;
   numbers = numbers;
 }
+
+-- of a reading whose jobs name their ends by numbers already
+abbrev pub file_left : List ℕ → Reading → CoresFile
+file_left numbers r = record { cores = r.draft.cores; setup = r.draft.setup; jobs = r.draft.jobs; names = r.names; numbers = numbers }
 
 abbrev pub file_of : Reading → CoresFile
 file_of r = file_by (numbers_of (which_opened r.draft.bindings)) r

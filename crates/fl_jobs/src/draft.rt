@@ -122,6 +122,14 @@ impl<'a> Draft<'a> {
         core < self.cores
     }
 
+    // What is asked for before the cores run, and their jobs.
+    pub(crate) fn into_parts(self) -> (Vec<Event<'a>>, Vec<Job<'a>>)
+        ensures setup { result.0.items ≡ self.entry.setup.items }
+        ensures jobs { result.1.items ≡ self.entry.jobs.items }
+    {
+        (self.setup, self.jobs)
+    }
+
     // Takes up what a line asks. Where it stops, the draft is of no more use: after want of memory it may have a part of what was asked.
     pub(crate) fn take(&mut self, event: Event<'a>) -> Result<(), Stop>
         ensures comes { Comes result (draft_of self.new) (takes (event_of event.entry) (draft_of self.old)) }

@@ -1,9 +1,9 @@
 //! A cores file that was read.
 
 ghost use Rattle.std.specs.Prelude.{◌≡◌, ◌≤◌, length, map, IfOk};
-ghost use Rattle.fl_jobs.specs.CoresFile.{which_opened, count_set_up, numbers_of, numbered, end_by, job_by, file_of};
+ghost use Rattle.fl_jobs.specs.CoresFile.{which_opened, count_set_up, numbers_of, numbered, end_by, job_by, with_numbers, file_left};
 ghost use Rattle.fl_jobs.specs.Files.{file_from, reading_of};
-ghost use Rattle.fl_jobs.specs.Views.{bound_of, job_of};
+ghost use Rattle.fl_jobs.specs.Views.{bound_of, job_of, draft_of};
 
 use crate::draft::{Bound, Draft};
 use crate::job::Job;
@@ -88,62 +88,48 @@ pub(crate) fn end_by(numbers: &[usize], end: EndId) -> EndId
     }
 }
 
-fn job_by<'a>(numbers: &[usize], job: Job<'a>) -> Job<'a>
-    ensures job { job_of result ≡ job_by numbers.now (job_of job.entry) }
+// Names a job's end by its binding's number.
+fn number_job(numbers: &[usize], job: &mut Job<'_>)
+    ensures job { job_of job.new ≡ job_by numbers.now (job_of job.old) }
 {
     match job {
-        Job::Open(wish) => Job::Open(wish),
-        Job::Reply {
-            end,
-            message,
-            answer,
-        } => Job::Reply {
-            end: end_by(numbers, end),
-            message,
-            answer,
-        },
-        Job::Call { end, call } => Job::Call {
-            end: end_by(numbers, end),
-            call,
-        },
+        Job::Open(_) => {}
+        Job::Reply { end, .. } => *end = end_by(numbers, *end),
+        Job::Call { end, .. } => *end = end_by(numbers, *end),
     }
 }
 
-fn jobs_by<'a>(
-    alloc: Global,
-    numbers: &[usize],
-    jobs: Vec<Job<'a>>,
-) -> Result<Vec<Job<'a>>, AllocError>
-    ensures jobs { IfOk result (λ v. map job_of v.items ≡ map (job_by numbers.now) (map job_of jobs.entry.items)) }
+fn number_jobs(numbers: &[usize], jobs: &mut [Job<'_>])
+    ensures jobs { map job_of jobs.new ≡ map (job_by numbers.now) (map job_of jobs.old) }
 {
-    let mut done = Vec::new(alloc);
-    for job in jobs {
-        done.push(job_by(numbers, job))?;
+    for job in jobs.iter_mut() {
+        number_job(numbers, job);
     }
-    Ok(done)
+}
+
+// Numbers a draft's bindings, and names the ends of its jobs by their numbers.
+pub(crate) fn number(alloc: Global, draft: &mut Draft<'_>) -> Result<Vec<usize>, AllocError>
+    ensures numbers { IfOk result (λ v. v.items ≡ numbers_of (which_opened (map bound_of draft.old.bindings.items))) }
+    ensures jobs { IfOk result (λ v. draft_of draft.new ≡ with_numbers v.items (draft_of draft.old)) }
+{
+    let numbers = number_bindings(alloc, &draft.bindings)?;
+    number_jobs(&numbers, &mut draft.jobs);
+    Ok(numbers)
 }
 
 impl<'a> CoresFile<'a> {
-    // What was read, with bindings numbered.
-    pub(crate) fn new(alloc: Global, reading: Reading<'a>) -> Result<CoresFile<'a>, AllocError>
-        ensures file { IfOk result (λ f. file_from f ≡ file_of (reading_of reading.entry)) }
+    // What was read, once bindings are numbered.
+    pub(crate) fn new(numbers: Vec<usize>, reading: Reading<'a>) -> CoresFile<'a>
+        ensures file { file_from result ≡ file_left numbers.items (reading_of reading.entry) }
     {
-        let Reading { names, draft } = reading;
-        let Draft {
+        let cores = reading.draft.cores;
+        let (setup, jobs) = reading.draft.into_parts();
+        CoresFile {
             cores,
             setup,
             jobs,
-            bindings,
-            ..
-        } = draft;
-        let numbers = number_bindings(alloc, &bindings)?;
-        let jobs = jobs_by(alloc, &numbers, jobs)?;
-        Ok(CoresFile {
-            cores,
-            setup,
-            jobs,
-            names,
+            names: reading.names,
             numbers,
-        })
+        }
     }
 }

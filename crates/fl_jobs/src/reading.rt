@@ -1,6 +1,6 @@
 //! A cores file read line by line.
 
-ghost use Rattle.std.specs.Prelude.{ℕ, ◌≡◌, ◌≤◌, ◌==◌, Err, IfOk, false, length};
+ghost use Rattle.std.specs.Prelude.{ℕ, ◌≡◌, ◌≤◌, ◌==◌, Err, IfOk, IfErr, false, length};
 ghost use Rattle.std.specs.List.{count_by};
 ghost use Rattle.fl_interface.specs.Interface.{interface_of};
 ghost use Rattle.fl_lines.specs.Asked.{Asked as TheAsked, asks};
@@ -10,12 +10,12 @@ ghost use Rattle.fl_lines.specs.Told.{names_of, named, IsNew, Tells};
 ghost use Rattle.fl_lines.specs.Views.{command_of, line_of, item_of};
 ghost use Rattle.fl_text.specs.Text.{stands_for};
 ghost use Rattle.fl_jobs.specs.CoresFile.{beginning, belongs, Does, does, does_block, DoesCommand, lines_in};
-ghost use Rattle.fl_jobs.specs.CoresFile.{refused_at, is_too_long, Reads};
+ghost use Rattle.fl_jobs.specs.CoresFile.{file_left, is_file, refused_at, is_too_long, Reads};
 ghost use Rattle.fl_jobs.specs.Files.{reading_of, outcome_of};
 ghost use Rattle.fl_jobs.specs.Verdicts.{Comes, ComesTo};
 
 use crate::draft::Draft;
-use crate::file::{CoresFile, CoresText};
+use crate::file::{CoresFile, CoresText, number};
 use crate::stop::{Stop, stop_by};
 use fl_interface::Interface;
 use fl_lines::{Answer, Asked, Command, Item, Line, LineFault, Names, next_item, some_items};
@@ -143,6 +143,31 @@ impl<'a> Reading<'a> {
             Item::OpenBlock => Err(Stop::Refused(90)),
         }
     }
+
+    // Reads a text to its end, and numbers its bindings; or it tells of the first line that is refused.
+    fn read(&mut self, text: &'a [u8]) -> Result<Vec<usize>, (usize, Stop)>
+        requires beginning { reading_of self.old ≡ beginning }
+        requires short { is_too_long text.now ≡ false }
+        ensures file { IfOk result (λ numbers. Reads text.now (is_file (file_left numbers.items (reading_of self.new)))) }
+        ensures refused { IfErr result (λ s. (number : ℕ) → s.1 ≡ Stop.Refused number → Reads text.now (refused_at s.0 number)) }
+    {
+        some_items();
+        let mut rest = text;
+        let mut line = 1;
+        while !rest.is_empty() {
+            let (item, behind) = next_item(rest);
+            let lines = lines_in(&item);
+            if let Err(stop) = self.item(item) {
+                return Err((line, stop));
+            }
+            line += lines;
+            rest = behind;
+        }
+        match number(self.draft.alloc, &mut self.draft) {
+            Ok(numbers) => Ok(numbers),
+            Err(AllocError) => Err((line, Stop::Memory)),
+        }
+    }
 }
 
 // How many line feeds a text has.
@@ -184,20 +209,14 @@ fn read_items<'a>(alloc: Global, text: &'a [u8]) -> Result<CoresText<'a>, AllocE
     requires short { is_too_long text.now ≡ false }
     ensures reads { IfOk result (λ t. Reads text.now (outcome_of t)) }
 {
-    some_items();
     let mut reading = Reading::new(alloc);
-    let mut rest = text;
-    let mut line = 1;
-    while !rest.is_empty() {
-        let (item, behind) = next_item(rest);
-        let lines = lines_in(&item);
-        if let Err(stop) = reading.item(item) {
-            return refuse(line, stop);
+    match reading.read(text) {
+        Ok(numbers) => Ok(CoresText::File(CoresFile::new(numbers, reading))),
+        Err((line, stop)) => {
+            drop(reading);
+            refuse(line, stop)
         }
-        line += lines;
-        rest = behind;
     }
-    Ok(CoresText::File(CoresFile::new(alloc, reading)?))
 }
 
 /// Reads a cores file: what it sets up and hands in, or its first line that is refused.

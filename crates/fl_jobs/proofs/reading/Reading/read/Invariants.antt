@@ -3,11 +3,11 @@ use Rattle.fl_lines.specs.Items.{Item, ItemsOf}
 use Rattle.fl_jobs.specs.CoresFile.{Outcome, beginning, ReadsFrom}
 use Rattle.fl_jobs.specs.Files.{reading_of}
 use Rattle.fl_jobs.proofs.LineLemmas.{total}
-use Rattle.fl_jobs.proofs.reading.read_items.Given as goal
+use Rattle.fl_jobs.proofs.reading.Reading.read.Given as goal
 
 abbrev pub invariant-loop-rest : goal.invariant-loop-rest
 invariant-loop-rest l =
-    ((o : Outcome) → ReadsFrom (reading_of l.reading) l.line l.rest o → ReadsFrom beginning 1 l.text o)
+    ((o : Outcome) → ReadsFrom (reading_of l.self) l.line l.rest o → ReadsFrom beginning 1 l.text o)
     × ((items : List Item) → ItemsOf l.rest items → l.line + total items ≤ 1 + 2 * length l.text)
 
 abbrev pub decreases-loop-rest : goal.decreases-loop-rest
