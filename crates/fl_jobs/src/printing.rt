@@ -274,16 +274,25 @@ fn put_ending(out: &mut Vec<u8>, ending: Ending) -> Result<(), AllocError>
     }
 }
 
-// The text of a report.
-fn text_of(alloc: Global, file: &CoresFile<'_>, report: &Report) -> Result<Vec<u8>, AllocError>
-    ensures text { IfOk result (λ text. text.items ≡ report_text (file_from file.now) (report_of report.now)) }
+// Of each name of a table how many stand before it.
+fn rank_names(alloc: Global, names: &NameTable) -> Result<Vec<usize>, AllocError>
+    ensures ranks { IfOk result (λ v. v.items ≡ ranks_of (table_of names.now)) }
 {
-    let names = list_names(alloc, &file.names.bindings)?;
-    let ranks = rank_all(alloc, &names)?;
-    let mut text = Vec::new(alloc);
-    put_bindings(alloc, &mut text, file, report, &ranks)?;
-    put_ending(&mut text, report.ending)?;
-    Ok(text)
+    let list = list_names(alloc, names)?;
+    rank_all(alloc, &list)
+}
+
+fn put_report(
+    alloc: Global,
+    out: &mut Vec<u8>,
+    file: &CoresFile<'_>,
+    report: &Report,
+) -> Result<(), AllocError>
+    ensures ok { OnOk result (out.new.items ≡ out.old.items ++ report_text (file_from file.now) (report_of report.now)) }
+{
+    let ranks = rank_names(alloc, &file.names.bindings)?;
+    put_bindings(alloc, out, file, report, &ranks)?;
+    put_ending(out, report.ending)
 }
 
 /// Appends the text of a report, by the names of its cores file: all of it or nothing.
@@ -299,6 +308,7 @@ pub fn print_report(
     ensures printed { OnOk result (out.new.items ≡ out.old.items ++ report_text (file_from file.now) (report_of report.now)) }
     ensures kept { OnErr result (out.new.items ≡ out.old.items) }
 {
-    let text = text_of(alloc, file, report)?;
+    let mut text = Vec::new(alloc);
+    put_report(alloc, &mut text, file, report)?;
     out.extend_from_slice(&text)
 }
