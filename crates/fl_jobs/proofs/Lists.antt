@@ -1,14 +1,16 @@
 -- Lists seen by a function of their elements.
-use Rattle.std.proofs.Common.{◌≡◌, ◌<◌, ◌≤◌, ◌∙◌, refl, sym, ap, ℕ, zero, suc, ◌+◌, ◌||◌, ◌++◌, arith, Bool, List, [], ◌∷◌}
+use Rattle.std.proofs.Common.{◌≡◌, ◌<◌, ◌≤◌, ◌∙◌, refl, sym, ap, ℕ, zero, suc, ◌+◌, ◌||◌, ◌++◌, append_assoc, arith, Bool, List, [], ◌∷◌}
 use Rattle.std.proofs.Common.{length, map, take, drop, get_or, set, slice_get, slice_set, Option, Some, None}
 use Rattle.std.specs.List.{list_any, flat_map, range_with_len}
 use Rattle.std.proofs.lemmas.List.{append-nil}
 use Rattle.std.proofs.lemmas.List.Concat.{flat_map-append, flat_map-cons}
 use Rattle.std.proofs.lemmas.List.Folds.{flat_map-map}
 use Rattle.std.proofs.lemmas.List.FromFn.{map-range_with_len_more}
+use Rattle.fl_base.specs.declared.identity.EndId.{EndId}
+use Rattle.fl_queues.specs.Calls.{Planned}
 use Rattle.fl_queues.specs.Given.{given, changed_at}
 use Rattle.fl_jobs.specs.CoresFile.{Reading, which_opened, numbers_of, with_numbers, file_by, file_left, file_of}
-use Rattle.fl_jobs.specs.Draft.{Draft}
+use Rattle.fl_jobs.specs.Draft.{Bound, Draft, fault_at}
 
 pub any_map : {X Y : Type 0} (p : Y → Bool) (f : X → Y) (xs : List X) → list_any p (map f xs) ≡ list_any (λ x. p (f x)) xs
 any_map p f [] = refl
@@ -31,6 +33,19 @@ pub map_past : {X Y : Type 0} (v : X → Y) (f : Y → Y) (xs : List X) (n : ℕ
 map_past v f [] n e = refl
 map_past v f (z ∷ xs) zero e = absurd (cc)
 map_past v f (z ∷ xs) (suc n) e = ap (λ ys. v z ∷ ys) (map_past v f xs n e) ∙ sym (later f (v z) (map v xs) n (slice_get (map v xs) n))
+
+-- ---- an element found
+
+pub found_at : {X Y : Type 0} (v : X → Y) (xs : List X) (n : ℕ) (x : X) → slice_get xs n ≡ Some x → slice_get (map v xs) n ≡ Some (v x)
+found_at v [] n x e = absurd (cc)
+found_at v (z ∷ xs) zero x e = let same : z ≡ x = cc in ap (λ k. Some (v k)) same
+found_at v (z ∷ xs) (suc n) x e = found_at v xs n x e
+
+pub fault_found : (end : EndId) (finds : Bound → Planned → Option ℕ) (d : Draft) (b : Bound) (i : Planned) → slice_get d.bindings end.binding ≡ Some b
+    → slice_get d.interfaces b.interface ≡ Some i → finds b i ≡ fault_at end finds d
+fault_found end finds d b i p q =
+    sym (ap (λ (o : Option Bound). given o (Some 92) λ b. given (slice_get d.interfaces b.interface) (Some 92) λ i. finds b i) p
+    ∙ ap (λ (o : Option Planned). given o (Some 92) λ i. finds b i) q)
 
 -- ---- all elements changed, one after the other
 
@@ -56,6 +71,19 @@ pub file_is : (r : Reading) (numbers : List ℕ) (d : Draft) → numbers ≡ num
     → file_left numbers (record { names = r.names; draft = d }) ≡ file_of r
 file_is r numbers d e h =
     ap (λ (x : Draft). file_left numbers (record { names = r.names; draft = x })) h ∙ ap (λ (ns : List ℕ). file_by ns r) e
+
+-- ---- one text more
+
+pub one_text_more : {X Y : Type 0} (v : X → Y) (f : Y → List ℕ) (xs : List X) (n m : ℕ) (x : X) → m ≡ suc n → n < length xs → x ≡ get_or xs n x
+    → flat_map f (map v (take m xs)) ≡ flat_map f (map v (take n xs)) ++ f (v x)
+one_text_more {X = X} v f xs n m x is h e = ap (λ k. flat_map f (map v (take k xs))) is ∙ by xs n h e where
+  by : (xs : List X) (n : ℕ) → n < length xs → x ≡ get_or xs n x → flat_map f (map v (take (suc n) xs)) ≡ flat_map f (map v (take n xs)) ++ f (v x)
+  by [] n h e = absurd (omega arith)
+  by (z ∷ xs) zero h e = flat_map-cons f (v z) [] ∙ (append-nil (f (v z)) ∙ ap (λ k. f (v k)) (sym e))
+  by (z ∷ xs) (suc n) h e =
+      flat_map-cons f (v z) (map v (take (suc n) xs)) ∙ (ap (λ (t : List ℕ). f (v z) ++ t) (by xs n (omega arith) e)
+      ∙ (sym (append_assoc (f (v z)) (flat_map f (map v (take n xs))) (f (v x)))
+      ∙ ap (λ (t : List ℕ). t ++ f (v x)) (sym (flat_map-cons f (v z) (map v (take n xs))))))
 
 -- ---- one rank more
 
