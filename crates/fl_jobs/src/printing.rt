@@ -128,8 +128,7 @@ fn put_call(
     put_end(out, names, end)?;
     out.extend_from_slice(b" ")?;
     print_call(alloc, out, names.message_name(end, call.msg), &call.args)?;
-    out.push(b'\n')?;
-    Ok(())
+    out.extend_from_slice(b"\n")
 }
 
 // The calls that an end handled, a line each.
@@ -185,8 +184,7 @@ fn put_refused(
         side: Side::Client,
     };
     print_answer(alloc, out, names, &Answer::OpeningRefused { number, end })?;
-    out.push(b'\n')?;
-    Ok(())
+    out.extend_from_slice(b"\n")
 }
 
 fn put_both(
