@@ -1,5 +1,5 @@
 -- How many lines the items of a text have; and what the rest of a text comes to.
-use Rattle.std.proofs.Common.{◌≡◌, ◌≤◌, ◌+◌, ◌*◌, ◌==◌, ◌++◌, ℕ, Bool, true, false, ◌∙◌, ap, if◌then◌else◌, List, [], ◌∷◌, length, inl, inr, refl, sym, subst, arith, cond}
+use Rattle.std.proofs.Common.{◌≡◌, ◌≤◌, ◌+◌, ◌*◌, ◌==◌, ◌++◌, ℕ, Bool, true, false, if◌then◌else◌, List, [], ◌∷◌, length, inl, inr, refl, sym, subst, arith, cond}
 use Rattle.std.specs.Prelude.{IfOk, Result, Ok, Err}
 use Rattle.std.specs.declared.alloc.AllocError.{AllocError}
 use Rattle.std.specs.Bool.{MatchBool}
@@ -7,7 +7,7 @@ use Rattle.std.specs.List.{count_by}
 use Rattle.std.proofs.lemmas.Bool.Decides.{nat_tests}
 use Rattle.std.proofs.lemmas.List.Sums.{sum_by-cons, sum_by-append}
 use Rattle.fl_lines.specs.Grammar.{Line, silent, heading, command, unread}
-use Rattle.fl_lines.specs.Items.{Item, a_line, a_block, open_block, put_first, lines_of, Mode, outside, inside, Behind, Items, ItemsOf, SomeItems}
+use Rattle.fl_lines.specs.Items.{Item, put_first, lines_of, Mode, outside, inside, Behind, Items, ItemsOf, SomeItems}
 use Rattle.fl_jobs.specs.declared.stop.Stop.{Stop}
 use Rattle.fl_jobs.specs.declared.stop.Stop.TheVariants.{Refused, Memory}
 use Rattle.fl_jobs.specs.declared.file.CoresText.{CoresText}

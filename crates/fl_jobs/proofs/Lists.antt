@@ -1,16 +1,24 @@
 -- Lists seen by a function of their elements.
 use Rattle.std.proofs.Common.{◌≡◌, ◌<◌, ◌≤◌, ◌∙◌, refl, sym, ap, ℕ, zero, suc, ◌+◌, ◌||◌, ◌++◌, append_assoc, arith, Bool, List, [], ◌∷◌}
-use Rattle.std.proofs.Common.{length, map, take, drop, get_or, set, slice_get, slice_set, Option, Some, None}
+use Rattle.std.proofs.Common.{true, false, not, ◌&&◌, if◌then◌else◌, length, map, take, drop, get_or, set, slice_get, slice_set, Option, Some, None}
 use Rattle.std.specs.List.{list_any, flat_map, range_with_len}
+use Rattle.std.proofs.lemmas.Bool.Decides.{nat_tests}
 use Rattle.std.proofs.lemmas.List.{append-nil}
 use Rattle.std.proofs.lemmas.List.Concat.{flat_map-append, flat_map-cons}
 use Rattle.std.proofs.lemmas.List.Folds.{flat_map-map}
 use Rattle.std.proofs.lemmas.List.FromFn.{map-range_with_len_more}
+use Rattle.std.proofs.lemmas.Option.{slice_get_within}
 use Rattle.fl_base.specs.declared.identity.EndId.{EndId}
+use Rattle.fl_base.specs.declared.identity.Side.{Side}
+use Rattle.fl_base.specs.Ends.{other}
+use Rattle.fl_interface.specs.Interface.{TheMessage}
+use Rattle.fl_interface.specs.SameTypes.{same_arguments}
+use Rattle.fl_value.specs.Tape.{types_of}
 use Rattle.fl_queues.specs.Calls.{Planned}
+use Rattle.fl_queues.specs.Taking.{arguments_of, has_message}
 use Rattle.fl_queues.specs.Given.{given, changed_at}
 use Rattle.fl_jobs.specs.CoresFile.{Reading, which_opened, numbers_of, with_numbers, file_by, file_left, file_of}
-use Rattle.fl_jobs.specs.Draft.{Bound, Draft, fault_at}
+use Rattle.fl_jobs.specs.Draft.{Bound, Draft, use_at, is_for_calls, is_for_rules, rule_fault, fault_at}
 
 pub any_map : {X Y : Type 0} (p : Y → Bool) (f : X → Y) (xs : List X) → list_any p (map f xs) ≡ list_any (λ x. p (f x)) xs
 any_map p f [] = refl
@@ -46,6 +54,29 @@ pub fault_found : (end : EndId) (finds : Bound → Planned → Option ℕ) (d : 
 fault_found end finds d b i p q =
     sym (ap (λ (o : Option Bound). given o (Some 92) λ b. given (slice_get d.interfaces b.interface) (Some 92) λ i. finds b i) p
     ∙ ap (λ (o : Option Planned). given o (Some 92) λ i. finds b i) q)
+
+-- ---- no fault of a reply rule
+
+past_tests : {A : Type 0} (a b c d e : Bool) (x y z w : A) → a ≡ true → b ≡ true → c ≡ true → d ≡ false → e ≡ false
+    → w ≡ (if not (a && b) then x else if not c then y else if d || e then z else w)
+past_tests true true true false false x y z w ha hb hc hd he = refl
+past_tests false b c d e x y z w ha hb hc hd he = absurd (cc)
+past_tests true false c d e x y z w ha hb hc hd he = absurd (cc)
+past_tests true true false d e x y z w ha hb hc hd he = absurd (cc)
+past_tests true true true true e x y z w ha hb hc hd he = absurd (cc)
+past_tests true true true false true x y z w ha hb hc hd he = absurd (cc)
+
+has : (i : Planned) (msg : ℕ) (m : TheMessage) → slice_get i.interface.messages msg ≡ Some m → has_message msg i ≡ true
+has i msg m e = let h : msg < length i.interface.messages = slice_get_within i.interface.messages msg m e in grind (arith, nat_tests)
+
+pub no_fault : (side : Side) (msg answer : ℕ) (b : Bound) (i : Planned) (m n : TheMessage) → slice_get i.interface.messages msg ≡ Some m
+    → slice_get i.interface.messages answer ≡ Some n → same_arguments m.args n.args ≡ true → is_for_calls (use_at side b) ≡ false
+    → is_for_rules (use_at (other side) b) ≡ false → None ≡ rule_fault side msg answer b i
+no_fault side msg answer b i m n p q same calls rules =
+    past_tests (has_message msg i) (has_message answer i) (same_arguments (arguments_of msg i) (arguments_of answer i)) (is_for_calls (use_at side b))
+    (is_for_rules (use_at (other side) b)) (Some 41) (Some 42) (Some 44) None (has i msg m p) (has i answer n q)
+    (ap (λ (o : Option TheMessage). same_arguments (types_of o) (arguments_of answer i)) p
+    ∙ (ap (λ (o : Option TheMessage). same_arguments m.args (types_of o)) q ∙ same)) calls rules
 
 -- ---- all elements changed, one after the other
 

@@ -5,6 +5,6 @@ use Rattle.fl_jobs.proofs.file.number_bindings.Goals as goal
 
 pub loop-binding-preserved : goal.loop-binding-preserved
 loop-binding-preserved c = elim c.if-binding.branch [
-  then-binding+in_ok-push w ↦ grind (arith, common_steps) |
-  else-binding+in_ok-push-2 w ↦ grind (arith, common_steps)
+  | then-binding+in_ok-push w ↦ grind (arith, common_steps)
+  | else-binding+in_ok-push-2 w ↦ grind (arith, common_steps)
 ]

@@ -17,4 +17,4 @@ loop-call-preserved c =
     ∙ (ap (λ (t : List ℕ). t ++ last) c.loop-call.invariant
     ∙ (append_assoc c.args.out.now.items so_far last
     ∙ ap (λ (t : List ℕ). c.args.out.now.items ++ t)
-      (sym (one_text_more call_of text c.args.calls.now c.loop-call.call-index (c.loop-call.call-index + 1) c.call-item.result (omega arith) c.loop-call-test.true c.call-item.is))))
+    (sym (one_text_more call_of text c.args.calls.now c.loop-call.call-index (c.loop-call.call-index + 1) c.call-item.result (omega arith) c.loop-call-test.true c.call-item.is))))

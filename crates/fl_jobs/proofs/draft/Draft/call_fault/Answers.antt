@@ -13,6 +13,6 @@ returns c =
     record {
       same = c.call_fault.ensures.same
           ∙ fault_found c.args.end (call_fault c.args.end.side (call_of c.args.call.now)) (draft_of c.args.self.now) (bound_of c.in-Some.binding.now)
-              (planned_of c.in-Some-get.planned.now) (found_at bound_of c.args.self.now.bindings.items c.args.end.binding c.in-Some.binding.now (rw c.deref.ensures.value at bound))
-              (found_at planned_of c.args.self.now.interfaces.items c.in-Some.binding.now.interface c.in-Some-get.planned.now (rw c.deref-2.ensures.value at planned));
+          (planned_of c.in-Some-get.planned.now) (found_at bound_of c.args.self.now.bindings.items c.args.end.binding c.in-Some.binding.now (rw c.deref.ensures.value at bound))
+          (found_at planned_of c.args.self.now.interfaces.items c.in-Some.binding.now.interface c.in-Some-get.planned.now (rw c.deref-2.ensures.value at planned));
     }

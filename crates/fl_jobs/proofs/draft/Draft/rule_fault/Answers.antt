@@ -12,6 +12,6 @@ returns c =
     record {
       same = c.rule_fault.ensures.same
           ∙ fault_found c.args.end (rule_fault c.args.end.side c.args.message.0 c.args.answer.0) (draft_of c.args.self.now) (bound_of c.in-Some.binding.now)
-              (planned_of c.in-Some-get.planned.now) (found_at bound_of c.args.self.now.bindings.items c.args.end.binding c.in-Some.binding.now (rw c.deref.ensures.value at bound))
-              (found_at planned_of c.args.self.now.interfaces.items c.in-Some.binding.now.interface c.in-Some-get.planned.now (rw c.deref-2.ensures.value at planned));
+          (planned_of c.in-Some-get.planned.now) (found_at bound_of c.args.self.now.bindings.items c.args.end.binding c.in-Some.binding.now (rw c.deref.ensures.value at bound))
+          (found_at planned_of c.args.self.now.interfaces.items c.in-Some.binding.now.interface c.in-Some-get.planned.now (rw c.deref-2.ensures.value at planned));
     }

@@ -1,7 +1,7 @@
-use Rattle.std.proofs.Common.{◌≡◌, ◌≤◌, ◌+◌, arith, length, subst}
+use Rattle.std.proofs.Common.{◌≡◌, arith, length, subst}
 use Rattle.std.proofs.lemmas.Bool.Decides.{nat_tests}
 use Rattle.fl_lines.specs.Views.{item_of}
-use Rattle.fl_jobs.specs.CoresFile.{Reading, lines_in, file_left, ReadsFrom}
+use Rattle.fl_jobs.specs.CoresFile.{Reading, file_left, ReadsFrom}
 use Rattle.fl_jobs.specs.Files.{reading_of}
 use Rattle.fl_jobs.specs.Views.{draft_of}
 use Rattle.fl_jobs.proofs.Lists.{file_is}
