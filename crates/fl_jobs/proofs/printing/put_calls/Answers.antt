@@ -1,4 +1,5 @@
-use Rattle.std.proofs.Common.{◌∙◌, ◌+◌, ◌++◌, sym, ap, append_assoc, arith, ℕ, List, map, take}
+use Rattle.std.proofs.Common.{◌≡◌, ◌∙◌, ◌+◌, ◌++◌, sym, ap, append_assoc, arith, ℕ, List, map, take}
+use lib.Seq.{take_all}
 use Rattle.std.specs.List.{flat_map}
 use Rattle.fl_value.specs.Value.{TheCall, call_of}
 use Rattle.fl_queues.specs.Events.{handle}
@@ -18,3 +19,9 @@ loop-call-preserved c =
     ∙ (append_assoc c.args.out.now.items so_far last
     ∙ ap (λ (t : List ℕ). c.args.out.now.items ++ t)
     (sym (one_text_more call_of text c.args.calls.now c.loop-call.call-index (c.loop-call.call-index + 1) c.call-item.result (omega arith) c.loop-call-test.true c.call-item.is))))
+
+pub returns : goal.returns
+returns c =
+    let text : TheCall → List ℕ = λ call. line (answer_text (names_of c.args.names.now) (handle c.args.end call)) in
+    let all : take c.loop-call.call-index c.args.calls.now ≡ c.args.calls.now = take_all c.loop-call.call-index c.args.calls.now c.loop-call-test.false in
+    record { ok = c.loop-call.invariant ∙ ap (λ calls. c.args.out.now.items ++ flat_map text (map call_of calls)) all }
