@@ -12,3 +12,9 @@ pub mod Stopping
 pub mod Writing
 pub mod Sounding
 pub mod Refusing
+pub mod Rows
+pub mod Desking
+pub mod Sides
+pub mod Dealing
+pub mod Asking
+pub mod Trying

@@ -1,0 +1,50 @@
+-- A circuit that may be asked for, and what came of asking.
+use Rattle.std.proofs.Common.{◌≡◌, refl, sym, ap, ℕ, ◌<◌, ◌&&◌, Bool, true, nat_lt, length, Option, Some, None, Err}
+use Rattle.std.proofs.lemmas.Bool.{and_parts, ltb-true}
+use Rattle.std.specs.Prelude.{not, is_some}
+use Rattle.fl_monitor.specs.Monitors.{can_say}
+use Rattle.fl_node.specs.Making.{Asked, Asks}
+use Rattle.fl_node.specs.View.{TheCore, place_of, client_of}
+use Rattle.fl_node.specs.declared.fault.OpenFault.{OpenFault}
+use Rattle.fl_node.specs.declared.fault.OpenFault.TheVariants.{Board, Monitor}
+use Rattle.fl_running.specs.declared.job.Wish.{Wish}
+use Rattle.fl_running.specs.Run.{TheRun}
+use Rattle.fl_running.specs.Steps.{may_ask}
+
+pub record MayAsk {S : Type 0} (s : TheRun S) (wish : Wish) : Type 0 where
+  pub dispatcher : wish.dispatcher < length s.core.board.dispatchers
+  pub program : wish.interface < length s.offers.programs
+  pub few : wish.opening.binding < 1024
+  pub new : place_of s.core (client_of wish.opening.binding) ≡ None
+
+none_there : (o : Option ℕ) → not (is_some o) ≡ true → o ≡ None
+none_there None is = refl
+none_there (Some e) is = absurd (cc)
+
+all_four : (a b c d e : Bool) → true ≡ ((((a && b) && c) && d) && e) → (a ≡ true) × (b ≡ true) × (c ≡ true) × (d ≡ true)
+all_four a b c d e h =
+    let four = and_parts (((a && b) && c) && d) e (sym h) in
+    let three = and_parts ((a && b) && c) d four.0 in
+    let two = and_parts (a && b) c three.0 in
+    let one = and_parts a b two.0 in
+    (one.0, one.1, two.1, three.1)
+
+pub may : {S : Type 0} (s : TheRun S) (wish : Wish) → true ≡ may_ask s wish → MayAsk s wish
+may s wish h =
+    let all =
+    all_four (nat_lt wish.dispatcher (length s.core.board.dispatchers)) (nat_lt wish.interface (length s.offers.programs)) (nat_lt wish.opening.binding 1024)
+    (not (is_some (place_of s.core (client_of wish.opening.binding)))) (can_say s.core.monitor.outboxes wish.link.0) h in
+    record {
+      dispatcher = ltb-true wish.dispatcher (length s.core.board.dispatchers) all.0;
+      program = ltb-true wish.interface (length s.offers.programs) all.1;
+      few = ltb-true wish.opening.binding 1024 all.2;
+      new = none_there (place_of s.core (client_of wish.opening.binding)) all.3;
+    }
+
+-- where it was refused here, the core is as it was
+pub core_left : (a : Asked) (k k2 : TheCore) (fault : OpenFault) → Asks a k (Err fault) k2 → k2 ≡ k
+core_left a k k2 (Board fault) h = h.1
+core_left a k k2 (Monitor fault) h = h.2
+
+pub run_left : {S : Type 0} (s : TheRun S) (k : TheCore) → k ≡ s.core → record s { core = k } ≡ s
+run_left s k same = ap (λ (c : TheCore). record s { core = c }) same
