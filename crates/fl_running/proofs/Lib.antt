@@ -18,3 +18,4 @@ pub mod Sides
 pub mod Dealing
 pub mod Asking
 pub mod Trying
+pub mod Lending
