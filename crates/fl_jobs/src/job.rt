@@ -21,7 +21,8 @@ pub struct Wish<'a> {
 pub enum Job<'a> {
     /// A binding is opened. Bindings that jobs open are numbered in the jobs' order, behind those that are set up.
     Open(Wish<'a>),
-    /// A reply rule, which is set before the cores run: where the end handles the message, it makes the call of the answer.
+    /// A reply rule: where the end handles the message, it makes the call of the answer. At an end of the set-up
+    /// it is set before the cores run, else once the end is there, which takes nothing before.
     Reply {
         end: EndId,
         message: MsgNo,
