@@ -80,4 +80,13 @@ sound_at_end r f g e h = on_ok_weaker r (λ k. e ∙ k) h
 pub fault_at_end : {T : Type 0} (r : Result T CheckFault) (f g : Option Fault) → f ≡ g → IfErr r (λ e. Tells e g) → IfErr r (λ e. Tells e f)
 fault_at_end {T} r f g e h = subst (λ k. IfErr r (λ x. Tells x k)) (sym e) h
 
+-- a call at the end that only wants memory tells nothing, behind places that are sound
+pub memory_tells : {T : Type 0} (r : Result T CheckFault) (f : Option Fault) → IfErr r (λ e. e ≡ Memory) → IfErr r (λ e. Tells e f)
+memory_tells (Ok v) f h = tt
+memory_tells (Err e) f h = subst (λ x. Tells x f) (sym h) tt
+
+pub ok_by : {T : Type 0} (r : Result T CheckFault) (P : Type 0) → P → OnOk r P
+ok_by (Ok v) P p = p
+ok_by (Err e) P p = tt
+
 pub ruleset places = (none_past, none_after, tells_here, tells_past, tells_prefix, tells_after)

@@ -1,3 +1,4 @@
+pub mod Added
 pub mod Layouts
 pub mod FirstFaults
 pub mod Walks

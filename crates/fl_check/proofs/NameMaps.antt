@@ -57,11 +57,3 @@ module _ {K X N : Type 0} (key : K → List ℕ) (view : K × X → N) (name : N
   -- an entry of a new name goes last
   pub push : (es es2 : List (K × X)) (k : K) (v : X) → es2 ≡ insert_entry (λ (a b : K). bytes_eq (key a) (key b)) es k v → is_among (map name (map view es)) (key k) ≡ false → map view es2 ≡ map view es ++ view (k, v) ∷ []
   push es es2 k v e new = ap (map view) (e ∙ put es k v (among es (key k) ∙ new)) ∙ map_push view es (k, v)
-
--- an rpc's second name is new where it isn't among the names, though the first was added
-pub second_new : (ms ms2 : List TheMessage) (m : TheMessage) (n : TheName) (response : List ℕ) → ms2 ≡ ms ++ m ∷ [] → m.name ≡ call_name n → response ≡ response_name n → is_among (map (λ (x : TheMessage). x.name) ms) response ≡ false → is_among (map (λ (x : TheMessage). x.name) ms2) response ≡ false
-second_new ms ms2 m n response e is q new =
-    ap (λ (l : List TheMessage). is_among (map (λ (x : TheMessage). x.name) l) response) e
-    ∙ ap (λ l. is_among l response) (map_push (λ (x : TheMessage). x.name) ms m)
-    ∙ among_push (map (λ (x : TheMessage). x.name) ms) m.name response new
-    (ap (λ a. bytes_eq a response) is ∙ ap (λ b. bytes_eq (call_name n) b) q ∙ other_name n (bytes_eq (call_name n) (response_name n)) refl)

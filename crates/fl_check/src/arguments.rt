@@ -1,6 +1,7 @@
 //! The arguments of messages, each part at its place.
 
-ghost use Rattle.std.specs.Prelude.{◌≡◌, ◌≤◌, ◌<◌, ◌+◌, ◌∷◌, [], ◌++◌, OnOk, IfOk, IfErr, option_map, None, map, vec_len, if◌then◌else◌};
+ghost use Rattle.std.specs.Prelude.{◌≡◌, ◌≤◌, ◌<◌, ◌+◌, ◌∷◌, [], ◌++◌, OnOk, IfOk, IfErr, option_map, None, map, vec_len, if◌then◌else◌, nat_lt, ◌||◌, false};
+ghost use Rattle.fl_interface.specs.Payload.{greatest_payload};
 ghost use Rattle.fl_interface.specs.Interface.{fixed, text, sized, arg_type_of};
 ghost use Rattle.fl_check.specs.Known.{is_string, stands_for, bound_or, argument_type, ins, outs, if_in, if_out};
 ghost use Rattle.fl_check.specs.Places.{plain_argument_places, sized_argument_places, string_argument_places, fixed_type_place, plain_type_place};
@@ -39,6 +40,14 @@ impl Halves {
             ins: Payload::new(alloc),
             outs: Payload::new(alloc),
         }
+    }
+
+    /// Whether the payload of a half may pass 32,768 bytes.
+    pub fn is_too_long(&self) -> bool
+        ensures exact { result ≡ nat_lt 32768 (greatest_payload (map arg_type_of self.now.ins.args.items))
+            || (nat_lt 32768 (greatest_payload (map arg_type_of self.now.outs.args.items)) || false) }
+    {
+        self.ins.is_too_long() || self.outs.is_too_long()
     }
 
     /// Adds an argument to the half that carries it.

@@ -1,10 +1,14 @@
 //! Declarations, each by its rules in their order.
 
-ghost use Rattle.std.specs.Prelude.{◌≡◌, ◌∷◌, [], ◌++◌, OnOk, IfErr, None, map, option_map, false};
-ghost use Rattle.fl_check.specs.Known.{after, call_name, response_name};
+ghost use Rattle.std.specs.Prelude.{◌≡◌, ◌∷◌, [], ◌++◌, OnOk, IfOk, IfErr, None, map, option_map, false};
+ghost use Rattle.std.specs.Str.{bytes_eq};
+ghost use Rattle.fl_interface.specs.Interface.{arg_type_of};
+ghost use Rattle.fl_check.specs.Known.{after, argument_type, call_name, response_name, ins, outs, message_from, messages_of};
 ghost use Rattle.fl_interface.specs.Limits.{is_among};
 ghost use Rattle.fl_check.specs.Places.{message_names, message_name_place, rpc_name_place, whole_message_place, declaration_places, first_look};
+ghost use Rattle.fl_check.specs.Places.{argument_places, arguments_of, some_too_long};
 ghost use Rattle.fl_check.specs.Checks.{first_fault};
+ghost use Rattle.fl_check.specs.declared.fault.CheckFault.TheVariants.{Memory};
 ghost use Rattle.fl_check.specs.Faults.{Tells, ComesAfter};
 ghost use Rattle.fl_check.specs.Views.{before_of};
 ghost use Rattle.fl_parse.specs.Tree.{name_of, number_of, field_of, argument_of, directed_of, declaration_of, alias_of, typedef_of, enum_of};
@@ -16,6 +20,7 @@ use crate::measured::Measured;
 use crate::parts::{apply_count, check_members};
 use crate::types::refuse;
 use crate::words::join;
+use fl_interface::ArgType;
 use fl_parse::{Argument, Declaration, DirectedArgument, Field, MessageKind, Name, Number};
 use std::alloc::Global;
 
@@ -140,6 +145,27 @@ impl<'a> Declared<'a> {
         self.add_type(name, measured)
     }
 
+    /// The types of a message's arguments, whose payload isn't too long.
+    #[tactic(auto, using(crate::proofs::FirstFaults::places))]
+    fn check_payload(
+        &self,
+        alloc: Global,
+        name: &Name,
+        args: &[Argument<'a>],
+    ) -> Result<Vec<ArgType>, CheckFault>
+        ensures sound { OnOk result (first_fault (argument_places (before_of self.now) [] 0 (map argument_of args.now)
+            ++ whole_message_place (name_of name.now) (some_too_long
+            (message_from (before_of self.now) name.now.text.now (map argument_of args.now) ∷ [])) ∷ []) ≡ None) }
+        ensures stands { IfOk result (λ ts. map arg_type_of ts.items ≡ map (argument_type (before_of self.now)) (map argument_of args.now)) }
+        ensures fault { IfErr result (λ e. Tells e (first_fault (argument_places (before_of self.now) [] 0 (map argument_of args.now)
+            ++ whole_message_place (name_of name.now) (some_too_long
+            (message_from (before_of self.now) name.now.text.now (map argument_of args.now) ∷ [])) ∷ []))) }
+    {
+        let payload = self.check_arguments(alloc, args)?;
+        check_whole_message(name, payload.is_too_long())?;
+        Ok(payload.args)
+    }
+
     #[tactic(auto, using(crate::proofs::FirstFaults::places))]
     fn declare_message(
         &mut self,
@@ -157,10 +183,67 @@ impl<'a> Declared<'a> {
             (message_of kind (name_of name.now) (map argument_of args.now)))) }
     {
         self.check_message_name(name)?;
-        let payload = self.check_arguments(alloc, args)?;
-        check_whole_message(name, payload.is_too_long())?;
-        self.push_message(name.text.to_vec(alloc)?, payload.args)?;
-        Ok(())
+        let types = self.check_payload(alloc, name, args)?;
+        self.push_message(name.text.to_vec(alloc)?, types)
+    }
+
+    /// The names of an rpc's call and response, which no message has.
+    #[tactic(auto, using(crate::proofs::FirstFaults::places))]
+    fn name_rpc(&self, alloc: Global, name: &Name) -> Result<(Vec<u8>, Vec<u8>), CheckFault>
+        ensures call { IfOk result (λ n. n.0.items ≡ call_name (name_of name.now)) }
+        ensures response { IfOk result (λ n. n.1.items ≡ response_name (name_of name.now)) }
+        ensures no_call { IfOk result (λ n. is_among (message_names (before_of self.now)) n.0.items ≡ false) }
+        ensures no_response { IfOk result (λ n. is_among (message_names (before_of self.now)) n.1.items ≡ false) }
+        ensures sound { OnOk result (first_fault (rpc_name_place (before_of self.now) (name_of name.now) ∷ []) ≡ None) }
+        ensures fault { IfErr result (λ e. Tells e (first_fault (rpc_name_place (before_of self.now) (name_of name.now) ∷ []))) }
+    {
+        let call = join(alloc, name.text, b"_call".as_slice())?;
+        let response = join(alloc, name.text, b"_response".as_slice())?;
+        self.check_rpc_name(name, &call, &response)?;
+        Ok((call, response))
+    }
+
+    /// The types of an rpc's arguments, those of its call and of its response, whose payloads aren't too long.
+    #[tactic(auto, using(crate::proofs::FirstFaults::places))]
+    fn check_payloads(
+        &self,
+        alloc: Global,
+        name: &Name,
+        args: &[DirectedArgument<'a>],
+    ) -> Result<(Vec<ArgType>, Vec<ArgType>), CheckFault>
+        ensures sound { OnOk result (first_fault (argument_places (before_of self.now) [] 0 (arguments_of (map directed_of args.now))
+            ++ whole_message_place (name_of name.now) (some_too_long
+            (messages_of (before_of self.now) (rpc_of (name_of name.now) (map directed_of args.now)))) ∷ []) ≡ None) }
+        ensures ins { IfOk result (λ h. map arg_type_of h.0.items ≡ map (argument_type (before_of self.now)) (ins (map directed_of args.now))) }
+        ensures outs { IfOk result (λ h. map arg_type_of h.1.items ≡ map (argument_type (before_of self.now)) (outs (map directed_of args.now))) }
+        ensures fault { IfErr result (λ e. Tells e (first_fault (argument_places (before_of self.now) [] 0 (arguments_of (map directed_of args.now))
+            ++ whole_message_place (name_of name.now) (some_too_long
+            (messages_of (before_of self.now) (rpc_of (name_of name.now) (map directed_of args.now)))) ∷ []))) }
+    {
+        let halves = self.check_directed(alloc, args)?;
+        check_whole_message(name, halves.is_too_long())?;
+        Ok((halves.ins.args, halves.outs.args))
+    }
+
+    /// Adds the two messages of an rpc.
+    fn push_rpc(
+        &mut self,
+        call: Vec<u8>,
+        ins: Vec<ArgType>,
+        response: Vec<u8>,
+        outs: Vec<ArgType>,
+    ) -> Result<(), CheckFault>
+        requires no_call { is_among (message_names (before_of self.old)) call.items ≡ false }
+        requires no_response { is_among (message_names (before_of self.old)) response.items ≡ false }
+        requires two { bytes_eq call.items response.items ≡ false }
+        ensures types { OnOk result ((before_of self.new).types ≡ (before_of self.old).types) }
+        ensures messages { OnOk result ((before_of self.new).messages ≡ (before_of self.old).messages
+            ++ record { name = call.items; args = map arg_type_of ins.items }
+            ∷ (record { name = response.items; args = map arg_type_of outs.items } ∷ [])) }
+        ensures memory { IfErr result (λ e. e ≡ Memory) }
+    {
+        self.push_message(call, ins)?;
+        self.push_message(response, outs)
     }
 
     #[tactic(auto, using(crate::proofs::FirstFaults::places))]
@@ -176,14 +259,9 @@ impl<'a> Declared<'a> {
             (declaration_places (before_of self.old) (rpc_of (name_of name.now) (map directed_of args.now))))) }
         ensures memory { IfErr result (λ e. ComesAfter e (first_look (before_of self.old) (rpc_of (name_of name.now) (map directed_of args.now)))) }
     {
-        let call = join(alloc, name.text, b"_call".as_slice())?;
-        let response = join(alloc, name.text, b"_response".as_slice())?;
-        self.check_rpc_name(name, &call, &response)?;
-        let halves = self.check_directed(alloc, args)?;
-        check_whole_message(name, halves.ins.is_too_long() || halves.outs.is_too_long())?;
-        self.push_message(call, halves.ins.args)?;
-        self.push_message(response, halves.outs.args)?;
-        Ok(())
+        let (call, response) = self.name_rpc(alloc, name)?;
+        let (ins, outs) = self.check_payloads(alloc, name, args)?;
+        self.push_rpc(call, ins, response, outs)
     }
 
     /// One more declaration.

@@ -2,6 +2,7 @@
 
 ghost use Rattle.std.specs.Prelude.{◌≤◌};
 
+use crate::fault::CheckFault;
 use crate::measured::Measured;
 use fl_interface::{ArgType, Message, Word};
 use indexmap::IndexMap;
@@ -24,12 +25,13 @@ pub struct Declared<'a> {
 }
 
 impl<'a> Declared<'a> {
-    ghost use Rattle.std.specs.Prelude.{◌≡◌, ◌++◌, ◌∷◌, [], map, OnOk, IfOk, option_map, length, false};
+    ghost use Rattle.std.specs.Prelude.{◌≡◌, ◌++◌, ◌∷◌, [], map, OnOk, IfOk, IfErr, option_map, length, false};
     ghost use Rattle.fl_interface.specs.Interface.{type_of, arg_type_of, message_of};
     ghost use Rattle.fl_check.specs.Known.{nothing_declared, declared_as};
     ghost use Rattle.fl_interface.specs.Limits.{is_among};
     ghost use Rattle.fl_check.specs.Places.{type_names, message_names};
     ghost use Rattle.fl_check.specs.Views.{before_of};
+    ghost use Rattle.fl_check.specs.declared.fault.CheckFault.TheVariants.{Memory};
 
     pub fn new(alloc: Global) -> Declared<'a>
         ensures nothing { before_of result ≡ nothing_declared }
@@ -85,11 +87,12 @@ impl<'a> Declared<'a> {
     }
 
     /// Adds a message of a name that no declared message has.
-    pub fn push_message(&mut self, name: Vec<u8>, args: Vec<ArgType>) -> Result<(), AllocError>
+    pub fn push_message(&mut self, name: Vec<u8>, args: Vec<ArgType>) -> Result<(), CheckFault>
         requires new { is_among (message_names (before_of self.old)) name.items ≡ false }
         ensures types { OnOk result ((before_of self.new).types ≡ (before_of self.old).types) }
         ensures messages { OnOk result ((before_of self.new).messages ≡ (before_of self.old).messages
             ++ record { name = name.items; args = map arg_type_of args.items } ∷ []) }
+        ensures memory { IfErr result (λ e. e ≡ Memory) }
     {
         self.messages.insert(name, args)?;
         Ok(())

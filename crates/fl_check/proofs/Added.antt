@@ -1,0 +1,44 @@
+-- Messages that an rpc or a message adds.
+use Rattle.std.proofs.Common.{◌≡◌, ℕ, List, [], ◌∷◌, ◌++◌, map, false, refl, sym, ap, ◌∙◌, subst, append_assoc, append-nil, Result, Ok, Err, OnOk}
+use Rattle.std.specs.Str.{bytes_eq}
+use Rattle.std.proofs.lemmas.List.{map_push}
+use Rattle.fl_interface.specs.Interface.{TheArgType, TheMessage}
+use Rattle.fl_interface.specs.Limits.{is_among}
+use Rattle.fl_check.specs.Known.{Named, Before, call_name, response_name}
+use Rattle.fl_check.specs.declared.fault.CheckFault.{CheckFault}
+use Rattle.fl_parse.specs.Tree.{TheName}
+use Rattle.fl_check.proofs.Limits.{among_push, other_name}
+
+-- a second name is new where it isn't among the names, though another was added
+pub second_new : (ms ms2 : List TheMessage) (m : TheMessage) (response : List ℕ) → ms2 ≡ ms ++ m ∷ [] → bytes_eq m.name response ≡ false → is_among (map (λ (x : TheMessage). x.name) ms) response ≡ false → is_among (map (λ (x : TheMessage). x.name) ms2) response ≡ false
+second_new ms ms2 m response e two new =
+    ap (λ (l : List TheMessage). is_among (map (λ (x : TheMessage). x.name) l) response) e
+    ∙ ap (λ l. is_among l response) (map_push (λ (x : TheMessage). x.name) ms m)
+    ∙ among_push (map (λ (x : TheMessage). x.name) ms) m.name response new two
+
+-- the names of an rpc's call and response are two
+pub two_names : (n : TheName) (call response : List ℕ) → call ≡ call_name n → response ≡ response_name n → bytes_eq call response ≡ false
+two_names n call response p q =
+    ap (λ a. bytes_eq a response) p ∙ ap (λ b. bytes_eq (call_name n) b) q ∙ other_name n (bytes_eq (call_name n) (response_name n)) refl
+
+-- two messages that are added one by one
+pub two_added : (ms ms2 ms3 : List TheMessage) (a b : TheMessage) → ms2 ≡ ms ++ a ∷ [] → ms3 ≡ ms2 ++ b ∷ [] → ms3 ≡ ms ++ a ∷ (b ∷ [])
+two_added ms ms2 ms3 a b p q = q ∙ ap (λ l. l ++ b ∷ []) p ∙ append_assoc ms (a ∷ []) (b ∷ [])
+
+both_same : (b : Before) (ts : List Named) (ms : List TheMessage) → b.types ≡ ts → b.messages ≡ ms → b ≡ record { types = ts; messages = ms }
+both_same b ts ms p q =
+    subst (λ t. b ≡ (let s : Before = record { types = t; messages = ms } in s)) p
+    (subst (λ m. b ≡ (let s : Before = record { types = b.types; messages = m } in s)) q refl)
+
+-- messages that a call at the end adds, and no types
+pub messages_added : {T : Type 0} (r : Result T CheckFault) (b b2 : Before) (ms ns : List TheMessage) → OnOk r (b2.types ≡ b.types)
+    → OnOk r (b2.messages ≡ b.messages ++ ms) → ms ≡ ns → OnOk r (b2 ≡ record { types = b.types ++ []; messages = b.messages ++ ns })
+messages_added (Ok v) b b2 ms ns t m e = both_same b2 (b.types ++ []) (b.messages ++ ns) (t ∙ sym (append-nil b.types)) (m ∙ ap (λ l. b.messages ++ l) e)
+messages_added (Err x) b b2 ms ns t m e = tt
+
+pub same_message : (n n2 : List ℕ) (ts us : List TheArgType) → n ≡ n2 → ts ≡ us
+    → (let m : TheMessage = record { name = n; args = ts } in m) ≡ (let m : TheMessage = record { name = n2; args = us } in m)
+same_message n n2 ts us p q = cc
+
+pub same_two : {X : Type 0} (a a2 b b2 : X) → a ≡ a2 → b ≡ b2 → a ∷ (b ∷ []) ≡ a2 ∷ (b2 ∷ [])
+same_two a a2 b b2 p q = cc
