@@ -8,6 +8,7 @@ ghost use Rattle.fl_check.specs.Places.{plain_argument_places, sized_argument_pl
 ghost use Rattle.fl_check.specs.Places.{string_place, listed_place, other_place, bound_place, bound_places, argument_names, argument_place};
 ghost use Rattle.fl_check.specs.Places.{argument_places, arguments_of};
 ghost use Rattle.fl_check.specs.Checks.{first_fault};
+ghost use Rattle.fl_check.specs.declared.fault.CheckFault.TheVariants.{Memory};
 ghost use Rattle.fl_check.specs.Faults.{Tells};
 ghost use Rattle.fl_check.specs.Views.{before_of, list_of, checked_of, IsBounded};
 ghost use Rattle.fl_parse.specs.Tree.{name_of, number_of, argument_of, directed_of};
@@ -19,7 +20,7 @@ use crate::payload::{Checked, Payload};
 use crate::types::{check_bound, check_string_type};
 use crate::words::Names;
 use fl_parse::{Argument, DirectedArgument, Direction, Name, Number, Shape};
-use std::alloc::{AllocError, Global};
+use std::alloc::Global;
 
 const USUAL_ELEMENTS: u32 = 1_024;
 
@@ -51,13 +52,14 @@ impl Halves {
     }
 
     /// Adds an argument to the half that carries it.
-    pub fn push(&mut self, direction: Direction, checked: Checked) -> Result<(), AllocError>
+    pub fn push(&mut self, direction: Direction, checked: Checked) -> Result<(), CheckFault>
         requires few { vec_len self.old.ins.args + vec_len self.old.outs.args < 32 }
         requires bounded { IsBounded (checked_of checked) }
         ensures ins { OnOk result (map arg_type_of self.new.ins.args.items ≡ map arg_type_of self.old.ins.args.items ++ if_in direction (checked_of checked)) }
         ensures outs { OnOk result (map arg_type_of self.new.outs.args.items ≡ map arg_type_of self.old.outs.args.items ++ if_out direction
             (checked_of checked)) }
         ensures len { OnOk result (vec_len self.new.ins.args + vec_len self.new.outs.args ≡ vec_len self.old.ins.args + vec_len self.old.outs.args + 1) }
+        ensures memory { IfErr result (λ e. e ≡ Memory) }
     {
         match direction {
             Direction::In => self.ins.push(checked),
@@ -165,6 +167,28 @@ impl<'a> Declared<'a> {
         }
     }
 
+    /// Adds an argument to a payload, and its names to those of the arguments before it.
+    fn add_argument(
+        &self,
+        alloc: Global,
+        names: &mut Names<'a>,
+        payload: &mut Payload,
+        argument: &Argument<'a>,
+    ) -> Result<(), CheckFault>
+        ensures sound { OnOk result (first_fault
+            (argument_place (before_of self.now) (list_of names.old) (vec_len payload.old.args) (argument_of argument.now)) ≡ None) }
+        ensures names { OnOk result (list_of names.new ≡ list_of names.old ++ argument_names (argument_of argument.now)) }
+        ensures few { OnOk result (vec_len payload.old.args < 32) }
+        ensures more { OnOk result (map arg_type_of payload.new.args.items ≡ map arg_type_of payload.old.args.items
+            ++ argument_type (before_of self.now) (argument_of argument.now) ∷ []) }
+        ensures len { OnOk result (vec_len payload.new.args ≡ vec_len payload.old.args + 1) }
+        ensures fault { IfErr result (λ e. Tells e (first_fault
+            (argument_place (before_of self.now) (list_of names.old) (vec_len payload.old.args) (argument_of argument.now)))) }
+    {
+        let checked = self.check_argument(alloc, names, payload.args.len(), argument)?;
+        payload.push(checked)
+    }
+
     /// The arguments of a message.
     #[tactic(auto, using(crate::proofs::FirstFaults::places))]
     pub fn check_arguments(
@@ -179,10 +203,36 @@ impl<'a> Declared<'a> {
         let mut names = Names::new(alloc);
         let mut payload = Payload::new(alloc);
         for argument in args {
-            let checked = self.check_argument(alloc, &mut names, payload.args.len(), argument)?;
-            payload.push(checked)?;
+            self.add_argument(alloc, &mut names, &mut payload, argument)?;
         }
         Ok(payload)
+    }
+
+    /// Adds an argument to the half that carries it, and its names to those of the arguments before it.
+    fn add_directed(
+        &self,
+        alloc: Global,
+        names: &mut Names<'a>,
+        halves: &mut Halves,
+        directed: &DirectedArgument<'a>,
+    ) -> Result<(), CheckFault>
+        requires short { vec_len halves.old.ins.args + vec_len halves.old.outs.args ≤ 32 }
+        ensures sound { OnOk result (first_fault
+            (argument_place (before_of self.now) (list_of names.old) (vec_len halves.old.ins.args + vec_len halves.old.outs.args) (argument_of directed.now.argument)) ≡ None) }
+        ensures names { OnOk result (list_of names.new ≡ list_of names.old ++ argument_names (argument_of directed.now.argument)) }
+        ensures few { OnOk result (vec_len halves.old.ins.args + vec_len halves.old.outs.args < 32) }
+        ensures ins { OnOk result (map arg_type_of halves.new.ins.args.items ≡ map arg_type_of halves.old.ins.args.items
+            ++ if_in directed.now.direction (argument_type (before_of self.now) (argument_of directed.now.argument))) }
+        ensures outs { OnOk result (map arg_type_of halves.new.outs.args.items ≡ map arg_type_of halves.old.outs.args.items
+            ++ if_out directed.now.direction (argument_type (before_of self.now) (argument_of directed.now.argument))) }
+        ensures len { OnOk result (vec_len halves.new.ins.args + vec_len halves.new.outs.args
+            ≡ vec_len halves.old.ins.args + vec_len halves.old.outs.args + 1) }
+        ensures fault { IfErr result (λ e. Tells e (first_fault
+            (argument_place (before_of self.now) (list_of names.old) (vec_len halves.old.ins.args + vec_len halves.old.outs.args) (argument_of directed.now.argument)))) }
+    {
+        let counted_before = halves.ins.args.len() + halves.outs.args.len();
+        let checked = self.check_argument(alloc, names, counted_before, &directed.argument)?;
+        halves.push(directed.direction, checked)
     }
 
     /// The arguments of an rpc, in one list of names.
@@ -200,14 +250,7 @@ impl<'a> Declared<'a> {
         let mut names = Names::new(alloc);
         let mut halves = Halves::new(alloc);
         for directed in args {
-            let counted_before = halves.ins.args.len() + halves.outs.args.len();
-            let checked = self.check_argument(
-                alloc,
-                &mut names,
-                counted_before,
-                &directed.argument,
-            )?;
-            halves.push(directed.direction, checked)?;
+            self.add_directed(alloc, &mut names, &mut halves, directed)?;
         }
         Ok(halves)
     }

@@ -1,11 +1,13 @@
 //! Types of fixed size with their measures, so that no type is gone through twice.
 
-ghost use Rattle.std.specs.Prelude.{◌≡◌, ◌<◌, ◌≤◌, ◌+◌, ◌*◌, ◌++◌, ℕ, List, map, IfOk, OnOk, vec_len, [], ◌∷◌};
+ghost use Rattle.std.specs.Prelude.{◌≡◌, ◌<◌, ◌≤◌, ◌+◌, ◌*◌, ◌++◌, ℕ, List, map, IfOk, OnOk, IfErr, vec_len, [], ◌∷◌};
 ghost use Rattle.std.specs.Bool.{OnFalse};
 ghost use Rattle.fl_interface.specs.Interface.{TheType, scalar, enumeration, structure, array, fields_from, type_of};
 ghost use Rattle.fl_interface.specs.Sizes.{size_of, align_of, end_after, greatest_align};
+ghost use Rattle.fl_check.specs.declared.fault.CheckFault.TheVariants.{Memory};
 ghost use Rattle.fl_interface.specs.Depth.{depth_of, array_depth_of, deepest, deepest_array, is_too_big};
 
+use crate::fault::CheckFault;
 use fl_interface::{FixedType, Scalar, duplicate_type};
 use std::alloc::{AllocError, Global};
 
@@ -141,13 +143,14 @@ impl Fields {
     }
 
     /// Adds a field at the next multiple of its alignment.
-    pub fn push(&mut self, field: Measured) -> Result<(), AllocError>
+    pub fn push(&mut self, field: Measured) -> Result<(), CheckFault>
         requires few { vec_len self.old.types < 32 }
         requires size { field.size ≤ 4194304 }
         requires depth { field.depth ≤ 17 }
         requires arrays { field.arrays ≤ 8 }
         ensures more { OnOk result (map type_of self.new.types.items ≡ map type_of self.old.types.items ++ type_of field.fixed ∷ []) }
         ensures len { OnOk result (vec_len self.new.types ≡ vec_len self.old.types + 1) }
+        ensures memory { IfErr result (λ e. e ≡ Memory) }
     {
         let end = self.end.next_multiple_of(field.align) + field.size;
         self.types.push(field.fixed)?;

@@ -1,6 +1,6 @@
 //! The parts of declarations in their order: enumerators and fields.
 
-ghost use Rattle.std.specs.Prelude.{◌≡◌, ◌≤◌, ◌<◌, ◌+◌, ◌∷◌, [], ◌++◌, OnOk, OnErr, IfOk, IfErr, IfSome, option_map, None, map, length, take, false};
+ghost use Rattle.std.specs.Prelude.{◌≡◌, ◌≤◌, ◌<◌, ◌+◌, ◌∷◌, [], ◌++◌, OnOk, OnErr, IfOk, IfErr, IfSome, option_map, None, map, length, take, false, vec_len};
 ghost use Rattle.fl_interface.specs.Interface.{type_of, structure, fields_from};
 ghost use Rattle.fl_check.specs.Known.{counted, field_type};
 ghost use Rattle.fl_interface.specs.Limits.{is_among};
@@ -115,6 +115,28 @@ impl<'a> Declared<'a> {
         apply_count(alloc, measured, field.count)
     }
 
+    /// Adds a field to those before it, and its name to theirs.
+    fn add_field(
+        &self,
+        alloc: Global,
+        names: &mut Names<'a>,
+        laid: &mut Fields,
+        field: &Field<'a>,
+    ) -> Result<(), CheckFault>
+        requires same { length (list_of names.old) ≡ vec_len laid.old.types }
+        ensures sound { OnOk result (first_fault (field_place (before_of self.now) (list_of names.old) (field_of field.now)) ≡ None) }
+        ensures names { OnOk result (list_of names.new ≡ list_of names.old ++ field.now.name.text.now ∷ []) }
+        ensures same { OnOk result (length (list_of names.new) ≡ vec_len laid.new.types) }
+        ensures few { OnOk result (vec_len laid.new.types ≤ 32) }
+        ensures more { OnOk result (map type_of laid.new.types.items ≡ map type_of laid.old.types.items
+            ++ field_type (before_of self.now) (field_of field.now) ∷ []) }
+        ensures fault { IfErr result (λ e. Tells e (first_fault (field_place (before_of self.now) (list_of names.old) (field_of field.now)))) }
+        ensures memory { IfErr result (λ e. ComesAfter e (take 1 (field_place (before_of self.now) (list_of names.old) (field_of field.now)))) }
+    {
+        let measured = self.check_field(alloc, names, field)?;
+        laid.push(measured)
+    }
+
     /// The struct of these fields.
     #[tactic(auto, using(crate::proofs::FirstFaults::places))]
     pub fn check_structure(
@@ -131,8 +153,7 @@ impl<'a> Declared<'a> {
         let mut names = Names::new(alloc);
         let mut laid = Fields::new(alloc);
         for field in fields {
-            let measured = self.check_field(alloc, &mut names, field)?;
-            laid.push(measured)?;
+            self.add_field(alloc, &mut names, &mut laid, field)?;
         }
         Ok(laid.into_struct())
     }

@@ -1,13 +1,14 @@
 //! The arguments of a message, and how long its payload may become.
 
-ghost use Rattle.std.specs.Prelude.{◌≡◌, ◌<◌, ◌≤◌, ◌+◌, ◌*◌, ◌++◌, [], ◌∷◌, List, map, nat_lt, OnOk, vec_len};
+ghost use Rattle.std.specs.Prelude.{◌≡◌, ◌<◌, ◌≤◌, ◌+◌, ◌*◌, ◌++◌, [], ◌∷◌, List, map, nat_lt, OnOk, IfErr, vec_len};
 ghost use Rattle.fl_interface.specs.Interface.{TheArgType, arg_type_of, type_of, fixed, text, sized};
 ghost use Rattle.fl_interface.specs.Sizes.{size_of, align_of};
 ghost use Rattle.fl_interface.specs.Payload.{greatest_end, greatest_payload};
 
+use crate::fault::CheckFault;
 use crate::measured::Measured;
 use fl_interface::ArgType;
-use std::alloc::{AllocError, Global};
+use std::alloc::Global;
 
 /// An argument's type that keeps the rules, with its measures.
 #[derive(Drop)]
@@ -32,6 +33,7 @@ pub struct Payload {
 
 impl Payload {
     ghost use Rattle.fl_check.specs.Views.{checked_of, IsBounded};
+    ghost use Rattle.fl_check.specs.declared.fault.CheckFault.TheVariants.{Memory};
 
     pub fn new(alloc: Global) -> Payload
         ensures none { map arg_type_of result.args.items ≡ [] }
@@ -44,11 +46,12 @@ impl Payload {
         }
     }
 
-    fn push_fixed(&mut self, measured: Measured) -> Result<(), AllocError>
+    fn push_fixed(&mut self, measured: Measured) -> Result<(), CheckFault>
         requires few { vec_len self.old.args < 32 }
         requires size { measured.size ≤ 4096 }
         ensures more { OnOk result (map arg_type_of self.new.args.items ≡ map arg_type_of self.old.args.items ++ fixed (type_of measured.fixed) ∷ []) }
         ensures len { OnOk result (vec_len self.new.args ≡ vec_len self.old.args + 1) }
+        ensures memory { IfErr result (λ e. e ≡ Memory) }
     {
         let align = self.due.max(u64::from(measured.align));
         let end = self.end.next_multiple_of(align) + u64::from(measured.size);
@@ -58,11 +61,12 @@ impl Payload {
         Ok(())
     }
 
-    fn push_text(&mut self, bound: u32) -> Result<(), AllocError>
+    fn push_text(&mut self, bound: u32) -> Result<(), CheckFault>
         requires few { vec_len self.old.args < 32 }
         requires bounded { bound ≤ 4096 }
         ensures more { OnOk result (map arg_type_of self.new.args.items ≡ map arg_type_of self.old.args.items ++ text bound ∷ []) }
         ensures len { OnOk result (vec_len self.new.args ≡ vec_len self.old.args + 1) }
+        ensures memory { IfErr result (λ e. e ≡ Memory) }
     {
         let end = self.end.next_multiple_of(8) + (8 + u64::from(bound));
         self.args.push(ArgType::Text(bound))?;
@@ -71,12 +75,13 @@ impl Payload {
         Ok(())
     }
 
-    fn push_sized(&mut self, bound: u32, element: Measured) -> Result<(), AllocError>
+    fn push_sized(&mut self, bound: u32, element: Measured) -> Result<(), CheckFault>
         requires few { vec_len self.old.args < 32 }
         requires bounded { bound ≤ 4096 }
         requires size { element.size ≤ 4096 }
         ensures more { OnOk result (map arg_type_of self.new.args.items ≡ map arg_type_of self.old.args.items ++ sized bound (type_of element.fixed) ∷ []) }
         ensures len { OnOk result (vec_len self.new.args ≡ vec_len self.old.args + 1) }
+        ensures memory { IfErr result (λ e. e ≡ Memory) }
     {
         let end = self.end.next_multiple_of(8) + (8 + u64::from(bound) * u64::from(element.size));
         self.args.push(ArgType::Sized(bound, element.fixed))?;
@@ -86,11 +91,12 @@ impl Payload {
     }
 
     /// Adds an argument.
-    pub fn push(&mut self, checked: Checked) -> Result<(), AllocError>
+    pub fn push(&mut self, checked: Checked) -> Result<(), CheckFault>
         requires few { vec_len self.old.args < 32 }
         requires bounded { IsBounded (checked_of checked) }
         ensures more { OnOk result (map arg_type_of self.new.args.items ≡ map arg_type_of self.old.args.items ++ checked_of checked ∷ []) }
         ensures len { OnOk result (vec_len self.new.args ≡ vec_len self.old.args + 1) }
+        ensures memory { IfErr result (λ e. e ≡ Memory) }
     {
         match checked {
             Checked::Fixed { measured } => self.push_fixed(measured),

@@ -9,27 +9,27 @@ use Rattle.fl_check.proofs.Lists.{Stood, directed_left, directed_here, after_dir
 use Rattle.fl_check.proofs.Halves.{ins_push, outs_push, none_left}
 use Rattle.fl_check.proofs.declared.Declared.check_directed.Goals as goal
 
-pub returns-in_err-checked-clause-fault : goal.returns-in_err-checked-clause-fault
-returns-in_err-checked-clause-fault c =
+pub returns-in_err-add_directed-clause-fault : goal.returns-in_err-add_directed-clause-fault
+returns-in_err-add_directed-clause-fault c =
     let b = before_of c.args.self.now in
     let i = c.loop-directed.directed-index in
-    let n : c.len.result + c.len-in-loop-directed.result ≡ i = omega (arith, c.len.ensures, c.len-in-loop-directed.ensures, c.loop-directed.invariant.same) in
+    let n = c.loop-directed.invariant.same in
     let s : Stood = (list_of c.loop-directed.names, i) in
-    err_of c.from_residual.result c.in_err-checked.field-0.0 _ c.from_residual.ensures.1
-    (walk_fault (directed_left b) (directed_here b) after_directed (directed_walk b) _ c.in_err-checked.field-0.0 s c.args.args.now i _ _ (omega arith) refl c.loop-directed.invariant.places (rw n at c.in_err-checked.ensures.fault))
+    err_of c.from_residual.result c.in_err-add_directed.field-0.0 _ c.from_residual.ensures.1
+    (walk_fault (directed_left b) (directed_here b) after_directed (directed_walk b) _ c.in_err-add_directed.field-0.0 s c.args.args.now i _ _ (omega arith) refl c.loop-directed.invariant.places (rw n at c.in_err-add_directed.ensures.fault))
 
 pub loop-directed-preserved : goal.loop-directed-preserved
 loop-directed-preserved c =
     let b = before_of c.args.self.now in
     let i = c.loop-directed.directed-index in
-    let n : c.len.result + c.len-in-loop-directed.result ≡ i = omega (arith, c.len.ensures, c.len-in-loop-directed.ensures, c.loop-directed.invariant.same) in
+    let n = c.loop-directed.invariant.same in
     let s : Stood = (list_of c.loop-directed.names, i) in
     record {
-      places = walk_on (directed_left b) (directed_here b) after_directed (directed_walk b) _ s _ c.args.args.now i _ _ (omega arith) refl c.loop-directed.invariant.places (rw n at c.in_ok-checked.ensures.sound) (stood (list_of c.loop-directed.names) _ _ i c.in_ok-checked.ensures.names);
-      ins = ins_push (argument_type b) c.args.args.now i _ _ _ _ _ _ (omega arith) refl c.loop-directed.invariant.ins c.in_ok-push.ensures.ins c.in_ok-checked.ensures.stands;
-      outs = outs_push (argument_type b) c.args.args.now i _ _ _ _ _ _ (omega arith) refl c.loop-directed.invariant.outs c.in_ok-push.ensures.outs c.in_ok-checked.ensures.stands;
-      same = omega (arith, c.in_ok-push.ensures.len);
-      few = omega (arith, c.in_ok-checked.ensures.few, c.loop-directed.invariant.same);
+      places = walk_on (directed_left b) (directed_here b) after_directed (directed_walk b) _ s _ c.args.args.now i _ _ (omega arith) refl c.loop-directed.invariant.places (rw n at c.in_ok-add_directed.ensures.sound) (stood (list_of c.loop-directed.names) _ _ i c.in_ok-add_directed.ensures.names);
+      ins = ins_push (argument_type b) c.args.args.now i _ _ _ _ _ _ (omega arith) refl c.loop-directed.invariant.ins c.in_ok-add_directed.ensures.ins refl;
+      outs = outs_push (argument_type b) c.args.args.now i _ _ _ _ _ _ (omega arith) refl c.loop-directed.invariant.outs c.in_ok-add_directed.ensures.outs refl;
+      same = omega (arith, c.in_ok-add_directed.ensures.len);
+      few = omega (arith, c.in_ok-add_directed.ensures.few, c.loop-directed.invariant.same);
     }
 
 pub returns-clause-sound : goal.returns-clause-sound

@@ -10,21 +10,21 @@ use Rattle.fl_check.proofs.Looks.{err_after, call_after, field_looked, field_loo
 use Rattle.fl_check.specs.declared.fault.CheckFault.TheVariants.{Memory}
 use Rattle.fl_check.proofs.declared.Declared.check_structure.Goals as goal
 
-pub returns-in_err-measured-clause-fault : goal.returns-in_err-measured-clause-fault
-returns-in_err-measured-clause-fault c =
+pub returns-in_err-add_field-clause-fault : goal.returns-in_err-add_field-clause-fault
+returns-in_err-add_field-clause-fault c =
     let b = before_of c.args.self.now in
-    err_of c.from_residual.result c.in_err-measured.field-0.0 _ c.from_residual.ensures.1
-    (walk_fault (fields_left b) (field_here b) after_field (fields_walk b) _ c.in_err-measured.field-0.0 (list_of c.loop-field.names) c.args.fields.now c.loop-field.field-index _ _ (omega arith) refl c.loop-field.invariant.places c.in_err-measured.ensures.fault)
+    err_of c.from_residual.result c.in_err-add_field.field-0.0 _ c.from_residual.ensures.1
+    (walk_fault (fields_left b) (field_here b) after_field (fields_walk b) _ c.in_err-add_field.field-0.0 (list_of c.loop-field.names) c.args.fields.now c.loop-field.field-index _ _ (omega arith) refl c.loop-field.invariant.places c.in_err-add_field.ensures.fault)
 
 pub loop-field-preserved : goal.loop-field-preserved
 loop-field-preserved c =
     let b = before_of c.args.self.now in
     record {
-      places = walk_on (fields_left b) (field_here b) after_field (fields_walk b) _ (list_of c.loop-field.names) _ c.args.fields.now c.loop-field.field-index _ _ (omega arith) refl c.loop-field.invariant.places c.in_ok-measured.ensures.sound c.in_ok-measured.ensures.names;
-      types = made_push field_of (field_type b) c.args.fields.now c.loop-field.field-index _ _ _ _ _ (omega arith) refl c.loop-field.invariant.types c.in_ok-push.ensures.more c.in_ok-measured.ensures.stands;
-      same = omega (arith, c.in_ok-push.ensures.len, c.in_ok-measured.ensures.len);
-      few = omega (arith, c.in_ok-push.ensures.len, c.in_ok-measured.ensures.few, c.loop-field.invariant.same);
-      looked = field_looked_on b (list_of c.loop-field.names) _ c.args.fields.now c.loop-field.field-index _ _ (omega arith) refl c.loop-field.invariant.looked c.in_ok-measured.ensures.sound;
+      places = walk_on (fields_left b) (field_here b) after_field (fields_walk b) _ (list_of c.loop-field.names) _ c.args.fields.now c.loop-field.field-index _ _ (omega arith) refl c.loop-field.invariant.places c.in_ok-add_field.ensures.sound c.in_ok-add_field.ensures.names;
+      types = made_push field_of (field_type b) c.args.fields.now c.loop-field.field-index _ _ _ _ _ (omega arith) refl c.loop-field.invariant.types c.in_ok-add_field.ensures.more refl;
+      same = c.in_ok-add_field.ensures.same;
+      few = c.in_ok-add_field.ensures.few;
+      looked = field_looked_on b (list_of c.loop-field.names) _ c.args.fields.now c.loop-field.field-index _ _ (omega arith) refl c.loop-field.invariant.looked c.in_ok-add_field.ensures.sound;
     }
 
 pub returns-clause-sound : goal.returns-clause-sound
@@ -46,15 +46,8 @@ returns-clause-stands c =
     let made = made_all field_of (field_type (before_of c.args.self.now)) c.args.fields.now c.loop-field.field-index _ (omega arith) c.loop-field.invariant.types in
     c.into_struct.ensures.stands ∙ ap (λ (l : List TheType). structure (fields_from l)) made
 
-pub returns-in_err-measured-clause-memory : goal.returns-in_err-measured-clause-memory
-returns-in_err-measured-clause-memory c =
+pub returns-in_err-add_field-clause-memory : goal.returns-in_err-add_field-clause-memory
+returns-in_err-add_field-clause-memory c =
     let b = before_of c.args.self.now in
-    err_after c.from_residual.result c.in_err-measured.field-0.0 _ c.from_residual.ensures.1
-    (field_looked b (list_of c.loop-field.names) c.in_err-measured.field-0.0 c.args.fields.now c.loop-field.field-index _ _ (omega arith) refl c.loop-field.invariant.looked c.in_err-measured.ensures.memory)
-
-pub returns-in_err-push-clause-memory : goal.returns-in_err-push-clause-memory
-returns-in_err-push-clause-memory c =
-    let b = before_of c.args.self.now in
-    call_after c.from_residual-in_err-push.result _
-    (field_looked b (list_of c.loop-field.names) Memory c.args.fields.now c.loop-field.field-index _ _ (omega arith) refl c.loop-field.invariant.looked
-    (first_sound _ c.in_ok-measured.ensures.sound))
+    err_after c.from_residual.result c.in_err-add_field.field-0.0 _ c.from_residual.ensures.1
+    (field_looked b (list_of c.loop-field.names) c.in_err-add_field.field-0.0 c.args.fields.now c.loop-field.field-index _ _ (omega arith) refl c.loop-field.invariant.looked c.in_err-add_field.ensures.memory)
