@@ -4,7 +4,8 @@ ghost use Rattle.std.specs.Prelude.{◌≤◌};
 
 use crate::fault::CheckFault;
 use crate::measured::Measured;
-use fl_interface::{ArgType, Message, Word};
+use crate::messages::list_messages;
+use fl_interface::{ArgType, Message};
 use indexmap::IndexMap;
 use std::alloc::{AllocError, Global};
 
@@ -102,13 +103,6 @@ impl<'a> Declared<'a> {
     pub fn into_messages(self, alloc: Global) -> Result<Vec<Message>, AllocError>
         ensures same { IfOk result (λ ms. map message_of ms.items ≡ (before_of self.entry).messages) }
     {
-        let mut messages = Vec::with_capacity(alloc, self.messages.len())?;
-        for (name, args) in self.messages {
-            messages.push(Message {
-                name: Word { bytes: name },
-                args,
-            })?;
-        }
-        Ok(messages)
+        list_messages(alloc, self.messages)
     }
 }

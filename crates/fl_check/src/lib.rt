@@ -9,6 +9,7 @@ mod explained;
 mod fault;
 mod law;
 mod measured;
+mod messages;
 mod parts;
 mod payload;
 mod position;
