@@ -1,8 +1,8 @@
--- Messages that an rpc or a message adds.
+-- What a declaration adds: messages, or a type.
 use Rattle.std.proofs.Common.{◌≡◌, ℕ, List, [], ◌∷◌, ◌++◌, map, false, refl, sym, ap, ◌∙◌, subst, append_assoc, append-nil, Result, Ok, Err, OnOk}
 use Rattle.std.specs.Str.{bytes_eq}
 use Rattle.std.proofs.lemmas.List.{map_push}
-use Rattle.fl_interface.specs.Interface.{TheArgType, TheMessage}
+use Rattle.fl_interface.specs.Interface.{TheType, TheArgType, TheMessage}
 use Rattle.fl_interface.specs.Limits.{is_among}
 use Rattle.fl_check.specs.Known.{Named, Before, call_name, response_name}
 use Rattle.fl_check.specs.declared.fault.CheckFault.{CheckFault}
@@ -42,3 +42,11 @@ same_message n n2 ts us p q = cc
 
 pub same_two : {X : Type 0} (a a2 b b2 : X) → a ≡ a2 → b ≡ b2 → a ∷ (b ∷ []) ≡ a2 ∷ (b2 ∷ [])
 same_two a a2 b b2 p q = cc
+
+-- a type that a call at the end adds, and no messages
+pub type_added : {T : Type 0} (r : Result T CheckFault) (b b2 : Before) (n : List ℕ) (t u : TheType)
+    → OnOk r (b2.types ≡ b.types ++ (let k : Named = record { name = n; type = t } in k) ∷ []) → OnOk r (b2.messages ≡ b.messages) → t ≡ u
+    → OnOk r (b2 ≡ record { types = b.types ++ (let k : Named = record { name = n; type = u } in k) ∷ []; messages = b.messages ++ [] })
+type_added (Ok v) b b2 n t u h m e =
+    both_same b2 _ _ (h ∙ ap (λ x. b.types ++ (let k : Named = record { name = n; type = x } in k) ∷ []) e) (m ∙ sym (append-nil b.messages))
+type_added (Err x) b b2 n t u h m e = tt

@@ -1,8 +1,8 @@
-use Rattle.std.proofs.Common.{◌∷◌, ◌∙◌}
+use Rattle.std.proofs.Common.{◌∷◌, [], ◌∙◌, ap, length, length-append}
 use Rattle.fl_check.specs.Places.{fixed_type_place, listed_place, count_places}
 use Rattle.fl_check.specs.Views.{before_of, list_of}
 use Rattle.fl_parse.specs.Tree.{field_of}
-use Rattle.fl_check.proofs.FirstFaults.{tells_past, tells_here, none_past, err_of, sound_at_end, fault_at_end}
+use Rattle.fl_check.proofs.FirstFaults.{tells_past, tells_here, none_past, err_of, sound_at_end, fault_at_end, ok_by}
 use Rattle.fl_check.proofs.Looks.{err_after, call_after}
 use Rattle.fl_check.proofs.declared.Declared.check_field.Goals as goal
 
@@ -47,3 +47,17 @@ returns-in_err-add_listed_name-clause-memory c = call_after c.from_residual-in_e
 
 pub returns-clause-memory : goal.returns-clause-memory
 returns-clause-memory c = call_after c.apply_count.result _ c.in_ok-measured.ensures.sound
+
+pub returns-clause-names : goal.returns-clause-names
+returns-clause-names c = ok_by c.apply_count.result _ c.in_ok-add_listed_name.ensures.names
+
+pub returns-clause-len : goal.returns-clause-len
+returns-clause-len c =
+    let name = c.args.field.now.name.text.now in
+    ok_by c.apply_count.result _ (ap length c.in_ok-add_listed_name.ensures.names ∙ length-append (list_of c.args.names.now) (name ∷ []))
+
+pub returns-clause-few : goal.returns-clause-few
+returns-clause-few c = ok_by c.apply_count.result _ (rw c.len-counted_before.ensures.exact at c.in_ok-add_listed_name.ensures.few)
+
+pub returns-clause-stands : goal.returns-clause-stands
+returns-clause-stands c = rw c.in_ok-measured.ensures.stands at c.apply_count.ensures.stands

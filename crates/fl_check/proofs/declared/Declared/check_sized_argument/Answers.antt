@@ -1,5 +1,8 @@
 use Rattle.std.proofs.Common.{List, ℕ, ◌∷◌, [], ◌++◌, ◌∙◌, ap, append_assoc}
-use Rattle.fl_check.specs.Views.{list_of}
+use Rattle.fl_interface.specs.Interface.{sized}
+use Rattle.fl_check.specs.Known.{stands_for}
+use Rattle.fl_check.specs.Views.{list_of, before_of}
+use Rattle.fl_parse.specs.Tree.{name_of}
 use Rattle.fl_check.proofs.FirstFaults.{tells_here, tells_past, none_past, err_of}
 use Rattle.fl_check.proofs.declared.Declared.check_sized_argument.Goals as goal
 
@@ -38,3 +41,6 @@ returns-clause-names c =
     let new = c.args.argument.now.name.text.now in
     let length = c.args.length.now.text.now in
     c.in_ok-add_name.ensures.names ∙ ap (λ (l : List (List ℕ)). l ++ length ∷ []) c.in_ok-add_listed_name.ensures.names ∙ append_assoc (list_of c.args.names.now) (new ∷ []) (length ∷ [])
+
+pub returns-clause-stands : goal.returns-clause-stands
+returns-clause-stands c = ap (λ t. sized c.bound_of.result t) c.in_ok-element.ensures.stands ∙ ap (λ b. sized b (stands_for (before_of c.args.self.now) (name_of c.args.argument.now.type_name))) c.bound_of.ensures.exact

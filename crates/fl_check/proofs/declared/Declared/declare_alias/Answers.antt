@@ -1,6 +1,8 @@
 use Rattle.std.proofs.Common.{◌∙◌}
 use Rattle.fl_check.proofs.FirstFaults.{tells_here, tells_past, none_past, err_of, sound_at_end, fault_at_end}
 use Rattle.fl_check.proofs.Looks.{err_after, call_after}
+use Rattle.fl_check.proofs.Added.{type_added}
+use Rattle.fl_check.specs.Views.{before_of}
 use Rattle.fl_check.proofs.declared.Declared.declare_alias.Goals as goal
 
 pub returns-in_err-check_new_type-clause-fault : goal.returns-in_err-check_new_type-clause-fault
@@ -33,3 +35,7 @@ returns-in_err-measured-clause-memory c =
 
 pub returns-clause-memory : goal.returns-clause-memory
 returns-clause-memory c = call_after c.add_type.result _ c.in_ok-check_new_type.ensures.sound
+
+pub returns-clause-after : goal.returns-clause-after
+returns-clause-after c =
+    type_added c.add_type.result (before_of c.args.self.now) (before_of c.add_type.new.self) _ _ _ c.add_type.ensures.types c.add_type.ensures.messages c.in_ok-measured.ensures.stands

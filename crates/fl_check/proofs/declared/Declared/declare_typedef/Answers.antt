@@ -3,6 +3,8 @@ use Rattle.fl_check.specs.Known.{counted}
 use Rattle.fl_parse.specs.Tree.{number_of}
 use Rattle.fl_check.proofs.FirstFaults.{tells_here, tells_past, tells_prefix, none_past, none_after, err_of, sound_at_end, fault_at_end}
 use Rattle.fl_check.proofs.Looks.{err_after, call_after}
+use Rattle.fl_check.proofs.Added.{type_added}
+use Rattle.fl_check.specs.Views.{before_of}
 use Rattle.fl_check.proofs.declared.Declared.declare_typedef.Goals as goal
 
 pub returns-in_err-element-clause-fault : goal.returns-in_err-element-clause-fault
@@ -44,3 +46,8 @@ returns-in_err-measured-clause-memory c =
 
 pub returns-clause-memory : goal.returns-clause-memory
 returns-clause-memory c = call_after c.add_type.result _ c.in_ok-element.ensures.sound
+
+pub returns-clause-after : goal.returns-clause-after
+returns-clause-after c =
+    let k = c.in_ok-measured.ensures.stands ∙ ap (counted (option_map number_of c.args.count)) c.in_ok-element.ensures.stands in
+    type_added c.add_type.result (before_of c.args.self.now) (before_of c.add_type.new.self) _ _ _ c.add_type.ensures.types c.add_type.ensures.messages k
