@@ -6,13 +6,11 @@ use Rattle.std.specs.Map.{lookup}
 use Rattle.std.proofs.lemmas.List.{map_push}
 use Rattle.indexmap.specs.IndexMap.{insert_entry}
 use Rattle.fl_check.specs.declared.declared.KnownType.{KnownType}
-use Rattle.fl_interface.specs.Interface.{TheType, TheMessage, type_of}
-use Rattle.fl_check.specs.Known.{declared_as, call_name, response_name}
+use Rattle.fl_interface.specs.Interface.{TheType, type_of}
+use Rattle.fl_check.specs.Known.{declared_as}
 use Rattle.fl_interface.specs.Limits.{is_among}
 use Rattle.fl_check.specs.Views.{named_of}
-use Rattle.fl_parse.specs.Tree.{TheName}
 use Rattle.fl_check.proofs.NameSets.{turned}
-use Rattle.fl_check.proofs.Limits.{among_push, other_name}
 
 -- what a look-up lends
 pub lent : {X Y : Type 0} (f : X → Y) (r : Option (Bor X)) (s : Option X) → option_copied r ≡ s → option_map (λ (k : Bor X). f k.now) r ≡ option_map f s

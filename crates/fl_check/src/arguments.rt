@@ -218,7 +218,8 @@ impl<'a> Declared<'a> {
     ) -> Result<(), CheckFault>
         requires short { vec_len halves.old.ins.args + vec_len halves.old.outs.args ≤ 32 }
         ensures sound { OnOk result (first_fault
-            (argument_place (before_of self.now) (list_of names.old) (vec_len halves.old.ins.args + vec_len halves.old.outs.args) (argument_of directed.now.argument)) ≡ None) }
+            (argument_place (before_of self.now) (list_of names.old) (vec_len halves.old.ins.args + vec_len halves.old.outs.args)
+            (argument_of directed.now.argument)) ≡ None) }
         ensures names { OnOk result (list_of names.new ≡ list_of names.old ++ argument_names (argument_of directed.now.argument)) }
         ensures few { OnOk result (vec_len halves.old.ins.args + vec_len halves.old.outs.args < 32) }
         ensures ins { OnOk result (map arg_type_of halves.new.ins.args.items ≡ map arg_type_of halves.old.ins.args.items
@@ -228,7 +229,8 @@ impl<'a> Declared<'a> {
         ensures len { OnOk result (vec_len halves.new.ins.args + vec_len halves.new.outs.args
             ≡ vec_len halves.old.ins.args + vec_len halves.old.outs.args + 1) }
         ensures fault { IfErr result (λ e. Tells e (first_fault
-            (argument_place (before_of self.now) (list_of names.old) (vec_len halves.old.ins.args + vec_len halves.old.outs.args) (argument_of directed.now.argument)))) }
+            (argument_place (before_of self.now) (list_of names.old) (vec_len halves.old.ins.args + vec_len halves.old.outs.args)
+            (argument_of directed.now.argument)))) }
     {
         let counted_before = halves.ins.args.len() + halves.outs.args.len();
         let checked = self.check_argument(alloc, names, counted_before, &directed.argument)?;

@@ -1,5 +1,3 @@
-use Rattle.std.proofs.Common.{◌∙◌, ap}
-use Rattle.fl_interface.specs.Interface.{TheArgType}
 use Rattle.fl_check.proofs.FirstFaults.{err_of, memory_tells, ok_by}
 use Rattle.fl_check.proofs.declared.Declared.add_argument.Goals as goal
 

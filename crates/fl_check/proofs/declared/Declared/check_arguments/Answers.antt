@@ -1,4 +1,4 @@
-use Rattle.std.proofs.Common.{◌≡◌, refl, arith}
+use Rattle.std.proofs.Common.{refl, arith}
 use Rattle.fl_check.specs.Views.{before_of, list_of}
 use Rattle.fl_check.specs.Known.{argument_type}
 use Rattle.fl_parse.specs.Tree.{argument_of}

@@ -1,4 +1,4 @@
-use Rattle.std.proofs.Common.{◌≡◌, List, map, refl, arith, ◌+◌}
+use Rattle.std.proofs.Common.{List, map, refl, arith}
 use Rattle.fl_check.specs.Views.{before_of, list_of}
 use Rattle.fl_check.specs.Known.{argument_type, ins, outs}
 use Rattle.fl_parse.specs.declared.tree.DirectedArgument.{DirectedArgument}

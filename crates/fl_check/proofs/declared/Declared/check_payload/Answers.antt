@@ -1,4 +1,3 @@
-use Rattle.std.proofs.Common.{◌∙◌, ap, sym}
 use Rattle.fl_check.proofs.FirstFaults.{tells_prefix, err_of}
 use Rattle.fl_check.proofs.declared.Declared.check_payload.Goals as goal
 

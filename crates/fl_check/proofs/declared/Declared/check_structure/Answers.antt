@@ -3,11 +3,10 @@ use Rattle.fl_check.specs.Views.{before_of, list_of}
 use Rattle.fl_interface.specs.Interface.{TheType, structure, fields_from}
 use Rattle.fl_check.specs.Known.{field_type}
 use Rattle.fl_parse.specs.Tree.{field_of}
-use Rattle.fl_check.proofs.FirstFaults.{err_of, first_sound}
+use Rattle.fl_check.proofs.FirstFaults.{err_of}
 use Rattle.fl_check.proofs.Walks.{made_push, made_all, walk_on, walk_fault, walk_end}
 use Rattle.fl_check.proofs.Lists.{fields_left, field_here, after_field, fields_walk}
-use Rattle.fl_check.proofs.Looks.{err_after, call_after, field_looked, field_looked_on}
-use Rattle.fl_check.specs.declared.fault.CheckFault.TheVariants.{Memory}
+use Rattle.fl_check.proofs.Looks.{err_after, field_looked, field_looked_on}
 use Rattle.fl_check.proofs.declared.Declared.check_structure.Goals as goal
 
 pub returns-in_err-add_field-clause-fault : goal.returns-in_err-add_field-clause-fault
