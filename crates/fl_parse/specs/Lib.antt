@@ -3,6 +3,7 @@
 pub mod Tree
 pub mod Grammar
 pub mod Reading
+pub mod Taken
 pub mod RoundTrip
 pub mod Parts
 pub mod Outcome

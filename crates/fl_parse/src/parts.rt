@@ -1,12 +1,13 @@
 //! Reading fields, arguments and lists: what declarations are made of.
 
-ghost use Rattle.std.specs.Prelude.{◌≡◌, map, option_map};
+ghost use Rattle.std.specs.Prelude.{◌≡◌, IfOk, IfErr, map, option_map};
 ghost use Rattle.fl_lex.specs.Token.{token_of};
 ghost use Rattle.fl_parse.specs.Tree.{name_of, number_of, field_of, shape_of, argument_of, directed_of};
 ghost use Rattle.fl_parse.specs.Grammar.{is_mark, direction_in, inside_in};
 ghost use Rattle.fl_parse.specs.Parts.{inside_of};
 ghost use Rattle.fl_parse.specs.Reading.{Gives, one_at, optional_at, count_at, field_at, fields_at, all_members_at, bound_at, shape_at, argument_at};
-ghost use Rattle.fl_parse.specs.Reading.{directed_at, arguments_at, all_directed_at};
+ghost use Rattle.fl_parse.specs.Reading.{Fails, directed_at, arguments_at, all_directed_at};
+ghost use Rattle.fl_parse.specs.Taken.{Took};
 
 use crate::reading::{begins_with, mark, name, number, spells};
 use crate::stop::Stop;
@@ -224,6 +225,20 @@ pub fn fields<'t, 'a>(
     Ok((fields, rest))
 }
 
+/// Takes one more argument of a message.
+fn next_argument<'t, 'a>(
+    arguments: &mut Vec<Argument<'a>>,
+    tokens: &'t [Token<'a>],
+) -> Result<&'t [Token<'a>], Stop<'t, 'a>>
+    ensures takes { IfOk result (λ rest. Took (argument_at (map token_of tokens.now)) (map argument_of arguments.old.items)
+        (map argument_of arguments.new.items) (map token_of rest.now)) }
+    ensures refusal { IfErr result (λ stop. Fails stop (argument_at (map token_of tokens.now))) }
+{
+    let (next, rest) = argument(tokens)?;
+    arguments.push(next)?;
+    Ok(rest)
+}
+
 /// Takes a message's arguments, up to the closing parenthesis.
 pub fn arguments<'t, 'a>(
     alloc: Global,
@@ -236,15 +251,26 @@ pub fn arguments<'t, 'a>(
     if begins_with(tokens, Mark::CloseParen) {
         return Ok((arguments, tokens));
     }
-    let (first, mut rest) = argument(tokens)?;
-    arguments.push(first)?;
+    let mut rest = next_argument(&mut arguments, tokens)?;
     while !begins_with(rest, Mark::CloseParen) {
         let after_comma = mark(rest, Mark::Comma)?;
-        let (next, after) = argument(after_comma)?;
-        arguments.push(next)?;
-        rest = after;
+        rest = next_argument(&mut arguments, after_comma)?;
     }
     Ok((arguments, rest))
+}
+
+/// Takes one more argument of an rpc.
+fn next_directed<'t, 'a>(
+    arguments: &mut Vec<DirectedArgument<'a>>,
+    tokens: &'t [Token<'a>],
+) -> Result<&'t [Token<'a>], Stop<'t, 'a>>
+    ensures takes { IfOk result (λ rest. Took (directed_at (map token_of tokens.now)) (map directed_of arguments.old.items)
+        (map directed_of arguments.new.items) (map token_of rest.now)) }
+    ensures refusal { IfErr result (λ stop. Fails stop (directed_at (map token_of tokens.now))) }
+{
+    let (next, rest) = directed(tokens)?;
+    arguments.push(next)?;
+    Ok(rest)
 }
 
 /// Takes an rpc's arguments, up to the closing parenthesis.
@@ -259,13 +285,10 @@ pub fn directed_arguments<'t, 'a>(
     if begins_with(tokens, Mark::CloseParen) {
         return Ok((arguments, tokens));
     }
-    let (first, mut rest) = directed(tokens)?;
-    arguments.push(first)?;
+    let mut rest = next_directed(&mut arguments, tokens)?;
     while !begins_with(rest, Mark::CloseParen) {
         let after_comma = mark(rest, Mark::Comma)?;
-        let (next, after) = directed(after_comma)?;
-        arguments.push(next)?;
-        rest = after;
+        rest = next_directed(&mut arguments, after_comma)?;
     }
     Ok((arguments, rest))
 }

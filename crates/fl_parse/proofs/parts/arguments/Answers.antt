@@ -24,19 +24,20 @@ returns-then-begins_with c =
     let ended : begins closes (map token_of c.args.tokens.now) ≡ true = sym c.if-begins_with.ensures.exact in
     rw c.new-arguments.ensures.items (record { reads = separated_none closes argument_at (map token_of c.args.tokens.now) ended })
 
-pub returns-in_err-first : goal.returns-in_err-first
+pub returns-in_err-rest : goal.returns-in_err-rest
 unfolding arguments_at
-returns-in_err-first c =
+returns-in_err-rest c =
     let p = err_from_is_err_and c.from_residual.result c.from_residual.ensures.1 in
     let more : begins closes (map token_of c.args.tokens.now) ≡ false = sym c.if-begins_with.ensures.exact in
-    rw (p.1, p.2) (record { reads = separated_stops closes argument_at (map token_of c.args.tokens.now) c.in_err-first.field-0.0 more c.in_err-first.ensures.reads })
+    rw (p.1, p.2) (record { reads = separated_stops closes argument_at (map token_of c.args.tokens.now) c.in_err-rest.field-0.0 more c.in_err-rest.ensures.refusal })
 
 pub loop-rest-init : goal.loop-rest-init
 unfolding arguments_at
 loop-rest-init c =
     let more : begins closes (map token_of c.args.tokens.now) ≡ false = sym c.if-begins_with.ensures.exact in
-    rw (c.in_ok-push.ensures.items, c.new-arguments.ensures.items)
-    (separated_begun closes argument_at (map token_of c.args.tokens.now) (argument_of c.in_ok-first.first) (map token_of c.in_ok-first.rest.now) more c.in_ok-first.ensures.reads)
+    let t = c.in_ok-rest.ensures.takes in
+    rw (t.more, c.new-arguments.ensures.items)
+    (separated_begun closes argument_at (map token_of c.args.tokens.now) t.item (map token_of c.in_ok-rest.rest.now) more t.is)
 
 pub returns-in_err-after_comma : goal.returns-in_err-after_comma
 returns-in_err-after_comma c =
@@ -47,29 +48,29 @@ returns-in_err-after_comma c =
           (comma_stops argument_at (map token_of c.loop-rest.rest.now) c.in_err-after_comma.field-0.0 c.in_err-after_comma.ensures.reads);
     })
 
-pub returns-in_err-next : goal.returns-in_err-next
-returns-in_err-next c =
-    let p = err_from_is_err_and c.from_residual-in_err-next.result c.from_residual-in_err-next.ensures.1 in
+pub returns-in_err-rest-2 : goal.returns-in_err-rest-2
+returns-in_err-rest-2 c =
+    let p = err_from_is_err_and c.from_residual-in_err-rest-2.result c.from_residual-in_err-rest-2.ensures.1 in
     let more : begins closes (map token_of c.loop-rest.rest.now) ≡ false = sym c.loop-rest-test.ensures.exact in
     rw (p.1, p.2) (record {
-      reads = left_stops closes c.in_err-next.field-0.0 (behind_comma_reads argument_reads) c.loop-rest.invariant more
-          (behind_comma_stops argument_at (map token_of c.loop-rest.rest.now) (map token_of c.in_ok-after_comma.after_comma.now) c.in_err-next.field-0.0
-          c.in_ok-after_comma.ensures.reads c.in_err-next.ensures.reads);
+      reads = left_stops closes c.in_err-rest-2.field-0.0 (behind_comma_reads argument_reads) c.loop-rest.invariant more
+          (behind_comma_stops argument_at (map token_of c.loop-rest.rest.now) (map token_of c.in_ok-after_comma.after_comma.now) c.in_err-rest-2.field-0.0
+          c.in_ok-after_comma.ensures.reads c.in_err-rest-2.ensures.refusal);
     })
 
 pub loop-rest-smaller : goal.loop-rest-smaller
 loop-rest-smaller c =
-    let whole = behind_comma_is argument_at (map token_of c.loop-rest.rest.now) (map token_of c.in_ok-after_comma.after_comma.now) c.in_ok-after_comma.ensures.reads ∙ c.in_ok-next.ensures.reads in
-    let less : length (map token_of c.in_ok-next.after.now) < length (map token_of c.loop-rest.rest.now) =
-    shorter separates true (behind_comma_reads argument_reads) (then_starts separates true (mark_starts Comma Comma true refl)) (map token_of c.loop-rest.rest.now) (map token_of c.in_ok-next.after.now) (argument_of c.in_ok-next.next) whole in
-    omega (arith, less, length-map c.in_ok-next.after.now token_of, length-map c.loop-rest.rest.now token_of)
+    let t = c.in_ok-rest-2.ensures.takes in
+    let whole = behind_comma_is argument_at (map token_of c.loop-rest.rest.now) (map token_of c.in_ok-after_comma.after_comma.now) c.in_ok-after_comma.ensures.reads ∙ t.is in
+    let less : length (map token_of c.in_ok-rest-2.rest.now) < length (map token_of c.loop-rest.rest.now) =
+    shorter separates true (behind_comma_reads argument_reads) (then_starts separates true (mark_starts Comma Comma true refl)) (map token_of c.loop-rest.rest.now) (map token_of c.in_ok-rest-2.rest.now) t.item whole in
+    omega (arith, less, length-map c.in_ok-rest-2.rest.now token_of, length-map c.loop-rest.rest.now token_of)
 
 pub loop-rest-preserved : goal.loop-rest-preserved
 loop-rest-preserved c =
-    let e : map argument_of c.push-in-loop-rest.new.self.items ≡ map argument_of c.loop-rest.arguments.items ++ argument_of c.in_ok-next.next ∷ [] =
-    rw c.in_ok-push-2.ensures.items (map_push _ c.loop-rest.arguments.items c.in_ok-next.next) in
+    let t = c.in_ok-rest-2.ensures.takes in
     let more : begins closes (map token_of c.loop-rest.rest.now) ≡ false = sym c.loop-rest-test.ensures.exact in
-    let whole = behind_comma_is argument_at (map token_of c.loop-rest.rest.now) (map token_of c.in_ok-after_comma.after_comma.now) c.in_ok-after_comma.ensures.reads ∙ c.in_ok-next.ensures.reads in
-    let less : length (map token_of c.in_ok-next.after.now) < length (map token_of c.loop-rest.rest.now) =
-    shorter separates true (behind_comma_reads argument_reads) (then_starts separates true (mark_starts Comma Comma true refl)) (map token_of c.loop-rest.rest.now) (map token_of c.in_ok-next.after.now) (argument_of c.in_ok-next.next) whole in
-    rw e (left_goes closes (behind_comma argument_at) (argument_of c.in_ok-next.next) (map token_of c.in_ok-next.after.now) c.loop-rest.invariant more whole less)
+    let whole = behind_comma_is argument_at (map token_of c.loop-rest.rest.now) (map token_of c.in_ok-after_comma.after_comma.now) c.in_ok-after_comma.ensures.reads ∙ t.is in
+    let less : length (map token_of c.in_ok-rest-2.rest.now) < length (map token_of c.loop-rest.rest.now) =
+    shorter separates true (behind_comma_reads argument_reads) (then_starts separates true (mark_starts Comma Comma true refl)) (map token_of c.loop-rest.rest.now) (map token_of c.in_ok-rest-2.rest.now) t.item whole in
+    rw t.more (left_goes closes (behind_comma argument_at) t.item (map token_of c.in_ok-rest-2.rest.now) c.loop-rest.invariant more whole less)
