@@ -1,6 +1,8 @@
 -- Texts that are put together piece by piece.
 use Rattle.std.proofs.Common.{◌≡◌, ◌<◌, ◌≤◌, ◌+◌, ℕ, List, ◌∷◌, ◌++◌, length, get_or, drop, map, ap, sym, ◌∙◌, append_assoc, append-nil}
 use Rattle.std.specs.List.{flat_map}
+use Rattle.std.specs.Prelude.{Result, Ok, Err, OnOk, if◌then◌else◌}
+use Rattle.std.specs.Result.{is_ok}
 use Rattle.std.proofs.lemmas.List.{drop_more, drop_all}
 use Rattle.std.proofs.lemmas.List.Concat.{flat_map-cons}
 
@@ -10,6 +12,11 @@ pub six_pieces : (start a b m c n d p q r s t all : List ℕ)
 six_pieces start a b m c n d p q r s t all e1 e2 e3 e4 e5 e6 =
     e6 ∙ ap (λ (z : List ℕ). z ++ d) (e5 ∙ ap (λ (z : List ℕ). z ++ n) (e4 ∙ ap (λ (z : List ℕ). z ++ c) (e3 ∙ ap (λ (z : List ℕ). z ++ m) (e2 ∙ ap (λ (z : List ℕ). z ++ b) e1))))
     ∙ simp append_assoc
+
+-- what a call at the end appended
+pub wrote : {T E : Type 0} (r : Result T E) (all x y : List ℕ) → all ≡ (if is_ok r then x else y) → OnOk r (all ≡ x)
+wrote (Ok v) all x y h = h
+wrote (Err e) all x y h = tt
 
 -- A loop that writes the texts of a list, from the left: one more, and the end.
 

@@ -6,7 +6,7 @@ ghost use Rattle.fl_parse.specs.Tree.{name_of, number_of, field_of, shape_of, ar
 ghost use Rattle.fl_parse.specs.Tree.{typedef_of, enum_of, struct_of, message_of, rpc_of};
 ghost use Rattle.fl_parse.specs.RoundTrip.{IsShortestText};
 ghost use Rattle.fl_parse.specs.Printed.{name_text, number_text, count_text, field_text, bound_text, shape_text, argument_text, directed_text};
-ghost use Rattle.fl_parse.specs.Printed.{direction_text, kind_text, declaration_text, with_commas, printed};
+ghost use Rattle.fl_parse.specs.Printed.{direction_text, kind_text, description_text, declaration_text, with_commas, printed};
 
 use crate::tree::{
     Argument, Declaration, DirectedArgument, Direction, Field, MessageKind, Name, Number, Shape,
@@ -31,8 +31,7 @@ fn print_count(alloc: Global, out: &mut Vec<u8>, count: Option<Number>) -> Resul
     };
     out.push(b'[')?;
     print_number(alloc, out, count)?;
-    out.push(b']')?;
-    Ok(())
+    out.extend_from_slice(b"]")
 }
 
 /// Appends a field.
@@ -43,8 +42,7 @@ fn print_field(alloc: Global, out: &mut Vec<u8>, field: &Field) -> Result<(), Al
     out.push(b' ')?;
     out.extend_from_slice(field.name.text)?;
     print_count(alloc, out, field.count)?;
-    out.push(b';')?;
-    Ok(())
+    out.extend_from_slice(b";")
 }
 
 /// Appends what stands behind an argument's name.
@@ -56,8 +54,7 @@ fn print_shape(alloc: Global, out: &mut Vec<u8>, shape: &Shape) -> Result<(), Al
         Shape::Bounded(bound) => {
             out.push(b'[')?;
             print_number(alloc, out, *bound)?;
-            out.push(b']')?;
-            Ok(())
+            out.extend_from_slice(b"]")
         }
         Shape::Sized { length, bound } => {
             out.push(b'[')?;
@@ -66,8 +63,7 @@ fn print_shape(alloc: Global, out: &mut Vec<u8>, shape: &Shape) -> Result<(), Al
                 out.push(b',')?;
                 print_number(alloc, out, *bound)?;
             }
-            out.push(b']')?;
-            Ok(())
+            out.extend_from_slice(b"]")
         }
     }
 }
@@ -179,8 +175,7 @@ fn print_alias(out: &mut Vec<u8>, new: &Name, old: &Name) -> Result<(), AllocErr
     out.extend_from_slice(new.text)?;
     out.push(b' ')?;
     out.extend_from_slice(old.text)?;
-    out.push(b';')?;
-    Ok(())
+    out.extend_from_slice(b";")
 }
 
 /// Appends `typedef OLD NEW;` or `typedef OLD NEW[COUNT];`.
@@ -199,8 +194,7 @@ fn print_typedef(
     out.push(b' ')?;
     out.extend_from_slice(new.text)?;
     print_count(alloc, out, count)?;
-    out.push(b';')?;
-    Ok(())
+    out.extend_from_slice(b";")
 }
 
 /// Appends `typedef enum{MEMBERS}NAME;`.
@@ -213,8 +207,7 @@ fn print_enumeration(out: &mut Vec<u8>, members: &[Name], name: &Name) -> Result
     print_members(out, members)?;
     out.push(b'}')?;
     out.extend_from_slice(name.text)?;
-    out.push(b';')?;
-    Ok(())
+    out.extend_from_slice(b";")
 }
 
 /// Appends `typedef struct{FIELDS}NAME;`.
@@ -232,8 +225,7 @@ fn print_structure(
     print_fields(alloc, out, fields)?;
     out.push(b'}')?;
     out.extend_from_slice(name.text)?;
-    out.push(b';')?;
-    Ok(())
+    out.extend_from_slice(b";")
 }
 
 /// Appends a message.
@@ -252,8 +244,7 @@ fn print_message(
     out.extend_from_slice(name.text)?;
     out.push(b'(')?;
     print_arguments(alloc, out, args)?;
-    out.extend_from_slice(b");")?;
-    Ok(())
+    out.extend_from_slice(b");")
 }
 
 /// Appends an rpc.
@@ -270,8 +261,7 @@ fn print_rpc(
     out.extend_from_slice(name.text)?;
     out.push(b'(')?;
     print_all_directed(alloc, out, args)?;
-    out.extend_from_slice(b");")?;
-    Ok(())
+    out.extend_from_slice(b");")
 }
 
 /// Appends a declaration.
@@ -306,19 +296,26 @@ fn print_declarations(
     Ok(())
 }
 
+/// Appends a description, which may be missing.
+fn print_description(out: &mut Vec<u8>, description: Option<&[u8]>) -> Result<(), AllocError>
+    ensures printed { OnOk result (out.new.items ≡ out.old.items ++ description_text (option_map (λ d. d.now) description.entry)) }
+{
+    let Some(description) = description else {
+        return Ok(());
+    };
+    out.extend_from_slice(description)
+}
+
 /// Appends a tree.
 fn print_tree(alloc: Global, out: &mut Vec<u8>, tree: &Tree) -> Result<(), AllocError>
     ensures printed { OnOk result (out.new.items ≡ out.old.items ++ printed (tree_of tree.now)) }
 {
     out.extend_from_slice(b"interface ")?;
     out.extend_from_slice(tree.name.text)?;
-    if let Some(description) = tree.description {
-        out.extend_from_slice(description)?;
-    }
+    print_description(out, tree.description)?;
     out.push(b'{')?;
     print_declarations(alloc, out, &tree.declarations)?;
-    out.push(b'}')?;
-    Ok(())
+    out.extend_from_slice(b"}")
 }
 
 /// The text of a tree: its tokens without the optional ends, one blank between two words and no other.

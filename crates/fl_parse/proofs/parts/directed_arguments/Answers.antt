@@ -1,9 +1,8 @@
-use Rattle.std.proofs.Common.{◌≡◌, ◌<◌, Bool, true, false, [], ◌∷◌, ◌++◌, length, map, arith, sym, refl, ◌∙◌}
+use Rattle.std.proofs.Common.{◌≡◌, ◌<◌, Bool, true, false, length, map, arith, sym, refl, ◌∙◌}
 use Rattle.std.proofs.lemmas.Result.{err_from_is_err_and}
-use Rattle.std.proofs.lemmas.List.{map_push, length-map}
+use Rattle.std.proofs.lemmas.List.{length-map}
 use Rattle.fl_lex.specs.declared.token.Mark.TheVariants.{CloseParen, Comma}
 use Rattle.fl_lex.specs.Token.{TheToken, token_of}
-use Rattle.fl_parse.specs.Tree.{directed_of}
 use Rattle.fl_parse.specs.Grammar.{is_mark}
 use Rattle.fl_parse.specs.Reading.{begins, behind_comma, directed_at, all_directed_at}
 use Rattle.fl_parse.proofs.Choices.{shorter}
