@@ -6,7 +6,9 @@ use fl_cores::{CoresEnd, CoresFault, run_cores};
 use fl_lines::{DispatcherId, Event};
 use fl_system::Config;
 use std::alloc::{AllocError, Global};
+use std::sync::Wait;
 use std::test::Fail;
+use std::thread::Threads;
 
 // So many turns are never used up.
 const MANY: u64 = 1_000_000_000;
@@ -57,8 +59,8 @@ const FAULTS: &[(CoresFault, u8)] = &[
 ];
 
 // What two events of a set-up of one core are refused for.
-fn refusal_of(
-    rt: &HostRuntime,
+fn refusal_of<R: Threads + Wait + Sync>(
+    rt: &R,
     alloc: Global,
     first: Event<'_>,
     second: Event<'_>,
