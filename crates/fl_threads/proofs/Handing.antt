@@ -2,9 +2,11 @@
 use Rattle.std.proofs.Common.{◌≡◌, refl, sym, ap, ◌∙◌, subst, arith, ℕ, suc, ◌+◌, ◌*◌, ◌<◌, ◌≤◌, List, [], ◌∷◌, ◌++◌, length, take, get_or, Some}
 use Rattle.std.proofs.lemmas.List.{append_assoc, length-append, take_more, take_all}
 use Rattle.std.proofs.lemmas.Option.{slice_get-get_or}
+use Rattle.fl_compile.specs.declared.program.Program.{Program}
 use Rattle.fl_link.specs.Queue.{TheQueue}
 use Rattle.fl_ring.specs.Duo.{TheDuo}
 use Rattle.fl_ring.specs.SharedSides.{TheSide}
+use Rattle.fl_node.specs.View.{TheCore}
 use Rattle.fl_worlds.specs.declared.parts.Parts.{Parts}
 use Rattle.fl_deal.specs.declared.deal.Dealt.{Dealt}
 use Rattle.fl_deal.specs.Dealt.{AreNew, hands_in, Holds, Gives, Deals}
@@ -12,7 +14,7 @@ use Rattle.fl_deal.specs.Settled.{Pair, sides_of}
 use Rattle.fl_dockets.specs.State.{TheJoined}
 use Rattle.fl_threads.specs.Begins.{TheStation, TheCommon, Places, common_in, AreStations}
 use Rattle.fl_threads.specs.Shares.{NamesSide, NamesQueue, AreOwners, AreShared, AreNewRings, sides_given, queues_given}
-use Rattle.fl_threads.specs.Dealing.{AreOf, HaveOwners, DealsRings, DealsQueues, Wires}
+use Rattle.fl_threads.specs.Dealing.{AreOf, HaveOwners, DealsRings, DealsQueues, SharesOut, Wires}
 
 -- ---- owners
 
@@ -110,25 +112,55 @@ shared_of {T} d things owners hands holds same is =
     (subst (λ (hs : List (List T)). AreShared d.owners.items things d.places.items hs) (sym is)
     (record { dealt = holds.dealt; at = holds.places; apart = holds.apart; counted = holds.counted }))
 
-pub wires_of : (p : Parts) (j : TheJoined) (c : TheCommon) (stations : List TheStation) (rings queues cores : ℕ) (by_sides by_queues : List ℕ)
-    (s : Dealt TheSide) (q : Dealt TheQueue) → c ≡ common_in p j (record { sides = s.places.items; queues = q.places.items })
-    → rings ≡ length p.rings.items → queues ≡ length p.queues.items
-    → HaveOwners p.cores.items NamesSide (2 * rings) by_sides → HaveOwners p.cores.items NamesQueue queues by_queues
-    → DealsRings p.rings.items by_sides cores s → DealsQueues p.queues.items by_queues cores q → AreStations c 0 p.cores.items stations
-    → sides_given stations ≡ hands_in s → queues_given stations ≡ hands_in q → Wires p j stations s.owners.items
-wires_of p j c stations rings queues cores by_sides by_queues s q common is_rings is_queues named_sides named_queues deals_s deals_q are hands_s hands_q =
+-- both kinds of things, by so many rings, queues and cores as there are
+pub shares_out : (ks : List TheCore) (rs : List TheDuo) (qs : List TheQueue) (rings queues cores : ℕ) (by_sides by_queues : List ℕ) (s : Dealt TheSide) (q : Dealt TheQueue)
+    → rings ≡ length rs → queues ≡ length qs → cores ≡ length ks → HaveOwners ks NamesSide (2 * rings) by_sides → HaveOwners ks NamesQueue queues by_queues
+    → DealsRings rs by_sides cores s → DealsQueues qs by_queues cores q → SharesOut ks rs qs s q
+shares_out ks rs qs rings queues cores by_sides by_queues s q is_rings is_queues is_cores named_sides named_queues deals_s deals_q = record {
+  by_sides = by_sides;
+  by_queues = by_queues;
+  sides_named = subst (λ (n : ℕ). HaveOwners ks NamesSide (2 * n) by_sides) is_rings named_sides;
+  queues_named = subst (λ (n : ℕ). HaveOwners ks NamesQueue n by_queues) is_queues named_queues;
+  sides = subst (λ (n : ℕ). DealsRings rs by_sides n s) is_cores deals_s;
+  queues = subst (λ (n : ℕ). DealsQueues qs by_queues n q) is_cores deals_q;
+}
+
+-- what all stations are made of, by lists as the code has them
+abbrev pub common_at : Parts → TheJoined → ℕ → List Program → List ℕ → List ℕ → TheCommon
+common_at p j cores programs sides queues = record {
+  cores = cores;
+  joined = j;
+  offers = record { names = p.names; programs = programs };
+  places = record { sides = sides; queues = queues };
+}
+
+pub common_same : (p : Parts) (j : TheJoined) (cores : ℕ) (programs : List Program) (sides sides2 queues queues2 : List ℕ) → cores ≡ length p.cores.items
+    → programs ≡ p.programs.items → sides ≡ sides2 → queues ≡ queues2
+    → common_at p j cores programs sides queues ≡ common_in p j (record { sides = sides2; queues = queues2 })
+common_same p j cores programs sides sides2 queues queues2 is_cores is_programs is_sides is_queues =
+    ap (λ (n : ℕ). common_at p j n programs sides queues) is_cores
+    ∙ ap (λ (ps : List Program). common_at p j (length p.cores.items) ps sides queues) is_programs
+    ∙ ap (λ (ss : List ℕ). common_at p j (length p.cores.items) p.programs.items ss queues) is_sides
+    ∙ ap (λ (qs : List ℕ). common_at p j (length p.cores.items) p.programs.items sides2 qs) is_queues
+
+pub wires_of : (p : Parts) (j : TheJoined) (c : TheCommon) (stations : List TheStation) (ks : List TheCore) (rs : List TheDuo) (s : Dealt TheSide) (q : Dealt TheQueue)
+    → c ≡ common_in p j (record { sides = s.places.items; queues = q.places.items }) → ks ≡ p.cores.items → rs ≡ p.rings.items → SharesOut ks rs p.queues.items s q
+    → AreStations c 0 p.cores.items stations → sides_given stations ≡ hands_in s → queues_given stations ≡ hands_in q → Wires p j stations s.owners.items
+wires_of p j c stations ks rs s q common is_cores is_rings dealt are hands_s hands_q =
     let at : Places = record { sides = s.places.items; queues = q.places.items } in
+    let out : SharesOut p.cores.items p.rings.items p.queues.items s q =
+        subst (λ (rings : List TheDuo). SharesOut p.cores.items rings p.queues.items s q) is_rings
+        (subst (λ (cores : List TheCore). SharesOut cores rs p.queues.items s q) is_cores dealt) in
     record {
       places = at;
       begin = subst (λ (d : TheCommon). AreStations d 0 p.cores.items stations) common are;
       dealing = record {
-        sides_named = subst (λ (n : ℕ). AreOwners p.cores.items NamesSide (2 * n) s.owners.items) is_rings
-            (subst (AreOwners p.cores.items NamesSide (2 * rings)) (sym deals_s.owners_are) named_sides.named);
-        pairs = deals_s.pairs;
-        new = deals_s.new;
-        sides = shared_of s (sides_of deals_s.pairs) s.owners.items (sides_given stations) deals_s.holds refl hands_s;
-        queue_owners = by_queues;
-        queues_named = subst (λ (n : ℕ). AreOwners p.cores.items NamesQueue n by_queues) is_queues named_queues.named;
-        queues = shared_of q p.queues.items by_queues (queues_given stations) deals_q.holds deals_q.owners_are hands_q;
+        sides_named = subst (AreOwners p.cores.items NamesSide (2 * length p.rings.items)) (sym out.sides.owners_are) out.sides_named.named;
+        pairs = out.sides.pairs;
+        new = out.sides.new;
+        sides = shared_of s (sides_of out.sides.pairs) s.owners.items (sides_given stations) out.sides.holds refl hands_s;
+        queue_owners = out.by_queues;
+        queues_named = out.queues_named.named;
+        queues = shared_of q p.queues.items out.by_queues (queues_given stations) out.queues.holds out.queues.owners_are hands_q;
       };
     }

@@ -1,12 +1,14 @@
 -- What desks and parts tell, place by place.
 use Rattle.std.proofs.Common.{◌≡◌, refl, sym, ap, ◌∙◌, ℕ, zero, suc, ◌+◌, ◌<◌, ◌≤◌, Bool, ◌||◌, List, [], ◌∷◌, ◌++◌, map, length, drop, get_or, slice_get, Some, arith}
 use Rattle.std.specs.List.{flat_map, list_any, range_with_len}
-use Rattle.std.proofs.lemmas.List.{append-nil, append_assoc, map-append}
+use Rattle.std.proofs.lemmas.List.{append-nil, append_assoc, map-append, drop_all}
 use Rattle.std.proofs.lemmas.List.Concat.{flat_map-append, flat_map-cons}
 use Rattle.std.proofs.lemmas.List.FromFn.{map-range_with_len_more}
 use Rattle.fl_running.specs.declared.job.Job.{Job}
+use Rattle.fl_running.specs.declared.word.Word.{Word}
 use Rattle.fl_running.specs.Jobs.{calls_of_job, calls_of_jobs}
 use Rattle.fl_running.specs.Desks.{TheDesk}
+use Rattle.fl_base.specs.declared.identity.EndId.{EndId}
 use Rattle.fl_dockets.specs.declared.docket.Bound.{Bound}
 use Rattle.fl_dockets.specs.State.{TheJoined}
 use Rattle.fl_jobs.specs.declared.report.BothEnds.{BothEnds as RustBoth}
@@ -14,7 +16,7 @@ use Rattle.fl_jobs.specs.Report.{BothEnds}
 use Rattle.fl_jobs.specs.Reports.{both_of}
 use Rattle.fl_node.specs.View.{client_of, server_of}
 use Rattle.fl_threads.specs.declared.fork.Done.{Done}
-use Rattle.fl_threads.specs.Begins.{ends_at, ends_from, desk_for, two_desks}
+use Rattle.fl_threads.specs.Begins.{ends_at, ends_from, words_of, desk_for, two_desks}
 use Rattle.fl_threads.specs.Tells.{left_off, was_told}
 use Rattle.fl_threads.specs.Stations.{outcome_of, has_left_off, has_been_told}
 
@@ -76,6 +78,17 @@ ends_behind core n (x ∷ bindings) (suc k) b h is = ends_behind core n bindings
 pub ends_more : (core : ℕ) (bindings : List Bound) (k : ℕ) (b : Bound) → k < length bindings → b ≡ get_or bindings k b
     → ends_from core k (drop k bindings) ≡ ends_at core k b ++ ends_from core (suc k) (drop (suc k) bindings)
 ends_more core bindings k b h is = ends_behind core k bindings k b h is
+
+-- the ends so far are all, at the end
+pub ends_done : (core : ℕ) (bindings : List Bound) (k : ℕ) (ends all : List EndId) → length bindings ≤ k → ends ++ ends_from core k (drop k bindings) ≡ all
+    → ends ≡ all
+ends_done core bindings k ends all past so =
+    sym (append-nil ends) ∙ ap (λ (bs : List Bound). ends ++ ends_from core k bs) (sym (drop_all k bindings past)) ∙ so
+
+-- likewise of the words
+pub words_done : (core : ℕ) (bindings : List Bound) (k : ℕ) (words all : List Word) → length bindings ≤ k → words ++ words_of core (drop k bindings) ≡ all → words ≡ all
+words_done core bindings k words all past so =
+    sym (append-nil words) ∙ ap (λ (bs : List Bound). words ++ words_of core bs) (sym (drop_all k bindings past)) ∙ so
 
 pub both_more : (what : ℕ → BothEnds) (n : ℕ) (all : List RustBoth) (b : RustBoth) → map both_of all ≡ map what (range_with_len 0 n) → both_of b ≡ what n
     → map both_of (all ++ b ∷ []) ≡ map what (range_with_len 0 (n + 1))

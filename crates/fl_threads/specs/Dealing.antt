@@ -75,6 +75,15 @@ pub record DealsQueues (queues : List TheQueue) (owners : List ℕ) (cores : ℕ
   pub owners_are : d.owners.items ≡ owners
   pub as_many : length d.hands.items ≡ cores
 
+-- both, by what these cores name
+pub record SharesOut (cores : List TheCore) (rs : List TheDuo) (qs : List TheQueue) (s : Dealt TheSide) (q : Dealt TheQueue) : Type 0 where
+  pub by_sides : List ℕ
+  pub by_queues : List ℕ
+  pub sides_named : HaveOwners cores NamesSide (2 * length rs) by_sides
+  pub queues_named : HaveOwners cores NamesQueue (length qs) by_queues
+  pub sides : DealsRings rs by_sides (length cores) s
+  pub queues : DealsQueues qs by_queues (length cores) q
+
 -- ---- stations
 
 -- what a set-up made is shared out so, with these owners of the sides of rings

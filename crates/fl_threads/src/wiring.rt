@@ -11,18 +11,19 @@ ghost use Rattle.fl_dockets.specs.State.{joined_of};
 ghost use Rattle.fl_threads.specs.Begins.{core_at, owns, ends_at, ends_from, word_by, words_at, words_of, desk_for, desks_of};
 ghost use Rattle.fl_threads.specs.Begins.{IsAlone, IsStation, AreStations};
 ghost use Rattle.fl_threads.specs.Shares.{sides_given, queues_given};
-ghost use Rattle.fl_threads.specs.Dealing.{Wires};
+ghost use Rattle.fl_threads.specs.Dealing.{SharesOut, Wires};
 ghost use Rattle.fl_threads.specs.Stations.{IsReady, AllReady, core_share, stationed, AddsStation, station_of, common_of, seats_given, AreSeats, left_view};
 
 use crate::sharing::{Owners, deal_queues, deal_sides};
 use fl_base::{EndId, LinkId, Side};
 use fl_compile::Program;
+use fl_deal::Dealt;
 use fl_dockets::{Bound, Joined, slot_of};
 use fl_hop::MAX_LINKS;
 use fl_link::QueueLink;
 use fl_nameserv::Names;
 use fl_node::Core;
-use fl_ring::SharedSide;
+use fl_ring::{OneDuo, SharedSide};
 use fl_running::{Desk, Plan, Running, Ticket, Word};
 use fl_tally::EndSeat;
 use fl_worlds::Parts;
@@ -232,6 +233,37 @@ impl Common<'_> {
         Ok((plan, words))
     }
 
+    // The run of core k, whose numbers of sides and queues are still those of the set-up.
+    fn running(
+        &self,
+        k: usize,
+        core: Core,
+        rings: Vec<SharedSide>,
+        queues: Vec<QueueLink>,
+    ) -> Result<Box<Running<SharedSide>>, AllocError>
+        requires few { length self.now.joined.now.bindings.items ≤ 1024 }
+        requires dockets { HasDockets self.now.joined.now.bindings.items self.now.joined.now.dockets.items }
+        ensures core { IfOk result (λ r. r.value.core ≡ core) }
+        ensures rings { IfOk result (λ r. r.value.rings.items ≡ rings.items) }
+        ensures queues { IfOk result (λ r. r.value.queues.items ≡ queues.items) }
+        ensures desks { IfOk result (λ r. r.value.desks.items ≡ desks_of k (joined_of self.now.joined.now)) }
+        ensures names { IfOk result (λ r. r.value.names ≡ self.now.names.now) }
+        ensures programs { IfOk result (λ r. map program_of r.value.programs.items ≡ map program_of self.now.programs.now) }
+    {
+        let outfit = self.outfit(k)?;
+        let running = Running {
+            alloc: self.alloc,
+            core,
+            rings,
+            queues,
+            desks: outfit.desks,
+            names: outfit.names,
+            programs: outfit.programs,
+            idle: 0,
+        };
+        Ok(Box::new(self.alloc, running)?)
+    }
+
     // The station of core k, with its sides, queues and seat.
     fn station(
         &self,
@@ -250,23 +282,12 @@ impl Common<'_> {
         ensures rings { IfOk result (λ s. s.running.value.rings.items ≡ rings.items) }
         ensures queues { IfOk result (λ s. s.running.value.queues.items ≡ queues.items) }
     {
-        let (plan, words) = self.plan(k, &core)?;
-        let outfit = self.outfit(k)?;
-        let mut core = core;
-        core.renumber(self.sides, self.queues);
-        core.sound();
-        let running = Running {
-            alloc: self.alloc,
-            core,
-            rings,
-            queues,
-            desks: outfit.desks,
-            names: outfit.names,
-            programs: outfit.programs,
-            idle: 0,
-        };
+        let mut running = self.running(k, core, rings, queues)?;
+        let (plan, words) = self.plan(k, &running.core)?;
+        running.core.renumber(self.sides, self.queues);
+        running.core.sound();
         Ok(Station {
-            running: Box::new(self.alloc, running)?,
+            running,
             plan,
             ticket: Ticket { seat, words },
         })
@@ -334,6 +355,29 @@ impl Common<'_> {
     }
 }
 
+// New rings and the queues of a set-up, each dealt to the core that names it.
+#[derive(Drop)]
+struct Shares {
+    sides: Dealt<SharedSide>,
+    queues: Dealt<QueueLink>,
+}
+
+fn share(
+    alloc: Global,
+    rings: &[OneDuo],
+    queues: Vec<QueueLink>,
+    cores: &[Core],
+) -> Result<Shares, AllocError>
+    requires some { 0 < length cores.now }
+    ensures shares { IfOk result (λ s. SharesOut cores.now rings.now queues.items s.sides s.queues) }
+{
+    let by_name = Owners::named(alloc, rings.len(), queues.as_slice().len(), cores)?;
+    Ok(Shares {
+        sides: deal_sides(alloc, rings, &by_name.sides, cores.len())?,
+        queues: deal_queues(alloc, queues, &by_name.queues, cores.len())?,
+    })
+}
+
 /// What the threads of all cores are given, and the owners of all sides of rings, by which these are put together again.
 #[derive(Drop)]
 pub(crate) struct Wired {
@@ -371,16 +415,13 @@ pub(crate) fn wire(
         // A set-up has one core at least.
         return Err(AllocError);
     }
-    let count = cores.as_slice().len();
-    let by_name = Owners::named(alloc, rings.len(), queues.len(), &cores)?;
-    let sides = deal_sides(alloc, &rings, &by_name.sides, count)?;
-    let queues = deal_queues(alloc, queues, &by_name.queues, count)?;
+    let Shares { sides, queues } = share(alloc, &rings, queues, &cores)?;
     let owners = sides.owners;
     let side_hands = sides.hands;
     let queue_hands = queues.hands;
     let common = Common {
         alloc,
-        cores: count,
+        cores: cores.as_slice().len(),
         joined,
         names: &names,
         programs: &programs,

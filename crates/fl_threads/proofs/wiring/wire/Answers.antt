@@ -1,12 +1,47 @@
-use Rattle.std.proofs.Common.{length, map, rules}
+use Rattle.std.proofs.Common.{◌≡◌, ◌∙◌, sym, ap, subst, ℕ, length, map, arith}
+use Rattle.fl_dockets.specs.Joined.{AreBindings}
 use Rattle.fl_dockets.specs.State.{joined_of}
-use Rattle.fl_threads.specs.Stations.{station_of}
-use Rattle.fl_threads.proofs.Handing.{wires_of}
+use Rattle.fl_threads.specs.Stations.{station_of, left_view}
+use Rattle.fl_threads.proofs.Handing.{common_at, common_same, wires_of}
+use Rattle.fl_threads.proofs.Seats.{none_cut, all_cut}
 use Rattle.fl_threads.proofs.wiring.wire.Goals as goal
 
-pub returns-clause-wires : goal.returns-clause-wires
-returns-clause-wires c =
-    wires_of c.args.parts (joined_of c.args.joined.now) _ (map station_of c.in_ok-stations.stations.items) c.len.result c.len-2.result (length c.as_slice-count.result.now)
-    c.in_ok-by_name.by_name.sides.items c.in_ok-by_name.by_name.queues.items c.in_ok-sides.sides c.in_ok-queues.queues
-    (search rules) (search rules) (search rules) (search rules) (search rules) (search rules) (search rules) c.in_ok-stations.ensures.stations
-    c.in_ok-stations.ensures.sides c.in_ok-stations.ensures.queues
+pub stations-requires : goal.stations-requires
+stations-requires c =
+    let joined = c.args.joined.now in
+    let owners = joined.owners.items in
+    let dealt = c.in_ok-sides.ensures.shares in
+    let count : length c.as_slice.result.now ≡ length c.args.parts.cores.items = ap length c.as_slice.ensures.value in
+    let cores : length c.deref-2.result.now ≡ length c.args.parts.cores.items = ap length c.deref-2.ensures.value in
+    record {
+      bindings = subst (λ (n : ℕ). AreBindings n joined.bindings.items owners) (sym count) c.requires.bindings;
+      dockets = c.requires.dockets;
+      few = omega (arith, count);
+      own = c.requires.own ∙ none_cut (length c.args.parts.cores.items) owners ∙ ap (λ (n : ℕ). left_view n owners 0) (sym count);
+      sides = dealt.sides.as_many ∙ cores;
+      queues = dealt.queues.as_many ∙ cores;
+    }
+
+pub returns : goal.returns
+returns c =
+    let parts = c.args.parts in
+    let joined = joined_of c.args.joined.now in
+    let owners = c.args.joined.now.owners.items in
+    let dealt = c.in_ok-sides.field-0 in
+    let made = c.in_ok-stations.ensures in
+    let cores : length c.as_slice.result.now ≡ length parts.cores.items = ap length c.as_slice.ensures.value in
+    let left : c.stations.new.own.knows ≡ left_view (length parts.cores.items) owners (length parts.cores.items) =
+        made.left ∙ ap (λ (n : ℕ). left_view n owners (length parts.cores.items)) cores in
+    record {
+      ready = made.ready;
+      wires = wires_of parts joined
+          (common_at parts joined (length c.as_slice.result.now) c.deref-3.result.now c.deref-4.result.now c.deref-5.result.now)
+          (map station_of c.in_ok-stations.stations.items) c.deref-2.result.now c.deref.result.now dealt.sides dealt.queues
+          (common_same parts joined (length c.as_slice.result.now) c.deref-3.result.now c.deref-4.result.now dealt.sides.places.items c.deref-5.result.now
+          dealt.queues.places.items cores c.deref-3.ensures.value c.deref-4.ensures.value c.deref-5.ensures.value)
+          c.deref-2.ensures.value c.deref.ensures.value c.in_ok-sides.ensures.shares made.stations made.sides made.queues;
+      left = left;
+      able = all_cut (length parts.cores.items) owners c.stations.new.own.knows left;
+      table = made.table;
+      seats = made.seats;
+    }

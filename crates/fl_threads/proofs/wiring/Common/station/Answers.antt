@@ -1,7 +1,8 @@
-use Rattle.std.proofs.Common.{sym, subst, List, rules}
+use Rattle.std.proofs.Common.{◌∙◌, refl, ap, sym, subst, List, length}
+use Rattle.fl_node.specs.View.{TheCore}
+use Rattle.fl_node.specs.Numbers.{renumbered}
 use Rattle.fl_running.specs.declared.word.Word.{Word}
 use Rattle.fl_running.specs.Words.{AreWords}
-use Rattle.fl_threads.proofs.Each.{core_moved}
 use Rattle.fl_threads.proofs.Seats.{may_finish, may_stop}
 use Rattle.fl_threads.proofs.Wording.{words_are}
 use Rattle.fl_threads.proofs.wiring.Common.station.Goals as goal
@@ -11,9 +12,10 @@ returns c =
     let joined = c.args.self.now.joined.now in
     let knows = c.args.seat.knows in
     let alone = c.requires.seat in
+    let run = c.in_ok-running.ensures in
     record {
       ready = record {
-        core = core_moved c.renumber.new.self _ (search rules) c.sound.ensures.sound;
+        core = rw c.deref-2.ensures at c.sound.ensures.sound;
         as_many = c.in_ok-plan.ensures.as_many;
         may = subst (λ (words : List Word). AreWords words knows) (sym c.in_ok-plan.ensures.words)
             (words_are c.args.self.now.cores joined.bindings.items joined.owners.items c.args.k knows c.requires.bindings alone);
@@ -21,17 +23,17 @@ returns c =
         stops = may_stop joined.owners.items c.args.k knows alone;
       };
       station = record {
-        core_is = search rules;
-        desks = search rules;
-        names = search rules;
-        programs = search rules;
-        ends = search rules;
-        dispatchers = search rules;
-        cores = search rules;
-        words = search rules;
+        core_is = (rw c.deref_mut.ensures.value at c.renumber.ensures.renumbered) ∙ ap (renumbered c.args.self.now.sides.now c.args.self.now.queues.now) run.core;
+        desks = rw c.deref_mut.ensures.value run.desks;
+        names = rw c.deref_mut.ensures.value run.names;
+        programs = rw c.deref_mut.ensures.value run.programs;
+        ends = c.in_ok-plan.ensures.ends;
+        dispatchers = (rw c.deref.ensures at c.in_ok-plan.ensures.dispatchers) ∙ ap (λ (k : TheCore). length k.board.dispatchers) run.core;
+        cores = c.in_ok-plan.ensures.cores;
+        words = c.in_ok-plan.ensures.words;
         seat = alone;
       };
-      seat = search rules;
-      rings = search rules;
-      queues = search rules;
+      seat = refl;
+      rings = rw c.deref_mut.ensures.value run.rings;
+      queues = rw c.deref_mut.ensures.value run.queues;
     }
