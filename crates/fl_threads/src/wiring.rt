@@ -386,7 +386,6 @@ pub(crate) struct Wired {
 }
 
 /// Gives each core what its thread needs, and a seat cut off everybody's. What is left of that is the run's own, by which it may tell of a stop.
-#[tactic(auto, using(crate::proofs::Seats::none_cut, crate::proofs::Seats::all_cut))]
 pub(crate) fn wire(
     alloc: Global,
     parts: Parts,

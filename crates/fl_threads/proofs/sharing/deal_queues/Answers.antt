@@ -1,8 +1,19 @@
-use Rattle.std.proofs.Common.{◌+◌, ◌∙◌, ap, sym, refl, ◌∷◌, [], get_or}
+use Rattle.std.proofs.Common.{ℕ, ◌+◌, ◌<◌, ◌∙◌, ap, sym, subst, refl, ◌∷◌, [], get_or}
 use Rattle.std.proofs.lemmas.List.{length-append}
 use Rattle.std.specs.Vec.Iter.{into_iter_items}
-use Rattle.fl_threads.proofs.Handing.{one_queue_more, left_more, owned_yet}
+use Rattle.fl_threads.proofs.Handing.{one_queue_more, left_more, owned_yet, owner_of}
 use Rattle.fl_threads.proofs.sharing.deal_queues.Goals as goal
+
+pub give-requires : goal.give-requires
+give-requires c =
+    let i = c.loop-queue.invariant in
+    let owners = c.args.owners.now in
+    let owner = get_or owners c.loop-queue.place 0 in
+    let below = owned_yet c.args.queues.items c.loop-queue.yielded (into_iter_items c.loop-queue.queue-iterator) (into_iter_items c.next.new.self) owners
+    c.loop-queue.place c.in-Some.queue c.in-Some.ensures.steps.0 i.left c.requires.count i.place in
+    record {
+      there = subst (λ (cores : ℕ). owner < cores) (sym i.deals.as_many) (owner_of c.args.cores owners c.loop-queue.place owner c.requires.of below refl);
+    }
 
 pub loop-queue-preserved : goal.loop-queue-preserved
 loop-queue-preserved c =
