@@ -1,6 +1,23 @@
-use Rattle.std.proofs.Common.{◌+◌, ◌<◌, refl, length, arith, get_or}
-use Rattle.fl_threads.proofs.Handing.{one_ring_more}
+use Rattle.std.proofs.Common.{ℕ, ◌+◌, ◌<◌, refl, sym, subst, length, arith, get_or}
+use Rattle.fl_threads.proofs.Handing.{one_ring_more, owner_of}
 use Rattle.fl_threads.proofs.sharing.deal_sides.Goals as goal
+
+pub deal_ring-requires : goal.deal_ring-requires
+deal_ring-requires c =
+    let i = c.loop-ring.invariant in
+    let at = i.place in
+    let owners = c.args.owners.now in
+    let count = c.requires.count in
+    let below = c.loop-ring-test.true in
+    let place = c.loop-ring.place in
+    let within : place + 1 < length owners = omega (arith, at, count, below) in
+    let one : place < length owners = omega (arith, within) in
+    let hands = sym i.deals.as_many in
+    record {
+      first = subst (λ (cores : ℕ). get_or owners place 0 < cores) hands (owner_of c.args.cores owners place (get_or owners place 0) c.requires.of one refl);
+      second = subst (λ (cores : ℕ). get_or owners (place + 1) 0 < cores) hands
+          (owner_of c.args.cores owners (place + 1) (get_or owners (place + 1) 0) c.requires.of within refl);
+    }
 
 pub loop-ring-preserved : goal.loop-ring-preserved
 loop-ring-preserved c =
