@@ -149,8 +149,8 @@ pub wires_of : (p : Parts) (j : TheJoined) (c : TheCommon) (stations : List TheS
 wires_of p j c stations ks rs s q common is_cores is_rings dealt are hands_s hands_q =
     let at : Places = record { sides = s.places.items; queues = q.places.items } in
     let out : SharesOut p.cores.items p.rings.items p.queues.items s q =
-        subst (λ (rings : List TheDuo). SharesOut p.cores.items rings p.queues.items s q) is_rings
-        (subst (λ (cores : List TheCore). SharesOut cores rs p.queues.items s q) is_cores dealt) in
+    subst (λ (rings : List TheDuo). SharesOut p.cores.items rings p.queues.items s q) is_rings
+    (subst (λ (cores : List TheCore). SharesOut cores rs p.queues.items s q) is_cores dealt) in
     record {
       places = at;
       begin = subst (λ (d : TheCommon). AreStations d 0 p.cores.items stations) common are;

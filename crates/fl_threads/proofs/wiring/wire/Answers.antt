@@ -31,7 +31,7 @@ returns c =
     let made = c.in_ok-stations.ensures in
     let cores : length c.as_slice.result.now ≡ length parts.cores.items = ap length c.as_slice.ensures.value in
     let left : c.stations.new.own.knows ≡ left_view (length parts.cores.items) owners (length parts.cores.items) =
-        made.left ∙ ap (λ (n : ℕ). left_view n owners (length parts.cores.items)) cores in
+    made.left ∙ ap (λ (n : ℕ). left_view n owners (length parts.cores.items)) cores in
     record {
       ready = made.ready;
       wires = wires_of parts joined
