@@ -1,4 +1,5 @@
 pub mod Lifts
+pub mod Lent
 pub mod Made
 pub mod Makes
 pub mod Following
