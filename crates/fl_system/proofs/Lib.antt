@@ -1,5 +1,6 @@
 pub mod Lifts
 pub mod Lent
+pub mod Kept
 pub mod Made
 pub mod Makes
 pub mod Following
