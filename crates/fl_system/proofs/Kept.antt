@@ -48,7 +48,7 @@ pub lane_read : (w base : TheWorld) → base ≡ w → (n l : ℕ) → HasLink w
     → l < length read.lanes
 lane_read w base same n l h read value =
     let here : h.core ≡ read = one_value h.core read (sym h.core_is ∙ sym (ap (λ (x : TheWorld). slice_get x.cores n) same)
-        ∙ stands base.cores n read read (link_read w base same n l h) value refl) in
+    ∙ stands base.cores n read read (link_read w base same n l h) value refl) in
     subst (λ (k : TheCore). l < length k.lanes) here h.within
 
 pub front_read : (w base : TheWorld) → base ≡ w → (m i : ℕ) → i ≡ ring_at m → ring_at m < length w.rings → (f : Frag) → StandsAt w.rings m f

@@ -17,7 +17,7 @@ use Rattle.fl_node.specs.View.{TheCore, place_of, inlet_of, inlet_by, arrivals_o
 use Rattle.fl_queues.specs.Events.{Answer, DispatcherId, nothing}
 use Rattle.fl_worlds.specs.View.{TheWorld, made, ring_at}
 use Rattle.fl_worlds.specs.Lending.{IsStray}
-use Rattle.fl_worlds.specs.Taking.{as_turn, TurnsOver, TurnsAt, HasInlet, RegistersOver, RegistersBy}
+use Rattle.fl_worlds.specs.Taking.{TurnsAt, HasInlet, RegistersOver, RegistersBy}
 use Rattle.fl_lines.specs.declared.answer.Answer.{Answer as RustAnswer}
 use Rattle.fl_lines.specs.Events.{answer_of}
 use Rattle.fl_acts.specs.declared.taking.Due.{Due}

@@ -1,4 +1,4 @@
-use Rattle.std.proofs.Common.{◌≡◌, ap, ◌∙◌, refl, arith, Some}
+use Rattle.std.proofs.Common.{ap, ◌∙◌, refl, arith, Some}
 use Rattle.fl_system.proofs.Lifts.{core_read, end_read}
 use Rattle.fl_system.proofs.Lent.{takes_from, registers_by}
 use Rattle.fl_system.proofs.world.World.register_made.Goals as goal

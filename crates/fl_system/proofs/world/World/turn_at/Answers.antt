@@ -1,4 +1,4 @@
-use Rattle.std.proofs.Common.{◌≡◌, ap, ◌∙◌, sym, arith, Some}
+use Rattle.std.proofs.Common.{ap, ◌∙◌, arith, Some}
 use Rattle.fl_lines.specs.Events.{id_of}
 use Rattle.fl_system.proofs.Lent.{due_below, due_seat, due_over, turns_at}
 use Rattle.fl_system.proofs.world.World.turn_at.Goals as goal
