@@ -14,3 +14,4 @@ pub mod Counts
 pub mod BothPlans
 pub mod TooLong
 pub mod Shorts
+pub mod Fixed

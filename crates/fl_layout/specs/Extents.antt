@@ -1,5 +1,5 @@
 -- Working definitions of the code: what a plan keeps of an argument, and where arguments end one after another.
-use Rattle.std.specs.Prelude.{ℕ, pos, ◌+◌, ◌*◌, ◌==◌, ◌&&◌, nat_le, max, Bool, true, false}
+use Rattle.std.specs.Prelude.{◌≡◌, ℕ, pos, ◌+◌, ◌*◌, ◌==◌, ◌&&◌, not, nat_le, max, Bool, true, false}
 use Rattle.std.specs.Prelude.{if◌then◌else◌, Option, Some, None, List, [], ◌∷◌, map, length, get_or}
 use Rattle.std.specs.List.{zip, range_with_len, list_all}
 use Rattle.fl_interface.specs.Interface.{TheType, scalar, enumeration, structure, array, TheTypes, no_more, field, TheArgType, fixed, text, sized, TheMessage}
@@ -134,6 +134,13 @@ is_short ds p = nat_le (count_at p.extent (get_or ds p.argument (number (pos 0))
 abbrev pub is_varying : Extent → Bool
 is_varying (Fixed size align numbers) = false
 is_varying extent = true
+
+abbrev pub are_fixed : List Placed → Bool
+are_fixed ps = list_all (λ (p : Placed). not (is_varying p.extent)) ps
+
+-- so many bytes has each payload, where no argument varies
+abbrev pub IsFixedLength : List Placed → ℕ → Type 0
+IsFixedLength ps n = (are_fixed ps ≡ true) × (n ≡ end_of_all 0 1 (map (filled_up Empty) ps))
 
 -- the extent of argument j
 abbrev pub extent_among : ℕ → List Placed → Option Extent

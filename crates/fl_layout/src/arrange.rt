@@ -1,23 +1,57 @@
 //! The arguments of a message in a plan's order.
 
-ghost use Rattle.std.specs.Prelude.{◌≡◌, ◌≤◌, ◌++◌, map, length, true, IfOk, OnOk};
+ghost use Rattle.std.specs.Prelude.{◌≡◌, ◌≤◌, ◌++◌, ◌^◌, ℕ, Some, map, length, true, IfOk, OnOk};
+ghost use Rattle.std.specs.List.{list_all};
 ghost use Rattle.fl_interface.specs.Interface.{arg_type_of, message_of};
 ghost use Rattle.fl_interface.specs.Limits.{are_arguments_within, is_message_within};
 ghost use Rattle.fl_value.specs.Plan.{rank_of, by_ranks};
+ghost use Rattle.fl_value.specs.Value.{datum_of};
+ghost use Rattle.fl_layout.specs.declared.extent.Fill.TheVariants.{Full};
 ghost use Rattle.fl_layout.specs.Extents.{placing, typed, numbered, placed_of, placed_of_rank, are_within};
+ghost use Rattle.fl_layout.specs.Extents.{end_of_all, filled_by, filled_up, is_short, IsFixedLength};
 
-use crate::extent::Placed;
+use crate::extent::{Fill, Placed};
+use crate::filling::{fixed_length, length_with, limit};
 use crate::measure::extent;
 use fl_interface::{ArgType, Message};
-use fl_value::{PlanNo, RANKS};
+use fl_value::{PlanNo, RANKS, Value};
 use std::alloc::{AllocError, Global};
 
-/// What a plan keeps of a message: its arguments in the plan's order.
+/// What a plan keeps of a message: its arguments in the plan's order, and what would be found from them at each call.
 #[derive(Debug, Drop)]
 pub(crate) struct MessagePlan {
     pub placed: Vec<Placed>,
+    // The bytes of each call's payload, where no argument varies.
+    fixed: Option<usize>,
+    // The most bytes that a payload has.
+    greatest: usize,
     ghost few: { length placed.items ≤ 160 },
     ghost within: { are_within placed.items ≡ true },
+    ghost alike: { (n : ℕ) → fixed ≡ Some n → IsFixedLength placed.items n },
+    ghost most: { greatest ≡ end_of_all 0 1 (map (filled_up Full) placed.items) },
+    ghost small: { greatest ≤ 2 ^ 40 },
+}
+
+impl MessagePlan {
+    /// How many bytes the payload of a call with these values has.
+    #[inline(always)]
+    pub(crate) fn length_with(&self, values: &[Value]) -> usize
+        requires short { list_all (is_short (map datum_of values.now)) self.now.placed.items ≡ true }
+        ensures exact { result ≡ end_of_all 0 1 (map (filled_by (map datum_of values.now)) self.now.placed.items) }
+    {
+        match self.fixed {
+            Some(length) => length,
+            None => length_with(&self.placed, values),
+        }
+    }
+
+    /// The most bytes that a payload has.
+    pub(crate) fn greatest(&self) -> usize
+        ensures exact { result ≡ end_of_all 0 1 (map (filled_up Full) self.now.placed.items) }
+        ensures small { result ≤ 2 ^ 40 }
+    {
+        self.greatest
+    }
 }
 
 // Appends the arguments of a rank with their numbers and extents, as declared.
@@ -70,5 +104,9 @@ pub(crate) fn plan_message(
     ensures placed { IfOk result (λ m. m.placed.items ≡ placed_of plan (message_of message.now)) }
 {
     let placed = place_by_ranks(alloc, &message.args, plan)?;
-    Ok(MessagePlan { placed })
+    Ok(MessagePlan {
+        fixed: fixed_length(&placed),
+        greatest: limit(&placed, Fill::Full),
+        placed,
+    })
 }

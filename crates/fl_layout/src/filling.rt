@@ -1,12 +1,13 @@
 //! Where arguments end one after another.
 
-ghost use Rattle.std.specs.Prelude.{◌≡◌, pos, ◌<◌, ◌≤◌, ◌+◌, ◌*◌, ◌^◌, map, length, get_or, true};
+ghost use Rattle.std.specs.Prelude.{◌≡◌, pos, ◌<◌, ◌≤◌, ◌+◌, ◌*◌, ◌^◌, ℕ, Some, map, length, get_or, true};
 ghost use Rattle.std.specs.List.{list_all};
 ghost use Rattle.fl_interface.specs.Sizes.{round_up};
 ghost use Rattle.fl_layout.specs.declared.extent.Fill.TheVariants.{Full};
 ghost use Rattle.fl_value.specs.Value.{number, datum_of};
 ghost use Rattle.fl_layout.specs.Extents.{start_of, end_of, end_of_all, due_after, count_by, count_in, count_at, filled_up, filled_by};
 ghost use Rattle.fl_layout.specs.Extents.{numbers_in, numbers_in_all, most_of, is_within, are_within, is_short, extent_among, start_among};
+ghost use Rattle.fl_layout.specs.Extents.{IsFixedLength};
 
 use crate::extent::{Extent, Fill, Placed};
 use fl_value::Value;
@@ -136,6 +137,22 @@ fn count_among(values: &[Value], placed: Placed) -> usize
         Some(value) => count(value),
         None => 0,
     }
+}
+
+/// Where the last of some arguments ends in each call; none where one is a string or a sized array.
+pub(crate) fn fixed_length(placed: &[Placed]) -> Option<usize>
+    requires few { length placed.now ≤ 160 }
+    requires within { are_within placed.now ≡ true }
+    ensures exact { (n : ℕ) → result ≡ Some n → IsFixedLength placed.now n }
+{
+    let mut end = End { at: 0, due: 1 };
+    for argument in placed {
+        if argument.extent.is_varying() {
+            return None;
+        }
+        end = end.after(argument.extent, 0);
+    }
+    Some(end.at)
 }
 
 /// Where the last of some arguments ends in a call with these values.

@@ -12,7 +12,7 @@ ghost use Rattle.fl_layout.specs.Layouts.{payload_length, tape_length, argument_
 
 use crate::arrange::{MessagePlan, plan_message};
 use crate::extent::Fill;
-use crate::filling::{extent_among, length_with, limit, start_among, tape_limit};
+use crate::filling::{extent_among, limit, start_among, tape_limit};
 use fl_base::{FRAG_BYTES, MsgNo};
 use fl_interface::Interface;
 use fl_value::{Call, PlanNo};
@@ -76,15 +76,15 @@ impl Plans {
         self.messages.get(usize::from(msg.0))
     }
 
-    /// How many bytes a call's payload has, at most 32,768. It goes over the call's arguments once, and over no
-    /// element of an array.
+    /// How many bytes a call's payload has, at most 32,768. Where the message has a string or a sized array, it goes
+    /// over the call's arguments once, and over no element of an array; else the length is the same for each call.
     pub fn size_of(&self, call: &Call) -> usize
         requires fits { fits_of (interface_of self.now.interface) (call_of call.now) ≡ true }
         ensures size { result ≡ payload_length self.now.plan (interface_of self.now.interface) (call_of call.now) }
         ensures small { result ≤ 32768 }
     {
         match self.message(call.msg) {
-            Some(message) => length_with(&message.placed, &call.args),
+            Some(message) => message.length_with(&call.args),
             None => 0,
         }
     }
@@ -144,7 +144,7 @@ impl Plans {
         ensures small { result ≤ 32768 }
     {
         match self.message(msg) {
-            Some(message) => limit(&message.placed, Fill::Full),
+            Some(message) => message.greatest(),
             None => 0,
         }
     }

@@ -16,7 +16,7 @@ returns-in-Some c =
     let i = interface_of self.interface in
     let there = found (λ (m : MessagePlan). m.placed.items) (placed_of self.plan) self.messages.items i.messages c.args.msg.0 c.in-Some.message.now self.laid (sym c.in-Some.ensures.found) in
     let law = greatest_is self.plan i c.args.msg.0 there.what self.interface.within there.at in
-    let same = c.limit.ensures.exact ∙ ap (λ (ps : List Placed). end_of_all 0 1 (map (filled_up Full) ps)) (c.deref.ensures.value ∙ there.is) in
+    let same = c.greatest.ensures.exact ∙ ap (λ (ps : List Placed). end_of_all 0 1 (map (filled_up Full) ps)) there.is in
     record {
       greatest = subst (IsGreatest (payload_length self.plan i) i c.args.msg.0) (sym same) law;
       small = subst (λ n. n ≤ 32768) (sym same) (message_small self.plan i c.args.msg.0 there.what self.interface.within there.at);

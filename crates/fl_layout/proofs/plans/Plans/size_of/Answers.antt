@@ -12,16 +12,18 @@ use Rattle.fl_layout.proofs.BothPlans.{length_small}
 use Rattle.fl_layout.proofs.Shorts.{placed_short}
 use Rattle.fl_layout.proofs.plans.Plans.size_of.Goals as goal
 
-pub length_with-requires-clause-short : goal.length_with-requires-clause-short
-length_with-requires-clause-short c =
+pub length_with-requires : goal.length_with-requires
+length_with-requires c =
     let self = c.args.self.now in
     let i = interface_of self.interface in
     let there = found (λ (m : MessagePlan). m.placed.items) (placed_of self.plan) self.messages.items i.messages c.args.call.now.msg.0 c.in-Some.message.now self.laid (sym c.in-Some.ensures.found) in
     let call = call_of c.args.call.now in
     let sent = is_sent self.plan i call.msg there.what call self.interface.within there.at (record { fits = c.requires.fits; names = refl }) in
     let short = placed_short self.plan there.what call.args sent.within sent.has in
-    subst (λ (vs : List Value). list_all (is_short (map datum_of vs)) c.deref.result.now ≡ true) (sym c.deref-in-Some.ensures.value)
-    (subst (λ (ps : List Placed). list_all (is_short call.args) ps ≡ true) (sym (c.deref.ensures.value ∙ there.is)) short)
+    record {
+      short = subst (λ (vs : List Value). list_all (is_short (map datum_of vs)) c.in-Some.message.now.placed.items ≡ true) (sym c.deref.ensures.value)
+          (subst (λ (ps : List Placed). list_all (is_short call.args) ps ≡ true) (sym there.is) short);
+    }
 
 pub returns-in-Some-clause-size : goal.returns-in-Some-clause-size
 returns-in-Some-clause-size c =
@@ -32,8 +34,8 @@ returns-in-Some-clause-size c =
     let sent = is_sent self.plan i call.msg there.what call self.interface.within there.at (record { fits = c.requires.fits; names = refl }) in
     let law = sent_length self.plan i there.what call sent ∙ ap (end_of_all 0 1) (length_by self.plan there.what call.args sent.has) in
     c.length_with.ensures.exact
-    ∙ ap (λ (vs : List Value). end_of_all 0 1 (map (filled_by (map datum_of vs)) c.deref.result.now)) c.deref-in-Some.ensures.value
-    ∙ ap (λ (ps : List Placed). end_of_all 0 1 (map (filled_by call.args) ps)) (c.deref.ensures.value ∙ there.is)
+    ∙ ap (λ (vs : List Value). end_of_all 0 1 (map (filled_by (map datum_of vs)) c.in-Some.message.now.placed.items)) c.deref.ensures.value
+    ∙ ap (λ (ps : List Placed). end_of_all 0 1 (map (filled_by call.args) ps)) there.is
     ∙ sym law
 
 pub returns-in-Some-clause-small : goal.returns-in-Some-clause-small
