@@ -1,6 +1,7 @@
 pub mod Lifts
 pub mod Lent
 pub mod Kept
+pub mod Seen
 pub mod Made
 pub mod Makes
 pub mod Following

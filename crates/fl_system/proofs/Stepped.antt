@@ -1,5 +1,5 @@
 -- A step of the world by what its event came to, which is read where it lies.
-use Rattle.std.proofs.Common.{◌≡◌, ◌∙◌, Result, Ok, Err, IfOk}
+use Rattle.std.proofs.Common.{◌≡◌, sym, ◌∙◌, Result, Ok, Err, IfOk, true, false}
 use Rattle.std.specs.Prelude.{OnErr}
 use Rattle.std.specs.declared.alloc.AllocError.{AllocError}
 use Rattle.fl_queues.specs.Events.{Event}
@@ -9,10 +9,24 @@ use Rattle.fl_lines.specs.Events.{answer_of}
 use Rattle.fl_worlds.specs.View.{TheWorld}
 use Rattle.fl_worlds.specs.Picture.{Shows}
 use Rattle.fl_worlds.specs.Laws.{StepsAgree}
-use Rattle.fl_worlds.specs.Step.{Does, settled, Steps}
+use Rattle.fl_worlds.specs.Step.{Does, settled, settled_by, Steps}
 use Rattle.fl_transcript.specs.Steps as machine
-use Rattle.fl_system.specs.Stepping.{StepsAlike}
-use Rattle.fl_system.proofs.Runs.{steps_as, shows_still}
+use Rattle.fl_system.specs.Stepping.{StepsAlike, is_interface}
+use Rattle.fl_system.proofs.Runs.{of_interface, by_answer, steps_as, shows_still}
+
+-- ---- whether the number of cores stands then
+
+pub stays_by : (event : Event) (w : TheWorld) (r : Result RustAnswer AllocError) → is_interface event ≡ true
+    → IfOk r (λ a. w ≡ settled event (answer_of a) w)
+stays_by event w (Ok a) h = sym (of_interface event (answer_of a) w h)
+stays_by event w (Err e) h = tt
+
+pub settles_by : (event : Event) (w w2 : TheWorld) (r : Result RustAnswer AllocError) → is_interface event ≡ false
+    → IfOk r (λ a. w2 ≡ settled_by (answer_of a) w) → IfOk r (λ a. w2 ≡ settled event (answer_of a) w)
+settles_by event w w2 (Ok a) h closed = closed ∙ sym (by_answer event (answer_of a) w h)
+settles_by event w w2 (Err e) h closed = tt
+
+-- ---- a step
 
 pub steps_by : (event : Event) (w made w2 : TheWorld) (r : Result RustAnswer AllocError) → IfOk r (λ a. Does event w (answer_of a) made)
     → IfOk r (λ a. w2 ≡ settled event (answer_of a) made) → IfOk r (λ a. Steps event w (answer_of a) w2)

@@ -30,23 +30,16 @@ pub(crate) struct Wish {
 // ---- what is looked at first
 
 impl World {
-    // Whether an end of this binding is at a core.
-    fn finds_end_of(&self, binding: usize, core: usize) -> bool
-        ensures has { result ≡ has_end_of binding core self.now }
-    {
-        match self.cores.get(core) {
-            None => false,
-            Some(core) => has_end(core, binding),
-        }
-    }
-
     /// Whether an end of this binding is at a core already, as in no world that comes of events.
     pub(crate) fn has_end_of(&self, binding: usize, core: usize) -> bool
         ensures has { result ≡ has_end_of binding core self.now }
         ensures there { result ≡ true → HasEndOf binding core self.now }
         ensures new { result ≡ false → IsNewAt binding core self.now }
     {
-        self.finds_end_of(binding, core)
+        match self.cores.get(core) {
+            None => false,
+            Some(core) => has_end(core, binding),
+        }
     }
 
     // Whether a dispatcher has places for so many ends more.

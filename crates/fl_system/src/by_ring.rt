@@ -7,7 +7,7 @@ ghost use Rattle.fl_worlds.specs.Making.{new_duo};
 ghost use Rattle.fl_worlds.specs.Binding.{BindsByRing, HasEndOf, JoinsByRing};
 ghost use Rattle.fl_worlds.specs.View.{has_dispatcher};
 ghost use Rattle.fl_acts.specs.RingEnds.{HasRoom};
-ghost use Rattle.fl_system.specs.RingEnds.{IsJoiner, JoinsIn, JoinsOrNot, JoinsIfPlaces};
+ghost use Rattle.fl_system.specs.RingEnds.{IsJoiner, JoinsIn, JoinsIfPlaces};
 ghost use Rattle.fl_acts.specs.Wishes.{HasDispatcher};
 ghost use Rattle.fl_system.specs.Wishes.{OfWish, IsNewAt};
 
@@ -124,24 +124,7 @@ impl World {
         self.join_ends(ring, binding, client, server)
     }
 
-    // The same, unless an end of the binding is at one of the cores already.
-    fn join_or_not(&mut self, want: Wish, ring: OneDuo) -> Result<Answer, AllocError>
-        requires few { length self.old.bindings < 1024 }
-        requires program { want.interface < length self.old.programs }
-        requires apart { want.client.core ≢ want.server.core }
-        requires client { HasDispatcher self.old.cores (id_of want.client) }
-        requires server { HasDispatcher self.old.cores (id_of want.server) }
-        requires fresh { ring ≡ new_duo ring.size }
-        ensures joins { IfOk result (λ a. OfWish want self.old (λ r. JoinsOrNot r ring.size self.old (answer_of a) self.new)) }
-        ensures kept { OnErr result (self.new ≡ self.old) }
-    {
-        if self.is_begun(want) {
-            return Ok(Answer::Nothing);
-        }
-        self.join_over(want, ring)
-    }
-
-    // The same, where there are places for both ends.
+    // The same, where there are places for both ends, unless an end of the binding is at one of the cores already.
     fn join_if_places(&mut self, want: Wish, ring: OneDuo) -> Result<Answer, AllocError>
         requires few { length self.old.bindings < 1024 }
         requires program { want.interface < length self.old.programs }
@@ -153,7 +136,10 @@ impl World {
         if !self.has_both_places(want.client, want.server) {
             return Ok(Answer::Refused(54));
         }
-        self.join_or_not(want, ring)
+        if self.is_begun(want) {
+            return Ok(Answer::Nothing);
+        }
+        self.join_over(want, ring)
     }
 
     /// The ends of a binding are joined by a ring of so many slots a direction.

@@ -95,23 +95,14 @@ impl World {
     }
 
     // The same, but interfaces may be added before it is set.
-    fn settle(&mut self, event: &Event<'_>, answer: &Answer)
-        ensures settled { self.new ≡ settled (event_of event.now) (answer_of answer.now) self.old }
-    {
-        if is_interface(event) {
-            return;
-        }
-        self.close(answer);
-    }
-
-    // The same for what an event came to.
     fn settle_by(&mut self, event: &Event<'_>, outcome: &Result<Answer, AllocError>)
         ensures settled { IfOk outcome.now (λ a. self.new ≡ settled (event_of event.now) (answer_of a) self.old) }
         ensures kept { OnErr outcome.now (self.new ≡ self.old) }
     {
-        if let Ok(answer) = outcome {
-            self.settle(event, answer);
+        if is_interface(event) {
+            return;
         }
+        self.close_by(outcome);
     }
 
     /// Does one event, which is lent: nothing of it is copied but what the world keeps.
