@@ -1,5 +1,5 @@
 -- A fragment passed on between two sides of one list, and forwards.
-use Rattle.std.proofs.Common.{◌≡◌, ◌≢◌, ◌<◌, ◌⊎◌, sym, ap, subst, ◌∙◌, inl, inr, ℕ, List, length, slice_get, slice_set, Result, Some, Ok, Err, length-set}
+use Rattle.std.proofs.Common.{◌≡◌, ◌≢◌, sym, ap, subst, ◌∙◌, inl, inr, ℕ, List, slice_get, slice_set, Result, Some, Ok, Err}
 use Rattle.fl_base.specs.declared.fragment.Frag.{Frag}
 use Rattle.fl_base.specs.declared.identity.LinkId.{LinkId}
 use Rattle.fl_base.specs.declared.identity.Circuit.{Circuit}

@@ -1,4 +1,4 @@
-use Rattle.std.proofs.Common.{◌≡◌, ◌<◌, ap, sym, subst, ◌∙◌, ℕ, slice_index_or, slice_set, Result, Ok, Err, length-set}
+use Rattle.std.proofs.Common.{◌<◌, ap, sym, subst, ◌∙◌, slice_index_or, slice_set, Result, Ok, Err, length-set}
 use Rattle.std.proofs.lemmas.Option.{slice_get-get_or}
 use Rattle.std.proofs.lemmas.Result.{err_from_is_err_and}
 use Rattle.fl_hop.specs.declared.entry.Way.{Way}

@@ -84,10 +84,13 @@ returns-in_default-clause-refused c =
 
 pub returns-in_default-enter-clause-refused : goal.returns-in_default-enter-clause-refused
 returns-in_default-enter-clause-refused c =
-    inr (open_due c.args.self.now c.args.link.0 c.args.binding c.stands.result
-    (on_link c.self.inside.core.0 c.self.inside.links.items c.self.inside.cells.items c.self.inside.entries c.args.self.now c.self.view_is c.args.link.0 c.from.result c.len.result _ c.from.ensures c.len.ensures c.self.inside.links.ok.0 c.if-from-len.false)
-    c.stands.ensures.stands c.if-stands.false
-    ∙ if_told _ c.in-Some.circuit.0 (told_some c.next.result _ c.in-Some.circuit c.next.ensures.next c.in-Some.is), refl)
+    inr (
+      open_due c.args.self.now c.args.link.0 c.args.binding c.stands.result
+          (on_link c.self.inside.core.0 c.self.inside.links.items c.self.inside.cells.items c.self.inside.entries c.args.self.now c.self.view_is c.args.link.0 c.from.result c.len.result _ c.from.ensures c.len.ensures c.self.inside.links.ok.0 c.if-from-len.false)
+          c.stands.ensures.stands c.if-stands.false
+          ∙ if_told _ c.in-Some.circuit.0 (told_some c.next.result _ c.in-Some.circuit c.next.ensures.next c.in-Some.is),
+      refl,
+    )
 
 pub returns-in_default-enter-clause-kept : goal.returns-in_default-enter-clause-kept
 returns-in_default-enter-clause-kept c =

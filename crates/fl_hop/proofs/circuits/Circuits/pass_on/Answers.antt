@@ -110,10 +110,13 @@ returns-in_default-clause-refused c =
 
 pub returns-in_default-enter-clause-refused : goal.returns-in_default-enter-clause-refused
 returns-in_default-enter-clause-refused c =
-    inr (pass_due c.args.self.now c.args.link.0 c.args.circuit.0 c.args.onward.0 c.args.binding c.is_next.result c.stands.result c.is_next.ensures.next c.if-not-is_next.false
-    c.stands.ensures.stands c.if-stands.false c.if-link-onward.false
-    (on_link c.self.inside.core.0 c.self.inside.links.items c.self.inside.cells.items c.self.inside.entries c.args.self.now c.self.view_is c.args.onward.0 c.from.result c.len.result _ c.from.ensures c.len.ensures c.self.inside.links.ok.0 c.if-from-len.false)
-    ∙ if_told _ c.in-Some.next.0 (told_some c.next.result _ c.in-Some.next c.next.ensures.next c.in-Some.is), refl)
+    inr (
+      pass_due c.args.self.now c.args.link.0 c.args.circuit.0 c.args.onward.0 c.args.binding c.is_next.result c.stands.result c.is_next.ensures.next c.if-not-is_next.false
+          c.stands.ensures.stands c.if-stands.false c.if-link-onward.false
+          (on_link c.self.inside.core.0 c.self.inside.links.items c.self.inside.cells.items c.self.inside.entries c.args.self.now c.self.view_is c.args.onward.0 c.from.result c.len.result _ c.from.ensures c.len.ensures c.self.inside.links.ok.0 c.if-from-len.false)
+          ∙ if_told _ c.in-Some.next.0 (told_some c.next.result _ c.in-Some.next c.next.ensures.next c.in-Some.is),
+      refl,
+    )
 
 pub returns-in_default-enter-clause-kept : goal.returns-in_default-enter-clause-kept
 returns-in_default-enter-clause-kept c =
