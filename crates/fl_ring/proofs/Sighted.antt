@@ -1,11 +1,11 @@
 -- What the answer of a look that found a fragment tells, by that fragment; and sides of rings over shared words once they have looked, taken or put.
-use Rattle.std.proofs.Common.{ℕ, ◌≡◌, ◌≢◌, ◌≤◌, ◌+◌, ◌*◌, ◌^◌, ◌<◌, ◌⊎◌, inl, inr, Bool, true, false, if◌then◌else◌, [], ◌∷◌, ◌++◌, length, Option, Some, None, ap, subst, ◌∙◌, sym, refl, arith, length-append}
+use Rattle.std.proofs.Common.{ℕ, ◌≡◌, ◌≢◌, ◌≤◌, ◌+◌, ◌*◌, ◌^◌, ◌<◌, Bool, true, false, if◌then◌else◌, [], ◌∷◌, ◌++◌, length, Option, Some, None, ap, subst, ◌∙◌, sym, refl, arith, length-append}
 use Rattle.atomic_table.specs.Seated.{TableId}
 use Rattle.atomic_table.specs.Table.{Me}
 use Rattle.fl_base.specs.declared.fragment.Frag.{Frag}
 use Rattle.fl_base.specs.Control.{is_ack_only, bare}
 use Rattle.fl_link.specs.Cursor.{TheCursor}
-use Rattle.fl_link.specs.Looks.{Look, saw, saw_ack, found, found_ack, missed, taken}
+use Rattle.fl_link.specs.Looks.{Look, saw, saw_ack, missed, taken}
 use Rattle.fl_link.specs.Queue.{look_at}
 use Rattle.fl_link.specs.declared.sides.Sight.{Sight}
 use Rattle.fl_link.specs.declared.sides.Sight.TheVariants.{Data, Acknowledgement}
@@ -20,6 +20,12 @@ use Rattle.fl_ring.proofs.Fronts.{got_by}
 
 looks : (b : Bool) (f : Frag) → is_ack_only f ≡ b → look_at f ≡ (if b then saw_ack else saw (bare f))
 looks b f e = ap (λ x. if x then saw_ack else saw (bare f)) e
+
+pub saw_some : (frag : Frag) → saw frag ≢ missed
+saw_some frag e = cc
+
+pub ack_some : saw_ack ≢ missed
+ack_some e = cc
 
 -- ---- a take
 

@@ -45,15 +45,3 @@ write-requires c =
     let sent : c.has_free.new.mine.put.index ≡ m.put.index = ap (λ (x : Half). x.put.index) found.1 in
     let within = room_for 2 n m.put.index c.has_free.new.mine.known (omega arith) (sym found.0 ∙ c.if-not-has_free.false) in
     (n, b, found.2, omega (arith, s.there.most, c.index.ensures.index, c.if-index-eq-SPENT.false), omega arith)
-
-pub returns-clause-full : goal.returns-clause-full
-returns-clause-full c = λ e. absurd (cc)
-
-pub returns-clause-spent : goal.returns-clause-spent
-returns-clause-spent c = λ e. absurd (cc)
-
-pub returns-then-index-eq-SPENT-clause-full : goal.returns-then-index-eq-SPENT-clause-full
-returns-then-index-eq-SPENT-clause-full c = λ e. absurd (cc)
-
-pub returns-then-not-has_free-clause-spent : goal.returns-then-not-has_free-clause-spent
-returns-then-not-has_free-clause-spent c = λ e. absurd (cc)

@@ -64,15 +64,3 @@ returns-clause-placed c =
     let i = c.self.inside in
     subst (λ (s : TheRing). RingGains s (bare c.args.frag.now) (ring_of c.write_slot.new.words.items c.advance.new.self.size c.advance.new.self.index i.take.index)) c.self.view_is
     (subst (λ (p : TheCursor). RingGains (ring_of i.words.items i.put.size i.put.index i.take.index) (bare c.args.frag.now) (ring_of c.write_slot.new.words.items p.size p.index i.take.index)) (sym c.advance.ensures.next) (after c).1)
-
-pub returns-clause-full : goal.returns-clause-full
-returns-clause-full c = λ e. absurd (cc)
-
-pub returns-clause-spent : goal.returns-clause-spent
-returns-clause-spent c = λ e. absurd (cc)
-
-pub returns-then-sent-eq-SPENT-clause-full : goal.returns-then-sent-eq-SPENT-clause-full
-returns-then-sent-eq-SPENT-clause-full c = λ e. absurd (cc)
-
-pub returns-then-sent-index-clause-spent : goal.returns-then-sent-index-clause-spent
-returns-then-sent-index-clause-spent c = λ e. absurd (cc)

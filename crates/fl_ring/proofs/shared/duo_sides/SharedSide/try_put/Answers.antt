@@ -20,15 +20,3 @@ returns-clause-placed c =
     let unspent : length c.args.self.now.sent < 2 ^ 62 = omega (arith, sent, h.put_index, h.most, c.index.ensures.index, c.if-index-eq-SPENT.false) in
     let m = c.has_free.new.self in
     (bare-ack c.args.frag.now ∙ c.requires, unspent, (m, c.has_free.ensures.looked, leb-true 2 (free_of m) (sym c.has_free.ensures.free ∙ c.if-not-has_free.false), c.write.ensures.written ∙ written_bare m c.args.frag.now))
-
-pub returns-then-index-eq-SPENT-clause-full : goal.returns-then-index-eq-SPENT-clause-full
-returns-then-index-eq-SPENT-clause-full c = λ e. absurd (cc)
-
-pub returns-then-not-has_free-clause-spent : goal.returns-then-not-has_free-clause-spent
-returns-then-not-has_free-clause-spent c = λ e. absurd (cc)
-
-pub returns-clause-full : goal.returns-clause-full
-returns-clause-full c = λ e. absurd (cc)
-
-pub returns-clause-spent : goal.returns-clause-spent
-returns-clause-spent c = λ e. absurd (cc)

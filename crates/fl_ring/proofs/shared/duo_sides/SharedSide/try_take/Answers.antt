@@ -2,7 +2,7 @@ use Rattle.std.proofs.Common.{◌∷◌, ◌++◌, [], length, ap, subst, ◌∙
 use Rattle.fl_base.specs.declared.fragment.Frag.{Frag}
 use Rattle.fl_link.specs.Looks.{saw, saw_ack}
 use Rattle.fl_ring.specs.SharedSides.{TheSide, side_of_seat, side_missed, side_taken, SideGets, SideMisses}
-use Rattle.fl_ring.proofs.Sighted.{side_took, told_frag, took_front, none_front, side_moves, one_taken}
+use Rattle.fl_ring.proofs.Sighted.{saw_some, ack_some, side_took, told_frag, took_front, none_front, side_moves, one_taken}
 use Rattle.fl_ring.proofs.shared.duo_sides.SharedSide.try_take.Goals as goal
 
 misses : (c : goal.In-None) → SideMisses c.args.self.now (side_of_seat c.take_frag.new.seat)
@@ -31,10 +31,10 @@ pub returns-in-None-clause-look : goal.returns-in-None-clause-look
 returns-in-None-clause-look c = misses c
 
 pub returns-in-None-clause-data : goal.returns-in-None-clause-data
-returns-in-None-clause-data c = λ frag seen. none_front c.args.self.now.peeked (saw frag) (misses c).0 (λ e. cc) seen
+returns-in-None-clause-data c = λ frag seen. none_front c.args.self.now.peeked (saw frag) (misses c).0 (saw_some frag) seen
 
 pub returns-in-None-clause-acknowledgement : goal.returns-in-None-clause-acknowledgement
-returns-in-None-clause-acknowledgement c = λ seen. none_front c.args.self.now.peeked saw_ack (misses c).0 (λ e. cc) seen
+returns-in-None-clause-acknowledgement c = λ seen. none_front c.args.self.now.peeked saw_ack (misses c).0 ack_some seen
 
 pub returns-in-None-clause-ring : goal.returns-in-None-clause-ring
 returns-in-None-clause-ring c = ap (λ (s : TheSide). s.ring) (misses c).1
@@ -47,13 +47,10 @@ returns-in-Some-clause-exact c = λ frag is.
     ap (λ (s : TheSide). s.got) (gets c).1 ∙ ap (λ (f : Frag). c.args.self.now.got ++ f ∷ []) (told_frag c.in-Some.frag frag c.sight.result c.sight.ensures is)
 
 pub returns-in-Some-clause-data : goal.returns-in-Some-clause-data
-returns-in-Some-clause-data c = λ frag seen. took_front c.args.self.now.peeked c.in-Some.frag c.sight.result c.sight.ensures (gets c).0 (saw frag) (λ e. cc) seen
+returns-in-Some-clause-data c = λ frag seen. took_front c.args.self.now.peeked c.in-Some.frag c.sight.result c.sight.ensures (gets c).0 (saw frag) (saw_some frag) seen
 
 pub returns-in-Some-clause-acknowledgement : goal.returns-in-Some-clause-acknowledgement
-returns-in-Some-clause-acknowledgement c = λ seen. took_front c.args.self.now.peeked c.in-Some.frag c.sight.result c.sight.ensures (gets c).0 saw_ack (λ e. cc) seen
+returns-in-Some-clause-acknowledgement c = λ seen. took_front c.args.self.now.peeked c.in-Some.frag c.sight.result c.sight.ensures (gets c).0 saw_ack ack_some seen
 
 pub returns-in-Some-clause-ring : goal.returns-in-Some-clause-ring
 returns-in-Some-clause-ring c = ap (λ (s : TheSide). s.ring) (gets c).1
-
-pub returns-in-None-clause-exact : goal.returns-in-None-clause-exact
-returns-in-None-clause-exact c = λ frag is. absurd (cc)

@@ -3,9 +3,6 @@ use Rattle.fl_ring.specs.SharedSeats.{Sender, sender_of, IsSeated, IsWriter, Cou
 use Rattle.fl_ring.proofs.Sighted.{writer_puts}
 use Rattle.fl_ring.proofs.shared.tx.RingTx.try_put.Goals as goal
 
-pub returns-then-index-eq-SPENT-clause-full : goal.returns-then-index-eq-SPENT-clause-full
-returns-then-index-eq-SPENT-clause-full c = λ e. absurd (cc)
-
 pub returns-then-index-eq-SPENT-clause-spent : goal.returns-then-index-eq-SPENT-clause-spent
 returns-then-index-eq-SPENT-clause-spent c = λ e.
     (ap (λ (s : Sender). length s.sent) (sym c.self.view_is) ∙ c.self.invariant.1.index_is ∙ sym c.index-index.ensures.index ∙ c.if-index-eq-SPENT.true, refl)
@@ -32,15 +29,6 @@ returns-then-not-has_room-clause-full c = λ e.
       full.1 ∙ ap (λ (s : Sender). s.loads + 1) c.self.view_is,
       c.has_room.ensures.sent ∙ ap (λ (s : Sender). s.sent) c.self.view_is,
     )
-
-pub returns-then-not-has_room-clause-spent : goal.returns-then-not-has_room-clause-spent
-returns-then-not-has_room-clause-spent c = λ e. absurd (cc)
-
-pub returns-clause-full : goal.returns-clause-full
-returns-clause-full c = λ e. absurd (cc)
-
-pub returns-clause-spent : goal.returns-clause-spent
-returns-clause-spent c = λ e. absurd (cc)
 
 pub has_room-requires-clause-seated : goal.has_room-requires-clause-seated
 has_room-requires-clause-seated c = subst (λ b. IsSeated b.shared.table_id b.shared.key c.self.inside.seat) (sym c.deref.ensures) c.self.invariant.0
