@@ -11,7 +11,7 @@ use Rattle.fl_hop.specs.declared.entry.Entry.{Entry}
 use Rattle.fl_hop.specs.declared.entry.Cell.{Cell}
 use Rattle.fl_hop.specs.declared.entry.Cell.TheVariants.{Free, ClientSide, ServerSide}
 use Rattle.fl_hop.specs.declared.links.LinkState.{LinkState}
-use Rattle.fl_hop.specs.Table.{slot, hop_at}
+use Rattle.fl_hop.specs.Table.{TheCircuits, slot, hop_at}
 use Rattle.fl_hop.specs.Slots.{table_of, shown, from_client, from_server, cell_of, IsPlaced, Kept}
 use Rattle.fl_hop.proofs.Lists.{index_map, index_found, index_there}
 
@@ -71,6 +71,12 @@ show_cond s false o x e = refl
 pub hop_is : (core : ℕ) (links : List LinkState) (cells : List Cell) (s : Slab Entry) (l n : ℕ) → hop_at (table_of core links cells s) l n ≡ shown s (cell_of cells l n)
 hop_is core links cells s l n =
     show_cond s (nat_lt n 2047) (slice_index_or (map (shown s) cells) (slot l n) None) (slice_index_or cells (slot l n) Free) (index_map (shown s) cells (slot l n) Free)
+
+-- the same, where the cell was read
+pub hop_read : (core : ℕ) (links : List LinkState) (cells : List Cell) (s : Slab Entry) (t : TheCircuits) → table_of core links cells s ≡ t → (l n : ℕ) (slice : List Cell) (cell x : Cell) → slice ≡ cells → cell ≡ cell_of slice l n → cell ≡ x → shown s x ≡ hop_at t l n
+hop_read core links cells s t is l n slice cell x same at e =
+    let show : Cell → Option Hop = λ y. shown s y in
+    ap show (sym e ∙ at) ∙ ap (λ v. shown s (cell_of v l n)) same ∙ sym (hop_is core links cells s l n) ∙ ap (λ u. hop_at u l n) is
 
 -- what is known of a number where an entry stands: the entry, and which of its sides is there
 pub record AtClient (cells : List Cell) (s : Slab Entry) (l n : ℕ) (hop : Hop) : Type 0 where

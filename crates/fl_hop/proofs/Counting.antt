@@ -6,7 +6,7 @@ use Rattle.std.proofs.lemmas.List.Sums.{fails_before_first}
 use Rattle.std.proofs.lemmas.Option.{get_or_from_slice_get}
 use Rattle.std.proofs.lemmas.Bool.Decides.{nat_tests}
 use Rattle.fl_base.specs.declared.identity.LinkId.{LinkId}
-use Rattle.fl_hop.specs.Table.{TheCircuits, slot, with_link}
+use Rattle.fl_hop.specs.Table.{TheCircuits, slot, link_of, link_fault, with_link}
 use Rattle.fl_hop.specs.declared.entry.Hop.{Hop}
 use Rattle.slab.specs.Slab.{Slab}
 use Rattle.fl_base.specs.declared.identity.CoreId.{CoreId}
@@ -15,13 +15,15 @@ use Rattle.fl_hop.specs.declared.entry.Way.TheVariants.{Link, End}
 use Rattle.fl_hop.specs.declared.entry.Entry.{Entry}
 use Rattle.fl_hop.specs.declared.entry.Cell.{Cell}
 use Rattle.fl_hop.specs.declared.entry.Cell.TheVariants.{Free, ClientSide, ServerSide}
+use Rattle.fl_hop.specs.declared.fault.HopFault.{HopFault}
+use Rattle.fl_hop.specs.declared.fault.HopFault.TheVariants.{NoLink, Limit}
 use Rattle.fl_hop.specs.declared.links.LinkState.{LinkState}
 use Rattle.fl_hop.specs.Numbers.{number, with_opening, with_taking, changed, count_opening, count_taking, next_here, next_there, IsOpened, IsTaken, IsGiven}
 use Rattle.fl_hop.specs.Joined.{IsClientWay, IsServerWay}
 use Rattle.fl_hop.specs.Slots.{table_of, shown, Sits, Kept}
 use Rattle.fl_hop.proofs.Lists.{set_cases, set_here, set_there, push_keeps, push_cases, fill_cases, within}
 use Rattle.fl_hop.proofs.Numbering.{number_once, number_apart}
-use Rattle.fl_hop.proofs.Cells.{is_less}
+use Rattle.fl_hop.proofs.Cells.{is_less, less_is, cond_true, cond_false}
 
 -- links that have at least the openings of others, at the same cores
 pub record Grown (links more : List LinkState) : Type 0 where
@@ -338,6 +340,21 @@ kept_link core links cells s k to other few none =
 
 pub no_link : (t : Option ℕ) (o : Option LinkId) (b : Bool) → option_map (λ (link : LinkId). link.0) o ≡ t → b ≡ is_some o → b ≡ false → t ≡ None
 no_link t o b e is h = sym e ∙ mapped_none (λ (link : LinkId). link.0) o (none_of o b is h)
+
+-- none of the reasons against a link to a core
+pub may_link : (core : ℕ) (links : List LinkState) (cells : List Cell) (s : Slab Entry) (t : TheCircuits) → table_of core links cells s ≡ t → (to : ℕ) (o : Option LinkId) (b : Bool) → to ≢ core
+    → option_map (λ (link : LinkId). link.0) o ≡ link_of t to → b ≡ is_some o → b ≡ false → length links < 15 → link_fault t to ≡ None
+may_link core links cells s t is to o b other e found h few =
+    let none : link_of (table_of core links cells s) to ≡ None = ap (λ u. link_of u to) is ∙ no_link (link_of t to) o b e found h in
+    let here : (to == core) ≡ false = grind (arith, nat_tests, other) in
+    let there : is_some (link_of (table_of core links cells s) to) ≡ false = ap is_some none in
+    let room : nat_lt (length links) 15 ≡ true = less_is (length links) 15 few in
+    let last : Option HopFault = if nat_lt (length links) 15 then None else Some Limit in
+    let next : Option HopFault = if is_some (link_of (table_of core links cells s) to) then Some NoLink else last in
+    ap (λ u. link_fault u to) (sym is)
+    ∙ cond_false (to == core) (Some NoLink) next here
+    ∙ cond_false (is_some (link_of (table_of core links cells s) to)) (Some NoLink) last there
+    ∙ cond_true (nat_lt (length links) 15) None (Some Limit) room
 
 map_free : (s : Slab Entry) (n : ℕ) → map (shown s) (replicate n Free) ≡ replicate n None
 map_free s zero = refl

@@ -1,15 +1,18 @@
 -- A fragment passed on between two sides of one list, and forwards.
-use Rattle.std.proofs.Common.{◌≡◌, ◌≢◌, sym, ap, subst, ◌∙◌, inl, inr, ℕ, List, slice_get, slice_set, Some, Ok}
+use Rattle.std.proofs.Common.{◌≡◌, ◌≢◌, sym, ap, subst, ◌∙◌, inl, inr, ℕ, List, slice_get, slice_set, Result, Some, Ok, Err}
 use Rattle.fl_base.specs.declared.fragment.Frag.{Frag}
 use Rattle.fl_base.specs.declared.identity.LinkId.{LinkId}
 use Rattle.fl_base.specs.declared.identity.Circuit.{Circuit}
 use Rattle.fl_base.specs.Control.{with_circuit, bare}
 use Rattle.fl_link.specs.Looks.{Look}
 use Rattle.fl_hop.specs.declared.entry.Way.TheVariants.{Link}
+use Rattle.fl_hop.specs.declared.fault.HopFault.{HopFault}
+use Rattle.fl_hop.specs.declared.fault.HopFault.TheVariants.{Marked, Astray, NoLink, UsedUp, Limit, Memory}
+use Rattle.fl_hop.specs.declared.forward.First.{First}
 use Rattle.fl_hop.specs.declared.forward.First.TheVariants.{Goes}
 use Rattle.fl_hop.specs.declared.forward.Outcome.{Outcome}
 use Rattle.fl_hop.specs.Table.{TheCircuits}
-use Rattle.fl_hop.specs.Forward.{Change, Incoming, Finds, put_label, Leaves, Crossing, Crosses, WentOn}
+use Rattle.fl_hop.specs.Forward.{Change, Incoming, Finds, put_label, Leaves, Crossing, Crosses, Looked, WentOn, Forwards}
 use Rattle.fl_hop.proofs.Lists.{set_same, set_swap, set_set, set_here, set_cases}
 
 abbrev pub crossing : ℕ → ℕ → Frag → ℕ → Outcome → Crossing
@@ -42,6 +45,33 @@ crosses_on takes puts ss l m frag c o s p q t two there onward left put = record
   put = put;
   rest = set_swap ss m l q t (λ e. two (sym e));
 }
+
+-- a look at one side, and no more
+pub looked_at : {S : Type 0} (takes : S → Look → S → Type 0) (front : S → Look) (t : TheCircuits) (l : ℕ) (ss : List S) (before seen : S) (found : Result First HopFault) (p : ℕ)
+    → p ≡ l → slice_get ss p ≡ Some before → Finds takes front (incoming t l) found (change before seen) → Looked takes front (incoming t l) found (change ss (slice_set ss p seen))
+looked_at takes front t l ss before seen found p e there sees = record {
+  before = before;
+  after = seen;
+  there = subst (λ i. slice_get ss i ≡ Some before) e there;
+  sees = sees;
+  rest = ap (λ i. slice_set ss i seen) e;
+}
+
+-- which is refused: a look finds no link wanting
+pub refused_at : {S : Type 0} (takes puts : S → Look → S → Type 0) (front : S → Look) (at : Incoming) (ss : Change (List S)) (fault : HopFault) → Looked takes front at (Err fault) ss → Forwards takes puts front at (Err fault) ss
+refused_at takes puts front at ss Marked x = x
+refused_at takes puts front at ss Astray x = x
+refused_at takes puts front at ss NoLink x = absurd x.sees
+refused_at takes puts front at ss UsedUp x = x
+refused_at takes puts front at ss Limit x = x
+refused_at takes puts front at ss Memory x = x
+
+-- the side that was looked at has the fragment first that the look saw
+pub first_after : {S : Type 0} (front : S → Look) (ss : List S) (p : ℕ) (before seen s : S) (k : Look) → slice_get ss p ≡ Some before → front seen ≡ k → slice_get (slice_set ss p seen) p ≡ Some s → front s ≡ k
+first_after front ss p before seen s k there first stands =
+    let some : Some seen ≡ Some s = sym (set_here ss p before seen there) ∙ stands in
+    let same : seen ≡ s = cc in
+    subst (λ x. front x ≡ k) same first
 
 -- a look at one side, and then a fragment passed on from it over another
 went_at : {S : Type 0} (takes puts : S → Look → S → Type 0) (front : S → Look) (t : TheCircuits) (l : ℕ) (ss : List S) (before seen : S) (frag : Frag) (m : LinkId) (c : Circuit) (o : Outcome) (us : List S)

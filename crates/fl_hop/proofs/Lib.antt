@@ -15,3 +15,4 @@ pub mod Standing
 pub mod Opening
 pub mod Answering
 pub mod Retaking
+pub mod Refusals

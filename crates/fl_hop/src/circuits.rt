@@ -84,8 +84,10 @@ impl Circuits {
     pub fn neighbour(&self, link: LinkId) -> Option<CoreId>
         ensures neighbour { result ≡ option_map (λ (a : LinkState). a.neighbour) (slice_get self.now.links link.0) }
     {
-        let state = self.links.get(usize::from(link.0))?;
-        Some(state.neighbour)
+        match self.links.get(usize::from(link.0)) {
+            Some(state) => Some(state.neighbour),
+            None => None,
+        }
     }
 
     /// Adds a link to another core, on which nothing was opened. It has the next place: 0 for the first.
@@ -108,7 +110,9 @@ impl Circuits {
         if count >= MAX_LINKS {
             return Err(HopFault::Limit);
         }
-        self.links.reserve(1)?;
+        let Ok(()) = self.links.reserve(1) else {
+            return Err(HopFault::Memory);
+        };
         let Ok(()) = add_cells(&mut self.cells) else {
             return Err(HopFault::Memory);
         };
@@ -169,14 +173,14 @@ impl Circuits {
     {
         match cell_at(self.cells.as_slice(), link, circuit) {
             Cell::Free => None,
-            Cell::ClientSide(key) => {
-                let entry = self.entries.get(key)?;
-                Some(entry.from_client())
-            }
-            Cell::ServerSide(key) => {
-                let entry = self.entries.get(key)?;
-                Some(entry.from_server())
-            }
+            Cell::ClientSide(key) => match self.entries.get(key) {
+                Some(entry) => Some(entry.from_client()),
+                None => None,
+            },
+            Cell::ServerSide(key) => match self.entries.get(key) {
+                Some(entry) => Some(entry.from_server()),
+                None => None,
+            },
         }
     }
 

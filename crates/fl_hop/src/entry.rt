@@ -33,7 +33,7 @@ pub struct Hop {
 }
 
 // An entry: two sides, each leading to the other.
-#[derive(Clone, Copy, Debug, PartialEq, Eq)]
+#[derive(Clone, Copy)]
 pub(crate) struct Entry {
     pub(crate) binding: usize,
     pub(crate) client: Way,
@@ -42,7 +42,7 @@ pub(crate) struct Entry {
 }
 
 // What stands at a number of a link: nothing, or the client's or the server's side of the entry with this key.
-#[derive(Clone, Copy, Debug, PartialEq, Eq)]
+#[derive(Clone, Copy)]
 pub(crate) enum Cell {
     Free,
     ClientSide(usize),

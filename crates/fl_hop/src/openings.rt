@@ -199,12 +199,16 @@ impl Circuits {
         match cell_at(self.cells.as_slice(), link, circuit) {
             Cell::Free => None,
             Cell::ClientSide(key) => {
-                let entry = self.entries.try_remove(key)?;
+                let Some(entry) = self.entries.try_remove(key) else {
+                    return None;
+                };
                 clear(&mut self.cells, Way::Link(link, circuit), entry.server);
                 Some(entry.from_client())
             }
             Cell::ServerSide(key) => {
-                let entry = self.entries.try_remove(key)?;
+                let Some(entry) = self.entries.try_remove(key) else {
+                    return None;
+                };
                 clear(&mut self.cells, Way::Link(link, circuit), entry.client);
                 Some(entry.from_server())
             }

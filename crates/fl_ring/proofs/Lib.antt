@@ -6,6 +6,7 @@ pub mod DuoViews
 pub mod DuoWrites
 pub mod Forgets
 pub mod Fronts
+pub mod Sighted
 pub mod NewRings
 pub mod Numbers
 pub mod Places

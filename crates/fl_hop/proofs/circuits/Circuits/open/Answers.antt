@@ -1,4 +1,4 @@
-use Rattle.std.proofs.Common.{refl, sym, ap, subst, ◌∙◌, false, option_map}
+use Rattle.std.proofs.Common.{refl, sym, ap, subst, ◌∙◌, inl, inr, false, option_map}
 use Rattle.fl_base.specs.declared.identity.Circuit.{Circuit}
 use Rattle.fl_base.specs.declared.identity.Side.TheVariants.{Client}
 use Rattle.fl_hop.specs.declared.entry.Entry.{Entry}
@@ -10,6 +10,7 @@ use Rattle.fl_hop.specs.Slots.{table_of, Kept}
 use Rattle.fl_hop.proofs.Counting.{Next, next_few, kept_opening, grown_opening, opened_now}
 use Rattle.fl_hop.proofs.Laters.{next_at, next_fresh, none_stands}
 use Rattle.fl_hop.proofs.Opening.{Opened, opened_so, same_slots}
+use Rattle.fl_hop.proofs.Refusals.{on_link, off_link, told_none, told_some, if_told, open_nowhere, open_stands, open_due}
 use Rattle.fl_hop.proofs.circuits.Circuits.open.Goals as goal
 
 next : (c : goal.After-count_opening-arg-1) → Next c.self.inside.core.0 c.self.inside.links.items c.args.link.0 c.in-Some.circuit.0
@@ -62,3 +63,46 @@ returns-clause-later c =
     subst (λ t. Later t (table_of c.self.inside.core.0 c.count_opening.new.links.items c.enter.new.cells.items c.enter.new.entries)) c.self.view_is
     (subst (λ v. Later (table_of c.self.inside.core.0 c.self.inside.links.items c.self.inside.cells.items c.self.inside.entries) (table_of c.self.inside.core.0 v c.enter.new.cells.items c.enter.new.entries)) (sym c.count_opening.ensures)
     x.later)
+
+pub returns-then-from-len-clause-refused : goal.returns-then-from-len-clause-refused
+returns-then-from-len-clause-refused c =
+    inl (open_nowhere c.args.self.now c.args.link.0 c.args.binding
+    (off_link c.self.inside.core.0 c.self.inside.links.items c.self.inside.cells.items c.self.inside.entries c.args.self.now c.self.view_is c.args.link.0 c.from.result c.len.result _ c.from.ensures c.len.ensures c.self.inside.links.ok.0 c.if-from-len.true))
+
+pub returns-then-stands-clause-refused : goal.returns-then-stands-clause-refused
+returns-then-stands-clause-refused c =
+    inl (open_stands c.args.self.now c.args.link.0 c.args.binding c.stands.result
+    (on_link c.self.inside.core.0 c.self.inside.links.items c.self.inside.cells.items c.self.inside.entries c.args.self.now c.self.view_is c.args.link.0 c.from.result c.len.result _ c.from.ensures c.len.ensures c.self.inside.links.ok.0 c.if-from-len.false)
+    c.stands.ensures.stands c.if-stands.true)
+
+pub returns-in_default-clause-refused : goal.returns-in_default-clause-refused
+returns-in_default-clause-refused c =
+    inl (open_due c.args.self.now c.args.link.0 c.args.binding c.stands.result
+    (on_link c.self.inside.core.0 c.self.inside.links.items c.self.inside.cells.items c.self.inside.entries c.args.self.now c.self.view_is c.args.link.0 c.from.result c.len.result _ c.from.ensures c.len.ensures c.self.inside.links.ok.0 c.if-from-len.false)
+    c.stands.ensures.stands c.if-stands.false
+    ∙ told_none c.next.result _ c.next.ensures.next c.in_default.is)
+
+pub returns-in_default-enter-clause-refused : goal.returns-in_default-enter-clause-refused
+returns-in_default-enter-clause-refused c =
+    inr (
+      open_due c.args.self.now c.args.link.0 c.args.binding c.stands.result
+          (on_link c.self.inside.core.0 c.self.inside.links.items c.self.inside.cells.items c.self.inside.entries c.args.self.now c.self.view_is c.args.link.0 c.from.result c.len.result _ c.from.ensures c.len.ensures c.self.inside.links.ok.0 c.if-from-len.false)
+          c.stands.ensures.stands c.if-stands.false
+          ∙ if_told _ c.in-Some.circuit.0 (told_some c.next.result _ c.in-Some.circuit c.next.ensures.next c.in-Some.is),
+      refl,
+    )
+
+pub returns-in_default-enter-clause-kept : goal.returns-in_default-enter-clause-kept
+returns-in_default-enter-clause-kept c =
+    (same_slots c.self.inside.core.0 c.self.inside.links.items c.self.inside.cells.items c.enter.new.cells.items c.self.inside.entries c.enter.new.entries c.self.invariant c.in_default-enter.ensures.cells c.in_default-enter.ensures.entries).1
+    ∙ c.self.view_is
+
+pub returns-clause-may : goal.returns-clause-may
+returns-clause-may c =
+    open_due c.args.self.now c.args.link.0 c.args.binding c.stands.result
+    (on_link c.self.inside.core.0 c.self.inside.links.items c.self.inside.cells.items c.self.inside.entries c.args.self.now c.self.view_is c.args.link.0 c.from.result c.len.result _ c.from.ensures c.len.ensures c.self.inside.links.ok.0 c.if-from-len.false)
+    c.stands.ensures.stands c.if-stands.false
+    ∙ if_told _ c.in-Some.circuit.0 (told_some c.next.result _ c.in-Some.circuit c.next.ensures.next c.in-Some.is)
+
+pub returns-clause-next : goal.returns-clause-next
+returns-clause-next c = told_some c.next.result _ c.in-Some.circuit c.next.ensures.next c.in-Some.is

@@ -1,4 +1,4 @@
-use Rattle.std.proofs.Common.{◌≡◌, sym, ap, subst, ◌∙◌, false, List, option_map}
+use Rattle.std.proofs.Common.{◌≡◌, refl, sym, ap, subst, ◌∙◌, inl, inr, false, List, option_map}
 use Rattle.fl_base.specs.declared.identity.Circuit.{Circuit}
 use Rattle.fl_hop.specs.declared.entry.Entry.{Entry}
 use Rattle.fl_hop.specs.declared.entry.Way.TheVariants.{Link}
@@ -11,6 +11,7 @@ use Rattle.fl_hop.proofs.Lists.{within}
 use Rattle.fl_hop.proofs.Counting.{Due, Next, due_few, next_few, kept_taking, kept_opening, grown_taking, grown_opening, grown_on, taken_now, opened_now, taken_stays, next_stays}
 use Rattle.fl_hop.proofs.Laters.{due_at, next_at, due_fresh, next_fresh, none_stands}
 use Rattle.fl_hop.proofs.Opening.{Opened, opened_so, same_slots}
+use Rattle.fl_hop.proofs.Refusals.{on_link, told_none, told_some, if_told, pass_due}
 use Rattle.fl_hop.proofs.circuits.Circuits.pass_on.Goals as goal
 
 due : (c : goal.After-count_taking-arg-1) → Due c.self.inside.core.0 c.self.inside.links.items c.args.link.0 c.args.circuit.0
@@ -99,3 +100,35 @@ returns-clause-later c =
     subst (λ t. Later t (table_of c.self.inside.core.0 c.count_opening.new.links.items c.enter.new.cells.items c.enter.new.entries)) c.self.view_is
     (subst (λ v. Later (table_of c.self.inside.core.0 c.self.inside.links.items c.self.inside.cells.items c.self.inside.entries) (table_of c.self.inside.core.0 v c.enter.new.cells.items c.enter.new.entries)) (sym (counted c))
     x.later)
+
+pub returns-in_default-clause-refused : goal.returns-in_default-clause-refused
+returns-in_default-clause-refused c =
+    inl (pass_due c.args.self.now c.args.link.0 c.args.circuit.0 c.args.onward.0 c.args.binding c.is_next.result c.stands.result c.is_next.ensures.next c.if-not-is_next.false
+    c.stands.ensures.stands c.if-stands.false c.if-link-onward.false
+    (on_link c.self.inside.core.0 c.self.inside.links.items c.self.inside.cells.items c.self.inside.entries c.args.self.now c.self.view_is c.args.onward.0 c.from.result c.len.result _ c.from.ensures c.len.ensures c.self.inside.links.ok.0 c.if-from-len.false)
+    ∙ told_none c.next.result _ c.next.ensures.next c.in_default.is)
+
+pub returns-in_default-enter-clause-refused : goal.returns-in_default-enter-clause-refused
+returns-in_default-enter-clause-refused c =
+    inr (
+      pass_due c.args.self.now c.args.link.0 c.args.circuit.0 c.args.onward.0 c.args.binding c.is_next.result c.stands.result c.is_next.ensures.next c.if-not-is_next.false
+          c.stands.ensures.stands c.if-stands.false c.if-link-onward.false
+          (on_link c.self.inside.core.0 c.self.inside.links.items c.self.inside.cells.items c.self.inside.entries c.args.self.now c.self.view_is c.args.onward.0 c.from.result c.len.result _ c.from.ensures c.len.ensures c.self.inside.links.ok.0 c.if-from-len.false)
+          ∙ if_told _ c.in-Some.next.0 (told_some c.next.result _ c.in-Some.next c.next.ensures.next c.in-Some.is),
+      refl,
+    )
+
+pub returns-in_default-enter-clause-kept : goal.returns-in_default-enter-clause-kept
+returns-in_default-enter-clause-kept c =
+    (same_slots c.self.inside.core.0 c.self.inside.links.items c.self.inside.cells.items c.enter.new.cells.items c.self.inside.entries c.enter.new.entries c.self.invariant c.in_default-enter.ensures.cells c.in_default-enter.ensures.entries).1
+    ∙ c.self.view_is
+
+pub returns-clause-may : goal.returns-clause-may
+returns-clause-may c =
+    pass_due c.args.self.now c.args.link.0 c.args.circuit.0 c.args.onward.0 c.args.binding c.is_next.result c.stands.result c.is_next.ensures.next c.if-not-is_next.false
+    c.stands.ensures.stands c.if-stands.false c.if-link-onward.false
+    (on_link c.self.inside.core.0 c.self.inside.links.items c.self.inside.cells.items c.self.inside.entries c.args.self.now c.self.view_is c.args.onward.0 c.from.result c.len.result _ c.from.ensures c.len.ensures c.self.inside.links.ok.0 c.if-from-len.false)
+    ∙ if_told _ c.in-Some.next.0 (told_some c.next.result _ c.in-Some.next c.next.ensures.next c.in-Some.is)
+
+pub returns-clause-next : goal.returns-clause-next
+returns-clause-next c = told_some c.next.result _ c.in-Some.next c.next.ensures.next c.in-Some.is

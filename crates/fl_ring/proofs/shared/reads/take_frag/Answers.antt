@@ -21,3 +21,15 @@ returns-clause-taken c =
     let six = c.load_six-words.ensures in
     let done = c.load.ensures in
     (gets_last c.args.seat.now.table_id _ c.in_ok-control.control c.load.result m0 _ _ _ c.load_six-words.result found.1 six.loaded six.seven (found.0 ∙ c.requires.due) done.2.0 done.2.1 (done.0 ∙ (six.table ∙ c.load_control.ensures.table)), got_few c.in_ok-control.control m0 _ _ c.load_six-words.result found.1 six.loaded done.2.2)
+
+pub load_control-requires-clause-seated : goal.load_control-requires-clause-seated
+load_control-requires-clause-seated c = c.requires.seated
+
+pub load_control-requires-clause-reads : goal.load_control-requires-clause-reads
+load_control-requires-clause-reads c = c.requires.reads
+
+pub load_control-requires-clause-first : goal.load_control-requires-clause-first
+load_control-requires-clause-first c = c.requires.first
+
+pub load_control-requires-clause-due : goal.load_control-requires-clause-due
+load_control-requires-clause-due c = c.requires.due
