@@ -7,12 +7,14 @@ use Rattle.fl_endpoint.specs.Accounts.{Sound as IsEnd}
 use Rattle.fl_node.specs.View.{TheCore}
 use Rattle.fl_node.specs.Sound.{IsCore}
 use Rattle.fl_running.specs.declared.job.Job.{Job}
-use Rattle.fl_threads.specs.declared.wiring.Station.{Station}
-use Rattle.fl_threads.specs.declared.fork.Done.{Done}
+use Rattle.fl_outcomes.specs.declared.station.Station.{Station}
+use Rattle.fl_outcomes.specs.declared.station.Done.{Done}
+use Rattle.fl_outcomes.specs.Tells.{TheOutcome, Each2}
+use Rattle.fl_outcomes.specs.Outcomes.{outcome_of}
 use Rattle.fl_threads.specs.Begins.{TheStation, TheCommon, IsStation, AreStations}
 use Rattle.fl_threads.specs.Shares.{IsLeftSound}
-use Rattle.fl_threads.specs.Tells.{TheOutcome, RanTo, Each2}
-use Rattle.fl_threads.specs.Stations.{IsReady, AllReady, StationRan, station_of, outcome_of}
+use Rattle.fl_threads.specs.Runs.{RanTo}
+use Rattle.fl_threads.specs.Stations.{IsReady, AllReady, StationRan, station_of}
 
 each_push : {A B : Type 0} (R : A → B → Type 0) (xs : List A) (ys : List B) (x : A) (y : B) → Each2 R xs ys → R x y
     → Each2 R (xs ++ x ∷ []) (ys ++ y ∷ [])

@@ -12,8 +12,8 @@ use Rattle.fl_node.specs.contracts.one_core.Core as Core
 use Rattle.fl_ring.specs.contracts.shared.duo_sides.SharedSide as SharedSide
 use Rattle.fl_running.specs.contracts.desk.Desk as Desk
 use Rattle.fl_running.specs.contracts.running.Running as Running
-use Rattle.fl_threads.specs.contracts.wiring.Station as Station
-use Rattle.fl_threads.specs.contracts.fork.Done as Done
+use Rattle.fl_outcomes.specs.contracts.station.Station as Station
+use Rattle.fl_outcomes.specs.contracts.station.Done as Done
 
 -- a core with its sides, queues and desks
 pub running_sends : IsSend Core.the_row → IsSend SharedSide.the_row → IsSend QueueLink.the_row → IsSend Desk.the_row → IsSend Names.the_row

@@ -1,5 +1,5 @@
 -- With what each core of a run begins: what a set-up made, and the jobs joined to it.
-use Rattle.std.specs.Prelude.{ℕ, ◌≡◌, ◌==◌, suc, Bool, false, if◌then◌else◌, List, [], ◌∷◌, ◌++◌, map, length, slice_get, Option, Some, None}
+use Rattle.std.specs.Prelude.{ℕ, ◌≡◌, ◌==◌, suc, Bool, false, if◌then◌else◌, List, [], ◌∷◌, ◌++◌, map, length, Option, Some, None}
 use Rattle.std.specs.List.{flat_map, range_with_len}
 use Rattle.fl_base.specs.declared.identity.EndId.{EndId}
 use Rattle.fl_compile.specs.Programs.{program_of}
@@ -18,8 +18,8 @@ use Rattle.fl_running.specs.Run.{TheRun}
 use Rattle.fl_running.specs.Words.{Stock}
 use Rattle.fl_dockets.specs.declared.docket.Bound.{Bound}
 use Rattle.fl_dockets.specs.Dockets.{TheDocket, docket_at}
-use Rattle.fl_dockets.specs.Joined.{core_of}
 use Rattle.fl_dockets.specs.State.{TheJoined}
+use Rattle.fl_outcomes.specs.Tells.{core_at}
 
 -- a core as its thread is given it
 pub record TheStation : Type 0 where
@@ -64,10 +64,7 @@ pub record IsAlone (clients : List ℕ) (core : ℕ) (v : View) : Type 0 where
 
 -- ---- desks
 
--- the core of an end
-abbrev pub core_at : List Bound → EndId → Option ℕ
-core_at bindings e = given (slice_get bindings e.binding) None λ b. Some (core_of e.side b)
-
+-- whether an end is this core's
 abbrev pub owns : ℕ → List Bound → EndId → Bool
 owns core bindings e = given (core_at bindings e) false λ c. c == core
 

@@ -1,9 +1,8 @@
--- The public promise rests on Ran, and that on Begins, Tells and Shares; Stations, Dealing, Taking and Faults have what the code's own functions say.
+-- The public promise rests on Ran and Faults, and these on Begins, Runs and Shares; Stations and Dealing have what the code's own functions say.
 pub mod Faults
 pub mod Begins
-pub mod Tells
+pub mod Runs
 pub mod Shares
 pub mod Stations
 pub mod Dealing
 pub mod Ran
-pub mod Taking

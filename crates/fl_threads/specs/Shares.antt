@@ -14,8 +14,8 @@ use Rattle.fl_worlds.specs.Picture.{wire_of}
 use Rattle.fl_worlds.specs.declared.parts.Parts.{Parts}
 use Rattle.fl_deal.specs.Dealt.{AreDealt, AreAt, AreApart, AreCounted, AreNew}
 use Rattle.fl_deal.specs.Settled.{Pair, sides_of, Each, IsNear}
+use Rattle.fl_outcomes.specs.Tells.{TheOutcome, sides_left}
 use Rattle.fl_threads.specs.Begins.{TheStation, Places}
-use Rattle.fl_threads.specs.Tells.{TheOutcome}
 
 -- ---- which sides of rings and which queues a core names
 
@@ -52,12 +52,9 @@ AreNewRings [] [] = Unit {0}
 AreNewRings (r ∷ rings) (p ∷ pairs) = AreNew r.size p.one p.two × AreNewRings rings pairs
 AreNewRings rings pairs = ⊥
 
--- by core, the sides that it has: as its run began, and in the end
+-- by core, the sides that it has as its run begins
 abbrev pub sides_given : List TheStation → List (List TheSide)
 sides_given stations = map (λ (s : TheStation). s.run.rings) stations
-
-abbrev pub sides_left : List TheOutcome → List (List TheSide)
-sides_left outcomes = map (λ (o : TheOutcome). o.run.rings) outcomes
 
 -- and the queues that it was given
 abbrev pub queues_given : List TheStation → List (List TheQueue)

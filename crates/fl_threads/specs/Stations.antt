@@ -1,5 +1,5 @@
 -- What a core is given for its thread, and what comes of it, as the code has them.
-use Rattle.std.specs.Prelude.{ℕ, ◌≡◌, ◌+◌, ◌-◌, ◌<◌, Bool, List, [], ◌∷◌, ◌++◌, map, length}
+use Rattle.std.specs.Prelude.{ℕ, ◌≡◌, ◌+◌, ◌-◌, ◌<◌, List, [], ◌∷◌, ◌++◌, map, length}
 use Rattle.std.specs.List.{range_with_len}
 use Rattle.fl_tally.specs.declared.board.View.{View}
 use Rattle.fl_tally.specs.Tally.{opening_view, both, core_alone, without_core}
@@ -12,19 +12,17 @@ use Rattle.fl_running.specs.declared.job.Job.{Job}
 use Rattle.fl_running.specs.Run.{run_of}
 use Rattle.fl_running.specs.Words.{AreWords}
 use Rattle.fl_running.specs.Ran.{ticket_of}
-use Rattle.fl_threads.specs.declared.wiring.Station.{Station}
-use Rattle.fl_threads.specs.declared.fork.Done.{Done}
+use Rattle.fl_outcomes.specs.declared.station.Station.{Station}
+use Rattle.fl_outcomes.specs.declared.station.Done.{Done}
 use Rattle.fl_dockets.specs.State.{joined_of}
+use Rattle.fl_outcomes.specs.Outcomes.{outcome_of}
 use Rattle.fl_threads.specs.declared.wiring.Common.{Common}
 use Rattle.fl_threads.specs.Begins.{TheStation, TheCommon, IsStation}
 use Rattle.fl_threads.specs.Shares.{IsLeftSound}
-use Rattle.fl_threads.specs.Tells.{TheOutcome, RanTo, left_off, was_told}
+use Rattle.fl_threads.specs.Runs.{RanTo}
 
 abbrev pub station_of : Station → TheStation
 station_of s = record { run = run_of s.running.value; plan = s.plan; ticket = ticket_of s.ticket }
-
-abbrev pub outcome_of : Done → TheOutcome
-outcome_of d = record { run = run_of d.station.running.value; ticket = ticket_of d.station.ticket; part = d.part }
 
 abbrev pub common_of : Common → TheCommon
 common_of c = record {
@@ -33,13 +31,6 @@ common_of c = record {
   offers = record { names = c.names.now; programs = c.programs.now };
   places = record { sides = c.sides.now; queues = c.queues.now };
 }
-
--- how it ended
-abbrev pub has_left_off : Done → Bool
-has_left_off d = left_off (outcome_of d)
-
-abbrev pub has_been_told : Done → Bool
-has_been_told d = was_told (outcome_of d)
 
 -- ---- one core
 

@@ -15,8 +15,8 @@ ghost use Rattle.fl_nameserv.specs.contracts.names.Names as NamesRows;
 ghost use Rattle.fl_running.specs.contracts.desk.Desk as DeskRows;
 ghost use Rattle.fl_running.specs.contracts.job.Job as JobRows;
 ghost use Rattle.fl_running.specs.contracts.running.Running as RunningRows;
-ghost use Rattle.fl_threads.specs.contracts.wiring.Station as StationRows;
-ghost use Rattle.fl_threads.specs.contracts.fork.Done as DoneRows;
+ghost use Rattle.fl_outcomes.specs.contracts.station.Station as StationRows;
+ghost use Rattle.fl_outcomes.specs.contracts.station.Done as DoneRows;
 
 use fl_compile::Program;
 use fl_endpoint::End;

@@ -5,29 +5,22 @@ ghost use Rattle.std.specs.Thread.{IsSync};
 ghost use Rattle.fl_hop.specs.Joined.{Sound as IsTable};
 ghost use Rattle.fl_endpoint.specs.Accounts.{Sound as IsEnd};
 ghost use Rattle.fl_core.specs.View.{TheSeat};
+ghost use Rattle.fl_outcomes.specs.Tells.{Each2};
 ghost use Rattle.fl_threads.specs.declared.fault.Stop.TheVariants as stop;
-ghost use Rattle.fl_threads.specs.Tells.{Each2};
 ghost use Rattle.fl_threads.specs.Stations.{IsReady, AllReady, StationRan};
 
 use crate::crossing::{done_sent, job_shared, station_sent};
 use crate::fault::Stop;
-use crate::wiring::Station;
 use fl_hop::never_shared;
 use fl_node::Core;
-use fl_running::{Gate, Job, Part, core_run};
+use fl_outcomes::{Done, Station};
+use fl_running::{Gate, Job, core_run};
 use fl_tally::EndSeat;
 use std::alloc::{AllocError, Global};
 use std::snapshot::Snapshot;
 use std::sync::Wait;
 use std::thread;
 use std::thread::{Promise, PromisedHandle, Scope, Threads};
-
-/// A core after its run, and its share of the report.
-#[derive(Drop)]
-pub(crate) struct Done {
-    pub(crate) station: Station,
-    pub(crate) part: Part,
-}
 
 // What a core's thread hands on: what came of its station.
 #[derive(Drop)]

@@ -3,11 +3,12 @@
 ghost use Rattle.std.specs.Prelude.{ℕ, ◌≡◌, ◌<◌, map, length, IfOk, OnOk};
 ghost use Rattle.fl_tally.specs.Tally.{Agrees, number_of};
 ghost use Rattle.fl_tally.specs.Seats.{knowing};
-ghost use Rattle.fl_threads.specs.Shares.{sides_left};
-ghost use Rattle.fl_threads.specs.Tells.{seats_left, HeardAsTold};
-ghost use Rattle.fl_threads.specs.Stations.{outcome_of, AreSeats, all_in, IsRest};
+ghost use Rattle.fl_outcomes.specs.Tells.{sides_left, seats_left};
+ghost use Rattle.fl_outcomes.specs.Outcomes.{outcome_of};
+ghost use Rattle.fl_threads.specs.Runs.{HeardAsTold};
+ghost use Rattle.fl_threads.specs.Stations.{AreSeats, all_in, IsRest};
 
-use crate::fork::Done;
+use fl_outcomes::Done;
 use fl_ring::SharedSide;
 use fl_tally::EndSeat;
 use std::alloc::{AllocError, Global};

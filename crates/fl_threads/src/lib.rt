@@ -1,4 +1,5 @@
-//! A world's parts run on threads: each core runs its jobs on a thread of its own, and what came of that is told.
+//! A world's parts run on threads: each core runs its jobs on a thread of its own, and what came of that is told
+//! (`fl_outcomes`).
 //!
 //! Contract for the layer above: [`run_parts`], whose report tells of a run of just these cores, in any schedule (`specs/Ran.antt`). It needs a
 //! world's parts, and not the world.
@@ -10,7 +11,6 @@
 //! - `gathering.rt`: the cores' seats put in one
 //! - `settling.rt`: the rings put together again
 //! - `crossing.rt`: what may go to a thread
-//! - `telling.rt`: the report
 //! - `fault.rt`: why there is no report
 #![tactic(auto)]
 
@@ -21,7 +21,6 @@ mod gathering;
 mod run;
 mod settling;
 mod sharing;
-mod telling;
 mod wiring;
 
 pub use fault::RunFault;

@@ -1,8 +1,8 @@
 use Rattle.std.proofs.Common.{Result, Vec, Global, List, subst, sym, IfOk}
-use Rattle.fl_threads.specs.declared.fork.Done.{Done}
-use Rattle.fl_threads.specs.declared.wiring.Station.{Station}
+use Rattle.fl_outcomes.specs.declared.station.Done.{Done}
+use Rattle.fl_outcomes.specs.declared.station.Station.{Station}
+use Rattle.fl_outcomes.specs.Tells.{Each2}
 use Rattle.fl_threads.specs.declared.fault.Stop.{Stop}
-use Rattle.fl_threads.specs.Tells.{Each2}
 use Rattle.fl_threads.specs.Stations.{AllReady, StationRan}
 use Rattle.fl_threads.proofs.Each.{ready_rest, ready_last, each_joined}
 use Rattle.fl_threads.proofs.fork.+run_in.Goals as goal

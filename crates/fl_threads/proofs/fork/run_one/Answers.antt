@@ -3,8 +3,9 @@ use Rattle.fl_ring.specs.declared.shared.duo_sides.SharedSide.{SharedSide}
 use Rattle.fl_running.specs.declared.running.Running.{Running}
 use Rattle.fl_running.specs.Run.{run_of}
 use Rattle.fl_running.specs.Ran.{moment, task, ticket_of, CoreRan}
+use Rattle.fl_outcomes.specs.Tells.{TheOutcome}
 use Rattle.fl_threads.specs.Shares.{IsLeftSound}
-use Rattle.fl_threads.specs.Tells.{TheOutcome, shared_ways}
+use Rattle.fl_threads.specs.Runs.{shared_ways}
 use Rattle.fl_threads.proofs.fork.run_one.Goals as goal
 
 pub returns-in-Ok : goal.returns-in-Ok
