@@ -10,9 +10,8 @@ use Rattle.fl_running.specs.Ran.{TellsEnd}
 use Rattle.fl_dockets.specs.State.{TheJoined}
 use Rattle.fl_endings.specs.Cores.{OneCore}
 use Rattle.fl_endings.specs.Heard.{Among, HeardIsTold, TablesTell}
-use Rattle.fl_outcomes.specs.Tells.{TheOutcome, Each2, seats_left}
-use Rattle.fl_threads.specs.Begins.{TheStation}
-use Rattle.fl_threads.specs.Runs.{RanTo, told_by, heard_by, HeardAsTold}
+use Rattle.fl_stations.specs.Runs.{TheOutcome, Each2, seats_left, TheStation, RanTo}
+use Rattle.fl_threads.specs.Heard.{told_by, heard_by, HeardAsTold}
 use Rattle.fl_reports.specs.Cores.{core_of, cores_of}
 
 -- ---- among others

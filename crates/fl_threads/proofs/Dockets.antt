@@ -2,7 +2,7 @@
 use Rattle.std.proofs.Common.{ℕ, List}
 use Rattle.fl_jobs.specs.Jobs.{Job}
 use Rattle.fl_dockets.specs.State.{TheJoined, AreJoined}
-use Rattle.fl_outcomes.specs.Taking.{HavePlaces}
+use Rattle.fl_stations.specs.Taking.{HavePlaces}
 
 -- what was joined is so
 pub have_places : (cores : ℕ) (asked : List Job) (j : TheJoined) → AreJoined cores asked j → HavePlaces j.dockets j.jobs

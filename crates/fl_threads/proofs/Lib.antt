@@ -1,4 +1,3 @@
-pub mod Boards
 pub mod Dockets
 pub mod Each
 pub mod Faults
@@ -9,5 +8,4 @@ pub mod Lists
 pub mod Owning
 pub mod Ringing
 pub mod Seats
-pub mod Sending
 pub mod Wording

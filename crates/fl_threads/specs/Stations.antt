@@ -1,4 +1,4 @@
--- What a core is given for its thread, and what comes of it, as the code has them.
+-- How cores are made stations, each with a seat cut off everybody's, as the code has them.
 use Rattle.std.specs.Prelude.{ℕ, ◌≡◌, ◌+◌, ◌-◌, ◌<◌, List, [], ◌∷◌, ◌++◌, map, length}
 use Rattle.std.specs.List.{range_with_len}
 use Rattle.fl_tally.specs.declared.board.View.{View}
@@ -7,22 +7,12 @@ use Rattle.fl_tally.specs.Seats.{TheSeat, knowing}
 use Rattle.fl_link.specs.Queue.{TheQueue}
 use Rattle.fl_ring.specs.SharedSides.{TheSide}
 use Rattle.fl_node.specs.View.{TheCore}
-use Rattle.fl_node.specs.Sound.{IsCore}
-use Rattle.fl_running.specs.declared.job.Job.{Job}
-use Rattle.fl_running.specs.Run.{run_of}
-use Rattle.fl_running.specs.Words.{AreWords}
-use Rattle.fl_running.specs.Ran.{ticket_of}
-use Rattle.fl_outcomes.specs.declared.station.Station.{Station}
-use Rattle.fl_outcomes.specs.declared.station.Done.{Done}
 use Rattle.fl_dockets.specs.State.{joined_of}
-use Rattle.fl_outcomes.specs.Outcomes.{outcome_of}
+use Rattle.fl_stations.specs.declared.station.Station.{Station}
+use Rattle.fl_stations.specs.Runs.{TheStation}
+use Rattle.fl_stations.specs.Stations.{IsReady, station_of}
 use Rattle.fl_threads.specs.declared.wiring.Common.{Common}
-use Rattle.fl_threads.specs.Begins.{TheStation, TheCommon, IsStation}
-use Rattle.fl_threads.specs.Shares.{IsLeftSound}
-use Rattle.fl_threads.specs.Runs.{RanTo}
-
-abbrev pub station_of : Station → TheStation
-station_of s = record { run = run_of s.running.value; plan = s.plan; ticket = ticket_of s.ticket }
+use Rattle.fl_threads.specs.Begins.{TheCommon, IsStation}
 
 abbrev pub common_of : Common → TheCommon
 common_of c = record {
@@ -33,19 +23,6 @@ common_of c = record {
 }
 
 -- ---- one core
-
--- its run may begin: its core is sound, each end of its plan has a word, which its seat may use, and the seat may tell of its end, or of a stop
-pub record IsReady (s : Station) : Type 0 where
-  pub core : IsCore s.running.value.core
-  pub as_many : length s.ticket.words.items ≡ length s.plan.ends.items
-  pub may : AreWords s.ticket.words.items s.ticket.seat.knows
-  pub finishes : s.ticket.seat.knows.finished < length s.ticket.seat.knows.cores
-  pub stops : s.ticket.seat.knows.stopped < s.ticket.seat.knows.seats
-
--- it ran, by its plan, and was left sound
-pub record StationRan (jobs : List Job) (limit : ℕ) (s : Station) (d : Done) : Type 0 where
-  pub ran : RanTo jobs limit (station_of s) (outcome_of d)
-  pub left : IsLeftSound (outcome_of d)
 
 -- a core, and its share of the sides and queues
 pub record CoreShare : Type 0 where
@@ -74,10 +51,6 @@ pub record AddsStation (c : TheCommon) (x : CoreShare) (before after : Stationed
   pub left : after.own ≡ knowing before.own (without_core before.own.knows)
   pub rings_are : station.running.value.rings.items ≡ x.rings
   pub queues_are : station.running.value.queues.items ≡ x.queues
-
-abbrev pub AllReady : List Station → Type 0
-AllReady [] = Unit {0}
-AllReady (s ∷ stations) = IsReady s × AllReady stations
 
 -- ---- seats
 

@@ -1,3 +1,0 @@
-pub mod Lists
-pub mod Moving
-pub mod Taking
