@@ -16,8 +16,8 @@ use Rattle.fl_jobs.specs.Report.{BothEnds, at_side, at_end}
 use Rattle.fl_dockets.specs.State.{TheJoined}
 use Rattle.fl_dockets.specs.Dockets.{TheDocket, docket_at}
 use Rattle.fl_endings.specs.Begins.{core_at, IsUntouched, refusal_by}
+use Rattle.fl_stations.specs.Tells.{handled_by, refusal_in, both_at, by_binding}
 use Rattle.fl_threads.specs.Begins.{owns, desk_by, desk_for, desks_of}
-use Rattle.fl_threads.specs.Tells.{handled_by, refusal_in, both_at, by_binding}
 use Rattle.fl_reports.proofs.CoresLists.{map_at, map_past, first_at, second_at, twos_many}
 use Rattle.fl_reports.proofs.CoresEnd.{end_by}
 

@@ -10,8 +10,8 @@ use Rattle.fl_running.specs.Ran.{TellsEnd}
 use Rattle.fl_dockets.specs.State.{TheJoined}
 use Rattle.fl_endings.specs.Cores.{OneCore}
 use Rattle.fl_endings.specs.Heard.{Among, HeardIsTold, TablesTell}
-use Rattle.fl_threads.specs.Begins.{TheStation}
-use Rattle.fl_threads.specs.Tells.{TheOutcome, RanTo, Each2, seats_left, told_by, heard_by, HeardAsTold}
+use Rattle.fl_stations.specs.Runs.{TheOutcome, Each2, seats_left, TheStation, RanTo}
+use Rattle.fl_threads.specs.Heard.{told_by, heard_by, HeardAsTold}
 use Rattle.fl_reports.specs.Cores.{core_of, cores_of}
 
 -- ---- among others

@@ -27,8 +27,9 @@ use Rattle.fl_endings.specs.Turns.{TellsTurns}
 use Rattle.fl_endings.specs.Heard.{TablesTell}
 use Rattle.fl_endings.specs.Begins.{core_at, Begins, TellsDesks, refusal_by}
 use Rattle.fl_endings.proofs.Complete.{past, bound_by}
-use Rattle.fl_threads.specs.Begins.{TheStation, Places, IsStation, AreStations, common_in, desk_for, desks_of}
-use Rattle.fl_threads.specs.Tells.{TheOutcome, RanTo, Each2, Tells, desk_left, handled_by, handled_at, made_by, made_at, refusal_in, refusal_at}
+use Rattle.fl_stations.specs.Runs.{TheOutcome, Each2, TheStation, RanTo}
+use Rattle.fl_stations.specs.Tells.{Tells, desk_left, handled_by, handled_at, made_by, made_at, refusal_in, refusal_at}
+use Rattle.fl_threads.specs.Begins.{Places, IsStation, AreStations, common_in, desk_for, desks_of}
 use Rattle.fl_reports.specs.Cores.{core_of as the_core, cores_of, cores_in}
 use Rattle.fl_reports.specs.Outcomes.{ReportsAreOfRuns}
 use Rattle.fl_reports.proofs.CoresBegin.{places_in, are_stations}

@@ -15,8 +15,9 @@ use Rattle.fl_dockets.specs.Rules.{RuleNow, RuleOf, RulesOf}
 use Rattle.fl_endings.specs.Cores.{OneCore}
 use Rattle.fl_endings.proofs.Seats.{Keeps, keeps_same, keeps_then, keeps_end}
 use Rattle.fl_endings.specs.Turns.{is_unfinished, is_told, left_off, was_told}
-use Rattle.fl_threads.specs.Begins.{TheStation, TheCommon, IsStation, AreStations}
-use Rattle.fl_threads.specs.Tells.{TheOutcome, RanTo, Each2, turns_in, is_unfinished as is_left, is_told as is_stopped, left_off as has_left, was_told as has_stopped}
+use Rattle.fl_stations.specs.Runs.{TheOutcome, Each2, TheStation, RanTo}
+use Rattle.fl_stations.specs.Tells.{turns_in, is_unfinished as is_left, is_told as is_stopped, left_off as has_left, was_told as has_stopped}
+use Rattle.fl_threads.specs.Begins.{TheCommon, IsStation, AreStations}
 use Rattle.fl_reports.specs.Cores.{core_of, cores_of}
 
 -- ---- a core's station

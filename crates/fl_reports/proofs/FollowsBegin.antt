@@ -33,7 +33,8 @@ use Rattle.fl_jobs.specs.Report.{TheReport}
 use Rattle.fl_system.specs.Booting.{TheConfig}
 use Rattle.fl_setups.specs.Untouched.{SetUpsTouchNothing}
 use Rattle.fl_setups.specs.Start.{SetUpsStartFresh, StartsFresh, NamesQueue}
-use Rattle.fl_threads.specs.Begins.{TheStation, Places, common_in}
+use Rattle.fl_stations.specs.Runs.{TheStation}
+use Rattle.fl_threads.specs.Begins.{Places, common_in}
 use Rattle.fl_threads.specs.Shares.{sides_given, queues_given}
 use Rattle.fl_cores.proofs.Booted.{all_making}
 use Rattle.fl_cores.specs.Promised.{Reports}

@@ -16,8 +16,7 @@ use Rattle.fl_setups.specs.Start.{SetUpsStartFresh}
 use Rattle.fl_setups.specs.Untouched.{SetUpsTouchNothing}
 use Rattle.fl_ring.specs.SharedSeats.{front_seen}
 use Rattle.fl_ring.specs.SharedSides.{TheSide}
-use Rattle.fl_threads.specs.Begins.{TheStation}
-use Rattle.fl_threads.specs.Tells.{TheOutcome, RanTo, Each2, shared_ways}
+use Rattle.fl_stations.specs.Runs.{TheOutcome, Each2, TheStation, RanTo, shared_ways}
 use Rattle.fl_cores.specs.Promised.{Reports}
 use Rattle.fl_cuts.specs.Start.{first_cut, StartsShow}
 use Rattle.fl_cuts.specs.Ready.{ReadyTurnsFollow}

@@ -9,8 +9,7 @@ use Rattle.fl_running.specs.Ran.{GoesOn}
 use Rattle.fl_running.specs.Run.{TheRun}
 use Rattle.fl_running.specs.Turn.{Turned}
 use Rattle.fl_logs.specs.Logs.{CountedAreTurns}
-use Rattle.fl_threads.specs.Begins.{TheStation}
-use Rattle.fl_threads.specs.Tells.{TheOutcome, RanTo, shared_ways}
+use Rattle.fl_stations.specs.Runs.{TheOutcome, TheStation, RanTo, shared_ways}
 
 -- so many turns, no fewer than these
 pub record AtLeast (plan : Plan) (jobs : List Job) (least : ℕ) (s t : TheRun TheSide) : Type 0 where

@@ -39,7 +39,7 @@ use Rattle.fl_queues.specs.Rings.{Opening, open_circuit}
 use Rattle.fl_honest.specs.Asked.{HasDeed, AsksBy, GoesWished}
 use Rattle.fl_honest.specs.Cores.{OneCore}
 use Rattle.fl_honest.specs.Named.{Has}
-use Rattle.fl_threads.specs.Tells.{shared_ways}
+use Rattle.fl_stations.specs.Runs.{shared_ways}
 use Rattle.fl_cuts.specs.Cut.{Cut}
 use Rattle.fl_cuts.specs.Does.{CutGoes}
 use Rattle.fl_cuts.specs.Hearing.{said_of}

@@ -22,7 +22,8 @@ use Rattle.fl_dockets.specs.Dockets.{TheDocket, docket_at, end_of, places_of, ca
 use Rattle.fl_dockets.specs.Joined.{core_of}
 use Rattle.fl_dockets.specs.State.{TheJoined, AreJoined}
 use Rattle.fl_dockets.specs.Whole.{About, about, wish_in, bound_of, AreBound, AreDue}
-use Rattle.fl_threads.specs.Begins.{ends_from, core_at, desk_by, desk_for, two_desks, desks_of}
+use Rattle.fl_stations.specs.Tells.{core_at}
+use Rattle.fl_threads.specs.Begins.{ends_from, desk_by, desk_for, two_desks, desks_of}
 use Rattle.fl_alone.specs.Calls.{Post, AreCalls, post_of}
 use Rattle.fl_alone.specs.Shown.{desk_of}
 use Rattle.fl_reports.specs.OneCore.{both_ends, post_for}

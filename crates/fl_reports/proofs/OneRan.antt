@@ -21,8 +21,9 @@ use Rattle.fl_running.specs.Ran.{moment, task, GoesOn}
 use Rattle.fl_dockets.specs.declared.docket.Bound.{Bound}
 use Rattle.fl_dockets.specs.Joined.{AreBindings}
 use Rattle.fl_dockets.specs.State.{TheJoined}
-use Rattle.fl_threads.specs.Begins.{TheStation, Places, ends_from, desks_of, IsStation, AreStations, common_in}
-use Rattle.fl_threads.specs.Tells.{shared_ways, TheOutcome, RanTo, Each2, is_told, was_told, Tells}
+use Rattle.fl_stations.specs.Runs.{TheOutcome, Each2, TheStation, shared_ways, RanTo}
+use Rattle.fl_stations.specs.Tells.{is_told, was_told, Tells}
+use Rattle.fl_threads.specs.Begins.{Places, ends_from, desks_of, IsStation, AreStations, common_in}
 use Rattle.fl_threads.specs.Shares.{NamesQueue, AreOwners, AreShared, Shares, AreSound}
 use Rattle.fl_alone.specs.Turns.{Alone, Work, turned, is_finished, counted, ran}
 use Rattle.fl_alone.specs.Shown.{desk_of, work_of, alone_with, ShowsAlone, HasFew, AreSilent}

@@ -24,8 +24,9 @@ use Rattle.fl_worlds.specs.declared.binding.Binding.{Binding}
 use Rattle.fl_dockets.specs.Dockets.{docket_at, reply_by}
 use Rattle.fl_dockets.specs.State.{TheJoined, AreJoined}
 use Rattle.fl_dockets.specs.Whole.{wish_in, AreBound, AreDue}
+use Rattle.fl_stations.specs.Runs.{TheOutcome}
+use Rattle.fl_stations.specs.Tells.{desk_left, handled_by, made_by, handled_at, made_at, both_at, refusal_in, refusal_at, is_unfinished}
 use Rattle.fl_threads.specs.Begins.{ends_from, desk_by, desk_for, desks_of}
-use Rattle.fl_threads.specs.Tells.{TheOutcome, desk_left, handled_by, made_by, handled_at, made_at, both_at, refusal_in, refusal_at, is_unfinished}
 use Rattle.fl_alone.specs.Turns.{Desk, Alone, desk_at, Work, turned, is_clear, is_done_at, are_done, is_finished, counted, ran}
 use Rattle.fl_alone.specs.Shown.{desk_of}
 use Rattle.fl_alone.specs.Laws.{end_of, EachDesk, IsClear, HasNoMore}

@@ -30,9 +30,10 @@ use Rattle.fl_setups.specs.Start.{StartsFresh, SetUpsStartFresh}
 use Rattle.fl_dockets.specs.Rules.{RulesOf}
 use Rattle.fl_dockets.specs.State.{TheJoined, AreJoined}
 use Rattle.fl_dockets.specs.Whole.{wish_in}
-use Rattle.fl_threads.specs.Begins.{TheStation, Places, ends_from, IsStation, AreStations, common_in}
+use Rattle.fl_stations.specs.Runs.{TheOutcome, Each2, TheStation, shared_ways, RanTo}
+use Rattle.fl_stations.specs.Tells.{made_at, handled_at, both_at, refusal_at, is_unfinished, Tells}
+use Rattle.fl_threads.specs.Begins.{Places, ends_from, IsStation, AreStations, common_in}
 use Rattle.fl_cores.specs.Promised.{cores_by, Reports}
-use Rattle.fl_threads.specs.Tells.{shared_ways, TheOutcome, RanTo, Each2, made_at, handled_at, both_at, refusal_at, is_unfinished, Tells}
 use Rattle.fl_cores.proofs.Booted.{all_making}
 use Rattle.fl_alone.specs.Calls.{Solo, turned, is_finished, are_done, first_finished}
 use Rattle.fl_reports.specs.Honesty.{RunsReportHonestly}

@@ -44,8 +44,7 @@ use Rattle.fl_honest.specs.Runs.{AreSetUp}
 use Rattle.fl_honest.specs.Sitting.{EndsSit}
 use Rattle.fl_endings.specs.Begins.{Ran, refusal_by}
 use Rattle.fl_endings.proofs.Few.{settles}
-use Rattle.fl_threads.specs.Begins.{TheStation}
-use Rattle.fl_threads.specs.Tells.{TheOutcome, RanTo, Each2}
+use Rattle.fl_stations.specs.Runs.{TheOutcome, Each2, TheStation, RanTo}
 use Rattle.fl_cores.specs.Promised.{Reports}
 use Rattle.fl_reports.specs.Cores.{joined_in, cores_in}
 use Rattle.fl_reports.specs.Outcomes.{ReportsAreOfRuns}

@@ -12,9 +12,9 @@ use Rattle.fl_running.specs.Ran.{task, moment}
 use Rattle.fl_running.specs.Run.{TheRun}
 use Rattle.fl_logs.specs.Flows.{IsApart}
 use Rattle.fl_honest.specs.Cores.{OneCore, Went, AllWent, CoresGo}
-use Rattle.fl_threads.specs.Begins.{TheStation, TheCommon, IsStation, AreStations}
+use Rattle.fl_stations.specs.Runs.{TheOutcome, Each2, TheStation, RanTo}
+use Rattle.fl_threads.specs.Begins.{TheCommon, IsStation, AreStations}
 use Rattle.fl_threads.specs.Shares.{AreSound}
-use Rattle.fl_threads.specs.Tells.{TheOutcome, RanTo, Each2}
 use Rattle.fl_reports.specs.Runs.{IsRun, AreRuns}
 
 -- ---- places of lists

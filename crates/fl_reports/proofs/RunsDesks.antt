@@ -16,7 +16,8 @@ use Rattle.fl_dockets.specs.Dockets.{TheDocket, docket_at}
 use Rattle.fl_dockets.specs.Joined.{core_of}
 use Rattle.fl_dockets.specs.State.{TheJoined}
 use Rattle.fl_honest.specs.Ends.{HasDesk}
-use Rattle.fl_threads.specs.Begins.{TheStation, TheCommon, IsStation, desk_by, desk_for, desks_of, owns}
+use Rattle.fl_stations.specs.Runs.{TheStation}
+use Rattle.fl_threads.specs.Begins.{TheCommon, IsStation, desk_by, desk_for, desks_of, owns}
 
 -- ---- two for each number
 

@@ -39,7 +39,8 @@ use Rattle.fl_honest.specs.Meeting.{IsPaired, AreWired}
 use Rattle.fl_honest.specs.Rules.{FitsInterface, RulesFit}
 use Rattle.fl_honest.specs.Runs.{HaveDesks, AreSetUp}
 use Rattle.fl_honest.specs.Whole.{HasOwn, HaveOwn}
-use Rattle.fl_threads.specs.Begins.{TheStation, IsStation, common_in, desk_by, desk_for, desks_of, owns}
+use Rattle.fl_stations.specs.Runs.{TheStation}
+use Rattle.fl_threads.specs.Begins.{IsStation, common_in, desk_by, desk_for, desks_of, owns}
 use Rattle.fl_reports.proofs.Runs.{is_there, station_at}
 use Rattle.fl_reports.proofs.RunsDesks.{at_slot, EndOf, slotted, owned}
 use Rattle.fl_reports.proofs.RunsLinked.{idle, leading, has_back}

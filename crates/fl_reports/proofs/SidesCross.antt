@@ -12,9 +12,9 @@ use Rattle.fl_deal.specs.Dealt.{Hands, AreDealt}
 use Rattle.fl_deal.specs.Settled.{Pair, sides_of, Each, IsNear, DealtGoOn}
 use Rattle.fl_honest.specs.Cores.{shared_ways, OneCore}
 use Rattle.fl_honest.specs.Crossing.{Crosses}
-use Rattle.fl_threads.specs.Begins.{TheStation, Places}
-use Rattle.fl_threads.specs.Tells.{TheOutcome}
-use Rattle.fl_threads.specs.Shares.{sides_given, sides_left, Shares}
+use Rattle.fl_stations.specs.Runs.{TheOutcome, sides_left, TheStation}
+use Rattle.fl_threads.specs.Begins.{Places}
+use Rattle.fl_threads.specs.Shares.{sides_given, Shares}
 use Rattle.fl_reports.specs.Runs.{AreRuns}
 use Rattle.fl_reports.proofs.Runs.{run_at}
 use Rattle.fl_reports.proofs.SidesPlaces.{there_is, in_hand_moved}

@@ -14,9 +14,8 @@ use Rattle.fl_logs.proofs.Aside.{rings_aside}
 use Rattle.fl_deal.specs.Dealt.{hand_at}
 use Rattle.fl_deal.specs.Settled.{WentOn, AllWentOn, HandsWentOn}
 use Rattle.fl_honest.specs.Cores.{shared_ways, OneCore}
-use Rattle.fl_threads.specs.Begins.{TheStation}
-use Rattle.fl_threads.specs.Tells.{TheOutcome}
-use Rattle.fl_threads.specs.Shares.{sides_given, sides_left}
+use Rattle.fl_stations.specs.Runs.{TheOutcome, sides_left, TheStation}
+use Rattle.fl_threads.specs.Shares.{sides_given}
 use Rattle.fl_reports.specs.Runs.{IsRun, AreRuns}
 
 -- ---- as many as before

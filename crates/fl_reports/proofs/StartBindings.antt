@@ -32,8 +32,8 @@ use Rattle.fl_setups.specs.Start.{NamesQueue, Stands, StartsFresh}
 use Rattle.fl_setups.specs.Start as set_up
 use Rattle.fl_honest.specs.Cores.{OneCore}
 use Rattle.fl_honest.specs.Bindings.{ByQueues, ByRing, HasCores, IsOffLinks}
-use Rattle.fl_threads.specs.Begins.{TheStation, Places, common_in, AreStations}
-use Rattle.fl_threads.specs.Tells.{TheOutcome}
+use Rattle.fl_stations.specs.Runs.{TheOutcome, TheStation}
+use Rattle.fl_threads.specs.Begins.{Places, common_in, AreStations}
 use Rattle.fl_threads.specs.Shares.{queues_given, Shares, AreSound}
 use Rattle.fl_reports.specs.Runs.{AreRuns}
 use Rattle.fl_reports.proofs.Runs.{RunAt, run_at, as_many, station_at, as_many_stations}

@@ -15,8 +15,8 @@ use Rattle.fl_dockets.specs.Rules.{RulesOf}
 use Rattle.fl_dockets.specs.Whole.{IsBeside}
 use Rattle.fl_setups.specs.Start.{NamesSide, NamesQueue, SidesHaveOneCore, QueuesHaveOneCore, CoresAreApart, SidesAreThere, QueuesAreNew, LinksArePaired, CoresAreNumbered, CoresAreIdle, StartsFresh}
 use Rattle.fl_deal.specs.Dealt.{Hands, AreDealt}
-use Rattle.fl_threads.specs.Begins.{TheStation, Places}
-use Rattle.fl_threads.specs.Tells.{TheOutcome}
+use Rattle.fl_stations.specs.Runs.{TheOutcome, TheStation}
+use Rattle.fl_threads.specs.Begins.{Places}
 use Rattle.fl_threads.specs.Shares.{AreShared, Shares}
 use Rattle.fl_reports.proofs.SidesPlaces.{there_is, moved_to}
 use Rattle.fl_reports.proofs.StartNumbers.{core_before, NamesApart, apart_moved}

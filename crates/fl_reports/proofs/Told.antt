@@ -25,9 +25,10 @@ use Rattle.fl_honest.specs.Cores.{OneCore}
 use Rattle.fl_honest.specs.Ends.{HasDesk}
 use Rattle.fl_honest.specs.Told as desks
 use Rattle.fl_honest.specs.Told.{IsOf, AreTold}
-use Rattle.fl_threads.specs.Begins.{TheStation, TheCommon, IsStation, AreStations}
-use Rattle.fl_threads.specs.Tells as told
-use Rattle.fl_threads.specs.Tells.{TheOutcome, desk_left, both_at, by_binding, Tells}
+use Rattle.fl_stations.specs.Tells as told
+use Rattle.fl_stations.specs.Runs.{TheOutcome, TheStation}
+use Rattle.fl_stations.specs.Tells.{desk_left, both_at, by_binding, Tells}
+use Rattle.fl_threads.specs.Begins.{TheCommon, IsStation, AreStations}
 use Rattle.fl_reports.specs.Runs.{AreRuns}
 use Rattle.fl_reports.proofs.Runs.{is_past, RunAt, run_at, StationAt, station_at}
 use Rattle.fl_reports.proofs.RunsDesks.{at_slot, own_desk, has_desk}

@@ -8,8 +8,7 @@ use Rattle.fl_jobs.specs.Jobs.{Job}
 use Rattle.fl_jobs.specs.Report.{TheReport}
 use Rattle.fl_honest.specs.Cores.{OneCore}
 use Rattle.fl_endings.specs.Cores.{OneCore as EndedCore}
-use Rattle.fl_threads.specs.Begins.{TheStation}
-use Rattle.fl_threads.specs.Tells.{TheOutcome}
+use Rattle.fl_stations.specs.Runs.{TheOutcome, TheStation}
 use Rattle.fl_cores.specs.Promised.{Reports}
 use Rattle.fl_reports.specs.Cores.{cores_in}
 use Rattle.fl_reports.specs.Runs.{AreRuns}

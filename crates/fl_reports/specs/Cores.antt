@@ -7,8 +7,7 @@ use Rattle.fl_jobs.specs.Report.{TheReport}
 use Rattle.fl_system.specs.Booting.{TheConfig}
 use Rattle.fl_dockets.specs.State.{TheJoined}
 use Rattle.fl_endings.specs.Cores.{OneCore}
-use Rattle.fl_threads.specs.Begins.{TheStation}
-use Rattle.fl_threads.specs.Tells.{TheOutcome, RanTo, Each2}
+use Rattle.fl_stations.specs.Runs.{TheOutcome, Each2, TheStation, RanTo}
 use Rattle.fl_cores.specs.Promised.{Reports}
 
 -- one core, from what its thread was given to what came of it

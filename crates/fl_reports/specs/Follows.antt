@@ -10,8 +10,7 @@ use Rattle.fl_queues.specs.State.{Binding, State, core_of, binding_of, interface
 use Rattle.fl_jobs.specs.Jobs.{Job}
 use Rattle.fl_jobs.specs.Report.{TheReport}
 use Rattle.fl_system.specs.Booting.{TheConfig}
-use Rattle.fl_threads.specs.Begins.{TheStation}
-use Rattle.fl_threads.specs.Tells.{TheOutcome, shared_ways}
+use Rattle.fl_stations.specs.Runs.{TheOutcome, TheStation, shared_ways}
 use Rattle.fl_cores.specs.Promised.{Reports}
 use Rattle.fl_cuts.specs.Ends.{EndCut}
 use Rattle.fl_cuts.specs.Cut.{Cut, ShowsCut}

@@ -16,7 +16,7 @@ use Rattle.fl_jobs.specs.Jobs.{Job, replies, own_calls, handed_in, reply_to}
 use Rattle.fl_jobs.specs.Report.{TheReport, Ending, complete, turns_out}
 use Rattle.fl_system.specs.Booting.{TheConfig}
 use Rattle.fl_cores.specs.Promised.{cores_by, config_in, Reports}
-use Rattle.fl_threads.specs.Tells.{both_at}
+use Rattle.fl_stations.specs.Tells.{both_at}
 use Rattle.fl_alone.specs.Calls.{Post, Solo, post_at, Span, turned, is_finished, counted}
 
 -- ---- with what the core begins

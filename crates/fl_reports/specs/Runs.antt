@@ -3,8 +3,7 @@ use Rattle.std.specs.Prelude.{◌≡◌, List, [], ◌∷◌}
 use Rattle.fl_running.specs.declared.job.Job.{Job as CoreJob}
 use Rattle.fl_logs.specs.Logs.{Goes}
 use Rattle.fl_honest.specs.Cores.{shared_ways, OneCore}
-use Rattle.fl_threads.specs.Begins.{TheStation}
-use Rattle.fl_threads.specs.Tells.{TheOutcome}
+use Rattle.fl_stations.specs.Runs.{TheOutcome, TheStation}
 
 -- a core's run, from what it was given to what came of it
 pub record IsRun (jobs : List CoreJob) (s : TheStation) (o : TheOutcome) (c : OneCore) : Type 0 where

@@ -12,16 +12,18 @@ use Rattle.fl_ring.specs.SharedSides.{TheSide}
 use Rattle.fl_jobs.specs.Report.{TheReport, Ending, complete, turns_out}
 use Rattle.fl_dockets.specs.State.{TheJoined}
 use Rattle.fl_worlds.specs.declared.parts.Parts.{Parts}
-use Rattle.fl_threads.specs.declared.wiring.Station.{Station}
-use Rattle.fl_threads.specs.declared.fork.Done.{Done}
+use Rattle.fl_stations.specs.declared.station.Station.{Station}
+use Rattle.fl_stations.specs.declared.station.Done.{Done}
 use Rattle.fl_deal.specs.Dealt.{AreDealt}
 use Rattle.fl_deal.specs.Settled.{Pair, sides_of, Each, IsNear, HoldRings}
-use Rattle.fl_threads.specs.Shares.{Shares, sides_left}
+use Rattle.fl_stations.specs.Runs.{sides_left, TheOutcome, Each2, seats_left, TheStation, RanTo}
+use Rattle.fl_stations.specs.Tells.{Tells, turns_in, left_off, is_unfinished}
+use Rattle.fl_stations.specs.Stations.{outcome_of, AllReady, StationRan, station_of}
+use Rattle.fl_threads.specs.Shares.{Shares}
 use Rattle.fl_threads.specs.Dealing.{Dealing, Wires, RingsHold}
-use Rattle.fl_threads.specs.Stations.{AllReady, StationRan, station_of, outcome_of}
 use Rattle.fl_threads.proofs.Each.{each_ran, begin_sound, left_sound, as_many as as_many_stations}
-use Rattle.fl_threads.specs.Begins.{TheStation, Places, common_in}
-use Rattle.fl_threads.specs.Tells.{TheOutcome, RanTo, Each2, seats_left, HeardAsTold, Tells, turns_in, left_off, is_unfinished}
+use Rattle.fl_threads.specs.Begins.{Places, common_in}
+use Rattle.fl_threads.specs.Heard.{HeardAsTold}
 use Rattle.fl_threads.specs.Ran.{Keeps, CoresRan}
 
 -- ---- one core

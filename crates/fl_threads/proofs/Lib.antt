@@ -1,14 +1,11 @@
-pub mod Boards
+pub mod Dockets
 pub mod Each
 pub mod Faults
 pub mod Together
 pub mod Handing
 pub mod Keeping
 pub mod Lists
-pub mod Moving
 pub mod Owning
 pub mod Ringing
 pub mod Seats
-pub mod Sending
-pub mod Taking
 pub mod Wording

@@ -18,9 +18,8 @@ use Rattle.fl_logs.specs.Logs.{Goes, TurnsAreLogged, SidesGo, LogsLook, CountedA
 use Rattle.fl_logs.proofs.Aside.{rings_aside}
 use Rattle.fl_deal.specs.Dealt.{AreDealt}
 use Rattle.fl_deal.specs.Settled.{WentOn, AllWentOn, HandsWentOn, Pair, sides_of, Each, IsRing, DealtGoOn, RingsStay}
-use Rattle.fl_threads.specs.Begins.{TheStation}
-use Rattle.fl_threads.specs.Tells.{TheOutcome, shared_ways, RanTo, Each2}
-use Rattle.fl_threads.specs.Shares.{AreNewRings, sides_given, sides_left}
+use Rattle.fl_stations.specs.Runs.{TheOutcome, Each2, sides_left, TheStation, shared_ways, RanTo}
+use Rattle.fl_threads.specs.Shares.{AreNewRings, sides_given}
 use Rattle.fl_threads.specs.Dealing.{RingsHold}
 
 -- ---- a core's whole run is a log

@@ -10,14 +10,16 @@ use Rattle.fl_running.specs.declared.job.Job.{Job}
 use Rattle.fl_running.specs.declared.run.End.{End}
 use Rattle.fl_running.specs.declared.run.End.TheVariants.{Finished, Unfinished, Told}
 use Rattle.fl_running.specs.Ran.{TellsEnd}
-use Rattle.fl_threads.specs.declared.wiring.Station.{Station}
-use Rattle.fl_threads.specs.declared.fork.Done.{Done}
+use Rattle.fl_stations.specs.declared.station.Station.{Station}
+use Rattle.fl_stations.specs.declared.station.Done.{Done}
 use Rattle.fl_dockets.specs.State.{TheJoined}
 use Rattle.fl_worlds.specs.declared.parts.Parts.{Parts}
-use Rattle.fl_threads.specs.Begins.{TheStation, common_in}
+use Rattle.fl_stations.specs.Runs.{TheOutcome, Each2, seats_left, TheStation, RanTo}
+use Rattle.fl_stations.specs.Stations.{outcome_of, StationRan, station_of}
+use Rattle.fl_threads.specs.Begins.{common_in}
 use Rattle.fl_threads.specs.Dealing.{Wires}
-use Rattle.fl_threads.specs.Tells.{TheOutcome, RanTo, Each2, seats_left, told_by, heard_by, HeardAsTold}
-use Rattle.fl_threads.specs.Stations.{StationRan, station_of, outcome_of, seats_given, AreSeats, all_in, IsRest, left_view}
+use Rattle.fl_threads.specs.Heard.{told_by, heard_by, HeardAsTold}
+use Rattle.fl_threads.specs.Stations.{seats_given, AreSeats, all_in, IsRest, left_view}
 use Rattle.fl_threads.proofs.Each.{as_many}
 
 -- ---- all in one

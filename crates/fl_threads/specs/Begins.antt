@@ -1,31 +1,22 @@
 -- With what each core of a run begins: what a set-up made, and the jobs joined to it.
-use Rattle.std.specs.Prelude.{ℕ, ◌≡◌, ◌==◌, suc, Bool, false, if◌then◌else◌, List, [], ◌∷◌, ◌++◌, map, length, slice_get, Option, Some, None}
+use Rattle.std.specs.Prelude.{ℕ, ◌≡◌, ◌==◌, suc, Bool, false, if◌then◌else◌, List, [], ◌∷◌, ◌++◌, map, length, Option, Some, None}
 use Rattle.std.specs.List.{flat_map, range_with_len}
 use Rattle.fl_base.specs.declared.identity.EndId.{EndId}
 use Rattle.fl_compile.specs.Programs.{program_of}
-use Rattle.fl_ring.specs.SharedSides.{TheSide}
 use Rattle.fl_queues.specs.Given.{given}
 use Rattle.fl_tally.specs.declared.board.View.{View}
 use Rattle.fl_node.specs.View.{TheCore, client_of, server_of}
 use Rattle.fl_node.specs.Numbers.{renumbered}
 use Rattle.fl_node.specs.Hearing.{Offers}
 use Rattle.fl_worlds.specs.declared.parts.Parts.{Parts}
-use Rattle.fl_running.specs.declared.plan.Plan.{Plan}
 use Rattle.fl_running.specs.declared.word.Word.{Word}
 use Rattle.fl_running.specs.declared.word.Word.TheVariants.{Silent, Tells, Hears}
 use Rattle.fl_running.specs.Desks.{TheDesk}
-use Rattle.fl_running.specs.Run.{TheRun}
-use Rattle.fl_running.specs.Words.{Stock}
 use Rattle.fl_dockets.specs.declared.docket.Bound.{Bound}
 use Rattle.fl_dockets.specs.Dockets.{TheDocket, docket_at}
-use Rattle.fl_dockets.specs.Joined.{core_of}
 use Rattle.fl_dockets.specs.State.{TheJoined}
-
--- a core as its thread is given it
-pub record TheStation : Type 0 where
-  pub run : TheRun TheSide
-  pub plan : Plan
-  pub ticket : Stock
+use Rattle.fl_stations.specs.Runs.{TheStation}
+use Rattle.fl_stations.specs.Tells.{core_at}
 
 -- ---- ends, and what is known at the start at each of them
 
@@ -64,10 +55,7 @@ pub record IsAlone (clients : List ℕ) (core : ℕ) (v : View) : Type 0 where
 
 -- ---- desks
 
--- the core of an end
-abbrev pub core_at : List Bound → EndId → Option ℕ
-core_at bindings e = given (slice_get bindings e.binding) None λ b. Some (core_of e.side b)
-
+-- whether an end is this core's
 abbrev pub owns : ℕ → List Bound → EndId → Bool
 owns core bindings e = given (core_at bindings e) false λ c. c == core
 

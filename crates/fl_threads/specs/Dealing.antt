@@ -13,9 +13,9 @@ use Rattle.fl_dockets.specs.State.{TheJoined}
 use Rattle.fl_deal.specs.declared.deal.Dealt.{Dealt}
 use Rattle.fl_deal.specs.Dealt.{Holds, AreDealt}
 use Rattle.fl_deal.specs.Settled.{Pair, sides_of, HoldRings}
-use Rattle.fl_threads.specs.Begins.{TheStation, Places, common_in, AreStations}
-use Rattle.fl_threads.specs.Shares.{NamesSide, NamesQueue, AreOwners, AreShared, AreNewRings, sides_given, queues_given, sides_left}
-use Rattle.fl_threads.specs.Tells.{TheOutcome, RanTo, Each2}
+use Rattle.fl_stations.specs.Runs.{sides_left, TheOutcome, Each2, TheStation, RanTo}
+use Rattle.fl_threads.specs.Begins.{Places, common_in, AreStations}
+use Rattle.fl_threads.specs.Shares.{NamesSide, NamesQueue, AreOwners, AreShared, AreNewRings, sides_given, queues_given}
 
 -- ---- what is named
 

@@ -5,8 +5,8 @@ use Rattle.fl_worlds.specs.declared.parts.Parts.{Parts}
 use Rattle.fl_dockets.specs.Whole.{IsFault}
 use Rattle.fl_dockets.specs.declared.fault.JobFault.{JobFault}
 use Rattle.fl_dockets.specs.declared.fault.JobFault.TheVariants as job
-use Rattle.fl_threads.specs.declared.fault.Stop.{Stop}
-use Rattle.fl_threads.specs.declared.fault.Stop.TheVariants as stop
+use Rattle.fl_stations.specs.declared.stop.Stop.{Stop}
+use Rattle.fl_stations.specs.declared.stop.Stop.TheVariants as stop
 use Rattle.fl_threads.specs.declared.fault.RunFault.{RunFault}
 use Rattle.fl_threads.specs.declared.fault.RunFault.TheVariants.{Refused, Memory, Thread}
 

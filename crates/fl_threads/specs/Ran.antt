@@ -8,8 +8,10 @@ use Rattle.fl_dockets.specs.Rules.{RulesOf}
 use Rattle.fl_dockets.specs.State.{TheJoined, AreJoined}
 use Rattle.fl_dockets.specs.Whole.{AreBound, AreDue, IsBeside}
 use Rattle.fl_dockets.specs.Wished.{AreWished}
-use Rattle.fl_threads.specs.Begins.{TheStation, Places, common_in, AreStations}
-use Rattle.fl_threads.specs.Tells.{TheOutcome, RanTo, Each2, seats_left, HeardAsTold, Tells}
+use Rattle.fl_stations.specs.Runs.{TheOutcome, Each2, seats_left, TheStation, RanTo}
+use Rattle.fl_stations.specs.Tells.{Tells}
+use Rattle.fl_threads.specs.Begins.{Places, common_in, AreStations}
+use Rattle.fl_threads.specs.Heard.{HeardAsTold}
 use Rattle.fl_threads.specs.Shares.{Shares, AreSound}
 
 -- what a report says of turns

@@ -7,15 +7,12 @@ use Rattle.fl_ring.specs.SharedSides.{TheSide}
 use Rattle.fl_node.specs.declared.wire.Wire.TheVariants.{Queues, Ring}
 use Rattle.fl_node.specs.View.{TheCore, side_of_link}
 use Rattle.fl_node.specs.Sound.{IsCore}
-use Rattle.fl_hop.specs.Joined.{Sound as IsTable}
-use Rattle.fl_core.specs.View.{TheSeat}
-use Rattle.fl_endpoint.specs.Accounts.{Sound as IsEnd}
 use Rattle.fl_worlds.specs.Picture.{wire_of}
 use Rattle.fl_worlds.specs.declared.parts.Parts.{Parts}
 use Rattle.fl_deal.specs.Dealt.{AreDealt, AreAt, AreApart, AreCounted, AreNew}
 use Rattle.fl_deal.specs.Settled.{Pair, sides_of, Each, IsNear}
-use Rattle.fl_threads.specs.Begins.{TheStation, Places}
-use Rattle.fl_threads.specs.Tells.{TheOutcome}
+use Rattle.fl_stations.specs.Runs.{TheStation, TheOutcome, IsLeftSound, sides_left}
+use Rattle.fl_threads.specs.Begins.{Places}
 
 -- ---- which sides of rings and which queues a core names
 
@@ -52,12 +49,9 @@ AreNewRings [] [] = Unit {0}
 AreNewRings (r ∷ rings) (p ∷ pairs) = AreNew r.size p.one p.two × AreNewRings rings pairs
 AreNewRings rings pairs = ⊥
 
--- by core, the sides that it has: as its run began, and in the end
+-- by core, the sides that it has as its run begins
 abbrev pub sides_given : List TheStation → List (List TheSide)
 sides_given stations = map (λ (s : TheStation). s.run.rings) stations
-
-abbrev pub sides_left : List TheOutcome → List (List TheSide)
-sides_left outcomes = map (λ (o : TheOutcome). o.run.rings) outcomes
 
 -- and the queues that it was given
 abbrev pub queues_given : List TheStation → List (List TheQueue)
@@ -78,11 +72,6 @@ pub record Shares (p : Parts) (at : Places) (stations : List TheStation) (outcom
   pub near : (after : List Pair) → AreDealt side_owners (sides_of after) (sides_left outcomes) → Each IsNear after
 
 -- ---- what cores tell of themselves
-
--- in the end each of its ends is sound, and so is its table of circuits
-pub record IsLeftSound (o : TheOutcome) : Type 0 where
-  pub ends : (place : ℕ) (seat : TheSeat) → slice_get o.run.core.board.seats place ≡ Some seat → IsEnd seat.end
-  pub table : IsTable o.run.core.monitor.circuits
 
 -- as the runs begin, and in the end
 pub record AreSound (stations : List TheStation) (outcomes : List TheOutcome) : Type 0 where

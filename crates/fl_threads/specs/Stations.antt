@@ -1,5 +1,5 @@
--- What a core is given for its thread, and what comes of it, as the code has them.
-use Rattle.std.specs.Prelude.{ℕ, ◌≡◌, ◌+◌, ◌-◌, ◌<◌, Bool, List, [], ◌∷◌, ◌++◌, map, length}
+-- How cores are made stations, each with a seat cut off everybody's, as the code has them.
+use Rattle.std.specs.Prelude.{ℕ, ◌≡◌, ◌+◌, ◌-◌, ◌<◌, List, [], ◌∷◌, ◌++◌, map, length}
 use Rattle.std.specs.List.{range_with_len}
 use Rattle.fl_tally.specs.declared.board.View.{View}
 use Rattle.fl_tally.specs.Tally.{opening_view, both, core_alone, without_core}
@@ -7,24 +7,12 @@ use Rattle.fl_tally.specs.Seats.{TheSeat, knowing}
 use Rattle.fl_link.specs.Queue.{TheQueue}
 use Rattle.fl_ring.specs.SharedSides.{TheSide}
 use Rattle.fl_node.specs.View.{TheCore}
-use Rattle.fl_node.specs.Sound.{IsCore}
-use Rattle.fl_running.specs.declared.job.Job.{Job}
-use Rattle.fl_running.specs.Run.{run_of}
-use Rattle.fl_running.specs.Words.{AreWords}
-use Rattle.fl_running.specs.Ran.{ticket_of}
-use Rattle.fl_threads.specs.declared.wiring.Station.{Station}
-use Rattle.fl_threads.specs.declared.fork.Done.{Done}
 use Rattle.fl_dockets.specs.State.{joined_of}
+use Rattle.fl_stations.specs.declared.station.Station.{Station}
+use Rattle.fl_stations.specs.Runs.{TheStation}
+use Rattle.fl_stations.specs.Stations.{IsReady, station_of}
 use Rattle.fl_threads.specs.declared.wiring.Common.{Common}
-use Rattle.fl_threads.specs.Begins.{TheStation, TheCommon, IsStation}
-use Rattle.fl_threads.specs.Shares.{IsLeftSound}
-use Rattle.fl_threads.specs.Tells.{TheOutcome, RanTo, left_off, was_told}
-
-abbrev pub station_of : Station → TheStation
-station_of s = record { run = run_of s.running.value; plan = s.plan; ticket = ticket_of s.ticket }
-
-abbrev pub outcome_of : Done → TheOutcome
-outcome_of d = record { run = run_of d.station.running.value; ticket = ticket_of d.station.ticket; part = d.part }
+use Rattle.fl_threads.specs.Begins.{TheCommon, IsStation}
 
 abbrev pub common_of : Common → TheCommon
 common_of c = record {
@@ -34,27 +22,7 @@ common_of c = record {
   places = record { sides = c.sides.now; queues = c.queues.now };
 }
 
--- how it ended
-abbrev pub has_left_off : Done → Bool
-has_left_off d = left_off (outcome_of d)
-
-abbrev pub has_been_told : Done → Bool
-has_been_told d = was_told (outcome_of d)
-
 -- ---- one core
-
--- its run may begin: its core is sound, each end of its plan has a word, which its seat may use, and the seat may tell of its end, or of a stop
-pub record IsReady (s : Station) : Type 0 where
-  pub core : IsCore s.running.value.core
-  pub as_many : length s.ticket.words.items ≡ length s.plan.ends.items
-  pub may : AreWords s.ticket.words.items s.ticket.seat.knows
-  pub finishes : s.ticket.seat.knows.finished < length s.ticket.seat.knows.cores
-  pub stops : s.ticket.seat.knows.stopped < s.ticket.seat.knows.seats
-
--- it ran, by its plan, and was left sound
-pub record StationRan (jobs : List Job) (limit : ℕ) (s : Station) (d : Done) : Type 0 where
-  pub ran : RanTo jobs limit (station_of s) (outcome_of d)
-  pub left : IsLeftSound (outcome_of d)
 
 -- a core, and its share of the sides and queues
 pub record CoreShare : Type 0 where
@@ -83,10 +51,6 @@ pub record AddsStation (c : TheCommon) (x : CoreShare) (before after : Stationed
   pub left : after.own ≡ knowing before.own (without_core before.own.knows)
   pub rings_are : station.running.value.rings.items ≡ x.rings
   pub queues_are : station.running.value.queues.items ≡ x.queues
-
-abbrev pub AllReady : List Station → Type 0
-AllReady [] = Unit {0}
-AllReady (s ∷ stations) = IsReady s × AllReady stations
 
 -- ---- seats
 

@@ -5,7 +5,7 @@ ghost use Rattle.fl_threads.specs.declared.fault.RunFault.TheVariants.{Memory as
 ghost use Rattle.fl_threads.specs.Faults.{by_job, by_stop, number_of};
 
 use fl_dockets::JobFault;
-use std::alloc::{AllocError, AllocFailed};
+use fl_stations::Stop;
 use thiserror::Error;
 
 /// Why there is no report of a run of parts. Every thread was joined then.
@@ -32,23 +32,6 @@ impl RunFault {
             RunFault::Memory => 99,
             RunFault::Thread => 3,
         }
-    }
-}
-
-/// Why a run ends without a report, once its jobs are joined.
-#[derive(Clone, Copy, Debug, Error)]
-pub(crate) enum Stop {
-    /// Out of memory (E99).
-    #[error("out of memory")]
-    Memory,
-    /// A thread doesn't start.
-    #[error("a thread doesn't start")]
-    Thread,
-}
-
-impl From<AllocError> for Stop {
-    fn from(_e: AllocError) -> Stop {
-        Stop::Memory
     }
 }
 

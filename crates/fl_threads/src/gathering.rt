@@ -3,12 +3,13 @@
 ghost use Rattle.std.specs.Prelude.{ℕ, ◌≡◌, ◌<◌, map, length, IfOk, OnOk};
 ghost use Rattle.fl_tally.specs.Tally.{Agrees, number_of};
 ghost use Rattle.fl_tally.specs.Seats.{knowing};
-ghost use Rattle.fl_threads.specs.Shares.{sides_left};
-ghost use Rattle.fl_threads.specs.Tells.{seats_left, HeardAsTold};
-ghost use Rattle.fl_threads.specs.Stations.{outcome_of, AreSeats, all_in, IsRest};
+ghost use Rattle.fl_stations.specs.Runs.{sides_left, seats_left};
+ghost use Rattle.fl_stations.specs.Stations.{outcome_of};
+ghost use Rattle.fl_threads.specs.Heard.{HeardAsTold};
+ghost use Rattle.fl_threads.specs.Stations.{AreSeats, all_in, IsRest};
 
-use crate::fork::Done;
 use fl_ring::SharedSide;
+use fl_stations::Done;
 use fl_tally::EndSeat;
 use std::alloc::{AllocError, Global};
 

@@ -1,4 +1,5 @@
-//! A world's parts run on threads: each core runs its jobs on a thread of its own, and what came of that is told.
+//! A world's parts run on threads: each core runs its jobs on a thread of its own, and what came of that is told. What
+//! a set-up made is dealt out here, and put together again; the threads and the report are those of `fl_stations`.
 //!
 //! Contract for the layer above: [`run_parts`], whose report tells of a run of just these cores, in any schedule (`specs/Ran.antt`). It needs a
 //! world's parts, and not the world.
@@ -6,22 +7,16 @@
 //! - `run.rt`: the whole run
 //! - `sharing.rt`: whose each side of a ring and each queue is, and all of them dealt out
 //! - `wiring.rt`: each core is given what its thread needs
-//! - `fork.rt`: a thread for each core
 //! - `gathering.rt`: the cores' seats put in one
 //! - `settling.rt`: the rings put together again
-//! - `crossing.rt`: what may go to a thread
-//! - `telling.rt`: the report
 //! - `fault.rt`: why there is no report
 #![tactic(auto)]
 
-mod crossing;
 mod fault;
-mod fork;
 mod gathering;
 mod run;
 mod settling;
 mod sharing;
-mod telling;
 mod wiring;
 
 pub use fault::RunFault;

@@ -8,21 +8,22 @@ ghost use Rattle.fl_jobs.specs.Reports.{report_of};
 ghost use Rattle.fl_jobs.specs.Views.{job_of};
 ghost use Rattle.fl_dockets.specs.Joined.{AreBindings, HasDockets};
 ghost use Rattle.fl_dockets.specs.State.{joined_of};
+ghost use Rattle.fl_stations.specs.Runs.{sides_left, seats_left};
+ghost use Rattle.fl_stations.specs.Tells.{Tells};
+ghost use Rattle.fl_stations.specs.Stations.{outcome_of};
+ghost use Rattle.fl_stations.specs.Taking.{HavePlaces};
 ghost use Rattle.fl_threads.specs.Faults.{IsRunFault};
-ghost use Rattle.fl_threads.specs.Shares.{sides_left};
-ghost use Rattle.fl_threads.specs.Tells.{seats_left, HeardAsTold, Tells};
-ghost use Rattle.fl_threads.specs.Stations.{outcome_of, IsRest};
+ghost use Rattle.fl_threads.specs.Heard.{HeardAsTold};
+ghost use Rattle.fl_threads.specs.Stations.{IsRest};
 ghost use Rattle.fl_threads.specs.Ran.{Keeps, CoresRan, RanFrom};
-ghost use Rattle.fl_threads.specs.Taking.{HavePlaces};
 
-use crate::fault::{RunFault, Stop};
-use crate::fork::{Done, run_each};
+use crate::fault::RunFault;
 use crate::settling::{put_together, rings_hold};
-use crate::telling::tell;
 use crate::wiring::wire;
 use fl_dockets::{Joined, join_jobs};
 use fl_jobs::{Job, Report};
 use fl_running::Gate;
+use fl_stations::{Done, Stop, run_each, tell};
 use fl_tally::{EndSeat, Plan};
 use fl_worlds::Parts;
 use std::alloc::{AllocError, Global};
@@ -108,7 +109,7 @@ fn run_joined<R: Threads + Wait + Sync, G: Gate + Sync>(
 ///
 /// # Errors
 /// [`RunFault`]: a job is refused, out of memory, or a thread doesn't start. Every thread was joined then.
-#[tactic(auto, using(crate::proofs::Keeping::keeps_ran, crate::proofs::Moving::have_places, crate::proofs::Faults::no_report))]
+#[tactic(auto, using(crate::proofs::Keeping::keeps_ran, crate::proofs::Dockets::have_places, crate::proofs::Faults::no_report))]
 pub fn run_parts<R: Threads + Wait + Sync, G: Gate + Sync>(
     rt: &R,
     alloc: Global,

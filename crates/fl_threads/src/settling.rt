@@ -3,16 +3,17 @@
 ghost use Rattle.std.specs.Prelude.{List, map, OnOk};
 ghost use Rattle.fl_deal.specs.Dealt.{AreDealt};
 ghost use Rattle.fl_deal.specs.Settled.{Pair, sides_of, Each, IsNear, HoldRings};
-ghost use Rattle.fl_threads.specs.Shares.{sides_left};
-ghost use Rattle.fl_threads.specs.Tells.{seats_left, HeardAsTold};
-ghost use Rattle.fl_threads.specs.Stations.{outcome_of, IsRest};
+ghost use Rattle.fl_stations.specs.Runs.{sides_left, seats_left};
+ghost use Rattle.fl_stations.specs.Stations.{outcome_of};
+ghost use Rattle.fl_threads.specs.Heard.{HeardAsTold};
+ghost use Rattle.fl_threads.specs.Stations.{IsRest};
 ghost use Rattle.fl_threads.specs.Dealing.{RingsHold};
 
-use crate::fork::Done;
 use crate::gathering::gather;
 use fl_deal::{dealt_go_on, settle};
 use fl_logs::{counted_are_turns, sides_go, turns_are_logged};
 use fl_ring::SharedSide;
+use fl_stations::Done;
 use fl_tally::EndSeat;
 use std::alloc::{AllocError, Global};
 

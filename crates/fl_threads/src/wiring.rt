@@ -8,11 +8,12 @@ ghost use Rattle.fl_running.specs.Words.{AreWords};
 ghost use Rattle.fl_running.specs.declared.word.Word.TheVariants.{Tells, Hears};
 ghost use Rattle.fl_dockets.specs.Joined.{AreBindings, HasDockets};
 ghost use Rattle.fl_dockets.specs.State.{joined_of};
-ghost use Rattle.fl_threads.specs.Begins.{core_at, owns, ends_at, ends_from, word_by, words_at, words_of, desk_for, desks_of};
-ghost use Rattle.fl_threads.specs.Begins.{IsAlone, IsStation, AreStations};
+ghost use Rattle.fl_stations.specs.Tells.{core_at};
+ghost use Rattle.fl_stations.specs.Stations.{IsReady, AllReady, station_of};
+ghost use Rattle.fl_threads.specs.Begins.{owns, ends_at, ends_from, word_by, words_at, words_of, desk_for, desks_of, IsAlone, IsStation, AreStations};
 ghost use Rattle.fl_threads.specs.Shares.{sides_given, queues_given};
 ghost use Rattle.fl_threads.specs.Dealing.{SharesOut, Wires};
-ghost use Rattle.fl_threads.specs.Stations.{IsReady, AllReady, core_share, stationed, AddsStation, station_of, common_of, seats_given, AreSeats, left_view};
+ghost use Rattle.fl_threads.specs.Stations.{core_share, stationed, AddsStation, common_of, seats_given, AreSeats, left_view};
 
 use crate::sharing::{Owners, deal_queues, deal_sides};
 use fl_base::{EndId, LinkId, Side};
@@ -25,28 +26,10 @@ use fl_nameserv::Names;
 use fl_node::Core;
 use fl_ring::{OneDuo, SharedSide};
 use fl_running::{Desk, Plan, Running, Ticket, Word};
+use fl_stations::{Station, core_at};
 use fl_tally::EndSeat;
 use fl_worlds::Parts;
 use std::alloc::{AllocError, Global};
-
-/// A core with all that its thread needs.
-#[derive(Drop)]
-pub(crate) struct Station {
-    // in a box: it is large, and a station goes from hand to hand
-    pub(crate) running: Box<Running<SharedSide>>,
-    pub(crate) plan: Plan,
-    pub(crate) ticket: Ticket,
-}
-
-/// The core of an end.
-pub(crate) fn core_at(bindings: &[Bound], end: EndId) -> Option<usize>
-    ensures core { result ≡ core_at bindings.now end }
-{
-    match bindings.get(end.binding) {
-        None => None,
-        Some(bound) => Some(bound.core(end.side)),
-    }
-}
 
 fn owns(core: usize, bindings: &[Bound], end: EndId) -> bool
     ensures owns { result ≡ owns core bindings.now end }

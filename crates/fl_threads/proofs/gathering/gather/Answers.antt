@@ -1,6 +1,6 @@
 use Rattle.std.proofs.Common.{map}
-use Rattle.fl_threads.specs.Tells.{seats_left}
-use Rattle.fl_threads.specs.Stations.{outcome_of}
+use Rattle.fl_stations.specs.Runs.{seats_left}
+use Rattle.fl_stations.specs.Stations.{outcome_of}
 use Rattle.fl_threads.proofs.Together.{rest_all, rest_heard}
 use Rattle.fl_threads.proofs.gathering.gather.Goals as goal
 

@@ -1,8 +1,7 @@
 use Rattle.std.proofs.Common.{◌≡◌, ◌++◌, map}
 use Rattle.std.specs.Vec.Iter.{into_iter_items}
-use Rattle.fl_threads.specs.Shares.{sides_left}
-use Rattle.fl_threads.specs.Tells.{seats_left}
-use Rattle.fl_threads.specs.Stations.{outcome_of}
+use Rattle.fl_stations.specs.Runs.{sides_left, seats_left}
+use Rattle.fl_stations.specs.Stations.{outcome_of}
 use Rattle.fl_threads.proofs.Together.{Joining}
 use Rattle.fl_threads.proofs.gathering.take_apart.Given as goal
 

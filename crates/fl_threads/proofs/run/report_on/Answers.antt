@@ -3,8 +3,10 @@ use Rattle.fl_tally.specs.Seats.{TheSeat}
 use Rattle.fl_ring.specs.SharedSides.{TheSide}
 use Rattle.fl_deal.specs.Dealt.{AreDealt}
 use Rattle.fl_deal.specs.Settled.{Pair, sides_of, Each, IsNear, HoldRings}
-use Rattle.fl_threads.specs.Stations.{outcome_of, IsRest}
-use Rattle.fl_threads.specs.Tells.{seats_left, HeardAsTold}
+use Rattle.fl_stations.specs.Stations.{outcome_of}
+use Rattle.fl_stations.specs.Runs.{seats_left}
+use Rattle.fl_threads.specs.Stations.{IsRest}
+use Rattle.fl_threads.specs.Heard.{HeardAsTold}
 use Rattle.fl_threads.proofs.run.report_on.Goals as goal
 
 pub put_together-requires : goal.put_together-requires

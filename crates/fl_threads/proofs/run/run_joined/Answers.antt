@@ -2,10 +2,10 @@ use Rattle.std.proofs.Common.{◌≡◌, Result, Vec, Global, List, length, subs
 use Rattle.fl_jobs.specs.Reports.{report_of}
 use Rattle.fl_running.specs.declared.job.Job.{Job}
 use Rattle.fl_dockets.specs.State.{joined_of}
-use Rattle.fl_threads.specs.declared.fault.Stop.{Stop}
-use Rattle.fl_threads.specs.declared.fork.Done.{Done}
-use Rattle.fl_threads.specs.Stations.{StationRan}
-use Rattle.fl_threads.specs.Tells.{Each2}
+use Rattle.fl_stations.specs.declared.station.Done.{Done}
+use Rattle.fl_stations.specs.Runs.{Each2}
+use Rattle.fl_stations.specs.declared.stop.Stop.{Stop}
+use Rattle.fl_stations.specs.Stations.{StationRan}
 use Rattle.fl_threads.proofs.Together.{rest_joined}
 use Rattle.fl_threads.proofs.Keeping.{still_held, cores_ran}
 use Rattle.fl_threads.proofs.run.run_joined.Goals as goal

@@ -1,7 +1,8 @@
 use Rattle.std.proofs.Common.{◌≡◌, ◌∙◌, sym, ap, subst, ℕ, length, map, arith}
 use Rattle.fl_dockets.specs.Joined.{AreBindings}
 use Rattle.fl_dockets.specs.State.{joined_of}
-use Rattle.fl_threads.specs.Stations.{station_of, left_view}
+use Rattle.fl_stations.specs.Stations.{station_of}
+use Rattle.fl_threads.specs.Stations.{left_view}
 use Rattle.fl_threads.proofs.Handing.{common_at, common_same, wires_of}
 use Rattle.fl_threads.proofs.Seats.{none_cut, all_cut}
 use Rattle.fl_threads.proofs.wiring.wire.Goals as goal

@@ -1,10 +1,12 @@
 use Rattle.std.proofs.Common.{◌≡◌, ◌<◌, ◌+◌, ℕ, List, [], ◌∷◌, ◌++◌, map, length, arith, ap, ◌∙◌, sym, refl, subst, rules}
 use Rattle.std.proofs.lemmas.List.{length-map}
 use Rattle.fl_tally.specs.Seats.{TheSeat}
-use Rattle.fl_threads.specs.declared.wiring.Station.{Station}
+use Rattle.fl_stations.specs.declared.station.Station.{Station}
+use Rattle.fl_stations.specs.Stations.{AllReady, station_of}
+use Rattle.fl_stations.proofs.Each.{ready_push}
 use Rattle.fl_threads.specs.Begins.{AreStations}
-use Rattle.fl_threads.specs.Stations.{AllReady, station_of, common_of, seats_given, AreSeats, left_view}
-use Rattle.fl_threads.proofs.Each.{as_many, ready_push, stations_from}
+use Rattle.fl_threads.specs.Stations.{common_of, seats_given, AreSeats, left_view}
+use Rattle.fl_threads.proofs.Each.{as_many, stations_from}
 use Rattle.fl_threads.proofs.Together.{seats_more}
 use Rattle.fl_threads.proofs.Seats.{left_from}
 use Rattle.fl_threads.proofs.wiring.Common.+stations.Goals as goal

@@ -1,7 +1,8 @@
 use Rattle.std.proofs.Common.{◌≡◌, ◌<◌, ◌∙◌, ℕ, length, refl, sym, subst, ap, rules}
 use Rattle.fl_tally.specs.Seats.{TheSeat}
+use Rattle.fl_stations.specs.Stations.{station_of}
 use Rattle.fl_threads.specs.Begins.{IsStation}
-use Rattle.fl_threads.specs.Stations.{station_of, common_of}
+use Rattle.fl_threads.specs.Stations.{common_of}
 use Rattle.fl_threads.proofs.Seats.{alone_from, has_next}
 use Rattle.fl_threads.proofs.wiring.Common.add_station.Goals as goal
 

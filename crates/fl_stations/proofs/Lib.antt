@@ -1,0 +1,6 @@
+pub mod Boards
+pub mod Each
+pub mod Lists
+pub mod Moving
+pub mod Sending
+pub mod Taking

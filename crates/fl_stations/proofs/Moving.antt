@@ -1,0 +1,311 @@
+-- Calls moved out of jobs.
+use Rattle.std.proofs.Common.{◌≡◌, ◌≢◌, refl, sym, ap, ◌∙◌, subst, ℕ, zero, suc, ◌+◌, ◌*◌, ◌<◌, ◌≤◌, ◌==◌, ◌&&◌, Bool, true, false, if◌then◌else◌}
+use Rattle.std.proofs.Common.{List, [], ◌∷◌, ◌++◌, map, length, take, drop, get_or, slice_get, slice_set, Option, Some, None, arith}
+use Rattle.std.specs.List.{flat_map, range_with_len}
+use Rattle.std.proofs.lemmas.List.{append_assoc}
+use Rattle.std.proofs.lemmas.Bool.Decides.{nat_tests}
+use Rattle.fl_base.specs.declared.identity.EndId.{EndId}
+use Rattle.fl_base.specs.declared.identity.Side.{Side}
+use Rattle.fl_base.specs.declared.identity.Side.TheVariants.{Client, Server}
+use Rattle.fl_value.specs.Value.{TheCall}
+use Rattle.fl_queues.specs.Given.{given}
+use Rattle.fl_queues.specs.Runs.{same_side, same_end}
+use Rattle.fl_node.specs.View.{slot_of, client_of, server_of}
+use Rattle.fl_running.specs.declared.job.Job.{Job}
+use Rattle.fl_running.specs.Desks.{TheDesk}
+use Rattle.fl_running.specs.Jobs.{calls_of_job, calls_of_jobs}
+use Rattle.fl_jobs.specs.declared.report.BothEnds.{BothEnds as RustBoth}
+use Rattle.fl_jobs.specs.Report.{BothEnds}
+use Rattle.fl_jobs.specs.Reports.{both_of}
+use Rattle.fl_dockets.specs.declared.docket.Docket.{Docket}
+use Rattle.fl_dockets.specs.Dockets.{TheDocket, docket_of, no_docket, docket_at, end_of, places_of, reply_by}
+use Rattle.fl_dockets.specs.State.{TheJoined}
+use Rattle.fl_stations.specs.Runs.{TheOutcome}
+use Rattle.fl_stations.specs.Tells.{both_at, desk_left, handled_by, made_by, made_at}
+use Rattle.fl_stations.specs.Taking.{AreOnce, KeepsOthers, KeepsJobs, HavePlaces, with_jobs}
+use Rattle.fl_stations.proofs.Lists.{calls_more, both_more}
+
+-- ---- one job
+
+-- where one changes its end stays
+pub ends_set : (jobs : List Job) (n : ℕ) (job job2 : Job) → job ≡ get_or jobs n job → end_of job2 ≡ end_of job
+    → map end_of (slice_set jobs n job2) ≡ map end_of jobs
+ends_set [] n job job2 is same = refl
+ends_set (j ∷ jobs) zero job job2 is same = ap (λ (e : EndId). e ∷ map end_of jobs) (same ∙ ap end_of is)
+ends_set (j ∷ jobs) (suc n) job job2 is same = ap (λ (es : List EndId). end_of j ∷ es) (ends_set jobs n job job2 is same)
+
+-- and so do all others
+pub others_set : (jobs : List Job) (k : ℕ) (job : Job) (n : ℕ) → n ≢ k → slice_get (slice_set jobs k job) n ≡ slice_get jobs n
+others_set [] k job n other = refl
+others_set (j ∷ jobs) zero job zero other = absurd (other refl)
+others_set (j ∷ jobs) zero job (suc n) other = refl
+others_set (j ∷ jobs) (suc k) job zero other = refl
+others_set (j ∷ jobs) (suc k) job (suc n) other = others_set jobs k job n (λ same. other (ap suc same))
+
+-- ---- jobs at places
+
+place_at : (places : List ℕ) (k p : ℕ) → k < length places → p ≡ get_or places k p → slice_get places k ≡ Some p
+place_at [] k p below is = absurd (omega (arith, below))
+place_at (q ∷ places) zero p below is = ap (λ (n : ℕ). Some n) (sym is)
+place_at (q ∷ places) (suc k) p below is = place_at places k p (omega (arith, below)) is
+
+pub keeps_none : (places : List ℕ) (jobs : List Job) → KeepsOthers places 0 jobs jobs
+keeps_none places jobs = record { ends = refl; others = λ n other. refl }
+
+-- one place more
+moved_more : (jobs now : List Job) (places : List ℕ) (k p : ℕ) (calls calls2 : List TheCall) → k < length places → p ≡ get_or places k p → AreOnce places
+    → KeepsOthers places k jobs now → calls ++ calls_of_jobs jobs (drop k places) ≡ calls_of_jobs jobs places
+    → calls2 ≡ calls ++ calls_of_job (slice_get now p) → calls2 ++ calls_of_jobs jobs (drop (k + 1) places) ≡ calls_of_jobs jobs places
+moved_more jobs now places k p calls calls2 below is once keeps so added =
+    let rest = calls_of_jobs jobs (drop (k + 1) places) in
+    let next : suc k ≡ k + 1 = omega arith in
+    let same : slice_get now p ≡ slice_get jobs p = keeps.others p (λ i less. once i k p less (place_at places k p below is)) in
+    ap (λ (cs : List TheCall). cs ++ rest) added
+    ∙ ap (λ (j : Option Job). (calls ++ calls_of_job j) ++ rest) same
+    ∙ append_assoc calls (calls_of_job (slice_get jobs p)) rest
+    ∙ ap (λ (m : ℕ). calls ++ (calls_of_job (slice_get jobs p) ++ calls_of_jobs jobs (drop m places))) (sym next)
+    ∙ ap (λ (cs : List TheCall). calls ++ cs) (sym (calls_more jobs places k p below is))
+    ∙ so
+
+keeps_more : (jobs now now2 : List Job) (places : List ℕ) (k p : ℕ) → k < length places → p ≡ get_or places k p → KeepsOthers places k jobs now
+    → map end_of now2 ≡ map end_of now → ((n : ℕ) → n ≢ p → slice_get now2 n ≡ slice_get now n) → KeepsOthers places (k + 1) jobs now2
+keeps_more jobs now now2 places k p below is keeps ends others = record {
+  ends = ends ∙ keeps.ends;
+  others = λ n other.
+      others n (λ same. other k (omega arith) (place_at places k p below is ∙ ap (λ (m : ℕ). Some m) (sym same)))
+      ∙ keeps.others n (λ i less. other i (omega (arith, less)));
+}
+
+-- the calls behind these, and what stays
+pub record MovesOne (jobs now2 : List Job) (places : List ℕ) (k : ℕ) (calls2 : List TheCall) : Type 0 where
+  pub moved : calls2 ++ calls_of_jobs jobs (drop (k + 1) places) ≡ calls_of_jobs jobs places
+  pub rest : KeepsOthers places (k + 1) jobs now2
+
+moves_at : (jobs now now2 : List Job) (places : List ℕ) (k p : ℕ) (calls calls2 : List TheCall) → k < length places → p ≡ get_or places k p → AreOnce places
+    → KeepsOthers places k jobs now → calls ++ calls_of_jobs jobs (drop k places) ≡ calls_of_jobs jobs places
+    → calls2 ≡ calls ++ calls_of_job (slice_get now p) → map end_of now2 ≡ map end_of now → ((n : ℕ) → n ≢ p → slice_get now2 n ≡ slice_get now n)
+    → MovesOne jobs now2 places k calls2
+moves_at jobs now now2 places k p calls calls2 below is once keeps so added ends others = record {
+  moved = moved_more jobs now places k p calls calls2 below is once keeps so added;
+  rest = keeps_more jobs now now2 places k p below is keeps ends others;
+}
+
+read : (places : List ℕ) (k : ℕ) → k < length places → get_or places k 0 ≡ get_or places k (get_or places k 0)
+read [] k below = absurd (omega (arith, below))
+read (q ∷ places) zero below = refl
+read (q ∷ places) (suc k) below = read places k (omega (arith, below))
+
+pub moves_one : (jobs now now2 : List Job) (places : List ℕ) (k : ℕ) (calls calls2 : List TheCall) → k < length places → AreOnce places
+    → KeepsOthers places k jobs now → calls ++ calls_of_jobs jobs (drop k places) ≡ calls_of_jobs jobs places
+    → calls2 ≡ calls ++ calls_of_job (slice_get now (get_or places k 0)) → map end_of now2 ≡ map end_of now
+    → ((n : ℕ) → n ≢ get_or places k 0 → slice_get now2 n ≡ slice_get now n) → MovesOne jobs now2 places k calls2
+moves_one jobs now now2 places k calls calls2 below once keeps so added ends others =
+    moves_at jobs now now2 places k (get_or places k 0) calls calls2 below (read places k below) once keeps so added ends others
+
+-- ---- the first of these places
+
+first_at : (count : ℕ) (places : List ℕ) (i n : ℕ) → slice_get (take count places) i ≡ Some n → slice_get places i ≡ Some n
+first_at zero places i n at = absurd (let no : None ≡ Some n = at in cc)
+first_at (suc count) [] i n at = absurd (let no : None ≡ Some n = at in cc)
+first_at (suc count) (p ∷ places) zero n at = at
+first_at (suc count) (p ∷ places) (suc i) n at = first_at count places i n at
+
+within : (places : List ℕ) (i n : ℕ) → slice_get places i ≡ Some n → i < length places
+within [] i n at = absurd (let no : None ≡ Some n = at in cc)
+within (p ∷ places) zero n at = omega arith
+within (p ∷ places) (suc i) n at = let low = within places i n at in omega (arith, low)
+
+pub once_first : (count : ℕ) (places some : List ℕ) → some ≡ take count places → AreOnce places → AreOnce some
+once_first count places some is once =
+    subst AreOnce (sym is) (λ i k n less at there. once i k n less (first_at count places k n at) (first_at count places i n there))
+
+pub keeps_first : (count : ℕ) (places some : List ℕ) (jobs now : List Job) → some ≡ take count places → KeepsOthers some (length some) jobs now
+    → KeepsOthers places (length places) jobs now
+keeps_first count places some jobs now is keeps =
+    let first : KeepsOthers (take count places) (length (take count places)) jobs now =
+    subst (λ (ps : List ℕ). KeepsOthers ps (length ps) jobs now) is keeps in
+    record {
+      ends = first.ends;
+      others = λ n other. first.others n (λ i less at.
+          let there = first_at count places i n at in other i (within places i n there) there);
+    }
+
+-- ---- the places of an end
+
+-- a place that is one of them: its job is done there
+record Here (e : EndId) (m : ℕ) (jobs : List Job) (n : ℕ) : Type 0 where
+  place : ℕ
+  job : Job
+  is : n ≡ m + place
+  at : slice_get jobs place ≡ Some job
+  same : same_end e (end_of job) ≡ true
+
+-- behind a job
+here_behind : (e : EndId) (m : ℕ) (j : Job) (jobs : List Job) (n : ℕ) → Here e (suc m) jobs n → Here e m (j ∷ jobs) n
+here_behind e m j jobs n h = record {
+  place = suc h.place;
+  job = h.job;
+  is = (let is = h.is in omega (arith, is));
+  at = h.at;
+  same = h.same;
+}
+
+here_by : (e : EndId) (m : ℕ) (j : Job) (jobs : List Job) (b : Bool) (i n : ℕ) → same_end e (end_of j) ≡ b
+    → slice_get (if b then m ∷ places_of e (suc m) jobs else places_of e (suc m) jobs) i ≡ Some n
+    → ((k : ℕ) → slice_get (places_of e (suc m) jobs) k ≡ Some n → Here e (suc m) jobs n) → Here e m (j ∷ jobs) n
+here_by e m j jobs true zero n same at rest =
+    let is : m ≡ n = cc in
+    record { place = 0; job = j; is = omega (arith, is); at = refl; same = same }
+here_by e m j jobs true (suc i) n same at rest = here_behind e m j jobs n (rest i at)
+here_by e m j jobs false i n same at rest = here_behind e m j jobs n (rest i at)
+
+here : (e : EndId) (m : ℕ) (jobs : List Job) (i n : ℕ) → slice_get (places_of e m jobs) i ≡ Some n → Here e m jobs n
+here e m [] i n at = absurd (let no : None ≡ Some n = at in cc)
+here e m (j ∷ jobs) i n at = here_by e m j jobs (same_end e (end_of j)) i n refl at (λ k there. here e (suc m) jobs k n there)
+
+-- none stands there twice
+once_by : (e : EndId) (m : ℕ) (jobs : List Job) (b : Bool) (i k n : ℕ) → i < k → AreOnce (places_of e (suc m) jobs)
+    → slice_get (if b then m ∷ places_of e (suc m) jobs else places_of e (suc m) jobs) k ≡ Some n
+    → slice_get (if b then m ∷ places_of e (suc m) jobs else places_of e (suc m) jobs) i ≢ Some n
+once_by e m jobs true i zero n less rest at there = absurd (omega (arith, less))
+once_by e m jobs true zero (suc k) n less rest at there =
+    let is : m ≡ n = cc in
+    let behind = (here e (suc m) jobs k n at).is in
+    absurd (omega (arith, is, behind))
+once_by e m jobs true (suc i) (suc k) n less rest at there = rest i k n (omega (arith, less)) at there
+once_by e m jobs false i k n less rest at there = rest i k n less at there
+
+once_of : (e : EndId) (m : ℕ) (jobs : List Job) → AreOnce (places_of e m jobs)
+once_of e m [] i k n less at there = absurd (let no : None ≡ Some n = at in cc)
+once_of e m (j ∷ jobs) i k n less at there = once_by e m jobs (same_end e (end_of j)) i k n less (once_of e (suc m) jobs) at there
+
+pub are_once : (e : EndId) (places : List ℕ) (jobs : List Job) → places ≡ places_of e 0 jobs → AreOnce places
+are_once e places jobs is = subst AreOnce (sym is) (once_of e 0 jobs)
+
+-- ---- one name of an end
+
+one_side : (a b : Side) → same_side a b ≡ true → a ≡ b
+one_side Client Client is = refl
+one_side Client Server is = absurd (cc)
+one_side Server Client is = absurd (cc)
+one_side Server Server is = refl
+
+one_end_by : (e f : EndId) (a b : Bool) → (e.binding == f.binding) ≡ a → same_side e.side f.side ≡ b → (a && b) ≡ true → slot_of e ≡ slot_of f
+one_end_by e f true true same sides is =
+    let bindings : e.binding ≡ f.binding = grind (arith, nat_tests, same) in
+    let side : e.side ≡ f.side = one_side e.side f.side sides in
+    ap (λ (n : ℕ). let x : EndId = record { binding = n; side = e.side } in slot_of x) bindings
+    ∙ ap (λ (s : Side). let x : EndId = record { binding = f.binding; side = s } in slot_of x) side
+one_end_by e f true false same sides is = absurd (cc)
+one_end_by e f false b same sides is = absurd (cc)
+
+one_slot : (e f : EndId) → same_end e f ≡ true → slot_of e ≡ slot_of f
+one_slot e f is = one_end_by e f (e.binding == f.binding) (same_side e.side f.side) refl refl is
+
+-- ---- jobs of other ends
+
+pub jobs_kept : (e : EndId) (places : List ℕ) (jobs now : List Job) → places ≡ places_of e 0 jobs → KeepsOthers places (length places) jobs now
+    → KeepsJobs (slot_of e + 1) jobs now
+jobs_kept e places jobs now is keeps = record {
+  ends = keeps.ends;
+  from = λ n job at low. keeps.others n (λ i less there.
+      let h = here e 0 jobs i n (ap (λ (ps : List ℕ). slice_get ps i) (sym is) ∙ there) in
+      let place : n ≡ h.place = (let was = h.is in omega (arith, was)) in
+      let both : Some job ≡ Some h.job = sym at ∙ ap (slice_get jobs) place ∙ h.at in
+      let one : job ≡ h.job = cc in
+      let slots : slot_of e ≡ slot_of (end_of job) = one_slot e (end_of h.job) h.same ∙ ap (λ (j : Job). slot_of (end_of j)) (sym one) in
+      absurd (omega (arith, slots, low))) ∙ at;
+}
+
+pub jobs_none : (p : ℕ) (jobs : List Job) → KeepsJobs p jobs jobs
+jobs_none p jobs = record { ends = refl; from = λ n job at low. at }
+
+pub jobs_on : (p q : ℕ) (xs ys zs : List Job) → p ≤ q → KeepsJobs p xs ys → KeepsJobs q ys zs → KeepsJobs q xs zs
+jobs_on p q xs ys zs less f g = record {
+  ends = g.ends ∙ f.ends;
+  from = λ n job at low. g.from n job (f.from n job at (omega (arith, less, low))) low;
+}
+
+-- the places of ends stay
+same_places : (e : EndId) (m : ℕ) (jobs now : List Job) → map end_of now ≡ map end_of jobs → places_of e m now ≡ places_of e m jobs
+same_places e m [] [] ends = refl
+same_places e m [] (k ∷ now) ends = absurd (cc)
+same_places e m (j ∷ jobs) [] ends = absurd (cc)
+same_places e m (j ∷ jobs) (k ∷ now) ends =
+    let one : end_of k ≡ end_of j = cc in
+    let rest : map end_of now ≡ map end_of jobs = cc in
+    ap (λ (f : EndId). if same_end e f then m ∷ places_of e (suc m) now else places_of e (suc m) now) one
+    ∙ ap (λ (ps : List ℕ). if same_end e (end_of j) then m ∷ ps else ps) (same_places e (suc m) jobs now rest)
+
+pub places_kept : (p : ℕ) (dockets : List TheDocket) (jobs now : List Job) → HavePlaces dockets jobs → KeepsJobs p jobs now → HavePlaces dockets now
+places_kept p dockets jobs now have keeps e = have e ∙ sym (same_places e 0 jobs now keeps.ends)
+
+-- ---- what an end made
+
+same_calls : (jobs now : List Job) (places : List ℕ) (count : ℕ) → ((i n : ℕ) → slice_get places i ≡ Some n → slice_get now n ≡ slice_get jobs n)
+    → calls_of_jobs now (take count places) ≡ calls_of_jobs jobs (take count places)
+same_calls jobs now places zero each = refl
+same_calls jobs now [] (suc count) each = refl
+same_calls jobs now (p ∷ places) (suc count) each =
+    ap (λ (j : Option Job). calls_of_job j ++ calls_of_jobs now (take count places)) (each 0 p refl)
+    ∙ ap (λ (cs : List TheCall). calls_of_job (slice_get jobs p) ++ cs) (same_calls jobs now places count (λ i n at. each (suc i) n at))
+
+calls_kept : (e : EndId) (p : ℕ) (places : List ℕ) (jobs now : List Job) (count : ℕ) → places ≡ places_of e 0 jobs → KeepsJobs p jobs now → p ≤ slot_of e
+    → calls_of_jobs now (take count places) ≡ calls_of_jobs jobs (take count places)
+calls_kept e p places jobs now count is keeps from = same_calls jobs now places count (λ i n at.
+    let h = here e 0 jobs i n (ap (λ (ps : List ℕ). slice_get ps i) (sym is) ∙ at) in
+    let place : n ≡ h.place = (let was = h.is in omega (arith, was)) in
+    let there : slice_get jobs n ≡ Some h.job = ap (slice_get jobs) place ∙ h.at in
+    let slots = one_slot e (end_of h.job) h.same in
+    keeps.from n h.job there (omega (arith, slots, from)) ∙ sym there)
+
+kept_by : (e : EndId) (p : ℕ) (docket : TheDocket) (jobs now : List Job) (desk : Option TheDesk) → docket.jobs ≡ places_of e 0 jobs → KeepsJobs p jobs now
+    → p ≤ slot_of e → given desk [] (made_by now docket) ≡ given desk [] (made_by jobs docket)
+kept_by e p docket jobs now None is keeps from = refl
+kept_by e p docket jobs now (Some d) is keeps from =
+    ap (λ (cs : List TheCall). cs ++ flat_map (reply_by docket.rules) (handled_by d)) (calls_kept e p docket.jobs jobs now d.done is keeps from)
+
+made_kept : (j : TheJoined) (os : List TheOutcome) (e : EndId) (p : ℕ) (jobs now : List Job) → HavePlaces j.dockets jobs → KeepsJobs p jobs now → p ≤ slot_of e
+    → made_at (with_jobs now j) os e ≡ made_at (with_jobs jobs j) os e
+made_kept j os e p jobs now have keeps from = kept_by e p (docket_at j.dockets e) jobs now (desk_left j os e) (have e) keeps from
+
+-- the docket of an end
+pub docket_there : (e : EndId) (n : ℕ) (ds : List Docket) (d : Docket) → n ≡ slot_of e → n < length ds → d ≡ get_or ds n d → docket_of d ≡ docket_at (map docket_of ds) e
+docket_there e n ds d same below is =
+    at n ds d below is ∙ ap (λ (m : ℕ). given (slice_get (map docket_of ds) m) no_docket λ x. x) same where
+      at : (n : ℕ) (ds : List Docket) (d : Docket) → n < length ds → d ≡ get_or ds n d → docket_of d ≡ (given (slice_get (map docket_of ds) n) no_docket λ x. x)
+      at n [] d below is = absurd (omega (arith, below))
+      at zero (x ∷ ds) d below is = ap docket_of is
+      at (suc n) (x ∷ ds) d below is = at n ds d (omega (arith, below)) is
+
+pub made_there : (j : TheJoined) (os : List TheOutcome) (e : EndId) (jobs : List Job) (docket : TheDocket) (desk : TheDesk) → desk_left j os e ≡ Some desk
+    → docket ≡ docket_at j.dockets e → made_by jobs docket desk ≡ made_at (with_jobs jobs j) os e
+made_there j os e jobs docket desk there is =
+    ap (λ (d : TheDocket). made_by jobs d desk) is ∙ ap (λ (o : Option TheDesk). given o [] (made_by jobs (docket_at j.dockets e))) (sym there)
+
+-- both ends of a binding, the client's first
+pub both_moved : (j : TheJoined) (os : List TheOutcome) (n : ℕ) (jobs now : List Job) (client server : List TheCall) → HavePlaces j.dockets jobs
+    → KeepsJobs (slot_of (client_of n) + 1) jobs now → client ≡ made_at (with_jobs jobs j) os (client_of n) → server ≡ made_at (with_jobs now j) os (server_of n)
+    → (let b : BothEnds = record { client = client; server = server } in b) ≡ both_at (made_at (with_jobs jobs j) os) n
+both_moved j os n jobs now client server have keeps first second =
+    ap (λ (c : List TheCall). let b : BothEnds = record { client = c; server = server } in b) first
+    ∙ ap (λ (c : List TheCall). let b : BothEnds = record { client = made_at (with_jobs jobs j) os (client_of n); server = c } in b)
+    (second ∙ made_kept j os (server_of n) (slot_of (client_of n) + 1) jobs now have keeps (omega arith))
+
+pub both_keep : (n : ℕ) (xs ys zs : List Job) → KeepsJobs (slot_of (client_of n) + 1) xs ys → KeepsJobs (slot_of (server_of n) + 1) ys zs
+    → KeepsJobs (2 * (n + 1)) xs zs
+both_keep n xs ys zs f g =
+    let same : slot_of (server_of n) + 1 ≡ 2 * (n + 1) = omega arith in
+    subst (λ (p : ℕ). KeepsJobs p xs zs) same (jobs_on (slot_of (client_of n) + 1) (slot_of (server_of n) + 1) xs ys zs (omega arith) f g)
+
+-- one binding more
+pub made_more : (j : TheJoined) (os : List TheOutcome) (n : ℕ) (jobs now : List Job) (all : List RustBoth) (b : RustBoth) → HavePlaces j.dockets jobs
+    → KeepsJobs (2 * n) jobs now → map both_of all ≡ map (both_at (made_at (with_jobs jobs j) os)) (range_with_len 0 n)
+    → both_of b ≡ both_at (made_at (with_jobs now j) os) n
+    → map both_of (all ++ b ∷ []) ≡ map (both_at (made_at (with_jobs jobs j) os)) (range_with_len 0 (n + 1))
+made_more j os n jobs now all b have keeps so is =
+    both_more (both_at (made_at (with_jobs jobs j) os)) n all b so
+    (is ∙ ap (λ (c : List TheCall). let x : BothEnds = record { client = c; server = made_at (with_jobs now j) os (server_of n) } in x)
+    (made_kept j os (client_of n) (2 * n) jobs now have keeps (omega arith))
+    ∙ ap (λ (c : List TheCall). let x : BothEnds = record { client = made_at (with_jobs jobs j) os (client_of n); server = c } in x)
+    (made_kept j os (server_of n) (2 * n) jobs now have keeps (omega arith)))

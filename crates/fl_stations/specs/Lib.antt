@@ -1,0 +1,5 @@
+-- The public promises of crates above rest on Runs and Tells; Stations and Taking have what the code's own functions say.
+pub mod Runs
+pub mod Tells
+pub mod Stations
+pub mod Taking
