@@ -17,6 +17,21 @@ const MOVED: Result<Forwarded, HopFault> = Ok(Forwarded::Onward(Outcome::Moved))
 
 const FULL: Result<Forwarded, HopFault> = Ok(Forwarded::Onward(Outcome::Full));
 
+// Whether a core's forwarding from a link comes to this.
+fn forwards(
+    circuits: &Circuits,
+    link: LinkId,
+    sides: &mut [SharedSide],
+    wanted: Result<Forwarded, HopFault>,
+) -> bool {
+    circuits.forward(link, sides) == wanted
+}
+
+// Whether a tell comes to this.
+fn tells(side: &mut SharedSide, told: Told) -> bool {
+    side.tell() == Ok(told)
+}
+
 // Takes the first fragment of a link to an arrival queue, and says whether it was moved.
 fn arrive(circuits: &Circuits, from: &mut SharedSide, queue: &mut QueueLink) -> bool {
     match circuits.look(LinkId(0), from) {
@@ -66,27 +81,27 @@ fn calls(
     sides: &mut [SharedSide; 2],
     server: &mut SharedSide,
     queue: &mut QueueLink,
-) -> [bool; 16] {
+) -> bool {
     let (near, far) = (LinkId(0), LinkId(1));
     let (middle, last) = (&cores.middle, &cores.last);
-    [
-        put(client, call(0, 1)),
-        put(client, call(1, 1)),
-        put(client, call(2, 1)),
-        middle.forward(near, sides) == MOVED,
-        middle.forward(near, sides) == MOVED,
-        middle.forward(near, sides) == MOVED,
-        sides[0].tell() == Ok(Told::Written),
-        put(client, call(3, 1)),
-        middle.forward(near, sides) == FULL,
-        arrive(last, server, queue),
-        arrive(last, server, queue),
-        server.tell() == Ok(Told::Written),
-        middle.forward(near, sides) == MOVED,
-        middle.forward(far, sides) == Ok(Forwarded::Acknowledged),
-        middle.forward(far, sides) == Ok(Forwarded::Nothing),
-        middle.forward(LinkId(2), sides) == Err(HopFault::NoLink),
-    ]
+    put(client, call(0, 1))
+        && put(client, call(1, 1))
+        && put(client, call(2, 1))
+        && forwards(middle, near, sides, MOVED)
+        && forwards(middle, near, sides, MOVED)
+        && forwards(middle, near, sides, MOVED)
+        && tells(&mut sides[0], Told::Written)
+        && put(client, call(3, 1))
+        && forwards(middle, near, sides, FULL)
+        && arrive(last, server, queue)
+        && arrive(last, server, queue)
+        && tells(server, Told::Written)
+        && forwards(middle, near, sides, MOVED)
+        && forwards(middle, far, sides, Ok(Forwarded::Acknowledged))
+        && forwards(middle, far, sides, Ok(Forwarded::Nothing))
+        && forwards(middle, LinkId(2), sides, Err(HopFault::NoLink))
+        && comes_out(queue, 0)
+        && comes_out(queue, 1)
 }
 
 // The circuit of binding 0 is opened over three cores, and told of in monitors' messages.
@@ -95,18 +110,16 @@ fn opening(
     client: &mut [SharedSide; 1],
     sides: &mut [SharedSide; 2],
     server: &mut [SharedSide; 1],
-) -> [bool; 8] {
+) -> bool {
     let (near, far) = (LinkId(0), LinkId(1));
-    [
-        cores.first.open(near, 0) == Ok(Circuit(1)),
-        message(&cores.middle, near, &mut client[0], sides),
-        cores.middle.pass_on(near, Circuit(1), far, 0) == Ok(Circuit(1)),
-        message(&cores.last, near, &mut sides[1], server),
-        cores.last.arrive(near, Circuit(1), 0) == Ok(()),
-        server[0].tell() == Ok(Told::Nothing),
-        message(&cores.middle, far, &mut server[0], sides),
-        message(&cores.first, near, &mut sides[0], client),
-    ]
+    cores.first.open(near, 0) == Ok(Circuit(1))
+        && message(&cores.middle, near, &mut client[0], sides)
+        && cores.middle.pass_on(near, Circuit(1), far, 0) == Ok(Circuit(1))
+        && message(&cores.last, near, &mut sides[1], server)
+        && cores.last.arrive(near, Circuit(1), 0) == Ok(())
+        && tells(&mut server[0], Told::Nothing)
+        && message(&cores.middle, far, &mut server[0], sides)
+        && message(&cores.first, near, &mut sides[0], client)
 }
 
 #[derive(Drop)]
@@ -132,16 +145,14 @@ pub fn line_of_three(alloc: Global) -> Result<bool, Fail> {
     let (c, d) = duo(alloc, 4)?;
     let (mut client, mut sides, mut server) = ([a], [b, c], [d]);
     Ok(
-        opening(&mut cores, &mut client, &mut sides, &mut server) == [true; 8]
+        opening(&mut cores, &mut client, &mut sides, &mut server)
             && calls(
                 &cores,
                 &mut client[0],
                 &mut sides,
                 &mut server[0],
                 &mut queue,
-            ) == [true; 16]
-            && comes_out(&mut queue, 0)
-            && comes_out(&mut queue, 1),
+            ),
     )
 }
 
@@ -203,22 +214,24 @@ fn overtaken(
     sides: &mut [SharedSide; 2],
     client: &mut SharedSide,
     server: &mut SharedSide,
-) -> [bool; 12] {
+) -> bool {
     let (near, far) = (LinkId(0), LinkId(1));
-    [
-        middle.pass_on(near, Circuit(1), far, 0) == Ok(Circuit(1)),
-        middle.pass_on(near, Circuit(3), far, 1) == Ok(Circuit(3)),
-        put(server, call(7, 3)),
-        middle.forward(far, sides) == MOVED,
-        middle.answer(far, Circuit(1)).is_ok(),
-        middle.remove(far, Circuit(1)).is_some(),
-        middle.answer(far, Circuit(3)).is_ok(),
-        put(client, call(8, 3)),
-        middle.forward(near, sides) == MOVED,
-        middle.pass_on(near, Circuit(5), far, 2) == Ok(Circuit(5)),
-        put(client, call(9, 1)),
-        middle.forward(near, sides) == Err(HopFault::Astray),
-    ]
+    middle.pass_on(near, Circuit(1), far, 0) == Ok(Circuit(1))
+        && middle.pass_on(near, Circuit(3), far, 1) == Ok(Circuit(3))
+        && put(server, call(7, 3))
+        && forwards(middle, far, sides, MOVED)
+        && middle.answer(far, Circuit(1)).is_ok()
+        && middle.remove(far, Circuit(1)).is_some()
+        && middle.answer(far, Circuit(3)).is_ok()
+        && put(client, call(8, 3))
+        && forwards(middle, near, sides, MOVED)
+        && middle.pass_on(near, Circuit(5), far, 2) == Ok(Circuit(5))
+        && put(client, call(9, 1))
+        && forwards(middle, near, sides, Err(HopFault::Astray))
+        && brings(client, 7, 3)
+        && brings(server, 8, 3)
+        && client.take() == Sight::Empty
+        && server.take() == Sight::Empty
 }
 
 /// The laws by which steps at a core join, over a shared ring's side and an arrival queue: they may be called where circuits are.
@@ -236,13 +249,7 @@ pub fn refused_and_overtaken(alloc: Global) -> Result<bool, Fail> {
     let (mut client, b) = duo(alloc, 8)?;
     let (c, mut server) = duo(alloc, 8)?;
     let mut sides = [b, c];
-    Ok(
-        overtaken(&mut middle, &mut sides, &mut client, &mut server) == [true; 12]
-            && brings(&mut client, 7, 3)
-            && brings(&mut server, 8, 3)
-            && client.take() == Sight::Empty
-            && server.take() == Sight::Empty,
-    )
+    Ok(overtaken(&mut middle, &mut sides, &mut client, &mut server))
 }
 
 /// A fragment of a circuit without an entry stays, and so does one that would only acknowledge at its end: its control word, and
@@ -267,8 +274,8 @@ impl Row for Stays {
         };
         Ok(
             put(&mut out, frag)
-                && server.forward(link, &mut sides) == Err(self.1)
-                && server.forward(link, &mut sides) == Err(self.1),
+                && forwards(&server, link, &mut sides, Err(self.1))
+                && forwards(&server, link, &mut sides, Err(self.1)),
         )
     }
 }
