@@ -1,6 +1,5 @@
-//! Examples that share no shape with others.
+//! Examples of lists, waitsets, queues and rings that share no shape with others.
 
-use crate::hop::routes;
 use crate::ring::{links, rings, shared_rings, slow};
 use crate::rows::Row;
 use fl_lists::Lists;
@@ -34,10 +33,6 @@ pub enum Example {
     LongAgo,
     AtItsEnd,
     PassesBetween,
-    // circuits
-    LineOfThree,
-    SharedLink,
-    RefusedAndOvertaken,
 }
 
 impl Row for Example {
@@ -61,9 +56,6 @@ impl Row for Example {
             Example::LongAgo => shared_rings::a_duo_that_began_long_ago(alloc),
             Example::AtItsEnd => shared_rings::a_duo_at_its_end(alloc),
             Example::PassesBetween => shared_rings::passes_between(alloc),
-            Example::LineOfThree => routes::line_of_three(alloc),
-            Example::SharedLink => routes::shared_link(alloc),
-            Example::RefusedAndOvertaken => routes::refused_and_overtaken(alloc),
         }
     }
 }

@@ -11,4 +11,4 @@ mod examples;
 mod faults;
 mod fragments;
 mod openings;
-pub mod routes;
+mod routes;

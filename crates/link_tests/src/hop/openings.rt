@@ -59,27 +59,27 @@ pub enum Asked {
 
 /// Asks a table, and says whether it answers so.
 pub fn answers(circuits: &mut Circuits, asked: &Asked) -> bool {
-    match *asked {
-        Asked::Core(core) => circuits.core() == core,
-        Asked::AddLink(core, link) => circuits.add_link(core) == link,
-        Asked::Links(count) => circuits.links().len() == count,
-        Asked::LinkTo(core, link) => circuits.link_to(core) == link,
-        Asked::Neighbour(link, core) => circuits.neighbour(link) == core,
-        Asked::Open(link, binding, circuit) => circuits.open(link, binding) == circuit,
+    match asked {
+        Asked::Core(core) => circuits.core() == *core,
+        Asked::AddLink(core, link) => circuits.add_link(*core) == *link,
+        Asked::Links(count) => circuits.links().len() == *count,
+        Asked::LinkTo(core, link) => circuits.link_to(*core) == *link,
+        Asked::Neighbour(link, core) => circuits.neighbour(*link) == *core,
+        Asked::Open(link, binding, circuit) => circuits.open(*link, *binding) == *circuit,
         Asked::PassOn(back, circuit, onward, binding, next) => {
-            circuits.pass_on(back, circuit, onward, binding) == next
+            circuits.pass_on(*back, *circuit, *onward, *binding) == *next
         }
         Asked::Arrive(link, circuit, binding, done) => {
-            circuits.arrive(link, circuit, binding) == done
+            circuits.arrive(*link, *circuit, *binding) == *done
         }
-        Asked::Refuse(link, circuit, done) => circuits.refuse(link, circuit) == done,
-        Asked::Answer(link, circuit, hop) => circuits.answer(link, circuit) == hop,
-        Asked::Remove(link, circuit, hop) => circuits.remove(link, circuit) == hop,
-        Asked::Stands(binding, is) => circuits.stands(binding) == is,
-        Asked::HopOf(link, circuit, hop) => circuits.hop_of(link, circuit) == hop,
-        Asked::RouteOf(link, circuit, way) => circuits.route_of(link, circuit) == way,
-        Asked::Next(link, circuit) => circuits.next(link) == circuit,
-        Asked::Expected(link, circuit) => circuits.expected(link) == circuit,
+        Asked::Refuse(link, circuit, done) => circuits.refuse(*link, *circuit) == *done,
+        Asked::Answer(link, circuit, hop) => circuits.answer(*link, *circuit) == *hop,
+        Asked::Remove(link, circuit, hop) => circuits.remove(*link, *circuit) == *hop,
+        Asked::Stands(binding, is) => circuits.stands(*binding) == *is,
+        Asked::HopOf(link, circuit, hop) => circuits.hop_of(*link, *circuit) == *hop,
+        Asked::RouteOf(link, circuit, way) => circuits.route_of(*link, *circuit) == *way,
+        Asked::Next(link, circuit) => circuits.next(*link) == *circuit,
+        Asked::Expected(link, circuit) => circuits.expected(*link) == *circuit,
     }
 }
 
