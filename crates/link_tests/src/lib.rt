@@ -2,6 +2,7 @@
 //! begins with reading all that it stands on.
 //!
 //! - `rows.rt`: tables, of which a test tells the first row that isn't so
+//! - `examples.rt`: the examples that stand in no table of their own kind
 //! - `ring.rt`: lists, waitsets, links and rings
 //! - `hop.rt`: circuits at cores
 //!
@@ -9,6 +10,8 @@
 //! `without_memory` have to pass, and others end with want of memory.
 #![tactic(auto)]
 
+#[cfg(test)]
+mod examples;
 #[cfg(test)]
 mod hop;
 #[cfg(test)]

@@ -9,12 +9,12 @@
 //! - `faults.rt`: the numbers and words of the faults
 //! - `fragments.rt`: the fragments that they put
 
-mod faults;
+pub mod faults;
 mod fragments;
-mod links;
+pub mod links;
 mod lists;
 mod makers;
-mod rings;
-mod shared_rings;
-mod slow;
+pub mod rings;
+pub mod shared_rings;
+pub mod slow;
 mod waitsets;

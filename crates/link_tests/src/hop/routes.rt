@@ -17,6 +17,21 @@ const MOVED: Result<Forwarded, HopFault> = Ok(Forwarded::Onward(Outcome::Moved))
 
 const FULL: Result<Forwarded, HopFault> = Ok(Forwarded::Onward(Outcome::Full));
 
+// Whether a core's forwarding from a link comes to this.
+fn forwards(
+    circuits: &Circuits,
+    link: LinkId,
+    sides: &mut [SharedSide],
+    wanted: Result<Forwarded, HopFault>,
+) -> bool {
+    circuits.forward(link, sides) == wanted
+}
+
+// Whether a tell comes to this.
+fn tells(side: &mut SharedSide, told: Told) -> bool {
+    side.tell() == Ok(told)
+}
+
 // Takes the first fragment of a link to an arrival queue, and says whether it was moved.
 fn arrive(circuits: &Circuits, from: &mut SharedSide, queue: &mut QueueLink) -> bool {
     match circuits.look(LinkId(0), from) {
@@ -66,27 +81,27 @@ fn calls(
     sides: &mut [SharedSide; 2],
     server: &mut SharedSide,
     queue: &mut QueueLink,
-) -> [bool; 16] {
+) -> bool {
     let (near, far) = (LinkId(0), LinkId(1));
     let (middle, last) = (&cores.middle, &cores.last);
-    [
-        put(client, call(0, 1)),
-        put(client, call(1, 1)),
-        put(client, call(2, 1)),
-        middle.forward(near, sides) == MOVED,
-        middle.forward(near, sides) == MOVED,
-        middle.forward(near, sides) == MOVED,
-        sides[0].tell() == Ok(Told::Written),
-        put(client, call(3, 1)),
-        middle.forward(near, sides) == FULL,
-        arrive(last, server, queue),
-        arrive(last, server, queue),
-        server.tell() == Ok(Told::Written),
-        middle.forward(near, sides) == MOVED,
-        middle.forward(far, sides) == Ok(Forwarded::Acknowledged),
-        middle.forward(far, sides) == Ok(Forwarded::Nothing),
-        middle.forward(LinkId(2), sides) == Err(HopFault::NoLink),
-    ]
+    put(client, call(0, 1))
+        && put(client, call(1, 1))
+        && put(client, call(2, 1))
+        && forwards(middle, near, sides, MOVED)
+        && forwards(middle, near, sides, MOVED)
+        && forwards(middle, near, sides, MOVED)
+        && tells(&mut sides[0], Told::Written)
+        && put(client, call(3, 1))
+        && forwards(middle, near, sides, FULL)
+        && arrive(last, server, queue)
+        && arrive(last, server, queue)
+        && tells(server, Told::Written)
+        && forwards(middle, near, sides, MOVED)
+        && forwards(middle, far, sides, Ok(Forwarded::Acknowledged))
+        && forwards(middle, far, sides, Ok(Forwarded::Nothing))
+        && forwards(middle, LinkId(2), sides, Err(HopFault::NoLink))
+        && comes_out(queue, 0)
+        && comes_out(queue, 1)
 }
 
 // The circuit of binding 0 is opened over three cores, and told of in monitors' messages.
@@ -95,18 +110,16 @@ fn opening(
     client: &mut [SharedSide; 1],
     sides: &mut [SharedSide; 2],
     server: &mut [SharedSide; 1],
-) -> [bool; 8] {
+) -> bool {
     let (near, far) = (LinkId(0), LinkId(1));
-    [
-        cores.first.open(near, 0) == Ok(Circuit(1)),
-        message(&cores.middle, near, &mut client[0], sides),
-        cores.middle.pass_on(near, Circuit(1), far, 0) == Ok(Circuit(1)),
-        message(&cores.last, near, &mut sides[1], server),
-        cores.last.arrive(near, Circuit(1), 0) == Ok(()),
-        server[0].tell() == Ok(Told::Nothing),
-        message(&cores.middle, far, &mut server[0], sides),
-        message(&cores.first, near, &mut sides[0], client),
-    ]
+    cores.first.open(near, 0) == Ok(Circuit(1))
+        && message(&cores.middle, near, &mut client[0], sides)
+        && cores.middle.pass_on(near, Circuit(1), far, 0) == Ok(Circuit(1))
+        && message(&cores.last, near, &mut sides[1], server)
+        && cores.last.arrive(near, Circuit(1), 0) == Ok(())
+        && tells(&mut server[0], Told::Nothing)
+        && message(&cores.middle, far, &mut server[0], sides)
+        && message(&cores.first, near, &mut sides[0], client)
 }
 
 #[derive(Drop)]
@@ -116,33 +129,12 @@ struct Cores {
     last: Circuits,
 }
 
-fn make_cores(alloc: Global) -> Result<Cores, HopFault> {
+fn make_cores(alloc: Global, neighbours: &[u8]) -> Result<Cores, HopFault> {
     Ok(Cores {
         first: table(alloc, 0, &[1])?,
-        middle: table(alloc, 1, &[0, 2])?,
+        middle: table(alloc, 1, neighbours)?,
         last: table(alloc, 2, &[1])?,
     })
-}
-
-/// Three cores in a line, four slots on each link. The fourth call finds no room, until the last core tells what it took.
-pub fn line_of_three(alloc: Global) -> Result<bool, Fail> {
-    let mut cores = make_cores(alloc)?;
-    let mut queue = QueueLink::local(alloc, 16)?;
-    let (a, b) = duo(alloc, 4)?;
-    let (c, d) = duo(alloc, 4)?;
-    let (mut client, mut sides, mut server) = ([a], [b, c], [d]);
-    Ok(
-        opening(&mut cores, &mut client, &mut sides, &mut server) == [true; 8]
-            && calls(
-                &cores,
-                &mut client[0],
-                &mut sides,
-                &mut server[0],
-                &mut queue,
-            ) == [true; 16]
-            && comes_out(&mut queue, 0)
-            && comes_out(&mut queue, 1),
-    )
 }
 
 // The circuits of two bindings are opened over a link.
@@ -174,20 +166,6 @@ fn four_arrive(
         && comes_out(two, 3)
 }
 
-/// Two bindings share a link: each end gets its own fragments, in order, with the circuit set aside.
-pub fn shared_link(alloc: Global) -> Result<bool, Fail> {
-    let mut client = table(alloc, 0, &[1])?;
-    let mut server = table(alloc, 1, &[0])?;
-    let mut one = QueueLink::local(alloc, 16)?;
-    let mut two = QueueLink::local(alloc, 16)?;
-    let (mut out, mut side) = duo(alloc, 8)?;
-    Ok(
-        two_openings(&mut client, &mut server)
-            && four_calls(&mut out)
-            && four_arrive(&server, &mut side, &mut one, &mut two),
-    )
-}
-
 // Whether the next fragment of a link is this call's, on this circuit.
 fn brings(side: &mut SharedSide, v: u64, circuit: u16) -> bool {
     match side.take() {
@@ -203,22 +181,24 @@ fn overtaken(
     sides: &mut [SharedSide; 2],
     client: &mut SharedSide,
     server: &mut SharedSide,
-) -> [bool; 12] {
+) -> bool {
     let (near, far) = (LinkId(0), LinkId(1));
-    [
-        middle.pass_on(near, Circuit(1), far, 0) == Ok(Circuit(1)),
-        middle.pass_on(near, Circuit(3), far, 1) == Ok(Circuit(3)),
-        put(server, call(7, 3)),
-        middle.forward(far, sides) == MOVED,
-        middle.answer(far, Circuit(1)).is_ok(),
-        middle.remove(far, Circuit(1)).is_some(),
-        middle.answer(far, Circuit(3)).is_ok(),
-        put(client, call(8, 3)),
-        middle.forward(near, sides) == MOVED,
-        middle.pass_on(near, Circuit(5), far, 2) == Ok(Circuit(5)),
-        put(client, call(9, 1)),
-        middle.forward(near, sides) == Err(HopFault::Astray),
-    ]
+    middle.pass_on(near, Circuit(1), far, 0) == Ok(Circuit(1))
+        && middle.pass_on(near, Circuit(3), far, 1) == Ok(Circuit(3))
+        && put(server, call(7, 3))
+        && forwards(middle, far, sides, MOVED)
+        && middle.answer(far, Circuit(1)).is_ok()
+        && middle.remove(far, Circuit(1)).is_some()
+        && middle.answer(far, Circuit(3)).is_ok()
+        && put(client, call(8, 3))
+        && forwards(middle, near, sides, MOVED)
+        && middle.pass_on(near, Circuit(5), far, 2) == Ok(Circuit(5))
+        && put(client, call(9, 1))
+        && forwards(middle, near, sides, Err(HopFault::Astray))
+        && brings(client, 7, 3)
+        && brings(server, 8, 3)
+        && client.take() == Sight::Empty
+        && server.take() == Sight::Empty
 }
 
 /// The laws by which steps at a core join, over a shared ring's side and an arrival queue: they may be called where circuits are.
@@ -230,45 +210,108 @@ pub fn know_stretches() {
     forward_adds::<SharedSide>();
 }
 
-/// A refused opening leaves no entry and gives its numbers to nobody; a call from the server may come before the answer.
-pub fn refused_and_overtaken(alloc: Global) -> Result<bool, Fail> {
-    let mut middle = table(alloc, 1, &[0, 2])?;
-    let (mut client, b) = duo(alloc, 8)?;
-    let (c, mut server) = duo(alloc, 8)?;
-    let mut sides = [b, c];
-    Ok(
-        overtaken(&mut middle, &mut sides, &mut client, &mut server) == [true; 12]
-            && brings(&mut client, 7, 3)
-            && brings(&mut server, 8, 3)
-            && client.take() == Sight::Empty
-            && server.take() == Sight::Empty,
+// Whether a fragment with this control word is put, and a forward answers so twice, where number 1 leads to an end.
+fn stays(
+    circuits: &mut Circuits,
+    out: &mut SharedSide,
+    sides: &mut [SharedSide],
+    control: u64,
+    fault: HopFault,
+) -> bool {
+    let link = LinkId(0);
+    let frag = Frag {
+        words: [0; 7],
+        control,
+    };
+    circuits.arrive(link, Circuit(1), 0) == Ok(())
+        && put(out, frag)
+        && forwards(circuits, link, sides, Err(fault))
+        && forwards(circuits, link, sides, Err(fault))
+}
+
+/// What is tried on a line of cores.
+pub enum Tried {
+    /// The fourth call finds no room, until the last core tells what it took.
+    Line,
+    /// Two bindings share a link: each end gets its own fragments, in order, with the circuit set aside.
+    Shared,
+    /// A refused opening leaves no entry and gives its numbers to nobody; a call from the server may come before the answer.
+    Overtaken,
+    /// A fragment of a circuit without an entry stays, and so does one that would only acknowledge at its end: its control word, and
+    /// what a forward answers to it.
+    Stays(u64, HopFault),
+}
+
+/// What is tried, with the middle core's neighbours and so many slots on each link.
+pub struct Route(Tried, &'static [u8], usize);
+
+pub const ROUTES: &[Route] = &[
+    Route(Tried::Line, &[0, 2], 4),
+    Route(Tried::Shared, &[0], 8),
+    Route(Tried::Overtaken, &[0, 2], 8),
+];
+
+pub const STAY: &[Route] = &[
+    Route(Tried::Stays(0x0003_0000_0003, HopFault::Astray), &[0, 2], 4),
+    Route(Tried::Stays(0x0001_0000_0004, HopFault::Marked), &[0, 2], 4),
+];
+
+// Whether it comes so, over two links between the cores, with the arrival queues of two bindings.
+fn comes_so(
+    cores: &mut Cores,
+    client: &mut [SharedSide; 1],
+    sides: &mut [SharedSide; 2],
+    server: &mut [SharedSide; 1],
+    queues: (&mut QueueLink, &mut QueueLink),
+    tried: &Tried,
+) -> bool {
+    let (one, two) = queues;
+    match tried {
+        Tried::Line => {
+            opening(cores, client, sides, server)
+                && calls(cores, &mut client[0], sides, &mut server[0], one)
+        }
+        Tried::Shared => {
+            two_openings(&mut cores.first, &mut cores.middle)
+                && four_calls(&mut client[0])
+                && four_arrive(&cores.middle, &mut sides[0], one, two)
+        }
+        Tried::Overtaken => { overtaken(&mut cores.middle, sides, &mut client[0], &mut server[0]) }
+        Tried::Stays(control, fault) => {
+            stays(&mut cores.middle, &mut client[0], sides, *control, *fault)
+        }
+    }
+}
+
+fn over_queues(
+    alloc: Global,
+    cores: &mut Cores,
+    client: &mut [SharedSide; 1],
+    sides: &mut [SharedSide; 2],
+    server: &mut [SharedSide; 1],
+    tried: &Tried,
+) -> Result<bool, Fail> {
+    let mut one = QueueLink::local(alloc, 16)?;
+    let mut two = QueueLink::local(alloc, 16)?;
+    Ok(comes_so(cores, client, sides, server, (&mut one, &mut two), tried))
+}
+
+fn over_links(alloc: Global, cores: &mut Cores, route: &Route) -> Result<bool, Fail> {
+    let (client, near) = duo(alloc, route.2)?;
+    let (far, server) = duo(alloc, route.2)?;
+    over_queues(
+        alloc,
+        cores,
+        &mut [client],
+        &mut [near, far],
+        &mut [server],
+        &route.0,
     )
 }
 
-/// A fragment of a circuit without an entry stays, and so does one that would only acknowledge at its end: its control word, and
-/// what a forward answers to it twice, where number 1 leads to an end.
-pub struct Stays(u64, HopFault);
-
-pub const STAY: &[Stays] = &[
-    Stays(0x0003_0000_0003, HopFault::Astray),
-    Stays(0x0001_0000_0004, HopFault::Marked),
-];
-
-impl Row for Stays {
+impl Row for Route {
     fn holds(&self, alloc: Global) -> Result<bool, Fail> {
-        let link = LinkId(0);
-        let mut server = table(alloc, 1, &[0])?;
-        server.arrive(link, Circuit(1), 0)?;
-        let (mut out, side) = duo(alloc, 4)?;
-        let mut sides = [side];
-        let frag = Frag {
-            words: [0; 7],
-            control: self.0,
-        };
-        Ok(
-            put(&mut out, frag)
-                && server.forward(link, &mut sides) == Err(self.1)
-                && server.forward(link, &mut sides) == Err(self.1),
-        )
+        let mut cores = make_cores(alloc, self.1)?;
+        over_links(alloc, &mut cores, self)
     }
 }

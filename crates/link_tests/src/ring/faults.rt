@@ -1,6 +1,7 @@
 //! The numbers and the words of the faults.
 
 use crate::rows::{Row, all_hold};
+use fl_hop::HopFault;
 use fl_link::{LinkFault, PutFault};
 use fl_ring::RingFault;
 use fl_waitset::WaitFault;
@@ -8,16 +9,18 @@ use std::alloc::{AllocError, Global};
 use std::fmt::Display;
 use std::test::Fail;
 
+/// A fault of any of the crates.
 #[derive(Clone, Copy)]
-enum Fault {
+pub enum Fault {
     Wait(WaitFault),
     Put(PutFault),
     Link(LinkFault),
     Ring(RingFault),
+    Hop(HopFault),
 }
 
-// A fault, its number and its words.
-struct Told(Fault, u8, &'static str);
+/// A fault, its number and its words.
+pub struct Told(pub Fault, pub u8, pub &'static str);
 
 const FAULTS: &[Told] = &[
     Told(
@@ -76,12 +79,13 @@ fn number_of(fault: Fault) -> u8 {
         Fault::Put(fault) => fault.number(),
         Fault::Link(fault) => fault.number(),
         Fault::Ring(fault) => fault.number(),
+        Fault::Hop(fault) => fault.number(),
     }
 }
 
 // Whether these are the words of the fault.
 fn says<F: Display>(alloc: Global, fault: &F, text: &str) -> Result<bool, AllocError> {
-    let shown = format!(in alloc; "{fault}")?;
+    let shown = fault.to_string(alloc)?;
     Ok(shown.as_str() == text)
 }
 
@@ -91,6 +95,7 @@ fn has_words(alloc: Global, fault: &Fault, text: &str) -> Result<bool, AllocErro
         Fault::Put(fault) => says(alloc, fault, text),
         Fault::Link(fault) => says(alloc, fault, text),
         Fault::Ring(fault) => says(alloc, fault, text),
+        Fault::Hop(fault) => says(alloc, fault, text),
     }
 }
 

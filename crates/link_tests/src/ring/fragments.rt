@@ -43,14 +43,27 @@ pub enum Step {
     Take(u64, u64),
     TakeNothing,
     TakeAcknowledgement,
-    Tell(Told),
-    TellFull,
+    Tell(Result<Told, PutFault>),
     Room(bool),
     NextEpoch(u64),
     NextTold(u16),
     Known(u64),
-    /// A fragment with this last word and control word is put, looked at and taken: whether it is of a call.
-    Form(u64, u64, bool),
+}
+
+/// Takes a step, and says whether the link answers so.
+pub fn answers<L: Link>(link: &mut L, step: Step) -> bool {
+    match step {
+        Step::Put(v, answer) => link.put(&ping(v)) == answer,
+        Step::Peek(v, control) => link.peek() == arrived(v, control),
+        Step::Take(v, control) => link.take() == arrived(v, control),
+        Step::TakeNothing => link.take() == Sight::Empty,
+        Step::TakeAcknowledgement => link.take() == Sight::Acknowledgement,
+        Step::Tell(told) => link.tell() == told,
+        Step::Room(room) => link.room() == room,
+        Step::NextEpoch(epoch) => link.next_epoch() == epoch,
+        Step::NextTold(told) => link.next_told() == told,
+        Step::Known(known) => link.known() == known,
+    }
 }
 
 /// Passes a fragment on between any two sides.

@@ -1,6 +1,7 @@
 //! Worked examples: queues that fill, and a fragment passed on.
 
-use crate::ring::fragments::{Step, arrived, fill, pass_on, ping};
+use crate::examples::Example;
+use crate::ring::fragments::{Step, answers, fill, pass_on};
 use crate::rows::{Row, all_hold};
 use fl_base::Frag;
 use fl_link::{
@@ -9,46 +10,6 @@ use fl_link::{
 };
 use std::alloc::Global;
 use std::test::Fail;
-
-// Puts the fragment and takes it again; says whether a look sees a fragment of a call. `None` where it
-// isn't put, or the take gets something else than the look saw.
-fn is_data(queue: &mut QueueLink, frag: &Frag) -> Option<bool> {
-    if queue.put(frag) != Ok(()) {
-        return None;
-    }
-    let seen = queue.peek();
-    if queue.take() != seen {
-        return None;
-    }
-    Some(seen != Sight::Acknowledgement)
-}
-
-fn with_last_word(word: u64, control: u64) -> Frag {
-    Frag {
-        words: [0, 0, 0, 0, 0, 0, word],
-        control,
-    }
-}
-
-// Takes a step, and says whether the queue answers so.
-fn answers(queue: &mut QueueLink, step: Step) -> bool {
-    match step {
-        Step::Put(v, answer) => queue.put(&ping(v)) == answer,
-        Step::Peek(v, control) => queue.peek() == arrived(v, control),
-        Step::Take(v, control) => queue.take() == arrived(v, control),
-        Step::TakeNothing => queue.take() == Sight::Empty,
-        Step::TakeAcknowledgement => queue.take() == Sight::Acknowledgement,
-        Step::Tell(told) => queue.tell() == told,
-        Step::TellFull => false,
-        Step::Room(room) => queue.room() == room,
-        Step::NextEpoch(epoch) => queue.next_epoch() == epoch,
-        Step::NextTold(told) => queue.next_told() == told,
-        Step::Known(known) => queue.known() == known,
-        Step::Form(word, control, is) => {
-            is_data(queue, &with_last_word(word, control)) == Some(is)
-        }
-    }
-}
 
 // Whether the queue answers so to the steps in turn.
 fn follows(queue: &mut QueueLink, steps: &[Step]) -> bool {
@@ -72,7 +33,7 @@ const LOCAL: &[Step] = &[
     Step::Peek(7, 3),
     Step::Take(7, 3),
     Step::Put(9, Ok(())),
-    Step::Tell(Told::Nothing),
+    Step::Tell(Ok(Told::Nothing)),
     Step::Take(8, 3),
     Step::Take(9, 3),
     Step::TakeNothing,
@@ -85,26 +46,14 @@ const ACKED: &[Step] = &[
     Step::Put(3, Err(PutFault::Full)),
     Step::Take(1, 3),
     Step::Put(9, Err(PutFault::Full)),
-    Step::Tell(Told::Written),
+    Step::Tell(Ok(Told::Written)),
     Step::NextEpoch(0),
     Step::Put(9, Ok(())),
     Step::Take(2, 3),
     Step::Take(9, 2),
 ];
 
-// Bit 2 alone makes no acknowledgement: the rest has to be 0 too.
-const FORMS: &[Step] = &[
-    Step::Form(0, 4, false),
-    Step::Form(1, 4, true),
-    Step::Form(0, 6, true),
-    Step::Form(0, 12, true),
-];
-
-const SCRIPTS: &[Script] = &[
-    Script(false, 2, LOCAL),
-    Script(true, 2, ACKED),
-    Script(false, 1, FORMS),
-];
+const SCRIPTS: &[Script] = &[Script(false, 2, LOCAL), Script(true, 2, ACKED)];
 
 impl Row for Script {
     fn holds(&self, alloc: Global) -> Result<bool, Fail> {
@@ -117,12 +66,47 @@ impl Row for Script {
     }
 }
 
+// The last word and the control word of a fragment, and whether it is of a call.
+struct Form(u64, u64, bool);
+
+// Bit 2 alone makes no acknowledgement: the rest has to be 0 too.
+const FORMS: &[Form] = &[
+    Form(0, 4, false),
+    Form(1, 4, true),
+    Form(0, 6, true),
+    Form(0, 12, true),
+];
+
+// Puts the fragment and takes it again; says whether a look sees a fragment of a call. `None` where it
+// isn't put, or the take gets something else than the look saw.
+fn is_data(queue: &mut QueueLink, frag: &Frag) -> Option<bool> {
+    if queue.put(frag) != Ok(()) {
+        return None;
+    }
+    let seen = queue.peek();
+    if queue.take() != seen {
+        return None;
+    }
+    Some(seen != Sight::Acknowledgement)
+}
+
+impl Row for Form {
+    fn holds(&self, alloc: Global) -> Result<bool, Fail> {
+        let mut queue = QueueLink::local(alloc, 1)?;
+        let frag = Frag {
+            words: [0, 0, 0, 0, 0, 0, self.0],
+            control: self.1,
+        };
+        Ok(is_data(&mut queue, &frag) == Some(self.2))
+    }
+}
+
 fn place_and_epoch(cursor: &Cursor) -> (usize, u64) {
     (cursor.place(), cursor.epoch())
 }
 
-// The index needn't begin at 0: 65,530 is in the third place of a round of four whose epoch is 1.
-fn goes_round() -> bool {
+/// The index needn't begin at 0: 65,530 is in the third place of a round of four whose epoch is 1.
+pub fn goes_round() -> bool {
     let mut cursor = Cursor::at(4, 65_530);
     let begins = cursor.index() == 65_530 && cursor.size() == 4;
     let third = place_and_epoch(&cursor);
@@ -155,27 +139,12 @@ fn keeps_acknowledgement(from: &mut QueueLink, to: &mut QueueLink) -> bool {
         && follows(to, &[Step::TakeNothing])
 }
 
-fn passes_on(alloc: Global) -> Result<bool, Fail> {
+/// A fragment goes on, and an acknowledgement doesn't.
+pub fn passes_on(alloc: Global) -> Result<bool, Fail> {
     let mut to = QueueLink::local(alloc, 1)?;
     let mut from = QueueLink::acked(alloc, 4)?;
     let mut acknowledges = QueueLink::local(alloc, 1)?;
     Ok(moves_one(&mut from, &mut to) && keeps_acknowledgement(&mut acknowledges, &mut to))
-}
-
-// Examples of other things than one queue.
-#[derive(Clone, Copy)]
-enum Example {
-    Cursor,
-    PassesOn,
-}
-
-impl Row for Example {
-    fn holds(&self, alloc: Global) -> Result<bool, Fail> {
-        match self {
-            Example::Cursor => Ok(goes_round()),
-            Example::PassesOn => passes_on(alloc),
-        }
-    }
 }
 
 #[test]
@@ -185,6 +154,7 @@ fn queues(rt: HostRuntime) -> Result<(), Fail> {
     calls_alone();
     queue_conserves();
     all_hold(rt.alloc(), "scripts", SCRIPTS)?;
+    all_hold(rt.alloc(), "forms", FORMS)?;
     all_hold(
         rt.alloc(),
         "examples",

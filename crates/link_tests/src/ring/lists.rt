@@ -1,70 +1,58 @@
 //! Lists: worked examples, and random calls beside slow lists.
 
-use crate::ring::slow::{Slow, next_random, random_place};
+use crate::examples::Example;
+use crate::ring::slow::{Fast, Slow, random_place};
 use crate::rows::{Row, all_hold};
 use fl_lists::{Lists, Place};
 use std::alloc::{AllocError, Global};
 use std::test::Fail;
 
-// What is asked of lists.
+// What is asked of lists, and what they have to answer.
 #[derive(Clone, Copy)]
 enum Asked {
     /// To have a node go to the back of a list, or out of all, by the call for it; and where it stood.
-    Go(usize, Option<Place>),
+    Go(usize, Option<Place>, Option<Place>),
     /// Where a node stands.
-    Stands(usize),
+    Stands(usize, Option<Place>),
     /// Which node is the first of a list.
-    First(Place),
+    First(Place, Option<usize>),
     /// The same, and to take it out.
-    Pop(Place),
-}
-
-// What lists say.
-#[derive(Clone, Copy, PartialEq, Eq)]
-enum Said {
-    At(Option<Place>),
-    Node(Option<usize>),
+    Pop(Place, Option<usize>),
 }
 
 // Lists of so many nodes are asked these in turn.
-struct Script(usize, &'static [(Asked, Said)]);
+struct Script(usize, &'static [Asked]);
 
-const MOVES: &[(Asked, Said)] = &[
+const MOVES: &[Asked] = &[
     // pushed
-    (Asked::Go(0, Some(Place::Polled)), Said::At(None)),
-    (Asked::Go(1, Some(Place::Polled)), Said::At(None)),
-    (Asked::Go(2, Some(Place::Polled)), Said::At(None)),
+    Asked::Go(0, Some(Place::Polled), None),
+    Asked::Go(1, Some(Place::Polled), None),
+    Asked::Go(2, Some(Place::Polled), None),
     // moved, also to the back of its own list
-    (
-        Asked::Go(1, Some(Place::Pending)),
-        Said::At(Some(Place::Polled)),
-    ),
-    (
-        Asked::Go(0, Some(Place::Polled)),
-        Said::At(Some(Place::Polled)),
-    ),
+    Asked::Go(1, Some(Place::Pending), Some(Place::Polled)),
+    Asked::Go(0, Some(Place::Polled), Some(Place::Polled)),
     // pushed behind a node that was moved there
-    (Asked::Go(3, Some(Place::Pending)), Said::At(None)),
+    Asked::Go(3, Some(Place::Pending), None),
     // taken out
-    (Asked::Go(1, None), Said::At(Some(Place::Pending))),
+    Asked::Go(1, None, Some(Place::Pending)),
     // where they stand then
-    (Asked::Stands(0), Said::At(Some(Place::Polled))),
-    (Asked::Stands(1), Said::At(None)),
-    (Asked::Stands(3), Said::At(Some(Place::Pending))),
-    (Asked::First(Place::Idle), Said::Node(None)),
-    (Asked::First(Place::Polled), Said::Node(Some(2))),
+    Asked::Stands(0, Some(Place::Polled)),
+    Asked::Stands(1, None),
+    Asked::Stands(3, Some(Place::Pending)),
+    Asked::First(Place::Idle, None),
+    Asked::First(Place::Polled, Some(2)),
     // and in which order
-    (Asked::Pop(Place::Polled), Said::Node(Some(2))),
-    (Asked::Pop(Place::Polled), Said::Node(Some(0))),
-    (Asked::Pop(Place::Polled), Said::Node(None)),
-    (Asked::Pop(Place::Pending), Said::Node(Some(3))),
-    (Asked::Pop(Place::Pending), Said::Node(None)),
-    (Asked::Pop(Place::Idle), Said::Node(None)),
+    Asked::Pop(Place::Polled, Some(2)),
+    Asked::Pop(Place::Polled, Some(0)),
+    Asked::Pop(Place::Polled, None),
+    Asked::Pop(Place::Pending, Some(3)),
+    Asked::Pop(Place::Pending, None),
+    Asked::Pop(Place::Idle, None),
 ];
 
 const SCRIPTS: &[Script] = &[
     Script(4, MOVES),
-    Script(0, &[(Asked::Pop(Place::Pending), Said::Node(None))]),
+    Script(0, &[Asked::Pop(Place::Pending, None)]),
 ];
 
 // What a list says of a node, where there is one.
@@ -90,18 +78,19 @@ fn go(lists: &mut Lists, node: usize, to: Option<Place>) -> Option<Place> {
     was
 }
 
-fn ask(lists: &mut Lists, asked: Asked) -> Said {
+// Asks, and says whether the lists answer so.
+fn answer(lists: &mut Lists, asked: Asked) -> bool {
     match asked {
-        Asked::Go(node, to) => Said::At(go(lists, node, to)),
-        Asked::Stands(node) => Said::At(place_of(lists, node)),
-        Asked::First(place) => Said::Node(lists.front(place)),
-        Asked::Pop(place) => Said::Node(lists.pop_front(place)),
+        Asked::Go(node, to, was) => go(lists, node, to) == was,
+        Asked::Stands(node, place) => place_of(lists, node) == place,
+        Asked::First(place, node) => lists.front(place) == node,
+        Asked::Pop(place, node) => lists.pop_front(place) == node,
     }
 }
 
-fn answer(lists: &mut Lists, rows: &[(Asked, Said)]) -> bool {
-    for (asked, said) in rows {
-        if ask(lists, *asked) != *said {
+fn all_answer(lists: &mut Lists, rows: &[Asked]) -> bool {
+    for asked in rows {
+        if !answer(lists, *asked) {
             return false;
         }
     }
@@ -111,7 +100,7 @@ fn answer(lists: &mut Lists, rows: &[(Asked, Said)]) -> bool {
 impl Row for Script {
     fn holds(&self, alloc: Global) -> Result<bool, Fail> {
         let mut lists = Lists::new(alloc, self.0)?;
-        Ok(lists.size() == self.0 && answer(&mut lists, self.1))
+        Ok(lists.size() == self.0 && all_answer(&mut lists, self.1))
     }
 }
 
@@ -139,23 +128,6 @@ fn call(
     )
 }
 
-// Whether so many random calls are answered alike; `random` goes on.
-fn call_each(
-    fast: &mut Lists,
-    slow: &mut Slow,
-    calls: usize,
-    random: &mut u64,
-) -> Result<bool, AllocError> {
-    for _ in 0..calls {
-        *random = next_random(*random);
-        let c = ((*random >> 40) % 6) as u16;
-        if !call(fast, slow, c, random_place(*random), *random >> 33 & 3 != 0)? {
-            return Ok(false);
-        }
-    }
-    Ok(true)
-}
-
 const PLACES: &[Place] = &[Place::Idle, Place::Polled, Place::Pending];
 
 // Whether the lists are the same, from the first node to the last.
@@ -170,30 +142,30 @@ fn drain(fast: &mut Lists, slow: &mut Slow) -> bool {
     true
 }
 
-// So many random calls over six nodes.
-struct Random(usize);
+// Random calls over six nodes.
+impl Fast for Lists {
+    fn make(alloc: Global) -> Result<Lists, Fail> {
+        Ok(Lists::new(alloc, 6)?)
+    }
 
-fn agrees(alloc: Global, calls: usize, random: &mut u64) -> Result<bool, AllocError> {
-    let mut fast = Lists::new(alloc, 6)?;
-    let mut slow = Slow::new(alloc);
-    Ok(call_each(&mut fast, &mut slow, calls, random)? && drain(&mut fast, &mut slow))
-}
+    fn call(&mut self, slow: &mut Slow, random: u64) -> Result<bool, AllocError> {
+        let node = ((random >> 40) % 6) as u16;
+        call(
+            self,
+            slow,
+            node,
+            random_place(random),
+            random >> 33 & 3 != 0,
+        )
+    }
 
-// After each number of calls the lists agree.
-impl Row for Random {
-    fn holds(&self, alloc: Global) -> Result<bool, Fail> {
-        let mut random: u64 = 7;
-        for calls in 0..self.0 {
-            if !agrees(alloc, calls, &mut random)? {
-                return Ok(false);
-            }
-        }
-        Ok(true)
+    fn drain(&mut self, slow: &mut Slow) -> Result<bool, AllocError> {
+        Ok(drain(self, slow))
     }
 }
 
 #[test]
 fn lists_answer(rt: HostRuntime) -> Result<(), Fail> {
     all_hold(rt.alloc(), "scripts", SCRIPTS)?;
-    all_hold(rt.alloc(), "random calls", &[Random(80)])
+    all_hold(rt.alloc(), "random calls", &[Example::RandomLists])
 }

@@ -20,112 +20,99 @@ enum Maker {
     SharedDuo,
 }
 
-// What a maker answers.
-#[derive(Clone, Copy, PartialEq, Eq)]
-enum Answer {
-    Made,
-    /// The fault of this number.
-    Refused(u8),
-    /// It is made, and isn't as a new one is.
-    Odd,
-}
+// What a maker answers: whether what is made is as a new one is, or the number of the fault.
+type Answer = Result<bool, u8>;
 
 // What is made, with what it is asked for and whether the maker makes it so.
 struct Asked(Maker, usize, Answer);
 
 const SIZES: &[Asked] = &[
-    Asked(Maker::Lists, 1, Answer::Made),
-    Asked(Maker::Lists, 1_024, Answer::Made),
-    Asked(Maker::Lists, usize::MAX, Answer::Refused(99)),
-    Asked(Maker::Waitset, 0, Answer::Made),
-    Asked(Maker::Waitset, 1, Answer::Made),
-    Asked(Maker::Waitset, 1_024, Answer::Made),
-    Asked(Maker::Waitset, 1_025, Answer::Refused(54)),
-    Asked(Maker::Waitset, usize::MAX, Answer::Refused(54)),
-    Asked(Maker::LocalQueue, 0, Answer::Refused(32)),
-    Asked(Maker::LocalQueue, 1, Answer::Made),
-    Asked(Maker::LocalQueue, 2, Answer::Made),
-    Asked(Maker::LocalQueue, 3, Answer::Made),
-    Asked(Maker::LocalQueue, 1_024, Answer::Made),
-    Asked(Maker::LocalQueue, 1_025, Answer::Refused(32)),
+    Asked(Maker::Lists, 1, Ok(true)),
+    Asked(Maker::Lists, 1_024, Ok(true)),
+    Asked(Maker::Lists, usize::MAX, Err(99)),
+    Asked(Maker::Waitset, 0, Ok(true)),
+    Asked(Maker::Waitset, 1, Ok(true)),
+    Asked(Maker::Waitset, 1_024, Ok(true)),
+    Asked(Maker::Waitset, 1_025, Err(54)),
+    Asked(Maker::Waitset, usize::MAX, Err(54)),
+    Asked(Maker::LocalQueue, 0, Err(32)),
+    Asked(Maker::LocalQueue, 1, Ok(true)),
+    Asked(Maker::LocalQueue, 2, Ok(true)),
+    Asked(Maker::LocalQueue, 3, Ok(true)),
+    Asked(Maker::LocalQueue, 1_024, Ok(true)),
+    Asked(Maker::LocalQueue, 1_025, Err(32)),
     // not a power of two
-    Asked(Maker::AckedQueue, 0, Answer::Refused(32)),
-    Asked(Maker::AckedQueue, 1, Answer::Refused(32)),
-    Asked(Maker::AckedQueue, 2, Answer::Made),
-    Asked(Maker::AckedQueue, 3, Answer::Refused(32)),
-    Asked(Maker::AckedQueue, 1_024, Answer::Made),
-    Asked(Maker::AckedQueue, 1_025, Answer::Refused(32)),
-    Asked(Maker::Ring, 0, Answer::Refused(32)),
-    Asked(Maker::Ring, 1, Answer::Refused(32)),
-    Asked(Maker::Ring, 2, Answer::Made),
-    Asked(Maker::Ring, 3, Answer::Refused(32)),
-    Asked(Maker::Ring, 4, Answer::Made),
-    Asked(Maker::Ring, 1_024, Answer::Made),
-    Asked(Maker::Ring, 1_025, Answer::Refused(32)),
-    Asked(Maker::Ring, 2_048, Answer::Refused(32)),
+    Asked(Maker::AckedQueue, 0, Err(32)),
+    Asked(Maker::AckedQueue, 1, Err(32)),
+    Asked(Maker::AckedQueue, 2, Ok(true)),
+    Asked(Maker::AckedQueue, 3, Err(32)),
+    Asked(Maker::AckedQueue, 1_024, Ok(true)),
+    Asked(Maker::AckedQueue, 1_025, Err(32)),
+    Asked(Maker::Ring, 0, Err(32)),
+    Asked(Maker::Ring, 1, Err(32)),
+    Asked(Maker::Ring, 2, Ok(true)),
+    Asked(Maker::Ring, 3, Err(32)),
+    Asked(Maker::Ring, 4, Ok(true)),
+    Asked(Maker::Ring, 1_024, Ok(true)),
+    Asked(Maker::Ring, 1_025, Err(32)),
+    Asked(Maker::Ring, 2_048, Err(32)),
     // a power of two, and too few
-    Asked(Maker::Duo, 0, Answer::Refused(32)),
-    Asked(Maker::Duo, 1, Answer::Refused(32)),
-    Asked(Maker::Duo, 2, Answer::Refused(32)),
-    Asked(Maker::Duo, 3, Answer::Refused(32)),
-    Asked(Maker::Duo, 4, Answer::Made),
-    Asked(Maker::Duo, 1_024, Answer::Made),
-    Asked(Maker::Duo, 1_025, Answer::Refused(32)),
-    Asked(Maker::Duo, 2_048, Answer::Refused(32)),
-    Asked(Maker::SharedRing, 0, Answer::Refused(32)),
-    Asked(Maker::SharedRing, 1, Answer::Refused(32)),
-    Asked(Maker::SharedRing, 2, Answer::Made),
-    Asked(Maker::SharedRing, 3, Answer::Refused(32)),
-    Asked(Maker::SharedRing, 4, Answer::Made),
-    Asked(Maker::SharedRing, 1_024, Answer::Made),
-    Asked(Maker::SharedRing, 1_025, Answer::Refused(32)),
-    Asked(Maker::SharedRing, 2_048, Answer::Refused(32)),
-    Asked(Maker::SharedDuo, 0, Answer::Refused(32)),
-    Asked(Maker::SharedDuo, 2, Answer::Refused(32)),
-    Asked(Maker::SharedDuo, 3, Answer::Refused(32)),
-    Asked(Maker::SharedDuo, 4, Answer::Made),
-    Asked(Maker::SharedDuo, 1_024, Answer::Made),
-    Asked(Maker::SharedDuo, 1_025, Answer::Refused(32)),
+    Asked(Maker::Duo, 0, Err(32)),
+    Asked(Maker::Duo, 1, Err(32)),
+    Asked(Maker::Duo, 2, Err(32)),
+    Asked(Maker::Duo, 3, Err(32)),
+    Asked(Maker::Duo, 4, Ok(true)),
+    Asked(Maker::Duo, 1_024, Ok(true)),
+    Asked(Maker::Duo, 1_025, Err(32)),
+    Asked(Maker::Duo, 2_048, Err(32)),
+    Asked(Maker::SharedRing, 0, Err(32)),
+    Asked(Maker::SharedRing, 1, Err(32)),
+    Asked(Maker::SharedRing, 2, Ok(true)),
+    Asked(Maker::SharedRing, 3, Err(32)),
+    Asked(Maker::SharedRing, 4, Ok(true)),
+    Asked(Maker::SharedRing, 1_024, Ok(true)),
+    Asked(Maker::SharedRing, 1_025, Err(32)),
+    Asked(Maker::SharedRing, 2_048, Err(32)),
+    Asked(Maker::SharedDuo, 0, Err(32)),
+    Asked(Maker::SharedDuo, 2, Err(32)),
+    Asked(Maker::SharedDuo, 3, Err(32)),
+    Asked(Maker::SharedDuo, 4, Ok(true)),
+    Asked(Maker::SharedDuo, 1_024, Ok(true)),
+    Asked(Maker::SharedDuo, 1_025, Err(32)),
 ];
-
-fn made(is_new: bool) -> Answer {
-    if is_new { Answer::Made } else { Answer::Odd }
-}
 
 fn make_lists(alloc: Global, size: usize) -> Answer {
     match Lists::new(alloc, size) {
-        Ok(lists) => made(
-            lists.size() == size && (size == 0 || lists.place_of(size - 1).is_none()),
-        ),
-        Err(_) => Answer::Refused(99),
+        Ok(lists) => Ok(lists.size() == size && (size == 0 || lists.place_of(size - 1).is_none())),
+        Err(_) => Err(99),
     }
 }
 
 fn make_waitset(alloc: Global, size: usize) -> Answer {
     match Waitset::new(alloc, size) {
-        Ok(waitset) => made(waitset.next_event() == Err(WaitFault::NoEvent)),
-        Err(fault) => Answer::Refused(fault.number()),
+        Ok(waitset) => Ok(waitset.next_event() == Err(WaitFault::NoEvent)),
+        Err(fault) => Err(fault.number()),
     }
 }
 
 fn queue_of(queue: Result<QueueLink, LinkFault>) -> Answer {
     match queue {
-        Ok(queue) => made(queue.room()),
-        Err(fault) => Answer::Refused(fault.number()),
+        Ok(queue) => Ok(queue.room()),
+        Err(fault) => Err(fault.number()),
     }
 }
 
 fn make_ring(alloc: Global, size: usize) -> Answer {
     match OneRing::new(alloc, size) {
-        Ok(ring) => made(ring.room()),
-        Err(fault) => Answer::Refused(fault.number()),
+        Ok(ring) => Ok(ring.room()),
+        Err(fault) => Err(fault.number()),
     }
 }
 
 fn make_duo(alloc: Global, size: usize) -> Answer {
     match OneDuo::new(alloc, size) {
-        Ok(duo) => made(duo.room(Which::One)),
-        Err(fault) => Answer::Refused(fault.number()),
+        Ok(duo) => Ok(duo.room(Which::One)),
+        Err(fault) => Err(fault.number()),
     }
 }
 
@@ -135,9 +122,9 @@ fn make_shared_ring(alloc: Global, size: usize) -> Answer {
         Ok((tx, rx)) => {
             let has_room = tx.room();
             settle(tx, rx);
-            made(has_room)
+            Ok(has_room)
         }
-        Err(fault) => Answer::Refused(fault.number()),
+        Err(fault) => Err(fault.number()),
     }
 }
 
@@ -146,9 +133,9 @@ fn make_shared_duo(alloc: Global, size: usize) -> Answer {
         Ok((one, two)) => {
             let has_room = one.room();
             settle_duo(one, two);
-            made(has_room)
+            Ok(has_room)
         }
-        Err(fault) => Answer::Refused(fault.number()),
+        Err(fault) => Err(fault.number()),
     }
 }
 
@@ -180,7 +167,7 @@ fn sizes(rt: HostRuntime) -> Result<(), Fail> {
 fn made_or_refused(alloc: Global) -> bool {
     for Asked(maker, size, wanted) in SIZES {
         let answer = answer_of(alloc, *maker, *size);
-        if answer != *wanted && answer != Answer::Refused(99) {
+        if answer != *wanted && answer != Err(99) {
             return false;
         }
     }

@@ -5,7 +5,8 @@ ghost use Rattle.fl_base.specs.Control.{is_ack_only, bare};
 ghost use Rattle.fl_link.specs.Looks.{placed, peeked, taken};
 ghost use Rattle.fl_ring.specs.Duo.{DuoPuts, DuoTakes};
 
-use crate::ring::fragments::{Step, arrived, fill, pass_on, ping};
+use crate::examples::Example;
+use crate::ring::fragments::{Step, answers, arrived, fill, pass_on, ping};
 use crate::rows::{Row, all_hold};
 use fl_base::Frag;
 use fl_link::{Link, Passed, PutFault, PutSide, QueueLink, Sight, TakeSide, Told};
@@ -104,16 +105,6 @@ fn zeros(words: &[u64]) -> Option<usize> {
     Some(words.len())
 }
 
-// Takes a step, and says whether the ring answers so.
-fn ring_answers(ring: &mut OneRing, step: Step) -> bool {
-    match step {
-        Step::Put(v, answer) => ring.put(&ping(v)) == answer,
-        Step::Take(v, control) => ring.take() == arrived(v, control),
-        Step::Tell(told) => ring.tell() == told,
-        _ => false,
-    }
-}
-
 // A step, and words that stand there then.
 const RING_OF_TWO: &[(Step, &[(usize, u64)])] = &[
     (Step::Put(7, Ok(())), &[]),
@@ -121,25 +112,25 @@ const RING_OF_TWO: &[(Step, &[(usize, u64)])] = &[
     (Step::Put(7, Err(PutFault::Full)), &[]),
     (Step::Take(7, 3), &[]),
     (Step::Put(7, Err(PutFault::Full)), &[]),
-    (Step::Tell(Told::Written), &[(16, 1)]),
+    (Step::Tell(Ok(Told::Written)), &[(16, 1)]),
     (Step::Put(7, Ok(())), &[(7, 2), (15, 3)]),
 ];
 
 fn ring_follows(ring: &mut OneRing, rows: &[(Step, &[(usize, u64)])]) -> bool {
     for (step, words) in rows {
-        if !ring_answers(ring, *step) || !stand(ring.words(), words) {
+        if !answers(ring, *step) || !stand(ring.words(), words) {
             return false;
         }
     }
     true
 }
 
-fn a_ring_of_two(alloc: Global) -> Result<bool, Fail> {
+pub fn a_ring_of_two(alloc: Global) -> Result<bool, Fail> {
     let mut ring = OneRing::new(alloc, 2)?;
     Ok(ring_follows(&mut ring, RING_OF_TWO))
 }
 
-fn begins_with_zeros(alloc: Global) -> Result<bool, Fail> {
+pub fn begins_with_zeros(alloc: Global) -> Result<bool, Fail> {
     let ring = OneRing::new(alloc, 4)?;
     Ok(zeros(ring.words()) == Some(33))
 }
@@ -150,7 +141,7 @@ fn duo_answers(duo: &mut OneDuo, which: Which, step: Step) -> bool {
         Step::Put(v, answer) => put_by_side(duo, which, &ping(v)) == answer,
         Step::Take(v, control) => take_by_side(duo, which) == arrived(v, control),
         Step::TakeAcknowledgement => take_by_side(duo, which) == Sight::Acknowledgement,
-        Step::Tell(told) => duo.tell(which) == Ok(told),
+        Step::Tell(told) => duo.tell(which) == told,
         _ => false,
     }
 }
@@ -164,12 +155,12 @@ const DUO_OF_FOUR: &[DuoRow] = &[
     (Which::One, Step::Put(2, Ok(())), &[]),
     (Which::One, Step::Put(3, Err(PutFault::Full)), &[]),
     (Which::Two, Step::Take(0, 3), &[]),
-    (Which::Two, Step::Tell(Told::Nothing), &[]),
+    (Which::Two, Step::Tell(Ok(Told::Nothing)), &[]),
     (Which::One, Step::Put(4, Err(PutFault::Full)), &[]),
     (Which::Two, Step::Take(1, 3), &[]),
     (
         Which::Two,
-        Step::Tell(Told::Written),
+        Step::Tell(Ok(Told::Written)),
         &[(39, 0x0002_0000_0000_0005)],
     ),
     (Which::One, Step::Put(4, Ok(())), &[]),
@@ -191,7 +182,7 @@ fn duo_follows(duo: &mut OneDuo, rows: &[DuoRow]) -> bool {
 }
 
 // It begins with zeros.
-fn a_duo_of_four(alloc: Global) -> Result<bool, Fail> {
+pub fn a_duo_of_four(alloc: Global) -> Result<bool, Fail> {
     let mut duo = OneDuo::new(alloc, 4)?;
     Ok(zeros(duo.words()) == Some(64) && duo_follows(&mut duo, DUO_OF_FOUR))
 }
@@ -212,7 +203,7 @@ fn forgets(duo: &mut OneDuo) -> bool {
         && duo.known(Which::One) == 1
 }
 
-fn forgets_what_a_look_told(alloc: Global) -> Result<bool, Fail> {
+pub fn forgets_what_a_look_told(alloc: Global) -> Result<bool, Fail> {
     let mut duo = OneDuo::new(alloc, 4)?;
     let forgets = duo_follows(&mut duo, ASKED_AND_ANSWERED) && forgets(&mut duo);
     let room = look_and_take_memory(alloc, &mut duo, Which::One)?;
@@ -271,7 +262,7 @@ fn ten_go_through(
     true
 }
 
-fn passes_through_each(alloc: Global) -> Result<bool, Fail> {
+pub fn passes_through_each(alloc: Global) -> Result<bool, Fail> {
     let mut local = QueueLink::local(alloc, 1)?;
     let mut acked = QueueLink::acked(alloc, 2)?;
     let mut ring = OneRing::new(alloc, 2)?;
@@ -306,25 +297,25 @@ fn first(tells: bool) -> (Sight, Sight, bool) {
     (arrived(0, 3), arrived(0, 3), tells)
 }
 
-fn a_local_queue(alloc: Global) -> Result<bool, Fail> {
+pub fn a_local_queue(alloc: Global) -> Result<bool, Fail> {
     let mut queue = QueueLink::local(alloc, 2)?;
     let wanted = (2, (false, 1, 0, 0), first(false), (true, 1, 0, 0));
     Ok(of_itself(&mut queue) == wanted)
 }
 
-fn an_acked_queue(alloc: Global) -> Result<bool, Fail> {
+pub fn an_acked_queue(alloc: Global) -> Result<bool, Fail> {
     let mut queue = QueueLink::acked(alloc, 2)?;
     let wanted = (2, (false, 0, 0, 0), first(true), (true, 0, 0, 0));
     Ok(of_itself(&mut queue) == wanted)
 }
 
-fn a_ring(alloc: Global) -> Result<bool, Fail> {
+pub fn a_ring(alloc: Global) -> Result<bool, Fail> {
     let mut ring = OneRing::new(alloc, 2)?;
     let wanted = (2, (false, 0, 0, 0), first(true), (true, 0, 0, 1));
     Ok(of_itself(&mut ring) == wanted)
 }
 
-fn a_duo(alloc: Global) -> Result<bool, Fail> {
+pub fn a_duo(alloc: Global) -> Result<bool, Fail> {
     let mut duo = OneDuo::new(alloc, 4)?;
     let two = (false, 1, 0, 0);
     Ok(duo_of_itself(&mut duo) == ((3, two, first(false), two), (true, 1, 1, 0)))
@@ -352,20 +343,6 @@ impl Row for Count {
     }
 }
 
-#[derive(Clone, Copy)]
-enum Example {
-    RingOfTwo,
-    BeginsWithZeros,
-    DuoOfFour,
-    Forgets,
-    PassesThroughEach,
-    // what each tells of itself
-    LocalQueue,
-    AckedQueue,
-    Ring,
-    Duo,
-}
-
 const EXAMPLES: &[Example] = &[
     Example::RingOfTwo,
     Example::BeginsWithZeros,
@@ -377,22 +354,6 @@ const EXAMPLES: &[Example] = &[
     Example::Ring,
     Example::Duo,
 ];
-
-impl Row for Example {
-    fn holds(&self, alloc: Global) -> Result<bool, Fail> {
-        match self {
-            Example::RingOfTwo => a_ring_of_two(alloc),
-            Example::BeginsWithZeros => begins_with_zeros(alloc),
-            Example::DuoOfFour => a_duo_of_four(alloc),
-            Example::Forgets => forgets_what_a_look_told(alloc),
-            Example::PassesThroughEach => passes_through_each(alloc),
-            Example::LocalQueue => a_local_queue(alloc),
-            Example::AckedQueue => an_acked_queue(alloc),
-            Example::Ring => a_ring(alloc),
-            Example::Duo => a_duo(alloc),
-        }
-    }
-}
 
 #[test]
 fn rings(rt: HostRuntime) -> Result<(), Fail> {

@@ -2,8 +2,9 @@
 
 ghost use Rattle.std.specs.Prelude.{◌≡◌, ◌≤◌, ◌^◌};
 
-use crate::ring::fragments::{Step, arrived, pass_on, ping};
-use crate::rows::{Row, all_hold};
+use crate::examples::Example;
+use crate::ring::fragments::{Step, answers, arrived, pass_on, ping};
+use crate::rows::all_hold;
 use fl_link::{Passed, PutFault, Sight, Told};
 use fl_ring::{
     RingFault, RingRx, RingTx, SharedSide, Which, duo, duo_from, receiver_conserves, ring,
@@ -24,7 +25,7 @@ fn ring_answers(tx: &mut RingTx, rx: &mut RingRx, step: Step) -> bool {
         Step::TakeNothing => rx.try_take() == Sight::Empty,
         Step::Tell(told) => {
             rx.tell();
-            told == Told::Written
+            told == Ok(Told::Written)
         }
         Step::NextEpoch(epoch) => tx.next_epoch() == epoch,
         Step::Known(known) => tx.known() == known,
@@ -39,7 +40,7 @@ const RING_OF_TWO: &[Step] = &[
     Step::Peek(5, 3),
     Step::Take(5, 3),
     Step::Put(7, Err(PutFault::Full)),
-    Step::Tell(Told::Written),
+    Step::Tell(Ok(Told::Written)),
     Step::Put(7, Ok(())),
     Step::Known(1),
     Step::NextEpoch(0),
@@ -57,34 +58,16 @@ fn ring_follows(tx: &mut RingTx, rx: &mut RingRx, steps: &[Step]) -> bool {
     true
 }
 
-fn a_ring_of_two(alloc: Global) -> Result<bool, Fail> {
+pub fn a_ring_of_two(alloc: Global) -> Result<bool, Fail> {
     let (mut tx, mut rx) = ring(alloc, 2)?;
     Ok(ring_follows(&mut tx, &mut rx, RING_OF_TWO))
-}
-
-// Takes a step, and says whether the side answers so.
-fn side_answers(side: &mut SharedSide, step: Step) -> bool {
-    match step {
-        Step::Put(v, answer) => side.try_put(&ping(v)) == answer,
-        Step::Peek(v, control) => side.try_peek() == arrived(v, control),
-        Step::Take(v, control) => side.try_take() == arrived(v, control),
-        Step::TakeNothing => side.try_take() == Sight::Empty,
-        Step::TakeAcknowledgement => side.try_take() == Sight::Acknowledgement,
-        Step::Tell(told) => side.tell() == Ok(told),
-        Step::TellFull => side.tell() == Err(PutFault::Full),
-        Step::Room(room) => side.room() == room,
-        Step::NextEpoch(epoch) => side.next_epoch() == epoch,
-        Step::NextTold(told) => side.next_told() == told,
-        Step::Known(known) => side.known() == known,
-        Step::Form(_, _, _) => false,
-    }
 }
 
 fn sides_follow(one: &mut SharedSide, two: &mut SharedSide, rows: &[(Which, Step)]) -> bool {
     for (which, step) in rows {
         let answers = match which {
-            Which::One => side_answers(one, *step),
-            Which::Two => side_answers(two, *step),
+            Which::One => answers(one, *step),
+            Which::Two => answers(two, *step),
         };
         if !answers {
             return false;
@@ -101,9 +84,9 @@ const DUO_OF_FOUR: &[(Which, Step)] = &[
     (Which::One, Step::Put(8, Err(PutFault::Full))),
     (Which::Two, Step::Peek(5, 3)),
     (Which::Two, Step::Take(5, 3)),
-    (Which::Two, Step::Tell(Told::Nothing)),
+    (Which::Two, Step::Tell(Ok(Told::Nothing))),
     (Which::Two, Step::Take(6, 3)),
-    (Which::Two, Step::Tell(Told::Written)),
+    (Which::Two, Step::Tell(Ok(Told::Written))),
     (Which::One, Step::Known(0)),
     (Which::One, Step::Put(8, Ok(()))),
     (Which::One, Step::Known(2)),
@@ -113,7 +96,7 @@ const DUO_OF_FOUR: &[(Which, Step)] = &[
     (Which::One, Step::NextTold(1)),
 ];
 
-fn a_duo_of_four(alloc: Global) -> Result<bool, Fail> {
+pub fn a_duo_of_four(alloc: Global) -> Result<bool, Fail> {
     let (mut one, mut two) = duo(alloc, 4)?;
     Ok(sides_follow(&mut one, &mut two, DUO_OF_FOUR))
 }
@@ -155,7 +138,7 @@ fn each_crosses(one: &mut SharedSide, two: &mut SharedSide) -> bool {
 }
 
 // The numbers told turn over at 65,536, and the epochs every four fragments.
-fn a_duo_that_began_long_ago(alloc: Global) -> Result<bool, Fail> {
+pub fn a_duo_that_began_long_ago(alloc: Global) -> Result<bool, Fail> {
     let (mut one, mut two) = began_long_ago(alloc, 65_530)?;
     Ok(each_crosses(&mut one, &mut two))
 }
@@ -173,14 +156,14 @@ const DUO_AT_ITS_END: &[(Which, Step)] = &[
     (Which::Two, Step::Put(9, Ok(()))),
     (Which::Two, Step::Put(9, Err(PutFault::Spent))),
     (Which::One, Step::Take(8, 0xfffe_0000_0000_0002)),
-    (Which::One, Step::Tell(Told::Nothing)),
+    (Which::One, Step::Tell(Ok(Told::Nothing))),
     (Which::One, Step::Take(9, 0xfffe_0000_0000_0002)),
-    (Which::One, Step::TellFull),
+    (Which::One, Step::Tell(Err(PutFault::Full))),
     (Which::One, Step::Put(7, Err(PutFault::Spent))),
     (Which::Two, Step::Take(5, 0xfffe_0000_0000_0002)),
 ];
 
-fn a_duo_at_its_end(alloc: Global) -> Result<bool, Fail> {
+pub fn a_duo_at_its_end(alloc: Global) -> Result<bool, Fail> {
     let (mut one, mut two) = began_long_ago(alloc, (1 << 62) - 2)?;
     Ok(sides_follow(&mut one, &mut two, DUO_AT_ITS_END))
 }
@@ -199,40 +182,19 @@ fn goes_round(
         && pass_on(rx, one) == Passed::Nothing
 }
 
-fn passes_between(alloc: Global) -> Result<bool, Fail> {
+pub fn passes_between(alloc: Global) -> Result<bool, Fail> {
     let (mut tx, mut rx) = ring(alloc, 2)?;
     let (mut one, mut two) = duo(alloc, 4)?;
     Ok(goes_round(&mut tx, &mut rx, &mut one, &mut two))
 }
 
-#[derive(Clone, Copy)]
-enum Example {
-    RingOfTwo,
-    DuoOfFour,
-    LongAgo,
-    AtItsEnd,
-    PassesBetween,
-}
-
 const EXAMPLES: &[Example] = &[
-    Example::RingOfTwo,
-    Example::DuoOfFour,
+    Example::SharedRing,
+    Example::SharedDuo,
     Example::LongAgo,
     Example::AtItsEnd,
     Example::PassesBetween,
 ];
-
-impl Row for Example {
-    fn holds(&self, alloc: Global) -> Result<bool, Fail> {
-        match self {
-            Example::RingOfTwo => a_ring_of_two(alloc),
-            Example::DuoOfFour => a_duo_of_four(alloc),
-            Example::LongAgo => a_duo_that_began_long_ago(alloc),
-            Example::AtItsEnd => a_duo_at_its_end(alloc),
-            Example::PassesBetween => passes_between(alloc),
-        }
-    }
-}
 
 #[test]
 fn shared_rings(rt: HostRuntime) -> Result<(), Fail> {
@@ -374,8 +336,9 @@ fn both_counted<R: Threads + Wait + Sync>(rt: &R, one: SharedSide, two: SharedSi
 #[test]
 fn ten_thousand_in_order(rt: HostRuntime) -> Result<(), Fail> {
     let (tx, rx) = ring(rt.alloc(), 2)?;
+    let passed = pass_counted(&rt, tx, rx);
     let (one, two) = duo(rt.alloc(), 4)?;
-    let counts = (pass_counted(&rt, tx, rx), both_counted(&rt, one, two));
-    assert_eq!(rt; counts, (COUNT, (COUNT, COUNT)));
+    let counts = (passed, both_counted(&rt, one, two));
+    assert!(rt; counts == (COUNT, (COUNT, COUNT)));
     Ok(())
 }

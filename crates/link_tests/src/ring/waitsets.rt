@@ -1,6 +1,7 @@
 //! Waitsets: worked examples, and random calls beside slow lists.
 
-use crate::ring::slow::{Slow, next_random, random_place};
+use crate::examples::Example;
+use crate::ring::slow::{Fast, Slow, random_place};
 use crate::rows::{Row, all_hold};
 use fl_base::ChanId;
 use fl_waitset::{Pick, Place, WaitFault, Waitset};
@@ -191,22 +192,6 @@ fn alike(fast: &mut Waitset, slow: &mut Slow, asked: Asked) -> Result<bool, Allo
     Ok(ask(fast, asked) == ask_slow(slow, asked)? && picked(fast.next_event()) == slow_next(slow))
 }
 
-// Whether so many random calls are answered alike; `random` goes on.
-fn call_each(
-    fast: &mut Waitset,
-    slow: &mut Slow,
-    calls: usize,
-    random: &mut u64,
-) -> Result<bool, AllocError> {
-    for _ in 0..calls {
-        *random = next_random(*random);
-        if !alike(fast, slow, random_call(*random))? {
-            return Ok(false);
-        }
-    }
-    Ok(true)
-}
-
 fn pick_of(answer: Answer) -> Option<ChanId> {
     match answer {
         Ok(Some(Pick::Pending(c) | Pick::Polled(c))) => Some(c),
@@ -237,34 +222,23 @@ fn drain_idle(fast: &mut Waitset, slow: &mut Slow) -> Result<bool, AllocError> {
     drain(fast, slow)
 }
 
-// So many random calls over six channels and one that there isn't.
-struct Random(usize);
+// Random calls over six channels and one that there isn't.
+impl Fast for Waitset {
+    fn make(alloc: Global) -> Result<Waitset, Fail> {
+        Ok(Waitset::new(alloc, usize::from(CHANNELS))?)
+    }
 
-fn agree_after(alloc: Global, calls: usize, random: &mut u64) -> Result<bool, Fail> {
-    let mut fast = Waitset::new(alloc, usize::from(CHANNELS))?;
-    let mut slow = Slow::new(alloc);
-    Ok(
-        call_each(&mut fast, &mut slow, calls, random)?
-            && drain(&mut fast, &mut slow)?
-            && drain_idle(&mut fast, &mut slow)?,
-    )
-}
+    fn call(&mut self, slow: &mut Slow, random: u64) -> Result<bool, AllocError> {
+        alike(self, slow, random_call(random))
+    }
 
-// After each number of calls the lists agree.
-impl Row for Random {
-    fn holds(&self, alloc: Global) -> Result<bool, Fail> {
-        let mut random: u64 = 1;
-        for calls in 0..self.0 {
-            if !agree_after(alloc, calls, &mut random)? {
-                return Ok(false);
-            }
-        }
-        Ok(true)
+    fn drain(&mut self, slow: &mut Slow) -> Result<bool, AllocError> {
+        Ok(drain(self, slow)? && drain_idle(self, slow)?)
     }
 }
 
 #[test]
 fn waitsets_answer(rt: HostRuntime) -> Result<(), Fail> {
     all_hold(rt.alloc(), "scripts", &[Script(ANSWERS)])?;
-    all_hold(rt.alloc(), "random calls", &[Random(80)])
+    all_hold(rt.alloc(), "random calls", &[Example::RandomWaitsets])
 }
