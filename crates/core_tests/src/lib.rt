@@ -1,7 +1,8 @@
 //! Tests of ends, boards, monitors, cores and running cores, over their public calls alone: one crate, since each crate of
 //! tests begins with reading all that it stands on, and proves how each of its types is dropped.
 //!
-//! - `tables.rt`: tables, of which a test tells the first row that isn't so; `texts.rt`: programs of texts
+//! - `tables.rt`: tables, of which a test tells the first row that isn't so; `texts.rt`: programs of texts;
+//!   `faults.rt`: the numbers and the words of faults
 //! - `endpoint.rt`: ends of bindings over queues
 //! - `cores.rt`: the board of one core
 //! - `monitor.rt`: monitors' messages, circuits and names
@@ -16,6 +17,8 @@
 mod cores;
 #[cfg(test)]
 mod endpoint;
+#[cfg(test)]
+mod faults;
 #[cfg(test)]
 mod monitor;
 #[cfg(test)]

@@ -6,7 +6,8 @@
 //!
 //! - `monitors.rt`: three cores and the steps of a script; `circuits.rt`, `forged.rt`, `limits.rt`: the scripts; `script_tests.rt`
 //!   runs them
-//! - `words.rt`, `texts.rt`: messages as tables tell them, and interfaces of texts
+//! - `messages.rt`: what a messenger writes and reads, row by row
+//! - `words.rt`: messages as tables tell them
 
 mod circuits;
 mod fault_tests;
@@ -14,11 +15,11 @@ mod forged;
 mod limits;
 mod memory_tests;
 mod message_tests;
+mod messages;
 mod monitors;
 mod name_tests;
 mod offer_tests;
 mod outbox_tests;
 mod path_tests;
 mod script_tests;
-mod texts;
 mod words;

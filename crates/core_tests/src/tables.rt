@@ -18,3 +18,11 @@ pub fn all_hold<R: Row>(alloc: Global, table: &str, rows: &[R]) -> Result<(), Fa
     }
     Ok(())
 }
+
+/// What a test tells of an example that is no row of a table.
+pub fn is_so(holds: Result<bool, AllocError>) -> Result<(), Fail> {
+    if holds? {
+        return Ok(());
+    }
+    Err(Fail::new("the example is wrong"))
+}

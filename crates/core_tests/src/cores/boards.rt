@@ -1,9 +1,10 @@
 //! All tables and examples.
 
 use crate::cores::refusals::{taken_back, too_many_ends};
-use crate::cores::rig::make_board;
+use crate::cores::rig::add_dispatchers;
 use crate::cores::{faults, refusals, rows};
 use crate::tables::{Row, all_hold};
+use fl_core::Board;
 use std::alloc::{AllocError, Global};
 use std::test::Fail;
 
@@ -14,13 +15,18 @@ enum Example {
     TakenBack,
 }
 
+fn is_right(alloc: Global, board: &mut Board, example: &Example) -> Result<bool, AllocError> {
+    add_dispatchers(board, 2)?;
+    match example {
+        Example::TooManyEnds => Ok(too_many_ends(alloc, board)),
+        Example::TakenBack => taken_back(alloc, board),
+    }
+}
+
 impl Row for Example {
     fn holds(&self, alloc: Global) -> Result<bool, AllocError> {
-        let mut board = make_board(alloc, 2)?;
-        match self {
-            Example::TooManyEnds => Ok(too_many_ends(alloc, &mut board)),
-            Example::TakenBack => taken_back(alloc, &mut board),
-        }
+        let mut board = Board::new(alloc);
+        is_right(alloc, &mut board, self)
     }
 }
 

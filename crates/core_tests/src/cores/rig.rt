@@ -86,7 +86,7 @@ pub struct Example {
 #[derive(Drop)]
 struct Rig {
     alloc: Global,
-    board: Board,
+    board: Box<Board>,
     queues: Vec<QueueLink>,
 }
 
@@ -110,13 +110,12 @@ fn make_queue(alloc: Global, binding: &Binding) -> Result<QueueLink, AllocError>
     }
 }
 
-/// A board with so many dispatchers.
-pub fn make_board(alloc: Global, dispatchers: usize) -> Result<Board, AllocError> {
-    let mut board = Board::new(alloc);
-    for _ in 0..dispatchers {
+/// So many dispatchers more.
+pub fn add_dispatchers(board: &mut Board, count: usize) -> Result<(), AllocError> {
+    for _ in 0..count {
         board.add_dispatcher()?;
     }
-    Ok(board)
+    Ok(())
 }
 
 /// One end more; refused as not bound where there is no such dispatcher.
@@ -185,8 +184,12 @@ fn turned(e: usize, answer: TurnAnswer) -> Said {
     }
 }
 
-fn put(queue: &mut QueueLink, control: u64, words: [u64; 7]) -> Said {
-    match queue.put(&Frag { words, control }) {
+fn put(queue: &mut QueueLink, control: u64, words: &[u64; 7]) -> Said {
+    let frag = Frag {
+        words: *words,
+        control,
+    };
+    match queue.put(&frag) {
         Ok(()) => Said::Done,
         Err(_) => Said::Full,
     }
@@ -229,7 +232,7 @@ fn trigger(board: &mut Board, e: usize) -> Said {
 }
 
 // What is done without a queue.
-fn ask(board: &mut Board, e: usize, deed: Deed) -> Said {
+fn ask(board: &mut Board, e: usize, deed: &Deed) -> Said {
     if e >= board.ends() {
         return Said::Other;
     }
@@ -238,7 +241,7 @@ fn ask(board: &mut Board, e: usize, deed: Deed) -> Said {
         Deed::Reply => done_at_end(board.reply_rule(e, MsgNo(0), MsgNo(1))),
         Deed::Trigger => trigger(board, e),
         Deed::Bind(circuit) => {
-            board.bind(e, circuit);
+            board.bind(e, *circuit);
             Said::Done
         }
         _ => Said::Other,
@@ -246,20 +249,20 @@ fn ask(board: &mut Board, e: usize, deed: Deed) -> Said {
 }
 
 // What is done with the queue to which an end puts.
-fn put_at(board: &mut Board, e: usize, out: &mut QueueLink, deed: Deed) -> Said {
+fn put_at(board: &mut Board, e: usize, out: &mut QueueLink, deed: &Deed) -> Said {
     if e >= board.ends() {
         return Said::Other;
     }
     match deed {
         Deed::Show => shown(board.show(e, out)),
         Deed::Write => written(board.write(e, out)),
-        Deed::Put(control, words) => put(out, control, words),
+        Deed::Put(control, words) => put(out, *control, words),
         _ => peek(out),
     }
 }
 
 // What is done with the queue from which it takes.
-fn take_at(board: &mut Board, e: usize, from: &mut QueueLink, deed: Deed) -> Said {
+fn take_at(board: &mut Board, e: usize, from: &mut QueueLink, deed: &Deed) -> Said {
     if e >= board.ends() {
         return Said::Other;
     }
@@ -284,21 +287,24 @@ fn is_text(alloc: Global, end: &End, call: &Call, text: &[u8]) -> Result<bool, A
 }
 
 impl Rig {
-    fn new(alloc: Global, dispatchers: usize) -> Result<Rig, AllocError> {
-        Ok(Rig {
-            alloc,
-            board: make_board(alloc, dispatchers)?,
-            queues: Vec::new(alloc),
-        })
+    fn add_queue(&mut self, binding: &Binding) -> Result<(), AllocError> {
+        match make_queue(self.alloc, binding) {
+            Ok(queue) => Ok(self.queues.push(queue)?),
+            Err(_) => Err(AllocError),
+        }
     }
 
-    fn add(&mut self, binding: &Binding, dispatcher: usize) -> Result<(), AllocError> {
-        self.queues.push(make_queue(self.alloc, binding)?)?;
+    fn add_end(&mut self, binding: &Binding, dispatcher: usize) -> Result<(), AllocError> {
         let end = make_end(self.alloc, binding)?;
         match add_end(&mut self.board, dispatcher, end, binding.kind) {
             Ok(_) => Ok(()),
             Err(_) => Err(AllocError),
         }
+    }
+
+    fn add(&mut self, binding: &Binding, dispatcher: usize) -> Result<(), AllocError> {
+        self.add_queue(binding)?;
+        self.add_end(binding, dispatcher)
     }
 
     // Both ends of a binding, which are registered, client first.
@@ -307,19 +313,19 @@ impl Rig {
         let [client, server] = binding.at;
         self.add(binding, client)?;
         self.add(binding, server)?;
-        self.take(e, Deed::Register);
-        self.take(peer(e), Deed::Register);
+        self.take(e, &Deed::Register);
+        self.take(peer(e), &Deed::Register);
         Ok(())
     }
 
-    fn put(&mut self, e: usize, deed: Deed) -> Said {
+    fn put(&mut self, e: usize, deed: &Deed) -> Said {
         match self.queues.get_mut(e) {
             Some(out) => put_at(&mut self.board, e, out, deed),
             None => Said::Other,
         }
     }
 
-    fn take(&mut self, e: usize, deed: Deed) -> Said {
+    fn take(&mut self, e: usize, deed: &Deed) -> Said {
         match self.queues.get_mut(peer(e)) {
             Some(from) => take_at(&mut self.board, e, from, deed),
             None => Said::Other,
@@ -328,7 +334,7 @@ impl Rig {
 
     // A write triggers the channel of the peer. That of a ring is polled, and stays so.
     fn write(&mut self, e: usize) -> Said {
-        let said = self.put(e, Deed::Write);
+        let said = self.put(e, &Deed::Write);
         if matches!(said, Said::Written(_, _)) {
             trigger(&mut self.board, peer(e));
         }
@@ -382,7 +388,7 @@ impl Rig {
     }
 
     // What is answered to a deed.
-    fn answer(&mut self, place: usize, deed: Deed) -> Result<Said, AllocError> {
+    fn answer(&mut self, place: usize, deed: &Deed) -> Result<Said, AllocError> {
         match deed {
             Deed::Turn(text) => self.turn(place, text),
             Deed::TurnAtLast(text) => self.turn_at_last(place, text),
@@ -400,7 +406,7 @@ impl Rig {
     // Whether the rows are answered so, one after another.
     fn answers(&mut self, rows: &[Step]) -> Result<bool, AllocError> {
         for (place, deed, said) in rows {
-            if self.answer(*place, *deed)? != *said {
+            if self.answer(*place, deed)? != *said {
                 return Ok(false);
             }
         }
@@ -415,6 +421,7 @@ impl Rig {
     }
 
     fn goes(&mut self, example: &Example) -> Result<bool, AllocError> {
+        add_dispatchers(&mut self.board, example.dispatchers)?;
         self.bind_all(example.bindings)?;
         self.answers(example.rows)
     }
@@ -422,7 +429,12 @@ impl Rig {
 
 impl Row for Example {
     fn holds(&self, alloc: Global) -> Result<bool, AllocError> {
-        let mut rig = Rig::new(alloc, self.dispatchers)?;
+        let board = Box::new(alloc, Board::new(alloc))?;
+        let mut rig = Rig {
+            alloc,
+            board,
+            queues: Vec::new(alloc),
+        };
         rig.goes(self)
     }
 }

@@ -110,12 +110,12 @@ impl Model for Half {
 #[derive(Drop)]
 struct Pair {
     alloc: Global,
-    client: Half,
-    server: Half,
+    client: Box<Half>,
+    server: Box<Half>,
     handled: Vec<u8>,
 }
 
-fn end(alloc: Global, program: Program, circuit: Option<Circuit>) -> Result<End, AllocError> {
+fn end_of(alloc: Global, program: Program, circuit: Option<Circuit>) -> Result<End, AllocError> {
     match circuit {
         Some(circuit) => End::new(alloc, program, circuit),
         None => End::unbound(alloc, program),
@@ -129,16 +129,25 @@ fn queue(alloc: Global, size: usize) -> Result<QueueLink, AllocError> {
     }
 }
 
-fn make_half(alloc: Global, plan: PlanNo, example: &Example) -> Result<Half, AllocError> {
-    let program = program(alloc, example.text, plan)?;
-    let end = end(alloc, program, example.circuit)?;
+fn end(alloc: Global, plan: PlanNo, example: &Example) -> Result<End, AllocError> {
+    match program(alloc, example.text, plan) {
+        Ok(program) => end_of(alloc, program, example.circuit),
+        Err(_) => Err(AllocError),
+    }
+}
+
+fn half_of(alloc: Global, end: End, out: QueueLink) -> Result<Box<Half>, AllocError> {
     let mut calls = Reassemblies::new(alloc);
     end.add_place(&mut calls)?;
-    Ok(Half {
-        end,
-        calls,
-        out: queue(alloc, example.size)?,
-    })
+    Ok(Box::new(alloc, Half { end, calls, out })?)
+}
+
+fn make_half(alloc: Global, plan: PlanNo, example: &Example) -> Result<Box<Half>, AllocError> {
+    let end = end(alloc, plan, example)?;
+    match queue(alloc, example.size) {
+        Ok(out) => half_of(alloc, end, out),
+        Err(_) => Err(AllocError),
+    }
 }
 
 fn said_of(answer: Result<(), EndFault>) -> Said {
@@ -165,8 +174,12 @@ fn said_of_write(answer: Result<WriteAnswer, EndFault>) -> Said {
     }
 }
 
-fn put(queue: &mut QueueLink, control: u64, words: [u64; 7]) -> Said {
-    match queue.put(&Frag { words, control }) {
+fn put(queue: &mut QueueLink, control: u64, words: &[u64; 7]) -> Said {
+    let frag = Frag {
+        words: *words,
+        control,
+    };
+    match queue.put(&frag) {
         Ok(()) => Said::Done,
         Err(_) => Said::Full,
     }
@@ -214,10 +227,10 @@ fn handle(
 }
 
 // What an end answers that takes no memory.
-fn ask(end: &mut End, deed: Deed) -> Said
+fn ask(end: &mut End, deed: &Deed) -> Said
     ensures program { end.new.program ≡ end.old.program }
 {
-    match deed {
+    match *deed {
         Deed::Rule(msg, reply) => said_of(end.reply_rule(msg, reply)),
         Deed::RuleFor(msg) => Said::Rule(end.rule_for(msg)),
         Deed::ShowRefused(fault) => said_of_show(end.show(&Refusing(fault))),
@@ -282,7 +295,7 @@ impl Half {
     fn answer(
         &mut self,
         alloc: Global,
-        deed: Deed,
+        deed: &Deed,
         from: &mut QueueLink,
         handled: &mut Vec<u8>,
     ) -> Result<Said, AllocError> {
@@ -294,9 +307,9 @@ impl Half {
             Deed::Write => Ok(said_of_write(self.end.write(&mut self.out))),
             Deed::Receive => self.receive(alloc, from, handled),
             Deed::ReceiveAtLast => self.receive_at_last(alloc, from, handled),
-            Deed::Put(control, words) => Ok(put(from, control, words)),
+            Deed::Put(control, words) => Ok(put(from, *control, words)),
             Deed::Take(control, words) => {
-                put(from, control, words);
+                put(from, *control, words);
                 self.receive(alloc, from, handled)
             }
             _ => Ok(ask(&mut self.end, deed)),
@@ -314,7 +327,7 @@ impl Pair {
         })
     }
 
-    fn answer(&mut self, side: Side, deed: Deed) -> Result<Said, AllocError> {
+    fn answer(&mut self, side: Side, deed: &Deed) -> Result<Said, AllocError> {
         let (client, server) = (&mut self.client, &mut self.server);
         match side {
             Side::Client => client.answer(self.alloc, deed, &mut server.out, &mut self.handled),
@@ -325,7 +338,7 @@ impl Pair {
     // Whether the ends answer so to deeds, one after another.
     fn answers(&mut self, rows: &[Step]) -> Result<bool, AllocError> {
         for (side, deed, said) in rows {
-            if self.answer(*side, *deed)? != *said {
+            if self.answer(*side, deed)? != *said {
                 return Ok(false);
             }
         }
@@ -337,7 +350,10 @@ impl Pair {
     }
 
     fn goes(&mut self, example: &Example, start: &[Step]) -> Result<bool, AllocError> {
-        Ok(self.answers(start)? && self.answers(example.rows)? && self.has_handled(example.handled))
+        if !self.answers(start)? || !self.answers(example.rows)? {
+            return Ok(false);
+        }
+        Ok(self.has_handled(example.handled))
     }
 }
 

@@ -1,8 +1,6 @@
 //! Scripts of messages out of their place, one by one, at core 1 between core 0 and core 2; nothing has changed after each.
 
-use crate::monitor::monitors::{
-    CROWDED, ENDS, FIRST, FREE, HOME, LINE, OUT, SECOND, Step, first_wrong,
-};
+use crate::monitor::monitors::{CROWDED, ENDS, FIRST, FREE, HOME, LINE, OUT, SECOND, Step};
 use crate::monitor::words::Words;
 use fl_base::{Circuit, CoreId, EndId, LinkId, Side};
 use fl_monitor::{Heard, Here, MonitorFault};

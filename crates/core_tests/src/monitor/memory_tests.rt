@@ -12,7 +12,10 @@ fn next(monitor: &Monitor) -> Option<Circuit> {
 }
 
 // Whether asking for a circuit was refused for want of memory and left the monitor as it was, or did its work.
-fn asks_with_little_memory(monitor: &mut Monitor, path: Path) -> bool {
+fn asks_with_little_memory(monitor: &mut Monitor) -> bool {
+    let Some(path) = Path::new(LINE) else {
+        return false;
+    };
     let asked = Opening {
         binding: 0,
         service: IRef(1),
@@ -28,18 +31,22 @@ fn asks_with_little_memory(monitor: &mut Monitor, path: Path) -> bool {
     }
 }
 
-fn with_little_memory(alloc: Global, path: Path) -> bool {
-    let Ok(mut monitor) = Monitor::new(alloc, CoreId(0)) else {
-        return true;
-    };
+// The same from a new monitor on, to which a link is added.
+fn starts_with_little_memory(monitor: &mut Monitor) -> bool {
     match monitor.add_link(CoreId(1)) {
-        Ok(_) => asks_with_little_memory(&mut monitor, path),
-        Err(fault) => fault == HopFault::Memory && next(&monitor).is_none(),
+        Ok(_) => asks_with_little_memory(monitor),
+        Err(fault) => fault == HopFault::Memory && next(monitor).is_none(),
+    }
+}
+
+fn with_little_memory(alloc: Global) -> bool {
+    match Monitor::new(alloc, CoreId(0)) {
+        Ok(mut monitor) => starts_with_little_memory(&mut monitor),
+        Err(_no_memory) => true,
     }
 }
 
 #[test]
 fn opens_without_memory(rt: HostRuntime) {
-    let path = Path::new(LINE);
-    assert!(rt; path.is_some_and(|path| with_little_memory(rt.alloc(), path)));
+    assert!(rt; with_little_memory(rt.alloc()));
 }

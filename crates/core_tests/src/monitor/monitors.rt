@@ -1,11 +1,16 @@
 //! Monitors of a line of three cores that hear each other's fragments, in one thread, and scripts of what they do.
 
+use crate::monitor::offer_tests::SAME;
 use crate::monitor::words::{Words, message};
+use crate::texts::program;
 use fl_base::{Circuit, CoreId, IRef, LinkId};
+use fl_compile::Program;
 use fl_hop::Hop;
 use fl_monitor::{Heard, Here, Message, Messenger, Monitor, MonitorFault, Opening, Path};
 use fl_nameserv::{Names, Service};
-use std::alloc::Global;
+use fl_value::PlanNo;
+use fl_wire::WireFault;
+use std::alloc::{AllocError, Global};
 use std::test::Fail;
 
 /// No end of the binding is made here, and the dispatcher has a place.
@@ -40,14 +45,17 @@ pub const OUT: Leg = (0, FIRST, 1, FIRST);
 
 pub const HOME: Leg = (1, FIRST, 0, FIRST);
 
+/// What a core answers to a message.
+pub type Answer = Result<Heard, MonitorFault>;
+
 /// A step of a script: what is done, and what it has to come to.
 pub enum Step {
     /// A core asks over a link for a circuit, for a binding and a service, along a route.
     Asks(u8, LinkId, (u32, u32, &'static [CoreId]), Result<Circuit, MonitorFault>),
     /// A core's next message is heard by the other, and is gone then; `None` where nothing waits.
-    Goes(Leg, Here, Option<Result<Heard, MonitorFault>>),
+    Goes(Leg, Here, Option<Answer>),
     /// Core 1 hears a message, from wherever it may be.
-    Hears(LinkId, Here, Words, Result<Heard, MonitorFault>),
+    Hears(LinkId, Here, Words, Answer),
     /// A core asks over a link for so many circuits along a route, for bindings from 0 on; each opening is sent at once, or all wait.
     AsksForEach(u8, LinkId, u16, &'static [CoreId], bool),
     /// Core 1 refuses openings of so many bindings that end there at no service.
@@ -58,53 +66,53 @@ pub enum Step {
     Keeps(u8, Option<Hop>),
     /// The numbers of the next circuit that a core asks for on its first link, and of the next that is asked for there.
     Counts(u8, u16, u16),
+    /// What core 0 answers where a circuit is wanted for a service of this text, under this plan, at a core and by a route; the client's
+    /// program is that of another text, under plan 1.
+    Offers(&'static [u8], PlanNo, u8, &'static [CoreId], Result<LinkId, MonitorFault>),
 }
 
-// The three cores.
+// The three cores, each in a place of its own.
 #[derive(Drop)]
 struct Cores {
-    first: Monitor,
-    middle: Monitor,
-    last: Monitor,
+    first: Box<Monitor>,
+    middle: Box<Monitor>,
+    last: Box<Monitor>,
 }
 
 // The cores, what reads the fragments between them, and the table of names.
 #[derive(Drop)]
 struct Line {
+    alloc: Global,
     cores: Cores,
     messenger: Messenger,
     names: Names,
 }
 
-/// The monitor of a core with links to these.
-pub fn monitor(alloc: Global, core: u8, neighbours: &[u8]) -> Result<Monitor, Fail> {
-    let mut monitor = Monitor::new(alloc, CoreId(core))?;
+fn links_to(monitor: &mut Monitor, neighbours: &[u8]) -> Result<(), AllocError> {
     for neighbour in neighbours {
-        monitor.add_link(CoreId(*neighbour))?;
+        if monitor.add_link(CoreId(*neighbour)).is_err() {
+            return Err(AllocError);
+        }
     }
-    Ok(monitor)
-}
-
-// A service of interface 0 is registered.
-fn register(names: &mut Names, name: &[u8], core: u8, dispatcher: usize) -> Result<(), Fail> {
-    let service = Service {
-        core: CoreId(core),
-        dispatcher,
-        interface: 0,
-    };
-    names.register(name, service)?;
     Ok(())
 }
 
-// Service 1 at dispatcher 5 of core 2, and service 2 at dispatcher 3 of core 1.
-fn services(alloc: Global) -> Result<Names, Fail> {
-    let mut names = Names::new(alloc);
-    register(&mut names, b"far", 2, 5)?;
-    register(&mut names, b"near", 1, 3)?;
-    Ok(names)
+fn bare(alloc: Global, core: u8) -> Result<Box<Monitor>, AllocError> {
+    match Monitor::new(alloc, CoreId(core)) {
+        Ok(monitor) => Ok(Box::new(alloc, monitor)?),
+        Err(_) => Err(AllocError),
+    }
 }
 
-fn make_cores(alloc: Global) -> Result<Cores, Fail> {
+// The monitor of a core with links to these.
+fn monitor(alloc: Global, core: u8, neighbours: &[u8]) -> Result<Box<Monitor>, AllocError> {
+    let mut monitor = bare(alloc, core)?;
+    links_to(&mut monitor, neighbours)?;
+    Ok(monitor)
+}
+
+// Cores 0, 1 and 2, each with links to those beside it.
+fn make_cores(alloc: Global) -> Result<Cores, AllocError> {
     Ok(Cores {
         first: monitor(alloc, 0, &[1])?,
         middle: monitor(alloc, 1, &[0, 2])?,
@@ -112,13 +120,23 @@ fn make_cores(alloc: Global) -> Result<Cores, Fail> {
     })
 }
 
-// Cores 0, 1 and 2, each with links to those beside it.
-fn make_line(alloc: Global) -> Result<Line, Fail> {
-    Ok(Line {
-        cores: make_cores(alloc)?,
-        messenger: Messenger::new(alloc)?,
-        names: services(alloc)?,
-    })
+// A service of interface 0 is registered.
+fn register(names: &mut Names, name: &[u8], core: u8, dispatcher: usize) -> Result<(), AllocError> {
+    let service = Service {
+        core: CoreId(core),
+        dispatcher,
+        interface: 0,
+    };
+    match names.register(name, service) {
+        Ok(_) => Ok(()),
+        Err(_) => Err(AllocError),
+    }
+}
+
+// Service 1 at dispatcher 5 of core 2, and service 2 at dispatcher 3 of core 1.
+fn register_both(names: &mut Names) -> Result<(), AllocError> {
+    register(names, b"far", 2, 5)?;
+    register(names, b"near", 1, 3)
 }
 
 // The core of a number.
@@ -130,23 +148,26 @@ fn at(cores: &mut Cores, number: u8) -> &mut Monitor {
     }
 }
 
-// What a core answers where it is to ask for a circuit; want of memory ends the test.
+// Whether a core answers so where it is to ask for a circuit; want of memory ends the test.
 fn asks(
     monitor: &mut Monitor,
     link: LinkId,
     asked: (u32, u32, &[CoreId]),
-) -> Result<Result<Circuit, MonitorFault>, Fail> {
+    wanted: Result<Circuit, MonitorFault>,
+) -> Result<bool, WireFault> {
     let (binding, service, cores) = asked;
+    let Some(path) = Path::new(cores) else {
+        return Ok(false);
+    };
     let opening = Opening {
         binding,
         service: IRef(service),
-        path: Path::new(cores).ok_or("a route of over 16 cores")?,
+        path,
     };
-    let circuit = monitor.start_open(link, &opening);
-    if circuit == Err(MonitorFault::Memory) {
-        return Err(Fail::new(MonitorFault::Memory));
+    match monitor.start_open(link, &opening) {
+        Err(MonitorFault::Memory) => Err(WireFault::Memory),
+        answer => Ok(answer == wanted),
     }
-    Ok(circuit)
 }
 
 // The circuit of the odd number at a place: 1, 3, 5 and so on.
@@ -161,29 +182,14 @@ fn asks_for_each(
     count: u16,
     cores: &[CoreId],
     sent: bool,
-) -> Result<bool, Fail> {
+) -> Result<bool, WireFault> {
     for turn in 0..count {
-        let circuit = asks(monitor, link, (u32::from(turn), 1, cores))?;
-        if circuit != Ok(odd(turn)) || (sent && !sends(monitor, link)) {
+        let asked = (u32::from(turn), 1, cores);
+        if !asks(monitor, link, asked, Ok(odd(turn)))? || (sent && !sends(monitor, link)) {
             return Ok(false);
         }
     }
     Ok(true)
-}
-
-// What a core answers to a message; want of memory ends the test.
-fn hears(
-    monitor: &mut Monitor,
-    names: &Names,
-    here: Here,
-    link: LinkId,
-    message: &Message,
-) -> Result<Result<Heard, MonitorFault>, Fail> {
-    let heard = monitor.on_message(names, here, link, message);
-    if heard == Err(MonitorFault::Memory) {
-        return Err(Fail::new(MonitorFault::Memory));
-    }
-    Ok(heard)
 }
 
 /// The next fragment of a link is sent, if one waits.
@@ -195,106 +201,167 @@ pub fn sends(monitor: &mut Monitor, link: LinkId) -> bool {
     true
 }
 
+// Whether a core answers so to a message; want of memory ends the test.
+fn hears(
+    monitor: &mut Monitor,
+    names: &Names,
+    here: Here,
+    (link, message): (LinkId, &Message),
+    wanted: Answer,
+) -> Result<bool, WireFault> {
+    match monitor.on_message(names, here, link, message) {
+        Err(MonitorFault::Memory) => Err(WireFault::Memory),
+        answer => Ok(answer == wanted),
+    }
+}
+
 // The message that is sent next, if one waits.
 fn says(
     monitor: &Monitor,
     link: LinkId,
     messenger: &mut Messenger,
-) -> Result<Option<Message>, Fail> {
+) -> Result<Option<Message>, WireFault> {
     match monitor.next_out(link) {
         Some(frag) => Ok(Some(messenger.read(&frag)?)),
         None => Ok(None),
     }
 }
 
-// The next message of a leg is heard, and is gone where it was taken.
-fn goes(
-    line: &mut Line,
-    leg: Leg,
-    here: Here,
-) -> Result<Option<Result<Heard, MonitorFault>>, Fail> {
+// Whether the next message of a leg is heard so, and is gone where it was to be taken; none where none is wanted.
+fn goes(line: &mut Line, leg: Leg, here: Here, wanted: Option<Answer>) -> Result<bool, WireFault> {
     let (from, there, to, back) = leg;
-    let Some(message) = says(at(&mut line.cores, from), there, &mut line.messenger)? else {
-        return Ok(None);
+    let said = says(at(&mut line.cores, from), there, &mut line.messenger)?;
+    let (Some(message), Some(wanted)) = (said, wanted) else {
+        return Ok(said.is_none() && wanted.is_none());
     };
-    let heard = hears(at(&mut line.cores, to), &line.names, here, back, &message)?;
-    if heard.is_ok() {
+    if wanted.is_ok() {
         sends(at(&mut line.cores, from), there);
     }
-    Ok(Some(heard))
+    hears(
+        at(&mut line.cores, to),
+        &line.names,
+        here,
+        (back, &message),
+        wanted,
+    )
 }
 
-// What core 1 answers to these words; none where they are no message.
-fn told(
+// Whether core 1 answers so to these words.
+fn is_told(
     line: &mut Line,
     link: LinkId,
     here: Here,
     words: Words,
-) -> Result<Option<Result<Heard, MonitorFault>>, Fail> {
-    let Some(message) = message(words) else {
-        return Ok(None);
-    };
-    let heard = hears(&mut line.cores.middle, &line.names, here, link, &message)?;
-    Ok(Some(heard))
+    wanted: Answer,
+) -> Result<bool, WireFault> {
+    match message(words) {
+        Some(message) => hears(
+            &mut line.cores.middle,
+            &line.names,
+            here,
+            (link, &message),
+            wanted,
+        ),
+        None => Ok(false),
+    }
 }
 
 // Whether core 1 refuses openings of so many bindings, for a service that isn't there.
-fn refuses_each(line: &mut Line, count: u16) -> Result<bool, Fail> {
+fn refuses_each(line: &mut Line, count: u16) -> Result<bool, WireFault> {
     for turn in 0..count {
         let words = Words::Open(odd(turn).0, u32::from(turn), 9, ENDS);
         let failed = Heard::OpeningFailed {
             binding: usize::from(turn),
             reason: 70,
         };
-        if told(line, FIRST, FREE, words)? != Some(Ok(failed)) {
+        if !is_told(line, FIRST, FREE, words, Ok(failed))? {
             return Ok(false);
         }
     }
     Ok(true)
 }
 
-// The numbers of the next circuits of a core's first link, its own and the other core's.
-fn counts(monitor: &Monitor) -> (Option<Circuit>, Option<Circuit>) {
+// Whether these are the numbers of the next circuits of a core's first link, its own and the other core's.
+fn counts(monitor: &Monitor, own: u16, due: u16) -> bool {
     let circuits = monitor.circuits();
-    (circuits.next(FIRST), circuits.expected(FIRST))
+    circuits.next(FIRST) == Some(Circuit(own)) && circuits.expected(FIRST) == Some(Circuit(due))
 }
 
 fn hop(monitor: &Monitor) -> Option<Hop> {
     monitor.circuits().hop_of(FIRST, Circuit(1))
 }
 
+// What is wanted: a service at a core, and a route.
+type Offer = (u8, &'static [CoreId], Result<LinkId, MonitorFault>);
+
+fn may_open(monitor: &Monitor, client: &Program, offered: &Program, offer: Offer) -> bool {
+    let (server, cores, wanted) = offer;
+    monitor.may_open(client, offered, CoreId(server), cores, 3) == wanted
+}
+
+fn is_answered(
+    line: &Line,
+    client: &Program,
+    text: &[u8],
+    plan: PlanNo,
+    offer: Offer,
+) -> Result<bool, WireFault> {
+    match program(line.alloc, text, plan) {
+        Ok(offered) => Ok(may_open(&line.cores.first, client, &offered, offer)),
+        Err(_) => Err(WireFault::Memory),
+    }
+}
+
+fn offers(line: &Line, text: &[u8], plan: PlanNo, offer: Offer) -> Result<bool, WireFault> {
+    match program(line.alloc, SAME, PlanNo::One) {
+        Ok(client) => is_answered(line, &client, text, plan, offer),
+        Err(_) => Err(WireFault::Memory),
+    }
+}
+
 // Whether a step comes to what it has to.
-fn holds(line: &mut Line, step: &Step) -> Result<bool, Fail> {
-    Ok(match *step {
+fn holds(line: &mut Line, step: &Step) -> Result<bool, WireFault> {
+    match *step {
         Step::Asks(core, link, asked, wanted) => {
-            asks(at(&mut line.cores, core), link, asked)? == wanted
+            asks(at(&mut line.cores, core), link, asked, wanted)
         }
-        Step::Goes(leg, here, wanted) => goes(line, leg, here)? == wanted,
+        Step::Goes(leg, here, wanted) => goes(line, leg, here, wanted),
         Step::AsksForEach(core, link, count, cores, sent) => {
-            asks_for_each(at(&mut line.cores, core), link, count, cores, sent)?
+            asks_for_each(at(&mut line.cores, core), link, count, cores, sent)
         }
-        Step::RefusesEach(count) => refuses_each(line, count)?,
-        Step::Hears(link, here, words, wanted) => { told(line, link, here, words)? == Some(wanted) }
-        Step::Sends(core, link, wanted) => sends(at(&mut line.cores, core), link) == wanted,
-        Step::Keeps(core, wanted) => hop(at(&mut line.cores, core)) == wanted,
-        Step::Counts(core, own, due) => {
-            counts(at(&mut line.cores, core)) == (Some(Circuit(own)), Some(Circuit(due)))
+        Step::RefusesEach(count) => refuses_each(line, count),
+        Step::Hears(link, here, words, wanted) => is_told(line, link, here, words, wanted),
+        Step::Sends(core, link, wanted) => Ok(sends(at(&mut line.cores, core), link) == wanted),
+        Step::Keeps(core, wanted) => Ok(hop(at(&mut line.cores, core)) == wanted),
+        Step::Counts(core, own, due) => Ok(counts(at(&mut line.cores, core), own, due)),
+        Step::Offers(text, plan, server, cores, wanted) => {
+            offers(line, text, plan, (server, cores, wanted))
         }
+    }
+}
+
+// Tells which step of a script is the first that doesn't come to what it has to.
+fn run_on(line: &mut Line, name: &str, script: &[Step]) -> Result<(), Fail> {
+    register_both(&mut line.names)?;
+    for (place, step) in script.iter().enumerate() {
+        if !holds(line, step)? {
+            return Err(Fail::new(format_args!("step {place} of {name}, counted from 0, is wrong")));
+        }
+    }
+    Ok(())
+}
+
+fn make_line(alloc: Global) -> Result<Line, AllocError> {
+    Ok(Line {
+        alloc,
+        cores: make_cores(alloc)?,
+        messenger: Messenger::new(alloc)?,
+        names: Names::new(alloc),
     })
 }
 
-// The place of the first step of a script that doesn't come to what it has to.
-fn wrong_step(line: &mut Line, script: &[Step]) -> Result<Option<usize>, Fail> {
-    for (place, step) in script.iter().enumerate() {
-        if !holds(line, step)? {
-            return Ok(Some(place));
-        }
-    }
-    Ok(None)
-}
-
-/// The place of the first wrong step of a script on a new line.
-pub fn first_wrong(alloc: Global, script: &[Step]) -> Result<Option<usize>, Fail> {
+/// Tells which step of a script is the first that isn't so, on a new line.
+pub fn run(alloc: Global, name: &str, script: &[Step]) -> Result<(), Fail> {
     let mut line = make_line(alloc)?;
-    wrong_step(&mut line, script)
+    run_on(&mut line, name, script)
 }

@@ -1,8 +1,10 @@
 //! The table of names: each call where it is answered and where it is refused, and refused memory.
 
+use crate::faults::{Fault, Told};
+use crate::tables::{Row, all_hold};
 use fl_base::{CoreId, IRef};
 use fl_nameserv::{NameFault, Names, Registration, Service};
-use std::alloc::Global;
+use std::alloc::{AllocError, Global};
 use std::test::Fail;
 
 // A service's core, dispatcher and interface, all told apart.
@@ -48,11 +50,80 @@ const SERVICES: &[Registration<'static>] = &[
     },
 ];
 
-const TABLES: &[&[Registration<'static>]] = &[&[], &[S], SERVICES];
+// What is asked of a table of names, and what it has to answer.
+enum Asked {
+    // These are registered under their numbers, and are all that the table and a copy of it have.
+    Keeps(&'static [Registration<'static>]),
+    Registers(Registration<'static>),
+    // A name that is taken (E71).
+    Taken(&'static [u8]),
+    Finds(Registration<'static>),
+    // No service has this name (E70), nor this reference.
+    Unknown(&'static [u8], u32),
+    // A name more. Where there is no memory for it the table is left as it was, and it is tried again.
+    AddsAtLast(&'static [u8]),
+    // The last of nine is found, also in a copy, if there is memory for one.
+    Nine,
+}
+
+// What is asked of a new table, one after another.
+struct Script(&'static [Asked]);
+
+const TABLES: &[Script] = &[
+    Script(&[Asked::Keeps(&[])]),
+    Script(&[Asked::Keeps(&[S])]),
+    Script(&[Asked::Keeps(SERVICES)]),
+];
+
+const T: Registration<'static> = Registration {
+    name: b"t",
+    iref: IRef(2),
+    service: TWO,
+};
+
+const REFUSALS: &[Script] = &[Script(&[
+    Asked::Unknown(b"s", 1),
+    Asked::Registers(S),
+    Asked::Taken(b"s"),
+    Asked::Finds(S),
+    Asked::Unknown(b"", 0),
+    Asked::Unknown(b"", 2),
+    Asked::Unknown(b"", u32::MAX),
+    Asked::Registers(T),
+])];
+
+const AT_LAST: Script = Script(&[
+    Asked::AddsAtLast(b"a"),
+    Asked::AddsAtLast(b"b"),
+    Asked::AddsAtLast(b"c"),
+    Asked::AddsAtLast(b"d"),
+    Asked::AddsAtLast(b"e"),
+    Asked::AddsAtLast(b"f"),
+    Asked::AddsAtLast(b"g"),
+    Asked::AddsAtLast(b"h"),
+    Asked::AddsAtLast(b"i"),
+    Asked::Nine,
+]);
+
+// The ninth of the names.
+const LAST: Registration<'static> = Registration {
+    name: b"i",
+    iref: IRef(9),
+    service: ONE,
+};
 
 // A copy can go to another core's thread.
 fn sent<T: Send>(value: T) -> T {
     value
+}
+
+fn is_found(names: &Names, one: &Registration<'static>) -> bool {
+    names.lookup(one.name) == Ok(*one) && names.lookup_iref(one.iref) == Ok(*one)
+}
+
+fn is_unknown(names: &Names, name: &[u8], iref: u32) -> bool {
+    names.lookup(name) == Err(NameFault::Unknown)
+        && names.lookup_iref(IRef(iref)) == Err(NameFault::Unknown)
 }
 
 // Whether these are all registrations, in this order, and each is found.
@@ -69,65 +140,37 @@ fn has_all(names: &Names, all: &[Registration<'static>]) -> bool {
     list.next().is_none()
 }
 
-fn is_found(names: &Names, one: &Registration<'static>) -> bool {
-    names.lookup(one.name) == Ok(*one) && names.lookup_iref(one.iref) == Ok(*one)
+// The same of a copy.
+fn has_copy(names: &Names, all: &[Registration<'static>]) -> Result<bool, AllocError> {
+    match names.duplicate() {
+        Ok(copy) => Ok(has_all(&sent(copy), all)),
+        Err(_) => Err(AllocError),
+    }
 }
 
-// Whether each is registered, under its number.
-fn registers(names: &mut Names, all: &[Registration<'static>]) -> Result<bool, NameFault> {
+// Whether a service is registered under its number.
+fn registers(names: &mut Names, one: &Registration<'static>) -> Result<bool, AllocError> {
+    match names.register(one.name, one.service) {
+        Ok(iref) => Ok(iref == one.iref),
+        Err(NameFault::Memory) => Err(AllocError),
+        Err(_) => Ok(false),
+    }
+}
+
+fn keeps(names: &mut Names, all: &[Registration<'static>]) -> Result<bool, AllocError> {
     for one in all {
-        if names.register(one.name, one.service)? != one.iref {
+        if !registers(names, one)? {
             return Ok(false);
         }
     }
-    Ok(true)
-}
-
-// A table with these registrations, and a copy of it.
-fn are_kept(alloc: Global, all: &[Registration<'static>]) -> Result<bool, Fail> {
-    let mut names = Names::new(alloc);
-    let registered = registers(&mut names, all)?;
-    let copy = sent(names.duplicate()?);
-    Ok(registered && has_all(&names, all) && has_all(&copy, all))
-}
-
-#[test]
-fn registrations(rt: HostRuntime) -> Result<(), Fail> {
-    for all in TABLES {
-        assert!(rt; are_kept(rt.alloc(), all)?);
+    if !has_all(names, all) {
+        return Ok(false);
     }
-    Ok(())
+    has_copy(names, all)
 }
 
-// Whether no service has this name (E70), nor this reference.
-fn is_unknown(names: &Names, name: &[u8], iref: u32) -> bool {
-    names.lookup(name) == Err(NameFault::Unknown)
-        && names.lookup_iref(IRef(iref)) == Err(NameFault::Unknown)
-}
-
-// A name that is taken (E71), and names and references that nothing has.
-fn refuses(alloc: Global) -> Result<[bool; 8], Fail> {
-    let mut names = Names::new(alloc);
-    Ok([
-        is_unknown(&names, b"s", 1),
-        registers(&mut names, &[S])?,
-        names.register(b"s", TWO) == Err(NameFault::Taken),
-        is_found(&names, &S),
-        is_unknown(&names, b"", 0),
-        is_unknown(&names, b"", 2),
-        is_unknown(&names, b"", u32::MAX),
-        names.register(b"t", TWO)? == IRef(2),
-    ])
-}
-
-#[test]
-fn refusals(rt: HostRuntime) -> Result<(), Fail> {
-    assert_eq!(rt; refuses(rt.alloc())?, [true; 8]);
-    Ok(())
-}
-
-// Whether a name is registered behind so many. Where there is no memory for it the table is left as it was, and it is tried again.
-fn is_added(names: &mut Names, name: &[u8], count: usize) -> bool {
+fn adds_at_last(names: &mut Names, name: &[u8]) -> bool {
+    let count = names.list().len();
     if let Err(fault) = names.register(name, ONE) {
         if fault != NameFault::Memory
             || !is_unknown(names, name, 10)
@@ -140,48 +183,75 @@ fn is_added(names: &mut Names, name: &[u8], count: usize) -> bool {
     names.list().len().checked_sub(1) == Some(count)
 }
 
-// The ninth of the names.
-const LAST: Registration<'static> = Registration {
-    name: b"i",
-    iref: IRef(9),
-    service: ONE,
-};
+fn has_nine(names: &Names) -> bool {
+    names.list().len() == 9 && is_found(names, &LAST)
+}
 
-// Whether a copy has all nine names, or there was no memory for it.
-fn is_copied(names: &Names) -> bool {
+fn nine_are_copied(names: &Names) -> bool {
     match names.duplicate() {
-        Ok(copy) => copy.list().len() == 9 && is_found(&copy, &LAST),
-        Err(_no_memory) => true,
+        Ok(copy) => has_nine(names) && has_nine(&copy),
+        Err(_no_memory) => has_nine(names),
     }
 }
 
-const NAMES: &[&[u8]] = &[b"a", b"b", b"c", b"d", b"e", b"f", b"g", b"h", b"i"];
+fn answers(names: &mut Names, asked: &Asked) -> Result<bool, AllocError> {
+    match asked {
+        Asked::Keeps(all) => keeps(names, all),
+        Asked::Registers(one) => registers(names, one),
+        Asked::Taken(name) => Ok(names.register(name, TWO) == Err(NameFault::Taken)),
+        Asked::Finds(one) => Ok(is_found(names, one)),
+        Asked::Unknown(name, iref) => Ok(is_unknown(names, name, *iref)),
+        Asked::AddsAtLast(name) => Ok(adds_at_last(names, name)),
+        Asked::Nine => Ok(nine_are_copied(names)),
+    }
+}
+
+fn answers_all(names: &mut Names, script: &[Asked]) -> Result<bool, AllocError> {
+    for asked in script {
+        if !answers(names, asked)? {
+            return Ok(false);
+        }
+    }
+    Ok(true)
+}
+
+impl Row for Script {
+    fn holds(&self, alloc: Global) -> Result<bool, AllocError> {
+        let mut names = Names::new(alloc);
+        answers_all(&mut names, self.0)
+    }
+}
+
+#[test]
+fn registrations(rt: HostRuntime) -> Result<(), Fail> {
+    all_hold(rt.alloc(), "tables", TABLES)
+}
+
+#[test]
+fn refusals(rt: HostRuntime) -> Result<(), Fail> {
+    all_hold(rt.alloc(), "refusals", REFUSALS)
+}
 
 #[test]
 fn registers_without_memory(rt: HostRuntime) {
-    let mut names = Names::new(rt.alloc());
-    for (count, name) in NAMES.iter().enumerate() {
-        assert!(rt; is_added(&mut names, name, count));
-    }
-    assert!(rt; is_copied(&names));
-    assert!(rt; is_found(&names, &LAST));
+    assert!(rt; AT_LAST.holds(rt.alloc()) == Ok(true));
 }
 
-const FAULTS: &[(NameFault, u8, &str)] = &[
-    (
-        NameFault::Unknown,
+const FAULTS: &[Told] = &[
+    Told(
+        Fault::Name(NameFault::Unknown),
         70,
         "no service of this name or reference",
     ),
-    (NameFault::Taken, 71, "the name is taken"),
-    (NameFault::Memory, 99, "no memory for one more service"),
+    Told(Fault::Name(NameFault::Taken), 71, "the name is taken"),
+    Told(
+        Fault::Name(NameFault::Memory),
+        99,
+        "no memory for one more service",
+    ),
 ];
 
 #[test]
 fn name_faults(rt: HostRuntime) -> Result<(), Fail> {
-    for (fault, number, text) in FAULTS {
-        let shown = format!(in rt.alloc(); "{fault}")?;
-        assert_eq!(rt; (fault.number(), shown.as_str()), (*number, *text));
-    }
-    Ok(())
+    all_hold(rt.alloc(), "faults", FAULTS)
 }

@@ -1,22 +1,26 @@
 //! What waits in an outbox, in which order, and how much.
 
+use crate::faults::{Fault, Told};
+use crate::monitor::messages::{Claim, all_read};
+use crate::tables::all_hold;
 use fl_base::{Circuit, Frag};
 use fl_monitor::{MAX_WAITING, Message, Messenger, MonitorFault, Outbox, outboxes_say_messages};
-use std::alloc::Global;
+use fl_wire::WireFault;
+use std::alloc::{AllocError, Global};
 use std::ops::Range;
 use std::test::Fail;
 
-// Puts the message that a circuit stands.
-fn puts(
-    messenger: &Messenger,
-    outbox: &mut Outbox,
-    circuit: u16,
-) -> Result<Result<(), MonitorFault>, Fail> {
+// Puts the message that a circuit stands: whether it was put, and not refused as too many.
+fn puts(messenger: &Messenger, outbox: &mut Outbox, circuit: u16) -> Result<bool, AllocError> {
     let message = Message::CircuitOpened {
         circuit: Circuit(circuit),
     };
     let frag = messenger.frag(&message)?;
-    Ok(outbox.put(&frag))
+    match outbox.put(&frag) {
+        Ok(()) => Ok(true),
+        Err(MonitorFault::OutboxFull) => Ok(false),
+        Err(_) => Err(AllocError),
+    }
 }
 
 // The circuit of the next fragment, which says that a circuit stands and is sent then.
@@ -32,9 +36,9 @@ fn sends(outbox: &mut Outbox) -> Option<u64> {
 }
 
 // Whether 64 messages are put into an outbox that isn't full before.
-fn fills(messenger: &Messenger, outbox: &mut Outbox) -> Result<bool, Fail> {
+fn fills(messenger: &Messenger, outbox: &mut Outbox) -> Result<bool, AllocError> {
     for circuit in 0..64 {
-        if outbox.is_full() || puts(messenger, outbox, circuit)?.is_err() {
+        if outbox.is_full() || !puts(messenger, outbox, circuit)? {
             return Ok(false);
         }
     }
@@ -52,59 +56,67 @@ fn sends_all(outbox: &mut Outbox, circuits: Range<u64>) -> bool {
 }
 
 // A 65th message is refused until one was sent.
-fn goes_in_order(alloc: Global) -> Result<[bool; 7], Fail> {
-    let messenger = Messenger::new(alloc)?;
-    let mut outbox = Outbox::new(alloc)?;
+fn goes_in_order(messenger: &Messenger, outbox: &mut Outbox) -> Result<bool, AllocError> {
     outbox.sound();
-    Ok([
-        sends(&mut outbox).is_none(),
-        fills(&messenger, &mut outbox)?,
-        puts(&messenger, &mut outbox, 64)? == Err(MonitorFault::OutboxFull),
-        sends(&mut outbox) == Some(0),
-        puts(&messenger, &mut outbox, 64)?.is_ok(),
-        sends_all(&mut outbox, 1..65),
-        sends(&mut outbox).is_none(),
-    ])
+    if sends(outbox).is_some()
+        || !fills(messenger, outbox)?
+        || puts(messenger, outbox, 64)?
+        || sends(outbox) != Some(0)
+    {
+        return Ok(false);
+    }
+    Ok(puts(messenger, outbox, 64)? && sends_all(outbox, 1..65) && sends(outbox).is_none())
 }
+
+/// Whether an outbox gives in order what is put.
+pub fn in_order(alloc: Global, messenger: &Messenger) -> Result<bool, WireFault> {
+    let mut outbox = Outbox::new(alloc)?;
+    Ok(goes_in_order(messenger, &mut outbox)?)
+}
+
+const OUTBOX: &[Claim] = &[Claim::Queues];
 
 #[test]
 fn first_in_first_out(rt: HostRuntime) -> Result<(), Fail> {
     outboxes_say_messages();
-    assert_eq!(rt; goes_in_order(rt.alloc())?, [true; 7]);
-    Ok(())
+    all_read(rt.alloc(), "outboxes", OUTBOX)
 }
 
-const FAULTS: &[(MonitorFault, u8, &str)] = &[
-    (MonitorFault::Astray, 67, "a monitor's message out of place"),
-    (
-        MonitorFault::Differs,
+const FAULTS: &[Told] = &[
+    Told(
+        Fault::Monitor(MonitorFault::Astray),
+        67,
+        "a monitor's message out of place",
+    ),
+    Told(
+        Fault::Monitor(MonitorFault::Differs),
         72,
         "the service is of another interface",
     ),
-    (MonitorFault::NoRoute, 73, "no such route"),
-    (
-        MonitorFault::UsedUp,
+    Told(Fault::Monitor(MonitorFault::NoRoute), 73, "no such route"),
+    Told(
+        Fault::Monitor(MonitorFault::UsedUp),
         74,
         "all circuits of the link are used up",
     ),
-    (
-        MonitorFault::OutboxFull,
+    Told(
+        Fault::Monitor(MonitorFault::OutboxFull),
         75,
         "64 messages wait to be sent over the link",
     ),
-    (
-        MonitorFault::PlansDiffer,
+    Told(
+        Fault::Monitor(MonitorFault::PlansDiffer),
         76,
         "the service is compiled under another plan",
     ),
-    (MonitorFault::Memory, 99, "no memory for one more circuit"),
+    Told(
+        Fault::Monitor(MonitorFault::Memory),
+        99,
+        "no memory for one more circuit",
+    ),
 ];
 
 #[test]
 fn monitor_faults(rt: HostRuntime) -> Result<(), Fail> {
-    for (fault, number, text) in FAULTS {
-        let shown = format!(in rt.alloc(); "{fault}")?;
-        assert_eq!(rt; (fault.number(), shown.as_str()), (*number, *text));
-    }
-    Ok(())
+    all_hold(rt.alloc(), "faults", FAULTS)
 }

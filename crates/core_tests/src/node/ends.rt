@@ -13,11 +13,7 @@ use std::alloc::AllocError;
 const NOT_BOUND: Word = Word::Refused(43);
 
 fn make_end(known: &Known) -> Result<End, AllocError> {
-    End::new(
-        known.alloc,
-        known.program.duplicate(known.alloc)?,
-        Circuit(0),
-    )
+    End::new(known.alloc, known.program()?, Circuit(0))
 }
 
 // An end more at a core's first dispatcher, over a ring.
@@ -161,7 +157,7 @@ pub fn side_of(core: &Core, link: LinkId) -> Word {
 
 // An end that sits nowhere, with a rule.
 fn ruled(known: &Known) -> Result<End, AllocError> {
-    let mut end = End::unbound(known.alloc, known.program.duplicate(known.alloc)?)?;
+    let mut end = End::unbound(known.alloc, known.program()?)?;
     let _ = end.reply_rule(MsgNo(0), MsgNo(0));
     Ok(end)
 }

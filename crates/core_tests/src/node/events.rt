@@ -38,7 +38,7 @@ pub fn asks(core: &mut Core, known: &Known, link: LinkId, route: &[CoreId], bind
         service: IRef(1),
         path,
     };
-    match known.program.duplicate(known.alloc) {
+    match known.program() {
         Ok(program) => open(core, program, link, &opening),
         Err(_) => Word::NoMemory,
     }
@@ -170,14 +170,14 @@ pub fn act<L: PutSide + TakeSide>(
     core: &mut Core,
     link: LinkId,
     side: &mut L,
-    deed: Deed,
+    deed: &Deed,
     known: &Known,
 ) -> Word {
     match deed {
         Deed::Say => say(core, link, side),
         Deed::Hear => hear(core, link, side, known),
-        Deed::Send(v) => send(core, known.alloc, v, side),
-        Deed::Put(frag) => put(side, &frag),
+        Deed::Send(v) => send(core, known.alloc, *v, side),
+        Deed::Put(frag) => put(side, frag),
     }
 }
 

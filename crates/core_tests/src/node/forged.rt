@@ -128,20 +128,20 @@ fn leg_of(link: u16) -> Leg {
 
 fn told(line: &mut Line, said: Said) -> Word {
     let leg = leg_of(said.0);
-    let word = line.step(Step::Tell(leg, said.1));
+    let word = line.step(&Step::Tell(leg, said.1));
     if word != Word::Done {
         return word;
     }
-    line.step(Step::Hear(leg))
+    line.step(&Step::Hear(leg))
 }
 
 // Whether what comes on a link is refused for this fault, and has failed then for good, and nothing on the other link.
 fn fails_for_good(line: &mut Line, link: u16, fault: u8) -> bool {
     let other = if link == 0 { 1 } else { 0 };
-    line.step(Step::Hear(leg_of(link))) == Word::Refused(fault)
-        && line.step(Step::Hear(leg_of(link))) == Word::Refused(64)
-        && line.step(Step::Hear(leg_of(link))) == Word::Refused(64)
-        && line.step(Step::Hear(leg_of(other))) == Word::Nothing
+    line.step(&Step::Hear(leg_of(link))) == Word::Refused(fault)
+        && line.step(&Step::Hear(leg_of(link))) == Word::Refused(64)
+        && line.step(&Step::Hear(leg_of(link))) == Word::Refused(64)
+        && line.step(&Step::Hear(leg_of(other))) == Word::Nothing
 }
 
 /// Whether what is out of its place is refused, behind what is heard first.
@@ -150,14 +150,14 @@ pub fn is_astray(line: &mut Line, before: &[Said], said: Said) -> bool {
         told(line, *one);
     }
     let (link, words) = said;
-    line.step(Step::Tell(leg_of(link), words)) == Word::Done && fails_for_good(line, link, 67)
+    line.step(&Step::Tell(leg_of(link), words)) == Word::Done && fails_for_good(line, link, 67)
 }
 
 /// Whether a fragment is refused for this fault, behind an opening that made an end.
 pub fn is_forged(line: &mut Line, opening: Said, frag: Frag, fault: u8) -> bool {
     let link = opening.0;
     told(line, opening) == Word::Opened
-        && line.step(Step::Put(leg_of(link), frag)) == Word::Done
+        && line.step(&Step::Put(leg_of(link), frag)) == Word::Done
         && fails_for_good(line, link, fault)
 }
 

@@ -12,14 +12,37 @@ use std::alloc::{AllocError, Global};
 // The interface of all tests.
 const PING: &[u8] = b"interface i { message ping(uint32 v); }";
 
-/// The names, the programs of the services, and that of the ends; and what writes messages.
+/// The names, the programs of the services, of which the first is that of the ends too; and what writes messages.
 #[derive(Drop)]
 pub struct Known {
     pub alloc: Global,
     pub names: Names,
     pub programs: Vec<Program>,
-    pub program: Program,
     pub messenger: Messenger,
+}
+
+impl Known {
+    /// The program of an end.
+    pub fn program(&self) -> Result<Program, AllocError> {
+        match self.programs.first() {
+            Some(program) => program.duplicate(self.alloc),
+            None => Err(AllocError),
+        }
+    }
+
+    // Service 1 at this core, and service 2 at core 1; or none.
+    fn learn(&mut self, core: Option<u8>) -> Result<(), AllocError> {
+        if let Some(core) = core {
+            exports(&mut self.names, b"far", core)?;
+            exports(&mut self.names, b"near", 1)?;
+        }
+        Ok(())
+    }
+
+    fn fill(&mut self, core: Option<u8>) -> Result<(), AllocError> {
+        self.programs.push(program(self.alloc, PING, PlanNo::One)?)?;
+        self.learn(core)
+    }
 }
 
 fn exports(names: &mut Names, name: &[u8], core: u8) -> Result<(), AllocError> {
@@ -34,31 +57,28 @@ fn exports(names: &mut Names, name: &[u8], core: u8) -> Result<(), AllocError> {
     }
 }
 
-// Service 1 at this core, and service 2 at core 1; or none.
-fn make_names(alloc: Global, core: Option<u8>) -> Result<Names, AllocError> {
-    let mut names = Names::new(alloc);
-    if let Some(core) = core {
-        exports(&mut names, b"far", core)?;
-        exports(&mut names, b"near", 1)?;
-    }
-    Ok(names)
+fn boxed(alloc: Global, messenger: Messenger) -> Result<Box<Known>, AllocError> {
+    let known = Known {
+        alloc,
+        names: Names::new(alloc),
+        programs: Vec::new(alloc),
+        messenger,
+    };
+    Ok(Box::new(alloc, known)?)
 }
 
-fn make_programs(alloc: Global) -> Result<Vec<Program>, AllocError> {
-    let mut programs = Vec::with_capacity(alloc, 1)?;
-    programs.push(program(alloc, PING, PlanNo::One)?)?;
-    Ok(programs)
+fn bare_known(alloc: Global) -> Result<Box<Known>, AllocError> {
+    match Messenger::new(alloc) {
+        Ok(messenger) => boxed(alloc, messenger),
+        Err(_) => Err(AllocError),
+    }
 }
 
 /// Service 1 is at dispatcher 0 of a core, and service 2 at that of core 1; or there are none.
-pub fn make_known(alloc: Global, core: Option<u8>) -> Result<Known, AllocError> {
-    Ok(Known {
-        alloc,
-        names: make_names(alloc, core)?,
-        programs: make_programs(alloc)?,
-        program: program(alloc, PING, PlanNo::One)?,
-        messenger: Messenger::new(alloc)?,
-    })
+pub fn make_known(alloc: Global, core: Option<u8>) -> Result<Box<Known>, AllocError> {
+    let mut known = bare_known(alloc)?;
+    known.fill(core)?;
+    Ok(known)
 }
 
 fn links_to(core: &mut Core, neighbours: &[u8]) -> Result<(), AllocError> {
@@ -70,11 +90,22 @@ fn links_to(core: &mut Core, neighbours: &[u8]) -> Result<(), AllocError> {
     Ok(())
 }
 
-/// A core with a dispatcher, and links to these cores.
-pub fn make_core(alloc: Global, number: u8, neighbours: &[u8]) -> Result<Core, AllocError> {
-    let mut core = Core::new(alloc, CoreId(number))?;
+fn outfit(core: &mut Core, neighbours: &[u8]) -> Result<(), AllocError> {
     core.add_dispatcher()?;
-    links_to(&mut core, neighbours)?;
+    links_to(core, neighbours)
+}
+
+fn bare_core(alloc: Global, number: u8) -> Result<Box<Core>, AllocError> {
+    match Core::new(alloc, CoreId(number)) {
+        Ok(core) => Ok(Box::new(alloc, core)?),
+        Err(_) => Err(AllocError),
+    }
+}
+
+/// A core with a dispatcher, and links to these cores.
+pub fn make_core(alloc: Global, number: u8, neighbours: &[u8]) -> Result<Box<Core>, AllocError> {
+    let mut core = bare_core(alloc, number)?;
+    outfit(&mut core, neighbours)?;
     Ok(core)
 }
 

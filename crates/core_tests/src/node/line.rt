@@ -97,19 +97,19 @@ pub struct Plan {
 
 const ON: &[CoreId] = &[CoreId(1), CoreId(2)];
 
-// Cores 0, 1 and 2.
+// Cores 0, 1 and 2, each in a place of its own.
 #[derive(Drop)]
 struct Cores {
-    first: Core,
-    middle: Core,
-    last: Core,
+    first: Box<Core>,
+    middle: Box<Core>,
+    last: Box<Core>,
 }
 
 // The rings between them.
 #[derive(Drop)]
 struct Rings {
-    near: Ring,
-    far: Ring,
+    near: Box<Ring>,
+    far: Box<Ring>,
 }
 
 /// Cores without ends, and what is between them.
@@ -117,7 +117,7 @@ struct Rings {
 pub struct Line {
     cores: Cores,
     rings: Rings,
-    known: Known,
+    known: Box<Known>,
     plan: Plan,
 }
 
@@ -197,6 +197,13 @@ impl Cores {
         ]
     }
 
+    fn are(&self, states: &[State; 3]) -> bool {
+        let [first, middle, last] = states;
+        state_of(&self.first) == *first
+            && state_of(&self.middle) == *middle
+            && state_of(&self.last) == *last
+    }
+
     fn at(&mut self, at: At) -> &mut Core {
         match at {
             At::First => &mut self.first,
@@ -206,8 +213,8 @@ impl Cores {
 }
 
 // What is done at the first core alone.
-fn makes(core: &mut Core, known: &Known, step: Step) -> Word {
-    match step {
+fn makes(core: &mut Core, known: &Known, step: &Step) -> Word {
+    match *step {
         Step::ComeAndGo(name) => comes_and_goes(core, known, name),
         Step::LinkComesAndGoes(neighbour) => link_comes_and_goes(core, neighbour),
         Step::AddDispatcher => adds_dispatcher(core),
@@ -224,7 +231,7 @@ fn makes(core: &mut Core, known: &Known, step: Step) -> Word {
 
 impl Line {
     // What is done at a leg's beginning.
-    fn acts_from(&mut self, leg: Leg, deed: Deed) -> Word {
+    fn acts_from(&mut self, leg: Leg, deed: &Deed) -> Word {
         let (cores, rings, known) = (&mut self.cores, &mut self.rings, &self.known);
         let (near, far) = (LinkId(0), LinkId(1));
         match leg {
@@ -246,10 +253,10 @@ impl Line {
     // The core at a leg's end hears: there the leg begins that leads back.
     fn hears(&mut self, leg: Leg) -> Word {
         match leg {
-            Leg::Out => self.acts_from(Leg::Home, Deed::Hear),
-            Leg::On => self.acts_from(Leg::Back, Deed::Hear),
-            Leg::Back => self.acts_from(Leg::On, Deed::Hear),
-            Leg::Home => self.acts_from(Leg::Out, Deed::Hear),
+            Leg::Out => self.acts_from(Leg::Home, &Deed::Hear),
+            Leg::On => self.acts_from(Leg::Back, &Deed::Hear),
+            Leg::Back => self.acts_from(Leg::On, &Deed::Hear),
+            Leg::Home => self.acts_from(Leg::Out, &Deed::Hear),
         }
     }
 
@@ -258,7 +265,7 @@ impl Line {
             return Word::Other;
         };
         match self.known.messenger.frag(&message) {
-            Ok(frag) => self.acts_from(leg, Deed::Put(frag)),
+            Ok(frag) => self.acts_from(leg, &Deed::Put(frag)),
             Err(_) => Word::NoMemory,
         }
     }
@@ -274,22 +281,22 @@ impl Line {
 
     fn sends(&mut self, at: At, v: i128) -> Word {
         match at {
-            At::First => self.acts_from(Leg::Out, Deed::Send(v)),
-            At::Last => self.acts_from(Leg::Back, Deed::Send(v)),
+            At::First => self.acts_from(Leg::Out, &Deed::Send(v)),
+            At::Last => self.acts_from(Leg::Back, &Deed::Send(v)),
         }
     }
 
-    fn step_once(&mut self, step: Step) -> Word {
-        let (cores, known, plan) = (&mut self.cores, &self.known, self.plan);
-        match step {
+    fn step_once(&mut self, step: &Step) -> Word {
+        let (cores, known, plan) = (&mut self.cores, &self.known, &self.plan);
+        match *step {
             Step::Open(binding) => asks(&mut cores.first, known, plan.link, plan.route, binding),
             Step::OpenOn(binding) => asks(&mut cores.middle, known, LinkId(1), ON, binding),
             Step::Turn(at) => turn(cores.at(at)),
             Step::Add(at, name) => adds(cores.at(at), known, name),
-            Step::Say(leg) => self.acts_from(leg, Deed::Say),
+            Step::Say(leg) => self.acts_from(leg, &Deed::Say),
             Step::Hear(leg) => self.hears(leg),
             Step::Tell(leg, words) => self.tells(leg, words),
-            Step::Put(leg, frag) => self.acts_from(leg, Deed::Put(frag)),
+            Step::Put(leg, frag) => self.acts_from(leg, &Deed::Put(frag)),
             Step::Pass(leg) => self.passes(leg),
             Step::Send(at, v) => self.sends(at, v),
             _ => makes(&mut cores.first, known, step),
@@ -297,13 +304,17 @@ impl Line {
     }
 
     /// Does a step. Where it is refused for want of memory, all cores are as they were, and it is done again.
-    pub fn step(&mut self, step: Step) -> Word {
+    pub fn step(&mut self, step: &Step) -> Word {
         let before = self.cores.states();
+        self.step_from(&before, step)
+    }
+
+    fn step_from(&mut self, before: &[State; 3], step: &Step) -> Word {
         let word = self.step_once(step);
         if word != Word::NoMemory {
             return word;
         }
-        if self.cores.states() != before {
+        if !self.cores.are(before) {
             return Word::Changed;
         }
         self.step_once(step)
@@ -312,7 +323,7 @@ impl Line {
     // How many circuits the first core begins while nothing is said, and what the next is answered.
     fn opens_each(&mut self) -> Word {
         for binding in 0..1_024 {
-            let word = self.step(Step::Open(binding));
+            let word = self.step(&Step::Open(binding));
             if word != Word::Begun {
                 return until(binding as usize, word);
             }
@@ -323,9 +334,9 @@ impl Line {
     // How many openings the middle core takes while it says nothing.
     fn takes_each(&mut self) -> Word {
         for binding in 0..1_024 {
-            self.step(Step::Open(binding));
-            self.step(Step::Say(Leg::Out));
-            let word = self.step(Step::Hear(Leg::Out));
+            self.step(&Step::Open(binding));
+            self.step(&Step::Say(Leg::Out));
+            let word = self.step(&Step::Hear(Leg::Out));
             if word != Word::Done {
                 return until(binding as usize, word);
             }
@@ -336,7 +347,7 @@ impl Line {
     // How many circuits the middle core begins, and what the next is answered; what it says goes to this queue.
     fn opens_on_each(&mut self, out: &mut QueueLink) -> Word {
         for binding in 0..1_024 {
-            let word = self.step(Step::OpenOn(binding));
+            let word = self.step(&Step::OpenOn(binding));
             if word != Word::Begun {
                 return until(binding as usize, word);
             }
@@ -349,7 +360,7 @@ impl Line {
 
     fn fills(&mut self, at: At, count: usize) -> Word {
         for place in 0..count {
-            let word = self.step(Step::Add(at, nth_name(place)));
+            let word = self.step(&Step::Add(at, nth_name(place)));
             if word != Word::At(Some(place)) {
                 return until(place, word);
             }
@@ -365,8 +376,8 @@ impl Line {
     }
 
     // What a step or many steps come to.
-    fn comes_to(&mut self, step: Step) -> Word {
-        match step {
+    fn comes_to(&mut self, step: &Step) -> Word {
+        match *step {
             Step::OpenEach => self.opens_each(),
             Step::TakeEach => self.takes_each(),
             Step::OpenOnEach => self.opens_on_each_to_a_queue(),
@@ -378,7 +389,7 @@ impl Line {
     // Whether the steps come to these words.
     fn follows(&mut self, rows: &[(Step, Word)]) -> Result<bool, AllocError> {
         for (step, wanted) in rows {
-            let word = self.comes_to(*step);
+            let word = self.comes_to(step);
             if word == Word::NoMemory {
                 return Err(AllocError);
             }

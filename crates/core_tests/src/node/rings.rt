@@ -18,16 +18,20 @@ pub enum Ring {
     Shared(SharedSide, SharedSide),
 }
 
+fn make_shared(alloc: Global) -> Result<Box<Ring>, AllocError> {
+    match duo(alloc, SLOTS) {
+        Ok((one, two)) => Ok(Box::new(alloc, Ring::Shared(one, two))?),
+        Err(_) => Err(AllocError),
+    }
+}
+
 /// A ring, over shared words or not.
-pub fn make_ring(alloc: Global, is_shared: bool) -> Result<Ring, AllocError> {
+pub fn make_ring(alloc: Global, is_shared: bool) -> Result<Box<Ring>, AllocError> {
     if is_shared {
-        return match duo(alloc, SLOTS) {
-            Ok((one, two)) => Ok(Ring::Shared(one, two)),
-            Err(_) => Err(AllocError),
-        };
+        return make_shared(alloc);
     }
     match OneDuo::new(alloc, SLOTS) {
-        Ok(ring) => Ok(Ring::One(ring)),
+        Ok(ring) => Ok(Box::new(alloc, Ring::One(ring))?),
         Err(_) => Err(AllocError),
     }
 }
@@ -39,7 +43,7 @@ impl Ring {
         which: Which,
         core: &mut Core,
         link: LinkId,
-        deed: Deed,
+        deed: &Deed,
         known: &Known,
     ) -> Word {
         match self {

@@ -15,7 +15,6 @@ use fl_running::{Desk, Gate, Job, Plan, Running, Ticket, Word};
 use fl_tally::EndSeat;
 use fl_value::{Call, PlanNo, Value};
 use std::alloc::{AllocError, Global};
-use std::test::Fail;
 
 /// A gate that is always open.
 pub struct Open;
@@ -31,39 +30,27 @@ pub fn name(side: Side) -> EndId {
     EndId { binding: 0, side }
 }
 
+// A call at the client: `ping(v)`.
+fn ping(alloc: Global, v: i128) -> Result<Job, AllocError> {
+    let mut args = Vec::new(alloc);
+    args.push(Value::Int(v))?;
+    let call = Call {
+        msg: MsgNo(0),
+        args,
+    };
+    Ok(Job::Call {
+        end: name(Side::Client),
+        call,
+    })
+}
+
 /// So many calls at the client: `ping(1)`, `ping(2)` and so on.
 pub fn pings(alloc: Global, count: usize) -> Result<Vec<Job>, AllocError> {
     let mut jobs = Vec::new(alloc);
     for v in 0..count {
-        let mut args = Vec::new(alloc);
-        args.push(Value::Int(v as i128 + 1))?;
-        let call = Call {
-            msg: MsgNo(0),
-            args,
-        };
-        jobs.push(Job::Call {
-            end: name(Side::Client),
-            call,
-        })?;
+        jobs.push(ping(alloc, v as i128 + 1)?)?;
     }
     Ok(jobs)
-}
-
-// A desk with the first so many jobs, at which so many calls are to be handled.
-fn desk(alloc: Global, jobs: usize, due: usize) -> Result<Desk, AllocError> {
-    let mut places = Vec::new(alloc);
-    for place in 0..jobs {
-        places.push(place)?;
-    }
-    Ok(Desk::new(alloc, places, due))
-}
-
-// The desks of both ends: so many calls are to be made by the client, and handled by the server.
-fn desks(alloc: Global, calls: usize) -> Result<Vec<Desk>, AllocError> {
-    let mut desks = Vec::new(alloc);
-    desks.push(desk(alloc, calls, 0)?)?;
-    desks.push(desk(alloc, 0, calls)?)?;
-    Ok(desks)
 }
 
 /// The ticket of a core that runs alone, for so many ends, no opening of which is asked for.
@@ -88,39 +75,39 @@ pub struct Rig {
     pub plan: Plan,
 }
 
-// A core without links.
-fn running(
-    alloc: Global,
-    core: Core,
-    rings: Vec<SharedSide>,
-    queues: Vec<QueueLink>,
-    ends: Vec<EndId>,
-    calls: usize,
-) -> Result<Rig, AllocError> {
-    let dispatchers = core.board().dispatchers();
-    Ok(Rig {
+// A core without links, dispatchers and ends, which is to have so many dispatchers.
+fn boxed(alloc: Global, core: Core, dispatchers: usize) -> Result<Box<Rig>, AllocError> {
+    let rig = Rig {
         run: Running {
             alloc,
             core,
-            rings,
-            queues,
-            desks: desks(alloc, calls)?,
+            rings: Vec::new(alloc),
+            queues: Vec::new(alloc),
+            desks: Vec::new(alloc),
             names: Names::new(alloc),
             programs: Vec::new(alloc),
             idle: 0,
         },
         plan: Plan {
             links: Vec::new(alloc),
-            ends,
+            ends: Vec::new(alloc),
             dispatchers,
             cores: 1,
         },
-    })
+    };
+    Ok(Box::new(alloc, rig)?)
+}
+
+fn bare(alloc: Global, dispatchers: usize) -> Result<Box<Rig>, AllocError> {
+    match Core::new(alloc, CoreId(0)) {
+        Ok(core) => boxed(alloc, core, dispatchers),
+        Err(_) => Err(AllocError),
+    }
 }
 
 // An end of the binding at a dispatcher: its place.
 #[tactic(auto, using(crate::proofs::Places::last_there))]
-fn seat(core: &mut Core, dispatcher: usize, end: End, port: Port) -> Result<usize, Fail>
+fn seat(core: &mut Core, dispatcher: usize, end: End, port: Port) -> Result<usize, AllocError>
     requires { arrivals_by port.wire ≡ None }
     ensures there { IfOk result (λ e. e < length core.new.board.seats) }
     ensures lent { IfOk result (λ e. arrivals_of core.new e ≡ None) }
@@ -130,11 +117,11 @@ fn seat(core: &mut Core, dispatcher: usize, end: End, port: Port) -> Result<usiz
         || port.name.binding >= 1_024
         || core.place(port.name).is_some()
     {
-        return Err(Fail::new("no such end"));
+        return Err(AllocError);
     }
     match core.add_end(dispatcher, end, port) {
         Ok(e) => Ok(e),
-        Err(_) => Err(Fail::new("no place")),
+        Err(_) => Err(AllocError),
     }
 }
 
@@ -145,11 +132,14 @@ fn add<T: TakeSide>(
     end: End,
     port: Port,
     from: &mut T,
-) -> Result<(), Fail>
+) -> Result<(), AllocError>
     requires { arrivals_by port.wire ≡ None }
 {
     let e = seat(core, dispatcher, end, port)?;
-    Ok(core.register(e, from)?)
+    match core.register(e, from) {
+        Ok(()) => Ok(()),
+        Err(_) => Err(AllocError),
+    }
 }
 
 // An end that isn't at a core yet.
@@ -157,85 +147,113 @@ fn end(alloc: Global) -> Result<End, AllocError> {
     End::new(alloc, program(alloc, PING, PlanNo::One)?, Circuit(0))
 }
 
-// A core with so many dispatchers.
-fn core(alloc: Global, dispatchers: usize) -> Result<Core, AllocError> {
-    let mut core = Core::new(alloc, CoreId(0))?;
-    for _ in 0..dispatchers {
-        core.add_dispatcher()?;
-    }
-    Ok(core)
-}
-
-// One end, or both, of the binding.
-fn ends(alloc: Global, both: bool) -> Result<Vec<EndId>, AllocError> {
-    let mut ends = Vec::new(alloc);
-    ends.push(name(Side::Client))?;
-    if both {
-        ends.push(name(Side::Server))?;
-    }
-    Ok(ends)
-}
-
-// Both ends are added.
-fn add_both(
-    alloc: Global,
-    core: &mut Core,
-    there: &mut QueueLink,
-    back: &mut QueueLink,
-) -> Result<(), Fail> {
-    let client = Port {
-        name: name(Side::Client),
-        wire: Wire::Queues { out: 0, from: 1 },
-    };
-    let server = Port {
+// The server's end is added over the two queues.
+fn add_server(alloc: Global, core: &mut Core, from: &mut QueueLink) -> Result<(), AllocError> {
+    let port = Port {
         name: name(Side::Server),
         wire: Wire::Queues { out: 1, from: 0 },
     };
-    add(core, 0, end(alloc)?, client, back)?;
-    add(core, 1, end(alloc)?, server, there)
+    add(core, 1, end(alloc)?, port, from)
 }
 
-// Two queues of four slots.
-fn queues(alloc: Global) -> Result<Vec<QueueLink>, Fail> {
-    let mut queues = Vec::new(alloc);
-    queues.push(QueueLink::local(alloc, 4)?)?;
-    queues.push(QueueLink::local(alloc, 4)?)?;
-    Ok(queues)
-}
-
-// Both ends are added over the two.
-fn join(alloc: Global, core: &mut Core, queues: &mut [QueueLink]) -> Result<(), Fail> {
-    let [there, back] = queues else {
-        return Err(Fail::new("not two queues"));
+// The client's end is added over what it takes from.
+fn add_client<T: TakeSide>(
+    alloc: Global,
+    core: &mut Core,
+    wire: Wire,
+    from: &mut T,
+) -> Result<(), AllocError>
+    requires { arrivals_by wire ≡ None }
+{
+    let port = Port {
+        name: name(Side::Client),
+        wire,
     };
-    add_both(alloc, core, there, back)
+    add(core, 0, end(alloc)?, port, from)
+}
+
+fn add_dispatchers(core: &mut Core, count: usize) -> Result<(), AllocError> {
+    for _ in 0..count {
+        core.add_dispatcher()?;
+    }
+    Ok(())
+}
+
+// A queue of four slots.
+fn put_queue(alloc: Global, queues: &mut Vec<QueueLink>) -> Result<(), AllocError> {
+    match QueueLink::local(alloc, 4) {
+        Ok(queue) => Ok(queues.push(queue)?),
+        Err(_) => Err(AllocError),
+    }
+}
+
+// Both ends are added over two queues.
+fn join(alloc: Global, core: &mut Core, queues: &mut [QueueLink]) -> Result<(), AllocError> {
+    let [there, back] = queues else {
+        return Err(AllocError);
+    };
+    add_client(alloc, core, Wire::Queues { out: 0, from: 1 }, back)?;
+    add_server(alloc, core, there)
+}
+
+// A desk with the first so many jobs, at which so many calls are to be handled.
+fn put_desk(
+    alloc: Global,
+    desks: &mut Vec<Desk>,
+    jobs: usize,
+    due: usize,
+) -> Result<(), AllocError> {
+    let mut places = Vec::new(alloc);
+    for place in 0..jobs {
+        places.push(place)?;
+    }
+    Ok(desks.push(Desk::new(alloc, places, due))?)
+}
+
+impl Rig {
+    // An end is planned; so many calls are to be made there, and so many handled.
+    fn plan(&mut self, side: Side, calls: usize, due: usize) -> Result<(), AllocError> {
+        self.plan.ends.push(name(side))?;
+        put_desk(self.run.alloc, &mut self.run.desks, calls, due)
+    }
+
+    fn join_within(&mut self, calls: usize) -> Result<(), AllocError> {
+        let (alloc, run) = (self.run.alloc, &mut self.run);
+        add_dispatchers(&mut run.core, self.plan.dispatchers)?;
+        put_queue(alloc, &mut run.queues)?;
+        put_queue(alloc, &mut run.queues)?;
+        join(alloc, &mut run.core, run.queues.as_mut_slice())?;
+        self.plan(Side::Client, calls, 0)?;
+        self.plan(Side::Server, 0, calls)
+    }
+
+    fn join_ring(&mut self, side: SharedSide, calls: usize) -> Result<(), AllocError> {
+        self.run.rings.push(side)?;
+        self.join_over(calls)
+    }
+
+    fn join_over(&mut self, calls: usize) -> Result<(), AllocError> {
+        let (alloc, run) = (self.run.alloc, &mut self.run);
+        let [side] = run.rings.as_mut_slice() else {
+            return Err(AllocError);
+        };
+        add_dispatchers(&mut run.core, self.plan.dispatchers)?;
+        add_client(alloc, &mut run.core, Wire::Ring(0), side)?;
+        self.plan(Side::Client, calls, 0)?;
+        put_desk(alloc, &mut self.run.desks, 0, calls)
+    }
 }
 
 /// A binding within one core, of queues of four slots.
-pub fn local(alloc: Global, calls: usize) -> Result<Rig, Fail> {
-    let mut core = core(alloc, 2)?;
-    let mut queues = queues(alloc)?;
-    join(alloc, &mut core, queues.as_mut_slice())?;
-    let ends = ends(alloc, true)?;
-    Ok(running(alloc, core, Vec::new(alloc), queues, ends, calls)?)
-}
-
-// The client's end is added over the ring.
-fn add_client(alloc: Global, core: &mut Core, side: &mut SharedSide) -> Result<(), Fail> {
-    let port = Port {
-        name: name(Side::Client),
-        wire: Wire::Ring(0),
-    };
-    add(core, 0, end(alloc)?, port, side)
+pub fn local(alloc: Global, calls: usize) -> Result<Box<Rig>, AllocError> {
+    let mut rig = bare(alloc, 2)?;
+    rig.join_within(calls)?;
+    Ok(rig)
 }
 
 /// The client of a binding over a ring, whose other side is somewhere else.
-pub fn client(alloc: Global, side: SharedSide, calls: usize) -> Result<Rig, Fail> {
-    let mut side = side;
-    let mut core = core(alloc, 1)?;
-    add_client(alloc, &mut core, &mut side)?;
-    let mut rings = Vec::new(alloc);
-    rings.push(side)?;
-    let ends = ends(alloc, false)?;
-    Ok(running(alloc, core, rings, Vec::new(alloc), ends, calls)?)
+pub fn client(alloc: Global, side: SharedSide, calls: usize) -> Result<Box<Rig>, AllocError> {
+    let mut rig = bare(alloc, 1)?;
+    rig.join_ring(side, calls)?;
+    Ok(rig)
 }

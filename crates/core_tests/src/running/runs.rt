@@ -1,10 +1,11 @@
 //! Whole runs of one core.
 
 use crate::running::rig::{Open, Rig, client, local, pings, ticket};
+use crate::tables::is_so;
 use fl_link::Sight;
 use fl_ring::{SharedSide, duo};
 use fl_running::{End, Job, Part, core_run};
-use std::alloc::Global;
+use std::alloc::{AllocError, Global};
 use std::sync::Wait;
 use std::test::Fail;
 
@@ -15,9 +16,12 @@ fn run<R: Wait>(
     rig: &mut Rig,
     jobs: &[Job],
     limit: u64,
-) -> Result<Part, Fail> {
+) -> Result<Part, AllocError> {
     let mut ticket = ticket(alloc, rig.plan.ends.as_slice().len())?;
-    Ok(core_run(rt, &mut rig.run, &rig.plan, jobs, limit, &mut ticket, &Open)?)
+    match core_run(rt, &mut rig.run, &rig.plan, jobs, limit, &mut ticket, &Open) {
+        Ok(part) => Ok(part),
+        Err(_) => Err(AllocError),
+    }
 }
 
 // How many calls were handled at the desk of a place.
@@ -28,24 +32,46 @@ fn handled(rig: &Rig, desk: usize) -> usize {
     }
 }
 
-// A limit of 2 leaves one of three calls; with 3 turns nothing is left.
-#[test]
-fn three_calls_within_a_core(rt: HostRuntime) -> Result<(), Fail> {
-    for (limit, turns, end, calls) in [
-        (0, 0, End::Unfinished, 0),
-        (2, 2, End::Unfinished, 2),
-        (3, 3, End::Finished, 3),
-        (9, 3, End::Finished, 3),
-    ] {
-        let jobs = pings(rt.alloc(), 3)?;
-        let mut rig = local(rt.alloc(), 3)?;
-        let part = run(&rt, rt.alloc(), &mut rig, &jobs, limit)?;
-        assert_eq!(rt;
-            (part.turns, part.end, handled(&rig, 1)),
-            (turns, end, calls)
-        );
+// A limit, and how many turns were taken, how they came to an end, and how many calls the server handled at this core.
+struct Row(u64, u64, End, usize);
+
+// Of three calls. A limit of 2 leaves one; with 3 turns nothing is left.
+const WITHIN: &[Row] = &[
+    Row(0, 0, End::Unfinished, 0),
+    Row(2, 2, End::Unfinished, 2),
+    Row(3, 3, End::Finished, 3),
+    Row(9, 3, End::Finished, 3),
+];
+
+fn comes_to<R: Wait>(
+    rt: &R,
+    alloc: Global,
+    rig: &mut Rig,
+    jobs: &[Job],
+    row: &Row,
+) -> Result<bool, AllocError> {
+    let part = run(rt, alloc, rig, jobs, row.0)?;
+    Ok(part.turns == row.1 && part.end == row.2 && handled(rig, 1) == row.3)
+}
+
+fn runs_so<R: Wait>(rt: &R, alloc: Global, jobs: &[Job], row: &Row) -> Result<bool, AllocError> {
+    let mut rig = local(alloc, 3)?;
+    comes_to(rt, alloc, &mut rig, jobs, row)
+}
+
+fn all_run_so<R: Wait>(rt: &R, alloc: Global, jobs: &[Job]) -> Result<(), Fail> {
+    for (index, row) in WITHIN.iter().enumerate() {
+        if !runs_so(rt, alloc, jobs, row)? {
+            return Err(Fail::new(format_args!("row {index}, counted from 0, is wrong")));
+        }
     }
     Ok(())
+}
+
+#[test]
+fn three_calls_within_a_core(rt: HostRuntime) -> Result<(), Fail> {
+    let jobs = pings(rt.alloc(), 3)?;
+    all_run_so(&rt, rt.alloc(), &jobs)
 }
 
 // The first word of what stands first on the other side, which is taken.
@@ -56,22 +82,63 @@ fn next_word(other: &mut SharedSide) -> Option<u64> {
     }
 }
 
+// Whether fragments of these first words stand there, and no more.
+fn has_words(other: &mut SharedSide, words: &[u64]) -> bool {
+    for word in words {
+        if next_word(other) != Some(*word) {
+            return false;
+        }
+    }
+    next_word(other).is_none()
+}
+
+// Of five calls, of which the server is somewhere else.
+const STOPS: Row = Row(8, 8, End::Unfinished, 0);
+
 // A ring of four slots takes three fragments; when they are read and told, the others follow.
-#[test]
-fn five_calls_over_a_ring(rt: HostRuntime) -> Result<(), Fail> {
-    let (side, mut other) = duo(rt.alloc(), 4)?;
-    let jobs = pings(rt.alloc(), 5)?;
-    let mut rig = client(rt.alloc(), side, 5)?;
-    let part = run(&rt, rt.alloc(), &mut rig, &jobs, 8)?;
-    assert_eq!(rt; (part.turns, part.end), (8, End::Unfinished));
-    for word in [Some(1), Some(2), Some(3), None] {
-        assert_eq!(rt; next_word(&mut other), word);
+fn stops_and_goes_on<R: Wait>(
+    rt: &R,
+    alloc: Global,
+    rig: &mut Rig,
+    jobs: &[Job],
+    other: &mut SharedSide,
+) -> Result<bool, AllocError> {
+    if !comes_to(rt, alloc, rig, jobs, &STOPS)? || !has_words(other, &[1, 2, 3]) {
+        return Ok(false);
     }
     let _ = other.tell();
-    let part = run(&rt, rt.alloc(), &mut rig, &jobs, 8)?;
-    assert_eq!(rt; part.end, End::Finished);
-    for word in [Some(4), Some(5), None] {
-        assert_eq!(rt; next_word(&mut other), word);
+    let part = run(rt, alloc, rig, jobs, 8)?;
+    Ok(part.end == End::Finished && has_words(other, &[4, 5]))
+}
+
+fn goes_over<R: Wait>(
+    rt: &R,
+    alloc: Global,
+    rig: &mut Rig,
+    other: &mut SharedSide,
+) -> Result<bool, AllocError> {
+    let jobs = pings(alloc, 5)?;
+    stops_and_goes_on(rt, alloc, rig, &jobs, other)
+}
+
+fn goes_from<R: Wait>(
+    rt: &R,
+    alloc: Global,
+    side: SharedSide,
+    other: &mut SharedSide,
+) -> Result<bool, AllocError> {
+    let mut rig = client(alloc, side, 5)?;
+    goes_over(rt, alloc, &mut rig, other)
+}
+
+fn over_a_ring<R: Wait>(rt: &R, alloc: Global) -> Result<bool, AllocError> {
+    match duo(alloc, 4) {
+        Ok((side, mut other)) => goes_from(rt, alloc, side, &mut other),
+        Err(_) => Err(AllocError),
     }
-    Ok(())
+}
+
+#[test]
+fn five_calls_over_a_ring(rt: HostRuntime) -> Result<(), Fail> {
+    is_so(over_a_ring(&rt, rt.alloc()))
 }
