@@ -1,6 +1,6 @@
 //! Images of interface texts, and what reading spoiled images answers, by rows from outside.
 
-mod images;
+pub mod images;
 mod memory_tests;
 mod row_tests;
 mod stub_tests;

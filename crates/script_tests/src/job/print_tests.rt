@@ -1,7 +1,10 @@
 //! Refusals and reports as text.
 
+use crate::rows::{Row, all_hold};
 use fl_base::MsgNo;
-use fl_jobs::{BothEnds, CoresText, Ending, Report, print_refusal, print_report, read_cores_text};
+use fl_jobs::{
+    BothEnds, CoresFile, CoresText, Ending, Report, print_refusal, print_report, read_cores_text,
+};
 use fl_value::{Call, Value};
 use std::alloc::{AllocError, Global};
 use std::test::Fail;
@@ -49,61 +52,104 @@ fn both(alloc: Global, client: &[i128], server: &[i128]) -> Result<BothEnds, All
     })
 }
 
+// The numbers of the calls that the ends of all bindings but the last handled.
+const NUMBERS: &[(&[i128], &[i128])] = &[(&[], &[0]), (&[1, 10], &[11]), (&[], &[2])];
+
+fn push_numbers(alloc: Global, handled: &mut Vec<BothEnds>) -> Result<(), AllocError> {
+    for (client, server) in NUMBERS {
+        handled.push(both(alloc, client, server)?)?;
+    }
+    Ok(())
+}
+
+fn push_text(alloc: Global, client: &mut Vec<Call>) -> Result<(), AllocError> {
+    let call = text_call(alloc, b"x\"\xff")?;
+    client.push(call)?;
+    Ok(())
+}
+
 // What each binding's ends handled.
 fn handled(alloc: Global) -> Result<Vec<BothEnds>, AllocError> {
-    let mut handled = Vec::new(alloc);
-    handled.push(both(alloc, &[], &[0])?)?;
-    handled.push(both(alloc, &[1, 10], &[11])?)?;
-    handled.push(both(alloc, &[], &[2])?)?;
     let mut last = both(alloc, &[], &[])?;
-    last.client.push(text_call(alloc, b"x\"\xff")?)?;
+    push_text(alloc, &mut last.client)?;
+    let mut handled = Vec::new(alloc);
+    push_numbers(alloc, &mut handled)?;
     handled.push(last)?;
     Ok(handled)
 }
 
 fn report(alloc: Global, ending: Ending) -> Result<Report, AllocError> {
-    let mut refused = Vec::new(alloc);
-    for fault in [None, None, None, None, Some(74)] {
-        refused.push(fault)?;
-    }
+    let refused = Vec::from_slice(alloc, &[None, None, None, None, Some(74)])?;
+    let handled = handled(alloc)?;
     Ok(Report {
         made: Vec::new(alloc),
-        handled: handled(alloc)?,
+        handled,
         refused,
         turns: Vec::new(alloc),
         ending,
     })
 }
 
-fn printed(alloc: Global, text: &[u8], report: &Report) -> Result<Option<Vec<u8>>, AllocError> {
-    let CoresText::File(file) = read_cores_text(alloc, text)? else {
-        return Ok(None);
-    };
+fn is_printed(
+    alloc: Global,
+    file: &CoresFile<'_>,
+    report: &Report,
+    wanted: &[u8],
+) -> Result<bool, Fail> {
     let mut out = Vec::new(alloc);
-    print_report(alloc, &mut out, &file, report)?;
-    Ok(Some(out))
+    print_report(alloc, &mut out, file, report)?;
+    Ok(out.as_slice() == wanted)
+}
+
+fn is_printed_of(alloc: Global, text: &[u8], report: &Report, wanted: &[u8]) -> Result<bool, Fail> {
+    match read_cores_text(alloc, text)? {
+        CoresText::Refused { .. } => Ok(false),
+        CoresText::File(file) => is_printed(alloc, &file, report, wanted),
+    }
+}
+
+fn is_reported(alloc: Global, text: &[u8], ending: Ending, wanted: &[u8]) -> Result<bool, Fail> {
+    let report = report(alloc, ending)?;
+    is_printed_of(alloc, text, &report, wanted)
+}
+
+fn is_refusal(alloc: Global, line: usize, number: u8, wanted: &[u8]) -> Result<bool, Fail> {
+    let mut out = Vec::new(alloc);
+    print_refusal(alloc, &mut out, line, number)?;
+    Ok(out.as_slice() == wanted)
+}
+
+// What is printed, and how.
+enum Printed {
+    /// The report of a file's text that ended so.
+    Report(&'static [u8], Ending, &'static [u8]),
+    /// A line that is refused, and the fault.
+    Refusal(usize, u8, &'static [u8]),
+}
+
+impl Row for Printed {
+    fn holds(&self, alloc: Global) -> Result<bool, Fail> {
+        match self {
+            Printed::Report(text, ending, wanted) => is_reported(alloc, text, *ending, wanted),
+            Printed::Refusal(line, number, wanted) => is_refusal(alloc, *line, *number, wanted),
+        }
+    }
 }
 
 #[test]
 fn a_report_goes_by_names(rt: HostRuntime) -> Result<(), Fail> {
-    let report = report(rt.alloc(), Ending::Complete)?;
-    let out = printed(rt.alloc(), FILE, &report)?.ok_or("a line is refused")?;
-    assert_eq!(rt; out.as_slice(), WANTED);
-    Ok(())
+    let rows = &[Printed::Report(FILE, Ending::Complete, WANTED)];
+    all_hold(rt.alloc(), "reports", rows)
 }
 
 #[test]
 fn a_report_of_nothing_tells_its_end(rt: HostRuntime) -> Result<(), Fail> {
-    let report = report(rt.alloc(), Ending::TurnsOut)?;
-    let out = printed(rt.alloc(), b"", &report)?.ok_or("a line is refused")?;
-    assert_eq!(rt; out.as_slice(), b"turns out\n".as_slice());
-    Ok(())
+    let rows = &[Printed::Report(b"", Ending::TurnsOut, b"turns out\n")];
+    all_hold(rt.alloc(), "reports of nothing", rows)
 }
 
 #[test]
 fn a_refusal_names_its_line(rt: HostRuntime) -> Result<(), Fail> {
-    let mut out = Vec::new(rt.alloc());
-    print_refusal(rt.alloc(), &mut out, 227, 90)?;
-    assert_eq!(rt; out.as_slice(), b"line 227 refused E90\n".as_slice());
-    Ok(())
+    let rows = &[Printed::Refusal(227, 90, b"line 227 refused E90\n")];
+    all_hold(rt.alloc(), "refusals", rows)
 }

@@ -1,180 +1,233 @@
 //! Lines of cores files that are refused.
 
+use crate::rows::{Row, all_hold};
 use fl_jobs::{CoresText, read_cores_text};
 use std::alloc::{AllocError, Global};
 use std::test::Fail;
 
-// Three lines: an interface.
-const HEAD: &[u8] = b"idl\ninterface i { message a(uint32 v); message b(uint8 x); }\n.\n";
+// What stands before the lines of a row.
+#[derive(Clone, Copy)]
+enum Start {
+    Nothing,
+    /// Three lines, an interface.
+    Head,
+    /// Five lines more, on one core.
+    Local,
+    /// Five lines more than the interface, on three cores with a link.
+    Cores,
+}
 
-// Five lines more, on one core.
-const LOCAL: &[u8] = b"disp d 0\ndisp e 0\nexport s e i\nbind p d i s local 4\nreply p.s a a\n";
+fn lines_of(start: Start) -> &'static [u8] {
+    match start {
+        Start::Nothing => b"",
+        Start::Head => { b"idl\ninterface i { message a(uint32 v); message b(uint8 x); }\n.\n" }
+        Start::Local => {
+            b"idl\ninterface i { message a(uint32 v); message b(uint8 x); }\n.\n\
+                disp d 0\ndisp e 0\nexport s e i\nbind p d i s local 4\nreply p.s a a\n"
+        }
+        Start::Cores => {
+            b"idl\ninterface i { message a(uint32 v); message b(uint8 x); }\n.\n\
+                cores 3\nlink 0 1 4\ndisp d 0\ndisp e 2\nexport s e i\n"
+        }
+    }
+}
 
-// Lines behind those eight, and the first of all that is refused (0: none), with the fault.
-const BEHIND_LOCAL: [(&[u8], usize, u8); 22] = [
-    (b"", 0, 0),
-    (b"call p.c a(1)\n", 0, 0),
+// Lines behind those, and the first of all that is refused, with the fault; 0 and 0 where none is.
+struct Refused(Start, &'static [u8], usize, u8);
+
+// Lines behind those eight.
+const BEHIND_LOCAL: &[Refused] = &[
+    Refused(Start::Local, b"", 0, 0),
+    Refused(Start::Local, b"call p.c a(1)\n", 0, 0),
     // an end with rules makes no calls, and only one end has rules
-    (b"call p.s a(1)\n", 9, 44),
-    (b"reply p.c a a\n", 9, 44),
-    (b"reply p.s b b\n", 0, 0),
-    (b"call p.c a(1)\nreply p.c a a\n", 10, 44),
+    Refused(Start::Local, b"call p.s a(1)\n", 9, 44),
+    Refused(Start::Local, b"reply p.c a a\n", 9, 44),
+    Refused(Start::Local, b"reply p.s b b\n", 0, 0),
+    Refused(Start::Local, b"call p.c a(1)\nreply p.c a a\n", 10, 44),
     // after all other refusals of the line
-    (b"call p.s c(1)\n", 9, 41),
-    (b"call p.s a(4294967296)\n", 9, 42),
-    (b"reply p.c a c\n", 9, 41),
-    (b"reply p.c a b\n", 9, 42),
+    Refused(Start::Local, b"call p.s c(1)\n", 9, 41),
+    Refused(Start::Local, b"call p.s a(4294967296)\n", 9, 42),
+    Refused(Start::Local, b"reply p.c a c\n", 9, 41),
+    Refused(Start::Local, b"reply p.c a b\n", 9, 42),
     // a command of scripts alone, whatever it names
-    (b"turn d\n", 9, 90),
-    (b"write q.c\n", 9, 90),
-    (b"mack 5 6\n", 9, 90),
+    Refused(Start::Local, b"turn d\n", 9, 90),
+    Refused(Start::Local, b"write q.c\n", 9, 90),
+    Refused(Start::Local, b"mack 5 6\n", 9, 90),
     // a call's text is read before its end is looked up
-    (b"call q.c a(1\n", 9, 90),
-    (b"call q.c a(1)\n", 9, 92),
-    (b"cores 2\n", 9, 93),
-    (b"bind p d i s local 4\n", 9, 92),
-    (b"bind q d i t local 4\n", 9, 70),
-    (b"bind q d i s local 0\n", 9, 32),
-    (b"bind q d i s ump 4\n", 9, 73),
+    Refused(Start::Local, b"call q.c a(1\n", 9, 90),
+    Refused(Start::Local, b"call q.c a(1)\n", 9, 92),
+    Refused(Start::Local, b"cores 2\n", 9, 93),
+    Refused(Start::Local, b"bind p d i s local 4\n", 9, 92),
+    Refused(Start::Local, b"bind q d i t local 4\n", 9, 70),
+    Refused(Start::Local, b"bind q d i s local 0\n", 9, 32),
+    Refused(Start::Local, b"bind q d i s ump 4\n", 9, 73),
     // blank lines and comments count, and blocks all their lines
-    (b"\n# x\n\t \nwhat\n", 12, 90),
-    (
+    Refused(Start::Local, b"\n# x\n\t \nwhat\n", 12, 90),
+    Refused(
+        Start::Local,
         b"idl\ninterface j { }\n.\nidl\ninterface i { }\n.\n",
         12,
         92,
     ),
 ];
 
-// Five lines more, on three cores with a link.
-const CORES: &[u8] = b"cores 3\nlink 0 1 4\ndisp d 0\ndisp e 2\nexport s e i\n";
-
 // Lines behind those eight.
-const BEHIND_CORES: [(&[u8], usize, u8); 20] = [
-    (b"bind p d i s hop 0 1 2\n", 0, 0),
+const BEHIND_CORES: &[Refused] = &[
+    Refused(Start::Cores, b"bind p d i s hop 0 1 2\n", 0, 0),
     // only the first link of a route has to be there, on an earlier line
-    (b"bind p d i s hop 0 2\n", 9, 73),
-    (b"bind p d i s hop 0 2\nlink 0 2 4\n", 9, 73),
-    (b"link 0 2 4\nbind p d i s hop 0 2\n", 0, 0),
-    (b"bind p d i s hop 1 2\n", 9, 73),
-    (b"bind p d i s hop 0 1\n", 9, 73),
-    (b"bind p d i s hop 0 1 0 1 2\n", 9, 73),
-    (b"bind p d i s hop 0 3 2\n", 9, 73),
-    (b"bind p d i s hop 0\n", 9, 73),
-    (b"bind p d i s hop\n", 9, 90),
-    (b"link 1 0 4\n", 9, 73),
-    (b"link 1 1 4\n", 9, 73),
-    (b"link 1 3 4\n", 9, 73),
-    (b"link 1 2 5\n", 9, 32),
-    (b"link 1 2 2\n", 9, 32),
-    (b"disp f 3\n", 9, 73),
-    (b"disp d 1\n", 9, 92),
-    (b"export s d i\n", 9, 71),
-    (b"export t f i\n", 9, 92),
-    (b"idl\ninterface j { }\n.\nbind p d j s hop 0 1 2\n", 12, 72),
+    Refused(Start::Cores, b"bind p d i s hop 0 2\n", 9, 73),
+    Refused(Start::Cores, b"bind p d i s hop 0 2\nlink 0 2 4\n", 9, 73),
+    Refused(Start::Cores, b"link 0 2 4\nbind p d i s hop 0 2\n", 0, 0),
+    Refused(Start::Cores, b"bind p d i s hop 1 2\n", 9, 73),
+    Refused(Start::Cores, b"bind p d i s hop 0 1\n", 9, 73),
+    Refused(Start::Cores, b"bind p d i s hop 0 1 0 1 2\n", 9, 73),
+    Refused(Start::Cores, b"bind p d i s hop 0 3 2\n", 9, 73),
+    Refused(Start::Cores, b"bind p d i s hop 0\n", 9, 73),
+    Refused(Start::Cores, b"bind p d i s hop\n", 9, 90),
+    Refused(Start::Cores, b"link 1 0 4\n", 9, 73),
+    Refused(Start::Cores, b"link 1 1 4\n", 9, 73),
+    Refused(Start::Cores, b"link 1 3 4\n", 9, 73),
+    Refused(Start::Cores, b"link 1 2 5\n", 9, 32),
+    Refused(Start::Cores, b"link 1 2 2\n", 9, 32),
+    Refused(Start::Cores, b"disp f 3\n", 9, 73),
+    Refused(Start::Cores, b"disp d 1\n", 9, 92),
+    Refused(Start::Cores, b"export s d i\n", 9, 71),
+    Refused(Start::Cores, b"export t f i\n", 9, 92),
+    Refused(
+        Start::Cores,
+        b"idl\ninterface j { }\n.\nbind p d j s hop 0 1 2\n",
+        12,
+        72,
+    ),
 ];
 
 // Whole texts.
-const WHOLE: [(&[u8], usize, u8); 9] = [
-    (b"", 0, 0),
-    (b"\n# no line\n", 0, 0),
-    (b"cores 0\n", 1, 94),
-    (b"cores 17\n", 1, 94),
-    (b"cores 2\ncores 2\n", 2, 93),
-    (b"disp d 0", 0, 0),
+const WHOLE: &[Refused] = &[
+    Refused(Start::Nothing, b"", 0, 0),
+    Refused(Start::Nothing, b"\n# no line\n", 0, 0),
+    Refused(Start::Nothing, b"cores 0\n", 1, 94),
+    Refused(Start::Nothing, b"cores 17\n", 1, 94),
+    Refused(Start::Nothing, b"cores 2\ncores 2\n", 2, 93),
+    Refused(Start::Nothing, b"disp d 0", 0, 0),
     // of a text's fault the offset isn't told
-    (b"\nidl\ninterface i { message m(cap c); }\n.\n", 2, 14),
+    Refused(
+        Start::Nothing,
+        b"\nidl\ninterface i { message m(cap c); }\n.\n",
+        2,
+        14,
+    ),
     // an open block is refused at its head
-    (b"\nidl\ninterface i { }\n", 2, 90),
-    (b"idl 2\n", 1, 90),
+    Refused(Start::Nothing, b"\nidl\ninterface i { }\n", 2, 90),
+    Refused(Start::Nothing, b"idl 2\n", 1, 90),
 ];
 
-// The line that is refused and the fault; 0 and 0 where none is.
-fn refused(alloc: Global, text: &[u8]) -> Result<(usize, u8), AllocError> {
+// Whether this line is refused with this fault.
+fn is_refused(alloc: Global, text: &[u8], wanted: usize, fault: u8) -> Result<bool, Fail> {
     match read_cores_text(alloc, text)? {
-        CoresText::File(_) => Ok((0, 0)),
-        CoresText::Refused { line, number } => Ok((line, number)),
+        CoresText::File(_) => Ok(wanted == 0 && fault == 0),
+        CoresText::Refused { line, number } => Ok(line == wanted && number == fault),
     }
 }
 
-// The same of three texts, one behind another.
-fn refused_behind(
-    alloc: Global,
-    head: &[u8],
-    more: &[u8],
-    last: &[u8],
-) -> Result<(usize, u8), AllocError> {
-    let mut text = Vec::from_slice(alloc, head)?;
-    text.extend_from_slice(more)?;
-    text.extend_from_slice(last)?;
-    refused(alloc, &text)
+// Puts pieces behind a text.
+fn push_all(text: &mut Vec<u8>, pieces: &[&[u8]]) -> Result<(), AllocError> {
+    for piece in pieces {
+        text.extend_from_slice(piece)?;
+    }
+    Ok(())
+}
+
+impl Row for Refused {
+    fn holds(&self, alloc: Global) -> Result<bool, Fail> {
+        let mut text = Vec::new(alloc);
+        push_all(&mut text, &[lines_of(self.0), self.1])?;
+        is_refused(alloc, &text, self.2, self.3)
+    }
 }
 
 #[test]
 fn lines_on_one_core_are_refused(rt: HostRuntime) -> Result<(), Fail> {
-    for (text, line, number) in BEHIND_LOCAL {
-        let got = refused_behind(rt.alloc(), HEAD, LOCAL, text)?;
-        assert_eq!(rt; (text, got), (text, (line, number)));
-    }
-    Ok(())
+    all_hold(rt.alloc(), "lines on one core", BEHIND_LOCAL)
 }
 
 #[test]
 fn lines_on_three_cores_are_refused(rt: HostRuntime) -> Result<(), Fail> {
-    for (text, line, number) in BEHIND_CORES {
-        let got = refused_behind(rt.alloc(), HEAD, CORES, text)?;
-        assert_eq!(rt; (text, got), (text, (line, number)));
-    }
-    Ok(())
+    all_hold(rt.alloc(), "lines on three cores", BEHIND_CORES)
 }
 
 #[test]
 fn texts_are_refused(rt: HostRuntime) -> Result<(), Fail> {
-    for (text, line, number) in WHOLE {
-        let got = refused(rt.alloc(), text)?;
-        assert_eq!(rt; (text, got), (text, (line, number)));
+    all_hold(rt.alloc(), "texts", WHOLE)
+}
+
+// Lines behind a start, a binding so many times with its number behind its name, and the line that is refused, with the fault.
+struct Bindings {
+    start: Start,
+    first: &'static [u8],
+    times: u32,
+    binding: &'static [u8],
+    refused: (usize, u8),
+}
+
+fn push_bindings(alloc: Global, text: &mut Vec<u8>, row: &Bindings) -> Result<(), AllocError> {
+    push_all(text, &[lines_of(row.start), row.first])?;
+    for number in 0..row.times {
+        let digits = number.to_string(alloc)?;
+        push_all(text, &[b"bind p", digits.as_bytes(), row.binding])?;
     }
     Ok(())
+}
+
+impl Row for Bindings {
+    fn holds(&self, alloc: Global) -> Result<bool, Fail> {
+        let mut text = Vec::new(alloc);
+        push_bindings(alloc, &mut text, self)?;
+        is_refused(alloc, &text, self.refused.0, self.refused.1)
+    }
 }
 
 // A dispatcher that is bound to itself takes two places of its 1,024; circuits' ends are counted when they are opened.
-#[test]
-fn a_dispatcher_has_places(rt: HostRuntime) -> Result<(), Fail> {
-    let mut text = Vec::from_slice(rt.alloc(), HEAD)?;
-    text.extend_from_slice(b"disp d 0\nexport s d i\n")?;
-    for k in 0..513_u32 {
-        let line = format!(in rt.alloc(); "bind p{k} d i s local 1\n")?;
-        text.extend_from_slice(line.as_bytes())?;
-    }
-    let got = refused(rt.alloc(), &text)?;
-    assert_eq!(rt; got, (518, 54));
-    Ok(())
-}
+const OF_A_DISPATCHER: &[Bindings] = &[Bindings {
+    start: Start::Head,
+    first: b"disp d 0\nexport s d i\n",
+    times: 513,
+    binding: b" d i s local 1\n",
+    refused: (518, 54),
+}];
 
 // 1,024 bindings, all to be opened; one more is refused.
+const OF_A_WORLD: &[Bindings] = &[Bindings {
+    start: Start::Cores,
+    first: b"",
+    times: 1_025,
+    binding: b" d i s hop 0 1 2\n",
+    refused: (1_033, 94),
+}];
+
 #[test]
-fn a_world_has_bindings(rt: HostRuntime) -> Result<(), Fail> {
-    let mut text = Vec::from_slice(rt.alloc(), HEAD)?;
-    text.extend_from_slice(CORES)?;
-    for k in 0..1_025_u32 {
-        let line = format!(in rt.alloc(); "bind p{k} d i s hop 0 1 2\n")?;
-        text.extend_from_slice(line.as_bytes())?;
-    }
-    let got = refused(rt.alloc(), &text)?;
-    assert_eq!(rt; got, (1_033, 94));
-    Ok(())
+fn a_dispatcher_has_places(rt: HostRuntime) -> Result<(), Fail> {
+    all_hold(rt.alloc(), "places", OF_A_DISPATCHER)
 }
 
+#[test]
+fn a_world_has_bindings(rt: HostRuntime) -> Result<(), Fail> {
+    all_hold(rt.alloc(), "bindings", OF_A_WORLD)
+}
+
+// So many line feeds, and the line that is refused, with the fault.
+struct Feeds(usize, usize, u8);
+
 // A text of more than 1 MiB is refused at its first line, whatever stands there.
+const FEEDS: &[Feeds] = &[Feeds(1_048_576, 0, 0), Feeds(1_048_577, 1, 91)];
+
+impl Row for Feeds {
+    fn holds(&self, alloc: Global) -> Result<bool, Fail> {
+        let text = vec![in alloc; b'\n'; self.0]?;
+        is_refused(alloc, &text, self.1, self.2)
+    }
+}
+
 #[test]
 fn a_text_is_too_long(rt: HostRuntime) -> Result<(), Fail> {
-    let mut text = Vec::new(rt.alloc());
-    for _ in 0..1_048_576 {
-        text.push(b'\n')?;
-    }
-    let most = refused(rt.alloc(), &text)?;
-    assert_eq!(rt; most, (0, 0));
-    text.push(b'\n')?;
-    let more = refused(rt.alloc(), &text)?;
-    assert_eq!(rt; more, (1, 91));
-    Ok(())
+    all_hold(rt.alloc(), "line feeds", FEEDS)
 }

@@ -2,12 +2,12 @@
 
 ghost use Rattle.std.specs.Prelude.{◌≤◌, IfSome};
 
+use crate::rows::{Row, all_hold};
 use crate::transcript::still::Still;
 use fl_transcript::{ExecFault, ScriptReader, exec};
 use std::alloc::Global;
 use std::io;
 use std::io::{Read, Write};
-use std::process::Abort;
 use std::test::Fail;
 
 const SCRIPT: &[u8] =
@@ -139,106 +139,135 @@ fn reads_of(alloc: Global, script: &[u8], writer: &mut Sheet) -> Option<usize>
     }
 }
 
-// The fault, and that what was written until then is a prefix of the transcript.
-fn expect_fault(
-    rt: &impl Abort,
-    outcome: Result<(), ExecFault>,
-    fault: ExecFault,
-    status: u8,
-    writer: &Sheet,
-) {
-    assert_eq!(rt; outcome, Err(fault));
-    assert_eq!(rt; fault.number(), status);
-    assert!(rt; TRANSCRIPT.starts_with(writer.written()));
-    assert!(rt; writer.written().len() < TRANSCRIPT.len());
+// Whether it came to the fault, and what was written until then is a prefix of the transcript.
+fn stopped(outcome: Result<(), ExecFault>, fault: ExecFault, status: u8, writer: &Sheet) -> bool {
+    outcome == Err(fault)
+        && fault.number() == status
+        && TRANSCRIPT.starts_with(writer.written())
+        && writer.written().len() < TRANSCRIPT.len()
+}
+
+// Whether all is written by steps of this size, with so many calls.
+fn is_written(alloc: Global, step: usize, calls: usize) -> bool {
+    let mut reader = Source::new(SCRIPT, step, 0);
+    let mut writer = Sheet::new(step, 0, 0);
+    run(alloc, &mut reader, &mut writer) == Ok(())
+        && writer.written() == TRANSCRIPT
+        && writer.calls == calls
 }
 
 // A byte at a time each way.
 #[test]
 fn a_byte_at_a_time(rt: HostRuntime) {
-    let mut reader = Source::new(SCRIPT, 1, 0);
-    let mut writer = Sheet::new(1, 0, 0);
-    assert_eq!(rt; run(rt.alloc(), &mut reader, &mut writer), Ok(()));
-    assert_eq!(rt; writer.written(), TRANSCRIPT);
-    assert_eq!(rt; writer.calls, TRANSCRIPT.len());
+    assert!(rt; is_written(rt.alloc(), 1, TRANSCRIPT.len()));
+}
+
+fn stops_at_read(alloc: Global, at: usize) -> bool {
+    let mut reader = Source::new(SCRIPT, 1, at);
+    let mut writer = Sheet::new(512, 0, 0);
+    let outcome = run(alloc, &mut reader, &mut writer);
+    stopped(outcome, ExecFault::Read, 4, &writer) && writer.calls == 0
+}
+
+fn stops_at_each_read(alloc: Global) -> bool {
+    for at in 1..SCRIPT.len() + 2 {
+        if !stops_at_read(alloc, at) {
+            return false;
+        }
+    }
+    true
 }
 
 // Each read fails in turn: nothing is written before all is read.
 #[test]
 fn a_read_fails(rt: HostRuntime) {
-    for at in 1..SCRIPT.len() + 2 {
-        let mut reader = Source::new(SCRIPT, 1, at);
-        let mut writer = Sheet::new(512, 0, 0);
-        let outcome = run(rt.alloc(), &mut reader, &mut writer);
-        expect_fault(&rt, outcome, ExecFault::Read, 4, &writer);
-        assert_eq!(rt; writer.calls, 0);
+    assert!(rt; stops_at_each_read(rt.alloc()));
+}
+
+// Whether this call is the last, and what went before is there.
+fn stops_at_write(alloc: Global, writer: &mut Sheet, at: usize) -> bool {
+    let mut reader = Source::new(SCRIPT, 4096, 0);
+    let outcome = run(alloc, &mut reader, writer);
+    stopped(outcome, ExecFault::Write, 4, writer)
+        && writer.calls == at
+        && writer.written().len() == at.saturating_sub(1)
+}
+
+// Whether each write stops it in turn, where it takes nothing or fails.
+fn stops_at_each_write(alloc: Global, stalls: bool) -> bool {
+    for at in 1..TRANSCRIPT.len() + 1 {
+        let mut writer = if stalls {
+            Sheet::new(1, 0, at)
+        } else {
+            Sheet::new(1, at, 0)
+        };
+        if !stops_at_write(alloc, &mut writer, at) {
+            return false;
+        }
     }
+    true
 }
 
 // Each write fails in turn: it is the last, and what went before is there.
 #[test]
 fn a_write_fails(rt: HostRuntime) {
-    for at in 1..TRANSCRIPT.len() + 1 {
-        let mut reader = Source::new(SCRIPT, 4096, 0);
-        let mut writer = Sheet::new(1, at, 0);
-        let outcome = run(rt.alloc(), &mut reader, &mut writer);
-        expect_fault(&rt, outcome, ExecFault::Write, 4, &writer);
-        assert_eq!(rt; writer.calls, at);
-        assert_eq!(rt; writer.written().len(), at - 1);
-    }
+    assert!(rt; stops_at_each_write(rt.alloc(), false));
 }
 
 // A write that takes no byte is a fault.
 #[test]
 fn a_write_takes_nothing(rt: HostRuntime) {
-    for at in 1..TRANSCRIPT.len() + 1 {
-        let mut reader = Source::new(SCRIPT, 4096, 0);
-        let mut writer = Sheet::new(1, 0, at);
-        let outcome = run(rt.alloc(), &mut reader, &mut writer);
-        expect_fault(&rt, outcome, ExecFault::Write, 4, &writer);
-        assert_eq!(rt; writer.calls, at);
+    assert!(rt; stops_at_each_write(rt.alloc(), true));
+}
+
+fn is_written_or_stopped(alloc: Global) -> bool {
+    let mut reader = Source::new(SCRIPT, 16, 0);
+    let mut writer = Sheet::new(16, 0, 0);
+    match run(alloc, &mut reader, &mut writer) {
+        Ok(()) => writer.written() == TRANSCRIPT,
+        outcome => stopped(outcome, ExecFault::Memory, 3, &writer),
     }
 }
 
 // With ample memory the transcript; run with each request for memory refused in turn, the fault.
 #[test]
 fn memory_is_refused(rt: HostRuntime) {
-    let mut reader = Source::new(SCRIPT, 16, 0);
-    let mut writer = Sheet::new(16, 0, 0);
-    match run(rt.alloc(), &mut reader, &mut writer) {
-        Ok(()) => assert_eq!(rt; writer.written(), TRANSCRIPT),
-        outcome => expect_fault(&rt, outcome, ExecFault::Memory, 3, &writer),
-    }
+    assert!(rt; is_written_or_stopped(rt.alloc()));
+}
+
+fn is_counted(alloc: Global) -> bool {
+    let mut writer = Sheet::new(512, 0, 0);
+    reads_of(alloc, SCRIPT, &mut writer) == Some(SCRIPT.len() + 1) && writer.written() == TRANSCRIPT
 }
 
 // A byte a call, and one call more that finds the end.
 #[test]
 fn reads_are_counted(rt: HostRuntime) {
-    let mut writer = Sheet::new(512, 0, 0);
-    let calls = reads_of(rt.alloc(), SCRIPT, &mut writer);
-    assert_eq!(rt; calls, Some(SCRIPT.len() + 1));
-    assert_eq!(rt; writer.written(), TRANSCRIPT);
+    assert!(rt; is_counted(rt.alloc()));
+}
+
+// So many line feeds, and what is written of them.
+struct Feeds(usize, &'static [u8]);
+
+const FEEDS: &[Feeds] = &[Feeds(1_048_576, b""), Feeds(1_048_600, b"refused E91\n")];
+
+fn has_few_reads(alloc: Global, script: &[u8], wanted: &[u8]) -> bool {
+    let mut reader = Source::new(script, 1, 0);
+    let mut writer = Sheet::new(16, 0, 0);
+    run(alloc, &mut reader, &mut writer) == Ok(())
+        && writer.written() == wanted
+        && reader.calls <= 1_048_577
+}
+
+impl Row for Feeds {
+    fn holds(&self, alloc: Global) -> Result<bool, Fail> {
+        let script = vec![in alloc; b'\n'; self.0]?;
+        Ok(has_few_reads(alloc, &script, self.1))
+    }
 }
 
 // A reader that gives one byte a call is asked at most 1,048,577 times, however long its script is.
 #[test]
 fn reads_are_few(rt: HostRuntime) -> Result<(), Fail> {
-    let mut script = Vec::with_capacity(rt.alloc(), 1_048_600)?;
-    for _ in 0..1_048_576u32 {
-        script.push(b'\n')?;
-    }
-    let mut reader = Source::new(&script, 1, 0);
-    let mut writer = Sheet::new(16, 0, 0);
-    assert_eq!(rt; run(rt.alloc(), &mut reader, &mut writer), Ok(()));
-    assert_eq!(rt; writer.written(), b"".as_slice());
-    assert!(rt; reader.calls <= 1_048_577);
-    for _ in 0..24u32 {
-        script.push(b'\n')?;
-    }
-    let mut reader = Source::new(&script, 1, 0);
-    let mut writer = Sheet::new(16, 0, 0);
-    assert_eq!(rt; run(rt.alloc(), &mut reader, &mut writer), Ok(()));
-    assert_eq!(rt; writer.written(), b"refused E91\n".as_slice());
-    assert!(rt; reader.calls <= 1_048_577);
-    Ok(())
+    all_hold(rt.alloc(), "line feeds", FEEDS)
 }

@@ -1,23 +1,38 @@
 //! Images of texts, as they are and with one mistake.
 
-use crate::image::images::{PING, answer, answer_to_change, changed, image_of};
+use crate::image::images::{MIXED, PING, answer, answer_to_change, changed, image_of};
+use crate::rows::{Row, all_hold};
 use fl_image::read_image;
 use fl_value::PlanNo;
-use std::alloc::Global;
+use std::alloc::{AllocError, Global};
 use std::test::Fail;
 
-// Whether the image under a plan of this number has the bytes that are written by hand, and is read.
-fn is_ping(alloc: Global, plan: PlanNo, number: u8) -> Result<bool, Fail> {
-    let image = image_of(alloc, b"interface i { message ping(uint32 v); }", plan)?;
-    let ping = changed(alloc, &PING, 4, number)?;
-    Ok(image.as_slice() == ping.as_slice() && answer(alloc, &image)? == 0)
+// What is tried with images of texts.
+enum Example {
+    /// The image of `ping` under a plan of this number has the bytes that are written by hand, and is read.
+    Ping(PlanNo, u8),
+    /// The padding of a struct.
+    Padded,
+    /// An image is read as a program under this plan, and this is answered to the image with a plan's number.
+    Plan(PlanNo, u8, u8),
 }
 
-#[test]
-fn the_image_of_ping(rt: HostRuntime) -> Result<(), Fail> {
-    assert!(rt; is_ping(rt.alloc(), PlanNo::One, 1)?);
-    assert!(rt; is_ping(rt.alloc(), PlanNo::Two, 2)?);
-    Ok(())
+const PINGS: &[Example] = &[Example::Ping(PlanNo::One, 1), Example::Ping(PlanNo::Two, 2)];
+
+const PLANS: &[Example] = &[
+    Example::Plan(PlanNo::One, 2, 84),
+    Example::Plan(PlanNo::Two, 2, 0),
+];
+
+// Whether an image has the bytes written by hand, with the plan's number, and is read.
+fn is_ping(alloc: Global, image: &[u8], number: u8) -> Result<bool, Fail> {
+    let ping = changed(alloc, &PING, 4, number)?;
+    Ok(image == ping.as_slice() && answer(alloc, image)? == 0)
+}
+
+fn has_image(alloc: Global, plan: PlanNo, number: u8) -> Result<bool, Fail> {
+    let image = image_of(alloc, b"interface i { message ping(uint32 v); }", plan)?;
+    is_ping(alloc, &image, number)
 }
 
 const PADDED: &[u8] = b"interface i { typedef struct { uint8 a; uint16 b; } t; message m(t x); }";
@@ -25,48 +40,76 @@ const PADDED: &[u8] = b"interface i { typedef struct { uint8 a; uint16 b; } t; m
 // The code that stores the struct's fields, with the padding between them.
 const STORES: &[u8] = &[2, 1, 0, 1, 2, 0];
 
-// The answers to an image whose padding is another one, wherever the code stands.
-fn answers_to_padding(alloc: Global, image: &[u8]) -> Result<Vec<u8>, Fail> {
-    let mut answers = Vec::new(alloc);
+// At how many places that code stands, if another padding is refused at each.
+fn places_of_padding(alloc: Global, image: &[u8]) -> Result<usize, AllocError> {
+    let mut places: usize = 0;
     for at in 0..image.len() {
         if image[at..].starts_with(STORES) {
-            answers.push(answer_to_change(alloc, image, at + 1, 2)?)?;
+            if answer_to_change(alloc, image, at + 1, 2)? != 84 {
+                return Ok(0);
+            }
+            places = places.saturating_add(1);
         }
     }
-    Ok(answers)
+    Ok(places)
 }
 
-// The answer to an image behind which a byte stands.
-fn answer_to_longer(alloc: Global, image: Vec<u8>) -> Result<u8, Fail> {
-    let mut image = image;
+// Whether a byte too many stands behind the image.
+fn is_too_long(alloc: Global, image: &mut Vec<u8>) -> Result<bool, AllocError> {
     image.push(0)?;
-    Ok(answer(alloc, &image)?)
+    Ok(answer(alloc, image)? == 85)
+}
+
+fn has_padding(alloc: Global, image: &mut Vec<u8>) -> Result<bool, AllocError> {
+    Ok(
+        answer(alloc, image)? == 0
+            && places_of_padding(alloc, image)? == 1
+            && is_too_long(alloc, image)?,
+    )
+}
+
+fn is_padded(alloc: Global) -> Result<bool, Fail> {
+    let mut image = image_of(alloc, PADDED, PlanNo::One)?;
+    Ok(has_padding(alloc, &mut image)?)
+}
+
+fn is_under(
+    alloc: Global,
+    image: &[u8],
+    plan: PlanNo,
+    number: u8,
+    wanted: u8,
+) -> Result<bool, Fail> {
+    let program = read_image(alloc, image)?;
+    Ok(program.plan() == plan && answer_to_change(alloc, image, 4, number)? == wanted)
+}
+
+fn has_plan(alloc: Global, plan: PlanNo, number: u8, wanted: u8) -> Result<bool, Fail> {
+    let image = image_of(alloc, MIXED, plan)?;
+    is_under(alloc, &image, plan, number, wanted)
+}
+
+impl Row for Example {
+    fn holds(&self, alloc: Global) -> Result<bool, Fail> {
+        match self {
+            Example::Ping(plan, number) => has_image(alloc, *plan, *number),
+            Example::Padded => is_padded(alloc),
+            Example::Plan(plan, number, wanted) => has_plan(alloc, *plan, *number, *wanted),
+        }
+    }
+}
+
+#[test]
+fn the_image_of_ping(rt: HostRuntime) -> Result<(), Fail> {
+    all_hold(rt.alloc(), "plans", PINGS)
 }
 
 #[test]
 fn padding_of_a_struct(rt: HostRuntime) -> Result<(), Fail> {
-    let image = image_of(rt.alloc(), PADDED, PlanNo::One)?;
-    assert_eq!(rt; answer(rt.alloc(), &image)?, 0);
-    assert_eq!(rt;
-        answers_to_padding(rt.alloc(), &image)?.as_slice(),
-        [84].as_slice()
-    );
-    assert_eq!(rt; answer_to_longer(rt.alloc(), image)?, 85);
-    Ok(())
-}
-
-// Whether an image is read as a program under this plan, and what is answered to the image with another plan's number.
-fn plan_of(alloc: Global, plan: PlanNo, number: u8) -> Result<(bool, u8), Fail> {
-    let text = b"interface i { message m(uint8 a, string s, uint16 b); }";
-    let image = image_of(alloc, text, plan)?;
-    let program = read_image(alloc, &image)?;
-    let answer = answer_to_change(alloc, &image, 4, number)?;
-    Ok((program.plan() == plan, answer))
+    all_hold(rt.alloc(), "padding", &[Example::Padded])
 }
 
 #[test]
 fn plans(rt: HostRuntime) -> Result<(), Fail> {
-    assert_eq!(rt; plan_of(rt.alloc(), PlanNo::One, 2)?, (true, 84));
-    assert_eq!(rt; plan_of(rt.alloc(), PlanNo::Two, 2)?, (true, 0));
-    Ok(())
+    all_hold(rt.alloc(), "plans", PLANS)
 }

@@ -2,6 +2,7 @@
 
 ghost use Rattle.std.specs.Prelude.{◌≤◌};
 
+use crate::rows::{Row, all_hold};
 use fl_image::is_writable;
 use fl_interface::{ArgType, FixedType, Interface, Message, Word, counts_fit};
 use std::alloc::{AllocError, Global};
@@ -12,28 +13,40 @@ fn word(alloc: Global, bytes: &[u8]) -> Result<Word, AllocError> {
     Ok(Word { bytes })
 }
 
-/// Whether an interface of that name, without messages, can be spelled.
-fn is_name(alloc: Global, name: &[u8]) -> Result<bool, AllocError> {
-    let name = word(alloc, name)?;
-    let messages = Vec::new(alloc);
-    Ok(is_writable(&Interface { name, messages }))
+enum Made {
+    /// An interface of this name, without messages.
+    Name(&'static [u8]),
+    /// One with an enum of so many enumerators.
+    Enum(u32),
 }
 
-const NAMES: &[(&[u8], bool)] = &[
-    (b"i", true),
-    (b"_4", true),
-    (b"", false),
-    (b"4x", false),
-    (b"a b", false),
-    (
-        b"a_name_of_64_bytes_which_is_as_long_as_a_name_in_an_image_may_be",
+// An interface, and whether an image can spell it.
+struct Spelled(Made, bool);
+
+const SPELLED: &[Spelled] = &[
+    Spelled(Made::Name(b"i"), true),
+    Spelled(Made::Name(b"_4"), true),
+    Spelled(Made::Name(b""), false),
+    Spelled(Made::Name(b"4x"), false),
+    Spelled(Made::Name(b"a b"), false),
+    Spelled(
+        Made::Name(b"a_name_of_64_bytes_which_is_as_long_as_a_name_in_an_image_may_be"),
         true,
     ),
-    (
-        b"a_name_of_65_bytes_which_is_longer_than_a_name_in_an_image_may_be",
+    Spelled(
+        Made::Name(b"a_name_of_65_bytes_which_is_longer_than_a_name_in_an_image_may_be"),
         false,
     ),
+    Spelled(Made::Enum(65_535), true),
+    Spelled(Made::Enum(65_536), false),
+    Spelled(Made::Enum(65_541), false),
 ];
+
+fn of_name(alloc: Global, name: &[u8]) -> Result<Interface, AllocError> {
+    let name = word(alloc, name)?;
+    let messages = Vec::new(alloc);
+    Ok(Interface { name, messages })
+}
 
 /// The interface `i` with a message `m` of one argument, an enum of so many enumerators.
 fn of_enum(alloc: Global, count: u32) -> Result<Interface, AllocError>
@@ -49,13 +62,27 @@ fn of_enum(alloc: Global, count: u32) -> Result<Interface, AllocError>
     Ok(Interface { name, messages })
 }
 
+fn make(alloc: Global, made: &Made) -> Result<Interface, AllocError> {
+    match made {
+        Made::Name(name) => of_name(alloc, name),
+        Made::Enum(count) => {
+            let count = *count;
+            if count == 0 {
+                return Err(AllocError);
+            }
+            of_enum(alloc, count)
+        }
+    }
+}
+
+impl Row for Spelled {
+    fn holds(&self, alloc: Global) -> Result<bool, Fail> {
+        let interface = make(alloc, &self.0)?;
+        Ok(is_writable(&interface) == self.1)
+    }
+}
+
 #[test]
 fn names_are_words_and_enums_are_short(rt: HostRuntime) -> Result<(), Fail> {
-    for (name, wanted) in NAMES {
-        assert_eq!(rt; is_name(rt.alloc(), name)?, *wanted);
-    }
-    assert!(rt; is_writable(&of_enum(rt.alloc(), 65_535)?));
-    assert!(rt; !is_writable(&of_enum(rt.alloc(), 65_536)?));
-    assert!(rt; !is_writable(&of_enum(rt.alloc(), 65_541)?));
-    Ok(())
+    all_hold(rt.alloc(), "interfaces", SPELLED)
 }

@@ -1,7 +1,7 @@
 //! The code of messages under both plans.
 
 use crate::interfaces::interface;
-use crate::stub::rows::wrong;
+use crate::rows::{Row, all_hold};
 use fl_base::MsgNo;
 use fl_compile::{Program, compile};
 use fl_stub::{Column, Op, VerifiedCode};
@@ -10,7 +10,7 @@ use std::alloc::{AllocError, Global};
 use std::test::Fail;
 
 // An interface's text and how many messages it has, a plan, a message's number, and the message's two codes.
-struct Row {
+struct Codes {
     text: &'static [u8],
     messages: u16,
     plan: PlanNo,
@@ -49,8 +49,8 @@ const DEEP: &[u8] = b"interface i {
     message m(a7 x[n, 4]);
 }";
 
-const ROWS: &[Row] = &[
-    Row {
+const CODES: &[Codes] = &[
+    Codes {
         text: BETWEEN,
         messages: 1,
         plan: PlanNo::One,
@@ -78,7 +78,7 @@ const ROWS: &[Row] = &[
             Op::Done,
         ],
     },
-    Row {
+    Codes {
         text: BETWEEN,
         messages: 1,
         plan: PlanNo::Two,
@@ -104,7 +104,7 @@ const ROWS: &[Row] = &[
             Op::Done,
         ],
     },
-    Row {
+    Codes {
         text: BLOCK,
         messages: 2,
         plan: PlanNo::Two,
@@ -112,7 +112,7 @@ const ROWS: &[Row] = &[
         send: &[Op::End],
         receive: &[Op::Done],
     },
-    Row {
+    Codes {
         text: BLOCK,
         messages: 2,
         plan: PlanNo::One,
@@ -146,7 +146,7 @@ const ROWS: &[Row] = &[
             Op::Done,
         ],
     },
-    Row {
+    Codes {
         text: BLOCK,
         messages: 2,
         plan: PlanNo::Two,
@@ -178,7 +178,7 @@ const ROWS: &[Row] = &[
             Op::Done,
         ],
     },
-    Row {
+    Codes {
         text: MIXED,
         messages: 1,
         plan: PlanNo::One,
@@ -222,7 +222,7 @@ const ROWS: &[Row] = &[
             Op::Done,
         ],
     },
-    Row {
+    Codes {
         text: MIXED,
         messages: 1,
         plan: PlanNo::Two,
@@ -262,7 +262,7 @@ const ROWS: &[Row] = &[
             Op::Done,
         ],
     },
-    Row {
+    Codes {
         text: DYNAMIC,
         messages: 1,
         plan: PlanNo::One,
@@ -298,7 +298,7 @@ const ROWS: &[Row] = &[
             Op::Done,
         ],
     },
-    Row {
+    Codes {
         text: STRUCTS,
         messages: 1,
         plan: PlanNo::One,
@@ -324,7 +324,7 @@ const ROWS: &[Row] = &[
             Op::Done,
         ],
     },
-    Row {
+    Codes {
         text: DEEP,
         messages: 1,
         plan: PlanNo::Two,
@@ -393,7 +393,7 @@ fn has_none(program: &Program, msg: MsgNo) -> bool {
 }
 
 // Whether a program has the row's plan, messages and codes, and no code past the last message.
-fn is_of(program: &Program, row: &Row) -> bool {
+fn is_of(program: &Program, row: &Codes) -> bool {
     program.plan() == row.plan
         && program.interface().messages.len() == usize::from(row.messages)
         && is_code(program.send_code(row.msg), Column::Send, row.send)
@@ -402,27 +402,19 @@ fn is_of(program: &Program, row: &Row) -> bool {
         && has_none(program, MsgNo(65_535))
 }
 
-fn has_duplicate(alloc: Global, program: &Program, row: &Row) -> Result<bool, AllocError> {
+fn has_duplicate(alloc: Global, program: &Program, row: &Codes) -> Result<bool, AllocError> {
     let again = program.duplicate(alloc)?;
     Ok(is_of(&again, row))
 }
 
-// Whether the row's program is as the row says, and so is its duplicate.
-fn is_compiled(alloc: Global, row: &Row) -> Result<bool, Fail> {
-    let program = compiled(alloc, row.text, row.plan)?;
-    Ok(is_of(&program, row) && has_duplicate(alloc, &program, row)?)
-}
-
-fn rows_hold(alloc: Global) -> Result<(), Fail> {
-    for (index, row) in ROWS.iter().enumerate() {
-        if !is_compiled(alloc, row)? {
-            return Err(wrong(index));
-        }
+impl Row for Codes {
+    fn holds(&self, alloc: Global) -> Result<bool, Fail> {
+        let program = compiled(alloc, self.text, self.plan)?;
+        Ok(is_of(&program, self) && has_duplicate(alloc, &program, self)?)
     }
-    Ok(())
 }
 
 #[test]
 fn codes_of_messages_and_of_duplicates(rt: HostRuntime) -> Result<(), Fail> {
-    rows_hold(rt.alloc())
+    all_hold(rt.alloc(), "rows", CODES)
 }

@@ -5,7 +5,7 @@ ghost use Rattle.fl_interface.specs.Interface.{interface_of};
 ghost use Rattle.fl_machine.specs.Receiving.{HoldsParts, HoldsTapes};
 
 use crate::interfaces::interface;
-use crate::stub::rows::wrong;
+use crate::rows::{Row, all_hold};
 use fl_base::{Frag, MsgNo};
 use fl_compile::compile;
 use fl_layout::{Plans, fragment_count};
@@ -167,33 +167,32 @@ const UNDONE: &[Step] = &[
 ];
 
 // An interface's text, and what a new run of it is fed and answers under either plan.
-const ROWS: &[(&[u8], &[Step])] = &[
-    (SHORT, &[(frag!(1; 0, 0, 0), Err(60), false)]),
-    (SHORT, &[(frag!(3; 2, 0, 0), Err(65), false)]),
-    (SHORT, &[(frag!(3; 1, 3, 0), Err(66), false)]),
-    (SHORT, &[(frag!(3; 257, 0, 0), Err(63), false)]),
-    (SHORT, &[(frag!(3; 1, 1, 0), Err(65), false)]),
-    (SHORT, &[(frag!(11; 0, 0, 0), Err(63), false)]),
-    (SHORT, &[(frag!(65_539; 0, 0, 0), Err(62), false)]),
-    (SHORT, &[(frag!(3; 1, 1, 0x61), Ok(Fed::Whole), false)]),
-    (BLOB, INSIDE),
-    (BLOB, UNDONE),
-    (NOTHING, &[(FIRST, Err(62), true), (LAST, Err(60), true)]),
+struct Fresh(&'static [u8], &'static [Step]);
+
+const FRESH: &[Fresh] = &[
+    Fresh(SHORT, &[(frag!(1; 0, 0, 0), Err(60), false)]),
+    Fresh(SHORT, &[(frag!(3; 2, 0, 0), Err(65), false)]),
+    Fresh(SHORT, &[(frag!(3; 1, 3, 0), Err(66), false)]),
+    Fresh(SHORT, &[(frag!(3; 257, 0, 0), Err(63), false)]),
+    Fresh(SHORT, &[(frag!(3; 1, 1, 0), Err(65), false)]),
+    Fresh(SHORT, &[(frag!(11; 0, 0, 0), Err(63), false)]),
+    Fresh(SHORT, &[(frag!(65_539; 0, 0, 0), Err(62), false)]),
+    Fresh(SHORT, &[(frag!(3; 1, 1, 0x61), Ok(Fed::Whole), false)]),
+    Fresh(BLOB, INSIDE),
+    Fresh(BLOB, UNDONE),
+    Fresh(NOTHING, &[(FIRST, Err(62), true), (LAST, Err(60), true)]),
 ];
 
-fn rows_hold(alloc: Global) -> Result<(), Fail> {
-    for (index, (text, steps)) in ROWS.iter().enumerate() {
-        if !takes(alloc, text, steps)? {
-            return Err(wrong(index));
-        }
+impl Row for Fresh {
+    fn holds(&self, alloc: Global) -> Result<bool, Fail> {
+        Ok(takes(alloc, self.0, self.1)?)
     }
-    Ok(())
 }
 
 #[test]
 fn fragments_fed_to_new_runs(rt: HostRuntime) -> Result<(), Fail> {
     takes_fragments();
-    rows_hold(rt.alloc())
+    all_hold(rt.alloc(), "new runs", FRESH)
 }
 
 // What is answered to a fragment at a place.
@@ -247,30 +246,40 @@ fn reassembles(alloc: Global, text: &[u8], steps: &[Step]) -> Result<bool, Alloc
     Ok(true)
 }
 
+// What two places answer to fragments of `blob` and `nop`.
+struct Together(&'static [Step]);
+
+impl Row for Together {
+    fn holds(&self, alloc: Global) -> Result<bool, Fail> {
+        Ok(reassembles(alloc, BLOB, self.0)?)
+    }
+}
+
 #[test]
 fn fragments_put_together(rt: HostRuntime) -> Result<(), Fail> {
-    let as_fed = reassembles(rt.alloc(), BLOB, INSIDE)?;
-    assert!(rt; as_fed);
-    assert_eq!(rt; TakeFault::Memory.number(), 99);
-    Ok(())
+    assert!(rt; TakeFault::Memory.number() == 99);
+    all_hold(rt.alloc(), "fragments", &[Together(INSIDE)])
 }
 
-fn printed(alloc: Global, name: &[u8], call: &Call) -> Result<Vec<u8>, AllocError> {
+fn is_printed(alloc: Global, call: &Call, name: &[u8], text: &[u8]) -> Result<bool, AllocError> {
     let mut out = Vec::new(alloc);
     print_call(alloc, &mut out, name, &call.args)?;
-    Ok(out)
+    Ok(out.as_slice() == text)
 }
 
-// The text of the call that a fragment makes whole; nothing where it doesn't.
-fn text_with(
+// Whether a fragment makes a call whole, and it has its text.
+fn makes_whole(
     alloc: Global,
     run: &mut RecvRun,
     frag: &Frag,
-    name: &[u8],
-) -> Result<Option<Vec<u8>>, AllocError> {
+    whole: &Whole,
+) -> Result<bool, AllocError> {
     match run.feed(frag) {
-        Ok(Fed::Whole) => Ok(Some(printed(alloc, name, &run.whole_call(alloc)?)?)),
-        _ => Ok(None),
+        Ok(Fed::Whole) => {
+            let call = run.whole_call(alloc)?;
+            is_printed(alloc, &call, whole.name, whole.text)
+        }
+        _ => Ok(false),
     }
 }
 
@@ -284,10 +293,7 @@ fn gives(alloc: Global, run: &mut RecvRun, whole: &Whole) -> Result<bool, AllocE
             return Ok(false);
         }
     }
-    match text_with(alloc, run, last, whole.name)? {
-        Some(text) => Ok(text.as_slice() == whole.text),
-        None => Ok(false),
-    }
+    makes_whole(alloc, run, last, whole)
 }
 
 // A call's fragments, its message's name, and its text.
@@ -357,16 +363,18 @@ const REFUSED_AFTER_WHOLE: &[Step] = &[
 ];
 
 // An interface's text, a plan, what one run is fed and answers, and the calls that it is fed then.
-const WHOLES: &[(&[u8], PlanNo, &[Step], &[Whole])] = &[
-    (MIXED, PlanNo::One, &[], &[MIXED_ONE]),
-    (MIXED, PlanNo::Two, &[], &[MIXED_TWO]),
-    (PAIRS, PlanNo::One, &[], &[PAIRS_WHOLE]),
-    (PAIRS, PlanNo::Two, &[], &[PAIRS_WHOLE]),
-    (BLOB, PlanNo::One, &[], &[BLOB_WHOLE, NOP_WHOLE]),
-    (BLOB, PlanNo::Two, &[], &[BLOB_WHOLE, NOP_WHOLE]),
+struct Course(&'static [u8], PlanNo, &'static [Step], &'static [Whole]);
+
+const WHOLES: &[Course] = &[
+    Course(MIXED, PlanNo::One, &[], &[MIXED_ONE]),
+    Course(MIXED, PlanNo::Two, &[], &[MIXED_TWO]),
+    Course(PAIRS, PlanNo::One, &[], &[PAIRS_WHOLE]),
+    Course(PAIRS, PlanNo::Two, &[], &[PAIRS_WHOLE]),
+    Course(BLOB, PlanNo::One, &[], &[BLOB_WHOLE, NOP_WHOLE]),
+    Course(BLOB, PlanNo::Two, &[], &[BLOB_WHOLE, NOP_WHOLE]),
     // a refused fragment before that changes nothing of what was undone, and a second undo nothing at all
-    (BLOB, PlanNo::One, REFUSED_AFTER_WHOLE, &[NOP_WHOLE]),
-    (BLOB, PlanNo::Two, REFUSED_AFTER_WHOLE, &[NOP_WHOLE]),
+    Course(BLOB, PlanNo::One, REFUSED_AFTER_WHOLE, &[NOP_WHOLE]),
+    Course(BLOB, PlanNo::Two, REFUSED_AFTER_WHOLE, &[NOP_WHOLE]),
 ];
 
 fn gives_all(
@@ -386,19 +394,16 @@ fn gives_all(
     Ok(true)
 }
 
-fn wholes_hold(alloc: Global) -> Result<(), Fail> {
-    for (index, (text, plan, steps, wholes)) in WHOLES.iter().enumerate() {
-        let mut run = run(alloc, text, *plan)?;
-        if !gives_all(alloc, &mut run, steps, wholes)? {
-            return Err(wrong(index));
-        }
+impl Row for Course {
+    fn holds(&self, alloc: Global) -> Result<bool, Fail> {
+        let mut run = run(alloc, self.0, self.1)?;
+        Ok(gives_all(alloc, &mut run, self.2, self.3)?)
     }
-    Ok(())
 }
 
 #[test]
 fn calls_from_their_fragments(rt: HostRuntime) -> Result<(), Fail> {
-    wholes_hold(rt.alloc())
+    all_hold(rt.alloc(), "calls", WHOLES)
 }
 
 // Feeding and undoing take no memory: where each allocation is refused in turn, either the run isn't made, or it

@@ -1,37 +1,15 @@
 //! The fragments that runs of send code give.
 
-use crate::stub::rows::wrong;
+use crate::rows::{Row, all_hold};
 use crate::stub::verify_tests::verified;
 use fl_base::{Circuit, Frag, MsgNo};
 use fl_machine::SendRun;
 use fl_stub::{Column, Op, VerifiedCode};
-use std::alloc::{AllocError, Global};
+use std::alloc::Global;
 use std::test::Fail;
 
-// What a run of message 2 on circuit 5 gives first, by a look; and by three takes. Nothing of receive code.
-fn given(code: &VerifiedCode, tape: Vec<u64>) -> [Option<Frag>; 4] {
-    match code.column() {
-        Column::Send => {}
-        Column::Receive => return [None; 4],
-    }
-    let mut run = SendRun::start(code, MsgNo(2), Circuit(5), tape);
-    let seen = run.peek_frag(code);
-    let first = run.next_frag(code);
-    let second = run.next_frag(code);
-    let third = run.next_frag(code);
-    [seen, first, second, third]
-}
-
-fn sent(alloc: Global, ops: &[Op], tape: &[u64]) -> Result<[Option<Frag>; 4], AllocError> {
-    let tape = Vec::from_slice(alloc, tape)?;
-    match verified(alloc, ops)? {
-        Some(code) => Ok(given(&code, tape)),
-        None => Ok([None; 4]),
-    }
-}
-
 // Send code, a tape, and the fragments that its run gives: one or two.
-struct Row {
+struct Sent {
     ops: &'static [Op],
     tape: &'static [u64],
     first: Frag,
@@ -56,8 +34,8 @@ const STRING: &[Op] = &[
     Op::End,
 ];
 
-const ROWS: &[Row] = &[
-    Row {
+const SENT: &[Sent] = &[
+    Sent {
         ops: STRING,
         tape: &[7, 3, 97, 98, 99, 0x1234],
         first: Frag {
@@ -66,7 +44,7 @@ const ROWS: &[Row] = &[
         },
         second: None,
     },
-    Row {
+    Sent {
         ops: STRING,
         tape: &[255, 0, 0xffff],
         first: Frag {
@@ -76,7 +54,7 @@ const ROWS: &[Row] = &[
         second: None,
     },
     // a call without arguments is one fragment
-    Row {
+    Sent {
         ops: &[Op::End],
         tape: &[],
         first: Frag {
@@ -86,7 +64,7 @@ const ROWS: &[Row] = &[
         second: None,
     },
     // one that ends where a fragment ends has no more
-    Row {
+    Sent {
         ops: &[Op::Times(7), Op::Emit(8), Op::Back, Op::Align, Op::End],
         tape: &[1, 2, 3, 4, 5, 6, u64::MAX],
         first: Frag {
@@ -96,7 +74,7 @@ const ROWS: &[Row] = &[
         second: None,
     },
     // a loop goes on in the next fragment
-    Row {
+    Sent {
         ops: &[Op::Times(60), Op::Emit(1), Op::Back, Op::End],
         tape: &[
             1, 2, 3, 4, 5, 6, 7, 8, 9, 10, 11, 12, 13, 14, 15, 16, 17, 18, 19, 20, 21, 22, 23, 24,
@@ -121,7 +99,7 @@ const ROWS: &[Row] = &[
         }),
     },
     // and so do a number and zeros that don't fit
-    Row {
+    Sent {
         ops: &[
             Op::Times(6),
             Op::Emit(8),
@@ -143,7 +121,7 @@ const ROWS: &[Row] = &[
         }),
     },
     // loops in loops, one of them counted and empty in its second turn
-    Row {
+    Sent {
         ops: &[
             Op::Times(2),
             Op::Length(4),
@@ -166,17 +144,30 @@ const ROWS: &[Row] = &[
     },
 ];
 
-fn rows_hold(alloc: Global) -> Result<(), Fail> {
-    for (index, row) in ROWS.iter().enumerate() {
-        let wanted = [Some(row.first), Some(row.first), row.second, None];
-        if sent(alloc, row.ops, row.tape)? != wanted {
-            return Err(wrong(index));
-        }
+// Whether a run of message 2 on circuit 5 gives the row's fragments, the first one also by a look. Nothing is sent by receive code.
+fn is_sent(code: &VerifiedCode, tape: Vec<u64>, row: &Sent) -> bool {
+    match code.column() {
+        Column::Send => {}
+        Column::Receive => return false,
     }
-    Ok(())
+    let mut run = SendRun::start(code, MsgNo(2), Circuit(5), tape);
+    run.peek_frag(code) == Some(row.first)
+        && run.next_frag(code) == Some(row.first)
+        && run.next_frag(code) == row.second
+        && run.next_frag(code).is_none()
+}
+
+impl Row for Sent {
+    fn holds(&self, alloc: Global) -> Result<bool, Fail> {
+        let Some(code) = verified(alloc, self.ops)? else {
+            return Ok(false);
+        };
+        let tape = Vec::from_slice(alloc, self.tape)?;
+        Ok(is_sent(&code, tape, self))
+    }
 }
 
 #[test]
 fn runs_give_their_fragments(rt: HostRuntime) -> Result<(), Fail> {
-    rows_hold(rt.alloc())
+    all_hold(rt.alloc(), "rows", SENT)
 }

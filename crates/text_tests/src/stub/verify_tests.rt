@@ -1,5 +1,6 @@
 //! Which instructions `verify` accepts.
 
+use crate::rows::{Row, all_hold};
 use crate::stub::rows::wrong;
 use fl_stub::{Code, Column, Op, VerifiedCode, verify};
 use std::alloc::{AllocError, Global};
@@ -36,7 +37,13 @@ const RECEIVE: &[Op] = &[
     Op::Done,
 ];
 
-const CODES: &[(Column, &[Op])] = &[(Column::Send, SEND), (Column::Receive, RECEIVE)];
+// Instructions that are code of a column.
+struct OfColumn(Column, &'static [Op]);
+
+const CODES: &[OfColumn] = &[
+    OfColumn(Column::Send, SEND),
+    OfColumn(Column::Receive, RECEIVE),
+];
 
 fn is_of(code: &VerifiedCode, column: Column, ops: &[Op]) -> bool {
     code.column() == column && code.ops() == ops
@@ -52,26 +59,19 @@ fn has_duplicate(
     Ok(is_of(&again, column, ops))
 }
 
-// Whether instructions are code of a column, and so is its duplicate.
-fn is_code(alloc: Global, column: Column, ops: &[Op]) -> Result<bool, AllocError> {
-    match verified(alloc, ops)? {
-        Some(code) => Ok(is_of(&code, column, ops) && has_duplicate(alloc, &code, column, ops)?),
-        None => Ok(false),
+// The code is of the column, and so is its duplicate.
+impl Row for OfColumn {
+    fn holds(&self, alloc: Global) -> Result<bool, Fail> {
+        let Some(code) = verified(alloc, self.1)? else {
+            return Ok(false);
+        };
+        Ok(is_of(&code, self.0, self.1) && has_duplicate(alloc, &code, self.0, self.1)?)
     }
-}
-
-fn codes_hold(alloc: Global) -> Result<(), Fail> {
-    for (index, (column, ops)) in CODES.iter().enumerate() {
-        if !is_code(alloc, *column, ops)? {
-            return Err(wrong(index));
-        }
-    }
-    Ok(())
 }
 
 #[test]
 fn code_of_a_string_between_numbers(rt: HostRuntime) -> Result<(), Fail> {
-    codes_hold(rt.alloc())
+    all_hold(rt.alloc(), "codes", CODES)
 }
 
 const ACCEPTED: &[&[Op]] = &[
