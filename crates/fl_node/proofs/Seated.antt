@@ -1,5 +1,5 @@
 -- What events of a board leave alone: how fragments come to each end.
-use Rattle.std.proofs.Common.{◌≡◌, refl, ap, ◌∙◌, ℕ, zero, suc, List, [], ◌∷◌, slice_get, slice_set, Some, Result}
+use Rattle.std.proofs.Common.{◌≡◌, refl, sym, ap, ◌∙◌, ℕ, zero, suc, List, [], ◌∷◌, slice_get, slice_set, Some, Result}
 use Rattle.std.specs.declared.alloc.AllocError.{AllocError}
 use Rattle.fl_lists.specs.ThreeLists.{ThreeLists}
 use Rattle.fl_link.specs.Looks.{Look}
@@ -13,11 +13,15 @@ use Rattle.fl_node.specs.Sound.{kinds_seated}
 use Rattle.fl_node.specs.Ends.{TriggersIf}
 use Rattle.std.specs.Prelude.{Option, None}
 
+-- over any type: where it is a seat, `cc` would look at all the parts of an end
+same_some : {X : Type 0} (x y : X) → Some x ≡ Some y → x ≡ y
+same_some x y e = cc
+
 -- another end in a seat
 pub seat_kinds : (seats : List TheSeat) (e : ℕ) (s : TheSeat) (t : TheEnd) → slice_get seats e ≡ Some s
     → kinds_seated (slice_set seats e (record { end = t; dispatcher = s.dispatcher; channel = s.channel; kind = s.kind })) ≡ kinds_seated seats
 seat_kinds [] e s t at = refl
-seat_kinds (x ∷ xs) zero s t at = let same : s ≡ x = cc in ap (λ (y : TheSeat). y.kind ∷ kinds_seated xs) same
+seat_kinds (x ∷ xs) zero s t at = ap (λ (y : TheSeat). y.kind ∷ kinds_seated xs) (sym (same_some x s at))
 seat_kinds (x ∷ xs) (suc e) s t at = ap (λ (ks : List Kind). x.kind ∷ ks) (seat_kinds xs e s t at)
 
 pub end_kinds : (b c : TheBoard) (e : ℕ) (Event : TheEnd → TheEnd → Type 0) → ChangesEnd b e Event c → kinds_seated c.seats ≡ kinds_seated b.seats
