@@ -26,12 +26,15 @@ use Rattle.fl_node.specs.declared.hearing.Offered.{Offered}
 use Rattle.fl_node.specs.declared.answer.MonitorAnswer.{MonitorAnswer}
 use Rattle.fl_node.specs.declared.answer.MonitorAnswer.TheVariants.{Full, Done, Opened, OpeningRefused}
 use Rattle.fl_node.specs.declared.fault.LinkFault.{LinkFault}
+use Rattle.fl_node.specs.declared.fault.LinkFault.TheVariants as link
+use Rattle.fl_base.specs.declared.fragment.Frag.{Frag}
+use Rattle.fl_monitor.specs.Saying.{Says}
 use Rattle.fl_node.specs.View.{TheCore, with_monitor, server_of, place_of}
 use Rattle.fl_node.specs.Sound.{IsCore, kinds_seated}
-use Rattle.fl_node.specs.Hearing.{Offers, here_for, known_for, offer_for, offering, Follows, MakesServer, HearsAll, HearsMessage}
+use Rattle.fl_node.specs.Hearing.{Offers, here_for, known_for, offer_for, offering, Follows, MakesServer, HearsAll, HearsMessage, HearsFrag}
 use Rattle.fl_node.specs.Inside.{server_in, LeadsTo, EndFor, for_message, core_parts, HearsWith, Unheard}
 use Rattle.fl_monitor.specs.Routing.{given}
-use Rattle.fl_node.proofs.Kept.{parts_kept}
+use Rattle.fl_node.proofs.Kept.{parts_kept, failed_long}
 use Rattle.fl_node.proofs.Offers.{offer_found, offer_leads, made_for, made_new}
 
 -- ---- what isn't heard
@@ -54,18 +57,34 @@ with_kept kn l m source b b2 n n2 fault.NoRoute h = (h.1, h.2)
 with_kept kn l m source b b2 n n2 fault.UsedUp h = (h.1, h.2)
 with_kept kn l m source b b2 n n2 fault.PlansDiffer h = (h.1, h.2)
 
-failed_length : (lanes : List Lane) (l : ℕ) (x : Option Lane) → length (given x lanes λ lane. slice_set lanes l (record { side = lane.side; failed = true })) ≡ length lanes
-failed_length lanes l None = refl
-failed_length lanes l (Some lane) = length-set lanes l (record { side = lane.side; failed = true })
-
 pub unheard_length : (l : LinkId) (f : MonitorFault) (lanes lanes2 : List Lane) (answer : Result MonitorAnswer LinkFault) → Unheard l f lanes answer lanes2 → length lanes2 ≡ length lanes
-unheard_length l fault.Astray lanes lanes2 answer h = ap length h.1 ∙ failed_length lanes l.0 (slice_get lanes l.0)
+unheard_length l fault.Astray lanes lanes2 answer h = failed_long lanes lanes2 l.0 h.1
 unheard_length l fault.OutboxFull lanes lanes2 answer h = ap length h.1
 unheard_length l fault.Memory lanes lanes2 answer h = ap length h.1
 unheard_length l fault.Differs lanes lanes2 answer h = ap length h.1
 unheard_length l fault.NoRoute lanes lanes2 answer h = ap length h.1
 unheard_length l fault.UsedUp lanes lanes2 answer h = ap length h.1
 unheard_length l fault.PlansDiffer lanes lanes2 answer h = ap length h.1
+
+not_heard_so : (o : Offers) (l : LinkId) (m : Message) (k : TheCore) (f : MonitorFault) (n2 : TheMonitor) (answer : Result MonitorAnswer LinkFault) (lanes : List Lane)
+    → Hears (known_for o k m) l m k.monitor (Err f) n2 → Unheard l f k.lanes answer lanes → HearsMessage o l m k answer (record k { monitor = n2; lanes = lanes })
+not_heard_so o l m k fault.Astray n2 answer lanes h (answer_is, lanes_are) =
+    subst (λ (r : Result MonitorAnswer LinkFault). HearsMessage o l m k r (record k { monitor = n2; lanes = lanes })) (sym answer_is) (
+      subst (λ (n : TheMonitor). Hears (known_for o k m) l m k.monitor (Err fault.Astray) n) h.1 h,
+      ap (λ (n : TheMonitor). record k { monitor = n; lanes = lanes }) h.1 ∙ ap (λ (ls : List Lane). record k { lanes = ls }) lanes_are,
+    )
+not_heard_so o l m k fault.OutboxFull n2 answer lanes h (answer_is, lanes_are) =
+    subst (λ (r : Result MonitorAnswer LinkFault). HearsMessage o l m k r (record k { monitor = n2; lanes = lanes })) (sym answer_is) (
+      subst (λ (n : TheMonitor). Hears (known_for o k m) l m k.monitor (Err fault.OutboxFull) n) h.3 h,
+      ap (λ (n : TheMonitor). record k { monitor = n; lanes = lanes }) h.3 ∙ ap (λ (ls : List Lane). record k { lanes = ls }) lanes_are,
+    )
+not_heard_so o l m k fault.Memory n2 answer lanes h (answer_is, lanes_are) =
+    subst (λ (r : Result MonitorAnswer LinkFault). HearsMessage o l m k r (record k { monitor = n2; lanes = lanes })) (sym answer_is)
+    (ap (λ (n : TheMonitor). record k { monitor = n; lanes = lanes }) h.3 ∙ ap (λ (ls : List Lane). record k { lanes = ls }) lanes_are)
+not_heard_so o l m k fault.Differs n2 answer lanes h u = absurd h
+not_heard_so o l m k fault.NoRoute n2 answer lanes h u = absurd h
+not_heard_so o l m k fault.UsedUp n2 answer lanes h u = absurd h
+not_heard_so o l m k fault.PlansDiffer n2 answer lanes h u = absurd h
 
 -- ---- what is heard
 
@@ -102,6 +121,40 @@ module _ (o : Offers) (l : LinkId) (m : Message) (k base : TheCore) (same : base
   leads_so offer is h made comes makes =
       let f = offer_found o base m offer (subst (λ (x : TheCore). offer_for o x m ≡ Some offer) (sym same) is) in
       offer_leads o base l m offer f h made (subst (λ (x : Here). ComesTo (record { names = o.names; here = x }) base.monitor.circuits l m h) at_base comes) makes
+
+  pub not_heard : (f : MonitorFault) (n2 : TheMonitor) (answer : Result MonitorAnswer LinkFault) (lanes : List Lane) → Hears (record { names = o.names; here = here }) l m base.monitor (Err f) n2
+      → Unheard l f base.lanes answer lanes → HearsMessage o l m k answer (record base { monitor = n2; lanes = lanes })
+  not_heard f n2 answer lanes hears unheard =
+      subst (λ (x : TheCore). HearsMessage o l m x answer (record base { monitor = n2; lanes = lanes })) same
+      (not_heard_so o l m base f n2 answer lanes (subst (λ (x : Here). Hears (record { names = o.names; here = x }) l m base.monitor (Err f) n2) at_base hears) unheard)
+
+  -- with room that was made, and an end that was taken back
+  pub not_heard_with : (source : TheProgram) (f : MonitorFault) (b2 : TheBoard) (n2 : TheMonitor) (answer : Result MonitorAnswer LinkFault) (lanes : List Lane) (ports : List Port) (arrivals : List TheQueue)
+      → HearsWith (for_message (record { names = o.names; here = here }) l m source) (core_parts base.board base.monitor) (Err f) (core_parts b2 n2) → Unheard l f base.lanes answer lanes
+      → ports ≡ base.ports → arrivals ≡ base.arrivals → HearsMessage o l m k answer (record base { board = b2; monitor = n2; ports = ports; lanes = lanes; arrivals = arrivals })
+  not_heard_with source f b2 n2 answer lanes ports arrivals hears unheard ports_are arrivals_are = by f hears unheard where
+    kept : (b2 ≡ base.board) → (n2 ≡ base.monitor) → record base { board = b2; monitor = n2; ports = ports; lanes = lanes; arrivals = arrivals } ≡ record base { lanes = lanes }
+    kept b_is n_is =
+        ap (λ (b : TheBoard). record base { board = b; monitor = n2; ports = ports; lanes = lanes; arrivals = arrivals }) b_is
+        ∙ ap (λ (n : TheMonitor). record base { monitor = n; ports = ports; lanes = lanes; arrivals = arrivals }) n_is
+        ∙ ap (λ (ps : List Port). record base { ports = ps; lanes = lanes; arrivals = arrivals }) ports_are
+        ∙ ap (λ (qs : List TheQueue). record base { lanes = lanes; arrivals = qs }) arrivals_are
+
+    left : (g : MonitorFault) → Hears (record { names = o.names; here = here }) l m base.monitor (Err g) base.monitor → Unheard l g base.lanes answer lanes → (b2 ≡ base.board) → (n2 ≡ base.monitor)
+        → HearsMessage o l m k answer (record base { board = b2; monitor = n2; ports = ports; lanes = lanes; arrivals = arrivals })
+    left g h u b_is n_is = subst (λ (x : TheCore). HearsMessage o l m k answer x) (sym (kept b_is n_is)) (not_heard g base.monitor answer lanes h u)
+
+    by : (g : MonitorFault) → HearsWith (for_message (record { names = o.names; here = here }) l m source) (core_parts base.board base.monitor) (Err g) (core_parts b2 n2) → Unheard l g base.lanes answer lanes
+        → HearsMessage o l m k answer (record base { board = b2; monitor = n2; ports = ports; lanes = lanes; arrivals = arrivals })
+    by fault.Memory h u =
+        subst (λ (r : Result MonitorAnswer LinkFault). HearsMessage o l m k r (record base { board = b2; monitor = n2; ports = ports; lanes = lanes; arrivals = arrivals })) (sym u.0)
+        (kept h.0 h.1 ∙ ap (λ (ls : List Lane). record base { lanes = ls }) u.1 ∙ same)
+    by fault.Astray h u = left fault.Astray h.0 u h.1 h.2
+    by fault.OutboxFull h u = left fault.OutboxFull h.0 u h.1 h.2
+    by fault.Differs h u = left fault.Differs h.0 u h.1 h.2
+    by fault.NoRoute h u = left fault.NoRoute h.0 u h.1 h.2
+    by fault.UsedUp h u = left fault.UsedUp h.0 u h.1 h.2
+    by fault.PlansDiffer h u = left fault.PlansDiffer h.0 u h.1 h.2
 
   pub all_heard : (n2 : TheMonitor) (h : Heard) (told : MonitorAnswer) (k2 : TheCore) → Hears (record { names = o.names; here = here }) l m base.monitor (Ok h) n2
       → Follows (offering o.programs (offer_for o base m) l) h (with_monitor base n2) told k2 → HearsAll o l m k told k2
@@ -140,3 +193,21 @@ end_none source place s b b2 is h = let g : EndFor source place None b b2 = subs
 pub end_some : (source : TheProgram) (place : ℕ) (s : Option Made) (made : Made) (b b2 : TheBoard) → s ≡ Some made → EndFor source place s b b2
     → (program : Program) × (program_of program ≡ source) × Adds b made.dispatcher (fresh program (Some made.circuit.0)) Queue (Ok place) b2
 end_some source place s made b b2 is h = subst (λ (x : Option Made). EndFor source place x b b2) is h
+
+-- ---- the message of a fragment
+
+pub frag_heard : (o : Offers) (l : LinkId) (frag : Frag) (m : Message) (k base : TheCore) → base ≡ k → (k2 : TheCore) (answer : Result MonitorAnswer LinkFault) (field told : MonitorAnswer) → answer ≡ Ok field → field ≡ told
+    → Says frag m → HearsMessage o l m base answer k2 → HearsFrag o l frag k (Ok told) k2
+frag_heard o l frag m k base same k2 answer field told is told_is says h =
+    let at_k = subst (λ (x : TheCore). HearsMessage o l m x answer k2) same h in
+    (m, says, subst (λ (r : Result MonitorAnswer LinkFault). HearsMessage o l m k r k2) (is ∙ ap (λ (x : MonitorAnswer). let r : Result MonitorAnswer LinkFault = Ok x in r) told_is) at_k)
+
+pub frag_not_heard : (o : Offers) (l : LinkId) (frag : Frag) (m : Message) (k base : TheCore) → base ≡ k → (k2 : TheCore) (f : LinkFault) → Says frag m → HearsMessage o l m base (Err f) k2
+    → HearsFrag o l frag k (Err f) k2
+frag_not_heard o l frag m k base same k2 f says h = by f (subst (λ (x : TheCore). HearsMessage o l m x (Err f) k2) same h) where
+  by : (g : LinkFault) → HearsMessage o l m k (Err g) k2 → HearsFrag o l frag k (Err g) k2
+  by link.Marked h = absurd h
+  by link.Failed h = absurd h
+  by link.Astray h = (m, says, h)
+  by (link.Wire fault) h = absurd h
+  by link.Memory h = h

@@ -19,3 +19,4 @@ pub mod Unmoved
 pub mod Retaking
 pub mod Pairing
 pub mod Numbering
+pub mod Looking

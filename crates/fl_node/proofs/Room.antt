@@ -1,9 +1,11 @@
 -- Whether a dispatcher has a place for one more end.
-use Rattle.std.proofs.Common.{◌≡◌, refl, sym, ap, ◌∙◌, nat_le, false, Option, ◌+◌, ℕ, zero, suc, ◌<◌, ◌≤◌, List, [], ◌∷◌, length, slice_get, Some, arith}
+use Rattle.std.proofs.Common.{◌≡◌, refl, sym, ap, ◌∙◌, nat_le, nat_lt, false, Option, ◌+◌, ℕ, zero, suc, ◌<◌, ◌≤◌, List, [], ◌∷◌, length, slice_get, Some, arith}
+use Rattle.std.proofs.lemmas.Option.{slice_get_past}
 use Rattle.fl_core.specs.declared.fault.BoardFault.TheVariants.{TooManyEnds, Memory}
 use Rattle.fl_core.specs.View.{TheDispatcher, TheBoard}
 use Rattle.fl_core.specs.Sound.{IsBoard}
 use Rattle.fl_node.specs.Making.{HasPlace, HasNoPlace, has_places}
+use Rattle.fl_node.specs.Hearing.{has_place}
 use Rattle.fl_monitor.specs.Routing.{given}
 
 -- something stands at each place of a list
@@ -45,3 +47,14 @@ module _ (b : TheBoard) (sound : IsBoard b) (n : ℕ) (below : n < length b.disp
       let found : has_places more b n ≡ nat_le (length it.0.ends + more) 1024
       = ap (λ (o : Option TheDispatcher). given o false (λ d. nat_le (length d.ends + more) 1024)) it.1 in
       ap (λ (k : ℕ). nat_le (k + more) 1024) (count_is it.0 it.1) ∙ sym found
+
+-- one place more, and none where there is no such dispatcher
+pub place_told : (b : TheBoard) (n : ℕ) → n < length b.dispatchers → (count : ℕ) → ((d : TheDispatcher) → slice_get b.dispatchers n ≡ Some d → count ≡ length d.ends)
+    → nat_lt count 1024 ≡ has_place b n
+place_told b n below count count_is =
+    let it = at_place b.dispatchers n below in
+    let found : has_place b n ≡ nat_lt (length it.0.ends) 1024 = ap (λ (o : Option TheDispatcher). given o false (λ d. nat_lt (length d.ends) 1024)) it.1 in
+    ap (λ (k : ℕ). nat_lt k 1024) (count_is it.0 it.1) ∙ sym found
+
+pub no_place_past : (b : TheBoard) (n : ℕ) → length b.dispatchers ≤ n → false ≡ has_place b n
+no_place_past b n past = sym (ap (λ (o : Option TheDispatcher). given o false (λ d. nat_lt (length d.ends) 1024)) (slice_get_past b.dispatchers n past))

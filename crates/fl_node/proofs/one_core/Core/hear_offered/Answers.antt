@@ -6,7 +6,7 @@ use Rattle.fl_node.specs.contracts.one_core.Core.{the_view}
 use Rattle.fl_monitor.specs.Monitors.{TheMonitor}
 use Rattle.fl_node.specs.Sound.{kinds_seated}
 use Rattle.fl_node.specs.Hearing.{Offers, offer_for, offering}
-use Rattle.fl_node.proofs.Hearsay.{leads_so, with_kept, unheard_length, roomy_kept, hears_length, end_none}
+use Rattle.fl_node.proofs.Hearsay.{leads_so, with_kept, unheard_length, roomy_kept, hears_length, end_none, not_heard_with}
 use Rattle.fl_node.proofs.Served.{none_served, server_kept, server_served}
 use Rattle.fl_node.proofs.one_core.Core.hear_offered.Goals as goal
 
@@ -49,3 +49,15 @@ returns-in-Some c =
           c.make_arrivals.new.ports.items c.put_circuit_port.new.ports.items c.make_arrivals.new.arrivals.items c.put_circuit_port.new.arrivals.items c.put_circuit_port.new.places.items c.make_arrivals.ensures.ports c.make_arrivals.ensures.arrivals c.put_circuit_port.ensures.ports c.put_circuit_port.ensures.places c.put_circuit_port.ensures.arrivals
           c.args.offer c.requires.offer (slice_get_read c.args.programs.now (length c.args.programs.now) c.args.offer.interface c.index-programs-offer.result refl c.requires.program c.index-programs-offer.is);
     }
+
+pub returns-in-Err-hear_with_end : goal.returns-in-Err-hear_with_end
+returns-in-Err-hear_with_end c =
+    let o : Offers = record { names = c.args.names.now; programs = c.args.programs.now } in
+    record {
+      hears = not_heard_with o c.args.link c.args.message.now c.args.self.now _ c.self.view_is c.here_for-here.result (c.here_for-here.ensures.here o (sym c.requires.offer)) (program_of c.index-programs-offer.result) c.in-Err-hear_with_end.fault
+          c.hear_with_end.new.board c.hear_with_end.new.monitor c.unheard.result c.unheard.new.lanes.items c.make_arrivals.new.ports.items c.make_arrivals.new.arrivals.items
+          c.in-Err-hear_with_end.ensures.hears c.unheard.ensures.unheard c.make_arrivals.ensures.ports c.make_arrivals.ensures.arrivals;
+    }
+
+pub invariant_of-self : goal.invariant_of-self
+invariant_of-self c = roomy_kept _ c.self.inside.board c.self.inside.monitor c.self.inside.lanes.items c.make_arrivals.new.ports.items c.make_arrivals.new.arrivals.items c.self.invariant refl refl refl c.make_arrivals.ensures.ports c.make_arrivals.ensures.arrivals

@@ -1,0 +1,20 @@
+use Rattle.std.proofs.Common.{◌∙◌, refl, sym, ap, true, false}
+use Rattle.fl_base.specs.declared.fragment.Frag.{Frag}
+use Rattle.fl_hop.specs.declared.forward.First.TheVariants as first
+use Rattle.fl_node.proofs.Looking.{is_lane, seen_first, failed_so}
+use Rattle.fl_node.proofs.one_core.Core.look.Goals as goal
+
+pub returns-then-index : goal.returns-then-index
+returns-then-index g c = record { looks = (is_lane c.args.self.now _ c.self.view_is c.from.result c.args.link.0 c.from.ensures c.requires c.index.result.now c.index.ensures true c.if-index.true, refl, refl) }
+
+pub returns-in-Ok-Nothing : goal.returns-in-Ok-Nothing
+returns-in-Ok-Nothing g c = record { looks = (seen_first g.T.TakeSide.takes g.T.TakeSide.front c.args.self.now _ c.self.view_is c.args.link.0 (is_lane c.args.self.now _ c.self.view_is c.from.result c.args.link.0 c.from.ensures c.requires c.index.result.now c.index.ensures false c.if-index.false) c.circuits.result.now c.circuits.ensures.circuits c.args.from.now c.look.new.from c.look.result c.in-Ok-Nothing.field-0 (first.Nothing) c.in-Ok-Nothing.is (c.in-Ok-Nothing.field-0-is) c.look.ensures.finds, refl) }
+
+pub returns-in-Ok-Acknowledged : goal.returns-in-Ok-Acknowledged
+returns-in-Ok-Acknowledged g c = record { looks = (seen_first g.T.TakeSide.takes g.T.TakeSide.front c.args.self.now _ c.self.view_is c.args.link.0 (is_lane c.args.self.now _ c.self.view_is c.from.result c.args.link.0 c.from.ensures c.requires c.index.result.now c.index.ensures false c.if-index.false) c.circuits.result.now c.circuits.ensures.circuits c.args.from.now c.look.new.from c.look.result c.in-Ok-Acknowledged.field-0 (first.Acknowledged) c.in-Ok-Acknowledged.is (c.in-Ok-Acknowledged.field-0-is) c.look.ensures.finds, refl) }
+
+pub returns-in-Ok-Monitor : goal.returns-in-Ok-Monitor
+returns-in-Ok-Monitor g c = record { looks = (seen_first g.T.TakeSide.takes g.T.TakeSide.front c.args.self.now _ c.self.view_is c.args.link.0 (is_lane c.args.self.now _ c.self.view_is c.from.result c.args.link.0 c.from.ensures c.requires c.index.result.now c.index.ensures false c.if-index.false) c.circuits.result.now c.circuits.ensures.circuits c.args.from.now c.look.new.from c.look.result c.in-Ok-Monitor.field-0 _ c.in-Ok-Monitor.is (c.in-Ok-Monitor.field-0-is ∙ ap (λ (frag : Frag). first.Monitor frag) (sym c.in-Ok-Monitor.frag-is)) c.look.ensures.finds, refl) }
+
+pub returns-in-Err : goal.returns-in-Err
+returns-in-Err g c = record { looks = failed_so g.T.TakeSide.takes g.T.TakeSide.front c.args.self.now _ c.self.view_is c.args.link.0 (is_lane c.args.self.now _ c.self.view_is c.from.result c.args.link.0 c.from.ensures c.requires c.index.result.now c.index.ensures false c.if-index.false) c.circuits.result.now c.circuits.ensures.circuits c.args.from.now c.look.new.from c.in-Err.fault c.fails.result c.fails.new.self c.in-Err.ensures.finds c.fails.ensures.fault c.fails.ensures.failed }
