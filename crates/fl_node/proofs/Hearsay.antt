@@ -35,7 +35,7 @@ use Rattle.fl_node.specs.Hearing.{Offers, here_for, known_for, offer_for, offeri
 use Rattle.fl_node.specs.Inside.{server_in, LeadsTo, EndFor, for_message, core_parts, HearsWith, Unheard}
 use Rattle.fl_monitor.specs.Routing.{given}
 use Rattle.fl_node.proofs.Kept.{parts_kept, failed_long}
-use Rattle.fl_node.proofs.Offers.{offer_found, offer_leads, made_for, made_new}
+use Rattle.fl_node.proofs.Offers.{offer_found, offer_leads, made_for, made_new, none_made}
 
 -- ---- what isn't heard
 
@@ -174,6 +174,11 @@ module _ (o : Offers) (l : LinkId) (m : Message) (k base : TheCore) (same : base
       → (made.binding < 1024) × (place_of base (server_of made.binding) ≡ None)
   new_name h made comes makes =
       made_new o base m made (made_for (known_for o base m) base.monitor.circuits l m h made (subst (λ (x : Here). ComesTo (record { names = o.names; here = x }) base.monitor.circuits l m h) at_base comes) makes)
+
+  -- without an offer no end is made
+  pub none_so : (h : Heard) (made : Made) → offer_for o k m ≡ None → ComesTo (record { names = o.names; here = here }) base.monitor.circuits l m h → server_in h ≡ Some made → ⊥
+  none_so h made missing comes makes =
+      none_made o base l m h made (subst (λ (x : TheCore). offer_for o x m ≡ None) (sym same) missing) (subst (λ (x : Here). ComesTo (record { names = o.names; here = x }) base.monitor.circuits l m h) at_base comes) makes
 
 pub follows_server : (programs : List Program) (offer : Option Offered) (l : LinkId) (h : Heard) (made : Made) (k k2 : TheCore) → server_in h ≡ Some made
     → MakesServer (offering programs offer l) made.binding made.dispatcher made.circuit k k2 → Follows (offering programs offer l) h k (Opened (server_of made.binding)) k2

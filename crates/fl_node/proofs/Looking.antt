@@ -1,17 +1,23 @@
 -- A look at what stands first on a link: k is the core before, and base the same by its fields.
-use Rattle.std.proofs.Common.{◌≡◌, refl, sym, ap, ◌∙◌, subst, Bool, true, false, ℕ, ◌<◌, List, length, slice_get, slice_index_or, Some, Result, Ok, Err}
+use Rattle.std.proofs.Common.{◌≡◌, refl, sym, ap, ◌∙◌, subst, Bool, true, false, ℕ, ◌<◌, List, length, slice_get, slice_index_or, Option, Some, None, Result, Ok, Err, arith}
 use Rattle.std.proofs.lemmas.Option.{slice_get_read}
+use Rattle.fl_base.specs.declared.fragment.Frag.{Frag}
+use Rattle.fl_base.specs.declared.identity.LinkId.{LinkId}
+use Rattle.fl_base.specs.declared.identity.Circuit.{Circuit}
 use Rattle.fl_link.specs.Looks.{Look}
 use Rattle.fl_hop.specs.Table.{TheCircuits}
+use Rattle.fl_hop.specs.declared.entry.Way.TheVariants.{Link}
 use Rattle.fl_hop.specs.declared.forward.First.{First}
+use Rattle.fl_hop.specs.declared.forward.First.TheVariants as first
 use Rattle.fl_hop.specs.declared.fault.HopFault.{HopFault}
 use Rattle.fl_hop.specs.declared.fault.HopFault.TheVariants as hop
 use Rattle.fl_hop.specs.Forward.{Finds}
+use Rattle.fl_monitor.specs.Routing.{given}
 use Rattle.fl_node.specs.declared.wire.Lane.{Lane}
 use Rattle.fl_node.specs.declared.fault.LinkFault.{LinkFault}
 use Rattle.fl_node.specs.View.{TheCore, with_failed}
 use Rattle.fl_node.specs.Ends.{at_side}
-use Rattle.fl_node.specs.Links.{IsLane, Seen, LooksAhead, link_of}
+use Rattle.fl_node.specs.Links.{IsLane, Seen, GoesOver, LooksAhead, link_of, going}
 use Rattle.fl_node.specs.Inside.{FailsFor}
 
 -- the lane at a place that was read
@@ -40,6 +46,21 @@ module _ {T : Type 0} (takes : T → Look → T → Type 0) (front : T → Look)
   pub seen_first : (answer : Result First HopFault) (field first : First) → answer ≡ Ok field → field ≡ first → Finds takes front (record { table = table; link = l }) answer (record { before = p; after = q })
       → Seen takes front (link_of k l) (Ok first) p q
   seen_first answer field first is same h = seen (Ok first) (found_so answer field first is same h)
+
+  pub goes_over : (answer : Result First HopFault) (field : First) (frag : Frag) (next : LinkId) (circuit : Circuit) → answer ≡ Ok field → field ≡ first.Goes frag (Link next circuit)
+      → Finds takes front (record { table = table; link = l }) answer (record { before = p; after = q }) → length base.lanes ≡ length base.monitor.circuits.links
+      → (i : ℕ) (on : Lane) → i ≡ next.0 → on ≡ slice_index_or base.lanes i on → GoesOver takes front (link_of k l) (going frag on.side circuit) p q
+  goes_over answer field frag next circuit is same_field h long i on place read =
+      let found = found_so answer field (first.Goes frag (Link next circuit)) is same_field h in
+      let below = found.5.0 in
+      let links = ap (λ (t : TheCircuits). length t.links) table_is in
+      let lanes = ap (λ (x : TheCore). length x.lanes) same in
+      let within : next.0 < length k.lanes = omega (arith, below, links, long, lanes) in
+      record {
+        link = next;
+        seen = seen (Ok (first.Goes frag (Link next circuit))) found;
+        side_is = ap (λ (x : Option Lane). given x None λ (lane : Lane). Some lane.side) (lane_at k base same i next.0 place within on read);
+      }
 
   pub failed_so : (f : HopFault) (g : LinkFault) (k2 : TheCore) → Finds takes front (record { table = table; link = l }) (Err f) (record { before = p; after = q }) → FailsFor f g → k2 ≡ with_failed k l
       → LooksAhead takes front l (at_side k p) (Err g) (at_side k2 q)

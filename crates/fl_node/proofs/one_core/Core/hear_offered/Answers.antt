@@ -6,7 +6,7 @@ use Rattle.fl_node.specs.contracts.one_core.Core.{the_view}
 use Rattle.fl_monitor.specs.Monitors.{TheMonitor}
 use Rattle.fl_node.specs.Sound.{kinds_seated}
 use Rattle.fl_node.specs.Hearing.{Offers, offer_for, offering}
-use Rattle.fl_node.proofs.Hearsay.{leads_so, with_kept, unheard_length, roomy_kept, hears_length, end_none, not_heard_with}
+use Rattle.fl_node.proofs.Hearsay.{leads_so, with_kept, unheard_length, roomy_kept, hears_length, end_none, not_heard_with, new_name}
 use Rattle.fl_node.proofs.Served.{none_served, server_kept, server_served}
 use Rattle.fl_node.proofs.one_core.Core.hear_offered.Goals as goal
 
@@ -61,3 +61,14 @@ returns-in-Err-hear_with_end c =
 
 pub invariant_of-self : goal.invariant_of-self
 invariant_of-self c = roomy_kept _ c.self.inside.board c.self.inside.monitor c.self.inside.lanes.items c.make_arrivals.new.ports.items c.make_arrivals.new.arrivals.items c.self.invariant refl refl refl c.make_arrivals.ensures.ports c.make_arrivals.ensures.arrivals
+
+pub put_circuit_port-requires-clause-few : goal.put_circuit_port-requires-clause-few
+put_circuit_port-requires-clause-few c =
+    let o : Offers = record { names = c.args.names.now; programs = c.args.programs.now } in
+    (new_name o c.args.link c.args.message.now c.args.self.now _ c.self.view_is c.here_for-here.result (c.here_for-here.ensures.here o (sym c.requires.offer)) c.in-Ok-hear_with_end.joined.heard c.in-Some.made c.in-Ok-hear_with_end.ensures.hears.0.0 (sym c.server_in.ensures.made ∙ c.in-Some.is)).0
+
+pub put_circuit_port-requires-clause-all : goal.put_circuit_port-requires-clause-all
+put_circuit_port-requires-clause-all c = c.self.invariant.slots
+
+pub hear_with_end-requires-clause-place : goal.hear_with_end-requires-clause-place
+hear_with_end-requires-clause-place c = c.in-Ok.ensures.place

@@ -1,14 +1,19 @@
-use Rattle.std.proofs.Common.{sym, refl, ap}
+use Rattle.std.proofs.Common.{sym, refl, ap, ◌∙◌}
 use Rattle.fl_monitor.specs.Monitors.{TheMonitor}
 use Rattle.fl_node.specs.contracts.one_core.Core.{the_view}
 use Rattle.fl_node.specs.Hearing.{Offers, offer_for, offering}
 use Rattle.fl_node.proofs.Kept.{parts_kept}
-use Rattle.fl_node.proofs.Hearsay.{hears_kept, unheard_length, not_heard, message_heard}
+use Rattle.fl_node.proofs.Hearsay.{hears_kept, unheard_length, not_heard, none_so, message_heard}
 use Rattle.std.proofs.Common.{length}
 use Rattle.fl_node.proofs.one_core.Core.hear_plainly.Goals as goal
 
 pub invariant_of-self : goal.invariant_of-self
 invariant_of-self c = parts_kept _ c.self.inside.board c.on_message.new.self c.unheard.new.lanes.items c.self.inside.arrivals.items c.self.invariant refl (ap (λ (m : TheMonitor). length m.circuits.links) (hears_kept _ c.args.link c.args.message.now c.self.inside.monitor c.on_message.new.self c.in-Err.fault c.in-Err.ensures.hears)) (unheard_length c.args.link c.in-Err.fault c.self.inside.lanes.items c.unheard.new.lanes.items _ c.unheard.ensures.unheard) refl
+
+pub unreachable-requires : goal.unreachable-requires
+unreachable-requires c =
+    let o : Offers = record { names = c.args.names.now; programs = c.args.programs.now } in
+    none_so o c.args.link c.args.message.now c.args.self.now _ c.self.view_is c.here_for-here.result (c.here_for-here.ensures.here o (sym c.requires)) c.in-Ok.heard c.in-Some.field-0 c.requires c.in-Ok.ensures.hears.0 (sym c.server_in.ensures.made ∙ c.in-Some.is)
 
 pub returns-in-Err : goal.returns-in-Err
 returns-in-Err c =
