@@ -10,3 +10,4 @@ pub mod Boxes
 pub mod Tables
 pub mod Outcomes
 pub mod Retaking
+pub mod Looked

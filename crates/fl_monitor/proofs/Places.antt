@@ -1,6 +1,8 @@
 -- What stands at the places of the monitors' calls.
-use Rattle.std.proofs.Common.{◌≡◌, ◌<◌, ℕ, zero, suc, true, List, refl, ◌∙◌, ap, subst, Some}
-use Rattle.std.specs.Prelude.{slice_get}
+use Rattle.std.proofs.Common.{◌≡◌, ◌<◌, ℕ, zero, suc, true, List, length, map, refl, ◌∙◌, ap, subst, Option, Some, None, arith}
+use Rattle.std.specs.Prelude.{slice_get, slice_index_or, is_some, option_map}
+use Rattle.std.proofs.lemmas.List.{length-map}
+use Rattle.std.proofs.lemmas.Option.{slice_get-map, slice_get_read, slice_get_within}
 use Rattle.fl_base.specs.declared.identity.CoreId.{CoreId}
 use Rattle.fl_value.specs.Value.{Datum, TheCall}
 use Rattle.fl_value.specs.Fits.{fits_of}
@@ -43,3 +45,18 @@ route_there args others place cores same there fits = record {
   there = ap (λ (ds : List Datum). slice_get ds place) same ∙ there;
   is = record { cores = cores; is = refl; fits = fits };
 }
+
+-- ---- what is looked up there
+
+pub looked_up : {X : Type 0} (f : X → Datum) (xs : List X) (place : ℕ) (x : X) → place < length xs → x ≡ slice_index_or xs place x → slice_get (map f xs) place ≡ Some (f x)
+looked_up f xs place x within read = slice_get-map f xs place ∙ ap (option_map f) (slice_get_read xs (length xs) place x refl within read)
+
+pub of_kind : {X : Type 0} (f : X → Datum) (Is : Datum → Type 0) (xs : List X) (place : ℕ) (x : X) → slice_get (map f xs) place ≡ Some (f x) → StandsAt Is (map f xs) place → Is (f x)
+of_kind f Is xs place x at stands = let same : stands.datum ≡ f x = cc (stands.there, at) in subst Is same stands.is
+
+pub is_there : {X : Type 0} (f : X → Datum) (Is : Datum → Type 0) (xs : List X) (place : ℕ) → StandsAt Is (map f xs) place → place < length xs
+is_there f Is xs place stands = let within = slice_get_within (map f xs) place stands.datum stands.there in omega (arith, within, length-map xs f)
+
+pub not_none : {Y : Type 0} (o : Option Y) → o ≡ None → is_some o ≡ true → ⊥
+not_none None is some = absurd (cc)
+not_none (Some y) is some = absurd (cc)

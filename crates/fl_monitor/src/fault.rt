@@ -5,6 +5,7 @@ ghost use Rattle.fl_monitor.specs.Faults.{fault_number};
 ghost use Rattle.fl_monitor.specs.declared.fault.MonitorFault.TheVariants.{Memory};
 
 use std::alloc::AllocError;
+use std::fmt;
 use thiserror::Error;
 
 /// Why nothing was done.
@@ -12,25 +13,18 @@ use thiserror::Error;
 pub enum MonitorFault {
     /// A message that no monitor in its right place says: an opening out of turn, for a binding that is here already, or on
     /// a route that doesn't lead here; an answer that nobody waits for (E67).
-    #[error("a monitor's message out of place")]
     Astray,
     /// The service is of another interface than the client (E72).
-    #[error("the service is of another interface")]
     Differs,
     /// The route is none, or there is no link to its second core (E73).
-    #[error("no such route")]
     NoRoute,
     /// This core has opened 1,023 circuits on the link, and opens no more there (E74).
-    #[error("all circuits of the link are used up")]
     UsedUp,
     /// 64 messages wait to be sent over the link (E75).
-    #[error("64 messages wait to be sent over the link")]
     OutboxFull,
     /// The service is of the same interface, compiled under another plan (E76).
-    #[error("the service is compiled under another plan")]
     PlansDiffer,
     /// There is no memory for one more circuit, or for the tape of what is to be said (E99).
-    #[error("no memory for one more circuit")]
     Memory,
 }
 
@@ -48,6 +42,20 @@ impl MonitorFault {
             MonitorFault::PlansDiffer => 76,
             MonitorFault::Memory => 99,
         }
+    }
+}
+
+impl fmt::Display for MonitorFault {
+    fn fmt<W: fmt::Write>(&self, f: &mut fmt::Formatter<W>) -> fmt::Result {
+        f.write_str(match self {
+            MonitorFault::Astray => "a monitor's message out of place",
+            MonitorFault::Differs => "the service is of another interface",
+            MonitorFault::NoRoute => "no such route",
+            MonitorFault::UsedUp => "all circuits of the link are used up",
+            MonitorFault::OutboxFull => "64 messages wait to be sent over the link",
+            MonitorFault::PlansDiffer => "the service is compiled under another plan",
+            MonitorFault::Memory => "no memory for one more circuit",
+        })
     }
 }
 

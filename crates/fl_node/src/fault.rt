@@ -6,17 +6,16 @@ ghost use Rattle.fl_node.specs.Faults.{open_number, link_number};
 use fl_core::BoardFault;
 use fl_monitor::MonitorFault;
 use fl_wire::WireFault;
+use std::fmt;
 use thiserror::Error;
 
 /// Why no circuit was begun: the core is as it was.
 #[derive(Clone, Copy, Debug, Drop, Error)]
 pub enum OpenFault {
     /// The client's dispatcher has 1,024 ends (E54); out of memory for the end (E99).
-    #[error("the client's end is refused")]
     Board(BoardFault),
     /// There is no such link (E73), an entry of the binding stands here (E67), the link's numbers are used up (E74), its outbox is full (E75); out of
     /// memory for the entry or the message (E99).
-    #[error("the circuit is refused")]
     Monitor(MonitorFault),
 }
 
@@ -32,24 +31,28 @@ impl OpenFault {
     }
 }
 
+impl fmt::Display for OpenFault {
+    fn fmt<W: fmt::Write>(&self, f: &mut fmt::Formatter<W>) -> fmt::Result {
+        f.write_str(match self {
+            OpenFault::Board(_) => "the client's end is refused",
+            OpenFault::Monitor(_) => "the circuit is refused",
+        })
+    }
+}
+
 /// Why what stands first on a link was left.
 #[derive(Clone, Copy, Debug, Drop, Error)]
 pub enum LinkFault {
     /// With its circuit set aside it would be a fragment that only acknowledges, which no call's is (E63). What comes on the link has failed for good.
-    #[error("a fragment of a circuit has the form of one that only acknowledges")]
     Marked,
     /// What comes on the link failed earlier (E64).
-    #[error("what comes on the link failed earlier")]
     Failed,
     /// Its circuit has no entry here, or none that leads to an end of this core; or it is a monitors' message out of place (E67). What comes on the
     /// link has failed for good.
-    #[error("a circuit without an entry, or a monitors' message out of place")]
     Astray,
     /// It is on circuit 0, and says no monitors' message (E60 to E63, E66). What comes on the link has failed for good.
-    #[error("no monitors' message")]
     Wire(WireFault),
     /// Out of memory (E99). The core is as it was.
-    #[error("out of memory")]
     Memory,
 }
 
@@ -65,5 +68,18 @@ impl LinkFault {
             LinkFault::Wire(fault) => fault.number(),
             LinkFault::Memory => 99,
         }
+    }
+}
+
+impl fmt::Display for LinkFault {
+    fn fmt<W: fmt::Write>(&self, f: &mut fmt::Formatter<W>) -> fmt::Result {
+        f.write_str(match self {
+            LinkFault::Marked =>
+                "a fragment of a circuit has the form of one that only acknowledges",
+            LinkFault::Failed => "what comes on the link failed earlier",
+            LinkFault::Astray => "a circuit without an entry, or a monitors' message out of place",
+            LinkFault::Wire(_) => "no monitors' message",
+            LinkFault::Memory => "out of memory",
+        })
     }
 }
