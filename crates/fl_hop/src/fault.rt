@@ -5,6 +5,7 @@ ghost use Rattle.fl_hop.specs.Faults.{fault_number};
 ghost use Rattle.fl_hop.specs.declared.fault.HopFault.TheVariants.{Memory};
 
 use std::alloc::{AllocError, AllocFailed};
+use std::fmt;
 use thiserror::Error;
 
 /// Why nothing was done: the table is as it was.
@@ -12,22 +13,16 @@ use thiserror::Error;
 pub enum HopFault {
     /// A fragment of a circuit is marked as one that only acknowledges, and has nothing else to tell it from one once
     /// its circuit is set aside (E63).
-    #[error("a fragment of a circuit has the form of one that only acknowledges")]
     Marked,
     /// A fragment's circuit has no entry, or an opening's number isn't the neighbour's next there (E67).
-    #[error("a circuit without an entry, or out of turn")]
     Astray,
     /// A link can't go to the core itself, nor a second one to the same core (E73).
-    #[error("no such link")]
     NoLink,
     /// This core has opened 1,023 circuits on the link, and opens no more there (E74).
-    #[error("all circuits of the link are used up")]
     UsedUp,
     /// A core has at most 15 links (E94).
-    #[error("too many links of one core")]
     Limit,
     /// There is no memory for one more link or entry (E99).
-    #[error("no memory for one more link or circuit")]
     Memory,
 }
 
@@ -44,6 +39,21 @@ impl HopFault {
             HopFault::Limit => 94,
             HopFault::Memory => 99,
         }
+    }
+}
+
+impl fmt::Display for HopFault {
+    fn fmt<W: fmt::Write>(&self, f: &mut fmt::Formatter<W>) -> fmt::Result {
+        f.write_str(match self {
+            HopFault::Marked => {
+                "a fragment of a circuit has the form of one that only acknowledges"
+            },
+            HopFault::Astray => "a circuit without an entry, or out of turn",
+            HopFault::NoLink => "no such link",
+            HopFault::UsedUp => "all circuits of the link are used up",
+            HopFault::Limit => "too many links of one core",
+            HopFault::Memory => "no memory for one more link or circuit",
+        })
     }
 }
 
