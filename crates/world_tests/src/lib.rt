@@ -1,6 +1,7 @@
 //! Tests of worlds, and of hostile use of all crates together, over public calls alone: one crate, since each crate of tests
 //! begins with reading all that it stands on.
 //!
+//! - `texts.rt`: interfaces of texts
 //! - `world.rt`: worlds, with events as values
 //! - `hostile.rt`: fragments, images, memory and devices that are against us
 //!
@@ -10,5 +11,7 @@
 
 #[cfg(test)]
 mod hostile;
+#[cfg(test)]
+mod texts;
 #[cfg(test)]
 mod world;

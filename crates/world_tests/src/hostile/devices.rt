@@ -9,9 +9,6 @@ use std::io;
 use std::io::{ErrorKind, Read, Write};
 use std::test::Fail;
 
-// How a device fails: each of these is a fault, also the one that asks to try again.
-const KINDS: &[ErrorKind] = &[ErrorKind::Other, ErrorKind::Interrupted];
-
 // At which call a device fails, from 1, and how; 0 for never.
 #[derive(Clone, Copy)]
 struct Failing {
@@ -132,59 +129,117 @@ fn run(alloc: Global, reader: &mut Source, writer: &mut Sheet) -> Result<(), Exe
     exec::<World, _, _>(alloc, reader, writer)
 }
 
+// Whether all is written, with so many reads and writes of so many bytes.
+fn moves(alloc: Global, step: usize, reads: usize, writes: usize) -> bool {
+    let mut reader = Source::new(step, NEVER);
+    let mut writer = Sheet::new(step, NEVER, 0);
+    let outcome = run(alloc, &mut reader, &mut writer);
+    outcome == Ok(())
+        && writer.written() == CIRCUITS.transcript
+        && reader.calls == reads
+        && writer.calls == writes
+}
+
+fn moves_little_and_much(alloc: Global) -> bool {
+    moves(
+        alloc,
+        1,
+        CIRCUITS.script.len() + 1,
+        CIRCUITS.transcript.len(),
+    ) && moves(alloc, 2_048, 2, lines_in(CIRCUITS.transcript))
+}
+
 // A reader that gives one byte a call, and a writer that takes one; then all that there is.
 #[test]
 fn little_and_much_a_call(rt: HostRuntime) {
-    for (step, reads, writes) in [
-        (1, CIRCUITS.script.len() + 1, CIRCUITS.transcript.len()),
-        (2_048, 2, lines_in(CIRCUITS.transcript)),
-    ] {
-        let mut reader = Source::new(step, NEVER);
-        let mut writer = Sheet::new(step, NEVER, 0);
-        assert_eq!(rt; run(rt.alloc(), &mut reader, &mut writer), Ok(()));
-        assert!(rt; writer.written() == CIRCUITS.transcript);
-        assert_eq!(rt; (reader.calls, writer.calls), (reads, writes));
-    }
+    assert!(rt; moves_little_and_much(rt.alloc()));
 }
 
-// Each read fails in turn, the one at the end too: it is the last, and nothing was written.
-#[test]
-fn each_read_fails(rt: HostRuntime) {
-    for kind in KINDS {
-        for at in 1..CIRCUITS.script.len() + 2 {
-            let mut reader = Source::new(1, Failing { at, kind: *kind });
-            let mut writer = Sheet::new(2_048, NEVER, 0);
-            let outcome = run(rt.alloc(), &mut reader, &mut writer);
-            assert_eq!(rt; outcome, Err(ExecFault::Read));
-            assert_eq!(rt; (reader.calls, writer.calls), (at, 0));
+// Whether the read that fails is the last, and nothing was written.
+fn read_fails(alloc: Global, at: usize, kind: ErrorKind) -> bool {
+    let mut reader = Source::new(1, Failing { at, kind });
+    let mut writer = Sheet::new(2_048, NEVER, 0);
+    let outcome = run(alloc, &mut reader, &mut writer);
+    outcome == Err(ExecFault::Read) && reader.calls == at && writer.calls == 0
+}
+
+// Whether the write that fails is the last, and the lines written before are the transcript's first.
+fn write_fails(alloc: Global, at: usize, failing: Failing, stalls_at: usize) -> bool {
+    let mut reader = Source::new(2_048, NEVER);
+    let mut writer = Sheet::new(2_048, failing, stalls_at);
+    let outcome = run(alloc, &mut reader, &mut writer);
+    outcome == Err(ExecFault::Write) && writer.calls == at && writer.has_lines(at.saturating_sub(1))
+}
+
+// What fails: each read in turn, the one at the end too; each write; or each write takes no byte, a fault like one that fails.
+#[derive(Clone, Copy)]
+enum Device {
+    Reads(ErrorKind),
+    Writes(ErrorKind),
+    Stalls,
+}
+
+// Each kind is a fault, also the one that asks to try again.
+const READS: &[Device] = &[
+    Device::Reads(ErrorKind::Other),
+    Device::Reads(ErrorKind::Interrupted),
+];
+
+const WRITES: &[Device] = &[
+    Device::Writes(ErrorKind::Other),
+    Device::Writes(ErrorKind::Interrupted),
+];
+
+impl Device {
+    fn calls(self) -> usize {
+        match self {
+            Device::Reads(_) => CIRCUITS.script.len() + 1,
+            _ => lines_in(CIRCUITS.transcript),
         }
     }
-}
 
-// Each write fails in turn: it is the last, and the lines written before are the transcript's first.
-#[test]
-fn each_write_fails(rt: HostRuntime) {
-    for kind in KINDS {
-        for before in 0..lines_in(CIRCUITS.transcript) {
-            let at = before + 1;
-            let mut reader = Source::new(2_048, NEVER);
-            let mut writer = Sheet::new(2_048, Failing { at, kind: *kind }, 0);
-            let outcome = run(rt.alloc(), &mut reader, &mut writer);
-            assert_eq!(rt; outcome, Err(ExecFault::Write));
-            assert!(rt; writer.calls == at && writer.has_lines(before));
+    fn fails_at(self, alloc: Global, at: usize) -> bool {
+        match self {
+            Device::Reads(kind) => read_fails(alloc, at, kind),
+            Device::Writes(kind) => write_fails(alloc, at, Failing { at, kind }, 0),
+            Device::Stalls => write_fails(alloc, at, NEVER, at),
         }
     }
+
+    // The first call that isn't answered so.
+    fn first_wrong(self, alloc: Global) -> Option<usize> {
+        for before in 0..self.calls() {
+            if !self.fails_at(alloc, before + 1) {
+                return Some(before + 1);
+            }
+        }
+        None
+    }
 }
 
-// A write that takes no byte is a fault like one that fails.
-#[test]
-fn each_write_takes_nothing(rt: HostRuntime) {
-    for before in 0..lines_in(CIRCUITS.transcript) {
-        let at = before + 1;
-        let mut reader = Source::new(2_048, NEVER);
-        let mut writer = Sheet::new(2_048, NEVER, at);
-        let outcome = run(rt.alloc(), &mut reader, &mut writer);
-        assert_eq!(rt; outcome, Err(ExecFault::Write));
-        assert!(rt; writer.calls == at && writer.has_lines(before));
+// Tells which call is the first that isn't answered so.
+fn each_call_fails(alloc: Global, devices: &[Device]) -> Result<(), Fail> {
+    for (index, device) in devices.iter().enumerate() {
+        if let Some(at) = device.first_wrong(alloc) {
+            return Err(Fail::new(format_args!(
+                "call {at} of device {index}, counted from 0, is wrong"
+            )));
+        }
     }
+    Ok(())
+}
+
+#[test]
+fn each_read_fails(rt: HostRuntime) -> Result<(), Fail> {
+    each_call_fails(rt.alloc(), READS)
+}
+
+#[test]
+fn each_write_fails(rt: HostRuntime) -> Result<(), Fail> {
+    each_call_fails(rt.alloc(), WRITES)
+}
+
+#[test]
+fn each_write_takes_nothing(rt: HostRuntime) -> Result<(), Fail> {
+    each_call_fails(rt.alloc(), &[Device::Stalls])
 }

@@ -1,7 +1,7 @@
 //! Forged fragments to a new end, and after a first fragment: what each is answered, and E64 from then on. What each comes to is worked out
 //! from the layout of the messages (`docs/WIRE.md`), not from the code.
 
-use crate::hostile::takers::{PLANS, Post, Said, answer, program};
+use crate::hostile::takers::{Post, Said, answer, program};
 use fl_base::Frag;
 use fl_compile::Program;
 use fl_value::PlanNo;
@@ -69,47 +69,81 @@ fn fails_for_good(post: &mut Post, row: &Row) -> bool {
         && post.refusals() == [64; 4]
 }
 
-// The place of the first row that isn't refused so.
-fn first_wrong(
-    alloc: Global,
-    program: &Program,
-    call: &[u8],
-    before: &[Frag],
-    rows: &[Row],
-) -> Result<Option<usize>, AllocError> {
-    for (place, row) in rows.iter().enumerate() {
-        let mut post = Post::new(alloc, program, call)?;
-        for frag in before {
-            if post.given(frag) != Said::Part {
-                return Ok(Some(place));
-            }
-        }
-        if !fails_for_good(&mut post, row) {
-            return Ok(Some(place));
+// An interface's text, a call of it, what a new end is given first, and the rows.
+struct Forged(
+    &'static [u8],
+    &'static [u8],
+    &'static [Frag],
+    &'static [Row],
+);
+
+const FORGED: &[Forged] = &[
+    Forged(SHORT, b"m(0, \"\")", &[], TO_A_NEW_END),
+    Forged(BLOB, b"nop()", &[FIRST], INSIDE),
+];
+
+fn are_parts(post: &mut Post, frags: &[Frag]) -> bool {
+    for frag in frags {
+        if post.given(frag) != Said::Part {
+            return false;
         }
     }
-    Ok(None)
+    true
+}
+
+fn is_refused_at(
+    post: &mut Post,
+    program: &Program,
+    forged: &Forged,
+    row: &Row,
+) -> Result<bool, AllocError> {
+    post.add_end(program)?;
+    Ok(are_parts(post, forged.2) && fails_for_good(post, row))
+}
+
+fn is_refused(
+    alloc: Global,
+    program: &Program,
+    forged: &Forged,
+    row: &Row,
+) -> Result<bool, AllocError> {
+    let mut post = Post::new(alloc, program, forged.1)?;
+    is_refused_at(&mut post, program, forged, row)
+}
+
+// Tells which row is the first that isn't refused so.
+fn all_are_refused(alloc: Global, program: &Program, forged: &Forged) -> Result<(), Fail> {
+    for (place, row) in forged.3.iter().enumerate() {
+        if !is_refused(alloc, program, forged, row)? {
+            return Err(Fail::new(format_args!("row {place}, counted from 0, isn't refused so")));
+        }
+    }
+    Ok(())
+}
+
+fn fail_an_end(alloc: Global, forged: &Forged, plan: PlanNo) -> Result<(), Fail> {
+    let program = program(alloc, forged.0, plan)?;
+    all_are_refused(alloc, &program, forged)
 }
 
 #[test]
 fn rows_fail_an_end_for_good(rt: HostRuntime) -> Result<(), Fail> {
-    for plan in PLANS {
-        let short = program(rt.alloc(), SHORT, plan)?;
-        let blob = program(rt.alloc(), BLOB, plan)?;
-        let alone = first_wrong(rt.alloc(), &short, b"m(0, \"\")", &[], TO_A_NEW_END)?;
-        let inside = first_wrong(rt.alloc(), &blob, b"nop()", &[FIRST], INSIDE)?;
-        assert_eq!(rt; (alone, inside), (None, None));
+    for forged in FORGED {
+        fail_an_end(rt.alloc(), forged, PlanNo::One)?;
+        fail_an_end(rt.alloc(), forged, PlanNo::Two)?;
     }
     Ok(())
 }
 
 // The fragments of which each control word and each byte is tried.
-#[derive(Clone, Copy, Debug, PartialEq, Eq)]
+#[derive(Clone, Copy)]
 enum Place {
     Alone,
     First,
     Last,
 }
+
+const PLACES: &[Place] = &[Place::Alone, Place::First, Place::Last];
 
 // The bytes that each byte of a payload becomes: those at which something ends, and some between.
 const BYTES: &[u8] = &[
@@ -150,6 +184,14 @@ fn said_last(at: usize, to: u8) -> Said {
 }
 
 impl Place {
+    fn name(self) -> &'static str {
+        match self {
+            Place::Alone => "the only fragment",
+            Place::First => "the first fragment",
+            Place::Last => "the last fragment",
+        }
+    }
+
     fn text(self) -> &'static [u8] {
         match self {
             Place::Alone => SHORT,
@@ -223,66 +265,84 @@ fn with_control(frag: &Frag, control: u64) -> Frag {
     }
 }
 
-// The first place and byte of a fragment's payload that aren't answered as they should be.
-fn first_wrong_byte(
+fn is_byte_told(
     alloc: Global,
     program: &Program,
     place: Place,
-) -> Result<Option<(usize, u8)>, AllocError> {
-    for at in 0..56 {
-        for to in BYTES {
-            let frag = with_byte(&place.frag(), at, *to);
-            let said = answer(alloc, program, place.before(), &frag)?;
-            if said != place.said_of_byte(at, *to) {
-                return Ok(Some((at, *to)));
-            }
-        }
-    }
-    Ok(None)
+    at: usize,
+    to: u8,
+) -> Result<bool, AllocError> {
+    let frag = with_byte(&place.frag(), at, to);
+    let said = answer(alloc, program, place.before(), &frag)?;
+    Ok(said == place.said_of_byte(at, to))
 }
 
-#[test]
-fn each_byte_is_forged(rt: HostRuntime) -> Result<(), Fail> {
-    for place in [Place::Alone, Place::First, Place::Last] {
-        for plan in PLANS {
-            let program = program(rt.alloc(), place.text(), plan)?;
-            let wrong = first_wrong_byte(rt.alloc(), &program, place)?;
-            assert_eq!(rt; (place, wrong), (place, None));
+// Tells at which place a byte isn't answered as it should be.
+fn bytes_at(alloc: Global, program: &Program, place: Place, at: usize) -> Result<(), Fail> {
+    for to in BYTES {
+        let to = *to;
+        if !is_byte_told(alloc, program, place, at, to)? {
+            return Err(Fail::new(format_args!("{to} at {at} of {} is wrong", place.name())));
         }
     }
     Ok(())
 }
 
-// The first control word with this bit and at most one more, of bits 0 to 47, that isn't answered as it should be.
-fn first_wrong_control(
+fn each_byte(alloc: Global, place: Place, plan: PlanNo) -> Result<(), Fail> {
+    let program = program(alloc, place.text(), plan)?;
+    for at in 0..56 {
+        bytes_at(alloc, &program, place, at)?;
+    }
+    Ok(())
+}
+
+#[test]
+fn each_byte_is_forged(rt: HostRuntime) -> Result<(), Fail> {
+    for place in PLACES {
+        each_byte(rt.alloc(), *place, PlanNo::One)?;
+        each_byte(rt.alloc(), *place, PlanNo::Two)?;
+    }
+    Ok(())
+}
+
+fn is_control_told(
     alloc: Global,
     program: &Program,
     place: Place,
-    bit: u64,
-) -> Result<Option<u64>, AllocError> {
+    control: u64,
+) -> Result<bool, AllocError> {
+    let frag = with_control(&place.frag(), control);
+    let said = answer(alloc, program, place.before(), &frag)?;
+    Ok(said == place.said_of_control(control))
+}
+
+// Tells which control word with this bit and at most one more, of bits 0 to 47, isn't answered as it should be.
+fn controls_with(alloc: Global, program: &Program, place: Place, bit: u64) -> Result<(), Fail> {
     let mut other = 1_u64;
     for _ in 0..48 {
         let control = bit | other;
-        let frag = with_control(&place.frag(), control);
-        let said = answer(alloc, program, place.before(), &frag)?;
-        if said != place.said_of_control(control) {
-            return Ok(Some(control));
+        if !is_control_told(alloc, program, place, control)? {
+            return Err(Fail::new(format_args!("control {control} of {} is wrong", place.name())));
         }
         other = other.wrapping_mul(2);
     }
-    Ok(None)
+    Ok(())
+}
+
+fn each_control(alloc: Global, place: Place) -> Result<(), Fail> {
+    let program = program(alloc, place.text(), PlanNo::Two)?;
+    let mut bit = 1_u64;
+    for _ in 0..48 {
+        controls_with(alloc, &program, place, bit)?;
+        bit = bit.wrapping_mul(2);
+    }
+    Ok(())
 }
 
 #[test]
 fn each_control_word_is_forged(rt: HostRuntime) -> Result<(), Fail> {
-    for place in [Place::Alone, Place::First, Place::Last] {
-        let program = program(rt.alloc(), place.text(), PlanNo::Two)?;
-        let mut bit = 1_u64;
-        for _ in 0..48 {
-            let wrong = first_wrong_control(rt.alloc(), &program, place, bit)?;
-            assert_eq!(rt; (place, wrong), (place, None));
-            bit = bit.wrapping_mul(2);
-        }
+    for place in PLACES {
+        each_control(rt.alloc(), *place)?;
     }
     Ok(())
 }

@@ -1,23 +1,18 @@
 //! An end that is given fragments, alone and at a board.
 
+use crate::texts::interface;
 use fl_base::{Circuit, Frag};
-use fl_check::{TextFault, check};
 use fl_compile::{Program, compile};
 use fl_core::{Board, Kind, TurnAnswer};
 use fl_endpoint::{End, EndFault, ReceiveAnswer};
-use fl_interface::Interface;
-use fl_lex::lex;
 use fl_link::QueueLink;
 use fl_machine::Reassemblies;
-use fl_parse::parse;
 use fl_value::{Call, PlanNo, read_call};
 use std::alloc::{AllocError, Global};
 use std::marker::Model;
 
-pub const PLANS: [PlanNo; 2] = [PlanNo::One, PlanNo::Two];
-
 /// What a fragment comes to.
-#[derive(Clone, Copy, Debug, PartialEq, Eq)]
+#[derive(Clone, Copy, PartialEq, Eq)]
 pub enum Said {
     Part,
     Whole,
@@ -27,23 +22,12 @@ pub enum Said {
     Other,
 }
 
-fn interface_in(alloc: Global, text: &[u8]) -> Result<Interface, TextFault> {
-    let tokens = lex(alloc, text)?;
-    let tree = parse(alloc, &tokens)?;
-    Ok(check(alloc, &tree)?)
-}
-
-fn interface(alloc: Global, text: &[u8]) -> Result<Interface, AllocError> {
-    match interface_in(alloc, text) {
-        Ok(interface) => Ok(interface),
-        Err(_) => Err(AllocError),
-    }
-}
-
 /// The program of a text that is an interface's; none only where memory runs out.
 pub fn program(alloc: Global, text: &[u8], plan: PlanNo) -> Result<Program, AllocError> {
-    let interface = interface(alloc, text)?;
-    compile(alloc, &interface, plan)
+    match interface(alloc, text) {
+        Ok(interface) => compile(alloc, &interface, plan),
+        Err(_) => Err(AllocError),
+    }
 }
 
 fn queue(alloc: Global) -> Result<QueueLink, AllocError> {
@@ -92,20 +76,41 @@ impl Model for Taker {
 }
 
 impl Taker {
-    pub fn new(alloc: Global, program: &Program) -> Result<Taker, AllocError> {
-        let end = end(alloc, program)?;
+    fn over(alloc: Global, end: End, from: QueueLink) -> Result<Taker, AllocError> {
         let mut calls = Reassemblies::new(alloc);
         end.add_place(&mut calls)?;
-        Ok(Taker {
-            end,
-            calls,
-            from: queue(alloc)?,
-        })
+        Ok(Taker { end, calls, from })
+    }
+
+    pub fn new(alloc: Global, program: &Program) -> Result<Taker, AllocError> {
+        let end = end(alloc, program)?;
+        match queue(alloc) {
+            Ok(from) => Taker::over(alloc, end, from),
+            Err(_) => Err(AllocError),
+        }
     }
 
     /// What the end answers to what stands first.
     pub fn receives(&mut self) -> Said {
         said_of_receive(self.end.receive(&mut self.from, &mut self.calls, 0))
+    }
+
+    // The same of the only fragment of a call, or of one after another.
+    fn answer(&mut self, before: Option<&Frag>, frag: &Frag) -> Said {
+        if let Some(before) = before {
+            if self.given(before) != Said::Part {
+                return Said::Other;
+            }
+        }
+        let said = self.given(frag);
+        let wanted = match said {
+            Said::Refused(_) => Said::Refused(64),
+            _ => Said::Nothing,
+        };
+        if self.receives() != wanted || self.receives() != wanted {
+            return Said::Other;
+        }
+        said
     }
 
     /// What it answers to a fragment that is put there.
@@ -126,44 +131,17 @@ pub fn answer(
     frag: &Frag,
 ) -> Result<Said, AllocError> {
     let mut taker = Taker::new(alloc, program)?;
-    if let Some(before) = before {
-        if taker.given(before) != Said::Part {
-            return Ok(Said::Other);
-        }
-    }
-    let said = taker.given(frag);
-    let last = [taker.receives(), taker.receives()];
-    let wanted = match said {
-        Said::Refused(_) => [Said::Refused(64); 2],
-        _ => [Said::Nothing; 2],
-    };
-    if last == wanted {
-        Ok(said)
-    } else {
-        Ok(Said::Other)
-    }
+    Ok(taker.answer(before, frag))
 }
 
-/// A board with one end, registered, the queues that it is lent, and a call that fits it.
+/// A board that is to have one end, registered, the queues that it is lent, and a call that fits it.
 #[derive(Drop)]
 pub struct Post {
+    alloc: Global,
     board: Board,
     from: QueueLink,
     to: QueueLink,
     call: Call,
-}
-
-fn board(alloc: Global, program: &Program) -> Result<Board, AllocError> {
-    let mut board = Board::new(alloc);
-    board.add_dispatcher()?;
-    let end = end(alloc, program)?;
-    if board.dispatchers() == 0 {
-        return Err(AllocError);
-    }
-    match board.add_end(0, end, Kind::Queue) {
-        Ok(_) => Ok(board),
-        Err(_) => Err(AllocError),
-    }
 }
 
 fn turned(answer: Result<TurnAnswer, AllocError>) -> Said {
@@ -187,18 +165,43 @@ fn number<T: Drop>(answer: Result<T, EndFault>) -> u8 {
 }
 
 impl Post {
+    fn between(alloc: Global, from: QueueLink, call: Call) -> Result<Post, AllocError> {
+        match queue(alloc) {
+            Ok(to) => Ok(Post {
+                alloc,
+                board: Board::new(alloc),
+                from,
+                to,
+                call,
+            }),
+            Err(_) => Err(AllocError),
+        }
+    }
+
+    fn with_call(alloc: Global, call: Call) -> Result<Post, AllocError> {
+        match queue(alloc) {
+            Ok(from) => Post::between(alloc, from, call),
+            Err(_) => Err(AllocError),
+        }
+    }
+
+    /// A board without an end, and the call of a text.
     pub fn new(alloc: Global, program: &Program, text: &[u8]) -> Result<Post, AllocError> {
-        let Ok(call) = read_call(alloc, text, program.interface()) else {
+        match read_call(alloc, text, program.interface()) {
+            Ok(call) => Post::with_call(alloc, call),
+            Err(_) => Err(AllocError),
+        }
+    }
+
+    /// The end of a program, registered.
+    pub fn add_end(&mut self, program: &Program) -> Result<(), AllocError> {
+        self.board.add_dispatcher()?;
+        let end = end(self.alloc, program)?;
+        if self.board.dispatchers() == 0 || self.board.add_end(0, end, Kind::Queue).is_err() {
             return Err(AllocError);
-        };
-        let mut post = Post {
-            board: board(alloc, program)?,
-            from: queue(alloc)?,
-            to: queue(alloc)?,
-            call,
-        };
-        post.register();
-        Ok(post)
+        }
+        self.register();
+        Ok(())
     }
 
     fn register(&mut self) -> u8 {

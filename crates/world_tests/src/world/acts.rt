@@ -1,10 +1,8 @@
 //! What is asked, as plain data, and the events that are made of it.
 
+use crate::texts::interface;
 use fl_base::{EndId, MsgNo, Side};
-use fl_check::check;
-use fl_lex::{Tokens, lex};
 use fl_lines::{BackEnd, Command, DispatcherId, Event, Line, parse_line};
-use fl_parse::{Tree, parse};
 use fl_value::{Call, PlanNo, read_spoken};
 use std::alloc::{AllocError, Global};
 
@@ -105,28 +103,10 @@ pub const AT_2: DispatcherId = DispatcherId { core: 2, place: 0 };
 /// The second of core 0.
 pub const NEXT_AT_0: DispatcherId = DispatcherId { core: 0, place: 1 };
 
-fn adding_tree(alloc: Global, tree: &Tree, plan: PlanNo) -> Result<Event<'static>, AllocError> {
-    match check(alloc, tree) {
-        Ok(interface) => Ok(Event::AddInterface { interface, plan }),
-        Err(_) => Err(AllocError),
-    }
-}
-
-fn adding_tokens(
-    alloc: Global,
-    tokens: &Tokens,
-    plan: PlanNo,
-) -> Result<Event<'static>, AllocError> {
-    match parse(alloc, tokens) {
-        Ok(tree) => adding_tree(alloc, &tree, plan),
-        Err(_) => Err(AllocError),
-    }
-}
-
 // The event that adds the interface of a text.
 fn adding(alloc: Global, text: &[u8], plan: PlanNo) -> Result<Event<'static>, AllocError> {
-    match lex(alloc, text) {
-        Ok(tokens) => adding_tokens(alloc, &tokens, plan),
+    match interface(alloc, text) {
+        Ok(interface) => Ok(Event::AddInterface { interface, plan }),
         Err(_) => Err(AllocError),
     }
 }

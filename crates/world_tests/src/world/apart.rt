@@ -142,9 +142,13 @@ fn services_are(parts: &Parts) -> bool {
         && service(parts, b"u").is_none()
 }
 
-fn are_right(alloc: Global, config: &Config<'_>) -> Result<bool, AllocError> {
+fn are_right(parts: &Parts) -> bool {
+    cores_are(parts) && joints_are(parts) && bindings_are(parts) && services_are(parts)
+}
+
+fn are_right_apart(alloc: Global, config: &Config<'_>) -> Result<bool, AllocError> {
     let parts = apart(alloc, config)?;
-    Ok(cores_are(&parts) && joints_are(&parts) && bindings_are(&parts) && services_are(&parts))
+    Ok(are_right(&parts))
 }
 
 /// Whether the parts of a world are as they should be.
@@ -153,5 +157,5 @@ fn are_right(alloc: Global, config: &Config<'_>) -> Result<bool, AllocError> {
 /// Want of memory for the world.
 pub fn parts(alloc: Global) -> Result<bool, AllocError> {
     let config = config(alloc, 2, SET_UP)?;
-    are_right(alloc, &config)
+    are_right_apart(alloc, &config)
 }

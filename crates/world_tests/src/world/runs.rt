@@ -119,9 +119,13 @@ fn runs_all(alloc: Global, world: &mut World, events: &[Event<'_>]) -> Result<bo
     }
 }
 
+fn adds_to(alloc: Global, world: &mut World, events: &[Event<'_>]) -> Result<bool, AllocError> {
+    Ok(runs_all(alloc, world, events)? && count(alloc, world)? == SO_MANY)
+}
+
 fn adds_each(alloc: Global, events: &[Event<'_>]) -> Result<bool, AllocError> {
     let mut world = made(alloc, 1, &[])?;
-    Ok(runs_all(alloc, &mut world, events)? && count(alloc, &mut world)? == SO_MANY)
+    adds_to(alloc, &mut world, events)
 }
 
 /// Whether a run adds so many dispatchers.
