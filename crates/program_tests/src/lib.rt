@@ -1,6 +1,7 @@
 //! Tests of all that the program is made of, over public calls alone: one crate, since each crate of tests begins with
 //! reading all that it stands on.
 //!
+//! - `rows.rt`: tables, of which a test tells the first row that isn't so
 //! - `program.rt`: scripts and their transcripts, plan tables
 //! - `command.rt`: words, files and standard input in; standard output, standard error and a status out
 //!
@@ -12,3 +13,5 @@
 mod command;
 #[cfg(test)]
 mod program;
+#[cfg(test)]
+mod rows;

@@ -1,6 +1,6 @@
 //! What the program is made of, by the public calls of `fl_system`, `fl_transcript` and `fl_show`.
 //!
-//! - `scripts.rt`: tables, of which a test tells the first row that isn't so, and scripts with their transcripts
+//! - `scripts.rt`: scripts with their transcripts, and the test of all tables
 //! - `examples.rt`: the scripts of `examples/`
 //! - `rows.rt`, `core_rows.rt`: worked examples of one core and of several
 //! - `lines.rt`: lines that ask nothing, and words that are no command

@@ -1,9 +1,11 @@
 //! `compile`.
 
 use crate::command::desk::Desk;
+use crate::rows::{Row, all_hold};
 use fl_command::compile_file;
 use std::alloc::Global;
 use std::io;
+use std::test::Fail;
 
 const PING: &[u8] = b"interface i { message ping(uint32 v); }";
 
@@ -15,93 +17,169 @@ const IMAGE: &[u8] = &[
 
 const REFUSED: &[u8] = b"interface i { message m(cap c); }";
 
-// Whether it ends with this status, so many writes, and this on standard error.
-fn tells(alloc: Global, desk: &mut Desk, status: u8, writes: usize, told: &[u8]) -> bool {
-    let mut errors = Vec::new(alloc);
-    let got = compile_file(alloc, "in.if", "out", desk, &mut errors);
-    got == status && desk.writes == writes && errors.as_slice() == told
+// What `compile` makes of a file: its content, errors of reading and of writing; and the status, how often it is written, and what is
+// told: none for whatever it may be.
+struct Compiled {
+    content: &'static [u8],
+    unread: Option<io::ErrorKind>,
+    unwritten: Option<io::ErrorKind>,
+    ends: (u8, usize),
+    told: Option<&'static [u8]>,
 }
 
-#[test]
-fn an_image_is_written(rt: HostRuntime) {
-    let mut desk = Desk::new(rt.alloc(), PING, None, None);
-    assert!(rt; tells(rt.alloc(), &mut desk, 0, 1, b""));
-    assert!(rt; desk.written() == IMAGE);
-}
+const WRITTEN: Compiled = Compiled {
+    content: PING,
+    unread: None,
+    unwritten: None,
+    ends: (0, 1),
+    told: Some(b""),
+};
 
-const TOLD: &[u8] = b"\
+const REFUSED_TEXT: Compiled = Compiled {
+    content: REFUSED,
+    unread: None,
+    unwritten: None,
+    ends: (2, 0),
+    told: Some(
+        b"\
 E14 at 24
 in.if:1:25: messages carry no capabilities
 found there: cap c); }
 help: leave the argument out
-";
+",
+    ),
+};
 
-#[test]
-fn a_text_that_is_refused_writes_nothing(rt: HostRuntime) {
-    let mut desk = Desk::new(rt.alloc(), REFUSED, None, None);
-    assert!(rt; tells(rt.alloc(), &mut desk, 2, 0, TOLD));
-}
-
-const TOLD_OF_AN_IMAGE: &[u8] = b"\
+// An image begins like a word, and its version's byte begins no token.
+const REFUSED_IMAGE: Compiled = Compiled {
+    content: b"FLND\x02\x00",
+    unread: None,
+    unwritten: None,
+    ends: (2, 0),
+    told: Some(
+        b"\
 E1 at 4
 in.if:1:5: no token begins with this byte
 found there: \\x02\\x00
 help: the file is an image: give the interface's text, or use show
-";
-
-// An image begins like a word, and its version's byte begins no token.
-#[test]
-fn an_image_is_not_compiled(rt: HostRuntime) {
-    let mut desk = Desk::new(rt.alloc(), b"FLND\x02\x00", None, None);
-    assert!(rt; tells(rt.alloc(), &mut desk, 2, 0, TOLD_OF_AN_IMAGE));
-}
+",
+    ),
+};
 
 const OTHER: Option<io::ErrorKind> = Some(io::ErrorKind::Other);
 
 const FULL: Option<io::ErrorKind> = Some(io::ErrorKind::OutOfMemory);
 
-// Reading the file, its content, writing. A text is compiled, and nothing else: the content, errors of reading and of writing,
-// the status, and how often it was written.
-const FIRST_FAULTS: &[(
-    &[u8],
-    Option<io::ErrorKind>,
-    Option<io::ErrorKind>,
-    (u8, usize),
-)] = &[
-    (REFUSED, OTHER, OTHER, (4, 0)),
-    (REFUSED, FULL, OTHER, (3, 0)),
-    (REFUSED, None, OTHER, (2, 0)),
-    (IMAGE, None, OTHER, (2, 0)),
-    (PING, None, OTHER, (4, 1)),
-    (PING, None, FULL, (3, 1)),
+// Reading the file, its content, writing. A text is compiled, and nothing else.
+const FIRST_FAULTS: &[Compiled] = &[
+    Compiled {
+        content: REFUSED,
+        unread: OTHER,
+        unwritten: OTHER,
+        ends: (4, 0),
+        told: None,
+    },
+    Compiled {
+        content: REFUSED,
+        unread: FULL,
+        unwritten: OTHER,
+        ends: (3, 0),
+        told: None,
+    },
+    Compiled {
+        content: REFUSED,
+        unread: None,
+        unwritten: OTHER,
+        ends: (2, 0),
+        told: None,
+    },
+    Compiled {
+        content: IMAGE,
+        unread: None,
+        unwritten: OTHER,
+        ends: (2, 0),
+        told: None,
+    },
+    Compiled {
+        content: PING,
+        unread: None,
+        unwritten: OTHER,
+        ends: (4, 1),
+        told: None,
+    },
+    Compiled {
+        content: PING,
+        unread: None,
+        unwritten: FULL,
+        ends: (3, 1),
+        told: None,
+    },
 ];
 
-// The status where it tells of a fault, and how often it wrote.
-fn fault_of(alloc: Global, desk: Desk) -> Option<(u8, usize)> {
-    let mut desk = desk;
-    let mut errors = Vec::new(alloc);
-    let status = compile_file(alloc, "in.if", "out", &mut desk, &mut errors);
-    if errors.is_empty() {
-        return None;
+fn is_told(errors: &[u8], told: Option<&[u8]>) -> bool {
+    match told {
+        Some(told) => errors == told,
+        None => !errors.is_empty(),
     }
-    Some((status, desk.writes))
+}
+
+fn ends_so(alloc: Global, desk: &mut Desk, row: &Compiled) -> bool {
+    let mut errors = Vec::new(alloc);
+    let status = compile_file(alloc, "in.if", "out", desk, &mut errors);
+    status == row.ends.0 && desk.writes == row.ends.1 && is_told(&errors, row.told)
+}
+
+fn is_compiled(alloc: Global, row: &Compiled) -> bool {
+    let mut desk = Desk::new(alloc, row.content, row.unread, row.unwritten);
+    ends_so(alloc, &mut desk, row)
+}
+
+impl Row for Compiled {
+    fn holds(&self, alloc: Global) -> Result<bool, Fail> {
+        Ok(is_compiled(alloc, self))
+    }
+}
+
+fn is_written(alloc: Global) -> bool {
+    let mut desk = Desk::new(alloc, PING, None, None);
+    ends_so(alloc, &mut desk, &WRITTEN) && desk.written() == IMAGE
 }
 
 #[test]
-fn the_first_fault_of_compile_counts(rt: HostRuntime) {
-    for (content, unread, unwritten, wanted) in FIRST_FAULTS {
-        let desk = Desk::new(rt.alloc(), content, *unread, *unwritten);
-        assert_eq!(rt; fault_of(rt.alloc(), desk), Some(*wanted));
+fn an_image_is_written(rt: HostRuntime) {
+    assert!(rt; is_written(rt.alloc()));
+}
+
+#[test]
+fn a_text_that_is_refused_writes_nothing(rt: HostRuntime) {
+    assert!(rt; is_compiled(rt.alloc(), &REFUSED_TEXT));
+}
+
+#[test]
+fn an_image_is_not_compiled(rt: HostRuntime) {
+    assert!(rt; is_compiled(rt.alloc(), &REFUSED_IMAGE));
+}
+
+#[test]
+fn the_first_fault_of_compile_counts(rt: HostRuntime) -> Result<(), Fail> {
+    all_hold(rt.alloc(), "first faults", FIRST_FAULTS)
+}
+
+fn ends_well_or_full(alloc: Global, desk: &mut Desk) -> bool {
+    let mut errors = Vec::new(alloc);
+    match compile_file(alloc, "in.if", "out", desk, &mut errors) {
+        0 => desk.written() == IMAGE,
+        status => status == 3 && desk.writes == 0,
     }
+}
+
+fn is_compiled_or_full(alloc: Global) -> bool {
+    let mut desk = Desk::new(alloc, PING, None, None);
+    ends_well_or_full(alloc, &mut desk)
 }
 
 // The image, or out of memory and nothing written.
 #[test]
 fn compiled_without_memory(rt: HostRuntime) {
-    let mut desk = Desk::new(rt.alloc(), PING, None, None);
-    let mut errors = Vec::new(rt.alloc());
-    match compile_file(rt.alloc(), "in.if", "out", &mut desk, &mut errors) {
-        0 => assert!(rt; desk.written() == IMAGE),
-        status => assert_eq!(rt; (status, desk.writes), (3, 0)),
-    }
+    assert!(rt; is_compiled_or_full(rt.alloc()));
 }

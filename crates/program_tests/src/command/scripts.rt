@@ -1,6 +1,7 @@
 //! `exec`.
 
 use crate::command::outputs::{Narrow, Ran};
+use crate::rows::{Row, all_hold};
 use fl_command::{Fault, finish, run_script};
 use std::alloc::{AllocError, Global};
 use std::io;
@@ -43,17 +44,26 @@ const SCRIPT: &[u8] = b"disp d 0\ndisp d 0\nnope\n";
 
 const TRANSCRIPT: &[u8] = b"ok\nrefused E92\nrefused E90\n";
 
+// Whether a script has this transcript, and nothing is told of it.
+fn has_transcript(alloc: Global, script: &[u8], transcript: &[u8]) -> bool {
+    let mut script = script;
+    exec(alloc, &mut script).is(0, transcript, b"")
+}
+
 // Lines that are refused are no fault.
 #[test]
 fn scripts_are_run(rt: HostRuntime) {
-    let mut script = SCRIPT;
-    assert!(rt; exec(rt.alloc(), &mut script).is(0, TRANSCRIPT, b""));
+    assert!(rt; has_transcript(rt.alloc(), SCRIPT, TRANSCRIPT));
+}
+
+fn is_unread(alloc: Global) -> bool {
+    exec(alloc, &mut NoSource).told(4)
 }
 
 // Nothing is printed of a script that isn't read.
 #[test]
 fn scripts_that_are_not_read(rt: HostRuntime) {
-    assert!(rt; exec(rt.alloc(), &mut NoSource).told(4));
+    assert!(rt; is_unread(rt.alloc()));
 }
 
 // Whether standard output that takes so many bytes has a prefix of the transcript after a write that failed.
@@ -68,12 +78,19 @@ fn is_cut_at(alloc: Global, room: usize) -> bool {
     status == 4 && !err.is_empty() && TRANSCRIPT.starts_with(&page[..room])
 }
 
+fn is_cut_anywhere(alloc: Global) -> bool {
+    for room in 0..27usize {
+        if !is_cut_at(alloc, room) {
+            return false;
+        }
+    }
+    true
+}
+
 // The buffer is written out at the end, and that may fail as well: then a prefix of the transcript was printed.
 #[test]
 fn scripts_that_are_not_written(rt: HostRuntime) {
-    for room in 0..27usize {
-        assert!(rt; is_cut_at(rt.alloc(), room));
-    }
+    assert!(rt; is_cut_anywhere(rt.alloc()));
 }
 
 // Many lines of one text.
@@ -85,17 +102,35 @@ fn lines(alloc: Global, line: &[u8]) -> Result<Vec<u8>, AllocError> {
     Ok(text)
 }
 
-// A transcript that is longer than the buffer, which is written out on the way.
+// Whether it fails where standard output takes so many bytes.
+fn is_lost(alloc: Global, script: &[u8], room: usize) -> bool {
+    let mut err = Vec::new(alloc);
+    let mut rest = script;
+    exec_into(alloc, &mut rest, Narrow(room), &mut err) == 4
+}
+
+// A line that is written many times, and its answer: the transcript is longer than the buffer, which is written out on the way.
+struct Long(&'static [u8], &'static [u8]);
+
+fn is_long(alloc: Global, script: &[u8], row: &Long) -> Result<bool, Fail> {
+    let transcript = lines(alloc, row.1)?;
+    Ok(
+        has_transcript(alloc, script, &transcript)
+            && is_lost(alloc, script, 0)
+            && is_lost(alloc, script, 8_200)
+            && is_lost(alloc, script, 35_999),
+    )
+}
+
+impl Row for Long {
+    fn holds(&self, alloc: Global) -> Result<bool, Fail> {
+        let script = lines(alloc, self.0)?;
+        is_long(alloc, &script, self)
+    }
+}
+
 #[test]
 fn long_transcripts(rt: HostRuntime) -> Result<(), Fail> {
-    let script = lines(rt.alloc(), b"nope\n")?;
-    let transcript = lines(rt.alloc(), b"refused E90\n")?;
-    let mut rest = script.as_slice();
-    assert!(rt; exec(rt.alloc(), &mut rest).is(0, &transcript, b""));
-    for room in [0, 8_200, 35_999] {
-        let mut err = Vec::new(rt.alloc());
-        let mut rest = script.as_slice();
-        assert_eq!(rt; exec_into(rt.alloc(), &mut rest, Narrow(room), &mut err), 4);
-    }
-    Ok(())
+    let rows = &[Long(b"nope\n", b"refused E90\n")];
+    all_hold(rt.alloc(), "long transcripts", rows)
 }

@@ -1,42 +1,99 @@
 //! What words ask for, words that are no command, and help.
 
 use crate::command::outputs::{Narrow, Ran};
+use crate::rows::{Row, all_hold};
 use fl_command::{Fault, finish, no_words, tell_usage};
 use fl_words::{Request, read_words};
 use std::alloc::Global;
 use std::io;
 use std::io::{BufWriter, Write};
+use std::test::Fail;
 
-// The option may also stand first, and be one word with its number.
-const TWO_TURNS: &[&[&str]] = &[
-    &["flounder", "cores", "x", "--turns", "2"],
-    &["flounder", "cores", "--turns", "2", "x"],
-    &["flounder", "cores", "--turns=2", "x"],
-    &["flounder", "cores", "x", "--turns=+2"],
-];
-
-#[test]
-fn turns_are_told(rt: HostRuntime) {
-    for words in TWO_TURNS {
-        let asked = read_words(rt.alloc(), words);
-        assert!(rt;
-            matches!(
-                &asked,
-                Ok(Request::Cores {
-                    file: "x",
-                    turns: 2
-                })
-            )
-        );
-    }
+// What words ask for.
+enum Asked {
+    /// `cores`, of the file `x` with two turns.
+    TwoTurns,
+    Exec,
+    /// Nothing: they are no command.
+    Nothing,
+    Help,
 }
 
-#[test]
-fn a_script_is_asked_for(rt: HostRuntime) {
-    for words in [["flounder"].as_slice(), &["flounder", "exec"]] {
-        let asked = read_words(rt.alloc(), words);
-        assert!(rt; matches!(&asked, Ok(Request::Exec)));
-    }
+struct Words(Asked, &'static [&'static str]);
+
+// The option may also stand first, and be one word with its number.
+const TWO_TURNS: &[Words] = &[
+    Words(Asked::TwoTurns, &["flounder", "cores", "x", "--turns", "2"]),
+    Words(Asked::TwoTurns, &["flounder", "cores", "--turns", "2", "x"]),
+    Words(Asked::TwoTurns, &["flounder", "cores", "--turns=2", "x"]),
+    Words(Asked::TwoTurns, &["flounder", "cores", "x", "--turns=+2"]),
+];
+
+const SCRIPTS: &[Words] = &[
+    Words(Asked::Exec, &["flounder"]),
+    Words(Asked::Exec, &["flounder", "exec"]),
+];
+
+const NO_COMMANDS: &[Words] = &[
+    Words(Asked::Nothing, &["flounder", "show"]),
+    Words(Asked::Nothing, &["flounder", "nope"]),
+    Words(Asked::Nothing, &["flounder", "show", "cap.if", "more"]),
+    Words(Asked::Nothing, &["flounder", "exec", "more"]),
+    Words(Asked::Nothing, &["flounder", "--nope"]),
+    Words(Asked::Nothing, &["flounder", "help"]),
+    Words(Asked::Nothing, &["flounder", "compile"]),
+    Words(Asked::Nothing, &["flounder", "compile", "cap.if"]),
+    Words(
+        Asked::Nothing,
+        &["flounder", "compile", "cap.if", "out", "more"],
+    ),
+    Words(Asked::Nothing, &["flounder", "cores"]),
+    Words(Asked::Nothing, &["flounder", "cores", "x"]),
+    Words(Asked::Nothing, &["flounder", "cores", "--turns", "2"]),
+    Words(Asked::Nothing, &["flounder", "cores", "x", "--turns"]),
+    Words(Asked::Nothing, &["flounder", "cores", "x", "--turns", ""]),
+    Words(Asked::Nothing, &["flounder", "cores", "x", "--turns", "-1"]),
+    Words(Asked::Nothing, &["flounder", "cores", "x", "--turns", "2x"]),
+    Words(
+        Asked::Nothing,
+        &["flounder", "cores", "x", "--turns", "1000000000001"],
+    ),
+    Words(
+        Asked::Nothing,
+        &["flounder", "cores", "x", "--turns", "18446744073709551617"],
+    ),
+    Words(
+        Asked::Nothing,
+        &["flounder", "cores", "x", "--turns", "2", "more"],
+    ),
+    Words(
+        Asked::Nothing,
+        &["flounder", "cores", "x", "--turns", "2", "--turns", "2"],
+    ),
+];
+
+const HELPS: &[Words] = &[
+    Words(Asked::Help, &["flounder", "--help"]),
+    Words(Asked::Help, &["flounder", "exec", "--help"]),
+    Words(Asked::Help, &["flounder", "show", "--help"]),
+    Words(Asked::Help, &["flounder", "compile", "--help"]),
+    Words(Asked::Help, &["flounder", "cores", "--help"]),
+];
+
+fn are_two_turns(alloc: Global, words: &[&str]) -> bool {
+    let asked = read_words(alloc, words);
+    matches!(
+        &asked,
+        Ok(Request::Cores {
+            file: "x",
+            turns: 2
+        })
+    )
+}
+
+fn are_exec(alloc: Global, words: &[&str]) -> bool {
+    let asked = read_words(alloc, words);
+    matches!(&asked, Ok(Request::Exec))
 }
 
 // How words that ask for nothing are told; what is left in the buffer of standard output is lost. Words that ask for something
@@ -65,52 +122,46 @@ fn tell(alloc: Global, words: &[&str]) -> Ran {
     Ran { status, out, err }
 }
 
-const NO_COMMANDS: &[&[&str]] = &[
-    &["flounder", "show"],
-    &["flounder", "nope"],
-    &["flounder", "show", "cap.if", "more"],
-    &["flounder", "exec", "more"],
-    &["flounder", "--nope"],
-    &["flounder", "help"],
-    &["flounder", "compile"],
-    &["flounder", "compile", "cap.if"],
-    &["flounder", "compile", "cap.if", "out", "more"],
-    &["flounder", "cores"],
-    &["flounder", "cores", "x"],
-    &["flounder", "cores", "--turns", "2"],
-    &["flounder", "cores", "x", "--turns"],
-    &["flounder", "cores", "x", "--turns", ""],
-    &["flounder", "cores", "x", "--turns", "-1"],
-    &["flounder", "cores", "x", "--turns", "2x"],
-    &["flounder", "cores", "x", "--turns", "1000000000001"],
-    &["flounder", "cores", "x", "--turns", "18446744073709551617"],
-    &["flounder", "cores", "x", "--turns", "2", "more"],
-    &["flounder", "cores", "x", "--turns", "2", "--turns", "2"],
-];
+// Whether help is written: it is long, and told where it can't be written.
+fn are_help(alloc: Global, words: &[&str]) -> bool {
+    let ran = tell(alloc, words);
+    ran.status == 0 && ran.out.len() > 200 && ran.err.is_empty() && are_lost(alloc, words)
+}
 
-#[test]
-fn words_that_are_no_command(rt: HostRuntime) {
-    for words in NO_COMMANDS {
-        assert!(rt; tell(rt.alloc(), words).told(1));
+fn are_lost(alloc: Global, words: &[&str]) -> bool {
+    let mut err = Vec::new(alloc);
+    tell_into(alloc, words, Narrow(10), &mut err) == 4
+}
+
+impl Row for Words {
+    fn holds(&self, alloc: Global) -> Result<bool, Fail> {
+        Ok(match self.0 {
+            Asked::TwoTurns => are_two_turns(alloc, self.1),
+            Asked::Exec => are_exec(alloc, self.1),
+            Asked::Nothing => tell(alloc, self.1).told(1),
+            Asked::Help => are_help(alloc, self.1),
+        })
     }
 }
 
-const HELPS: &[&[&str]] = &[
-    &["flounder", "--help"],
-    &["flounder", "exec", "--help"],
-    &["flounder", "show", "--help"],
-    &["flounder", "compile", "--help"],
-    &["flounder", "cores", "--help"],
-];
+#[test]
+fn turns_are_told(rt: HostRuntime) -> Result<(), Fail> {
+    all_hold(rt.alloc(), "turns", TWO_TURNS)
+}
 
 #[test]
-fn help_is_written(rt: HostRuntime) {
-    for words in HELPS {
-        let ran = tell(rt.alloc(), words);
-        assert!(rt; ran.status == 0 && ran.out.len() > 200 && ran.err.is_empty());
-        let mut err = Vec::new(rt.alloc());
-        assert_eq!(rt; tell_into(rt.alloc(), words, Narrow(10), &mut err), 4);
-    }
+fn a_script_is_asked_for(rt: HostRuntime) -> Result<(), Fail> {
+    all_hold(rt.alloc(), "scripts", SCRIPTS)
+}
+
+#[test]
+fn words_that_are_no_command(rt: HostRuntime) -> Result<(), Fail> {
+    all_hold(rt.alloc(), "no commands", NO_COMMANDS)
+}
+
+#[test]
+fn help_is_written(rt: HostRuntime) -> Result<(), Fail> {
+    all_hold(rt.alloc(), "help", HELPS)
 }
 
 // The status where the words can't be had, if that is told.
@@ -123,14 +174,12 @@ fn without_words(alloc: Global, kind: io::ErrorKind) -> Option<u8> {
     Some(status)
 }
 
+fn are_told(alloc: Global) -> bool {
+    without_words(alloc, io::ErrorKind::InvalidData) == Some(1)
+        && without_words(alloc, io::ErrorKind::OutOfMemory) == Some(3)
+}
+
 #[test]
 fn words_that_are_not_there(rt: HostRuntime) {
-    assert_eq!(rt;
-        without_words(rt.alloc(), io::ErrorKind::InvalidData),
-        Some(1)
-    );
-    assert_eq!(rt;
-        without_words(rt.alloc(), io::ErrorKind::OutOfMemory),
-        Some(3)
-    );
+    assert!(rt; are_told(rt.alloc()));
 }

@@ -1,6 +1,7 @@
 //! One thing more than a world holds: what the last line of each script asks is refused. And the longest script.
 
-use crate::program::scripts::{Row, Script, is_transcript};
+use crate::program::scripts::{Script, is_transcript};
+use crate::rows::Row;
 use std::alloc::{AllocError, Global};
 use std::test::Fail;
 

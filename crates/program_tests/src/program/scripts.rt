@@ -1,26 +1,11 @@
-//! Tables, of which a test tells the first row that isn't so, and scripts with their transcripts.
+//! Scripts with their transcripts, and the test of all tables.
 
 use crate::program::{core_rows, examples, limits, lines, rows, tables};
+use crate::rows::{Row, all_hold};
 use fl_system::World;
 use fl_transcript::{ExecFault, exec};
 use std::alloc::Global;
 use std::test::Fail;
-
-/// A row of a table.
-pub trait Row {
-    /// Whether what it says is so.
-    fn holds(&self, alloc: Global) -> Result<bool, Fail>;
-}
-
-// Tells which row of a table is the first that isn't so.
-fn all_hold<R: Row>(alloc: Global, table: &str, rows: &[R]) -> Result<(), Fail> {
-    for (index, row) in rows.iter().enumerate() {
-        if !row.holds(alloc)? {
-            return Err(Fail::new(format_args!("row {index} of {table}, counted from 0, is wrong")));
-        }
-    }
-    Ok(())
-}
 
 /// A script and its transcript.
 pub struct Script(pub &'static [u8], pub &'static [u8]);

@@ -1,6 +1,6 @@
 //! Plan tables and refusals as they are written.
 
-use crate::program::scripts::Row;
+use crate::rows::Row;
 use fl_layout::plan;
 use fl_show::{ShowFault, plan_table, read_interface, show_text};
 use fl_value::PlanNo;
