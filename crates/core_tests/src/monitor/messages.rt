@@ -2,10 +2,9 @@
 
 use crate::monitor::outbox_tests::in_order;
 use crate::monitor::words::{Words, message};
-use crate::texts::program;
+use crate::texts::interface;
 use fl_base::{Circuit, Frag};
 use fl_monitor::{Message, Messenger};
-use fl_value::PlanNo;
 use fl_wire::WireFault;
 use std::alloc::Global;
 use std::test::Fail;
@@ -82,8 +81,8 @@ fn fails(
 }
 
 fn publishes(alloc: Global, messenger: &Messenger, text: &[u8]) -> Result<bool, WireFault> {
-    match program(alloc, text, PlanNo::One) {
-        Ok(program) => Ok(messenger.interface().same(program.interface())),
+    match interface(alloc, text) {
+        Ok(published) => Ok(messenger.interface().same(&published)),
         Err(_) => Err(WireFault::Memory),
     }
 }

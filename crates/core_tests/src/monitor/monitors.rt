@@ -5,12 +5,12 @@ use crate::monitor::words::{Words, message};
 use crate::texts::program;
 use fl_base::{Circuit, CoreId, IRef, LinkId};
 use fl_compile::Program;
-use fl_hop::Hop;
+use fl_hop::{Hop, HopFault};
 use fl_monitor::{Heard, Here, Message, Messenger, Monitor, MonitorFault, Opening, Path};
-use fl_nameserv::{Names, Service};
+use fl_nameserv::{NameFault, Names, Service};
 use fl_value::PlanNo;
 use fl_wire::WireFault;
-use std::alloc::{AllocError, Global};
+use std::alloc::Global;
 use std::test::Fail;
 
 /// No end of the binding is made here, and the dispatcher has a place.
@@ -88,31 +88,29 @@ struct Line {
     names: Names,
 }
 
-fn links_to(monitor: &mut Monitor, neighbours: &[u8]) -> Result<(), AllocError> {
+fn links_to(monitor: &mut Monitor, neighbours: &[u8]) -> Result<(), HopFault> {
     for neighbour in neighbours {
-        if monitor.add_link(CoreId(*neighbour)).is_err() {
-            return Err(AllocError);
-        }
+        monitor.add_link(CoreId(*neighbour))?;
     }
     Ok(())
 }
 
-fn bare(alloc: Global, core: u8) -> Result<Box<Monitor>, AllocError> {
+fn bare(alloc: Global, core: u8) -> Result<Box<Monitor>, HopFault> {
     match Monitor::new(alloc, CoreId(core)) {
         Ok(monitor) => Ok(Box::new(alloc, monitor)?),
-        Err(_) => Err(AllocError),
+        Err(_) => Err(HopFault::Memory),
     }
 }
 
 // The monitor of a core with links to these.
-fn monitor(alloc: Global, core: u8, neighbours: &[u8]) -> Result<Box<Monitor>, AllocError> {
+fn monitor(alloc: Global, core: u8, neighbours: &[u8]) -> Result<Box<Monitor>, HopFault> {
     let mut monitor = bare(alloc, core)?;
     links_to(&mut monitor, neighbours)?;
     Ok(monitor)
 }
 
 // Cores 0, 1 and 2, each with links to those beside it.
-fn make_cores(alloc: Global) -> Result<Cores, AllocError> {
+fn make_cores(alloc: Global) -> Result<Cores, HopFault> {
     Ok(Cores {
         first: monitor(alloc, 0, &[1])?,
         middle: monitor(alloc, 1, &[0, 2])?,
@@ -121,20 +119,18 @@ fn make_cores(alloc: Global) -> Result<Cores, AllocError> {
 }
 
 // A service of interface 0 is registered.
-fn register(names: &mut Names, name: &[u8], core: u8, dispatcher: usize) -> Result<(), AllocError> {
+fn register(names: &mut Names, name: &[u8], core: u8, dispatcher: usize) -> Result<(), NameFault> {
     let service = Service {
         core: CoreId(core),
         dispatcher,
         interface: 0,
     };
-    match names.register(name, service) {
-        Ok(_) => Ok(()),
-        Err(_) => Err(AllocError),
-    }
+    names.register(name, service)?;
+    Ok(())
 }
 
 // Service 1 at dispatcher 5 of core 2, and service 2 at dispatcher 3 of core 1.
-fn register_both(names: &mut Names) -> Result<(), AllocError> {
+fn register_both(names: &mut Names) -> Result<(), NameFault> {
     register(names, b"far", 2, 5)?;
     register(names, b"near", 1, 3)
 }
@@ -351,7 +347,7 @@ fn run_on(line: &mut Line, name: &str, script: &[Step]) -> Result<(), Fail> {
     Ok(())
 }
 
-fn make_line(alloc: Global) -> Result<Line, AllocError> {
+fn make_line(alloc: Global) -> Result<Line, HopFault> {
     Ok(Line {
         alloc,
         cores: make_cores(alloc)?,

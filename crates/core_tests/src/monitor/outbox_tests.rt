@@ -10,16 +10,20 @@ use std::alloc::{AllocError, Global};
 use std::ops::Range;
 use std::test::Fail;
 
-// Puts the message that a circuit stands: whether it was put, and not refused as too many.
-fn puts(messenger: &Messenger, outbox: &mut Outbox, circuit: u16) -> Result<bool, AllocError> {
+// Whether an outbox answers so where the message is put that a circuit stands; want of memory ends the test.
+fn puts(
+    messenger: &Messenger,
+    outbox: &mut Outbox,
+    circuit: u16,
+    wanted: Result<(), MonitorFault>,
+) -> Result<bool, AllocError> {
     let message = Message::CircuitOpened {
         circuit: Circuit(circuit),
     };
     let frag = messenger.frag(&message)?;
     match outbox.put(&frag) {
-        Ok(()) => Ok(true),
-        Err(MonitorFault::OutboxFull) => Ok(false),
-        Err(_) => Err(AllocError),
+        Err(MonitorFault::Memory) => Err(AllocError),
+        answer => Ok(answer == wanted),
     }
 }
 
@@ -38,7 +42,7 @@ fn sends(outbox: &mut Outbox) -> Option<u64> {
 // Whether 64 messages are put into an outbox that isn't full before.
 fn fills(messenger: &Messenger, outbox: &mut Outbox) -> Result<bool, AllocError> {
     for circuit in 0..64 {
-        if outbox.is_full() || !puts(messenger, outbox, circuit)? {
+        if outbox.is_full() || !puts(messenger, outbox, circuit, Ok(()))? {
             return Ok(false);
         }
     }
@@ -60,12 +64,13 @@ fn goes_in_order(messenger: &Messenger, outbox: &mut Outbox) -> Result<bool, All
     outbox.sound();
     if sends(outbox).is_some()
         || !fills(messenger, outbox)?
-        || puts(messenger, outbox, 64)?
+        || !puts(messenger, outbox, 64, Err(MonitorFault::OutboxFull))?
         || sends(outbox) != Some(0)
     {
         return Ok(false);
     }
-    Ok(puts(messenger, outbox, 64)? && sends_all(outbox, 1..65) && sends(outbox).is_none())
+    let put = puts(messenger, outbox, 64, Ok(()))?;
+    Ok(put && sends_all(outbox, 1..65) && sends(outbox).is_none())
 }
 
 /// Whether an outbox gives in order what is put.

@@ -69,13 +69,16 @@ impl Row for Script {
 // The last word and the control word of a fragment, and whether it is of a call.
 struct Form(u64, u64, bool);
 
+// Fragments that go through a queue of one slot, one after another.
+struct Forms(&'static [Form]);
+
 // Bit 2 alone makes no acknowledgement: the rest has to be 0 too.
-const FORMS: &[Form] = &[
+const FORMS: &[Forms] = &[Forms(&[
     Form(0, 4, false),
     Form(1, 4, true),
     Form(0, 6, true),
     Form(0, 12, true),
-];
+])];
 
 // Puts the fragment and takes it again; says whether a look sees a fragment of a call. `None` where it
 // isn't put, or the take gets something else than the look saw.
@@ -90,14 +93,24 @@ fn is_data(queue: &mut QueueLink, frag: &Frag) -> Option<bool> {
     Some(seen != Sight::Acknowledgement)
 }
 
-impl Row for Form {
+// Whether each form is told for what it is.
+fn are_told(queue: &mut QueueLink, forms: &[Form]) -> bool {
+    for form in forms {
+        let frag = Frag {
+            words: [0, 0, 0, 0, 0, 0, form.0],
+            control: form.1,
+        };
+        if is_data(queue, &frag) != Some(form.2) {
+            return false;
+        }
+    }
+    true
+}
+
+impl Row for Forms {
     fn holds(&self, alloc: Global) -> Result<bool, Fail> {
         let mut queue = QueueLink::local(alloc, 1)?;
-        let frag = Frag {
-            words: [0, 0, 0, 0, 0, 0, self.0],
-            control: self.1,
-        };
-        Ok(is_data(&mut queue, &frag) == Some(self.2))
+        Ok(are_told(&mut queue, self.0))
     }
 }
 

@@ -82,7 +82,7 @@ fn is_changed(alloc: Global, at: usize, to: u8, line: &str) -> Result<bool, Fail
 }
 
 fn are_cut(alloc: Global) -> Result<bool, Fail> {
-    for len in 1..37 {
+    for len in 0..37 {
         let line = if len < 4 { "E7 at 0" } else { "E82" };
         if !begins(alloc, &PING[..len], line)? {
             return Ok(false);
