@@ -23,7 +23,7 @@ use std::alloc::AllocError;
 // ---- a message is heard
 
 /// What is answered for a message that is heard.
-pub fn heard(answer: MonitorAnswer) -> Answer
+pub fn answer_heard(answer: MonitorAnswer) -> Answer
     ensures heard { IsHeard (Ok answer) (answer_of result) }
 {
     match answer {
@@ -38,7 +38,7 @@ pub fn heard(answer: MonitorAnswer) -> Answer
 ///
 /// # Errors
 /// Want of memory.
-pub fn unheard(fault: LinkFault) -> Result<Answer, AllocError>
+pub fn answer_unheard(fault: LinkFault) -> Result<Answer, AllocError>
     ensures heard { IfOk result (λ a. IsHeard (Err fault) (answer_of a)) }
     ensures memory { OnErr result (fault ≡ LinkFault.Memory) }
 {

@@ -33,7 +33,7 @@ pub use binding::{has_end, has_places};
 pub use by_queues::{join_at, new_queue, push_both};
 pub use by_ring::{Joiner, join_parts};
 pub use by_route::{Begun, all_differ, are_cores, begin_at, may_open_in, path_over};
-pub use forwarding::{heard, move_among, take_rules_of, unheard};
+pub use forwarding::{answer_heard, answer_unheard, move_among, take_rules_of};
 pub use lending::{ring_at, which_at};
 pub use linking::{monitor_ack_by_ring, monitor_write_by_ring};
 pub use making::{fresh_cores, has_name, link_both};

@@ -61,10 +61,6 @@ fields_of word = record {
   told = told_of word;
 }
 
--- the fragment with this epoch bit
-abbrev pub with_epoch : ℕ → Frag → Frag
-with_epoch epoch frag = record { words = frag.words; control = frag.control - frag.control % 2 + epoch }
-
 -- the fragment with this circuit
 abbrev pub with_circuit : ℕ → Frag → Frag
 with_circuit circuit frag = record { words = frag.words; control = frag.control - 2 ^ 32 * circuit_of frag.control + 2 ^ 32 * circuit }

@@ -1,9 +1,9 @@
 //! One cache line of a channel, and its control word (the bits stand in `specs/Control.antt`).
 
-ghost use Rattle.std.specs.Prelude.{◌≡◌, ◌+◌, ◌*◌, ◌^◌, ◌/◌, ◌%◌, ◌-◌, ◌≤◌, ◌<◌, ◌==◌, if◌then◌else◌, false};
+ghost use Rattle.std.specs.Prelude.{◌≡◌, ◌+◌, ◌*◌, ◌^◌, ◌/◌, ◌%◌, ◌-◌, ◌≤◌, ◌<◌, ◌==◌, false};
 ghost use Rattle.std.specs.List.{list_all};
 ghost use Rattle.fl_base.specs.Control.{epoch_of, first_of, acknowledges_of, reserved_of, message_of, circuit_of, told_of};
-ghost use Rattle.fl_base.specs.Control.{control_word, is_ack_only, with_epoch, with_circuit, stamped, fields_of, Fields};
+ghost use Rattle.fl_base.specs.Control.{control_word, is_ack_only, with_circuit, bare, stamped, fields_of, Fields};
 
 use crate::identity::{Circuit, MsgNo};
 
@@ -33,24 +33,28 @@ pub fn control(first: bool, msg: MsgNo, circuit: Circuit) -> u64
     first_bit + 65_536 * u64::from(msg.0) + 4_294_967_296 * u64::from(circuit.0)
 }
 
+/// The epoch bit of a control word: 1 in the first round of a ring, 0 in the second, and so on.
+#[inline(always)]
+pub fn epoch_of(control: u64) -> u64
+    ensures { result ≡ epoch_of control }
+{
+    control % 2
+}
+
+/// Bits 48 to 63 of a control word: how many fragments of the other direction the writer has read, modulo 65,536.
+#[inline(always)]
+pub fn told_of(control: u64) -> u16
+    ensures { result ≡ told_of control }
+{
+    (control / 281_474_976_710_656) as u16
+}
+
 impl Frag {
     /// The epoch bit: 1 in the first round of a ring, 0 in the second, and so on.
     pub fn epoch(&self) -> u64
         ensures { result ≡ epoch_of self.now.control }
     {
-        self.control % 2
-    }
-
-    /// The same fragment with this epoch bit.
-    pub fn with_epoch(&self, epoch: bool) -> Frag
-        ensures set { result ≡ with_epoch (if epoch then 1 else 0) self.now }
-        ensures fields { fields_of result.control ≡ record (fields_of self.now.control) { epoch = if epoch then 1 else 0 } }
-    {
-        let control = self.control;
-        Frag {
-            words: self.words,
-            control: control - control % 2 + u64::from(epoch),
-        }
+        epoch_of(self.control)
     }
 
     /// The same fragment with this circuit.
@@ -63,6 +67,17 @@ impl Frag {
         Frag {
             words: self.words,
             control: control - 4_294_967_296 * old + 4_294_967_296 * u64::from(circuit.0),
+        }
+    }
+
+    /// The same fragment with epoch 0 and nothing told: what every link carries unchanged.
+    #[inline(always)]
+    pub fn bare(&self) -> Frag
+        ensures bare { result ≡ bare self.now }
+    {
+        Frag {
+            words: self.words,
+            control: 2 * (self.control / 2 % 140_737_488_355_328),
         }
     }
 
@@ -104,8 +119,15 @@ impl Frag {
     pub fn told(&self) -> u16
         ensures { result ≡ told_of self.now.control }
     {
-        let word = self.control;
-        (word / 281_474_976_710_656) as u16
+        told_of(self.control)
+    }
+
+    /// Bits 2 to 15: that which acknowledges and those that are reserved. They are 0 in a call's fragment.
+    #[inline(always)]
+    pub fn unused_bits(&self) -> u64
+        ensures { result ≡ self.now.control / 4 % 16384 }
+    {
+        self.control / 4 % 16_384
     }
 
     // Bit 2 is set, and bits 1 and 3 to 47 are 0.

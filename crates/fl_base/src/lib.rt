@@ -13,9 +13,9 @@ mod fragment;
 mod identity;
 mod limits;
 
-pub use fragment::{Frag, control};
+pub use fragment::{Frag, control, epoch_of, told_of};
 pub use identity::{ChanId, Circuit, CoreId, EndId, IRef, LinkId, MsgNo, Side, Span};
 pub use limits::{
-    FRAG_BYTES, MAX_BINDINGS, MAX_CHANNELS, MAX_CORES, MAX_DISPATCHERS, MAX_INTERFACES,
-    MAX_PAYLOAD, MAX_QUEUE, MAX_SERVICES, PAYLOAD_WORDS,
+    FRAG_BYTES, MAX_BINDINGS, MAX_CHANNELS, MAX_CORES, MAX_DISPATCHERS, MAX_INTERFACES, MAX_QUEUE,
+    MAX_SERVICES,
 };

@@ -1,13 +1,7 @@
 //! How many of each thing there may be.
 
-/// Payload words of a fragment.
-pub const PAYLOAD_WORDS: usize = 7;
-
 /// Payload bytes of a fragment.
 pub const FRAG_BYTES: usize = 56;
-
-/// Bytes of the longest payload that a call of an accepted interface may have.
-pub const MAX_PAYLOAD: usize = 32_768;
 
 /// Cores of a world.
 pub const MAX_CORES: usize = 16;

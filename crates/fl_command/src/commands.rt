@@ -7,7 +7,7 @@ ghost use Rattle.fl_command.specs.Streams.{output_of, streams_of};
 ghost use Rattle.fl_command.specs.Commands.{Compiles, Views, Execs};
 ghost use Rattle.fl_command.specs.Parts.{EndsSo, IsUnmade};
 
-use crate::fault::{Fault, finish, refused, unmade, unread};
+use crate::fault::{Fault, fault_of_reading, fault_of_writing, finish, refused};
 use crate::files::FileStore;
 use crate::output::print;
 use fl_show::{compile_text, show_content};
@@ -49,7 +49,7 @@ pub fn show_file<F: FileStore, W: Write + Drop, E: Write>(
 {
     match files.read(alloc, file) {
         Ok(content) => finish(show_read(alloc, file, &content, output), errors),
-        Err(error) => finish(Err(unread(file, error)), errors),
+        Err(error) => finish(Err(fault_of_reading(file, error)), errors),
     }
 }
 
@@ -81,7 +81,7 @@ pub fn compile_file<F: FileStore, E: Write>(
 {
     match files.read(alloc, file) {
         Ok(content) => finish(compile_read(alloc, file, &content, out, files), errors),
-        Err(error) => finish(Err(unread(file, error)), errors),
+        Err(error) => finish(Err(fault_of_reading(file, error)), errors),
     }
 }
 
@@ -108,6 +108,6 @@ fn write_image<'a, F: FileStore>(out: &'a str, image: &[u8], files: &mut F) -> R
 {
     match files.write(out, image) {
         Ok(()) => Ok(()),
-        Err(error) => Err(unmade(out, error)),
+        Err(error) => Err(fault_of_writing(out, error)),
     }
 }

@@ -94,7 +94,7 @@ pub fn no_words<'a>(error: io::Error) -> Fault<'a>
 }
 
 /// Why a file couldn't be read.
-pub fn unread(file: &str, error: io::Error) -> Fault<'_>
+pub fn fault_of_reading(file: &str, error: io::Error) -> Fault<'_>
     ensures failed { status_of result ≡ failed_status (error_kind error) }
 {
     match error.kind() {
@@ -104,7 +104,7 @@ pub fn unread(file: &str, error: io::Error) -> Fault<'_>
 }
 
 /// Why a file couldn't be written.
-pub fn unmade(file: &str, error: io::Error) -> Fault<'_>
+pub fn fault_of_writing(file: &str, error: io::Error) -> Fault<'_>
     ensures failed { status_of result ≡ failed_status (error_kind error) }
 {
     match error.kind() {

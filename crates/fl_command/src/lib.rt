@@ -20,7 +20,7 @@ mod told;
 mod usage;
 
 pub use commands::{compile_file, run_script, show_file};
-pub use fault::{Fault, finish, no_words, unread};
+pub use fault::{Fault, fault_of_reading, finish, no_words};
 pub use files::{Disk, FileStore};
 pub use output::print;
 pub use told::RefusedFile;

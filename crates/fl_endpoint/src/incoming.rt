@@ -6,7 +6,6 @@ ghost use Rattle.fl_value.specs.Value.{call_of};
 ghost use Rattle.fl_value.specs.Fits.{fits_of};
 ghost use Rattle.fl_compile.specs.Programs.{program_of};
 ghost use Rattle.fl_machine.specs.Receiving.{HoldsParts};
-ghost use Rattle.fl_base.specs.Control.{bare};
 ghost use Rattle.fl_endpoint.specs.View.{reply_to};
 ghost use Rattle.fl_endpoint.specs.Rules.{rules_of};
 ghost use Rattle.fl_endpoint.specs.Accounts.{AreRules};
@@ -14,7 +13,7 @@ ghost use Rattle.fl_endpoint.specs.Stored.{QueuesReply};
 
 use crate::outgoing::Queued;
 use crate::rules::Rules;
-use fl_base::{Frag, MsgNo};
+use fl_base::MsgNo;
 use fl_compile::Program;
 use fl_layout::{Plans, fragment_count};
 use fl_value::Call;
@@ -29,16 +28,6 @@ pub(crate) fn most_fragments(plans: &Plans) -> usize
         most = plans.greatest(MsgNo(msg as u16)).max(most);
     }
     fragment_count(most)
-}
-
-/// The fragment with epoch 0 and nothing told: these belong to the side that it came by.
-pub(crate) fn without_stamp(frag: &Frag) -> Frag
-    ensures bare { result ≡ bare frag.now }
-{
-    Frag {
-        words: frag.words,
-        control: 2 * (frag.control / 2 % 140_737_488_355_328),
-    }
 }
 
 // The reply by rule to a call that is whole, if there is one.

@@ -14,7 +14,7 @@ ghost use Rattle.fl_endpoint.specs.Events.{Readies, Admits, Calls, Writes, Shows
 
 use crate::answer::{ReceiveAnswer, WriteAnswer};
 use crate::fault::EndFault;
-use crate::incoming::{most_fragments, reply_by_rule, without_stamp};
+use crate::incoming::{most_fragments, reply_by_rule};
 use crate::outgoing::{MOST_WAITING, Outgoing, Queued};
 use crate::rules::{Rules, message};
 use fl_base::{Circuit, Frag, MsgNo};
@@ -368,7 +368,7 @@ impl Parts {
                 Ok(ReceiveAnswer::Quiet)
             }
             Sight::Data(frag) => {
-                match self.take_in(circuit, &without_stamp(&frag), calls, place) {
+                match self.take_in(circuit, &frag.bare(), calls, place) {
                     Err(fault) => Err(fault),
                     Ok(answer) => {
                         let _ = from.take();

@@ -12,4 +12,4 @@ pub use bounds::counts_fit;
 pub use duplicate::duplicate_type;
 pub use interface::{ArgType, FixedType, Interface, Message, Scalar, Word};
 pub use same::same_args;
-pub use sizes::greatest_alignment;
+pub use sizes::{greatest_alignment, next_multiple};

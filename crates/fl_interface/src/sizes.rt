@@ -1,11 +1,31 @@
-//! Sizes and alignments of types, in bytes: the one place where code asks for them. The next multiple of an alignment is std's
-//! `next_multiple_of`, which is `round_up` of the definitions.
+//! Sizes and alignments of types, in bytes: the one place where code asks for them.
 
-ghost use Rattle.std.specs.Prelude.{◌≡◌, ◌<◌, ◌≤◌, ◌^◌, map};
+ghost use Rattle.std.specs.Prelude.{◌≡◌, ◌+◌, ◌<◌, ◌≤◌, ◌^◌, map};
 ghost use Rattle.fl_interface.specs.Interface.{fields_from, type_of, structure};
-ghost use Rattle.fl_interface.specs.Sizes.{scalar_size, size_of, align_of, greatest_align};
+ghost use Rattle.fl_interface.specs.Sizes.{round_up, scalar_size, size_of, align_of, greatest_align};
 
 use crate::interface::{FixedType, Scalar};
+
+/// The next multiple of an alignment: std's `next_multiple_of`. The alignments that types have are told one by one, so that none
+/// is divided by: a division by what isn't known before takes long.
+#[inline(always)]
+pub fn next_multiple(at: usize, align: usize) -> usize
+    requires some { 0 < align }
+    requires few { align ≤ 8 }
+    requires fits { at < 2 ^ 63 }
+    ensures same { result ≡ round_up at align }
+    ensures near { result < at + 8 }
+{
+    if align == 8 {
+        return at.next_multiple_of(8);
+    }
+    match align {
+        1 => at,
+        2 => at.next_multiple_of(2),
+        4 => at.next_multiple_of(4),
+        _ => at.next_multiple_of(align),
+    }
+}
 
 impl Scalar {
     /// The bytes of a scalar, which are its alignment too.

@@ -69,7 +69,7 @@ fn number_bindings(alloc: Global, bindings: &[Bound]) -> Result<Vec<usize>, Allo
 }
 
 /// The number of a binding, by the place of its line.
-pub fn numbered(numbers: &[usize], place: usize) -> usize
+pub fn number_at(numbers: &[usize], place: usize) -> usize
     ensures number { result ≡ numbered numbers.now place }
 {
     match numbers.get(place) {
@@ -83,7 +83,7 @@ pub(crate) fn end_by(numbers: &[usize], end: EndId) -> EndId
     ensures end { result ≡ end_by numbers.now end }
 {
     EndId {
-        binding: numbered(numbers, end.binding),
+        binding: number_at(numbers, end.binding),
         side: end.side,
     }
 }

@@ -28,7 +28,7 @@ mod stop;
 
 pub use binding::Wanted;
 pub use draft::{Bound, Draft, Joint, Offer, Planned, Use};
-pub use file::{CoresFile, CoresText, numbered};
+pub use file::{CoresFile, CoresText, number_at};
 pub use job::{Job, Wish};
 pub use law::one_outcome;
 pub use printing::{print_refusal, print_report};

@@ -14,7 +14,7 @@ ghost use Rattle.fl_jobs.specs.Printed.{binding_text, text_at_rank, ending_text,
 ghost use Rattle.fl_jobs.specs.Report.{at_end, refusal_of};
 ghost use Rattle.fl_jobs.specs.Reports.{both_of, ending_of, report_of};
 
-use crate::file::{CoresFile, end_by, numbered};
+use crate::file::{CoresFile, end_by, number_at};
 use crate::report::{BothEnds, Ending, Report};
 use fl_base::{EndId, Side};
 use fl_lines::{Answer, NameTable, Names, print_answer};
@@ -215,7 +215,7 @@ fn put_binding(
 ) -> Result<(), AllocError>
     ensures ok { OnOk result (out.new.items ≡ out.old.items ++ binding_text (file_from file.now) (report_of report.now) place) }
 {
-    match refusal_of(report, numbered(&file.numbers, place)) {
+    match refusal_of(report, number_at(&file.numbers, place)) {
         None => put_both(alloc, out, file, report, place),
         Some(number) => put_refused(alloc, out, &file.names, number, place),
     }

@@ -10,27 +10,8 @@ ghost use Rattle.fl_layout.specs.Extents.{numbers_in, numbers_in_all, most_of, i
 ghost use Rattle.fl_layout.specs.Extents.{IsFixedLength};
 
 use crate::extent::{Extent, Fill, Placed};
+use fl_interface::next_multiple;
 use fl_value::Value;
-
-// The next multiple of an alignment. Those that types have are told one by one, so that none is divided by: a
-// division by what isn't known before takes long.
-#[inline(always)]
-fn next_multiple(at: usize, align: usize) -> usize
-    requires some { 0 < align }
-    requires few { align ≤ 8 }
-    requires fits { at < 2 ^ 50 }
-    ensures same { result ≡ round_up at align }
-{
-    if align == 8 {
-        return at.next_multiple_of(8);
-    }
-    match align {
-        1 => at,
-        2 => at.next_multiple_of(2),
-        4 => at.next_multiple_of(4),
-        _ => at.next_multiple_of(align),
-    }
-}
 
 // Where an argument ends, and the alignment that is due after it.
 #[derive(Clone, Copy)]

@@ -2,18 +2,11 @@
 
 ghost use Rattle.std.specs.Prelude.{◌≡◌, ◌||◌, ◌==◌, is_some};
 ghost use Rattle.std.specs.List.{list_all};
-ghost use Rattle.fl_value.specs.CallText.{is_blank};
 ghost use Rattle.fl_lines.specs.Words.{without_blanks, first_word, behind_word, begins_comment};
 ghost use Rattle.fl_lines.specs.Words.{number_of};
 
 use fl_lex::is_digit;
-
-#[inline(always)]
-fn is_blank(byte: u8) -> bool
-    ensures same { result ≡ is_blank byte }
-{
-    byte <= b' ' && (byte == b' ' || byte == b'\t')
-}
+use fl_value::is_blank;
 
 /// A line from its first byte on that isn't a blank.
 #[inline(always)]

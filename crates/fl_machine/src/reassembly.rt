@@ -1,7 +1,6 @@
 //! A program's calls that are put together again from their fragments, one after another.
 
 ghost use Rattle.std.specs.Prelude.{◌≡◌, ◌<◌, ◌≤◌, [], length, Option, IsSome, Some, None, IfOk};
-ghost use Rattle.fl_base.specs.Control.{bare};
 ghost use Rattle.fl_value.specs.Value.{TheCall, call_of};
 ghost use Rattle.fl_compile.specs.Programs.{program_of};
 ghost use Rattle.fl_machine.specs.Faults.{take_number};
@@ -86,17 +85,6 @@ pub(crate) fn tell(
     }
 }
 
-// The fragment with epoch 0 and nothing told.
-#[inline(always)]
-fn without_stamp(frag: &Frag) -> Frag
-    ensures bare { result ≡ bare frag.now }
-{
-    Frag {
-        words: frag.words,
-        control: 2 * (frag.control / 2 % 140_737_488_355_328),
-    }
-}
-
 // Keeps a fragment behind which a call goes on, in a room that has those before it.
 #[inline(always)]
 fn keep(
@@ -116,7 +104,7 @@ fn keep(
 {
     let _plan = program.plan();
     let last = begun.fed() - 1;
-    room[last] = without_stamp(frag);
+    room[last] = frag.bare();
     Ok(Taken::Part)
 }
 
@@ -151,7 +139,7 @@ fn take_last(
 {
     let _plan = program.plan();
     let count = begun.fed();
-    room[count] = without_stamp(frag);
+    room[count] = frag.bare();
     match read(alloc, program, &room[..count + 1]) {
         Ok(call) => Ok(Taken::Whole(call)),
         Err(_) => Err(TakeFault::Memory),

@@ -4,7 +4,7 @@ ghost use Rattle.std.specs.Prelude.{◌≡◌, ◌≢◌, ◌+◌, ◌*◌, ◌^
 ghost use Rattle.fl_base.specs.Control.{epoch_of};
 ghost use Rattle.fl_ring.specs.Way.{frag_at, WritesSlot};
 
-use fl_base::Frag;
+use fl_base::{Frag, epoch_of};
 
 // Writes the payload words first, and the control word last.
 #[inline]
@@ -49,7 +49,7 @@ pub(crate) fn look(words: &[u64], slot: usize, due: u64) -> Option<Frag>
         (epoch_of (slice_index words.now (slot + 7)) ≢ due)
         (λ frag. (frag ≡ frag_at words.now slot) × (epoch_of (slice_index words.now (slot + 7)) ≡ due)) }
 {
-    if words[slot + 7] % 2 != due {
+    if epoch_of(words[slot + 7]) != due {
         return None;
     }
     Some(read_slot(words, slot))

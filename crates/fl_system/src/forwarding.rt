@@ -11,7 +11,9 @@ ghost use Rattle.fl_acts.specs.Passing.{StandsAt};
 ghost use Rattle.fl_system.specs.Following.{KnowsAt, MayForgetAt, Forgot, MayFollow, Forgets, GoesOn, TakesRulesOrNone};
 
 use crate::world::World;
-use fl_acts::{Lane, Passing, Spot, heard, move_among, ring_at, take_rules_of, unheard, which_at};
+use fl_acts::{
+    Lane, Passing, Spot, answer_heard, answer_unheard, move_among, ring_at, take_rules_of, which_at,
+};
 use fl_base::{EndId, Frag, Side};
 use fl_lines::Answer;
 use fl_node::{Ahead, LinkFault, MonitorAnswer};
@@ -121,7 +123,7 @@ impl World {
         match self.hear(n, at, frag) {
             Ok(answer) => {
                 self.then_rules(answer);
-                Ok(heard(answer))
+                Ok(answer_heard(answer))
             }
             Err(fault) => self.leave(at.side, fault, known),
         }
@@ -136,7 +138,7 @@ impl World {
         ensures memory { OnErr result (fault ≡ LinkFault.Memory) }
         ensures forgot { OnErr result (Forgot self.old m known self.new) }
     {
-        match unheard(fault) {
+        match answer_unheard(fault) {
             Ok(answer) => Ok(answer),
             Err(error) => {
                 self.forget(m, known);

@@ -4,7 +4,7 @@ ghost use Rattle.std.specs.Prelude.{Result, ◌≡◌, ℕ, ◌++◌, ◌≤◌,
 ghost use Rattle.std.specs.List.{prefix_len};
 ghost use Rattle.fl_interface.specs.Interface.{interface_of, message_of};
 ghost use Rattle.fl_value.specs.Value.{Datum, TheCall, datum_of};
-ghost use Rattle.fl_lex.specs.Words.{is_letter, is_word_byte, is_name};
+ghost use Rattle.fl_lex.specs.Words.{is_word_byte, is_name};
 ghost use Rattle.fl_value.specs.CallText.{StopsAt, SpellsCall};
 ghost use Rattle.fl_value.specs.declared.fault.ValueFault.{ValueFault};
 ghost use Rattle.fl_value.specs.Fault.{Refuses};
@@ -17,13 +17,11 @@ use crate::tokens::{read_mark, skip_blanks};
 use crate::value::{Call, Value};
 use fl_base::MsgNo;
 use fl_interface::{Interface, Message, Word};
+use fl_lex::{MAX_WORD, is_letter, is_word_byte};
 use std::alloc::Global;
 
 /// How deep arrays and structs may nest in a call's text; its parentheses don't count.
 const MAX_DEPTH: u32 = 20;
-
-/// The longest name in bytes.
-const MAX_WORD: usize = 64;
 
 /// A call's text, read: the name of a message, and values. No interface has been asked yet.
 #[derive(Debug, Drop)]
@@ -32,18 +30,6 @@ pub struct CallText {
     pub name: Word,
     /// The values between the parentheses, in order.
     pub args: Vec<Value>,
-}
-
-fn is_letter(byte: u8) -> bool
-    ensures same { result ≡ is_letter byte }
-{
-    byte.is_ascii_alphabetic() || byte == b'_'
-}
-
-fn is_word_byte(byte: u8) -> bool
-    ensures same { result ≡ is_word_byte byte }
-{
-    is_letter(byte) || byte.is_ascii_digit()
 }
 
 /// How many letters, digits and `_` the bytes begin with.

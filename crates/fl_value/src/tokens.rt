@@ -8,21 +8,18 @@ ghost use Rattle.fl_lex.specs.Words.{is_digit};
 ghost use Rattle.fl_value.specs.CallText.{is_blank, is_mark, is_plain, Blanks, Digits, TextByte, TextBytes};
 ghost use Rattle.fl_value.specs.CallText.{Token, a_number, a_text, a_mark, StopsAt, Closed};
 
+use fl_lex::is_digit;
 use std::alloc::{AllocError, Global};
 
 /// How many bytes of a text are looked at at once.
 const SPAN: usize = 64;
 
-fn is_blank(byte: u8) -> bool
+/// A blank or a tab.
+#[inline(always)]
+pub fn is_blank(byte: u8) -> bool
     ensures same { result ≡ is_blank byte }
 {
-    byte == b' ' || byte == b'\t'
-}
-
-fn is_digit(byte: u8) -> bool
-    ensures same { result ≡ is_digit byte }
-{
-    byte.is_ascii_digit()
+    byte <= b' ' && (byte == b' ' || byte == b'\t')
 }
 
 /// The bytes from the first that is no blank.

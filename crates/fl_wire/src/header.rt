@@ -15,7 +15,7 @@ use fl_interface::Interface;
 fn is_clean(frag: &Frag) -> bool
     ensures clean { result ≡ is_clean frag.now }
 {
-    frag.control / 4 % 16_384 == 0 && frag.circuit().0 == 0
+    frag.unused_bits() == 0 && frag.circuit().0 == 0
 }
 
 /// The fault of the control word of a fragment that is to begin a call; none where it has none. In order: a

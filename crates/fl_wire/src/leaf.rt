@@ -10,6 +10,7 @@ ghost use Rattle.fl_wire.specs.Shapes.{StopsNumber, padding, number_below, ReadA
 ghost use Rattle.fl_wire.specs.declared.leaf.Stop.TheVariants.{Padding, Memory};
 
 use fl_base::{FRAG_BYTES, Frag};
+use fl_interface::next_multiple;
 use std::alloc::{AllocError, AllocFailed};
 
 /// Why the reading of a call stops before the call's end.
@@ -134,22 +135,6 @@ pub(crate) fn read_zeros(frags: &[Frag], at: usize, end: usize) -> Result<(), St
         }
     }
     Ok(())
-}
-
-// The next multiple of an alignment. It is told which one, so that none is divided by, which takes long.
-#[inline(always)]
-fn next_multiple(at: usize, align: usize) -> usize
-    requires align { (align ≡ 1) ⊎ ((align ≡ 2) ⊎ ((align ≡ 4) ⊎ (align ≡ 8))) }
-    requires fits { at < 2 ^ 63 }
-    ensures same { result ≡ round_up at align }
-    ensures near { result < at + 8 }
-{
-    match align {
-        1 => at,
-        2 => at.next_multiple_of(2),
-        4 => at.next_multiple_of(4),
-        _ => at.next_multiple_of(8),
-    }
 }
 
 /// The next multiple of an alignment, past bytes that are all 0.

@@ -8,7 +8,7 @@ ghost use Rattle.fl_command.specs.Streams.{output_of};
 ghost use Rattle.flounder.specs.Commands.{RunsCores, TellsCores, cores_status, end_status};
 
 use fl_base::CoreId;
-use fl_command::{Fault, FileStore, finish, print, unread};
+use fl_command::{Fault, FileStore, fault_of_reading, finish, print};
 use fl_cores::{CoresEnd, CoresFault};
 use fl_reports::report_cores_text;
 use fl_running::Gate;
@@ -41,7 +41,7 @@ pub fn cores_file<T: Threads + Wait + Sync, F: FileStore, W: Write + Drop, E: Wr
 {
     match files.read(alloc, file) {
         Ok(content) => cores_read(rt, alloc, file, &content, turns, output, errors),
-        Err(error) => finish(Err(unread(file, error)), errors),
+        Err(error) => finish(Err(fault_of_reading(file, error)), errors),
     }
 }
 

@@ -14,7 +14,7 @@ use crate::shared::duo_board::{DuoPlace, DuoTop};
 use crate::shared::duo_plays::{
     LoadControl, LoadPeeked, LoadTaken, LoadWord, StoreControl, StoreWord,
 };
-use fl_base::Frag;
+use fl_base::{Frag, epoch_of, told_of};
 
 // Stores the payload words of the next fragment. Its slot begins at the word `first`.
 fn store_payload(top: &DuoTop, seat: &mut DuoPlace, first: usize, words: &[u64; 7])
@@ -70,10 +70,10 @@ pub(crate) fn load_control(
         × IsPeekedControl seat.old.me.0.mine.take c) }
 {
     let control = top.load::<LoadControl>(seat, first + 7);
-    if control % 2 != due {
+    if epoch_of(control) != due {
         return None;
     }
-    *known = count_from(*known, (control / 281_474_976_710_656) as u16);
+    *known = count_from(*known, told_of(control));
     Some(control)
 }
 

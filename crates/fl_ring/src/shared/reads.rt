@@ -10,7 +10,7 @@ ghost use Rattle.fl_ring.specs.SharedSeats.{IsSeated, IsReader, with_words, Sees
 
 use crate::shared::board::{Place, Top};
 use crate::shared::plays::{LoadControl, LoadPeeked, LoadTaken, LoadWord};
-use fl_base::Frag;
+use fl_base::{Frag, epoch_of};
 
 // Loads the control word of the next fragment, and gives it if it has the epoch due.
 fn load_control(top: &Top, seat: &mut Place, first: usize, due: u64) -> Option<u64>
@@ -25,7 +25,7 @@ fn load_control(top: &Top, seat: &mut Place, first: usize, due: u64) -> Option<u
         (λ c. (epoch_of c ≡ due) × (seat.new.me ≡ (with_reading seat.old.me.0 (with_control seat.old.me.0.size seat.old.me.0.take c), seat.old.me.1))) }
 {
     let control = top.load::<LoadControl>(seat, first + 7);
-    if control % 2 != due {
+    if epoch_of(control) != due {
         return None;
     }
     Some(control)

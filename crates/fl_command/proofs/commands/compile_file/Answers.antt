@@ -20,6 +20,6 @@ returns-in-Ok g c =
 pub returns-in-Err : goal.returns-in-Err
 returns-in-Err g c = record {
   compiled =
-      not_read (g.F.FileStore.deeds c.args.files.now) (g.F.FileStore.deeds c.read.new.self) c.args.file.now c.args.out.now _ c.finish-in-Err.result (status_of c.unread.result)
-      c.in-Err.ensures.done c.finish-in-Err.ensures.fault c.unread.ensures.failed;
+      not_read (g.F.FileStore.deeds c.args.files.now) (g.F.FileStore.deeds c.read.new.self) c.args.file.now c.args.out.now _ c.finish-in-Err.result (status_of c.fault_of_reading.result)
+      c.in-Err.ensures.done c.finish-in-Err.ensures.fault c.fault_of_reading.ensures.failed;
 }

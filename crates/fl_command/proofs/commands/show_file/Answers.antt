@@ -20,5 +20,5 @@ pub returns-in-Err : goal.returns-in-Err
 returns-in-Err g c = record {
   shown =
       not_viewed (g.F.FileStore.deeds c.args.files.now) (g.F.FileStore.deeds c.read.new.self) c.args.file.now (output_of g.W.Write.contents c.args.output.now c.args.output.now)
-      _ c.finish-in-Err.result (status_of c.unread.result) c.in-Err.ensures.done refl c.finish-in-Err.ensures.fault c.unread.ensures.failed;
+      _ c.finish-in-Err.result (status_of c.fault_of_reading.result) c.in-Err.ensures.done refl c.finish-in-Err.ensures.fault c.fault_of_reading.ensures.failed;
 }
