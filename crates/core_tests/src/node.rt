@@ -10,7 +10,7 @@
 //! - `scripts.rt`: scripts of steps: a circuit opened, used and refused; limits; ends and links
 //! - `forged.rt`: messages and fragments out of their place
 //!
-//! What is refused for want of memory leaves its cores as they were, and is done again. So with any one allocation refused
+//! What is refused as out of memory leaves its cores as they were, and is done again. So with any one allocation refused
 //! (`rt try --test --fail-alloc N`) all tests pass.
 
 mod ends;

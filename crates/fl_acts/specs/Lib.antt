@@ -1,4 +1,5 @@
--- What events come to at the parts of a world that they touch, from what fl_worlds says of a world.
+-- The public promises rest on all of these: what events come to at the parts of a world that they touch, from what fl_worlds says of
+-- a world.
 pub mod Places
 pub mod Parts
 pub mod Passing

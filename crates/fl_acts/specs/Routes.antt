@@ -14,7 +14,7 @@ use Rattle.fl_acts.specs.Wishes.{has_end_in}
 
 -- ---- at a core
 
--- the number of a fault for which a circuit is refused; want of memory isn't an answer
+-- the number of a fault for which a circuit is refused; out of memory isn't an answer
 abbrev pub IsNumberOf : OpenFault → ℕ → Type 0
 IsNumberOf (fault.Board board.Memory) n = ⊥
 IsNumberOf (fault.Monitor monitor.Memory) n = ⊥

@@ -14,7 +14,7 @@ use std::alloc::{AllocError, Global};
 /// A queue of 1 to 1,024 slots, with nothing in it.
 ///
 /// # Errors
-/// Want of memory.
+/// Out of memory.
 pub fn new_queue(alloc: Global, slots: u32) -> Result<QueueLink, AllocError>
     requires sized { MayHave false slots }
     ensures fresh { IfOk result (λ q. q ≡ new_queue slots) }
@@ -71,7 +71,7 @@ fn join(
 /// Both ends are added to core n and registered; or there is no memory for them.
 ///
 /// # Errors
-/// Want of memory.
+/// Out of memory.
 pub fn join_at(
     cores: &mut [Core],
     n: usize,

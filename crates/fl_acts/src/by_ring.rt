@@ -123,7 +123,7 @@ fn reserve_both(rings: &mut Vec<OneDuo>, bindings: &mut Vec<Binding>) -> Result<
 /// Both ends are made, with their ring and their binding behind the others, or none of these.
 ///
 /// # Errors
-/// Want of memory.
+/// Out of memory.
 pub fn join_parts(
     cores: &mut [Core],
     rings: &mut Vec<OneDuo>,

@@ -79,7 +79,7 @@ fn push_ids(ids: &mut Vec<CoreId>, cores: &[u32]) -> Result<(), AllocError>
 /// The route over these cores.
 ///
 /// # Errors
-/// Want of memory.
+/// Out of memory.
 pub fn path_over(alloc: Global, cores: &[u32]) -> Result<Path, AllocError>
     requires few { length cores.now ≤ 16 }
     requires small { list_all (λ n. nat_lt n 256) cores.now ≡ true }
@@ -114,7 +114,7 @@ pub fn may_open_in(
         .may_open(program, program, server, path.cores(), count)
 }
 
-// The number of a fault that isn't for want of memory.
+// The number of a fault other than out of memory.
 fn number_of(fault: OpenFault) -> Result<u8, AllocError>
     ensures number { IfOk result (λ n. IsNumberOf fault n) }
     ensures memory { OnErr result ((fault ≡ OpenFault.Board BoardFault.Memory) ⊎ (fault ≡ OpenFault.Monitor MonitorFault.Memory)) }
@@ -172,7 +172,7 @@ fn begin(
 /// A dispatcher's core, among all cores, begins a circuit for a binding, unless it has an end of that.
 ///
 /// # Errors
-/// Want of memory.
+/// Out of memory.
 pub fn begin_at(
     cores: &mut [Core],
     client: DispatcherId,

@@ -37,7 +37,7 @@ pub fn answer_heard(answer: MonitorAnswer) -> Answer
 /// What is answered where a message isn't heard.
 ///
 /// # Errors
-/// Want of memory.
+/// Out of memory.
 pub fn answer_unheard(fault: LinkFault) -> Result<Answer, AllocError>
     ensures heard { IfOk result (λ a. IsHeard (Err fault) (answer_of a)) }
     ensures memory { OnErr result (fault ≡ LinkFault.Memory) }

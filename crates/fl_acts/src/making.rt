@@ -18,7 +18,7 @@ use std::alloc::{AllocError, Global};
 /// So many cores with nothing on them.
 ///
 /// # Errors
-/// Want of memory.
+/// Out of memory.
 pub fn fresh_cores(alloc: Global, n: u32) -> Result<Vec<Core>, AllocError>
     requires { n ≤ 16 }
     ensures { IfOk result (λ cores. cores.items ≡ fresh_cores n) }
@@ -62,7 +62,7 @@ fn unlink(core: &mut Core)
 /// A link between two cores, over a ring whose first side is this one.
 ///
 /// # Errors
-/// Want of memory.
+/// Out of memory.
 pub fn link_both(cores: &mut [Core], a: usize, b: usize, side: usize) -> Result<(), AllocError>
     requires few { length cores.old ≤ 16 }
     requires a { a < length cores.old }

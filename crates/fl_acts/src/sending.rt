@@ -53,7 +53,7 @@ fn called(outcome: Result<(), EndFault>) -> Result<Answer, AllocError>
 /// The end at a place of a core's board makes a call.
 ///
 /// # Errors
-/// Want of memory.
+/// Out of memory.
 #[inline(always)]
 pub fn call_in(core: &mut Core, place: usize, call: &Call) -> Result<Answer, AllocError>
     requires place { place < length core.old.board.seats }
@@ -69,7 +69,7 @@ pub fn call_in(core: &mut Core, place: usize, call: &Call) -> Result<Answer, All
 /// The end that a binding keeps makes a call.
 ///
 /// # Errors
-/// Want of memory.
+/// Out of memory.
 pub fn call_kept(
     binding: &mut Binding,
     call: &Call,

@@ -70,7 +70,7 @@ fn sound(core: &Core, e: usize)
 /// A dispatcher of a core has a turn, over the queue of the end that is due.
 ///
 /// # Errors
-/// Want of memory.
+/// Out of memory.
 #[inline(always)]
 pub fn turn_by_queue(core: &mut Core, at: Due, queue: &mut QueueLink) -> Result<Answer, AllocError>
     requires there { at.dispatcher < length core.old.board.dispatchers }
@@ -106,7 +106,7 @@ fn turn_by_side(core: &mut Core, at: Due, side: &mut DuoSide<'_>) -> Result<Turn
     core.turn(at.dispatcher, at.end, side)
 }
 
-// The same over side m of a ring. After want of memory the side knows what its look told it.
+// The same over side m of a ring. Where memory is refused the side knows what its look told it.
 #[inline(always)]
 fn turn_over(
     core: &mut Core,
@@ -129,10 +129,10 @@ fn turn_over(
     answer
 }
 
-/// A dispatcher of a core has a turn, over side m of a ring. After want of memory the ring is as it was.
+/// A dispatcher of a core has a turn, over side m of a ring. Where memory is refused the ring is as it was.
 ///
 /// # Errors
-/// Want of memory.
+/// Out of memory.
 #[inline(always)]
 pub fn turn_by_ring(
     core: &mut Core,
@@ -163,7 +163,7 @@ pub fn turn_by_ring(
 /// A dispatcher of a core has a turn, where the end that is due has an arrival queue.
 ///
 /// # Errors
-/// Want of memory.
+/// Out of memory.
 pub fn turn_in(core: &mut Core, at: Due) -> Result<Answer, AllocError>
     requires there { at.dispatcher < length core.old.board.dispatchers }
     requires due { due core.old.board at.dispatcher ≡ Some at.end }

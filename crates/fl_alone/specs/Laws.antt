@@ -35,7 +35,7 @@ pub record Change (S : Type 0) : Type 0 where
   pub before : TheRun S
   pub after : TheRun S
 
--- a call; that memory was wanted isn't an answer
+-- a call; out of memory isn't an answer
 pub record CallsAsMachine {S : Type 0} (w : TheWorld) (run : Change S) (a : Alone) (name : EndId) (c : TheCall) (answer : Result
     (Unit {0}) EndFault) : Type 0 where
   pub answers : IsCalled answer (step a.state (call name c)).answer

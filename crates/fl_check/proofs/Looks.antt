@@ -1,4 +1,4 @@
--- Want of memory comes after the place that is looked at first.
+-- Out of memory comes after the place that is looked at first.
 use Rattle.std.proofs.Common.{◌≡◌, ◌<◌, ℕ, zero, suc, ◌+◌, nat_eq, List, [], ◌∷◌, length, map, take, get_or, None, refl, sym, ◌∙◌, subst, arith, Result, Ok, Err, IfErr}
 use Rattle.std.specs.List.{All}
 use Rattle.std.specs.Result.{IsErrAnd}

@@ -22,7 +22,7 @@ rule_number TooMany = 19
 rule_number BadBound = 20
 rule_number TooLong = 21
 
--- want of memory is E99
+-- out of memory is E99
 abbrev pub fault_number : CheckFault → ℕ
 fault_number (Broken r at) = rule_number r
 fault_number Memory = 99
@@ -31,12 +31,12 @@ abbrev pub fault_offset : CheckFault → Option ℕ
 fault_offset (Broken r at) = Some at
 fault_offset Memory = None
 
--- an error tells the first fault, where it isn't want of memory
+-- an error tells the first fault, where it isn't out of memory
 abbrev pub Tells : CheckFault → Option Fault → Type 0
 Tells (Broken r at) f = f ≡ Some (record { number = rule_number r; at = at })
 Tells Memory f = Unit {0}
 
--- an error that is want of memory comes after a look at these places, which found nothing
+-- out of memory comes after a look at these places, which found nothing
 abbrev pub ComesAfter : CheckFault → List Place → Type 0
 ComesAfter (Broken r at) looks = Unit {0}
 ComesAfter Memory looks = first_fault looks ≡ None

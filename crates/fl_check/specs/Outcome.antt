@@ -8,7 +8,7 @@ use Rattle.fl_check.specs.Checks.{CheckOutcome, checked, check_fault, Checks}
 use Rattle.fl_parse.specs.Tree.{TheTree}
 use Rattle.fl_check.specs.Faults.{rule_number}
 
--- the outcome of a call, but for want of memory
+-- the outcome of a call, out of memory aside
 abbrev pub outcome_of : Result Interface CheckFault → Option CheckOutcome
 outcome_of (Ok i) = Some (checked (interface_of i))
 outcome_of (Err e) = elim e as (λ _. Option CheckOutcome) [ Broken r at ↦ Some (check_fault (rule_number r) at) | Memory ↦ None ]

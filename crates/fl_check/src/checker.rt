@@ -23,7 +23,7 @@ use std::alloc::Global;
 /// a whole. The first fault is answered, and of several at one place the one of the least number.
 ///
 /// # Errors
-/// E10 to E21 at the word or number where the rule is broken, or E99 for want of memory: then no rule is broken at the place
+/// E10 to E21 at the word or number where the rule is broken, or E99 where memory is refused: then no rule is broken at the place
 /// that the checker looks at first, the first part of the first declaration, unless that is an rpc, whose two names take
 /// memory before they are looked at.
 pub fn check(alloc: Global, tree: &Tree) -> Result<Interface, CheckFault>

@@ -36,7 +36,7 @@ impl TextFault {
         }
     }
 
-    /// The byte offset where the fault stands; none for want of memory.
+    /// The byte offset where the fault stands; none where memory is refused.
     pub fn offset(&self) -> Option<usize>
         ensures offset { result ≡ text_fault_offset self.now }
     {

@@ -91,7 +91,7 @@ pub enum CheckFault {
     /// E10 to E21: the rule that is broken, and the byte offset of the word or number at which it is.
     #[error("{rule}")]
     Broken { rule: Rule, at: usize },
-    /// E99: want of memory.
+    /// E99: out of memory.
     #[error("out of memory")]
     Memory,
 }
@@ -107,7 +107,7 @@ impl CheckFault {
         }
     }
 
-    /// The byte offset at which a rule is broken; none for want of memory.
+    /// The byte offset at which a rule is broken; none where memory is refused.
     pub fn offset(self) -> Option<usize>
         ensures offset { result ≡ fault_offset self }
     {

@@ -17,7 +17,7 @@ pub struct RefusedFile<'a> {
     pub file: &'a str,
     /// What the file holds.
     pub content: &'a [u8],
-    /// Why that is refused, or want of memory.
+    /// Why that is refused, or out of memory.
     pub fault: ShowFault<'a>,
 }
 

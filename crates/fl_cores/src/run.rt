@@ -126,8 +126,8 @@ fn refuse_other(alloc: Global, config: &Config<'_>, place: usize) -> CoresFault
 ///
 /// # Errors
 /// [`CoresFault`]: a number of cores outside 1 to 16 (94, at place 0); else the first event of the set-up that
-/// is refused, by the world or since no set-up has it (93); else the first job that is refused; or want of
-/// memory or of a thread. Every thread was joined then.
+/// is refused, by the world or since no set-up has it (93); else the first job that is refused; or out of
+/// memory, or of threads. Every thread was joined then.
 #[tactic(auto, using(crate::proofs::Booted::not_booted, crate::proofs::Booted::late_fault))]
 pub fn run_cores<R: Threads + Wait + Sync, G: Gate + Sync>(
     rt: &R,

@@ -61,7 +61,7 @@ MachineCalls x c z = makes_call x.port.name c x.planned x.end z ≡ answers (cha
 abbrev pub MachineRefuses : EndCut → TheCall → ℕ → State → Type 0
 MachineRefuses x c fault z = makes_call x.port.name c x.planned x.end z ≡ answers z (refused fault)
 
--- it is accepted, or refused for the machine's reason; want of memory is none, nor that the end has failed
+-- it is accepted, or refused for the machine's reason; out of memory is none, nor that the end has failed
 abbrev pub Calls : TheCall → Result (Unit {0}) EndFault → EndCut → EndCut → Type 0
 Calls c (Ok done) x y = ((z : State) → MachineCalls x c z) × (y ≡ record x { end = with_out (accepts c) x.end })
 Calls c (Err Memory) x y = y ≡ x

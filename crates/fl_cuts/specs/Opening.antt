@@ -73,7 +73,7 @@ pub record OpensSo (wish : Wish) (e : ℕ) (a b : Cut) : Type 0 where
       (next_seat a.core.circuits.core wish.dispatcher waits)) a
   pub rest : b ≡ record opened { core = opens wish.link.0 number (opening_with number wish.opening) opened.core }
 
--- why it isn't asked for; want of memory is no reason of the machine
+-- why it isn't asked for; out of memory is no reason of the machine
 abbrev pub RefusesFor : Wish → OpenFault → Cut → Type 0
 RefusesFor wish (opening.Board board.TooManyEnds) a =
     (waits : Dispatcher) × (slice_get a.core.dispatchers wish.dispatcher ≡ Some waits) × (has_places 1 waits ≡ false)

@@ -52,7 +52,7 @@ call_refusal programs asked bindings e c = found_at programs bindings e λ x i. 
 abbrev pub rule_refusal : List Program → List Job → List Bound → EndId → ℕ → ℕ → Option ℕ
 rule_refusal programs asked bindings e msg answer = found_at programs bindings e λ x i. rule_fault e.side msg answer (as_read asked e.binding x) i
 
--- why it stops: for the fault that is found, if there is one, and else for want of memory
+-- why it stops: for the fault that is found, if there is one, and else as memory is refused
 abbrev pub StopsFor : Option ℕ → Stop → Type 0
 StopsFor found (stop.Refused number) = found ≡ Some number
 StopsFor found stop.Memory = found ≡ None
@@ -86,7 +86,7 @@ rule_fault_at programs bindings dockets e msg answer =
 abbrev pub RuleStops : Option ℕ → Option Binding → Stop → Type 0
 RuleStops found o s = StopsFor found s ⊎ ((found ≡ None) × IsSome o)
 
--- behind these jobs, which were joined, a job is refused, or memory was wanted; of a wish nothing is told
+-- behind these jobs, which were joined, a job is refused, or memory was refused; of a wish nothing is told
 abbrev pub JobStops : Parts → List Job → TheJoined → Job → Stop → Type 0
 JobStops p asked j (opens w) s = Unit {0}
 JobStops p asked j (replies e msg answer) s =

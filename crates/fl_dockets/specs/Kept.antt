@@ -1,4 +1,4 @@
--- What is kept from job to job: which rules jobs set, and which bindings they open.
+-- A working file, on which no public promise rests by itself: what is kept from job to job: which rules jobs set, and which bindings they open.
 use Rattle.std.specs.Prelude.{ℕ, ◌≡◌, ◌==◌, ◌<◌, ◌≤◌, ◌&&◌, Bool, false, if◌then◌else◌, List, [], ◌∷◌, length, slice_get, Option, Some, None}
 use Rattle.std.specs.List.{list_any}
 use Rattle.fl_base.specs.declared.identity.EndId.{EndId}

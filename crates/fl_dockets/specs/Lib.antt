@@ -1,3 +1,6 @@
+-- The public promises rest on Dockets, Joined and State (what is joined), Whole (the jobs of a whole file), Wished and Fitting (circuits
+-- and rules that jobs ask for), Rules, and Faults (why a job is refused). What State and Whole say of one job more is the code's own,
+-- and Kept is a working file.
 pub mod Dockets
 pub mod Joined
 pub mod Kept

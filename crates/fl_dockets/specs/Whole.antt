@@ -114,7 +114,7 @@ pub record RefusedAt (p : Parts) (jobs : List Job) (number place : ℕ) : Type 0
   pub bound : AreBound p.bindings.items before joined
   pub stops : JobStops p before joined job (stop.Refused number)
 
--- why jobs aren't joined: one of them is refused, or memory was wanted
+-- why jobs aren't joined: one of them is refused, or memory was refused
 abbrev pub FirstRefused : Parts → List Job → JobFault → Type 0
 FirstRefused p jobs (fault.Refused number place) = RefusedAt p jobs number place
 FirstRefused p jobs fault.Memory = Unit {0}
@@ -124,7 +124,7 @@ abbrev pub IsFault : Parts → List Job → JobFault → Type 0
 IsFault p jobs (fault.Refused number place) = (place ≡ 0) ⊎ RefusedAt p jobs number place
 IsFault p jobs fault.Memory = Unit {0}
 
--- and which rules are set then: those of the jobs before the one that is refused; where memory was wanted, those of the first, so many
+-- and which rules are set then: those of the jobs before the one that is refused; where memory was refused, those of the first, so many
 abbrev pub HadSet : List Binding → List Job → JobFault → List TheCore → List TheCore → Type 0
 HadSet set_up jobs (fault.Refused number place) ks ks2 = RulesOf set_up (take (place - 1) jobs) ks ks2
 HadSet set_up jobs fault.Memory ks ks2 = (n : ℕ) × RulesOf set_up (take n jobs) ks ks2

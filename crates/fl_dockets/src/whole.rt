@@ -158,7 +158,7 @@ fn set_up(alloc: Global, cores: usize, bindings: &[Binding]) -> Result<Joined, S
 /// Checks the jobs one by one and joins them to the cores of their ends. Reply rules are set at the ends that are there.
 ///
 /// # Errors
-/// [`JobFault`]: the first job that is refused, or want of memory. The rules of the jobs before that are set then, and no others.
+/// [`JobFault`]: the first job that is refused, or out of memory. The rules of the jobs before that are set then, and no others.
 pub fn join_jobs(alloc: Global, parts: &mut Parts, jobs: Vec<Job<'_>>) -> Result<Joined, JobFault>
     ensures bindings { IfOk result (λ j. AreBindings (length parts.old.cores.items) j.bindings.items j.owners.items) }
     ensures dockets { IfOk result (λ j. HasDockets j.bindings.items j.dockets.items) }

@@ -1,4 +1,4 @@
--- Whole turns as a log in which no opening was refused for want of memory: a turn ends where memory is refused, so of whole turns it never is.
+-- Whole turns as a log in which no opening was refused as out of memory: a turn ends where memory is refused, so of whole turns it never is.
 use Rattle.std.proofs.Common.{◌≡◌, ◌≢◌, refl, sym, ap, ◌∙◌, subst, ℕ, zero, suc, inl, inr, nat_lt, if◌then◌else◌, List, [], ◌∷◌, ◌++◌, length, slice_set}
 use Rattle.std.proofs.Common.{Option, Some, None, Bool, true, false, Result, Ok, Err}
 use Rattle.std.proofs.lemmas.List.{length-set}

@@ -37,7 +37,7 @@ AllWent jobs cores = (n : ℕ) (c : OneCore) → slice_get cores n ≡ Some c �
 
 -- ---- memory
 
--- an opening isn't one that was refused for want of memory
+-- an opening isn't one that was refused as out of memory
 abbrev pub IsAmple : Deed → Type 0
 IsAmple (opened name wish answer) = lacks_to_open answer ≡ false
 IsAmple deed = Unit {0}
@@ -57,7 +57,7 @@ AllAmple cores = (n : ℕ) (c : OneCore) → slice_get cores n ≡ Some c → Ar
 abbrev pub CoresGo : Type 0
 CoresGo = (t : Task) (a b : Moment TheSide) (part : Part) → CoreRan shared_ways t a part b → (log : List Deed) × Goes shared_ways t.jobs a.run log b.run
 
--- and no opening of it was refused for want of memory
+-- and no opening of it was refused as out of memory
 abbrev pub CoresGoAmply : Type 0
 CoresGoAmply = (t : Task) (a b : Moment TheSide) (part : Part) → CoreRan shared_ways t a part b
     → (log : List Deed) × Goes shared_ways t.jobs a.run log b.run × AreAmple log

@@ -27,7 +27,7 @@ use fl_logs::{
 };
 use fl_ring::SharedSide;
 
-/// A core's whole run, the turns that were counted and those that weren't, is a log; and one in which no opening is refused for want of memory.
+/// A core's whole run, the turns that were counted and those that weren't, is a log; and one in which no opening is refused as out of memory.
 pub fn cores_go()
     ensures goes { CoresGo }
     ensures amply { CoresGoAmply }

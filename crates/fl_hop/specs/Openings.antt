@@ -21,7 +21,7 @@ abbrev pub if_used_up : Option ℕ → Option HopFault
 if_used_up None = Some UsedUp
 if_used_up (Some next) = None
 
--- why no circuit is opened on link l for a binding's client, if it isn't for want of memory
+-- why no circuit is opened on link l for a binding's client, out of memory aside
 abbrev pub open_fault : TheCircuits → ℕ → ℕ → Option HopFault
 open_fault t l binding =
     if nat_lt l (length t.links) then (if stands t binding then Some Astray else if_used_up (next_own t l)) else Some NoLink
@@ -31,7 +31,7 @@ abbrev pub opened : TheCircuits → LinkId → Circuit → ℕ → TheCircuits
 opened t l c binding =
     with_entry (after_opening t l.0) binding false (End (record { binding = binding; side = Client })) (Link l c)
 
--- why the neighbour's opening c on link l isn't passed on over link m, if it isn't for want of memory
+-- why the neighbour's opening c on link l isn't passed on over link m, out of memory aside
 abbrev pub pass_fault : TheCircuits → ℕ → ℕ → ℕ → ℕ → Option HopFault
 pass_fault t l c m binding =
     if is_next (next_due t l) c then
@@ -45,7 +45,7 @@ pass_fault t l c m binding =
 abbrev pub passed_on : TheCircuits → LinkId → Circuit → LinkId → Circuit → ℕ → TheCircuits
 passed_on t l c m d binding = with_entry (after_opening (after_taking t l.0) m.0) binding false (Link l c) (Link m d)
 
--- why the neighbour's opening c on link l doesn't arrive here, if it isn't for want of memory
+-- why the neighbour's opening c on link l doesn't arrive here, out of memory aside
 abbrev pub arrive_fault : TheCircuits → ℕ → ℕ → ℕ → Option HopFault
 arrive_fault t l c binding =
     if is_next (next_due t l) c then (if stands t binding then Some Astray else None) else Some Astray
@@ -69,6 +69,6 @@ pub record IsWaiting (t : TheCircuits) (l n : ℕ) (hop : Hop) : Type 0 where
 abbrev pub answered : TheCircuits → LinkId → Circuit → Hop → TheCircuits
 answered t l c hop = with_entry t hop.binding true hop.way (Link l c)
 
--- a refusal: the fault that is due, or want of memory where none is
+-- a refusal: the fault that is due, or out of memory where none is
 abbrev pub IsRefusal : Option HopFault → HopFault → Type 0
 IsRefusal due fault = (due ≡ Some fault) ⊎ ((due ≡ None) × (fault ≡ Memory))

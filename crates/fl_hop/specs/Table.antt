@@ -77,7 +77,7 @@ without_entry t a b = with_hops t (put_at b None (put_at a None t.hops))
 abbrev pub link_of : TheCircuits → ℕ → Option ℕ
 link_of t core = position (λ (link : LinkState). link.neighbour.0 == core) t.links
 
--- why no link to a core is made, if it isn't for want of memory
+-- why no link to a core is made, out of memory aside
 abbrev pub link_fault : TheCircuits → ℕ → Option HopFault
 link_fault t core =
     if core == t.core then Some NoLink

@@ -94,7 +94,7 @@ impl Circuits {
     ///
     /// # Errors
     /// The link would go to the core itself, or to one that a link goes to already (E73); there are 15 links (E94);
-    /// want of memory (E99). Nothing has changed then.
+    /// out of memory (E99). Nothing has changed then.
     pub fn add_link(&mut self, neighbour: CoreId) -> Result<LinkId, HopFault>
         ensures added { OnOk result (self.new ≡ with_link self.old neighbour) }
         ensures link { IfOk result (λ link. link.0 ≡ length self.old.links) }

@@ -21,7 +21,7 @@ impl Circuits {
     ///
     /// # Errors
     /// There is no such link (E73); an entry of the binding stands here (E67); this core has opened 1,023 circuits
-    /// there (E74); want of memory (E99). Nothing has changed then.
+    /// there (E74); out of memory (E99). Nothing has changed then.
     pub fn open(&mut self, link: LinkId, binding: usize) -> Result<Circuit, HopFault>
         ensures may { OnOk result (open_fault self.old link.0 binding ≡ None) }
         ensures next { IfOk result (λ c. next_own self.old link.0 ≡ Some c.0) }
@@ -60,7 +60,7 @@ impl Circuits {
     ///
     /// # Errors
     /// The number isn't the neighbour's next there, or an entry of the binding stands here (E67); the way on isn't another
-    /// link of this core (E73); this core has opened 1,023 circuits there (E74); want of memory (E99). Nothing has
+    /// link of this core (E73); this core has opened 1,023 circuits there (E74); out of memory (E99). Nothing has
     /// changed then.
     pub fn pass_on(
         &mut self,
@@ -103,7 +103,7 @@ impl Circuits {
     /// server's end.
     ///
     /// # Errors
-    /// The number isn't the neighbour's next there, or an entry of the binding stands here (E67); want of memory (E99).
+    /// The number isn't the neighbour's next there, or an entry of the binding stands here (E67); out of memory (E99).
     /// Nothing has changed then.
     pub fn arrive(&mut self, link: LinkId, circuit: Circuit, binding: usize) -> Result<(), HopFault>
         ensures may { OnOk result (arrive_fault self.old link.0 circuit.0 binding ≡ None) }

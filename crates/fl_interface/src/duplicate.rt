@@ -10,7 +10,7 @@ impl Interface {
     /// An equal interface, in memory of its own.
     ///
     /// # Errors
-    /// Want of memory (E99).
+    /// Out of memory (E99).
     pub fn duplicate(&self, alloc: Global) -> Result<Interface, AllocError>
         ensures equal { IfOk result (λ copy. interface_of copy ≡ interface_of self.now) }
     {

@@ -1,4 +1,5 @@
--- What was read of a cores file, as the definitions have it.
+-- What was read of a cores file, as the definitions have it. Public contracts name what a file and a text come to (`file_from`,
+-- `outcome_of`); of `reading_of` the code alone speaks.
 use Rattle.std.specs.Prelude.{map}
 use Rattle.fl_lines.specs.Events.{event_of}
 use Rattle.fl_lines.specs.Told.{names_of}

@@ -1,4 +1,5 @@
--- What the code keeps of a cores file, as the definitions have it.
+-- What the code keeps of a cores file, as the definitions have it. Public contracts name jobs and wishes (`job_of`, `wish_of`); the rest
+-- is the code's own.
 use Rattle.std.specs.Prelude.{map}
 use Rattle.fl_interface.specs.Interface.{interface_of}
 use Rattle.fl_value.specs.Value.{call_of}

@@ -130,7 +130,7 @@ impl<'a> Draft<'a> {
         (self.setup, self.jobs)
     }
 
-    // Takes up what a line asks. Where it stops, the draft is of no more use: after want of memory it may have a part of what was asked.
+    // Takes up what a line asks. Where it stops, the draft is of no more use: where memory is refused it may have a part of what was asked.
     pub(crate) fn take(&mut self, event: Event<'a>) -> Result<(), Stop>
         ensures comes { Comes result (draft_of self.new) (takes (event_of event.entry) (draft_of self.old)) }
     {

@@ -24,7 +24,7 @@ use std::alloc::{AllocError, Global};
 /// Appends the line that tells of a refused line, and of the fault.
 ///
 /// # Errors
-/// Want of memory; `out` is as it was then.
+/// Out of memory; `out` is as it was then.
 pub fn print_refusal(
     alloc: Global,
     out: &mut Vec<u8>,
@@ -296,7 +296,7 @@ fn put_report(
 /// Appends the text of a report, by the names of its cores file: all of it or nothing.
 ///
 /// # Errors
-/// Want of memory; `out` is as it was then.
+/// Out of memory; `out` is as it was then.
 pub fn print_report(
     alloc: Global,
     out: &mut Vec<u8>,

@@ -194,7 +194,7 @@ fn lines_in(item: &Item<'_>) -> usize
     }
 }
 
-// A line that is refused; without a number it is want of memory.
+// A line that is refused, or, without a number, out of memory.
 fn refuse<'a>(line: usize, stop: Stop) -> Result<CoresText<'a>, AllocError>
     ensures refused { IfOk result (λ t. (number : ℕ) × (stop ≡ Stop.Refused number) × (outcome_of t ≡ refused_at line number)) }
 {
@@ -222,7 +222,7 @@ fn read_items<'a>(alloc: Global, text: &'a [u8]) -> Result<CoresText<'a>, AllocE
 /// Reads a cores file: what it sets up and hands in, or its first line that is refused.
 ///
 /// # Errors
-/// Want of memory alone: a refused line is a result.
+/// Out of memory alone: a refused line is a result.
 pub fn read_cores_text<'a>(alloc: Global, text: &'a [u8]) -> Result<CoresText<'a>, AllocError>
     ensures reads { IfOk result (λ t. Reads text.now (outcome_of t)) }
 {

@@ -40,7 +40,7 @@ pub struct Plans {
 /// The plan of an interface.
 ///
 /// # Errors
-/// Want of memory (E99).
+/// Out of memory (E99).
 pub fn plan(alloc: Global, interface: &Interface, plan: PlanNo) -> Result<Plans, AllocError>
     ensures interface { IfOk result (λ p. interface_of p.interface ≡ interface_of interface.now) }
     ensures plan { IfOk result (λ p. p.plan ≡ plan) }

@@ -99,7 +99,7 @@ fault_number (faults.LargeNumber at) = 5
 fault_number faults.LongText = 6
 fault_number faults.Memory = 99
 
--- where a fault that the lexer answers stands; want of memory stands at no place
+-- where a fault that the lexer answers stands; out of memory stands at no place
 abbrev pub fault_offset : LexFault → Option ℕ
 fault_offset (faults.NoToken at) = Some at
 fault_offset (faults.OpenComment at) = Some at

@@ -29,7 +29,7 @@ pub enum LexFault {
     /// E6: a text of more than 65,536 bytes, found before all other faults, at that offset.
     #[error("the text has more than 65,536 bytes")]
     LongText,
-    /// E99: want of memory.
+    /// E99: out of memory.
     #[error("out of memory")]
     Memory,
 }
@@ -50,7 +50,7 @@ impl LexFault {
         }
     }
 
-    /// The byte offset where the fault stands; none for want of memory.
+    /// The byte offset where the fault stands; none where memory is refused.
     pub fn offset(&self) -> Option<usize>
         ensures offset { result ≡ fault_offset self.now }
     {

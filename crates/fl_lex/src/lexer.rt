@@ -20,7 +20,7 @@ pub const MAX_TEXT: usize = 65_536;
 ///
 /// # Errors
 ///
-/// E6 before all others, then the first of E1 to E5 in the text; E99 for want of memory.
+/// E6 before all others, then the first of E1 to E5 in the text; E99 where memory is refused.
 pub fn lex(alloc: Global, text: &[u8]) -> Result<Tokens<'_>, LexFault>
     ensures outcome { IfSome (outcome_of result) (λ found. Lexes text.now found) }
     ensures tokens { IfOk result (λ tokens. AreTokensIn text.now (tokens_of tokens)) }

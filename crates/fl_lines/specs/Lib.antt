@@ -1,3 +1,6 @@
+-- The public promises rest on Words, Commands and Grammar (which line is which command), Items (lines and blocks), Names, Asked and
+-- Lines (what a line asks), Answers and Faults, and on what the code's own types stand for (Events, Tables, Told, Views). Of Reading
+-- they name the rows of commands; that the rows are the grammar's is proved.
 pub mod Words
 pub mod Commands
 pub mod Grammar

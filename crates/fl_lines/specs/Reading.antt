@@ -1,5 +1,5 @@
--- How a line is read, row by row of the table: what the parts of the code tell. That this is what the grammar says
--- is proved; a reader may skip it.
+-- How a line is read, row by row of the table: what the parts of the code tell. Of this file public contracts name `command_by`, where
+-- the words behind a verb are read. That it is what the grammar says is proved; a reader of what scripts promise may skip it.
 use Rattle.std.specs.Prelude.{ℕ, ◌-◌, if◌then◌else◌, List, length, take, drop}
 use Rattle.std.specs.Prelude.{Option, Some, None, option_map, codes}
 use Rattle.std.specs.Str.{bytes_eq}

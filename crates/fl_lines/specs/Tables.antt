@@ -1,4 +1,4 @@
--- A table's names, in order.
+-- A table's names, in order, by which public contracts speak of `NameTable`.
 use Rattle.std.specs.Prelude.{ℕ, List, map}
 use Rattle.fl_lines.specs.declared.table.NameTable.{NameTable}
 

@@ -1,4 +1,4 @@
--- The names that the code keeps, and what it tells of a command.
+-- The names that the code keeps, and what it tells of a command, by which public contracts speak of `Names`.
 use Rattle.std.specs.Prelude.{◌≡◌, ◌⊎◌, None, Result, Ok, Err, map}
 use Rattle.fl_lines.specs.declared.event.Asked.{Asked as RustAsked}
 use Rattle.fl_lines.specs.declared.event.Naming.{Naming}

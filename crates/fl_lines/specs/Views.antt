@@ -1,4 +1,5 @@
--- What the code reads of a line, as the definitions have it.
+-- What the code reads of a line, as the definitions have it: for which command, line or item one of the code's stands, in public
+-- contracts too.
 use Rattle.fl_lines.specs.declared.command.EndName.{EndName as RustEndName}
 use Rattle.fl_lines.specs.declared.command.BackEnd.{BackEnd as RustBackEnd}
 use Rattle.fl_lines.specs.declared.command.BackEnd.TheVariants.{Local, Ump, Hop}

@@ -389,7 +389,7 @@ fn print_refused(out: &mut Vec<u8>, number: usize) -> Result<(), AllocError>
 /// Appends the text of an answer, without a line feed, by the names that the script has given.
 ///
 /// # Errors
-/// Want of memory; `out` is as it was then.
+/// Out of memory; `out` is as it was then.
 pub fn print_answer(
     alloc: Global,
     out: &mut Vec<u8>,
@@ -431,7 +431,7 @@ fn put_fault(out: &mut Vec<u8>, number: u8, offset: usize) -> Result<(), AllocEr
 /// Appends `refused En at OFFSET`, for a fault of an interface's text.
 ///
 /// # Errors
-/// Want of memory; `out` is as it was then.
+/// Out of memory; `out` is as it was then.
 #[tactic(auto, using(crate::proofs::Kept::taken_back))]
 pub fn print_fault(out: &mut Vec<u8>, number: u8, offset: usize) -> Result<(), AllocError>
     ensures printed { OnOk result (out.new.items ≡ out.old.items ++ fault_text number offset) }

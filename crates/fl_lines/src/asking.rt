@@ -43,7 +43,7 @@ impl Names {
     /// message. Its arguments stand in the memory of `room`, whose own values are dropped.
     ///
     /// # Errors
-    /// The text is none (E90), the name unknown (E92), or there is no such message (E41). Want of memory (E99).
+    /// The text is none (E90), the name unknown (E92), or there is no such message (E41). Out of memory (E99).
     #[inline(always)]
     pub fn call_at(
         &self,
@@ -63,7 +63,7 @@ impl Names {
     /// The call of a line, from what stands behind its first word. `room` is as for [`Names::call_at`].
     ///
     /// # Errors
-    /// It is no such line, or no call (E90); the name is unknown (E92); there is no such message (E41). Want of memory (E99).
+    /// It is no such line, or no call (E90); the name is unknown (E92); there is no such message (E41). Out of memory (E99).
     #[inline(always)]
     pub fn call_line(&self, rest: &[u8], room: Vec<Value>) -> Result<(EndId, Call), LineFault>
         ensures tells { LineTells (names_of self.now) (command_by Verb.Call rest.now) (told_as a_call result) }

@@ -334,7 +334,7 @@ impl Names {
     ///
     /// # Errors
     /// The first that applies, of: the text of a call is none (E90); a name is unknown or, of a dispatcher or a binding
-    /// that is to be made, taken (E92); the interface of the end has no such message (E41). Want of memory (E99).
+    /// that is to be made, taken (E92); the interface of the end has no such message (E41). Out of memory (E99).
     pub fn ask<'a>(&self, command: Command<'a>) -> Result<Asked<'a>, LineFault>
         ensures asks { AsksAs (names_of self.now) (command_of command.entry) result }
         ensures new { IfOk result (λ a. IsNew (names_of self.now) a.naming) }
@@ -380,7 +380,7 @@ impl Names {
     /// What a block asks whose text stands for an interface.
     ///
     /// # Errors
-    /// The interface's name is taken (E92). Want of memory (E99).
+    /// The interface's name is taken (E92). Out of memory (E99).
     pub fn ask_interface(
         &self,
         interface: Interface,
@@ -459,7 +459,7 @@ impl Names {
     /// Records the name that an event gives, if it was answered `ok`.
     ///
     /// # Errors
-    /// Want of memory; the names are as they were.
+    /// Out of memory; the names are as they were.
     pub fn take_up(&mut self, naming: Naming<'_>, answer: &Answer) -> Result<(), AllocError>
         requires { IsNew (names_of self.old) naming }
         ensures taken { OnOk result (names_of self.new

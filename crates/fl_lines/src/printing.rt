@@ -165,7 +165,7 @@ fn put_command(alloc: Global, out: &mut Vec<u8>, command: Command<'_>) -> Result
 /// Appends a command, as a line without its end: all of it or nothing.
 ///
 /// # Errors
-/// Want of memory; `out` is as it was then.
+/// Out of memory; `out` is as it was then.
 pub fn print_command(
     alloc: Global,
     out: &mut Vec<u8>,

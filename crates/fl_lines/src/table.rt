@@ -114,7 +114,7 @@ impl NameTable {
     /// Puts a new name at the end.
     ///
     /// # Errors
-    /// Want of memory; the table is as it was.
+    /// Out of memory; the table is as it was.
     pub fn add(&mut self, alloc: Global, name: &[u8]) -> Result<(), AllocError>
         requires { place_of name.now (table_of self.old) ≡ None }
         ensures added { OnOk result (table_of self.new ≡ table_of self.old ++ name.now ∷ []) }

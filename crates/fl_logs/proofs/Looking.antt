@@ -250,7 +250,7 @@ module _ {S : Type 0} (puts takes : S → Look → S → Type 0) where
   examines_looks c a (Ok (turn.Refused f)) b h = absurd h
   examines_looks c a (Err e) b h = absurd h
 
-  -- what a turn took; one that is answered for want of memory took nothing
+  -- what a turn took; where memory was refused it took nothing
   pub turn_looks : (picked : Pick) (kind : Kind) (a : Moment S) (answer : TurnAnswer) (b : Moment S) → (h : LooksAt takes picked kind a (Ok answer) b)
       → Bears [] (turn_took takes picked kind a answer b h) a.side b.side
   turn_looks (pick.Pending c) kind a (turn.Handle call) b h = one_looks kind c.0 a (receive.Handle call) b h

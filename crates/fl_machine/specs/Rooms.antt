@@ -1,4 +1,4 @@
--- Rooms for the fragments of calls under way at many places, all in one block.
+-- Working file: rooms for the fragments of calls under way at many places, all in one block.
 use Rattle.std.specs.Prelude.{◌≡◌, ◌≢◌, ℕ, ◌+◌, ◌≤◌, ◌⊎◌, List, map, length, take, drop, slice_get, slice_set, Option, Some, None}
 use Rattle.std.specs.List.{sum_by}
 use Rattle.std.specs.Vec.{vec_capacity}

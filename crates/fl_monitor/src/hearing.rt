@@ -277,7 +277,7 @@ fn remove(circuits: &mut Circuits, link: LinkId, circuit: Circuit) -> Result<(),
 /// Makes of the table what a message that was heard on a link makes of it.
 ///
 /// # Errors
-/// Want of memory for one more entry: all else was looked for when it was found what the message comes to. Nothing has
+/// Out of memory for one more entry: all else was looked for when it was found what the message comes to. Nothing has
 /// changed then.
 pub(crate) fn change(
     circuits: &mut Circuits,

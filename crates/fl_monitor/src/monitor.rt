@@ -117,7 +117,7 @@ impl Monitor {
     /// Adds a link to another core, with an outbox that has room for all that may wait there.
     ///
     /// # Errors
-    /// The link would go to the core itself, or to one that a link goes to already (E73); there are 15 links (E94); want of
+    /// The link would go to the core itself, or to one that a link goes to already (E73); there are 15 links (E94); out of
     /// memory (E99). Nothing has changed then.
     pub fn add_link(&mut self, neighbour: CoreId) -> Result<LinkId, HopFault>
         ensures circuits { OnOk result (self.new.circuits ≡ with_link self.old.circuits neighbour) }
@@ -183,7 +183,7 @@ impl Monitor {
     ///
     /// # Errors
     /// There is no such link (E73); an entry of the binding stands here (E67); this core has opened 1,023 circuits there
-    /// (E74); 64 messages wait there (E75); want of memory (E99). Nothing has changed then.
+    /// (E74); 64 messages wait there (E75); out of memory (E99). Nothing has changed then.
     pub fn start_open(&mut self, link: LinkId, opening: &Opening) -> Result<Circuit, MonitorFault>
         ensures opens { Opens link opening.now self.old result self.new }
         ensures later { OnOk result (Later self.old.circuits self.new.circuits) }
@@ -209,7 +209,7 @@ impl Monitor {
     /// is made.
     ///
     /// # Errors
-    /// The message is out of its place (E67); 64 messages wait in the outbox that is needed (E75); want of memory (E99).
+    /// The message is out of its place (E67); 64 messages wait in the outbox that is needed (E75); out of memory (E99).
     /// Nothing has changed then.
     pub fn on_message(
         &mut self,

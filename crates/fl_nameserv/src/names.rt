@@ -51,7 +51,7 @@ impl Names {
     /// reference: 1 for the first, and one more for each further one.
     ///
     /// # Errors
-    /// The name is taken (E71); want of memory (E99), also past 2^32 - 1 services. Nothing has
+    /// The name is taken (E71); out of memory (E99), also past 2^32 - 1 services. Nothing has
     /// changed then.
     pub fn register(&mut self, name: &[u8], service: Service) -> Result<IRef, NameFault>
         ensures added { OnOk result (self.new ≡ with_registered self.old name.now service) }
@@ -119,7 +119,7 @@ impl Names {
     /// An equal table, in memory of its own.
     ///
     /// # Errors
-    /// Want of memory (E99).
+    /// Out of memory (E99).
     pub fn duplicate(&self) -> Result<Names, AllocError>
         ensures equal { IfOk result (λ copy. copy ≡ self.now) }
     {

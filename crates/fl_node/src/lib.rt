@@ -7,7 +7,7 @@
 //! Contract for the layers above: a `Core` is the record of `specs/View.antt`. What is known of it at any time stands in `specs/Sound.antt`: each end is
 //! found by its name, and has a wire of the kind that the board knows. One event is one method, and one exact relation between the core before and
 //! after, by cases on the answer, over the relation of the side that was lent: `specs/Making.antt` for what is made, `specs/Ends.antt` for ends and turns,
-//! `specs/Links.antt` and `specs/Hearing.antt` for links. After want of memory the core is as it was.
+//! `specs/Links.antt` and `specs/Hearing.antt` for links. Where memory is refused the core is as it was.
 //!
 //! A fragment that stands first on a link is forwarded in two steps: [`Core::look`] says what it needs; then it is passed on by [`fl_hop::move_on`],
 //! arrives for an end ([`Core::arrive`]), or is heard by the monitor ([`Core::hear`]).

@@ -154,7 +154,7 @@ impl Core {
     /// One link more, to another core, over this side of a ring.
     ///
     /// # Errors
-    /// The link would go to the core itself, or to one that a link goes to already (E73); there are 15 links (E94); want of memory (E99). The core is as it
+    /// The link would go to the core itself, or to one that a link goes to already (E73); there are 15 links (E94); out of memory (E99). The core is as it
     /// was then.
     pub fn add_link(&mut self, neighbour: CoreId, side: usize) -> Result<LinkId, HopFault>
         ensures link { IfOk result (λ link. link.0 ≡ length self.old.lanes) }

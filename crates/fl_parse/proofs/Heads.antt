@@ -65,7 +65,7 @@ pub on_memory : {X P : Type 0} (r : Result X Stop) → P → IfErr r (λ stop. s
 on_memory (Ok x) p = tt
 on_memory (Err e) p = λ _. p
 
--- the fault that a stop comes to is want of memory where the stop is
+-- the fault that a stop comes to is out of memory where the stop is
 pub memory_stop : (e : Stop) (end : ℕ) → stop_fault e end ≡ faults.Memory → e ≡ stops.Memory
 memory_stop stops.Memory end q = refl
 memory_stop (stops.Unexpected rest) end q = absurd cc

@@ -25,7 +25,7 @@ fault_outcome (NotExpected at) = Some (parse_fault 7 at)
 fault_outcome (AfterInterface at) = Some (parse_fault 8 at)
 fault_outcome Memory = None
 
--- the outcome that was answered; none for want of memory
+-- the outcome that was answered; none where memory is refused
 abbrev pub outcome_of : Result Tree ParseFault → Option ParseOutcome
 outcome_of (Ok tree) = Some (parsed (tree_of tree))
 outcome_of (Err fault) = fault_outcome fault

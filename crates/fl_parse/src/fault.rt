@@ -16,7 +16,7 @@ pub enum ParseFault {
     /// E8: a token after the interface, from its start.
     #[error("this stands after the interface")]
     AfterInterface(usize),
-    /// E99: want of memory.
+    /// E99: out of memory.
     #[error("out of memory")]
     Memory,
 }
@@ -33,7 +33,7 @@ impl ParseFault {
         }
     }
 
-    /// The byte offset where the fault stands; none for want of memory.
+    /// The byte offset where the fault stands; none where memory is refused.
     pub fn offset(&self) -> Option<usize>
         ensures offset { result ≡ fault_offset self.now }
     {

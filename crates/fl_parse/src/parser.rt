@@ -339,7 +339,7 @@ fn fault_of(stop: Stop, end: usize) -> ParseFault
 /// # Errors
 ///
 /// E7 at the first token with which the tokens so far begin no interface, or at the text's end where
-/// they only begin one; E8 at a token after a whole interface; E99 for want of memory, which is met only behind the
+/// they only begin one; E8 at a token after a whole interface; E99 where memory is refused, which is met only behind the
 /// interface's opening brace.
 pub fn parse<'a>(alloc: Global, tokens: &Tokens<'a>) -> Result<Tree<'a>, ParseFault>
     ensures outcome { IfSome (outcome_of result) (λ found. Parses (tokens_of tokens.now) found) }

@@ -1,3 +1,5 @@
+-- Here is no code: public promises of the crates above rest on all of these, those of the laws (`fl_laws`) first. `src/lib.rt` says in
+-- which order they are read.
 pub mod Given
 pub mod Events
 pub mod Calls

@@ -119,7 +119,7 @@ impl OneDuo {
     }
 
     /// Forgets what this side learned by looks: `known` is what it knew before them. So a caller that looked and then is
-    /// refused for want of memory leaves the ring as it was (`forgets_looks`).
+    /// refused as out of memory leaves the ring as it was (`forgets_looks`).
     pub fn forget(&mut self, which: Which, known: u64)
         requires before { MayForget self.old.size (side_of which self.old) known }
         ensures forgotten { self.new ≡ knowing which self.old known }

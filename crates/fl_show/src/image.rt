@@ -15,8 +15,8 @@ use std::alloc::Global;
 /// The image, under plan 2, of the interface that a text stands for. Every text that is accepted has one.
 ///
 /// # Errors
-/// [`ShowFault::Refused`] with the text's first fault where it is no interface; [`ShowFault::Memory`] for want
-/// of memory, which is answered only of texts of at most 65,536 bytes.
+/// [`ShowFault::Refused`] with the text's first fault where it is no interface; [`ShowFault::Memory`] where
+/// memory is refused, which is answered only of texts of at most 65,536 bytes.
 pub fn compile_text(alloc: Global, text: &[u8]) -> Result<Vec<u8>, ShowFault<'_>>
     ensures image { IfOk result (λ v. (i : TheInterface) × StandsFor text.now i × IsImageOf v.items Two i) }
     ensures refused { IfErr result (λ e. IsRefusalOf text.now e) }

@@ -18,8 +18,8 @@ const LONGEST_EXCERPT: usize = 40;
 /// The interface that a text stands for. It has an image.
 ///
 /// # Errors
-/// The text's first fault: one of its bytes, else of its tokens, else of its declarations; or E99 for want of
-/// memory, behind what its step finds before it takes memory.
+/// The text's first fault: one of its bytes, else of its tokens, else of its declarations; or E99 where
+/// memory is refused, behind what its step finds before it takes memory.
 pub fn read_interface(alloc: Global, text: &[u8]) -> Result<Interface, TextFault>
     ensures interface { IfOk result (λ i. StandsFor text.now (interface_of i)) }
     ensures fault { IfErr result (λ e. IsFaultOf text.now e) }

@@ -38,8 +38,8 @@ fn starts_as_image(content: &[u8]) -> bool
 /// The plan table, under plan 2, of the interface that a text stands for.
 ///
 /// # Errors
-/// [`ShowFault::Refused`] with the text's first fault where it is no interface; [`ShowFault::Memory`] for want
-/// of memory, which is answered only of texts of at most 65,536 bytes.
+/// [`ShowFault::Refused`] with the text's first fault where it is no interface; [`ShowFault::Memory`] where
+/// memory is refused, which is answered only of texts of at most 65,536 bytes.
 pub fn show_text(alloc: Global, text: &[u8]) -> Result<Vec<u8>, ShowFault<'_>>
     ensures table { IfOk result (λ t. ShowsText text.now t.items) }
     ensures refused { IfErr result (λ e. IsRefusalOf text.now e) }

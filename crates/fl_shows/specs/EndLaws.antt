@@ -1,6 +1,6 @@
 -- The laws of ends: whatever an end is asked, where it was the picture of the machine's end before, it is the
 -- picture of what the machine makes of that, and it answers as the machine does. No event of the machine is
--- refused for want of memory: an end that is stays as it was.
+-- refused as out of memory: an end that is stays as it was.
 use Rattle.std.specs.Prelude.{ℕ, ◌≡◌, ◌≢◌, ◌≤◌, ◌&&◌, Bool, true, false, length, slice_get, Option, Some, None, Result, Ok, Err}
 use Rattle.fl_base.specs.declared.fragment.Frag.{Frag}
 use Rattle.fl_base.specs.declared.identity.EndId.{EndId}

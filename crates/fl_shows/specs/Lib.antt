@@ -1,3 +1,4 @@
+-- The public promises rest on all of these: when parts are pictures (Fragments, Ends, Queues, Rings, Cores), and the laws (the files `..Laws`).
 pub mod Fragments
 pub mod Ends
 pub mod Queues

@@ -1,4 +1,5 @@
--- A core as its thread is given it, and what comes of it, as the code has them.
+-- A core as its thread is given it, and what comes of it, as the code has them. The contracts of `run_each` and `tell` name it; no
+-- promise of a crate above rests on it by itself.
 use Rattle.std.specs.Prelude.{ℕ, ◌≡◌, ◌<◌, Bool, List, [], ◌∷◌, length}
 use Rattle.fl_node.specs.Sound.{IsCore}
 use Rattle.fl_running.specs.declared.job.Job.{Job}

@@ -1,4 +1,5 @@
--- What stays where it is while the calls of a report are moved into it.
+-- What stays where it is while the calls of a report are moved into it. The contract of `tell` names `HavePlaces` and `with_jobs`; no
+-- promise of a crate above rests on this file by itself.
 use Rattle.std.specs.Prelude.{ℕ, ◌≡◌, ◌≢◌, ◌≤◌, ◌<◌, List, map, slice_get, Some}
 use Rattle.fl_base.specs.declared.identity.EndId.{EndId}
 use Rattle.fl_node.specs.View.{slot_of}

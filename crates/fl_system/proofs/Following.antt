@@ -163,7 +163,7 @@ forward_kept law w w2 w3 n m l known knows o h a is r forgets =
 
 -- ---- a message isn't heard
 
--- after want of memory all is as it was
+-- where memory is refused all is as it was
 pub unheard_same : (w w2 : TheWorld) (n m : ℕ) (o : Offers) (l : LinkId) (f : Frag) → OverSide w n m (HearsWith (incoming o l f) (Err Memory)) w2 → w2 ≡ w
 unheard_same w w2 n m o l f h =
     h.rest

@@ -57,7 +57,7 @@ front_read w base same m i at there f h read value =
     h read (subst (λ (x : TheWorld). slice_get x.rings (ring_at m) ≡ Some read) same (subst (λ (j : ℕ). slice_get base.rings j ≡ Some read) at
     (stands base.rings i read read (ring_read w base same m i at there) value refl)))
 
--- what came of a want of memory is no answer
+-- what comes where memory is refused is no answer
 pub no_answer : {X E : Type 0} (P : X → Type 0) (r : Result X E) → IsErr r → IfOk r P
 no_answer P (Ok x) h = absurd (false≢true h)
 no_answer P (Err e) h = tt

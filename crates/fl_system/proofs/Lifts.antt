@@ -141,7 +141,7 @@ pub on_err_both : {X E : Type 0} (P Q R : Type 0) (r : Result X E) → (P → Q 
 on_err_both P Q R (Ok x) f h k = tt
 on_err_both P Q R (Err e) f h k = f h k
 
--- an outcome that is want of memory, and what is kept then
+-- an outcome that is out of memory, and what is kept then
 pub kept_by : {X Y E F : Type 0} (P : Type 0) (o : Result X E) (e : E) (r : Result Y F) → OnErr r (o ≡ Err e) → OnErr o P → OnErr r P
 kept_by P o e (Ok x) h k = tt
 kept_by P o e (Err f) h k = on_err P o k e h

@@ -122,7 +122,7 @@ closed_by a w base same h = ap (λ (x : TheWorld). record x { may_set_cores = fa
 
 -- ---- what holds of an outcome
 
--- what holds after want of memory
+-- what holds where memory is refused
 pub whichever : {X E : Type 0} (P : Type 0) (r : Result X E) → P → OnErr r P
 whichever P (Ok x) h = tt
 whichever P (Err e) h = h

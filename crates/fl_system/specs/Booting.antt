@@ -61,7 +61,7 @@ Stands c w = (has_bad_cores c ≡ false) × Passes (start_with c.cores) c.setup 
 abbrev pub AcceptsAll : TheConfig → Type 0
 AcceptsAll c = (has_bad_cores c ≡ false) × (list_all passes (answers_to (start_with c.cores) c.setup) ≡ true)
 
--- why there is none: the number of cores, at place 0; the set-up's first refused event; or want of memory, of which the machine knows nothing
+-- why there is none: the number of cores, at place 0; the set-up's first refused event; or out of memory, of which the machine knows nothing
 abbrev pub IsFaultOf : TheConfig → BootFault → Type 0
 IsFaultOf c (Refused number place) =
     ((has_bad_cores c ≡ true) × (number ≡ 94) × (place ≡ 0)) ⊎ ((has_bad_cores c ≡ false) × Stops (start_with c.cores) c.setup number place)

@@ -76,7 +76,7 @@ impl World {
     /// A copy of the program of an interface.
     ///
     /// # Errors
-    /// Want of memory.
+    /// Out of memory.
     pub(crate) fn copy_of(&self, interface: usize) -> Result<Program, AllocError>
         requires { interface < length self.now.programs }
         ensures copy { IfOk result (λ copy. IsCopyOf interface self.now copy) }
@@ -87,7 +87,7 @@ impl World {
     /// An end of an interface, that nothing happened to; it is bound.
     ///
     /// # Errors
-    /// Want of memory.
+    /// Out of memory.
     pub(crate) fn new_end(&self, interface: usize) -> Result<End, AllocError>
         requires { interface < length self.now.programs }
         ensures end { IfOk result (λ s. IsNewEnd interface self.now s) }
@@ -155,7 +155,7 @@ impl World {
     /// another interface (E72).
     ///
     /// # Errors
-    /// Want of memory.
+    /// Out of memory.
     #[inline(never)]
     pub(crate) fn bind(
         &mut self,

@@ -92,7 +92,7 @@ impl World {
     /// A world of so many cores, after these events. If they only make things, but no circuit, the world may be taken apart ([`World::into_parts`]).
     ///
     /// # Errors
-    /// [`BootFault`]: 94 at place 0 where the number of cores isn't 1 to 16; else the first event that is refused; or want of memory.
+    /// [`BootFault`]: 94 at place 0 where the number of cores isn't 1 to 16; else the first event that is refused; or out of memory.
     pub fn boot_by(alloc: Global, cores: u8, events: &[Event<'_>]) -> Result<World, BootFault>
         ensures stands { IfOk result (λ w. Stands (config_by cores events.now) w) }
         ensures refused { IfErr result (λ fault. IsFaultOf (config_by cores events.now) fault) }

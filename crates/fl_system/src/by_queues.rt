@@ -94,7 +94,7 @@ impl World {
     /// and the dispatchers places (E54).
     ///
     /// # Errors
-    /// Want of memory.
+    /// Out of memory.
     pub(crate) fn bind_by_queues(&mut self, want: Wish, slots: u32) -> Result<Answer, AllocError>
         requires few { length self.old.bindings < 1024 }
         requires client { has_dispatcher self.old (id_of want.client) ≡ true }

@@ -127,7 +127,7 @@ impl World {
     /// wait there (E75).
     ///
     /// # Errors
-    /// Want of memory.
+    /// Out of memory.
     pub(crate) fn bind_by_route(&mut self, want: Wish, cores: &[u32]) -> Result<Answer, AllocError>
         requires few { length self.old.bindings < 1024 }
         requires client { has_dispatcher self.old (id_of want.client) ≡ true }

@@ -26,7 +26,7 @@ impl World {
     /// A core forwards what stands first on its link to a neighbour.
     ///
     /// # Errors
-    /// Want of memory.
+    /// Out of memory.
     #[inline(never)]
     pub(crate) fn forward(&mut self, core: u32, neighbour: u32) -> Result<Answer, AllocError>
         ensures forwards { IfOk result (λ a. Forwards core neighbour self.old (answer_of a) self.new) }
@@ -63,7 +63,7 @@ impl World {
         self.rings[ring_at(m)].known(which_at(m))
     }
 
-    // What was seen to be ahead is followed. After want of memory the side knows what it knew before the look.
+    // What was seen to be ahead is followed. Where memory is refused the side knows what it knew before the look.
     fn follow(&mut self, n: usize, at: Lane, ahead: Ahead, known: u64) -> Result<Answer, AllocError>
         requires link { HasLink self.old.cores n at.link.0 }
         requires ring { ring_at at.side < length self.old.rings }
@@ -104,7 +104,7 @@ impl World {
         move_among(passing, &mut self.rings)
     }
 
-    // What stands first, and was seen, is heard. After want of memory the side knows what it knew before the look.
+    // What stands first, and was seen, is heard. Where memory is refused the side knows what it knew before the look.
     #[inline(never)]
     fn hear_first(
         &mut self,
@@ -129,7 +129,7 @@ impl World {
         }
     }
 
-    // A message isn't heard. After want of memory the side knows what it knew before the look.
+    // A message isn't heard. Where memory is refused the side knows what it knew before the look.
     fn leave(&mut self, m: usize, fault: LinkFault, known: u64) -> Result<Answer, AllocError>
         requires ring { ring_at m < length self.old.rings }
         requires known { fault ≡ LinkFault.Memory → MayForgetAt self.old.rings m known }

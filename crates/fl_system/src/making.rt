@@ -26,7 +26,7 @@ impl World {
     /// A world of one core, with nothing on it.
     ///
     /// # Errors
-    /// Want of memory.
+    /// Out of memory.
     pub fn new(alloc: Global) -> Result<World, AllocError>
         ensures fresh { IfOk result (λ w. w ≡ fresh_world 1) }
     {
@@ -62,7 +62,7 @@ impl World {
     /// An interface under a plan. No two have one name (E92), and there are at most 64 (E94).
     ///
     /// # Errors
-    /// Want of memory.
+    /// Out of memory.
     #[inline(never)]
     pub(crate) fn add_interface(
         &mut self,
@@ -94,7 +94,7 @@ impl World {
     /// The number of cores, before anything else is made (E93); 1 to 16 (E94).
     ///
     /// # Errors
-    /// Want of memory.
+    /// Out of memory.
     #[inline(never)]
     pub(crate) fn set_cores(&mut self, n: u32) -> Result<Answer, AllocError>
         ensures sets { IfOk result (λ a. SetsCores n self.old (answer_of a) self.new) }
@@ -113,7 +113,7 @@ impl World {
     /// A dispatcher on a core (E73). There are at most 256 (E94).
     ///
     /// # Errors
-    /// Want of memory.
+    /// Out of memory.
     #[inline(never)]
     pub(crate) fn add_dispatcher(&mut self, core: u32) -> Result<Answer, AllocError>
         ensures adds { IfOk result (λ a. AddsDispatcher core self.old (answer_of a) self.new) }
@@ -135,7 +135,7 @@ impl World {
     /// A service of a dispatcher and an interface that are there (E92), under a name of its own (E71). There are at most 256 (E94).
     ///
     /// # Errors
-    /// Want of memory.
+    /// Out of memory.
     #[inline(never)]
     pub(crate) fn export(
         &mut self,
@@ -205,7 +205,7 @@ impl World {
     /// A link between two cores that are there and have none yet (E73), over a ring of so many slots (E32).
     ///
     /// # Errors
-    /// Want of memory.
+    /// Out of memory.
     #[inline(never)]
     pub(crate) fn add_link(&mut self, a: u32, b: u32, slots: u32) -> Result<Answer, AllocError>
         ensures adds { IfOk result (λ answer. AddsLink a b slots self.old (answer_of answer) self.new) }

@@ -28,7 +28,7 @@ impl World {
     /// An end makes a call.
     ///
     /// # Errors
-    /// Want of memory.
+    /// Out of memory.
     #[inline(always)]
     pub(crate) fn call(&mut self, e: EndId, call: &Call) -> Result<Answer, AllocError>
         ensures calls { IfOk result (λ a. MakesCall e (call_of call.now) self.old (answer_of a) self.new) }

@@ -108,7 +108,7 @@ impl World {
     /// Does one event, which is lent: nothing of it is copied but what the world keeps.
     ///
     /// # Errors
-    /// Want of memory, for events that make something, make or handle calls, or hear messages. Nothing has changed.
+    /// Out of memory, for events that make something, make or handle calls, or hear messages. Nothing has changed.
     pub fn replay(&mut self, event: &Event<'_>) -> Result<Answer, AllocError>
         ensures steps { IfOk result (λ a. Steps (event_of event.now) self.old (answer_of a) self.new) }
         ensures agrees { IfOk result (λ a. StepsAlike (event_of event.now) self.old (answer_of a) self.new) }
@@ -124,7 +124,7 @@ impl World {
     /// Does one event: a step of the machine.
     ///
     /// # Errors
-    /// Want of memory, for events that make something, make or handle calls, or hear messages. Nothing has changed.
+    /// Out of memory, for events that make something, make or handle calls, or hear messages. Nothing has changed.
     pub fn step(&mut self, event: Event<'_>) -> Result<Answer, AllocError>
         ensures steps { IfOk result (λ a. Steps (event_of event.entry) self.old (answer_of a) self.new) }
         ensures agrees { IfOk result (λ a. StepsAlike (event_of event.entry) self.old (answer_of a) self.new) }
@@ -137,7 +137,7 @@ impl World {
     /// Does events in order, and gives their answers.
     ///
     /// # Errors
-    /// Want of memory. The first events were done, and no others.
+    /// Out of memory. The first events were done, and no others.
     pub fn run(&mut self, events: &[Event<'_>]) -> Result<Vec<Answer>, AllocError>
         ensures runs { IfOk result (λ answers. (s : State) → Shows self.old s
             → RunsAlike s (map event_of events.now) (map answer_of answers.items) self.new) }

@@ -47,7 +47,7 @@ impl World {
     /// A dispatcher has a turn.
     ///
     /// # Errors
-    /// Want of memory.
+    /// Out of memory.
     #[inline(always)]
     pub(crate) fn turn(&mut self, d: DispatcherId) -> Result<Answer, AllocError>
         ensures turns { IfOk result (λ a. HasTurn (id_of d) self.old (answer_of a) self.new) }

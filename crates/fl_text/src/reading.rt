@@ -23,7 +23,7 @@ pub enum TextRead {
     Fault { number: u8, offset: usize },
 }
 
-// A fault at a place; without one it is want of memory.
+// A fault at a place, or, without one, out of memory.
 fn fault_read(number: u8, offset: Option<usize>) -> Result<TextRead, AllocError>
     ensures fault { IfOk result (λ r. (at : ℕ) × (offset ≡ Some at) × (outcome_of r ≡ text_fault number at)) }
 {
@@ -57,7 +57,7 @@ fn read_tokens(alloc: Global, tokens: &Tokens<'_>) -> Result<TextRead, AllocErro
 /// the first fault.
 ///
 /// # Errors
-/// Only want of memory: a fault of the text is a result.
+/// Only out of memory: a fault of the text is a result.
 pub fn read_text(alloc: Global, text: &[u8]) -> Result<TextRead, AllocError>
     ensures means { IfOk result (λ r. TextMeans text.now (outcome_of r)) }
 {

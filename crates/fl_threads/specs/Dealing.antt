@@ -1,4 +1,4 @@
--- How what a set-up made is dealt out to stations, as the code has it.
+-- A working file, on which no public promise rests by itself: how what a set-up made is dealt out to stations, as the code has it.
 use Rattle.std.specs.Prelude.{ℕ, ◌≡◌, ◌⊎◌, ◌*◌, ◌<◌, List, length, slice_get, Some}
 use Rattle.fl_link.specs.Queue.{TheQueue}
 use Rattle.fl_ring.specs.Duo.{TheDuo}

@@ -1,4 +1,4 @@
--- How cores are made stations, each with a seat cut off everybody's, as the code has them.
+-- A working file, on which no public promise rests by itself: how cores are made stations, each with a seat cut off everybody's, as the code has them.
 use Rattle.std.specs.Prelude.{ℕ, ◌≡◌, ◌+◌, ◌-◌, ◌<◌, List, [], ◌∷◌, ◌++◌, map, length}
 use Rattle.std.specs.List.{range_with_len}
 use Rattle.fl_tally.specs.declared.board.View.{View}

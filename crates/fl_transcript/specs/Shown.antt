@@ -1,4 +1,4 @@
--- What a running script holds, as the definitions have it.
+-- A working file, on which no public promise rests by itself: what a running script holds, as the definitions have it.
 use Rattle.std.specs.Prelude.{◌≡◌, ℕ, List, ◌++◌, Result}
 use Rattle.fl_queues.specs.State.{State}
 use Rattle.fl_lines.specs.declared.event.Asked.{Asked as RustAsked}

@@ -21,14 +21,14 @@ pub trait QueueMachine {
     /// The system at its start: one core, and nothing on it.
     ///
     /// # Errors
-    /// Want of memory.
+    /// Out of memory.
     fn new(alloc: Global) -> Result<Self, AllocError>
         ensures start { IfOk result (λ m. shows m start) };
 
     /// Does one event.
     ///
     /// # Errors
-    /// Want of memory; the system shows what it showed.
+    /// Out of memory; the system shows what it showed.
     fn step(&mut self, event: Event<'_>) -> Result<Answer, AllocError>
         ensures steps { IfOk result (λ a. Steps shows self.old self.new (event_of event.entry) (answer_of a)) }
         ensures kept { OnErr result ((s : State) → shows self.old s → shows self.new s) };

@@ -138,7 +138,7 @@ fn run<M: QueueMachine, W: Write>(
 ///
 /// # Errors
 /// [`ExecFault`]: memory was refused, or a read or a write failed. What was written then is a prefix of
-/// the transcript: whole answers after want of memory, not all of it after a failed write, and nothing after
+/// the transcript: whole answers where memory is refused, not all of it after a failed write, and nothing after
 /// a failed read (`specs/CutShort.antt`). The reader then has given some of its first bytes; all of a script
 /// where a write failed (`specs/Reading.antt`).
 pub fn exec<M: QueueMachine + Drop, R: ScriptReader, W: Write>(

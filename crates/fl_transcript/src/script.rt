@@ -43,7 +43,7 @@ impl<M: QueueMachine> Script<M> {
     /// A script of which nothing was read.
     ///
     /// # Errors
-    /// Want of memory.
+    /// Out of memory.
     pub fn new(alloc: Global) -> Result<Script<M>, AllocError>
         ensures start { IfOk result (λ r. IsAt M.shows r beginning) }
     {
@@ -300,7 +300,7 @@ impl<M: QueueMachine> Script<M> {
     /// Answers an item: does what it asks, and puts its answer's line behind `out`, where it has one.
     ///
     /// # Errors
-    /// Want of memory; nothing is told of the script then.
+    /// Out of memory; nothing is told of the script then.
     pub fn part(&mut self, part: Part<'_>, out: &mut Vec<u8>) -> Result<(), AllocError>
         ensures ok { OnOk result (Answers M.shows self.old self.new out.old.items out.new.items
             (λ s. Does s (part_of part.entry))) }

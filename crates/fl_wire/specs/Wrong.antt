@@ -79,7 +79,7 @@ pub record IsWrongAt (plan : PlanNo) (i : TheInterface) (frags : List Frag) (fau
   pub wrong : IsWrong plan i (before ++ one ∷ [])
   pub first : HasFault plan i rest one fault
 
--- ---- want of memory
+-- ---- out of memory
 
 -- there is a first fragment, and its control word may begin a call
 pub record BeginsWell (i : TheInterface) (frags : List Frag) : Type 0 where
@@ -96,10 +96,10 @@ pub record BeginsAfterCalls (plan : PlanNo) (i : TheInterface) (frags : List Fra
   pub reads : Reads plan i before calls []
   pub begins : BeginsWell i rest
 
--- a fault of the fragments of the next call: want of memory comes only after the control word of the first
+-- a fault of the fragments of the next call: out of memory comes only after the control word of the first
 abbrev pub IsNextFault : PlanNo → TheInterface → List Frag → WireFault → Type 0
 IsNextFault plan i frags fault = ((fault ≡ Memory) × BeginsWell i frags) ⊎ IsWrongAt plan i frags fault
 
--- a fault of fragments: want of memory comes only after whole calls and the control word of the fragment behind them
+-- a fault of fragments: out of memory comes only after whole calls and the control word of the fragment behind them
 abbrev pub IsFirstFault : PlanNo → TheInterface → List Frag → WireFault → Type 0
 IsFirstFault plan i frags fault = ((fault ≡ Memory) × BeginsAfterCalls plan i frags) ⊎ IsWrongAt plan i frags fault

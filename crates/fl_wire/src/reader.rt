@@ -100,7 +100,7 @@ fn next_call(
 /// The first fault of the first fragment that makes the list one that no calls' fragments begin with: a
 /// reserved bit or a circuit that isn't 0 (E63), no first fragment where one is due (E60), a first
 /// fragment inside a call (E61), a message that the interface doesn't have or that changes (E62), then the first byte at
-/// fault: where nothing stands (E63), in a value (E65) or in a length (E66). Want of memory (E99): then some of the
+/// fault: where nothing stands (E63), in a value (E65) or in a length (E66). Out of memory (E99): then some of the
 /// fragments read as whole calls, and the control word of the next one may begin a call.
 pub fn read_frags(
     alloc: Global,

@@ -15,7 +15,7 @@ use fl_interface::Interface;
 use fl_value::{Call, PlanNo};
 use std::alloc::{AllocError, Global};
 
-// Fails where the reading stopped for want of memory.
+// Fails where memory was refused to the reading.
 fn had_memory(stop: Stop) -> Result<(), AllocError>
     ensures had { IfOk result (λ u. stop ≢ Memory) }
 {

@@ -83,8 +83,8 @@ bindings, and sends messages over them:
   turn e
 
 docs/SCRIPTS.md describes all commands and their answers. The script is read whole before its first line
-is run. A line that is refused, as `refused E90`, is an answer and no fault: the status is 0, or 3 for want
-of memory and 4 where a read or a write failed.";
+is run. A line that is refused, as `refused E90`, is an answer and no fault: the status is 0, or 3 where it
+ran out of memory and 4 where a read or a write failed.";
 
 const ABOUT_SHOW: &str =
     "Prints how long an interface's messages are, and where their arguments stand";

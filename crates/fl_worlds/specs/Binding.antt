@@ -192,7 +192,7 @@ pub record Begun (want : Request) (w : TheWorld) (after : TheCore) (w2 : TheWorl
   pub copy : IsCopy want program
   pub rest : w2 ≡ record (with_core w want.client.core after) { bindings = w.bindings ++ binding_for want (Some (fresh program None)) ∷ [] }
 
--- by what the core made of it; want of memory isn't an answer
+-- by what the core made of it; out of memory isn't an answer
 abbrev pub AsksBy : Request → Result ℕ OpenFault → TheWorld → TheCore → Answer → TheWorld → Type 0
 AsksBy want (Ok place) w after a w2 = (a ≡ done) × Begun want w after w2
 AsksBy want (Err (fault.Board board.Memory)) w after a w2 = ⊥

@@ -1,4 +1,5 @@
--- The public promises rest on View and Picture, on the relations of events (Making, Binding, Sending, Taking, Linking, Step), and on Apart.
+-- The public promises rest on View and Picture, on the relations of events (Making, Binding, Sending, Taking, Linking, Step), with Lending
+-- for where one happens, on Laws, and on Apart. Hearing is a working file: a law that only the proofs need.
 pub mod View
 pub mod Picture
 pub mod Lending

@@ -86,7 +86,7 @@ AcksLink core neighbour w a w2 =
 
 -- ---- a message is heard
 
--- what is answered; want of memory isn't an answer
+-- what is answered; out of memory isn't an answer
 abbrev pub IsHeard : Result MonitorAnswer LinkFault → Answer → Type 0
 IsHeard (Ok told.Full) a = a ≡ full
 IsHeard (Ok told.Done) a = a ≡ done

@@ -25,7 +25,7 @@ use Rattle.fl_worlds.specs.Lending.{AnswerAt, answer_at, Refuses, AtCore, OverQu
 
 -- ---- a call
 
--- what is answered for an end's own answer; want of memory isn't an answer
+-- what is answered for an end's own answer; out of memory isn't an answer
 abbrev pub IsCalled : Result (Unit {0}) EndFault → Answer → Type 0
 IsCalled (Ok done) a = a ≡ accepted
 IsCalled (Err Memory) a = ⊥

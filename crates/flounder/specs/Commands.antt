@@ -58,7 +58,7 @@ pub record CoresUntold (file : List ℕ) (turns : ℕ) (output : Output) (deeds 
   pub done : deeds ≡ was_read file bytes ∷ []
   pub ends : status ≡ 4
 
--- FILE was read, and nothing was put: its run came to no report, for want of memory or of a thread (3) or as a part of it is refused (2)
+-- FILE was read, and nothing was put: its run came to no report, as memory or a thread was refused (3) or as a part of it is refused (2)
 pub record CoresFailed (file : List ℕ) (output : Output) (deeds : List Deed) (status : ℕ) : Type 0 where
   pub bytes : List ℕ
   pub fault : CoresFault

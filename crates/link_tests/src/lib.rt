@@ -7,7 +7,7 @@
 //! - `hop.rt`: circuits at cores
 //!
 //! `rt try --test --fail-alloc N` runs each with its Nth allocation refused: then the tests whose names end in
-//! `without_memory` have to pass, and others end with want of memory.
+//! `without_memory` have to pass, and others end out of memory.
 #![tactic(auto)]
 
 #[cfg(test)]

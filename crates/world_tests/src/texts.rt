@@ -23,7 +23,7 @@ fn interface_in(alloc: Global, tokens: &Tokens) -> Result<Interface, AllocError>
 /// The interface of a text; none only where memory runs out.
 ///
 /// # Errors
-/// Want of memory.
+/// Out of memory.
 pub fn interface(alloc: Global, text: &[u8]) -> Result<Interface, AllocError> {
     match lex(alloc, text) {
         Ok(tokens) => interface_in(alloc, &tokens),

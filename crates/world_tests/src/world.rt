@@ -10,7 +10,7 @@
 //! - `limits.rt`: so many of a kind, and one more
 //! - `apart.rt`: a world taken apart
 //!
-//! What is refused for want of memory leaves its world as it was, and is done again. So with any one allocation refused
+//! What is refused as out of memory leaves its world as it was, and is done again. So with any one allocation refused
 //! (`rt try --test --fail-alloc N`) all tests pass. No row meets E76, plans that differ: interfaces of one name in one world are one
 //! interface with one plan, and a second is refused.
 

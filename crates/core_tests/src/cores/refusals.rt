@@ -155,7 +155,7 @@ fn is_taken_back(alloc: Global, board: &mut Board, place: usize) -> Result<bool,
 /// Whether ends are taken back so, the first and a later one.
 ///
 /// # Errors
-/// Want of memory.
+/// Out of memory.
 pub fn taken_back(alloc: Global, board: &mut Board) -> Result<bool, AllocError> {
     Ok(is_taken_back(alloc, board, 0)? && is_taken_back(alloc, board, 1)?)
 }

@@ -1,4 +1,4 @@
-//! Fragments that can't follow those before them, and want of memory where a call becomes whole.
+//! Fragments that can't follow those before them, and memory refused where a call becomes whole.
 
 use crate::endpoint::pair::{Deed, Example, Said, Step};
 use fl_base::{Circuit, Side};

@@ -11,7 +11,7 @@ fn next(monitor: &Monitor) -> Option<Circuit> {
     monitor.circuits().next(FIRST)
 }
 
-// Whether asking for a circuit was refused for want of memory and left the monitor as it was, or did its work.
+// Whether asking for a circuit was refused as out of memory and left the monitor as it was, or did its work.
 fn asks_with_little_memory(monitor: &mut Monitor) -> bool {
     let Some(path) = Path::new(LINE) else {
         return false;

@@ -144,7 +144,7 @@ fn at(cores: &mut Cores, number: u8) -> &mut Monitor {
     }
 }
 
-// Whether a core answers so where it is to ask for a circuit; want of memory ends the test.
+// Whether a core answers so where it is to ask for a circuit; out of memory ends the test.
 fn asks(
     monitor: &mut Monitor,
     link: LinkId,
@@ -197,7 +197,7 @@ pub fn sends(monitor: &mut Monitor, link: LinkId) -> bool {
     true
 }
 
-// Whether a core answers so to a message; want of memory ends the test.
+// Whether a core answers so to a message; out of memory ends the test.
 fn hears(
     monitor: &mut Monitor,
     names: &Names,

@@ -10,7 +10,7 @@ use std::alloc::{AllocError, Global};
 use std::ops::Range;
 use std::test::Fail;
 
-// Whether an outbox answers so where the message is put that a circuit stands; want of memory ends the test.
+// Whether an outbox answers so where the message is put that a circuit stands; out of memory ends the test.
 fn puts(
     messenger: &Messenger,
     outbox: &mut Outbox,

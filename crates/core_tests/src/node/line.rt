@@ -303,7 +303,7 @@ impl Line {
         }
     }
 
-    /// Does a step. Where it is refused for want of memory, all cores are as they were, and it is done again.
+    /// Does a step. Where it is refused as out of memory, all cores are as they were, and it is done again.
     pub fn step(&mut self, step: &Step) -> Word {
         let before = self.cores.states();
         self.step_from(&before, step)

@@ -34,7 +34,7 @@ pub enum Word {
     /// To which message the first one is replied, at an end and at another.
     Rules(Option<MsgNo>, Option<MsgNo>),
     NoMemory,
-    /// Refused for want of memory, and a core is not as it was.
+    /// Refused as out of memory, and a core is not as it was.
     Changed,
     Other,
 }

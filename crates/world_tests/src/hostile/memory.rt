@@ -1,5 +1,5 @@
 //! Memory that is refused. With ample memory each test sees its whole answer; run with any one allocation refused, as `hostile/run`
-//! does, each sees want of memory and nothing lost.
+//! does, each sees out of memory and nothing lost.
 
 use crate::hostile::rows::{CIRCUITS, REPLIES, RING, Row, STRINGS, WAITSETS};
 use crate::hostile::takers::{Said, Taker, program};
@@ -110,7 +110,7 @@ fn takes_call(alloc: Global, program: &Program) -> bool {
     }
 }
 
-// A receive that meets want of memory leaves the fragment, and the next gives the call.
+// A receive to which memory is refused leaves the fragment, and the next gives the call.
 #[test]
 fn a_receive(rt: HostRuntime) {
     let text = b"interface i { message blob(string s); }".as_slice();

@@ -187,7 +187,7 @@ fn making(act: Act) -> Event<'static> {
 /// The event that an act asks for.
 ///
 /// # Errors
-/// Want of memory.
+/// Out of memory.
 pub fn event(alloc: Global, act: Act) -> Result<Event<'static>, AllocError> {
     match act {
         Act::Interface(text) => adding(alloc, text, PlanNo::Two),
@@ -200,7 +200,7 @@ pub fn event(alloc: Global, act: Act) -> Result<Event<'static>, AllocError> {
 /// The events that acts ask for.
 ///
 /// # Errors
-/// Want of memory.
+/// Out of memory.
 pub fn events(alloc: Global, acts: &[Act]) -> Result<Vec<Event<'static>>, AllocError> {
     let mut events = Vec::with_capacity(alloc, acts.len())?;
     for act in acts {

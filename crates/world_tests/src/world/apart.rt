@@ -154,7 +154,7 @@ fn are_right_apart(alloc: Global, config: &Config<'_>) -> Result<bool, AllocErro
 /// Whether the parts of a world are as they should be.
 ///
 /// # Errors
-/// Want of memory for the world.
+/// Out of memory for the world.
 pub fn parts(alloc: Global) -> Result<bool, AllocError> {
     let config = config(alloc, 2, SET_UP)?;
     are_right_apart(alloc, &config)

@@ -64,7 +64,7 @@ const OF_ONE_CORE: &[(Act, Word)] = &[
 /// Whether a new world answers so.
 ///
 /// # Errors
-/// Want of memory for the world.
+/// Out of memory for the world.
 pub fn new_world(alloc: Global) -> Result<bool, AllocError> {
     let mut world = World::new(alloc)?;
     answers_all(alloc, &mut world, OF_ONE_CORE, Way::Given, 0)

@@ -147,7 +147,7 @@ pub const LIMITS: &[Limit] = &[
         then: &[(Act::Bind(AT_0, 0, b"s", NEAR), Word::Refused(74))],
     },
     // a dispatcher has 1,024 ends, and both ends of a binding to itself stand there; each way to join two ends tells that, at the client's
-    // dispatcher and at the server's, and never as want of memory; a circuit's opening is refused where it arrives
+    // dispatcher and at the server's, and never as out of memory; a circuit's opening is refused where it arrives
     Limit {
         set_up: THREE_SERVICES,
         rounds: 512,

@@ -131,7 +131,7 @@ fn adds_each(alloc: Global, events: &[Event<'_>]) -> Result<bool, AllocError> {
 /// Whether a run adds so many dispatchers.
 ///
 /// # Errors
-/// Want of memory outside the run.
+/// Out of memory outside the run.
 pub fn adds_all(alloc: Global) -> Result<bool, AllocError> {
     let asked = events(alloc, DISPATCHERS)?;
     adds_each(alloc, &asked)

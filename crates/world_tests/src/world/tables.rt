@@ -10,7 +10,7 @@ pub trait Claim {
     /// Whether what it says is so.
     ///
     /// # Errors
-    /// Want of memory for what isn't asked of a world.
+    /// Out of memory for what isn't asked of a world.
     fn holds(&self, alloc: Global) -> Result<bool, AllocError>;
 }
 

@@ -107,7 +107,7 @@ fn is_word(answer: &Answer, wanted: Word) -> bool {
 /// Whether an answer is the wanted one.
 ///
 /// # Errors
-/// Want of memory.
+/// Out of memory.
 pub fn is(alloc: Global, answer: &Answer, wanted: Word) -> Result<bool, AllocError> {
     match answer {
         Answer::Handle { end, call } => is_handled(alloc, *end, call, wanted),

@@ -1,4 +1,4 @@
-//! Worlds that are booted and driven. What is refused for want of memory is asked again, once: the world has to be as it was.
+//! Worlds that are booted and driven. What is refused as out of memory is asked again, once: the world has to be as it was.
 
 use crate::world::acts::{Act, event, events};
 use crate::world::words::{Word, in_round, is};
@@ -18,7 +18,7 @@ pub enum Way {
 /// What a world is booted with.
 ///
 /// # Errors
-/// Want of memory.
+/// Out of memory.
 pub fn config(alloc: Global, cores: u8, acts: &[Act]) -> Result<Config<'static>, AllocError> {
     let setup = events(alloc, acts)?;
     Ok(Config { cores, setup })
@@ -38,7 +38,7 @@ pub fn booted(alloc: Global, cores: u8, acts: &[Act]) -> Result<World, BootFault
 /// The same where no event is refused.
 ///
 /// # Errors
-/// Want of memory.
+/// Out of memory.
 pub fn made(alloc: Global, cores: u8, acts: &[Act]) -> Result<World, AllocError> {
     match booted(alloc, cores, acts) {
         Ok(world) => Ok(world),
@@ -64,7 +64,7 @@ fn ask(alloc: Global, world: &mut World, act: Act, way: Way) -> Result<Answer, A
 /// Whether a world answers as it should; not so where memory is refused twice.
 ///
 /// # Errors
-/// Want of memory for the text of a call.
+/// Out of memory for the text of a call.
 pub fn answers(
     alloc: Global,
     world: &mut World,
@@ -81,7 +81,7 @@ pub fn answers(
 /// Whether it answers so to all acts of a round, one after another.
 ///
 /// # Errors
-/// Want of memory for the text of a call.
+/// Out of memory for the text of a call.
 pub fn answers_all(
     alloc: Global,
     world: &mut World,
