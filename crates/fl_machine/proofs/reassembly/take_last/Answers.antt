@@ -9,7 +9,7 @@ use Rattle.fl_machine.proofs.reassembly.take_last.Goals as goal
 
 pub read-requires : goal.read-requires
 read-requires c = record {
-  whole = (c.requires.ends.call, whole_frags (program_of c.args.program.now) c.args.room.now c.args.frag.now _ c.args.begun.now _ c.fed-count.ensures.fed c.without_stamp.ensures.bare c.requires.inside c.requires.ends);
+  whole = (c.requires.ends.call, whole_frags (program_of c.args.program.now) c.args.room.now c.args.frag.now _ c.args.begun.now _ c.fed-count.ensures.fed c.bare.ensures.bare c.requires.inside c.requires.ends);
 }
 
 pub returns-in-Ok-clause-under_way : goal.returns-in-Ok-clause-under_way
@@ -24,7 +24,7 @@ returns-in-Ok-clause-takes c =
     let e = c.requires.ends in
     let s = stored_last p c.args.room.now _ c.args.begun.now _ c.requires.under_way c.fed-count.ensures.fed in
     let is : call_of c.in-Ok.call ≡ e.call
-    = c.in-Ok.ensures.call e.call (whole_frags p c.args.room.now c.args.frag.now _ c.args.begun.now _ c.fed-count.ensures.fed c.without_stamp.ensures.bare c.requires.inside e) in (
+    = c.in-Ok.ensures.call e.call (whole_frags p c.args.room.now c.args.frag.now _ c.args.begun.now _ c.fed-count.ensures.fed c.bare.ensures.bare c.requires.inside e) in (
       subst (λ (call : TheCall). AreWhole (reassembly_on c.args.program.now c.args.room.now (Some c.args.begun.now)) ((reassembly_on c.args.program.now c.args.room.now (Some c.args.begun.now)).parts ++ c.args.frag.now ∷ []) call) (sym is)
           (record { fits = e.fits; means = e.means }),
       ap (λ (fs : List Frag). let r : TheReassembly = record { program = c.args.program.now; parts = fs } in r) s.parts_are,

@@ -8,7 +8,7 @@ pub loop-count-preserved : goal.loop-count-preserved
 loop-count-preserved c =
     let i = c.loop-count.invariant in
     let bytes = c.args.bytes.now in
-    let digit : is_digit (get_or bytes c.loop-count.count 0) ≡ true = sym c.is_digit.ensures.same ∙ c.if-not-is_digit.false in
+    let digit : is_digit (get_or bytes c.loop-count.count 0) ≡ true = sym c.is_digit.ensures.exact ∙ c.if-not-is_digit.false in
     let more = prefix_len-drop_yes is_digit bytes c.loop-count.count 0 c.loop-count-test.true digit in
     record {
       value = λ few.

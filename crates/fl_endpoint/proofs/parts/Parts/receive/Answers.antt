@@ -31,7 +31,7 @@ returns-in-Acknowledgement-clause-receives g c =
 pub returns-in-Err-take_in-clause-receives : goal.returns-in-Err-take_in-clause-receives
 returns-in-Err-take_in-clause-receives g c =
     let opened : IsOpen c.args.self.now = search rules in
-    let f = c.without_stamp.result in
+    let f = c.bare.result in
     let plain : bare f ≡ f = search rules in
     let sees : g.T.TakeSide.takes c.args.from.now (saw f) c.peek.new.self = search rules in
     leaves_at c.args.self.now c.args.calls.now c.args.place c.requires.place g.T.TakeSide.takes c.args.from.now c.peek.new.self opened f plain c.take_in.new.self c.take_in.new.calls c.in-Err-take_in.fault sees c.in-Err-take_in.ensures.takes_in
@@ -39,7 +39,7 @@ returns-in-Err-take_in-clause-receives g c =
 pub returns-in-Ok-take_in-clause-receives : goal.returns-in-Ok-take_in-clause-receives
 returns-in-Ok-take_in-clause-receives g c =
     let opened : IsOpen c.args.self.now = search rules in
-    let f = c.without_stamp.result in
+    let f = c.bare.result in
     let plain : bare f ≡ f = search rules in
     let sees : g.T.TakeSide.takes c.args.from.now (saw f) c.peek.new.self = search rules in
     let takes_it : g.T.TakeSide.takes c.peek.new.self (found f) c.take-in-Ok-take_in.new.self = search rules in
@@ -47,8 +47,8 @@ returns-in-Ok-take_in-clause-receives g c =
 
 pub returns-in-Err-take_in-clause-place : goal.returns-in-Err-take_in-clause-place
 returns-in-Err-take_in-clause-place g c =
-    still_place c.args.calls.now c.args.place (TakesInWith (taking c.args.self.now c.without_stamp.result c.take_in.result c.take_in.new.self)) c.take_in.new.calls c.take_in.new.self (λ was is e. e.of) c.take_in.ensures.takes_in
+    still_place c.args.calls.now c.args.place (TakesInWith (taking c.args.self.now c.bare.result c.take_in.result c.take_in.new.self)) c.take_in.new.calls c.take_in.new.self (λ was is e. e.of) c.take_in.ensures.takes_in
 
 pub returns-in-Ok-take_in-clause-place : goal.returns-in-Ok-take_in-clause-place
 returns-in-Ok-take_in-clause-place g c =
-    still_place c.args.calls.now c.args.place (TakesInWith (taking c.args.self.now c.without_stamp.result c.take_in.result c.take_in.new.self)) c.take_in.new.calls c.take_in.new.self (λ was is e. e.of) c.take_in.ensures.takes_in
+    still_place c.args.calls.now c.args.place (TakesInWith (taking c.args.self.now c.bare.result c.take_in.result c.take_in.new.self)) c.take_in.new.calls c.take_in.new.self (λ was is e. e.of) c.take_in.ensures.takes_in
