@@ -2,6 +2,7 @@
 //! in a program of their own, the plain ones in this program started anew: each run is a process, which starts
 //! its threads and measures in the same way.
 
+use crate::ordering;
 use crate::plain::{fragment, sum_of};
 use crate::shared::{self, Receiver, Sender, Side, Sight};
 use std::env;
@@ -15,43 +16,43 @@ use std::time::Instant;
 const RUNS: usize = 200;
 
 /// How often a side pauses between two polls that find nothing.
-const PAUSES: [u64; 3] = [0, 20, 100];
+pub const PAUSES: [u64; 3] = [0, 20, 100];
 
 /// Where a table stands in its cache lines makes a third of the time, and the allocator decides it. So a run takes
 /// some memory ahead of the ring, more by 16 bytes from run to run, and tables stand in each of the four places that
 /// blocks of this allocator have equally often. (A block of 128 KiB is mapped by itself: its place is always one.)
-const PLACES: usize = 4;
-const AHEAD: usize = 2_048;
+pub const PLACES: usize = 4;
+pub const AHEAD: usize = 2_048;
 
 /// Fragments, or round trips, of a run, and how many of them are timed at once: few, since other work
 /// on the machine takes a thread its processor now and then, and a stretch in which that happens is
 /// left out by the median.
 const FRAGMENTS: u64 = 50_000;
 const TRIPS: u64 = 20_000;
-const STRETCH: u64 = 1_000;
+pub const STRETCH: u64 = 1_000;
 
 #[derive(Clone, Copy)]
-struct Plan {
-    slots: usize,
+pub struct Plan {
+    pub slots: usize,
     /// Fragments (each way, on a ring of two directions), or round trips.
-    count: u64,
+    pub count: u64,
     /// How often a side pauses where it finds no room or nothing there.
-    pauses: u64,
+    pub pauses: u64,
     /// After how many fragments a reader tells.
-    tell_each: u64,
+    pub tell_each: u64,
     /// How many bytes are taken ahead of the ring.
-    ahead: usize,
+    pub ahead: usize,
 }
 
 /// The times of the stretches so far, in nanoseconds.
-struct Watch {
+pub struct Watch {
     since: Instant,
     taken: u64,
-    times: Vec<u64>,
+    pub times: Vec<u64>,
 }
 
 impl Watch {
-    fn new() -> Watch {
+    pub fn new() -> Watch {
         Watch {
             since: Instant::now(),
             taken: 0,
@@ -60,7 +61,7 @@ impl Watch {
     }
 
     /// One more was taken.
-    fn count(&mut self) {
+    pub fn count(&mut self) {
         self.taken += 1;
         if self.taken < STRETCH {
             return;
@@ -73,18 +74,18 @@ impl Watch {
 }
 
 /// What a run gives: a sum over what was taken, and the times.
-struct Taken {
-    sum: u64,
-    times: Vec<u64>,
+pub struct Taken {
+    pub sum: u64,
+    pub times: Vec<u64>,
 }
 
 /// What is measured: its name, the word by which the proved program does it, how many fragments (or
 /// trips) pass for each that is counted, and our plain run.
-struct Kind {
-    name: &'static str,
-    word: &'static str,
-    ways: u64,
-    run: fn(Plan) -> Taken,
+pub struct Kind {
+    pub name: &'static str,
+    pub word: &'static str,
+    pub ways: u64,
+    pub run: fn(Plan) -> Taken,
 }
 
 const RING: Kind = Kind {
@@ -141,7 +142,7 @@ const DUO_TRIPS: Kind = Kind {
 };
 
 /// Runs each in a thread.
-fn both<A, B: Send>(one: impl FnOnce() -> A, two: impl FnOnce() -> B + Send) -> (A, B) {
+pub fn both<A, B: Send>(one: impl FnOnce() -> A, two: impl FnOnce() -> B + Send) -> (A, B) {
     thread::scope(|scope| {
         let other = scope.spawn(two);
         let first = one();
@@ -149,7 +150,7 @@ fn both<A, B: Send>(one: impl FnOnce() -> A, two: impl FnOnce() -> B + Send) -> 
     })
 }
 
-fn pause(plan: Plan) {
+pub fn pause(plan: Plan) {
     for _ in 0..plan.pauses {
         spin_loop();
     }
@@ -286,7 +287,7 @@ fn exchange(mut side: Side, plan: Plan) -> Taken {
 }
 
 /// What a program says of one run.
-fn run(program: &Path, first: &[&str], kind: &Kind, plan: Plan) -> Taken {
+pub fn run(program: &Path, first: &[&str], kind: &Kind, plan: Plan) -> Taken {
     let words = [
         plan.slots as u64,
         plan.count,
@@ -315,6 +316,7 @@ pub fn run_plain(mut words: impl Iterator<Item = String>) {
     let word = words.next().expect("a kind");
     let kind = [&RING, &DUO, &RING_TRIPS, &DUO_TRIPS]
         .into_iter()
+        .chain(ordering::kinds())
         .find(|kind| kind.word == word)
         .expect("a kind");
     let mut number = || -> u64 {
@@ -370,20 +372,20 @@ fn times(kind: &Kind, plan: Plan) -> Vec<[f64; 2]> {
 }
 
 /// The first, second or third quarter of some times.
-fn quarter(times: &mut [f64], part: usize) -> f64 {
+pub fn quarter(times: &mut [f64], part: usize) -> f64 {
     times.sort_by(f64::total_cmp);
     times[part * (times.len() - 1) / 4]
 }
 
 /// The plain ring's middle time over ours, of the pairs of runs that are chosen.
-fn ratio(pairs: impl Iterator<Item = [f64; 2]>) -> f64 {
+pub fn ratio(pairs: impl Iterator<Item = [f64; 2]>) -> f64 {
     let (mut ours, mut theirs): (Vec<f64>, Vec<f64>) =
         pairs.map(|[ours, theirs]| (ours, theirs)).unzip();
     quarter(&mut theirs, 2) / quarter(&mut ours, 2)
 }
 
 /// How far chance moves the ratio: the middle nineteen of twenty ratios of as many pairs, drawn from these.
-fn bounds(pairs: &[[f64; 2]]) -> (f64, f64) {
+pub fn bounds(pairs: &[[f64; 2]]) -> (f64, f64) {
     const DRAWS: usize = 1_000;
     let mut state = 1u64;
     let mut draw = || {
