@@ -10,6 +10,7 @@ mod Replies
 mod Routed
 mod Rulings
 mod Setting
+mod SetUps
 mod Slots
 mod Sources
 mod Stepwise

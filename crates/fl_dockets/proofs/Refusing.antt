@@ -18,7 +18,7 @@ use Rattle.fl_dockets.specs.State.{TheJoined, AreJoined}
 use Rattle.fl_dockets.specs.Faults.{call_refusal, rule_refusal, call_fault_at, rule_fault_at, StopsFor, RuleStops, JobStops}
 use Rattle.fl_node.specs.View.{TheCore}
 use Rattle.fl_dockets.specs.Rules.{RulesOf}
-use Rattle.fl_dockets.specs.Whole.{AreBound, IsBeside, FirstRefused, IsFault, HadSet, fault_at}
+use Rattle.fl_dockets.specs.Whole.{SetUpStops, AreBound, IsBeside, FirstRefused, IsFault, HadSet, fault_at}
 use Rattle.fl_dockets.proofs.Alike.{call_refused, rule_refused}
 
 pub if_err_weaker : {T E : Type 0} (P Q : E → Type 0) (r : Result T E) → ((e : E) → P e → Q e) → IfErr r P → IfErr r Q
@@ -90,12 +90,15 @@ pub later_fault : (p : Parts) (jobs : List Job) (f : JobFault) → FirstRefused 
 later_fault p jobs (fault.Refused number place) h = inr h
 later_fault p jobs fault.Memory h = h
 
-pub set_up_fault : (p : Parts) (jobs : List Job) (s : Stop) (f : JobFault) → f ≡ fault_at s 0 → IsFault p jobs f
-set_up_fault p jobs s f is = subst (λ (g : JobFault). IsFault p jobs g) (sym is) (by s)
+pub set_up_fault : (p : Parts) (xs : List Binding) (cores : ℕ) (jobs : List Job) (s : Stop) (f : JobFault) → xs ≡ p.bindings.items → cores ≡ length p.cores.items
+    → f ≡ fault_at s 0 → SetUpStops cores xs s → IsFault p jobs f
+set_up_fault p xs cores jobs s f same count is stops =
+    subst (λ (g : JobFault). IsFault p jobs g) (sym is)
+    (by s (subst (λ (ys : List Binding). SetUpStops (length p.cores.items) ys s) same (subst (λ (n : ℕ). SetUpStops n xs s) count stops)))
   where
-    by : (s : Stop) → IsFault p jobs (fault_at s 0)
-    by (stop.Refused number) = inl refl
-    by stop.Memory = tt
+    by : (s : Stop) → SetUpStops (length p.cores.items) p.bindings.items s → IsFault p jobs (fault_at s 0)
+    by (stop.Refused number) h = inl (refl, h)
+    by stop.Memory h = tt
 
 -- ---- the rules that are set then
 
