@@ -10,11 +10,13 @@ mod Replies
 mod Routed
 mod Rulings
 mod Setting
+mod Seen
 mod SetUps
 mod Slots
 mod Sources
 mod Stepwise
 mod Wished
+mod Wishing
 mod Owed
 mod Alike
 mod Refusing

@@ -10,16 +10,17 @@ use Rattle.fl_worlds.specs.declared.parts.Parts.{Parts}
 use Rattle.fl_jobs.specs.declared.stop.Stop.{Stop}
 use Rattle.fl_jobs.specs.declared.stop.Stop.TheVariants as stop
 use Rattle.fl_jobs.specs.declared.job.Job.{Job as RustJob}
-use Rattle.fl_jobs.specs.Jobs.{Job, opens, replies, calls}
+use Rattle.fl_jobs.specs.Jobs.{Wish, Job, opens, replies, calls}
 use Rattle.fl_jobs.specs.Views.{job_of}
 use Rattle.fl_dockets.specs.declared.fault.JobFault.{JobFault}
 use Rattle.fl_dockets.specs.declared.fault.JobFault.TheVariants as fault
 use Rattle.fl_dockets.specs.State.{TheJoined, AreJoined}
-use Rattle.fl_dockets.specs.Faults.{call_refusal, rule_refusal, call_fault_at, rule_fault_at, StopsFor, RuleStops, JobStops}
+use Rattle.fl_dockets.specs.Faults.{call_refusal, rule_refusal, call_fault_at, rule_fault_at, wish_fault, StopsFor, WishStops, RuleStops, JobStops}
 use Rattle.fl_node.specs.View.{TheCore}
 use Rattle.fl_dockets.specs.Rules.{RulesOf}
 use Rattle.fl_dockets.specs.Whole.{SetUpStops, AreBound, IsBeside, FirstRefused, IsFault, HadSet, fault_at}
 use Rattle.fl_dockets.proofs.Alike.{call_refused, rule_refused}
+use Rattle.fl_dockets.proofs.Seen.{same_wish}
 
 pub if_err_weaker : {T E : Type 0} (P Q : E → Type 0) (r : Result T E) → ((e : E) → P e → Q e) → IfErr r P → IfErr r Q
 if_err_weaker P Q (Ok x) f h = h
@@ -45,13 +46,19 @@ rule_stops r cores p j e msg answer =
     if_err_weaker _ _ r (λ s h asked k.
     subst (λ (o : Option ℕ). RuleStops o (slice_get p.bindings.items e.binding) s) (rule_refused cores p.programs.items asked j e msg answer k) h)
 
+pub wish_stops : {T : Type 0} (r : Result T Stop) (cores : ℕ) (p : Parts) (j : TheJoined) (w : Wish) → IfErr r (λ s. WishStops (wish_fault p (length j.bindings) w) s)
+    → IfErr r (λ s. (asked : List Job) → AreJoined cores asked j → JobStops p asked j (opens w) s)
+wish_stops r cores p j w = if_err_weaker _ _ r (λ s h asked k. h)
+
 -- the parts at that moment tell the same as the first
-same_stops : (p p2 : Parts) (asked : List Job) (j : TheJoined) (job : Job) (s : Stop) → IsBeside p p2 → JobStops p2 asked j job s → JobStops p asked j job s
-same_stops p p2 asked j (opens w) s b h = h
-same_stops p p2 asked j (replies e msg answer) s b h =
+same_stops : (p p2 : Parts) (asked : List Job) (j : TheJoined) (job : Job) (s : Stop) → IsBeside p p2
+    → RulesOf p.bindings.items asked p.cores.items p2.cores.items → JobStops p2 asked j job s → JobStops p asked j job s
+same_stops p p2 asked j (opens w) s b rules h =
+    subst (λ (o : Option ℕ). WishStops o s) (same_wish (length j.bindings) w p p2 p.bindings.items asked b rules) h
+same_stops p p2 asked j (replies e msg answer) s b rules h =
     subst (λ (xs : List Binding). RuleStops (rule_refusal p.programs.items asked j.bindings e msg answer) (slice_get xs e.binding) s) b.bindings
     (subst (λ (ps : List Program). RuleStops (rule_refusal ps asked j.bindings e msg answer) (slice_get p2.bindings.items e.binding) s) b.programs h)
-same_stops p p2 asked j (calls e c) s b h =
+same_stops p p2 asked j (calls e c) s b rules h =
     subst (λ (ps : List Program). StopsFor (call_refusal ps asked j.bindings e c) s) b.programs h
 
 -- a job more of those that are left
@@ -67,6 +74,7 @@ pub whole_of : (all : List Job) (done left left2 : List RustJob) (x : RustJob) �
 whole_of all done left left2 x is h = sym h ∙ ap (λ (l : List RustJob). map job_of done ++ map job_of l) is
 
 module _ (p p2 : Parts) (jobs done behind : List RustJob) (x : RustJob) (place : ℕ) (j : TheJoined) (beside : IsBeside p p2)
+    (rules : RulesOf p.bindings.items (map job_of done) p.cores.items p2.cores.items)
     (whole : map job_of jobs ≡ map job_of done ++ job_of x ∷ map job_of behind) (count : place ≡ length done)
     (were : AreJoined (length p.cores.items) (map job_of done) j) (bound : AreBound p.bindings.items (map job_of done) j) where
   first_by : (s : Stop) → JobStops p2 (map job_of done) j (job_of x) s → FirstRefused p (map job_of jobs) (fault_at s (place + 1))
@@ -79,7 +87,7 @@ module _ (p p2 : Parts) (jobs done behind : List RustJob) (x : RustJob) (place :
     joined = j;
     were = were;
     bound = bound;
-    stops = same_stops p p2 (map job_of done) j (job_of x) (stop.Refused number) beside h;
+    stops = same_stops p p2 (map job_of done) j (job_of x) (stop.Refused number) beside rules h;
   }
   first_by stop.Memory h = tt
 
