@@ -14,6 +14,7 @@ mod Seen
 mod SetUps
 mod Slots
 mod Sources
+mod Spoken
 mod Stepwise
 mod Wished
 mod Wishing

@@ -1,5 +1,5 @@
 -- Why a job is refused: as the reader of cores files finds it, by the jobs that were joined before.
-use Rattle.std.specs.Prelude.{ℕ, ◌≡◌, ◌⊎◌, ◌==◌, ◌&&◌, ◌||◌, nat_le, not, if◌then◌else◌, Bool, List, length, map, slice_get, Option, Some, None, is_some, IsSome}
+use Rattle.std.specs.Prelude.{ℕ, ◌≡◌, ◌⊎◌, ◌==◌, ◌&&◌, ◌||◌, nat_le, not, if◌then◌else◌, Bool, List, length, map, slice_get, Option, Some, None, is_some}
 use Rattle.std.specs.List.{list_all}
 use Rattle.fl_base.specs.declared.identity.EndId.{EndId}
 use Rattle.fl_base.specs.Ends.{peer}
@@ -11,13 +11,15 @@ use Rattle.fl_compile.specs.Programs.{program_of}
 use Rattle.fl_queues.specs.Calls.{Planned}
 use Rattle.fl_queues.specs.Given.{given}
 use Rattle.fl_queues.specs.Taking.{arguments_of, has_message}
+use Rattle.fl_endpoint.specs.View.{TheEnd, interface_in, plan_in}
 use Rattle.fl_hop.specs.Table.{TheCircuits}
 use Rattle.fl_monitor.specs.Monitors.{first_link}
 use Rattle.fl_nameserv.specs.Registrations.{TheRegistration, by_name}
-use Rattle.fl_node.specs.View.{TheCore, client_of, server_of}
+use Rattle.fl_node.specs.View.{TheCore, place_of, client_of, server_of}
 use Rattle.fl_worlds.specs.declared.binding.Binding.{Binding}
 use Rattle.fl_worlds.specs.declared.parts.Parts.{Parts}
 use Rattle.fl_worlds.specs.Making.{core_id}
+use Rattle.fl_worlds.specs.View.{core_in}
 use Rattle.fl_jobs.specs.declared.stop.Stop.{Stop}
 use Rattle.fl_jobs.specs.declared.stop.Stop.TheVariants as stop
 use Rattle.fl_jobs.specs.Jobs.{Wish, Job, opens, replies, calls, own_calls, has_rules}
@@ -129,15 +131,43 @@ abbrev pub WishStops : Option ℕ → Stop → Type 0
 WishStops found (stop.Refused number) = found ≡ Some number
 WishStops found stop.Memory = (found ≡ None) ⊎ (found ≡ Some 73)
 
--- ---- whatever the job
+-- ---- a rule at an end that is set up
 
--- a rule that the reader takes is refused by the core of an end that is set up alone
-abbrev pub RuleStops : Option ℕ → Option Binding → Stop → Type 0
-RuleStops found o s = StopsFor found s ⊎ ((found ≡ None) × IsSome o)
+-- what an end speaks
+abbrev pub spoken_by : TheEnd → Planned
+spoken_by s = record { interface = interface_in s; plan = plan_in s }
+
+-- the interface lacks one of the messages, or their arguments differ
+abbrev pub misfit : ℕ → ℕ → Planned → Option ℕ
+misfit msg answer i =
+    if not (has_message msg i && has_message answer i) then Some 41
+    else if not (same_arguments (arguments_of msg i) (arguments_of answer i)) then Some 42
+    else None
+
+-- the core has no such end, or the end refuses the rule
+abbrev pub core_fault : TheCore → EndId → ℕ → ℕ → Option ℕ
+core_fault k e msg answer =
+    given (place_of k e) (Some 92) λ place.
+    given (slice_get k.board.seats place) None λ seat. misfit msg answer (spoken_by seat.end)
+
+-- there is no such core, or it refuses the rule
+abbrev pub end_fault : List TheCore → ℕ → EndId → ℕ → ℕ → Option ℕ
+end_fault cores n e msg answer = given (slice_get cores n) (Some 92) λ k. core_fault k e msg answer
+
+-- at an end of any other binding nothing is set yet
+abbrev pub set_up_fault : List TheCore → List Binding → EndId → ℕ → ℕ → Option ℕ
+set_up_fault cores set_up e msg answer = given (slice_get set_up e.binding) None λ x. end_fault cores (core_in e.side x) e msg answer
+
+-- for the fault that the reader finds, or else for that which is found where the end is set up
+abbrev pub RuleStops : Option ℕ → Option ℕ → Stop → Type 0
+RuleStops found set_up (stop.Refused number) = given found set_up (λ first. Some first) ≡ Some number
+RuleStops found set_up stop.Memory = found ≡ None
+
+-- ---- whatever the job
 
 -- behind these jobs, which were joined, a job is refused, or memory was wanted
 abbrev pub JobStops : Parts → List Job → TheJoined → Job → Stop → Type 0
 JobStops p asked j (opens w) s = WishStops (wish_fault p (length j.bindings) w) s
 JobStops p asked j (replies e msg answer) s =
-    RuleStops (rule_refusal p.programs.items asked j.bindings e msg answer) (slice_get p.bindings.items e.binding) s
+    RuleStops (rule_refusal p.programs.items asked j.bindings e msg answer) (set_up_fault p.cores.items p.bindings.items e msg answer) s
 JobStops p asked j (calls e c) s = StopsFor (call_refusal p.programs.items asked j.bindings e c) s

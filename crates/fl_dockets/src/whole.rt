@@ -1,10 +1,10 @@
 //! The jobs of a whole file, joined one after another.
 
-ghost use Rattle.std.specs.Prelude.{◌≡◌, [], List, map, length, slice_get, IfOk, IfErr, OnOk, OnErr};
+ghost use Rattle.std.specs.Prelude.{◌≡◌, [], List, map, length, IfOk, IfErr, OnOk, OnErr};
 ghost use Rattle.fl_jobs.specs.Jobs.{Job as TheJob};
 ghost use Rattle.fl_jobs.specs.Views.{job_of};
 ghost use Rattle.fl_dockets.specs.Dockets.{docket_of};
-ghost use Rattle.fl_dockets.specs.Faults.{rule_fault_at, StopsFor, RuleStops, JobStops};
+ghost use Rattle.fl_dockets.specs.Faults.{rule_fault_at, set_up_fault, StopsFor, RuleStops, JobStops};
 ghost use Rattle.fl_dockets.specs.Fitting.{JobsFit, NewFit};
 ghost use Rattle.fl_dockets.specs.Joined.{AreBindings, HasDockets};
 ghost use Rattle.fl_dockets.specs.Kept.{AreKept};
@@ -64,7 +64,7 @@ impl Joined {
         ensures beside { IsBeside parts.old parts.new }
         ensures refused { IfErr result (λ stop. RuleStops
             (rule_fault_at parts.old.programs.items self.old.bindings.items (map docket_of self.old.dockets.items) end message.0 answer.0)
-            (slice_get parts.old.bindings.items end.binding) stop) }
+            (set_up_fault parts.old.cores.items parts.old.bindings.items end message.0 answer.0) stop) }
         ensures set { OnErr result (parts.new.cores.items ≡ parts.old.cores.items) }
     {
         let is_there = end.binding < parts.bindings.as_slice().len();
