@@ -15,7 +15,7 @@ use Rattle.fl_jobs.specs.Views.{job_of}
 use Rattle.fl_dockets.specs.declared.fault.JobFault.{JobFault}
 use Rattle.fl_dockets.specs.declared.fault.JobFault.TheVariants as fault
 use Rattle.fl_dockets.specs.State.{TheJoined, AreJoined}
-use Rattle.fl_dockets.specs.Faults.{call_refusal, rule_refusal, call_fault_at, rule_fault_at, wish_fault, set_up_fault, StopsFor, WishStops, RuleStops, JobStops}
+use Rattle.fl_dockets.specs.Faults.{call_refusal, rule_refusal, call_fault_at, rule_fault_at, wish_fault, fault_at_once, StopsFor, WishStops, RuleStops, JobStops}
 use Rattle.fl_node.specs.View.{TheCore}
 use Rattle.fl_dockets.specs.Rules.{RulesOf}
 use Rattle.fl_dockets.specs.Whole.{SetUpStops, AreBound, IsBeside, FirstRefused, IsFault, HadSet, fault_at}
@@ -40,11 +40,11 @@ call_stops r cores p ps j e c same =
     ∙ call_refused cores p.programs.items asked j e c k) h)
 
 pub rule_stops : {T : Type 0} (r : Result T Stop) (cores : ℕ) (p : Parts) (j : TheJoined) (e : EndId) (msg answer : ℕ)
-    → IfErr r (λ s. RuleStops (rule_fault_at p.programs.items j.bindings j.dockets e msg answer) (set_up_fault p.cores.items p.bindings.items e msg answer) s)
+    → IfErr r (λ s. RuleStops (rule_fault_at p.programs.items j.bindings j.dockets e msg answer) (fault_at_once p.cores.items p.bindings.items e msg answer) s)
     → IfErr r (λ s. (asked : List Job) → AreJoined cores asked j → JobStops p asked j (replies e msg answer) s)
 rule_stops r cores p j e msg answer =
     if_err_weaker _ _ r (λ s h asked k.
-    subst (λ (o : Option ℕ). RuleStops o (set_up_fault p.cores.items p.bindings.items e msg answer) s) (rule_refused cores p.programs.items asked j e msg answer k) h)
+    subst (λ (o : Option ℕ). RuleStops o (fault_at_once p.cores.items p.bindings.items e msg answer) s) (rule_refused cores p.programs.items asked j e msg answer k) h)
 
 pub wish_stops : {T : Type 0} (r : Result T Stop) (cores : ℕ) (p : Parts) (j : TheJoined) (w : Wish) → IfErr r (λ s. WishStops (wish_fault p (length j.bindings) w) s)
     → IfErr r (λ s. (asked : List Job) → AreJoined cores asked j → JobStops p asked j (opens w) s)
@@ -58,7 +58,7 @@ same_stops p p2 asked j (opens w) s b rules h =
 same_stops p p2 asked j (replies e msg answer) s b rules h =
     subst (λ (o : Option ℕ). RuleStops (rule_refusal p.programs.items asked j.bindings e msg answer) o s)
     (same_set_up e msg answer p p2 p.bindings.items asked b rules)
-    (subst (λ (ps : List Program). RuleStops (rule_refusal ps asked j.bindings e msg answer) (set_up_fault p2.cores.items p2.bindings.items e msg answer) s) b.programs h)
+    (subst (λ (ps : List Program). RuleStops (rule_refusal ps asked j.bindings e msg answer) (fault_at_once p2.cores.items p2.bindings.items e msg answer) s) b.programs h)
 same_stops p p2 asked j (calls e c) s b rules h =
     subst (λ (ps : List Program). StopsFor (call_refusal ps asked j.bindings e c) s) b.programs h
 

@@ -17,7 +17,7 @@ use Rattle.fl_worlds.specs.declared.binding.Binding.{Binding}
 use Rattle.fl_worlds.specs.declared.parts.Parts.{Parts}
 use Rattle.fl_worlds.specs.View.{core_in}
 use Rattle.fl_jobs.specs.Jobs.{Wish, Job, opens, replies, calls}
-use Rattle.fl_dockets.specs.Faults.{route_fault, service_fault, wish_fault, spoken_by, misfit, core_fault, end_fault, set_up_fault}
+use Rattle.fl_dockets.specs.Faults.{route_fault, service_fault, wish_fault, spoken_by, misfit, core_fault, end_fault, fault_at_once}
 use Rattle.fl_dockets.specs.Rules.{RulesCore, RuleNow, RuleOf, RulesOf}
 use Rattle.fl_dockets.specs.Whole.{IsBeside}
 
@@ -151,7 +151,7 @@ module _ (e : EndId) (msg answer : ℕ) where
       end_seen cores2 (core_in e.side x) ∙ ap (λ (t : List Seen). seen_fault (slice_get t (core_in e.side x))) same ∙ sym (end_seen cores (core_in e.side x))
 
   pub same_set_up : (p p2 : Parts) (set_up : List Binding) (jobs : List Job) → IsBeside p p2 → RulesOf set_up jobs p.cores.items p2.cores.items
-      → set_up_fault p2.cores.items p2.bindings.items e msg answer ≡ set_up_fault p.cores.items p.bindings.items e msg answer
+      → fault_at_once p2.cores.items p2.bindings.items e msg answer ≡ fault_at_once p.cores.items p.bindings.items e msg answer
   same_set_up p p2 set_up jobs b rules =
       set_up_in p.cores.items p2.cores.items (all_seen set_up jobs p.cores.items p2.cores.items rules) (slice_get p2.bindings.items e.binding)
-      ∙ ap (λ (xs : List Binding). set_up_fault p.cores.items xs e msg answer) b.bindings
+      ∙ ap (λ (xs : List Binding). fault_at_once p.cores.items xs e msg answer) b.bindings

@@ -106,11 +106,11 @@ abbrev pub link_fault : Option ℕ → Option ℕ
 link_fault None = Some 73
 link_fault (Some link) = None
 
--- over the route, from a table's core to the server's, of so many
+-- no circuit may be asked for over the route, from a table's core to the server's, of so many
 abbrev pub route_fault : TheCircuits → List ℕ → ℕ → ℕ → Option ℕ
 route_fault t route server cores = if not (is_path route) then Some 73 else link_fault (first_link t (map core_id route) server cores)
 
--- to the service of its name, from the client's core
+-- that the client's core finds: of the service that is wished for, or of the route to it
 abbrev pub service_fault : Parts → TheCore → Wish → Option ℕ
 service_fault p core w =
     given (by_name w.service p.names) (Some 70) λ r.
@@ -154,14 +154,14 @@ core_fault k e msg answer =
 abbrev pub end_fault : List TheCore → ℕ → EndId → ℕ → ℕ → Option ℕ
 end_fault cores n e msg answer = given (slice_get cores n) (Some 92) λ k. core_fault k e msg answer
 
--- at an end of any other binding nothing is set yet
-abbrev pub set_up_fault : List TheCore → List Binding → EndId → ℕ → ℕ → Option ℕ
-set_up_fault cores set_up e msg answer = given (slice_get set_up e.binding) None λ x. end_fault cores (core_in e.side x) e msg answer
+-- where its binding is set up; at any other end nothing is set yet
+abbrev pub fault_at_once : List TheCore → List Binding → EndId → ℕ → ℕ → Option ℕ
+fault_at_once cores set_up e msg answer = given (slice_get set_up e.binding) None λ x. end_fault cores (core_in e.side x) e msg answer
 
--- for the fault that the reader finds, or else for that which is found where the end is set up
+-- why it stops: for the fault that the reader finds, or else for the one at once; or for want of memory, where the reader finds none
 abbrev pub RuleStops : Option ℕ → Option ℕ → Stop → Type 0
-RuleStops found set_up (stop.Refused number) = given found set_up (λ first. Some first) ≡ Some number
-RuleStops found set_up stop.Memory = found ≡ None
+RuleStops found at_once (stop.Refused number) = given found at_once (λ first. Some first) ≡ Some number
+RuleStops found at_once stop.Memory = found ≡ None
 
 -- ---- whatever the job
 
@@ -169,5 +169,5 @@ RuleStops found set_up stop.Memory = found ≡ None
 abbrev pub JobStops : Parts → List Job → TheJoined → Job → Stop → Type 0
 JobStops p asked j (opens w) s = WishStops (wish_fault p (length j.bindings) w) s
 JobStops p asked j (replies e msg answer) s =
-    RuleStops (rule_refusal p.programs.items asked j.bindings e msg answer) (set_up_fault p.cores.items p.bindings.items e msg answer) s
+    RuleStops (rule_refusal p.programs.items asked j.bindings e msg answer) (fault_at_once p.cores.items p.bindings.items e msg answer) s
 JobStops p asked j (calls e c) s = StopsFor (call_refusal p.programs.items asked j.bindings e c) s

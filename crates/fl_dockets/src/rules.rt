@@ -2,7 +2,7 @@
 
 ghost use Rattle.std.specs.Prelude.{◌≡◌, length, slice_get, IsSome, IfErr, OnOk, OnErr};
 ghost use Rattle.fl_worlds.specs.View.{core_in};
-ghost use Rattle.fl_dockets.specs.Faults.{core_fault, end_fault, set_up_fault, StopsFor};
+ghost use Rattle.fl_dockets.specs.Faults.{core_fault, end_fault, fault_at_once, StopsFor};
 ghost use Rattle.fl_dockets.specs.Rules.{RulesCore, RulesAt, RuleNow};
 
 use fl_base::{EndId, MsgNo, Side};
@@ -67,7 +67,7 @@ pub(crate) fn rule_now(
     ensures rules { OnOk result (RuleNow (slice_get bindings.now end.binding) end message.0 answer.0 cores.old.items cores.new.items) }
     ensures kept { OnErr result (cores.new.items ≡ cores.old.items) }
     ensures count { length cores.new.items ≡ length cores.old.items }
-    ensures refused { IfErr result (λ stop. StopsFor (set_up_fault cores.old.items bindings.now end message.0 answer.0) stop) }
+    ensures refused { IfErr result (λ stop. StopsFor (fault_at_once cores.old.items bindings.now end message.0 answer.0) stop) }
 {
     match bindings.get(end.binding) {
         None => Ok(()),

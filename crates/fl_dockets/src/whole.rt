@@ -4,7 +4,7 @@ ghost use Rattle.std.specs.Prelude.{◌≡◌, [], List, map, length, IfOk, IfEr
 ghost use Rattle.fl_jobs.specs.Jobs.{Job as TheJob};
 ghost use Rattle.fl_jobs.specs.Views.{job_of};
 ghost use Rattle.fl_dockets.specs.Dockets.{docket_of};
-ghost use Rattle.fl_dockets.specs.Faults.{rule_fault_at, set_up_fault, StopsFor, RuleStops, JobStops};
+ghost use Rattle.fl_dockets.specs.Faults.{rule_fault_at, fault_at_once, StopsFor, RuleStops, JobStops};
 ghost use Rattle.fl_dockets.specs.Fitting.{JobsFit, NewFit};
 ghost use Rattle.fl_dockets.specs.Joined.{AreBindings, HasDockets};
 ghost use Rattle.fl_dockets.specs.Kept.{AreKept};
@@ -64,7 +64,7 @@ impl Joined {
         ensures beside { IsBeside parts.old parts.new }
         ensures refused { IfErr result (λ stop. RuleStops
             (rule_fault_at parts.old.programs.items self.old.bindings.items (map docket_of self.old.dockets.items) end message.0 answer.0)
-            (set_up_fault parts.old.cores.items parts.old.bindings.items end message.0 answer.0) stop) }
+            (fault_at_once parts.old.cores.items parts.old.bindings.items end message.0 answer.0) stop) }
         ensures set { OnErr result (parts.new.cores.items ≡ parts.old.cores.items) }
     {
         let is_there = end.binding < parts.bindings.as_slice().len();

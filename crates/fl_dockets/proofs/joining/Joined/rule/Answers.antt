@@ -3,7 +3,7 @@ use Rattle.std.proofs.lemmas.Result.{on_ok_weaker}
 use Rattle.std.specs.Prelude.{IfErr}
 use Rattle.fl_compile.specs.declared.program.Program.{Program}
 use Rattle.fl_worlds.specs.declared.binding.Binding.{Binding}
-use Rattle.fl_dockets.specs.Faults.{rule_fault_at, set_up_fault, StopsFor}
+use Rattle.fl_dockets.specs.Faults.{rule_fault_at, fault_at_once, StopsFor}
 use Rattle.fl_dockets.specs.State.{joined_of}
 use Rattle.fl_dockets.proofs.Fitting.{rule_fits}
 use Rattle.fl_dockets.proofs.Refusing.{end_stops}
@@ -23,7 +23,7 @@ returns-clause-fits c =
 pub returns-in-Err-clause-refused : goal.returns-in-Err-clause-refused
 returns-in-Err-clause-refused c =
     let before = joined_of c.args.self.now in
-    as_found _ (set_up_fault c.args.parts.now.cores.items c.args.parts.now.bindings.items c.args.end c.args.message.0 c.args.answer.0) c.in-Err.stop
+    as_found _ (fault_at_once c.args.parts.now.cores.items c.args.parts.now.bindings.items c.args.end c.args.message.0 c.args.answer.0) c.in-Err.stop
     (subst (λ (ps : List Program). StopsFor (rule_fault_at ps before.bindings before.dockets c.args.end c.args.message.0 c.args.answer.0) c.in-Err.stop)
     c.deref.ensures.value c.in-Err.ensures.refused)
 
@@ -33,7 +33,7 @@ returns-clause-refused c =
     let passed : rule_fault_at c.args.parts.now.programs.items before.bindings before.dockets c.args.end c.args.message.0 c.args.answer.0 ≡ None =
     subst (λ (ps : List Program). rule_fault_at ps before.bindings before.dockets c.args.end c.args.message.0 c.args.answer.0 ≡ None) c.deref.ensures.value
     c.in_default.ensures.passed in
-    end_stops c.rule_now.result _ (set_up_fault c.args.parts.now.cores.items c.args.parts.now.bindings.items c.args.end c.args.message.0 c.args.answer.0) passed
+    end_stops c.rule_now.result _ (fault_at_once c.args.parts.now.cores.items c.args.parts.now.bindings.items c.args.end c.args.message.0 c.args.answer.0) passed
     (subst (λ (xs : List Binding). IfErr c.rule_now.result
-    (λ stop. StopsFor (set_up_fault c.args.parts.now.cores.items xs c.args.end c.args.message.0 c.args.answer.0) stop))
+    (λ stop. StopsFor (fault_at_once c.args.parts.now.cores.items xs c.args.end c.args.message.0 c.args.answer.0) stop))
     c.deref-2.ensures.value c.rule_now.ensures.refused)
