@@ -10,10 +10,14 @@ mod Replies
 mod Routed
 mod Rulings
 mod Setting
+mod Seen
+mod SetUps
 mod Slots
 mod Sources
+mod Spoken
 mod Stepwise
 mod Wished
+mod Wishing
 mod Owed
 mod Alike
 mod Refusing

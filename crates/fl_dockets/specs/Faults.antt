@@ -1,5 +1,6 @@
 -- Why a job is refused: as the reader of cores files finds it, by the jobs that were joined before.
-use Rattle.std.specs.Prelude.{ℕ, ◌≡◌, ◌⊎◌, ◌&&◌, ◌||◌, nat_le, not, if◌then◌else◌, List, length, slice_get, Option, Some, None, is_some, IsSome}
+use Rattle.std.specs.Prelude.{ℕ, ◌≡◌, ◌⊎◌, ◌==◌, ◌&&◌, ◌||◌, nat_le, not, if◌then◌else◌, Bool, List, length, map, slice_get, Option, Some, None, is_some}
+use Rattle.std.specs.List.{list_all}
 use Rattle.fl_base.specs.declared.identity.EndId.{EndId}
 use Rattle.fl_base.specs.Ends.{peer}
 use Rattle.fl_interface.specs.SameTypes.{same_arguments}
@@ -10,12 +11,18 @@ use Rattle.fl_compile.specs.Programs.{program_of}
 use Rattle.fl_queues.specs.Calls.{Planned}
 use Rattle.fl_queues.specs.Given.{given}
 use Rattle.fl_queues.specs.Taking.{arguments_of, has_message}
-use Rattle.fl_node.specs.View.{client_of, server_of}
+use Rattle.fl_endpoint.specs.View.{TheEnd, interface_in, plan_in}
+use Rattle.fl_hop.specs.Table.{TheCircuits}
+use Rattle.fl_monitor.specs.Monitors.{first_link}
+use Rattle.fl_nameserv.specs.Registrations.{TheRegistration, by_name}
+use Rattle.fl_node.specs.View.{TheCore, place_of, client_of, server_of}
 use Rattle.fl_worlds.specs.declared.binding.Binding.{Binding}
 use Rattle.fl_worlds.specs.declared.parts.Parts.{Parts}
+use Rattle.fl_worlds.specs.Making.{core_id}
+use Rattle.fl_worlds.specs.View.{core_in}
 use Rattle.fl_jobs.specs.declared.stop.Stop.{Stop}
 use Rattle.fl_jobs.specs.declared.stop.Stop.TheVariants as stop
-use Rattle.fl_jobs.specs.Jobs.{Job, opens, replies, calls, own_calls, has_rules}
+use Rattle.fl_jobs.specs.Jobs.{Wish, Job, opens, replies, calls, own_calls, has_rules}
 use Rattle.fl_jobs.specs.Draft.{Use, free, makes_calls, has_rules as for_rules, Bound as ReadBound, call_fault, rule_fault}
 use Rattle.fl_dockets.specs.declared.docket.Bound.{Bound}
 use Rattle.fl_dockets.specs.State.{TheJoined}
@@ -80,15 +87,87 @@ abbrev pub rule_fault_at : List Program → List Bound → List TheDocket → En
 rule_fault_at programs bindings dockets e msg answer =
     found_at programs bindings e λ x i. rule_fault_by (docket_at dockets e) (docket_at dockets (peer e)) msg answer i
 
+-- ---- a wish
+
+-- the service of the name isn't there, or is offered under another interface
+abbrev pub offer_fault : List TheRegistration → List ℕ → ℕ → Option ℕ
+offer_fault names service interface =
+    given (by_name service names) (Some 70) λ r. if not (r.service.interface == interface) then Some 72 else None
+
+-- a route has at most 16 cores, each with a number of 8 bits
+abbrev pub is_path : List ℕ → Bool
+is_path route = list_all (λ core. nat_le core 255) route && nat_le (length route) 16
+
+abbrev pub path_fault : List ℕ → Option ℕ
+path_fault route = if not (is_path route) then Some 73 else None
+
+-- there is no link on which a circuit may begin
+abbrev pub link_fault : Option ℕ → Option ℕ
+link_fault None = Some 73
+link_fault (Some link) = None
+
+-- no circuit may be asked for over the route, from a table's core to the server's, of so many
+abbrev pub route_fault : TheCircuits → List ℕ → ℕ → ℕ → Option ℕ
+route_fault t route server cores = if not (is_path route) then Some 73 else link_fault (first_link t (map core_id route) server cores)
+
+-- that the client's core finds: of the service that is wished for, or of the route to it
+abbrev pub service_fault : Parts → TheCore → Wish → Option ℕ
+service_fault p core w =
+    given (by_name w.service p.names) (Some 70) λ r.
+    if not (r.service.interface == w.interface) then Some 72
+    else route_fault core.monitor.circuits w.route r.service.core.0 (length p.cores.items)
+
+-- the fault for which a wish is refused behind so many bindings: the first of these
+abbrev pub wish_fault : Parts → ℕ → Wish → Option ℕ
+wish_fault p bindings w =
+    given (slice_get p.cores.items w.client.core) (Some 92) λ core.
+    given (slice_get p.programs.items w.interface) (Some 92) λ program.
+    if nat_le (length core.board.dispatchers) w.client.place then Some 92
+    else if nat_le 1024 bindings then Some 94
+    else service_fault p core w
+
+-- why it stops: for that fault, or because memory was refused, where nothing but the route could be
+abbrev pub WishStops : Option ℕ → Stop → Type 0
+WishStops found (stop.Refused number) = found ≡ Some number
+WishStops found stop.Memory = (found ≡ None) ⊎ (found ≡ Some 73)
+
+-- ---- a rule at an end that is set up
+
+-- what an end speaks
+abbrev pub spoken_by : TheEnd → Planned
+spoken_by s = record { interface = interface_in s; plan = plan_in s }
+
+-- the interface lacks one of the messages, or their arguments differ
+abbrev pub misfit : ℕ → ℕ → Planned → Option ℕ
+misfit msg answer i =
+    if not (has_message msg i && has_message answer i) then Some 41
+    else if not (same_arguments (arguments_of msg i) (arguments_of answer i)) then Some 42
+    else None
+
+-- the core has no such end, or the end refuses the rule
+abbrev pub core_fault : TheCore → EndId → ℕ → ℕ → Option ℕ
+core_fault k e msg answer =
+    given (place_of k e) (Some 92) λ place.
+    given (slice_get k.board.seats place) None λ seat. misfit msg answer (spoken_by seat.end)
+
+-- there is no such core, or it refuses the rule
+abbrev pub end_fault : List TheCore → ℕ → EndId → ℕ → ℕ → Option ℕ
+end_fault cores n e msg answer = given (slice_get cores n) (Some 92) λ k. core_fault k e msg answer
+
+-- where its binding is set up; at any other end nothing is set yet
+abbrev pub fault_at_once : List TheCore → List Binding → EndId → ℕ → ℕ → Option ℕ
+fault_at_once cores set_up e msg answer = given (slice_get set_up e.binding) None λ x. end_fault cores (core_in e.side x) e msg answer
+
+-- why it stops: for the fault that the reader finds, or else for the one at once; or because memory was refused, where the reader finds none
+abbrev pub RuleStops : Option ℕ → Option ℕ → Stop → Type 0
+RuleStops found at_once (stop.Refused number) = given found at_once (λ first. Some first) ≡ Some number
+RuleStops found at_once stop.Memory = found ≡ None
+
 -- ---- whatever the job
 
--- a rule that the reader takes is refused by the core of an end that is set up alone
-abbrev pub RuleStops : Option ℕ → Option Binding → Stop → Type 0
-RuleStops found o s = StopsFor found s ⊎ ((found ≡ None) × IsSome o)
-
--- behind these jobs, which were joined, a job is refused, or memory was refused; of a wish nothing is told
+-- behind these jobs, which were joined, a job is refused, or memory was
 abbrev pub JobStops : Parts → List Job → TheJoined → Job → Stop → Type 0
-JobStops p asked j (opens w) s = Unit {0}
+JobStops p asked j (opens w) s = WishStops (wish_fault p (length j.bindings) w) s
 JobStops p asked j (replies e msg answer) s =
-    RuleStops (rule_refusal p.programs.items asked j.bindings e msg answer) (slice_get p.bindings.items e.binding) s
+    RuleStops (rule_refusal p.programs.items asked j.bindings e msg answer) (fault_at_once p.cores.items p.bindings.items e msg answer) s
 JobStops p asked j (calls e c) s = StopsFor (call_refusal p.programs.items asked j.bindings e c) s

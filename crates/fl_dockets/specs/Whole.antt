@@ -1,5 +1,6 @@
 -- The jobs of a whole file, joined one after another to the bindings of a set-up.
-use Rattle.std.specs.Prelude.{ℕ, ◌≡◌, ◌⊎◌, ◌<◌, ◌≤◌, ◌+◌, ◌-◌, ◌++◌, nat_lt, Bool, List, [], ◌∷◌, length, map, take, slice_get, Some, None}
+use Rattle.std.specs.Prelude.{ℕ, ◌≡◌, ◌⊎◌, ◌<◌, ◌≤◌, ◌+◌, ◌-◌, ◌++◌, ◌&&◌, nat_le, nat_lt, not, if◌then◌else◌, Bool, List, [], ◌∷◌, length, map, take, slice_get}
+use Rattle.std.specs.Prelude.{Option, Some, None}
 use Rattle.std.specs.List.{flat_map}
 use Rattle.fl_base.specs.declared.identity.EndId.{EndId}
 use Rattle.fl_base.specs.declared.identity.MsgNo.{MsgNo}
@@ -31,6 +32,26 @@ pub record SetUp (cores : ℕ) (x : Binding) (j j2 : TheJoined) : Type 0 where
   pub server : x.server < cores
   pub few : length j.bindings < 1024
   pub rest : j2 ≡ with_binding (bound_of x) j
+
+-- the fault for which it is refused where so many stand before it: there is no number for it, or one of its ends is at no core
+abbrev pub binding_fault : ℕ → ℕ → Binding → Option ℕ
+binding_fault cores before x =
+    if nat_le 1024 before then Some 94
+    else if not (nat_lt x.client cores && nat_lt x.server cores) then Some 92
+    else None
+
+-- the first of them that is refused, with this number
+pub record BindingRefused (cores : ℕ) (set_up : List Binding) (number : ℕ) : Type 0 where
+  pub place : ℕ
+  pub binding : Binding
+  pub binding_is : slice_get set_up place ≡ Some binding
+  pub refused : binding_fault cores place binding ≡ Some number
+  pub before : (n : ℕ) (x : Binding) → n < place → slice_get set_up n ≡ Some x → binding_fault cores n x ≡ None
+
+-- why they aren't joined: one of them is refused, or memory was wanted
+abbrev pub SetUpStops : ℕ → List Binding → Stop → Type 0
+SetUpStops cores set_up (stop.Refused number) = BindingRefused cores set_up number
+SetUpStops cores set_up stop.Memory = Unit {0}
 
 -- ---- jobs
 
@@ -119,9 +140,10 @@ abbrev pub FirstRefused : Parts → List Job → JobFault → Type 0
 FirstRefused p jobs (fault.Refused number place) = RefusedAt p jobs number place
 FirstRefused p jobs fault.Memory = Unit {0}
 
--- or, at place 0, a binding of the set-up
+-- or, at place 0, a binding of the set-up is
 abbrev pub IsFault : Parts → List Job → JobFault → Type 0
-IsFault p jobs (fault.Refused number place) = (place ≡ 0) ⊎ RefusedAt p jobs number place
+IsFault p jobs (fault.Refused number place) =
+    ((place ≡ 0) × BindingRefused (length p.cores.items) p.bindings.items number) ⊎ RefusedAt p jobs number place
 IsFault p jobs fault.Memory = Unit {0}
 
 -- and which rules are set then: those of the jobs before the one that is refused; where memory was refused, those of the first, so many

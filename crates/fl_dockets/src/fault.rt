@@ -9,8 +9,8 @@ use thiserror::Error;
 /// Why jobs aren't joined.
 #[derive(Clone, Copy, Debug, PartialEq, Eq, Error)]
 pub enum JobFault {
-    /// The job at this place, from 1, is refused, with the fault's number; at place 0 a binding of the set-up, of which an end is at no core or which is one
-    /// too many.
+    /// The job at this place, from 1, is refused, with the fault's number; at place 0 a binding of the set-up, of which an end is at no core (E92) or which is
+    /// one too many (E94).
     #[error("a job is refused")]
     Refused { number: u8, place: usize },
     /// Out of memory (E99).

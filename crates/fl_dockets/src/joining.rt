@@ -8,7 +8,7 @@ ghost use Rattle.fl_jobs.specs.Views.{wish_of};
 ghost use Rattle.fl_value.specs.Value.{call_of};
 ghost use Rattle.fl_running.specs.declared.job.Job.TheVariants as core;
 ghost use Rattle.fl_dockets.specs.Dockets.{docket_of, docket_at, is_ruled, with_place, end_of};
-ghost use Rattle.fl_dockets.specs.Faults.{call_fault_at, rule_fault_at, StopsFor};
+ghost use Rattle.fl_dockets.specs.Faults.{call_fault_at, rule_fault_at, wish_fault, StopsFor, WishStops};
 ghost use Rattle.fl_dockets.specs.Fitting.{NewFit};
 ghost use Rattle.fl_dockets.specs.Joined.{AreBindings, HasDockets};
 ghost use Rattle.fl_dockets.specs.State.{joined_of, nothing_joined, with_binding, with_owner, changing, with_job, with_calls};
@@ -128,6 +128,7 @@ impl Joined {
         ensures opened { OnOk result (Opened (length parts.now.cores.items) (wish_of wish.now) (joined_of self.old) (joined_of self.new)) }
         ensures fits { OnOk result (NewFit parts.now.names parts.now.programs.items (joined_of self.old) (joined_of self.new)) }
         ensures wished { OnOk result (AddsOpening parts.now.names parts.now.cores.items (wish_of wish.now) (joined_of self.old) (joined_of self.new)) }
+        ensures refused { IfErr result (λ stop. WishStops (wish_fault parts.now (length self.old.bindings.items) (wish_of wish.now)) stop) }
     {
         let binding = self.bindings.as_slice().len();
         let asked = ask(alloc, parts, wish, binding)?;

@@ -6,7 +6,8 @@
 //! them those that jobs open (`AreBound`, `specs/Whole.antt`), each by the wish of its place: to the service of that name, over that route, which its client's
 //! core may ask for (`AreWished`, `specs/Wished.antt`). Circuits are opened to services of their bindings' cores and interfaces, and rules are between messages
 //! of the interface (`JobsFit`, `specs/Fitting.antt`). Rules are set at once at ends that are there (`specs/Rules.antt`). Otherwise the first
-//! job is told that is refused, as the reader of cores files refuses it (`RefusedAt`, `specs/Faults.antt`); of a refused wish only the place is told.
+//! job is told that is refused, with the number of the first fault found there (`RefusedAt`, `specs/Faults.antt`), or, at place 0, the first binding of the
+//! set-up that is (`BindingRefused`, `specs/Whole.antt`).
 //!
 //! - `whole.rt`: the jobs of a whole file
 //! - `joining.rt`: one job more

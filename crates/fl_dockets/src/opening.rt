@@ -1,6 +1,9 @@
 //! What a wish for a circuit comes to.
 
-ghost use Rattle.std.specs.Prelude.{◌≡◌, ◌<◌, length, IfOk, OnOk};
+ghost use Rattle.std.specs.Prelude.{◌≡◌, ◌<◌, length, None, IfOk, IfErr, OnOk};
+ghost use Rattle.fl_monitor.specs.Monitors.{first_link};
+ghost use Rattle.fl_jobs.specs.Views.{wish_of};
+ghost use Rattle.fl_dockets.specs.Faults.{offer_fault, path_fault, link_fault, wish_fault, StopsFor, WishStops};
 ghost use Rattle.fl_dockets.specs.Fitting.{IsOffered};
 ghost use Rattle.fl_dockets.specs.Wished.{cores_on, IsNamed, BeginsOn, BeginsAt};
 
@@ -33,6 +36,7 @@ struct Found {
 fn find(names: &Names, wish: &Wish<'_>) -> Result<Found, Stop>
     ensures offered { IfOk result (λ f. IsOffered names.now f.iref.0 wish.now.interface f.core.0) }
     ensures named { IfOk result (λ f. IsNamed names.now wish.now.service.now f.iref.0) }
+    ensures refused { IfErr result (λ stop. StopsFor (offer_fault names.now wish.now.service.now wish.now.interface) stop) }
 {
     found_is_registered(names);
     each_is_found(names);
@@ -51,6 +55,8 @@ fn find(names: &Names, wish: &Wish<'_>) -> Result<Found, Stop>
 // The route over these cores.
 fn path_over(alloc: Global, cores: &[u32]) -> Result<Path, Stop>
     ensures route { IfOk result (λ path. cores_on path ≡ cores.now) }
+    ensures passes { OnOk result (path_fault cores.now ≡ None) }
+    ensures refused { IfErr result (λ stop. WishStops (path_fault cores.now) stop) }
 {
     let mut ids = Vec::new(alloc);
     for core in cores {
@@ -77,6 +83,7 @@ fn first_link(
 ) -> Result<LinkId, Stop>
     ensures there { OnOk result (server.0 < cores) }
     ensures begins { IfOk result (λ link. BeginsOn core.now.monitor.circuits path server.0 cores link.0) }
+    ensures refused { IfErr result (λ stop. StopsFor (link_fault (first_link core.now.monitor.circuits path server.0 cores)) stop) }
 {
     match core
         .monitor()
@@ -105,6 +112,8 @@ pub(crate) fn ask(
     ensures named { IfOk result (λ a. IsNamed parts.now.names wish.now.service.now a.wish.opening.service.0) }
     ensures route { IfOk result (λ a. cores_on a.wish.opening.path ≡ wish.now.route.items) }
     ensures begins { IfOk result (λ a. BeginsAt parts.now.cores.items wish.now.client.core a.wish.opening.path a.server a.wish.link.0) }
+    ensures passes { OnOk result (wish_fault parts.now binding (wish_of wish.now) ≡ None) }
+    ensures refused { IfErr result (λ stop. WishStops (wish_fault parts.now binding (wish_of wish.now)) stop) }
 {
     let client = wish.client.core as usize;
     let Some(core) = parts.cores.get(client) else {

@@ -1,16 +1,16 @@
 //! The jobs of a whole file, joined one after another.
 
-ghost use Rattle.std.specs.Prelude.{◌≡◌, [], List, map, length, slice_get, IfOk, IfErr, OnOk, OnErr};
+ghost use Rattle.std.specs.Prelude.{◌≡◌, [], List, map, length, IfOk, IfErr, OnOk, OnErr};
 ghost use Rattle.fl_jobs.specs.Jobs.{Job as TheJob};
 ghost use Rattle.fl_jobs.specs.Views.{job_of};
 ghost use Rattle.fl_dockets.specs.Dockets.{docket_of};
-ghost use Rattle.fl_dockets.specs.Faults.{rule_fault_at, RuleStops, JobStops};
+ghost use Rattle.fl_dockets.specs.Faults.{rule_fault_at, fault_at_once, StopsFor, RuleStops, JobStops};
 ghost use Rattle.fl_dockets.specs.Fitting.{JobsFit, NewFit};
 ghost use Rattle.fl_dockets.specs.Joined.{AreBindings, HasDockets};
 ghost use Rattle.fl_dockets.specs.Kept.{AreKept};
 ghost use Rattle.fl_dockets.specs.State.{joined_of, IsSafe, ArePlaced, AreJoined};
 ghost use Rattle.fl_dockets.specs.Rules.{RulesOf};
-ghost use Rattle.fl_dockets.specs.Whole.{bound_of, SetUp, so_far, Ruled, Joins, IsBeside, AreBound, AreDue, fault_at, FirstRefused, IsFault, HadSet};
+ghost use Rattle.fl_dockets.specs.Whole.{bound_of, SetUp, binding_fault, SetUpStops, so_far, Ruled, Joins, IsBeside, AreBound, AreDue, fault_at, FirstRefused, IsFault, HadSet};
 ghost use Rattle.fl_dockets.specs.Wished.{AddsWished, AreWished};
 
 use crate::docket::Bound;
@@ -37,6 +37,7 @@ impl Joined {
     // A binding of the set-up.
     fn set_up(&mut self, alloc: Global, cores: usize, binding: &Binding) -> Result<(), Stop>
         ensures set_up { OnOk result (SetUp cores binding.now (joined_of self.old) (joined_of self.new)) }
+        ensures refused { IfErr result (λ stop. StopsFor (binding_fault cores (length self.old.bindings.items) binding.now) stop) }
     {
         if self.bindings.as_slice().len() >= MAX_BINDINGS {
             return Err(Stop::Refused(94));
@@ -63,7 +64,7 @@ impl Joined {
         ensures beside { IsBeside parts.old parts.new }
         ensures refused { IfErr result (λ stop. RuleStops
             (rule_fault_at parts.old.programs.items self.old.bindings.items (map docket_of self.old.dockets.items) end message.0 answer.0)
-            (slice_get parts.old.bindings.items end.binding) stop) }
+            (fault_at_once parts.old.cores.items parts.old.bindings.items end message.0 answer.0) stop) }
         ensures set { OnErr result (parts.new.cores.items ≡ parts.old.cores.items) }
     {
         let is_there = end.binding < parts.bindings.as_slice().len();
@@ -147,10 +148,13 @@ fn set_up(alloc: Global, cores: usize, bindings: &[Binding]) -> Result<Joined, S
     ensures bound { IfOk result (λ j. AreBound bindings.now [] (joined_of j)) }
     ensures kept { IfOk result (λ j. AreKept bindings.now [] (joined_of j)) }
     ensures none { IfOk result (λ j. j.jobs.items ≡ []) }
+    ensures refused { IfErr result (λ stop. SetUpStops cores bindings.now stop) }
 {
     let mut joined = Joined::new(alloc);
     for binding in bindings {
-        joined.set_up(alloc, cores, binding)?;
+        if let Err(stop) = joined.set_up(alloc, cores, binding) {
+            return Err(stop);
+        }
     }
     Ok(joined)
 }

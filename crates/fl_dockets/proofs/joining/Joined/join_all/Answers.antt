@@ -61,7 +61,7 @@ returns-in-Err-clause-refused c =
     i.joined i.bound i.kept in
     let were = subst (λ (n : ℕ). AreJoined n (map job_of c.loop-job.yielded) (joined_of c.loop-job.self)) (sym i.count) joined in
     first_refused c.args.parts.now c.loop-job.parts c.args.jobs.items c.loop-job.yielded rest c.in-Some.job c.loop-job.place (joined_of c.loop-job.self)
-    i.beside whole i.place joined i.bound c.in-Err.stop c.fault_at.result c.fault_at.ensures.fault
+    i.beside i.rules whole i.place joined i.bound c.in-Err.stop c.fault_at.result c.fault_at.ensures.fault
     (c.in-Err.ensures.refused (map job_of c.loop-job.yielded) were)
 
 pub returns-in-Err-clause-set : goal.returns-in-Err-clause-set

@@ -1,11 +1,17 @@
 use Rattle.std.proofs.Common.{refl, length}
 use Rattle.std.proofs.lemmas.Result.{on_ok_weaker}
+use Rattle.fl_jobs.specs.Views.{wish_of}
 use Rattle.fl_value.specs.Value.{call_of}
 use Rattle.fl_dockets.specs.State.{joined_of}
 use Rattle.fl_dockets.proofs.Fitting.{call_fits}
-use Rattle.fl_dockets.proofs.Refusing.{rule_stops, call_stops}
+use Rattle.fl_dockets.proofs.Refusing.{rule_stops, call_stops, wish_stops}
 use Rattle.fl_dockets.proofs.Wished.{nothing_wished}
 use Rattle.fl_dockets.proofs.joining.Joined.join_one.Goals as goal
+
+pub returns-in-Open-clause-refused : goal.returns-in-Open-clause-refused
+returns-in-Open-clause-refused c =
+    rw c.in-Open.is (wish_stops c.open.result (length c.args.parts.now.cores.items) c.args.parts.now (joined_of c.args.self.now) (wish_of c.in-Open.wish)
+    c.open.ensures.refused)
 
 pub returns-in-Reply-clause-refused : goal.returns-in-Reply-clause-refused
 returns-in-Reply-clause-refused c =

@@ -1,6 +1,9 @@
-use Rattle.std.proofs.Common.{refl, ◌∙◌, ap, subst, ◌<◌, List, length, Some}
+use Rattle.std.proofs.Common.{◌≡◌, inl, refl, ◌∙◌, ap, subst, ◌<◌, List, length, Some, None}
+use Rattle.std.proofs.lemmas.Result.{err_from_is_err_and}
 use Rattle.fl_node.specs.View.{client_of}
 use Rattle.fl_dockets.specs.declared.docket.Bound.{Bound}
+use Rattle.fl_jobs.specs.Views.{wish_of}
+use Rattle.fl_dockets.specs.Faults.{wish_fault, WishStops}
 use Rattle.fl_dockets.specs.State.{TheJoined, joined_of}
 use Rattle.fl_dockets.proofs.Fitting.{opening_fits}
 use Rattle.fl_dockets.proofs.joining.Joined.open.Goals as goal
@@ -66,3 +69,17 @@ returns-clause-wished c =
         begins = asked.begins;
       };
     }
+
+pub returns-in_err-asked-clause-refused : goal.returns-in_err-asked-clause-refused
+returns-in_err-asked-clause-refused c =
+    let e = err_from_is_err_and c.from_residual.result c.from_residual.ensures.1 in
+    rw (e.1, e.2) (subst (λ (bindings : List Bound). WishStops (wish_fault c.args.parts.now (length bindings) (wish_of c.args.wish.now)) c.in_err-asked.field-0.0)
+    c.as_slice-binding.ensures.value c.in_err-asked.ensures.refused)
+
+pub returns-in_err-add_opening-clause-refused : goal.returns-in_err-add_opening-clause-refused
+returns-in_err-add_opening-clause-refused c =
+    let e = err_from_is_err_and c.from_residual-in_err-add_opening.result c.from_residual-in_err-add_opening.ensures.1 in
+    let none : wish_fault c.args.parts.now (length c.args.self.now.bindings.items) (wish_of c.args.wish.now) ≡ None =
+    subst (λ (bindings : List Bound). wish_fault c.args.parts.now (length bindings) (wish_of c.args.wish.now) ≡ None) c.as_slice-binding.ensures.value
+    c.in_ok-asked.ensures.passes in
+    rw (e.1, e.2) (inl none)
