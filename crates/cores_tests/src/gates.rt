@@ -1,7 +1,9 @@
-//! Gates. A gate that has waited for too long lets all cores go on from then on, and tells so.
+//! Gates. A gate whose wait runs out lets all cores go on; then none may ask for a further turn, since the run wouldn't be
+//! the one that the gate stands for, and might never end.
 
 use fl_base::CoreId;
 use fl_running::Gate;
+use std::process::Abort;
 use std::sync::atomic::{AtomicBool, AtomicU64, Ordering};
 use std::thread;
 
@@ -26,19 +28,29 @@ impl Gate for Open {
 
 /// Whether a wait ran out.
 #[derive(Drop)]
-pub struct Waiting {
+pub struct Waiting<'a, R: Abort> {
+    rt: &'a R,
     ran_out: AtomicBool,
 }
 
-impl Waiting {
-    pub fn new() -> Waiting {
+impl<'a, R: Abort> Waiting<'a, R> {
+    pub fn new(rt: &'a R) -> Waiting<'a, R> {
         Waiting {
+            rt,
             ran_out: AtomicBool::new(false),
         }
     }
 
     pub fn ran_out(&self) -> bool {
         self.ran_out.load(Ordering::SeqCst)
+    }
+
+    // A core asks for a turn. After a wait that ran out that ends the test: it fails.
+    fn ask(&self) {
+        assert!(self.rt;
+            !self.ran_out(),
+            "a core asks for a turn after a wait ran out"
+        );
     }
 
     // Waits until a count is so large.
@@ -53,27 +65,29 @@ impl Waiting {
     }
 }
 
-/// Three cores take turns one after another: 0, 1, 2, 0, and so on. Once one has left, the others go on as they like.
+/// Three cores take turns one after another: 0, 1, 2, 0, and so on. The last of them to finish leaves without asking for a turn, so the wait for it runs out.
+/// The others have finished by then too, and leave after the turn for which they wait: a wait that ran out any earlier fails the test.
 #[derive(Drop)]
-pub struct LockStep {
-    wait: Waiting,
+pub struct LockStep<'a, R: Abort> {
+    wait: Waiting<'a, R>,
     // how many turns of each core were begun, and how many of all have ended
     begun: [AtomicU64; 3],
     ended: AtomicU64,
 }
 
-impl LockStep {
-    pub fn new() -> LockStep {
+impl<'a, R: Abort> LockStep<'a, R> {
+    pub fn new(rt: &'a R) -> LockStep<'a, R> {
         LockStep {
-            wait: Waiting::new(),
+            wait: Waiting::new(rt),
             begun: [AtomicU64::new(0), AtomicU64::new(0), AtomicU64::new(0)],
             ended: AtomicU64::new(0),
         }
     }
 }
 
-impl Gate for LockStep {
+impl<'a, R: Abort> Gate for LockStep<'a, R> {
     fn before_turn(&self, core: CoreId) {
+        self.wait.ask();
         let place = place(core);
         let Some(begun) = self.begun.get(place) else {
             return;
@@ -87,51 +101,66 @@ impl Gate for LockStep {
     }
 }
 
-/// Cores 0 and 1 wait for one another before their first turns.
+/// Cores 0 and 1 wait for one another before their first turns; then all take turns one after another.
 #[derive(Drop)]
-pub struct Together {
-    pub wait: Waiting,
-    came: [AtomicU64; 3],
+pub struct SideBySide<'a, R: Abort> {
+    pub wait: Waiting<'a, R>,
+    first: AtomicU64,
+    second: AtomicU64,
+    step: LockStep<'a, R>,
 }
 
-impl Together {
-    pub fn new() -> Together {
-        Together {
-            wait: Waiting::new(),
-            came: [AtomicU64::new(0), AtomicU64::new(0), AtomicU64::new(0)],
+impl<'a, R: Abort> SideBySide<'a, R> {
+    pub fn new(rt: &'a R) -> SideBySide<'a, R> {
+        SideBySide {
+            wait: Waiting::new(rt),
+            first: AtomicU64::new(0),
+            second: AtomicU64::new(0),
+            step: LockStep::new(rt),
+        }
+    }
+
+    // A core tells that it came, and waits for the other before its first turn.
+    fn meet(&self, own: &AtomicU64, other: &AtomicU64) {
+        if own.fetch_add(1, Ordering::SeqCst) == 0 {
+            self.wait.until(other, 1);
         }
     }
 }
 
-impl Gate for Together {
+impl<'a, R: Abort> Gate for SideBySide<'a, R> {
     fn before_turn(&self, core: CoreId) {
-        let place = place(core);
-        if place < 2 && self.came[place].fetch_add(1, Ordering::SeqCst) == 0 {
-            self.wait.until(&self.came[1 - place], 1);
+        self.wait.ask();
+        match core.0 {
+            0 => self.meet(&self.first, &self.second),
+            1 => self.meet(&self.second, &self.first),
+            _ => (),
         }
+        self.step.before_turn(core);
     }
 }
 
 /// Core 1 waits before its first turn until core 0 has begun so many.
 #[derive(Drop)]
-pub struct Held {
-    pub wait: Waiting,
+pub struct Held<'a, R: Abort> {
+    pub wait: Waiting<'a, R>,
     first: AtomicU64,
     turns: u64,
 }
 
-impl Held {
-    pub fn new(turns: u64) -> Held {
+impl<'a, R: Abort> Held<'a, R> {
+    pub fn new(rt: &'a R, turns: u64) -> Held<'a, R> {
         Held {
-            wait: Waiting::new(),
+            wait: Waiting::new(rt),
             first: AtomicU64::new(0),
             turns,
         }
     }
 }
 
-impl Gate for Held {
+impl<'a, R: Abort> Gate for Held<'a, R> {
     fn before_turn(&self, core: CoreId) {
+        self.wait.ask();
         match core.0 {
             0 => {
                 self.first.fetch_add(1, Ordering::SeqCst);

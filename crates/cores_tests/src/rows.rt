@@ -1,6 +1,6 @@
 //! Worked examples.
 
-use crate::gates::{Held, LockStep, Open, Together};
+use crate::gates::{Held, LockStep, Open, SideBySide};
 use crate::texts::{Told, add, add_lines, run, skip_lines};
 use fl_cores::{CoresEnd, CoresFault, run_cores};
 use fl_lines::{DispatcherId, Event};
@@ -23,8 +23,9 @@ const THREE_CALLS: &[u8] =
 const ROW: &[u8] =
     b"cores 3\nlink 0 1 4\nlink 1 2 4\ndisp d 0\ndisp e 2\nexport s e i\nbind p d i s hop 0 1 2\n";
 
+// The same without the second link.
 const BROKEN_ROW: &[u8] =
-    b"cores 3\nlink 0 1 4\ndisp d 0\ndisp e 2\nexport s e i\nbind p d i s hop 0 1 2\ncall p.c ping(1)\n";
+    b"cores 3\nlink 0 1 4\ndisp d 0\ndisp e 2\nexport s e i\nbind p d i s hop 0 1 2\n";
 
 // Calls that are answered by a rule, over a ring.
 const ECHO: &[u8] = b"idl\ninterface i { rpc echo(in uint32 x, out uint32 y); }\n.\n\
@@ -93,9 +94,9 @@ fn joined(alloc: Global, one: &[u8], two: &[u8]) -> Result<Vec<u8>, AllocError> 
     Ok(text)
 }
 
-// The row with 100 calls each way.
-fn both_ways(alloc: Global) -> Result<Vec<u8>, AllocError> {
-    let mut text = joined(alloc, PINGS, ROW)?;
+// A row with 100 calls each way.
+fn both_ways(alloc: Global, row: &[u8]) -> Result<Vec<u8>, AllocError> {
+    let mut text = joined(alloc, PINGS, row)?;
     add_lines(alloc, &mut text, "call p.c", (0, 100))?;
     add_lines(alloc, &mut text, "call p.s", (100, 200))?;
     Ok(text)
@@ -157,7 +158,7 @@ fn the_first_event_that_is_refused_is_told(rt: HostRuntime) -> Result<(), Fail> 
 
 #[test]
 fn no_turns(rt: HostRuntime) -> Result<(), Fail> {
-    let text = both_ways(rt.alloc())?;
+    let text = both_ways(rt.alloc(), ROW)?;
     let told = run(&rt, rt.alloc(), &text, 0, &Open)?;
     assert_eq!(rt; told.end, CoresEnd::TurnsOut);
     assert_eq!(rt; told.text.as_slice(), b"turns out\n".as_slice());
@@ -166,8 +167,8 @@ fn no_turns(rt: HostRuntime) -> Result<(), Fail> {
 
 #[test]
 fn three_cores_in_step(rt: HostRuntime) -> Result<(), Fail> {
-    let text = both_ways(rt.alloc())?;
-    let told = run(&rt, rt.alloc(), &text, MANY, &LockStep::new())?;
+    let text = both_ways(rt.alloc(), ROW)?;
+    let told = run(&rt, rt.alloc(), &text, MANY, &LockStep::new(&rt))?;
     assert_eq!(rt; told.end, CoresEnd::Complete);
     let wanted = all_handled(rt.alloc())?;
     assert_eq!(rt; told.text.as_slice(), wanted.as_slice());
@@ -176,7 +177,7 @@ fn three_cores_in_step(rt: HostRuntime) -> Result<(), Fail> {
 
 #[test]
 fn fifty_turns(rt: HostRuntime) -> Result<(), Fail> {
-    let text = both_ways(rt.alloc())?;
+    let text = both_ways(rt.alloc(), ROW)?;
     let told = run(&rt, rt.alloc(), &text, 50, &Open)?;
     let few = match counts(rt.alloc(), &told)? {
         Some((client, server)) => client <= 50 && server <= 50,
@@ -186,22 +187,24 @@ fn fifty_turns(rt: HostRuntime) -> Result<(), Fail> {
     Ok(())
 }
 
-// Each of the first two cores waits for the other's first turn, so that one thread for all would never go on.
+// Each of the first two cores waits for the other's first turn, so that one thread for all would never go on. No wait may run out before all is handled.
 #[test]
 fn cores_run_side_by_side(rt: HostRuntime) -> Result<(), Fail> {
-    let text = both_ways(rt.alloc())?;
-    let gate = Together::new();
-    let told = run(&rt, rt.alloc(), &text, 50, &gate)?;
+    let text = both_ways(rt.alloc(), ROW)?;
+    let gate = SideBySide::new(&rt);
+    let told = run(&rt, rt.alloc(), &text, MANY, &gate)?;
     assert!(rt; !gate.wait.ran_out());
-    assert!(rt; counts(rt.alloc(), &told)?.is_some());
+    assert_eq!(rt; told.end, CoresEnd::Complete);
+    let wanted = all_handled(rt.alloc())?;
+    assert_eq!(rt; told.text.as_slice(), wanted.as_slice());
     Ok(())
 }
 
 // Core 1 begins when core 0 has taken nearly all its turns: so next to nothing is handled, and nothing of that is told that wasn't.
 #[test]
 fn a_core_that_begins_late(rt: HostRuntime) -> Result<(), Fail> {
-    let text = both_ways(rt.alloc())?;
-    let gate = Held::new(50);
+    let text = both_ways(rt.alloc(), ROW)?;
+    let gate = Held::new(&rt, 50);
     let told = run(&rt, rt.alloc(), &text, 50, &gate)?;
     let few = match counts(rt.alloc(), &told)? {
         Some((client, server)) => client <= 1 && server <= 5,
@@ -222,7 +225,7 @@ fn replies_over_a_ring(rt: HostRuntime) -> Result<(), Fail> {
 
 #[test]
 fn a_route_without_its_second_link(rt: HostRuntime) -> Result<(), Fail> {
-    let text = joined(rt.alloc(), PINGS, BROKEN_ROW)?;
+    let text = both_ways(rt.alloc(), BROKEN_ROW)?;
     let told = run(&rt, rt.alloc(), &text, MANY, &Open)?;
     assert_eq!(rt; told.end, CoresEnd::Complete);
     assert_eq!(rt;

@@ -10,6 +10,7 @@ use std::test::Fail;
 #[test]
 fn examples(rt: HostRuntime) -> Result<(), Fail> {
     routes::know_stretches();
+    routes::know_circuits();
     all_hold(rt.alloc(), "faults", FAULTS)?;
     all_hold(rt.alloc(), "fragments on circuits", ON_CIRCUITS)?;
     all_hold(rt.alloc(), "openings", SCRIPTS)?;

@@ -5,8 +5,9 @@ use crate::hop::openings::table;
 use crate::rows::Row;
 use fl_base::{Circuit, Frag, LinkId};
 use fl_hop::{
-    Circuits, First, Forwarded, HopFault, Outcome, Way, deliver, forward_adds, later_on,
-    openings_lead, passage_adds, stretches_join,
+    Circuits, First, Forwarded, HopFault, Outcome, Way, along, carried_in, carried_on, deliver,
+    forward_adds, later_on, links_suffice, numbers_apart, openings_lead, own_alone, passage_adds,
+    stretches_join,
 };
 use fl_link::{QueueLink, Sight, TakeSide, Told};
 use fl_ring::{SharedSide, duo};
@@ -208,6 +209,16 @@ pub fn know_stretches() {
     stretches_join();
     passage_adds::<SharedSide, QueueLink>();
     forward_adds::<SharedSide>();
+}
+
+/// What holds of the numbers of every table, and of what a circuit carries: these may be called there too.
+pub fn know_circuits() {
+    numbers_apart();
+    links_suffice();
+    carried_on();
+    carried_in();
+    own_alone();
+    along();
 }
 
 // Whether a fragment with this control word is put, and a forward answers so twice, where number 1 leads to an end.

@@ -2,6 +2,7 @@
 
 use crate::image::images::{PING, answer, answer_to_change};
 use crate::rows::{Row, all_hold};
+use fl_image::{cut_images_end_early, field_faults_stay, longer_images_have_more, one_image};
 use std::alloc::{AllocError, Global};
 use std::test::Fail;
 
@@ -118,8 +119,17 @@ impl Row for Answered {
     }
 }
 
+// The laws on images and on their faults: they may be called where images are read.
+fn know_images() {
+    one_image();
+    cut_images_end_early();
+    longer_images_have_more();
+    field_faults_stay();
+}
+
 #[test]
 fn images_that_end_early(rt: HostRuntime) -> Result<(), Fail> {
+    know_images();
     all_hold(rt.alloc(), "images that end early", ENDED)
 }
 
