@@ -92,7 +92,7 @@ impl Queued {
     // A fitting call as it is queued: its payload. Out of line, so that a call of one fragment has nothing of it.
     #[inline(never)]
     fn of_payload(alloc: Global, program: &Program, call: &Call) -> Result<Queued, AllocError>
-        requires fits { fits_of (program_of program.now).interface (call_of call.now) ≡ true }
+        requires { fits_of (program_of program.now).interface (call_of call.now) ≡ true }
         ensures queues { IfOk result (λ queued. Queues (program_of program.now) (call_of call.now) queued) }
     {
         let payload = payload(alloc, program.interface(), program.plan(), call)?;
@@ -110,7 +110,7 @@ impl Queued {
         program: &Program,
         call: &Call,
     ) -> Result<Queued, AllocError>
-        requires fits { fits_of (program_of program.now).interface (call_of call.now) ≡ true }
+        requires { fits_of (program_of program.now).interface (call_of call.now) ≡ true }
         ensures queues { IfOk result (λ queued. Queues (program_of program.now) (call_of call.now) queued) }
     {
         if program.plans().fragments_of(call) == 1 {

@@ -1,8 +1,8 @@
-use Rattle.std.proofs.Common.{◌≡◌, ℕ, ◌+◌, List, ◌∷◌, drop, length, sym, ap, subst, ◌∙◌, arith, rules}
+use Rattle.std.proofs.Common.{◌≡◌, ℕ, ◌+◌, List, length, sym, ap, subst, ◌∙◌, arith, rules}
 use Rattle.fl_base.specs.declared.fragment.Frag.{Frag}
 use Rattle.fl_layout.specs.Places.{count_for}
 use Rattle.fl_wire.specs.Payload.{frag_on}
-use Rattle.fl_endpoint.specs.Stored.{payload_frags, AreOwn}
+use Rattle.fl_endpoint.specs.Stored.{AreOwn}
 use Rattle.fl_endpoint.proofs.Outgoings.{own_frags, length_payload_frags, from_first_on}
 use Rattle.fl_endpoint.proofs.outgoing.Outgoing.start_payload.Goals as goal
 

@@ -1,4 +1,4 @@
-use Rattle.std.proofs.Common.{◌≡◌, ℕ, ◌+◌, List, ◌∷◌, drop, length, Option, Some, sym, ap, subst, ◌∙◌, arith, rules}
+use Rattle.std.proofs.Common.{◌≡◌, ℕ, ◌+◌, List, length, Option, Some, sym, ap, subst, ◌∙◌, arith, rules}
 use Rattle.std.specs.Global.{Vec}
 use Rattle.fl_base.specs.declared.fragment.Frag.{Frag}
 use Rattle.fl_wire.specs.Payload.{frag_on}
