@@ -1,6 +1,7 @@
 -- Ends by their fields: what a change of the calls that are to be sent makes of them.
 use Rattle.std.proofs.Common.{◌≡◌, ℕ, ◌+◌, ◌<◌, ◌≤◌, true, false, List, [], ◌∷◌, ◌++◌, map, length, Option, Some, None, refl, sym, ap, subst, ◌∙◌, arith, rules}
 use Rattle.std.specs.Prelude.{Result, OnOk, IsSome, IfSome, slice_get, slice_set}
+use Rattle.std.specs.Global.{Vec}
 use Rattle.std.specs.Option.{is_some, option_map}
 use Rattle.std.proofs.lemmas.Result.{on_ok_weaker}
 use Rattle.std.proofs.lemmas.List.{length-map, map-append}
@@ -13,7 +14,6 @@ use Rattle.fl_compile.specs.Programs.{TheProgram}
 use Rattle.fl_endpoint.specs.View.{TheEnd, TheOutgoing, interface_in, number_or_0, queued, queued_if, wrote, reply_to, rule_at, holds_back, with_call, with_written, with_handled}
 use Rattle.fl_endpoint.specs.Accounts.{IsRule, Sound}
 use Rattle.fl_endpoint.specs.Rules.{rules_of}
-use Rattle.fl_machine.specs.Sending.{TheSending}
 use Rattle.fl_endpoint.specs.declared.outgoing.Queued.{Queued}
 use Rattle.fl_endpoint.specs.declared.outgoing.Sending.{Sending}
 use Rattle.fl_endpoint.specs.declared.outgoing.Outgoing.{Outgoing}
@@ -25,9 +25,9 @@ use Rattle.fl_endpoint.proofs.Sounds.{has_room, sound_exchanged}
 
 -- ---- the calls that are to be sent
 
-pub still_now : (p : TheProgram) (o : Option Sending) (run : Option TheSending) (xs ys : List Queued) → true ≡ is_some o → IsInTransmission p o run xs → IsInTransmission p o run ys
-still_now p None run xs ys e h = absurd cc
-still_now p (Some s) run xs ys e h = h
+pub still_now : (o : Option Sending) (payload : Option (Vec ℕ)) (xs ys : List Queued) → true ≡ is_some o → IsInTransmission o payload xs → IsInTransmission o payload ys
+still_now None payload xs ys e h = absurd cc
+still_now (Some s) payload xs ys e h = h
 
 pub queued_more : (p : TheProgram) (xs : List Queued) (x : Queued) → AreQueued p xs → IsQueued p x → AreQueued p (xs ++ x ∷ [])
 queued_more p [] x h q = (q, tt)
@@ -53,23 +53,23 @@ accepted_none p circuit o (Some x) e = absurd cc
 
 -- one that waits more, or none more
 pub waits_more : (p : TheProgram) (before after : Outgoing) (call : Queued) → true ≡ is_some before.sending → IsOutgoing p before → IsQueued p call
-    → length before.waiting.items < 16 → after.sending ≡ before.sending → after.run ≡ before.run → after.waiting.items ≡ before.waiting.items ++ call ∷ [] → IsOutgoing p after
-waits_more p before after call busy is q few sending run items =
+    → length before.waiting.items < 16 → after.sending ≡ before.sending → after.payload ≡ before.payload → after.waiting.items ≡ before.waiting.items ++ call ∷ [] → IsOutgoing p after
+waits_more p before after call busy is q few sending payload items =
     let long = ap length items ∙ length_more before.waiting.items call in
     record {
-      now = subst (λ (o : Option Sending). IsInTransmission p o after.run after.waiting.items) (sym sending)
-          (subst (λ (r : Option TheSending). IsInTransmission p before.sending r after.waiting.items) (sym run)
-          (still_now p before.sending before.run before.waiting.items after.waiting.items busy is.now));
+      now = subst (λ (o : Option Sending). IsInTransmission o after.payload after.waiting.items) (sym sending)
+          (subst (λ (x : Option (Vec ℕ)). IsInTransmission before.sending x after.waiting.items) (sym payload)
+          (still_now before.sending before.payload before.waiting.items after.waiting.items busy is.now));
       waiting = subst (λ (xs : List Queued). AreQueued p xs) (sym items) (queued_more p before.waiting.items call is.waiting q);
       few = omega (arith, long, few);
     }
 
-pub waits_as : (p : TheProgram) (before after : Outgoing) → IsOutgoing p before → after.sending ≡ before.sending → after.run ≡ before.run
+pub waits_as : (p : TheProgram) (before after : Outgoing) → IsOutgoing p before → after.sending ≡ before.sending → after.payload ≡ before.payload
     → after.waiting.items ≡ before.waiting.items → IsOutgoing p after
-waits_as p before after is sending run items = record {
-  now = subst (λ (o : Option Sending). IsInTransmission p o after.run after.waiting.items) (sym sending)
-      (subst (λ (r : Option TheSending). IsInTransmission p before.sending r after.waiting.items) (sym run)
-      (subst (λ (xs : List Queued). IsInTransmission p before.sending before.run xs) (sym items) is.now));
+waits_as p before after is sending payload items = record {
+  now = subst (λ (o : Option Sending). IsInTransmission o after.payload after.waiting.items) (sym sending)
+      (subst (λ (x : Option (Vec ℕ)). IsInTransmission before.sending x after.waiting.items) (sym payload)
+      (subst (λ (xs : List Queued). IsInTransmission before.sending before.payload xs) (sym items) is.now));
   waiting = subst (λ (xs : List Queued). AreQueued p xs) (sym items) is.waiting;
   few = subst (λ (xs : List Queued). length xs ≤ 16) (sym items) is.few;
 }
@@ -80,15 +80,15 @@ no_sending (Some s) e = absurd cc
 
 -- behind the call in transmission
 pub queued_waits : (p : TheProgram) (circuit : ℕ) (before : Outgoing) (items : List Queued) (call : Queued) → true ≡ is_some before.sending → items ≡ before.waiting.items ++ call ∷ []
-    → ◌≡◌ {A = TheOutgoing} (record { unwritten = sending_frags p before.sending before.run; count = count_in before.sending; waiting = map (queued_frags p circuit) items })
+    → ◌≡◌ {A = TheOutgoing} (record { unwritten = sending_frags before.sending before.payload; count = count_in before.sending; waiting = map (queued_frags p circuit) items })
     (queued (outgoing_of p circuit before) (queued_frags p circuit call))
 queued_waits p circuit before items call busy e = by before.sending busy
   where
     by : (o : Option Sending) → true ≡ is_some o
-        → ◌≡◌ {A = TheOutgoing} (record { unwritten = sending_frags p o before.run; count = count_in o; waiting = map (queued_frags p circuit) items })
-        (queued (record { unwritten = sending_frags p o before.run; count = count_in o; waiting = map (queued_frags p circuit) before.waiting.items }) (queued_frags p circuit call))
+        → ◌≡◌ {A = TheOutgoing} (record { unwritten = sending_frags o before.payload; count = count_in o; waiting = map (queued_frags p circuit) items })
+        (queued (record { unwritten = sending_frags o before.payload; count = count_in o; waiting = map (queued_frags p circuit) before.waiting.items }) (queued_frags p circuit call))
     by None busy = absurd cc
-    by (Some s) busy = ap (λ (xs : List (List Frag)). record { unwritten = sending_frags p (Some s) before.run; count = s.count; waiting = xs })
+    by (Some s) busy = ap (λ (xs : List (List Frag)). record { unwritten = sending_frags (Some s) before.payload; count = s.count; waiting = xs })
         (ap (map (queued_frags p circuit)) e ∙ map-append (queued_frags p circuit) before.waiting.items (call ∷ []))
 
 -- ---- ends
@@ -168,19 +168,19 @@ handled_is_end e out c outgoing view sound = record {
 
 -- ---- whether a call is in transmission
 
-pub busy_sending : (p : TheProgram) (o : Option Sending) (run : Option TheSending) (f : Frag) (rest : List Frag) → sending_frags p o run ≡ f ∷ rest → IsSome o
-busy_sending p None run f rest e = absurd cc
-busy_sending p (Some s) run f rest e = refl
+pub busy_sending : (o : Option Sending) (payload : Option (Vec ℕ)) (f : Frag) (rest : List Frag) → sending_frags o payload ≡ f ∷ rest → IsSome o
+busy_sending None payload f rest e = absurd cc
+busy_sending (Some s) payload f rest e = refl
 
 -- none where nothing is to be written
-pub none_sending : (p : TheProgram) (o : Option Sending) (run : Option TheSending) → sending_frags p o run ≡ [] → o ≡ None
-none_sending p None run e = refl
-none_sending p (Some s) run e = absurd cc
+pub none_sending : (o : Option Sending) (payload : Option (Vec ℕ)) → sending_frags o payload ≡ [] → o ≡ None
+none_sending None payload e = refl
+none_sending (Some s) payload e = absurd cc
 
 -- the next fragment, if there is one, is carried unchanged
-pub next_own : (p : TheProgram) (o : Option Sending) (run : Option TheSending) (xs : List Queued) → IsInTransmission p o run xs → IfSome (slice_get (sending_frags p o run) 0) IsOwn
-next_own p None run xs is = search rules
-next_own p (Some s) run xs is = is.own.0
+pub next_own : (o : Option Sending) (payload : Option (Vec ℕ)) (xs : List Queued) → IsInTransmission o payload xs → IfSome (slice_get (sending_frags o payload) 0) IsOwn
+next_own None payload xs is = search rules
+next_own (Some s) payload xs is = is.own.0
 
 -- there is room for the reply to a call
 pub room_for : (p : TheProgram) (circuit : ℕ) (e : Inside) (c : TheCall) (reply : Option Queued) → QueuesReply p (reply_to (rules_of e.rules.replies.items) c) reply

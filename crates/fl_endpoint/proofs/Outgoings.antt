@@ -1,10 +1,12 @@
 -- The fragments that an end is to send.
-use Rattle.std.proofs.Common.{◌≡◌, ℕ, ◌/◌, ◌%◌, ◌^◌, ◌<◌, ◌==◌, ◌&&◌, Bool, true, false, List, [], ◌∷◌, map, drop, length, Option, Some, None, refl, sym, ap, subst, ◌∙◌, arith, rules}
+use Rattle.std.proofs.Common.{◌≡◌, ℕ, ◌+◌, ◌/◌, ◌%◌, ◌^◌, ◌<◌, ◌==◌, ◌&&◌, Bool, true, false, List, [], ◌∷◌, map, drop, length, get_or, Option, Some, None, refl, sym, ap, subst, ◌∙◌, arith, rules}
 use Rattle.std.specs.Prelude.{slice_get, IsSome}
+use Rattle.std.specs.Global.{Vec}
 use Rattle.std.specs.List.{range_with_len, list_all}
 use Rattle.std.specs.Option.{option_map}
-use Rattle.std.proofs.lemmas.List.{length-map}
-use Rattle.std.proofs.lemmas.List.FromFn.{length-range_with_len}
+use Rattle.std.proofs.lemmas.Bool.{false≢true}
+use Rattle.std.proofs.lemmas.List.{length-map, length-drop, drop_more}
+use Rattle.std.proofs.lemmas.List.FromFn.{length-range_with_len, length-map-range_with_len, get_or-map-range_with_len}
 use Rattle.fl_base.specs.declared.fragment.Frag.{Frag}
 use Rattle.fl_base.specs.Control.{control_word, body}
 use Rattle.fl_interface.specs.Interface.{TheMessage, TheInterface}
@@ -12,22 +14,25 @@ use Rattle.fl_interface.specs.Limits.{is_within_limits}
 use Rattle.fl_value.specs.Value.{TheCall}
 use Rattle.fl_value.specs.Fits.{fits_of, fit_message}
 use Rattle.fl_value.specs.Tape.{tape_of}
-use Rattle.fl_layout.specs.Places.{count}
-use Rattle.fl_wire.specs.Payload.{payload_of, frag_on, frags_on}
-use Rattle.fl_wire.specs.Words.{interface_words_fit}
-use Rattle.fl_machine.specs.Laws.{SendsFragments}
-use Rattle.fl_endpoint.specs.declared.outgoing.Queued.{Queued}
-use Rattle.std.proofs.lemmas.Bool.{false≢true}
 use Rattle.fl_value.specs.declared.value.PlanNo.{PlanNo}
+use Rattle.fl_layout.specs.Leaves.{leaves}
+use Rattle.fl_layout.specs.Places.{size, count, count_for}
+use Rattle.fl_wire.specs.Payload.{payload_at, payload_of, frag_on, frags_on}
+use Rattle.fl_wire.specs.Words.{interface_words_fit}
 use Rattle.fl_stub.specs.declared.op.Column.TheVariants.{Send}
 use Rattle.fl_stub.specs.Code.{TheCode}
 use Rattle.fl_stub.specs.Frames.{block_of}
 use Rattle.fl_stub.specs.Given.{bytes_given}
 use Rattle.fl_compile.specs.Codes.{compiled_code}
 use Rattle.fl_compile.specs.Programs.{TheProgram}
-use Rattle.fl_machine.specs.Sending.{TheSending, frag_of, frags_for, frags_holding, frags_left}
+use Rattle.fl_machine.specs.Sending.{frags_holding}
+use Rattle.fl_machine.specs.Laws.{SendsFragments}
+use Rattle.fl_endpoint.specs.declared.outgoing.Body.{Body}
+use Rattle.fl_endpoint.specs.declared.outgoing.Body.TheVariants.{Tape, Payload}
+use Rattle.fl_endpoint.specs.declared.outgoing.Queued.{Queued}
+use Rattle.fl_endpoint.specs.declared.outgoing.Sending.{Sending}
 use Rattle.fl_endpoint.specs.View.{are_some}
-use Rattle.fl_endpoint.specs.Stored.{code_for, code_of, tape_frags, IsOwn, AreOwn, Queues}
+use Rattle.fl_endpoint.specs.Stored.{code_for, payload_frags, tape_frags, body_frags, IsOwn, AreOwn, IsBody, IsSending, Queues}
 
 -- ---- a fragment of a call is carried unchanged by every link, and only acknowledges never
 
@@ -42,31 +47,56 @@ no_acknowledgement false msg circuit = grind arith
 data_with : (b c : Bool) → b ≡ false → (b && c) ≡ false
 data_with b c e = ap (λ (x : Bool). x && c) e
 
-pub own_frag : (begins : Bool) (msg circuit : ℕ) (bytes : List ℕ) (k : ℕ) → msg < 2 ^ 16 → circuit < 2 ^ 16 → IsOwn (frag_of begins msg circuit bytes k)
-own_frag begins msg circuit bytes k m c =
-    let f = frag_of begins msg circuit bytes k in
+own_frag : (msg circuit : ℕ) (bytes : List ℕ) (k : ℕ) → msg < 2 ^ 16 → circuit < 2 ^ 16 → IsOwn (frag_on circuit msg bytes k)
+own_frag msg circuit bytes k m c =
+    let f = frag_on circuit msg bytes k in
     record {
-      bare_is = ap (λ (w : ℕ). record { words = f.words; control = w }) (body_of_call (begins && k == 0) msg circuit m c);
-      data_is = data_with _ (list_all (λ w. w == 0) f.words) (no_acknowledgement (begins && k == 0) msg circuit);
+      bare_is = ap (λ (w : ℕ). record { words = f.words; control = w }) (body_of_call (k == 0) msg circuit m c);
+      data_is = data_with _ (list_all (λ w. w == 0) f.words) (no_acknowledgement (k == 0) msg circuit);
     }
 
 own_map : {A : Type 0} (f : A → Frag) (xs : List A) → ((x : A) → IsOwn (f x)) → AreOwn (map f xs)
 own_map f [] h = tt
 own_map f (x ∷ xs) h = (h x, own_map f xs h)
 
-pub own_frags : (begins : Bool) (msg circuit : ℕ) (bytes : List ℕ) → msg < 2 ^ 16 → circuit < 2 ^ 16 → AreOwn (frags_holding begins msg circuit bytes)
-own_frags begins msg circuit bytes m c =
-    own_map (frag_of begins msg circuit bytes) (range_with_len 0 (frags_for begins (length bytes))) (λ k. own_frag begins msg circuit bytes k m c)
+pub own_frags : (msg circuit : ℕ) (bytes : List ℕ) → msg < 2 ^ 16 → circuit < 2 ^ 16 → AreOwn (payload_frags circuit msg bytes)
+own_frags msg circuit bytes m c = own_map (frag_on circuit msg bytes) (range_with_len 0 (count_for (length bytes))) (λ k. own_frag msg circuit bytes k m c)
 
 -- ---- how many they are
 
-pub length_holding : (begins : Bool) (msg circuit : ℕ) (bytes : List ℕ) → length (frags_holding begins msg circuit bytes) ≡ frags_for begins (length bytes)
-length_holding begins msg circuit bytes =
-    length-map (range_with_len 0 (frags_for begins (length bytes))) (frag_of begins msg circuit bytes)
-    ∙ length-range_with_len 0 (frags_for begins (length bytes))
+pub length_payload_frags : (msg circuit : ℕ) (bytes : List ℕ) → length (payload_frags circuit msg bytes) ≡ count_for (length bytes)
+length_payload_frags msg circuit bytes = length-map-range_with_len (frag_on circuit msg bytes) 0 (count_for (length bytes))
 
-pub some_for : (bytes : ℕ) → 0 < frags_for true bytes
+pub some_for : (bytes : ℕ) → 0 < count_for bytes
 some_for bytes = omega arith
+
+-- ---- one of them, and those behind it
+
+pub from_one_on : (msg circuit : ℕ) (bytes : List ℕ) (k : ℕ) → k < count_for (length bytes)
+    → frag_on circuit msg bytes k ∷ drop (k + 1) (payload_frags circuit msg bytes) ≡ drop k (payload_frags circuit msg bytes)
+from_one_on msg circuit bytes k within =
+    let all = payload_frags circuit msg bytes in
+    let f = frag_on circuit msg bytes k in
+    let long = length_payload_frags msg circuit bytes in
+    let is : get_or all k f ≡ f = get_or-map-range_with_len (frag_on circuit msg bytes) 0 (count_for (length bytes)) k k f within (omega arith) in
+    sym (drop_more all k f (omega (arith, long, within)) ∙ ap (λ (g : Frag). g ∷ drop (k + 1) all) is)
+
+-- all of them, from the first on
+pub from_first_on : (msg circuit : ℕ) (bytes : List ℕ) (first : Frag) → first ≡ frag_on circuit msg bytes 0
+    → first ∷ drop 1 (payload_frags circuit msg bytes) ≡ payload_frags circuit msg bytes
+from_first_on msg circuit bytes first is =
+    ap (λ (f : Frag). f ∷ drop 1 (payload_frags circuit msg bytes)) is ∙ from_one_on msg circuit bytes 0 (some_for (length bytes))
+
+-- those behind the next one, where there are any
+pub from_next_on : (s : Sending) (payload : Vec ℕ) (next : Frag) → IsSending s (Some payload) → (s.written + 1 ≡ s.count → ⊥)
+    → next ≡ frag_on s.circuit.0 s.msg.0 payload.items (s.written + 1)
+    → next ∷ drop (s.written + 1 + 1) (payload_frags s.circuit.0 s.msg.0 payload.items) ≡ drop (s.written + 1) (payload_frags s.circuit.0 s.msg.0 payload.items)
+from_next_on s payload next sending more is =
+    let all = payload_frags s.circuit.0 s.msg.0 payload.items in
+    let long = length_payload_frags s.msg.0 s.circuit.0 payload.items in
+    let left = length-drop (s.written + 1) all in
+    let counted = sending.counted in
+    ap (λ (f : Frag). f ∷ drop (s.written + 1 + 1) all) is ∙ from_one_on s.msg.0 s.circuit.0 payload.items (s.written + 1) (omega (arith, long, left, counted, more))
 
 -- ---- the first and the others
 
@@ -84,18 +114,11 @@ only_one [] x e long = absurd cc
 only_one (y ∷ []) x e long = let h : x ≡ y = cc in ap (λ (z : _). z ∷ []) h
 only_one (y ∷ z ∷ ys) x e long = absurd (omega (arith, long))
 
--- ---- runs
+-- ---- the code of a message
 
 pub code_is : (plan : PlanNo) (o : Option TheMessage) (code : TheCode) → Some code ≡ option_map (compiled_code Send plan) o → code ≡ code_for plan o
 code_is plan None code e = absurd cc
 code_is plan (Some m) code e = cc
-
--- a run that has given its first fragment has the others to give
-pub given_first : (code code2 : TheCode) (run run2 : TheSending) (next : Frag) → code ≡ code2 → slice_get (frags_left code run) 0 ≡ Some next
-    → frags_left code run2 ≡ drop 1 (frags_left code run) → next ∷ frags_left code2 run2 ≡ frags_left code run
-given_first code code2 run run2 next same first left =
-    subst (λ (k : TheCode). next ∷ frags_left k run2 ≡ frags_left code run) same
-    (ap (λ (xs : List Frag). next ∷ xs) left ∙ sym (first_and_rest (frags_left code run) next first))
 
 -- ---- the fragments of a call
 
@@ -116,23 +139,37 @@ pub known_call : (i : TheInterface) (o : Option TheMessage) (c : TheCall) → o 
 known_call i None c there fits = absurd (false≢true (subst (λ (o : Option TheMessage). fit_message o c.args ≡ true) (sym there) fits))
 known_call i (Some m) c there fits = search rules
 
--- a fitting call as it is queued, by its tape and the number of its fragments
-pub queues : (p : TheProgram) (c : TheCall) (call : Queued) → SendsFragments → is_within_limits p.interface ≡ true → interface_words_fit p.interface ≡ true
-    → fits_of p.interface c ≡ true → call.msg.0 ≡ c.msg → call.tape.items ≡ tape_of p.plan p.interface c → call.count ≡ count p.plan p.interface c
+queues_body : (p : TheProgram) (c : TheCall) (call : Queued) (body : Body) → call.msg.0 ≡ c.msg → call.body ≡ body → IsBody p c.msg body
+    → ((circuit : ℕ) → body_frags p circuit c.msg body ≡ frags_on circuit p.plan p.interface c) → Queues p c call
+queues_body p c call body msg is of_body frags = record {
+  is = subst (λ (n : ℕ). IsBody p n call.body) (sym msg) (subst (λ (b : Body). IsBody p c.msg b) (sym is) of_body);
+  frags = λ circuit. ap (λ (n : ℕ). body_frags p circuit n call.body) msg ∙ ap (body_frags p circuit c.msg) is ∙ frags circuit;
+}
+
+-- a fitting call of one fragment as it is queued, by its tape
+pub queues_tape : (p : TheProgram) (c : TheCall) (tape : Vec ℕ) (call : Queued) → SendsFragments → is_within_limits p.interface ≡ true → interface_words_fit p.interface ≡ true
+    → fits_of p.interface c ≡ true → count p.plan p.interface c ≡ 1 → call.msg.0 ≡ c.msg → call.body ≡ Tape tape → tape.items ≡ tape_of p.plan p.interface c
     → Queues p c call
-queues p c call law within words fits msg tape counted =
-    let code = code_of p c.msg in
-    let frags : (circuit : ℕ) → tape_frags p circuit call.msg.0 call.tape.items ≡ frags_on circuit p.plan p.interface c
-    = λ circuit. ap (λ (n : ℕ). tape_frags p circuit n call.tape.items) msg ∙ ap (tape_frags p circuit c.msg) tape
+queues_tape p c tape call law within words fits one msg body tape_is =
+    let frags : (circuit : ℕ) → tape_frags p circuit c.msg tape.items ≡ frags_on circuit p.plan p.interface c
+    = λ circuit. ap (tape_frags p circuit c.msg) tape_is
     ∙ code_frags circuit p.plan p.interface (slice_get p.interface.messages c.msg) c law refl within words fits in
-    record {
-      is = record {
-        known = subst (λ (n : ℕ). IsSome (slice_get p.interface.messages n)) (sym msg) (known_call p.interface (slice_get p.interface.messages c.msg) c refl fits);
-        counted = counted ∙ sym (length_frags 0 p.plan p.interface c) ∙ ap length (sym (frags 0))
-            ∙ length_holding true call.msg.0 0 (bytes_given (block_of (code_of p call.msg.0).ops) call.tape.items);
-      };
-      frags = frags;
-    }
+    let is : IsBody p c.msg (Tape tape)
+    = record {
+      known = known_call p.interface (slice_get p.interface.messages c.msg) c refl fits;
+      one = λ circuit. ap length (frags circuit) ∙ length_frags circuit p.plan p.interface c ∙ one;
+    } in
+    queues_body p c call (Tape tape) msg body is frags
+
+-- one by its payload
+pub queues_payload : (p : TheProgram) (c : TheCall) (payload : Vec ℕ) (call : Queued) → call.msg.0 ≡ c.msg → call.body ≡ Payload payload
+    → payload.items ≡ payload_of p.plan p.interface c → Queues p c call
+queues_payload p c payload call msg body payload_is =
+    let long : length (payload_of p.plan p.interface c) ≡ size (leaves p.plan p.interface c)
+    = length-map-range_with_len (payload_at (leaves p.plan p.interface c)) 0 (size (leaves p.plan p.interface c)) in
+    queues_body p c call (Payload payload) msg body tt
+    (λ circuit. ap (payload_frags circuit c.msg) payload_is
+    ∙ ap (λ (n : ℕ). map (frag_on circuit c.msg (payload_of p.plan p.interface c)) (range_with_len 0 (count_for n))) long)
 
 -- ---- whether there is any
 

@@ -1,6 +1,7 @@
 -- A working file, on which no public promise rests by itself: what an end stores of the calls that it sends, and the fragments
 -- that this stands for.
-use Rattle.std.specs.Prelude.{◌≡◌, ℕ, ◌+◌, ◌≤◌, true, false, IsSome, List, [], ◌∷◌, map, length, slice_get, Option, Some, None}
+use Rattle.std.specs.Prelude.{◌≡◌, ℕ, ◌+◌, ◌≤◌, true, false, IsSome, List, [], ◌∷◌, map, drop, length, slice_get, Option, Some, None}
+use Rattle.std.specs.Global.{Vec}
 use Rattle.fl_base.specs.declared.fragment.Frag.{Frag}
 use Rattle.fl_base.specs.Control.{is_ack_only, bare}
 use Rattle.fl_interface.specs.Interface.{TheMessage}
@@ -13,8 +14,10 @@ use Rattle.fl_stub.specs.Frames.{block_of}
 use Rattle.fl_stub.specs.Given.{bytes_given}
 use Rattle.fl_compile.specs.Codes.{compiled_code}
 use Rattle.fl_compile.specs.Programs.{TheProgram}
-use Rattle.fl_machine.specs.Sending.{TheSending, frags_for, frags_holding, frags_left, RunsOn}
+use Rattle.fl_machine.specs.Sending.{frags_holding}
 use Rattle.fl_endpoint.specs.View.{TheOutgoing}
+use Rattle.fl_endpoint.specs.declared.outgoing.Body.{Body}
+use Rattle.fl_endpoint.specs.declared.outgoing.Body.TheVariants.{Tape, Payload}
 use Rattle.fl_endpoint.specs.declared.outgoing.Queued.{Queued}
 use Rattle.fl_endpoint.specs.declared.outgoing.Sending.{Sending}
 use Rattle.fl_endpoint.specs.declared.outgoing.Outgoing.{Outgoing}
@@ -27,27 +30,31 @@ code_for plan (Some m) = compiled_code Send plan m
 abbrev pub code_of : TheProgram → ℕ → TheCode
 code_of program msg = code_for program.plan (slice_get program.interface.messages msg)
 
--- the fragments of a message with this tape, on a circuit
+-- the fragments of a message with this payload, on a circuit
+abbrev pub payload_frags : ℕ → ℕ → List ℕ → List Frag
+payload_frags circuit msg bytes = frags_holding true msg circuit bytes
+
+-- those of a message with this tape: of the bytes that its code gives
 abbrev pub tape_frags : TheProgram → ℕ → ℕ → List ℕ → List Frag
-tape_frags program circuit msg tape = frags_holding true msg circuit (bytes_given (block_of (code_of program msg).ops) tape)
+tape_frags program circuit msg tape = payload_frags circuit msg (bytes_given (block_of (code_of program msg).ops) tape)
+
+abbrev pub body_frags : TheProgram → ℕ → ℕ → Body → List Frag
+body_frags program circuit msg (Tape tape) = tape_frags program circuit msg tape.items
+body_frags program circuit msg (Payload payload) = payload_frags circuit msg payload.items
 
 -- those of a call that is to be sent
 abbrev pub queued_frags : TheProgram → ℕ → Queued → List Frag
-queued_frags program circuit call = tape_frags program circuit call.msg.0 call.tape.items
+queued_frags program circuit call = body_frags program circuit call.msg.0 call.body
 
--- those that a run of a message gives; none without one
-abbrev pub run_frags : TheProgram → ℕ → Option TheSending → List Frag
-run_frags program msg None = []
-run_frags program msg (Some run) = frags_left (code_of program msg) run
-
--- those behind the next of the call in transmission
-abbrev pub frags_behind : TheProgram → Sending → Option TheSending → List Frag
-frags_behind program s run = run_frags program s.msg.0 run
+-- those behind the next of the call in transmission; none where no payload is kept
+abbrev pub frags_behind : Sending → Option (Vec ℕ) → List Frag
+frags_behind s None = []
+frags_behind s (Some payload) = drop (s.written + 1) (payload_frags s.circuit.0 s.msg.0 payload.items)
 
 -- those of the call in transmission that are to be written
-abbrev pub sending_frags : TheProgram → Option Sending → Option TheSending → List Frag
-sending_frags program None run = []
-sending_frags program (Some s) run = s.next ∷ frags_behind program s run
+abbrev pub sending_frags : Option Sending → Option (Vec ℕ) → List Frag
+sending_frags None payload = []
+sending_frags (Some s) payload = s.next ∷ frags_behind s payload
 
 abbrev pub count_in : Option Sending → ℕ
 count_in None = 0
@@ -56,7 +63,7 @@ count_in (Some s) = s.count
 -- what an end is to send, by what it stores
 abbrev pub outgoing_of : TheProgram → ℕ → Outgoing → TheOutgoing
 outgoing_of program circuit out = record {
-  unwritten = sending_frags program out.sending out.run;
+  unwritten = sending_frags out.sending out.payload;
   count = count_in out.sending;
   waiting = map (queued_frags program circuit) out.waiting.items;
 }
@@ -72,10 +79,18 @@ AreOwn (f ∷ frags) = IsOwn f × AreOwn frags
 
 -- ---- what is true of what is stored
 
--- the message is there, and so many fragments are the call's
-pub record IsQueued (program : TheProgram) (call : Queued) : Type 0 where
-  pub known : IsSome (slice_get program.interface.messages call.msg.0)
-  pub counted : call.count ≡ frags_for true (length (bytes_given (block_of (code_of program call.msg.0).ops) call.tape.items))
+-- the message is there, and with this tape it has one fragment
+pub record IsShort (program : TheProgram) (msg : ℕ) (tape : List ℕ) : Type 0 where
+  pub known : IsSome (slice_get program.interface.messages msg)
+  pub one : (circuit : ℕ) → length (tape_frags program circuit msg tape) ≡ 1
+
+-- a tape is kept of a call of one fragment alone
+abbrev pub IsBody : TheProgram → ℕ → Body → Type 0
+IsBody program msg (Tape tape) = IsShort program msg tape.items
+IsBody program msg (Payload payload) = Unit {0}
+
+abbrev pub IsQueued : TheProgram → Queued → Type 0
+IsQueued program call = IsBody program call.msg.0 call.body
 
 abbrev pub AreQueued : TheProgram → List Queued → Type 0
 AreQueued program [] = Unit {0}
@@ -92,24 +107,17 @@ QueuesReply program (Some c) (Some call) = Queues program c call
 QueuesReply program None None = Unit {0}
 QueuesReply program reply call = ⊥
 
--- a run is of the message's code
-abbrev pub IsRunOf : TheProgram → ℕ → Option TheSending → Type 0
-IsRunOf program msg None = Unit {0}
-IsRunOf program msg (Some run) = RunsOn (code_of program msg) run
+-- it is so many fragments with those that are written, and each of them is a call's
+pub record IsSending (s : Sending) (payload : Option (Vec ℕ)) : Type 0 where
+  pub own : AreOwn (sending_frags (Some s) payload)
+  pub counted : s.written + length (sending_frags (Some s) payload) ≡ s.count
 
--- the run gives what is left of the call
-pub record IsSending (program : TheProgram) (s : Sending) (run : Option TheSending) : Type 0 where
-  pub known : IsSome (slice_get program.interface.messages s.msg.0)
-  pub runs : IsRunOf program s.msg.0 run
-  pub own : AreOwn (sending_frags program (Some s) run)
-  pub counted : s.written + length (sending_frags program (Some s) run) ≡ s.count
-
--- nothing waits, and there is no run, where nothing is in transmission
-abbrev pub IsInTransmission : TheProgram → Option Sending → Option TheSending → List Queued → Type 0
-IsInTransmission program None run waiting = (waiting ≡ []) × (run ≡ None)
-IsInTransmission program (Some s) run waiting = IsSending program s run
+-- nothing waits, and no payload is kept, where nothing is in transmission
+abbrev pub IsInTransmission : Option Sending → Option (Vec ℕ) → List Queued → Type 0
+IsInTransmission None payload waiting = (waiting ≡ []) × (payload ≡ None)
+IsInTransmission (Some s) payload waiting = IsSending s payload
 
 pub record IsOutgoing (program : TheProgram) (out : Outgoing) : Type 0 where
-  pub now : IsInTransmission program out.sending out.run out.waiting.items
+  pub now : IsInTransmission out.sending out.payload out.waiting.items
   pub waiting : AreQueued program out.waiting.items
   pub few : length out.waiting.items ≤ 16

@@ -180,9 +180,9 @@ impl End {
         self.parts.exchange_rules(&mut other.parts);
     }
 
-    /// Makes a call: it is accepted, and the end is busy until its last fragment is written. The numbers of its arguments are
-    /// written to `spare`, whatever stands there; a call of several fragments keeps that memory, and one of a single fragment
-    /// leaves it for the next call, of whichever end.
+    /// Makes a call: it is accepted, and the end is busy until its last fragment is written. The numbers of the arguments of a
+    /// call of one fragment are written to `spare`, whatever stands there, and that memory is left for the next call, of
+    /// whichever end; a longer call is kept as its payload, in memory of its own.
     ///
     /// # Errors
     /// In this order: the interface has no such message (E41), the arguments don't fit (E42), the end isn't bound yet

@@ -48,7 +48,7 @@ pub(crate) fn reply_by_rule(
         return Ok(None);
     };
     call.msg = reply;
-    let queued = Queued::of(Vec::new(alloc), program, call);
+    let queued = Queued::of(alloc, &mut Vec::new(alloc), program, call);
     call.msg = msg;
     match queued {
         Ok(queued) => Ok(Some(queued)),

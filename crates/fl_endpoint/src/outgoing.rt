@@ -5,27 +5,40 @@ ghost use Rattle.std.specs.Option.{option_map};
 ghost use Rattle.fl_base.specs.declared.fragment.Frag.{Frag};
 ghost use Rattle.fl_value.specs.Value.{call_of};
 ghost use Rattle.fl_value.specs.Fits.{fits_of};
+ghost use Rattle.fl_layout.specs.Places.{count};
 ghost use Rattle.fl_compile.specs.Programs.{TheProgram, program_of};
 ghost use Rattle.fl_endpoint.specs.View.{nothing_to_send, is_busy, queued, queued_if, goes_on, wrote};
-ghost use Rattle.fl_endpoint.specs.Stored.{queued_frags, sending_frags, frags_behind, count_in, outgoing_of, IsQueued, AreQueued, Queues};
-ghost use Rattle.fl_endpoint.specs.Stored.{IsSending, IsInTransmission, IsOutgoing};
+ghost use Rattle.fl_wire.specs.Payload.{frag_on};
+ghost use Rattle.fl_endpoint.specs.Stored.{tape_frags, payload_frags, queued_frags, sending_frags, frags_behind, count_in, outgoing_of};
+ghost use Rattle.fl_endpoint.specs.Stored.{IsShort, IsQueued, AreQueued, Queues, IsSending, IsInTransmission, IsOutgoing};
 
-use fl_base::{Circuit, Frag, MsgNo};
+use fl_base::{Circuit, Frag, MsgNo, control};
 use fl_compile::Program;
-use fl_machine::{SendRun, first_frag, sends_fragments};
+use fl_layout::fragment_count;
+use fl_machine::{first_frag, sends_fragments};
 use fl_value::{Call, flatten_into};
+use fl_wire::{fragment, payload};
 use std::alloc::{AllocError, Global};
 use std::collections::VecDeque;
+use std::mem;
 
 /// So many replies may wait.
 pub(crate) const MOST_WAITING: usize = 16;
 
-/// A call that is to be sent, as its tape, with the number of its fragments.
+/// What is kept of a call that is to be sent.
+#[derive(Drop)]
+pub(crate) enum Body {
+    /// Of a call of one fragment its tape: its message's send code makes the fragment.
+    Tape(Vec<u64>),
+    /// Of a longer call its payload.
+    Payload(Vec<u8>),
+}
+
+/// A call that is to be sent.
 #[derive(Drop)]
 pub(crate) struct Queued {
-    pub(crate) tape: Vec<u64>,
-    pub(crate) count: usize,
-    pub(crate) msg: MsgNo,
+    body: Body,
+    msg: MsgNo,
 }
 
 /// The call in transmission: the fragment that is written next, and how many of the call's fragments were written.
@@ -35,84 +48,119 @@ pub(crate) struct Sending {
     written: usize,
     count: usize,
     msg: MsgNo,
+    circuit: Circuit,
 }
 
 /// The calls that an end is to send.
 #[derive(Drop)]
 pub(crate) struct Outgoing {
     sending: Option<Sending>,
-    // The run that gives the fragments behind the next. A call of one fragment has none: a run is large to move.
-    run: Option<SendRun>,
+    // The payload of the call in transmission, from which the fragments behind the next are made; none of a call of one
+    // fragment.
+    payload: Option<Vec<u8>>,
     waiting: VecDeque<Queued>,
 }
 
+// Fragment `k` of a message with these payload bytes, on a circuit.
+fn fragment_on(payload: &[u8], msg: MsgNo, circuit: Circuit, k: usize) -> Frag
+    ensures frag { result ≡ frag_on circuit.0 msg.0 payload.now k }
+{
+    let words = fragment(payload, msg, k).words;
+    Frag {
+        words,
+        control: control(k == 0, msg, circuit),
+    }
+}
+
 impl Queued {
-    // A fitting call as it is queued, its tape in memory that was used before.
+    // A fitting call of one fragment as it is queued: its tape, in memory that was used before.
     #[inline(always)]
-    pub(crate) fn of(tape: Vec<u64>, program: &Program, call: &Call) -> Result<Queued, AllocError>
-        requires { fits_of (program_of program.now).interface (call_of call.now) ≡ true }
+    fn of_tape(tape: Vec<u64>, program: &Program, call: &Call) -> Result<Queued, AllocError>
+        requires fits { fits_of (program_of program.now).interface (call_of call.now) ≡ true }
+        requires one { count (program_of program.now).plan (program_of program.now).interface (call_of call.now) ≡ 1 }
         ensures queues { IfOk result (λ queued. Queues (program_of program.now) (call_of call.now) queued) }
     {
         sends_fragments();
         let mut tape = tape;
         flatten_into(&mut tape, call, program.interface(), program.plan())?;
         Ok(Queued {
-            tape,
-            count: program.plans().fragments_of(call),
+            body: Body::Tape(tape),
             msg: call.msg,
         })
+    }
+
+    // A fitting call as it is queued: its payload. Out of line, so that a call of one fragment has nothing of it.
+    #[inline(never)]
+    fn of_payload(alloc: Global, program: &Program, call: &Call) -> Result<Queued, AllocError>
+        requires { fits_of (program_of program.now).interface (call_of call.now) ≡ true }
+        ensures queues { IfOk result (λ queued. Queues (program_of program.now) (call_of call.now) queued) }
+    {
+        let payload = payload(alloc, program.interface(), program.plan(), call)?;
+        Ok(Queued {
+            body: Body::Payload(payload),
+            msg: call.msg,
+        })
+    }
+
+    // A fitting call as it is queued. Of a call of one fragment the tape is made in the spare memory, which it takes.
+    #[inline(always)]
+    pub(crate) fn of(
+        alloc: Global,
+        spare: &mut Vec<u64>,
+        program: &Program,
+        call: &Call,
+    ) -> Result<Queued, AllocError>
+        requires { fits_of (program_of program.now).interface (call_of call.now) ≡ true }
+        ensures queues { IfOk result (λ queued. Queues (program_of program.now) (call_of call.now) queued) }
+    {
+        if program.plans().fragments_of(call) == 1 {
+            let tape = mem::replace(spare, Vec::new(alloc));
+            return Queued::of_tape(tape, program, call);
+        }
+        Queued::of_payload(alloc, program, call)
     }
 }
 
 impl Sending {
     // As `advance`. Out of line, so that a call of one fragment has nothing of it.
     #[inline(never)]
-    fn advance_run(&mut self, run: &mut Option<SendRun>, program: &Program) -> bool
-        requires { IsSending (program_of program.now) self.old run.old }
-        ensures more { result ≡ true → IsSending (program_of program.now) self.new run.new }
-        ensures frags { result ≡ true
-            → sending_frags (program_of program.now) (Some self.new) run.new ≡ frags_behind (program_of program.now) self.old run.old }
-        ensures last { result ≡ false → frags_behind (program_of program.now) self.old run.old ≡ [] }
-        ensures none { result ≡ false → run.new ≡ None }
+    fn advance_in(&mut self, payload: &mut Option<Vec<u8>>) -> bool
+        requires { IsSending self.old payload.old }
+        ensures more { result ≡ true → IsSending self.new payload.new }
+        ensures frags { result ≡ true → sending_frags (Some self.new) payload.new ≡ frags_behind self.old payload.old }
+        ensures last { result ≡ false → frags_behind self.old payload.old ≡ [] }
+        ensures none { result ≡ false → payload.new ≡ None }
         ensures written { self.new.written ≡ self.old.written + 1 }
         ensures count { self.new.count ≡ self.old.count }
     {
         self.written += 1;
-        let Some(going) = run else {
+        let Some(bytes) = payload else {
             return false;
         };
-        let Some(code) = program.send_code(self.msg) else {
-            unreachable!();
-        };
-        match going.next_frag(code) {
-            Some(next) => {
-                self.next = next;
-                true
-            }
-            None => {
-                *run = None;
-                false
-            }
+        if self.written == self.count {
+            *payload = None;
+            return false;
         }
+        self.next = fragment_on(bytes, self.msg, self.circuit, self.written);
+        true
     }
 
     // Goes on behind the next fragment, which is written: whether another is to be written.
     #[inline(always)]
-    fn advance(&mut self, run: &mut Option<SendRun>, program: &Program) -> bool
-        requires { IsSending (program_of program.now) self.old run.old }
-        ensures more { result ≡ true → IsSending (program_of program.now) self.new run.new }
-        ensures frags { result ≡ true
-            → sending_frags (program_of program.now) (Some self.new) run.new ≡ frags_behind (program_of program.now) self.old run.old }
-        ensures last { result ≡ false → frags_behind (program_of program.now) self.old run.old ≡ [] }
-        ensures none { result ≡ false → run.new ≡ None }
+    fn advance(&mut self, payload: &mut Option<Vec<u8>>) -> bool
+        requires { IsSending self.old payload.old }
+        ensures more { result ≡ true → IsSending self.new payload.new }
+        ensures frags { result ≡ true → sending_frags (Some self.new) payload.new ≡ frags_behind self.old payload.old }
+        ensures last { result ≡ false → frags_behind self.old payload.old ≡ [] }
+        ensures none { result ≡ false → payload.new ≡ None }
         ensures written { self.new.written ≡ self.old.written + 1 }
         ensures count { self.new.count ≡ self.old.count }
     {
-        if run.is_none() {
+        if payload.is_none() {
             self.written += 1;
             return false;
         }
-        self.advance_run(run, program)
+        self.advance_in(payload)
     }
 }
 
@@ -124,7 +172,7 @@ impl Outgoing {
     {
         Outgoing {
             sending: None,
-            run: None,
+            payload: None,
             waiting: VecDeque::new(alloc),
         }
     }
@@ -155,72 +203,70 @@ impl Outgoing {
 
     // Puts a call of one fragment in transmission.
     #[inline(always)]
-    fn start_one(&mut self, program: &Program, circuit: Circuit, call: &Queued)
-        requires queued { IsQueued (program_of program.now) call.now }
-        requires one { call.now.count ≡ 1 }
-        requires idle { self.old.run ≡ None }
-        ensures now { (waiting : List Queued) → IsInTransmission (program_of program.now) self.new.sending self.new.run waiting }
-        ensures frags { sending_frags (program_of program.now) self.new.sending self.new.run ≡ queued_frags (program_of program.now) circuit.0 call.now }
-        ensures count { count_in self.new.sending ≡ length (queued_frags (program_of program.now) circuit.0 call.now) }
+    fn start_one(&mut self, program: &Program, circuit: Circuit, msg: MsgNo, tape: &[u64])
+        requires short { IsShort (program_of program.now) msg.0 tape.now }
+        requires idle { self.old.payload ≡ None }
+        ensures now { (waiting : List Queued) → IsInTransmission self.new.sending self.new.payload waiting }
+        ensures frags { sending_frags self.new.sending self.new.payload ≡ tape_frags (program_of program.now) circuit.0 msg.0 tape.now }
+        ensures count { count_in self.new.sending ≡ length (tape_frags (program_of program.now) circuit.0 msg.0 tape.now) }
         ensures waiting { self.new.waiting ≡ self.old.waiting }
     {
         // Both have 16 bits, which the proof knows once they are read.
-        let (_msg, _circuit) = (call.msg.0, circuit.0);
-        let Some(code) = program.send_code(call.msg) else {
+        let (_msg, _circuit) = (msg.0, circuit.0);
+        let Some(code) = program.send_code(msg) else {
             unreachable!();
         };
-        let next = first_frag(code, call.msg, circuit, &call.tape);
+        let next = first_frag(code, msg, circuit, tape);
         self.sending = Some(Sending {
             next,
             written: 0,
             count: 1,
-            msg: call.msg,
+            msg,
+            circuit,
         });
     }
 
-    // Puts a call in transmission, with a run. Out of line, so that a call of one fragment has nothing of it.
+    // Puts a call with this payload in transmission. Out of line, so that a call of one fragment has nothing of it.
     #[inline(never)]
-    fn start_run(&mut self, program: &Program, circuit: Circuit, call: Queued)
-        requires { IsQueued (program_of program.now) call }
-        ensures now { (waiting : List Queued) → IsInTransmission (program_of program.now) self.new.sending self.new.run waiting }
-        ensures frags { sending_frags (program_of program.now) self.new.sending self.new.run ≡ queued_frags (program_of program.now) circuit.0 call }
-        ensures count { count_in self.new.sending ≡ length (queued_frags (program_of program.now) circuit.0 call) }
+    fn start_payload(&mut self, circuit: Circuit, msg: MsgNo, payload: Vec<u8>)
+        ensures now { (waiting : List Queued) → IsInTransmission self.new.sending self.new.payload waiting }
+        ensures frags { sending_frags self.new.sending self.new.payload ≡ payload_frags circuit.0 msg.0 payload.items }
+        ensures count { count_in self.new.sending ≡ length (payload_frags circuit.0 msg.0 payload.items) }
         ensures waiting { self.new.waiting ≡ self.old.waiting }
     {
         // Both have 16 bits, which the proof knows once they are read.
-        let (_msg, _circuit) = (call.msg.0, circuit.0);
-        let Some(code) = program.send_code(call.msg) else {
-            unreachable!();
-        };
-        let mut run = SendRun::start(code, call.msg, circuit, call.tape);
-        let Some(next) = run.next_frag(code) else {
-            unreachable!();
-        };
+        let (_msg, _circuit) = (msg.0, circuit.0);
         self.sending = Some(Sending {
-            next,
+            next: fragment_on(&payload, msg, circuit, 0),
             written: 0,
-            count: call.count,
-            msg: call.msg,
+            count: fragment_count(payload.len()),
+            msg,
+            circuit,
         });
-        self.run = Some(run);
+        self.payload = Some(payload);
     }
 
     // Puts a call in transmission, of which nothing is written. A call of one fragment gives back its tape.
     #[inline(always)]
     fn start(&mut self, program: &Program, circuit: Circuit, call: Queued) -> Option<Vec<u64>>
         requires queued { IsQueued (program_of program.now) call }
-        requires idle { self.old.run ≡ None }
-        ensures now { (waiting : List Queued) → IsInTransmission (program_of program.now) self.new.sending self.new.run waiting }
-        ensures frags { sending_frags (program_of program.now) self.new.sending self.new.run ≡ queued_frags (program_of program.now) circuit.0 call }
+        requires idle { self.old.payload ≡ None }
+        ensures now { (waiting : List Queued) → IsInTransmission self.new.sending self.new.payload waiting }
+        ensures frags { sending_frags self.new.sending self.new.payload ≡ queued_frags (program_of program.now) circuit.0 call }
         ensures count { count_in self.new.sending ≡ length (queued_frags (program_of program.now) circuit.0 call) }
         ensures waiting { self.new.waiting ≡ self.old.waiting }
     {
-        if call.count == 1 {
-            self.start_one(program, circuit, &call);
-            return Some(call.tape);
+        let Queued { body, msg } = call;
+        match body {
+            Body::Tape(tape) => {
+                self.start_one(program, circuit, msg, &tape);
+                Some(tape)
+            }
+            Body::Payload(payload) => {
+                self.start_payload(circuit, msg, payload);
+                None
+            }
         }
-        self.start_run(program, circuit, call);
-        None
     }
 
     // A call in transmission, where none is. One of one fragment gives back its tape. Takes no memory.
@@ -285,7 +331,7 @@ impl Outgoing {
 
     // The first reply that waits in transmission, if one waits.
     fn go_on(&mut self, program: &Program, circuit: Circuit)
-        requires idle { self.old.run ≡ None }
+        requires idle { self.old.payload ≡ None }
         requires waiting { AreQueued (program_of program.now) self.old.waiting.items }
         requires few { length self.old.waiting.items ≤ 16 }
         ensures outgoing { IsOutgoing (program_of program.now) self.new }
@@ -312,7 +358,7 @@ impl Outgoing {
         let Some(sending) = &mut self.sending else {
             unreachable!();
         };
-        let more = sending.advance(&mut self.run, program);
+        let more = sending.advance(&mut self.payload);
         let answer = (sending.written, sending.count);
         if !more {
             self.go_on(program, circuit);

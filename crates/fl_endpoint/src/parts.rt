@@ -220,8 +220,7 @@ impl Parts {
             Ok(circuit) => circuit,
             Err(fault) => return Err(fault),
         };
-        let tape = mem::replace(spare, Vec::new(self.alloc));
-        let Ok(queued) = Queued::of(tape, &self.program, call) else {
+        let Ok(queued) = Queued::of(self.alloc, spare, &self.program, call) else {
             return Err(EndFault::Memory);
         };
         if let Some(tape) = self.outgoing.begin(&self.program, circuit, queued) {

@@ -34,4 +34,4 @@ invariant_of-self c =
 pub begin-requires-clause-idle : goal.begin-requires-clause-idle
 begin-requires-clause-idle c =
     let e = c.self.inside in
-    none_sending (program_in e) e.outgoing.sending e.outgoing.run (subst (λ (s : TheEnd). s.outgoing.unwritten ≡ []) (sym c.self.view_is) c.in-Ok.ensures.admits.3)
+    none_sending e.outgoing.sending e.outgoing.payload (subst (λ (s : TheEnd). s.outgoing.unwritten ≡ []) (sym c.self.view_is) c.in-Ok.ensures.admits.3)

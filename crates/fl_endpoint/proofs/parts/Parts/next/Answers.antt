@@ -13,5 +13,5 @@ returns c =
     let k = number_or_0 (circuit_of e.circuit) in
     record {
       next = c.next.ensures.next (program_in e) k ∙ ap (λ (s : TheEnd). slice_get s.outgoing.unwritten 0) c.self.view_is;
-      own = subst (λ (o : Option Frag). IfSome o IsOwn) (sym (c.next.ensures.next (program_in e) k)) (next_own (program_in e) e.outgoing.sending e.outgoing.run e.outgoing.waiting.items c.self.invariant.outgoing.now);
+      own = subst (λ (o : Option Frag). IfSome o IsOwn) (sym (c.next.ensures.next (program_in e) k)) (next_own e.outgoing.sending e.outgoing.payload e.outgoing.waiting.items c.self.invariant.outgoing.now);
     }

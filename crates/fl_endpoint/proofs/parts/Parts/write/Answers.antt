@@ -22,7 +22,7 @@ mark_written-number-requires-clause-busy g c =
     let e = c.self.inside in
     let now = first_and_rest c.args.self.now.outgoing.unwritten c.in-Some.frag (sym c.in-Some.ensures.next) in
     let is : (end_of e).outgoing.unwritten ≡ c.in-Some.frag ∷ drop 1 c.args.self.now.outgoing.unwritten = ap (λ (s : TheEnd). s.outgoing.unwritten) c.self.view_is ∙ now in
-    busy_sending (program_in e) e.outgoing.sending e.outgoing.run c.in-Some.frag (drop 1 c.args.self.now.outgoing.unwritten) is
+    busy_sending e.outgoing.sending e.outgoing.payload c.in-Some.frag (drop 1 c.args.self.now.outgoing.unwritten) is
 
 pub returns-in-Err-Full : goal.returns-in-Err-Full
 returns-in-Err-Full g c = record { writes = ((search rules, search rules), not_none c.args.self.now.outgoing.unwritten c.in-Some.frag (sym c.in-Some.ensures.next), search rules, refl) }

@@ -3,11 +3,11 @@ use Rattle.fl_interface.specs.Interface.{TheInterface, interface_of}
 use Rattle.fl_interface.specs.Limits.{is_within_limits}
 use Rattle.fl_value.specs.Value.{call_of}
 use Rattle.fl_value.specs.Tape.{tape_of}
-use Rattle.fl_layout.specs.Places.{count}
 use Rattle.fl_wire.specs.Words.{interface_words_fit}
 use Rattle.fl_compile.specs.Programs.{program_of}
-use Rattle.fl_endpoint.proofs.Outgoings.{queues}
-use Rattle.fl_endpoint.proofs.outgoing.Queued.of.Goals as goal
+use Rattle.fl_endpoint.specs.declared.outgoing.Body.TheVariants.{Tape}
+use Rattle.fl_endpoint.proofs.Outgoings.{queues_tape}
+use Rattle.fl_endpoint.proofs.outgoing.Queued.of_tape.Goals as goal
 
 pub returns : goal.returns
 returns c =
@@ -17,6 +17,6 @@ returns c =
     let same : i ≡ p.interface = c.interface.ensures.interface in
     let within : is_within_limits p.interface ≡ true = subst (λ (j : TheInterface). is_within_limits j ≡ true) same c.interface.result.now.within in
     let words : interface_words_fit p.interface ≡ true = subst (λ (j : TheInterface). interface_words_fit j ≡ true) same c.interface.ensures.words in
-    let tape : c.flatten_into.new.tape.items ≡ tape_of p.plan p.interface d = search rules in
-    let counted : c.fragments_of.result ≡ count p.plan p.interface d = search rules in
-    record { queues = queues p d (record { msg = c.args.call.now.msg; tape = c.flatten_into.new.tape; count = c.fragments_of.result }) c.sends_fragments.ensures.sends within words c.requires refl tape counted }
+    let tape = c.flatten_into.new.tape in
+    let is : tape.items ≡ tape_of p.plan p.interface d = search rules in
+    record { queues = queues_tape p d tape (record { body = Tape tape; msg = c.args.call.now.msg }) c.sends_fragments.ensures.sends within words c.requires.fits c.requires.one refl refl is }
