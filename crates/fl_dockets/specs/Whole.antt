@@ -48,7 +48,7 @@ pub record BindingRefused (cores : ℕ) (set_up : List Binding) (number : ℕ) :
   pub refused : binding_fault cores place binding ≡ Some number
   pub before : (n : ℕ) (x : Binding) → n < place → slice_get set_up n ≡ Some x → binding_fault cores n x ≡ None
 
--- why they aren't joined: one of them is refused, or memory was wanted
+-- why they aren't joined: one of them is refused, or memory was refused
 abbrev pub SetUpStops : ℕ → List Binding → Stop → Type 0
 SetUpStops cores set_up (stop.Refused number) = BindingRefused cores set_up number
 SetUpStops cores set_up stop.Memory = Unit {0}
