@@ -10,7 +10,8 @@ ghost use Rattle.fl_dockets.specs.Joined.{AreBindings, HasDockets};
 ghost use Rattle.fl_dockets.specs.Kept.{AreKept};
 ghost use Rattle.fl_dockets.specs.State.{joined_of, IsSafe, ArePlaced, AreJoined};
 ghost use Rattle.fl_dockets.specs.Rules.{RulesOf};
-ghost use Rattle.fl_dockets.specs.Whole.{bound_of, SetUp, binding_fault, SetUpStops, so_far, Ruled, Joins, IsBeside, AreBound, AreDue, fault_at, FirstRefused, IsFault, HadSet};
+ghost use Rattle.fl_dockets.specs.Whole.{bound_of, SetUp, binding_fault, SetUpStops, so_far, Ruled, Joins, IsBeside, AreBound, AreDue};
+ghost use Rattle.fl_dockets.specs.Whole.{fault_at, FirstRefused, IsFault, HadSet};
 ghost use Rattle.fl_dockets.specs.Wished.{AddsWished, AreWished};
 
 use crate::docket::Bound;

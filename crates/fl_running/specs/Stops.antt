@@ -1,5 +1,5 @@
--- How far a turn came to which memory was refused, and a core's run with it. All before is whole and in its order; at most one thing was under way then, and that
--- is told.
+-- How far a turn came to which memory was refused, and a core's run with it. All before is whole and in its order; at most one thing
+-- was under way then, and that is told.
 use Rattle.std.specs.Prelude.{ℕ, ◌≡◌, ◌⊎◌, ◌<◌, false, List, length, Some, Ok, Err}
 use Rattle.std.specs.declared.alloc.AllocError.{AllocError}
 use Rattle.fl_base.specs.declared.fragment.Frag.{Frag}
