@@ -3,14 +3,14 @@
 ghost use Rattle.std.specs.Prelude.{◌≡◌, ◌<◌, ◌≤◌, ◌+◌, ◌≢◌, length, slice_index, drop, SomeIff, MatchOption, ℕ};
 ghost use Rattle.std.specs.List.{prefix_len};
 ghost use Rattle.fl_lex.specs.Spelling.{is_on_line, is_described, decimal_value, AllBytes};
-ghost use Rattle.fl_lex.specs.Words.{is_word_byte, is_digit};
+ghost use Rattle.fl_lex.specs.Words.{is_digit};
 ghost use Rattle.fl_lex.specs.Item.{Finds, FirstIs};
 ghost use Rattle.fl_lex.specs.declared.class.ByteClass.TheVariants.{Letter, Digit, Quote, Slash};
 
 use crate::class::{ByteClass, class_of, is_described, is_on_line};
 use crate::fault::LexFault;
 use crate::token::TokenKind;
-use crate::word::{MAX_WORD, is_digit, is_word_byte};
+use crate::word::{MAX_WORD, count_digits, count_word_bytes};
 
 /// The largest number.
 const MAX_NUMBER: u32 = 1_000_000;
@@ -48,7 +48,7 @@ fn read_word(rest: &[u8], at: usize) -> Result<Piece, LexFault>
     requires { FirstIs Letter rest.now }
     ensures found { Finds rest.now at result }
 {
-    let length = word_len(rest);
+    let length = count_word_bytes(rest);
     if length > MAX_WORD {
         return Err(LexFault::LongWord(at));
     }
@@ -62,7 +62,7 @@ fn read_number(rest: &[u8], at: usize) -> Result<Piece, LexFault>
     requires { FirstIs Digit rest.now }
     ensures found { Finds rest.now at result }
 {
-    let length = digits_len(rest);
+    let length = count_digits(rest);
     match value_of(&rest[..length]) {
         Some(value) => Ok(Piece {
             kind: Some(TokenKind::Number(value)),
@@ -114,20 +114,6 @@ fn after(rest: &[u8], count: usize) -> &[u8]
     ensures count { length result.now + count ≡ length rest.now }
 {
     rest.split_at(count).1
-}
-
-fn word_len(rest: &[u8]) -> usize
-    ensures count { result ≡ prefix_len is_word_byte rest.now }
-    ensures within { result ≤ length rest.now }
-{
-    rest.iter().take_while(|byte| is_word_byte(**byte)).count()
-}
-
-fn digits_len(rest: &[u8]) -> usize
-    ensures count { result ≡ prefix_len is_digit rest.now }
-    ensures within { result ≤ length rest.now }
-{
-    rest.iter().take_while(|byte| is_digit(**byte)).count()
 }
 
 fn line_len(rest: &[u8]) -> usize

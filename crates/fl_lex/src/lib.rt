@@ -26,4 +26,6 @@ pub use fault::LexFault;
 pub use law::{joined_tokens, one_outcome, some_outcome};
 pub use lexer::{MAX_TEXT, lex};
 pub use token::{Mark, Token, TokenKind, Tokens};
-pub use word::{MAX_WORD, is_digit, is_letter, is_name, is_word, is_word_byte};
+pub use word::{
+    MAX_WORD, count_digits, count_word_bytes, is_digit, is_letter, is_name, is_word, is_word_byte,
+};

@@ -1,7 +1,7 @@
 //! Letters, digits and words.
 
-ghost use Rattle.std.specs.Prelude.{◌≡◌};
-ghost use Rattle.std.specs.List.{list_all};
+ghost use Rattle.std.specs.Prelude.{◌≡◌, ◌≤◌, length};
+ghost use Rattle.std.specs.List.{list_all, prefix_len};
 ghost use Rattle.fl_lex.specs.Words.{is_letter, is_digit, is_word_byte, is_word, is_name};
 
 /// Bytes of the longest word.
@@ -29,6 +29,34 @@ pub fn is_word_byte(byte: u8) -> bool
     ensures exact { result ≡ is_word_byte byte }
 {
     is_letter(byte) || is_digit(byte)
+}
+
+/// How many letters, digits and `_` the bytes begin with.
+#[inline]
+pub fn count_word_bytes(bytes: &[u8]) -> usize
+    ensures exact { result ≡ prefix_len is_word_byte bytes.now }
+    ensures within { result ≤ length bytes.now }
+{
+    for (count, byte) in bytes.iter().enumerate() {
+        if !is_word_byte(*byte) {
+            return count;
+        }
+    }
+    bytes.len()
+}
+
+/// How many decimal digits the bytes begin with.
+#[inline]
+pub fn count_digits(bytes: &[u8]) -> usize
+    ensures exact { result ≡ prefix_len is_digit bytes.now }
+    ensures within { result ≤ length bytes.now }
+{
+    for (count, byte) in bytes.iter().enumerate() {
+        if !is_digit(*byte) {
+            return count;
+        }
+    }
+    bytes.len()
 }
 
 /// A letter or `_`, then letters, digits and `_`.

@@ -7,9 +7,10 @@ use Rattle.std.proofs.lemmas.Bool.{false≢true}
 use Rattle.fl_value.specs.declared.value.PlanNo.{PlanNo}
 use Rattle.fl_value.specs.declared.value.PlanNo.TheVariants.{One, Two}
 use Rattle.fl_queues.specs.Given.{given}
+use Rattle.fl_value.specs.CallText.{without_blanks}
 use Rattle.fl_lines.specs.declared.command.Verb.{Verb}
 use Rattle.fl_lines.specs.declared.command.Verb.TheVariants as verb
-use Rattle.fl_lines.specs.Words.{without_blanks, first_word, behind_word, is_none, number_of, begins_comment, is_silent}
+use Rattle.fl_lines.specs.Words.{first_word, behind_word, is_none, number_of, begins_comment, is_silent}
 use Rattle.fl_lines.specs.Commands.{EndName, BackEnd, local, ump, hop, Command, cores, link, disp, export, bind, call, show, write, turn, ack, register, deregister, reply, mwrite, forward, mack, a_number, an_end, back_end_row as row_of_back_end}
 use Rattle.fl_lines.specs.Grammar.{Holds, Spells, Heads, Line, silent, heading, command, unread, LineIs, OneLine}
 use Rattle.fl_lines.specs.Words.{words_of, numbers_of}

@@ -4,6 +4,7 @@ use Rattle.fl_base.specs.declared.identity.EndId.{EndId}
 use Rattle.fl_lex.specs.Words.{is_name}
 use Rattle.fl_queues.specs.Events.{Event}
 use Rattle.fl_queues.specs.Given.{given}
+use Rattle.fl_value.specs.CallText.{without_blanks}
 use Rattle.fl_lines.specs.declared.event.Asked.{Asked as RustAsked}
 use Rattle.fl_lines.specs.declared.event.Event.{Event as RustEvent}
 use Rattle.fl_lines.specs.declared.fault.LineFault.{LineFault}
@@ -15,7 +16,7 @@ use Rattle.fl_lines.specs.Lines.{LineAsks, TellsEvent, LineTells, CallTells, ask
 use Rattle.fl_lines.specs.Names.{Names}
 use Rattle.fl_lines.specs.Reading.{one_end, two_numbers, end_of, with_end, with_cores, turn_row, call_row}
 use Rattle.fl_lines.specs.Told.{Tells, AsksAs}
-use Rattle.fl_lines.specs.Words.{first_word, behind_word, without_blanks, is_none}
+use Rattle.fl_lines.specs.Words.{first_word, behind_word, is_none}
 
 pub end_tells : (n : Names) (mk : EndName → Command) (f : EndId → Event) (rest : List ℕ) (result : Result RustEvent LineFault)
     → ((e : EndName) → Asks n (mk e) (asks_end n f e)) → TellsEvent n result (asks_by_end n f rest) → LineTells n (with_end mk rest) result

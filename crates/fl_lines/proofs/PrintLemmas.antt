@@ -13,8 +13,8 @@ use Rattle.std.proofs.lemmas.Int.Digits.{digits_value-lt}
 use Rattle.fl_base.specs.declared.identity.Side.{Side}
 use Rattle.fl_base.specs.declared.identity.Side.TheVariants.{Client, Server}
 use Rattle.fl_lex.specs.Words.{is_name, is_word, is_word_byte, is_letter, is_digit}
-use Rattle.fl_value.specs.CallText.{is_blank}
-use Rattle.fl_lines.specs.Words.{without_blanks, to_blank, from_blank, first_word, behind_word, number_of}
+use Rattle.fl_value.specs.CallText.{is_blank, without_blanks}
+use Rattle.fl_lines.specs.Words.{to_blank, from_blank, first_word, behind_word, number_of}
 use Rattle.fl_lines.specs.Commands.{EndName, BackEnd, local, ump, hop, Command, cores, link, disp, export, bind, call, show, write, turn, ack, register, deregister, reply, mwrite, forward, mack, Piece, the_word, a_name, a_number, an_end, a_text, row_of, back_end_row, side_text, end_text}
 use Rattle.fl_lines.specs.Grammar.{Holds, printed_more, printed_row, CanStand, PrintedReads, SpelledReads}
 

@@ -6,8 +6,8 @@ use Rattle.std.proofs.lemmas.Bool.Decides.{nat_tests}
 use Rattle.std.proofs.lemmas.List.{take_all, drop_all}
 use Rattle.std.specs.Char.{digit_value}
 use Rattle.fl_lex.specs.Words.{is_digit}
-use Rattle.fl_value.specs.CallText.{is_blank}
-use Rattle.fl_lines.specs.Words.{without_blanks, to_blank, from_blank, first_word, behind_word, joins_word, words_of}
+use Rattle.fl_value.specs.CallText.{is_blank, without_blanks}
+use Rattle.fl_lines.specs.Words.{to_blank, from_blank, first_word, behind_word, joins_word, words_of}
 
 pub word_at : (i : ℕ) (line : List ℕ) → i < length line → ((k : ℕ) → k < i → is_blank (get_or line k 0) ≡ false) → is_blank (get_or line i 0) ≡ true
     → (to_blank line ≡ take i line) × (from_blank line ≡ drop i line)

@@ -4,7 +4,8 @@ use Rattle.std.specs.List.{flat_map}
 use Rattle.std.specs.Fmt.{decimal}
 use Rattle.fl_lex.specs.Words.{is_name}
 use Rattle.fl_value.specs.declared.value.PlanNo.{PlanNo}
-use Rattle.fl_lines.specs.Words.{without_blanks, first_word, behind_word, number_of, is_silent}
+use Rattle.fl_value.specs.CallText.{without_blanks}
+use Rattle.fl_lines.specs.Words.{first_word, behind_word, number_of, is_silent}
 use Rattle.fl_lines.specs.Commands.{Command, Piece, the_word, a_name, a_number, an_end, a_text}
 use Rattle.fl_lines.specs.Commands.{row_of, heading_row, end_text}
 

@@ -7,9 +7,10 @@ use Rattle.fl_base.specs.declared.identity.Side.TheVariants.{Client, Server}
 use Rattle.fl_lex.specs.Words.{is_name}
 use Rattle.fl_value.specs.declared.value.PlanNo.TheVariants.{One, Two}
 use Rattle.fl_queues.specs.Given.{given}
+use Rattle.fl_value.specs.CallText.{without_blanks}
 use Rattle.fl_lines.specs.declared.command.Verb.{Verb}
 use Rattle.fl_lines.specs.declared.command.Verb.TheVariants as verb
-use Rattle.fl_lines.specs.Words.{without_blanks, first_word, behind_word, is_none, number_of}
+use Rattle.fl_lines.specs.Words.{first_word, behind_word, is_none, number_of}
 use Rattle.fl_lines.specs.Words.{begins_comment, words_of, numbers_of}
 use Rattle.fl_lines.specs.Commands.{EndName, BackEnd, local, ump, hop, Command, cores, link, disp, export}
 use Rattle.fl_lines.specs.Commands.{bind, call, show, write, turn, ack, register, deregister, reply, mwrite}

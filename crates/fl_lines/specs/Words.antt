@@ -4,13 +4,8 @@ use Rattle.std.specs.Prelude.{Option, Some, None, option_map, unwrap_or}
 use Rattle.std.specs.List.{list_all}
 use Rattle.std.specs.Str.Parse.{digits_value}
 use Rattle.fl_lex.specs.Words.{is_digit}
-use Rattle.fl_value.specs.CallText.{is_blank}
+use Rattle.fl_value.specs.CallText.{is_blank, without_blanks}
 use Rattle.fl_queues.specs.Given.{given}
-
--- the bytes from the first on that isn't a blank
-abbrev pub without_blanks : List ℕ → List ℕ
-without_blanks [] = []
-without_blanks (b ∷ bytes) = if is_blank b then without_blanks bytes else b ∷ bytes
 
 -- the bytes up to the first blank
 abbrev pub to_blank : List ℕ → List ℕ

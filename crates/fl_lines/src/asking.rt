@@ -14,9 +14,9 @@ use crate::event::DispatcherId;
 use crate::fault::LineFault;
 use crate::names::Names;
 use crate::reader::{end_name, one_end, one_name, two_numbers};
-use crate::word::{next_word, skip_blanks};
+use crate::word::next_word;
 use fl_base::EndId;
-use fl_value::{Call, Value, ValueFault, read_spoken};
+use fl_value::{Call, Value, ValueFault, read_spoken, skip_blanks};
 
 impl Names {
     // A call whose text was read: its end is looked up, then its message.

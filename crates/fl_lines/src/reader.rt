@@ -15,10 +15,10 @@ ghost use Rattle.fl_lines.specs.Reading.{heading_by, line_by, line_with, read_li
 ghost use Rattle.fl_lines.specs.Views.{end_name_of, back_end_of, command_of, line_of, opening_of};
 
 use crate::command::{BackEnd, Command, EndName, Line, Opening, Route, Verb};
-use crate::word::{begins_comment, is_number, next_word, number, skip_blanks};
+use crate::word::{begins_comment, is_number, next_word, number};
 use fl_base::Side;
 use fl_lex::{is_digit, is_name};
-use fl_value::PlanNo;
+use fl_value::{PlanNo, skip_blanks};
 
 // The side that a dot and a letter tell.
 #[inline(always)]

@@ -2,26 +2,10 @@
 
 ghost use Rattle.std.specs.Prelude.{◌≡◌, ◌||◌, ◌==◌, is_some};
 ghost use Rattle.std.specs.List.{list_all};
-ghost use Rattle.fl_lines.specs.Words.{without_blanks, first_word, behind_word, begins_comment};
-ghost use Rattle.fl_lines.specs.Words.{number_of};
+ghost use Rattle.fl_lines.specs.Words.{first_word, behind_word, begins_comment, number_of};
 
 use fl_lex::is_digit;
-use fl_value::is_blank;
-
-/// A line from its first byte on that isn't a blank.
-#[inline(always)]
-pub fn skip_blanks(line: &[u8]) -> &[u8]
-    ensures rest { result.now ≡ without_blanks line.now }
-{
-    let mut rest = line;
-    while let [first, behind @ ..] = rest {
-        if !is_blank(*first) {
-            return rest;
-        }
-        rest = behind;
-    }
-    rest
-}
+use fl_value::{is_blank, skip_blanks};
 
 /// The first word of a line, empty where there is none, and what stands behind it.
 #[inline]

@@ -6,7 +6,7 @@ use Rattle.std.proofs.Common.{length-drop}
 use Rattle.std.specs.List.{prefix_len}
 use Rattle.std.specs.Str.Parse.{digits_value}
 use Rattle.fl_lex.specs.Words.{is_digit}
-use Rattle.fl_value.specs.CallText.{is_blank, Blanks, Digits, Number, plain, minus, TextBytes, Closed, Token, TokenAt, TheToken, a_number, a_text, a_mark, StopsAt}
+use Rattle.fl_value.specs.CallText.{is_blank, without_blanks, Blanks, Digits, Number, plain, minus, TextBytes, Closed, Token, TokenAt, TheToken, a_number, a_text, a_mark, StopsAt}
 use Rattle.fl_value.proofs.Scan.{blank_more, counted}
 use Rattle.fl_value.proofs.Once.{head_of, tail_of, not_that, blanks_once, bytes_once, quote_closes, token_stops, digits_begin}
 
@@ -27,6 +27,15 @@ tail_shorter (b ∷ a) = let same : take (length (b ∷ a) - 1) a ≡ a = take_a
 
 pub blank_step : (bytes a : List ℕ) → Blanks bytes a → 1 ≤ length a → is_blank (get_or a 0 0) ≡ true → Blanks bytes (tail a)
 blank_step bytes a h some e = blank_more bytes (tail a) (get_or a 0 0) (subst (Blanks bytes) (uncons a some) h) e
+
+skips_blank : (b : ℕ) (a : List ℕ) → is_blank b ≡ true → without_blanks (b ∷ a) ≡ without_blanks a
+skips_blank b a e = rw e refl
+
+pub skip_step : (bytes a : List ℕ) → without_blanks a ≡ without_blanks bytes → 1 ≤ length a → is_blank (get_or a 0 0) ≡ true → without_blanks (tail a) ≡ without_blanks bytes
+skip_step bytes [] same some e = absurd (omega (arith, some))
+skip_step bytes (b ∷ a) same some e =
+    let whole : take (length (b ∷ a) - 1) a ≡ a = take_all _ a (omega arith) in
+    ap without_blanks whole ∙ (sym (skips_blank b a e) ∙ same)
 
 pub counted_at : (xs : List ℕ) (n value : ℕ) → n ≡ prefix_len is_digit xs → (n ≡ 0 → ⊥) → n ≤ 20 → value ≡ digits_value 10 (take n xs) → Digits value xs (take (length xs - n) (drop n xs))
 counted_at xs n value e some few v =

@@ -1,7 +1,7 @@
 -- Calls as text: `name(v, v)`. What stands where is said by two places of a text, each told by the
 -- bytes from there on: something stands from `bytes` up to `rest`.
 use Rattle.std.specs.Prelude.{◌≡◌, ℕ, ℤ, pos, ◌+◌, ◌*◌, ◌<◌, ◌≤◌, ◌==◌, ◌&&◌, ◌||◌}
-use Rattle.std.specs.Prelude.{nat_le, max, not, Bool, true, false, List, [], ◌∷◌, ◌++◌, length}
+use Rattle.std.specs.Prelude.{nat_le, max, not, Bool, true, false, if◌then◌else◌, List, [], ◌∷◌, ◌++◌, length}
 use Rattle.std.proofs.Common.{neg_ℤ}
 use Rattle.std.specs.List.{list_all}
 use Rattle.std.specs.Char.{digit_value}
@@ -13,6 +13,11 @@ use Rattle.fl_value.specs.Value.{Datum, number, string, elements, fields, Data, 
 -- a space or a tab
 abbrev pub is_blank : ℕ → Bool
 is_blank b = (b == 32) || (b == 9)
+
+-- the bytes from the first on that isn't a blank
+abbrev pub without_blanks : List ℕ → List ℕ
+without_blanks [] = []
+without_blanks (b ∷ bytes) = if is_blank b then without_blanks bytes else b ∷ bytes
 
 -- one of ( ) , [ ] { }
 abbrev pub is_mark : ℕ → Bool

@@ -1,7 +1,6 @@
 //! Calls from their text, and which call of an interface a text is.
 
-ghost use Rattle.std.specs.Prelude.{Result, ◌≡◌, ℕ, ◌++◌, ◌≤◌, List, map, length, IfOk, IfErr, IfSome, IfNone, true};
-ghost use Rattle.std.specs.List.{prefix_len};
+ghost use Rattle.std.specs.Prelude.{Result, ◌≡◌, ℕ, ◌++◌, List, map, IfOk, IfErr, IfSome, IfNone, true};
 ghost use Rattle.fl_interface.specs.Interface.{interface_of, message_of};
 ghost use Rattle.fl_value.specs.Value.{Datum, TheCall, datum_of};
 ghost use Rattle.fl_lex.specs.Words.{is_word_byte, is_name};
@@ -17,7 +16,7 @@ use crate::tokens::{read_mark, skip_blanks};
 use crate::value::{Call, Value};
 use fl_base::MsgNo;
 use fl_interface::{Interface, Message, Word};
-use fl_lex::{MAX_WORD, is_letter, is_word_byte};
+use fl_lex::{MAX_WORD, count_word_bytes, is_letter};
 use std::alloc::Global;
 
 /// How deep arrays and structs may nest in a call's text; its parentheses don't count.
@@ -30,19 +29,6 @@ pub struct CallText {
     pub name: Word,
     /// The values between the parentheses, in order.
     pub args: Vec<Value>,
-}
-
-/// How many letters, digits and `_` the bytes begin with.
-fn count_word_bytes(bytes: &[u8]) -> usize
-    ensures same { result ≡ prefix_len is_word_byte bytes.now }
-    ensures within { result ≤ length bytes.now }
-{
-    for (count, byte) in bytes.iter().enumerate() {
-        if !is_word_byte(*byte) {
-            return count;
-        }
-    }
-    bytes.len()
 }
 
 /// The word that the bytes begin with, and what follows it.

@@ -36,6 +36,6 @@ pub use law::{one_call_of_a_tape, one_reading, printed_call_read, printed_reads,
 pub use order::RANKS;
 pub use printing::print_call;
 pub use tape::{flatten, flatten_into};
-pub use tokens::is_blank;
+pub use tokens::{is_blank, skip_blanks};
 pub use untape::unflatten;
 pub use value::{Call, PlanNo, Value};

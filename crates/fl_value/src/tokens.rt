@@ -5,10 +5,10 @@ ghost use Rattle.std.specs.List.{prefix_len, list_all};
 ghost use Rattle.std.specs.Char.{digit_value};
 ghost use Rattle.std.specs.Str.Parse.{digits_value};
 ghost use Rattle.fl_lex.specs.Words.{is_digit};
-ghost use Rattle.fl_value.specs.CallText.{is_blank, is_mark, is_plain, Blanks, Digits, TextByte, TextBytes};
+ghost use Rattle.fl_value.specs.CallText.{is_blank, without_blanks, is_mark, is_plain, Blanks, Digits, TextByte, TextBytes};
 ghost use Rattle.fl_value.specs.CallText.{Token, a_number, a_text, a_mark, StopsAt, Closed};
 
-use fl_lex::is_digit;
+use fl_lex::{count_digits, is_digit};
 use std::alloc::{AllocError, Global};
 
 /// How many bytes of a text are looked at at once.
@@ -22,8 +22,10 @@ pub fn is_blank(byte: u8) -> bool
     byte <= b' ' && (byte == b' ' || byte == b'\t')
 }
 
-/// The bytes from the first that is no blank.
-pub(crate) fn skip_blanks(bytes: &[u8]) -> &[u8]
+/// The bytes from the first on that is no blank.
+#[inline(always)]
+pub fn skip_blanks(bytes: &[u8]) -> &[u8]
+    ensures rest { result.now ≡ without_blanks bytes.now }
     ensures blank { Blanks bytes.now result.now }
     ensures stops { StopsAt is_blank result.now }
     ensures shorter { length result.now ≤ length bytes.now }
@@ -47,18 +49,6 @@ fn after_byte(bytes: &[u8], byte: u8) -> Option<&[u8]>
         [first, rest @ ..] if *first == byte => Some(rest),
         _ => None,
     }
-}
-
-/// How many digits the bytes begin with.
-fn count_digits(bytes: &[u8]) -> usize
-    ensures same { result ≡ prefix_len is_digit bytes.now }
-{
-    for (count, byte) in bytes.iter().enumerate() {
-        if !is_digit(*byte) {
-            return count;
-        }
-    }
-    bytes.len()
 }
 
 /// The number that at most 20 digits write: 20 may be more than a word.

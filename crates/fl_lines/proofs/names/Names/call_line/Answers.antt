@@ -1,9 +1,9 @@
 use Rattle.std.proofs.Common.{sym, ap, subst, ◌∙◌, List, ℕ}
+use Rattle.fl_value.specs.CallText.{without_blanks}
 use Rattle.fl_lines.specs.Lines.{CallTells, told_as, a_call}
 use Rattle.fl_lines.specs.Reading.{end_of}
 use Rattle.fl_lines.specs.Told.{names_of}
 use Rattle.fl_lines.specs.Views.{end_name_of}
-use Rattle.fl_lines.specs.Words.{without_blanks}
 use Rattle.fl_lines.proofs.LineLemmas.{call_tells}
 use Rattle.fl_lines.proofs.names.Names.call_line.Goals as goal
 
