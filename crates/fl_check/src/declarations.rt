@@ -20,9 +20,13 @@ use crate::measured::Measured;
 use crate::parts::{apply_count, check_members};
 use crate::types::refuse;
 use crate::words::join;
-use fl_interface::ArgType;
+use fl_interface::{ArgType, MAX_MESSAGES};
+use fl_lex::MAX_WORD;
 use fl_parse::{Argument, Declaration, DirectedArgument, Field, MessageKind, Name, Number};
 use std::alloc::Global;
+
+/// Bytes of the longest name of an rpc: a word still with `_response` behind it.
+const MAX_RPC_NAME: usize = MAX_WORD - 9;
 
 /// The messages of a declaration, one of which has a payload that is too long or none has.
 #[tactic(auto, unfolding(crate::specs::Checks::first_fault, crate::specs::Places::whole_message_place))]
@@ -47,7 +51,7 @@ impl<'a> Declared<'a> {
         if self.has_message(name.text) {
             return Err(refuse(Rule::MessageNameTaken, name.at));
         }
-        if self.count_messages() >= 256 {
+        if self.count_messages() >= MAX_MESSAGES {
             return Err(refuse(Rule::TooMany, name.at));
         }
         Ok(())
@@ -65,7 +69,7 @@ impl<'a> Declared<'a> {
         if self.has_message(call) || self.has_message(response) {
             return Err(refuse(Rule::MessageNameTaken, name.at));
         }
-        if self.count_messages() >= 255 || name.text.len() > 55 {
+        if self.count_messages() >= MAX_MESSAGES - 1 || name.text.len() > MAX_RPC_NAME {
             return Err(refuse(Rule::TooMany, name.at));
         }
         Ok(())

@@ -8,7 +8,9 @@ ghost use Rattle.fl_check.specs.declared.fault.CheckFault.TheVariants.{Memory};
 ghost use Rattle.fl_interface.specs.Depth.{depth_of, array_depth_of, deepest, deepest_array, is_too_big};
 
 use crate::fault::CheckFault;
-use fl_interface::{FixedType, Scalar, duplicate_type};
+use fl_interface::{
+    ENUM_SIZE, FixedType, MAX_NESTED_ARRAYS, MAX_TYPE_DEPTH, MAX_TYPE_SIZE, Scalar, duplicate_type,
+};
 use std::alloc::{AllocError, Global};
 
 /// A type, its size and alignment in bytes, how deep structs and fixed arrays nest in it, and how
@@ -50,8 +52,8 @@ impl Measured {
     {
         Measured {
             fixed: FixedType::Enumeration(count),
-            size: 4,
-            align: 4,
+            size: ENUM_SIZE,
+            align: ENUM_SIZE,
             depth: 0,
             arrays: 0,
         }
@@ -105,7 +107,8 @@ impl Measured {
         ensures depth { OnFalse result (self.now.depth ≤ 16) }
         ensures arrays { OnFalse result (self.now.arrays ≤ 7) }
     {
-        self.size > 4096 || (self.depth > 16 || self.arrays > 7)
+        self.size > MAX_TYPE_SIZE
+            || (self.depth > MAX_TYPE_DEPTH || self.arrays > MAX_NESTED_ARRAYS)
     }
 }
 

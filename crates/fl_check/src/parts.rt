@@ -15,6 +15,7 @@ use crate::fault::{CheckFault, Rule};
 use crate::measured::{Fields, Measured};
 use crate::types::{check_count, refuse};
 use crate::words::Names;
+use fl_interface::MAX_LISTED;
 use fl_parse::{Field, Name, Number};
 use std::alloc::{AllocError, Global};
 
@@ -46,7 +47,7 @@ pub fn add_listed_name<'a>(
     if !names.add(name.text)? {
         return Err(refuse(Rule::NameTwice, name.at));
     }
-    if counted_before >= 32 {
+    if counted_before >= MAX_LISTED {
         return Err(refuse(Rule::TooMany, name.at));
     }
     Ok(())

@@ -7,7 +7,7 @@ ghost use Rattle.fl_interface.specs.Payload.{greatest_end, greatest_payload};
 
 use crate::fault::CheckFault;
 use crate::measured::Measured;
-use fl_interface::ArgType;
+use fl_interface::{ArgType, MAX_PAYLOAD};
 use std::alloc::Global;
 
 /// An argument's type that keeps the rules, with its measures.
@@ -109,6 +109,6 @@ impl Payload {
     pub fn is_too_long(&self) -> bool
         ensures exact { result ≡ nat_lt 32768 (greatest_payload (map arg_type_of self.now.args.items)) }
     {
-        self.end > 32768
+        self.end > u64::from(MAX_PAYLOAD)
     }
 }

@@ -16,6 +16,7 @@ use crate::fault::{CheckFault, Rule};
 use crate::measured::Measured;
 use crate::payload::Checked;
 use crate::words::{is_built_in, is_capability, is_string, scalar_named};
+use fl_interface::{MAX_BOUND, MAX_ELEMENTS, MAX_TYPES};
 use fl_parse::{Name, Number};
 use std::alloc::{AllocError, Global};
 
@@ -105,7 +106,7 @@ impl<'a> Declared<'a> {
         if empty {
             return Err(refuse(Rule::NothingInIt, name.at));
         }
-        if self.count_types() >= 256 {
+        if self.count_types() >= MAX_TYPES {
             return Err(refuse(Rule::TooMany, name.at));
         }
         Ok(())
@@ -154,7 +155,7 @@ pub fn check_bound(bound: Option<Number>) -> Result<(), CheckFault>
     let Some(number) = bound else {
         return Ok(());
     };
-    if number.value < 1 || number.value > 4096 {
+    if number.value < 1 || number.value > MAX_BOUND {
         return Err(refuse(Rule::BadBound, number.at));
     }
     Ok(())
@@ -170,7 +171,7 @@ pub fn check_count(count: Option<Number>) -> Result<(), CheckFault>
     let Some(number) = count else {
         return Ok(());
     };
-    if number.value < 1 || number.value > 1024 {
+    if number.value < 1 || number.value > MAX_ELEMENTS {
         return Err(refuse(Rule::BadCount, number.at));
     }
     Ok(())

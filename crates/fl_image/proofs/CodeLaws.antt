@@ -8,8 +8,9 @@ use Rattle.fl_stub.specs.declared.op.Op.{Op}
 use Rattle.fl_stub.specs.declared.op.Op.TheVariants as ops
 use Rattle.fl_stub.specs.declared.op.Column.{Column}
 use Rattle.fl_stub.specs.declared.op.Column.TheVariants.{Send, Receive}
+use Rattle.fl_stub.specs.Structure.{is_operand_within}
 use Rattle.fl_image.specs.Image.{one, two, four, Codes, op_code, operand_of, op_image, code_image, codes_image}
-use Rattle.fl_image.specs.Reading.{◌>>=◌, in_range, known, many_at, one_at, two_at, four_at, ops_of, op_with, is_operand_within, takes_operand, op_at, code_at, codes_at}
+use Rattle.fl_image.specs.Reading.{◌>>=◌, in_range, known, many_at, one_at, two_at, four_at, ops_of, op_with, takes_operand, op_at, code_at, codes_at}
 use Rattle.fl_image.proofs.ReadBack.{IsBytes, Law, follow, mapped, many, IsList, AllAfter, range_ok}
 use Rattle.fl_image.proofs.Numbers.{one_law, two_law, four_law}
 use Rattle.fl_image.proofs.TypeLaws.{with_code_is}

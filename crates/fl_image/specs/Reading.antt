@@ -13,7 +13,7 @@ use Rattle.fl_stub.specs.declared.op.Op.{Op}
 use Rattle.fl_stub.specs.declared.op.Op.TheVariants as ops
 use Rattle.fl_stub.specs.declared.op.Column.{Column}
 use Rattle.fl_stub.specs.declared.op.Column.TheVariants.{Send, Receive}
-use Rattle.fl_stub.specs.Structure.{is_width, is_within}
+use Rattle.fl_stub.specs.Structure.{is_within, is_operand_within}
 use Rattle.fl_image.specs.declared.fault.Refusal.{Refusal}
 use Rattle.fl_image.specs.declared.fault.Refusal.TheVariants.{OtherMagic, OtherVersion, EndsEarly, BadField, OtherCode, BytesLeftOver}
 use Rattle.fl_image.specs.declared.fault.ImageFault.{ImageFault}
@@ -227,18 +227,6 @@ ops_of Receive n =
 
 unfoldable pub op_with : Column → ℕ → ℕ → Option Op
 op_with column code n = with_code op_code code (ops_of column n)
-
--- an operand in the range of its op
-abbrev pub is_operand_within : Op → Bool
-is_operand_within (ops.Emit n) = is_width n
-is_operand_within (ops.Read n) = is_width n
-is_operand_within (ops.Pad n) = is_within 7 n
-is_operand_within (ops.Skip n) = is_within 7 n
-is_operand_within (ops.Length n) = is_within 4096 n
-is_operand_within (ops.ReadLength n) = is_within 4096 n
-is_operand_within (ops.Times n) = is_within 1024 n
-is_operand_within (ops.ReadEnum n) = nat_le 1 n
-is_operand_within op = true
 
 -- the operand is in its range, and no operand is 0
 abbrev pub takes_operand : ℕ → Op → Bool

@@ -2,7 +2,7 @@
 
 ghost use Rattle.std.specs.Prelude.{◌≡◌, map};
 ghost use Rattle.fl_image.specs.Image.{operand_of};
-ghost use Rattle.fl_image.specs.Reading.{Gives, op_with, is_operand_within, op_at, code_at, codes_at, many_at};
+ghost use Rattle.fl_image.specs.Reading.{Gives, op_with, op_at, code_at, codes_at, many_at};
 ghost use Rattle.fl_image.specs.Views.{codes_view};
 
 use crate::fault::{ImageFault, Refusal};
@@ -52,20 +52,6 @@ fn op_with(column: Column, code: u8, operand: u32) -> Option<Op>
     }
 }
 
-/// Whether an op's operand is in the range of the op.
-fn is_operand_within(op: Op) -> bool
-    ensures exact { result ≡ is_operand_within op }
-{
-    match op {
-        Op::Emit(n) | Op::Read(n) => n == 1 || n == 2 || n == 4 || n == 8,
-        Op::Pad(n) | Op::Skip(n) => 1 <= n && n <= 7,
-        Op::Length(n) | Op::ReadLength(n) => 1 <= n && n <= 4096,
-        Op::Times(n) => 1 <= n && n <= 1024,
-        Op::ReadEnum(n) => 1 <= n,
-        _ => true,
-    }
-}
-
 /// The operand of an op, 0 where it has none.
 pub(crate) fn operand_of(op: Op) -> u32
     ensures exact { result ≡ operand_of op }
@@ -96,7 +82,7 @@ fn op(column: Column, bytes: &[u8]) -> Result<(Op, &[u8]), ImageFault>
     let Some(op) = op_with(column, code, operand) else {
         return Err(ImageFault::Refused(Refusal::BadField));
     };
-    if !(is_operand_within(op) && operand_of(op) == operand) {
+    if !(op.is_in_range() && operand_of(op) == operand) {
         return Err(ImageFault::Refused(Refusal::BadField));
     }
     Ok((op, rest))

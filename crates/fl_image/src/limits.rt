@@ -11,7 +11,10 @@ ghost use Rattle.fl_interface.specs.Limits.{is_among};
 ghost use Rattle.fl_interface.specs.Sizes.{IsAlign};
 ghost use Rattle.fl_image.specs.Limits.{Measures, SoFar, Reaches};
 
-use fl_interface::{ArgType, FixedType, Message, Scalar};
+use fl_interface::{
+    ArgType, ENUM_SIZE, FixedType, MAX_BOUND, MAX_ELEMENTS, MAX_LISTED, MAX_NESTED_ARRAYS,
+    MAX_PAYLOAD, MAX_TYPE_DEPTH, MAX_TYPE_SIZE, Message, Scalar,
+};
 
 /// No measure is told past this.
 const CAP: u32 = 65536;
@@ -49,8 +52,8 @@ fn of_enum(count: u32) -> Measured
     ensures measures { Measures result (enumeration count) }
 {
     Measured {
-        size: 4,
-        align: 4,
+        size: ENUM_SIZE,
+        align: ENUM_SIZE,
         depth: 0,
         arrays: 0,
     }
@@ -60,7 +63,7 @@ fn of_enum(count: u32) -> Measured
 fn times(count: u32, size: u32) -> u32
     ensures capped { result ≡ min (count * size) 65536 }
 {
-    (u64::from(count) * u64::from(size)).min(65536) as u32
+    (u64::from(count) * u64::from(size)).min(u64::from(CAP)) as u32
 }
 
 /// The array of so many of these.
@@ -151,7 +154,8 @@ fn is_too_big(fixed: &FixedType) -> bool
     ensures exact { result ≡ is_too_big (type_of fixed.now) }
 {
     let measured = measure(fixed);
-    measured.size > 4096 || (measured.depth > 16 || measured.arrays > 7)
+    measured.size > MAX_TYPE_SIZE
+        || (measured.depth > MAX_TYPE_DEPTH || measured.arrays > MAX_NESTED_ARRAYS)
 }
 
 /// Whether enums and structs aren't empty, structs have at most 32 fields, and arrays 1 to 1,024 elements.
@@ -164,7 +168,7 @@ fn is_well_made(fixed: &FixedType) -> bool
         FixedType::Enumeration(count) => 1 <= *count,
         FixedType::Structure(fields) => is_well_made_of(fields),
         FixedType::Array(count, element) => {
-            1 <= *count && (*count <= 1024 && is_well_made(element))
+            1 <= *count && (*count <= MAX_ELEMENTS && is_well_made(element))
         }
     }
 }
@@ -174,7 +178,7 @@ fn is_well_made(fixed: &FixedType) -> bool
 fn is_well_made_of(fields: &[FixedType]) -> bool
     ensures exact { result ≡ is_well_made (structure (fields_from (map type_of fields.now))) }
 {
-    1 <= fields.len() && (fields.len() <= 32 && are_well_made(fields))
+    1 <= fields.len() && (fields.len() <= MAX_LISTED && are_well_made(fields))
 }
 
 /// Whether each of these types is well made.
@@ -203,9 +207,9 @@ fn is_argument_within(argument: &ArgType) -> bool
 {
     match argument {
         ArgType::Fixed(fixed) => is_type_within(fixed),
-        ArgType::Text(most) => 1 <= *most && *most <= 4096,
+        ArgType::Text(most) => 1 <= *most && *most <= MAX_BOUND,
         ArgType::Sized(most, element) => {
-            1 <= *most && (*most <= 4096 && is_type_within(element))
+            1 <= *most && (*most <= MAX_BOUND && is_type_within(element))
         }
     }
 }
@@ -276,14 +280,15 @@ fn is_too_long(arguments: &[ArgType]) -> bool
     for argument in arguments {
         extent = behind(extent, argument);
     }
-    extent.end > 32768
+    extent.end > MAX_PAYLOAD
 }
 
 /// Whether a message keeps the limits.
 pub(crate) fn is_message_within(message: &Message) -> bool
     ensures exact { result ≡ is_message_within (message_of message.now) }
 {
-    message.args.len() <= 32 && (are_arguments_within(&message.args) && !is_too_long(&message.args))
+    message.args.len() <= MAX_LISTED
+        && (are_arguments_within(&message.args) && !is_too_long(&message.args))
 }
 
 /// Whether one of these messages has that name.

@@ -8,7 +8,7 @@ use crate::fault::{ImageFault, Refusal};
 use crate::limits::{is_message_within, is_taken};
 use crate::number::{name, two};
 use crate::types::arguments;
-use fl_interface::{Interface, Message, counts_fit};
+use fl_interface::{Interface, MAX_MESSAGES, Message, counts_fit};
 use std::alloc::Global;
 
 /// A message: its name, and its arguments' types.
@@ -50,7 +50,7 @@ fn message_count(bytes: &[u8]) -> Result<(u32, &[u8]), ImageFault>
     ensures reads { Gives (λ x. (x.0, x.1.now)) result (message_count_at bytes.now) }
 {
     let (count, rest) = two(bytes)?;
-    if count > 256 {
+    if count as usize > MAX_MESSAGES {
         return Err(ImageFault::Refused(Refusal::BadField));
     }
     Ok((count, rest))

@@ -6,7 +6,7 @@ ghost use Rattle.fl_image.specs.Reading.{Gives, IsOfBytes, Behind, one_at, two_a
 
 use crate::fault::{ImageFault, Refusal};
 use fl_interface::Word;
-use fl_lex::is_word;
+use fl_lex::{MAX_WORD, is_word};
 use std::alloc::Global;
 
 /// A number of one byte.
@@ -68,7 +68,7 @@ fn len(bytes: &[u8]) -> Result<(u8, &[u8]), ImageFault>
     ensures of_bytes { IfErr result IsOfBytes }
 {
     let (len, rest) = one(bytes)?;
-    if !(1 <= len && len <= 64) {
+    if !(1 <= len && usize::from(len) <= MAX_WORD) {
         return Err(ImageFault::Refused(Refusal::BadField));
     }
     Ok((len, rest))

@@ -8,7 +8,7 @@ ghost use Rattle.fl_image.specs.Reading.{arguments_at};
 
 use crate::fault::{ImageFault, Refusal};
 use crate::number::{one, two};
-use fl_interface::{ArgType, FixedType, Scalar};
+use fl_interface::{ArgType, FixedType, MAX_LISTED, Scalar};
 use std::alloc::{AllocError, Global};
 
 /// The scalar type with a code.
@@ -217,7 +217,7 @@ fn argument_count(bytes: &[u8]) -> Result<(u8, &[u8]), ImageFault>
     ensures reads { Gives (λ x. (x.0, x.1.now)) result (argument_count_at bytes.now) }
 {
     let (count, rest) = one(bytes)?;
-    if count > 32 {
+    if usize::from(count) > MAX_LISTED {
         return Err(ImageFault::Refused(Refusal::BadField));
     }
     Ok((count, rest))

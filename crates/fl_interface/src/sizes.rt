@@ -6,6 +6,9 @@ ghost use Rattle.fl_interface.specs.Sizes.{round_up, scalar_size, size_of, align
 
 use crate::interface::{FixedType, Scalar};
 
+/// The bytes of an enum's value, which are its alignment too.
+pub const ENUM_SIZE: u32 = 4;
+
 /// The next multiple of an alignment: std's `next_multiple_of`. The alignments that types have are told one by one, so that none
 /// is divided by: a division by what isn't known before takes long.
 #[inline(always)]
@@ -57,7 +60,7 @@ impl FixedType {
     {
         match self {
             FixedType::Scalar(scalar) => scalar.size(),
-            FixedType::Enumeration(_) => 4,
+            FixedType::Enumeration(_) => ENUM_SIZE,
             FixedType::Structure(fields) => size_of_fields(fields),
             FixedType::Array(count, element) => {
                 if *count == 0 {
@@ -77,7 +80,7 @@ impl FixedType {
     {
         match self {
             FixedType::Scalar(scalar) => scalar.size(),
-            FixedType::Enumeration(_) => 4,
+            FixedType::Enumeration(_) => ENUM_SIZE,
             FixedType::Structure(fields) => greatest_alignment(fields),
             FixedType::Array(_, element) => element.alignment(),
         }

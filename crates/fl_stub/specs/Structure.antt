@@ -25,6 +25,18 @@ is_width n = (n == 1) || (n == 2) || (n == 4) || (n == 8)
 abbrev pub is_within : ℕ → ℕ → Bool
 is_within most n = nat_le 1 n && nat_le n most
 
+-- the operand of an instruction is in its range
+abbrev pub is_operand_within : Op → Bool
+is_operand_within (Emit n) = is_width n
+is_operand_within (Read n) = is_width n
+is_operand_within (Pad n) = is_within 7 n
+is_operand_within (Skip n) = is_within 7 n
+is_operand_within (Length n) = is_within 4096 n
+is_operand_within (ReadLength n) = is_within 4096 n
+is_operand_within (Times n) = is_within 1024 n
+is_operand_within (ReadEnum n) = nat_le 1 n
+is_operand_within op = true
+
 -- the instructions of a column that are no loops, with their operands in range
 abbrev pub is_step : Column → Op → Bool
 is_step Send (Emit n) = is_width n

@@ -1,5 +1,10 @@
 //! Instructions of stub code.
 
+ghost use Rattle.std.specs.Prelude.{◌≡◌};
+ghost use Rattle.fl_stub.specs.Structure.{is_width as is_width_of, is_within as is_within_of, is_operand_within};
+
+use fl_interface::{MAX_BOUND, MAX_ELEMENTS};
+
 /// One instruction of stub code. Send code takes numbers from a tape and gives bytes; receive code takes bytes
 /// and puts numbers on a tape. Operands may be any numbers here: `verify` says which code is meant.
 #[derive(Clone, Copy, Debug, PartialEq, Eq)]
@@ -36,6 +41,39 @@ pub enum Op {
     ReadText,
     /// Receive: the end of the code.
     Done,
+}
+
+/// Zeros of the longest padding.
+const MAX_ZEROS: u32 = 7;
+
+/// Whether a number may have so many bytes.
+fn is_width(bytes: u32) -> bool
+    ensures { result ≡ is_width_of bytes }
+{
+    bytes == 1 || bytes == 2 || bytes == 4 || bytes == 8
+}
+
+/// Whether a number is from 1 to the greatest.
+fn is_within(most: u32, number: u32) -> bool
+    ensures { result ≡ is_within_of most number }
+{
+    1 <= number && number <= most
+}
+
+impl Op {
+    /// Whether the operand is in the instruction's range; so it is of one that has none.
+    pub fn is_in_range(self) -> bool
+        ensures exact { result ≡ is_operand_within self }
+    {
+        match self {
+            Op::Emit(bytes) | Op::Read(bytes) => is_width(bytes),
+            Op::Pad(zeros) | Op::Skip(zeros) => is_within(MAX_ZEROS, zeros),
+            Op::Length(most) | Op::ReadLength(most) => is_within(MAX_BOUND, most),
+            Op::Times(turns) => is_within(MAX_ELEMENTS, turns),
+            Op::ReadEnum(count) => 1 <= count,
+            _ => true,
+        }
+    }
 }
 
 /// What code is for: all instructions of verified code are of one column.

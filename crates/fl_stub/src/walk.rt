@@ -3,7 +3,7 @@
 ghost use Rattle.std.specs.Prelude.{◌≡◌, ◌+◌, ◌-◌, ◌&&◌, nat_lt, [], Some};
 ghost use Rattle.fl_stub.specs.declared.op.Column.TheVariants.{Send as send, Receive as receive};
 ghost use Rattle.fl_stub.specs.declared.walk.Standing.TheVariants.{Inside as inside};
-ghost use Rattle.fl_stub.specs.Structure.{is_width as is_width_of, is_within as is_within_of, is_step as is_step_of};
+ghost use Rattle.fl_stub.specs.Structure.{is_step as is_step_of};
 ghost use Rattle.fl_stub.specs.Walk.{after as after_of, after_inside as after_inside_of, after_length as after_length_of};
 ghost use Rattle.fl_stub.specs.Walk.{accepts as accepts_of, if_so as if_so_of, is_send, is_receive};
 
@@ -43,25 +43,11 @@ impl Column {
     }
 }
 
-fn is_width(bytes: u32) -> bool
-    ensures { result ≡ is_width_of bytes }
-{
-    bytes == 1 || bytes == 2 || bytes == 4 || bytes == 8
-}
-
-fn is_within(most: u32, number: u32) -> bool
-    ensures { result ≡ is_within_of most number }
-{
-    1 <= number && number <= most
-}
-
 fn is_send_step(op: Op) -> bool
     ensures { result ≡ is_step_of send op }
 {
     match op {
-        Op::Emit(bytes) => is_width(bytes),
-        Op::Pad(zeros) => is_within(7, zeros),
-        Op::Align => true,
+        Op::Emit(_) | Op::Pad(_) | Op::Align => op.is_in_range(),
         _ => false,
     }
 }
@@ -70,10 +56,8 @@ fn is_receive_step(op: Op) -> bool
     ensures { result ≡ is_step_of receive op }
 {
     match op {
-        Op::Read(bytes) => is_width(bytes),
+        Op::Read(_) | Op::ReadEnum(_) | Op::Skip(_) => op.is_in_range(),
         Op::ReadBool | Op::ReadChar | Op::ReadText | Op::Align => true,
-        Op::ReadEnum(count) => is_within(u32::MAX, count),
-        Op::Skip(zeros) => is_within(7, zeros),
         _ => false,
     }
 }
@@ -118,13 +102,13 @@ fn after_inside(column: Column, depth: u32, op: Op) -> Option<Standing>
     ensures { result ≡ after_inside_of column depth op }
 {
     match op {
-        Op::Times(turns) => open(is_within(1_024, turns), depth),
-        Op::Length(most) => if_so(
-            column.is_send() && is_within(4_096, most),
+        Op::Times(_) => open(op.is_in_range(), depth),
+        Op::Length(_) => if_so(
+            column.is_send() && op.is_in_range(),
             Standing::AfterLength(depth),
         ),
-        Op::ReadLength(most) => if_so(
-            column.is_receive() && is_within(4_096, most),
+        Op::ReadLength(_) => if_so(
+            column.is_receive() && op.is_in_range(),
             Standing::AfterLength(depth),
         ),
         Op::Back => close(depth),

@@ -68,7 +68,7 @@ fn has_no_zero(bytes: &[u8]) -> bool
 }
 
 /// Whether all bytes are a string's: none is 0.
-pub(crate) fn are_text_bytes(bytes: &[u8]) -> bool
+pub fn are_text_bytes(bytes: &[u8]) -> bool
     ensures same { result ≡ list_all is_text_byte bytes.now }
 {
     has_no_zero(bytes)

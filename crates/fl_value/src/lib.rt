@@ -31,7 +31,7 @@ mod value;
 
 pub use calls::{CallText, read_call, read_call_text, read_spoken, resolve};
 pub use fault::ValueFault;
-pub use fitting::{fits, has_type};
+pub use fitting::{are_text_bytes, fits, has_type};
 pub use law::{one_call_of_a_tape, one_reading, printed_call_read, printed_reads, rank_by_rank};
 pub use order::RANKS;
 pub use printing::print_call;
