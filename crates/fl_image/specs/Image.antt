@@ -1,7 +1,6 @@
 -- How an image spells an interface and its code under a plan: its fields in order, numbers low byte first.
-use Rattle.std.specs.Prelude.{ℕ, ◌/◌, ◌%◌, ◌==◌, ◌&&◌, ◌||◌, Bool, true, false, nat_le, List, [], ◌∷◌, ◌++◌, length, map}
-use Rattle.std.specs.List.{list_all, flat_map}
-use Rattle.std.specs.Char.{is_ascii_alphabetic, is_ascii_digit}
+use Rattle.std.specs.Prelude.{ℕ, ◌/◌, ◌%◌, ◌&&◌, Bool, List, [], ◌∷◌, ◌++◌, length, map}
+use Rattle.std.specs.List.{flat_map}
 use Rattle.fl_interface.specs.declared.interface.Scalar.{Scalar}
 use Rattle.fl_interface.specs.declared.interface.Scalar.TheVariants as scalars
 use Rattle.fl_interface.specs.Interface.{TheType, scalar, enumeration, structure, array, TheTypes, no_more, field, TheArgType, fixed}
