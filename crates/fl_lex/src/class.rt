@@ -4,6 +4,7 @@ ghost use Rattle.std.specs.Prelude.{◌≡◌};
 ghost use Rattle.fl_lex.specs.Spelling.{class_of, is_on_line, is_described};
 
 use crate::token::Mark;
+use crate::word::{is_digit, is_letter};
 
 /// What a byte may begin. Bytes from 128 up begin nothing.
 #[derive(Clone, Copy, Debug, PartialEq, Eq)]
@@ -30,9 +31,13 @@ pub enum ByteClass {
 pub(crate) fn class_of(byte: u8) -> ByteClass
     ensures class { result ≡ class_of byte }
 {
+    if is_letter(byte) {
+        return ByteClass::Letter;
+    }
+    if is_digit(byte) {
+        return ByteClass::Digit;
+    }
     match byte {
-        b'A'..=b'Z' | b'a'..=b'z' | b'_' => ByteClass::Letter,
-        b'0'..=b'9' => ByteClass::Digit,
         9..=13 | b' ' => ByteClass::Blank,
         b'"' => ByteClass::Quote,
         b'/' => ByteClass::Slash,

@@ -61,7 +61,7 @@ fn is_within(most: u32, number: u32) -> bool
 }
 
 impl Op {
-    /// Whether the operand is in the instruction's range; so it is of one that has none.
+    /// Whether the operand is one that the instruction may have; true of an instruction without one.
     pub fn is_in_range(self) -> bool
         ensures exact { result ≡ is_operand_within self }
     {
