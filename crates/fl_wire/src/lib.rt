@@ -35,7 +35,7 @@ mod text;
 mod types;
 mod value;
 
-pub use encode::payload;
+pub use encode::{payload, payload_into};
 pub use fault::WireFault;
 pub use fl_layout::fragment_count;
 pub use fragments::{fragment, fragment_at};
