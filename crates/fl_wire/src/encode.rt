@@ -14,7 +14,7 @@ ghost use Rattle.fl_wire.specs.Payload.{payload_bytes, payload_of};
 ghost use Rattle.fl_interface.specs.Sizes.{IsAlign};
 ghost use Rattle.fl_wire.specs.Widths.{fits_width, is_number_within, numbers_onto};
 
-use crate::types::{arguments_of, is_dynamic};
+use crate::types::{arguments_of, ends_fixed, is_dynamic};
 use fl_base::FRAG_BYTES;
 use fl_interface::{ArgType, FixedType, Interface, next_multiple};
 use fl_value::{Call, PlanNo, RANKS, Value};
@@ -332,18 +332,20 @@ fn put_next(
     put_argument(out, ty, value)
 }
 
-// The arguments as declared, and whether plan 2 keeps that order; where it doesn't, those before the first of a lower rank.
+// The arguments as declared, and whether plan 2 keeps that order; where it doesn't, some of them. A string is put only where
+// nothing of a fixed size comes last, so that its bytes are put once.
 fn put_in_order(out: &mut Vec<u8>, types: &[ArgType], values: &[Value]) -> Result<bool, AllocError>
     requires fit { are_arguments (map arg_type_of types.now) (map datum_of values.now) ≡ true }
     ensures ok { IfOk result (λ kept. kept ≡ true → (before : List Leaf) → out.old.items ≡ payload_bytes before
         → out.new.items ≡ payload_bytes (arguments_onto false (arranged kind PlanNo.Two
         (zip (map arg_type_of types.now) (map datum_of values.now))) before)) }
 {
+    let fixed_last = ends_fixed(types);
     let mut least = 0;
     let mut after_dynamic = false;
     for (argument, value) in types.iter().zip(values) {
         let rank = PlanNo::Two.rank_of(argument);
-        if rank < least {
+        if rank < least || fixed_last && is_dynamic(argument) {
             return Ok(false);
         }
         put_next(out, after_dynamic, argument, value)?;
