@@ -1,6 +1,6 @@
 //! The payload of a call.
 
-ghost use Rattle.std.specs.Prelude.{◌≡◌, pos, ◌+◌, ◌-◌, ◌*◌, ◌%◌, ◌^◌, ◌<◌, true, false, List, [], ◌∷◌, ◌++◌, map, length, take, replicate, OnOk, IfOk};
+ghost use Rattle.std.specs.Prelude.{◌≡◌, pos, ◌-◌, ◌*◌, ◌^◌, true, false, List, [], ◌∷◌, ◌++◌, map, length, take, replicate, OnOk, IfOk};
 ghost use Rattle.std.specs.List.{zip, list_all};
 ghost use Rattle.std.specs.Int.{to_le_bytes, w64};
 ghost use Rattle.fl_interface.specs.Interface.{type_of, fields_from, arg_type_of, interface_of};
@@ -426,10 +426,11 @@ fn put_arguments(
     }
 }
 
-/// The payload of a call, in the memory of what stood there before: as [`payload`], which has its own.
+/// The payload of a call, as [`payload`] makes it, in the memory of what stood there before: who knows its length makes room
+/// for all of it first.
 ///
 /// # Errors
-/// Out of memory (E99), and nothing else: nothing is known of what stands there then.
+/// Out of memory (E99), and nothing else. Nothing is known of what stands there then.
 pub fn payload_into(
     out: &mut Vec<u8>,
     interface: &Interface,
@@ -445,8 +446,9 @@ pub fn payload_into(
 
 /// The payload of a call: each number little-endian at its place under the plan, every other byte 0.
 ///
-/// Each byte is written once. Plan 2 goes over the arguments' types once for each rank. The alignment of an
-/// array's elements is found once, and that of a field each time that a value of its struct is written.
+/// Each byte is written once, but where the arguments aren't declared in the order of plan 2: then it goes over their types
+/// once more for each rank. The alignment of an array's elements is found once, and that of a field that is no scalar each
+/// time that a value of its struct is written.
 ///
 /// # Errors
 /// Out of memory (E99), and nothing else.
