@@ -17,7 +17,7 @@ use fl_compile::Program;
 use fl_layout::fragment_count;
 use fl_machine::{first_frag, sends_fragments};
 use fl_value::{Call, flatten_into};
-use fl_wire::{fragment, payload};
+use fl_wire::{fragment, payload_into};
 use std::alloc::{AllocError, Global};
 use std::collections::VecDeque;
 use std::mem;
@@ -91,11 +91,17 @@ impl Queued {
 
     // A fitting call as it is queued: its payload. Out of line, so that a call of one fragment has nothing of it.
     #[inline(never)]
-    fn of_payload(alloc: Global, program: &Program, call: &Call) -> Result<Queued, AllocError>
+    fn of_payload(
+        alloc: Global,
+        program: &Program,
+        call: &Call,
+        room: usize,
+    ) -> Result<Queued, AllocError>
         requires { fits_of (program_of program.now).interface (call_of call.now) ≡ true }
         ensures queues { IfOk result (λ queued. Queues (program_of program.now) (call_of call.now) queued) }
     {
-        let payload = payload(alloc, program.interface(), program.plan(), call)?;
+        let mut payload = Vec::with_capacity(alloc, room)?;
+        payload_into(&mut payload, program.interface(), program.plan(), call)?;
         Ok(Queued {
             body: Body::Payload(payload),
             msg: call.msg,
@@ -113,11 +119,12 @@ impl Queued {
         requires { fits_of (program_of program.now).interface (call_of call.now) ≡ true }
         ensures queues { IfOk result (λ queued. Queues (program_of program.now) (call_of call.now) queued) }
     {
-        if program.plans().fragments_of(call) == 1 {
+        let size = program.plans().size_of(call);
+        if fragment_count(size) == 1 {
             let tape = mem::replace(spare, Vec::new(alloc));
             return Queued::of_tape(tape, program, call);
         }
-        Queued::of_payload(alloc, program, call)
+        Queued::of_payload(alloc, program, call, size)
     }
 }
 

@@ -1,5 +1,5 @@
 -- Where all ranks of a plan are below one, nothing is left from that one on.
-use Rattle.std.proofs.Common.{◌≡◌, ◌≢◌, ℕ, zero, suc, ◌+◌, ◌-◌, ◌*◌, ◌<◌, ◌≤◌, inl, ⊎_elim, List, [], ◌∷◌, ◌++◌, length, get_or, refl, sym, ◌∙◌, ap, arith, cond, Bool}
+use Rattle.std.proofs.Common.{◌≡◌, ◌≢◌, ℕ, zero, suc, ◌+◌, ◌-◌, ◌<◌, ◌≤◌, inl, ⊎_elim, List, [], ◌∷◌, ◌++◌, length, get_or, refl, ◌∙◌, ap, arith, cond, Bool}
 use Rattle.std.specs.List.{zip}
 use Rattle.std.proofs.lemmas.Bool.{ne_eqb}
 use Rattle.fl_base.specs.declared.fragment.Frag.{Frag}
@@ -11,7 +11,7 @@ use Rattle.fl_layout.specs.Leaves.{Argument, kind, arguments_onto}
 use Rattle.fl_wire.specs.Covered.{is_length}
 use Rattle.fl_wire.specs.Shapes.{calls_of, ReadAt}
 use Rattle.fl_wire.proofs.Steps.{Come, come_done}
-use Rattle.fl_wire.proofs.Calls.{Same, IsRead, SameRead, FitRead, rank_at, left_from, itself, come_same, all_read}
+use Rattle.fl_wire.proofs.Calls.{Same, IsRead, FitRead, rank_at, left_from, itself, come_same, all_read}
 
 none_of_rank : (plan : PlanNo) (rank : ℕ) (args : List Argument) → ((t : TheArgType) → rank_of plan t < rank) → of_rank kind plan rank args ≡ []
 none_of_rank plan rank [] below = refl

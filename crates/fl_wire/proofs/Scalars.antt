@@ -61,7 +61,7 @@ up_on plan ts i least rank t small here up is so =
     let high : least ≤ rank_of plan t = omega (arith, up, is) in
     so ∙ ap (rises plan least) more ∙ rises_on plan least t rest high ∙ ap (λ (n : ℕ). rises plan n rest) (sym is)
 
-rises_end : (plan : PlanNo) (least : ℕ) → rises plan least [] ≡ true
+pub rises_end : (plan : PlanNo) (least : ℕ) → rises plan least [] ≡ true
 rises_end One least = refl
 rises_end Two least = refl
 

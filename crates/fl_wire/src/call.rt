@@ -8,7 +8,7 @@ ghost use Rattle.fl_wire.specs.Shapes.{ReadAt, StopsAt, starts_after, next_argum
 ghost use Rattle.fl_wire.specs.Whole.{Whole, StopsWhole};
 
 use crate::leaf::{Stop, read_padding, read_zeros};
-use crate::types::is_dynamic;
+use crate::types::{ends_fixed, is_dynamic};
 use crate::value::{is_wide, read_argument, read_scalar_argument, read_wide};
 use fl_base::{FRAG_BYTES, Frag};
 use fl_interface::ArgType;
@@ -72,16 +72,6 @@ fn ranks_of(plan: PlanNo) -> u8
     }
 }
 
-// Whether the last argument is of a fixed size. Where it isn't, not all are scalars: that is told before memory
-// is taken.
-#[inline(always)]
-fn ends_fixed(types: &[ArgType]) -> bool {
-    match types.last() {
-        Some(last) => !is_dynamic(last),
-        None => false,
-    }
-}
-
 // The word after one: of the same fragment, or the first of the next.
 #[inline(always)]
 fn word_after(frag: usize, word: usize) -> (usize, usize)
@@ -109,6 +99,7 @@ fn read_scalars(
     ensures read { IfSome result (λ r.
         ReadAt (calls_of plan (map arg_type_of types.now)) frags.now 0 (map datum_of r.0.items) r.1) }
 {
+    // Where the last argument isn't of a fixed size, not all are scalars: that is told before memory is taken.
     if !ends_fixed(types) {
         return None;
     }

@@ -2,11 +2,12 @@
 //! fragments mean.
 //!
 //! Contract for the layers above: [`payload`] is the byte string in which each leaf of the call
-//! stands at its place and every other byte is 0; [`fragment`] is the next 56 bytes of it with a
-//! control word; [`read_frags`] gives the calls back and counts the rest, or tells the first fault; and no
-//! list of fragments has two readings ([`one_reading`]). The definitions stand in `specs/Payload.antt`,
-//! `specs/Reading.antt` and `specs/Wrong.antt`, those of leaves and places in `fl_layout`; what reading a
-//! thing at a place tells, in `specs/Shapes.antt`.
+//! stands at its place and every other byte is 0, and [`payload_into`] the same in memory that is there
+//! already; [`fragment`] is the next 56 bytes of it with a control word; [`read_frags`] gives the calls back
+//! and counts the rest, or tells the first fault; and no list of fragments has two readings
+//! ([`one_reading`]). The definitions stand in `specs/Payload.antt`, `specs/Reading.antt` and
+//! `specs/Wrong.antt`, those of leaves and places in `fl_layout`; what reading a thing at a place tells, in
+//! `specs/Shapes.antt`.
 //!
 //! - `types.rt`: the types of a message's arguments
 //! - `encode.rt`: the payload of a call
@@ -35,7 +36,7 @@ mod text;
 mod types;
 mod value;
 
-pub use encode::payload;
+pub use encode::{payload, payload_into};
 pub use fault::WireFault;
 pub use fl_layout::fragment_count;
 pub use fragments::{fragment, fragment_at};

@@ -18,6 +18,15 @@ pub(crate) fn is_dynamic(ty: &ArgType) -> bool
     }
 }
 
+/// Whether there is a last argument, and it is of a fixed size.
+#[inline(always)]
+pub(crate) fn ends_fixed(types: &[ArgType]) -> bool {
+    match types.last() {
+        Some(last) => !is_dynamic(last),
+        None => false,
+    }
+}
+
 /// The types of a message's arguments; none where there is no such message.
 pub(crate) fn arguments_of(interface: &Interface, msg: MsgNo) -> &[ArgType]
     ensures types { map arg_type_of result.now ≡ argument_types (interface_of interface.now) msg.0 }

@@ -1,13 +1,16 @@
-use Rattle.std.proofs.Common.{◌∙◌, map}
+use Rattle.std.proofs.Common.{◌∙◌, map, ap, rules}
 use Rattle.std.proofs.lemmas.Result.{on_ok_weaker}
-use Rattle.fl_interface.specs.Interface.{fields_from, type_of}
+use Rattle.fl_interface.specs.declared.interface.FixedType.TheViews.{the_lemmas}
+use Rattle.fl_interface.specs.declared.interface.FixedType.TheFolds.{fold-roll-FixedType, fold_out-FixedType}
+use Rattle.fl_interface.specs.Interface.{TheType, fields_from, type_of, type_step}
 use Rattle.fl_interface.specs.Sizes.{greatest_align}
 use Rattle.fl_wire.proofs.Arguments.{align_along, types_align}
-use Rattle.fl_wire.proofs.Encoding.{elements_left, elements_next}
+use Rattle.fl_wire.proofs.Encoding.{elements_left, elements_next, scalars_within, enumerators_within, scalars_leaves, enumerators_leaves}
+use Rattle.fl_wire.specs.Payload.{payload_bytes}
 use Rattle.fl_wire.proofs.encode.+values.Goals as goal
 
-pub put_elements-loop-value-preserved : goal.put_elements-loop-value-preserved
-put_elements-loop-value-preserved t c =
+pub put_each-loop-value-preserved : goal.put_each-loop-value-preserved
+put_each-loop-value-preserved t c =
     let type = type_of c.args.element.now in
     record {
       fit = elements_left type c.args.values.now c.loop-value.value-index c.value-item.result c.loop-value-test.true c.loop-value.invariant.fit;
@@ -32,4 +35,28 @@ put_struct-put_gap-requires-2 t c =
 pub put_struct-returns : goal.put_struct-returns
 put_struct-returns t c = record {
   ok = on_ok_weaker c.put_gap-2.result (λ last before old. last _ (c.in_ok-put_fields.ensures.ok _ (c.in_ok-put_gap.ensures.ok before old))) c.put_gap-2.ensures.ok;
+}
+
+pub put_elements-put_numbers-requires-clause-fit : goal.put_elements-put_numbers-requires-clause-fit
+put_elements-put_numbers-requires-clause-fit t c =
+    scalars_within (type_of c.args.element.now) c.in-Scalar.field-0 c.args.align c.args.values.now (search (rules, the_lemmas, fold-roll-FixedType TheType type_step, fold_out-FixedType TheType type_step)) c.requires.aligned c.requires.fit
+
+pub put_elements-put_numbers-requires-in-Enumeration-clause-fit : goal.put_elements-put_numbers-requires-in-Enumeration-clause-fit
+put_elements-put_numbers-requires-in-Enumeration-clause-fit t c =
+    enumerators_within (type_of c.args.element.now) c.in-Enumeration.count c.args.values.now (search (rules, the_lemmas, fold-roll-FixedType TheType type_step, fold_out-FixedType TheType type_step)) c.type_inv._count.fits c.requires.fit
+
+pub put_elements-returns-in-Scalar : goal.put_elements-returns-in-Scalar
+put_elements-returns-in-Scalar t c = record {
+  ok = on_ok_weaker c.put_numbers.result
+      (λ done before old. done before old
+      ∙ ap payload_bytes (scalars_leaves (type_of c.args.element.now) c.in-Scalar.field-0 c.args.align c.args.values.now before (search (rules, the_lemmas, fold-roll-FixedType TheType type_step, fold_out-FixedType TheType type_step)) c.requires.aligned c.requires.fit))
+      c.put_numbers.ensures.ok;
+}
+
+pub put_elements-returns-in-Enumeration : goal.put_elements-returns-in-Enumeration
+put_elements-returns-in-Enumeration t c = record {
+  ok = on_ok_weaker c.put_numbers-in-Enumeration.result
+      (λ done before old. done before old
+      ∙ ap payload_bytes (enumerators_leaves (type_of c.args.element.now) c.in-Enumeration.count c.args.values.now before (search (rules, the_lemmas, fold-roll-FixedType TheType type_step, fold_out-FixedType TheType type_step)) c.requires.fit))
+      c.put_numbers-in-Enumeration.ensures.ok;
 }

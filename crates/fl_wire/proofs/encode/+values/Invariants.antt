@@ -18,8 +18,8 @@ invariant-put_fields-loop-field l =
     }
 
 -- the elements that are left fit, and their leaves go onto those that stand
-abbrev pub invariant-put_elements-loop-value : goal.invariant-put_elements-loop-value
-invariant-put_elements-loop-value l =
+abbrev pub invariant-put_each-loop-value : goal.invariant-put_each-loop-value
+invariant-put_each-loop-value l =
     let ds = data_from (map datum_of (drop l.value-index l.values)) in
     record {
       fit : all_have_type (type_of l.element) ds ≡ true;

@@ -1,6 +1,7 @@
 use Rattle.std.proofs.Common.{◌≡◌, ◌∙◌, ap, subst, sym, true, false, map, List, []}
 use Rattle.std.specs.Prelude.{slice_get}
 use Rattle.std.specs.List.{zip}
+use Rattle.std.proofs.lemmas.Result.{on_ok_weaker}
 use Rattle.fl_interface.specs.Interface.{TheArgType, interface_of}
 use Rattle.fl_value.specs.Value.{datum_of, call_of}
 use Rattle.fl_value.specs.declared.value.Value.{Value}
@@ -9,7 +10,7 @@ use Rattle.fl_value.specs.Plan.{arranged}
 use Rattle.fl_layout.specs.Leaves.{Leaf, kind, arguments_onto, argument_types}
 use Rattle.fl_wire.specs.Payload.{payload_bytes}
 use Rattle.fl_wire.proofs.Arguments.{arguments_fit}
-use Rattle.fl_wire.proofs.encode.payload.Goals as goal
+use Rattle.fl_wire.proofs.encode.payload_into.Goals as goal
 
 pub put_arguments-requires : goal.put_arguments-requires
 put_arguments-requires c =
@@ -18,6 +19,7 @@ put_arguments-requires c =
     record {
       fit = subst P (sym c.arguments_of.ensures.types) (subst Q (sym c.deref.ensures.value)
           (arguments_fit (slice_get (interface_of c.args.interface.now).messages c.args.call.now.msg.0) (map datum_of c.args.call.now.args.items) c.requires.fits));
+      empty = c.clear.ensures.items;
     }
 
 pub returns : goal.returns
@@ -26,7 +28,9 @@ returns c =
     let call = call_of c.args.call.now in
     let leaves_from : List TheArgType → List Value → List Leaf = λ ts vs. arguments_onto false (arranged kind c.args.plan (zip ts (map datum_of vs))) [] in
     record {
-      payload = c.in_ok-put_arguments.ensures.ok [] c.in_ok-out.ensures.items
+      payload = on_ok_weaker c.put_arguments.result
+          (λ done. done
           ∙ ap payload_bytes (ap (λ (ts : List TheArgType). leaves_from ts c.deref.result.now) c.arguments_of.ensures.types
-          ∙ ap (λ (vs : List Value). leaves_from (argument_types i call.msg) vs) c.deref.ensures.value);
+          ∙ ap (λ (vs : List Value). leaves_from (argument_types i call.msg) vs) c.deref.ensures.value))
+          c.put_arguments.ensures.ok;
     }
