@@ -363,6 +363,20 @@ impl Intake {
         }
     }
 
+    /// Back to the first instruction.
+    #[inline(always)]
+    pub(crate) fn renew(&mut self)
+        ensures stands { (ops : List Op) → IsCode receive ops (block_of ops) → Stands ops [] self.new [] }
+        ensures none { self.new.count ≡ 0 }
+    {
+        self.place = 0;
+        self.depth = 0;
+        self.count = 0;
+        self.phase = 0;
+        self.value = 0;
+        self.have = 0;
+    }
+
     /// How many numbers were taken.
     #[inline(always)]
     pub(crate) fn count(&self) -> usize
