@@ -281,7 +281,7 @@ pub(crate) fn op_at(ops: &[Op], place: usize) -> Option<Op>
 
 // The greatest number of so many bytes.
 #[inline(always)]
-fn greatest(width: u32) -> u64
+pub(crate) fn greatest(width: u32) -> u64
     requires { is_width width ≡ true }
     ensures { result + 1 ≡ 256 ^ width }
 {
@@ -308,7 +308,7 @@ impl Field {
     }
 
     #[inline(always)]
-    fn zeros(width: u32) -> Field
+    pub(crate) fn zeros(width: u32) -> Field
         ensures { field_view result ≡ zeros_field width }
     {
         Field {
