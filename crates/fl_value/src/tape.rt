@@ -137,12 +137,26 @@ fn push_each(tape: &mut Vec<u64>, bytes: &[u8]) -> Result<(), AllocError>
     Ok(())
 }
 
-/// Appends a string's bytes, eight at a time.
-#[inline(never)]
-fn push_bytes(tape: &mut Vec<u64>, bytes: &[u8]) -> Result<(), AllocError>
+/// Bytes as numbers, by a loop that the compiler makes vector code of.
+#[inline(always)]
+fn widened(bytes: &[u8]) -> [u64; 64]
+    requires long { length bytes.now ≡ 64 }
+    ensures same { result ≡ bytes.now }
+{
+    let mut numbers = [0; 64];
+    let mut index = 0;
+    while index < 64 {
+        let number = u64::from(bytes[index]);
+        numbers[index] = number;
+        index += 1;
+    }
+    numbers
+}
+
+/// Appends bytes, eight at a time.
+fn push_eights(tape: &mut Vec<u64>, bytes: &[u8]) -> Result<(), AllocError>
     ensures tape { OnOk result (tape.new.items ≡ tape.old.items ++ bytes.now) }
 {
-    tape.reserve(bytes.len())?;
     let mut rest = bytes;
     while let [a, b, c, d, e, f, g, h, after @ ..] = rest {
         tape.extend_from_slice(&[
@@ -158,6 +172,21 @@ fn push_bytes(tape: &mut Vec<u64>, bytes: &[u8]) -> Result<(), AllocError>
         rest = after;
     }
     push_each(tape, rest)
+}
+
+/// Appends a string's bytes, 64 at a time.
+#[inline(never)]
+fn push_bytes(tape: &mut Vec<u64>, bytes: &[u8]) -> Result<(), AllocError>
+    ensures tape { OnOk result (tape.new.items ≡ tape.old.items ++ bytes.now) }
+{
+    tape.reserve(bytes.len())?;
+    let mut rest = bytes;
+    while rest.len() >= 64 {
+        let (first, after) = rest.split_at(64);
+        tape.extend_from_slice(&widened(first))?;
+        rest = after;
+    }
+    push_eights(tape, rest)
 }
 
 /// How many values there are.
