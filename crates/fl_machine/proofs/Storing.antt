@@ -1,6 +1,6 @@
 -- What a run stores, where a refused fragment wrote behind its numbers.
 use Rattle.std.proofs.Common.{◌≡◌, ℕ, ◌≤◌, Bool, true, false, ◌⊎◌, inl, inr, List, [], take, length, Some, None, refl, sym, ◌∙◌, ap, subst, arith}
-use Rattle.std.specs.Prelude.{Option}
+use Rattle.std.specs.Prelude.{Option, Ok}
 use Rattle.std.proofs.lemmas.List.{take-take}
 use Rattle.std.proofs.lemmas.Bool.{false≢true}
 use Rattle.fl_stub.specs.Given.{bytes_given}
@@ -13,11 +13,12 @@ use Rattle.fl_compile.specs.declared.program.Program.{Program}
 use Rattle.fl_compile.specs.Programs.{program_of}
 use Rattle.fl_compile.specs.Compiled.{message_code}
 use Rattle.fl_machine.specs.declared.recv.Begun.{Begun}
-use Rattle.fl_machine.specs.declared.recv.Stand.{Stand}
-use Rattle.fl_machine.specs.declared.recv.Stand.TheVariants.{Between, Inside, After}
-use Rattle.fl_machine.specs.declared.recv.Before.{Before}
+use Rattle.fl_machine.specs.Receiving.{Stand, Between, Inside, After, Before}
 use Rattle.fl_machine.specs.Taking.{Stands, so_far}
+use Rattle.fl_machine.specs.declared.intake.Fed.{Fed}
+use Rattle.fl_machine.specs.declared.intake.Fed.TheVariants.{Part, Whole}
 use Rattle.fl_machine.specs.Receiving.{TheHeld, TheStored, receiving, fed_of, fed_before, block_at, frags_begun, tape_before, numbers_in, HoldsTapes, IsStand, IsBefore, IsStored}
+use Rattle.fl_machine.specs.Receiving.{Adds, AddsPart, AddsLast, Feeds, stand_after}
 
 -- the first so many numbers of two tapes are the same
 pub record Same (n : ℕ) (tape tape2 : List ℕ) : Type 0 where
@@ -107,3 +108,51 @@ receiving_same program s b tape2 inside same x =
     let fed = fed_same plan i (numbers_in s.stand) s.tape tape2 s.stand own (omega arith) in
     let before = fed_before_same plan i (numbers_in s.stand) s.tape tape2 s.spare s.before own x.before in
     λ k. record { program = program; parts = (fed k).parts; whole = (fed k).whole; before = before k }
+
+-- ---- a call begun on the fresh tape
+
+abbrev pub begun_on : TheStored → List ℕ → Stand → TheStored
+begun_on s tape stand = record { tape = tape; spare = s.tape; fresh = s.spare; stand = stand; before = Some (record { stand = s.stand; began = true }) }
+
+pub begun_stored : (plan : PlanNo) (i : TheInterface) (s : TheStored) (tape : List ℕ) (stand : Stand) → IsStored plan i s → length tape ≡ length s.fresh → IsStand plan i tape stand
+    → IsStored plan i (begun_on s tape stand)
+begun_stored plan i s tape stand x long stands = record {
+  tape = subst (λ (n : ℕ). HoldsTapes plan i n) (sym long) x.fresh;
+  spare = x.tape;
+  fresh = x.spare;
+  stand = stands;
+  before = (x.stand, inl refl);
+}
+
+held_again : (plan : PlanNo) (i : TheInterface) (tape : List ℕ) (s : Stand)
+    → fed_of plan i tape s ≡ (let h : TheHeld = record { parts = (fed_of plan i tape s).parts; whole = (fed_of plan i tape s).whole } in h)
+held_again plan i tape Between = refl
+held_again plan i tape (Inside b) = refl
+held_again plan i tape (After e) = refl
+
+pub begun_feeds : (program : Program) (s : TheStored) (tape : List ℕ) (b : Begun) (f : Frag) (fed : Fed) → (receiving program s).parts ≡ []
+    → Adds (program_of program).plan (program_of program).interface [] f (fed_of (program_of program).plan (program_of program).interface tape (stand_after b fed)) (stand_after b fed)
+    → Feeds (receiving program s) f (Ok fed) (receiving program (begun_on s tape (stand_after b fed)))
+begun_feeds program s tape b f Part outside adds =
+    let plan = (program_of program).plan in
+    let i = (program_of program).interface in (
+      subst (λ (fs : List Frag). AddsPart plan i fs f (fed_of plan i tape (Inside b))) (sym outside) adds,
+      record { program = refl; before = ap Some (held_again plan i s.tape s.stand) },
+    )
+begun_feeds program s tape b f Whole outside adds =
+    let plan = (program_of program).plan in
+    let i = (program_of program).interface in (
+      subst (λ (fs : List Frag). AddsLast plan i fs f (fed_of plan i tape (stand_after b Whole))) (sym outside) adds,
+      record { program = refl; before = ap Some (held_again plan i s.tape s.stand) },
+    )
+
+-- what is stored then, told part by part
+pub begun_as : (s : TheStored) (tape tape2 spare fresh : List ℕ) (stand stand2 from : Stand) → tape2 ≡ tape → spare ≡ s.tape → fresh ≡ s.spare → stand2 ≡ stand → from ≡ s.stand
+    → begun_on s tape stand ≡ (let t : TheStored = record { tape = tape2; spare = spare; fresh = fresh; stand = stand2; before = Some (record { stand = from; began = true }) } in t)
+begun_as s tape tape2 spare fresh stand stand2 from e f g h k = λ n. record {
+  tape = sym e n;
+  spare = sym f n;
+  fresh = sym g n;
+  stand = sym h n;
+  before = Some (record { stand = sym k n; began = true });
+}

@@ -1,5 +1,5 @@
 -- What a run of receive code was fed: fragments, each list a function of what the run stores.
-use Rattle.std.specs.Prelude.{◌≡◌, ◌⊎◌, ℕ, ◌+◌, ◌*◌, ◌<◌, ◌≤◌, true, if◌then◌else◌, List, [], ◌∷◌, ◌++◌, map, take, length}
+use Rattle.std.specs.Prelude.{◌≡◌, ◌⊎◌, Bool, ℕ, ◌+◌, ◌*◌, ◌<◌, ◌≤◌, true, if◌then◌else◌, List, [], ◌∷◌, ◌++◌, map, take, length}
 use Rattle.std.specs.Prelude.{slice_get, slice_index, Option, Some, None, Result, Ok, Err}
 use Rattle.std.specs.Option.{option_map}
 use Rattle.std.specs.List.{range_with_len}
@@ -28,9 +28,9 @@ use Rattle.fl_machine.specs.Sending.{frag_of, frags_holding}
 use Rattle.fl_machine.specs.Taking.{Stands, so_far}
 use Rattle.fl_machine.specs.declared.recv.Begun.{Begun}
 use Rattle.fl_machine.specs.declared.recv.Ended.{Ended}
-use Rattle.fl_machine.specs.declared.recv.Stand.{Stand}
-use Rattle.fl_machine.specs.declared.recv.Stand.TheVariants.{Between, Inside, After}
-use Rattle.fl_machine.specs.declared.recv.Before.{Before}
+use Rattle.fl_machine.specs.declared.recv.Phase.{Phase}
+use Rattle.fl_machine.specs.declared.recv.Phase.TheVariants.{Idle, Busy, Done}
+use Rattle.fl_machine.specs.declared.recv.Former.{Former}
 use Rattle.fl_machine.specs.declared.recv.Stored.{Stored}
 use Rattle.fl_machine.specs.declared.intake.Fed.{Fed}
 use Rattle.fl_machine.specs.declared.intake.Fed.TheVariants.{Part, Whole}
@@ -78,6 +78,17 @@ parts_of plan i tape b = frags_begun b.msg.0 (bytes_given (block_at plan i b.msg
 abbrev pub whole_of : PlanNo → TheInterface → List ℕ → Ended → List Frag
 whole_of plan i tape e = frags_holding true e.msg.0 0 (bytes_given (block_at plan i e.msg.0) (take e.count tape))
 
+-- where a run stands: outside of a call that was fed, inside one, or behind one
+pub data Stand : Type 0 where
+  Between : Stand
+  Inside : Begun → Stand
+  After : Ended → Stand
+
+-- where it stood before the last accepted feed, and whether that feed began a call
+pub record Before : Type 0 where
+  pub stand : Stand
+  pub began : Bool
+
 abbrev pub fed_of : PlanNo → TheInterface → List ℕ → Stand → TheHeld
 fed_of plan i tape Between = record { parts = []; whole = [] }
 fed_of plan i tape (Inside b) = record { parts = parts_of plan i tape b; whole = [] }
@@ -98,8 +109,23 @@ pub record TheStored : Type 0 where
   pub stand : Stand
   pub before : Option Before
 
+-- the phase, with the call that is under way in it
+abbrev pub stand_of : Phase → Begun → Stand
+stand_of Idle b = Between
+stand_of Busy b = Inside b
+stand_of (Done e) b = After e
+
+abbrev pub before_of : Begun → Former → Before
+before_of b x = record { stand = stand_of x.phase b; began = x.began }
+
 abbrev pub stored_of : Stored → TheStored
-stored_of s = record { tape = s.tape.items; spare = s.spare.items; fresh = s.fresh.items; stand = s.stand; before = s.before }
+stored_of s = record {
+  tape = s.tape.items;
+  spare = s.spare.items;
+  fresh = s.fresh.items;
+  stand = stand_of s.phase s.now.value;
+  before = option_map (before_of s.last.value) s.before;
+}
 
 abbrev pub receiving : Program → TheStored → TheReceiving
 receiving program s = record {

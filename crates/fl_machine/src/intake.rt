@@ -281,7 +281,7 @@ pub(crate) fn op_at(ops: &[Op], place: usize) -> Option<Op>
 
 // The greatest number of so many bytes.
 #[inline(always)]
-fn greatest(width: u32) -> u64
+pub(crate) fn greatest(width: u32) -> u64
     requires { is_width width ≡ true }
     ensures { result + 1 ≡ 256 ^ width }
 {
@@ -308,7 +308,7 @@ impl Field {
     }
 
     #[inline(always)]
-    fn zeros(width: u32) -> Field
+    pub(crate) fn zeros(width: u32) -> Field
         ensures { field_view result ≡ zeros_field width }
     {
         Field {
@@ -361,6 +361,20 @@ impl Intake {
             value: 0,
             have: 0,
         }
+    }
+
+    /// Back to the first instruction.
+    #[inline(always)]
+    pub(crate) fn renew(&mut self)
+        ensures stands { (ops : List Op) → IsCode receive ops (block_of ops) → Stands ops [] self.new [] }
+        ensures none { self.new.count ≡ 0 }
+    {
+        self.place = 0;
+        self.depth = 0;
+        self.count = 0;
+        self.phase = 0;
+        self.value = 0;
+        self.have = 0;
     }
 
     /// How many numbers were taken.

@@ -14,7 +14,7 @@ ghost use Rattle.fl_machine.specs.Taking.{HasField, HasRoom, IsRunOf, run_at};
 ghost use Rattle.fl_machine.specs.Plain.{is_plain as is_plain_op, plain_behind, HasNumber};
 
 use crate::cursor::is_op;
-use crate::intake::{Field, Intake, end_of, is_last, low_part, op_at, spread, word_at};
+use crate::intake::{Field, Intake, end_of, greatest, is_last, low_part, op_at, spread, word_at};
 use fl_stub::{Mark, Op};
 
 // Whether an instruction takes bytes wherever it stands, and one number or zeros by them.
@@ -124,6 +124,19 @@ fn plain_number(op: Op, buffer: &[u8; 64], used: usize) -> Option<(Field, u64)>
             return None;
         }
         return Some((Field::number(8, 0, u64::MAX), word_at(buffer, used)));
+    }
+    if let Op::Read(width) = op {
+        if width as usize > 56 - used {
+            return None;
+        }
+        let number = low_part(word_at(buffer, used), width as usize);
+        return Some((Field::number(width, 0, greatest(width)), number));
+    }
+    if let Op::Skip(zeros) = op {
+        if zeros as usize > 56 - used || low_part(word_at(buffer, used), zeros as usize) != 0 {
+            return None;
+        }
+        return Some((Field::zeros(zeros), 0));
     }
     if !is_plain(op) {
         return None;

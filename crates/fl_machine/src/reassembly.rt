@@ -7,7 +7,7 @@ ghost use Rattle.fl_machine.specs.Faults.{take_number};
 ghost use Rattle.fl_machine.specs.Receiving.{HoldsParts, StandsIn, AddsUpTo};
 ghost use Rattle.fl_machine.specs.Kept.{EndsCallIn, HasFrags};
 ghost use Rattle.fl_machine.specs.declared.recv.Begun.{Begun};
-ghost use Rattle.fl_machine.specs.declared.recv.Stand.TheVariants.{After as after};
+ghost use Rattle.fl_machine.specs.Receiving.{After as after};
 ghost use Rattle.fl_machine.specs.Reassembling.{Takes, IsUnderWay, GoesOnFrom};
 ghost use Rattle.fl_machine.specs.Reassembling.{new_reassembly, parts_under, reassembly_on};
 

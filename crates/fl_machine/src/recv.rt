@@ -11,9 +11,9 @@ ghost use Rattle.fl_compile.specs.Programs.{program_of};
 ghost use Rattle.fl_machine.specs.Receiving.{plan_in, interface_in, fed_by, AddsPart, AddsLast, numbers_in, IsRefused, Remembers};
 ghost use Rattle.fl_machine.specs.Receiving.{undone, Undoes, Feeds, stored_of, receiving, HoldsTapes, IsBegun, IsStored};
 ghost use Rattle.fl_machine.specs.Receiving.{parts_in, StandsIn, AddsUpTo, HasFaultIn, IsRefusedIn, HasPlaces, MeansWhole};
-ghost use Rattle.fl_machine.specs.Receiving.{IsNew, ended_as, stand_after};
+ghost use Rattle.fl_machine.specs.Receiving.{IsNew, ended_as, stand_after, stand_of};
 ghost use Rattle.fl_machine.specs.Kept.{counting, IsKeptIn, GoesOn, Ends, IsFaulty, Refuses};
-ghost use Rattle.fl_machine.specs.declared.recv.Stand.TheVariants.{Inside as inside, After as after};
+ghost use Rattle.fl_machine.specs.Receiving.{Inside as inside, After as after};
 
 use crate::intake::{Fed, Intake};
 use crate::plain::take_plain;
@@ -43,33 +43,39 @@ pub(crate) struct Ended {
 
 /// What the last fragment fed left.
 #[derive(Clone, Copy)]
-pub(crate) enum Stand {
+pub(crate) enum Phase {
     /// No fragment was fed yet.
-    Between,
+    Idle,
     /// A call under way.
-    Inside(Begun),
+    Busy,
     /// A whole call.
-    After(Ended),
+    Done(Ended),
 }
 
 /// What stood before the last accepted feed.
 #[derive(Clone, Copy)]
-pub(crate) struct Before {
-    stand: Stand,
-    // Whether that feed began a call: then the stand's numbers are on the spare tape.
+pub(crate) struct Former {
+    phase: Phase,
+    // Whether that feed began a call: then the numbers of before are on the spare tape.
     began: bool,
 }
 
 // What a run stores beside its program.
 #[derive(Drop)]
 pub(crate) struct Stored {
-    // The numbers of the stand; those of the stand before, where the last feed began a call; and a tape to begin the
-    // next call on, so that a refused fragment harms neither.
+    // The numbers taken; those of before, where the last feed began a call; and a tape to begin the next call on, so that
+    // a refused fragment harms neither.
     tape: Vec<u64>,
     spare: Vec<u64>,
     fresh: Vec<u64>,
-    stand: Stand,
-    before: Option<Before>,
+    phase: Phase,
+    // The call under way, where one is; that of before the last accepted feed; and a place to go on at, so that a refused
+    // fragment harms neither. Each lies where it is, and their places are swapped: a call has eight loops, which are dear to
+    // move about.
+    now: Box<Begun>,
+    last: Box<Begun>,
+    next: Box<Begun>,
+    before: Option<Former>,
 }
 
 /// A run of receive code of a program: fragments are fed to it, which it takes as calls.
@@ -136,6 +142,16 @@ impl Begun {
         }
     }
 
+    // Makes it one that is to begin.
+    #[inline(always)]
+    fn renew(&mut self)
+        ensures new { IsNew self.new }
+    {
+        self.msg = MsgNo(0);
+        self.fed = 0;
+        self.intake.renew();
+    }
+
     // The call as one that is whole.
     #[inline(always)]
     pub(crate) fn ended(&self) -> Ended
@@ -147,14 +163,14 @@ impl Begun {
         }
     }
 
-    // Where a run stands behind the last fragment of it, by what that came to.
+    // The phase of a run behind the last fragment of it, by what that came to.
     #[inline(always)]
-    fn after(self, fed: Fed) -> Stand
-        ensures stand { result ≡ stand_after self fed }
+    fn after(&self, fed: Fed) -> Phase
+        ensures stand { stand_of result self.now ≡ stand_after self.now fed }
     {
         match fed {
-            Fed::Part => Stand::Inside(self),
-            Fed::Whole => Stand::After(self.ended()),
+            Fed::Part => Phase::Busy,
+            Fed::Whole => Phase::Done(self.ended()),
         }
     }
 
@@ -342,43 +358,42 @@ impl Stored {
         ensures stored { IsStored (program_of program.now).plan (program_of program.now).interface (stored_of self.new) }
         ensures feeds { Feeds (receiving program.now (stored_of self.old)) frag.now result (receiving program.now (stored_of self.new)) }
     {
-        let mut begun = Begun::new();
-        match begin(program, &mut begun, &mut self.fresh, frag) {
+        self.next.renew();
+        match begin(program, &mut self.next, &mut self.fresh, frag) {
             Err(fault) => Err(fault),
             Ok(fed) => {
                 mem::swap(&mut self.tape, &mut self.spare);
                 mem::swap(&mut self.tape, &mut self.fresh);
-                self.before = Some(Before {
-                    stand: self.stand,
+                mem::swap(&mut self.last, &mut self.next);
+                mem::swap(&mut self.now, &mut self.last);
+                self.before = Some(Former {
+                    phase: self.phase,
                     began: true,
                 });
-                self.stand = begun.after(fed);
+                self.phase = self.now.after(fed);
                 Ok(fed)
             }
         }
     }
 
     // Takes a fragment inside a call.
-    fn feed_inside(
-        &mut self,
-        program: &Program,
-        begun: Begun,
-        frag: &Frag,
-    ) -> Result<Fed, WireFault>
+    fn feed_inside(&mut self, program: &Program, frag: &Frag) -> Result<Fed, WireFault>
         requires stored { IsStored (program_of program.now).plan (program_of program.now).interface (stored_of self.old) }
-        requires inside { self.old.stand ≡ inside begun }
+        requires inside { (stored_of self.old).stand ≡ inside self.old.now.value }
         ensures stored { IsStored (program_of program.now).plan (program_of program.now).interface (stored_of self.new) }
         ensures feeds { Feeds (receiving program.now (stored_of self.old)) frag.now result (receiving program.now (stored_of self.new)) }
     {
-        let mut begun = begun;
-        match go_on(program, &mut begun, &mut self.tape, frag) {
+        *self.next = *self.now;
+        match go_on(program, &mut self.next, &mut self.tape, frag) {
             Err(fault) => Err(fault),
             Ok(fed) => {
-                self.before = Some(Before {
-                    stand: self.stand,
+                mem::swap(&mut self.last, &mut self.next);
+                mem::swap(&mut self.now, &mut self.last);
+                self.before = Some(Former {
+                    phase: self.phase,
                     began: false,
                 });
-                self.stand = begun.after(fed);
+                self.phase = self.now.after(fed);
                 Ok(fed)
             }
         }
@@ -390,8 +405,8 @@ impl Stored {
         ensures stored { IsStored (program_of program.now).plan (program_of program.now).interface (stored_of self.new) }
         ensures feeds { Feeds (receiving program.now (stored_of self.old)) frag.now result (receiving program.now (stored_of self.new)) }
     {
-        match self.stand {
-            Stand::Inside(begun) => self.feed_inside(program, begun, frag),
+        match self.phase {
+            Phase::Busy => self.feed_inside(program, frag),
             _ => self.feed_first(program, frag),
         }
     }
@@ -409,7 +424,8 @@ impl Stored {
         if before.began {
             mem::swap(&mut self.tape, &mut self.spare);
         }
-        self.stand = before.stand;
+        mem::swap(&mut self.now, &mut self.last);
+        self.phase = before.phase;
         self.before = None;
     }
 }
@@ -433,7 +449,10 @@ impl RecvRun {
                 tape,
                 spare,
                 fresh,
-                stand: Stand::Between,
+                phase: Phase::Idle,
+                now: Box::new(alloc, Begun::new())?,
+                last: Box::new(alloc, Begun::new())?,
+                next: Box::new(alloc, Begun::new())?,
                 before: None,
             },
         })
@@ -476,7 +495,7 @@ impl RecvRun {
         ensures fits { IfOk result (λ call. fits_of (interface_in self.now) (call_of call) ≡ true) }
         ensures means { IfOk result (λ call. Means (plan_in self.now) (interface_in self.now) self.now.whole (call_of call) 0) }
     {
-        let Stand::After(ended) = self.stored.stand else {
+        let Phase::Done(ended) = self.stored.phase else {
             unreachable!();
         };
         whole(alloc, &self.program, ended, &self.stored.tape)

@@ -14,3 +14,4 @@ pub mod Ranked
 pub mod Kept
 pub mod Spans
 pub mod Untaped
+pub mod Numbers

@@ -3,7 +3,7 @@
 
 ghost use Rattle.std.specs.Prelude.{◌≡◌, ◌+◌, ◌++◌, ◌≤◌, ◌%◌, ◌-◌, length, map, take, IfOk, OnOk};
 ghost use Rattle.std.specs.List.{flat_map};
-ghost use Rattle.fl_interface.specs.Interface.{type_of, arg_type_of, fields_from, interface_of};
+ghost use Rattle.fl_interface.specs.Interface.{scalar, type_of, arg_type_of, fields_from, interface_of};
 ghost use Rattle.fl_value.specs.Value.{datum_of, data_from, call_of};
 ghost use Rattle.fl_value.specs.Fits.{count_of};
 ghost use Rattle.fl_value.specs.Plan.{arranged, rank_of, by_ranks};
@@ -12,11 +12,12 @@ ghost use Rattle.fl_value.specs.Tape.{tape_of_argument, beside, kind, rank_tape,
 
 use crate::order::RANKS;
 use crate::value::{Call, PlanNo, Value};
-use fl_interface::{ArgType, FixedType, Interface};
+use fl_interface::{ArgType, FixedType, Interface, Scalar};
 use std::alloc::{AllocError, Global};
 
-/// A number's low bits, two's complement.
-fn raw(bits: u32, number: i128) -> u64
+/// A number's low bits, two's complement, by remainders: where their count is known, the compiler makes them a cut.
+#[inline(always)]
+fn remainder(bits: u32, number: i128) -> u64
     requires most { bits ≤ 64 }
     ensures same { result ≡ raw_of bits number }
 {
@@ -26,6 +27,36 @@ fn raw(bits: u32, number: i128) -> u64
     } else {
         (above - 1 - (-1 - number) as u128 % above) as u64
     }
+}
+
+/// A number's low bits, two's complement.
+#[inline(always)]
+fn raw(bits: u32, number: i128) -> u64
+    requires most { bits ≤ 64 }
+    ensures same { result ≡ raw_of bits number }
+{
+    match bits {
+        8 => remainder(8, number),
+        16 => remainder(16, number),
+        32 => remainder(32, number),
+        64 => remainder(64, number),
+        _ => remainder(bits, number),
+    }
+}
+
+/// Appends the numbers of scalars of one kind.
+#[inline(never)]
+fn push_scalars(tape: &mut Vec<u64>, kind: Scalar, values: &[Value]) -> Result<(), AllocError>
+    ensures tape { OnOk result (tape.new.items ≡ tape.old.items ++ elements_tape (scalar kind) (data_from (map datum_of values.now))) }
+{
+    tape.reserve(values.len())?;
+    let bits = 8 * kind.size();
+    for value in values {
+        if let Value::Int(number) = value {
+            tape.push(raw(bits, *number))?;
+        }
+    }
+    Ok(())
 }
 
 /// Appends a value's numbers.
@@ -72,7 +103,7 @@ fn push_fields(
         let Some(value) = values.get(index) else {
             return Ok(());
         };
-        push_value(tape, field, value)?;
+        push_fixed(tape, field, value)?;
     }
     Ok(())
 }
@@ -86,6 +117,9 @@ fn push_elements(
 ) -> Result<(), AllocError>
     ensures tape { OnOk result (tape.new.items ≡ tape.old.items ++ elements_tape (type_of element.now) (data_from (map datum_of values.now))) }
 {
+    if let FixedType::Scalar(kind) = element {
+        return push_scalars(tape, *kind, values);
+    }
     tape.reserve(values.len())?;
     for value in values {
         push_value(tape, element, value)?;
@@ -103,12 +137,26 @@ fn push_each(tape: &mut Vec<u64>, bytes: &[u8]) -> Result<(), AllocError>
     Ok(())
 }
 
-/// Appends a string's bytes, eight at a time.
-#[inline(never)]
-fn push_bytes(tape: &mut Vec<u64>, bytes: &[u8]) -> Result<(), AllocError>
+/// Bytes as numbers, by a loop that the compiler makes vector code of.
+#[inline(always)]
+fn widened(bytes: &[u8]) -> [u64; 64]
+    requires long { length bytes.now ≡ 64 }
+    ensures same { result ≡ bytes.now }
+{
+    let mut numbers = [0; 64];
+    let mut index = 0;
+    while index < 64 {
+        let number = u64::from(bytes[index]);
+        numbers[index] = number;
+        index += 1;
+    }
+    numbers
+}
+
+/// Appends bytes, eight at a time.
+fn push_eights(tape: &mut Vec<u64>, bytes: &[u8]) -> Result<(), AllocError>
     ensures tape { OnOk result (tape.new.items ≡ tape.old.items ++ bytes.now) }
 {
-    tape.reserve(bytes.len())?;
     let mut rest = bytes;
     while let [a, b, c, d, e, f, g, h, after @ ..] = rest {
         tape.extend_from_slice(&[
@@ -126,6 +174,21 @@ fn push_bytes(tape: &mut Vec<u64>, bytes: &[u8]) -> Result<(), AllocError>
     push_each(tape, rest)
 }
 
+/// Appends a string's bytes, 64 at a time.
+#[inline(never)]
+fn push_bytes(tape: &mut Vec<u64>, bytes: &[u8]) -> Result<(), AllocError>
+    ensures tape { OnOk result (tape.new.items ≡ tape.old.items ++ bytes.now) }
+{
+    tape.reserve(bytes.len())?;
+    let mut rest = bytes;
+    while rest.len() >= 64 {
+        let (first, after) = rest.split_at(64);
+        tape.extend_from_slice(&widened(first))?;
+        rest = after;
+    }
+    push_eights(tape, rest)
+}
+
 /// How many values there are.
 #[tactic(auto, using(crate::proofs::Counting::count_from))]
 fn count(values: &[Value]) -> u64
@@ -136,6 +199,7 @@ fn count(values: &[Value]) -> u64
 
 /// Appends the numbers of a value: a scalar's, the most common, without a call.
 #[inline(always)]
+#[cycle(tapes)]
 fn push_fixed(tape: &mut Vec<u64>, fixed: &FixedType, value: &Value) -> Result<(), AllocError>
     ensures tape { OnOk result (tape.new.items ≡ tape.old.items ++ value_tape (type_of fixed.now) (datum_of value.now)) }
 {

@@ -88,6 +88,29 @@ fn read_enumerator(tape: &[u64], count: u32) -> Option<(i128, &[u64])>
     Some((number, rest))
 }
 
+/// So many scalars that the tape begins with, and what follows them.
+#[inline(never)]
+fn read_scalars(
+    alloc: Global,
+    tape: &[u64],
+    count: u32,
+    kind: Scalar,
+) -> Result<Option<(Vec<Value>, &[u64])>, AllocError>
+    ensures found { IfOk result (λ o. IfSome o (λ r. TheValues (InTurn ValueAt (replicate count (scalar kind)) tape.now) r.0.items r.1.now)) }
+    ensures none { IfOk result (λ o. IfNone o (NoneOf (InTurn ValueAt (replicate count (scalar kind)) tape.now))) }
+{
+    let mut values = Vec::with_capacity(alloc, tape.len().min(count as usize))?;
+    let mut rest = tape;
+    for done in 0..count {
+        let Some((number, after)) = read_scalar(rest, kind) else {
+            return Ok(None);
+        };
+        values.push(Value::Int(number))?;
+        rest = after;
+    }
+    Ok(Some((values, rest)))
+}
+
 /// The value of a type that the tape begins with, and what follows it.
 #[cycle(taken)]
 fn read_value<'a>(
@@ -139,6 +162,14 @@ fn read_fields<'a>(
     let mut values = Vec::with_capacity(alloc, fields.len())?;
     let mut rest = tape;
     for field in fields {
+        if let FixedType::Scalar(kind) = field {
+            let Some((number, after)) = read_scalar(rest, *kind) else {
+                return Ok(None);
+            };
+            values.push(Value::Int(number))?;
+            rest = after;
+            continue;
+        }
         let Some((value, after)) = read_value(alloc, rest, field)? else {
             return Ok(None);
         };
@@ -159,6 +190,9 @@ fn read_elements<'a>(
     ensures found { IfOk result (λ o. IfSome o (λ r. TheValues (InTurn ValueAt (replicate count (type_of element.now)) tape.now) r.0.items r.1.now)) }
     ensures none { IfOk result (λ o. IfNone o (NoneOf (InTurn ValueAt (replicate count (type_of element.now)) tape.now))) }
 {
+    if let FixedType::Scalar(kind) = element {
+        return read_scalars(alloc, tape, count, *kind);
+    }
     let mut values = Vec::with_capacity(alloc, tape.len().min(count as usize))?;
     let mut rest = tape;
     for done in 0..count {

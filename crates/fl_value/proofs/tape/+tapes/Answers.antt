@@ -1,4 +1,4 @@
-use Rattle.std.proofs.Common.{◌≡◌, ◌≤◌, ◌<◌, ◌+◌, ℕ, List, [], ◌∷◌, ◌++◌, length, map, drop, get_or, refl, ap, sym, subst, ◌∙◌, append_assoc, append-nil}
+use Rattle.std.proofs.Common.{◌≡◌, ◌≤◌, ◌<◌, ◌+◌, ℕ, List, [], ◌∷◌, ◌++◌, length, map, drop, get_or, refl, ap, sym, subst, ◌∙◌, append-nil}
 use Rattle.std.proofs.lemmas.Bool.{ltb-true, ltb-false}
 use Rattle.std.proofs.lemmas.List.{drop_all}
 use Rattle.fl_interface.specs.Interface.{TheType, TheTypes, no_more, field, type_of, fields_from}
@@ -7,15 +7,8 @@ use Rattle.fl_value.specs.declared.value.Value.{Value}
 use Rattle.fl_value.specs.Value.{Datum, Data, nothing_more, datum_of, data_from}
 use Rattle.fl_value.specs.Tape.{value_tape, fields_tape, elements_tape}
 use Rattle.fl_value.proofs.Turns.{map_dropped}
+use Rattle.fl_value.proofs.Numbers.{one_more, no_elements}
 use Rattle.fl_value.proofs.tape.+tapes.Goals as goal
-
--- what is put behind the numbers stands before the rest
-one_more : (tape pushed one rest whole : List ℕ) → pushed ≡ tape ++ one → tape ++ (one ++ rest) ≡ whole → pushed ++ rest ≡ whole
-one_more tape pushed one rest whole is all = ap (λ (xs : List ℕ). xs ++ rest) is ∙ append_assoc tape one rest ∙ all
-
-no_elements : (t : TheType) (k : ℕ) (values : List Value) (tape whole : List ℕ) → length values ≤ k → tape ++ elements_tape t (data_from (map datum_of (drop k values))) ≡ whole → tape ≡ whole
-no_elements t k values tape whole past all =
-    sym (append-nil tape) ∙ ap (λ (vs : List Value). tape ++ elements_tape t (data_from (map datum_of vs))) (sym (drop_all k values past)) ∙ all
 
 no_fields : (k : ℕ) (types : List FixedType) (ds : Data) (tape whole : List ℕ) → length types ≤ k → tape ++ fields_tape (fields_from (map type_of (drop k types))) ds ≡ whole → tape ≡ whole
 no_fields k types ds tape whole past all =
@@ -75,5 +68,5 @@ push_fields-loop-index-preserved t c =
     let value = c.in-Some.value.now in
     let there = ltb-true k (length values) (sym c.in-Some.ensures.lookup.0) in
     let split = next_field fields values k type value c.loop-index-test.true c.index-fields-index.is there c.in-Some.ensures.lookup.1 in
-    one_more c.loop-index.tape.items c.push_value.new.tape.items (value_tape (type_of type) (datum_of value)) (fields_tape (fields_from (map type_of (drop (k + 1) fields))) (data_from (map datum_of (drop (k + 1) values)))) _
-    c.in_ok-push_value.ensures.tape (ap (λ (xs : List ℕ). c.loop-index.tape.items ++ xs) (sym split) ∙ c.loop-index.invariant)
+    one_more c.loop-index.tape.items c.push_fixed.new.tape.items (value_tape (type_of type) (datum_of value)) (fields_tape (fields_from (map type_of (drop (k + 1) fields))) (data_from (map datum_of (drop (k + 1) values)))) _
+    c.in_ok-push_fixed.ensures.tape (ap (λ (xs : List ℕ). c.loop-index.tape.items ++ xs) (sym split) ∙ c.loop-index.invariant)

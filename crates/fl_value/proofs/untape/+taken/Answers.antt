@@ -1,35 +1,62 @@
 use Rattle.std.proofs.Common.{◌≡◌, ◌++◌, ◌-◌, [], ◌∷◌, ℕ, List, suc, map, take, drop, replicate, arith, rules, sym, subst}
 use Rattle.std.proofs.lemmas.Grind.{replicate_next}
 use Rattle.std.proofs.lemmas.List.{take_all}
+use Rattle.std.proofs.lemmas.Int.{to_z-of_z}
+use mir.Syntax.{w128}
+use mir.Val.{SFits}
 use Rattle.fl_interface.specs.declared.interface.FixedType.{FixedType}
 use Rattle.fl_interface.specs.declared.interface.FixedType.TheViews.{the_lemmas as type_lemmas}
 use Rattle.fl_interface.specs.declared.interface.FixedType.TheFolds.{fold-roll-FixedType, fold_out-FixedType}
 use Rattle.fl_value.specs.declared.value.Value.TheViews.{the_lemmas as value_lemmas}
 use Rattle.fl_value.specs.declared.value.Value.TheFolds.{fold_out-Value}
-use Rattle.fl_interface.specs.Interface.{TheType, type_step, type_of, structure, array, fields_from}
-use Rattle.fl_value.specs.Value.{Datum, datum_step, datum_of, data_from, fields, elements}
+use Rattle.fl_interface.specs.Interface.{TheType, type_step, type_of, scalar, structure, array, fields_from}
+use Rattle.fl_value.specs.Value.{Datum, datum_step, datum_of, data_from, number, fields, elements}
 use Rattle.fl_value.specs.declared.value.Value.TheVariants.{Fields, List as ListOf}
 use Rattle.fl_value.specs.Taken.{ValueAt, InTurn, TheOne, NoneOf}
 use Rattle.fl_value.proofs.Turns.{start_at, one_more, none_more, map_pushed, map_taken, map_around, replicate_around, struct_one, struct_none, array_one, array_none}
+use Rattle.fl_value.proofs.Numbers.{number_pushed}
 use Rattle.fl_value.proofs.untape.+taken.Goals as goal
 
 pub read_fields-loop-field-preserved : goal.read_fields-loop-field-preserved
 read_fields-loop-field-preserved t c =
     let field = c.field-item.result in
     let before = map type_of (take c.loop-field.field-index c.args.fields.now) in
-    let found = rw c.in-Some.is at c.in_ok-value.ensures.found in
-    let more = one_more ValueAt before (type_of field) c.args.tape.now (map datum_of c.loop-field.values.items) c.loop-field.rest.now (datum_of c.in-Some.value) c.in-Some.after.now c.loop-field.invariant found in
+    let found = rw c.in-Some-2.is at c.in_ok-value.ensures.found in
+    let more = one_more ValueAt before (type_of field) c.args.tape.now (map datum_of c.loop-field.values.items) c.loop-field.rest.now (datum_of c.in-Some-2.value) c.in-Some-2.after.now c.loop-field.invariant found in
     let types = map_taken type_of c.args.fields.now c.loop-field.field-index field c.loop-field-test.true c.field-item.is in
-    let values = map_pushed datum_of c.loop-field.values.items c.push.new.self.items c.in-Some.value c.in_ok-push.ensures.items in
-    subst (λ (ts : List TheType). TheOne (InTurn ValueAt ts c.args.tape.now) (map datum_of c.push.new.self.items) c.in-Some.after.now) (sym types)
-    (subst (λ (ds : List Datum). TheOne (InTurn ValueAt (before ++ type_of field ∷ []) c.args.tape.now) ds c.in-Some.after.now) (sym values) more)
+    let values = map_pushed datum_of c.loop-field.values.items c.push-in-loop-field.new.self.items c.in-Some-2.value c.in_ok-push-2.ensures.items in
+    subst (λ (ts : List TheType). TheOne (InTurn ValueAt ts c.args.tape.now) (map datum_of c.push-in-loop-field.new.self.items) c.in-Some-2.after.now) (sym types)
+    (subst (λ (ds : List Datum). TheOne (InTurn ValueAt (before ++ type_of field ∷ []) c.args.tape.now) ds c.in-Some-2.after.now) (sym values) more)
 
-pub read_fields-returns-in_default-clause-none : goal.read_fields-returns-in_default-clause-none
-read_fields-returns-in_default-clause-none t c =
+pub read_fields-returns-in_default-2-clause-none : goal.read_fields-returns-in_default-2-clause-none
+read_fields-returns-in_default-2-clause-none t c =
     let field = c.field-item.result in
     let before = map type_of (take c.loop-field.field-index c.args.fields.now) in
     let behind = map type_of (drop (suc c.loop-field.field-index) c.args.fields.now) in
-    let none = rw c.in_default.is at c.in_ok-value.ensures.none in
+    let none = rw c.in_default-2.is at c.in_ok-value.ensures.none in
+    let nothing = none_more ValueAt before (type_of field) behind c.args.tape.now (map datum_of c.loop-field.values.items) c.loop-field.rest.now c.loop-field.invariant none in
+    subst (λ (ts : List TheType). NoneOf (InTurn ValueAt ts c.args.tape.now)) (map_around type_of c.args.fields.now c.loop-field.field-index field c.loop-field-test.true c.field-item.is) nothing
+
+pub read_fields-loop-field-preserved-in-Scalar : goal.read_fields-loop-field-preserved-in-Scalar
+read_fields-loop-field-preserved-in-Scalar t c =
+    let field = c.field-item.result in
+    let before = map type_of (take c.loop-field.field-index c.args.fields.now) in
+    let is : scalar c.in-Scalar.kind ≡ type_of field = search (rules, type_lemmas, fold-roll-FixedType TheType type_step, fold_out-FixedType TheType type_step) in
+    let found = subst (λ (u : TheType). TheOne (ValueAt u c.loop-field.rest.now) (number c.in-Some.number) c.in-Some.after.now) is c.in-Some.ensures.found in
+    let more = one_more ValueAt before (type_of field) c.args.tape.now (map datum_of c.loop-field.values.items) c.loop-field.rest.now (number c.in-Some.number) c.in-Some.after.now c.loop-field.invariant found in
+    let types = map_taken type_of c.args.fields.now c.loop-field.field-index field c.loop-field-test.true c.field-item.is in
+    let fits : SFits w128 c.in-Some.number = search rules in
+    let values = number_pushed c.loop-field.values.items c.push.new.self.items _ c.in-Some.number c.in_ok-push.ensures.items (to_z-of_z w128 c.in-Some.number fits) in
+    subst (λ (ts : List TheType). TheOne (InTurn ValueAt ts c.args.tape.now) (map datum_of c.push.new.self.items) c.in-Some.after.now) (sym types)
+    (subst (λ (ds : List Datum). TheOne (InTurn ValueAt (before ++ type_of field ∷ []) c.args.tape.now) ds c.in-Some.after.now) (sym values) more)
+
+pub read_fields-returns-in_default-read_scalar-clause-none : goal.read_fields-returns-in_default-read_scalar-clause-none
+read_fields-returns-in_default-read_scalar-clause-none t c =
+    let field = c.field-item.result in
+    let before = map type_of (take c.loop-field.field-index c.args.fields.now) in
+    let behind = map type_of (drop (suc c.loop-field.field-index) c.args.fields.now) in
+    let is : scalar c.in-Scalar.kind ≡ type_of field = search (rules, type_lemmas, fold-roll-FixedType TheType type_step, fold_out-FixedType TheType type_step) in
+    let none = subst (λ (u : TheType). NoneOf (ValueAt u c.loop-field.rest.now)) is c.in_default-read_scalar.ensures.none in
     let nothing = none_more ValueAt before (type_of field) behind c.args.tape.now (map datum_of c.loop-field.values.items) c.loop-field.rest.now c.loop-field.invariant none in
     subst (λ (ts : List TheType). NoneOf (InTurn ValueAt ts c.args.tape.now)) (map_around type_of c.args.fields.now c.loop-field.field-index field c.loop-field-test.true c.field-item.is) nothing
 
@@ -43,11 +70,11 @@ read_elements-loop-done-preserved t c =
     subst (λ (ts : List TheType). TheOne (InTurn ValueAt ts c.args.tape.now) (map datum_of c.push.new.self.items) c.in-Some.after.now) (sym (replicate_next c.loop-done.done element))
     (subst (λ (ds : List Datum). TheOne (InTurn ValueAt (before ++ element ∷ []) c.args.tape.now) ds c.in-Some.after.now) (sym values) more)
 
-pub read_elements-returns-in_default-clause-none : goal.read_elements-returns-in_default-clause-none
-read_elements-returns-in_default-clause-none t c =
+pub read_elements-returns-in_default-2-clause-none : goal.read_elements-returns-in_default-2-clause-none
+read_elements-returns-in_default-2-clause-none t c =
     let element = type_of c.args.element.now in
     let left = c.args.count - c.loop-done.done - 1 in
-    let none = rw c.in_default.is at c.in_ok-value.ensures.none in
+    let none = rw c.in_default-2.is at c.in_ok-value.ensures.none in
     let nothing = none_more ValueAt (replicate c.loop-done.done element) element (replicate left element) c.args.tape.now (map datum_of c.loop-done.values.items) c.loop-done.rest.now c.loop-done.invariant none in
     subst (λ (ts : List TheType). NoneOf (InTurn ValueAt ts c.args.tape.now)) (replicate_around element c.loop-done.done left c.args.count (omega arith)) nothing
 
