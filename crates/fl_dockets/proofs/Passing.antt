@@ -1,5 +1,5 @@
 -- Jobs that have no fault, each behind those before it; and rules that are set leave a job's fault as it was.
-use Rattle.std.proofs.Common.{◌≡◌, inl, inr, sym, ap, ◌∙◌, subst, ℕ, ◌+◌, List, [], ◌∷◌, ◌++◌, map, take, Option, None, arith}
+use Rattle.std.proofs.Common.{◌≡◌, inl, inr, sym, ap, ◌∙◌, subst, ℕ, List, [], ◌∷◌, ◌++◌, map, take, Option, None, arith}
 use Rattle.std.proofs.lemmas.List.{take_at, take-append-le}
 use Rattle.fl_base.specs.declared.identity.EndId.{EndId}
 use Rattle.fl_compile.specs.declared.program.Program.{Program}
