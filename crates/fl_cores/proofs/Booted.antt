@@ -88,12 +88,12 @@ pub late_fault : (c : TheConfig) (jobs : List TheJob) (p : Parts) (f : CoresFaul
 late_fault c jobs p (fault.Setup number place) accepted made is = absurd is
 late_fault c jobs p (fault.Job number place) accepted made is = record { accepted = accepted; parts = p; made = made; refused = is }
 late_fault c jobs p fault.Memory accepted made is = accepted.cores
-late_fault c jobs p fault.Thread accepted made is = accepted
+late_fault c jobs p fault.Thread accepted made is = record { accepted = accepted; parts = p; made = made; passed = is }
 
 pub later_fault : (p : Parts) (jobs : List TheJob) (f : RunFault) → IsRunFault p jobs f → IsLater p jobs (by_run f)
 later_fault p jobs (run.Refused number place) is = is
 later_fault p jobs run.Memory is = tt
-later_fault p jobs run.Thread is = tt
+later_fault p jobs run.Thread is = is
 
 -- ---- the first other event
 

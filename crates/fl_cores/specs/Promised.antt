@@ -82,26 +82,34 @@ IsRefusedAt c number place (Some n) = IsFaultOf (front_of c n) (boot.Refused num
 abbrev pub IsRefused : TheConfig → ℕ → ℕ → Type 0
 IsRefused c number place = IsRefusedAt c number place (position is_other c.setup)
 
--- the set-up is accepted, and of these jobs the one at this place is the first that can't be joined to what it makes
+-- the set-up is accepted, and by what it makes the job at this place, from 1, is the first of these that has a fault; or, at place 0, one of its own bindings
+-- can't be joined
 pub record RefusesJob (c : TheConfig) (jobs : List Job) (number place : ℕ) : Type 0 where
   pub accepted : IsAccepted c
   pub parts : Parts
   pub made : Made c parts
   pub refused : IsRunFault parts jobs (run.Refused number place)
 
+-- the set-up is accepted, and by what it makes none of these jobs has a fault; but a thread doesn't start
+pub record LacksThread (c : TheConfig) (jobs : List Job) : Type 0 where
+  pub accepted : IsAccepted c
+  pub parts : Parts
+  pub made : Made c parts
+  pub passed : IsRunFault parts jobs run.Thread
+
 -- a job is refused, or a thread, only where the set-up isn't; and memory only where so many cores there may be
 abbrev pub IsFault : TheConfig → List Job → CoresFault → Type 0
 IsFault c jobs (fault.Setup number place) = IsRefused c number place
 IsFault c jobs (fault.Job number place) = RefusesJob c jobs number place
 IsFault c jobs fault.Memory = has_bad_cores c ≡ false
-IsFault c jobs fault.Thread = IsAccepted c
+IsFault c jobs fault.Thread = LacksThread c jobs
 
 -- a fault behind the set-up that made these parts
 abbrev pub IsLater : Parts → List Job → CoresFault → Type 0
 IsLater p jobs (fault.Setup number place) = ⊥
 IsLater p jobs (fault.Job number place) = IsRunFault p jobs (run.Refused number place)
 IsLater p jobs fault.Memory = Unit {0}
-IsLater p jobs fault.Thread = Unit {0}
+IsLater p jobs fault.Thread = IsRunFault p jobs run.Thread
 
 -- ---- a cores file
 

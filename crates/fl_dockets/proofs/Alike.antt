@@ -1,5 +1,8 @@
 -- A call and a rule are refused as the reader of cores files refuses them.
 use Rattle.std.proofs.Common.{◌≡◌, refl, sym, ap, ◌∙◌, ℕ, ◌&&◌, ◌||◌, not, nat_le, if◌then◌else◌, List, length, slice_get, Option, Some, None, Bool, true, false}
+use Rattle.std.specs.Option.{option_map}
+use Rattle.std.proofs.lemmas.List.{length-map}
+use Rattle.std.proofs.lemmas.Option.{slice_get-map}
 use Rattle.fl_base.specs.declared.identity.Side.{Side}
 use Rattle.fl_base.specs.declared.identity.Side.TheVariants.{Client, Server}
 use Rattle.fl_base.specs.declared.identity.EndId.{EndId}
@@ -11,16 +14,20 @@ use Rattle.fl_compile.specs.declared.program.Program.{Program}
 use Rattle.fl_queues.specs.Calls.{Planned}
 use Rattle.fl_queues.specs.Given.{given}
 use Rattle.fl_queues.specs.Taking.{arguments_of, has_message}
-use Rattle.fl_jobs.specs.Jobs.{Job, own_calls, has_rules}
-use Rattle.fl_jobs.specs.Draft.{use_at, is_for_calls, is_for_rules, call_fault, rule_fault}
+use Rattle.fl_jobs.specs.Jobs.{Wish, Job, opens, own_calls, has_rules}
+use Rattle.fl_jobs.specs.Draft.{Bound as ReadBound, use_at, is_for_calls, is_for_rules, call_fault, rule_fault}
+use Rattle.fl_worlds.specs.declared.binding.Binding.{Binding}
+use Rattle.fl_worlds.specs.declared.parts.Parts.{Parts}
 use Rattle.fl_dockets.specs.declared.docket.Bound.{Bound}
 use Rattle.fl_dockets.specs.Dockets.{TheDocket, docket_at, is_ruled, are_some, IsAsked}
-use Rattle.fl_dockets.specs.Faults.{planned_of, use_in, as_read, call_refusal, rule_refusal, call_fault_by, rule_fault_by, call_fault_at, rule_fault_at}
+use Rattle.fl_dockets.specs.Faults.{planned_of, use_in, as_read, found_at, call_fault_by, rule_fault_by, call_fault_at, rule_fault_at, wish_fault}
 use Rattle.fl_dockets.specs.State.{TheJoined, AreJoined}
+use Rattle.fl_dockets.specs.Whole.{About, about, all_about, AreBound, found_behind, call_refusal, rule_refusal, job_fault}
 
-its_use : (asked : List Job) (n : ℕ) (x : Bound) (s : Side) → use_at s (as_read asked n x) ≡ (let e : EndId = record { binding = n; side = s } in use_in asked e)
-its_use asked n x Client = refl
-its_use asked n x Server = refl
+its_use : (set_up : ℕ) (asked : List Job) (n interface : ℕ) (s : Side)
+    → use_at s (as_read set_up asked n interface) ≡ (let e : EndId = record { binding = n; side = s } in use_in asked e)
+its_use set_up asked n interface Client = refl
+its_use set_up asked n interface Server = refl
 
 for_rules_by : (asked : List Job) (e : EndId) (a b : Bool) → has_rules asked e ≡ a → are_some (own_calls asked e) ≡ b → is_for_rules (use_in asked e) ≡ a
 for_rules_by asked e true b has some = rw has refl
@@ -40,44 +47,67 @@ calls_there : (asked : List Job) (e : EndId) (d : TheDocket) → IsAsked asked e
 calls_there asked e d a =
     for_calls_by asked e (has_rules asked e) (are_some (own_calls asked e)) refl refl (λ h. ap (λ (cs : List TheCall). are_some cs) (a.alone h)) ∙ sym a.calls
 
-pub call_alike : (asked : List Job) (e : EndId) (d : TheDocket) (c : TheCall) (x : Bound) (i : Planned) → IsAsked asked e d
-    → call_fault_by d c i ≡ call_fault e.side c (as_read asked e.binding x) i
-call_alike asked e d c x i a =
-    ap (λ (b : Bool). if nat_le (length i.interface.messages) c.msg then Some 41 else if not (fits_of i.interface c) then Some 42 else if b then Some 44 else None)
-    (sym (ap is_for_rules (its_use asked e.binding x e.side) ∙ rules_there asked e d a))
+module _ (set_up : ℕ) (asked : List Job) (e : EndId) (interface : ℕ) (i : Planned) where
+  abbrev read : ReadBound
+  read = as_read set_up asked e.binding interface
 
-pub rule_alike : (asked : List Job) (e : EndId) (d across : TheDocket) (msg answer : ℕ) (x : Bound) (i : Planned) → IsAsked asked e d → IsAsked asked (peer e) across
-    → rule_fault_by d across msg answer i ≡ rule_fault e.side msg answer (as_read asked e.binding x) i
-rule_alike asked e d across msg answer x i a o =
-    let here = ap is_for_calls (its_use asked e.binding x e.side) ∙ calls_there asked e d a in
-    let there = ap is_for_rules (its_use asked e.binding x (other e.side)) ∙ rules_there asked (peer e) across o in
-    ap (λ (b : Bool). if not (has_message msg i && has_message answer i) then Some 41
-    else if not (same_arguments (arguments_of msg i) (arguments_of answer i)) then Some 42 else if b || is_ruled across then Some 44 else None) (sym here)
-    ∙ ap (λ (b : Bool). if not (has_message msg i && has_message answer i) then Some 41
-    else if not (same_arguments (arguments_of msg i) (arguments_of answer i)) then Some 42
-    else if is_for_calls (use_at e.side (as_read asked e.binding x)) || b then Some 44 else None) (sym there)
+  pub call_alike : (d : TheDocket) (c : TheCall) → IsAsked asked e d → call_fault_by d c i ≡ call_fault e.side c read i
+  call_alike d c a =
+      ap (λ (b : Bool). if nat_le (length i.interface.messages) c.msg then Some 41 else if not (fits_of i.interface c) then Some 42 else if b then Some 44 else None)
+      (sym (ap is_for_rules (its_use set_up asked e.binding interface e.side) ∙ rules_there asked e d a))
 
-same_found_in : (o : Option Program) (x : Bound) (f g : Bound → Planned → Option ℕ) → ((y : Bound) (i : Planned) → f y i ≡ g y i)
-    → given o (Some 92) (λ p. f x (planned_of p)) ≡ given o (Some 92) (λ p. g x (planned_of p))
-same_found_in None x f g same = refl
-same_found_in (Some p) x f g same = same x (planned_of p)
+  pub rule_alike : (d across : TheDocket) (msg answer : ℕ) → IsAsked asked e d → IsAsked asked (peer e) across
+      → rule_fault_by d across msg answer i ≡ rule_fault e.side msg answer read i
+  rule_alike d across msg answer a o =
+      let here = ap is_for_calls (its_use set_up asked e.binding interface e.side) ∙ calls_there asked e d a in
+      let there = ap is_for_rules (its_use set_up asked e.binding interface (other e.side)) ∙ rules_there asked (peer e) across o in
+      ap (λ (b : Bool). if not (has_message msg i && has_message answer i) then Some 41
+      else if not (same_arguments (arguments_of msg i) (arguments_of answer i)) then Some 42 else if b || is_ruled across then Some 44 else None) (sym here)
+      ∙ ap (λ (b : Bool). if not (has_message msg i && has_message answer i) then Some 41
+      else if not (same_arguments (arguments_of msg i) (arguments_of answer i)) then Some 42
+      else if is_for_calls (use_at e.side read) || b then Some 44 else None) (sym there)
 
-same_found_by : (programs : List Program) (o : Option Bound) (f g : Bound → Planned → Option ℕ) → ((y : Bound) (i : Planned) → f y i ≡ g y i)
-    → given o (Some 92) (λ x. given (slice_get programs x.interface) (Some 92) (λ p. f x (planned_of p)))
-    ≡ given o (Some 92) (λ x. given (slice_get programs x.interface) (Some 92) (λ p. g x (planned_of p)))
-same_found_by programs None f g same = refl
-same_found_by programs (Some x) f g same = same_found_in (slice_get programs x.interface) x f g same
+-- ---- an end, by what is asked of its binding
 
-pub call_refused : (cores : ℕ) (programs : List Program) (asked : List Job) (j : TheJoined) (e : EndId) (c : TheCall) → AreJoined cores asked j
-    → call_fault_at programs j.bindings j.dockets e c ≡ call_refusal programs asked j.bindings e c
-call_refused cores programs asked j e c k =
-    same_found_by programs (slice_get j.bindings e.binding) (λ x i. call_fault_by (docket_at j.dockets e) c i)
-    (λ x i. call_fault e.side c (as_read asked e.binding x) i)
-    (λ x i. call_alike asked e (docket_at j.dockets e) c x i (k.each e).asked)
+same_in : (o : Option Program) (f g : Planned → Option ℕ) → ((i : Planned) → f i ≡ g i)
+    → given o (Some 92) (λ p. f (planned_of p)) ≡ given o (Some 92) (λ p. g (planned_of p))
+same_in None f g same = refl
+same_in (Some p) f g same = same (planned_of p)
 
-pub rule_refused : (cores : ℕ) (programs : List Program) (asked : List Job) (j : TheJoined) (e : EndId) (msg answer : ℕ) → AreJoined cores asked j
-    → rule_fault_at programs j.bindings j.dockets e msg answer ≡ rule_refusal programs asked j.bindings e msg answer
-rule_refused cores programs asked j e msg answer k =
-    same_found_by programs (slice_get j.bindings e.binding) (λ x i. rule_fault_by (docket_at j.dockets e) (docket_at j.dockets (peer e)) msg answer i)
-    (λ x i. rule_fault e.side msg answer (as_read asked e.binding x) i)
-    (λ x i. rule_alike asked e (docket_at j.dockets e) (docket_at j.dockets (peer e)) msg answer x i (k.each e).asked (k.each (peer e)).asked)
+same_by : (programs : List Program) (o : Option Bound) (f : Planned → Option ℕ) (g : ℕ → Planned → Option ℕ) → ((n : ℕ) (i : Planned) → f i ≡ g n i)
+    → given o (Some 92) (λ x. given (slice_get programs x.interface) (Some 92) (λ p. f (planned_of p)))
+    ≡ given (option_map about o) (Some 92) (λ x. given (slice_get programs x.interface) (Some 92) (λ p. g x.interface (planned_of p)))
+same_by programs None f g same = refl
+same_by programs (Some x) f g same = same_in (slice_get programs x.interface) f (g x.interface) (same x.interface)
+
+module _ (programs : List Program) (set_up : List Binding) (asked : List Job) (j : TheJoined) (bound : AreBound set_up asked j) (e : EndId) where
+  its_about : option_map about (slice_get j.bindings e.binding) ≡ slice_get (all_about set_up asked) e.binding
+  its_about = sym (slice_get-map about j.bindings e.binding) ∙ ap (λ (t : List About). slice_get t e.binding) bound.bound
+
+  same_found : (f : Planned → Option ℕ) (finds : ReadBound → Planned → Option ℕ)
+      → ((n : ℕ) (i : Planned) → f i ≡ finds (as_read (length set_up) asked e.binding n) i)
+      → found_at programs j.bindings e (λ x i. f i) ≡ found_behind programs set_up asked e finds
+  same_found f finds same =
+      same_by programs (slice_get j.bindings e.binding) f (λ n i. finds (as_read (length set_up) asked e.binding n) i) same
+      ∙ ap (λ (o : Option About). given o (Some 92) λ x. given (slice_get programs x.interface) (Some 92) λ p.
+      finds (as_read (length set_up) asked e.binding x.interface) (planned_of p)) its_about
+
+-- ---- the fault of a job behind those that are joined
+
+module _ (p : Parts) (cores : ℕ) (asked : List Job) (j : TheJoined) (joined : AreJoined cores asked j) (bound : AreBound p.bindings.items asked j) where
+  pub call_refused : (e : EndId) (c : TheCall) → call_fault_at p.programs.items j.bindings j.dockets e c ≡ call_refusal p asked e c
+  call_refused e c =
+      same_found p.programs.items p.bindings.items asked j bound e (λ i. call_fault_by (docket_at j.dockets e) c i) (call_fault e.side c)
+      (λ n i. call_alike (length p.bindings.items) asked e n i (docket_at j.dockets e) c (joined.each e).asked)
+
+  pub rule_refused : (e : EndId) (msg answer : ℕ)
+      → rule_fault_at p.programs.items j.bindings j.dockets e msg answer ≡ rule_refusal p asked e msg answer
+  rule_refused e msg answer =
+      same_found p.programs.items p.bindings.items asked j bound e
+      (λ i. rule_fault_by (docket_at j.dockets e) (docket_at j.dockets (peer e)) msg answer i) (rule_fault e.side msg answer)
+      (λ n i. rule_alike (length p.bindings.items) asked e n i (docket_at j.dockets e) (docket_at j.dockets (peer e)) msg answer (joined.each e).asked
+      (joined.each (peer e)).asked)
+
+  pub wish_refused : (w : Wish) → wish_fault p (length j.bindings) w ≡ job_fault p asked (opens w)
+  wish_refused w =
+      ap (λ (n : ℕ). wish_fault p n w) (sym (length-map j.bindings about) ∙ ap (λ (t : List About). length t) bound.bound)

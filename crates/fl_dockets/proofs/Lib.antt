@@ -19,5 +19,7 @@ mod Stepwise
 mod Wished
 mod Wishing
 mod Owed
+mod Passing
+mod FirstFault
 mod Alike
 mod Refusing

@@ -1,7 +1,8 @@
 -- The first job that is refused.
-use Rattle.std.proofs.Common.{◌≡◌, append_assoc, inl, inr, refl, sym, ap, ◌∙◌, subst, ℕ, ◌+◌, ◌-◌, List, [], ◌∷◌, ◌++◌, length, map, take, Option, None, Result, Ok, Err, arith}
-use Rattle.std.specs.Prelude.{IfErr}
-use Rattle.std.proofs.lemmas.List.{length-map, map-append}
+use Rattle.std.proofs.Common.{◌≡◌, append_assoc, inl, inr, refl, sym, ap, ◌∙◌, subst, ℕ, ◌+◌, ◌-◌, List, [], ◌∷◌, ◌++◌, length, map, take, Option, Some, None, Result, Ok, Err, arith}
+use Rattle.std.specs.Prelude.{IfErr, OnOk}
+use Rattle.std.proofs.lemmas.List.{length-map, map-append, take_at}
+use Rattle.std.proofs.lemmas.Result.{on_ok_weaker}
 use Rattle.fl_base.specs.declared.identity.EndId.{EndId}
 use Rattle.fl_value.specs.Value.{TheCall}
 use Rattle.fl_compile.specs.declared.program.Program.{Program}
@@ -15,12 +16,12 @@ use Rattle.fl_jobs.specs.Views.{job_of}
 use Rattle.fl_dockets.specs.declared.fault.JobFault.{JobFault}
 use Rattle.fl_dockets.specs.declared.fault.JobFault.TheVariants as fault
 use Rattle.fl_dockets.specs.State.{TheJoined, AreJoined}
-use Rattle.fl_dockets.specs.Faults.{call_refusal, rule_refusal, call_fault_at, rule_fault_at, wish_fault, fault_at_once, StopsFor, WishStops, RuleStops, JobStops}
+use Rattle.fl_dockets.specs.Faults.{call_fault_at, rule_fault_at, wish_fault, fault_at_once, the_first, StopsFor, WishStops, RuleStops}
 use Rattle.fl_node.specs.View.{TheCore}
 use Rattle.fl_dockets.specs.Rules.{RulesOf}
-use Rattle.fl_dockets.specs.Whole.{SetUpStops, AreBound, IsBeside, FirstRefused, IsFault, HadSet, fault_at}
-use Rattle.fl_dockets.proofs.Alike.{call_refused, rule_refused}
-use Rattle.fl_dockets.proofs.Seen.{same_wish, same_set_up}
+use Rattle.fl_dockets.specs.Whole.{SetUpStops, AreBound, IsBeside, rule_refusal, job_fault, NoneRefused, WantsMemory, JobStops, FirstRefused, IsFault, HadSet, fault_at}
+use Rattle.fl_dockets.proofs.Alike.{call_refused, rule_refused, wish_refused}
+use Rattle.fl_dockets.proofs.Passing.{same_fault, same_refusal, same_at_once}
 use Rattle.fl_dockets.proofs.Spoken.{as_set_up}
 
 pub if_err_weaker : {T E : Type 0} (P Q : E → Type 0) (r : Result T E) → ((e : E) → P e → Q e) → IfErr r P → IfErr r Q
@@ -31,36 +32,60 @@ if_err_weaker P Q (Err e) f h = f e h
 pub end_stops : {T : Type 0} (r : Result T Stop) (found set_up : Option ℕ) → found ≡ None → IfErr r (λ s. StopsFor set_up s) → IfErr r (λ s. RuleStops found set_up s)
 end_stops r found set_up none = if_err_weaker _ _ r (λ s h. as_set_up found set_up s none h)
 
-pub call_stops : {T : Type 0} (r : Result T Stop) (cores : ℕ) (p : Parts) (ps : List Program) (j : TheJoined) (e : EndId) (c : TheCall) → ps ≡ p.programs.items
-    → IfErr r (λ s. StopsFor (call_fault_at ps j.bindings j.dockets e c) s)
-    → IfErr r (λ s. (asked : List Job) → AreJoined cores asked j → JobStops p asked j (calls e c) s)
-call_stops r cores p ps j e c same =
-    if_err_weaker _ _ r (λ s h asked k.
-    subst (λ (o : Option ℕ). StopsFor o s) (ap (λ (qs : List Program). call_fault_at qs j.bindings j.dockets e c) same
-    ∙ call_refused cores p.programs.items asked j e c k) h)
+-- what becomes of a job behind others, whichever these are
+module _ {T : Type 0} (r : Result T Stop) (cores : ℕ) (p : Parts) (j : TheJoined) where
+  abbrev Stops : Job → Type 0
+  Stops job = IfErr r (λ s. (asked : List Job) → AreJoined cores asked j → AreBound p.bindings.items asked j → JobStops p asked job s)
 
-pub rule_stops : {T : Type 0} (r : Result T Stop) (cores : ℕ) (p : Parts) (j : TheJoined) (e : EndId) (msg answer : ℕ)
-    → IfErr r (λ s. RuleStops (rule_fault_at p.programs.items j.bindings j.dockets e msg answer) (fault_at_once p.cores.items p.bindings.items e msg answer) s)
-    → IfErr r (λ s. (asked : List Job) → AreJoined cores asked j → JobStops p asked j (replies e msg answer) s)
-rule_stops r cores p j e msg answer =
-    if_err_weaker _ _ r (λ s h asked k.
-    subst (λ (o : Option ℕ). RuleStops o (fault_at_once p.cores.items p.bindings.items e msg answer) s) (rule_refused cores p.programs.items asked j e msg answer k) h)
+  abbrev Passes : Job → Type 0
+  Passes job = OnOk r ((asked : List Job) → AreJoined cores asked j → AreBound p.bindings.items asked j → job_fault p asked job ≡ None)
 
-pub wish_stops : {T : Type 0} (r : Result T Stop) (cores : ℕ) (p : Parts) (j : TheJoined) (w : Wish) → IfErr r (λ s. WishStops (wish_fault p (length j.bindings) w) s)
-    → IfErr r (λ s. (asked : List Job) → AreJoined cores asked j → JobStops p asked j (opens w) s)
-wish_stops r cores p j w = if_err_weaker _ _ r (λ s h asked k. h)
+  module _ (ps : List Program) (e : EndId) (c : TheCall) (same : ps ≡ p.programs.items) where
+    its_call : (asked : List Job) → AreJoined cores asked j → AreBound p.bindings.items asked j
+        → call_fault_at ps j.bindings j.dockets e c ≡ job_fault p asked (calls e c)
+    its_call asked k b = ap (λ (qs : List Program). call_fault_at qs j.bindings j.dockets e c) same ∙ call_refused p cores asked j k b e c
+
+    pub call_stops : IfErr r (λ s. StopsFor (call_fault_at ps j.bindings j.dockets e c) s) → Stops (calls e c)
+    call_stops = if_err_weaker _ _ r (λ s h asked k b. subst (λ (o : Option ℕ). StopsFor o s) (its_call asked k b) h)
+
+    pub call_passes : OnOk r (call_fault_at ps j.bindings j.dockets e c ≡ None) → Passes (calls e c)
+    call_passes = on_ok_weaker r (λ h asked k b. sym (its_call asked k b) ∙ h)
+
+  module _ (e : EndId) (msg answer : ℕ) where
+    abbrev at_once : Option ℕ
+    at_once = fault_at_once p.cores.items p.bindings.items e msg answer
+
+    abbrev by_dockets : Option ℕ
+    by_dockets = rule_fault_at p.programs.items j.bindings j.dockets e msg answer
+
+    pub rule_stops : IfErr r (λ s. RuleStops by_dockets at_once s) → Stops (replies e msg answer)
+    rule_stops = if_err_weaker _ _ r (λ s h asked k b. subst (λ (o : Option ℕ). RuleStops o at_once s) (rule_refused p cores asked j k b e msg answer) h)
+
+    pub rule_passes : OnOk r (the_first by_dockets at_once ≡ None) → Passes (replies e msg answer)
+    rule_passes =
+        on_ok_weaker r (λ h asked k b. ap (λ (o : Option ℕ). the_first o at_once) (sym (rule_refused p cores asked j k b e msg answer)) ∙ h)
+
+  module _ (w : Wish) where
+    pub wish_stops : IfErr r (λ s. WishStops (wish_fault p (length j.bindings) w) s) → Stops (opens w)
+    wish_stops = if_err_weaker _ _ r (λ s h asked k b. subst (λ (o : Option ℕ). WishStops o s) (wish_refused p cores asked j k b w) h)
+
+    pub wish_passes : OnOk r (wish_fault p (length j.bindings) w ≡ None) → Passes (opens w)
+    wish_passes = on_ok_weaker r (λ h asked k b. sym (wish_refused p cores asked j k b w) ∙ h)
 
 -- the parts at that moment tell the same as the first
-same_stops : (p p2 : Parts) (asked : List Job) (j : TheJoined) (job : Job) (s : Stop) → IsBeside p p2
-    → RulesOf p.bindings.items asked p.cores.items p2.cores.items → JobStops p2 asked j job s → JobStops p asked j job s
-same_stops p p2 asked j (opens w) s b rules h =
-    subst (λ (o : Option ℕ). WishStops o s) (same_wish (length j.bindings) w p p2 p.bindings.items asked b rules) h
-same_stops p p2 asked j (replies e msg answer) s b rules h =
-    subst (λ (o : Option ℕ). RuleStops (rule_refusal p.programs.items asked j.bindings e msg answer) o s)
-    (same_set_up e msg answer p p2 p.bindings.items asked b rules)
-    (subst (λ (ps : List Program). RuleStops (rule_refusal ps asked j.bindings e msg answer) (fault_at_once p2.cores.items p2.bindings.items e msg answer) s) b.programs h)
-same_stops p p2 asked j (calls e c) s b rules h =
-    subst (λ (ps : List Program). StopsFor (call_refusal ps asked j.bindings e c) s) b.programs h
+same_stops : (p p2 : Parts) (asked : List Job) (job : Job) (s : Stop) → IsBeside p p2
+    → RulesOf p.bindings.items asked p.cores.items p2.cores.items → JobStops p2 asked job s → JobStops p asked job s
+same_stops p p2 asked (opens w) s b rules h = subst (λ (o : Option ℕ). WishStops o s) (same_fault p p2 asked b rules (opens w)) h
+same_stops p p2 asked (replies e msg answer) s b rules h =
+    subst (λ (o : Option ℕ). RuleStops (rule_refusal p asked e msg answer) o s) (same_at_once p p2 asked b rules e msg answer)
+    (subst (λ (o : Option ℕ). RuleStops o (fault_at_once p2.cores.items p2.bindings.items e msg answer) s) (same_refusal p p2 asked b e msg answer) h)
+same_stops p p2 asked (calls e c) s b rules h = subst (λ (o : Option ℕ). StopsFor o s) (same_fault p p2 asked b rules (calls e c)) h
+
+-- where it is refused it has the fault
+its_fault : (p : Parts) (asked : List Job) (job : Job) (number : ℕ) → JobStops p asked job (stop.Refused number) → job_fault p asked job ≡ Some number
+its_fault p asked (opens w) number h = h
+its_fault p asked (replies e msg answer) number h = h
+its_fault p asked (calls e c) number h = h
 
 -- a job more of those that are left
 pub left_turn : (all : List Job) (done left left2 : List RustJob) (x : RustJob) → left ≡ x ∷ left2 → map job_of done ++ map job_of left ≡ all
@@ -74,11 +99,48 @@ pub whole_of : (all : List Job) (done left left2 : List RustJob) (x : RustJob) �
     → all ≡ map job_of done ++ job_of x ∷ map job_of left2
 whole_of all done left left2 x is h = sym h ∙ ap (λ (l : List RustJob). map job_of done ++ map job_of l) is
 
+-- ---- a binding of the set-up
+
+module _ (p : Parts) (xs : List Binding) (cores : ℕ) (jobs : List Job) (s : Stop) (f : JobFault) (same : xs ≡ p.bindings.items)
+    (count : cores ≡ length p.cores.items) (is : f ≡ fault_at s 0) (stops : SetUpStops cores xs s) where
+  in_set_up : SetUpStops (length p.cores.items) p.bindings.items s
+  in_set_up =
+      subst (λ (ys : List Binding). SetUpStops (length p.cores.items) ys s) same (subst (λ (n : ℕ). SetUpStops n xs s) count stops)
+
+  fault_by : (t : Stop) → SetUpStops (length p.cores.items) p.bindings.items t → IsFault p jobs (fault_at t 0)
+  fault_by (stop.Refused number) h = inl (refl, h)
+  fault_by stop.Memory h = inl h
+
+  pub first_fault : IsFault p jobs f
+  first_fault = subst (λ (g : JobFault). IsFault p jobs g) (sym is) (fault_by s in_set_up)
+
+  none_by : (t : Stop) → SetUpStops (length p.cores.items) p.bindings.items t → HadSet p jobs (fault_at t 0) p.cores.items
+  none_by (stop.Refused number) h = refl
+  none_by stop.Memory h = inl (h, refl)
+
+  -- no rule is set, where no job was looked at
+  pub none_set : HadSet p jobs f p.cores.items
+  none_set = subst (λ (g : JobFault). HadSet p jobs g p.cores.items) (sym is) (none_by s in_set_up)
+
+-- ---- a job
+
 module _ (p p2 : Parts) (jobs done behind : List RustJob) (x : RustJob) (place : ℕ) (j : TheJoined) (beside : IsBeside p p2)
     (rules : RulesOf p.bindings.items (map job_of done) p.cores.items p2.cores.items)
     (whole : map job_of jobs ≡ map job_of done ++ job_of x ∷ map job_of behind) (count : place ≡ length done)
-    (were : AreJoined (length p.cores.items) (map job_of done) j) (bound : AreBound p.bindings.items (map job_of done) j) where
-  first_by : (s : Stop) → JobStops p2 (map job_of done) j (job_of x) s → FirstRefused p (map job_of jobs) (fault_at s (place + 1))
+    (were : AreJoined (length p.cores.items) (map job_of done) j) (bound : AreBound p.bindings.items (map job_of done) j)
+    (passed : NoneRefused p (map job_of done)) (s : Stop) (f : JobFault) (is : f ≡ fault_at s (place + 1))
+    (here : JobStops p2 (map job_of done) (job_of x) s) where
+  abbrev wants_memory : JobStops p (map job_of done) (job_of x) stop.Memory → WantsMemory p (map job_of jobs)
+  wants_memory h = record {
+    before = map job_of done;
+    job = job_of x;
+    behind = map job_of behind;
+    jobs_are = whole;
+    stops = h;
+    passed = passed;
+  }
+
+  first_by : (t : Stop) → JobStops p (map job_of done) (job_of x) t → FirstRefused p (map job_of jobs) (fault_at t (place + 1))
   first_by (stop.Refused number) h = record {
     before = map job_of done;
     job = job_of x;
@@ -88,52 +150,34 @@ module _ (p p2 : Parts) (jobs done behind : List RustJob) (x : RustJob) (place :
     joined = j;
     were = were;
     bound = bound;
-    stops = same_stops p p2 (map job_of done) j (job_of x) (stop.Refused number) beside rules h;
+    stops = its_fault p (map job_of done) (job_of x) number h;
+    passed = passed;
   }
-  first_by stop.Memory h = tt
+  first_by stop.Memory h = wants_memory h
 
-  pub first_refused : (s : Stop) (f : JobFault) → f ≡ fault_at s (place + 1) → JobStops p2 (map job_of done) j (job_of x) s → FirstRefused p (map job_of jobs) f
-  first_refused s f is h = subst (λ (g : JobFault). FirstRefused p (map job_of jobs) g) (sym is) (first_by s h)
+  then_stops : JobStops p (map job_of done) (job_of x) s
+  then_stops = same_stops p p2 (map job_of done) (job_of x) s beside rules here
+
+  pub first_refused : FirstRefused p (map job_of jobs) f
+  first_refused = subst (λ (g : JobFault). FirstRefused p (map job_of jobs) g) (sym is) (first_by s then_stops)
+
+  first_jobs : take (place + 1 - 1) (map job_of jobs) ≡ map job_of done
+  first_jobs =
+      let l = length-map done job_of in
+      let e : length (map job_of done) ≡ place + 1 - 1 = omega (arith, l, count) in
+      ap (λ (t : List Job). take (place + 1 - 1) t) whole ∙ take_at (map job_of done) (job_of x ∷ map job_of behind) (place + 1 - 1) e
+
+  module _ (ks : List TheCore) (same : ks ≡ p2.cores.items) where
+    as_then : RulesOf p.bindings.items (map job_of done) p.cores.items ks
+    as_then = subst (λ (t : List TheCore). RulesOf p.bindings.items (map job_of done) p.cores.items t) (sym same) rules
+
+    had_by : (t : Stop) → JobStops p (map job_of done) (job_of x) t → HadSet p (map job_of jobs) (fault_at t (place + 1)) ks
+    had_by (stop.Refused number) h = subst (λ (t : List Job). RulesOf p.bindings.items t p.cores.items ks) (sym first_jobs) as_then
+    had_by stop.Memory h = inr (wants_memory h, as_then)
+
+    pub had_set : HadSet p (map job_of jobs) f ks
+    had_set = subst (λ (g : JobFault). HadSet p (map job_of jobs) g ks) (sym is) (had_by s then_stops)
 
 pub later_fault : (p : Parts) (jobs : List Job) (f : JobFault) → FirstRefused p jobs f → IsFault p jobs f
 later_fault p jobs (fault.Refused number place) h = inr h
-later_fault p jobs fault.Memory h = h
-
-pub first_fault : (p : Parts) (xs : List Binding) (cores : ℕ) (jobs : List Job) (s : Stop) (f : JobFault) → xs ≡ p.bindings.items → cores ≡ length p.cores.items
-    → f ≡ fault_at s 0 → SetUpStops cores xs s → IsFault p jobs f
-first_fault p xs cores jobs s f same count is stops =
-    subst (λ (g : JobFault). IsFault p jobs g) (sym is)
-    (by s (subst (λ (ys : List Binding). SetUpStops (length p.cores.items) ys s) same (subst (λ (n : ℕ). SetUpStops n xs s) count stops)))
-  where
-    by : (s : Stop) → SetUpStops (length p.cores.items) p.bindings.items s → IsFault p jobs (fault_at s 0)
-    by (stop.Refused number) h = inl (refl, h)
-    by stop.Memory h = tt
-
--- ---- the rules that are set then
-
-take_front : {X : Type 0} (xs ys : List X) → take (length xs) (xs ++ ys) ≡ xs
-take_front [] ys = refl
-take_front (x ∷ xs) ys = ap (λ t. x ∷ t) (take_front xs ys)
-
-module _ (set_up : List Binding) (all : List Job) (done behind : List RustJob) (x : RustJob) (place : ℕ) (ks ks1 ks2 : List TheCore)
-    (whole : all ≡ map job_of done ++ job_of x ∷ map job_of behind) (count : place ≡ length done) (same : ks2 ≡ ks1)
-    (rules : RulesOf set_up (map job_of done) ks ks1) where
-  as_then : RulesOf set_up (map job_of done) ks ks2
-  as_then = subst (λ (t : List TheCore). RulesOf set_up (map job_of done) ks t) (sym same) rules
-
-  first_jobs : take (place + 1 - 1) all ≡ map job_of done
-  first_jobs =
-      let l = length-map done job_of in
-      let e : place + 1 - 1 ≡ length (map job_of done) = omega (arith, l, count) in
-      ap (λ (n : ℕ). take n all) e ∙ ap (λ (t : List Job). take (length (map job_of done)) t) whole
-      ∙ take_front (map job_of done) (job_of x ∷ map job_of behind)
-
-  first_set : RulesOf set_up (take (place + 1 - 1) all) ks ks2
-  first_set = subst (λ (t : List Job). RulesOf set_up t ks ks2) (sym first_jobs) as_then
-
-  had_by : (s : Stop) → HadSet set_up all (fault_at s (place + 1)) ks ks2
-  had_by (stop.Refused number) = first_set
-  had_by stop.Memory = (place + 1 - 1, first_set)
-
-  pub had_set : (s : Stop) (f : JobFault) → f ≡ fault_at s (place + 1) → HadSet set_up all f ks ks2
-  had_set s f is = subst (λ (g : JobFault). HadSet set_up all g ks ks2) (sym is) (had_by s)
+later_fault p jobs fault.Memory h = inr h

@@ -8,11 +8,7 @@ use Rattle.fl_jobs.specs.declared.stop.Stop.{Stop}
 use Rattle.fl_jobs.specs.declared.stop.Stop.TheVariants as stop
 use Rattle.fl_dockets.specs.Faults.{StopsFor}
 use Rattle.fl_dockets.specs.State.{TheJoined}
-use Rattle.fl_dockets.specs.Whole.{bound_of, SetUp, binding_fault, SetUpStops}
-
--- none of the first is refused
-abbrev pub AreTaken : ℕ → List Binding → ℕ → Type 0
-AreTaken cores xs k = (n : ℕ) (x : Binding) → n < k → slice_get xs n ≡ Some x → binding_fault cores n x ≡ None
+use Rattle.fl_dockets.specs.Whole.{bound_of, SetUp, binding_fault, AreTaken, SetUpStops}
 
 taken_one : (cores n : ℕ) (x : Binding) (j j2 : TheJoined) → SetUp cores x j j2 → length j.bindings ≡ n → binding_fault cores n x ≡ None
 taken_one cores n x j j2 s count =
@@ -26,16 +22,20 @@ at_place xs k n x d same below is = ap (slice_get xs) same ∙ slice_get-get_or 
 pub taken_none : (cores : ℕ) (xs : List Binding) → AreTaken cores xs 0
 taken_none cores xs n x less at = absurd (omega (arith, less))
 
-pub taken_turn : (cores : ℕ) (xs : List Binding) (k : ℕ) (x d : Binding) (j j2 : TheJoined) → k < length xs → x ≡ get_or xs k d → SetUp cores x j j2
-    → length j.bindings ≡ k → AreTaken cores xs k → AreTaken cores xs (k + 1)
-taken_turn cores xs k x d j j2 below is s count before n y less at = elim (cases_lt n k) [
+taken_more : (cores : ℕ) (xs : List Binding) (k : ℕ) (x d : Binding) → k < length xs → x ≡ get_or xs k d → binding_fault cores k x ≡ None
+    → AreTaken cores xs k → AreTaken cores xs (k + 1)
+taken_more cores xs k x d below is now before n y less at = elim (cases_lt n k) [
   | inl first ↦ before n y first at
   | inr past ↦
       let same : n ≡ k = omega (arith, less, past) in
       let both : Some x ≡ Some y = sym (at_place xs k n x d same below is) ∙ at in
       let it : x ≡ y = cc in
-      subst (λ (z : Binding). binding_fault cores n z ≡ None) it (taken_one cores n x j j2 s (count ∙ sym same))
+      subst (λ (z : Binding). binding_fault cores n z ≡ None) it (ap (λ (m : ℕ). binding_fault cores m x) same ∙ now)
 ]
+
+pub taken_turn : (cores : ℕ) (xs : List Binding) (k : ℕ) (x d : Binding) (j j2 : TheJoined) → k < length xs → x ≡ get_or xs k d → SetUp cores x j j2
+    → length j.bindings ≡ k → AreTaken cores xs k → AreTaken cores xs (k + 1)
+taken_turn cores xs k x d j j2 below is s count before = taken_more cores xs k x d below is (taken_one cores k x j j2 s count) before
 
 pub count_turn : (cores k : ℕ) (x : Binding) (j j2 : TheJoined) → SetUp cores x j j2 → length j.bindings ≡ k → length j2.bindings ≡ k + 1
 count_turn cores k x j j2 s count =
@@ -53,4 +53,5 @@ module _ (cores : ℕ) (xs : List Binding) (k m : ℕ) (x d : Binding) (below : 
     refused = ap (λ (n : ℕ). binding_fault cores n x) (sym count) ∙ found;
     before = before;
   }
-  binding_stops stop.Memory found = tt
+  binding_stops stop.Memory found =
+      (k, below, taken_more cores xs k x d below is (ap (λ (n : ℕ). binding_fault cores n x) (sym count) ∙ found) before)

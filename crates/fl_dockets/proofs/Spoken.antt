@@ -1,5 +1,5 @@
 -- Why an end that is set up refuses a rule.
-use Rattle.std.proofs.Common.{◌≡◌, refl, ap, ◌∙◌, ℕ, zero, suc, ◌<◌, nat_lt, List, [], ◌∷◌, length, slice_get, Option, Some, None, Bool, true, false, Err, arith}
+use Rattle.std.proofs.Common.{◌≡◌, refl, sym, ap, ◌∙◌, ℕ, zero, suc, ◌<◌, nat_lt, List, [], ◌∷◌, length, slice_get, Option, Some, None, Bool, true, false, Ok, Err, arith}
 use Rattle.std.specs.Prelude.{IsSome}
 use Rattle.std.proofs.lemmas.Bool.{lt-ltb, ltb-true}
 use Rattle.fl_base.specs.declared.identity.EndId.{EndId}
@@ -9,15 +9,15 @@ use Rattle.fl_endpoint.specs.declared.fault.EndFault.TheVariants as fault
 use Rattle.fl_endpoint.specs.Events.{IsMessage, SameTypes, SetsRule}
 use Rattle.fl_endpoint.specs.Faults.{fault_number}
 use Rattle.fl_endpoint.specs.View.{TheEnd, interface_in}
+use Rattle.fl_interface.specs.Types.{TheArgType}
 use Rattle.fl_interface.specs.SameTypes.{same_arguments}
-use Rattle.fl_interface.proofs.SameTypes.{same_arguments_are}
+use Rattle.fl_interface.proofs.SameTypes.{same_arguments_are, tests_same}
 use Rattle.fl_node.specs.Ends.{OnBoard}
 use Rattle.fl_node.specs.View.{TheCore, place_of}
-use Rattle.fl_queues.specs.Given.{given}
 use Rattle.fl_queues.specs.Taking.{arguments_of, has_message}
 use Rattle.fl_jobs.specs.declared.stop.Stop.{Stop}
 use Rattle.fl_jobs.specs.declared.stop.Stop.TheVariants as stop
-use Rattle.fl_dockets.specs.Faults.{spoken_by, misfit, core_fault, StopsFor, RuleStops}
+use Rattle.fl_dockets.specs.Faults.{spoken_by, misfit, core_fault, the_first, StopsFor, RuleStops}
 use Rattle.fl_dockets.proofs.Openings.{within}
 
 some_at : {X : Type 0} (xs : List X) (n : ℕ) → nat_lt n (length xs) ≡ true → IsSome (slice_get xs n)
@@ -64,12 +64,34 @@ end_refuses k k2 e place msg answer f at h =
     let found : core_fault k e msg answer ≡ misfit msg answer (spoken_by seat.end) = rw (at, h.event.seat_is) refl in
     found ∙ fits_not msg answer seat.end f h.event.end h.event.event
 
+same_types : (as_ bs : List TheArgType) → as_ ≡ bs → same_arguments as_ bs ≡ true
+same_types as_ bs same = sym (tests_same true as_ bs ((λ t. same), (λ t. refl)))
+
+-- one that takes the rule has no fault
+fits : (msg answer : ℕ) (s t : TheEnd) → SetsRule s msg answer (Ok tt) t → misfit msg answer (spoken_by s) ≡ None
+fits msg answer s t (m, a, types, is) =
+    let one : has_message msg (spoken_by s) ≡ true = there (interface_in s).messages msg m in
+    let other : has_message answer (spoken_by s) ≡ true = there (interface_in s).messages answer a in
+    let same : same_arguments (arguments_of msg (spoken_by s)) (arguments_of answer (spoken_by s)) ≡ true =
+    same_types (arguments_of msg (spoken_by s)) (arguments_of answer (spoken_by s)) types in
+    rw (one, other, same) refl
+
+pub end_takes : (k k2 : TheCore) (e : EndId) (place msg answer : ℕ) → place_of k e ≡ Some place
+    → OnBoard k (λ b c. ChangesEnd b place (λ s t. SetsRule s msg answer (Ok tt) t) c) k2 → core_fault k e msg answer ≡ None
+end_takes k k2 e place msg answer at h =
+    let seat = h.event.seat in
+    let found : core_fault k e msg answer ≡ misfit msg answer (spoken_by seat.end) = rw (at, h.event.seat_is) refl in
+    found ∙ fits msg answer seat.end h.event.end h.event.event
+
 -- ---- whatever was found before
 
 pub as_found : (found set_up : Option ℕ) (s : Stop) → StopsFor found s → RuleStops found set_up s
-as_found found set_up (stop.Refused number) h = ap (λ (o : Option ℕ). given o set_up (λ first. Some first)) h
+as_found found set_up (stop.Refused number) h = ap (λ (o : Option ℕ). the_first o set_up) h
 as_found found set_up stop.Memory h = h
 
 pub as_set_up : (found set_up : Option ℕ) (s : Stop) → found ≡ None → StopsFor set_up s → RuleStops found set_up s
-as_set_up found set_up (stop.Refused number) none h = ap (λ (o : Option ℕ). given o set_up (λ first. Some first)) none ∙ h
+as_set_up found set_up (stop.Refused number) none h = ap (λ (o : Option ℕ). the_first o set_up) none ∙ h
 as_set_up found set_up stop.Memory none h = none
+
+pub neither_found : (found set_up : Option ℕ) → found ≡ None → set_up ≡ None → the_first found set_up ≡ None
+neither_found found set_up none none_later = ap (λ (o : Option ℕ). the_first o set_up) none ∙ none_later

@@ -1,5 +1,5 @@
 -- Why a job is refused: as the reader of cores files finds it, by the jobs that were joined before.
-use Rattle.std.specs.Prelude.{ℕ, ◌≡◌, ◌⊎◌, ◌==◌, ◌&&◌, ◌||◌, nat_le, not, if◌then◌else◌, Bool, List, length, map, slice_get, Option, Some, None, is_some}
+use Rattle.std.specs.Prelude.{ℕ, ◌≡◌, ◌⊎◌, ◌==◌, ◌&&◌, ◌||◌, nat_le, not, if◌then◌else◌, Bool, List, length, map, slice_get, Option, Some, None}
 use Rattle.std.specs.List.{list_all}
 use Rattle.fl_base.specs.declared.identity.EndId.{EndId}
 use Rattle.fl_base.specs.Ends.{peer}
@@ -22,10 +22,9 @@ use Rattle.fl_worlds.specs.Making.{core_id}
 use Rattle.fl_worlds.specs.View.{core_in}
 use Rattle.fl_jobs.specs.declared.stop.Stop.{Stop}
 use Rattle.fl_jobs.specs.declared.stop.Stop.TheVariants as stop
-use Rattle.fl_jobs.specs.Jobs.{Wish, Job, opens, replies, calls, own_calls, has_rules}
-use Rattle.fl_jobs.specs.Draft.{Use, free, makes_calls, has_rules as for_rules, Bound as ReadBound, call_fault, rule_fault}
+use Rattle.fl_jobs.specs.Jobs.{Wish, Job, own_calls, has_rules}
+use Rattle.fl_jobs.specs.Draft.{Use, free, makes_calls, has_rules as for_rules, Bound as ReadBound}
 use Rattle.fl_dockets.specs.declared.docket.Bound.{Bound}
-use Rattle.fl_dockets.specs.State.{TheJoined}
 use Rattle.fl_dockets.specs.Dockets.{TheDocket, docket_at, is_ruled, are_some}
 
 abbrev pub planned_of : Program → Planned
@@ -37,27 +36,14 @@ planned_of p = record { interface = (program_of p).interface; plan = (program_of
 abbrev pub use_in : List Job → EndId → Use
 use_in asked e = if has_rules asked e then for_rules else if are_some (own_calls asked e) then makes_calls else free
 
--- a binding of a number
-abbrev pub as_read : List Job → ℕ → Bound → ReadBound
-as_read asked n x = record {
-  is_opened = is_some x.opened;
-  interface = x.interface;
+-- a binding behind these jobs, which has this number and is of this interface, where so many are set up
+abbrev pub as_read : ℕ → List Job → ℕ → ℕ → ReadBound
+as_read set_up asked n interface = record {
+  is_opened = nat_le set_up n;
+  interface = interface;
   at_client = use_in asked (client_of n);
   at_server = use_in asked (server_of n);
 }
-
--- the fault that is found at an end
-abbrev pub found_at : List Program → List Bound → EndId → (Bound → Planned → Option ℕ) → Option ℕ
-found_at programs bindings e finds =
-    given (slice_get bindings e.binding) (Some 92) λ x.
-    given (slice_get programs x.interface) (Some 92) λ p. finds x (planned_of p)
-
--- the fault for which the reader refuses a call, or a rule, behind these jobs
-abbrev pub call_refusal : List Program → List Job → List Bound → EndId → TheCall → Option ℕ
-call_refusal programs asked bindings e c = found_at programs bindings e λ x i. call_fault e.side c (as_read asked e.binding x) i
-
-abbrev pub rule_refusal : List Program → List Job → List Bound → EndId → ℕ → ℕ → Option ℕ
-rule_refusal programs asked bindings e msg answer = found_at programs bindings e λ x i. rule_fault e.side msg answer (as_read asked e.binding x) i
 
 -- why it stops: for the fault that is found, if there is one, and else as memory is refused
 abbrev pub StopsFor : Option ℕ → Stop → Type 0
@@ -65,6 +51,12 @@ StopsFor found (stop.Refused number) = found ≡ Some number
 StopsFor found stop.Memory = found ≡ None
 
 -- ---- by dockets
+
+-- the fault that is found at an end
+abbrev pub found_at : List Program → List Bound → EndId → (Bound → Planned → Option ℕ) → Option ℕ
+found_at programs bindings e finds =
+    given (slice_get bindings e.binding) (Some 92) λ x.
+    given (slice_get programs x.interface) (Some 92) λ p. finds x (planned_of p)
 
 abbrev pub call_fault_by : TheDocket → TheCall → Planned → Option ℕ
 call_fault_by d c i =
@@ -158,16 +150,11 @@ end_fault cores n e msg answer = given (slice_get cores n) (Some 92) λ k. core_
 abbrev pub fault_at_once : List TheCore → List Binding → EndId → ℕ → ℕ → Option ℕ
 fault_at_once cores set_up e msg answer = given (slice_get set_up e.binding) None λ x. end_fault cores (core_in e.side x) e msg answer
 
+-- of two faults the one that is found first
+abbrev pub the_first : Option ℕ → Option ℕ → Option ℕ
+the_first found later = given found later λ first. Some first
+
 -- why it stops: for the fault that the reader finds, or else for the one at once; or because memory was refused, where the reader finds none
 abbrev pub RuleStops : Option ℕ → Option ℕ → Stop → Type 0
-RuleStops found at_once (stop.Refused number) = given found at_once (λ first. Some first) ≡ Some number
+RuleStops found at_once (stop.Refused number) = the_first found at_once ≡ Some number
 RuleStops found at_once stop.Memory = found ≡ None
-
--- ---- whatever the job
-
--- behind these jobs, which were joined, a job is refused, or memory was
-abbrev pub JobStops : Parts → List Job → TheJoined → Job → Stop → Type 0
-JobStops p asked j (opens w) s = WishStops (wish_fault p (length j.bindings) w) s
-JobStops p asked j (replies e msg answer) s =
-    RuleStops (rule_refusal p.programs.items asked j.bindings e msg answer) (fault_at_once p.cores.items p.bindings.items e msg answer) s
-JobStops p asked j (calls e c) s = StopsFor (call_refusal p.programs.items asked j.bindings e c) s

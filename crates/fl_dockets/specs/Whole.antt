@@ -6,18 +6,22 @@ use Rattle.fl_base.specs.declared.identity.EndId.{EndId}
 use Rattle.fl_base.specs.declared.identity.MsgNo.{MsgNo}
 use Rattle.fl_base.specs.Ends.{peer}
 use Rattle.fl_value.specs.declared.value.Call.{Call}
-use Rattle.fl_value.specs.Value.{call_of}
+use Rattle.fl_value.specs.Value.{TheCall, call_of}
+use Rattle.fl_compile.specs.declared.program.Program.{Program}
+use Rattle.fl_queues.specs.Calls.{Planned}
+use Rattle.fl_queues.specs.Given.{given}
 use Rattle.fl_node.specs.View.{TheCore}
 use Rattle.fl_worlds.specs.declared.binding.Binding.{Binding}
 use Rattle.fl_worlds.specs.declared.parts.Parts.{Parts}
 use Rattle.fl_jobs.specs.declared.stop.Stop.{Stop}
 use Rattle.fl_jobs.specs.declared.stop.Stop.TheVariants as stop
+use Rattle.fl_jobs.specs.Draft.{Bound as ReadBound, call_fault, rule_fault}
 use Rattle.fl_jobs.specs.Jobs.{Wish, Job, opens, replies, calls, handed_in}
 use Rattle.fl_dockets.specs.declared.docket.Bound.{Bound}
 use Rattle.fl_dockets.specs.declared.fault.JobFault.{JobFault}
 use Rattle.fl_dockets.specs.declared.fault.JobFault.TheVariants as fault
 use Rattle.fl_dockets.specs.Dockets.{docket_at}
-use Rattle.fl_dockets.specs.Faults.{JobStops}
+use Rattle.fl_dockets.specs.Faults.{planned_of, as_read, fault_at_once, wish_fault, the_first, StopsFor, WishStops, RuleStops}
 use Rattle.fl_dockets.specs.Rules.{RuleNow, RulesOf}
 use Rattle.fl_dockets.specs.State.{TheJoined, with_binding, Opened, CallPlanned, RulePlanned, AreJoined}
 
@@ -40,18 +44,22 @@ binding_fault cores before x =
     else if not (nat_lt x.client cores && nat_lt x.server cores) then Some 92
     else None
 
+-- none of the first so many is refused
+abbrev pub AreTaken : ℕ → List Binding → ℕ → Type 0
+AreTaken cores set_up count = (n : ℕ) (x : Binding) → n < count → slice_get set_up n ≡ Some x → binding_fault cores n x ≡ None
+
 -- the first of them that is refused, with this number
 pub record BindingRefused (cores : ℕ) (set_up : List Binding) (number : ℕ) : Type 0 where
   pub place : ℕ
   pub binding : Binding
   pub binding_is : slice_get set_up place ≡ Some binding
   pub refused : binding_fault cores place binding ≡ Some number
-  pub before : (n : ℕ) (x : Binding) → n < place → slice_get set_up n ≡ Some x → binding_fault cores n x ≡ None
+  pub before : AreTaken cores set_up place
 
--- why they aren't joined: one of them is refused, or memory was refused
+-- why they aren't joined: one of them is refused; or memory was refused at one of them, where neither it nor one before it is
 abbrev pub SetUpStops : ℕ → List Binding → Stop → Type 0
 SetUpStops cores set_up (stop.Refused number) = BindingRefused cores set_up number
-SetUpStops cores set_up stop.Memory = Unit {0}
+SetUpStops cores set_up stop.Memory = (place : ℕ) × (place < length set_up) × AreTaken cores set_up (place + 1)
 
 -- ---- jobs
 
@@ -111,6 +119,44 @@ pub record AreBound (set_up : List Binding) (jobs : List Job) (j : TheJoined) : 
   pub unopened : (n : ℕ) (b : Bound) → slice_get j.bindings n ≡ Some b → n < length set_up → b.opened ≡ None
   pub opened : (n : ℕ) (b : Bound) → slice_get j.bindings n ≡ Some b → length set_up ≤ n → (job : ℕ) × (b.opened ≡ Some job)
 
+-- ---- the fault of a job
+
+-- that the reader finds at an end behind these jobs
+abbrev pub found_behind : List Program → List Binding → List Job → EndId → (ReadBound → Planned → Option ℕ) → Option ℕ
+found_behind programs set_up before e finds =
+    given (slice_get (all_about set_up before) e.binding) (Some 92) λ x.
+    given (slice_get programs x.interface) (Some 92) λ p.
+    finds (as_read (length set_up) before e.binding x.interface) (planned_of p)
+
+-- for which it refuses a call, or a rule
+abbrev pub call_refusal : Parts → List Job → EndId → TheCall → Option ℕ
+call_refusal p before e c = found_behind p.programs.items p.bindings.items before e (call_fault e.side c)
+
+abbrev pub rule_refusal : Parts → List Job → EndId → ℕ → ℕ → Option ℕ
+rule_refusal p before e msg answer = found_behind p.programs.items p.bindings.items before e (rule_fault e.side msg answer)
+
+-- how many bindings there are then
+abbrev pub count_behind : List Binding → List Job → ℕ
+count_behind set_up before = length (all_about set_up before)
+
+-- the fault for which a job is refused behind these ones: of those that it has the first, by the order in which they are told
+abbrev pub job_fault : Parts → List Job → Job → Option ℕ
+job_fault p before (opens w) = wish_fault p (count_behind p.bindings.items before) w
+job_fault p before (replies e msg answer) =
+    the_first (rule_refusal p before e msg answer) (fault_at_once p.cores.items p.bindings.items e msg answer)
+job_fault p before (calls e c) = call_refusal p before e c
+
+-- none of these jobs has a fault, each behind those before it
+abbrev pub NoneRefused : Parts → List Job → Type 0
+NoneRefused p jobs = (n : ℕ) (job : Job) → slice_get jobs n ≡ Some job → job_fault p (take n jobs) job ≡ None
+
+-- why a job isn't joined behind these ones: for its fault; or since memory was refused, where it has none, but for one that is found after memory is asked for
+abbrev pub JobStops : Parts → List Job → Job → Stop → Type 0
+JobStops p before (opens w) s = WishStops (job_fault p before (opens w)) s
+JobStops p before (replies e msg answer) s =
+    RuleStops (rule_refusal p before e msg answer) (fault_at_once p.cores.items p.bindings.items e msg answer) s
+JobStops p before (calls e c) s = StopsFor (job_fault p before (calls e c)) s
+
 -- ---- what is told
 
 -- why what stands at a place isn't joined
@@ -123,7 +169,7 @@ abbrev pub number_of : JobFault → ℕ
 number_of (fault.Refused number place) = number
 number_of fault.Memory = 99
 
--- the job at this place, from 1, is the first that is refused: those before it were joined
+-- the job at this place, from 1, is refused, with this number: those before it were joined, and none of them has a fault
 pub record RefusedAt (p : Parts) (jobs : List Job) (number place : ℕ) : Type 0 where
   pub before : List Job
   pub job : Job
@@ -133,23 +179,43 @@ pub record RefusedAt (p : Parts) (jobs : List Job) (number place : ℕ) : Type 0
   pub joined : TheJoined
   pub were : AreJoined (length p.cores.items) before joined
   pub bound : AreBound p.bindings.items before joined
-  pub stops : JobStops p before joined job (stop.Refused number)
+  pub stops : job_fault p before job ≡ Some number
+  pub passed : NoneRefused p before
+
+-- memory was refused at one of the jobs: none of those before it has a fault, nor has it, but for one that is found after memory is asked for
+pub record WantsMemory (p : Parts) (jobs : List Job) : Type 0 where
+  pub before : List Job
+  pub job : Job
+  pub behind : List Job
+  pub jobs_are : jobs ≡ before ++ job ∷ behind
+  pub stops : JobStops p before job stop.Memory
+  pub passed : NoneRefused p before
 
 -- why jobs aren't joined: one of them is refused, or memory was refused
 abbrev pub FirstRefused : Parts → List Job → JobFault → Type 0
 FirstRefused p jobs (fault.Refused number place) = RefusedAt p jobs number place
-FirstRefused p jobs fault.Memory = Unit {0}
+FirstRefused p jobs fault.Memory = WantsMemory p jobs
 
--- or, at place 0, a binding of the set-up is
+-- or, at place 0, a binding of the set-up is; or memory was refused at one of these
 abbrev pub IsFault : Parts → List Job → JobFault → Type 0
 IsFault p jobs (fault.Refused number place) =
     ((place ≡ 0) × BindingRefused (length p.cores.items) p.bindings.items number) ⊎ RefusedAt p jobs number place
-IsFault p jobs fault.Memory = Unit {0}
+IsFault p jobs fault.Memory = SetUpStops (length p.cores.items) p.bindings.items stop.Memory ⊎ WantsMemory p jobs
 
--- and which rules are set then: those of the jobs before the one that is refused; where memory was refused, those of the first, so many
-abbrev pub HadSet : List Binding → List Job → JobFault → List TheCore → List TheCore → Type 0
-HadSet set_up jobs (fault.Refused number place) ks ks2 = RulesOf set_up (take (place - 1) jobs) ks ks2
-HadSet set_up jobs fault.Memory ks ks2 = (n : ℕ) × RulesOf set_up (take n jobs) ks ks2
+-- and which rules are set then: those of the jobs before the one that is refused, or at which memory was; none, where it was at a binding of the set-up
+abbrev pub HadSet : Parts → List Job → JobFault → List TheCore → Type 0
+HadSet p jobs (fault.Refused number place) ks = RulesOf p.bindings.items (take (place - 1) jobs) p.cores.items ks
+HadSet p jobs fault.Memory ks =
+    (SetUpStops (length p.cores.items) p.bindings.items stop.Memory × (ks ≡ p.cores.items))
+    ⊎ ((w : WantsMemory p jobs) × RulesOf p.bindings.items w.before p.cores.items ks)
+
+-- of the same jobs no other refusal is told, and none of a job where none has a fault
+abbrev pub OneRefusal : Type 0
+OneRefusal = (p : Parts) (jobs : List Job) (number number2 place place2 : ℕ)
+    → IsFault p jobs (fault.Refused number place) → IsFault p jobs (fault.Refused number2 place2) → (number ≡ number2) × (place ≡ place2)
+
+abbrev pub NoRefusal : Type 0
+NoRefusal = (p : Parts) (jobs : List Job) (number place : ℕ) → NoneRefused p jobs → RefusedAt p jobs number place → ⊥
 
 -- all that a world was made of, but its cores, is as it was
 pub record IsBeside (p p2 : Parts) : Type 0 where

@@ -1,6 +1,6 @@
 //! Bindings that are set up or to be opened, and what is handed in at their ends.
 
-ghost use Rattle.std.specs.Prelude.{ℕ, ◌≡◌, ◌==◌, ◌+◌, ◌*◌, ◌^◌, ◌<◌, ◌≤◌, if◌then◌else◌, true, length, Some, OnOk};
+ghost use Rattle.std.specs.Prelude.{ℕ, ◌≡◌, ◌==◌, ◌+◌, ◌*◌, ◌^◌, ◌<◌, ◌≤◌, if◌then◌else◌, length, Some, OnOk};
 ghost use Rattle.fl_node.specs.View.{slot_of};
 ghost use Rattle.fl_dockets.specs.Dockets.{docket_of, no_docket, is_ruled, rule_at, answer_in, Rules, with_place};
 ghost use Rattle.fl_dockets.specs.Joined.{core_of};

@@ -1,6 +1,6 @@
 //! How many calls are to be handled at each end.
 
-ghost use Rattle.std.specs.Prelude.{ℕ, ◌≡◌, ◌<◌, ◌≤◌, ◌*◌, length, map, slice_get, Some, is_some};
+ghost use Rattle.std.specs.Prelude.{◌≡◌, ◌<◌, ◌≤◌, ◌*◌, length, map, slice_get, Some, is_some};
 ghost use Rattle.std.specs.List.{flat_map};
 ghost use Rattle.fl_queues.specs.Given.{changed_at};
 ghost use Rattle.fl_node.specs.View.{slot_of};

@@ -1,18 +1,18 @@
 //! Jobs, checked one by one and joined to the cores that do them.
 
-ghost use Rattle.std.specs.Prelude.{◌≡◌, ◌<◌, ◌≤◌, ◌*◌, ◌++◌, ◌∷◌, List, [], false, map, length, slice_get, Some, None, IfOk, IfErr, IfNone, OnOk};
+ghost use Rattle.std.specs.Prelude.{◌≡◌, ◌<◌, ◌≤◌, ◌*◌, false, map, length, Some, None, IfErr, IfNone, OnOk};
 ghost use Rattle.fl_base.specs.Ends.{peer};
 ghost use Rattle.fl_queues.specs.Given.{changed_at};
 ghost use Rattle.fl_node.specs.View.{slot_of, client_of};
 ghost use Rattle.fl_jobs.specs.Views.{wish_of};
 ghost use Rattle.fl_value.specs.Value.{call_of};
 ghost use Rattle.fl_running.specs.declared.job.Job.TheVariants as core;
-ghost use Rattle.fl_dockets.specs.Dockets.{docket_of, docket_at, is_ruled, with_place, end_of};
+ghost use Rattle.fl_dockets.specs.Dockets.{docket_of, docket_at, is_ruled, with_place};
 ghost use Rattle.fl_dockets.specs.Faults.{call_fault_at, rule_fault_at, wish_fault, StopsFor, WishStops};
 ghost use Rattle.fl_dockets.specs.Fitting.{NewFit};
-ghost use Rattle.fl_dockets.specs.Joined.{AreBindings, HasDockets};
-ghost use Rattle.fl_dockets.specs.State.{joined_of, nothing_joined, with_binding, with_owner, changing, with_job, with_calls};
-ghost use Rattle.fl_dockets.specs.State.{SetAt, IsSafe, Opened, CallPlanned, RulePlanned, AreJoined};
+ghost use Rattle.fl_dockets.specs.Joined.{HasDockets};
+ghost use Rattle.fl_dockets.specs.State.{joined_of, nothing_joined, with_binding, with_owner, with_job, with_calls};
+ghost use Rattle.fl_dockets.specs.State.{SetAt, IsSafe, Opened, CallPlanned, RulePlanned};
 ghost use Rattle.fl_dockets.specs.Wished.{AddsOpening};
 
 use crate::docket::{Bound, Docket, slot_of};
@@ -128,6 +128,7 @@ impl Joined {
         ensures opened { OnOk result (Opened (length parts.now.cores.items) (wish_of wish.now) (joined_of self.old) (joined_of self.new)) }
         ensures fits { OnOk result (NewFit parts.now.names parts.now.programs.items (joined_of self.old) (joined_of self.new)) }
         ensures wished { OnOk result (AddsOpening parts.now.names parts.now.cores.items (wish_of wish.now) (joined_of self.old) (joined_of self.new)) }
+        ensures passed { OnOk result (wish_fault parts.now (length self.old.bindings.items) (wish_of wish.now) ≡ None) }
         ensures refused { IfErr result (λ stop. WishStops (wish_fault parts.now (length self.old.bindings.items) (wish_of wish.now)) stop) }
     {
         let binding = self.bindings.as_slice().len();
@@ -216,6 +217,7 @@ impl Joined {
         requires few { length self.old.bindings.items ≤ 1024 }
         requires dockets { HasDockets self.old.bindings.items self.old.dockets.items }
         ensures planned { OnOk result (CallPlanned end call (joined_of self.old) (joined_of self.new)) }
+        ensures passed { OnOk result (call_fault_at programs.now self.old.bindings.items (map docket_of self.old.dockets.items) end (call_of call) ≡ None) }
         ensures refused { IfErr result (λ stop. StopsFor
             (call_fault_at programs.now self.old.bindings.items (map docket_of self.old.dockets.items) end (call_of call)) stop) }
     {

@@ -5,9 +5,10 @@
 //! (`AreJoined`, `specs/State.antt`), as many calls are due as are handed in at its other end (`AreDue`), and the bindings are those that are set up and behind
 //! them those that jobs open (`AreBound`, `specs/Whole.antt`), each by the wish of its place: to the service of that name, over that route, which its client's
 //! core may ask for (`AreWished`, `specs/Wished.antt`). Circuits are opened to services of their bindings' cores and interfaces, and rules are between messages
-//! of the interface (`JobsFit`, `specs/Fitting.antt`). Rules are set at once at ends that are there (`specs/Rules.antt`). Otherwise the first
-//! job is told that is refused, with the number of the first fault found there (`RefusedAt`, `specs/Faults.antt`), or, at place 0, the first binding of the
-//! set-up that is (`BindingRefused`, `specs/Whole.antt`).
+//! of the interface (`JobsFit`, `specs/Fitting.antt`). Rules are set at once at ends that are there (`specs/Rules.antt`). None of the jobs has a fault
+//! then (`NoneRefused`, `specs/Whole.antt`; each fault is in `specs/Faults.antt`). Otherwise the first job is told that has one, with the number of the first
+//! found there: none before it has any (`RefusedAt`); or, at place 0, the first binding of the set-up that is refused (`BindingRefused`). A refusal is told
+//! in one way alone ([`one_refusal`]).
 //!
 //! - `whole.rt`: the jobs of a whole file
 //! - `joining.rt`: one job more
@@ -16,12 +17,14 @@
 //! - `due.rt`: how many calls are due
 //! - `docket.rt`: bindings and dockets
 //! - `fault.rt`: why jobs aren't joined
+//! - `law.rt`: that a refusal is told in one way alone
 #![tactic(auto)]
 
 mod docket;
 mod due;
 mod fault;
 mod joining;
+mod law;
 mod opening;
 mod rules;
 mod whole;
@@ -29,4 +32,5 @@ mod whole;
 pub use docket::{Bound, Docket, end_at, slot_of};
 pub use fault::JobFault;
 pub use joining::Joined;
+pub use law::one_refusal;
 pub use whole::join_jobs;

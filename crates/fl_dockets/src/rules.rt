@@ -1,6 +1,6 @@
 //! Reply rules of ends that are there before the cores run.
 
-ghost use Rattle.std.specs.Prelude.{◌≡◌, length, slice_get, IsSome, IfErr, OnOk, OnErr};
+ghost use Rattle.std.specs.Prelude.{◌≡◌, length, slice_get, None, IsSome, IfErr, OnOk, OnErr};
 ghost use Rattle.fl_worlds.specs.View.{core_in};
 ghost use Rattle.fl_dockets.specs.Faults.{core_fault, end_fault, fault_at_once, StopsFor};
 ghost use Rattle.fl_dockets.specs.Rules.{RulesCore, RulesAt, RuleNow};
@@ -24,6 +24,7 @@ fn core_in(side: Side, binding: &Binding) -> usize
 fn rule_core(core: &mut Core, end: EndId, message: MsgNo, answer: MsgNo) -> Result<(), Stop>
     ensures rules { OnOk result (RulesCore end message.0 answer.0 core.old core.new) }
     ensures kept { OnErr result (core.new ≡ core.old) }
+    ensures passed { OnOk result (core_fault core.old end message.0 answer.0 ≡ None) }
     ensures refused { IfErr result (λ stop. StopsFor (core_fault core.old end message.0 answer.0) stop) }
 {
     let Some(place) = core.place(end) else {
@@ -46,6 +47,7 @@ fn rule_at(
     ensures rules { OnOk result (RulesAt n end message.0 answer.0 cores.old.items cores.new.items) }
     ensures kept { OnErr result (cores.new.items ≡ cores.old.items) }
     ensures count { length cores.new.items ≡ length cores.old.items }
+    ensures passed { OnOk result (end_fault cores.old.items n end message.0 answer.0 ≡ None) }
     ensures refused { IfErr result (λ stop. StopsFor (end_fault cores.old.items n end message.0 answer.0) stop) }
 {
     if n >= cores.len() {
@@ -67,6 +69,7 @@ pub(crate) fn rule_now(
     ensures rules { OnOk result (RuleNow (slice_get bindings.now end.binding) end message.0 answer.0 cores.old.items cores.new.items) }
     ensures kept { OnErr result (cores.new.items ≡ cores.old.items) }
     ensures count { length cores.new.items ≡ length cores.old.items }
+    ensures passed { OnOk result (fault_at_once cores.old.items bindings.now end message.0 answer.0 ≡ None) }
     ensures refused { IfErr result (λ stop. StopsFor (fault_at_once cores.old.items bindings.now end message.0 answer.0) stop) }
 {
     match bindings.get(end.binding) {

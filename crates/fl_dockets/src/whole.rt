@@ -1,17 +1,17 @@
 //! The jobs of a whole file, joined one after another.
 
-ghost use Rattle.std.specs.Prelude.{◌≡◌, [], List, map, length, IfOk, IfErr, OnOk, OnErr};
+ghost use Rattle.std.specs.Prelude.{◌≡◌, [], List, map, length, None, IfOk, IfErr, OnOk, OnErr};
 ghost use Rattle.fl_jobs.specs.Jobs.{Job as TheJob};
 ghost use Rattle.fl_jobs.specs.Views.{job_of};
 ghost use Rattle.fl_dockets.specs.Dockets.{docket_of};
-ghost use Rattle.fl_dockets.specs.Faults.{rule_fault_at, fault_at_once, StopsFor, RuleStops, JobStops};
+ghost use Rattle.fl_dockets.specs.Faults.{rule_fault_at, fault_at_once, the_first, StopsFor, RuleStops};
 ghost use Rattle.fl_dockets.specs.Fitting.{JobsFit, NewFit};
 ghost use Rattle.fl_dockets.specs.Joined.{AreBindings, HasDockets};
 ghost use Rattle.fl_dockets.specs.Kept.{AreKept};
 ghost use Rattle.fl_dockets.specs.State.{joined_of, IsSafe, ArePlaced, AreJoined};
 ghost use Rattle.fl_dockets.specs.Rules.{RulesOf};
 ghost use Rattle.fl_dockets.specs.Whole.{bound_of, SetUp, binding_fault, SetUpStops, so_far, Ruled, Joins, IsBeside, AreBound, AreDue};
-ghost use Rattle.fl_dockets.specs.Whole.{fault_at, FirstRefused, IsFault, HadSet};
+ghost use Rattle.fl_dockets.specs.Whole.{job_fault, NoneRefused, JobStops, fault_at, FirstRefused, IsFault, HadSet};
 ghost use Rattle.fl_dockets.specs.Wished.{AddsWished, AreWished};
 
 use crate::docket::Bound;
@@ -63,6 +63,9 @@ impl Joined {
             (so_far (joined_of self.old) parts.old.cores.items) (so_far (joined_of self.new) parts.new.cores.items)) }
         ensures fits { OnOk result (NewFit parts.old.names parts.old.programs.items (joined_of self.old) (joined_of self.new)) }
         ensures beside { IsBeside parts.old parts.new }
+        ensures passed { OnOk result (the_first
+            (rule_fault_at parts.old.programs.items self.old.bindings.items (map docket_of self.old.dockets.items) end message.0 answer.0)
+            (fault_at_once parts.old.cores.items parts.old.bindings.items end message.0 answer.0) ≡ None) }
         ensures refused { IfErr result (λ stop. RuleStops
             (rule_fault_at parts.old.programs.items self.old.bindings.items (map docket_of self.old.dockets.items) end message.0 answer.0)
             (fault_at_once parts.old.cores.items parts.old.bindings.items end message.0 answer.0) stop) }
@@ -83,8 +86,10 @@ impl Joined {
         ensures fits { OnOk result (NewFit parts.old.names parts.old.programs.items (joined_of self.old) (joined_of self.new)) }
         ensures wished { OnOk result (AddsWished parts.old.names parts.old.cores.items (job_of job.entry) (joined_of self.old) (joined_of self.new)) }
         ensures beside { IsBeside parts.old parts.new }
+        ensures passed { OnOk result ((asked : List TheJob) → AreJoined (length parts.old.cores.items) asked (joined_of self.old)
+            → AreBound parts.old.bindings.items asked (joined_of self.old) → job_fault parts.old asked (job_of job.entry) ≡ None) }
         ensures refused { IfErr result (λ stop. (asked : List TheJob) → AreJoined (length parts.old.cores.items) asked (joined_of self.old)
-            → JobStops parts.old asked (joined_of self.old) (job_of job.entry) stop) }
+            → AreBound parts.old.bindings.items asked (joined_of self.old) → JobStops parts.old asked (job_of job.entry) stop) }
         ensures set { OnErr result (parts.new.cores.items ≡ parts.old.cores.items) }
     {
         match job {
@@ -118,9 +123,9 @@ impl Joined {
         ensures rules { OnOk result (RulesOf parts.old.bindings.items (map job_of jobs.entry.items) parts.old.cores.items parts.new.cores.items) }
         ensures count { OnOk result (length parts.new.cores.items ≡ length parts.old.cores.items) }
         ensures beside { IsBeside parts.old parts.new }
+        ensures passed { OnOk result (NoneRefused parts.old (map job_of jobs.entry.items)) }
         ensures refused { IfErr result (λ fault. FirstRefused parts.old (map job_of jobs.entry.items) fault) }
-        ensures set { IfErr result (λ fault. HadSet parts.old.bindings.items (map job_of jobs.entry.items) fault
-            parts.old.cores.items parts.new.cores.items) }
+        ensures set { IfErr result (λ fault. HadSet parts.old (map job_of jobs.entry.items) fault parts.new.cores.items) }
     {
         let mut place = 0;
         for job in jobs {
@@ -176,8 +181,9 @@ pub fn join_jobs(alloc: Global, parts: &mut Parts, jobs: Vec<Job<'_>>) -> Result
     ensures due { IfOk result (λ j. AreDue (map job_of jobs.entry.items) (joined_of j)) }
     ensures rules { OnOk result (RulesOf parts.old.bindings.items (map job_of jobs.entry.items) parts.old.cores.items parts.new.cores.items) }
     ensures beside { IsBeside parts.old parts.new }
+    ensures passed { OnOk result (NoneRefused parts.old (map job_of jobs.entry.items)) }
     ensures refused { IfErr result (λ fault. IsFault parts.old (map job_of jobs.entry.items) fault) }
-    ensures set { IfErr result (λ fault. HadSet parts.old.bindings.items (map job_of jobs.entry.items) fault parts.old.cores.items parts.new.cores.items) }
+    ensures set { IfErr result (λ fault. HadSet parts.old (map job_of jobs.entry.items) fault parts.new.cores.items) }
 {
     let cores = parts.cores.as_slice().len();
     let mut joined = match set_up(alloc, cores, &parts.bindings) {

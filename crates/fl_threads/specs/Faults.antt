@@ -1,8 +1,8 @@
 -- Which fault of a run comes of which fault below, and why there is one. The public promise rests on `IsRunFault`.
-use Rattle.std.specs.Prelude.{ℕ, List}
+use Rattle.std.specs.Prelude.{ℕ, List, ◌⊎◌}
 use Rattle.fl_jobs.specs.Jobs.{Job}
 use Rattle.fl_worlds.specs.declared.parts.Parts.{Parts}
-use Rattle.fl_dockets.specs.Whole.{IsFault}
+use Rattle.fl_dockets.specs.Whole.{NoneRefused, IsFault}
 use Rattle.fl_dockets.specs.declared.fault.JobFault.{JobFault}
 use Rattle.fl_dockets.specs.declared.fault.JobFault.TheVariants as job
 use Rattle.fl_stations.specs.declared.stop.Stop.{Stop}
@@ -18,11 +18,12 @@ abbrev pub by_stop : Stop → RunFault
 by_stop stop.Memory = Memory
 by_stop stop.Thread = Thread
 
--- a job is refused only where joining refuses it: it is the first, with its number; memory and threads may be wanted at any time
+-- a job is refused only where joining refuses it: it is the first that has a fault, with its number; or, at place 0, a binding of the set-up is. Where
+-- memory is wanted in joining no job before that has a fault, and none at all where it is wanted later, or a thread
 abbrev pub IsRunFault : Parts → List Job → RunFault → Type 0
 IsRunFault p jobs (Refused number place) = IsFault p jobs (job.Refused number place)
-IsRunFault p jobs Memory = Unit {0}
-IsRunFault p jobs Thread = Unit {0}
+IsRunFault p jobs Memory = IsFault p jobs job.Memory ⊎ NoneRefused p jobs
+IsRunFault p jobs Thread = NoneRefused p jobs
 
 -- the fault's number; of a thread that doesn't start the program's status
 abbrev pub number_of : RunFault → ℕ

@@ -6,7 +6,7 @@ use Rattle.fl_worlds.specs.declared.parts.Parts.{Parts}
 use Rattle.fl_dockets.specs.Fitting.{JobsFit}
 use Rattle.fl_dockets.specs.Rules.{RulesOf}
 use Rattle.fl_dockets.specs.State.{TheJoined, AreJoined}
-use Rattle.fl_dockets.specs.Whole.{AreBound, AreDue, IsBeside}
+use Rattle.fl_dockets.specs.Whole.{AreBound, AreDue, NoneRefused, IsBeside}
 use Rattle.fl_dockets.specs.Wished.{AreWished}
 use Rattle.fl_stations.specs.Runs.{TheOutcome, Each2, seats_left, TheStation, RanTo}
 use Rattle.fl_stations.specs.Tells.{Tells}
@@ -34,7 +34,7 @@ pub record CoresRan (p : Parts) (j : TheJoined) (limit : ℕ) (r : TheReport) : 
   pub heard : HeardAsTold (length j.owners) (seats_left outcomes)
   pub tells : Tells j outcomes r
 
--- the jobs were joined to these parts, with the reply rules that are set at once, and then the cores ran
+-- the jobs, of which none has a fault, were joined to these parts, with the reply rules that are set at once, and then the cores ran
 pub record RanFrom (p : Parts) (jobs : List Job) (limit : ℕ) (r : TheReport) : Type 0 where
   pub joined : TheJoined
   pub are_joined : AreJoined (length p.cores.items) jobs joined
@@ -46,3 +46,4 @@ pub record RanFrom (p : Parts) (jobs : List Job) (limit : ℕ) (r : TheReport) :
   pub rules : RulesOf p.bindings.items jobs p.cores.items parts.cores.items
   pub beside : IsBeside p parts
   pub ran : CoresRan parts joined limit r
+  pub passed : NoneRefused p jobs

@@ -4,7 +4,7 @@ use Rattle.fl_dockets.specs.State.{joined_of}
 use Rattle.fl_dockets.proofs.Fitting.{told_fits}
 use Rattle.fl_dockets.proofs.Keeping.{told_kept, all_joined}
 use Rattle.fl_dockets.proofs.Owed.{told_placed, all_due}
-use Rattle.fl_dockets.proofs.Refusing.{first_fault}
+use Rattle.fl_dockets.proofs.Refusing.{first_fault, none_set}
 use Rattle.fl_dockets.proofs.Stepwise.{told_bound}
 use Rattle.fl_dockets.proofs.Wished.{told_wished}
 use Rattle.fl_dockets.proofs.whole.join_jobs.Goals as goal
@@ -48,4 +48,9 @@ join_all-requires-clause-none c = c.in-Ok.ensures.none
 pub returns-in-Err-clause-refused : goal.returns-in-Err-clause-refused
 returns-in-Err-clause-refused c =
     first_fault c.args.parts.now c.deref.result.now _ (map job_of c.args.jobs.items) c.in-Err.stop c.fault_at.result c.deref.ensures.value
+    (ap length c.as_slice-cores.ensures.value) c.fault_at.ensures.fault c.in-Err.ensures.refused
+
+pub returns-in-Err-clause-set : goal.returns-in-Err-clause-set
+returns-in-Err-clause-set c =
+    none_set c.args.parts.now c.deref.result.now _ (map job_of c.args.jobs.items) c.in-Err.stop c.fault_at.result c.deref.ensures.value
     (ap length c.as_slice-cores.ensures.value) c.fault_at.ensures.fault c.in-Err.ensures.refused

@@ -1,8 +1,7 @@
-use Rattle.std.proofs.Common.{◌≡◌, ℕ, ◌<◌, [], length, take, slice_get, Some, None}
-use Rattle.fl_worlds.specs.declared.binding.Binding.{Binding}
+use Rattle.std.proofs.Common.{◌≡◌, [], length, take}
 use Rattle.fl_dockets.specs.State.{joined_of, ArePlaced}
 use Rattle.fl_dockets.specs.Kept.{AreKept}
-use Rattle.fl_dockets.specs.Whole.{binding_fault, AreBound}
+use Rattle.fl_dockets.specs.Whole.{AreTaken, AreBound}
 use Rattle.fl_dockets.proofs.whole.set_up.Given as goal
 
 -- the bindings so far
@@ -13,5 +12,5 @@ invariant-loop-binding l = record {
   kept : AreKept l.bindings [] (joined_of l.joined);
   none : l.joined.jobs.items ≡ [];
   count : length l.joined.bindings.items ≡ l.binding-index;
-  taken : (n : ℕ) (x : Binding) → n < l.binding-index → slice_get l.bindings n ≡ Some x → binding_fault l.cores n x ≡ None;
+  taken : AreTaken l.cores l.bindings l.binding-index;
 }

@@ -10,3 +10,18 @@ returns-clause-keeps g c =
     let report = report_of c.in_ok-report.report in
     subst (λ (n : ℕ). Keeps n c.args.limit report) c.in_ok-joined.ensures.cores
     (keeps_ran c.join_jobs.new.parts (joined_of c.in_ok-joined.joined) c.args.limit report c.in_ok-report.ensures.ran)
+
+pub returns-clause-ran : goal.returns-clause-ran
+returns-clause-ran g c = record {
+  joined = joined_of c.in_ok-joined.joined;
+  are_joined = c.in_ok-joined.ensures.joined;
+  are_bound = c.in_ok-joined.ensures.bound;
+  are_fit = c.in_ok-joined.ensures.fits;
+  are_wished = c.in_ok-joined.ensures.wished;
+  are_due = c.in_ok-joined.ensures.due;
+  parts = c.join_jobs.new.parts;
+  rules = c.in_ok-joined.ensures.rules;
+  beside = c.in_ok-joined.ensures.beside;
+  ran = c.in_ok-report.ensures.ran;
+  passed = c.in_ok-joined.ensures.passed;
+}

@@ -1,9 +1,12 @@
-use Rattle.std.proofs.Common.{rules, refl, ◌∙◌, ℕ, sym, subst, [], map, length}
+use Rattle.std.proofs.Common.{rules, refl, ◌∙◌, ℕ, List, sym, subst, [], map, length}
 use Rattle.std.specs.Vec.Iter.{into_iter_items}
 use Rattle.fl_jobs.specs.Views.{job_of}
+use Rattle.fl_worlds.specs.declared.binding.Binding.{Binding}
 use Rattle.fl_dockets.specs.State.{joined_of, AreJoined}
+use Rattle.fl_dockets.specs.Whole.{AreBound}
 use Rattle.fl_dockets.proofs.Fitting.{fits_turn, fits_none}
 use Rattle.fl_dockets.proofs.Keeping.{kept_turn, all_joined}
+use Rattle.fl_dockets.proofs.Passing.{none_yet, none_turn}
 use Rattle.fl_dockets.proofs.Stepwise.{joined_turn, bound_turn, rules_turn, count_of, place_turn, beside_still}
 use Rattle.fl_dockets.proofs.Wished.{wished_none, wished_turn}
 use Rattle.fl_dockets.proofs.Refusing.{left_turn, whole_of, first_refused, had_set}
@@ -22,12 +25,17 @@ loop-job-init c = record {
   beside = record { rings = refl; queues = refl; programs = refl; names = refl; bindings = refl };
   left = search rules;
   place = refl;
+  passed = none_yet c.args.parts.now;
 }
 
 pub loop-job-preserved : goal.loop-job-preserved
 loop-job-preserved c =
     let i = c.loop-job.invariant in
     let joins = c.in_default.ensures.joins in
+    let done = map job_of c.loop-job.yielded in
+    let joined = all_joined (length c.args.parts.now.cores.items) c.args.parts.now.bindings.items done (joined_of c.loop-job.self) i.joined i.bound i.kept in
+    let were = subst (λ (n : ℕ). AreJoined n done (joined_of c.loop-job.self)) (sym i.count) joined in
+    let bound = subst (λ (xs : List Binding). AreBound xs done (joined_of c.loop-job.self)) (sym i.beside.bindings) i.bound in
     record {
       joined = joined_turn _ c.loop-job.yielded c.in-Some.job c.loop-job.parts.bindings.items (joined_of c.loop-job.self) c.loop-job.parts.cores.items
           (joined_of c.join_one.new.self) c.join_one.new.parts.cores.items i.count joins i.joined;
@@ -49,6 +57,7 @@ loop-job-preserved c =
       left = left_turn (map job_of c.args.jobs.items) c.loop-job.yielded (into_iter_items c.loop-job.job-iterator) (into_iter_items c.next.new.self) c.in-Some.job
           c.in-Some.ensures.steps.0 i.left;
       place = place_turn c.loop-job.yielded c.in-Some.job c.loop-job.place i.place;
+      passed = none_turn c.args.parts.now c.loop-job.parts c.loop-job.yielded c.in-Some.job i.beside i.rules (c.in_default.ensures.passed done were bound) i.passed;
     }
 
 pub returns-in-Err-clause-refused : goal.returns-in-Err-clause-refused
@@ -57,12 +66,13 @@ returns-in-Err-clause-refused c =
     let jobs = map job_of c.args.jobs.items in
     let rest = into_iter_items c.next.new.self in
     let whole = whole_of jobs c.loop-job.yielded (into_iter_items c.loop-job.job-iterator) rest c.in-Some.job c.in-Some.ensures.steps.0 i.left in
-    let joined = all_joined (length c.args.parts.now.cores.items) c.args.parts.now.bindings.items (map job_of c.loop-job.yielded) (joined_of c.loop-job.self)
-    i.joined i.bound i.kept in
-    let were = subst (λ (n : ℕ). AreJoined n (map job_of c.loop-job.yielded) (joined_of c.loop-job.self)) (sym i.count) joined in
+    let done = map job_of c.loop-job.yielded in
+    let joined = all_joined (length c.args.parts.now.cores.items) c.args.parts.now.bindings.items done (joined_of c.loop-job.self) i.joined i.bound i.kept in
+    let were = subst (λ (n : ℕ). AreJoined n done (joined_of c.loop-job.self)) (sym i.count) joined in
+    let bound = subst (λ (xs : List Binding). AreBound xs done (joined_of c.loop-job.self)) (sym i.beside.bindings) i.bound in
     first_refused c.args.parts.now c.loop-job.parts c.args.jobs.items c.loop-job.yielded rest c.in-Some.job c.loop-job.place (joined_of c.loop-job.self)
-    i.beside i.rules whole i.place joined i.bound c.in-Err.stop c.fault_at.result c.fault_at.ensures.fault
-    (c.in-Err.ensures.refused (map job_of c.loop-job.yielded) were)
+    i.beside i.rules whole i.place joined i.bound i.passed c.in-Err.stop c.fault_at.result c.fault_at.ensures.fault
+    (c.in-Err.ensures.refused done were bound)
 
 pub returns-in-Err-clause-set : goal.returns-in-Err-clause-set
 returns-in-Err-clause-set c =
@@ -70,5 +80,10 @@ returns-in-Err-clause-set c =
     let jobs = map job_of c.args.jobs.items in
     let rest = into_iter_items c.next.new.self in
     let whole = whole_of jobs c.loop-job.yielded (into_iter_items c.loop-job.job-iterator) rest c.in-Some.job c.in-Some.ensures.steps.0 i.left in
-    had_set c.args.parts.now.bindings.items jobs c.loop-job.yielded rest c.in-Some.job c.loop-job.place c.args.parts.now.cores.items c.loop-job.parts.cores.items
-    c.join_one.new.parts.cores.items whole i.place c.in-Err.ensures.set i.rules c.in-Err.stop c.fault_at.result c.fault_at.ensures.fault
+    let done = map job_of c.loop-job.yielded in
+    let joined = all_joined (length c.args.parts.now.cores.items) c.args.parts.now.bindings.items done (joined_of c.loop-job.self) i.joined i.bound i.kept in
+    let were = subst (λ (n : ℕ). AreJoined n done (joined_of c.loop-job.self)) (sym i.count) joined in
+    let bound = subst (λ (xs : List Binding). AreBound xs done (joined_of c.loop-job.self)) (sym i.beside.bindings) i.bound in
+    had_set c.args.parts.now c.loop-job.parts c.args.jobs.items c.loop-job.yielded rest c.in-Some.job c.loop-job.place (joined_of c.loop-job.self)
+    i.beside i.rules whole i.place joined i.bound i.passed c.in-Err.stop c.fault_at.result c.fault_at.ensures.fault
+    (c.in-Err.ensures.refused done were bound) c.join_one.new.parts.cores.items c.in-Err.ensures.set

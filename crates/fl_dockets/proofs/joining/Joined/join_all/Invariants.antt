@@ -5,7 +5,7 @@ use Rattle.fl_dockets.specs.Fitting.{JobsFit}
 use Rattle.fl_dockets.specs.Rules.{RulesOf}
 use Rattle.fl_dockets.specs.State.{joined_of, ArePlaced}
 use Rattle.fl_dockets.specs.Kept.{AreKept}
-use Rattle.fl_dockets.specs.Whole.{IsBeside, AreBound}
+use Rattle.fl_dockets.specs.Whole.{IsBeside, AreBound, NoneRefused}
 use Rattle.fl_dockets.specs.Wished.{AreWished}
 use Rattle.fl_dockets.proofs.joining.Joined.join_all.Given as goal
 
@@ -22,4 +22,5 @@ invariant-loop-job l = record {
   beside : IsBeside l.fn.parts l.parts;
   left : map job_of l.yielded ++ map job_of (into_iter_items l.job-iterator) ≡ map job_of l.fn.jobs.items;
   place : l.place ≡ length l.yielded;
+  passed : NoneRefused l.fn.parts (map job_of l.yielded);
 }

@@ -4,7 +4,7 @@ use Rattle.fl_jobs.specs.Views.{wish_of}
 use Rattle.fl_value.specs.Value.{call_of}
 use Rattle.fl_dockets.specs.State.{joined_of}
 use Rattle.fl_dockets.proofs.Fitting.{call_fits}
-use Rattle.fl_dockets.proofs.Refusing.{rule_stops, call_stops, wish_stops}
+use Rattle.fl_dockets.proofs.Refusing.{rule_stops, rule_passes, call_stops, call_passes, wish_stops, wish_passes}
 use Rattle.fl_dockets.proofs.Wished.{nothing_wished}
 use Rattle.fl_dockets.proofs.joining.Joined.join_one.Goals as goal
 
@@ -35,5 +35,20 @@ returns-in-Call-clause-fits c =
 
 pub returns-in-Call-clause-refused : goal.returns-in-Call-clause-refused
 returns-in-Call-clause-refused c =
-    rw c.in-Call.is (call_stops c.plan_call.result (length c.args.parts.now.cores.items) c.args.parts.now c.deref.result.now (joined_of c.args.self.now) c.in-Call.end
+    rw c.in-Call.is (call_stops c.plan_call.result (length c.args.parts.now.cores.items) c.args.parts.now (joined_of c.args.self.now) c.deref.result.now c.in-Call.end
     (call_of c.in-Call.call) c.deref.ensures.value c.plan_call.ensures.refused)
+
+pub returns-in-Open-clause-passed : goal.returns-in-Open-clause-passed
+returns-in-Open-clause-passed c =
+    rw c.in-Open.is (wish_passes c.open.result (length c.args.parts.now.cores.items) c.args.parts.now (joined_of c.args.self.now) (wish_of c.in-Open.wish)
+    c.open.ensures.passed)
+
+pub returns-in-Reply-clause-passed : goal.returns-in-Reply-clause-passed
+returns-in-Reply-clause-passed c =
+    rw c.in-Reply.is (rule_passes c.rule.result (length c.args.parts.now.cores.items) c.args.parts.now (joined_of c.args.self.now) c.in-Reply.end
+    c.in-Reply.message.0 c.in-Reply.answer.0 c.rule.ensures.passed)
+
+pub returns-in-Call-clause-passed : goal.returns-in-Call-clause-passed
+returns-in-Call-clause-passed c =
+    rw c.in-Call.is (call_passes c.plan_call.result (length c.args.parts.now.cores.items) c.args.parts.now (joined_of c.args.self.now) c.deref.result.now c.in-Call.end
+    (call_of c.in-Call.call) c.deref.ensures.value c.plan_call.ensures.passed)

@@ -70,6 +70,11 @@ returns-clause-wished c =
       };
     }
 
+pub returns-clause-passed : goal.returns-clause-passed
+returns-clause-passed c =
+    subst (λ (bindings : List Bound). wish_fault c.args.parts.now (length bindings) (wish_of c.args.wish.now) ≡ None) c.as_slice-binding.ensures.value
+    c.in_ok-asked.ensures.passes
+
 pub returns-in_err-asked-clause-refused : goal.returns-in_err-asked-clause-refused
 returns-in_err-asked-clause-refused c =
     let e = err_from_is_err_and c.from_residual.result c.from_residual.ensures.1 in

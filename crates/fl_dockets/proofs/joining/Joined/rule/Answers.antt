@@ -1,13 +1,13 @@
 use Rattle.std.proofs.Common.{◌≡◌, None, List, subst}
 use Rattle.std.proofs.lemmas.Result.{on_ok_weaker}
-use Rattle.std.specs.Prelude.{IfErr}
+use Rattle.std.specs.Prelude.{IfErr, OnOk}
 use Rattle.fl_compile.specs.declared.program.Program.{Program}
 use Rattle.fl_worlds.specs.declared.binding.Binding.{Binding}
 use Rattle.fl_dockets.specs.Faults.{rule_fault_at, fault_at_once, StopsFor}
 use Rattle.fl_dockets.specs.State.{joined_of}
 use Rattle.fl_dockets.proofs.Fitting.{rule_fits}
 use Rattle.fl_dockets.proofs.Refusing.{end_stops}
-use Rattle.fl_dockets.proofs.Spoken.{as_found}
+use Rattle.fl_dockets.proofs.Spoken.{as_found, neither_found}
 use Rattle.fl_dockets.proofs.joining.Joined.rule.Goals as goal
 
 pub returns-clause-fits : goal.returns-clause-fits
@@ -37,3 +37,14 @@ returns-clause-refused c =
     (subst (λ (xs : List Binding). IfErr c.rule_now.result
     (λ stop. StopsFor (fault_at_once c.args.parts.now.cores.items xs c.args.end c.args.message.0 c.args.answer.0) stop))
     c.deref-2.ensures.value c.rule_now.ensures.refused)
+
+pub returns-clause-passed : goal.returns-clause-passed
+returns-clause-passed c =
+    let before = joined_of c.args.self.now in
+    let passed : rule_fault_at c.args.parts.now.programs.items before.bindings before.dockets c.args.end c.args.message.0 c.args.answer.0 ≡ None =
+    subst (λ (ps : List Program). rule_fault_at ps before.bindings before.dockets c.args.end c.args.message.0 c.args.answer.0 ≡ None) c.deref.ensures.value
+    c.in_default.ensures.passed in
+    on_ok_weaker c.rule_now.result
+    (λ later. neither_found _ (fault_at_once c.args.parts.now.cores.items c.args.parts.now.bindings.items c.args.end c.args.message.0 c.args.answer.0) passed later)
+    (subst (λ (xs : List Binding). OnOk c.rule_now.result (fault_at_once c.args.parts.now.cores.items xs c.args.end c.args.message.0 c.args.answer.0 ≡ None))
+    c.deref-2.ensures.value c.rule_now.ensures.passed)
