@@ -1,8 +1,9 @@
 //! Things dealt to cores: sides of rings, and queues.
 
-ghost use Rattle.std.specs.Prelude.{◌≡◌, ◌<◌, ◌∷◌, ◌++◌, [], length, map, replicate, IfOk, OnOk, Err};
+ghost use Rattle.std.specs.Prelude.{◌≡◌, ◌<◌, ◌∷◌, ◌++◌, ◌↔◌, [], length, map, replicate, IfOk, OnOk, Err};
 ghost use Rattle.fl_deal.specs.Dealt.{hand_at, Holds, Gives, Deals};
 ghost use Rattle.fl_deal.specs.Giving.{given_to};
+ghost use Rattle.fl_ring.specs.Duo.{MayHaveSlots};
 
 use fl_ring::{RingFault, SharedSide, duo};
 use std::alloc::{AllocError, Global};
@@ -82,6 +83,7 @@ impl Dealt<SharedSide> {
         requires first { first < length self.hands.items }
         requires second { second < length self.hands.items }
         ensures deals { IfOk result (λ d. Deals size first second self d) }
+        ensures bad_size { (result ≡ Err RingFault.BadSize) ↔ (¬ MayHaveSlots size) }
     {
         let (one, two) = duo(alloc, size)?;
         let Ok(dealt) = self.give(first, one) else {
