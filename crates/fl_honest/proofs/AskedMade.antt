@@ -451,3 +451,23 @@ module _ {S : Type 0} (w : Ways S) (jobs : List Job) (name : EndId) where
               now deed log s first rest seat.end.program a.dispatcher (subst (λ (p : Program). IsMade s first (deed ∷ []) p a.dispatcher) program a.how),
             ))
       ]
+
+  -- an end that isn't there in the beginning isn't in the end, or was asked for
+  pub log_comes : (log : List Deed) (s t : TheRun S) (h : Goes w jobs s log t) → place_of s.core name ≡ None
+      → (place_of t.core name ≡ None) ⊎ ((program : Program) × (d : ℕ) × IsMade s (log_steps w jobs log s t h) log program d)
+  log_comes [] s t h absent = inl (ap (λ (x : TheRun S). place_of x.core name) h ∙ absent)
+  log_comes (deed ∷ log) s t h absent =
+      let m = h.1.0 in
+      let u = h.0 in
+      let aside : u.core ≡ m.core = core_aside m u deed h.1.2 in
+      let first = event_steps w jobs deed s m h.2 h.1.1 in
+      let rest = log_steps w jobs log u t h.3 in
+      elim (does_come s m h.1.3.core absent deed h.2 h.1.1) [
+        | inl still ↦
+            (let laid : Laid s.core.monitor.circuits u.core.monitor.circuits = subst (λ (k : TheCore). Laid s.core.monitor.circuits k.monitor.circuits) (sym aside) (does_laid w deed s m h.1.1) in
+            elim (log_comes log u t h.3 (ap (λ (k : TheCore). place_of k name) aside ∙ still)) [
+              | inl none ↦ inl none
+              | inr made ↦ inr (made.0, made.1, later deed log s u first rest made.0 made.1 (offers_stay w deed s m u h.1.1 h.1.2) laid (event_jobs w deed s m u h.1.1 h.1.2) made.2)
+            ])
+        | inr a ↦ inr (a.end.program, a.dispatcher, now deed log s first rest a.end.program a.dispatcher a.how)
+      ]

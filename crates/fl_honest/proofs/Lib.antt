@@ -53,4 +53,11 @@ mod ReasonsKept
 mod ReasonedHears
 mod ReasonsHere
 mod ReasonsDesks
+mod Gone
+mod Given
+mod Settled
+mod GivenHears
+mod GivenLogs
+mod GivenCores
 mod ReasonsAll
+mod Spent

@@ -46,7 +46,7 @@ use Rattle.fl_node.specs.declared.wire.Inlet.TheVariants as inlet
 use Rattle.fl_node.specs.View.{TheCore, arriving_at, with_monitor}
 use Rattle.fl_node.specs.Sound.{IsCore}
 use Rattle.fl_node.specs.Links.{LooksAhead, inbound, ArrivesAt}
-use Rattle.fl_node.specs.Making.{Asked, Asks}
+use Rattle.fl_node.specs.Making.{Asked, asked, Asks}
 use Rattle.fl_node.specs.Hearing.{Offers, known_for, offer_for, HearsAll, offering, Follows, BindsIf}
 use Rattle.fl_node.specs.Ends.{at_side}
 use Rattle.fl_running.specs.declared.job.Job.{Job}
@@ -198,6 +198,25 @@ kept_by Knows R jobs kept = record {
   asks = kept.asks;
 }
 
+-- what leads over one event from a predicate of before to one of afterwards; here jobs wish for openings that begin on such a link
+pub record IsPassedOn (Knows : Known → Message → Type 0) (Wishes : LinkId → Opening → Type 0) (P R : (ℕ → List Frag) → (ℕ → List Frag) → TheMonitor → Type 0) : Type 0 where
+  pub before : (said said2 heard heard2 : ℕ → List Frag) (m : TheMonitor) → ((l : ℕ) (f : Frag) → Has f (said2 l) → Has f (said l))
+      → ((l : ℕ) (f : Frag) → Has f (heard l) → Has f (heard2 l)) → P said heard m → P said2 heard2 m
+  pub after : (said said2 heard heard2 : ℕ → List Frag) (m : TheMonitor) → ((l : ℕ) (f : Frag) → Has f (said2 l) → Has f (said l))
+      → ((l : ℕ) (f : Frag) → Has f (heard l) → Has f (heard2 l)) → R said heard m → R said2 heard2 m
+  pub rests : (said heard said2 : ℕ → List Frag) (m m2 : TheMonitor) → Sound m2.circuits → Later m.circuits m2.circuits → m2.circuits ≡ m.circuits
+      → ((l : ℕ) (f : Frag) → Has f (said2 l) ⊎ Has f (waiting_for m2.outboxes l) → (g : Frag) × (bare g ≡ bare f) × (Has g (said l) ⊎ Has g (waiting_for m.outboxes l)))
+      → P said heard m → R said2 heard m2
+  pub hears : (said heard heard2 : ℕ → List Frag) (m m2 : TheMonitor) → Sound m.circuits → Sound m2.circuits → Later m.circuits m2.circuits → P said heard m
+      → ((l : ℕ) (f : Frag) → Has f (heard l) → Has f (heard2 l)) → (l : LinkId) (kn : Known) (frag : Frag) (msg : Message) (h : Heard) → Knows kn msg → Has frag (heard2 l.0) → Says frag msg
+      → ComesTo kn m.circuits l msg h → m2.circuits ≡ table_after m.circuits l msg h → AllSaid (says l msg h) m.outboxes m2.outboxes → R said heard2 m2
+  pub asks : (said heard : ℕ → List Frag) (m m2 : TheMonitor) → Sound m.circuits → Sound m2.circuits → Later m.circuits m2.circuits → P said heard m
+      → (l : LinkId) (c : Circuit) (o : Opening) → Wishes l o → next_own m.circuits l.0 ≡ Some c.0 → m2.circuits ≡ opened_table m.circuits l c o.binding
+      → Said (record { link = l; message = asking c o }) m.outboxes m2.outboxes → R said heard m2
+
+pub kept_on : (Knows : Known → Message → Type 0) (Wishes : Opening → Type 0) (R : (ℕ → List Frag) → (ℕ → List Frag) → TheMonitor → Type 0) → IsKeptBy Knows Wishes R → IsPassedOn Knows (λ l o. Wishes o) R R
+kept_on Knows Wishes R kept = record { before = kept.wider; after = kept.wider; rests = kept.rests; hears = kept.hears; asks = kept.asks }
+
 -- ---- one event
 
 -- a message that is heard is taken on circuit 0
@@ -213,7 +232,7 @@ then_said so steps l = so l ++ of_circuit 0 (put_on l steps)
 abbrev pub then_heard : (ℕ → List Frag) → List Step → ℕ → List Frag
 then_heard so steps l = so l ++ of_circuit 0 (taken_from l steps)
 
-module _ {Knows : Known → Message → Type 0} {Wishes : Opening → Type 0} (R : (ℕ → List Frag) → (ℕ → List Frag) → TheMonitor → Type 0) (jobs : List Job) (kept : IsKeptBy Knows Wishes R) (said_so heard_so : ℕ → List Frag) (k k2 : TheCore)
+module _ {Knows : Known → Message → Type 0} {Wishes : LinkId → Opening → Type 0} (P R : (ℕ → List Frag) → (ℕ → List Frag) → TheMonitor → Type 0) (jobs : List Job) (kept : IsPassedOn Knows Wishes P R) (said_so heard_so : ℕ → List Frag) (k k2 : TheCore)
     (sound2 : Sound k2.monitor.circuits) (later : Later k.monitor.circuits k2.monitor.circuits) (steps : List Step) (went : goes_through k.monitor.circuits steps k2.monitor.circuits) where
   abbrev Then : Type 0
   Then = R (then_said said_so steps) (then_heard heard_so steps) k2.monitor
@@ -230,13 +249,13 @@ module _ {Knows : Known → Message → Type 0} {Wishes : Opening → Type 0} (R
   rests_then : k2.monitor.circuits ≡ k.monitor.circuits
       → ((l : ℕ) (f : Frag) → Has f (then_said said_so steps l) ⊎ Has f (waiting_for k2.monitor.outboxes l)
       → (g : Frag) × (bare g ≡ bare f) × (Has g (said_so l) ⊎ Has g (waiting_for k.monitor.outboxes l)))
-      → R said_so heard_so k.monitor → Then
+      → P said_so heard_so k.monitor → Then
   rests_then same from n =
       kept.rests said_so (then_heard heard_so steps) (then_said said_so steps) k.monitor k2.monitor sound2 later same from
-      (kept.wider said_so said_so heard_so (then_heard heard_so steps) k.monitor (λ l f h. h) heard_more n)
+      (kept.before said_so said_so heard_so (then_heard heard_so steps) k.monitor (λ l f h. h) heard_more n)
 
   -- the monitor is as it was, and said nothing
-  unchanged : k2.monitor ≡ k.monitor → ((l : ℕ) → said_on l steps ≡ []) → R said_so heard_so k.monitor → Then
+  unchanged : k2.monitor ≡ k.monitor → ((l : ℕ) → said_on l steps ≡ []) → P said_so heard_so k.monitor → Then
   unchanged same none =
       rests_then (ap (λ (m : TheMonitor). m.circuits) same)
       (λ l f h. (
@@ -256,7 +275,7 @@ module _ {Knows : Known → Message → Type 0} {Wishes : Opening → Type 0} (R
         let (i, at) = has_at g (waiting_for k.monitor.outboxes l.0) h in
         sym (ap bare (sym is) ∙ carried_zero g (zero i g at))
 
-    said_first : R said_so heard_so k.monitor → Then
+    said_first : P said_so heard_so k.monitor → Then
     said_first =
         rests_then (ap (λ (m : TheMonitor). m.circuits) rest)
         (λ i f h. elim h [
@@ -278,12 +297,12 @@ module _ {Knows : Known → Message → Type 0} {Wishes : Opening → Type 0} (R
 
   -- said nothing: what stands in the list of before
   same_said : ((l : ℕ) → said_on l steps ≡ []) → R said_so (then_heard heard_so steps) k2.monitor → Then
-  same_said none n = kept.wider said_so (then_said said_so steps) (then_heard heard_so steps) (then_heard heard_so steps) k2.monitor (said_before none) (λ l f h. h) n
+  same_said none n = kept.after said_so (then_said said_so steps) (then_heard heard_so steps) (then_heard heard_so steps) k2.monitor (said_before none) (λ l f h. h) n
 
-module _ {Knows : Known → Message → Type 0} {Wishes : Opening → Type 0} (R : (ℕ → List Frag) → (ℕ → List Frag) → TheMonitor → Type 0) (jobs : List Job) (kept : IsKeptBy Knows Wishes R) {S : Type 0} (w : Ways S)
+module _ {Knows : Known → Message → Type 0} {Wishes : LinkId → Opening → Type 0} (P R : (ℕ → List Frag) → (ℕ → List Frag) → TheMonitor → Type 0) (jobs : List Job) (kept : IsPassedOn Knows Wishes P R) {S : Type 0} (w : Ways S)
     (on : OnAnotherCircuit) (said_so heard_so : ℕ → List Frag)
     (s m : TheRun S) (core : IsCore s.core) (sound : Sound s.core.monitor.circuits) (sound2 : Sound m.core.monitor.circuits) (led : IsLed s.core)
-    (knows : (msg : Message) → Knows (known_for s.offers s.core msg) msg) (own : (name : EndId) (wish : Wish) → JobAt jobs s name wish → Wishes wish.opening) (holds : R said_so heard_so s.core.monitor) where
+    (knows : (msg : Message) → Knows (known_for s.offers s.core msg) msg) (own : (name : EndId) (wish : Wish) (e : ℕ) → InPlace jobs s (opened name wish (Ok e)) → Does w (opened name wish (Ok e)) s m → Wishes wish.link wish.opening) (holds : P said_so heard_so s.core.monitor) where
   abbrev After : (deed : Deed) → InPlace jobs s deed → Does w deed s m → Type 0
   After deed by h = R (then_said said_so (event_steps w jobs deed s m by h)) (then_heard heard_so (event_steps w jobs deed s m by h)) m.core.monitor
 
@@ -295,7 +314,7 @@ module _ {Knows : Known → Message → Type 0} {Wishes : Opening → Type 0} (R
     went_by = event_went w jobs on s m core sound led deed by acts h
 
     quiet : m.core.monitor ≡ s.core.monitor → ((l : ℕ) → said_on l (event_steps w jobs deed s m by h) ≡ []) → After deed by h
-    quiet same none = unchanged R jobs kept said_so heard_so s.core m.core sound2 onward (event_steps w jobs deed s m by h) went_by same none holds
+    quiet same none = unchanged P R jobs kept said_so heard_so s.core m.core sound2 onward (event_steps w jobs deed s m by h) went_by same none holds
 
     -- and there are no steps
     rest_steps : event_steps w jobs deed s m by h ≡ [] → m.core.monitor ≡ s.core.monitor → After deed by h
@@ -312,13 +331,13 @@ module _ {Knows : Known → Message → Type 0} {Wishes : Opening → Type 0} (R
         → R (then_said said_so steps_heard) (then_heard heard_so steps_heard) m.core.monitor
     hears_all zero answer later went h =
         let same = follows_monitor s.offers l msg h.heard s.core h.monitor answer m.core h.follows in
-        let more = heard_more R jobs kept said_so heard_so s.core m.core sound2 later steps_heard went in
+        let more = heard_more P R jobs kept said_so heard_so s.core m.core sound2 later steps_heard went in
         let now : Says (as_carried (bare frag)) msg = says_the_same frag (as_carried (bare frag)) msg (carried_zero frag zero) says_it in
         let new = kept.hears said_so heard_so (then_heard heard_so steps_heard) s.core.monitor m.core.monitor sound sound2 later holds more l
         (known_for s.offers s.core msg) (as_carried (bare frag)) msg h.heard (knows msg)
         (has_last (as_carried (bare frag)) (heard_so l.0) (of_circuit 0 (taken_from l.0 steps_heard)) (took_heard s.core.monitor.circuits l frag msg says_it)) now h.hears.0
         (ap (λ (x : TheMonitor). x.circuits) same ∙ h.hears.2) (subst (λ (x : TheMonitor). AllSaid (says l msg h.heard) s.core.monitor.outboxes x.outboxes) (sym same) h.hears.3) in
-        same_said R jobs kept said_so heard_so s.core m.core sound2 later steps_heard went (λ i. said_heard s.core.monitor.circuits i l.0 (frag ∷ [])) new
+        same_said P R jobs kept said_so heard_so s.core m.core sound2 later steps_heard went (λ i. said_heard s.core.monitor.circuits i l.0 (frag ∷ [])) new
 
   -- ---- each event
 
@@ -345,7 +364,7 @@ module _ {Knows : Known → Message → Type 0} {Wishes : Opening → Type 0} (R
 
   says_first : (n : ℕ) (l : LinkId) (answer : MonitorWrite) (by : InPlace jobs s (said n l answer)) (h : Does w (said n l answer) s m) → After (said n l answer) by h
   says_first n l said_as.Written by h =
-      said_first R jobs kept said_so heard_so s.core m.core sound2 (onward (said n l said_as.Written) by tt h) (event_steps w jobs (said n l said_as.Written) s m by h)
+      said_first P R jobs kept said_so heard_so s.core m.core sound2 (onward (said n l said_as.Written) by tt h) (event_steps w jobs (said n l said_as.Written) s m by h)
       (went_by (said n l said_as.Written) by tt h) l (ap (λ (x : TheCore). x.monitor) h.event.4) (led.says l.0)
       (λ i f has. (let both = said_said s.core.monitor.circuits i l.0 (l.0 == i) (take 1 (waiting_for s.core.monitor.outboxes l.0)) f refl has in
       (eq_true l.0 i both.0, has_taken f (waiting_for s.core.monitor.outboxes l.0) both.1))) holds
@@ -354,39 +373,55 @@ module _ {Knows : Known → Message → Type 0} {Wishes : Opening → Type 0} (R
   says_first n l said_as.Nothing by h = rest_steps (said n l said_as.Nothing) by tt h refl (ap (λ (x : TheCore). x.monitor) h.event.1)
 
   -- a circuit is asked for
-  asks : (a : Asked) → Wishes a.opening → (answer : Result ℕ OpenFault) → Later s.core.monitor.circuits m.core.monitor.circuits
-      → goes_through s.core.monitor.circuits [] m.core.monitor.circuits → Asks a s.core answer m.core → R (then_said said_so []) (then_heard heard_so []) m.core.monitor
-  asks a wished (Ok e) later went h =
+  asks_made : (a : Asked) (e : ℕ) → Wishes a.link a.opening → Later s.core.monitor.circuits m.core.monitor.circuits
+      → goes_through s.core.monitor.circuits [] m.core.monitor.circuits → Asks a s.core (Ok e) m.core → R (then_said said_so []) (then_heard heard_so []) m.core.monitor
+  asks_made a e wished later went h =
       let new = kept.asks said_so heard_so s.core.monitor m.core.monitor sound sound2 later holds a.link h.circuit a.opening wished h.opens.2 h.opens.3 h.opens.4 in
-      kept.wider said_so (then_said said_so []) heard_so (then_heard heard_so []) m.core.monitor (said_before R jobs kept said_so heard_so s.core m.core sound2 later [] went (λ i. refl))
-      (heard_more R jobs kept said_so heard_so s.core m.core sound2 later [] went) new
-  asks a wished (Err (opening.Board fault)) later went h =
-      unchanged R jobs kept said_so heard_so s.core m.core sound2 later [] went (ap (λ (x : TheCore). x.monitor) h.1) (λ i. refl) holds
-  asks a wished (Err (opening.Monitor fault)) later went h =
-      unchanged R jobs kept said_so heard_so s.core m.core sound2 later [] went (ap (λ (x : TheCore). x.monitor) h.2) (λ i. refl) holds
+      kept.after said_so (then_said said_so []) heard_so (then_heard heard_so []) m.core.monitor (said_before P R jobs kept said_so heard_so s.core m.core sound2 later [] went (λ i. refl))
+      (heard_more P R jobs kept said_so heard_so s.core m.core sound2 later [] went) new
 
-  pub does_keep : (deed : Deed) (by : InPlace jobs s deed) → ActsSoundly deed s → (h : Does w deed s m) → After deed by h
-  does_keep (looked n l answer) by acts h = rest_steps (looked n l answer) by acts h refl (ahead_monitor w l.0 s.core h.before answer m.core h.after h.event)
-  does_keep (passed n i frag c Moved) by acts h = quiet (passed n i frag c Moved) by acts h (ap (λ (x : TheCore). x.monitor) (h.2.event.1 ∙ h.1.event.1)) (λ l. refl)
-  does_keep (passed n i frag c Full) by acts h = rest_steps (passed n i frag c Full) by acts h refl (ap (λ (x : TheCore). x.monitor) h.event.1)
-  does_keep (passed n i frag c Spent) by acts h = rest_steps (passed n i frag c Spent) by acts h refl (ap (λ (x : TheCore). x.monitor) h.event.1)
-  does_keep (arrived n l frag e answer) by acts h =
+  asks_refused : (a : Asked) (fault : OpenFault) → Later s.core.monitor.circuits m.core.monitor.circuits → goes_through s.core.monitor.circuits [] m.core.monitor.circuits
+      → Asks a s.core (Err fault) m.core → R (then_said said_so []) (then_heard heard_so []) m.core.monitor
+  asks_refused a (opening.Board fault) later went h =
+      unchanged P R jobs kept said_so heard_so s.core m.core sound2 later [] went (ap (λ (x : TheCore). x.monitor) h.1) (λ i. refl) holds
+  asks_refused a (opening.Monitor fault) later went h =
+      unchanged P R jobs kept said_so heard_so s.core m.core sound2 later [] went (ap (λ (x : TheCore). x.monitor) h.2) (λ i. refl) holds
+
+  pub does_pass : (deed : Deed) (by : InPlace jobs s deed) → ActsSoundly deed s → (h : Does w deed s m) → After deed by h
+  does_pass (looked n l answer) by acts h = rest_steps (looked n l answer) by acts h refl (ahead_monitor w l.0 s.core h.before answer m.core h.after h.event)
+  does_pass (passed n i frag c Moved) by acts h = quiet (passed n i frag c Moved) by acts h (ap (λ (x : TheCore). x.monitor) (h.2.event.1 ∙ h.1.event.1)) (λ l. refl)
+  does_pass (passed n i frag c Full) by acts h = rest_steps (passed n i frag c Full) by acts h refl (ap (λ (x : TheCore). x.monitor) h.event.1)
+  does_pass (passed n i frag c Spent) by acts h = rest_steps (passed n i frag c Spent) by acts h refl (ap (λ (x : TheCore). x.monitor) h.event.1)
+  does_pass (arrived n l frag e answer) by acts h =
       quiet (arrived n l frag e answer) by acts h (arrives_monitor w l.0 frag e s.core h.before answer m.core h.after h.event) (λ i. said_arrived s.core.monitor.circuits i l.0 e (if_arrived answer frag))
-  does_keep (heard n l frag answer) by acts h = hears n l frag answer by h
-  does_keep (said n l answer) by acts h = says_first n l answer by h
-  does_keep (told n l answer) by acts h = rest_steps (told n l answer) by acts h refl (ap (λ (x : TheCore). x.monitor) h.event.1)
-  does_keep (opened name wish answer) by acts h =
-      asks _ (own name wish (job_there jobs s name wish by.0)) answer (onward (opened name wish answer) by acts h) (went_by (opened name wish answer) by acts h) h.event.asks
-  does_keep (called name c answer) by acts h = rest_steps (called name c answer) by acts h refl (ap (λ (x : TheCore). x.monitor) h.2.event.rest)
-  does_keep (ruled name msg reply answer) by acts h = rest_steps (ruled name msg reply answer) by acts h refl (ap (λ (x : TheCore). x.monitor) h.2.event.rest)
-  does_keep (wrote name (outlet.Queue n) answer) by acts h =
+  does_pass (heard n l frag answer) by acts h = hears n l frag answer by h
+  does_pass (said n l answer) by acts h = says_first n l answer by h
+  does_pass (told n l answer) by acts h = rest_steps (told n l answer) by acts h refl (ap (λ (x : TheCore). x.monitor) h.event.1)
+  does_pass (opened name wish (Ok e)) by acts h =
+      asks_made (asked wish.dispatcher h.event.program wish.link wish.opening) e (own name wish e by h) (onward (opened name wish (Ok e)) by acts h)
+      (went_by (opened name wish (Ok e)) by acts h) h.event.asks
+  does_pass (opened name wish (Err fault)) by acts h =
+      asks_refused (asked wish.dispatcher h.event.program wish.link wish.opening) fault (onward (opened name wish (Err fault)) by acts h)
+      (went_by (opened name wish (Err fault)) by acts h) h.event.asks
+  does_pass (called name c answer) by acts h = rest_steps (called name c answer) by acts h refl (ap (λ (x : TheCore). x.monitor) h.2.event.rest)
+  does_pass (ruled name msg reply answer) by acts h = rest_steps (ruled name msg reply answer) by acts h refl (ap (λ (x : TheCore). x.monitor) h.2.event.rest)
+  does_pass (wrote name (outlet.Queue n) answer) by acts h =
       quiet (wrote name (outlet.Queue n) answer) by acts h (ap (λ (x : TheCore). x.monitor) h.2.event.rest) (λ l. said_by_link s.core.monitor.circuits l (link_at s.core h.0) name (write_put w h.0 (outlet.Queue n) answer s m h.2))
-  does_keep (wrote name (outlet.Side n) answer) by acts h =
+  does_pass (wrote name (outlet.Side n) answer) by acts h =
       quiet (wrote name (outlet.Side n) answer) by acts h (ap (λ (x : TheCore). x.monitor) h.2.event.rest) (λ l. said_by_link s.core.monitor.circuits l (link_at s.core h.0) name (write_put w h.0 (outlet.Side n) answer s m h.2))
-  does_keep (acked name n answer) by acts h = rest_steps (acked name n answer) by acts h refl (ap (λ (x : TheCore). x.monitor) h.2.event.1)
-  does_keep (turned d name (inlet.Queue n) answer) by acts h = rest_steps (turned d name (inlet.Queue n) answer) by acts h refl (ap (λ (x : TheCore). x.monitor) h.3.event.rest)
-  does_keep (turned d name (inlet.Side n) answer) by acts h = rest_steps (turned d name (inlet.Side n) answer) by acts h refl (ap (λ (x : TheCore). x.monitor) h.3.event.rest)
-  does_keep (turned d name inlet.Arrivals answer) by acts h = rest_steps (turned d name inlet.Arrivals answer) by acts h refl (ap (λ (x : TheCore). x.monitor) h.3.event.rest)
+  does_pass (acked name n answer) by acts h = rest_steps (acked name n answer) by acts h refl (ap (λ (x : TheCore). x.monitor) h.2.event.1)
+  does_pass (turned d name (inlet.Queue n) answer) by acts h = rest_steps (turned d name (inlet.Queue n) answer) by acts h refl (ap (λ (x : TheCore). x.monitor) h.3.event.rest)
+  does_pass (turned d name (inlet.Side n) answer) by acts h = rest_steps (turned d name (inlet.Side n) answer) by acts h refl (ap (λ (x : TheCore). x.monitor) h.3.event.rest)
+  does_pass (turned d name inlet.Arrivals answer) by acts h = rest_steps (turned d name inlet.Arrivals answer) by acts h refl (ap (λ (x : TheCore). x.monitor) h.3.event.rest)
+
+module _ {Knows : Known → Message → Type 0} {Wishes : Opening → Type 0} (R : (ℕ → List Frag) → (ℕ → List Frag) → TheMonitor → Type 0) (jobs : List Job) (kept : IsKeptBy Knows Wishes R) {S : Type 0} (w : Ways S)
+    (on : OnAnotherCircuit) (said_so heard_so : ℕ → List Frag)
+    (s m : TheRun S) (core : IsCore s.core) (sound : Sound s.core.monitor.circuits) (sound2 : Sound m.core.monitor.circuits) (led : IsLed s.core)
+    (knows : (msg : Message) → Knows (known_for s.offers s.core msg) msg) (own : (name : EndId) (wish : Wish) → JobAt jobs s name wish → Wishes wish.opening) (holds : R said_so heard_so s.core.monitor) where
+  pub does_keep : (deed : Deed) (by : InPlace jobs s deed) → ActsSoundly deed s → (h : Does w deed s m)
+      → R (then_said said_so (event_steps w jobs deed s m by h)) (then_heard heard_so (event_steps w jobs deed s m by h)) m.core.monitor
+  does_keep deed by acts h =
+      does_pass R R jobs (kept_on Knows Wishes R kept) w on said_so heard_so s m core sound sound2 led knows (λ name wish e there does. own name wish (job_there jobs s name wish there.0)) holds deed by acts h
 
 -- ---- a log
 

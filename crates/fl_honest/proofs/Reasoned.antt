@@ -32,7 +32,7 @@ use Rattle.fl_honest.proofs.ReasonsOwn.{refuses_later}
 
 -- ---- what asks, and what refuses
 
-refused_parts : (c d : Circuit) (r q : ℕ) → CircuitRefused c r ≡ CircuitRefused d q → (c ≡ d) × (r ≡ q)
+pub refused_parts : (c d : Circuit) (r q : ℕ) → CircuitRefused c r ≡ CircuitRefused d q → (c ≡ d) × (r ≡ q)
 refused_parts c d r q same = (let one : c ≡ d = cc in one, let two : r ≡ q = cc in two)
 
 pub asks_parts : (c d : Circuit) (a b : Opening) → asks c a ≡ asks d b → (c ≡ d) × (b ≡ a)
@@ -54,10 +54,10 @@ opened_asks d c o is = cc
 pub refused_asks : (d c : Circuit) (r : ℕ) (o : Opening) → CircuitRefused d r ≡ asks c o → ⊥
 refused_asks d c r o is = cc
 
-asks_refused : (d c : Circuit) (r : ℕ) (o : Opening) → asks c o ≡ CircuitRefused d r → ⊥
+pub asks_refused : (d c : Circuit) (r : ℕ) (o : Opening) → asks c o ≡ CircuitRefused d r → ⊥
 asks_refused d c r o is = cc
 
-opened_refused : (c d : Circuit) (r : ℕ) → CircuitOpened c ≡ CircuitRefused d r → ⊥
+pub opened_refused : (c d : Circuit) (r : ℕ) → CircuitOpened c ≡ CircuitRefused d r → ⊥
 opened_refused c d r is = cc
 
 -- with one message more, what is said was said before, or is that

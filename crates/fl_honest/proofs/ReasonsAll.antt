@@ -47,11 +47,13 @@ use Rattle.fl_honest.specs.Reasons.{IsReason, Refuses, RefusesWish, CameUnder, I
 use Rattle.fl_honest.proofs.AskedCores.{asking_of}
 use Rattle.fl_honest.proofs.AskedLaid.{laid_same, goes_laid}
 use Rattle.fl_honest.proofs.AskedRoutes.{stands_behind, side_there, heard_wished}
+use Rattle.fl_honest.proofs.GivenCores.{asked_under, its_settled}
 use Rattle.fl_honest.proofs.Logged.{log_keeps_by}
 use Rattle.fl_honest.proofs.Neighbours.{unused_named}
 use Rattle.fl_honest.proofs.OverLinks.{none_waits, both_ways, has_before}
 use Rattle.fl_honest.proofs.ReasonedHears.{AreReasonedFrom, KnowsPlaces, reasons_kept}
-use Rattle.fl_honest.proofs.ReasonsDesks.{Placed, own_wish, told_at, log_tells}
+use Rattle.fl_honest.proofs.Gone.{gone}
+use Rattle.fl_honest.proofs.ReasonsDesks.{Placed, IsGone, own_wish, told_at, log_tells}
 use Rattle.fl_ring.specs.SharedSides.{TheSide}
 use Rattle.fl_running.specs.Deeds.{IsSound, Deed}
 use Rattle.fl_running.specs.Run.{TheRun}
@@ -129,11 +131,13 @@ cores_reason on jobs c v unused =
       asking = asking_of on jobs c v unused;
       reasoned = (log_keeps_by (AreReasonedFrom names NoPlace Wishes t0) jobs (reasons_kept names jobs NoPlace Wishes (own_wished jobs c.start) t0) shared_ways on c.log c.start c.finish v.went.goes (λ l. []) (λ l. [])
           (knows_places jobs c v) (own_wish jobs c.start) v.led v.table (at_start names NoPlace Wishes c unused)).2;
-      desks = λ ample e. elim (log_tells shared_ways on names jobs NoPlace Wishes (own_wished jobs c.start) t0 (WasFull jobs c.finish) e c.log c.start c.finish v.went.goes (λ l. []) (λ l. []) ample
-          (knows_places jobs c v) (was_full jobs c.finish) (own_wish jobs c.start) v.led (none_placed jobs c v unused) v.table (at_start names NoPlace Wishes c unused)) [
+      desks = λ ample e. elim (log_tells shared_ways on names jobs NoPlace Wishes (own_wished jobs c.start) t0 (WasFull jobs c.finish) (IsGone jobs c) e c.log c.start c.finish v.went.goes (λ l. []) (λ l. []) ample
+          (knows_places jobs c v) (was_full jobs c.finish) (λ u rest g led wish absent used alone. gone shared_ways jobs rest u c.finish g led wish absent used alone) (own_wish jobs c.start) v.led (none_placed jobs c v unused) v.table (at_start names NoPlace Wishes c unused)) [
             | inl same ↦ inl same
             | inr told ↦ inr (told_at jobs c (log_steps shared_ways jobs c.log c.start c.finish v.went.goes) e (refusal_at c.finish e) told)
           ];
+      under = asked_under on jobs c v unused names NoPlace (knows_places jobs c v) (at_start names NoPlace Wishes c unused);
+      settled = its_settled on jobs c v unused names NoPlace (knows_places jobs c v) (at_start names NoPlace Wishes c unused);
     }
 
 -- ---- all cores
@@ -152,26 +156,26 @@ link_of_number l = record { 0 = l }
 
 module _ (rings : RingsConserve) (prefix : CircuitsPrefix) (reason : CoresReason) (asked : List Job) (j : TheJoined) (cores : List OneCore) (names : List TheRegistration)
     (programs : List TheProgram) (all : AreSetUp asked j cores names programs) where
-  beside : AreBeside j.jobs cores
+  pub beside : AreBeside j.jobs cores
   beside = all_beside asked j cores names programs all
 
-  abbrev went : (n : ℕ) (c : OneCore) → slice_get cores n ≡ Some c → GoesReasoned j.jobs c
+  abbrev pub went : (n : ℕ) (c : OneCore) → slice_get cores n ≡ Some c → GoesReasoned j.jobs c
   went n c is = reason j.jobs c (beside.leading n c is) (beside.unused n c is)
 
-  abbrev Heard : (n : ℕ) (c : OneCore) → slice_get cores n ≡ Some c → ℕ → List Frag
+  abbrev pub Heard : (n : ℕ) (c : OneCore) → slice_get cores n ≡ Some c → ℕ → List Frag
   Heard n c is l = of_circuit 0 (taken_from l (went n c is).asking.steps)
 
-  abbrev Said : (n : ℕ) (c : OneCore) → slice_get cores n ≡ Some c → ℕ → List Frag
+  abbrev pub Said : (n : ℕ) (c : OneCore) → slice_get cores n ≡ Some c → ℕ → List Frag
   Said n c is l = of_circuit 0 (put_on l (went n c is).asking.steps)
 
-  abbrev Came : (n : ℕ) (c : OneCore) → slice_get cores n ≡ Some c → ℕ → ℕ → Opening → Type 0
+  abbrev pub Came : (n : ℕ) (c : OneCore) → slice_get cores n ≡ Some c → ℕ → ℕ → Opening → Type 0
   Came n c is l i o = CameUnder c.start.core.monitor.circuits (Heard n c is) l i o
 
-  abbrev Why : (n : ℕ) (c : OneCore) → slice_get cores n ≡ Some c → Opening → ℕ → Type 0
+  abbrev pub Why : (n : ℕ) (c : OneCore) → slice_get cores n ≡ Some c → Opening → ℕ → Type 0
   Why n c is o r = IsRefusedFor c.start.offers.names (FoundNoPlace j.jobs c) c.start.core.monitor.circuits (talk_of c (went n c is).asking.steps) o r
 
   -- what is asked for between cores is for a service that is there
-  is_offered : (n : ℕ) (c : OneCore) (is : slice_get cores n ≡ Some c) (l i : ℕ) (o : Opening) → Came n c is l i o → by_iref o.service.0 c.start.offers.names ≡ None → ⊥
+  pub is_offered : (n : ℕ) (c : OneCore) (is : slice_get cores n ≡ Some c) (l i : ℕ) (o : Opening) → Came n c is l i o → by_iref o.service.0 c.start.offers.names ≡ None → ⊥
   is_offered n c is l i o came none =
       let along : CameAlong c.start.core.monitor.circuits (Heard n c is) o =
       record { link = link_of_number l; frag = came.frag; has = came.has; asks = record { circuit = came.circuit; says = came.says }; along = came.along } in
@@ -186,7 +190,7 @@ module _ (rings : RingsConserve) (prefix : CircuitsPrefix) (reason : CoresReason
   -- ---- over one link
 
   -- the core on the other side of a link: what was heard there it said, and what it heard was said here
-  record Across (n : ℕ) (c : OneCore) (is : slice_get cores n ≡ Some c) (l : ℕ) : Type 0 where
+  pub record Across (n : ℕ) (c : OneCore) (is : slice_get cores n ≡ Some c) (l : ℕ) : Type 0 where
     pub place : ℕ
     pub core : OneCore
     pub core_is : slice_get cores place ≡ Some core
@@ -219,12 +223,12 @@ module _ (rings : RingsConserve) (prefix : CircuitsPrefix) (reason : CoresReason
             ∙ ap (λ (y : LinkState). y.neighbour.0) (one_state x.forth.link a (sym x.forth.link_is ∙ at));
       }
 
-  across_start : (n : ℕ) (c : OneCore) (is : slice_get cores n ≡ Some c) (l : ℕ) (link : LinkState) → slice_get c.start.core.monitor.circuits.links l ≡ Some link → Across n c is l
+  pub across_start : (n : ℕ) (c : OneCore) (is : slice_get cores n ≡ Some c) (l : ℕ) (link : LinkState) → slice_get c.start.core.monitor.circuits.links l ≡ Some link → Across n c is l
   across_start n c is l link there =
       let (side, lane) = side_there c.start.core (beside.leading n c is).went.core l link there in
       across_by n c is l (all.wired.links n side c (link_of_number l) is lane)
 
-  across_finish : (n : ℕ) (c : OneCore) (is : slice_get cores n ≡ Some c) (l : ℕ) (link : LinkState) → slice_get c.finish.core.monitor.circuits.links l ≡ Some link → Across n c is l
+  pub across_finish : (n : ℕ) (c : OneCore) (is : slice_get cores n ≡ Some c) (l : ℕ) (link : LinkState) → slice_get c.finish.core.monitor.circuits.links l ≡ Some link → Across n c is l
   across_finish n c is l link there =
       let (side, lane) = lane_there j.jobs c (beside.leading n c is) l link there in
       across_by n c is l (all.wired.links n side c (link_of_number l) is lane)
@@ -286,7 +290,7 @@ module _ (rings : RingsConserve) (prefix : CircuitsPrefix) (reason : CoresReason
   -- ---- at desks
 
   -- the core at a place whose desk has a job that wishes for an opening is that of the client of the opening's binding
-  at_home : (n : ℕ) (c : OneCore) → slice_get cores n ≡ Some c → (o : Opening) → IsOwnWish j.jobs c.start o → (b : Bound) → slice_get j.bindings o.binding ≡ Some b → b.client ≡ n
+  pub at_home : (n : ℕ) (c : OneCore) → slice_get cores n ≡ Some c → (o : Opening) → IsOwnWish j.jobs c.start o → (b : Bound) → slice_get j.bindings o.binding ≡ Some b → b.client ≡ n
   at_home n c is o w b b_is = by (all.own n c w.name w.desk is w.desk_is) where
     by : (w.desk.jobs ≡ []) ⊎ HasOwn j n w.name w.desk.jobs → b.client ≡ n
     by (inl none) = absurd (let no : None ≡ Some w.place = sym (ap (λ (xs : List ℕ). slice_get xs w.turn) none) ∙ w.place_is in cc)
@@ -343,7 +347,7 @@ module _ (rings : RingsConserve) (prefix : CircuitsPrefix) (reason : CoresReason
       ]
 
   -- so no opening comes to the core of its own binding's client
-  not_again : (n : ℕ) (c : OneCore) (is : slice_get cores n ≡ Some c) → AskedAgain j.jobs c.start (Heard n c is) → ⊥
+  pub not_again : (n : ℕ) (c : OneCore) (is : slice_get cores n ≡ Some c) → AskedAgain j.jobs c.start (Heard n c is) → ⊥
   not_again n c is a =
       let b = stands_behind c.start.core.monitor.circuits a.link a.opening.path a.came.along in
       let g = origin (suc b.place) n c is a.link a.number a.opening b.place a.came b.place_is (omega arith) in

@@ -58,7 +58,7 @@ use Rattle.fl_running.specs.declared.job.Wish.{Wish}
 use Rattle.fl_running.specs.Desks.{TheDesk, desk_place, advanced, with_handled, with_refusal, ChangesIf}
 use Rattle.fl_running.specs.Run.{Ways, TheRun, AtDesk}
 use Rattle.fl_running.specs.Deeds.{IsSound, Deed, looked, passed, arrived, heard, said, told, opened, called, ruled, wrote, acked, turned, Does, NotesHeard, NotesOpened, NotesCalled, NotesTurned, Notes}
-use Rattle.fl_running.specs.Steps.{lacks_to_open}
+use Rattle.fl_running.specs.Steps.{lacks_to_open, may_ask}
 use Rattle.fl_running.specs.Words.{refusal_at}
 use Rattle.fl_logs.specs.Led.{IsLed}
 use Rattle.fl_logs.specs.Logs.{InPlace, Goes}
@@ -71,7 +71,7 @@ use Rattle.fl_logs.proofs.Stepping.{log_steps, end_stays}
 use Rattle.fl_honest.specs.Cores.{IsAmple, AreAmple, OneCore}
 use Rattle.fl_honest.specs.Named.{Has}
 use Rattle.fl_ring.specs.SharedSides.{TheSide}
-use Rattle.fl_honest.specs.Reasons.{IsUsedUp, RefusesWish, CameUnder, AsksOnly, IsFrom, IsOwnWish, WasHeard, WasFull, IsRefusedAt, as_talk, talk_of}
+use Rattle.fl_honest.specs.Reasons.{IsUsedUp, RefusesWish, CameUnder, AsksOnly, IsFrom, IsOwnWish, WasHeard, WasFull, IsRefusedAt, as_talk, talk_of, WishesAlone}
 use Rattle.fl_honest.specs.Asked.{IsWished}
 use Rattle.fl_honest.proofs.AskedDesks.{JobAt, job_there, JobsStay, job_before, event_jobs, offers_stay}
 use Rattle.fl_honest.proofs.AskedLaid.{beside}
@@ -324,18 +324,19 @@ pub record Again (jobs : List Job) (t0 : TheCircuits) (s : TheRun TheSide) (hs :
   pub binding_is : opening.binding ≡ wish.opening.binding
 
 -- a job of the end's desk wishes for an opening that this core refuses, whose table is u now
-pub record Here (jobs : List Job) (Full : ℕ → Type 0) (t0 u : TheCircuits) (e : EndId) (s : TheRun TheSide) (r : ℕ) : Type 0 where
+pub record Here (jobs : List Job) (Full : ℕ → Type 0) (Gone : Wish → Type 0) (t0 u : TheCircuits) (e : EndId) (s : TheRun TheSide) (r : ℕ) : Type 0 where
   pub wish : Wish
   pub job : JobAt jobs s e wish
   pub why : RefusesWish Full t0 u wish r
+  pub gone : r ≡ 74 → Gone wish
 
 -- a refusal that a core starting so tells at the desk of an end, of what it heard since; in the end it said all this, and its monitor is m
-abbrev pub Tells : List Job → (Opening → Type 0) → (ℕ → Type 0) → TheCircuits → TheMonitor → EndId → (ℕ → List Frag) → TheRun TheSide → (ℕ → List Frag) → ℕ → Type 0
-Tells jobs Wishes Full t0 m e spoken s hs r = WasHeard Wishes t0 (as_talk spoken hs m) e r ⊎ Here jobs Full t0 m.circuits e s r ⊎ Again jobs t0 s hs
+abbrev pub Tells : List Job → (Opening → Type 0) → (ℕ → Type 0) → (Wish → Type 0) → TheCircuits → TheMonitor → EndId → (ℕ → List Frag) → TheRun TheSide → (ℕ → List Frag) → ℕ → Type 0
+Tells jobs Wishes Full Gone t0 m e spoken s hs r = WasHeard Wishes t0 (as_talk spoken hs m) e r ⊎ Here jobs Full Gone t0 m.circuits e s r ⊎ Again jobs t0 s hs
 
-module _ (jobs : List Job) (Wishes : Opening → Type 0) (Full : ℕ → Type 0) (t0 : TheCircuits) (m : TheMonitor) (e : EndId) where
+module _ (jobs : List Job) (Wishes : Opening → Type 0) (Full : ℕ → Type 0) (Gone : Wish → Type 0) (t0 : TheCircuits) (m : TheMonitor) (e : EndId) where
   abbrev Told : (ℕ → List Frag) → TheRun TheSide → (ℕ → List Frag) → ℕ → Type 0
-  Told spoken s hs r = Tells jobs Wishes Full t0 m e spoken s hs r
+  Told spoken s hs r = Tells jobs Wishes Full Gone t0 m e spoken s hs r
 
   more_told : (s : TheRun TheSide) (spoken spoken2 hs hs2 : ℕ → List Frag) → ((l : ℕ) (f : Frag) → Has f (spoken2 l) → Has f (spoken l)) → ((l : ℕ) (f : Frag) → Has f (hs l) → Has f (hs2 l))
       → (r : ℕ) → Told spoken s hs r → Told spoken2 s hs2 r
@@ -368,7 +369,7 @@ module _ (jobs : List Job) (Wishes : Opening → Type 0) (Full : ℕ → Type 0)
   told_before : (s u : TheRun TheSide) (spoken hs : ℕ → List Frag) → JobsStay s.desks u.desks → (r : ℕ) → Told spoken u hs r → Told spoken s hs r
   told_before s u spoken hs stay r (inl h) = inl h
   told_before s u spoken hs stay r (inr (inl own)) =
-      inr (inl (record { wish = own.wish; job = job_before jobs s u e own.wish stay own.job; why = own.why }))
+      inr (inl (record { wish = own.wish; job = job_before jobs s u e own.wish stay own.job; why = own.why; gone = own.gone }))
   told_before s u spoken hs stay r (inr (inr a)) = inr (inr (record {
     name = a.name;
     wish = a.wish;
@@ -394,8 +395,12 @@ own_wish jobs s name wish a = record {
   opening_is = refl;
 }
 
+-- where no other job opens its binding, the client's end isn't there as the core's run ends
+abbrev pub IsGone : List Job → OneCore → Wish → Type 0
+IsGone jobs c wish = WishesAlone jobs wish → place_of c.finish.core (client_of wish.opening.binding) ≡ None
+
 pub told_at : (jobs : List Job) (c : OneCore) (steps : List Step) (e : EndId) (r : ℕ)
-    → Tells jobs (IsOwnWish jobs c.start) (WasFull jobs c.finish) c.start.core.monitor.circuits c.finish.core.monitor e (talk_of c steps).said c.start (talk_of c steps).heard r
+    → Tells jobs (IsOwnWish jobs c.start) (WasFull jobs c.finish) (IsGone jobs c) c.start.core.monitor.circuits c.finish.core.monitor e (talk_of c steps).said c.start (talk_of c steps).heard r
     → IsRefusedAt jobs c steps e r
 told_at jobs c steps e r (inl h) = inl h
 told_at jobs c steps e r (inr (inl own)) = inr (inl (record {
@@ -407,6 +412,7 @@ told_at jobs c steps e r (inr (inl own)) = inr (inl (record {
   wish = own.wish;
   job_is = own.job.job_is;
   why = own.why;
+  gone = own.gone;
 }))
 told_at jobs c steps e r (inr (inr a)) = inr (inr (record {
   own = a.wish.opening;
@@ -424,9 +430,10 @@ module _ (w : Ways TheSide) (names : List TheRegistration) (NoPlace Wishes : Ope
     (placed : Placed s.core) (holds : AreReasonedFrom names NoPlace Wishes t0 said_so heard_so s.core.monitor) (e : EndId) (said_last : ℕ → List Frag) (last : TheMonitor)
     (only : (l n : ℕ) (o : Opening) → OpenedHere s.core.monitor.circuits l n → AsksOnly said_so s.core.monitor l n o → AsksOnly said_last last l n o)
     (grows : (l : ℕ) → IsUsedUp s.core.monitor.circuits l → IsUsedUp last.circuits l) (Full : ℕ → Type 0)
-    (full : (d : ℕ) (x : TheDispatcher) → slice_get s.core.board.dispatchers d ≡ Some x → length x.ends ≡ 1024 → Full d) where
+    (full : (d : ℕ) (x : TheDispatcher) → slice_get s.core.board.dispatchers d ≡ Some x → length x.ends ≡ 1024 → Full d) (Gone : Wish → Type 0)
+    (gone : (wish : Wish) → place_of s.core (client_of wish.opening.binding) ≡ None → IsUsedUp s.core.monitor.circuits wish.link.0 → Gone wish) where
   abbrev Then : (deed : Deed) → InPlace jobs s deed → Does w deed s m → ℕ → Type 0
-  Then deed by h r = Tells jobs Wishes Full t0 last e said_last s (then_heard heard_so (event_steps w jobs deed s m by h)) r
+  Then deed by h r = Tells jobs Wishes Full Gone t0 last e said_last s (then_heard heard_so (event_steps w jobs deed s m by h)) r
 
   hears_told : (n : ℕ) (l : LinkId) (frag : Frag) (f : EndId) (reason : ℕ) (by : InPlace jobs s (heard n l frag (Ok (heard_as.OpeningRefused f reason))))
       (h : Does w (heard n l frag (Ok (heard_as.OpeningRefused f reason))) s m) → f ≡ e → Then (heard n l frag (Ok (heard_as.OpeningRefused f reason))) by h reason
@@ -460,6 +467,18 @@ module _ (w : Ways TheSide) (names : List TheRegistration) (NoPlace Wishes : Ope
   refused_last wish r number same (inr (inl (is, none))) = inr (inl (same ∙ is, laid_none t0 s.core.monitor.circuits holds.0 wish.link.0 none))
   refused_last wish r number same (inr (inr (is, used))) = inr (inr (same ∙ is, grows wish.link.0 used))
 
+  used_of : (F : Type 0) (t : TheCircuits) (l number : ℕ) → RefusesOn F t l number → number ≡ 74 → IsUsedUp t l
+  used_of F t l number (inl (is, taken)) last = absurd (omega (arith, is, last))
+  used_of F t l number (inr (inl (is, none))) last = absurd (omega (arith, is, last))
+  used_of F t l number (inr (inr (is, used))) last = used
+
+  -- the client's end isn't there where a circuit may be asked for
+  not_asked : (wish : Wish) → may_ask s wish ≡ true → place_of s.core (client_of wish.opening.binding) ≡ None
+  not_asked wish may =
+      let tests = five (nat_lt wish.dispatcher (length s.core.board.dispatchers)) (nat_lt wish.interface (length s.offers.programs)) (nat_lt wish.opening.binding 1024)
+      (not (is_some (place_of s.core (client_of wish.opening.binding)))) (can_say s.core.monitor.outboxes wish.link.0) may in
+      not_there (place_of s.core (client_of wish.opening.binding)) tests.1
+
   opens_told : (name : EndId) (wish : Wish) (fault : OpenFault) (r : ℕ) (by : InPlace jobs s (opened name wish (Err fault))) (h : Does w (opened name wish (Err fault)) s m)
       → lacks_to_open (Err fault) ≡ false → name ≡ e → NewOpened (Err fault) r → Then (opened name wish (Err fault)) by h r
   opens_told name wish fault r by h ample ends new =
@@ -469,6 +488,7 @@ module _ (w : Ways TheSide) (names : List TheRegistration) (NoPlace Wishes : Ope
           wish = wish;
           job = subst (λ (i : EndId). JobAt jobs s i wish) ends (job_there jobs s name wish by.0);
           why = refused_last wish r (open_number fault) number why;
+          gone = λ is. gone wish (not_asked wish by.1) (used_of (Full wish.dispatcher) s.core.monitor.circuits wish.link.0 (open_number fault) why (sym number ∙ is));
         }))
         | inr stood ↦ elim (entry_came names NoPlace Wishes t0 said_so heard_so s.core.monitor sound holds.2 wish.opening.binding (has_entry s.core.monitor.circuits wish.opening.binding stood)) [
           | inl own ↦
@@ -513,7 +533,7 @@ module _ (w : Ways TheSide) (names : List TheRegistration) (NoPlace Wishes : Ope
 -- ---- over a log
 
 module _ (w : Ways TheSide) (on : OnAnotherCircuit) (names : List TheRegistration) (jobs : List Job) (NoPlace Wishes : Opening → Type 0) (wished : (o : Opening) → Wishes o → IsWished jobs o)
-    (t0 : TheCircuits) (Full : ℕ → Type 0) (e : EndId) where
+    (t0 : TheCircuits) (Full : ℕ → Type 0) (Gone : Wish → Type 0) (e : EndId) where
   -- at each moment from which the core came to its end, it knows this when it hears a message
   abbrev Knowing : TheRun TheSide → TheRun TheSide → Type 0
   Knowing s t = (u : TheRun TheSide) (rest : List Deed) → Goes w jobs u rest t → IsSound u.core → u.offers ≡ s.offers → (msg : Message)
@@ -545,12 +565,14 @@ module _ (w : Ways TheSide) (on : OnAnotherCircuit) (names : List TheRegistratio
   pub log_tells : (log : List Deed) (s t : TheRun TheSide) (h : Goes w jobs s log t) (said_so heard_so : ℕ → List Frag) → AreAmple log → Knowing s t
       → ((u : TheRun TheSide) (rest : List Deed) → Goes w jobs u rest t → IsSound u.core → (d : ℕ) (x : TheDispatcher) → slice_get u.core.board.dispatchers d ≡ Some x
       → length x.ends ≡ 1024 → Full d)
+      → ((u : TheRun TheSide) (rest : List Deed) → Goes w jobs u rest t → IsLed u.core → (wish : Wish) → place_of u.core (client_of wish.opening.binding) ≡ None
+      → IsUsedUp u.core.monitor.circuits wish.link.0 → Gone wish)
       → ((name : EndId) (wish : Wish) → JobAt jobs s name wish → Wishes wish.opening) → IsLed s.core → Placed s.core
       → Sound t.core.monitor.circuits → AreReasonedFrom names NoPlace Wishes t0 said_so heard_so s.core.monitor
-      → (refusal_at t e ≡ refusal_at s e) ⊎ Tells jobs Wishes Full t0 t.core.monitor e (then_said said_so (log_steps w jobs log s t h)) s
+      → (refusal_at t e ≡ refusal_at s e) ⊎ Tells jobs Wishes Full Gone t0 t.core.monitor e (then_said said_so (log_steps w jobs log s t h)) s
       (then_heard heard_so (log_steps w jobs log s t h)) (refusal_at t e)
-  log_tells [] s t h said_so heard_so ample knows fulls own led placed sound n = inl (ap (λ (x : TheRun TheSide). refusal_at x e) h)
-  log_tells (deed ∷ log) s t h said_so heard_so ample knows fulls own led placed sound n =
+  log_tells [] s t h said_so heard_so ample knows fulls gones own led placed sound n = inl (ap (λ (x : TheRun TheSide). refusal_at x e) h)
+  log_tells (deed ∷ log) s t h said_so heard_so ample knows fulls gones own led placed sound n =
       let m = h.1.0 in
       let u = h.0 in
       let aside : u.core ≡ m.core = core_aside m u deed h.1.2 in
@@ -563,17 +585,17 @@ module _ (w : Ways TheSide) (on : OnAnotherCircuit) (names : List TheRegistratio
       let led_u : IsLed u.core = subst IsLed (sym aside) (does_led w jobs s m h.1.3.core h.1.3.table led deed h.2 h.1.1) in
       let still : Knowing u t = λ v later_on g board same msg. knows v later_on g board (same ∙ offers_stay w deed s m u h.1.1 h.1.2) msg in
       let own_u = λ (name : EndId) (wish : Wish) (a : JobAt jobs u name wish). own name wish (job_before jobs s u name wish (event_jobs w deed s m u h.1.1 h.1.2) a) in
-      elim (log_tells log u t h.3 (then_said said_so first) (then_heard heard_so first) ample.1 still fulls own_u led_u (placed_on deed log s t h placed) sound now) [
+      elim (log_tells log u t h.3 (then_said said_so first) (then_heard heard_so first) ample.1 still fulls gones own_u led_u (placed_on deed log s t h placed) sound now) [
         | inl same ↦ elim (event_notes w deed s m u e h.1.1 h.1.2) [
           | inl before ↦ inl (same ∙ before)
-          | inr new ↦ inr (more_told jobs Wishes Full t0 t.core.monitor e s (then_said said_so (first ++ rest)) (then_said said_so (first ++ rest)) (then_heard heard_so first)
+          | inr new ↦ inr (more_told jobs Wishes Full Gone t0 t.core.monitor e s (then_said said_so (first ++ rest)) (then_said said_so (first ++ rest)) (then_heard heard_so first)
               (then_heard heard_so (first ++ rest)) (λ l f has. has) (λ l f has. subst (Has f) (sym (heard_joins heard_so first rest l)) (has_first f (then_heard heard_so first l) (of_circuit 0 (taken_from l rest)) has)) (refusal_at t e)
               (event_tells w names NoPlace Wishes t0 jobs said_so heard_so s m h.1.3.table placed n e (then_said said_so (first ++ rest)) t.core.monitor
               (only_then (deed ∷ log) s t h said_so heard_so knows own led sound) (used_then (deed ∷ log) s t h said_so heard_so knows own led sound)
-              Full (fulls s (deed ∷ log) h h.1.3) deed h.2 h.1.1 (refusal_at t e) ample.0 (subst (New e deed) (sym same) new)))
+              Full (fulls s (deed ∷ log) h h.1.3) Gone (gones s (deed ∷ log) h led) deed h.2 h.1.1 (refusal_at t e) ample.0 (subst (New e deed) (sym same) new)))
         ]
-        | inr later ↦ inr (more_told jobs Wishes Full t0 t.core.monitor e s (then_said (then_said said_so first) rest) (then_said said_so (first ++ rest))
+        | inr later ↦ inr (more_told jobs Wishes Full Gone t0 t.core.monitor e s (then_said (then_said said_so first) rest) (then_said said_so (first ++ rest))
             (then_heard (then_heard heard_so first) rest) (then_heard heard_so (first ++ rest)) (λ l f has. subst (Has f) (said_joins said_so first rest l) has)
             (λ l f has. subst (Has f) (sym (heard_joins heard_so first rest l)) has) (refusal_at t e)
-            (told_before jobs Wishes Full t0 t.core.monitor e s u (then_said (then_said said_so first) rest) (then_heard (then_heard heard_so first) rest) (event_jobs w deed s m u h.1.1 h.1.2) (refusal_at t e) later))
+            (told_before jobs Wishes Full Gone t0 t.core.monitor e s u (then_said (then_said said_so first) rest) (then_heard (then_heard heard_so first) rest) (event_jobs w deed s m u h.1.1 h.1.2) (refusal_at t e) later))
       ]

@@ -191,7 +191,7 @@ module _ (t : TheCircuits) (l : ℕ) (path : List CoreId) where
   by_state None at h = absurd (cc)
   by_state (Some state) at h = by_place state at (position (is_core t.core) path) refl h
 
-  stands_before : comes_along t l path ≡ true → StandsBefore t l path
+  pub stands_before : comes_along t l path ≡ true → StandsBefore t l path
   stands_before h = by_state (slice_get t.links l) refl h
 
 -- ---- the link to a core

@@ -17,4 +17,5 @@ pub mod Stands
 pub mod Meeting
 pub mod Runs
 pub mod Reasons
+pub mod Spent
 pub mod Sitting

@@ -1,5 +1,5 @@
 -- Why circuits are refused: what cores tell each other. Laws.
-use Rattle.std.specs.Prelude.{ℕ, ◌≡◌, ◌⊎◌, ◌≤◌, true, false, List, length, slice_get, Some, None}
+use Rattle.std.specs.Prelude.{ℕ, ◌≡◌, ◌≢◌, ◌⊎◌, ◌≤◌, true, false, List, length, slice_get, Some, None}
 use Rattle.fl_base.specs.declared.fragment.Frag.{Frag}
 use Rattle.fl_base.specs.declared.identity.CoreId.{CoreId}
 use Rattle.fl_base.specs.declared.identity.EndId.{EndId}
@@ -21,7 +21,7 @@ use Rattle.fl_monitor.specs.Monitors.{TheMonitor, waiting_for, asks}
 use Rattle.fl_monitor.specs.Saying.{Says}
 use Rattle.fl_core.specs.View.{TheDispatcher}
 use Rattle.fl_node.specs.Hearing.{offer_of}
-use Rattle.fl_node.specs.View.{client_of}
+use Rattle.fl_node.specs.View.{place_of, client_of}
 use Rattle.fl_ring.specs.SharedSides.{TheSide}
 use Rattle.fl_running.specs.declared.job.Job.{Job as CoreJob}
 use Rattle.fl_running.specs.declared.job.Job.TheVariants as job
@@ -175,6 +175,48 @@ pub record AreReasoned (names : List TheRegistration) (NoPlace Wishes : Opening 
   pub refused : (l : ℕ) (f : Frag) (c : Circuit) (reason : ℕ) → Has f (talk.said l) ⊎ Has f (waiting_for talk.monitor.outboxes l)
       → Says f (CircuitRefused c reason) → (o : Opening) × CameUnder t talk.heard l c.0 o × IsRefusedFor names NoPlace t talk o reason
 
+-- ---- which openings a core gave numbers for
+
+-- the route leads on from this core over that link
+pub record LeadsOver (t : TheCircuits) (path : List CoreId) (l : ℕ) : Type 0 where
+  pub next : CoreId
+  pub next_is : next_on path t.core ≡ Some next
+  pub link_is : link_of t next.0 ≡ Some l
+
+-- whence an opening is: from a job of this core's, or from this number of a link
+pub data Origin : Type 0 where
+  from_job : Origin
+  from_link : ℕ → ℕ → Origin
+
+-- so it is, and therefore goes on over link l: a job wishes for it there; or it was heard under a number that was taken, and its route leads on over that link
+abbrev pub IsSince : (ℕ → Opening → Type 0) → TheCircuits → Talk → ℕ → Opening → Origin → Type 0
+IsSince Wishes t talk l o from_job = Wishes l o
+IsSince Wishes t talk l o (from_link x n) = OpenedThere talk.monitor.circuits x n × CameUnder t talk.heard x n o × LeadsOver t o.path l
+
+-- a number was given for such an opening, and no other was asked for under it
+pub record IsGivenTo (Wishes : ℕ → Opening → Type 0) (t : TheCircuits) (talk : Talk) (l n : ℕ) : Type 0 where
+  pub opening : Opening
+  pub origin : Origin
+  pub since : IsSince Wishes t talk l opening origin
+  pub only : AsksOnly talk.said talk.monitor l n opening
+
+-- each number that the core gave was given so, and no two of them for one binding from one origin
+pub record AreGivenOnce (Wishes : ℕ → Opening → Type 0) (t : TheCircuits) (talk : Talk) : Type 0 where
+  pub given : (l n : ℕ) → OpenedHere talk.monitor.circuits l n → IsGivenTo Wishes t talk l n
+  pub once : (l n k i : ℕ) (a : OpenedHere talk.monitor.circuits l n) (b : OpenedHere talk.monitor.circuits k i)
+      → (given l n a).opening.binding ≡ (given k i b).opening.binding → (given l n a).origin ≡ (given k i b).origin → (l ≡ k) × (n ≡ i)
+
+-- none of them was given for what was heard under this number, which is taken
+pub record GivesNone {Wishes : ℕ → Opening → Type 0} {t : TheCircuits} {talk : Talk} (given : AreGivenOnce Wishes t talk) (l n : ℕ) : Type 0 where
+  pub taken : OpenedThere talk.monitor.circuits l n
+  pub none : (k i : ℕ) (a : OpenedHere talk.monitor.circuits k i) → (given.given k i a).origin ≢ from_link l n
+
+-- and what it says to be refused, or has still to say, is an opening that was heard under that number, for which it gave none; or it heard that it is refused
+pub record AreSettled (Wishes : ℕ → Opening → Type 0) (t : TheCircuits) (talk : Talk) : Type 0 where
+  pub given : AreGivenOnce Wishes t talk
+  pub refused : (l : ℕ) (f : Frag) (c : Circuit) (reason : ℕ) → Has f (talk.said l) ⊎ Has f (waiting_for talk.monitor.outboxes l)
+      → Says f (CircuitRefused c reason) → (o : Opening) × CameUnder t talk.heard l c.0 o × (GivesNone given l c.0 ⊎ HeardRefused talk o reason)
+
 -- ---- at desks
 
 -- a desk has a job that wishes for it
@@ -188,6 +230,17 @@ pub record IsOwnWish (jobs : List CoreJob) (s : TheRun TheSide) (o : Opening) : 
   pub wish : Wish
   pub job_is : slice_get jobs place ≡ Some (job.Open wish)
   pub opening_is : wish.opening ≡ o
+
+-- and that it begins on this link
+pub record IsOwnWishOver (jobs : List CoreJob) (s : TheRun TheSide) (l : ℕ) (o : Opening) : Type 0 where
+  pub own : IsOwnWish jobs s o
+  pub link_is : own.wish.link.0 ≡ l
+
+-- and in the end, the client's end of its binding is at the core
+pub record IsOwnMade (jobs : List CoreJob) (c : OneCore) (l : ℕ) (o : Opening) : Type 0 where
+  pub over : IsOwnWishOver jobs c.start l o
+  pub place : ℕ
+  pub place_is : place_of c.finish.core (client_of o.binding) ≡ Some place
 
 -- one of the fragments that were heard, over a link that was there as the run began, says that an opening is refused for this reason: the only one that was
 -- asked for under that number, for which a job wishes, and of this client's end
@@ -204,7 +257,11 @@ pub record WasHeard (Wishes : Opening → Type 0) (t : TheCircuits) (talk : Talk
   pub only : AsksOnly talk.said talk.monitor link circuit.0 own
   pub end_is : client_of own.binding ≡ e
 
--- a job of the end's desk wishes for an opening that this core refused
+-- no other job wishes for an opening of its binding
+abbrev pub WishesAlone : List CoreJob → Wish → Type 0
+WishesAlone jobs wish = (place : ℕ) (w : Wish) → slice_get jobs place ≡ Some (job.Open w) → w.opening.binding ≡ wish.opening.binding → w ≡ wish
+
+-- a job of the end's desk wishes for an opening that this core refused; where for want of a number, the client's end isn't there in the end
 pub record WasRefused (jobs : List CoreJob) (s finish : TheRun TheSide) (e : EndId) (reason : ℕ) : Type 0 where
   pub desk : TheDesk
   pub desk_is : desk_of s e ≡ Some desk
@@ -214,6 +271,7 @@ pub record WasRefused (jobs : List CoreJob) (s finish : TheRun TheSide) (e : End
   pub wish : Wish
   pub job_is : slice_get jobs place ≡ Some (job.Open wish)
   pub why : RefusesWish (WasFull jobs finish) s.core.monitor.circuits finish.core.monitor.circuits wish reason
+  pub gone : reason ≡ 74 → WishesAlone jobs wish → place_of finish.core (client_of wish.opening.binding) ≡ None
 
 -- an opening was heard of a binding of which a job of a desk wishes for one
 pub record AskedAgain (jobs : List CoreJob) (s : TheRun TheSide) (heard : ℕ → List Frag) : Type 0 where
@@ -239,6 +297,10 @@ pub record GoesReasoned (jobs : List CoreJob) (c : OneCore) : Type 0 where
   pub asking : GoesAsking jobs c
   pub reasoned : AreReasoned c.start.offers.names (FoundNoPlace jobs c) (IsOwnWish jobs c.start) c.start.core.monitor.circuits (talk_of c asking.steps)
   pub desks : AreAmple c.log → (e : EndId) → (refusal_at c.finish e ≡ refusal_at c.start e) ⊎ IsRefusedAt jobs c asking.steps e (refusal_at c.finish e)
+  -- what it asked for is under numbers that it gave; and each of these it gave once
+  pub under : (l : ℕ) (f : Frag) (n : Circuit) (o : Opening) → Has f ((talk_of c asking.steps).said l) → Says f (asks n o)
+      → OpenedHere c.finish.core.monitor.circuits l n.0
+  pub settled : AreSettled (IsOwnMade jobs c) c.start.core.monitor.circuits (talk_of c asking.steps)
 
 -- in every run of a core that had nothing to say before
 abbrev pub CoresReason : Type 0

@@ -16,6 +16,7 @@ ghost use Rattle.fl_honest.specs.Meeting.{WiredArePaired, BoundClientsMeet, Lone
 ghost use Rattle.fl_honest.specs.Sitting.{EndsSit};
 ghost use Rattle.fl_honest.specs.Runs.{OffLinkIsHonest, OpenedIsHonest, RunsAreHonest};
 ghost use Rattle.fl_honest.specs.Reasons.{CoresReason, ReasonsAlone, DesksTellReasons, RefusedForReason};
+ghost use Rattle.fl_honest.specs.Spent.{SpentOnBindings, SpentOnOthers};
 
 use fl_deal::rings_conserve;
 use fl_endpoint::on_another_circuit;
@@ -309,7 +310,8 @@ pub fn runs_are_honest()
 }
 
 /// In a run of a core that had nothing to say before, what its monitor said to be refused is an opening that it heard, for a reason of its own, for want of the
-/// service, or as it heard from the core to which it passed the opening on.
+/// service, or as it heard from the core to which it passed the opening on; and each number that it gave was given once, for a job's opening or for one that
+/// it heard.
 pub fn cores_reason()
     ensures reason { CoresReason }
 {
@@ -331,6 +333,17 @@ pub fn reasons_alone()
 pub fn desks_tell_reasons()
     ensures tell { DesksTellReasons }
     ensures reason { RefusedForReason }
+{
+    cores_reason();
+    rings_conserve();
+    circuits_join();
+}
+
+/// Where a core gave all its numbers on a link, each is for another binding: a job opens that, and its route goes over that link. And where a desk has its
+/// opening as refused for want of a number in the end, its route goes over such a link too, and none of those bindings is its own.
+pub fn spent_on_bindings()
+    ensures spent { SpentOnBindings }
+    ensures others { SpentOnOthers }
 {
     cores_reason();
     rings_conserve();

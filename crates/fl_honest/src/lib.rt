@@ -14,7 +14,9 @@
 //! ([`wishes_alone`], [`ends_are_at_home`], `specs/Asked.antt`). In the end such an end is bound to no circuit, or stands bound ([`planned_ends_stand`],
 //! `specs/Stands.antt`). Where the client's end is bound, so is the server's ([`bound_clients_meet`]); where the server's alone is, it handled nothing
 //! ([`lone_servers_rest`], `specs/Meeting.antt`). So what is told of each binding is honest, and so is the report of a run of cores that were set up together
-//! ([`opened_is_honest`], [`runs_are_honest`], `specs/Runs.antt`).
+//! ([`opened_is_honest`], [`runs_are_honest`], `specs/Runs.antt`). What a desk has as refused is so for a reason that holds ([`desks_tell_reasons`],
+//! `specs/Reasons.antt`): for want of a number on a link only where the routes of 1,023 other bindings go over it ([`spent_on_bindings`],
+//! `specs/Spent.antt`).
 //!
 //! - `law.rt`: the laws
 #![tactic(auto)]
@@ -28,5 +30,5 @@ pub use law::{
     entries_lead_back, led_ends_stand, links_are_paired, lone_servers_rest, loose_ends_rest,
     neighbours_agree, neighbours_open, off_link_is_honest, off_links_are_honest, opened_is_honest,
     planned_ends_stand, reasons_alone, reports_are_honest, routes_begin, routes_go_back,
-    rules_are_set, runs_are_honest, wishes_alone,
+    rules_are_set, runs_are_honest, spent_on_bindings, wishes_alone,
 };

@@ -15,6 +15,7 @@ use Rattle.fl_reports.specs.Outcomes.{ReportsKeepTurns, RefusedAreOpened, SetUpH
 use Rattle.fl_cores.specs.Promised.{Reports}
 use Rattle.fl_reports.specs.Honesty.{RunsReportHonestly}
 use Rattle.fl_reports.specs.Endings.{bindings_by, EndsAsTold, RunsEndAsTold}
+use Rattle.fl_reports.specs.Over.{RefusedAreOutnumbered}
 use Rattle.fl_reports.specs.Reasons.{RefusalsHaveReasons}
 use Rattle.fl_reports.specs.Wanted.{WantedHandleFew}
 
@@ -47,8 +48,9 @@ module _ (c : TheConfig) (jobs : List Job) (limit : ℕ) (r : TheReport) (w : Re
   silent_by opened e None is some = absurd (some is)
   silent_by opened e (Some fault) is some = silent_at e (opened c jobs limit r w e.binding fault is) e.side refl
 
-  pub ends_as_told : ReportsKeepTurns → CompleteHasAll → RefusedAreOpened → RefusalsHaveReasons → SetUpHandleFew → WantedHandleFew → HonestHandleFew → EndsAsTold w
-  ends_as_told keep all opened reasons few wanted few_there = record {
+  pub ends_as_told : ReportsKeepTurns → CompleteHasAll → RefusedAreOpened → RefusalsHaveReasons → SetUpHandleFew → WantedHandleFew → HonestHandleFew
+      → RefusedAreOutnumbered → EndsAsTold w
+  ends_as_told keep all opened reasons few wanted few_there over = record {
     turns = keep c jobs limit r w;
     all = all c jobs limit r w honest;
     unrefused = λ n below. unrefused_by opened n below (refusal_of r n) refl;
@@ -60,9 +62,10 @@ module _ (c : TheConfig) (jobs : List Job) (limit : ℕ) (r : TheReport) (w : Re
     few = λ d ends turns are told. few c jobs limit r w honest d ends turns are told;
     few_wanted = λ d ends turns are told. wanted c jobs limit r w honest d ends turns are told;
     few_there = λ n d turns core ends at are told. few_there c jobs limit r w honest n d turns core ends at are told;
+    over = λ n told. over c jobs limit r w n told;
   }
 
 pub runs_end_as_told : RunsReportHonestly → ReportsKeepTurns → CompleteHasAll → RefusedAreOpened → RefusalsHaveReasons → SetUpHandleFew → WantedHandleFew
-    → HonestHandleFew → RunsEndAsTold
-runs_end_as_told honest keep all opened reasons few wanted few_there c jobs limit r w =
-    ends_as_told c jobs limit r w (honest c jobs limit r w) keep all opened reasons few wanted few_there
+    → HonestHandleFew → RefusedAreOutnumbered → RunsEndAsTold
+runs_end_as_told honest keep all opened reasons few wanted few_there over c jobs limit r w =
+    ends_as_told c jobs limit r w (honest c jobs limit r w) keep all opened reasons few wanted few_there over

@@ -36,7 +36,9 @@ pub mod Twins
 pub mod WantedEnds
 pub mod ReasonsSetUp
 pub mod ReasonsFull
+pub mod Refusing
 pub mod Reasons
+pub mod Over
 pub mod OneKept
 pub mod OneJoined
 pub mod OneRules

@@ -1,10 +1,8 @@
 -- A binding is told as refused for a reason alone: what stands at its client's desk is what the laws over cores say.
-use Rattle.std.proofs.Common.{◌≡◌, inl, inr, refl, sym, ap, ◌∙◌, subst, ℕ, zero, suc, ◌+◌, ◌<◌, ◌≤◌, ◌==◌, if◌then◌else◌, Bool, true, false, List, [], ◌∷◌, map, length, slice_get, get_or, Option, Some, None, IsSome, arith}
-use Rattle.std.proofs.lemmas.Bool.Decides.{nat_tests}
+use Rattle.std.proofs.Common.{◌≡◌, inl, inr, refl, sym, ap, ◌∙◌, subst, ℕ, zero, suc, ◌+◌, ◌<◌, ◌≤◌, ◌==◌, true, List, [], ◌∷◌, map, length, slice_get, Option, Some, None, IsSome, arith}
 use Rattle.std.proofs.lemmas.List.{length-map}
-use Rattle.std.proofs.lemmas.Option.{same_Some, slice_get_within}
+use Rattle.std.proofs.lemmas.Option.{same_Some}
 use Rattle.fl_base.specs.declared.identity.CoreId.{CoreId}
-use Rattle.fl_base.specs.declared.identity.EndId.{EndId}
 use Rattle.fl_compile.specs.Programs.{program_of}
 use Rattle.fl_ring.specs.SharedSides.{TheSide}
 use Rattle.fl_nameserv.specs.declared.registration.Service.{Service as Offer}
@@ -12,19 +10,16 @@ use Rattle.fl_nameserv.specs.Registrations.{TheRegistration, by_iref}
 use Rattle.fl_hop.specs.declared.links.LinkState.{LinkState}
 use Rattle.fl_hop.specs.Table.{TheCircuits, link_of}
 use Rattle.fl_monitor.specs.declared.opening.Opening.{Opening}
-use Rattle.fl_monitor.specs.Routing.{given, all_differ}
+use Rattle.fl_monitor.specs.Routing.{all_differ}
 use Rattle.fl_node.specs.Hearing.{Offers}
 use Rattle.fl_node.specs.View.{TheCore, client_of}
 use Rattle.fl_running.specs.declared.job.Job.{Job as CoreJob}
 use Rattle.fl_running.specs.declared.job.Wish.{Wish}
 use Rattle.fl_running.specs.Deeds.{Deed}
-use Rattle.fl_running.specs.Desks.{TheDesk, desk_place}
 use Rattle.fl_running.specs.Ran.{task, moment}
 use Rattle.fl_running.specs.Run.{TheRun}
-use Rattle.fl_running.specs.Words.{refusal_at}
 use Rattle.fl_logs.specs.Led.{LeadsAtFirst}
 use Rattle.fl_logs.specs.Logs.{Goes}
-use Rattle.fl_logs.specs.Made.{desk_of}
 use Rattle.fl_queues.specs.Events.{DispatcherId}
 use Rattle.fl_queues.specs.Given.{given as in_machine}
 use Rattle.fl_queues.specs.Making.{has_link}
@@ -39,10 +34,10 @@ use Rattle.fl_dockets.specs.declared.docket.Bound.{Bound}
 use Rattle.fl_dockets.specs.State.{TheJoined}
 use Rattle.fl_setups.specs.Start.{SetUpsStartFresh}
 use Rattle.fl_honest.specs.Cores.{shared_ways, OneCore, AreAmple, AllAmple, CoresGoAmply}
-use Rattle.fl_honest.specs.Reasons.{LeadsNowhere, IsUsedUp as UsedUp, LeadsOverUsedUp, HasNoPlace, Refuses, RefusesWish, FoundNoPlace, WasFull, RefusesOne, IsRefused, DesksTellReasons, RefusedForReason}
+use Rattle.fl_honest.specs.Reasons.{LeadsNowhere, IsUsedUp as UsedUp, HasNoPlace, Refuses, RefusesWish, FoundNoPlace, WasFull, RefusesOne, IsRefused, DesksTellReasons, RefusedForReason}
 use Rattle.fl_honest.specs.Runs.{AreSetUp}
 use Rattle.fl_honest.specs.Sitting.{EndsSit}
-use Rattle.fl_endings.specs.Begins.{Ran, refusal_by}
+use Rattle.fl_endings.specs.Begins.{Ran}
 use Rattle.fl_endings.proofs.Few.{settles}
 use Rattle.fl_stations.specs.Runs.{TheOutcome, Each2, TheStation, RanTo}
 use Rattle.fl_cores.specs.Promised.{Reports}
@@ -51,11 +46,11 @@ use Rattle.fl_reports.specs.Outcomes.{ReportsAreOfRuns}
 use Rattle.fl_reports.specs.Reasons.{IsUnlinked, IsUsedUp, IsSpent, SitsAt, IsFull, IsServiceFull, IsCrowded, HasReason, RefusalsHaveReasons}
 use Rattle.fl_reports.specs.Runs.{AreRuns}
 use Rattle.fl_reports.specs.Wanted.{behind, IsWanted}
-use Rattle.fl_reports.proofs.CoresStations.{as_many_cores}
 use Rattle.fl_reports.proofs.Opener.{shown, Opener, opener, asked_at, service_at}
+use Rattle.fl_reports.proofs.Refusing.{refused_at}
 use Rattle.fl_reports.proofs.ReasonsFull.{ends_of, still_many, own_service, lacks_what, no_place_why}
 use Rattle.fl_reports.proofs.ReasonsSetUp.{stands_on, starts_as, made_as, as_many_dispatchers, no_link, its_core}
-use Rattle.fl_reports.proofs.Runs.{is_there, run_at, as_many}
+use Rattle.fl_reports.proofs.Runs.{is_there, run_at}
 use Rattle.fl_reports.proofs.SidesCross.{SideLaws}
 use Rattle.fl_reports.proofs.StartBindings.{TheBeginning, IsBegun}
 use Rattle.fl_reports.proofs.Twins.{twin}
@@ -73,7 +68,7 @@ none_lacks : AllAmple []
 none_lacks n d at = absurd (cc)
 
 -- where each core ran to its outcome, there is such a log of each
-ample_runs : CoresGoAmply → (jobs : List CoreJob) (limit : ℕ) (stations : List TheStation) (outcomes : List TheOutcome) → Each2 (RanTo jobs limit) stations outcomes
+pub ample_runs : CoresGoAmply → (jobs : List CoreJob) (limit : ℕ) (stations : List TheStation) (outcomes : List TheOutcome) → Each2 (RanTo jobs limit) stations outcomes
     → (cores : List OneCore) × AreRuns jobs stations outcomes cores × AllAmple cores
 ample_runs go jobs limit [] [] ran = ([], tt, none_lacks)
 ample_runs go jobs limit [] (o ∷ outcomes) ran = absurd ran
@@ -83,28 +78,6 @@ ample_runs go jobs limit (s ∷ stations) (o ∷ outcomes) ran =
     let c : OneCore = record { start = s.run; log = log; finish = o.run } in
     let (cores, are, all) = ample_runs go jobs limit stations outcomes ran.1 in
     (c ∷ cores, (record { start = refl; finish = refl; goes = goes }, are), ample_then c cores ample all)
-
--- ---- desks and reports
-
--- where no desk has a refusal none stands at an end's
-none_stands : (s : TheRun TheSide) (e : EndId) → ((d : TheDesk) → desk_of s e ≡ Some d → d.refused ≡ 0) → refusal_at s e ≡ 0
-none_stands s e none = by (desk_place s.desks e) refl where
-  by_desk : (n : ℕ) → desk_place s.desks e ≡ Some n → (o : Option TheDesk) → slice_get s.desks n ≡ o → given o 0 (λ (d : TheDesk). d.refused) ≡ 0
-  by_desk n place None at = refl
-  by_desk n place (Some d) at = none d (ap (λ (o : Option ℕ). given o None λ i. slice_get s.desks i) place ∙ at)
-
-  by : (o : Option ℕ) → desk_place s.desks e ≡ o → refusal_at s e ≡ 0
-  by None place = ap (λ (o : Option ℕ). given o 0 λ i. given (slice_get s.desks i) 0 λ (d : TheDesk). d.refused) place
-  by (Some n) place =
-      ap (λ (o : Option ℕ). given o 0 λ i. given (slice_get s.desks i) 0 λ (d : TheDesk). d.refused) place ∙ by_desk n place (slice_get s.desks n) refl
-
--- the number that is told is the one that stands there, which isn't 0
-told_by : (number fault : ℕ) (b : Bool) → (number == 0) ≡ b → (if b then None else Some number) ≡ Some fault → (number ≡ fault) × (number ≡ 0 → ⊥)
-told_by number fault true is told = absurd (cc)
-told_by number fault false is told = (same_Some number fault told, λ none. absurd (grind (arith, nat_tests, is, none)))
-
-told_number : (number fault : ℕ) → refusal_by number ≡ Some fault → (number ≡ fault) × (number ≡ 0 → ⊥)
-told_number number fault told = told_by number fault (number == 0) refl told
 
 -- ---- a report
 
@@ -378,19 +351,11 @@ module _ (names_agree : NamesAreShown) (fresh : SetUpsStartFresh) (tell : DesksT
 
   at_client : (n fault : ℕ) (b : Bound) → slice_get j.bindings n ≡ Some b → refusal_of r n ≡ Some fault → HasReason x n fault
   at_client n fault b bound told =
+      let at = refused_at runs c asked limit r x cores are n fault b bound told in
       let e = client_of n in
-      let many = as_many j.jobs x.ran.ran.ran.stations x.ran.ran.ran.outcomes cores are in
-      let all_many = as_many_cores j.jobs limit x.ran.ran.ran.stations x.ran.ran.ran.outcomes x.ran.ran.ran.ran in
-      let below = ran.joined.bindings.client n b bound in
-      let (two, two_is) = is_there cores b.client (omega (arith, many, all_many, below)) in
-      let t = twin x cores are b.client two two_is in
-      let none : refusal_at two.start e ≡ 0 = ap (λ (s : TheRun TheSide). refusal_at s e) t.start
-      ∙ none_stands t.one.begin.run e (λ d is. ((ran.begins b.client t.one t.one_is).untouched e d is).refused) in
-      let (number, some) = told_number (refusal_at t.one.finish e) fault (sym (ran.desks.refused n b t.one bound t.one_is) ∙ told) in
-      let same : refusal_at two.finish e ≡ fault = ap (λ (s : TheRun TheSide). refusal_at s e) t.finish ∙ number in
-      elim (tell asked j cores x.ran.parts.names (map program_of x.ran.parts.programs.items) set ample b.client two e two_is none) [
-        | inl nothing ↦ absurd (some (ap (λ (s : TheRun TheSide). refusal_at s e) (sym t.finish) ∙ nothing))
-        | inr good ↦ has_reason n fault b bound two two_is (subst (IsRefused j.jobs cores two e) same good)
+      elim (tell asked j cores x.ran.parts.names (map program_of x.ran.parts.programs.items) set ample b.client at.core e at.core_is at.none) [
+        | inl nothing ↦ absurd (at.some (sym at.last ∙ nothing))
+        | inr good ↦ has_reason n fault b bound at.core at.core_is (subst (IsRefused j.jobs cores at.core e) at.last good)
       ]
 
   by_bound : (n fault : ℕ) (o : Option Bound) → slice_get j.bindings n ≡ o → refusal_of r n ≡ Some fault → HasReason x n fault

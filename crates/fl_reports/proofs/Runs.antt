@@ -1,9 +1,6 @@
 -- The cores of a run, each with its log: from what each was given and what came of it.
-use Rattle.std.proofs.Common.{◌≡◌, refl, sym, ap, ◌∙◌, subst, ℕ, zero, suc, ◌+◌, ◌<◌, ◌≤◌, List, [], ◌∷◌, length, slice_get, slice_set, Some, None, arith}
-use Rattle.std.proofs.lemmas.List.{length-set}
+use Rattle.std.proofs.Common.{◌≡◌, refl, sym, ap, ◌∙◌, subst, ℕ, zero, suc, ◌+◌, ◌<◌, ◌≤◌, List, [], ◌∷◌, length, slice_get, Some, None, arith}
 use Rattle.fl_ring.specs.SharedSides.{TheSide}
-use Rattle.fl_core.specs.View.{TheSeat}
-use Rattle.fl_endpoint.specs.Accounts.{Sound as IsEnd}
 use Rattle.fl_hop.specs.Joined.{Sound as IsTable}
 use Rattle.fl_node.specs.View.{TheCore}
 use Rattle.fl_node.specs.Sound.{IsCore}
@@ -11,7 +8,7 @@ use Rattle.fl_running.specs.declared.job.Job.{Job as CoreJob}
 use Rattle.fl_running.specs.Ran.{task, moment}
 use Rattle.fl_running.specs.Run.{TheRun}
 use Rattle.fl_logs.specs.Flows.{IsApart}
-use Rattle.fl_honest.specs.Cores.{OneCore, Went, AllWent, CoresGo}
+use Rattle.fl_honest.specs.Cores.{OneCore, AllWent, CoresGo}
 use Rattle.fl_stations.specs.Runs.{TheOutcome, Each2, TheStation, RanTo}
 use Rattle.fl_threads.specs.Begins.{TheCommon, IsStation, AreStations}
 use Rattle.fl_threads.specs.Shares.{AreSound}

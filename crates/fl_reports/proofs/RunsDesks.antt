@@ -1,5 +1,5 @@
 -- Desks as the cores of a run begin: each end's stands at its slot, with the jobs of its docket, at the end's own core.
-use Rattle.std.proofs.Common.{◌≡◌, refl, sym, ap, ◌∙◌, ℕ, zero, suc, ◌+◌, ◌*◌, ◌<◌, ◌≤◌, ◌==◌, nat_lt, Bool, true, false, if◌then◌else◌, List, [], ◌∷◌, ◌++◌, map, length, slice_get, Option, Some, None, arith}
+use Rattle.std.proofs.Common.{◌≡◌, refl, sym, ap, ◌∙◌, ℕ, zero, suc, ◌+◌, ◌*◌, ◌<◌, ◌≤◌, ◌==◌, nat_lt, Bool, true, false, if◌then◌else◌, List, [], ◌∷◌, length, slice_get, Option, Some, None, arith}
 use Rattle.std.specs.List.{flat_map, range_with_len}
 use Rattle.std.proofs.lemmas.Bool.Decides.{nat_tests}
 use Rattle.std.proofs.lemmas.Option.{slice_get_past, slice_get_within}
@@ -10,9 +10,8 @@ use Rattle.fl_monitor.specs.Routing.{given}
 use Rattle.fl_queues.specs.Given.{given as in_machine}
 use Rattle.fl_node.specs.View.{TheCore, most_bindings, slot_of, client_of, server_of}
 use Rattle.fl_running.specs.Desks.{TheDesk, desk_place}
-use Rattle.fl_logs.specs.Made.{desk_of}
 use Rattle.fl_dockets.specs.declared.docket.Bound.{Bound}
-use Rattle.fl_dockets.specs.Dockets.{TheDocket, docket_at}
+use Rattle.fl_dockets.specs.Dockets.{docket_at}
 use Rattle.fl_dockets.specs.Joined.{core_of}
 use Rattle.fl_dockets.specs.State.{TheJoined}
 use Rattle.fl_honest.specs.Ends.{HasDesk}

@@ -1,7 +1,6 @@
 -- Cores of a run that a set-up made: at the start no end of a circuit is there, tables lead, and each link has one on its other side.
-use Rattle.std.proofs.Common.{◌≡◌, inl, inr, refl, sym, ap, ◌∙◌, subst, ℕ, ◌+◌, ◌*◌, ◌==◌, ◌<◌, Bool, true, List, [], length, map, slice_get, Option, Some, None, arith}
+use Rattle.std.proofs.Common.{◌≡◌, inl, inr, refl, sym, ap, ◌∙◌, subst, ℕ, ◌+◌, ◌*◌, ◌==◌, true, List, [], slice_get, Option, Some, None, arith}
 use Rattle.std.proofs.lemmas.Bool.Decides.{nat_tests}
-use Rattle.std.proofs.lemmas.List.{length-map}
 use Rattle.std.proofs.lemmas.List.Quantifiers.{position-Some}
 use Rattle.std.proofs.lemmas.Option.{same_Some, slice_get_within, get_or_from_slice_get}
 use Rattle.fl_base.specs.declared.fragment.Frag.{Frag}
@@ -21,7 +20,7 @@ use Rattle.fl_node.specs.declared.wire.Port.{Port}
 use Rattle.fl_node.specs.declared.wire.Wire.{Wire}
 use Rattle.fl_node.specs.declared.wire.Wire.TheVariants.{Queues, Ring, Circuit}
 use Rattle.fl_node.specs.View.{TheCore, arrivals_by, place_of, side_of_link}
-use Rattle.fl_node.specs.Numbers.{moved, moved_lane, moved_port, moved_wire}
+use Rattle.fl_node.specs.Numbers.{moved, moved_port, moved_wire}
 use Rattle.fl_node.proofs.Numbering.{came_from}
 use Rattle.fl_logs.specs.Led.{IsLed, LeadsAtFirst}
 use Rattle.fl_worlds.specs.declared.binding.Binding.{Binding}

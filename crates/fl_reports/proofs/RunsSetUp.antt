@@ -1,5 +1,5 @@
 -- Cores of a run that a set-up made, with the jobs that were joined to them: what the laws of circuits ask of them.
-use Rattle.std.proofs.Common.{◌≡◌, ◌⊎◌, inl, inr, refl, sym, ap, ◌∙◌, subst, ℕ, zero, suc, ◌+◌, ◌*◌, ◌<◌, ◌≤◌, ◌==◌, ◌&&◌, nat_lt, Bool, true, false, if◌then◌else◌, List, [], ◌∷◌, ◌++◌, map, length, slice_get, Option, Some, None, arith}
+use Rattle.std.proofs.Common.{◌≡◌, ◌⊎◌, inl, inr, refl, sym, ap, ◌∙◌, subst, ℕ, zero, suc, ◌+◌, ◌*◌, ◌<◌, ◌≤◌, ◌==◌, ◌&&◌, nat_lt, Bool, true, false, if◌then◌else◌, List, [], ◌∷◌, map, length, slice_get, Option, Some, None, arith}
 use Rattle.std.specs.List.{flat_map, range_with_len}
 use Rattle.std.proofs.lemmas.Bool.{cases_lt}
 use Rattle.std.proofs.lemmas.Bool.Decides.{nat_tests}
@@ -18,7 +18,7 @@ use Rattle.fl_monitor.specs.Routing.{given}
 use Rattle.fl_queues.specs.Given.{given as in_machine}
 use Rattle.fl_queues.specs.Runs.{same_end}
 use Rattle.fl_node.specs.View.{TheCore, most_bindings, slot_of, place_of, side_of_link}
-use Rattle.fl_node.proofs.Numbering.{came_from, goes_to}
+use Rattle.fl_node.proofs.Numbering.{goes_to}
 use Rattle.fl_running.specs.declared.job.Job.{Job as CoreJob}
 use Rattle.fl_running.specs.declared.job.Job.TheVariants as job
 use Rattle.fl_running.specs.declared.job.Wish.{Wish}
@@ -28,24 +28,23 @@ use Rattle.fl_logs.specs.Made.{desk_of}
 use Rattle.fl_logs.specs.Led.{LeadsAtFirst}
 use Rattle.fl_worlds.specs.declared.binding.Binding.{Binding}
 use Rattle.fl_dockets.specs.declared.docket.Bound.{Bound}
-use Rattle.fl_dockets.specs.Dockets.{TheDocket, docket_at, end_of, places_of}
-use Rattle.fl_dockets.specs.Fitting.{OpensTo, RuleFits, JobFits, JobsFit}
+use Rattle.fl_dockets.specs.Dockets.{docket_at, end_of, places_of}
+use Rattle.fl_dockets.specs.Fitting.{OpensTo, RuleFits, JobsFit}
 use Rattle.fl_dockets.specs.Joined.{core_of}
 use Rattle.fl_dockets.specs.Rules.{RulesOf}
 use Rattle.fl_dockets.specs.State.{TheJoined, AreJoined}
 use Rattle.fl_honest.specs.Asked.{IsForBinding}
 use Rattle.fl_honest.specs.Cores.{OneCore}
-use Rattle.fl_honest.specs.Meeting.{IsPaired, AreWired}
+use Rattle.fl_honest.specs.Meeting.{IsPaired}
 use Rattle.fl_honest.specs.Rules.{FitsInterface, RulesFit}
 use Rattle.fl_honest.specs.Runs.{HaveDesks, AreSetUp}
 use Rattle.fl_honest.specs.Whole.{HasOwn, HaveOwn}
-use Rattle.fl_stations.specs.Runs.{TheStation}
 use Rattle.fl_threads.specs.Begins.{IsStation, common_in, desk_by, desk_for, desks_of, owns}
 use Rattle.fl_reports.proofs.Runs.{is_there, station_at}
-use Rattle.fl_reports.proofs.RunsDesks.{at_slot, EndOf, slotted, owned}
+use Rattle.fl_reports.proofs.RunsDesks.{at_slot, EndOf, slotted}
 use Rattle.fl_reports.proofs.RunsLinked.{idle, leading, has_back}
 use Rattle.fl_reports.proofs.SidesCross.{SideLaws}
-use Rattle.fl_reports.proofs.StartBindings.{TheBeginning, IsBegun, parts_ready, MadeOf, made_of}
+use Rattle.fl_reports.proofs.StartBindings.{TheBeginning, IsBegun, parts_ready, made_of}
 use Rattle.fl_reports.proofs.StartNumbers.{lane_from}
 use Rattle.fl_reports.proofs.StartRested.{was_at}
 

@@ -1,5 +1,5 @@
 -- Of each ring, wherever its sides are: new at the start, and put together again in the end.
-use Rattle.std.proofs.Common.{◌≡◌, inl, inr, refl, sym, ap, ◌∙◌, subst, ℕ, ◌+◌, ◌*◌, ◌<◌, List, [], length, map, slice_get, Some, arith}
+use Rattle.std.proofs.Common.{◌≡◌, sym, ap, ◌∙◌, subst, ℕ, ◌+◌, ◌*◌, ◌<◌, List, length, slice_get, Some, arith}
 use Rattle.fl_ring.specs.SharedSides.{TheSide}
 use Rattle.fl_core.proofs.Places.{one_stands}
 use Rattle.fl_node.specs.Numbers.{moved}

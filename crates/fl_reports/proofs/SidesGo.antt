@@ -1,5 +1,5 @@
 -- The sides that a core was given, after its run.
-use Rattle.std.proofs.Common.{◌≡◌, refl, sym, ap, ◌∙◌, subst, ℕ, zero, suc, List, [], ◌∷◌, length, map, slice_get, slice_set, Option, Some, None, arith}
+use Rattle.std.proofs.Common.{◌≡◌, refl, ap, ◌∙◌, subst, ℕ, zero, suc, List, [], ◌∷◌, length, arith}
 use Rattle.std.proofs.lemmas.List.{length-set}
 use Rattle.fl_hop.specs.declared.forward.Outcome.TheVariants.{Moved, Full, Spent}
 use Rattle.fl_ring.specs.SharedSides.{TheSide, SharedPuts, SharedTakes}
@@ -11,7 +11,6 @@ use Rattle.fl_running.specs.Run.{Ways, TheRun}
 use Rattle.fl_running.specs.Deeds.{Deed, looked, passed, arrived, heard, said, told, opened, called, ruled, wrote, acked, turned, OnRing, Does}
 use Rattle.fl_logs.specs.Logs.{Goes, SidesGo, LogsLook}
 use Rattle.fl_logs.proofs.Aside.{rings_aside}
-use Rattle.fl_deal.specs.Dealt.{hand_at}
 use Rattle.fl_deal.specs.Settled.{WentOn, AllWentOn, HandsWentOn}
 use Rattle.fl_honest.specs.Cores.{shared_ways, OneCore}
 use Rattle.fl_stations.specs.Runs.{TheOutcome, sides_left, TheStation}

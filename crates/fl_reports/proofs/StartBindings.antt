@@ -1,10 +1,9 @@
 -- Bindings of a set-up, as the runs of their cores begin: joined by queues or by a ring. And links, each by its two sides.
-use Rattle.std.proofs.Common.{◌≡◌, inl, inr, refl, sym, ap, ◌∙◌, subst, ℕ, ◌+◌, ◌*◌, ◌<◌, List, [], length, map, slice_get, Option, Some, None, arith}
+use Rattle.std.proofs.Common.{◌≡◌, inl, inr, refl, sym, ap, ◌∙◌, subst, ℕ, ◌+◌, ◌*◌, List, length, slice_get, Some, None, arith}
 use Rattle.std.proofs.lemmas.Bool.{cases_lt}
 use Rattle.std.proofs.lemmas.Option.{slice_get_within}
 use Rattle.fl_base.specs.declared.identity.EndId.{EndId}
 use Rattle.fl_compile.specs.declared.program.Program.{Program}
-use Rattle.fl_compile.specs.Programs.{program_of}
 use Rattle.fl_link.specs.Queue.{TheQueue}
 use Rattle.fl_ring.specs.SharedSides.{TheSide}
 use Rattle.fl_core.proofs.Places.{one_stands}
@@ -36,7 +35,7 @@ use Rattle.fl_stations.specs.Runs.{TheOutcome, TheStation}
 use Rattle.fl_threads.specs.Begins.{Places, common_in, AreStations}
 use Rattle.fl_threads.specs.Shares.{queues_given, Shares, AreSound}
 use Rattle.fl_reports.specs.Runs.{AreRuns}
-use Rattle.fl_reports.proofs.Runs.{RunAt, run_at, as_many, station_at, as_many_stations}
+use Rattle.fl_reports.proofs.Runs.{run_at, as_many, station_at, as_many_stations}
 use Rattle.fl_reports.proofs.SidesPlaces.{there_is, moved_to, hand_is}
 use Rattle.fl_reports.proofs.SidesCross.{SideLaws, ring_crosses}
 use Rattle.fl_reports.proofs.StartNumbers.{core_before}

@@ -1,23 +1,21 @@
 -- Links of cores whose run begins as a set-up made them: each has a core on its other side.
-use Rattle.std.proofs.Common.{◌≡◌, ◌⊎◌, inl, inr, refl, sym, ap, ◌∙◌, subst, ℕ, ◌+◌, ◌-◌, ◌*◌, ◌/◌, ◌%◌, ◌==◌, ◌<◌, if◌then◌else◌, List, [], length, slice_get, Some}
+use Rattle.std.proofs.Common.{◌≡◌, ◌⊎◌, inl, inr, refl, sym, ap, ◌∙◌, subst, ℕ, ◌+◌, ◌-◌, ◌*◌, ◌/◌, ◌%◌, ◌==◌, ◌<◌, if◌then◌else◌, List, length, slice_get, Some}
 use Rattle.std.proofs.Common.{Bool, true, false, arith}
 use Rattle.std.proofs.lemmas.Bool.Decides.{nat_tests}
 use Rattle.fl_base.specs.declared.identity.LinkId.{LinkId}
-use Rattle.fl_ring.specs.SharedSides.{TheSide}
 use Rattle.fl_core.proofs.Places.{one_stands}
 use Rattle.fl_node.specs.View.{TheCore, side_of_link}
 use Rattle.fl_node.specs.Numbers.{moved}
 use Rattle.fl_worlds.specs.View.{ring_at}
-use Rattle.fl_setups.specs.Start.{across, IsIdle}
+use Rattle.fl_setups.specs.Start.{across}
 use Rattle.fl_honest.specs.Cores.{OneCore}
 use Rattle.fl_honest.specs.Crossing.{Crosses}
-use Rattle.fl_honest.specs.Circuits.{AreOneLink}
 use Rattle.fl_honest.specs.Neighbours.{IsUnused}
 use Rattle.fl_honest.specs.Back.{HasNeighbour}
 use Rattle.fl_reports.proofs.SidesCross.{SideLaws, ring_crosses}
 use Rattle.fl_reports.proofs.StartNumbers.{lane_to}
 use Rattle.fl_reports.proofs.StartShared.{side_owner}
-use Rattle.fl_reports.proofs.StartBindings.{TheBeginning, IsBegun, MadeOf, parts_ready, made_of, ran_of}
+use Rattle.fl_reports.proofs.StartBindings.{TheBeginning, IsBegun, parts_ready, made_of, ran_of}
 
 -- ---- the two sides of a ring
 

@@ -1,5 +1,5 @@
 -- A core whose sides and queues have other numbers: what was known of it before, and that its sides and queues are still apart.
-use Rattle.std.proofs.Common.{◌≡◌, inl, inr, refl, sym, ap, ◌∙◌, subst, ℕ, zero, suc, List, [], ◌∷◌, length, map, slice_get, Option, Some, None, arith}
+use Rattle.std.proofs.Common.{◌≡◌, inl, inr, refl, sym, ap, ◌∙◌, ℕ, zero, suc, List, [], ◌∷◌, map, slice_get, Option, Some, None, arith}
 use Rattle.std.proofs.lemmas.List.{length-map}
 use Rattle.fl_base.specs.declared.identity.EndId.{EndId}
 use Rattle.fl_core.specs.declared.kind.Kind.{Kind}

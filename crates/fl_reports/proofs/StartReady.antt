@@ -5,8 +5,7 @@ use Rattle.fl_base.specs.declared.identity.EndId.{EndId}
 use Rattle.fl_compile.specs.declared.program.Program.{Program}
 use Rattle.fl_compile.specs.Programs.{program_of}
 use Rattle.fl_ring.specs.SharedSides.{TheSide}
-use Rattle.fl_endpoint.specs.View.{TheEnd, interface_in, nothing_to_send, no_rules, rule_at as rule_of_end}
-use Rattle.fl_core.specs.View.{TheSeat}
+use Rattle.fl_endpoint.specs.View.{TheEnd, nothing_to_send, no_rules, rule_at as rule_of_end}
 use Rattle.fl_core.proofs.Places.{one_stands}
 use Rattle.fl_node.specs.declared.wire.Port.{Port}
 use Rattle.fl_node.specs.declared.wire.Wire.{Wire}
@@ -23,7 +22,7 @@ use Rattle.fl_worlds.specs.Picture.{wire_of}
 use Rattle.fl_jobs.specs.Jobs.{Job, rule_for}
 use Rattle.fl_dockets.specs.Dockets.{TheDocket, IsDocket}
 use Rattle.fl_dockets.specs.Rules.{RulesOf}
-use Rattle.fl_setups.specs.Start.{IsFresh, Stands, StartsFresh}
+use Rattle.fl_setups.specs.Start.{Stands, StartsFresh}
 use Rattle.fl_honest.specs.Ends.{StandsReady}
 use Rattle.fl_reports.proofs.StartNumbers.{wire_at}
 use Rattle.fl_reports.proofs.StartRules.{later_or, SitsIn, Sits, HasPlaces, by_jobs}

@@ -1,5 +1,5 @@
 -- The cores of a world behind rules that were set before a run: they changed in these alone.
-use Rattle.std.proofs.Common.{◌≡◌, ◌⊎◌, inl, inr, refl, sym, ap, ◌∙◌, subst, ℕ, zero, suc, ◌<◌, List, [], ◌∷◌, map, length, slice_get, slice_set, Option, Some, None}
+use Rattle.std.proofs.Common.{◌≡◌, refl, sym, ap, ◌∙◌, subst, ℕ, zero, suc, List, [], ◌∷◌, slice_get, slice_set, Option, Some, None}
 use Rattle.fl_base.specs.declared.identity.EndId.{EndId}
 use Rattle.fl_core.specs.View.{TheSeat, TheBoard}
 use Rattle.fl_core.specs.declared.kind.Kind.{Kind}
@@ -12,8 +12,8 @@ use Rattle.fl_logs.specs.Flows.{IsApart}
 use Rattle.fl_worlds.specs.declared.binding.Binding.{Binding}
 use Rattle.fl_worlds.specs.View.{TheWorld, core_in}
 use Rattle.fl_jobs.specs.Jobs.{Job, opens, replies, calls}
-use Rattle.fl_setups.specs.Start.{NamesSide, NamesQueue, SidesHaveOneCore, QueuesHaveOneCore, CoresAreApart, SidesAreThere, QueuesAreNew, LeadsBack, LinksArePaired, CoresAreNumbered, IsIdle, CoresAreIdle}
-use Rattle.fl_dockets.specs.Rules.{RulesCore, RulesAt, RuleNow, RuleOf, RulesOf}
+use Rattle.fl_setups.specs.Start.{NamesSide, NamesQueue, SidesHaveOneCore, QueuesHaveOneCore, CoresAreApart, SidesAreThere, QueuesAreNew, LinksArePaired, CoresAreNumbered, IsIdle, CoresAreIdle}
+use Rattle.fl_dockets.specs.Rules.{RulesCore, RuleNow, RuleOf, RulesOf}
 
 -- ---- a core
 

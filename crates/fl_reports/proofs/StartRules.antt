@@ -1,15 +1,14 @@
 -- Reply rules that are set before a run: an end has those of its jobs, and nothing else of it has changed.
-use Rattle.std.proofs.Common.{◌≡◌, ◌≢◌, refl, sym, ap, ◌∙◌, subst, ℕ, zero, suc, ◌<◌, ◌==◌, ◌&&◌, if◌then◌else◌, List, [], ◌∷◌, length, slice_get, slice_set, Option, Some, None, Ok, IsSome}
+use Rattle.std.proofs.Common.{◌≡◌, ◌≢◌, refl, sym, ap, ◌∙◌, subst, ℕ, zero, suc, ◌<◌, ◌==◌, ◌&&◌, if◌then◌else◌, List, [], ◌∷◌, length, slice_get, slice_set, Option, Some, None, IsSome}
 use Rattle.std.proofs.Common.{Bool, true, false, arith}
 use Rattle.std.proofs.lemmas.Bool.Decides.{nat_tests}
 use Rattle.std.proofs.lemmas.List.{length-set}
-use Rattle.std.proofs.lemmas.Option.{slice_get_within}
 use Rattle.fl_base.specs.declared.identity.Side.{Side}
 use Rattle.fl_base.specs.declared.identity.Side.TheVariants.{Client, Server}
 use Rattle.fl_base.specs.declared.identity.EndId.{EndId}
 use Rattle.fl_endpoint.specs.View.{TheEnd, interface_in, rule_in as what_stands, rule_at as rule_of_end, with_rule}
-use Rattle.fl_endpoint.specs.Events.{IsMessage, SetsRule}
-use Rattle.fl_core.specs.View.{TheSeat, TheBoard, with_end}
+use Rattle.fl_endpoint.specs.Events.{IsMessage}
+use Rattle.fl_core.specs.View.{TheSeat, TheBoard}
 use Rattle.fl_core.proofs.Places.{one_stands, set_here, set_elsewhere}
 use Rattle.fl_node.specs.View.{TheCore, place_of, with_board}
 use Rattle.fl_queues.specs.Given.{given}

@@ -1,7 +1,6 @@
 -- What a core is given of a set-up's sides and queues: whose each is, and that each core's are apart.
-use Rattle.std.proofs.Common.{◌≡◌, refl, sym, ap, ◌∙◌, subst, ℕ, ◌+◌, ◌*◌, ◌/◌, ◌<◌, List, [], length, slice_get, Some, arith}
+use Rattle.std.proofs.Common.{◌≡◌, sym, ap, ◌∙◌, subst, ℕ, ◌/◌, ◌<◌, List, length, slice_get, Some, arith}
 use Rattle.std.proofs.lemmas.Option.{slice_get_within}
-use Rattle.fl_link.specs.Queue.{TheQueue}
 use Rattle.fl_node.specs.View.{TheCore}
 use Rattle.fl_node.specs.Sound.{IsCore}
 use Rattle.fl_node.specs.Numbers.{moved, renumbered}
@@ -14,7 +13,7 @@ use Rattle.fl_jobs.specs.Jobs.{Job}
 use Rattle.fl_dockets.specs.Rules.{RulesOf}
 use Rattle.fl_dockets.specs.Whole.{IsBeside}
 use Rattle.fl_setups.specs.Start.{NamesSide, NamesQueue, SidesHaveOneCore, QueuesHaveOneCore, CoresAreApart, SidesAreThere, QueuesAreNew, LinksArePaired, CoresAreNumbered, CoresAreIdle, StartsFresh}
-use Rattle.fl_deal.specs.Dealt.{Hands, AreDealt}
+use Rattle.fl_deal.specs.Dealt.{Hands}
 use Rattle.fl_stations.specs.Runs.{TheOutcome, TheStation}
 use Rattle.fl_threads.specs.Begins.{Places}
 use Rattle.fl_threads.specs.Shares.{AreShared, Shares}

@@ -1,5 +1,5 @@
 -- What a report tells of ends is what the desks of their cores have in the end.
-use Rattle.std.proofs.Common.{◌≡◌, refl, sym, ap, ◌∙◌, subst, ℕ, zero, suc, ◌+◌, ◌<◌, ◌≤◌, List, [], ◌∷◌, ◌++◌, map, take, length, slice_get, Option, Some, None, arith}
+use Rattle.std.proofs.Common.{◌≡◌, refl, sym, ap, ◌∙◌, subst, ℕ, zero, suc, ◌+◌, ◌<◌, ◌≤◌, List, [], ◌++◌, map, take, length, slice_get, Option, Some, None, arith}
 use Rattle.std.specs.List.{flat_map, range_with_len}
 use Rattle.std.proofs.lemmas.List.FromFn.{length-map-range_with_len}
 use Rattle.std.proofs.lemmas.Option.{slice_get_past, slice_get_within}
@@ -28,7 +28,7 @@ use Rattle.fl_honest.specs.Told.{IsOf, AreTold}
 use Rattle.fl_stations.specs.Tells as told
 use Rattle.fl_stations.specs.Runs.{TheOutcome, TheStation}
 use Rattle.fl_stations.specs.Tells.{desk_left, both_at, by_binding, Tells}
-use Rattle.fl_threads.specs.Begins.{TheCommon, IsStation, AreStations}
+use Rattle.fl_threads.specs.Begins.{TheCommon, AreStations}
 use Rattle.fl_reports.specs.Runs.{AreRuns}
 use Rattle.fl_reports.proofs.Runs.{is_past, RunAt, run_at, StationAt, station_at}
 use Rattle.fl_reports.proofs.RunsDesks.{at_slot, own_desk, has_desk}

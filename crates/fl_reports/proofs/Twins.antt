@@ -1,8 +1,6 @@
 -- The cores of a run, as the laws of endings have them, and as those of honesty do.
-use Rattle.std.proofs.Common.{◌≡◌, sym, ap, ◌∙◌, ℕ, ◌<◌, List, length, slice_get, Some, arith}
+use Rattle.std.proofs.Common.{◌≡◌, sym, ap, ◌∙◌, ℕ, List, slice_get, Some, arith}
 use Rattle.std.proofs.lemmas.Option.{same_Some, slice_get_within}
-use Rattle.fl_ring.specs.SharedSides.{TheSide}
-use Rattle.fl_running.specs.Run.{TheRun}
 use Rattle.fl_system.specs.Booting.{TheConfig}
 use Rattle.fl_jobs.specs.Jobs.{Job}
 use Rattle.fl_jobs.specs.Report.{TheReport}

@@ -1,5 +1,5 @@
 -- Ends that sit at a dispatcher in the end are wanted there, and those that are wanted there sit there.
-use Rattle.std.proofs.Common.{◌≡◌, inl, inr, refl, sym, ap, ◌∙◌, subst, ℕ, zero, suc, ◌+◌, ◌<◌, ◌≤◌, List, [], ◌∷◌, map, length, slice_get, Option, Some, None, arith}
+use Rattle.std.proofs.Common.{◌≡◌, inl, inr, refl, sym, ap, ◌∙◌, subst, ℕ, List, [], ◌∷◌, map, length, slice_get, Option, Some, None, arith}
 use Rattle.std.proofs.lemmas.List.{length-map}
 use Rattle.std.proofs.lemmas.Option.{same_Some, slice_get_within}
 use Rattle.std.specs.List.{flat_map}
@@ -8,7 +8,7 @@ use Rattle.fl_base.specs.declared.identity.Side.{Side}
 use Rattle.fl_base.specs.declared.identity.Side.TheVariants.{Client, Server}
 use Rattle.fl_compile.specs.Programs.{program_of}
 use Rattle.fl_nameserv.specs.declared.registration.Service.{Service as Offer}
-use Rattle.fl_nameserv.specs.Registrations.{TheRegistration, by_iref}
+use Rattle.fl_nameserv.specs.Registrations.{TheRegistration}
 use Rattle.fl_ring.specs.SharedSides.{TheSide}
 use Rattle.fl_core.specs.View.{TheSeat}
 use Rattle.fl_queues.specs.Binding.{place_of_service}

@@ -18,7 +18,6 @@ use Rattle.fl_shows.specs.Cores.{offer_of, NamesShow}
 use Rattle.fl_shows.specs.CoreLaws.{registration_of, NamesAreShown}
 use Rattle.fl_jobs.specs.Jobs.{Wish, Job}
 use Rattle.fl_worlds.specs.declared.binding.Binding.{Binding}
-use Rattle.fl_dockets.specs.declared.docket.Bound.{Bound}
 use Rattle.fl_dockets.specs.State.{TheJoined, AreJoined}
 use Rattle.fl_dockets.specs.Whole.{About, about, bound_of, wish_in, AreBound}
 use Rattle.fl_dockets.specs.Wished.{cores_on, BeginsOn, AreWished}

@@ -14,6 +14,7 @@ use Rattle.fl_endings.specs.Turns.{KeepsTurns}
 use Rattle.fl_cores.specs.Promised.{Reports}
 use Rattle.fl_reports.specs.Cores.{joined_in, cores_in}
 use Rattle.fl_reports.specs.Outcomes.{AreSetUpAt}
+use Rattle.fl_reports.specs.Over.{IsOutnumbered}
 use Rattle.fl_reports.specs.Reasons.{IsUnlinked, IsSpent, IsCrowded}
 use Rattle.fl_reports.specs.Wanted.{AreWanted}
 
@@ -47,6 +48,8 @@ pub record EndsAsTold {c : TheConfig} {jobs : List Job} {limit : ℕ} {r : TheRe
   -- and of the ends of any bindings that sit at one dispatcher of a core in the end
   pub few_there : (n d turns : ℕ) (core : OneCore) (ends : List EndId) → slice_get (cores_in w) n ≡ Some core → AreEnds (joined_in w) n core d ends
       → slice_get r.turns n ≡ Some turns → handled_at_all r.handled ends ≤ turns
+  -- and that only where jobs open 1,023 other bindings, each another, over routes that lead from that core to that one
+  pub over : (n : ℕ) → refusal_of r n ≡ Some 74 → IsOutnumbered w n
 
 -- each report of a run ends as it tells. Law
 abbrev pub RunsEndAsTold : Type 0

@@ -4,6 +4,7 @@ pub mod Outcomes
 pub mod Runs
 pub mod Wanted
 pub mod Reasons
+pub mod Over
 pub mod Endings
 pub mod OneCore
 pub mod Honesty

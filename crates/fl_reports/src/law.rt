@@ -4,6 +4,7 @@ ghost use Rattle.fl_reports.specs.Again.{OneReport, OneText};
 ghost use Rattle.fl_reports.specs.Endings.{RunsEndAsTold};
 ghost use Rattle.fl_reports.specs.Honesty.{RunsReportHonestly};
 ghost use Rattle.fl_reports.specs.OneCore.{RunsOfOneCore};
+ghost use Rattle.fl_reports.specs.Over.{RefusedAreOutnumbered, SpentLinksAreLedOver};
 ghost use Rattle.fl_reports.specs.Reasons.{RefusalsHaveReasons};
 ghost use Rattle.fl_reports.specs.Wanted.{WantedHandleFew};
 
@@ -12,7 +13,7 @@ use crate::outcomes::{
     reports_handle_few, reports_keep_turns,
 };
 use fl_deal::dealt_go_on;
-use fl_honest::{cores_go, desks_tell_reasons, ends_sit, runs_are_honest};
+use fl_honest::{cores_go, desks_tell_reasons, ends_sit, runs_are_honest, spent_on_bindings};
 use fl_jobs::one_outcome;
 use fl_logs::{leads_at_first, sides_go};
 use fl_ring::SharedSide;
@@ -50,6 +51,21 @@ pub fn refusals_have_reasons()
     reports_are_of_runs();
 }
 
+/// Where a core gave all its numbers on its link to another, each is for another binding: a job opens that, and wishes for a route that leads from the one core
+/// to the other. And a binding that is told as refused for want of a number (E74) is none of those: its route leads over such a link too, beside 1,023 others.
+pub fn spent_links_are_led_over()
+    ensures over { SpentLinksAreLedOver }
+    ensures refused { RefusedAreOutnumbered }
+{
+    set_ups_start_fresh();
+    cores_go();
+    dealt_go_on();
+    sides_go::<SharedSide>();
+    leads_at_first();
+    spent_on_bindings();
+    reports_are_of_runs();
+}
+
 /// What all ends handled that are wanted at one dispatcher, by the set-up or by jobs that open bindings, is together
 /// at most the turns that are told of its core.
 pub fn wanted_handle_few()
@@ -69,8 +85,8 @@ pub fn wanted_handle_few()
 
 /// `complete` is told only where all that was handed in was handled, at both ends of each binding that isn't told as
 /// refused, and `turns out` only where a core that hadn't finished took all its turns; none of the set-up is refused,
-/// and neither end of one that is handled anything; each that is has its reason; and no dispatcher handled more calls
-/// than its core took turns.
+/// and neither end of one that is handled anything; each that is has its reason, and where that is want of a number
+/// jobs open 1,023 other bindings over that link; and no dispatcher handled more calls than its core took turns.
 pub fn runs_end_as_told()
     ensures ends { RunsEndAsTold }
 {
@@ -82,6 +98,7 @@ pub fn runs_end_as_told()
     dispatchers_handle_few();
     wanted_handle_few();
     reports_handle_few();
+    spent_links_are_led_over();
 }
 
 /// The report of a run of one core is a function of the configuration, the jobs and the limit: what so many turns of the machine come to, from the state that
