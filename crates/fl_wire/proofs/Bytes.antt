@@ -163,3 +163,7 @@ pub no_frag_past : (plan : PlanNo) (i : TheInterface) (c : TheCall) (bytes : Lis
 no_frag_past plan i c bytes n k e en h =
     let long : n ≡ count plan i c = en ∙ ap count_for (ap length e ∙ length_payload (leaves plan i c)) in
     sym (get_made_past (frag_on 0 c.msg (payload_of plan i c)) 0 (count plan i c) k (subst (λ (m : ℕ). m ≤ k) long h))
+
+-- the same where they are listed by that word's function
+pub words_from : (xs rest : List ℕ) (k : ℕ) → rest ≡ drop (56 * k) xs → map (word rest) (range_with_len 0 7) ≡ map (word xs) (range_with_len (7 * k) 7)
+words_from xs rest k r = fragment_words xs rest k r _ _ _ _ _ _ _ refl refl refl refl refl refl refl

@@ -65,21 +65,56 @@ fn word_at(bytes: &[u8], index: usize) -> u64
     ])
 }
 
+// The seven words of a full fragment: nothing is asked between them.
+#[inline(always)]
+fn full_words(bytes: &[u8]) -> [u64; 7]
+    requires full { 56 ≤ length bytes.now }
+    ensures words { result ≡ map (word bytes.now) (range_with_len 0 7) }
+{
+    [
+        whole_word(bytes, 0),
+        whole_word(bytes, 8),
+        whole_word(bytes, 16),
+        whole_word(bytes, 24),
+        whole_word(bytes, 32),
+        whole_word(bytes, 40),
+        whole_word(bytes, 48),
+    ]
+}
+
+// The seven words of a fragment, with zeros after the end of the bytes.
+fn last_words(bytes: &[u8]) -> [u64; 7]
+    ensures words { result ≡ map (word bytes.now) (range_with_len 0 7) }
+{
+    [
+        word_at(bytes, 0),
+        word_at(bytes, 1),
+        word_at(bytes, 2),
+        word_at(bytes, 3),
+        word_at(bytes, 4),
+        word_at(bytes, 5),
+        word_at(bytes, 6),
+    ]
+}
+
+// The seven words that some bytes begin with, with zeros after their end.
+#[inline(always)]
+fn first_words(bytes: &[u8]) -> [u64; 7]
+    ensures words { result ≡ map (word bytes.now) (range_with_len 0 7) }
+{
+    if bytes.len() >= FRAG_BYTES {
+        full_words(bytes)
+    } else {
+        last_words(bytes)
+    }
+}
+
 /// Fragment `k` of a message with these payload bytes, with epoch 0 and circuit 0.
 pub fn fragment(payload: &[u8], msg: MsgNo, k: usize) -> Frag
     ensures frag { result ≡ frag_on 0 msg.0 payload.now k }
 {
-    let rest = rest_from(payload, k);
     Frag {
-        words: [
-            word_at(rest, 0),
-            word_at(rest, 1),
-            word_at(rest, 2),
-            word_at(rest, 3),
-            word_at(rest, 4),
-            word_at(rest, 5),
-            word_at(rest, 6),
-        ],
+        words: first_words(rest_from(payload, k)),
         control: control(k == 0, msg, Circuit(0)),
     }
 }
