@@ -1,9 +1,8 @@
-//! Many bytes of fragments at once, word by word, and whether all of them are a string's.
+//! Many bytes of fragments at once, word by word.
 
-ghost use Rattle.std.specs.Prelude.{◌≡◌, ◌++◌, ◌+◌, ◌-◌, ◌*◌, ◌%◌, ◌^◌, ◌<◌, ◌≤◌, nat_lt, map, length, OnOk, IfOk};
-ghost use Rattle.std.specs.List.{list_all, range_with_len};
+ghost use Rattle.std.specs.Prelude.{◌≡◌, ◌++◌, ◌+◌, ◌-◌, ◌*◌, ◌%◌, ◌^◌, ◌<◌, ◌≤◌, map, length, OnOk, IfOk};
+ghost use Rattle.std.specs.List.{range_with_len};
 ghost use Rattle.std.specs.Int.{to_le_bytes, w64};
-ghost use Rattle.fl_value.specs.Fits.{is_text_byte};
 ghost use Rattle.fl_wire.specs.Standing.{byte_in};
 
 use fl_base::Frag;
@@ -63,24 +62,4 @@ pub(crate) fn bytes_from(
     }
     bytes.truncate(count);
     Ok(bytes)
-}
-
-/// Whether no byte is 0. It doesn't stop at the first that is, so that many are looked at at once.
-fn has_no_zero(bytes: &[u8]) -> bool
-    ensures same { result ≡ list_all (λ byte. nat_lt 0 byte) bytes.now }
-{
-    let mut all = true;
-    for byte in bytes {
-        if *byte == 0 {
-            all = false;
-        }
-    }
-    all
-}
-
-/// Whether all bytes are a string's: none is 0.
-pub(crate) fn are_text_bytes(bytes: &[u8]) -> bool
-    ensures same { result ≡ list_all is_text_byte bytes.now }
-{
-    has_no_zero(bytes)
 }

@@ -11,10 +11,10 @@ ghost use Rattle.fl_interface.specs.declared.interface.Scalar.TheVariants.{Uint6
 ghost use Rattle.fl_wire.specs.Shapes.{ReadAt, StopsAt, values_of, fields_of, elements_of, text_byte, texts_of, length_below, arguments_of};
 
 use crate::leaf::{Stop, byte_of, read_number, read_padding, read_word, word_at};
-use crate::text::{are_text_bytes, bytes_from};
+use crate::text::bytes_from;
 use fl_base::{FRAG_BYTES, Frag};
 use fl_interface::{ArgType, FixedType, Scalar, greatest_alignment};
-use fl_value::{PlanNo, Value};
+use fl_value::{PlanNo, Value, are_text_bytes};
 use std::alloc::Global;
 
 // Half of the numbers that a signed scalar has; 0 for scalars without a sign.
