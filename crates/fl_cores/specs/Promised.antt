@@ -82,8 +82,8 @@ IsRefusedAt c number place (Some n) = IsFaultOf (front_of c n) (boot.Refused num
 abbrev pub IsRefused : TheConfig → ℕ → ℕ → Type 0
 IsRefused c number place = IsRefusedAt c number place (position is_other c.setup)
 
--- the set-up is accepted, and by what it makes the job at this place, from 1, is the first of these that has a fault; or, at place 0, one of its own bindings
--- can't be joined
+-- the set-up is accepted, and by what it makes the job at this place, from 1, is the first of these that has a fault; or, at place 0, it is the
+-- first of its own bindings that can't be joined
 pub record RefusesJob (c : TheConfig) (jobs : List Job) (number place : ℕ) : Type 0 where
   pub accepted : IsAccepted c
   pub parts : Parts

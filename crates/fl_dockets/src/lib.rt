@@ -6,9 +6,9 @@
 //! them those that jobs open (`AreBound`, `specs/Whole.antt`), each by the wish of its place: to the service of that name, over that route, which its client's
 //! core may ask for (`AreWished`, `specs/Wished.antt`). Circuits are opened to services of their bindings' cores and interfaces, and rules are between messages
 //! of the interface (`JobsFit`, `specs/Fitting.antt`). Rules are set at once at ends that are there (`specs/Rules.antt`). None of the jobs has a fault
-//! then (`NoneRefused`, `specs/Whole.antt`; each fault is in `specs/Faults.antt`). Otherwise the first job is told that has one, with the number of the first
-//! found there: none before it has any (`RefusedAt`); or, at place 0, the first binding of the set-up that is refused (`BindingRefused`). A refusal is told
-//! in one way alone ([`one_refusal`]).
+//! then (`NoneRefused`, `specs/Whole.antt`; `job_fault` there tells each, by `specs/Faults.antt`). Otherwise the first job is told that has one, with the
+//! number of the first found there: none before it has any (`RefusedAt`); or, at place 0, the first binding of the set-up that is refused
+//! (`BindingRefused`). A refusal is told in one way alone ([`one_refusal`]).
 //!
 //! - `whole.rt`: the jobs of a whole file
 //! - `joining.rt`: one job more

@@ -17,7 +17,7 @@ use Rattle.fl_logs.proofs.Aside.{core_aside}
 use Rattle.fl_logs.proofs.Leads.{does_led, does_later}
 use Rattle.fl_logs.proofs.Stepping.{log_steps}
 use Rattle.fl_honest.specs.Asked.{HasDeed, IsServedBy, IsOpenedBy}
-use Rattle.fl_honest.specs.Reasons.{IsUsedUp, WishesAlone}
+use Rattle.fl_honest.specs.Reasons.{IsUsedUp, IsOnlyWish}
 use Rattle.fl_honest.proofs.AskedLaid.{does_laid}
 use Rattle.fl_honest.proofs.AskedMade.{log_comes}
 use Rattle.fl_honest.proofs.ReasonsOwn.{used_later}
@@ -49,7 +49,7 @@ module _ {S : Type 0} (w : Ways S) (jobs : List Job) where
   one_side a b same = (let sides : Client ≡ Server = ap (λ (e : EndId). e.side) same in cc)
 
   pub gone : (log : List Deed) (s t : TheRun S) (h : Goes w jobs s log t) → IsLed s.core → (wish : Wish) → place_of s.core (client_of wish.opening.binding) ≡ None
-      → IsUsedUp s.core.monitor.circuits wish.link.0 → WishesAlone jobs wish → place_of t.core (client_of wish.opening.binding) ≡ None
+      → IsUsedUp s.core.monitor.circuits wish.link.0 → IsOnlyWish jobs wish → place_of t.core (client_of wish.opening.binding) ≡ None
   gone log s t h led wish absent used alone = elim (log_comes w jobs (client_of wish.opening.binding) log s t h absent) [
     | inl none ↦ none
     | inr made ↦ absurd (by made.0 made.1 made.2)

@@ -71,7 +71,7 @@ use Rattle.fl_logs.proofs.Stepping.{log_steps, end_stays}
 use Rattle.fl_honest.specs.Cores.{IsAmple, AreAmple, OneCore}
 use Rattle.fl_honest.specs.Named.{Has}
 use Rattle.fl_ring.specs.SharedSides.{TheSide}
-use Rattle.fl_honest.specs.Reasons.{IsUsedUp, RefusesWish, CameUnder, AsksOnly, IsFrom, IsOwnWish, WasHeard, WasFull, IsRefusedAt, as_talk, talk_of, WishesAlone}
+use Rattle.fl_honest.specs.Reasons.{IsUsedUp, RefusesWish, CameUnder, AsksOnly, IsFrom, IsOwnWish, WasHeard, WasFull, IsRefusedAt, as_talk, talk_of, IsOnlyWish}
 use Rattle.fl_honest.specs.Asked.{IsWished}
 use Rattle.fl_honest.proofs.AskedDesks.{JobAt, job_there, JobsStay, job_before, event_jobs, offers_stay}
 use Rattle.fl_honest.proofs.AskedLaid.{beside}
@@ -397,7 +397,7 @@ own_wish jobs s name wish a = record {
 
 -- where no other job opens its binding, the client's end isn't there as the core's run ends
 abbrev pub IsGone : List Job → OneCore → Wish → Type 0
-IsGone jobs c wish = WishesAlone jobs wish → place_of c.finish.core (client_of wish.opening.binding) ≡ None
+IsGone jobs c wish = IsOnlyWish jobs wish → place_of c.finish.core (client_of wish.opening.binding) ≡ None
 
 pub told_at : (jobs : List Job) (c : OneCore) (steps : List Step) (e : EndId) (r : ℕ)
     → Tells jobs (IsOwnWish jobs c.start) (WasFull jobs c.finish) (IsGone jobs c) c.start.core.monitor.circuits c.finish.core.monitor e (talk_of c steps).said c.start (talk_of c steps).heard r

@@ -29,7 +29,7 @@ use Rattle.fl_honest.specs.Named.{Has}
 use Rattle.fl_honest.specs.Asked.{IsWished, CameAlong}
 use Rattle.fl_honest.specs.Whole.{HasOwn}
 use Rattle.fl_honest.specs.Runs.{AreSetUp}
-use Rattle.fl_honest.specs.Reasons.{IsUsedUp, Talk, HeardRefused, AsksOnly, LeadsOverUsedUp, RefusesWish, WasFull, WasRefused, IsRefusedAt, WishesAlone, GivesNone, Origin, from_job, from_link, IsSince, IsGivenTo, talk_of, IsOwnWish, IsOwnMade, CoresReason, GoesReasoned}
+use Rattle.fl_honest.specs.Reasons.{IsUsedUp, Talk, HeardRefused, AsksOnly, LeadsOverUsedUp, RefusesWish, WasFull, WasRefused, IsRefusedAt, IsOnlyWish, GivesNone, Origin, from_job, from_link, IsSince, IsGivenTo, talk_of, IsOwnWish, IsOwnMade, CoresReason, GoesReasoned}
 use Rattle.fl_honest.specs.Spent.{GoesOver, AreOver, SpentOnBindings, IsCrowdedOut, SpentOnOthers}
 use Rattle.fl_honest.proofs.AskedRoutes.{stands_behind, heard_wished}
 use Rattle.fl_honest.proofs.ReasonsAll.{beside, went, Heard, Came, Why, is_offered, across_start, across_finish, at_home, not_again}
@@ -365,7 +365,7 @@ module _ (rings : RingsConserve) (prefix : CircuitsPrefix) (reason : CoresReason
     wished : IsWished j.jobs x.wish.opening
     wished = record { place = x.place; wish = x.wish; job_is = x.job_is; opening_is = refl }
 
-    alone : WishesAlone j.jobs x.wish
+    alone : IsOnlyWish j.jobs x.wish
     alone p w there same =
         let (bound, bound_is) = at_within j.bindings x.wish.opening.binding (all.joined.there x.place (job.Open x.wish) x.job_is) in
         let places = one_place asked j _ all.joined bound.opened bound x.wish.opening.binding bound_is refl p x.place w x.wish there x.job_is same refl in

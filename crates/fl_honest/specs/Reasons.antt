@@ -183,7 +183,7 @@ pub record LeadsOver (t : TheCircuits) (path : List CoreId) (l : ℕ) : Type 0 w
   pub next_is : next_on path t.core ≡ Some next
   pub link_is : link_of t next.0 ≡ Some l
 
--- whence an opening is: from a job of this core's, or from this number of a link
+-- where an opening comes from: a job of this core's, or this number of a link
 pub data Origin : Type 0 where
   from_job : Origin
   from_link : ℕ → ℕ → Origin
@@ -236,7 +236,7 @@ pub record IsOwnWishOver (jobs : List CoreJob) (s : TheRun TheSide) (l : ℕ) (o
   pub own : IsOwnWish jobs s o
   pub link_is : own.wish.link.0 ≡ l
 
--- and in the end, the client's end of its binding is at the core
+-- and the client's end of its binding is at the core as the run ends
 pub record IsOwnMade (jobs : List CoreJob) (c : OneCore) (l : ℕ) (o : Opening) : Type 0 where
   pub over : IsOwnWishOver jobs c.start l o
   pub place : ℕ
@@ -258,10 +258,11 @@ pub record WasHeard (Wishes : Opening → Type 0) (t : TheCircuits) (talk : Talk
   pub end_is : client_of own.binding ≡ e
 
 -- no other job wishes for an opening of its binding
-abbrev pub WishesAlone : List CoreJob → Wish → Type 0
-WishesAlone jobs wish = (place : ℕ) (w : Wish) → slice_get jobs place ≡ Some (job.Open w) → w.opening.binding ≡ wish.opening.binding → w ≡ wish
+abbrev pub IsOnlyWish : List CoreJob → Wish → Type 0
+IsOnlyWish jobs wish = (place : ℕ) (w : Wish) → slice_get jobs place ≡ Some (job.Open w) → w.opening.binding ≡ wish.opening.binding → w ≡ wish
 
--- a job of the end's desk wishes for an opening that this core refused; where for want of a number, the client's end isn't there in the end
+-- a job of the end's desk wishes for an opening that this core refused; where for want of a number, and no other job wishes for its binding, the client's end
+-- isn't there in the end
 pub record WasRefused (jobs : List CoreJob) (s finish : TheRun TheSide) (e : EndId) (reason : ℕ) : Type 0 where
   pub desk : TheDesk
   pub desk_is : desk_of s e ≡ Some desk
@@ -271,7 +272,7 @@ pub record WasRefused (jobs : List CoreJob) (s finish : TheRun TheSide) (e : End
   pub wish : Wish
   pub job_is : slice_get jobs place ≡ Some (job.Open wish)
   pub why : RefusesWish (WasFull jobs finish) s.core.monitor.circuits finish.core.monitor.circuits wish reason
-  pub gone : reason ≡ 74 → WishesAlone jobs wish → place_of finish.core (client_of wish.opening.binding) ≡ None
+  pub gone : reason ≡ 74 → IsOnlyWish jobs wish → place_of finish.core (client_of wish.opening.binding) ≡ None
 
 -- an opening was heard of a binding of which a job of a desk wishes for one
 pub record AskedAgain (jobs : List CoreJob) (s : TheRun TheSide) (heard : ℕ → List Frag) : Type 0 where

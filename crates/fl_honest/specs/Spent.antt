@@ -1,4 +1,4 @@
--- Where a core gave all its numbers on a link: each is for another binding, which a job opens, and whose route goes over that link. Laws.
+-- Where a core gave all its numbers on a link: jobs open as many bindings, each another, whose routes go over that link. Laws.
 use Rattle.std.specs.Prelude.{ℕ, ◌≡◌, ◌≢◌, ◌⊎◌, ◌<◌, List, slice_get, Some}
 use Rattle.fl_base.specs.declared.identity.EndId.{EndId}
 use Rattle.fl_nameserv.specs.Registrations.{TheRegistration}

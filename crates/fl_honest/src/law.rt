@@ -339,7 +339,7 @@ pub fn desks_tell_reasons()
     circuits_join();
 }
 
-/// Where a core gave all its numbers on a link, each is for another binding: a job opens that, and its route goes over that link. And where a desk has its
+/// Where a core gave all its numbers on a link, jobs open as many bindings, each another, whose routes go over that link. And where a desk has its
 /// opening as refused for want of a number in the end, its route goes over such a link too, and none of those bindings is its own.
 pub fn spent_on_bindings()
     ensures spent { SpentOnBindings }

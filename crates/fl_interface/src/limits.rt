@@ -1,4 +1,4 @@
-//! The limits of an interface, as numbers: `specs/Limits.antt` and `specs/Depth.antt` say what keeps them.
+//! The limits of an interface and of its text, as numbers: `specs/Limits.antt` and `specs/Depth.antt` say what keeps those of an interface.
 
 /// Types that an interface declares.
 pub const MAX_TYPES: usize = 256;

@@ -27,7 +27,7 @@ use Rattle.fl_honest.specs.Reasons.{IsUsedUp as UsedUp}
 use Rattle.fl_honest.specs.Runs.{AreSetUp}
 use Rattle.fl_honest.specs.Spent.{GoesOver, AreOver, SpentOnBindings, IsCrowdedOut, SpentOnOthers}
 use Rattle.fl_cores.specs.Promised.{Reports}
-use Rattle.fl_reports.specs.Over.{LeadsOver, AreLedOver, IsOutnumbered, SpentLinksAreLedOver, RefusedAreOutnumbered}
+use Rattle.fl_reports.specs.Over.{IsRoutedOver, AreLedOver, IsOutnumbered, SpentLinksAreLedOver, RefusedAreOutnumbered}
 use Rattle.fl_reports.specs.Outcomes.{ReportsAreOfRuns}
 use Rattle.fl_reports.specs.Reasons.{IsUsedUp}
 use Rattle.fl_reports.specs.Runs.{AreRuns}
@@ -133,7 +133,7 @@ module _ (fresh : SetUpsStartFresh) (c : TheConfig) (asked : List Job) (limit : 
           ];
         }
 
-    led_one : (at next : ℕ) → at ≡ i → link_of t next ≡ Some l → (o : Opening) → GoesOver j i t l o → LeadsOver c asked at next o.binding
+    led_one : (at next : ℕ) → at ≡ i → link_of t next ≡ Some l → (o : Opening) → GoesOver j i t l o → IsRoutedOver c asked at next o.binding
     led_one at next at_is to o y =
         let p = opens o y in
         record {

@@ -48,7 +48,7 @@ pub record EndsAsTold {c : TheConfig} {jobs : List Job} {limit : ℕ} {r : TheRe
   -- and of the ends of any bindings that sit at one dispatcher of a core in the end
   pub few_there : (n d turns : ℕ) (core : OneCore) (ends : List EndId) → slice_get (cores_in w) n ≡ Some core → AreEnds (joined_in w) n core d ends
       → slice_get r.turns n ≡ Some turns → handled_at_all r.handled ends ≤ turns
-  -- and that only where jobs open 1,023 other bindings, each another, over routes that lead from that core to that one
+  -- for want of a number (74) only where jobs open 1,023 other bindings, each another, over routes that lead from that core to that one
   pub over : (n : ℕ) → refusal_of r n ≡ Some 74 → IsOutnumbered w n
 
 -- each report of a run ends as it tells. Law

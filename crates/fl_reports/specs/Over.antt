@@ -11,7 +11,7 @@ use Rattle.fl_reports.specs.Reasons.{Step, IsUsedUp, IsSpent}
 use Rattle.fl_reports.specs.Wanted.{behind, IsAsked}
 
 -- a job opens binding n, and wishes for a route that leads from this core to that one
-pub record LeadsOver (c : TheConfig) (jobs : List Job) (core next n : ℕ) : Type 0 where
+pub record IsRoutedOver (c : TheConfig) (jobs : List Job) (core next n : ℕ) : Type 0 where
   pub asked : IsAsked c jobs n
   pub step : Step asked.wish.route
   pub core_is : step.core ≡ core
@@ -20,7 +20,7 @@ pub record LeadsOver (c : TheConfig) (jobs : List Job) (core next n : ℕ) : Typ
 -- so it is of 1,023 bindings, each another
 pub record AreLedOver (c : TheConfig) (jobs : List Job) (core next : ℕ) : Type 0 where
   pub bindings : ℕ → ℕ
-  pub over : (i : ℕ) → i < most_openings → LeadsOver c jobs core next (bindings i)
+  pub over : (i : ℕ) → i < most_openings → IsRoutedOver c jobs core next (bindings i)
   pub apart : (i k : ℕ) → i < most_openings → k < most_openings → bindings i ≡ bindings k → i ≡ k
 
 -- binding n's route leads over a link on which its core gave all its numbers, and so do those of 1,023 other bindings

@@ -51,7 +51,7 @@ pub fn refusals_have_reasons()
     reports_are_of_runs();
 }
 
-/// Where a core gave all its numbers on its link to another, each is for another binding: a job opens that, and wishes for a route that leads from the one core
+/// Where a core gave all its numbers on its link to another, jobs open as many bindings, each another, and wish for routes that lead from the one core
 /// to the other. And a binding that is told as refused for want of a number (E74) is none of those: its route leads over such a link too, beside 1,023 others.
 pub fn spent_links_are_led_over()
     ensures over { SpentLinksAreLedOver }

@@ -332,8 +332,8 @@ fn put_next(
     put_argument(out, ty, value)
 }
 
-// The arguments as declared, and whether plan 2 keeps that order; where it doesn't, some of them. A string is put only where
-// nothing of a fixed size comes last, so that its bytes are put once.
+// The arguments as declared, and whether plan 2 keeps that order; where it doesn't, some of them. Where something of a fixed
+// size comes last it gives up before any string is put, so that a string's bytes are mostly put once.
 fn put_in_order(out: &mut Vec<u8>, types: &[ArgType], values: &[Value]) -> Result<bool, AllocError>
     requires fit { are_arguments (map arg_type_of types.now) (map datum_of values.now) ≡ true }
     ensures ok { IfOk result (λ kept. kept ≡ true → (before : List Leaf) → out.old.items ≡ payload_bytes before
@@ -446,8 +446,8 @@ pub fn payload_into(
 
 /// The payload of a call: each number little-endian at its place under the plan, every other byte 0.
 ///
-/// Each byte is written once, but where the arguments aren't declared in the order of plan 2: then it goes over their types
-/// once more for each rank. The alignment of an array's elements is found once, and that of a field that is no scalar each
+/// Each byte is written once, but under plan 2 where the arguments aren't declared in its order: some may then be written twice,
+/// and it goes over their types once more for each rank. The alignment of an array's elements is found once, and that of a field that is no scalar each
 /// time that a value of its struct is written.
 ///
 /// # Errors
