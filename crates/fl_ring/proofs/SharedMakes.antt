@@ -121,7 +121,7 @@ new_holds n ws p wide zeros = record {
     known_told = omega arith;
     room = omega arith;
     most = omega arith;
-    stored = omega arith;
+    seven = omega arith;
     part = λ k lt. absurd (omega arith);
     due = λ d lt. let h : 0 ≡ 1 = d ∙ first_epoch n 0 p p in absurd (omega arith);
     peeked = λ f e. absurd (none_some f e);

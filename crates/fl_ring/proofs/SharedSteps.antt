@@ -1,5 +1,5 @@
 -- The steps of a ring over shared words: what the rule allows each side.
-use Rattle.std.proofs.Common.{ℕ, ◌≡◌, ◌≢◌, ◌<◌, ◌≤◌, ◌+◌, ◌*◌, ◌^◌, true, List, length, get_or, set, subst, ◌∙◌, sym, refl, arith, length-set, get_or-set_same, get_or-set_other}
+use Rattle.std.proofs.Common.{ℕ, ◌≡◌, ◌≢◌, ◌<◌, ◌≤◌, ◌+◌, ◌-◌, ◌*◌, ◌^◌, true, List, length, get_or, set, subst, ◌∙◌, sym, refl, arith, length-set, get_or-set_same, get_or-set_other}
 use mathlib.Core.Option.{none}
 use Rattle.atomic_table.specs.Table.{Me, step, Allows}
 use Rattle.fl_base.specs.Control.{epoch_of}
@@ -8,11 +8,11 @@ use Rattle.fl_ring.specs.declared.shared.board.Writing.{Writing}
 use Rattle.fl_ring.specs.declared.shared.board.Reading.{Reading}
 use Rattle.fl_ring.specs.declared.shared.board.View.{View}
 use Rattle.fl_ring.specs.Way.{slot}
-use Rattle.fl_ring.specs.SharedWay.{IsDue, WayRuns, WayNear, with_stored, with_put, with_known, with_control, with_loaded, with_peeked, with_got, with_told}
-use Rattle.fl_ring.specs.SharedRing.{Sides, Fits, RingHolds, RingRule, with_writing, with_reading, stores_word, stores_control, loads_told, loads_control, loads_word, loads_peeked, loads_taken, stores_told, compares}
+use Rattle.fl_ring.specs.SharedWay.{IsDue, WayRuns, WayNear, with_found, with_stored, with_put, with_known, with_control, with_loaded, with_peeked, with_got, with_told}
+use Rattle.fl_ring.specs.SharedRing.{Sides, Fits, RingHolds, RingRule, with_writing, with_reading, IsNextWord, IsLastWord, finds_word, stores_word, stores_control, loads_told, loads_control, loads_word, loads_peeked, loads_taken, stores_told, compares}
 use Rattle.fl_ring.proofs.Places.{slot_within}
 use Rattle.fl_ring.proofs.SharedTables.{Moves, allows_by, allows_load}
-use Rattle.fl_ring.proofs.SharedWays.{runs_stored, runs_put, runs_known, runs_control, peeked_there, runs_loaded, runs_peeked, runs_got, loaded_again, got_unspent, runs_told, runs_elsewhere, front_within}
+use Rattle.fl_ring.proofs.SharedWays.{runs_found, runs_stored, runs_put, runs_known, runs_control, peeked_there, runs_loaded, runs_peeked, runs_got, loaded_again, got_unspent, runs_told, runs_elsewhere, front_within}
 
 abbrev Seated : Type 0
 Seated = Me (Unit {0}) View
@@ -64,12 +64,19 @@ told_stays n i k x ws some small =
     let ne : 8 * n ≢ slot 0 n i + k = λ e. omega arith in
     get_or-set_other ws (slot 0 n i + k) (8 * n) x 0 ne
 
-holds_stored : (n x : ℕ) (ws : List ℕ) (w : Writing) (r : Reading) → RingHolds n ws w r → length w.sent < w.known + n → length w.part < 7
-    → RingHolds n (set ws (slot 0 n (length w.sent) + length w.part) x) (with_stored w x) r
-holds_stored n x ws w r h room small = record {
-  wide = length-set ws (slot 0 n (length w.sent) + length w.part) x ∙ h.wide;
-  way = runs_stored 0 n ws w r r.told x h.way room small;
-  told_is = told_stays n (length w.sent) (length w.part) x ws h.way.holds.marked.some (omega arith) ∙ h.told_is;
+holds_found : (n x : ℕ) (ws : List ℕ) (w : Writing) (r : Reading) → RingHolds n ws w r → length w.part < 7 → x ≡ get_or ws (slot 0 n (length w.sent) + length w.part) 0 → RingHolds n ws (with_found w x) r
+holds_found n x ws w r h small is = record {
+  wide = h.wide;
+  way = runs_found 0 n ws w r r.told x h.way small is;
+  told_is = h.told_is;
+}
+
+holds_stored : (n x : ℕ) (ws : List ℕ) (w : Writing) (r : Reading) → RingHolds n ws w r → length w.sent < w.known + n → 0 < length w.part
+    → RingHolds n (set ws (slot 0 n (length w.sent) + (length w.part - 1)) x) (with_stored w x) r
+holds_stored n x ws w r h room some = record {
+  wide = length-set ws (slot 0 n (length w.sent) + (length w.part - 1)) x ∙ h.wide;
+  way = runs_stored 0 n ws w r r.told x h.way room some;
+  told_is = told_stays n (length w.sent) (length w.part - 1) x ws h.way.holds.marked.some (omega (arith, h.way.seven)) ∙ h.told_is;
 }
 
 holds_put : (n c : ℕ) (ws : List ℕ) (w : Writing) (r : Reading) → RingHolds n ws w r → length w.sent < w.known + n → length w.part ≡ 7 → length w.sent < 2 ^ 62 → epoch_of c ≡ epoch_at n (length w.sent)
@@ -92,16 +99,26 @@ holds_told n t ws w r h rises most = record {
 
 -- ---- what the rule allows
 
-pub allows_stored : (n slots id i x : ℕ) (me : Seated) → n ≡ me.0.size → me.0.writes ≡ true → i ≡ slot 0 me.0.size (length me.0.put.sent) + length me.0.put.part
-    → length me.0.put.part < 7 → length me.0.put.sent < me.0.put.known + me.0.size
-    → Allows (RingRule n) slots id me i (λ _. x) (λ _. stores_word (step slots i x 0 none) me x)
-allows_stored n slots id i x me key writes at small room =
+pub allows_found : (n slots id i : ℕ) (me : Seated) → n ≡ me.0.size → me.0.writes ≡ true → IsNextWord i me.0 → Allows (RingRule n) slots id me i (λ x. x) (finds_word (step slots i 0 0 none) me)
+allows_found n slots id i me key writes (at, small, room) =
+    subst (λ (k : ℕ). Allows (RingRule k) slots id me i (λ x. x) (finds_word (step slots i 0 0 none) me)) (sym key)
+    (subst (λ (k : ℕ). Allows (RingRule me.0.size) slots id me k (λ x. x) (finds_word (step slots k 0 0 none) me)) (sym at)
+    (let m : ℕ = me.0.size in let place : ℕ = slot 0 m (length me.0.put.sent) + length me.0.put.part in
+    allows_load (Fits m) (Held m) slots id place me (finds_word (step slots place 0 0 none) me)
+    (λ ws s fits held.
+    let x : ℕ = get_or ws place 0 in
+    let h : RingHolds m ws me.0.put s.take = as_writer m id ws s me.0 writes fits held in
+    writer_moves m id ws s me.0 (with_found me.0.put x) (λ v. finds_word (step slots place 0 0 none) me x (v, me.1)) writes fits
+    (holds_found m x ws me.0.put s.take h small refl) (refl, (refl, small, room)))))
+
+pub allows_stored : (n slots id i x : ℕ) (me : Seated) → n ≡ me.0.size → me.0.writes ≡ true → IsLastWord i me.0 → Allows (RingRule n) slots id me i (λ _. x) (λ _. stores_word (step slots i x 0 none) me x)
+allows_stored n slots id i x me key writes (at, some, few, room) =
     subst (λ (k : ℕ). Allows (RingRule k) slots id me i (λ _. x) (λ _. stores_word (step slots i x 0 none) me x)) (sym key)
     (subst (λ (k : ℕ). Allows (RingRule me.0.size) slots id me k (λ _. x) (λ _. stores_word (step slots k x 0 none) me x)) (sym at)
-    (let m : ℕ = me.0.size in let place : ℕ = slot 0 m (length me.0.put.sent) + length me.0.put.part in
+    (let m : ℕ = me.0.size in let place : ℕ = slot 0 m (length me.0.put.sent) + (length me.0.put.part - 1) in
     allows_by (Fits m) (Held m) slots id place me (λ _. x) (λ _. stores_word (step slots place x 0 none) me x)
     (λ ws s fits held. writer_moves m id (set ws place x) s me.0 (with_stored me.0.put x) (λ v. stores_word (step slots place x 0 none) me x (v, me.1)) writes fits
-    (holds_stored m x ws me.0.put s.take (as_writer m id ws s me.0 writes fits held) room small) (refl, refl, small, room))))
+    (holds_stored m x ws me.0.put s.take (as_writer m id ws s me.0 writes fits held) room some) (refl, (refl, some, few, room)))))
 
 pub allows_put : (n slots id i c : ℕ) (me : Seated) → n ≡ me.0.size → me.0.writes ≡ true → i ≡ slot 0 me.0.size (length me.0.put.sent) + 7
     → length me.0.put.part ≡ 7 → length me.0.put.sent < me.0.put.known + me.0.size → length me.0.put.sent < 2 ^ 62 → epoch_of c ≡ epoch_at me.0.size (length me.0.put.sent)

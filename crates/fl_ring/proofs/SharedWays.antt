@@ -1,8 +1,9 @@
 -- The steps of a way between two threads: each leaves what holds at every moment.
-use Rattle.std.proofs.Common.{ℕ, ◌≡◌, ◌≢◌, ◌<◌, ◌≤◌, ◌+◌, ◌*◌, ◌%◌, ◌^◌, ◌⊎◌, inl, inr, List, [], ◌∷◌, ◌++◌, length, get_or, set, ap, subst, ◌∙◌, sym, refl, arith, Option, Some, None, length-append, append_assoc, get_or-set_same, get_or-set_other}
+use Rattle.std.proofs.Common.{ℕ, ◌≡◌, ◌≢◌, ◌<◌, ◌≤◌, ◌+◌, ◌-◌, ◌*◌, ◌%◌, ◌^◌, ◌⊎◌, inl, inr, List, [], ◌∷◌, ◌++◌, length, get_or, set, ap, subst, ◌∙◌, sym, refl, arith, Option, Some, None, length-append, length-set, append_assoc, get_or-set_same, get_or-set_other}
 use Rattle.std.proofs.lemmas.List.{get_or_append_left, get_or_push, length_push}
 use Rattle.std.proofs.lemmas.List.FromFn.{fill_by_all, get_or-map-range_with_len}
 use Rattle.std.proofs.lemmas.Bool.{cases_lt}
+use native.Mathlib.Decide.{ℕ_discrete}
 use Rattle.fl_base.specs.declared.fragment.Frag.{Frag}
 use Rattle.fl_base.specs.Control.{epoch_of}
 use Rattle.fl_base.specs.Prefix.{IsPrefix}
@@ -10,7 +11,7 @@ use Rattle.fl_link.specs.Cursor.{epoch_at}
 use Rattle.fl_ring.specs.declared.shared.board.Writing.{Writing}
 use Rattle.fl_ring.specs.declared.shared.board.Reading.{Reading}
 use Rattle.fl_ring.specs.Way.{slot, frag_of, epoch_in, WritesSlot}
-use Rattle.fl_ring.specs.SharedWay.{IsNext, IsDue, IsLoaded, WayRuns, frag_from, loaded_frag, with_stored, with_put, with_known, with_control, with_loaded, with_peeked, with_got, with_told}
+use Rattle.fl_ring.specs.SharedWay.{IsNext, IsDue, IsLoaded, WayRuns, frag_from, loaded_frag, with_found, with_stored, with_put, with_known, with_control, with_loaded, with_peeked, with_got, with_told}
 use Rattle.fl_ring.proofs.Places.{slot_within}
 use Rattle.fl_ring.proofs.Ways.{same_frag}
 use Rattle.fl_ring.proofs.SlotWrites.{slot_written}
@@ -52,32 +53,59 @@ module _ (b n : ℕ) (ws : List ℕ) (w : Writing) (r : Reading) (told : ℕ) wh
   slot_fits : WayRuns b n ws w r told → slot b n (length w.sent) + 8 ≤ length ws
   slot_fits h = omega (arith, slot_within b n (length w.sent) h.holds.marked.some, h.holds.marked.wide)
 
-  part_stored : (x : ℕ) → WayRuns b n ws w r told → (k : ℕ) → k < length (w.part ++ x ∷ []) → (k < length w.part) ⊎ (length w.part ≤ k)
-      → get_or (set ws (slot b n (length w.sent) + length w.part) x) (slot b n (length w.sent) + k) 0 ≡ get_or (w.part ++ x ∷ []) k 0
-  part_stored x h k lt (inl before) =
-      let s : ℕ = slot b n (length w.sent) in
-      let ne : s + k ≢ s + length w.part = λ e. omega arith in
-      get_or-set_other ws (s + length w.part) (s + k) x 0 ne ∙ h.part k before ∙ sym (get_or_append_left w.part (x ∷ []) 0 k before)
-  part_stored x h k lt (inr there) =
-      let s : ℕ = slot b n (length w.sent) in
+  -- one payload word more of the next slot is known
+  part_found : (x : ℕ) → WayRuns b n ws w r told → x ≡ get_or ws (slot b n (length w.sent) + length w.part) 0 → (k : ℕ) → k < length (w.part ++ x ∷ []) → (k < length w.part) ⊎ (length w.part ≤ k)
+      → get_or ws (slot b n (length w.sent) + k) 0 ≡ get_or (w.part ++ x ∷ []) k 0
+  part_found x h is k lt (inl before) = h.part k before ∙ sym (get_or_append_left w.part (x ∷ []) 0 k before)
+  part_found x h is k lt (inr there) =
       let last : length w.part ≡ k = omega (arith, length_push w.part x) in
-      let inside : s + length w.part < length ws = omega (arith, slot_fits h, h.stored) in
-      ap (λ (j : ℕ). get_or (set ws (s + length w.part) x) (s + j) 0) (sym last) ∙ get_or-set_same ws (s + length w.part) x 0 inside ∙ sym (get_or_push w.part x 0 k last)
+      ap (λ (j : ℕ). get_or ws (slot b n (length w.sent) + j) 0) (sym last) ∙ sym is ∙ sym (get_or_push w.part x 0 k last)
 
-  pub runs_stored : (x : ℕ) → WayRuns b n ws w r told → length w.sent < w.known + n → length w.part < 7
-      → WayRuns b n (set ws (slot b n (length w.sent) + length w.part) x) (with_stored w x) r told
-  runs_stored x h room small = record {
-    holds = holds_word b n ws w.sent told (length w.part) x h.holds (omega (arith, h.known_told)) small;
+  pub runs_found : (x : ℕ) → WayRuns b n ws w r told → length w.part < 7 → x ≡ get_or ws (slot b n (length w.sent) + length w.part) 0 → WayRuns b n ws (with_found w x) r told
+  runs_found x h small is = record {
+    holds = h.holds;
     told_got = h.told_got;
     got_sent = h.got_sent;
     known_told = h.known_told;
     room = h.room;
     most = h.most;
-    stored = omega (arith, length_push w.part x);
-    part = λ k lt. part_stored x h k lt (cases_lt k (length w.part));
+    seven = omega (arith, length_push w.part x);
+    part = λ k lt. part_found x h is k lt (cases_lt k (length w.part));
     due = h.due;
     peeked = h.peeked;
   }
+
+  -- another number is stored into payload word j
+  part_stored : (x j : ℕ) → WayRuns b n ws w r told → j < length w.part → (k : ℕ) → k < length w.part → Dec (k ≡ j)
+      → get_or (set ws (slot b n (length w.sent) + j) x) (slot b n (length w.sent) + k) 0 ≡ get_or (set w.part j x) k 0
+  part_stored x j h has k lt (yes e) =
+      let s : ℕ = slot b n (length w.sent) in
+      let inside : s + j < length ws = omega (arith, slot_fits h, h.seven) in
+      ap (λ (i : ℕ). get_or (set ws (s + j) x) (s + i) 0) e ∙ get_or-set_same ws (s + j) x 0 inside
+      ∙ sym (get_or-set_same w.part j x 0 has) ∙ ap (λ (i : ℕ). get_or (set w.part j x) i 0) (sym e)
+  part_stored x j h has k lt (no other) =
+      let s : ℕ = slot b n (length w.sent) in
+      let away : s + k ≢ s + j = λ e. other (omega arith) in
+      get_or-set_other ws (s + j) (s + k) x 0 away ∙ h.part k lt ∙ sym (get_or-set_other w.part j k x 0 other)
+
+  pub runs_stored : (x : ℕ) → WayRuns b n ws w r told → length w.sent < w.known + n → 0 < length w.part
+      → WayRuns b n (set ws (slot b n (length w.sent) + (length w.part - 1)) x) (with_stored w x) r told
+  runs_stored x h room some =
+      let j : ℕ = length w.part - 1 in
+      let has : j < length w.part = omega arith in
+      let same : length (set w.part j x) ≡ length w.part = length-set w.part j x in
+      record {
+        holds = holds_word b n ws w.sent told j x h.holds (omega (arith, h.known_told)) (omega (arith, h.seven));
+        told_got = h.told_got;
+        got_sent = h.got_sent;
+        known_told = h.known_told;
+        room = h.room;
+        most = h.most;
+        seven = omega (arith, same, h.seven);
+        part = λ k lt. part_stored x j h has k (omega (arith, same)) (ℕ_discrete k j);
+        due = h.due;
+        peeked = h.peeked;
+      }
 
   pub runs_put : (c : ℕ) → WayRuns b n ws w r told → length w.sent < w.known + n → length w.part ≡ 7 → length w.sent < 2 ^ 62 → epoch_of c ≡ epoch_at n (length w.sent)
       → WayRuns b n (set ws (slot b n (length w.sent) + 7) c) (with_put w c) r told
@@ -94,7 +122,7 @@ module _ (b n : ℕ) (ws : List ℕ) (w : Writing) (r : Reading) (told : ℕ) wh
         known_told = h.known_told;
         room = omega (arith, len);
         most = omega (arith, len);
-        stored = omega arith;
+        seven = omega arith;
         part = λ k lt. absurd (omega arith);
         due = λ d lt. let l = h.due d lt in record { frag = l.frag; next = more_sent (r.got ++ l.frag ∷ []) w.sent f l.next; control = l.control; words = l.words };
         peeked = λ g e. more_sent (r.got ++ g ∷ []) w.sent f (h.peeked g e);
@@ -108,7 +136,7 @@ module _ (b n : ℕ) (ws : List ℕ) (w : Writing) (r : Reading) (told : ℕ) wh
     known_told = most;
     room = omega (arith, h.room);
     most = h.most;
-    stored = h.stored;
+    seven = h.seven;
     part = h.part;
     due = h.due;
     peeked = h.peeked;
@@ -140,7 +168,7 @@ module _ (b n : ℕ) (ws : List ℕ) (w : Writing) (r : Reading) (told : ℕ) wh
     known_told = h.known_told;
     room = h.room;
     most = h.most;
-    stored = h.stored;
+    seven = h.seven;
     part = h.part;
     due = λ d lt. seen_due c h is d;
     peeked = h.peeked;
@@ -178,7 +206,7 @@ module _ (b n : ℕ) (ws : List ℕ) (w : Writing) (r : Reading) (told : ℕ) wh
         known_told = h.known_told;
         room = h.room;
         most = h.most;
-        stored = h.stored;
+        seven = h.seven;
         part = h.part;
         due = λ d lt. record { frag = l.frag; next = l.next; control = l.control; words = λ k below. loaded_more x h l (omega arith) is k below (cases_lt k (length r.part)) };
         peeked = h.peeked;
@@ -219,7 +247,7 @@ module _ (b n : ℕ) (ws : List ℕ) (w : Writing) (r : Reading) (told : ℕ) wh
     known_told = h.known_told;
     room = h.room;
     most = h.most;
-    stored = h.stored;
+    seven = h.seven;
     part = h.part;
     due = λ d lt. absurd (omega (arith, length_push r.part x));
     peeked = λ f e. subst (λ (g : Frag). IsNext w.sent r.got g) (some_same (loaded_frag r x) f e) (loaded_whole x h due six is);
@@ -233,7 +261,7 @@ module _ (b n : ℕ) (ws : List ℕ) (w : Writing) (r : Reading) (told : ℕ) wh
     known_told = h.known_told;
     room = h.room;
     most = h.most;
-    stored = h.stored;
+    seven = h.seven;
     part = h.part;
     due = λ d lt. absurd (omega (arith, length_push r.part x));
     peeked = λ f e. absurd (none_some f e);
@@ -251,7 +279,7 @@ module _ (b n : ℕ) (ws : List ℕ) (w : Writing) (r : Reading) (told : ℕ) wh
     known_told = omega (arith, h.known_told);
     room = h.room;
     most = h.most;
-    stored = h.stored;
+    seven = h.seven;
     part = h.part;
     due = h.due;
     peeked = h.peeked;
@@ -267,8 +295,8 @@ module _ (b n : ℕ) (ws : List ℕ) (w : Writing) (r : Reading) (told : ℕ) wh
     known_told = h.known_told;
     room = h.room;
     most = h.most;
-    stored = h.stored;
-    part = λ k lt. inside (length w.sent) k (omega (arith, h.stored)) ∙ h.part k lt;
+    seven = h.seven;
+    part = λ k lt. inside (length w.sent) k (omega (arith, h.seven)) ∙ h.part k lt;
     due = h.due;
     peeked = h.peeked;
   }

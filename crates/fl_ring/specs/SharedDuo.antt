@@ -4,15 +4,17 @@
 -- way back. There is no word for the number told: bits 48 to 63 of every control word say how many
 -- fragments its writer had got, modulo 65,536. The steps are these, each by the seat of its side:
 --
---   a payload word is stored into the next slot: fewer than seven are stored, and fewer than n
---     fragments are sent beyond those known to be told
---   a control word is stored, with the epoch due and the number got: all seven payload words are
---     stored. It tells all that the side got
+--   the next payload word of the slot that is put into next is loaded: the side has found fewer than
+--     seven, and fewer than n fragments are sent beyond those known to be told
+--   another number is stored into the payload word that was found last: fewer than n fragments are
+--     sent beyond those known to be told
+--   a control word is stored, with the epoch due and the number got: the side has found all seven
+--     payload words, or stored others. It tells all that the side got
 --   the control word of the slot that is read next is loaded. Where it has the epoch due, the side
 --     knows the count that its number names; else it knows what it knew
 --   a payload word of that slot is loaded: the epoch due was seen
 --   at the start the first seat is cut in two, and at the end the two are joined
-use Rattle.std.specs.Prelude.{ℕ, ◌≡◌, ◌+◌, ◌*◌, ◌/◌, ◌%◌, ◌≤◌, ◌<◌, ◌^◌, ◌⊎◌, ◌==◌, if◌then◌else◌, List, [], ◌++◌, length, replicate, Some, None}
+use Rattle.std.specs.Prelude.{ℕ, ◌≡◌, ◌+◌, ◌-◌, ◌*◌, ◌/◌, ◌%◌, ◌≤◌, ◌<◌, ◌^◌, ◌⊎◌, ◌==◌, if◌then◌else◌, List, [], ◌++◌, length, replicate, Some, None}
 use Rattle.atomic_table.specs.Table.{State, Me, Step}
 use Rattle.fl_base.specs.declared.fragment.Frag.{Frag}
 use Rattle.fl_base.specs.Control.{epoch_of, told_of}
@@ -26,7 +28,7 @@ use Rattle.fl_ring.specs.declared.shared.duo_board.Side.{Side}
 use Rattle.fl_ring.specs.declared.shared.duo_board.Holder.{Holder}
 use Rattle.fl_ring.specs.declared.shared.duo_board.Holder.TheVariants.{One, Two, Both, Nobody}
 use Rattle.fl_ring.specs.declared.shared.duo_board.DuoView.{DuoView}
-use Rattle.fl_ring.specs.SharedWay.{IsDue, WayRuns, with_stored, with_put, with_control, with_loaded, with_peeked, with_got, with_told, loaded_frag}
+use Rattle.fl_ring.specs.SharedWay.{IsDue, WayRuns, with_found, with_stored, with_put, with_control, with_loaded, with_peeked, with_got, with_told, loaded_frag}
 use Rattle.fl_ring.specs.SharedTable.{Accounted}
 
 -- ---- the rule
@@ -126,6 +128,11 @@ with_mine v s = record { size = v.size; holder = v.holder; mine = s; theirs = v.
 
 -- ---- what the steps do to a side's knowledge
 
+-- one payload word more of the next slot is known to be this
+abbrev pub side_found : Side → ℕ → Side
+side_found s x = record { put = with_found s.put x; take = s.take }
+
+-- another number is stored into the payload word that was found last
 abbrev pub side_stored : Side → ℕ → Side
 side_stored s x = record { put = with_stored s.put x; take = s.take }
 
@@ -178,15 +185,25 @@ take_word v k = slot (other_of v.holder v.size) v.size (length v.mine.take.got) 
 abbrev pub HasSlot : DuoView → Type 0
 HasSlot v = length v.mine.put.sent < v.mine.put.known + v.size
 
+-- this is the first payload word that the side doesn't know yet, of the slot that it puts into next
+abbrev pub IsNextWord : ℕ → DuoView → Type 0
+IsNextWord word v = (word ≡ put_word v (length v.mine.put.part)) × (length v.mine.put.part < 7) × HasSlot v
+
+-- this is the last one that it knows
+abbrev pub IsLastWord : ℕ → DuoView → Type 0
+IsLastWord word v = (word ≡ put_word v (length v.mine.put.part - 1)) × (0 < length v.mine.put.part) × (length v.mine.put.part ≤ 7) × HasSlot v
+
 -- ---- what each step tells: of the step, the seat before, the number found or stored, the seat after;
 -- which word it was, and where alone such a step is made
 
 abbrev DuoPlayer : Type 1
 DuoPlayer = Step (Unit {0}) → Me (Unit {0}) DuoView → ℕ → Me (Unit {0}) DuoView → Type 0
 
+abbrev pub duo_finds_word : DuoPlayer
+duo_finds_word st m x m' = (m' ≡ (with_mine m.0 (side_found m.0.mine x), m.1)) × IsNextWord st.word m.0
+
 abbrev pub duo_stores_word : DuoPlayer
-duo_stores_word st m x m' = (m' ≡ (with_mine m.0 (side_stored m.0.mine x), m.1))
-    × (st.word ≡ put_word m.0 (length m.0.mine.put.part)) × (length m.0.mine.put.part < 7) × HasSlot m.0
+duo_stores_word st m x m' = (m' ≡ (with_mine m.0 (side_stored m.0.mine x), m.1)) × IsLastWord st.word m.0
 
 -- with the epoch due, and the number of all that was got
 abbrev pub duo_stores_control : DuoPlayer

@@ -4,15 +4,17 @@
 -- after it are nobody's: they keep what is read at every step off the cache line that the reader writes when
 -- it tells. One seat is the writer's and one the reader's. The steps are these, each by the seat that it names:
 --
---   the writer stores a payload word of the next slot: fewer than seven are stored, and fewer than n
---     fragments are sent beyond those known to be told
---   the writer stores the control word, with the epoch due: all seven payload words are stored
+--   the writer loads the next payload word of the slot that it puts into next: it has found fewer than seven,
+--     and fewer than n fragments are sent beyond those known to be told
+--   the writer stores another number into the payload word that it has found last: fewer than n fragments are
+--     sent beyond those known to be told
+--   the writer stores the control word, with the epoch due: it has found all seven payload words, or stored others
 --   the writer loads the number told
 --   the reader loads the control word of the slot that it reads next
 --   the reader loads a payload word of that slot: it has seen the epoch due
 --   the reader stores the number told: no more than it got, and no less than it has told
 --   at the start the first seat is cut in two, and at the end the two are joined
-use Rattle.std.specs.Prelude.{ℕ, ◌≡◌, ◌+◌, ◌*◌, ◌≤◌, ◌<◌, ◌^◌, true, false, List, [], length, slice_index, Some, None}
+use Rattle.std.specs.Prelude.{ℕ, ◌≡◌, ◌+◌, ◌-◌, ◌*◌, ◌≤◌, ◌<◌, ◌^◌, true, false, List, [], length, slice_index, Some, None}
 use Rattle.atomic_table.specs.Table.{State, Me, Step}
 use Rattle.fl_base.specs.declared.fragment.Frag.{Frag}
 use Rattle.fl_base.specs.Control.{epoch_of}
@@ -21,8 +23,8 @@ use Rattle.fl_ring.specs.declared.shared.board.Writing.{Writing}
 use Rattle.fl_ring.specs.declared.shared.board.Reading.{Reading}
 use Rattle.fl_ring.specs.declared.shared.board.View.{View}
 use Rattle.fl_ring.specs.Way.{slot}
-use Rattle.fl_ring.specs.SharedWay.{IsDue, WayRuns, WayNear, with_stored, with_put, with_known, with_control, with_loaded, with_peeked, with_got}
-use Rattle.fl_ring.specs.SharedWay.{with_told, loaded_frag}
+use Rattle.fl_ring.specs.SharedWay.{IsDue, WayRuns, WayNear, with_found, with_stored, with_put, with_known, with_control, with_loaded, with_peeked}
+use Rattle.fl_ring.specs.SharedWay.{with_got, with_told, loaded_frag}
 use Rattle.fl_ring.specs.SharedTable.{Accounted}
 
 -- ---- the rule
@@ -98,15 +100,25 @@ told_word v = 8 * v.size
 abbrev pub HasSlot : View → Type 0
 HasSlot v = length v.put.sent < v.put.known + v.size
 
+-- this is the first payload word that the writer doesn't know yet, of the slot that is put into next
+abbrev pub IsNextWord : ℕ → View → Type 0
+IsNextWord word v = (word ≡ put_word v (length v.put.part)) × (length v.put.part < 7) × HasSlot v
+
+-- this is the last one that it knows
+abbrev pub IsLastWord : ℕ → View → Type 0
+IsLastWord word v = (word ≡ put_word v (length v.put.part - 1)) × (0 < length v.put.part) × (length v.put.part ≤ 7) × HasSlot v
+
 -- ---- what each step tells: of the step, the seat before, the number found or stored, the seat after;
 -- which word it was, and where alone such a step is made
 
 abbrev Player : Type 1
 Player = Step (Unit {0}) → Me (Unit {0}) View → ℕ → Me (Unit {0}) View → Type 0
 
+abbrev pub finds_word : Player
+finds_word st m x m' = (m' ≡ (with_writing m.0 (with_found m.0.put x), m.1)) × IsNextWord st.word m.0
+
 abbrev pub stores_word : Player
-stores_word st m x m' = (m' ≡ (with_writing m.0 (with_stored m.0.put x), m.1))
-    × (st.word ≡ put_word m.0 (length m.0.put.part)) × (length m.0.put.part < 7) × HasSlot m.0
+stores_word st m x m' = (m' ≡ (with_writing m.0 (with_stored m.0.put x), m.1)) × IsLastWord st.word m.0
 
 -- with the epoch due
 abbrev pub stores_control : Player

@@ -157,7 +157,7 @@ sight_of frag = if is_ack_only frag then Acknowledgement else Data frag
 
 -- ---- several steps in a row
 
--- the writer that has stored these payload words
+-- the writer that knows these payload words of the next slot
 abbrev pub with_part : Writing → List ℕ → Writing
 with_part w words = record { sent = w.sent; part = words; known = w.known; loads = w.loads }
 

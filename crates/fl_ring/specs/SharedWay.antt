@@ -1,9 +1,9 @@
 -- One way of a ring between two threads: what each side knows, and what holds at every moment.
 --
 -- A side steps by single loads and stores of words. What it knows is plain data of the proofs: the
--- writer's is the fragments sent and the payload words stored of the next, the reader's the
--- fragments got and the payload words loaded of the next.
-use Rattle.std.specs.Prelude.{ℕ, ◌≡◌, ◌+◌, ◌≤◌, ◌<◌, ◌^◌, List, [], ◌∷◌, ◌++◌, length, slice_index, Some, None, ◌==◌, if◌then◌else◌}
+-- writer's is the fragments sent and the first payload words of the slot that it puts into next, the
+-- reader's the fragments got and the payload words loaded of the next.
+use Rattle.std.specs.Prelude.{ℕ, ◌≡◌, ◌+◌, ◌-◌, ◌≤◌, ◌<◌, ◌^◌, List, [], ◌∷◌, ◌++◌, length, slice_index, slice_set, Some, None, ◌==◌, if◌then◌else◌}
 use Rattle.fl_base.specs.declared.fragment.Frag.{Frag}
 use Rattle.fl_base.specs.Control.{epoch_of}
 use Rattle.fl_base.specs.Prefix.{IsPrefix}
@@ -38,8 +38,8 @@ pub record WayRuns (b n : ℕ) (words : List ℕ) (w : Writing) (r : Reading) (t
   pub known_told : w.known ≤ told
   pub room : length w.sent ≤ w.known + n
   pub most : length w.sent ≤ 2 ^ 62
-  -- the stored words are in the next slot
-  pub stored : length w.part ≤ 7
+  -- the words that the writer knows are in the next slot
+  pub seven : length w.part ≤ 7
   pub part : (k : ℕ) → k < length w.part → slice_index words (slot b n (length w.sent) + k) ≡ slice_index w.part k
   -- where the reader has seen the epoch due, the next fragment is there, and so is one that it peeked
   pub due : IsDue n r → length r.part < 7 → IsLoaded w.sent r.got r.part r.last
@@ -59,9 +59,13 @@ pub record WayNear (n : ℕ) (w : Writing) (r : Reading) : Type 0 where
 abbrev pub frag_from : List ℕ → ℕ → Frag
 frag_from words control = record { words = words; control = control }
 
--- a payload word is stored
+-- one payload word more of the next slot is known to be this
+abbrev pub with_found : Writing → ℕ → Writing
+with_found w x = record { sent = w.sent; part = w.part ++ x ∷ []; known = w.known; loads = w.loads }
+
+-- another number is stored into the payload word that was found last
 abbrev pub with_stored : Writing → ℕ → Writing
-with_stored w x = record { sent = w.sent; part = w.part ++ x ∷ []; known = w.known; loads = w.loads }
+with_stored w x = record { sent = w.sent; part = slice_set w.part (length w.part - 1) x; known = w.known; loads = w.loads }
 
 -- a control word is stored: the fragment is put
 abbrev pub with_put : Writing → ℕ → Writing

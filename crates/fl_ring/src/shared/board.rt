@@ -9,7 +9,7 @@ use std::collections::LinkedList;
 pub struct Writing {
     /// The fragments that it has put, as they stand in their slots.
     pub sent: LinkedList<Frag>,
-    /// The payload words of the next fragment that it has stored.
+    /// The first payload words of the next slot, as far as it knows what stands there.
     pub part: LinkedList<u64>,
     /// How many of its fragments it knows to be told.
     pub known: u64,

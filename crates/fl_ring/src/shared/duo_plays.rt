@@ -1,12 +1,19 @@
 //! The kinds of step on the table of a ring of two directions, and what each tells its side.
 
-ghost use Rattle.fl_ring.specs.SharedDuo.{duo_stores_word, duo_stores_control, duo_loads_control, duo_loads_word, duo_loads_peeked, duo_loads_taken};
+ghost use Rattle.fl_ring.specs.SharedDuo.{duo_finds_word, duo_stores_word, duo_stores_control, duo_loads_control, duo_loads_word, duo_loads_peeked, duo_loads_taken};
 ghost use Rattle.fl_ring.specs.SharedDuo.{duo_compares, side_one_of, side_two_of, duo_both_of, duo_nobody};
 
 use crate::shared::duo_board::DuoView;
 use atomic_table::{Join, Play, Split};
 
-/// A side stores a payload word.
+/// A side loads a payload word of the slot that it puts into next.
+pub(crate) struct FindWord;
+
+impl Play<(), DuoView> for FindWord {
+    ghost then = { duo_finds_word };
+}
+
+/// A side stores another number into the payload word that it has found last.
 pub(crate) struct StoreWord;
 
 impl Play<(), DuoView> for StoreWord {

@@ -6,15 +6,30 @@ ghost use Rattle.fl_link.specs.Cursor.{epoch_at};
 ghost use Rattle.fl_ring.specs.Counts.{count_from};
 ghost use Rattle.fl_ring.specs.Way.{slot};
 ghost use Rattle.fl_ring.specs.SharedWay.{IsDue};
-ghost use Rattle.fl_ring.specs.SharedDuo.{base_of, other_of, with_mine, side_control, IsPeekedControl};
+ghost use Rattle.fl_ring.specs.SharedDuo.{base_of, other_of, with_mine, side_found, side_control, IsNextWord, IsPeekedControl};
 ghost use Rattle.fl_ring.specs.SharedSides.{IsDuoSeated, side_with_part, side_with_frag, side_with_words, side_of_seat, SideSees, SideGets, SideMisses};
 
 use crate::counts::count_from;
 use crate::shared::duo_board::{DuoPlace, DuoTop};
 use crate::shared::duo_plays::{
-    LoadControl, LoadPeeked, LoadTaken, LoadWord, StoreControl, StoreWord,
+    FindWord, LoadControl, LoadPeeked, LoadTaken, LoadWord, StoreControl, StoreWord,
 };
 use fl_base::{Frag, epoch_of, told_of};
+
+// Sees to it that the next payload word of the next slot is this number. A store takes the word's
+// cache line for itself, so there is none where that number stands already, as zeros often do.
+fn store_word(top: &DuoTop, seat: &mut DuoPlace, word: usize, number: u64)
+    requires seated { IsDuoSeated top.now.table_id top.now.key seat.old }
+    requires word { IsNextWord word seat.old.me.0 }
+    ensures table { seat.new.table_id ≡ seat.old.table_id }
+    ensures stands { seat.new.me ≡ (with_mine seat.old.me.0 (side_found seat.old.me.0.mine number), seat.old.me.1) }
+{
+    let found = top.load::<FindWord>(seat, word);
+    if found == number {
+        return;
+    }
+    top.store::<StoreWord>(seat, word, number);
+}
 
 // Stores the payload words of the next fragment. Its slot begins at the word `first`.
 fn store_payload(top: &DuoTop, seat: &mut DuoPlace, first: usize, words: &[u64; 7])
@@ -26,7 +41,7 @@ fn store_payload(top: &DuoTop, seat: &mut DuoPlace, first: usize, words: &[u64; 
     ensures stored { seat.new.me ≡ (with_mine seat.old.me.0 (side_with_part seat.old.me.0.mine words.now), seat.old.me.1) }
 {
     for k in 0..7 {
-        top.store::<StoreWord>(seat, first + k, words[k]);
+        store_word(top, seat, first + k, words[k]);
     }
 }
 

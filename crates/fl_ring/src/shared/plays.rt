@@ -1,12 +1,19 @@
 //! The kinds of step on a ring's table, and what each tells the side that makes it.
 
-ghost use Rattle.fl_ring.specs.SharedRing.{stores_word, stores_control, loads_told, loads_control, loads_word, loads_peeked, loads_taken};
+ghost use Rattle.fl_ring.specs.SharedRing.{finds_word, stores_word, stores_control, loads_told, loads_control, loads_word, loads_peeked, loads_taken};
 ghost use Rattle.fl_ring.specs.SharedRing.{stores_told, compares, writer_of, reader_of, both_of, nobody};
 
 use crate::shared::board::View;
 use atomic_table::{Join, Play, Split};
 
-/// The writer stores a payload word.
+/// The writer loads a payload word of the slot that it puts into next.
+pub(crate) struct FindWord;
+
+impl Play<(), View> for FindWord {
+    ghost then = { finds_word };
+}
+
+/// The writer stores another number into the payload word that it has found last.
 pub(crate) struct StoreWord;
 
 impl Play<(), View> for StoreWord {

@@ -4,12 +4,29 @@ ghost use Rattle.std.specs.Prelude.{◌≡◌, ◌+◌, ◌*◌, ◌^◌, ◌<�
 ghost use Rattle.fl_base.specs.Control.{epoch_of};
 ghost use Rattle.fl_link.specs.Cursor.{epoch_at};
 ghost use Rattle.fl_ring.specs.Way.{slot};
-ghost use Rattle.fl_ring.specs.SharedRing.{with_writing};
+ghost use Rattle.fl_ring.specs.SharedWay.{with_found};
+ghost use Rattle.fl_ring.specs.SharedRing.{with_writing, IsNextWord};
 ghost use Rattle.fl_ring.specs.SharedSeats.{IsSeated, IsWriter, Counts, sender_of, with_part, with_frag};
 
 use crate::shared::board::{Place, Top};
-use crate::shared::plays::{LoadTold, StoreControl, StoreWord};
+use crate::shared::plays::{FindWord, LoadTold, StoreControl, StoreWord};
 use fl_base::Frag;
+
+// Sees to it that the next payload word of the next slot is this number. A store takes the word's
+// cache line for itself, so there is none where that number stands already, as zeros often do.
+fn store_word(top: &Top, seat: &mut Place, word: usize, number: u64)
+    requires seated { IsSeated top.now.table_id top.now.key seat.old }
+    requires writes { seat.old.me.0.writes ≡ true }
+    requires word { IsNextWord word seat.old.me.0 }
+    ensures table { seat.new.table_id ≡ seat.old.table_id }
+    ensures stands { seat.new.me ≡ (with_writing seat.old.me.0 (with_found seat.old.me.0.put number), seat.old.me.1) }
+{
+    let found = top.load::<FindWord>(seat, word);
+    if found == number {
+        return;
+    }
+    top.store::<StoreWord>(seat, word, number);
+}
 
 // Stores the payload words of the next fragment. Its slot begins at the word `first`.
 fn store_payload(top: &Top, seat: &mut Place, first: usize, words: &[u64; 7])
@@ -21,7 +38,7 @@ fn store_payload(top: &Top, seat: &mut Place, first: usize, words: &[u64; 7])
     ensures stored { seat.new.me ≡ (with_writing seat.old.me.0 (with_part seat.old.me.0.put words.now), seat.old.me.1) }
 {
     for k in 0..7 {
-        top.store::<StoreWord>(seat, first + k, words[k]);
+        store_word(top, seat, first + k, words[k]);
     }
 }
 
