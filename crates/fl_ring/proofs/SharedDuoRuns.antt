@@ -1,6 +1,6 @@
 -- Steps in a row at a seat of a ring of two directions over shared words.
-use Rattle.std.proofs.Common.{ℕ, ◌≡◌, ◌<◌, ◌≤◌, ◌+◌, ◌%◌, ◌^◌, List, [], ◌∷◌, ◌++◌, length, take, set, ap, subst, ◌∙◌, sym, arith, Some, None, Bool, cond, eq-eqb, ne_eqb, ◌≢◌}
-use Rattle.std.proofs.lemmas.List.{length-take-le}
+use Rattle.std.proofs.Common.{ℕ, ◌≡◌, ◌<◌, ◌≤◌, ◌+◌, ◌-◌, ◌%◌, ◌^◌, List, [], ◌∷◌, ◌++◌, length, take, set, ap, subst, ◌∙◌, sym, arith, Some, None, Bool, cond, eq-eqb, ne_eqb, ◌≢◌}
+use Rattle.std.proofs.lemmas.List.{length-take-le, length_push}
 use mathlib.Core.Option.{none}
 use Rattle.atomic_table.specs.Table.{Me, step, Allows}
 use Rattle.atomic_table.specs.Seated.{TableId}
@@ -12,32 +12,58 @@ use Rattle.fl_ring.specs.declared.shared.duo_board.Side.{Side}
 use Rattle.fl_ring.specs.declared.shared.duo_board.DuoView.{DuoView}
 use Rattle.fl_ring.specs.Way.{slot}
 use Rattle.fl_ring.specs.SharedWay.{IsDue, loaded_frag, frag_from, misses_after}
-use Rattle.fl_ring.specs.SharedDuo.{DuoHolds, IsOneSide, base_of, other_of, with_mine, side_stored, side_put, side_control, side_loaded, side_peeked, side_got, known_by, duo_stores_word, duo_stores_control, duo_loads_word, duo_loads_peeked, duo_loads_taken}
+use Rattle.fl_ring.specs.SharedDuo.{DuoHolds, IsOneSide, base_of, other_of, with_mine, side_found, side_stored, side_put, side_control, side_loaded, side_peeked, side_got, known_by, HasSlot, IsNextWord, duo_stores_word, duo_stores_control, duo_loads_word, duo_loads_peeked, duo_loads_taken}
 use Rattle.fl_ring.specs.SharedSides.{TheSide, side_with_part, side_with_frag, side_with_words, side_missed, SideSees, SideGets, KnowsSent}
 use Rattle.fl_ring.proofs.SharedDuoSteps.{duo_allows_stored, duo_allows_put, duo_allows_loaded, duo_allows_peeked, duo_allows_taken}
 use Rattle.fl_ring.proofs.SharedLooks.{seven_words, none_missed}
+use Rattle.fl_ring.proofs.SharedRuns.{last_set}
 
 abbrev Seated : Type 0
 Seated = Me (Unit {0}) DuoView
 
+-- ---- a payload word found, and another number stored there
+
+-- the seat that knows one payload word more of the next slot
+abbrev found : Seated → ℕ → Seated
+found m x = (with_mine m.0 (side_found m.0.mine x), m.1)
+
+pub duo_stored_after : (n start slots id i x old : ℕ) (m0 m : Seated) → m ≡ found m0 old → n ≡ m0.0.size → IsOneSide m0.0.holder → IsNextWord i m0.0
+    → Allows (DuoHolds n start) slots id m i (λ _. x) (λ _. duo_stores_word (step slots i x 0 none) m x)
+duo_stored_after n start slots id i x old m0 m e key side (at, small, room) =
+    let more : length (m0.0.mine.put.part ++ old ∷ []) ≡ length m0.0.mine.put.part + 1 = length_push m0.0.mine.put.part old in
+    let last : length m0.0.mine.put.part ≡ length (m0.0.mine.put.part ++ old ∷ []) - 1 = omega (arith, more) in
+    subst (λ (z : Seated). Allows (DuoHolds n start) slots id z i (λ _. x) (λ _. duo_stores_word (step slots i x 0 none) z x)) (sym e)
+    (duo_allows_stored n start slots id i x (found m0 old) key side
+    (at ∙ ap (λ (k : ℕ). slot (base_of m0.0.holder m0.0.size) m0.0.size (length m0.0.mine.put.sent) + k) last, omega (arith, more), omega (arith, more), room))
+
+-- the number that was found is the one that was wanted
+pub duo_found_same : (m0 m : Seated) (old x : ℕ) → m ≡ found m0 old → old ≡ x → m ≡ found m0 x
+duo_found_same m0 m old x e same = e ∙ ap (λ (k : ℕ). found m0 k) same
+
+-- or that one is stored
+pub duo_found_stored : (m0 m m' : Seated) (old x : ℕ) → m ≡ found m0 old → m' ≡ (with_mine m.0 (side_stored m.0.mine x), m.1) → m' ≡ found m0 x
+duo_found_stored m0 m m' old x e d =
+    d ∙ ap (λ (z : Seated). let s : Seated = (with_mine z.0 (side_stored z.0.mine x), z.1) in s) e
+    ∙ ap (λ (p : List ℕ). let s : Seated = (with_mine m0.0 (side_with_part m0.0.mine p), m0.1) in s) (last_set m0.0.mine.put.part old x)
+
 -- ---- a fragment put
 
--- the seat that has stored these payload words
+-- the seat that knows these payload words of the next slot
 abbrev stored : Seated → List ℕ → Seated
 stored m words = (with_mine m.0 (side_with_part m.0.mine words), m.1)
 
 pub duo_none_stored : (m : Seated) → m.0.mine.put.part ≡ [] → m ≡ stored m []
 duo_none_stored m e = ap (λ (p : List ℕ). stored m p) e
 
-pub duo_one_stored : (m0 m m' : Seated) (p q : List ℕ) (x : ℕ) → m ≡ stored m0 p → m' ≡ (with_mine m.0 (side_stored m.0.mine x), m.1) → p ++ x ∷ [] ≡ q → m' ≡ stored m0 q
-duo_one_stored m0 m m' p q x e d more = d ∙ ap (λ (z : Seated). let s : Seated = (with_mine z.0 (side_stored z.0.mine x), z.1) in s) e ∙ ap (λ (r : List ℕ). stored m0 r) more
+pub duo_one_stored : (m0 m m' : Seated) (p q : List ℕ) (x : ℕ) → m ≡ stored m0 p → m' ≡ (with_mine m.0 (side_found m.0.mine x), m.1) → p ++ x ∷ [] ≡ q → m' ≡ stored m0 q
+duo_one_stored m0 m m' p q x e d more = d ∙ ap (λ (z : Seated). found z x) e ∙ ap (λ (r : List ℕ). stored m0 r) more
 
-pub duo_stored_after : (n start slots id i x k : ℕ) (m0 m : Seated) (p : List ℕ) → m ≡ stored m0 p → n ≡ m0.0.size → IsOneSide m0.0.holder
-    → i ≡ slot (base_of m0.0.holder m0.0.size) m0.0.size (length m0.0.mine.put.sent) + k → length p ≡ k → k < 7
-    → length m0.0.mine.put.sent < m0.0.mine.put.known + m0.0.size → Allows (DuoHolds n start) slots id m i (λ _. x) (λ _. duo_stores_word (step slots i x 0 none) m x)
-duo_stored_after n start slots id i x k m0 m p e key side at len small room =
-    subst (λ (z : Seated). Allows (DuoHolds n start) slots id z i (λ _. x) (λ _. duo_stores_word (step slots i x 0 none) z x)) (sym e)
-    (duo_allows_stored n start slots id i x (stored m0 p) key side (at ∙ ap (λ (j : ℕ). slot (base_of m0.0.holder m0.0.size) m0.0.size (length m0.0.mine.put.sent) + j) (sym len)) (omega arith) room)
+-- word k comes next
+pub duo_next_stored : (i k : ℕ) (m0 m : Seated) (p : List ℕ) → m ≡ stored m0 p → i ≡ slot (base_of m0.0.holder m0.0.size) m0.0.size (length m0.0.mine.put.sent) + k → length p ≡ k → k < 7 → HasSlot m0.0
+    → IsNextWord i m.0
+duo_next_stored i k m0 m p e at len small room =
+    subst (λ (z : Seated). IsNextWord i z.0) (sym e)
+    (at ∙ ap (λ (j : ℕ). slot (base_of m0.0.holder m0.0.size) m0.0.size (length m0.0.mine.put.sent) + j) (sym len), omega arith, room)
 
 pub duo_put_after : (n start slots id i w : ℕ) (m0 m : Seated) (p : List ℕ) → m ≡ stored m0 p → n ≡ m0.0.size → IsOneSide m0.0.holder
     → i ≡ slot (base_of m0.0.holder m0.0.size) m0.0.size (length m0.0.mine.put.sent) + 7 → length p ≡ 7

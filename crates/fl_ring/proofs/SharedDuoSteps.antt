@@ -1,5 +1,5 @@
 -- The steps of a ring of two directions over shared words: what the rule allows each side.
-use Rattle.std.proofs.Common.{ℕ, ◌≡◌, ◌<◌, ◌+◌, ◌*◌, ◌%◌, ◌^◌, inl, inr, List, length, get_or, set, ap, subst, ◌∙◌, sym, refl, arith}
+use Rattle.std.proofs.Common.{ℕ, ◌≡◌, ◌<◌, ◌+◌, ◌-◌, ◌*◌, ◌%◌, ◌^◌, inl, inr, List, length, get_or, set, ap, subst, ◌∙◌, sym, refl, arith}
 use mathlib.Core.Option.{none}
 use Rattle.atomic_table.specs.Table.{Me, step, Allows}
 use Rattle.fl_base.specs.Control.{epoch_of, told_of}
@@ -10,10 +10,10 @@ use Rattle.fl_ring.specs.declared.shared.duo_board.Holder.TheVariants.{One, Two,
 use Rattle.fl_ring.specs.declared.shared.duo_board.DuoView.{DuoView}
 use Rattle.fl_ring.specs.Way.{slot}
 use Rattle.fl_ring.specs.SharedWay.{IsDue}
-use Rattle.fl_ring.specs.SharedDuo.{Pairing, DuoFits, DuoHolds, BothRun, ways, CountsNear, IsOneSide, base_of, other_of, with_mine, side_stored, side_put, side_control, side_loaded, side_peeked, side_got, duo_stores_word, duo_stores_control, duo_loads_control, duo_loads_word, duo_loads_peeked, duo_loads_taken, duo_compares}
+use Rattle.fl_ring.specs.SharedDuo.{Pairing, DuoFits, DuoHolds, BothRun, ways, CountsNear, IsOneSide, base_of, other_of, with_mine, side_found, side_stored, side_put, side_control, side_loaded, side_peeked, side_got, IsNextWord, IsLastWord, duo_finds_word, duo_stores_word, duo_stores_control, duo_loads_control, duo_loads_word, duo_loads_peeked, duo_loads_taken, duo_compares}
 use Rattle.fl_ring.proofs.Places.{slot_within}
 use Rattle.fl_ring.proofs.SharedTables.{Moves, allows_by, allows_load}
-use Rattle.fl_ring.proofs.SharedDuos.{turned, both_stored, both_put, both_control, both_peeked_there, known_sent, both_loaded, both_peeked, both_got, both_again, both_few, both_near}
+use Rattle.fl_ring.proofs.SharedDuos.{turned, both_found, both_stored, both_put, both_control, both_peeked_there, known_sent, both_loaded, both_peeked, both_got, both_again, both_few, both_near}
 
 abbrev Seated : Type 0
 Seated = Me (Unit {0}) DuoView
@@ -114,16 +114,25 @@ side_loads n start slots id i me then key side go =
 
 -- ---- what the rule allows
 
-pub duo_allows_stored : (n start slots id i x : ℕ) (me : Seated) → n ≡ me.0.size → IsOneSide me.0.holder → i ≡ slot (base_of me.0.holder me.0.size) me.0.size (length me.0.mine.put.sent) + length me.0.mine.put.part
-    → length me.0.mine.put.part < 7 → length me.0.mine.put.sent < me.0.mine.put.known + me.0.size
+pub duo_allows_found : (n start slots id i : ℕ) (me : Seated) → n ≡ me.0.size → IsOneSide me.0.holder → IsNextWord i me.0
+    → Allows (DuoHolds n start) slots id me i (λ x. x) (duo_finds_word (step slots i 0 0 none) me)
+duo_allows_found n start slots id i me key side (at, small, room) =
+    let m : ℕ = me.0.size in let b : ℕ = base_of me.0.holder m in let c : ℕ = other_of me.0.holder m in
+    side_loads n start slots id i me (duo_finds_word (step slots i 0 0 none) me) key side
+    (λ ws y h.
+    let x : ℕ = get_or ws i 0 in
+    let is : x ≡ get_or ws (slot b m (length me.0.mine.put.sent) + length me.0.mine.put.part) 0 = ap (λ (k : ℕ). get_or ws k 0) at in
+    record { side = side_found me.0.mine x; both = both_found b c m start ws me.0.mine y x h small is; tells = (refl, (at, small, room)) })
+
+pub duo_allows_stored : (n start slots id i x : ℕ) (me : Seated) → n ≡ me.0.size → IsOneSide me.0.holder → IsLastWord i me.0
     → Allows (DuoHolds n start) slots id me i (λ _. x) (λ _. duo_stores_word (step slots i x 0 none) me x)
-duo_allows_stored n start slots id i x me key side at small room =
+duo_allows_stored n start slots id i x me key side (at, some, few, room) =
     let m : ℕ = me.0.size in let b : ℕ = base_of me.0.holder m in let c : ℕ = other_of me.0.holder m in
     side_stores n start slots id i x me (λ _. duo_stores_word (step slots i x 0 none) me x) key side
     (λ ws y h. record {
       side = side_stored me.0.mine x;
-      both = subst (λ (k : ℕ). BothRun (ways b c m start) (set ws k x) (side_stored me.0.mine x) y) (sym at) (both_stored b c m start ws me.0.mine y x h room small);
-      tells = (refl, at, small, room);
+      both = subst (λ (k : ℕ). BothRun (ways b c m start) (set ws k x) (side_stored me.0.mine x) y) (sym at) (both_stored b c m start ws me.0.mine y x h room some);
+      tells = (refl, (at, some, few, room));
     })
 
 pub duo_allows_put : (n start slots id i w : ℕ) (me : Seated) → n ≡ me.0.size → IsOneSide me.0.holder → i ≡ slot (base_of me.0.holder me.0.size) me.0.size (length me.0.mine.put.sent) + 7

@@ -1,5 +1,5 @@
 -- The steps of a side of a ring of two directions over shared words: both ways go on as they should.
-use Rattle.std.proofs.Common.{ℕ, ◌≡◌, ◌≢◌, ◌<◌, ◌≤◌, ◌+◌, ◌*◌, ◌%◌, ◌^◌, ◌⊎◌, inl, inr, Bool, cond, List, [], ◌∷◌, ◌++◌, length, get_or, set, ap, subst, ◌∙◌, sym, arith, Some, length-set, append_assoc, get_or-set_same, get_or-set_other, eq-eqb, ne_eqb}
+use Rattle.std.proofs.Common.{ℕ, ◌≡◌, ◌≢◌, ◌<◌, ◌≤◌, ◌+◌, ◌-◌, ◌*◌, ◌%◌, ◌^◌, ◌⊎◌, inl, inr, Bool, cond, List, [], ◌∷◌, ◌++◌, length, get_or, set, ap, subst, ◌∙◌, sym, arith, Some, length-set, append_assoc, get_or-set_same, get_or-set_other, eq-eqb, ne_eqb}
 use Rattle.std.proofs.lemmas.List.{append_cancel_left, length_push}
 use native.Mathlib.Decide.{ℕ_discrete}
 use Rattle.fl_base.specs.declared.fragment.Frag.{Frag}
@@ -9,11 +9,11 @@ use Rattle.fl_ring.specs.Counts.{count_from, last_count}
 use Rattle.fl_ring.specs.declared.shared.duo_board.Side.{Side}
 use Rattle.fl_ring.specs.Way.{slot}
 use Rattle.fl_ring.specs.SharedWay.{IsNext, IsDue, IsLoaded, WayRuns, frag_from, loaded_frag}
-use Rattle.fl_ring.specs.SharedDuo.{NumbersRide, BothRun, ways, CountsNear, side_stored, side_put, side_control, side_loaded, side_peeked, side_got, known_by}
+use Rattle.fl_ring.specs.SharedDuo.{NumbersRide, BothRun, ways, CountsNear, side_found, side_stored, side_put, side_control, side_loaded, side_peeked, side_got, known_by}
 use Rattle.fl_ring.proofs.Places.{slot_within}
 use Rattle.fl_ring.proofs.Numbers.{count_named, count_again, count_rises, last_rises, last_push}
 use Rattle.fl_ring.proofs.Tells.{tells_kept, tells_stored, tells_put}
-use Rattle.fl_ring.proofs.SharedWays.{runs_stored, runs_put, runs_known, runs_control, seen_due, peeked_there, runs_loaded, loaded_whole, loaded_again, got_unspent, runs_peeked, runs_got, runs_told, runs_elsewhere, front_within}
+use Rattle.fl_ring.proofs.SharedWays.{runs_found, runs_stored, runs_put, runs_known, runs_control, seen_due, peeked_there, runs_loaded, loaded_whole, loaded_again, got_unspent, runs_peeked, runs_got, runs_told, runs_elsewhere, front_within}
 
 -- ---- from either side
 
@@ -94,23 +94,25 @@ module _ (b c n start : ℕ) (ws : List ℕ) (x y : Side) where
   away_control : (i k v : ℕ) → k < 8 → BothRun (ways b c n start) ws x y → (j : ℕ) → get_or (set ws (slot b n i + k) v) (slot c n j + 7) 0 ≡ get_or ws (slot c n j + 7) 0
   away_control i k v small h j = let within = slot_within c n j h.back.holds.marked.some in let p : ℕ = j % n in away i k v small h (slot c n j + 7) (omega arith) (omega arith)
 
-  pub both_stored : (v : ℕ) → BothRun (ways b c n start) ws x y → length x.put.sent < x.put.known + n → length x.put.part < 7
-      → BothRun (ways b c n start) (set ws (slot b n (length x.put.sent) + length x.put.part) v) (side_stored x v) y
-  both_stored v h room small =
-      let place : ℕ = slot b n (length x.put.sent) + length x.put.part in
+  pub both_stored : (v : ℕ) → BothRun (ways b c n start) ws x y → length x.put.sent < x.put.known + n → 0 < length x.put.part
+      → BothRun (ways b c n start) (set ws (slot b n (length x.put.sent) + (length x.put.part - 1)) v) (side_stored x v) y
+  both_stored v h room some =
+      let k : ℕ = length x.put.part - 1 in
+      let small : k < 7 = omega (arith, h.there.seven) in
+      let place : ℕ = slot b n (length x.put.sent) + k in
       let ws' : List ℕ = set ws place v in
       record {
         few = h.few;
         wide = length-set ws place v ∙ h.wide;
         apart = h.apart;
-        there = runs_stored b n ws x.put y.take y.take.told v h.there room small;
-        back = runs_elsewhere c n ws y.put x.take x.take.told ws' h.back (length-set ws place v) (away (length x.put.sent) (length x.put.part) v (omega arith) h);
+        there = runs_stored b n ws x.put y.take y.take.told v h.there room some;
+        back = runs_elsewhere c n ws y.put x.take x.take.told ws' h.back (length-set ws place v) (away (length x.put.sent) k v (omega arith) h);
         told_there = h.told_there;
         told_back = h.told_back;
         last_there = h.last_there;
         last_back = h.last_back;
-        word_there = tells_stored b n start ws (length x.put.sent) x.take.told (length x.put.sent) (length x.put.part) v small h.word_there;
-        word_back = tells_kept c n start ws ws' (length y.put.sent) y.take.told h.word_back (away_control (length x.put.sent) (length x.put.part) v (omega arith) h);
+        word_there = tells_stored b n start ws (length x.put.sent) x.take.told (length x.put.sent) k v small h.word_there;
+        word_back = tells_kept c n start ws ws' (length y.put.sent) y.take.told h.word_back (away_control (length x.put.sent) k v (omega arith) h);
       }
 
   pub both_put : (w : ℕ) → BothRun (ways b c n start) ws x y → length x.put.sent < x.put.known + n → length x.put.part ≡ 7 → length x.put.sent < 2 ^ 62 → epoch_of w ≡ epoch_at n (length x.put.sent)
@@ -138,6 +140,21 @@ module _ (b c n start : ℕ) (ws : List ℕ) (x y : Side) where
       }
 
   -- ---- loads
+
+  pub both_found : (v : ℕ) → BothRun (ways b c n start) ws x y → length x.put.part < 7 → v ≡ get_or ws (slot b n (length x.put.sent) + length x.put.part) 0 → BothRun (ways b c n start) ws (side_found x v) y
+  both_found v h small is = record {
+    few = h.few;
+    wide = h.wide;
+    apart = h.apart;
+    there = runs_found b n ws x.put y.take y.take.told v h.there small is;
+    back = h.back;
+    told_there = h.told_there;
+    told_back = h.told_back;
+    last_there = h.last_there;
+    last_back = h.last_back;
+    word_there = h.word_there;
+    word_back = h.word_back;
+  }
 
   -- what a look knows is told
   known_told : (w : ℕ) → BothRun (ways b c n start) ws x y → w ≡ get_or ws (slot c n (length x.take.got) + 7) 0 → (epoch_of w ≡ epoch_at n (length x.take.got)) → NumbersRide y.put.sent x.take.got (count_from x.put.known (told_of w)) y.take.told

@@ -3,7 +3,7 @@ use Rattle.fl_ring.specs.SharedDuo.{with_mine}
 use Rattle.fl_ring.specs.SharedSides.{side_with_part}
 use Rattle.fl_ring.proofs.shared.duo_steps.store_payload.Given as goal
 
--- the first k words are stored
+-- the first k words stand there
 abbrev pub invariant-loop-k : goal.invariant-loop-k
 invariant-loop-k l = record {
   table : l.seat.table_id ≡ l.initial.seat.table_id;

@@ -3,7 +3,7 @@ use Rattle.fl_ring.specs.SharedRing.{with_writing}
 use Rattle.fl_ring.specs.SharedSeats.{with_part}
 use Rattle.fl_ring.proofs.shared.writes.store_payload.Given as goal
 
--- the first k words are stored
+-- the first k words stand there
 abbrev pub invariant-loop-k : goal.invariant-loop-k
 invariant-loop-k l = record {
   table : l.seat.table_id ≡ l.initial.seat.table_id;
