@@ -35,12 +35,14 @@ impl Table {
         &self.words[at..][..8]
     }
 
-    /// Stores the payload words first and the control word last.
+    /// Stores the payload words first, each where another number stands, and the control word last.
     #[inline]
     fn write(&self, first: usize, words: &[u64; 8], epoch: u64, told: u64) {
         let slot = self.slot(first);
         for k in 0..7 {
-            slot[k].store(words[k], SeqCst);
+            if slot[k].load(SeqCst) != words[k] {
+                slot[k].store(words[k], SeqCst);
+            }
         }
         let body = words[7] / 2 % (1 << 47) * 2;
         slot[7].store(body + epoch + (told << 48), SeqCst);

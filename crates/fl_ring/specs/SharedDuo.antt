@@ -9,7 +9,7 @@
 --   another number is stored into the payload word that was found last: fewer than n fragments are
 --     sent beyond those known to be told
 --   a control word is stored, with the epoch due and the number got: the side has found all seven
---     payload words, or stored others. It tells all that the side got
+--     payload words. It tells all that the side got
 --   the control word of the slot that is read next is loaded. Where it has the epoch due, the side
 --     knows the count that its number names; else it knows what it knew
 --   a payload word of that slot is loaded: the epoch due was seen
@@ -128,7 +128,7 @@ with_mine v s = record { size = v.size; holder = v.holder; mine = s; theirs = v.
 
 -- ---- what the steps do to a side's knowledge
 
--- one payload word more of the next slot is known to be this
+-- one payload word more of the next slot is found to be this
 abbrev pub side_found : Side → ℕ → Side
 side_found s x = record { put = with_found s.put x; take = s.take }
 
@@ -185,11 +185,11 @@ take_word v k = slot (other_of v.holder v.size) v.size (length v.mine.take.got) 
 abbrev pub HasSlot : DuoView → Type 0
 HasSlot v = length v.mine.put.sent < v.mine.put.known + v.size
 
--- this is the first payload word that the side doesn't know yet, of the slot that it puts into next
+-- of the slot that is put into next this is the first payload word that the side hasn't found yet
 abbrev pub IsNextWord : ℕ → DuoView → Type 0
 IsNextWord word v = (word ≡ put_word v (length v.mine.put.part)) × (length v.mine.put.part < 7) × HasSlot v
 
--- this is the last one that it knows
+-- this is the last one that it has found
 abbrev pub IsLastWord : ℕ → DuoView → Type 0
 IsLastWord word v = (word ≡ put_word v (length v.mine.put.part - 1)) × (0 < length v.mine.put.part) × (length v.mine.put.part ≤ 7) × HasSlot v
 

@@ -8,7 +8,7 @@
 --     and fewer than n fragments are sent beyond those known to be told
 --   the writer stores another number into the payload word that it has found last: fewer than n fragments are
 --     sent beyond those known to be told
---   the writer stores the control word, with the epoch due: it has found all seven payload words, or stored others
+--   the writer stores the control word, with the epoch due: it has found all seven payload words
 --   the writer loads the number told
 --   the reader loads the control word of the slot that it reads next
 --   the reader loads a payload word of that slot: it has seen the epoch due
@@ -100,11 +100,11 @@ told_word v = 8 * v.size
 abbrev pub HasSlot : View → Type 0
 HasSlot v = length v.put.sent < v.put.known + v.size
 
--- this is the first payload word that the writer doesn't know yet, of the slot that is put into next
+-- of the slot that is put into next this is the first payload word that the writer hasn't found yet
 abbrev pub IsNextWord : ℕ → View → Type 0
 IsNextWord word v = (word ≡ put_word v (length v.put.part)) × (length v.put.part < 7) × HasSlot v
 
--- this is the last one that it knows
+-- this is the last one that it has found
 abbrev pub IsLastWord : ℕ → View → Type 0
 IsLastWord word v = (word ≡ put_word v (length v.put.part - 1)) × (0 < length v.put.part) × (length v.put.part ≤ 7) × HasSlot v
 

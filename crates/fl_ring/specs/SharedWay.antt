@@ -38,7 +38,7 @@ pub record WayRuns (b n : ℕ) (words : List ℕ) (w : Writing) (r : Reading) (t
   pub known_told : w.known ≤ told
   pub room : length w.sent ≤ w.known + n
   pub most : length w.sent ≤ 2 ^ 62
-  -- the words that the writer knows are in the next slot
+  -- the words that the writer has found, or stored then, are in the next slot
   pub seven : length w.part ≤ 7
   pub part : (k : ℕ) → k < length w.part → slice_index words (slot b n (length w.sent) + k) ≡ slice_index w.part k
   -- where the reader has seen the epoch due, the next fragment is there, and so is one that it peeked
@@ -59,7 +59,7 @@ pub record WayNear (n : ℕ) (w : Writing) (r : Reading) : Type 0 where
 abbrev pub frag_from : List ℕ → ℕ → Frag
 frag_from words control = record { words = words; control = control }
 
--- one payload word more of the next slot is known to be this
+-- one payload word more of the next slot is found to be this
 abbrev pub with_found : Writing → ℕ → Writing
 with_found w x = record { sent = w.sent; part = w.part ++ x ∷ []; known = w.known; loads = w.loads }
 
