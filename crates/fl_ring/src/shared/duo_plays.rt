@@ -1,7 +1,7 @@
 //! The kinds of step on the table of a ring of two directions, and what each tells its side.
 
-ghost use Rattle.fl_ring.specs.SharedDuo.{duo_finds_word, duo_stores_word, duo_stores_control, duo_loads_control, duo_loads_word, duo_loads_peeked, duo_loads_taken};
-ghost use Rattle.fl_ring.specs.SharedDuo.{duo_compares, side_one_of, side_two_of, duo_both_of, duo_nobody};
+ghost use Rattle.fl_ring.specs.SharedDuo.{duo_finds_word, duo_stores_word, duo_stores_control, duo_loads_control, duo_loads_word, duo_loads_peeked};
+ghost use Rattle.fl_ring.specs.SharedDuo.{duo_loads_taken, duo_compares, side_one_of, side_two_of, duo_both_of, duo_nobody};
 
 use crate::shared::duo_board::DuoView;
 use atomic_table::{Join, Play, Split};
