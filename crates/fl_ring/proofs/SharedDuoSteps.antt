@@ -1,5 +1,5 @@
 -- The steps of a ring of two directions over shared words: what the rule allows each side.
-use Rattle.std.proofs.Common.{ℕ, ◌≡◌, ◌<◌, ◌+◌, ◌-◌, ◌*◌, ◌%◌, ◌^◌, inl, inr, List, length, get_or, set, ap, subst, ◌∙◌, sym, refl, arith}
+use Rattle.std.proofs.Common.{ℕ, ◌≡◌, ◌<◌, ◌+◌, ◌*◌, ◌%◌, ◌^◌, inl, inr, List, length, get_or, set, ap, subst, ◌∙◌, sym, refl, arith}
 use mathlib.Core.Option.{none}
 use Rattle.atomic_table.specs.Table.{Me, step, Allows}
 use Rattle.fl_base.specs.Control.{epoch_of, told_of}
