@@ -7,7 +7,7 @@ ghost use Rattle.fl_command.specs.Streams.{output_of, streams_of};
 ghost use Rattle.fl_command.specs.Commands.{Compiles, Views, Execs};
 ghost use Rattle.fl_command.specs.Parts.{EndsSo, IsUnmade};
 
-use crate::fault::{Fault, fault_of_reading, fault_of_writing, finish, refused};
+use crate::fault::{Fault, fault_of_content, fault_of_reading, fault_of_writing, finish};
 use crate::files::FileStore;
 use crate::output::print;
 use fl_show::{compile_text, show_content};
@@ -64,7 +64,7 @@ fn show_read<'a, W: Write + Drop>(
 {
     match show_content(alloc, content) {
         Ok(table) => print(&table, output),
-        Err(fault) => Err(refused(file, content, fault)),
+        Err(fault) => Err(fault_of_content(file, content, fault)),
     }
 }
 
@@ -98,7 +98,7 @@ fn compile_read<'a, F: FileStore>(
 {
     match compile_text(alloc, content) {
         Ok(image) => write_image(out, &image, files),
-        Err(fault) => Err(refused(file, content, fault)),
+        Err(fault) => Err(fault_of_content(file, content, fault)),
     }
 }
 

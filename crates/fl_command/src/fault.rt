@@ -114,7 +114,7 @@ pub fn fault_of_writing(file: &str, error: io::Error) -> Fault<'_>
 }
 
 /// The file whose content is refused.
-pub fn refused<'a>(file: &'a str, content: &'a [u8], fault: ShowFault<'a>) -> Fault<'a>
+pub fn fault_of_content<'a>(file: &'a str, content: &'a [u8], fault: ShowFault<'a>) -> Fault<'a>
     ensures status { status_of result ≡ shown_status fault.entry }
 {
     Fault::Show(RefusedFile {

@@ -147,7 +147,7 @@ impl Circuits {
 
     /// The number that the neighbour's next opening on a link has, by the count of those taken; `None` after 1,023, and
     /// where there is no such link.
-    pub fn expected(&self, link: LinkId) -> Option<Circuit>
+    pub fn next_due(&self, link: LinkId) -> Option<Circuit>
         ensures next { option_map (λ (c : Circuit). c.0) result ≡ next_due self.now link.0 }
     {
         match self.links.get(usize::from(link.0)) {

@@ -182,7 +182,7 @@ impl Circuits {
     fn is_next(&self, link: LinkId, circuit: Circuit) -> bool
         ensures next { result ≡ is_next (next_due self.now link.0) circuit.0 }
     {
-        match self.expected(link) {
+        match self.next_due(link) {
             Some(next) => next.0 == circuit.0,
             None => false,
         }

@@ -95,7 +95,7 @@ pub(crate) fn find_fate(
 fn is_due(circuits: &Circuits, link: LinkId, circuit: Circuit) -> bool
     ensures due { result ≡ is_next (next_due circuits.now link.0) circuit.0 }
 {
-    match circuits.expected(link) {
+    match circuits.next_due(link) {
         Some(next) => next.0 == circuit.0,
         None => false,
     }

@@ -280,7 +280,7 @@ fn refuses_each(line: &mut Line, count: u16) -> Result<bool, WireFault> {
 // Whether these are the numbers of the next circuits of a core's first link, its own and the other core's.
 fn counts(monitor: &Monitor, own: u16, due: u16) -> bool {
     let circuits = monitor.circuits();
-    circuits.next(FIRST) == Some(Circuit(own)) && circuits.expected(FIRST) == Some(Circuit(due))
+    circuits.next(FIRST) == Some(Circuit(own)) && circuits.next_due(FIRST) == Some(Circuit(due))
 }
 
 fn hop(monitor: &Monitor) -> Option<Hop> {

@@ -73,7 +73,7 @@ fn lane_of(core: &Core, link: LinkId) -> Lane {
     Lane {
         waiting: waiting(core, link),
         next: core.monitor().circuits().next(link),
-        expected: core.monitor().circuits().expected(link),
+        expected: core.monitor().circuits().next_due(link),
     }
 }
 

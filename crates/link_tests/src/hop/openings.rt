@@ -79,7 +79,7 @@ pub fn answers(circuits: &mut Circuits, asked: &Asked) -> bool {
         Asked::HopOf(link, circuit, hop) => circuits.hop_of(*link, *circuit) == *hop,
         Asked::RouteOf(link, circuit, way) => circuits.route_of(*link, *circuit) == *way,
         Asked::Next(link, circuit) => circuits.next(*link) == *circuit,
-        Asked::Expected(link, circuit) => circuits.expected(*link) == *circuit,
+        Asked::Expected(link, circuit) => circuits.next_due(*link) == *circuit,
     }
 }
 
@@ -301,7 +301,7 @@ fn with_little_memory(alloc: Global) -> bool {
         Err(fault) => {
             fault == HopFault::Memory
                 && circuits.next(second) == Some(Circuit(1))
-                && circuits.expected(first) == Some(Circuit(1))
+                && circuits.next_due(first) == Some(Circuit(1))
                 && circuits.route_of(first, Circuit(1)).is_none()
         }
     }

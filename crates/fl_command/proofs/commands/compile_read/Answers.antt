@@ -12,6 +12,6 @@ returns-in-Ok g c = record {
 pub returns-in-Err : goal.returns-in-Err
 returns-in-Err g c = record {
   compiled =
-      not_compiled (g.F.FileStore.deeds c.args.files.now) c.args.file.now c.args.out.now c.args.content.now c.in-Err.fault (status_of c.refused.result) c.in-Err.ensures.refused
-      c.refused.ensures.status;
+      not_compiled (g.F.FileStore.deeds c.args.files.now) c.args.file.now c.args.out.now c.args.content.now c.in-Err.fault (status_of c.fault_of_content.result) c.in-Err.ensures.refused
+      c.fault_of_content.ensures.status;
 }

@@ -14,6 +14,6 @@ returns-in-Ok g c = record {
 pub returns-in-Err : goal.returns-in-Err
 returns-in-Err g c = record {
   shown =
-      not_shown c.args.file.now c.args.content.now (output_of g.W.Write.contents c.args.output.now c.args.output.now) c.in-Err.fault (status_of c.refused.result) c.in-Err.ensures.refused refl
-      c.refused.ensures.status;
+      not_shown c.args.file.now c.args.content.now (output_of g.W.Write.contents c.args.output.now c.args.output.now) c.in-Err.fault (status_of c.fault_of_content.result) c.in-Err.ensures.refused refl
+      c.fault_of_content.ensures.status;
 }
