@@ -1,12 +1,12 @@
-use Rattle.std.proofs.Common.{◌≡◌, ◌<◌, ◌≤◌, ℕ, [], rules, arith, map, length, refl, sym, subst, ap, ◌∙◌, List, IfOk, IfErr}
+use Rattle.std.proofs.Common.{◌≡◌, ℕ, rules, arith, map, refl, sym, subst, ap, ◌∙◌, List, IfOk, IfErr}
 use Rattle.std.proofs.lemmas.Result.{err_from_is_err_and}
-use Rattle.fl_interface.specs.Interface.{TheType, TheTypes, scalar, structure, array, type_of, type_step, fields_from}
+use Rattle.fl_interface.specs.Interface.{TheType, scalar, structure, array, type_of, type_step, fields_from}
 use Rattle.fl_interface.specs.declared.interface.FixedType.{FixedType}
 use Rattle.fl_interface.specs.declared.interface.FixedType.TheViews.{the_lemmas}
 use Rattle.fl_interface.specs.declared.interface.FixedType.TheFolds.{fold-roll-FixedType, fold_out-FixedType}
 use Rattle.fl_interface.specs.Sizes.{greatest_align}
 use Rattle.fl_value.specs.Value.{Datum, fields, elements, datum_of, data_from}
-use Rattle.fl_wire.specs.Shapes.{nothing, padding, values_of, fields_of, struct_from, elements_of, ReadAt, StopsAt}
+use Rattle.fl_wire.specs.Shapes.{nothing, padding, values_of, struct_from, elements_of, ReadAt, StopsAt}
 use Rattle.fl_wire.proofs.Arguments.{align_along, types_align}
 use Rattle.fl_wire.proofs.Steps.{first_stop, come_rest, come_done}
 use Rattle.fl_wire.proofs.Parts.{pushed, elements_on, elements_stop, elements_end, fields_on, fields_stop, fields_end, begins_struct, begins_array, whole_read, struct_start, struct_fields, struct_stop}

@@ -1,4 +1,4 @@
-use Rattle.std.proofs.Common.{◌+◌, map, ap, refl, arith}
+use Rattle.std.proofs.Common.{map, ap, refl, arith}
 use Rattle.std.proofs.lemmas.Result.{err_from_is_err_and}
 use Rattle.fl_interface.specs.Interface.{scalar}
 use Rattle.fl_value.specs.Value.{datum_of}
