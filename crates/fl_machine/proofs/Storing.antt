@@ -18,7 +18,7 @@ use Rattle.fl_machine.specs.Taking.{Stands, so_far}
 use Rattle.fl_machine.specs.declared.intake.Fed.{Fed}
 use Rattle.fl_machine.specs.declared.intake.Fed.TheVariants.{Part, Whole}
 use Rattle.fl_machine.specs.Receiving.{TheHeld, TheStored, receiving, fed_of, fed_before, block_at, frags_begun, parts_of, tape_before, numbers_in, IsStand, IsBehind, IsBefore, IsStored}
-use Rattle.fl_machine.specs.Receiving.{Adds, AddsPart, AddsLast, Feeds, stand_after, HoldsTapes, HoldsTwo, LongestHolds, HasPlaces}
+use Rattle.fl_machine.specs.Receiving.{Adds, AddsPart, AddsLast, Feeds, stand_after, HoldsTapes, HoldsTwo, HasPlaces}
 
 -- ---- room
 
@@ -30,14 +30,25 @@ two_more plan i n m less (inl holds) = inl (holds_more plan i n m less holds)
 two_more plan i n m less (inr room) = inr (omega (arith, less, room))
 
 -- the places of a new run's short tapes
-pub short_two : (plan : PlanNo) (i : TheInterface) (capacity short : ℕ) → (capacity < 112 → capacity ≤ short) → (112 ≤ capacity → 112 ≤ short) → HoldsTapes plan i capacity → HoldsTwo plan i short
+short_two : (plan : PlanNo) (i : TheInterface) (capacity short : ℕ) → (capacity < 112 → capacity ≤ short) → (112 ≤ capacity → 112 ≤ short) → HoldsTapes plan i capacity → HoldsTwo plan i short
 short_two plan i capacity short few many holds = ⊎_elim
     (λ (below : capacity < 112). inl (holds_more plan i capacity short (few below) holds))
     (λ (past : 112 ≤ capacity). inr (many past))
     (cases_lt capacity 112)
 
-pub new_longest : (plan : PlanNo) (i : TheInterface) (capacity a b : ℕ) → HoldsTapes plan i capacity → LongestHolds plan i a b capacity
-new_longest plan i capacity a b holds = λ n x y z. holds_more plan i capacity n z holds
+pub new_stored : (plan : PlanNo) (i : TheInterface) (capacity short : ℕ) (tape spare fresh : List ℕ) → (capacity < 112 → capacity ≤ short) → (112 ≤ capacity → 112 ≤ short) → HoldsTapes plan i capacity
+    → length tape ≡ short → length spare ≡ short → length fresh ≡ capacity
+    → IsStored plan i (let s : TheStored = record { tape = tape; spare = spare; fresh = fresh; stand = Between; before = None } in s)
+new_stored plan i capacity short tape spare fresh few many holds a b c =
+    let two = short_two plan i capacity short few many holds in
+    record {
+      tape = two_more plan i short (length tape) (omega (arith, a)) two;
+      spare = two_more plan i short (length spare) (omega (arith, b)) two;
+      fresh = inl (holds_more plan i capacity (length fresh) (omega (arith, c)) holds);
+      longest = λ n x y z. holds_more plan i capacity n (omega (arith, c, z)) holds;
+      stand = tt;
+      before = tt;
+    }
 
 pub room_for : (p : TheProgram) (count places : ℕ) → count ≤ 56 → HoldsTwo p.plan p.interface places → HasPlaces p count places
 room_for p count places few (inl holds) = inl holds
@@ -50,9 +61,10 @@ pub first_put : (numbers tape front : List ℕ) → front ≡ numbers → length
 first_put numbers tape front copied few =
     subst
     (λ (xs : List ℕ). (take (length numbers) (xs ++ drop (length numbers) tape) ≡ numbers) × (length (xs ++ drop (length numbers) tape) ≡ length tape))
-    (sym copied)
-    (take_at numbers (drop (length numbers) tape) (length numbers) refl,
-    omega (arith, few, length-append numbers (drop (length numbers) tape), length-drop (length numbers) tape))
+    (sym copied) (
+      take_at numbers (drop (length numbers) tape) (length numbers) refl,
+      omega (arith, few, length-append numbers (drop (length numbers) tape), length-drop (length numbers) tape),
+    )
 
 -- ---- the same numbers on another tape
 

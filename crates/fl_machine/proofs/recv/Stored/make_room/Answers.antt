@@ -41,7 +41,7 @@ returns-clause-stored c =
     let e = c.go_over.ensures in
     let f = c.go_over-2.ensures in
     let moved = gone_over p.plan i b.intake.count c.count-count.result s c.go_over.new.tape.items c.go_over.new.other.items c.go_over-2.new.tape.items c.go_over-2.new.other.items counts
-        c.requires.stored e.kept e.longest e.other f.kept f.longest f.other in
+    c.requires.stored e.kept e.longest e.other f.kept f.longest f.other in
     moved_stored p.plan i s b _ _ _ c.requires.inside (omega (arith, counts, c.if-count-le56.false)) moved c.requires.stored
 
 pub returns-clause-same : goal.returns-clause-same
@@ -54,7 +54,7 @@ returns-clause-same c =
     let e = c.go_over.ensures in
     let f = c.go_over-2.ensures in
     let moved = gone_over p.plan i b.intake.count c.count-count.result s c.go_over.new.tape.items c.go_over.new.other.items c.go_over-2.new.tape.items c.go_over-2.new.other.items counts
-        c.requires.stored e.kept e.longest e.other f.kept f.longest f.other in
+    c.requires.stored e.kept e.longest e.other f.kept f.longest f.other in
     moved_receiving p s b _ _ _ c.requires.inside (omega (arith, counts, c.if-count-le56.false)) moved c.requires.stored
 
 pub returns-clause-room : goal.returns-clause-room
@@ -67,5 +67,5 @@ returns-clause-room c =
     let e = c.go_over.ensures in
     let f = c.go_over-2.ensures in
     let moved = gone_over p.plan i b.intake.count c.count-count.result s c.go_over.new.tape.items c.go_over.new.other.items c.go_over-2.new.tape.items c.go_over-2.new.other.items counts
-        c.requires.stored e.kept e.longest e.other f.kept f.longest f.other in
+    c.requires.stored e.kept e.longest e.other f.kept f.longest f.other in
     moved_room (program_of p) b.intake.count s _ _ _ moved c.requires.stored
