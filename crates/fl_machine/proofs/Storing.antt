@@ -178,13 +178,15 @@ pub gone_over : (plan : PlanNo) (i : TheInterface) (n count : ℕ) (s : TheStore
     → take count tape ≡ take count s.tape → (length s.tape ≤ length tape) × (length s.spare ≤ length tape) → (length spare ≡ length s.spare) ⊎ (length spare ≡ length s.tape)
     → take count tape2 ≡ take count tape → (length tape ≤ length tape2) × (length s.fresh ≤ length tape2) → (length fresh ≡ length s.fresh) ⊎ (length fresh ≡ length tape)
     → Moved plan i n s tape2 spare fresh
-gone_over plan i n count s tape spare tape2 fresh counts x first (long, past) one second (long2, past2) other = subst (λ (m : ℕ). Moved plan i m s tape2 spare fresh) counts (record {
-  same = record { prefix = second ∙ first; long = omega (arith, long, long2) };
-  past_spare = omega (arith, past, long2);
-  past_fresh = past2;
-  spare = of_two (length spare) (length s.spare) (length s.tape) x.spare x.tape one;
-  fresh = of_two (length fresh) (length s.fresh) (length tape) x.fresh (two_more plan i (length s.tape) (length tape) long x.tape) other;
-})
+gone_over plan i n count s tape spare tape2 fresh counts x first (long, past) one second (long2, past2) other =
+    let moved : Moved plan i count s tape2 spare fresh = record {
+      same = record { prefix = second ∙ first; long = omega (arith, long, long2) };
+      past_spare = omega (arith, past, long2);
+      past_fresh = past2;
+      spare = of_two (length spare) (length s.spare) (length s.tape) x.spare x.tape one;
+      fresh = of_two (length fresh) (length s.fresh) (length tape) x.fresh (two_more plan i (length s.tape) (length tape) long x.tape) other;
+    } in
+    subst (λ (m : ℕ). Moved plan i m s tape2 spare fresh) counts moved
   where
     of_two : (m a b : ℕ) → HoldsTwo plan i a → HoldsTwo plan i b → (m ≡ a) ⊎ (m ≡ b) → HoldsTwo plan i m
     of_two m a b h k (inl e) = two_more plan i a m (omega (arith, e)) h
