@@ -17,7 +17,7 @@ use Rattle.fl_machine.specs.Receiving.{Stand, Between, Inside, After, Before}
 use Rattle.fl_machine.specs.Taking.{Stands, so_far}
 use Rattle.fl_machine.specs.declared.intake.Fed.{Fed}
 use Rattle.fl_machine.specs.declared.intake.Fed.TheVariants.{Part, Whole}
-use Rattle.fl_machine.specs.Receiving.{TheHeld, TheStored, receiving, fed_of, fed_before, block_at, frags_begun, parts_of, tape_before, numbers_in, IsStand, IsBehind, IsBefore, IsStored}
+use Rattle.fl_machine.specs.Receiving.{TheHeld, TheStored, receiving, fed_of, fed_before, block_at, frags_begun, tape_before, numbers_in, IsStand, IsBehind, IsBefore, IsStored}
 use Rattle.fl_machine.specs.Receiving.{Adds, AddsPart, AddsLast, Feeds, stand_after, HoldsTapes, HoldsTwo, HasPlaces}
 
 -- ---- room
@@ -320,31 +320,6 @@ gone_on_stored plan i s b tape stand inside same x more stands =
       stand = stands;
       before = (stand_same plan i (numbers_in s.stand) s.tape tape s.stand own (omega arith) x.stand, omega (arith, counts, more));
     }
-
-pub gone_on_feeds : (program : Program) (s : TheStored) (b : Begun) (tape : List ℕ) (d : Begun) (f : Frag) (fed : Fed) → s.stand ≡ Inside b → Same b.intake.count s.tape tape
-    → Adds (program_of program).plan (program_of program).interface (parts_of (program_of program).plan (program_of program).interface s.tape b) f
-    (fed_of (program_of program).plan (program_of program).interface tape (stand_after d fed)) (stand_after d fed)
-    → Feeds (receiving program s) f (Ok fed) (receiving program (gone_on s tape (stand_after d fed)))
-gone_on_feeds program s b tape d f Part inside same adds =
-    let plan = (program_of program).plan in
-    let i = (program_of program).interface in
-    let counts : numbers_in s.stand ≡ b.intake.count = ap numbers_in inside in
-    let own : Same (numbers_in s.stand) s.tape tape = subst (λ (n : ℕ). Same n s.tape tape) (sym counts) same in
-    let parts : parts_of plan i s.tape b ≡ (fed_of plan i s.tape s.stand).parts = sym (ap (λ (t : Stand). (fed_of plan i s.tape t).parts) inside) in
-    let before = fed_same plan i (numbers_in s.stand) s.tape tape s.stand own (omega arith) in (
-      subst (λ (fs : List Frag). AddsPart plan i fs f (fed_of plan i tape (Inside d))) parts adds,
-      record { program = refl; before = ap Some (before ∙ held_again plan i s.tape s.stand) },
-    )
-gone_on_feeds program s b tape d f Whole inside same adds =
-    let plan = (program_of program).plan in
-    let i = (program_of program).interface in
-    let counts : numbers_in s.stand ≡ b.intake.count = ap numbers_in inside in
-    let own : Same (numbers_in s.stand) s.tape tape = subst (λ (n : ℕ). Same n s.tape tape) (sym counts) same in
-    let parts : parts_of plan i s.tape b ≡ (fed_of plan i s.tape s.stand).parts = sym (ap (λ (t : Stand). (fed_of plan i s.tape t).parts) inside) in
-    let before = fed_same plan i (numbers_in s.stand) s.tape tape s.stand own (omega arith) in (
-      subst (λ (fs : List Frag). AddsLast plan i fs f (fed_of plan i tape (stand_after d Whole))) parts adds,
-      record { program = refl; before = ap Some (before ∙ held_again plan i s.tape s.stand) },
-    )
 
 -- what is stored then, told part by part
 pub gone_as : (s : TheStored) (tape tape2 : List ℕ) (stand stand2 from : Stand) → tape2 ≡ tape → stand2 ≡ stand → from ≡ s.stand

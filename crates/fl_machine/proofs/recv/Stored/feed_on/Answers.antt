@@ -1,11 +1,11 @@
-use Rattle.std.proofs.Common.{◌≡◌, ℕ, List, take, length, sym, ap, subst, ◌∙◌, arith}
+use Rattle.std.proofs.Common.{◌≡◌, ◌≤◌, ℕ, List, take, length, sym, ap, subst, ◌∙◌, arith}
 use Rattle.std.specs.Vec.{with_items}
 use Rattle.std.proofs.lemmas.List.{with_items_is}
 use Rattle.fl_base.specs.declared.fragment.Frag.{Frag}
 use Rattle.fl_interface.specs.Interface.{interface_of}
 use Rattle.fl_machine.specs.declared.recv.Begun.{Begun}
-use Rattle.fl_machine.specs.Receiving.{Stand, stored_of, receiving, parts_of, fed_of, IsRefused, IsStored}
-use Rattle.fl_machine.proofs.Storing.{Same, with_tape, stored_same, receiving_same}
+use Rattle.fl_machine.specs.Receiving.{Stand, TheStored, stored_of, receiving, parts_of, fed_of, stand_of, stand_after, numbers_in, IsRefused, IsStored}
+use Rattle.fl_machine.proofs.Storing.{Same, with_tape, stored_same, receiving_same, gone_on_stored, gone_as}
 use Rattle.fl_machine.proofs.recv.Stored.feed_on.Goals as goal
 
 -- the call at the place to go on at was that under way
@@ -42,3 +42,26 @@ returns-in-Err-clause-feeds c =
       ap (λ (t : List ℕ). receiving p (with_tape t s)) (items c)
           ∙ receiving_same p s c.args.self.now.now.value c.go_on.new.tape c.requires.inside (same c) c.requires.stored,
     )
+
+pub returns-in-Ok-clause-stored : goal.returns-in-Ok-clause-stored
+returns-in-Ok-clause-stored c =
+    let p = c.args.program.now in
+    let i = interface_of p.compiled.value.plans.interface in
+    let s = stored_of c.args.self.now in
+    let b = c.args.self.now.now.value in
+    let stand = stand_after c.go_on.new.begun c.in-Ok.fed in
+    let copied : c.deref_mut-2.result.now ≡ b = c.deref_mut-2.ensures.value ∙ c.deref.ensures in
+    let same : Same b.intake.count s.tape c.go_on.new.tape = record {
+      prefix = subst (λ (d : Begun). take d.intake.count c.go_on.new.tape ≡ take d.intake.count c.deref_mut-3.result.now) copied c.in-Ok.ensures.kept
+          ∙ ap (take b.intake.count) c.deref_mut-3.ensures.value;
+      long = omega (arith, c.in-Ok.ensures.long, ap length c.deref_mut-3.ensures.value);
+    } in
+    let tape : (with_items c.args.self.now.tape c.go_on.new.tape).items ≡ c.go_on.new.tape
+    = with_items_is c.args.self.now.tape c.go_on.new.tape (omega (arith, c.in-Ok.ensures.long, c.deref_mut-3.ensures.len)) in
+    let begun : c.swap-in-Ok.new.x.value ≡ c.go_on.new.begun = ap (λ v. v.value) (c.swap-in-Ok.ensures.x_after ∙ c.swap.ensures.x_after) in
+    let there : stand_of c.after-self.result c.swap-in-Ok.new.x.value ≡ stand
+    = ap (stand_of c.after-self.result) (sym c.deref-in-Ok.ensures) ∙ c.after-self.ensures.stand ∙ ap (λ (d : Begun). stand_after d c.in-Ok.fed) (c.deref-in-Ok.ensures ∙ begun) in
+    let grows = subst (λ (d : Begun). d.intake.count ≤ numbers_in stand) copied c.in-Ok.ensures.grows in
+    subst (λ (t : TheStored). IsStored p.plan i t)
+    (gone_as s c.go_on.new.tape _ stand _ (stand_of c.args.self.now.phase c.swap-in-Ok.new.y.value) tape there (ap (λ v. stand_of c.args.self.now.phase v.value) c.swap-in-Ok.ensures.y_after))
+    (gone_on_stored p.plan i s b c.go_on.new.tape stand c.requires.inside same c.requires.stored grows c.in-Ok.ensures.stands)

@@ -21,8 +21,8 @@ go_over-requires c =
       inside = omega (arith, counts, within_tape p.plan (interface_of p.compiled.value.plans.interface) (stored_of c.args.self.now) b c.requires.inside c.requires.stored);
     }
 
-pub go_over-2-requires : goal.go_over-2-requires
-go_over-2-requires c =
+pub go_over-requires-2 : goal.go_over-requires-2
+go_over-requires-2 c =
     let p = c.args.program.now in
     let b = c.args.self.now.now.value in
     let counts : c.count-count.result ≡ b.intake.count = c.count-count.ensures ∙ ap (λ (d : Begun). d.intake.count) c.deref.ensures in
