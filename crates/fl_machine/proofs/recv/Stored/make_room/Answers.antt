@@ -1,4 +1,4 @@
-use Rattle.std.proofs.Common.{◌≡◌, ℕ, ◌∙◌, ap, arith}
+use Rattle.std.proofs.Common.{◌≡◌, ◌∙◌, ap, arith}
 use Rattle.fl_interface.specs.Interface.{interface_of}
 use Rattle.fl_compile.specs.Programs.{program_of}
 use Rattle.fl_machine.specs.declared.recv.Begun.{Begun}
