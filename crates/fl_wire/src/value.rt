@@ -120,6 +120,34 @@ fn read_told_scalar(frags: &[Frag], at: usize, kind: Scalar) -> Result<(Value, u
     }
 }
 
+// As `read_scalar`, which is in line here for each kind by itself: a number's kind is told once.
+#[inline(always)]
+fn read_known_scalar(frags: &[Frag], at: usize, kind: Scalar) -> Result<(Value, usize), Stop>
+    requires within { at ≤ 56 * length frags.now }
+    ensures within { IfOk result (λ r. r.1 ≤ 56 * length frags.now) }
+    ensures later { IfOk result (λ r. at ≤ r.1) }
+    ensures read { IfOk result (λ r. ReadAt (values_of (scalar kind)) frags.now at (datum_of r.0) r.1) }
+    ensures stop { IfErr result (λ stop. StopsAt stop (values_of (scalar kind)) frags.now at) }
+{
+    match kind {
+        Scalar::Uint8 => read_scalar(frags, at, Scalar::Uint8),
+        Scalar::Int8 => read_scalar(frags, at, Scalar::Int8),
+        Scalar::Bool => read_scalar(frags, at, Scalar::Bool),
+        Scalar::Char => read_scalar(frags, at, Scalar::Char),
+        Scalar::Uint16 => read_scalar(frags, at, Scalar::Uint16),
+        Scalar::Int16 => read_scalar(frags, at, Scalar::Int16),
+        Scalar::Uint32 => read_scalar(frags, at, Scalar::Uint32),
+        Scalar::Int32 => read_scalar(frags, at, Scalar::Int32),
+        Scalar::Iref => read_scalar(frags, at, Scalar::Iref),
+        Scalar::Uint64 => read_scalar(frags, at, Scalar::Uint64),
+        Scalar::Int64 => read_scalar(frags, at, Scalar::Int64),
+        Scalar::Uintptr => read_scalar(frags, at, Scalar::Uintptr),
+        Scalar::Intptr => read_scalar(frags, at, Scalar::Intptr),
+        Scalar::Size => read_scalar(frags, at, Scalar::Size),
+        Scalar::Errval => read_scalar(frags, at, Scalar::Errval),
+    }
+}
+
 // The rank of a scalar argument; that of numbers of eight bytes is told first.
 #[inline(always)]
 fn rank_of_scalar(plan: PlanNo, ty: &ArgType, kind: Scalar) -> u8
@@ -245,7 +273,7 @@ fn read_each_scalar(
     let mut values = Vec::with_capacity(alloc, most_left(frags, at, count))?;
     let mut end = at;
     for _index in 0..count {
-        let (value, after) = read_scalar(frags, end, kind)?;
+        let (value, after) = read_known_scalar(frags, end, kind)?;
         values.push(value)?;
         end = after;
     }
@@ -345,7 +373,7 @@ fn read_fields(
     let mut end = at;
     for field in fields {
         if let FixedType::Scalar(kind) = field {
-            let (number, next) = read_scalar(frags, end, *kind)?;
+            let (number, next) = read_known_scalar(frags, end, *kind)?;
             values.push_reserved(number);
             end = next;
             continue;
