@@ -105,21 +105,6 @@ fn read_scalar(frags: &[Frag], at: usize, kind: Scalar) -> Result<(Value, usize)
     Ok((int_value(number_from(kind, raw)), end))
 }
 
-// As `read_scalar`. A number of eight bytes that may be any, at its place, is told before the others: then
-// nothing more is asked of it.
-#[inline(always)]
-fn read_told_scalar(frags: &[Frag], at: usize, kind: Scalar) -> Result<(Value, usize), Stop>
-    requires within { at ≤ 56 * length frags.now }
-    ensures within { IfOk result (λ r. r.1 ≤ 56 * length frags.now) }
-    ensures later { IfOk result (λ r. at ≤ r.1) }
-    ensures read { IfOk result (λ r. ReadAt (values_of (scalar kind)) frags.now at (datum_of r.0) r.1) }
-{
-    match kind {
-        Scalar::Uint64 if at % 8 == 0 => read_scalar(frags, at, Scalar::Uint64),
-        _ => read_scalar(frags, at, kind),
-    }
-}
-
 // As `read_scalar`, which is in line here for each kind by itself: a number's kind is told once.
 #[inline(always)]
 fn read_known_scalar(frags: &[Frag], at: usize, kind: Scalar) -> Result<(Value, usize), Stop>
@@ -186,7 +171,7 @@ pub(crate) fn read_scalar_argument(
     if rank < least {
         return None;
     }
-    match read_told_scalar(frags, at, *kind) {
+    match read_known_scalar(frags, at, *kind) {
         Ok((value, end)) => Some((value, end, rank)),
         Err(_) => None,
     }
