@@ -11,7 +11,7 @@ ghost use Rattle.fl_wire.specs.Standing.{signed_half, number_back, word_in};
 ghost use Rattle.fl_interface.specs.declared.interface.Scalar.TheVariants.{Uint64};
 ghost use Rattle.fl_wire.specs.Shapes.{ReadAt, StopsAt, values_of, fields_of, elements_of, text_byte, texts_of, length_below, arguments_of};
 
-use crate::leaf::{Stop, byte_of, read_number, read_padding, read_word, word_after, word_at};
+use crate::leaf::{Stop, byte_of, read_number, read_padding, read_word, word_at};
 use crate::text::bytes_from;
 use fl_base::{FRAG_BYTES, Frag};
 use fl_interface::{ArgType, FixedType, Scalar, greatest_alignment};
@@ -105,7 +105,8 @@ fn read_scalar(frags: &[Frag], at: usize, kind: Scalar) -> Result<(Value, usize)
     Ok((int_value(number_from(kind, raw)), end))
 }
 
-// As `read_scalar`, which is in line here for each kind by itself: a number's kind is told once.
+// As `read_scalar`, which is in line here once for each kind: the kind is told once, and not for its width, its greatest
+// number and its sign each.
 #[inline(always)]
 fn read_known_scalar(frags: &[Frag], at: usize, kind: Scalar) -> Result<(Value, usize), Stop>
     requires within { at ≤ 56 * length frags.now }
@@ -217,7 +218,8 @@ fn most_left(frags: &[Frag], at: usize, count: u64) -> usize
     (count as usize).min(frags.len() * FRAG_BYTES - at)
 }
 
-// So many scalars of eight bytes, from a multiple of 8 on, where all are there: each is a word, and may be any.
+// So many scalars of eight bytes, from a multiple of 8 on, where all are there: each is a word, and may be any. They are taken
+// fragment by fragment, so that within one nothing is asked but where it ends.
 fn read_words(
     alloc: Global,
     frags: &[Frag],
@@ -231,12 +233,16 @@ fn read_words(
     ensures read { IfOk result (λ values. ReadAt (elements_of count (scalar kind)) frags.now at (data_from (map datum_of values.items)) (at + 8 * count)) }
 {
     let mut values = Vec::with_capacity(alloc, count)?;
-    let (mut frag, mut word) = (at / FRAG_BYTES, at / 8 % 7);
-    for _index in 0..count {
-        let raw = read_word(frags, frag, word);
-        values.push_reserved(int_value(number_from(kind, raw)));
-        let after = word_after(frag, word);
-        (frag, word) = (after.0, after.1);
+    let mut next = at / 8;
+    let end = next + count;
+    while next < end {
+        let frag = next / 7;
+        let past = (end - 7 * frag).min(7);
+        for word in next % 7..past {
+            let raw = read_word(frags, frag, word);
+            values.push_reserved(int_value(number_from(kind, raw)));
+        }
+        next = 7 * frag + past;
     }
     Ok(values)
 }
