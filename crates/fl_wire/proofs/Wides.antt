@@ -58,6 +58,12 @@ word_value s frags f w at end raw d wide there inside place ends read is =
     let named : ReadAt (values_of (scalar s)) frags here d (here + 8) = subst (λ (e : Datum). ReadAt (values_of (scalar s)) frags here e (here + 8)) (sym is) value in
     subst (λ (m : ℕ). ReadAt (values_of (scalar s)) frags at d m) (sym ends) (subst (λ (m : ℕ). ReadAt (values_of (scalar s)) frags m d (m + 8)) place named)
 
+-- so many, told otherwise
+pub words_at : (s : Scalar) (n i j : ℕ) (frags : List Frag) (start : ℕ) (xs : List Datum) → i ≡ j → Come (elements_of n (scalar s)) (elements_of (n - i) (scalar s)) frags start (start + 8 * i) (put_before xs)
+    → Come (elements_of n (scalar s)) (elements_of (n - j) (scalar s)) frags start (start + 8 * j) (put_before xs)
+words_at s n i j frags start xs same come =
+    subst (λ (m : ℕ). Come (elements_of n (scalar s)) (elements_of (n - m) (scalar s)) frags start (start + 8 * m) (put_before xs)) same come
+
 -- one more
 pub words_on : (s : Scalar) (n i : ℕ) (frags : List Frag) (start f w raw : ℕ) (xs all : List Datum) (d : Datum) → scalar_size s ≡ 8 → i < n → start + 8 * n ≤ 56 * length frags → w < 7
     → 56 * f + 8 * w ≡ start + 8 * i → Come (elements_of n (scalar s)) (elements_of (n - i) (scalar s)) frags start (start + 8 * i) (put_before xs)

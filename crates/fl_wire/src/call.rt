@@ -1,13 +1,13 @@
 //! The arguments of a call from the bytes of its fragments.
 
-ghost use Rattle.std.specs.Prelude.{◌≡◌, ◌*◌, ◌<◌, ◌≤◌, map, length, IfOk, IfErr, IfSome};
+ghost use Rattle.std.specs.Prelude.{◌≡◌, ◌+◌, ◌*◌, ◌^◌, ◌<◌, ◌≤◌, map, length, IfOk, IfErr, IfSome};
 ghost use Rattle.fl_interface.specs.Interface.{TheArgType, arg_type_of};
 ghost use Rattle.fl_value.specs.Plan.{rank_of};
 ghost use Rattle.fl_value.specs.Value.{datum_of};
 ghost use Rattle.fl_wire.specs.Shapes.{ReadAt, StopsAt, starts_after, next_argument, calls_of};
 ghost use Rattle.fl_wire.specs.Whole.{Whole, StopsWhole};
 
-use crate::leaf::{Stop, read_padding, read_zeros, word_after};
+use crate::leaf::{Stop, read_padding, read_zeros};
 use crate::types::{ends_fixed, is_dynamic};
 use crate::value::{is_wide, read_argument, read_scalar_argument, read_wide};
 use fl_base::{FRAG_BYTES, Frag};
@@ -69,6 +69,21 @@ fn ranks_of(plan: PlanNo) -> u8
     match plan {
         PlanNo::One => 1,
         PlanNo::Two => RANKS,
+    }
+}
+
+// The word after one: of the same fragment, or the first of the next.
+#[inline(always)]
+fn word_after(frag: usize, word: usize) -> (usize, usize)
+    requires inside { word < 7 }
+    requires few { frag < 2 ^ 63 }
+    ensures inside { result.1 < 7 }
+    ensures place { 56 * result.0 + 8 * result.1 ≡ 56 * frag + 8 * word + 8 }
+{
+    if word == 6 {
+        (frag + 1, 0)
+    } else {
+        (frag, word + 1)
     }
 }
 

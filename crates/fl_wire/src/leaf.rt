@@ -190,18 +190,3 @@ pub(crate) fn read_word(frags: &[Frag], frag: usize, word: usize) -> u64
 {
     word_of(frags, frag, word)
 }
-
-/// The word after one: of the same fragment, or the first of the next.
-#[inline(always)]
-pub(crate) fn word_after(frag: usize, word: usize) -> (usize, usize)
-    requires inside { word < 7 }
-    requires few { frag < 2 ^ 63 }
-    ensures inside { result.1 < 7 }
-    ensures place { 56 * result.0 + 8 * result.1 ≡ 56 * frag + 8 * word + 8 }
-{
-    if word == 6 {
-        (frag + 1, 0)
-    } else {
-        (frag, word + 1)
-    }
-}

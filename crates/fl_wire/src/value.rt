@@ -11,7 +11,7 @@ ghost use Rattle.fl_wire.specs.Standing.{signed_half, number_back, word_in};
 ghost use Rattle.fl_interface.specs.declared.interface.Scalar.TheVariants.{Uint64};
 ghost use Rattle.fl_wire.specs.Shapes.{ReadAt, StopsAt, values_of, fields_of, elements_of, text_byte, texts_of, length_below, arguments_of};
 
-use crate::leaf::{Stop, byte_of, read_number, read_padding, read_word, word_after, word_at};
+use crate::leaf::{Stop, byte_of, read_number, read_padding, read_word, word_at};
 use crate::text::bytes_from;
 use fl_base::{FRAG_BYTES, Frag};
 use fl_interface::{ArgType, FixedType, Scalar, greatest_alignment};
@@ -105,18 +105,32 @@ fn read_scalar(frags: &[Frag], at: usize, kind: Scalar) -> Result<(Value, usize)
     Ok((int_value(number_from(kind, raw)), end))
 }
 
-// As `read_scalar`. A number of eight bytes that may be any, at its place, is told before the others: then
-// nothing more is asked of it.
+// As `read_scalar`, which is in line here once for each kind: the kind is told once, and not for its width, its greatest
+// number and its sign each.
 #[inline(always)]
-fn read_told_scalar(frags: &[Frag], at: usize, kind: Scalar) -> Result<(Value, usize), Stop>
+fn read_known_scalar(frags: &[Frag], at: usize, kind: Scalar) -> Result<(Value, usize), Stop>
     requires within { at ≤ 56 * length frags.now }
     ensures within { IfOk result (λ r. r.1 ≤ 56 * length frags.now) }
     ensures later { IfOk result (λ r. at ≤ r.1) }
     ensures read { IfOk result (λ r. ReadAt (values_of (scalar kind)) frags.now at (datum_of r.0) r.1) }
+    ensures stop { IfErr result (λ stop. StopsAt stop (values_of (scalar kind)) frags.now at) }
 {
     match kind {
-        Scalar::Uint64 if at % 8 == 0 => read_scalar(frags, at, Scalar::Uint64),
-        _ => read_scalar(frags, at, kind),
+        Scalar::Uint8 => read_scalar(frags, at, Scalar::Uint8),
+        Scalar::Int8 => read_scalar(frags, at, Scalar::Int8),
+        Scalar::Bool => read_scalar(frags, at, Scalar::Bool),
+        Scalar::Char => read_scalar(frags, at, Scalar::Char),
+        Scalar::Uint16 => read_scalar(frags, at, Scalar::Uint16),
+        Scalar::Int16 => read_scalar(frags, at, Scalar::Int16),
+        Scalar::Uint32 => read_scalar(frags, at, Scalar::Uint32),
+        Scalar::Int32 => read_scalar(frags, at, Scalar::Int32),
+        Scalar::Iref => read_scalar(frags, at, Scalar::Iref),
+        Scalar::Uint64 => read_scalar(frags, at, Scalar::Uint64),
+        Scalar::Int64 => read_scalar(frags, at, Scalar::Int64),
+        Scalar::Uintptr => read_scalar(frags, at, Scalar::Uintptr),
+        Scalar::Intptr => read_scalar(frags, at, Scalar::Intptr),
+        Scalar::Size => read_scalar(frags, at, Scalar::Size),
+        Scalar::Errval => read_scalar(frags, at, Scalar::Errval),
     }
 }
 
@@ -158,7 +172,7 @@ pub(crate) fn read_scalar_argument(
     if rank < least {
         return None;
     }
-    match read_told_scalar(frags, at, *kind) {
+    match read_known_scalar(frags, at, *kind) {
         Ok((value, end)) => Some((value, end, rank)),
         Err(_) => None,
     }
@@ -204,7 +218,8 @@ fn most_left(frags: &[Frag], at: usize, count: u64) -> usize
     (count as usize).min(frags.len() * FRAG_BYTES - at)
 }
 
-// So many scalars of eight bytes, from a multiple of 8 on, where all are there: each is a word, and may be any.
+// So many scalars of eight bytes, from a multiple of 8 on, where all are there: each is a word, and may be any. They are taken
+// fragment by fragment, so that within one nothing is asked but where it ends.
 fn read_words(
     alloc: Global,
     frags: &[Frag],
@@ -218,12 +233,16 @@ fn read_words(
     ensures read { IfOk result (λ values. ReadAt (elements_of count (scalar kind)) frags.now at (data_from (map datum_of values.items)) (at + 8 * count)) }
 {
     let mut values = Vec::with_capacity(alloc, count)?;
-    let (mut frag, mut word) = (at / FRAG_BYTES, at / 8 % 7);
-    for _index in 0..count {
-        let raw = read_word(frags, frag, word);
-        values.push_reserved(int_value(number_from(kind, raw)));
-        let after = word_after(frag, word);
-        (frag, word) = (after.0, after.1);
+    let mut next = at / 8;
+    let end = next + count;
+    while next < end {
+        let frag = next / 7;
+        let past = (end - 7 * frag).min(7);
+        for word in next % 7..past {
+            let raw = read_word(frags, frag, word);
+            values.push_reserved(int_value(number_from(kind, raw)));
+        }
+        next = 7 * frag + past;
     }
     Ok(values)
 }
@@ -245,7 +264,7 @@ fn read_each_scalar(
     let mut values = Vec::with_capacity(alloc, most_left(frags, at, count))?;
     let mut end = at;
     for _index in 0..count {
-        let (value, after) = read_scalar(frags, end, kind)?;
+        let (value, after) = read_known_scalar(frags, end, kind)?;
         values.push(value)?;
         end = after;
     }
@@ -345,7 +364,7 @@ fn read_fields(
     let mut end = at;
     for field in fields {
         if let FixedType::Scalar(kind) = field {
-            let (number, next) = read_scalar(frags, end, *kind)?;
+            let (number, next) = read_known_scalar(frags, end, *kind)?;
             values.push_reserved(number);
             end = next;
             continue;
