@@ -1,4 +1,4 @@
--- Desks and ends, binding by binding.
+-- Desks and ends, binding by binding, and links, one by one.
 use Rattle.std.proofs.Common.{◌≡◌, sym, ap, ◌∙◌, refl, ℕ, zero, suc, ◌+◌, ◌<◌, ◌≤◌, List, [], ◌∷◌, ◌++◌, map, length, drop, get_or, arith}
 use Rattle.std.specs.List.{flat_map, range_with_len}
 use Rattle.std.proofs.lemmas.List.{append-nil, append_assoc, drop_all}
@@ -7,10 +7,12 @@ use Rattle.std.proofs.lemmas.List.FromFn.{map-range_with_len_more}
 use Rattle.fl_running.specs.declared.word.Word.{Word}
 use Rattle.fl_running.specs.Desks.{TheDesk}
 use Rattle.fl_base.specs.declared.identity.EndId.{EndId}
+use Rattle.fl_base.specs.declared.identity.LinkId.{LinkId}
+use Rattle.fl_monitor.specs.Fates.{link_id}
 use Rattle.fl_dockets.specs.declared.docket.Bound.{Bound}
 use Rattle.fl_dockets.specs.State.{TheJoined}
 use Rattle.fl_node.specs.View.{client_of, server_of}
-use Rattle.fl_threads.specs.Begins.{ends_at, ends_from, words_of, desk_for, two_desks}
+use Rattle.fl_threads.specs.Begins.{ends_at, ends_from, words_of, desk_for, two_desks, links_below}
 
 same_numbers : (ks : List ℕ) → map (λ (k : ℕ). k) ks ≡ ks
 same_numbers [] = refl
@@ -58,3 +60,13 @@ two_more core j n ds a b so first second =
     ∙ ap (λ (x : TheDesk). flat_map (two_desks core j) (range_with_len 0 n) ++ x ∷ b ∷ []) first
     ∙ ap (λ (x : TheDesk). flat_map (two_desks core j) (range_with_len 0 n) ++ desk_for core j (client_of n) ∷ x ∷ []) second
     ∙ sym (desks_more (two_desks core j) n)
+
+-- the links so far, and the next
+pub links_more : (n : ℕ) (links : List LinkId) → links ≡ links_below n → links ++ link_id n ∷ [] ≡ links_below (n + 1)
+links_more n links so = ap (λ (ls : List LinkId). ls ++ link_id n ∷ []) so ∙ sym (map-range_with_len_more link_id 0 n n (omega arith))
+
+-- the links so far are all, at the end
+pub links_done : (lanes n count : ℕ) (links : List LinkId) → count ≡ lanes → n ≤ count → count ≤ n → links ≡ links_below n → links ≡ links_below lanes
+links_done lanes n count links same within past so =
+    let all : n ≡ lanes = omega (arith, same, within, past) in
+    so ∙ ap links_below all

@@ -2,9 +2,11 @@
 use Rattle.std.specs.Prelude.{ℕ, ◌≡◌, ◌==◌, suc, Bool, false, if◌then◌else◌, List, [], ◌∷◌, ◌++◌, map, length, Option, Some, None}
 use Rattle.std.specs.List.{flat_map, range_with_len}
 use Rattle.fl_base.specs.declared.identity.EndId.{EndId}
+use Rattle.fl_base.specs.declared.identity.LinkId.{LinkId}
 use Rattle.fl_compile.specs.Programs.{program_of}
 use Rattle.fl_queues.specs.Given.{given}
 use Rattle.fl_tally.specs.declared.board.View.{View}
+use Rattle.fl_monitor.specs.Fates.{link_id}
 use Rattle.fl_node.specs.View.{TheCore, client_of, server_of}
 use Rattle.fl_node.specs.Numbers.{renumbered}
 use Rattle.fl_node.specs.Hearing.{Offers}
@@ -41,6 +43,12 @@ words_at core b =
 
 abbrev pub words_of : ℕ → List Bound → List Word
 words_of core bindings = flat_map (words_at core) bindings
+
+-- ---- links
+
+-- so many links of one core, in order of their making
+abbrev pub links_below : ℕ → List LinkId
+links_below count = map link_id (range_with_len 0 count)
 
 -- ---- seats
 
@@ -93,6 +101,8 @@ pub record IsStation (c : TheCommon) (core : ℕ) (k : TheCore) (s : TheStation)
   pub desks : s.run.desks ≡ desks_of core c.joined
   pub names : s.run.offers.names ≡ c.offers.names
   pub programs : map program_of s.run.offers.programs ≡ map program_of c.offers.programs
+  -- its turns go over each of its links, once
+  pub links : s.plan.links.items ≡ links_below (length k.lanes)
   pub ends : s.plan.ends.items ≡ ends_from core 0 c.joined.bindings
   pub dispatchers : s.plan.dispatchers ≡ length k.board.dispatchers
   pub cores : s.plan.cores ≡ c.cores

@@ -10,7 +10,8 @@ ghost use Rattle.fl_dockets.specs.Joined.{AreBindings, HasDockets};
 ghost use Rattle.fl_dockets.specs.State.{joined_of};
 ghost use Rattle.fl_stations.specs.Tells.{core_at};
 ghost use Rattle.fl_stations.specs.Stations.{IsReady, AllReady, station_of};
-ghost use Rattle.fl_threads.specs.Begins.{owns, ends_at, ends_from, word_by, words_at, words_of, desk_for, desks_of, IsAlone, IsStation, AreStations};
+ghost use Rattle.fl_threads.specs.Begins.{owns, ends_at, ends_from, word_by, words_at, words_of, links_below, desk_for, desks_of};
+ghost use Rattle.fl_threads.specs.Begins.{IsAlone, IsStation, AreStations};
 ghost use Rattle.fl_threads.specs.Shares.{sides_given, queues_given};
 ghost use Rattle.fl_threads.specs.Dealing.{SharesOut, Wires};
 ghost use Rattle.fl_threads.specs.Stations.{core_share, stationed, AddsStation, common_of, seats_given, AreSeats, left_view};
@@ -20,7 +21,7 @@ use fl_base::{EndId, LinkId, Side};
 use fl_compile::Program;
 use fl_deal::Dealt;
 use fl_dockets::{Bound, Joined, slot_of};
-use fl_hop::MAX_LINKS;
+use fl_hop::{Circuits, never_shared};
 use fl_link::QueueLink;
 use fl_nameserv::Names;
 use fl_node::Core;
@@ -139,13 +140,22 @@ fn ends_of(
     Ok((ends, words))
 }
 
-// The links of a core.
-fn links_of(alloc: Global, core: &Core) -> Result<Vec<LinkId>, AllocError> {
+// How many links a core with this table has: at most 15.
+fn link_count(circuits: &Circuits) -> u16
+    ensures count { result ≡ length circuits.now.links }
+{
+    never_shared(circuits);
+    circuits.links().len() as u16
+}
+
+// The links of a core, in order of their making.
+fn links_of(alloc: Global, core: &Core) -> Result<Vec<LinkId>, AllocError>
+    ensures links { IfOk result (λ links. links.items ≡ links_below (length core.now.lanes)) }
+{
+    core.sound();
     let mut links = Vec::new(alloc);
-    for number in 0..MAX_LINKS as u16 {
-        if core.side(LinkId(number)).is_some() {
-            links.push(LinkId(number))?;
-        }
+    for number in 0..link_count(core.monitor().circuits()) {
+        links.push(LinkId(number))?;
     }
     Ok(links)
 }
@@ -200,6 +210,7 @@ impl Common<'_> {
 
     // The plan of core k, and what is known of the openings of its ends.
     fn plan(&self, k: usize, core: &Core) -> Result<(Plan, Vec<Word>), AllocError>
+        ensures links { IfOk result (λ r. r.0.links.items ≡ links_below (length core.now.lanes)) }
         ensures ends { IfOk result (λ r. r.0.ends.items ≡ ends_from k 0 self.now.joined.now.bindings.items) }
         ensures dispatchers { IfOk result (λ r. r.0.dispatchers ≡ length core.now.board.dispatchers) }
         ensures cores { IfOk result (λ r. r.0.cores ≡ self.now.cores) }

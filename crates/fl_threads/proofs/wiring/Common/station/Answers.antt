@@ -3,6 +3,7 @@ use Rattle.fl_node.specs.View.{TheCore}
 use Rattle.fl_node.specs.Numbers.{renumbered}
 use Rattle.fl_running.specs.declared.word.Word.{Word}
 use Rattle.fl_running.specs.Words.{AreWords}
+use Rattle.fl_threads.specs.Begins.{links_below}
 use Rattle.fl_threads.proofs.Seats.{may_finish, may_stop}
 use Rattle.fl_threads.proofs.Wording.{words_are}
 use Rattle.fl_threads.proofs.wiring.Common.station.Goals as goal
@@ -27,6 +28,7 @@ returns c =
         desks = rw c.deref_mut.ensures.value run.desks;
         names = rw c.deref_mut.ensures.value run.names;
         programs = rw c.deref_mut.ensures.value run.programs;
+        links = (rw c.deref.ensures at c.in_ok-plan.ensures.links) ∙ ap (λ (k : TheCore). links_below (length k.lanes)) run.core;
         ends = c.in_ok-plan.ensures.ends;
         dispatchers = (rw c.deref.ensures at c.in_ok-plan.ensures.dispatchers) ∙ ap (λ (k : TheCore). length k.board.dispatchers) run.core;
         cores = c.in_ok-plan.ensures.cores;
