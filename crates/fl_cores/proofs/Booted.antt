@@ -92,7 +92,7 @@ late_fault c jobs p fault.Thread accepted made is = record { accepted = accepted
 
 pub later_fault : (p : Parts) (jobs : List TheJob) (f : RunFault) → IsRunFault p jobs f → IsLater p jobs (by_run f)
 later_fault p jobs (run.Refused number place) is = is
-later_fault p jobs run.Memory is = tt
+later_fault p jobs run.Memory is = is
 later_fault p jobs run.Thread is = is
 
 -- ---- the first other event
