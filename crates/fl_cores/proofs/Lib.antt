@@ -1,4 +1,4 @@
 pub mod Booted
 pub mod Reporting
-pub mod Counted
+pub mod Files
 pub mod Texts

@@ -1,5 +1,5 @@
 use Rattle.fl_jobs.specs.Files.{file_from}
-use Rattle.fl_cores.proofs.Counted.{few}
+use Rattle.fl_cores.proofs.Files.{few, counted, making}
 use Rattle.fl_cores.proofs.Texts.{memory_of_text, fault_of_file}
 use Rattle.fl_cores.proofs.text.run_cores_text.Goals as goal
 
@@ -14,7 +14,9 @@ run_file-requires g c =
 pub returns-in-File-clause-fault : goal.returns-in-File-clause-fault
 returns-in-File-clause-fault g c =
     let reads = rw c.in-File.is at c.in_ok-file.ensures.reads in
-    fault_of_file c.args.text.now (file_from c.in-File.file) c.run_file.result reads c.run_file.ensures.fault
+    let text = c.args.text.now in
+    let file = file_from c.in-File.file in
+    fault_of_file text file c.run_file.result reads (counted text file reads) (making text file reads) c.run_file.ensures.fault
 
 pub returns-in_err-print_refusal-in-Refused-clause-fault : goal.returns-in_err-print_refusal-in-Refused-clause-fault
 returns-in_err-print_refusal-in-Refused-clause-fault g c =
