@@ -1,10 +1,10 @@
 //! Gates. A gate whose wait runs out lets all cores go on; then none may ask for a further turn, since the run wouldn't be
 //! the one that the gate stands for, and might never end.
 
+use crossbeam_utils::atomic::AtomicCell;
 use fl_base::CoreId;
 use fl_running::Gate;
 use std::process::Abort;
-use std::sync::atomic::{AtomicBool, AtomicU64, Ordering};
 use std::thread;
 
 // How often a gate looks again.
@@ -30,19 +30,19 @@ impl Gate for Open {
 #[derive(Drop)]
 pub struct Waiting<'a, R: Abort> {
     rt: &'a R,
-    ran_out: AtomicBool,
+    ran_out: AtomicCell<bool>,
 }
 
 impl<'a, R: Abort> Waiting<'a, R> {
     pub fn new(rt: &'a R) -> Waiting<'a, R> {
         Waiting {
             rt,
-            ran_out: AtomicBool::new(false),
+            ran_out: AtomicCell::new(false),
         }
     }
 
     pub fn ran_out(&self) -> bool {
-        self.ran_out.load(Ordering::SeqCst)
+        self.ran_out.load()
     }
 
     // A core asks for a turn. After a wait that ran out that ends the test: it fails.
@@ -54,14 +54,14 @@ impl<'a, R: Abort> Waiting<'a, R> {
     }
 
     // Waits until a count is so large.
-    fn until(&self, count: &AtomicU64, least: u64) {
+    fn until(&self, count: &AtomicCell<u64>, least: u64) {
         for _ in 0..LOOKS {
-            if self.ran_out() || count.load(Ordering::SeqCst) >= least {
+            if self.ran_out() || count.load() >= least {
                 return;
             }
             thread::yield_now();
         }
-        self.ran_out.store(true, Ordering::SeqCst);
+        self.ran_out.store(true);
     }
 }
 
@@ -71,16 +71,16 @@ impl<'a, R: Abort> Waiting<'a, R> {
 pub struct LockStep<'a, R: Abort> {
     wait: Waiting<'a, R>,
     // how many turns of each core were begun, and how many of all have ended
-    begun: [AtomicU64; 3],
-    ended: AtomicU64,
+    begun: [AtomicCell<u64>; 3],
+    ended: AtomicCell<u64>,
 }
 
 impl<'a, R: Abort> LockStep<'a, R> {
     pub fn new(rt: &'a R) -> LockStep<'a, R> {
         LockStep {
             wait: Waiting::new(rt),
-            begun: [AtomicU64::new(0), AtomicU64::new(0), AtomicU64::new(0)],
-            ended: AtomicU64::new(0),
+            begun: [AtomicCell::new(0), AtomicCell::new(0), AtomicCell::new(0)],
+            ended: AtomicCell::new(0),
         }
     }
 }
@@ -92,9 +92,9 @@ impl<'a, R: Abort> Gate for LockStep<'a, R> {
         let Some(begun) = self.begun.get(place) else {
             return;
         };
-        let turns = begun.fetch_add(1, Ordering::SeqCst);
+        let turns = begun.fetch_add(1);
         if turns > 0 {
-            self.ended.fetch_add(1, Ordering::SeqCst);
+            self.ended.fetch_add(1);
         }
         let before = turns.saturating_mul(3).saturating_add(place as u64);
         self.wait.until(&self.ended, before);
@@ -105,8 +105,8 @@ impl<'a, R: Abort> Gate for LockStep<'a, R> {
 #[derive(Drop)]
 pub struct SideBySide<'a, R: Abort> {
     pub wait: Waiting<'a, R>,
-    first: AtomicU64,
-    second: AtomicU64,
+    first: AtomicCell<u64>,
+    second: AtomicCell<u64>,
     step: LockStep<'a, R>,
 }
 
@@ -114,15 +114,15 @@ impl<'a, R: Abort> SideBySide<'a, R> {
     pub fn new(rt: &'a R) -> SideBySide<'a, R> {
         SideBySide {
             wait: Waiting::new(rt),
-            first: AtomicU64::new(0),
-            second: AtomicU64::new(0),
+            first: AtomicCell::new(0),
+            second: AtomicCell::new(0),
             step: LockStep::new(rt),
         }
     }
 
     // A core tells that it came, and waits for the other before its first turn.
-    fn meet(&self, own: &AtomicU64, other: &AtomicU64) {
-        if own.fetch_add(1, Ordering::SeqCst) == 0 {
+    fn meet(&self, own: &AtomicCell<u64>, other: &AtomicCell<u64>) {
+        if own.fetch_add(1) == 0 {
             self.wait.until(other, 1);
         }
     }
@@ -144,7 +144,7 @@ impl<'a, R: Abort> Gate for SideBySide<'a, R> {
 #[derive(Drop)]
 pub struct Held<'a, R: Abort> {
     pub wait: Waiting<'a, R>,
-    first: AtomicU64,
+    first: AtomicCell<u64>,
     turns: u64,
 }
 
@@ -152,7 +152,7 @@ impl<'a, R: Abort> Held<'a, R> {
     pub fn new(rt: &'a R, turns: u64) -> Held<'a, R> {
         Held {
             wait: Waiting::new(rt),
-            first: AtomicU64::new(0),
+            first: AtomicCell::new(0),
             turns,
         }
     }
@@ -163,7 +163,7 @@ impl<'a, R: Abort> Gate for Held<'a, R> {
         self.wait.ask();
         match core.0 {
             0 => {
-                self.first.fetch_add(1, Ordering::SeqCst);
+                self.first.fetch_add(1);
             }
             1 => self.wait.until(&self.first, self.turns),
             _ => (),

@@ -1,5 +1,5 @@
 -- What a run of receive code was fed: fragments, each list a function of what the run stores.
-use Rattle.std.specs.Prelude.{◌≡◌, ◌⊎◌, Bool, ℕ, ◌+◌, ◌*◌, ◌<◌, ◌≤◌, true, if◌then◌else◌, List, [], ◌∷◌, ◌++◌, map, take, length}
+use Rattle.std.specs.Prelude.{◌≡◌, ◌⊎◌, Bool, ℕ, ◌+◌, ◌*◌, ◌<◌, ◌≤◌, true, false, if◌then◌else◌, List, [], ◌∷◌, ◌++◌, map, take, length}
 use Rattle.std.specs.Prelude.{slice_get, slice_index, Option, Some, None, Result, Ok, Err}
 use Rattle.std.specs.Option.{option_map}
 use Rattle.std.specs.List.{range_with_len}
@@ -101,7 +101,8 @@ tape_before tape spare b = if b.began then spare else tape
 abbrev pub fed_before : PlanNo → TheInterface → List ℕ → List ℕ → Option Before → Option TheHeld
 fed_before plan i tape spare o = option_map (λ (b : Before). fed_of plan i (tape_before tape spare b) b.stand) o
 
--- what a run stores beside its program: three tapes, where it stands and what stood before
+-- what a run stores beside its program: three tapes, of which one has room for each call's, where it stands and what
+-- stood before
 pub record TheStored : Type 0 where
   pub tape : List ℕ
   pub spare : List ℕ
@@ -189,6 +190,14 @@ HoldsParts plan i capacity = (c : TheCall) → fits_of i c ≡ true → count pl
 abbrev pub HasPlaces : TheProgram → ℕ → ℕ → Type 0
 HasPlaces p count places = HoldsTapes p.plan p.interface places ⊎ (count + 56 ≤ places)
 
+-- so many places have room for each call's tape, or for the numbers of any two fragments
+abbrev pub HoldsTwo : PlanNo → TheInterface → ℕ → Type 0
+HoldsTwo plan i places = HoldsTapes plan i places ⊎ (112 ≤ places)
+
+-- the longest of three tapes of so many places has room for each call's
+abbrev pub LongestHolds : PlanNo → TheInterface → ℕ → ℕ → ℕ → Type 0
+LongestHolds plan i a b c = (n : ℕ) → a ≤ n → b ≤ n → c ≤ n → HoldsTapes plan i n
+
 -- a call of which so many fragments were fed, or which is to begin
 pub record IsBegun (plan : PlanNo) (i : TheInterface) (tape : List ℕ) (b : Begun) : Type 0 where
   pub message : TheMessage
@@ -238,16 +247,22 @@ numbers_in Between = 0
 numbers_in (Inside b) = b.intake.count
 numbers_in (After e) = e.count
 
--- what was before stands on its tape, and its numbers are among the first of those now, where they are on one tape
+-- where the last accepted feed began a call, the numbers now are one fragment's; else those of before are among the first of them
+abbrev pub IsBehind : Bool → ℕ → ℕ → Type 0
+IsBehind true before count = count ≤ 56
+IsBehind false before count = before ≤ count
+
+-- what was before stands on its tape, and the numbers now are behind it
 abbrev pub IsBefore : PlanNo → TheInterface → List ℕ → List ℕ → ℕ → Option Before → Type 0
 IsBefore plan i tape spare count None = Unit {0}
-IsBefore plan i tape spare count (Some b) = IsStand plan i (tape_before tape spare b) b.stand × (b.began ≡ true ⊎ numbers_in b.stand ≤ count)
+IsBefore plan i tape spare count (Some b) = IsStand plan i (tape_before tape spare b) b.stand × IsBehind b.began (numbers_in b.stand) count
 
--- each tape has room for each call's
+-- each tape has room for the numbers of two fragments, and the longest for each call's
 pub record IsStored (plan : PlanNo) (i : TheInterface) (s : TheStored) : Type 0 where
-  pub tape : HoldsTapes plan i (length s.tape)
-  pub spare : HoldsTapes plan i (length s.spare)
-  pub fresh : HoldsTapes plan i (length s.fresh)
+  pub tape : HoldsTwo plan i (length s.tape)
+  pub spare : HoldsTwo plan i (length s.spare)
+  pub fresh : HoldsTwo plan i (length s.fresh)
+  pub longest : LongestHolds plan i (length s.tape) (length s.spare) (length s.fresh)
   pub stand : IsStand plan i s.tape s.stand
   pub before : IsBefore plan i s.tape s.spare (numbers_in s.stand) s.before
 

@@ -762,6 +762,7 @@ impl Intake {
         ensures part { IfOk result (λ fed. fed ≡ part → TakesPart ops.now tape.old self.old words.now tape.new self.new) }
         ensures whole { IfOk result (λ fed. fed ≡ whole → TakesWhole ops.now tape.old self.old words.now (take self.new.count tape.new)) }
         ensures wrong { IfErr result (λ mark. TakesWrong ops.now tape.old self.old words.now mark) }
+        ensures few { IfOk result (λ fed. self.new.count ≤ self.old.count + 56) }
         ensures kept { take self.old.count tape.new ≡ take self.old.count tape.old }
         ensures grows { self.old.count ≤ self.new.count }
         ensures within { self.new.count ≤ length tape.new }

@@ -1,6 +1,6 @@
 //! Runs of receive code.
 
-ghost use Rattle.std.specs.Prelude.{◌≡◌, ◌≢◌, ◌==◌, ◌≤◌, ◌++◌, ◌∷◌, [], true, take, length, List, None, IfOk, IfErr, IfSome};
+ghost use Rattle.std.specs.Prelude.{◌≡◌, ◌≢◌, ◌==◌, ◌⊎◌, ◌+◌, ◌≤◌, ◌++◌, ◌∷◌, [], true, take, length, List, None, IfOk, IfErr, IfSome};
 ghost use Rattle.fl_base.specs.Control.{message_of, control_word, body};
 ghost use Rattle.fl_value.specs.Value.{call_of};
 ghost use Rattle.fl_value.specs.Fits.{fits_of};
@@ -64,7 +64,8 @@ pub(crate) struct Former {
 #[derive(Drop)]
 pub(crate) struct Stored {
     // The numbers taken; those of before, where the last feed began a call; and a tape to begin the next call on, so that
-    // a refused fragment harms neither.
+    // a refused fragment harms neither. One of the three has room for each call's numbers, and the others for those of two
+    // fragments, which are enough: a call that goes on behind its second goes on on the longest, where nothing is of use then.
     tape: Vec<u64>,
     spare: Vec<u64>,
     fresh: Vec<u64>,
@@ -186,6 +187,7 @@ impl Begun {
         ensures adds { IfOk result (λ fed.
             AddsUpTo (program_of program.now) (parts_in (program_of program.now) tape.old self.old) frag.now tape.new (stand_after self.new fed)) }
         ensures grows { IfOk result (λ fed. self.old.intake.count ≤ numbers_in (stand_after self.new fed)) }
+        ensures few { IfOk result (λ fed. numbers_in (stand_after self.new fed) ≤ self.old.intake.count + 56) }
         ensures wrong { IfErr result (λ fault. HasFaultIn (program_of program.now) (parts_in (program_of program.now) tape.old self.old) frag.now fault) }
         ensures kept { take self.old.intake.count tape.new ≡ take self.old.intake.count tape.old }
         ensures long { length tape.new ≡ length tape.old }
@@ -251,6 +253,7 @@ pub(crate) fn begin(
     requires room { HasPlaces (program_of program.now) 0 (length tape.old) }
     ensures stands { IfOk result (λ fed. StandsIn (program_of program.now) tape.new (stand_after begun.new fed)) }
     ensures adds { IfOk result (λ fed. AddsUpTo (program_of program.now) [] frag.now tape.new (stand_after begun.new fed)) }
+    ensures few { IfOk result (λ fed. numbers_in (stand_after begun.new fed) ≤ 56) }
     ensures wrong { IfErr result (λ fault. IsRefusedIn (program_of program.now) [] frag.now fault) }
     ensures long { length tape.new ≡ length tape.old }
 {
@@ -350,6 +353,29 @@ pub(crate) fn whole(
     }
 }
 
+// Puts numbers at the beginning of a tape.
+fn put_first(numbers: &[u64], tape: &mut [u64])
+    requires room { length numbers.now ≤ length tape.old }
+    ensures first { take (length numbers.now) tape.new ≡ numbers.now }
+    ensures long { length tape.new ≡ length tape.old }
+{
+    tape[..numbers.len()].copy_from_slice(numbers);
+}
+
+// Goes over to another tape, if that is longer, with the first so many numbers.
+fn go_over(tape: &mut Vec<u64>, other: &mut Vec<u64>, count: usize)
+    requires inside { count ≤ length tape.old.items }
+    ensures kept { take count tape.new.items ≡ take count tape.old.items }
+    ensures longest { (length tape.old.items ≤ length tape.new.items) × (length other.old.items ≤ length tape.new.items) }
+    ensures other { (length other.new.items ≡ length other.old.items) ⊎ (length other.new.items ≡ length tape.old.items) }
+{
+    if other.len() <= tape.len() {
+        return;
+    }
+    put_first(&tape[..count], other);
+    mem::swap(tape, other);
+}
+
 impl Stored {
     // Takes a fragment where a call is to begin, on the fresh tape.
     fn feed_first(&mut self, program: &Program, frag: &Frag) -> Result<Fed, WireFault>
@@ -376,10 +402,30 @@ impl Stored {
         }
     }
 
-    // Takes a fragment inside a call.
-    fn feed_inside(&mut self, program: &Program, frag: &Frag) -> Result<Fed, WireFault>
+    // Makes room for the numbers of one fragment more of the call under way. Behind a call's second fragment nothing of the call
+    // before it is of use, so all tapes are free but its own.
+    fn make_room(&mut self, program: &Program)
         requires stored { IsStored (program_of program.now).plan (program_of program.now).interface (stored_of self.old) }
         requires inside { (stored_of self.old).stand ≡ inside self.old.now.value }
+        ensures stored { IsStored (program_of program.now).plan (program_of program.now).interface (stored_of self.new) }
+        ensures inside { (stored_of self.new).stand ≡ inside self.new.now.value }
+        ensures room { HasPlaces (program_of program.now) self.new.now.value.intake.count (length self.new.tape.items) }
+        ensures same { receiving program.now (stored_of self.new) ≡ receiving program.now (stored_of self.old) }
+    {
+        let _plan = program.plan();
+        let count = self.now.intake.count();
+        if count <= 56 {
+            return;
+        }
+        go_over(&mut self.tape, &mut self.spare, count);
+        go_over(&mut self.tape, &mut self.fresh, count);
+    }
+
+    // Takes a fragment inside a call, with room for its numbers.
+    fn feed_on(&mut self, program: &Program, frag: &Frag) -> Result<Fed, WireFault>
+        requires stored { IsStored (program_of program.now).plan (program_of program.now).interface (stored_of self.old) }
+        requires inside { (stored_of self.old).stand ≡ inside self.old.now.value }
+        requires room { HasPlaces (program_of program.now) self.old.now.value.intake.count (length self.old.tape.items) }
         ensures stored { IsStored (program_of program.now).plan (program_of program.now).interface (stored_of self.new) }
         ensures feeds { Feeds (receiving program.now (stored_of self.old)) frag.now result (receiving program.now (stored_of self.new)) }
     {
@@ -397,6 +443,17 @@ impl Stored {
                 Ok(fed)
             }
         }
+    }
+
+    // Takes a fragment inside a call.
+    fn feed_inside(&mut self, program: &Program, frag: &Frag) -> Result<Fed, WireFault>
+        requires stored { IsStored (program_of program.now).plan (program_of program.now).interface (stored_of self.old) }
+        requires inside { (stored_of self.old).stand ≡ inside self.old.now.value }
+        ensures stored { IsStored (program_of program.now).plan (program_of program.now).interface (stored_of self.new) }
+        ensures feeds { Feeds (receiving program.now (stored_of self.old)) frag.now result (receiving program.now (stored_of self.new)) }
+    {
+        self.make_room(program);
+        self.feed_on(program, frag)
     }
 
     // Takes a fragment.
@@ -440,8 +497,9 @@ impl RecvRun {
         requires room { HoldsTapes (program_of program).plan (program_of program).interface capacity }
         ensures made { IfOk result (λ r. r ≡ record { program = program; parts = []; whole = []; before = None }) }
     {
-        let tape = vec![in alloc; 0; capacity]?;
-        let spare = vec![in alloc; 0; capacity]?;
+        let short = capacity.min(112);
+        let tape = vec![in alloc; 0; short]?;
+        let spare = vec![in alloc; 0; short]?;
         let fresh = vec![in alloc; 0; capacity]?;
         Ok(RecvRun {
             program,

@@ -21,3 +21,4 @@ pub mod OneWord
 pub mod Texts
 pub mod Ranks
 pub mod Scalars
+pub mod Wides

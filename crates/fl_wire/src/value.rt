@@ -2,7 +2,8 @@
 
 ghost use Rattle.std.specs.Prelude.{◌≡◌, ◌+◌, ◌*◌, ◌/◌, ◌%◌, ◌<◌, ◌≤◌, map, length, true, false};
 ghost use Rattle.std.specs.Prelude.{IfOk, IfErr, IfSome};
-ghost use Rattle.fl_interface.specs.Interface.{scalar, enumeration, fixed, type_of, arg_type_of, fields_from};
+ghost use Rattle.fl_interface.specs.Interface.{scalar, enumeration, structure, fixed, type_of, arg_type_of, fields_from};
+ghost use Rattle.fl_interface.specs.Sizes.{scalar_size, greatest_align};
 ghost use Rattle.fl_value.specs.Value.{number, string, elements, fields, datum_of, data_from};
 ghost use Rattle.fl_value.specs.Fits.{least_above, how_many_below};
 ghost use Rattle.fl_value.specs.Plan.{is_dynamic, rank_of};
@@ -15,7 +16,7 @@ use crate::text::bytes_from;
 use fl_base::{FRAG_BYTES, Frag};
 use fl_interface::{ArgType, FixedType, Scalar, greatest_alignment};
 use fl_value::{PlanNo, Value, are_text_bytes};
-use std::alloc::Global;
+use std::alloc::{AllocError, Global};
 
 // Half of the numbers that a signed scalar has; 0 for scalars without a sign.
 #[inline(always)]
@@ -104,18 +105,32 @@ fn read_scalar(frags: &[Frag], at: usize, kind: Scalar) -> Result<(Value, usize)
     Ok((int_value(number_from(kind, raw)), end))
 }
 
-// As `read_scalar`. A number of eight bytes that may be any, at its place, is told before the others: then
-// nothing more is asked of it.
+// As `read_scalar`, which is in line here once for each kind: the kind is told once, and not for its width, its greatest
+// number and its sign each.
 #[inline(always)]
-fn read_told_scalar(frags: &[Frag], at: usize, kind: Scalar) -> Result<(Value, usize), Stop>
+fn read_known_scalar(frags: &[Frag], at: usize, kind: Scalar) -> Result<(Value, usize), Stop>
     requires within { at ≤ 56 * length frags.now }
     ensures within { IfOk result (λ r. r.1 ≤ 56 * length frags.now) }
     ensures later { IfOk result (λ r. at ≤ r.1) }
     ensures read { IfOk result (λ r. ReadAt (values_of (scalar kind)) frags.now at (datum_of r.0) r.1) }
+    ensures stop { IfErr result (λ stop. StopsAt stop (values_of (scalar kind)) frags.now at) }
 {
     match kind {
-        Scalar::Uint64 if at % 8 == 0 => read_scalar(frags, at, Scalar::Uint64),
-        _ => read_scalar(frags, at, kind),
+        Scalar::Uint8 => read_scalar(frags, at, Scalar::Uint8),
+        Scalar::Int8 => read_scalar(frags, at, Scalar::Int8),
+        Scalar::Bool => read_scalar(frags, at, Scalar::Bool),
+        Scalar::Char => read_scalar(frags, at, Scalar::Char),
+        Scalar::Uint16 => read_scalar(frags, at, Scalar::Uint16),
+        Scalar::Int16 => read_scalar(frags, at, Scalar::Int16),
+        Scalar::Uint32 => read_scalar(frags, at, Scalar::Uint32),
+        Scalar::Int32 => read_scalar(frags, at, Scalar::Int32),
+        Scalar::Iref => read_scalar(frags, at, Scalar::Iref),
+        Scalar::Uint64 => read_scalar(frags, at, Scalar::Uint64),
+        Scalar::Int64 => read_scalar(frags, at, Scalar::Int64),
+        Scalar::Uintptr => read_scalar(frags, at, Scalar::Uintptr),
+        Scalar::Intptr => read_scalar(frags, at, Scalar::Intptr),
+        Scalar::Size => read_scalar(frags, at, Scalar::Size),
+        Scalar::Errval => read_scalar(frags, at, Scalar::Errval),
     }
 }
 
@@ -157,7 +172,7 @@ pub(crate) fn read_scalar_argument(
     if rank < least {
         return None;
     }
-    match read_told_scalar(frags, at, *kind) {
+    match read_known_scalar(frags, at, *kind) {
         Ok((value, end)) => Some((value, end, rank)),
         Err(_) => None,
     }
@@ -203,6 +218,83 @@ fn most_left(frags: &[Frag], at: usize, count: u64) -> usize
     (count as usize).min(frags.len() * FRAG_BYTES - at)
 }
 
+// So many scalars of eight bytes, from a multiple of 8 on, where all are there: each is a word, and may be any. They are taken
+// fragment by fragment, so that within one nothing is asked but where it ends.
+fn read_words(
+    alloc: Global,
+    frags: &[Frag],
+    at: usize,
+    count: usize,
+    kind: Scalar,
+) -> Result<Vec<Value>, AllocError>
+    requires wide { scalar_size kind ≡ 8 }
+    requires word { at % 8 ≡ 0 }
+    requires there { at + 8 * count ≤ 56 * length frags.now }
+    ensures read { IfOk result (λ values. ReadAt (elements_of count (scalar kind)) frags.now at (data_from (map datum_of values.items)) (at + 8 * count)) }
+{
+    let mut values = Vec::with_capacity(alloc, count)?;
+    let mut next = at / 8;
+    let end = next + count;
+    while next < end {
+        let frag = next / 7;
+        let past = (end - 7 * frag).min(7);
+        for word in next % 7..past {
+            let raw = read_word(frags, frag, word);
+            values.push_reserved(int_value(number_from(kind, raw)));
+        }
+        next = 7 * frag + past;
+    }
+    Ok(values)
+}
+
+// So many scalars of one kind, and where the last one ends: one by one, so that the first fault is found.
+fn read_each_scalar(
+    alloc: Global,
+    frags: &[Frag],
+    at: usize,
+    count: u64,
+    kind: Scalar,
+) -> Result<(Vec<Value>, usize), Stop>
+    requires within { at ≤ 56 * length frags.now }
+    ensures within { IfOk result (λ r. r.1 ≤ 56 * length frags.now) }
+    ensures later { IfOk result (λ r. at ≤ r.1) }
+    ensures read { IfOk result (λ r. ReadAt (elements_of count (scalar kind)) frags.now at (data_from (map datum_of r.0.items)) r.1) }
+    ensures stop { IfErr result (λ stop. StopsAt stop (elements_of count (scalar kind)) frags.now at) }
+{
+    let mut values = Vec::with_capacity(alloc, most_left(frags, at, count))?;
+    let mut end = at;
+    for _index in 0..count {
+        let (value, after) = read_known_scalar(frags, end, kind)?;
+        values.push(value)?;
+        end = after;
+    }
+    Ok((values, end))
+}
+
+/// So many scalars of one kind, and where the last one ends. Out of line: its loops have registers of their own, and no
+/// number passes through memory but to its place.
+#[inline(never)]
+fn read_scalars(
+    alloc: Global,
+    frags: &[Frag],
+    at: usize,
+    count: u64,
+    kind: Scalar,
+) -> Result<(Vec<Value>, usize), Stop>
+    requires within { at ≤ 56 * length frags.now }
+    ensures within { IfOk result (λ r. r.1 ≤ 56 * length frags.now) }
+    ensures later { IfOk result (λ r. at ≤ r.1) }
+    ensures read { IfOk result (λ r. ReadAt (elements_of count (scalar kind)) frags.now at (data_from (map datum_of r.0.items)) r.1) }
+    ensures stop { IfErr result (λ stop. StopsAt stop (elements_of count (scalar kind)) frags.now at) }
+{
+    let long = count as usize;
+    if kind.size() == 8 && at % 8 == 0 && long <= (frags.len() * FRAG_BYTES - at) / 8 {
+        let values = read_words(alloc, frags, at, long, kind)?;
+        return Ok((values, at + 8 * long));
+    }
+    read_each_scalar(alloc, frags, at, count, kind)
+}
+
 /// The next value of a type, and where it ends.
 #[cycle(reading)]
 pub(crate) fn read_value(
@@ -222,10 +314,7 @@ pub(crate) fn read_value(
         FixedType::Enumeration(count) => read_enumerator(frags, at, *count),
         FixedType::Structure(fields) => {
             let align = greatest_alignment(fields) as usize;
-            let start = read_padding(frags, at, align)?;
-            let (values, last) = read_fields(alloc, frags, start, fields)?;
-            let end = read_padding(frags, last, align)?;
-            Ok((fields_value(values), end))
+            read_struct(alloc, frags, at, fields, align)
         }
         FixedType::Array(count, element) => {
             let (values, end) = read_elements(alloc, frags, at, u64::from(*count), element)?;
@@ -234,7 +323,30 @@ pub(crate) fn read_value(
     }
 }
 
-/// The fields of a struct, and where the last one ends.
+/// The next struct of these fields, whose alignment is told, and where it ends: it begins and ends at a multiple of that.
+#[cycle(reading)]
+#[inline(always)]
+fn read_struct(
+    alloc: Global,
+    frags: &[Frag],
+    at: usize,
+    fields: &[FixedType],
+    align: usize,
+) -> Result<(Value, usize), Stop>
+    requires within { at ≤ 56 * length frags.now }
+    requires aligned { align ≡ greatest_align (fields_from (map type_of fields.now)) }
+    ensures within { IfOk result (λ r. r.1 ≤ 56 * length frags.now) }
+    ensures later { IfOk result (λ r. at ≤ r.1) }
+    ensures read { IfOk result (λ r. ReadAt (values_of (structure (fields_from (map type_of fields.now)))) frags.now at (datum_of r.0) r.1) }
+    ensures stop { IfErr result (λ stop. StopsAt stop (values_of (structure (fields_from (map type_of fields.now)))) frags.now at) }
+{
+    let start = read_padding(frags, at, align)?;
+    let (values, last) = read_fields(alloc, frags, start, fields)?;
+    let end = read_padding(frags, last, align)?;
+    Ok((fields_value(values), end))
+}
+
+/// The fields of a struct, and where the last one ends. A scalar, the most common, is read without a call.
 #[cycle(reading)]
 fn read_fields(
     alloc: Global,
@@ -251,8 +363,14 @@ fn read_fields(
     let mut values = Vec::with_capacity(alloc, fields.len())?;
     let mut end = at;
     for field in fields {
+        if let FixedType::Scalar(kind) = field {
+            let (number, next) = read_known_scalar(frags, end, *kind)?;
+            values.push_reserved(number);
+            end = next;
+            continue;
+        }
         let (value, after) = read_value(alloc, frags, end, field)?;
-        values.push(value)?;
+        values.push_reserved(value);
         end = after;
     }
     Ok((values, end))
@@ -261,6 +379,55 @@ fn read_fields(
 /// So many elements of one type, and where the last one ends.
 #[cycle(reading)]
 pub(crate) fn read_elements(
+    alloc: Global,
+    frags: &[Frag],
+    at: usize,
+    count: u64,
+    element: &FixedType,
+) -> Result<(Vec<Value>, usize), Stop>
+    requires within { at ≤ 56 * length frags.now }
+    ensures within { IfOk result (λ r. r.1 ≤ 56 * length frags.now) }
+    ensures later { IfOk result (λ r. at ≤ r.1) }
+    ensures read { IfOk result (λ r. ReadAt (elements_of count (type_of element.now)) frags.now at (data_from (map datum_of r.0.items)) r.1) }
+    ensures stop { IfErr result (λ stop. StopsAt stop (elements_of count (type_of element.now)) frags.now at) }
+{
+    match element {
+        FixedType::Scalar(kind) => read_scalars(alloc, frags, at, count, *kind),
+        FixedType::Structure(fields) => read_structs(alloc, frags, at, count, fields),
+        _ => read_each(alloc, frags, at, count, element),
+    }
+}
+
+/// So many structs of these fields, and where the last one ends: their alignment is found once.
+#[cycle(reading)]
+fn read_structs(
+    alloc: Global,
+    frags: &[Frag],
+    at: usize,
+    count: u64,
+    fields: &[FixedType],
+) -> Result<(Vec<Value>, usize), Stop>
+    requires within { at ≤ 56 * length frags.now }
+    ensures within { IfOk result (λ r. r.1 ≤ 56 * length frags.now) }
+    ensures later { IfOk result (λ r. at ≤ r.1) }
+    ensures read { IfOk result (λ r. ReadAt (elements_of count (structure (fields_from (map type_of fields.now))))
+        frags.now at (data_from (map datum_of r.0.items)) r.1) }
+    ensures stop { IfErr result (λ stop. StopsAt stop (elements_of count (structure (fields_from (map type_of fields.now)))) frags.now at) }
+{
+    let align = greatest_alignment(fields) as usize;
+    let mut values = Vec::with_capacity(alloc, most_left(frags, at, count))?;
+    let mut end = at;
+    for _index in 0..count {
+        let (value, after) = read_struct(alloc, frags, end, fields, align)?;
+        values.push(value)?;
+        end = after;
+    }
+    Ok((values, end))
+}
+
+/// So many elements of one type, and where the last one ends, each by a call.
+#[cycle(reading)]
+fn read_each(
     alloc: Global,
     frags: &[Frag],
     at: usize,

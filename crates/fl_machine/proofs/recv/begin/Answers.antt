@@ -1,4 +1,5 @@
-use Rattle.std.proofs.Common.{◌≡◌, ℕ, inl, None, refl, sym, ◌∙◌, ap, true, [], rules}
+use Rattle.std.proofs.Common.{◌≡◌, ℕ, inl, None, refl, sym, ◌∙◌, ap, true, [], arith, rules}
+use Rattle.std.proofs.lemmas.Result.{IfOk-weaker}
 use Rattle.fl_base.specs.Control.{control_word}
 use Rattle.fl_interface.specs.Interface.{interface_of, TheInterface}
 use Rattle.fl_wire.specs.Wrong.{start_fault}
@@ -28,3 +29,6 @@ pub returns-clause-wrong : goal.returns-clause-wrong
 returns-clause-wrong c =
     let p = c.args.program.now in
     err_weaker c.take.result _ _ (λ fault first. refused p.plan (interface_of p.compiled.value.plans.interface) [] c.args.frag.now fault p.compiled.value.plans.interface.within p.words (inl refl) first) c.take.ensures.wrong
+
+pub returns-clause-few : goal.returns-clause-few
+returns-clause-few c = let none = c.requires.new.none in IfOk-weaker c.take.result _ _ (λ fed few. omega (arith, none, few)) c.take.ensures.few

@@ -66,6 +66,12 @@ returns-in_default-clause-wrong c =
     (c.loop-used.invariant.6 before bytes s) c.in_default.ensures.none long h.1))
     c.end_of.ensures.wrong
 
+pub returns-in_default-clause-few : goal.returns-in_default-clause-few
+returns-in_default-clause-few c =
+    let inside = c.loop-used.invariant.0 in
+    let few = c.loop-used.invariant.7 in
+    IfOk-weaker c.end_of.result _ _ (λ fed h. omega (arith, inside, few)) c.end_of.ensures.whole
+
 pub returns-in_default-clause-kept : goal.returns-in_default-clause-kept
 returns-in_default-clause-kept c = c.loop-used.invariant.5
 
@@ -116,6 +122,12 @@ pub returns-in-None-clause-whole : goal.returns-in-None-clause-whole
 returns-in-None-clause-whole c e before bytes s =
     payload_ends c.args.ops.now (before ++ take c.loop-used.self.count c.loop-used.tape) c.loop-used.self (bytes ++ words_bytes c.args.words.now) _ (c.loop-used.invariant.6 before bytes s) c.in-None.ensures.none
     (nothing_left c.spread.new.buffer c.loop-used.used c.loop-used-test.false)
+
+pub returns-in-Some-field-clause-few : goal.returns-in-Some-field-clause-few
+returns-in-Some-field-clause-few c = let inside = c.loop-used.invariant.0 in let few = c.loop-used.invariant.7 in omega (arith, inside, few)
+
+pub returns-in-None-clause-few : goal.returns-in-None-clause-few
+returns-in-None-clause-few c = let inside = c.loop-used.invariant.0 in let few = c.loop-used.invariant.7 in omega (arith, inside, few)
 
 pub returns-in_default-clause-grows : goal.returns-in_default-clause-grows
 returns-in_default-clause-grows c = c.loop-used.invariant.2

@@ -1,11 +1,12 @@
-use Rattle.std.proofs.Common.{◌≡◌, length, Some, true, sym, ap, subst, ◌∙◌, arith}
+use Rattle.std.proofs.Common.{◌≡◌, ℕ, List, length, Some, true, sym, ap, subst, ◌∙◌, arith}
 use Rattle.std.specs.Prelude.{Ok}
 use Rattle.std.specs.Vec.{with_items}
 use Rattle.std.proofs.lemmas.List.{with_items_is}
 use Rattle.fl_interface.specs.Interface.{interface_of}
+use Rattle.fl_compile.specs.Programs.{program_of}
 use Rattle.fl_machine.specs.declared.recv.Begun.{Begun}
-use Rattle.fl_machine.specs.Receiving.{TheStored, stored_of, receiving, stand_of, stand_after, Feeds, IsStored}
-use Rattle.fl_machine.proofs.Storing.{begun_on, begun_stored, begun_feeds, begun_as}
+use Rattle.fl_machine.specs.Receiving.{TheStored, stored_of, receiving, stand_of, stand_after, Feeds, HasPlaces, IsStored}
+use Rattle.fl_machine.proofs.Storing.{room_for, begun_on, begun_stored, begun_feeds, begun_as}
 use Rattle.fl_machine.proofs.recv.Stored.feed_first.Goals as goal
 
 -- what is stored then is a call begun on the fresh tape
@@ -27,12 +28,18 @@ stored_then c =
     (ap (λ v. v.items) c.swap-in-Ok.ensures.x_after ∙ items) (ap (λ v. v.items) c.swap.ensures.y_after) (ap (λ v. v.items) (c.swap-in-Ok.ensures.y_after ∙ c.swap.ensures.x_after)) stand
     (ap (λ v. stand_of c.args.self.now.phase v.value) c.swap-in-Ok-3.ensures.y_after)
 
+pub begin-requires-clause-room : goal.begin-requires-clause-room
+begin-requires-clause-room c =
+    let p = program_of c.args.program.now in
+    subst (λ (t : List ℕ). HasPlaces p 0 (length t)) (sym c.deref_mut-3.ensures.value) (room_for p 0 (length c.args.self.now.fresh.items) (omega arith) c.requires.stored.fresh)
+
 pub returns-in-Ok-clause-stored : goal.returns-in-Ok-clause-stored
 returns-in-Ok-clause-stored c =
     let p = c.args.program.now in
     let i = interface_of p.compiled.value.plans.interface in
     subst (λ (s : TheStored). IsStored p.plan i s) (stored_then c)
-    (begun_stored p.plan i (stored_of c.args.self.now) c.begin.new.tape (stand_after c.begin.new.begun c.in-Ok.fed) c.requires.stored (c.in-Ok.ensures.long ∙ ap length c.deref_mut-3.ensures.value) c.in-Ok.ensures.stands)
+    (begun_stored p.plan i (stored_of c.args.self.now) c.begin.new.tape (stand_after c.begin.new.begun c.in-Ok.fed) c.requires.stored (c.in-Ok.ensures.long ∙ ap length c.deref_mut-3.ensures.value) c.in-Ok.ensures.few
+    c.in-Ok.ensures.stands)
 
 pub returns-in-Ok-clause-feeds : goal.returns-in-Ok-clause-feeds
 returns-in-Ok-clause-feeds c =
