@@ -1,3 +1,4 @@
+use Rattle.std.proofs.Common.{◌≤◌, rules}
 use Rattle.fl_jobs.specs.Files.{file_from}
 use Rattle.fl_cores.proofs.Files.{few, counted, making}
 use Rattle.fl_cores.proofs.Texts.{memory_of_text, fault_of_file}
@@ -9,7 +10,8 @@ returns-in_err-file-clause-fault g c = memory_of_text c.args.text.now c.from_res
 pub run_file-requires : goal.run_file-requires
 run_file-requires g c =
     let reads = rw c.in-File.is at c.in_ok-file.ensures.reads in
-    record { few = few c.args.text.now (file_from c.in-File.file) reads }
+    let within : c.in-File.file.cores ≤ 16 = few c.args.text.now (file_from c.in-File.file) reads in
+    search (rules, within)
 
 pub returns-in-File-clause-fault : goal.returns-in-File-clause-fault
 returns-in-File-clause-fault g c =
