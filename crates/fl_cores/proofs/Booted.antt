@@ -1,5 +1,6 @@
 -- What a set-up comes to, and why there may be no report.
 use Rattle.std.proofs.Common.{◌≡◌, inl, inr, take, ◌≤◌, refl, sym, ap, ◌∙◌, subst, ℕ, suc, ◌+◌, Bool, true, false, ◌&&◌, not, cond, nat_lt, List, [], ◌∷◌, length, map, Some, None, arith}
+use Rattle.std.proofs.lemmas.Bool.{and_parts}
 use Rattle.std.proofs.lemmas.List.{length-map, take-map}
 use Rattle.std.specs.List.{list_all, position, position_or_len}
 use Rattle.std.proofs.lemmas.Bool.Decides.{nat_tests}
@@ -37,6 +38,24 @@ none_found false n e = refl
 
 pub all_making : (events : List Event) → position is_other events ≡ None → list_all is_making events ≡ true
 all_making events none = all_before events (none_found (nat_lt (position_or_len is_other events) (length events)) (position_or_len is_other events) none)
+
+-- nor is there another where each makes something
+one_past : (b : Bool) (n m : ℕ) → b ≡ true → nat_lt n m ≡ false → nat_lt (cond (not (not b)) (1 + n) 0) (suc m) ≡ false
+one_past true n m e h = grind (arith, nat_tests, h)
+one_past false n m e h = absurd (cc)
+
+all_past : (events : List Event) → list_all is_making events ≡ true → nat_lt (position_or_len is_other events) (length events) ≡ false
+all_past [] e = refl
+all_past (v ∷ vs) e =
+    let (first, rest) = and_parts (is_making v) (list_all is_making vs) e in
+    one_past (is_making v) (position_or_len is_other vs) (length vs) first (all_past vs rest)
+
+none_if : (b : Bool) (n : ℕ) → b ≡ false → cond b (Some n) None ≡ None
+none_if true n e = absurd (cc)
+none_if false n e = refl
+
+pub none_other : (events : List Event) → list_all is_making events ≡ true → position is_other events ≡ None
+none_other events e = none_if (nat_lt (position_or_len is_other events) (length events)) (position_or_len is_other events) (all_past events e)
 
 -- ---- a world stands
 
@@ -92,7 +111,7 @@ late_fault c jobs p fault.Thread accepted made is = record { accepted = accepted
 
 pub later_fault : (p : Parts) (jobs : List TheJob) (f : RunFault) → IsRunFault p jobs f → IsLater p jobs (by_run f)
 later_fault p jobs (run.Refused number place) is = is
-later_fault p jobs run.Memory is = tt
+later_fault p jobs run.Memory is = is
 later_fault p jobs run.Thread is = is
 
 -- ---- the first other event

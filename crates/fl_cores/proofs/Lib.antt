@@ -1,2 +1,4 @@
 pub mod Booted
 pub mod Reporting
+pub mod Files
+pub mod Texts

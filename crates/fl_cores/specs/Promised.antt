@@ -97,18 +97,19 @@ pub record LacksThread (c : TheConfig) (jobs : List Job) : Type 0 where
   pub made : Made c parts
   pub passed : IsRunFault parts jobs run.Thread
 
--- a job is refused, or a thread, only where the set-up isn't; and memory only where so many cores there may be
+-- a job is refused, or a thread, only where the set-up isn't; and memory only where so many cores there may be: no more is known of it then, since it may
+-- be refused for the first thing that is made
 abbrev pub IsFault : TheConfig → List Job → CoresFault → Type 0
 IsFault c jobs (fault.Setup number place) = IsRefused c number place
 IsFault c jobs (fault.Job number place) = RefusesJob c jobs number place
 IsFault c jobs fault.Memory = has_bad_cores c ≡ false
 IsFault c jobs fault.Thread = LacksThread c jobs
 
--- a fault behind the set-up that made these parts
+-- a fault behind the set-up that made these parts; the code's own
 abbrev pub IsLater : Parts → List Job → CoresFault → Type 0
 IsLater p jobs (fault.Setup number place) = ⊥
 IsLater p jobs (fault.Job number place) = IsRunFault p jobs (run.Refused number place)
-IsLater p jobs fault.Memory = Unit {0}
+IsLater p jobs fault.Memory = IsRunFault p jobs run.Memory
 IsLater p jobs fault.Thread = IsRunFault p jobs run.Thread
 
 -- ---- a cores file
@@ -141,3 +142,17 @@ pub record Appends (text : List ℕ) (limit : ℕ) (e : CoresEnd) (before after 
   pub outcome : Outcome
   pub reads : Reads text outcome
   pub appends : AppendsFor outcome limit e before after
+
+-- ---- why nothing is told of a text
+
+-- it is a cores file, whose set-up and jobs have this fault; so many cores there may be, and each event is of a set-up, so the fault is none of these
+pub record FileHasFault (text : List ℕ) (f : CoresFault) : Type 0 where
+  pub file : CoresFile
+  pub reads : Reads text (is_file file)
+  pub counted : has_bad_cores (config_in file) ≡ false
+  pub making : position is_other file.setup ≡ None
+  pub is_fault : IsFault (config_in file) file.jobs f
+
+-- out of memory may be told of any text, since memory is wanted to read it and to print what is told of it; each other fault is one of the file that it is
+abbrev pub IsFaultOfText : List ℕ → CoresFault → Type 0
+IsFaultOfText text f = (f ≡ fault.Memory) ⊎ FileHasFault text f

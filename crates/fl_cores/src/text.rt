@@ -1,8 +1,8 @@
 //! A cores file run.
 
-ghost use Rattle.std.specs.Prelude.{◌≡◌, IfOk, OnErr};
+ghost use Rattle.std.specs.Prelude.{◌≡◌, ◌≤◌, IfOk, IfErr, OnErr};
 ghost use Rattle.fl_jobs.specs.Files.{file_from};
-ghost use Rattle.fl_cores.specs.Promised.{Appends, AppendsReport};
+ghost use Rattle.fl_cores.specs.Promised.{config_in, Appends, AppendsReport, IsFault, IsFaultOfText};
 
 use crate::fault::CoresFault;
 use crate::run::run_cores;
@@ -33,8 +33,10 @@ fn run_file<R: Threads + Wait + Sync, G: Gate + Sync>(
     gate: &G,
     out: &mut Vec<u8>,
 ) -> Result<CoresEnd, CoresFault>
+    requires few { file.cores ≤ 16 }
     ensures told { IfOk result (λ end. AppendsReport (file_from file.entry) limit end out.old.items out.new.items) }
     ensures kept { OnErr result (out.new.items ≡ out.old.items) }
+    ensures fault { IfErr result (λ fault. IsFault (config_in (file_from file.entry)) (file_from file.entry).jobs fault) }
 {
     let CoresFile {
         cores,
@@ -43,14 +45,8 @@ fn run_file<R: Threads + Wait + Sync, G: Gate + Sync>(
         names,
         numbers,
     } = file;
-    let Ok(count) = u8::try_from(cores) else {
-        return Err(CoresFault::Setup {
-            number: 94,
-            place: 0,
-        });
-    };
     let config = Config {
-        cores: count,
+        cores: cores as u8,
         setup,
     };
     let report = run_cores(rt, alloc, &config, jobs, limit, gate)?;
@@ -71,8 +67,9 @@ fn run_file<R: Threads + Wait + Sync, G: Gate + Sync>(
 /// Runs a cores file and appends what is told of that: its report, or the line that is refused.
 ///
 /// # Errors
-/// Out of memory, or a thread doesn't start. (No clause rules out a refused set-up or job of an accepted
-/// file; no such file is known.) Nothing is appended then.
+/// Out of memory, whatever the text is; else the text is a cores file, and the fault is one of its set-up and jobs, as
+/// [`run_cores`] tells them: a thread doesn't start, or a part is refused. (No clause rules out a refused set-up or job
+/// of an accepted file; no such file is known.) Nothing is appended then.
 pub fn run_cores_text<R: Threads + Wait + Sync, G: Gate + Sync>(
     rt: &R,
     alloc: Global,
@@ -83,6 +80,7 @@ pub fn run_cores_text<R: Threads + Wait + Sync, G: Gate + Sync>(
 ) -> Result<CoresEnd, CoresFault>
     ensures told { IfOk result (λ end. Appends text.now limit end out.old.items out.new.items) }
     ensures kept { OnErr result (out.new.items ≡ out.old.items) }
+    ensures fault { IfErr result (λ fault. IsFaultOfText text.now fault) }
 {
     match read_cores_text(alloc, text)? {
         CoresText::File(file) => run_file(rt, alloc, file, limit, gate, out),

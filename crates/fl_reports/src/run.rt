@@ -4,7 +4,7 @@ ghost use Rattle.std.specs.Prelude.{◌≡◌, map, IfOk, IfErr, OnErr};
 ghost use Rattle.fl_jobs.specs.Reports.{report_of};
 ghost use Rattle.fl_jobs.specs.Views.{job_of};
 ghost use Rattle.fl_system.specs.Booting.{config_of};
-ghost use Rattle.fl_cores.specs.Promised.{IsFault};
+ghost use Rattle.fl_cores.specs.Promised.{IsFault, IsFaultOfText};
 ghost use Rattle.fl_reports.specs.Honesty.{ReportsHonestly, Appends};
 
 use crate::law::{runs_end_as_told, runs_of_one_core, runs_report_honestly};
@@ -43,8 +43,9 @@ pub fn report_cores<R: Threads + Wait + Sync, G: Gate + Sync>(
 /// Runs a cores file, as [`run_cores_text`] does, and appends what is told of that: an honest report, or the line that is refused.
 ///
 /// # Errors
-/// Out of memory, or a thread doesn't start. (No clause rules out a refused set-up or job of an accepted
-/// file; no such file is known.) Nothing is appended then.
+/// Out of memory, whatever the text is; else the text is a cores file, and the fault is one of its set-up and jobs, as
+/// [`report_cores`] tells them: a thread doesn't start, or a part is refused. (No clause rules out a refused set-up or
+/// job of an accepted file; no such file is known.) Nothing is appended then.
 pub fn report_cores_text<R: Threads + Wait + Sync, G: Gate + Sync>(
     rt: &R,
     alloc: Global,
@@ -55,6 +56,7 @@ pub fn report_cores_text<R: Threads + Wait + Sync, G: Gate + Sync>(
 ) -> Result<CoresEnd, CoresFault>
     ensures told { IfOk result (λ end. Appends text.now limit end out.old.items out.new.items) }
     ensures kept { OnErr result (out.new.items ≡ out.old.items) }
+    ensures fault { IfErr result (λ fault. IsFaultOfText text.now fault) }
 {
     runs_report_honestly();
     runs_end_as_told();

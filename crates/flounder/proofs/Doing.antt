@@ -14,6 +14,7 @@ use Rattle.fl_command.specs.Streams.{Output, Streams, Prints, IsUntouched, IsUnr
 use Rattle.fl_command.proofs.Deeds.{does_none, does_one, does_weaker}
 use Rattle.fl_cores.specs.declared.fault.CoresFault.{CoresFault}
 use Rattle.fl_cores.specs.declared.text.CoresEnd.{CoresEnd}
+use Rattle.fl_cores.specs.Promised.{IsFaultOfText}
 use Rattle.fl_reports.specs.Honesty as run
 use Rattle.flounder.specs.Commands.{cores_status, end_status, IsTold, TellsCores, RunsCores, Performs, Runs}
 
@@ -30,8 +31,10 @@ pub cores_done : (old new : Option (List Deed)) (file bytes content : List ℕ) 
 cores_done old new file bytes content turns o status a e h =
     does_one old new (was_read file bytes) (RunsCores file turns o status) a (subst (λ (t : List ℕ). RunsCores file turns o status (was_read file t ∷ [])) e h)
 
-pub cores_failed : (file bytes : List ℕ) (turns : ℕ) (o : Output) (fault : CoresFault) (status : ℕ) → IsUntouched o → status ≡ cores_status fault → RunsCores file turns o status (was_read file bytes ∷ [])
-cores_failed file bytes turns o fault status same e = inr (inr (inr record { bytes = bytes; fault = fault; printed = same; done = refl; ends = e }))
+pub cores_failed : (file bytes : List ℕ) (turns : ℕ) (o : Output) (fault : CoresFault) (status : ℕ) → IsUntouched o → IsFaultOfText bytes fault
+    → status ≡ cores_status fault → RunsCores file turns o status (was_read file bytes ∷ [])
+cores_failed file bytes turns o fault status same is e =
+    inr (inr (inr record { bytes = bytes; fault = fault; is_fault = is; printed = same; done = refl; ends = e }))
 
 ran_cores : (file bytes told : List ℕ) (turns : ℕ) (end : CoresEnd) (o : Output) (status : ℕ) → IsTold bytes turns end told → TellsCores end told o status → RunsCores file turns o status (was_read file bytes ∷ [])
 ran_cores file bytes told turns end o status h (inl p) =

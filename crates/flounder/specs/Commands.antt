@@ -13,6 +13,7 @@ use Rattle.fl_cores.specs.declared.fault.CoresFault.{CoresFault}
 use Rattle.fl_cores.specs.declared.fault.CoresFault.TheVariants as fault
 use Rattle.fl_cores.specs.declared.text.CoresEnd.{CoresEnd}
 use Rattle.fl_cores.specs.declared.text.CoresEnd.TheVariants as end
+use Rattle.fl_cores.specs.Promised.{IsFaultOfText}
 use Rattle.fl_reports.specs.Honesty.{Appends}
 
 -- ---- cores FILE --turns N
@@ -58,10 +59,12 @@ pub record CoresUntold (file : List ℕ) (turns : ℕ) (output : Output) (deeds 
   pub done : deeds ≡ was_read file bytes ∷ []
   pub ends : status ≡ 4
 
--- FILE was read, and nothing was put: its run came to no report, as memory or a thread was refused (3) or as a part of it is refused (2)
+-- FILE was read, and nothing was put: its run came to no report, as memory or a thread was refused (3) or as a part of it is refused (2); but for memory
+-- it is a cores file then, whose set-up and jobs have that fault
 pub record CoresFailed (file : List ℕ) (output : Output) (deeds : List Deed) (status : ℕ) : Type 0 where
   pub bytes : List ℕ
   pub fault : CoresFault
+  pub is_fault : IsFaultOfText bytes fault
   pub printed : IsUntouched output
   pub done : deeds ≡ was_read file bytes ∷ []
   pub ends : status ≡ cores_status fault

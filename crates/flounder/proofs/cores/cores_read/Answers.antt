@@ -22,5 +22,5 @@ pub returns : goal.returns
 returns g c = record {
   ran =
       cores_failed c.args.file.now c.args.content.now c.args.turns (output_of g.W.Write.contents c.args.output.now c.args.output.now) c.in-Err.fault c.tell_no_report.result refl
-      c.tell_no_report.ensures.status;
+      c.in-Err.ensures.fault c.tell_no_report.ensures.status;
 }
