@@ -14,6 +14,6 @@ returns c =
     let table : length c.circuits.result.now.links ≡ length core.monitor.circuits.links =
     ap (λ (t : TheCircuits). length t.links) c.circuits.ensures.circuits ∙ ap (λ (m : TheMonitor). length m.circuits.links) c.monitor.ensures.monitor in
     record {
-      links = links_done (length core.lanes) c.loop-number.number c.link_count.result c.loop-number.links.items (c.link_count.ensures.count ∙ table ∙ sym lanes)
+      links = links_done (length core.lanes) c.loop-number.number c.link_count-number-end.result c.loop-number.links.items (c.link_count-number-end.ensures.count ∙ table ∙ sym lanes)
           c.loop-number.auto.number-end c.loop-number-test.false c.loop-number.invariant;
     }
