@@ -97,7 +97,7 @@ pub record LacksThread (c : TheConfig) (jobs : List Job) : Type 0 where
   pub made : Made c parts
   pub passed : IsRunFault parts jobs run.Thread
 
--- a job is refused, or a thread, only where the set-up isn't; and memory only where so many cores there may be: no more is known of it then, since it may
+-- a job is refused, or a thread, only where the set-up isn't; and memory only where there may be so many cores, from 1 to 16: no more is known of it then, since it may
 -- be refused for the first thing that is made
 abbrev pub IsFault : TheConfig → List Job → CoresFault → Type 0
 IsFault c jobs (fault.Setup number place) = IsRefused c number place
@@ -105,7 +105,7 @@ IsFault c jobs (fault.Job number place) = RefusesJob c jobs number place
 IsFault c jobs fault.Memory = has_bad_cores c ≡ false
 IsFault c jobs fault.Thread = LacksThread c jobs
 
--- a fault behind the set-up that made these parts; the code's own
+-- a fault behind the set-up that made these parts: no public promise names it by itself
 abbrev pub IsLater : Parts → List Job → CoresFault → Type 0
 IsLater p jobs (fault.Setup number place) = ⊥
 IsLater p jobs (fault.Job number place) = IsRunFault p jobs (run.Refused number place)

@@ -46,6 +46,7 @@ fn run_file<R: Threads + Wait + Sync, G: Gate + Sync>(
         numbers,
     } = file;
     let config = Config {
+        // (a file has at most 16)
         cores: cores as u8,
         setup,
     };

@@ -6,7 +6,7 @@ use Rattle.fl_machine.specs.Receiving.{HoldsParts}
 use Rattle.fl_machine.specs.Reassembling.{TheReassembly, IsUnderWay, reassembly_on}
 use Rattle.fl_machine.specs.Rooms.{TheRoom, IsRooms, rooms_of}
 use Rattle.fl_machine.specs.declared.recv.Begun.{Begun}
-use Rattle.fl_machine.specs.declared.reassembly.Place.{Place}
+use Rattle.fl_machine.specs.declared.reassembly.Assembly.{Assembly}
 use Rattle.fl_machine.specs.declared.reassemblies.Places.{Places}
 
 -- the fragments of a room; none where it isn't there
@@ -14,11 +14,11 @@ abbrev pub frags_in : Option (List Frag) → List Frag
 frags_in None = []
 frags_in (Some frags) = frags
 
-abbrev pub reassembly_at : Place → TheRoom → TheReassembly
+abbrev pub reassembly_at : Assembly → TheRoom → TheReassembly
 reassembly_at p t = reassembly_on p.program (frags_in t.frags) p.begun
 
 -- of each place what it stores, with its room
-abbrev pub joined : List Place → List TheRoom → List TheReassembly
+abbrev pub joined : List Assembly → List TheRoom → List TheReassembly
 joined [] ts = []
 joined (p ∷ ps) [] = []
 joined (p ∷ ps) (t ∷ ts) = reassembly_at p t ∷ joined ps ts
@@ -32,12 +32,12 @@ StandsOn p None begun = begun ≡ None
 StandsOn p (Some room) begun = IsUnderWay p room begun
 
 -- a room holds each call's fragments
-pub record IsPlace (p : Place) (t : TheRoom) : Type 0 where
+pub record IsPlace (p : Assembly) (t : TheRoom) : Type 0 where
   pub holds : HoldsParts (program_of p.program).plan (program_of p.program).interface t.size
   pub stands : StandsOn (program_of p.program) t.frags p.begun
 
 -- each place has its room
-abbrev pub AreJoined : List Place → List TheRoom → Type 0
+abbrev pub AreJoined : List Assembly → List TheRoom → Type 0
 AreJoined [] [] = Unit {0}
 AreJoined [] (t ∷ ts) = ⊥
 AreJoined (p ∷ ps) [] = ⊥
@@ -49,13 +49,13 @@ pub record ArePlaces (s : Places) : Type 0 where
 
 -- no call is under way at a place
 pub record IsBetween (s : Places) (place : ℕ) : Type 0 where
-  pub at : Place
+  pub at : Assembly
   pub at_there : slice_get s.places.items place ≡ Some at
   pub none : at.begun ≡ None
 
 -- a call is under way there
 pub record IsInside (s : Places) (place : ℕ) : Type 0 where
-  pub at : Place
+  pub at : Assembly
   pub at_there : slice_get s.places.items place ≡ Some at
   pub begun : Begun
   pub under_way : at.begun ≡ Some begun

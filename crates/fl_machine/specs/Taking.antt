@@ -88,10 +88,9 @@ pub record IsFed (ops : List Op) (taken : List ℕ) (c : Intake) (all left : Lis
 abbrev pub bytes_left : List ℕ → ℕ → List ℕ
 bytes_left buffer used = drop used (take 56 buffer)
 
--- a run whose numbers are those taken before and then the first of a tape, fed up to a place of a fragment
-abbrev pub IsFedBy : List Op → List ℕ → List ℕ → Intake → List ℕ → List ℕ → ℕ → Type 0
-IsFedBy ops before tape c all buffer used =
-    IsFed ops (before ++ take c.count tape) c all (bytes_left buffer used)
+-- a run whose numbers are those taken before and then the first of a tape, with these bytes still to be taken
+abbrev pub IsFedBy : List Op → List ℕ → List ℕ → Intake → List ℕ → List ℕ → Type 0
+IsFedBy ops before tape c all left = IsFed ops (before ++ take c.count tape) c all left
 
 -- a tape of so many places has room, behind so many numbers, for those of so many bytes: it has room for
 -- those of each payload, or for one a byte

@@ -601,8 +601,8 @@ impl Intake {
         requires run { IsRunOf ops.now self.old field }
         requires stance { IsTaking ops.now self.old }
         requires count { self.old.count ≤ length tape.old }
-        ensures fed { (before all : List ℕ) → IsFedBy ops.now before tape.old self.old all buffer.now used
-            → IsFedBy ops.now before tape.new self.new all buffer.now result }
+        ensures fed { (before all : List ℕ) → IsFedBy ops.now before tape.old self.old all (bytes_left buffer.now used)
+            → IsFedBy ops.now before tape.new self.new all (bytes_left buffer.now result) }
         ensures end { (used ≤ result) × (result ≤ 56) }
         ensures field { HasField ops.now self.new field }
         ensures run { IsRunOf ops.now self.new field }
@@ -636,11 +636,11 @@ impl Intake {
         requires room { used < 56 }
         requires settled { IsAtField ops.now self.old }
         requires field { HasField ops.now self.old field }
-        requires fed { (before all : List ℕ) × IsFedBy ops.now before tape.old self.old all buffer.now used }
+        requires fed { (before all : List ℕ) × IsFedBy ops.now before tape.old self.old all (bytes_left buffer.now used) }
         requires tape { HasRoom ops.now self.old.count (56 - used) (length tape.old) }
         requires count { self.old.count ≤ length tape.old }
-        ensures fed { (before all : List ℕ) → IsFedBy ops.now before tape.old self.old all buffer.now used
-            → IsFedBy ops.now before tape.new self.new all buffer.now result }
+        ensures fed { (before all : List ℕ) → IsFedBy ops.now before tape.old self.old all (bytes_left buffer.now used)
+            → IsFedBy ops.now before tape.new self.new all (bytes_left buffer.now result) }
         ensures end { (used ≤ result) × (result ≤ 56) }
         ensures settled { IsAtField ops.now self.new }
         ensures field { HasField ops.now self.new field }
@@ -669,12 +669,12 @@ impl Intake {
         requires room { used < 56 }
         requires settled { IsAtField ops.now self.old }
         requires field { HasField ops.now self.old field }
-        requires fed { (before all : List ℕ) × IsFedBy ops.now before tape.old self.old all buffer.now used }
+        requires fed { (before all : List ℕ) × IsFedBy ops.now before tape.old self.old all (bytes_left buffer.now used) }
         requires tape { HasRoom ops.now self.old.count (56 - used) (length tape.old) }
         requires count { self.old.count ≤ length tape.old }
-        ensures fed { IfOk result (λ end. (before all : List ℕ) → IsFedBy ops.now before tape.old self.old all buffer.now used
-            → IsFedBy ops.now before tape.new self.new all buffer.now end) }
-        ensures wrong { IfErr result (λ mark. (before all : List ℕ) → IsFedBy ops.now before tape.old self.old all buffer.now used
+        ensures fed { IfOk result (λ end. (before all : List ℕ) → IsFedBy ops.now before tape.old self.old all (bytes_left buffer.now used)
+            → IsFedBy ops.now before tape.new self.new all (bytes_left buffer.now end)) }
+        ensures wrong { IfErr result (λ mark. (before all : List ℕ) → IsFedBy ops.now before tape.old self.old all (bytes_left buffer.now used)
             → LeavesPayloads (block_of ops.now) all mark) }
         ensures end { IfOk result (λ end. (used < end) × (end ≤ 56)) }
         ensures settled { IfOk result (λ end. IsAtField ops.now self.new) }
@@ -714,12 +714,12 @@ impl Intake {
         requires room { used < 56 }
         requires settled { IsAtField ops.now self.old }
         requires field { HasField ops.now self.old field }
-        requires fed { (before all : List ℕ) × IsFedBy ops.now before tape.old self.old all buffer.now used }
+        requires fed { (before all : List ℕ) × IsFedBy ops.now before tape.old self.old all (bytes_left buffer.now used) }
         requires tape { HasRoom ops.now self.old.count (56 - used) (length tape.old) }
         requires count { self.old.count ≤ length tape.old }
-        ensures fed { IfOk result (λ end. (before all : List ℕ) → IsFedBy ops.now before tape.old self.old all buffer.now used
-            → IsFedBy ops.now before tape.new self.new all buffer.now end) }
-        ensures wrong { IfErr result (λ mark. (before all : List ℕ) → IsFedBy ops.now before tape.old self.old all buffer.now used
+        ensures fed { IfOk result (λ end. (before all : List ℕ) → IsFedBy ops.now before tape.old self.old all (bytes_left buffer.now used)
+            → IsFedBy ops.now before tape.new self.new all (bytes_left buffer.now end)) }
+        ensures wrong { IfErr result (λ mark. (before all : List ℕ) → IsFedBy ops.now before tape.old self.old all (bytes_left buffer.now used)
             → LeavesPayloads (block_of ops.now) all mark) }
         ensures end { IfOk result (λ end. (used < end) × (end ≤ 56)) }
         ensures settled { IfOk result (λ end. IsAtField ops.now self.new) }

@@ -223,11 +223,11 @@ impl Intake {
         requires narrow { field.width ≤ 8 }
         requires field { HasField ops.now self.old field }
         requires run { IsRunOf ops.now self.old field }
-        requires fed { (before all : List ℕ) × IsFedBy ops.now before tape.old self.old all buffer.now used }
+        requires fed { (before all : List ℕ) × IsFedBy ops.now before tape.old self.old all (bytes_left buffer.now used) }
         requires tape { HasRoom ops.now self.old.count (56 - used) (length tape.old) }
         requires count { self.old.count ≤ length tape.old }
-        ensures fed { (before all : List ℕ) → IsFedBy ops.now before tape.old self.old all buffer.now used
-            → IsFedBy ops.now before tape.new self.new all buffer.now result }
+        ensures fed { (before all : List ℕ) → IsFedBy ops.now before tape.old self.old all (bytes_left buffer.now used)
+            → IsFedBy ops.now before tape.new self.new all (bytes_left buffer.now result) }
         ensures end { (used ≤ result) × (result ≤ 56) }
         ensures settled { IsAtField ops.now self.new }
         ensures field { HasField ops.now self.new field }
@@ -319,10 +319,10 @@ impl Intake {
     ) -> usize
         requires inside { used ≤ 56 }
         requires settled { IsAtField ops.now self.old }
-        requires fed { (before all : List ℕ) × IsFedBy ops.now before tape.old self.old all buffer.now used }
+        requires fed { (before all : List ℕ) × IsFedBy ops.now before tape.old self.old all (bytes_left buffer.now used) }
         requires count { self.old.count ≤ length tape.old }
-        ensures fed { (before all : List ℕ) → IsFedBy ops.now before tape.old self.old all buffer.now used
-            → IsFedBy ops.now before tape.new self.new all buffer.now result }
+        ensures fed { (before all : List ℕ) → IsFedBy ops.now before tape.old self.old all (bytes_left buffer.now used)
+            → IsFedBy ops.now before tape.new self.new all (bytes_left buffer.now result) }
         ensures end { (used ≤ result) × (result ≤ 56) }
         ensures settled { IsAtField ops.now self.new }
         ensures kept { take self.old.count tape.new ≡ take self.old.count tape.old }
@@ -364,14 +364,14 @@ impl Intake {
         requires room { used < 56 }
         requires settled { IsAtField ops.now self.old }
         requires field { HasField ops.now self.old field }
-        requires fed { (before all : List ℕ) × IsFedBy ops.now before tape.old self.old all buffer.now used }
+        requires fed { (before all : List ℕ) × IsFedBy ops.now before tape.old self.old all (bytes_left buffer.now used) }
         requires tape { HasRoom ops.now self.old.count (56 - used) (length tape.old) }
         requires count { self.old.count ≤ length tape.old }
         ensures fed { IfOk result (λ end. (before all : List ℕ)
-            → IsFedBy ops.now before tape.old self.old all buffer.now used
-            → IsFedBy ops.now before tape.new self.new all buffer.now end) }
+            → IsFedBy ops.now before tape.old self.old all (bytes_left buffer.now used)
+            → IsFedBy ops.now before tape.new self.new all (bytes_left buffer.now end)) }
         ensures wrong { IfErr result (λ mark. (before all : List ℕ)
-            → IsFedBy ops.now before tape.old self.old all buffer.now used
+            → IsFedBy ops.now before tape.old self.old all (bytes_left buffer.now used)
             → LeavesPayloads (block_of ops.now) all mark) }
         ensures end { IfOk result (λ end. (used < end) × (end ≤ 56)) }
         ensures settled { IfOk result (λ end. IsAtField ops.now self.new) }

@@ -7,7 +7,7 @@ ghost use Rattle.fl_machine.specs.Reassembling.{TheReassembly, Takes, ChangesPla
 ghost use Rattle.fl_machine.specs.Places.{ArePlaces, IsBetween, IsInside, reassemblies};
 ghost use Rattle.fl_machine.specs.Rooms.{IsThere, rooms_of};
 
-use crate::reassembly::{Place, TakeFault, Taken, has_few_args, tell};
+use crate::reassembly::{Assembly, TakeFault, Taken, has_few_args, tell};
 use crate::recv::begin_plain;
 use crate::rooms::Rooms;
 use fl_base::Frag;
@@ -19,7 +19,7 @@ use std::marker::Model;
 #[derive(Drop)]
 pub(crate) struct Places {
     alloc: Global,
-    places: Vec<Place>,
+    places: Vec<Assembly>,
     rooms: Rooms,
     // Where the numbers of one fragment are put: at most one a byte.
     numbers: [u64; 56],
@@ -59,7 +59,7 @@ impl Places {
     {
         self.places.reserve(1)?;
         self.rooms.add(capacity)?;
-        self.places.push_reserved(Place {
+        self.places.push_reserved(Assembly {
             program,
             begun: None,
         });

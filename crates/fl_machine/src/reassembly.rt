@@ -51,7 +51,7 @@ impl TakeFault {
 
 // A program, and of its call under way what isn't in the room.
 #[derive(Drop)]
-pub(crate) struct Place {
+pub(crate) struct Assembly {
     pub(crate) program: Program,
     pub(crate) begun: Option<Begun>,
 }
@@ -229,7 +229,7 @@ fn take_next(
     take_under(alloc, program, begun, numbers, room, frag)
 }
 
-impl Place {
+impl Assembly {
     // Takes a fragment, in the place's room. Its numbers are put where those of any fragment may lie.
     #[inline(always)]
     pub(crate) fn take_on(

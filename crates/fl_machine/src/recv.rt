@@ -17,7 +17,7 @@ ghost use Rattle.fl_machine.specs.Receiving.{Inside as inside, After as after};
 
 use crate::intake::{Fed, Intake};
 use crate::plain::take_plain;
-use fl_base::{Frag, MsgNo};
+use fl_base::{FRAG_BYTES, Frag, MsgNo};
 use fl_compile::{Program, tells_faults};
 use fl_stub::Mark;
 use fl_value::{Call, unflatten};
@@ -414,7 +414,7 @@ impl Stored {
     {
         let _plan = program.plan();
         let count = self.now.intake.count();
-        if count <= 56 {
+        if count <= FRAG_BYTES {
             return;
         }
         go_over(&mut self.tape, &mut self.spare, count);
@@ -497,7 +497,7 @@ impl RecvRun {
         requires room { HoldsTapes (program_of program).plan (program_of program).interface capacity }
         ensures made { IfOk result (λ r. r ≡ record { program = program; parts = []; whole = []; before = None }) }
     {
-        let short = capacity.min(112);
+        let short = capacity.min(2 * FRAG_BYTES);
         let tape = vec![in alloc; 0; short]?;
         let spare = vec![in alloc; 0; short]?;
         let fresh = vec![in alloc; 0; capacity]?;

@@ -8,7 +8,7 @@ use Rattle.fl_base.specs.declared.fragment.Frag.{Frag}
 use Rattle.fl_base.specs.Control.{epoch_of, told_of}
 use Rattle.fl_link.specs.Cursor.{epoch_at}
 use Rattle.fl_ring.specs.Counts.{count_from}
-use Rattle.fl_ring.specs.declared.shared.duo_board.Side.{Side}
+use Rattle.fl_ring.specs.declared.shared.duo_board.SideView.{SideView}
 use Rattle.fl_ring.specs.declared.shared.duo_board.DuoView.{DuoView}
 use Rattle.fl_ring.specs.Way.{slot}
 use Rattle.fl_ring.specs.SharedWay.{IsDue, loaded_frag, frag_from, misses_after}
@@ -136,13 +136,13 @@ duo_taken_last n start slots id i c m0 m1 m2 words e d seven key side at due =
     (duo_allows_taken n start slots id i (all_but_one m0 c words) key side at due (length-take-le 6 words (omega arith)))
 
 -- where the epoch due was found the number is known, else nothing new
-pub known_due : (n c : ℕ) (s : Side) → epoch_of c ≡ epoch_at n (length s.take.got) → known_by n s c ≡ count_from s.put.known (told_of c)
+pub known_due : (n c : ℕ) (s : SideView) → epoch_of c ≡ epoch_at n (length s.take.got) → known_by n s c ≡ count_from s.put.known (told_of c)
 known_due n c s due = ap (λ (b : Bool). cond b (count_from s.put.known (told_of c)) s.put.known) (eq-eqb (epoch_of c) (epoch_at n (length s.take.got)) due)
 
-pub known_same : (n c : ℕ) (s : Side) → epoch_of c ≢ epoch_at n (length s.take.got) → known_by n s c ≡ s.put.known
+pub known_same : (n c : ℕ) (s : SideView) → epoch_of c ≢ epoch_at n (length s.take.got) → known_by n s c ≡ s.put.known
 known_same n c s other = ap (λ (b : Bool). cond b (count_from s.put.known (told_of c)) s.put.known) (ne_eqb (epoch_of c) (epoch_at n (length s.take.got)) other)
 
-one_missed : (n c : ℕ) (s : Side) → epoch_of c ≢ epoch_at n (length s.take.got) → misses_after n s.take c ≡ s.take.misses + 1
+one_missed : (n c : ℕ) (s : SideView) → epoch_of c ≢ epoch_at n (length s.take.got) → misses_after n s.take c ≡ s.take.misses + 1
 one_missed n c s other = ap (λ (b : Bool). cond b s.take.misses (s.take.misses + 1)) (ne_eqb (epoch_of c) (epoch_at n (length s.take.got)) other)
 
 -- what a side is after a look that finds nothing

@@ -4,7 +4,7 @@ use mathlib.Core.Option.{none}
 use Rattle.atomic_table.specs.Table.{Me, step, Allows}
 use Rattle.fl_base.specs.Control.{epoch_of, told_of}
 use Rattle.fl_link.specs.Cursor.{epoch_at}
-use Rattle.fl_ring.specs.declared.shared.duo_board.Side.{Side}
+use Rattle.fl_ring.specs.declared.shared.duo_board.SideView.{SideView}
 use Rattle.fl_ring.specs.declared.shared.duo_board.Holder.{Holder}
 use Rattle.fl_ring.specs.declared.shared.duo_board.Holder.TheVariants.{One, Two, Both}
 use Rattle.fl_ring.specs.declared.shared.duo_board.DuoView.{DuoView}
@@ -42,15 +42,15 @@ duo_other_in h n i k words (inr e) some small wide = let b : other_of h n ≡ 0 
 -- ---- who moves
 
 -- what a side's step has to show: what the side knows after it, both ways, and what it tells
-pub record Goes (b c n start : ℕ) (words : List ℕ) (v : DuoView) (y : Side) (Then : DuoView → Type 0) : Type 0 where
-  pub side : Side
+pub record Goes (b c n start : ℕ) (words : List ℕ) (v : DuoView) (y : SideView) (Then : DuoView → Type 0) : Type 0 where
+  pub side : SideView
   pub both : BothRun (ways b c n start) words side y
   pub tells : Then (with_mine v side)
 
 abbrev Handler : ℕ → DuoView → List ℕ → List ℕ → (DuoView → Type 0) → Type 0
 Handler start v ws ws' Then =
     let b : ℕ = base_of v.holder v.size in let c : ℕ = other_of v.holder v.size in
-    (y : Side) → BothRun (ways b c v.size start) ws v.mine y → Goes b c v.size start ws' v y Then
+    (y : SideView) → BothRun (ways b c v.size start) ws v.mine y → Goes b c v.size start ws' v y Then
 
 one_moves : (start id : ℕ) (ws ws' : List ℕ) (p : Pairing) (v : DuoView) (Then : DuoView → Type 0) → v.holder ≡ One → DuoFits v.size p id v → Held v.size start ws p → Handler start v ws ws' Then
     → Moves (DuoFits v.size) (Held v.size start) p id ws' Then
@@ -60,7 +60,7 @@ one_moves start id ws ws' p v Then e fits held go =
     let c : other_of v.holder n ≡ 8 * n = ap (λ (h : Holder). other_of h n) e in
     let mine : (id ≡ p.first) × (v.mine ≡ p.one) × (v.size ≡ n) = fits.0 e in
     let before : BothRun (ways (base_of v.holder n) (other_of v.holder n) n start) ws v.mine p.two =
-    subst (λ (s : Side). BothRun (ways (base_of v.holder n) (other_of v.holder n) n start) ws s p.two) (sym mine.1)
+    subst (λ (s : SideView). BothRun (ways (base_of v.holder n) (other_of v.holder n) n start) ws s p.two) (sym mine.1)
     (subst (λ (x : ℕ). BothRun (ways x (other_of v.holder n) n start) ws p.one p.two) (sym b) (subst (λ (x : ℕ). BothRun (ways 0 x n start) ws p.one p.two) (sym c) held)) in
     let g = go p.two before in
     record {
@@ -81,7 +81,7 @@ two_moves start id ws ws' p v Then e fits held go =
     let mine : (id ≡ p.second) × (v.mine ≡ p.two) × (v.size ≡ n) = fits.1 e in
     let across : BothRun (ways (8 * n) 0 n start) ws p.two p.one = turned 0 (8 * n) n start ws p.one p.two held in
     let before : BothRun (ways (base_of v.holder n) (other_of v.holder n) n start) ws v.mine p.one =
-    subst (λ (s : Side). BothRun (ways (base_of v.holder n) (other_of v.holder n) n start) ws s p.one) (sym mine.1)
+    subst (λ (s : SideView). BothRun (ways (base_of v.holder n) (other_of v.holder n) n start) ws s p.one) (sym mine.1)
     (subst (λ (x : ℕ). BothRun (ways x (other_of v.holder n) n start) ws p.two p.one) (sym b) (subst (λ (x : ℕ). BothRun (ways (8 * n) x n start) ws p.two p.one) (sym c) across)) in
     let g = go p.one before in
     let after : BothRun (ways (8 * n) 0 n start) ws' g.side p.one =
@@ -210,7 +210,7 @@ duo_allows_compare n start slots id i me key both =
     let one : me.0.mine ≡ p.one = f.2 in
     let two : me.0.theirs ≡ p.two = f.3 in
     let there : CountsNear m me.0.mine me.0.theirs =
-    subst (λ (s : Side). CountsNear m s me.0.theirs) (sym one) (subst (λ (s : Side). CountsNear m p.one s) (sym two) (both_near 0 (8 * m) m start ws p.one p.two held)) in
+    subst (λ (s : SideView). CountsNear m s me.0.theirs) (sym one) (subst (λ (s : SideView). CountsNear m p.one s) (sym two) (both_near 0 (8 * m) m start ws p.one p.two held)) in
     let back : CountsNear m me.0.theirs me.0.mine =
-    subst (λ (s : Side). CountsNear m s me.0.mine) (sym two) (subst (λ (s : Side). CountsNear m p.two s) (sym one) (both_near (8 * m) 0 m start ws p.two p.one (turned 0 (8 * m) m start ws p.one p.two held))) in
+    subst (λ (s : SideView). CountsNear m s me.0.mine) (sym two) (subst (λ (s : SideView). CountsNear m p.two s) (sym one) (both_near (8 * m) 0 m start ws p.two p.one (turned 0 (8 * m) m start ws p.one p.two held))) in
     record { account = p; view = me.0; mine = fits; others = λ j u ne g. g; holds = held; tells = (refl, there, back) }))

@@ -6,7 +6,7 @@ use Rattle.fl_base.specs.declared.fragment.Frag.{Frag}
 use Rattle.fl_base.specs.Control.{epoch_of, told_of}
 use Rattle.fl_link.specs.Cursor.{epoch_at}
 use Rattle.fl_ring.specs.Counts.{count_from, last_count}
-use Rattle.fl_ring.specs.declared.shared.duo_board.Side.{Side}
+use Rattle.fl_ring.specs.declared.shared.duo_board.SideView.{SideView}
 use Rattle.fl_ring.specs.Way.{slot}
 use Rattle.fl_ring.specs.SharedWay.{IsNext, IsDue, IsLoaded, WayRuns, frag_from, loaded_frag}
 use Rattle.fl_ring.specs.SharedDuo.{NumbersRide, BothRun, ways, CountsNear, side_found, side_stored, side_put, side_control, side_loaded, side_peeked, side_got, known_by}
@@ -21,7 +21,7 @@ swapped : (x y z : ℕ) → ((x ≡ 0) × (y ≡ z)) ⊎ ((x ≡ z) × (y ≡ 0)
 swapped x y z (inl (e, d)) = inr (d, e)
 swapped x y z (inr (e, d)) = inl (d, e)
 
-pub turned : (b c n start : ℕ) (ws : List ℕ) (x y : Side) → BothRun (ways b c n start) ws x y → BothRun (ways c b n start) ws y x
+pub turned : (b c n start : ℕ) (ws : List ℕ) (x y : SideView) → BothRun (ways b c n start) ws x y → BothRun (ways c b n start) ws y x
 turned b c n start ws x y h = record {
   few = h.few;
   wide = h.wide;
@@ -85,7 +85,7 @@ rides_taken sent got known told f h (rest, e) knows =
       counts = ap (λ (k : ℕ). last_count k rest) (sym knows) ∙ ap (λ (xs : List Frag). last_count known xs) (sym first) ∙ h.counts;
     }
 
-module _ (b c n start : ℕ) (ws : List ℕ) (x y : Side) where
+module _ (b c n start : ℕ) (ws : List ℕ) (x y : SideView) where
   -- ---- stores
 
   away : (i k v : ℕ) → k < 8 → BothRun (ways b c n start) ws x y → (j : ℕ) → c ≤ j → j < c + 8 * n → get_or (set ws (slot b n i + k) v) j 0 ≡ get_or ws j 0

@@ -75,7 +75,7 @@ module _ (b n : ℕ) (ws : List ℕ) (w : Writing) (r : Reading) (told : ℕ) wh
     peeked = h.peeked;
   }
 
-  -- another number is stored into payload word j
+  -- a number is stored into payload word j
   part_stored : (x j : ℕ) → WayRuns b n ws w r told → j < length w.part → (k : ℕ) → k < length w.part → Dec (k ≡ j)
       → get_or (set ws (slot b n (length w.sent) + j) x) (slot b n (length w.sent) + k) 0 ≡ get_or (set w.part j x) k 0
   part_stored x j h has k lt (yes e) =

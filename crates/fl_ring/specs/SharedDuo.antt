@@ -6,7 +6,7 @@
 --
 --   the next payload word of the slot that is put into next is loaded: the side has found fewer than
 --     seven, and fewer than n fragments are sent beyond those known to be told
---   another number is stored into the payload word that was found last: fewer than n fragments are
+--   a number is stored in place of the payload word that was found last: fewer than n fragments are
 --     sent beyond those known to be told
 --   a control word is stored, with the epoch due and the number got: the side has found all seven
 --     payload words. It tells all that the side got
@@ -24,7 +24,7 @@ use Rattle.fl_ring.specs.Counts.{count_from, last_count, LastTells}
 use Rattle.fl_ring.specs.Way.{slot}
 use Rattle.fl_ring.specs.declared.shared.board.Writing.{Writing}
 use Rattle.fl_ring.specs.declared.shared.board.Reading.{Reading}
-use Rattle.fl_ring.specs.declared.shared.duo_board.Side.{Side}
+use Rattle.fl_ring.specs.declared.shared.duo_board.SideView.{SideView}
 use Rattle.fl_ring.specs.declared.shared.duo_board.Holder.{Holder}
 use Rattle.fl_ring.specs.declared.shared.duo_board.Holder.TheVariants.{One, Two, Both, Nobody}
 use Rattle.fl_ring.specs.declared.shared.duo_board.DuoView.{DuoView}
@@ -41,7 +41,7 @@ pub record NumbersRide (sent got : List Frag) (known told : ℕ) : Type 0 where
   pub counts : last_count known waiting ≡ told
 
 -- the control word that was loaded last tells nothing new, where it has the epoch due
-abbrev pub KnowsLast : ℕ → Side → Type 0
+abbrev pub KnowsLast : ℕ → SideView → Type 0
 KnowsLast n s = IsDue n s.take → length s.take.part < 7 → count_from s.put.known (told_of s.take.last) ≡ s.put.known
 
 -- the ways of a ring of two directions
@@ -58,7 +58,7 @@ abbrev pub ways : ℕ → ℕ → ℕ → ℕ → Ways
 ways there back size start = record { there = there; back = back; size = size; start = start }
 
 -- Side x writes the way there and reads the way back, and side y the other way round.
-pub record BothRun (w : Ways) (words : List ℕ) (x y : Side) : Type 0 where
+pub record BothRun (w : Ways) (words : List ℕ) (x y : SideView) : Type 0 where
   pub few : w.size ≤ 1024
   pub wide : length words ≡ 16 * w.size
   pub apart : ((w.there ≡ 0) × (w.back ≡ 8 * w.size)) ⊎ ((w.there ≡ 8 * w.size) × (w.back ≡ 0))
@@ -77,8 +77,8 @@ pub record BothRun (w : Ways) (words : List ℕ) (x y : Side) : Type 0 where
 pub record Pairing : Type 0 where
   pub first : ℕ
   pub second : ℕ
-  pub one : Side
-  pub two : Side
+  pub one : SideView
+  pub two : SideView
 
 -- the view of the seat of this number: what it says of a side is so
 abbrev pub DuoFits : ℕ → Pairing → ℕ → DuoView → Type 0
@@ -97,7 +97,7 @@ blank = record { words = replicate 7 0; control = 0 }
 
 -- a side of a ring through which so many blank fragments have passed each way, all told; its last
 -- control word has the epoch of the round before
-abbrev pub new_side : ℕ → ℕ → Side
+abbrev pub new_side : ℕ → ℕ → SideView
 new_side n start = record {
   put = record { sent = replicate start blank; part = []; known = start; loads = 0 };
   take = record { got = replicate start blank; part = []; last = start / n; peeked = None; misses = 0; told = start };
@@ -123,40 +123,40 @@ duo_both_of v w = both_as v.holder v w
 abbrev pub duo_nobody : DuoView
 duo_nobody = record { size = 0; holder = Nobody; mine = new_side 0 0; theirs = new_side 0 0 }
 
-abbrev pub with_mine : DuoView → Side → DuoView
+abbrev pub with_mine : DuoView → SideView → DuoView
 with_mine v s = record { size = v.size; holder = v.holder; mine = s; theirs = v.theirs }
 
 -- ---- what the steps do to a side's knowledge
 
 -- one payload word more of the next slot is found to be this
-abbrev pub side_found : Side → ℕ → Side
+abbrev pub side_found : SideView → ℕ → SideView
 side_found s x = record { put = with_found s.put x; take = s.take }
 
--- another number is stored into the payload word that was found last
-abbrev pub side_stored : Side → ℕ → Side
+-- a number is stored in place of the payload word that was found last
+abbrev pub side_stored : SideView → ℕ → SideView
 side_stored s x = record { put = with_stored s.put x; take = s.take }
 
 -- the fragment is put, and all that was got is told
-abbrev pub side_put : Side → ℕ → Side
+abbrev pub side_put : SideView → ℕ → SideView
 side_put s c = record { put = with_put s.put c; take = with_told s.take (length s.take.got) }
 
 -- the count known after a look that loads this control word
-abbrev pub known_by : ℕ → Side → ℕ → ℕ
+abbrev pub known_by : ℕ → SideView → ℕ → ℕ
 known_by n s c = if epoch_of c == epoch_at n (length s.take.got) then count_from s.put.known (told_of c) else s.put.known
 
-abbrev pub counted_by : ℕ → Side → ℕ → Writing
+abbrev pub counted_by : ℕ → SideView → ℕ → Writing
 counted_by n s c = record { sent = s.put.sent; part = s.put.part; known = known_by n s c; loads = s.put.loads + 1 }
 
-abbrev pub side_control : ℕ → Side → ℕ → Side
+abbrev pub side_control : ℕ → SideView → ℕ → SideView
 side_control n s c = record { put = counted_by n s c; take = with_control n s.take c }
 
-abbrev pub side_loaded : Side → ℕ → Side
+abbrev pub side_loaded : SideView → ℕ → SideView
 side_loaded s x = record { put = s.put; take = with_loaded s.take x }
 
-abbrev pub side_peeked : Side → ℕ → Side
+abbrev pub side_peeked : SideView → ℕ → SideView
 side_peeked s x = record { put = s.put; take = with_peeked s.take x }
 
-abbrev pub side_got : Side → ℕ → Side
+abbrev pub side_got : SideView → ℕ → SideView
 side_got s x = record { put = s.put; take = with_got s.take x }
 
 -- ---- where a side's ways begin
@@ -185,11 +185,11 @@ take_word v k = slot (other_of v.holder v.size) v.size (length v.mine.take.got) 
 abbrev pub HasSlot : DuoView → Type 0
 HasSlot v = length v.mine.put.sent < v.mine.put.known + v.size
 
--- of the slot that is put into next this is the first payload word that the side hasn't found yet
+-- of the slot that is put into next, which is free, this is the first of the seven payload words that the side hasn't found yet
 abbrev pub IsNextWord : ℕ → DuoView → Type 0
 IsNextWord word v = (word ≡ put_word v (length v.mine.put.part)) × (length v.mine.put.part < 7) × HasSlot v
 
--- this is the last one that it has found
+-- this is the last of them that it has found, and the slot is free
 abbrev pub IsLastWord : ℕ → DuoView → Type 0
 IsLastWord word v = (word ≡ put_word v (length v.mine.put.part - 1)) × (0 < length v.mine.put.part) × (length v.mine.put.part ≤ 7) × HasSlot v
 
@@ -245,7 +245,7 @@ duo_loads_taken st m x m' = (m' ≡ (with_mine m.0 (side_got m.0.mine x), m.1))
 
 -- The law by which a 16-bit number names one count, of the fragments that a side w sent and a side r
 -- got: what w knows was told, what was told was got, and what was got was sent, no more than n beyond.
-pub record CountsNear (n : ℕ) (w r : Side) : Type 0 where
+pub record CountsNear (n : ℕ) (w r : SideView) : Type 0 where
   pub few : n ≤ 1024
   pub got_sent : IsPrefix r.take.got w.put.sent
   pub known_told : w.put.known ≤ r.take.told

@@ -100,11 +100,11 @@ told_word v = 8 * v.size
 abbrev pub HasSlot : View → Type 0
 HasSlot v = length v.put.sent < v.put.known + v.size
 
--- of the slot that is put into next this is the first payload word that the writer hasn't found yet
+-- of the slot that is put into next, which is free, this is the first of the seven payload words that the writer hasn't found yet
 abbrev pub IsNextWord : ℕ → View → Type 0
 IsNextWord word v = (word ≡ put_word v (length v.put.part)) × (length v.put.part < 7) × HasSlot v
 
--- this is the last one that it has found
+-- this is the last of them that it has found, and the slot is free
 abbrev pub IsLastWord : ℕ → View → Type 0
 IsLastWord word v = (word ≡ put_word v (length v.put.part - 1)) × (0 < length v.put.part) × (length v.put.part ≤ 7) × HasSlot v
 

@@ -12,7 +12,7 @@ use Rattle.fl_link.specs.Looks.{Look, placed, no_room, spent, saw, saw_ack, foun
 use Rattle.fl_link.specs.Queue.{look_at}
 use Rattle.fl_ring.specs.Counts.{count_from}
 use Rattle.fl_ring.specs.Duo.{acknowledgement}
-use Rattle.fl_ring.specs.declared.shared.duo_board.Side.{Side}
+use Rattle.fl_ring.specs.declared.shared.duo_board.SideView.{SideView}
 use Rattle.fl_ring.specs.declared.shared.duo_board.Holder.{Holder}
 use Rattle.fl_ring.specs.declared.shared.duo_board.Opening.{Opening}
 use Rattle.fl_ring.specs.declared.shared.duo_board.DuoView.{DuoView}
@@ -253,17 +253,17 @@ SharedTakes s _ t = ⊥
 
 -- ---- several steps in a row
 
-abbrev pub side_with_part : Side → List ℕ → Side
+abbrev pub side_with_part : SideView → List ℕ → SideView
 side_with_part s words = record { put = with_part s.put words; take = s.take }
 
 -- this fragment is put, and all that was got is told
-abbrev pub side_with_frag : Side → Frag → Side
+abbrev pub side_with_frag : SideView → Frag → SideView
 side_with_frag s frag = record {
   put = with_frag s.put frag;
   take = record { got = s.take.got; part = s.take.part; last = s.take.last; peeked = s.take.peeked; misses = s.take.misses; told = length s.take.got };
 }
 
-abbrev pub side_with_words : Side → List ℕ → Side
+abbrev pub side_with_words : SideView → List ℕ → SideView
 side_with_words s words = record { put = s.put; take = with_words s.take words }
 
 -- ---- both sides in one hand again

@@ -63,7 +63,7 @@ frag_from words control = record { words = words; control = control }
 abbrev pub with_found : Writing → ℕ → Writing
 with_found w x = record { sent = w.sent; part = w.part ++ x ∷ []; known = w.known; loads = w.loads }
 
--- another number is stored into the payload word that was found last
+-- a number is stored in place of the payload word that was found last
 abbrev pub with_stored : Writing → ℕ → Writing
 with_stored w x = record { sent = w.sent; part = slice_set w.part (length w.part - 1) x; known = w.known; loads = w.loads }
 

@@ -33,7 +33,7 @@ impl fmt::Display for Figures {
 
 /// Where an argument begins in its message's payload: an offset in bytes, or `-` where that depends on the call.
 #[derive(Clone, Copy)]
-pub(crate) struct Place(pub Option<usize>);
+pub(crate) struct Offset(pub Option<usize>);
 
 /// What an argument takes: a fixed number of bytes, or at most so many bytes or elements.
 #[derive(Clone, Copy)]
@@ -60,7 +60,7 @@ impl Kind {
     }
 }
 
-impl fmt::Display for Place {
+impl fmt::Display for Offset {
     ghost output = { λ place. Some (place_text place.0) };
 
     fn fmt<W: fmt::Write>(&self, f: &mut fmt::Formatter<W>) -> fmt::Result {

@@ -6,7 +6,7 @@ ghost use Rattle.fl_interface.specs.Interface.{arg_type_of, message_of, interfac
 ghost use Rattle.fl_layout.specs.Leaves.{argument_types};
 ghost use Rattle.fl_show.specs.Table.{interface_line, message_line, argument_line, TellsEach, TellsArgument, TellsMessage, IsTable};
 
-use crate::row::{Figures, Kind, Place};
+use crate::row::{Figures, Kind, Offset};
 use fl_base::MsgNo;
 use fl_interface::{ArgType, Message};
 use fl_layout::{Plans, fragment_count};
@@ -133,13 +133,13 @@ fn put_argument(
 {
     let place = plans.place(msg, number);
     let kind = Kind::of(argument, plans.arg_size(msg, number));
-    put_row(alloc, number, Place(place), kind, table)
+    put_row(alloc, number, Offset(place), kind, table)
 }
 
 fn put_row(
     alloc: Global,
     number: usize,
-    place: Place,
+    place: Offset,
     kind: Kind,
     table: &mut Vec<u8>,
 ) -> Result<(), AllocError>

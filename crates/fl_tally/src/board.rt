@@ -57,4 +57,4 @@ impl TableRule<(), View, Plan> for Rule {
 
 pub(crate) type Board = Table<(), View, Plan, Rule, Global>;
 
-pub(crate) type Place = Seat<(), View>;
+pub(crate) type TallySeat = Seat<(), View>;

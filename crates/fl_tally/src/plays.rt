@@ -20,9 +20,9 @@ impl Play<(), View> for Stop {
 }
 
 /// The counter is loaded.
-pub(crate) struct Look;
+pub(crate) struct LoadCounter;
 
-impl Play<(), View> for Look {
+impl Play<(), View> for LoadCounter {
     ghost then = { looks };
 }
 

@@ -5,8 +5,8 @@ ghost use Rattle.fl_tally.specs.Tally.{added, opening_view, with_finish, with_st
 ghost use Rattle.fl_tally.specs.Tally.{with_heard, without_core, core_alone, both, MayTell, Agrees, number_of};
 ghost use Rattle.fl_tally.specs.Seats.{knowing};
 
-use crate::board::{Board, Place, Plan};
-use crate::plays::{Both, Cut, Finish, Hear, Look, Stop, Tell};
+use crate::board::{Board, TallySeat, Plan};
+use crate::plays::{Both, Cut, Finish, Hear, LoadCounter, Stop, Tell};
 use std::alloc::{AllocError, Global};
 use std::marker::Model;
 use std::sync::Arc;
@@ -18,7 +18,7 @@ pub const STOP: u64 = 17;
 #[derive(Drop)]
 pub struct EndSeat {
     table: Arc<Board, Global>,
-    seat: Place,
+    seat: TallySeat,
 }
 
 impl Model for EndSeat {
@@ -73,7 +73,7 @@ impl EndSeat {
         ensures least { added self.old.knows ≤ result }
         ensures exact { self.old.knows.seats ≡ self.old.knows.whole → result ≡ added self.old.knows }
     {
-        self.table.shared.load::<Look>(&mut self.seat, 0)
+        self.table.shared.load::<LoadCounter>(&mut self.seat, 0)
     }
 
     /// Tells the number with which the opening of a job of this seat's core was refused.

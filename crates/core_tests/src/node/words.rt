@@ -52,7 +52,7 @@ pub fn refused(number: u8) -> Word {
 struct Lane {
     waiting: Option<usize>,
     next: Option<Circuit>,
-    expected: Option<Circuit>,
+    next_due: Option<Circuit>,
 }
 
 /// What is compared of a core: how many ends it has, and which is due; and its first two links.
@@ -73,7 +73,7 @@ fn lane_of(core: &Core, link: LinkId) -> Lane {
     Lane {
         waiting: waiting(core, link),
         next: core.monitor().circuits().next(link),
-        expected: core.monitor().circuits().next_due(link),
+        next_due: core.monitor().circuits().next_due(link),
     }
 }
 

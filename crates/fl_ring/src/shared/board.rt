@@ -61,4 +61,4 @@ pub(crate) type Board = Table<(), View, usize, Rule, Global>;
 
 pub(crate) type Top = Shared<(), View, usize, Rule>;
 
-pub(crate) type Place = Seat<(), View>;
+pub(crate) type RingSeat = Seat<(), View>;

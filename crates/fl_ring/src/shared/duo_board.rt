@@ -6,7 +6,7 @@ use std::alloc::Global;
 
 /// What a side knows: of the way that it writes, and of the way that it reads. No value of it is
 /// made.
-pub struct Side {
+pub struct SideView {
     pub put: Writing,
     pub take: Reading,
 }
@@ -29,9 +29,9 @@ pub struct DuoView {
     pub size: u64,
     pub holder: Holder,
     /// What its side knows; side one, where it is both sides' seat.
-    pub mine: Side,
+    pub mine: SideView,
     /// What the other side knows, where it is both sides' seat.
-    pub theirs: Side,
+    pub theirs: SideView,
 }
 
 /// How a ring of two directions begins: its slots, and how many fragments have passed each way.
@@ -56,4 +56,4 @@ pub(crate) type DuoBoard = Table<(), DuoView, Opening, DuoRule, Global>;
 
 pub(crate) type DuoTop = Shared<(), DuoView, Opening, DuoRule>;
 
-pub(crate) type DuoPlace = Seat<(), DuoView>;
+pub(crate) type DuoSeat = Seat<(), DuoView>;

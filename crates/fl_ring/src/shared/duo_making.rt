@@ -9,7 +9,7 @@ ghost use Rattle.fl_ring.specs.SharedSides.{started_side, SidesNear};
 ghost use Rattle.fl_ring.specs.declared.shared.duo_board.Holder.TheVariants.{One, Two};
 
 use crate::fault::RingFault;
-use crate::shared::duo_board::{DuoBoard, DuoPlace, Opening};
+use crate::shared::duo_board::{DuoBoard, DuoSeat, Opening};
 use crate::shared::duo_plays::{Compare, Pair};
 use crate::shared::duo_sides::SharedSide;
 use fl_base::MAX_QUEUE;
@@ -83,7 +83,7 @@ fn mark(words: &mut Vec<u64>, size: usize, start: u64)
 fn sides_of(
     alloc: Global,
     table: DuoBoard,
-    mut seat: DuoPlace,
+    mut seat: DuoSeat,
     size: usize,
     start: u64,
 ) -> Result<(SharedSide, SharedSide), RingFault>

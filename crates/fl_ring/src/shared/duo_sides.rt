@@ -8,7 +8,7 @@ ghost use Rattle.fl_link.specs.Looks.{placed, no_room, spent, saw, saw_ack, foun
 ghost use Rattle.fl_ring.specs.SharedSeats.{front_seen};
 ghost use Rattle.fl_ring.specs.SharedSides.{SharedPuts, SharedTakes, Looked, free_of, untold_of, side_written, side_has_room};
 
-use crate::shared::duo_board::{DuoBoard, DuoPlace};
+use crate::shared::duo_board::{DuoBoard, DuoSeat};
 use crate::shared::duo_steps::{load_control, peek_frag, put_frag, take_frag};
 use crate::shared::sight::sight;
 use fl_base::Frag;
@@ -21,7 +21,7 @@ use std::sync::Arc;
 #[derive(Drop)]
 pub struct SharedSide {
     pub(crate) table: Arc<DuoBoard, Global>,
-    pub(crate) seat: DuoPlace,
+    pub(crate) seat: DuoSeat,
     // the first word of the slots that it writes, and of those that it reads
     pub(crate) base: usize,
     pub(crate) other: usize,

@@ -10,7 +10,7 @@ ghost use Rattle.fl_ring.specs.SharedDuo.{base_of, other_of, with_mine, side_fou
 ghost use Rattle.fl_ring.specs.SharedSides.{IsDuoSeated, side_with_part, side_with_frag, side_with_words, side_of_seat, SideSees, SideGets, SideMisses};
 
 use crate::counts::count_from;
-use crate::shared::duo_board::{DuoPlace, DuoTop};
+use crate::shared::duo_board::{DuoSeat, DuoTop};
 use crate::shared::duo_plays::{
     FindWord, LoadControl, LoadPeeked, LoadTaken, LoadWord, StoreControl, StoreWord,
 };
@@ -18,7 +18,8 @@ use fl_base::{Frag, epoch_of, told_of};
 
 // Sees to it that the next payload word of the next slot is this number. A store takes the word's
 // cache line for itself, so there is none where that number stands already, as zeros often do.
-fn store_word(top: &DuoTop, seat: &mut DuoPlace, word: usize, number: u64)
+#[inline(always)]
+fn store_word(top: &DuoTop, seat: &mut DuoSeat, word: usize, number: u64)
     requires seated { IsDuoSeated top.now.table_id top.now.key seat.old }
     requires word { IsNextWord word seat.old.me.0 }
     ensures table { seat.new.table_id ≡ seat.old.table_id }
@@ -32,7 +33,8 @@ fn store_word(top: &DuoTop, seat: &mut DuoPlace, word: usize, number: u64)
 }
 
 // Stores the payload words of the next fragment. Its slot begins at the word `first`.
-fn store_payload(top: &DuoTop, seat: &mut DuoPlace, first: usize, words: &[u64; 7])
+#[inline(always)]
+fn store_payload(top: &DuoTop, seat: &mut DuoSeat, first: usize, words: &[u64; 7])
     requires seated { IsDuoSeated top.now.table_id top.now.key seat.old }
     requires empty { seat.old.me.0.mine.put.part ≡ [] }
     requires room { length seat.old.me.0.mine.put.sent < seat.old.me.0.mine.put.known + seat.old.me.0.size }
@@ -47,7 +49,8 @@ fn store_payload(top: &DuoTop, seat: &mut DuoPlace, first: usize, words: &[u64; 
 
 // Stores a fragment into the next slot, its payload words first and its control word last. That
 // word tells how many fragments the side has got.
-pub(crate) fn put_frag(top: &DuoTop, seat: &mut DuoPlace, first: usize, frag: &Frag)
+#[inline(always)]
+pub(crate) fn put_frag(top: &DuoTop, seat: &mut DuoSeat, first: usize, frag: &Frag)
     requires seated { IsDuoSeated top.now.table_id top.now.key seat.old }
     requires empty { seat.old.me.0.mine.put.part ≡ [] }
     requires room { length seat.old.me.0.mine.put.sent < seat.old.me.0.mine.put.known + seat.old.me.0.size }
@@ -66,7 +69,7 @@ pub(crate) fn put_frag(top: &DuoTop, seat: &mut DuoPlace, first: usize, frag: &F
 // number becomes known; where it has the other, nothing does.
 pub(crate) fn load_control(
     top: &DuoTop,
-    seat: &mut DuoPlace,
+    seat: &mut DuoSeat,
     first: usize,
     due: u64,
     known: &mut u64,
@@ -93,7 +96,7 @@ pub(crate) fn load_control(
 }
 
 // Loads six payload words of the next fragment, whose control word has the epoch due.
-fn load_six(top: &DuoTop, seat: &mut DuoPlace, first: usize) -> [u64; 7]
+fn load_six(top: &DuoTop, seat: &mut DuoSeat, first: usize) -> [u64; 7]
     requires seated { IsDuoSeated top.now.table_id top.now.key seat.old }
     requires due { (seat.old.me.0.mine.take.part ≡ []) × IsDue seat.old.me.0.size seat.old.me.0.mine.take }
     requires first { first ≡ slot (other_of seat.old.me.0.holder seat.old.me.0.size) seat.old.me.0.size (length seat.old.me.0.mine.take.got) }
@@ -111,7 +114,7 @@ fn load_six(top: &DuoTop, seat: &mut DuoPlace, first: usize) -> [u64; 7]
 // The other direction's next fragment, which is left in its slot.
 pub(crate) fn peek_frag(
     top: &DuoTop,
-    seat: &mut DuoPlace,
+    seat: &mut DuoSeat,
     first: usize,
     due: u64,
     known: &mut u64,
@@ -134,7 +137,7 @@ pub(crate) fn peek_frag(
 // The other direction's next fragment, which is taken.
 pub(crate) fn take_frag(
     top: &DuoTop,
-    seat: &mut DuoPlace,
+    seat: &mut DuoSeat,
     first: usize,
     due: u64,
     known: &mut u64,

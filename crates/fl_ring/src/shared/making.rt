@@ -6,7 +6,7 @@ ghost use Rattle.fl_link.specs.Queue.{MayHave};
 ghost use Rattle.fl_ring.specs.SharedSeats.{new_sender, new_receiver, RingNear};
 
 use crate::fault::RingFault;
-use crate::shared::board::{Board, Place};
+use crate::shared::board::{Board, RingSeat};
 use crate::shared::plays::{Compare, Pair};
 use crate::shared::rx::RingRx;
 use crate::shared::tx::RingTx;
@@ -41,7 +41,7 @@ pub fn ring(alloc: Global, size: usize) -> Result<(RingTx, RingRx), RingFault>
 fn sides_of(
     alloc: Global,
     table: Board,
-    mut seat: Place,
+    mut seat: RingSeat,
     size: usize,
 ) -> Result<(RingTx, RingRx), RingFault>
     requires size { (0 < size) × (size ≤ 1024) }

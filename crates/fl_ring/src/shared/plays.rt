@@ -13,7 +13,7 @@ impl Play<(), View> for FindWord {
     ghost then = { finds_word };
 }
 
-/// The writer stores another number into the payload word that it has found last.
+/// The writer stores a number in place of the payload word that it has found last.
 pub(crate) struct StoreWord;
 
 impl Play<(), View> for StoreWord {

@@ -6,7 +6,7 @@ ghost use Rattle.fl_base.specs.Control.{is_ack_only};
 ghost use Rattle.fl_link.specs.Looks.{saw, saw_ack, found, found_ack, peeked, taken, tells};
 ghost use Rattle.fl_ring.specs.SharedSeats.{ReceiverTakes, front_seen, with_all_told};
 
-use crate::shared::board::{Board, Place};
+use crate::shared::board::{Board, RingSeat};
 use crate::shared::plays::StoreTold;
 use crate::shared::reads::{peek_frag, take_frag};
 use crate::shared::sight::sight;
@@ -20,7 +20,7 @@ use std::sync::Arc;
 #[derive(Drop)]
 pub struct RingRx {
     pub(crate) table: Arc<Board, Global>,
-    pub(crate) seat: Place,
+    pub(crate) seat: RingSeat,
     pub(crate) take: Cursor,
 }
 

@@ -6,7 +6,7 @@ ghost use Rattle.fl_link.specs.Cursor.{epoch_at};
 ghost use Rattle.fl_link.specs.Looks.{placed, no_room, spent};
 ghost use Rattle.fl_ring.specs.SharedSeats.{SenderGains, SenderPuts, sender_has_room};
 
-use crate::shared::board::{Board, Place};
+use crate::shared::board::{Board, RingSeat};
 use crate::shared::writes::{has_room, put_frag};
 use fl_base::Frag;
 use fl_link::{Cursor, PutFault, PutSide, SPENT};
@@ -18,7 +18,7 @@ use std::sync::Arc;
 #[derive(Drop)]
 pub struct RingTx {
     pub(crate) table: Arc<Board, Global>,
-    pub(crate) seat: Place,
+    pub(crate) seat: RingSeat,
     pub(crate) put: Cursor,
     // how many of its fragments it knows to be read and told
     pub(crate) known: u64,
@@ -43,7 +43,7 @@ impl RingTx {
     /// # Errors
     /// The side has put 2^62 fragments (E33). Else a look at the number told has shown that no slot is free
     /// (E30): nothing was put, and the side knows that number.
-    #[inline]
+    #[inline(always)]
     pub fn try_put(&mut self, frag: &Frag) -> Result<(), PutFault>
         ensures placed { OnOk result (SenderGains self.old (bare frag.now) self.new) }
         ensures full { result ≡ Err PutFault.Full → SenderPuts self.old no_room self.new }

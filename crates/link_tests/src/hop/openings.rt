@@ -54,7 +54,7 @@ pub enum Asked {
     HopOf(LinkId, Circuit, Option<Hop>),
     RouteOf(LinkId, Circuit, Option<Way>),
     Next(LinkId, Option<Circuit>),
-    Expected(LinkId, Option<Circuit>),
+    NextDue(LinkId, Option<Circuit>),
 }
 
 /// Asks a table, and says whether it answers so.
@@ -79,7 +79,7 @@ pub fn answers(circuits: &mut Circuits, asked: &Asked) -> bool {
         Asked::HopOf(link, circuit, hop) => circuits.hop_of(*link, *circuit) == *hop,
         Asked::RouteOf(link, circuit, way) => circuits.route_of(*link, *circuit) == *way,
         Asked::Next(link, circuit) => circuits.next(*link) == *circuit,
-        Asked::Expected(link, circuit) => circuits.next_due(*link) == *circuit,
+        Asked::NextDue(link, circuit) => circuits.next_due(*link) == *circuit,
     }
 }
 
@@ -139,7 +139,7 @@ pub const SCRIPTS: &[Script] = &[
             Step::AllGo(1),
             Step::One(Asked::Next(BACK, None)),
             Step::One(Asked::Open(BACK, 2_000, Err(HopFault::UsedUp))),
-            Step::Two(Asked::Expected(BACK, None)),
+            Step::Two(Asked::NextDue(BACK, None)),
             Step::Two(Asked::Refuse(BACK, Circuit(2_047), Err(HopFault::Astray))),
         ],
     },
@@ -151,7 +151,7 @@ pub const SCRIPTS: &[Script] = &[
             Step::AllGo(2),
             Step::One(Asked::Next(BACK, None)),
             Step::One(Asked::Open(BACK, 2_000, Err(HopFault::UsedUp))),
-            Step::Two(Asked::Expected(BACK, None)),
+            Step::Two(Asked::NextDue(BACK, None)),
             Step::Two(Asked::Refuse(BACK, Circuit(2_047), Err(HopFault::Astray))),
         ],
     },
@@ -203,7 +203,7 @@ pub const SCRIPTS: &[Script] = &[
         two: (1, &[0]),
         steps: &[
             Step::One(Asked::Open(BACK, 0, Ok(Circuit(1)))),
-            Step::Two(Asked::Expected(BACK, Some(Circuit(1)))),
+            Step::Two(Asked::NextDue(BACK, Some(Circuit(1)))),
             Step::Two(Asked::LinkTo(CoreId(2), None)),
             Step::Two(Asked::Refuse(BACK, Circuit(1), Ok(()))),
             Step::One(Asked::Remove(
@@ -212,7 +212,7 @@ pub const SCRIPTS: &[Script] = &[
                 Some(hop!(0, end!(0, Side::Client), false)),
             )),
             Step::One(Asked::Next(BACK, Some(Circuit(3)))),
-            Step::Two(Asked::Expected(BACK, Some(Circuit(3)))),
+            Step::Two(Asked::NextDue(BACK, Some(Circuit(3)))),
         ],
     },
     // an answer is taken once, for an opening of this core's own, and goes back to the entry's other side

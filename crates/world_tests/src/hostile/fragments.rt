@@ -137,13 +137,13 @@ fn rows_fail_an_end_for_good(rt: HostRuntime) -> Result<(), Fail> {
 
 // The fragments of which each control word and each byte is tried.
 #[derive(Clone, Copy)]
-enum Place {
+enum Position {
     Alone,
     First,
     Last,
 }
 
-const PLACES: &[Place] = &[Place::Alone, Place::First, Place::Last];
+const PLACES: &[Position] = &[Position::Alone, Position::First, Position::Last];
 
 // The bytes that each byte of a payload becomes: those at which something ends, and some between.
 const BYTES: &[u8] = &[
@@ -183,43 +183,43 @@ fn said_last(at: usize, to: u8) -> Said {
     }
 }
 
-impl Place {
+impl Position {
     fn name(self) -> &'static str {
         match self {
-            Place::Alone => "the only fragment",
-            Place::First => "the first fragment",
-            Place::Last => "the last fragment",
+            Position::Alone => "the only fragment",
+            Position::First => "the first fragment",
+            Position::Last => "the last fragment",
         }
     }
 
     fn text(self) -> &'static [u8] {
         match self {
-            Place::Alone => SHORT,
-            Place::First | Place::Last => BLOB,
+            Position::Alone => SHORT,
+            Position::First | Position::Last => BLOB,
         }
     }
 
     fn frag(self) -> Frag {
         match self {
-            Place::Alone => ALONE,
-            Place::First => FIRST,
-            Place::Last => LAST,
+            Position::Alone => ALONE,
+            Position::First => FIRST,
+            Position::Last => LAST,
         }
     }
 
     // The fragment before it in its call.
     fn before(self) -> Option<&'static Frag> {
         match self {
-            Place::Last => Some(&FIRST),
+            Position::Last => Some(&FIRST),
             _ => None,
         }
     }
 
     fn said_of_byte(self, at: usize, to: u8) -> Said {
         match self {
-            Place::Alone => said_alone(at, to),
-            Place::First => said_first(at, to),
-            Place::Last => said_last(at, to),
+            Position::Alone => said_alone(at, to),
+            Position::First => said_first(at, to),
+            Position::Last => said_last(at, to),
         }
     }
 
@@ -231,10 +231,10 @@ impl Place {
             return Said::Refused(63);
         }
         match (self, control / 65_536) {
-            (Place::Last, _) if is_first => Said::Refused(61),
-            (Place::Alone | Place::First, _) if !is_first => Said::Refused(60),
-            (Place::First, 0) => Said::Part,
-            (Place::First, 1) => Said::Refused(63),
+            (Position::Last, _) if is_first => Said::Refused(61),
+            (Position::Alone | Position::First, _) if !is_first => Said::Refused(60),
+            (Position::First, 0) => Said::Part,
+            (Position::First, 1) => Said::Refused(63),
             (_, 0) => Said::Whole,
             _ => Said::Refused(62),
         }
@@ -268,7 +268,7 @@ fn with_control(frag: &Frag, control: u64) -> Frag {
 fn is_byte_told(
     alloc: Global,
     program: &Program,
-    place: Place,
+    place: Position,
     at: usize,
     to: u8,
 ) -> Result<bool, AllocError> {
@@ -278,7 +278,7 @@ fn is_byte_told(
 }
 
 // Tells at which place a byte isn't answered as it should be.
-fn bytes_at(alloc: Global, program: &Program, place: Place, at: usize) -> Result<(), Fail> {
+fn bytes_at(alloc: Global, program: &Program, place: Position, at: usize) -> Result<(), Fail> {
     for to in BYTES {
         let to = *to;
         if !is_byte_told(alloc, program, place, at, to)? {
@@ -288,7 +288,7 @@ fn bytes_at(alloc: Global, program: &Program, place: Place, at: usize) -> Result
     Ok(())
 }
 
-fn each_byte(alloc: Global, place: Place, plan: PlanNo) -> Result<(), Fail> {
+fn each_byte(alloc: Global, place: Position, plan: PlanNo) -> Result<(), Fail> {
     let program = program(alloc, place.text(), plan)?;
     for at in 0..56 {
         bytes_at(alloc, &program, place, at)?;
@@ -308,7 +308,7 @@ fn each_byte_is_forged(rt: HostRuntime) -> Result<(), Fail> {
 fn is_control_told(
     alloc: Global,
     program: &Program,
-    place: Place,
+    place: Position,
     control: u64,
 ) -> Result<bool, AllocError> {
     let frag = with_control(&place.frag(), control);
@@ -317,7 +317,7 @@ fn is_control_told(
 }
 
 // Tells which control word with this bit and at most one more, of bits 0 to 47, isn't answered as it should be.
-fn controls_with(alloc: Global, program: &Program, place: Place, bit: u64) -> Result<(), Fail> {
+fn controls_with(alloc: Global, program: &Program, place: Position, bit: u64) -> Result<(), Fail> {
     let mut other = 1_u64;
     for _ in 0..48 {
         let control = bit | other;
@@ -329,7 +329,7 @@ fn controls_with(alloc: Global, program: &Program, place: Place, bit: u64) -> Re
     Ok(())
 }
 
-fn each_control(alloc: Global, place: Place) -> Result<(), Fail> {
+fn each_control(alloc: Global, place: Position) -> Result<(), Fail> {
     let program = program(alloc, place.text(), PlanNo::Two)?;
     let mut bit = 1_u64;
     for _ in 0..48 {
