@@ -2,6 +2,8 @@
 //!
 //! - `rig.rt`: cores with a binding, their jobs and their tickets
 //! - `runs.rt`: whole runs
+//! - `tallies.rt`: the counter and the words of jobs that the cores of a run share
 
 mod rig;
 mod runs;
+mod tallies;

@@ -17,8 +17,6 @@
 mod board;
 mod plays;
 mod seat;
-#[cfg(test)]
-mod tests;
 
 pub use board::{Plan, Refusal};
 pub use seat::{EndSeat, STOP};

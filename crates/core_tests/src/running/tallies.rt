@@ -1,6 +1,6 @@
-//! A run of two cores in one thread: what one tells the others find.
+//! The counter and the words of jobs of a run of two cores, in one thread: what one tells the others find.
 
-use crate::{EndSeat, Plan};
+use fl_tally::{EndSeat, Plan};
 use std::alloc::AllocError;
 
 #[test]
