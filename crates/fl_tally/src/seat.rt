@@ -5,7 +5,7 @@ ghost use Rattle.fl_tally.specs.Tally.{added, opening_view, with_finish, with_st
 ghost use Rattle.fl_tally.specs.Tally.{with_heard, without_core, core_alone, both, MayTell, Agrees, number_of};
 ghost use Rattle.fl_tally.specs.Seats.{knowing};
 
-use crate::board::{Board, TallySeat, Plan};
+use crate::board::{Board, Plan, TallySeat};
 use crate::plays::{Both, Cut, Finish, Hear, LoadCounter, Stop, Tell};
 use std::alloc::{AllocError, Global};
 use std::marker::Model;
