@@ -6,11 +6,11 @@ use Rattle.fl_machine.specs.Receiving.{stored_of}
 use Rattle.fl_machine.proofs.Storing.{room_for, gone_over, within_tape, moved_stored, moved_receiving, moved_room}
 use Rattle.fl_machine.proofs.recv.Stored.make_room.Goals as goal
 
-pub returns-then-count-le56-clause-room : goal.returns-then-count-le56-clause-room
-returns-then-count-le56-clause-room c =
+pub returns-then-count-le-FRAG_BYTES-clause-room : goal.returns-then-count-le-FRAG_BYTES-clause-room
+returns-then-count-le-FRAG_BYTES-clause-room c =
     let b = c.args.self.now.now.value in
     let counts : c.count-count.result ≡ b.intake.count = c.count-count.ensures ∙ ap (λ (d : Begun). d.intake.count) c.deref.ensures in
-    room_for (program_of c.args.program.now) b.intake.count _ (omega (arith, counts, c.if-count-le56.true)) c.requires.stored.tape
+    room_for (program_of c.args.program.now) b.intake.count _ (omega (arith, counts, c.if-count-le-FRAG_BYTES.true)) c.requires.stored.tape
 
 pub go_over-requires : goal.go_over-requires
 go_over-requires c =
@@ -42,7 +42,7 @@ returns-clause-stored c =
     let f = c.go_over-2.ensures in
     let moved = gone_over p.plan i b.intake.count c.count-count.result s c.go_over.new.tape.items c.go_over.new.other.items c.go_over-2.new.tape.items c.go_over-2.new.other.items counts
     c.requires.stored e.kept e.longest e.other f.kept f.longest f.other in
-    moved_stored p.plan i s b _ _ _ c.requires.inside (omega (arith, counts, c.if-count-le56.false)) moved c.requires.stored
+    moved_stored p.plan i s b _ _ _ c.requires.inside (omega (arith, counts, c.if-count-le-FRAG_BYTES.false)) moved c.requires.stored
 
 pub returns-clause-same : goal.returns-clause-same
 returns-clause-same c =
@@ -55,7 +55,7 @@ returns-clause-same c =
     let f = c.go_over-2.ensures in
     let moved = gone_over p.plan i b.intake.count c.count-count.result s c.go_over.new.tape.items c.go_over.new.other.items c.go_over-2.new.tape.items c.go_over-2.new.other.items counts
     c.requires.stored e.kept e.longest e.other f.kept f.longest f.other in
-    moved_receiving p s b _ _ _ c.requires.inside (omega (arith, counts, c.if-count-le56.false)) moved c.requires.stored
+    moved_receiving p s b _ _ _ c.requires.inside (omega (arith, counts, c.if-count-le-FRAG_BYTES.false)) moved c.requires.stored
 
 pub returns-clause-room : goal.returns-clause-room
 returns-clause-room c =
