@@ -116,3 +116,6 @@ print_values-returns t c = record {
   printed = all_done c.loop-index.index c.args.values.now c.args.out.now.items c.loop-index.out.items (printed_values (data_from (map datum_of c.args.values.now))) c.loop-index-test.false c.loop-index.invariant;
   begun = tt;
 }
+
+pub print_values-loop-index-init : goal.print_values-loop-index-init
+print_values-loop-index-init t c = all_left c.args.out.now.items (printed_values (data_from (map datum_of c.args.values.now)))
