@@ -15,3 +15,4 @@ pub mod Kept
 pub mod Spans
 pub mod Untaped
 pub mod Numbers
+pub mod Each

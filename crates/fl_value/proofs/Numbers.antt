@@ -12,6 +12,9 @@ use Rattle.fl_value.specs.Tape.{elements_tape}
 pub number_seen : (z : ℤ) → datum_of (Int z) ≡ number z
 number_seen z = search (rules, the_lemmas, fold_out-Value Datum datum_step)
 
+pub number_back : (w z : ℤ) → w ≡ z → number z ≡ datum_of (Int w)
+number_back w z e = sym (number_seen w ∙ ap number e)
+
 -- one more behind those that stand
 pub number_pushed : (xs ys : List Value) (w z : ℤ) → ys ≡ xs ++ Int w ∷ [] → w ≡ z → map datum_of ys ≡ map datum_of xs ++ number z ∷ []
 number_pushed xs ys w z e f =

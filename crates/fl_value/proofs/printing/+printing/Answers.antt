@@ -1,8 +1,15 @@
-use Rattle.std.proofs.Common.{◌≡◌, ◌≤◌, ◌+◌, ℕ, zero, suc, List, [], ◌∷◌, ◌++◌, length, map, drop, refl, ap, sym, subst, ◌∙◌, append_assoc, arith}
+use Rattle.std.proofs.Common.{◌≡◌, ◌≤◌, ◌+◌, ℕ, zero, suc, List, [], ◌∷◌, ◌++◌, length, map, drop, eqb, refl, ap, sym, subst, ◌∙◌, append_assoc, append-nil, arith, rules}
+use Rattle.std.specs.Prelude.{Result, Ok, Err, OnOk, OnErr}
+use Rattle.std.proofs.lemmas.Bool.{cond-false, ne_eqb}
+use Rattle.std.proofs.lemmas.Int.{to_z-of_z}
+use mir.Syntax.{w128}
+use mir.Val.{SFits}
 use Rattle.std.proofs.lemmas.Bool.Decides.{nat_tests}
 use Rattle.std.proofs.lemmas.List.{drop_all}
 use Rattle.fl_value.specs.declared.value.Value.{Value}
-use Rattle.fl_value.specs.Value.{Datum, Data, datum_of, data_from, nothing_more, also}
+use Rattle.fl_value.specs.declared.value.Value.TheViews.{the_lemmas}
+use Rattle.fl_value.specs.declared.value.Value.TheFolds.{fold_out-Value}
+use Rattle.fl_value.specs.Value.{Datum, number, elements, fields, Data, datum_step, datum_of, data_from, nothing_more, also}
 use Rattle.fl_value.specs.Printed.{printed_value, printed_values, separator, BeginsToAppend}
 use Rattle.fl_value.proofs.Begun.{IsLeft, one_piece_less, none_left, all_left, begun_left, begun_piece, not_begun, on_refusal}
 use Rattle.fl_value.proofs.Prints.{printed_from}
@@ -116,3 +123,72 @@ print_values-returns t c = record {
   printed = all_done c.loop-index.index c.args.values.now c.args.out.now.items c.loop-index.out.items (printed_values (data_from (map datum_of c.args.values.now))) c.loop-index-test.false c.loop-index.invariant;
   begun = tt;
 }
+
+pub print_values-loop-index-init : goal.print_values-loop-index-init
+print_values-loop-index-init t c = all_left c.args.out.now.items (printed_values (data_from (map datum_of c.args.values.now)))
+
+-- an append behind another
+printed_behind : {T E : Type 0} (r : Result T E) (old out new piece rest : List ℕ) → out ≡ old ++ piece → OnOk r (new ≡ out ++ rest) → OnOk r (new ≡ old ++ (piece ++ rest))
+printed_behind (Ok x) old out new piece rest first second = second ∙ ap (λ (xs : List ℕ). xs ++ rest) first ∙ append_assoc old piece rest
+printed_behind (Err e) old out new piece rest first second = tt
+
+begun_behind : {T E : Type 0} (r : Result T E) (old out new piece rest : List ℕ) → out ≡ old ++ piece → OnErr r (BeginsToAppend out new rest) → OnErr r (BeginsToAppend old new (piece ++ rest))
+begun_behind (Ok x) old out new piece rest first begun = tt
+begun_behind (Err e) old out new piece rest first begun = begun_piece old out new (piece ++ rest) rest rest [] (piece, refl, first) (sym (append-nil rest)) begun
+
+pub print_item-returns : goal.print_item-returns
+print_item-returns t c =
+    let old = c.args.out.now.items in
+    let out = c.print_separator.new.out.items in
+    let piece = separator c.args.index in
+    let rest = printed_value (datum_of c.args.value.now) in
+    record {
+      printed = printed_behind c.print_value.result old out c.print_value.new.out.items piece rest c.in_ok-print_separator.ensures.printed c.print_value.ensures.printed;
+      begun = begun_behind c.print_value.result old out c.print_value.new.out.items piece rest c.in_ok-print_separator.ensures.printed c.print_value.ensures.begun;
+    }
+
+pub print_item-returns-in-Some : goal.print_item-returns-in-Some
+print_item-returns-in-Some t c =
+    let old = c.args.out.now.items in
+    let new = c.print_next_digit.new.out.items in
+    let value = printed_value (datum_of c.args.value.now) in
+    let apart : separator c.args.index ≡ 44 ∷ 32 ∷ [] = cond-false (eqb c.args.index 0) [] (44 ∷ 32 ∷ []) (ne_eqb c.args.index 0 c.if-index-ne0.true) in
+    let whole = sym (ap (λ (xs : List ℕ). xs ++ value) apart ∙ ap (λ (xs : List ℕ). 44 ∷ 32 ∷ xs) c.in-Some.ensures.same) in
+    record {
+      printed = subst (λ (text : List ℕ). OnOk c.print_next_digit.result (new ≡ old ++ text)) whole c.print_next_digit.ensures.printed;
+      begun = subst (λ (text : List ℕ). OnErr c.print_next_digit.result (BeginsToAppend old new text)) whole c.print_next_digit.ensures.begun;
+    }
+
+pub print_value-returns-in-Int : goal.print_value-returns-in-Int
+print_value-returns-in-Int t c =
+    let old = c.args.out.now.items in
+    let new = c.print_number.new.out.items in
+    let fits : SFits w128 c.in-Int.number = search rules in
+    let seen : number c.in-Int.number ≡ datum_of c.args.value.now = search (rules, the_lemmas, fold_out-Value Datum datum_step) in
+    let all = ap number (to_z-of_z w128 c.in-Int.number fits) ∙ seen in
+    record {
+      printed = subst (λ (d : Datum). OnOk c.print_number.result (new ≡ old ++ printed_value d)) all c.print_number.ensures.printed;
+      begun = subst (λ (d : Datum). OnErr c.print_number.result (BeginsToAppend old new (printed_value d))) all c.print_number.ensures.begun;
+    }
+
+pub print_value-returns-in-List : goal.print_value-returns-in-List
+print_value-returns-in-List t c =
+    let old = c.args.out.now.items in
+    let new = c.print_nested.new.out.items in
+    let seen : elements (data_from (map datum_of c.in-List.values.items)) ≡ datum_of c.args.value.now = search (rules, the_lemmas, fold_out-Value Datum datum_step) in
+    let all = ap (λ (vs : List Value). elements (data_from (map datum_of vs))) c.deref-in-List.ensures.value ∙ seen in
+    record {
+      printed = subst (λ (d : Datum). OnOk c.print_nested.result (new ≡ old ++ printed_value d)) all c.print_nested.ensures.printed;
+      begun = subst (λ (d : Datum). OnErr c.print_nested.result (BeginsToAppend old new (printed_value d))) all c.print_nested.ensures.begun;
+    }
+
+pub print_value-returns-in-Fields : goal.print_value-returns-in-Fields
+print_value-returns-in-Fields t c =
+    let old = c.args.out.now.items in
+    let new = c.print_nested-in-Fields.new.out.items in
+    let seen : fields (data_from (map datum_of c.in-Fields.values.items)) ≡ datum_of c.args.value.now = search (rules, the_lemmas, fold_out-Value Datum datum_step) in
+    let all = ap (λ (vs : List Value). fields (data_from (map datum_of vs))) c.deref-in-Fields.ensures.value ∙ seen in
+    record {
+      printed = subst (λ (d : Datum). OnOk c.print_nested-in-Fields.result (new ≡ old ++ printed_value d)) all c.print_nested-in-Fields.ensures.printed;
+      begun = subst (λ (d : Datum). OnErr c.print_nested-in-Fields.result (BeginsToAppend old new (printed_value d))) all c.print_nested-in-Fields.ensures.begun;
+    }

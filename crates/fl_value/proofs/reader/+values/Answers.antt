@@ -1,13 +1,15 @@
-use Rattle.std.proofs.Common.{rules, pos, ℤ, [], ◌∷◌, ◌++◌, ◌≡◌, ◌≤◌, ◌-◌, map, arith, refl, ap, sym, subst, ◌∙◌}
+use Rattle.std.proofs.Common.{rules, pos, ℕ, ℤ, List, [], ◌∷◌, ◌++◌, ◌≡◌, ◌≤◌, ◌-◌, map, arith, refl, ap, sym, subst, ◌∙◌}
 use Rattle.std.proofs.lemmas.Int.{to_z-of_z}
 use mir.Syntax.{w128}
 use mir.Val.{SFits}
 use Rattle.std.proofs.lemmas.Result.{err_from_is_err_and}
-use Rattle.fl_value.specs.declared.value.Value.TheVariants.{Int}
+use Rattle.fl_value.specs.declared.value.Value.{Value}
+use Rattle.fl_value.specs.declared.value.Value.TheVariants.{Int, Text, List as ListOf, Fields}
 use Rattle.fl_value.specs.declared.value.Value.TheViews.{the_lemmas}
 use Rattle.fl_value.specs.declared.value.Value.TheFolds.{fold_out-Value}
-use Rattle.fl_value.specs.Value.{Datum, number, datum_step, datum_of, data_from}
-use Rattle.fl_value.specs.CallText.{SpellsValue, SpellsValues, a_number, a_text, depth_of, greatest_depth}
+use Rattle.fl_value.specs.Value.{Datum, number, string, elements, fields, datum_step, datum_of, data_from}
+use Rattle.fl_value.specs.CallText.{SpellsValue, SpellsValues, Listed, Token, a_number, a_text, a_mark, depth_of, greatest_depth}
+use Rattle.fl_value.proofs.Numbers.{number_back}
 use Rattle.fl_value.proofs.Once.{token_shorter, differ}
 use Rattle.fl_value.proofs.Nested.{Commas, values_last, depth_last, commas_more, commas_end, no_value, no_mark, refuse_weaker, no_kind, not_enclosed, other_opened, not_inside}
 use Rattle.fl_value.proofs.reader.+values.Goals as goal
@@ -104,3 +106,120 @@ push_value-returns-clause-found t c =
       shallow = subst (λ (d : Datum). depth_of d ≤ c.args.depth) (sym seen) (omega arith);
       shorter = token_shorter (a_number (pos c.in-Some.number)) c.args.bytes.now c.in-Some.rest.now found;
     }
+
+-- no values yet
+no_commas : (values : List Value) (bytes : List ℕ) → values ≡ [] → Commas (data_from (map datum_of values)) bytes bytes
+no_commas values bytes none = subst (λ (vs : List Value). Commas (data_from (map datum_of vs)) bytes bytes) (sym none) refl
+
+not_deep : (values : List Value) (depth : ℕ) → values ≡ [] → greatest_depth (data_from (map datum_of values)) ≤ depth
+not_deep values depth none = subst (λ (vs : List Value). greatest_depth (data_from (map datum_of vs)) ≤ depth) (sym none) (omega arith)
+
+closed_at_once : (closing : ℕ) (values : List Value) (bytes rest : List ℕ) → values ≡ [] → Token (a_mark closing) bytes rest → Listed closing (data_from (map datum_of values)) bytes rest
+closed_at_once closing values bytes rest none t = subst (λ (vs : List Value). Listed closing (data_from (map datum_of vs)) bytes rest) (sym none) (bytes, refl, t)
+
+pub push_any-returns-clause-found : goal.push_any-returns-clause-found
+push_any-returns-clause-found t c = record {
+  value = c.in_ok-value.value;
+  items = c.in_ok-push.ensures.items;
+  spelled = c.in_ok-value.ensures.found;
+  shallow = c.in_ok-value.ensures.shallow;
+  shorter = c.in_ok-value.ensures.shorter;
+}
+
+pub push_any-returns-in_err-value-clause-fault : goal.push_any-returns-in_err-value-clause-fault
+push_any-returns-in_err-value-clause-fault t c =
+    let p = err_from_is_err_and c.from_residual.result c.from_residual.ensures.1 in
+    rw (p.1, p.2) c.in_err-value.ensures.fault
+
+pub push_value-returns-in-Ok-clause-found : goal.push_value-returns-in-Ok-clause-found
+push_value-returns-in-Ok-clause-found t c = c.in-Ok.ensures.found
+
+pub push_value-returns-in-Err-clause-fault : goal.push_value-returns-in-Err-clause-fault
+push_value-returns-in-Err-clause-fault t c = c.in-Err.ensures.fault
+
+pub read_nested-returns-clause-found : goal.read_nested-returns-clause-found
+read_nested-returns-clause-found t c =
+    let (last, values, closed) = c.in_ok-found.ensures.found in
+    (c.in-Some.inside.now, last, c.in-Some.ensures.found, values, closed)
+
+pub read_nested-returns-clause-shallow : goal.read_nested-returns-clause-shallow
+read_nested-returns-clause-shallow t c = omega (arith, c.in_ok-found.ensures.shallow)
+
+pub read_nested-returns-clause-shorter : goal.read_nested-returns-clause-shorter
+read_nested-returns-clause-shorter t c = omega (arith, c.in_ok-found.ensures.shorter, c.in-Some.ensures.shorter)
+
+pub read_value-returns-in-Some-clause-found : goal.read_value-returns-in-Some-clause-found
+read_value-returns-in-Some-clause-found t c =
+    let fits : SFits w128 c.in-Some.number = search rules in
+    subst (λ (d : Datum). SpellsValue d c.args.bytes.now c.in-Some.rest.now) (number_back _ c.in-Some.number (to_z-of_z w128 c.in-Some.number fits)) c.in-Some.ensures.found
+
+pub read_value-returns-in-Some-clause-shallow : goal.read_value-returns-in-Some-clause-shallow
+read_value-returns-in-Some-clause-shallow t c =
+    let fits : SFits w128 c.in-Some.number = search rules in
+    subst (λ (d : Datum). depth_of d ≤ c.args.depth) (number_back _ c.in-Some.number (to_z-of_z w128 c.in-Some.number fits)) (omega arith)
+
+pub read_value-returns-in-Some-clause-shorter : goal.read_value-returns-in-Some-clause-shorter
+read_value-returns-in-Some-clause-shorter t c = token_shorter (a_number c.in-Some.number) c.args.bytes.now c.in-Some.rest.now c.in-Some.ensures.found
+
+pub read_value-returns-in-Some-2-clause-found : goal.read_value-returns-in-Some-2-clause-found
+read_value-returns-in-Some-2-clause-found t c =
+    let seen : string c.in-Some-2.text.items ≡ datum_of (Text c.in-Some-2.text) = search (rules, the_lemmas, fold_out-Value Datum datum_step) in
+    let found = rw c.in-Some-2.is at c.in_ok-text.ensures.found in
+    subst (λ (d : Datum). SpellsValue d c.args.bytes.now c.in-Some-2.rest.now) seen found
+
+pub read_value-returns-in-Some-2-clause-shallow : goal.read_value-returns-in-Some-2-clause-shallow
+read_value-returns-in-Some-2-clause-shallow t c =
+    let seen : string c.in-Some-2.text.items ≡ datum_of (Text c.in-Some-2.text) = search (rules, the_lemmas, fold_out-Value Datum datum_step) in
+    subst (λ (d : Datum). depth_of d ≤ c.args.depth) seen (omega arith)
+
+pub read_value-returns-in-Some-3-clause-found : goal.read_value-returns-in-Some-3-clause-found
+read_value-returns-in-Some-3-clause-found t c =
+    let seen : elements (data_from (map datum_of c.in-Some-3.values.items)) ≡ datum_of (ListOf c.in-Some-3.values) = search (rules, the_lemmas, fold_out-Value Datum datum_step) in
+    let found = rw c.in-Some-3.is at c.in_ok-values.ensures.found in
+    subst (λ (d : Datum). SpellsValue d c.args.bytes.now c.in-Some-3.rest.now) seen found
+
+pub read_value-returns-in-Some-3-clause-shallow : goal.read_value-returns-in-Some-3-clause-shallow
+read_value-returns-in-Some-3-clause-shallow t c =
+    let seen : elements (data_from (map datum_of c.in-Some-3.values.items)) ≡ datum_of (ListOf c.in-Some-3.values) = search (rules, the_lemmas, fold_out-Value Datum datum_step) in
+    let shallow = rw c.in-Some-3.is at c.in_ok-values.ensures.shallow in
+    subst (λ (d : Datum). depth_of d ≤ c.args.depth) seen shallow
+
+pub read_value-returns-in-Some-3-clause-shorter : goal.read_value-returns-in-Some-3-clause-shorter
+read_value-returns-in-Some-3-clause-shorter t c = let shorter = rw c.in-Some-3.is at c.in_ok-values.ensures.shorter in shorter
+
+pub read_value-returns-in-Some-4-clause-found : goal.read_value-returns-in-Some-4-clause-found
+read_value-returns-in-Some-4-clause-found t c =
+    let seen : fields (data_from (map datum_of c.in-Some-4.values.items)) ≡ datum_of (Fields c.in-Some-4.values) = search (rules, the_lemmas, fold_out-Value Datum datum_step) in
+    let found = rw c.in-Some-4.is at c.in_ok-values-2.ensures.found in
+    subst (λ (d : Datum). SpellsValue d c.args.bytes.now c.in-Some-4.rest.now) seen found
+
+pub read_value-returns-in-Some-4-clause-shallow : goal.read_value-returns-in-Some-4-clause-shallow
+read_value-returns-in-Some-4-clause-shallow t c =
+    let seen : fields (data_from (map datum_of c.in-Some-4.values.items)) ≡ datum_of (Fields c.in-Some-4.values) = search (rules, the_lemmas, fold_out-Value Datum datum_step) in
+    let shallow = rw c.in-Some-4.is at c.in_ok-values-2.ensures.shallow in
+    subst (λ (d : Datum). depth_of d ≤ c.args.depth) seen shallow
+
+pub read_value-returns-in-Some-4-clause-shorter : goal.read_value-returns-in-Some-4-clause-shorter
+read_value-returns-in-Some-4-clause-shorter t c = let shorter = rw c.in-Some-4.is at c.in_ok-values-2.ensures.shorter in shorter
+
+pub read_values-loop-values-init : goal.read_values-loop-values-init
+read_values-loop-values-init t c =
+    let none = c.in_ok-reserve.ensures.items ∙ c.clear.ensures.items in
+    record {
+      before = no_commas c.reserve.new.self.items c.args.bytes.now none;
+      shallow = not_deep c.reserve.new.self.items c.args.depth none;
+      near = omega arith;
+      unclosed = c.in_default.ensures.none;
+    }
+
+pub read_values-returns-in-Some-clause-found : goal.read_values-returns-in-Some-clause-found
+read_values-returns-in-Some-clause-found t c = closed_at_once c.args.closing c.clear.new.self.items c.args.bytes.now c.in-Some.rest.now c.clear.ensures.items c.in-Some.ensures.found
+
+pub read_values-returns-in-Some-clause-shallow : goal.read_values-returns-in-Some-clause-shallow
+read_values-returns-in-Some-clause-shallow t c = not_deep c.clear.new.self.items c.args.depth c.clear.ensures.items
+
+pub read_values-returns-in_default-read_mark-clause-shorter : goal.read_values-returns-in_default-read_mark-clause-shorter
+read_values-returns-in_default-read_mark-clause-shorter t c = omega (arith, c.loop-values.invariant.near, c.in_ok-after.ensures.found.shorter, c.in-Some-read_mark-2.ensures.shorter)
+
+pub read_values-loop-values-smaller : goal.read_values-loop-values-smaller
+read_values-loop-values-smaller t c = omega (arith, c.in_ok-after.ensures.found.shorter, c.in-Some-read_mark.ensures.shorter)

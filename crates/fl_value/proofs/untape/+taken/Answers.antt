@@ -3,18 +3,18 @@ use Rattle.std.proofs.lemmas.Grind.{replicate_next}
 use Rattle.std.proofs.lemmas.List.{take_all}
 use Rattle.std.proofs.lemmas.Int.{to_z-of_z}
 use mir.Syntax.{w128}
-use mir.Val.{SFits}
+use mir.Val.{SFits, to_z, of_z}
 use Rattle.fl_interface.specs.declared.interface.FixedType.{FixedType}
 use Rattle.fl_interface.specs.declared.interface.FixedType.TheViews.{the_lemmas as type_lemmas}
 use Rattle.fl_interface.specs.declared.interface.FixedType.TheFolds.{fold-roll-FixedType, fold_out-FixedType}
 use Rattle.fl_value.specs.declared.value.Value.TheViews.{the_lemmas as value_lemmas}
 use Rattle.fl_value.specs.declared.value.Value.TheFolds.{fold_out-Value}
-use Rattle.fl_interface.specs.Interface.{TheType, type_step, type_of, scalar, structure, array, fields_from}
+use Rattle.fl_interface.specs.Interface.{TheType, type_step, type_of, scalar, enumeration, structure, array, fields_from}
 use Rattle.fl_value.specs.Value.{Datum, datum_step, datum_of, data_from, number, fields, elements}
-use Rattle.fl_value.specs.declared.value.Value.TheVariants.{Fields, List as ListOf}
+use Rattle.fl_value.specs.declared.value.Value.TheVariants.{Int, Fields, List as ListOf}
 use Rattle.fl_value.specs.Taken.{ValueAt, InTurn, TheOne, NoneOf}
 use Rattle.fl_value.proofs.Turns.{start_at, one_more, none_more, map_pushed, map_taken, map_around, replicate_around, struct_one, struct_none, array_one, array_none}
-use Rattle.fl_value.proofs.Numbers.{number_pushed}
+use Rattle.fl_value.proofs.Numbers.{number_pushed, number_back}
 use Rattle.fl_value.proofs.untape.+taken.Goals as goal
 
 pub read_fields-loop-field-preserved : goal.read_fields-loop-field-preserved
@@ -127,3 +127,42 @@ pub read_elements-returns-clause-found : goal.read_elements-returns-clause-found
 read_elements-returns-clause-found t c =
     let all : c.loop-done.done ≡ c.args.count = omega arith in
     subst (λ (n : ℕ). TheOne (InTurn ValueAt (replicate n (type_of c.args.element.now)) c.args.tape.now) (map datum_of c.loop-done.values.items) c.loop-done.rest.now) all c.loop-done.invariant
+
+pub read_value-returns-in-Some-clause-found : goal.read_value-returns-in-Some-clause-found
+read_value-returns-in-Some-clause-found t c =
+    let number = c.in-Some.number in
+    let is : scalar c.in-Scalar.scalar ≡ type_of c.args.fixed.now = search (rules, type_lemmas, fold-roll-FixedType TheType type_step, fold_out-FixedType TheType type_step) in
+    let fits : SFits w128 number = search rules in
+    subst (λ (u : TheType). TheOne (ValueAt u c.args.tape.now) (datum_of (Int (to_z w128 (of_z w128 number)))) c.in-Some.rest.now) is
+    (subst (λ (d : Datum). TheOne (ValueAt (scalar c.in-Scalar.scalar) c.args.tape.now) d c.in-Some.rest.now) (number_back _ number (to_z-of_z w128 number fits)) c.in-Some.ensures.found)
+
+pub read_value-returns-in_default-clause-none : goal.read_value-returns-in_default-clause-none
+read_value-returns-in_default-clause-none t c =
+    let is : scalar c.in-Scalar.scalar ≡ type_of c.args.fixed.now = search (rules, type_lemmas, fold-roll-FixedType TheType type_step, fold_out-FixedType TheType type_step) in
+    subst (λ (u : TheType). NoneOf (ValueAt u c.args.tape.now)) is c.in_default.ensures.none
+
+pub read_value-returns-in-Some-read_enumerator-clause-found : goal.read_value-returns-in-Some-read_enumerator-clause-found
+read_value-returns-in-Some-read_enumerator-clause-found t c =
+    let number = c.in-Some-read_enumerator.number in
+    let rest = c.in-Some-read_enumerator.rest.now in
+    let is : enumeration c.in-Enumeration.count ≡ type_of c.args.fixed.now = search (rules, type_lemmas, fold-roll-FixedType TheType type_step, fold_out-FixedType TheType type_step) in
+    let fits : SFits w128 number = search rules in
+    subst (λ (u : TheType). TheOne (ValueAt u c.args.tape.now) (datum_of (Int (to_z w128 (of_z w128 number)))) rest) is
+    (subst (λ (d : Datum). TheOne (ValueAt (enumeration c.in-Enumeration.count) c.args.tape.now) d rest) (number_back _ number (to_z-of_z w128 number fits)) c.in-Some-read_enumerator.ensures.found)
+
+pub read_value-returns-in_default-read_enumerator-clause-none : goal.read_value-returns-in_default-read_enumerator-clause-none
+read_value-returns-in_default-read_enumerator-clause-none t c =
+    let is : enumeration c.in-Enumeration.count ≡ type_of c.args.fixed.now = search (rules, type_lemmas, fold-roll-FixedType TheType type_step, fold_out-FixedType TheType type_step) in
+    subst (λ (u : TheType). NoneOf (ValueAt u c.args.tape.now)) is c.in_default-read_enumerator.ensures.none
+
+pub read_elements-returns-in-Scalar-clause-found : goal.read_elements-returns-in-Scalar-clause-found
+read_elements-returns-in-Scalar-clause-found t c =
+    let is : scalar c.in-Scalar.kind ≡ type_of c.args.element.now = search (rules, type_lemmas, fold-roll-FixedType TheType type_step, fold_out-FixedType TheType type_step) in
+    let found = rw is at c.read_scalars.ensures.found in
+    found
+
+pub read_elements-returns-in-Scalar-clause-none : goal.read_elements-returns-in-Scalar-clause-none
+read_elements-returns-in-Scalar-clause-none t c =
+    let is : scalar c.in-Scalar.kind ≡ type_of c.args.element.now = search (rules, type_lemmas, fold-roll-FixedType TheType type_step, fold_out-FixedType TheType type_step) in
+    let none = rw is at c.read_scalars.ensures.none in
+    none
