@@ -1,5 +1,6 @@
 -- Steps in a row at a seat of a ring of two directions over shared words.
-use Rattle.std.proofs.Common.{ℕ, ◌≡◌, ◌<◌, ◌≤◌, ◌+◌, ◌-◌, ◌%◌, ◌^◌, List, [], ◌∷◌, ◌++◌, length, take, set, ap, subst, ◌∙◌, sym, arith, Some, None, Bool, cond, eq-eqb, ne_eqb, ◌≢◌}
+use Rattle.std.proofs.Common.{ℕ, ◌≡◌, ◌<◌, ◌≤◌, ◌+◌, ◌%◌, ◌^◌, List, [], ◌∷◌, ◌++◌, length, take, set, ap, subst, ◌∙◌, sym, arith, Some, None, Bool, cond}
+use Rattle.std.proofs.Common.{eq-eqb, ne_eqb, ◌≢◌}
 use Rattle.std.proofs.lemmas.List.{length-take-le, length_push}
 use mathlib.Core.Option.{none}
 use Rattle.atomic_table.specs.Table.{Me, step, Allows}
@@ -12,11 +13,13 @@ use Rattle.fl_ring.specs.declared.shared.duo_board.SideView.{SideView}
 use Rattle.fl_ring.specs.declared.shared.duo_board.DuoView.{DuoView}
 use Rattle.fl_ring.specs.Way.{slot}
 use Rattle.fl_ring.specs.SharedWay.{IsDue, loaded_frag, frag_from, misses_after}
-use Rattle.fl_ring.specs.SharedDuo.{DuoHolds, IsOneSide, base_of, other_of, with_mine, side_found, side_stored, side_put, side_control, side_loaded, side_peeked, side_got, known_by, HasSlot, IsNextWord, duo_stores_word, duo_stores_control, duo_loads_word, duo_loads_peeked, duo_loads_taken}
+use Rattle.fl_ring.specs.SharedDuo.{DuoHolds, IsOneSide, base_of, other_of, with_mine, side_found, side_stored, side_put, side_control, side_loaded}
+use Rattle.fl_ring.specs.SharedDuo.{side_peeked, side_got, known_by, HasSlot, IsNextWord, IsPayloadWord, duo_stores_word, duo_stores_control, duo_loads_word}
+use Rattle.fl_ring.specs.SharedDuo.{duo_loads_peeked, duo_loads_taken}
 use Rattle.fl_ring.specs.SharedSides.{TheSide, side_with_part, side_with_frag, side_with_words, side_missed, SideSees, SideGets, KnowsSent}
 use Rattle.fl_ring.proofs.SharedDuoSteps.{duo_allows_stored, duo_allows_put, duo_allows_loaded, duo_allows_peeked, duo_allows_taken}
 use Rattle.fl_ring.proofs.SharedLooks.{seven_words, none_missed}
-use Rattle.fl_ring.proofs.SharedRuns.{last_set}
+use Rattle.fl_ring.proofs.SharedRuns.{last_stored}
 
 abbrev Seated : Type 0
 Seated = Me (Unit {0}) DuoView
@@ -30,21 +33,23 @@ found m x = (with_mine m.0 (side_found m.0.mine x), m.1)
 pub duo_stored_after : (n start slots id i x old : ℕ) (m0 m : Seated) → m ≡ found m0 old → n ≡ m0.0.size → IsOneSide m0.0.holder → IsNextWord i m0.0
     → Allows (DuoHolds n start) slots id m i (λ _. x) (λ _. duo_stores_word (step slots i x 0 none) m x)
 duo_stored_after n start slots id i x old m0 m e key side (at, small, room) =
-    let more : length (m0.0.mine.put.part ++ old ∷ []) ≡ length m0.0.mine.put.part + 1 = length_push m0.0.mine.put.part old in
-    let last : length m0.0.mine.put.part ≡ length (m0.0.mine.put.part ++ old ∷ []) - 1 = omega (arith, more) in
+    let few : length m0.0.mine.put.part ≤ length (m0.0.mine.put.part ++ old ∷ []) = omega (arith, length_push m0.0.mine.put.part old) in
     subst (λ (z : Seated). Allows (DuoHolds n start) slots id z i (λ _. x) (λ _. duo_stores_word (step slots i x 0 none) z x)) (sym e)
-    (duo_allows_stored n start slots id i x (found m0 old) key side
-    (at ∙ ap (λ (k : ℕ). slot (base_of m0.0.holder m0.0.size) m0.0.size (length m0.0.mine.put.sent) + k) last, omega (arith, more), omega (arith, more), room))
+    (duo_allows_stored n start slots id i (length m0.0.mine.put.part) x (found m0 old) key side (at, few, small, room))
 
 -- the number that was found is the one that was wanted
 pub duo_found_same : (m0 m : Seated) (old x : ℕ) → m ≡ found m0 old → old ≡ x → m ≡ found m0 x
 duo_found_same m0 m old x e same = e ∙ ap (λ (k : ℕ). found m0 k) same
 
--- or that one is stored
-pub duo_found_stored : (m0 m m' : Seated) (old x : ℕ) → m ≡ found m0 old → m' ≡ (with_mine m.0 (side_stored m.0.mine x), m.1) → m' ≡ found m0 x
-duo_found_stored m0 m m' old x e d =
-    d ∙ ap (λ (z : Seated). let s : Seated = (with_mine z.0 (side_stored z.0.mine x), z.1) in s) e
-    ∙ ap (λ (p : List ℕ). let s : Seated = (with_mine m0.0 (side_with_part m0.0.mine p), m0.1) in s) (last_set m0.0.mine.put.part old x)
+-- or that one is stored, at the same word
+pub duo_found_stored : (m0 m m' : Seated) (i old k x : ℕ) → IsNextWord i m0.0 → m ≡ found m0 old → IsPayloadWord i k m.0
+    → m' ≡ (with_mine m.0 (side_stored m.0.mine k x), m.1) → m' ≡ found m0 x
+duo_found_stored m0 m m' i old k x next e word d =
+    let first : ℕ = slot (base_of m0.0.holder m0.0.size) m0.0.size (length m0.0.mine.put.sent) in
+    let here : i ≡ first + k = (subst (λ (z : Seated). IsPayloadWord i k z.0) e word).0 in
+    let last : k ≡ length m0.0.mine.put.part = omega (arith, here, next.0) in
+    d ∙ ap (λ (z : Seated). let s : Seated = (with_mine z.0 (side_stored z.0.mine k x), z.1) in s) e
+    ∙ ap (λ (p : List ℕ). let s : Seated = (with_mine m0.0 (side_with_part m0.0.mine p), m0.1) in s) (last_stored m0.0.mine.put.part k old x last)
 
 -- ---- a fragment put
 

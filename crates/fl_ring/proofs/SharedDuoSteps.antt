@@ -10,7 +10,9 @@ use Rattle.fl_ring.specs.declared.shared.duo_board.Holder.TheVariants.{One, Two,
 use Rattle.fl_ring.specs.declared.shared.duo_board.DuoView.{DuoView}
 use Rattle.fl_ring.specs.Way.{slot}
 use Rattle.fl_ring.specs.SharedWay.{IsDue}
-use Rattle.fl_ring.specs.SharedDuo.{Pairing, DuoFits, DuoHolds, BothRun, ways, CountsNear, IsOneSide, base_of, other_of, with_mine, side_found, side_stored, side_put, side_control, side_loaded, side_peeked, side_got, IsNextWord, IsLastWord, duo_finds_word, duo_stores_word, duo_stores_control, duo_loads_control, duo_loads_word, duo_loads_peeked, duo_loads_taken, duo_compares}
+use Rattle.fl_ring.specs.SharedDuo.{Pairing, DuoFits, DuoHolds, BothRun, ways, CountsNear, IsOneSide, base_of, other_of, with_mine, side_found, side_stored}
+use Rattle.fl_ring.specs.SharedDuo.{side_put, side_control, side_loaded, side_peeked, side_got, IsNextWord, IsPayloadWord, duo_finds_word, duo_stores_word}
+use Rattle.fl_ring.specs.SharedDuo.{duo_stores_control, duo_loads_control, duo_loads_word, duo_loads_peeked, duo_loads_taken, duo_compares}
 use Rattle.fl_ring.proofs.Places.{slot_within}
 use Rattle.fl_ring.proofs.SharedTables.{Moves, allows_by, allows_load}
 use Rattle.fl_ring.proofs.SharedDuos.{turned, both_found, both_stored, both_put, both_control, both_peeked_there, known_sent, both_loaded, both_peeked, both_got, both_again, both_few, both_near}
@@ -124,15 +126,17 @@ duo_allows_found n start slots id i me key side (at, small, room) =
     let is : x ≡ get_or ws (slot b m (length me.0.mine.put.sent) + length me.0.mine.put.part) 0 = ap (λ (k : ℕ). get_or ws k 0) at in
     record { side = side_found me.0.mine x; both = both_found b c m start ws me.0.mine y x h small is; tells = (refl, (at, small, room)) })
 
-pub duo_allows_stored : (n start slots id i x : ℕ) (me : Seated) → n ≡ me.0.size → IsOneSide me.0.holder → IsLastWord i me.0
+pub duo_allows_stored : (n start slots id i k x : ℕ) (me : Seated) → n ≡ me.0.size → IsOneSide me.0.holder → IsPayloadWord i k me.0
     → Allows (DuoHolds n start) slots id me i (λ _. x) (λ _. duo_stores_word (step slots i x 0 none) me x)
-duo_allows_stored n start slots id i x me key side (at, some, few, room) =
+duo_allows_stored n start slots id i k x me key side (at, few, small, room) =
     let m : ℕ = me.0.size in let b : ℕ = base_of me.0.holder m in let c : ℕ = other_of me.0.holder m in
     side_stores n start slots id i x me (λ _. duo_stores_word (step slots i x 0 none) me x) key side
     (λ ws y h. record {
-      side = side_stored me.0.mine x;
-      both = subst (λ (k : ℕ). BothRun (ways b c m start) (set ws k x) (side_stored me.0.mine x) y) (sym at) (both_stored b c m start ws me.0.mine y x h room some);
-      tells = (refl, (at, some, few, room));
+      side = side_stored me.0.mine k x;
+      both =
+          let stored = both_stored b c m start ws me.0.mine y k x h room few small in
+          subst (λ (j : ℕ). BothRun (ways b c m start) (set ws j x) (side_stored me.0.mine k x) y) (sym at) stored;
+      tells = (k, refl, (at, few, small, room));
     })
 
 pub duo_allows_put : (n start slots id i w : ℕ) (me : Seated) → n ≡ me.0.size → IsOneSide me.0.holder → i ≡ slot (base_of me.0.holder me.0.size) me.0.size (length me.0.mine.put.sent) + 7

@@ -1,5 +1,6 @@
 -- The steps of a side of a ring of two directions over shared words: both ways go on as they should.
-use Rattle.std.proofs.Common.{ℕ, ◌≡◌, ◌≢◌, ◌<◌, ◌≤◌, ◌+◌, ◌-◌, ◌*◌, ◌%◌, ◌^◌, ◌⊎◌, inl, inr, Bool, cond, List, [], ◌∷◌, ◌++◌, length, get_or, set, ap, subst, ◌∙◌, sym, arith, Some, length-set, append_assoc, get_or-set_same, get_or-set_other, eq-eqb, ne_eqb}
+use Rattle.std.proofs.Common.{ℕ, ◌≡◌, ◌≢◌, ◌<◌, ◌≤◌, ◌+◌, ◌*◌, ◌%◌, ◌^◌, ◌⊎◌, inl, inr, Bool, cond, List, [], ◌∷◌, ◌++◌, length, get_or, set, ap, subst, ◌∙◌}
+use Rattle.std.proofs.Common.{sym, arith, Some, length-set, append_assoc, get_or-set_same, get_or-set_other, eq-eqb, ne_eqb}
 use Rattle.std.proofs.lemmas.List.{append_cancel_left, length_push}
 use native.Mathlib.Decide.{ℕ_discrete}
 use Rattle.fl_base.specs.declared.fragment.Frag.{Frag}
@@ -94,18 +95,16 @@ module _ (b c n start : ℕ) (ws : List ℕ) (x y : SideView) where
   away_control : (i k v : ℕ) → k < 8 → BothRun (ways b c n start) ws x y → (j : ℕ) → get_or (set ws (slot b n i + k) v) (slot c n j + 7) 0 ≡ get_or ws (slot c n j + 7) 0
   away_control i k v small h j = let within = slot_within c n j h.back.holds.marked.some in let p : ℕ = j % n in away i k v small h (slot c n j + 7) (omega arith) (omega arith)
 
-  pub both_stored : (v : ℕ) → BothRun (ways b c n start) ws x y → length x.put.sent < x.put.known + n → 0 < length x.put.part
-      → BothRun (ways b c n start) (set ws (slot b n (length x.put.sent) + (length x.put.part - 1)) v) (side_stored x v) y
-  both_stored v h room some =
-      let k : ℕ = length x.put.part - 1 in
-      let small : k < 7 = omega (arith, h.there.seven) in
+  pub both_stored : (k v : ℕ) → BothRun (ways b c n start) ws x y → length x.put.sent < x.put.known + n → k ≤ length x.put.part → k < 7
+      → BothRun (ways b c n start) (set ws (slot b n (length x.put.sent) + k) v) (side_stored x k v) y
+  both_stored k v h room few small =
       let place : ℕ = slot b n (length x.put.sent) + k in
       let ws' : List ℕ = set ws place v in
       record {
         few = h.few;
         wide = length-set ws place v ∙ h.wide;
         apart = h.apart;
-        there = runs_stored b n ws x.put y.take y.take.told v h.there room some;
+        there = runs_stored b n ws x.put y.take y.take.told v k h.there room few small;
         back = runs_elsewhere c n ws y.put x.take x.take.told ws' h.back (length-set ws place v) (away (length x.put.sent) k v (omega arith) h);
         told_there = h.told_there;
         told_back = h.told_back;

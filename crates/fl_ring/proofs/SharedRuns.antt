@@ -1,7 +1,6 @@
 -- Steps in a row at a seat of a ring over shared words.
-use Rattle.std.proofs.Common.{ℕ, ◌≡◌, ◌<◌, ◌≤◌, ◌+◌, ◌-◌, ◌*◌, ◌^◌, true, List, [], ◌∷◌, ◌++◌, length, take, set, ap, subst, ◌∙◌, sym, arith}
-use Rattle.std.proofs.Math.Seq.{set-append_seam}
-use Rattle.std.proofs.lemmas.List.{length-take-le, length_push, take_all}
+use Rattle.std.proofs.Common.{ℕ, ◌≡◌, ◌<◌, ◌≤◌, ◌+◌, ◌*◌, ◌^◌, true, List, [], ◌∷◌, ◌++◌, length, take, ap, subst, ◌∙◌, sym, arith}
+use Rattle.std.proofs.lemmas.List.{length-take-le, length_push, take_all, take-append-le}
 use mathlib.Core.Option.{none}
 use Rattle.atomic_table.specs.Table.{Me, step, Allows}
 use Rattle.atomic_table.specs.Seated.{TableId}
@@ -11,7 +10,7 @@ use Rattle.fl_link.specs.Cursor.{epoch_at}
 use Rattle.fl_ring.specs.declared.shared.board.View.{View}
 use Rattle.fl_ring.specs.Way.{slot}
 use Rattle.fl_ring.specs.SharedWay.{IsDue, with_found, with_stored, with_put, with_loaded}
-use Rattle.fl_ring.specs.SharedRing.{RingRule, with_writing, with_reading, HasSlot, IsNextWord, stores_word, stores_control, loads_word}
+use Rattle.fl_ring.specs.SharedRing.{RingRule, with_writing, with_reading, HasSlot, IsNextWord, IsPayloadWord, stores_word, stores_control, loads_word}
 use Rattle.fl_ring.specs.SharedSeats.{RingSeat, IsSeated, with_part, with_frag, with_words}
 use Rattle.fl_ring.proofs.SharedSteps.{allows_stored, allows_put, allows_loaded}
 
@@ -26,11 +25,9 @@ taken_all xs seven = take_all 7 xs (omega arith)
 
 -- ---- a payload word found, and another number stored there
 
--- where the last item is set, the others stay
-pub last_set : (xs : List ℕ) (x y : ℕ) → set (xs ++ x ∷ []) (length (xs ++ x ∷ []) - 1) y ≡ xs ++ y ∷ []
-last_set xs x y =
-    let last : length (xs ++ x ∷ []) - 1 ≡ length xs = omega (arith, length_push xs x) in
-    ap (λ (k : ℕ). set (xs ++ x ∷ []) k y) last ∙ set-append_seam xs x [] y
+-- those before the last item stay, and another is the last
+pub last_stored : (xs : List ℕ) (k x y : ℕ) → k ≡ length xs → take k (xs ++ x ∷ []) ++ y ∷ [] ≡ xs ++ y ∷ []
+last_stored xs k x y e = ap (λ (zs : List ℕ). zs ++ y ∷ []) (take-append-le k xs (x ∷ []) (omega arith) ∙ take_all k xs (omega arith))
 
 -- the seat that knows one payload word more of the next slot
 abbrev found : Seated → ℕ → Seated
@@ -39,21 +36,22 @@ found m x = (with_writing m.0 (with_found m.0.put x), m.1)
 pub allows_stored_after : (n slots id i x old : ℕ) (m0 m : Seated) → m ≡ found m0 old → n ≡ m0.0.size → m0.0.writes ≡ true → IsNextWord i m0.0
     → Allows (RingRule n) slots id m i (λ _. x) (λ _. stores_word (step slots i x 0 none) m x)
 allows_stored_after n slots id i x old m0 m e key writes (at, small, room) =
-    let more : length (m0.0.put.part ++ old ∷ []) ≡ length m0.0.put.part + 1 = length_push m0.0.put.part old in
-    let last : length m0.0.put.part ≡ length (m0.0.put.part ++ old ∷ []) - 1 = omega (arith, more) in
+    let few : length m0.0.put.part ≤ length (m0.0.put.part ++ old ∷ []) = omega (arith, length_push m0.0.put.part old) in
     subst (λ (z : Seated). Allows (RingRule n) slots id z i (λ _. x) (λ _. stores_word (step slots i x 0 none) z x)) (sym e)
-    (allows_stored n slots id i x (found m0 old) key writes
-    (at ∙ ap (λ (k : ℕ). slot 0 m0.0.size (length m0.0.put.sent) + k) last, omega (arith, more), omega (arith, more), room))
+    (allows_stored n slots id i (length m0.0.put.part) x (found m0 old) key writes (at, few, small, room))
 
 -- the number that was found is the one that was wanted
 pub found_same : (m0 m : Seated) (old x : ℕ) → m ≡ found m0 old → old ≡ x → m ≡ found m0 x
 found_same m0 m old x e same = e ∙ ap (λ (k : ℕ). found m0 k) same
 
--- or that one is stored
-pub found_stored : (m0 m m' : Seated) (old x : ℕ) → m ≡ found m0 old → m' ≡ (with_writing m.0 (with_stored m.0.put x), m.1) → m' ≡ found m0 x
-found_stored m0 m m' old x e d =
-    d ∙ ap (λ (z : Seated). let s : Seated = (with_writing z.0 (with_stored z.0.put x), z.1) in s) e
-    ∙ ap (λ (p : List ℕ). let s : Seated = (with_writing m0.0 (with_part m0.0.put p), m0.1) in s) (last_set m0.0.put.part old x)
+-- or that one is stored, at the same word
+pub found_stored : (m0 m m' : Seated) (i old k x : ℕ) → IsNextWord i m0.0 → m ≡ found m0 old → IsPayloadWord i k m.0
+    → m' ≡ (with_writing m.0 (with_stored m.0.put k x), m.1) → m' ≡ found m0 x
+found_stored m0 m m' i old k x next e word d =
+    let here : i ≡ slot 0 m0.0.size (length m0.0.put.sent) + k = (subst (λ (z : Seated). IsPayloadWord i k z.0) e word).0 in
+    let last : k ≡ length m0.0.put.part = omega (arith, here, next.0) in
+    d ∙ ap (λ (z : Seated). let s : Seated = (with_writing z.0 (with_stored z.0.put k x), z.1) in s) e
+    ∙ ap (λ (p : List ℕ). let s : Seated = (with_writing m0.0 (with_part m0.0.put p), m0.1) in s) (last_stored m0.0.put.part k old x last)
 
 -- ---- a fragment put
 

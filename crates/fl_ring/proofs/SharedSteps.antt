@@ -1,5 +1,6 @@
 -- The steps of a ring over shared words: what the rule allows each side.
-use Rattle.std.proofs.Common.{ℕ, ◌≡◌, ◌≢◌, ◌<◌, ◌≤◌, ◌+◌, ◌-◌, ◌*◌, ◌^◌, true, List, length, get_or, set, subst, ◌∙◌, sym, refl, arith, length-set, get_or-set_same, get_or-set_other}
+use Rattle.std.proofs.Common.{ℕ, ◌≡◌, ◌≢◌, ◌<◌, ◌≤◌, ◌+◌, ◌*◌, ◌^◌, true, List, length, get_or, set, subst, ◌∙◌, sym, refl, arith, length-set, get_or-set_same}
+use Rattle.std.proofs.Common.{get_or-set_other}
 use mathlib.Core.Option.{none}
 use Rattle.atomic_table.specs.Table.{Me, step, Allows}
 use Rattle.fl_base.specs.Control.{epoch_of}
@@ -9,7 +10,8 @@ use Rattle.fl_ring.specs.declared.shared.board.Reading.{Reading}
 use Rattle.fl_ring.specs.declared.shared.board.View.{View}
 use Rattle.fl_ring.specs.Way.{slot}
 use Rattle.fl_ring.specs.SharedWay.{IsDue, WayRuns, WayNear, with_found, with_stored, with_put, with_known, with_control, with_loaded, with_peeked, with_got, with_told}
-use Rattle.fl_ring.specs.SharedRing.{Sides, Fits, RingHolds, RingRule, with_writing, with_reading, IsNextWord, IsLastWord, finds_word, stores_word, stores_control, loads_told, loads_control, loads_word, loads_peeked, loads_taken, stores_told, compares}
+use Rattle.fl_ring.specs.SharedRing.{Sides, Fits, RingHolds, RingRule, with_writing, with_reading, IsNextWord, IsPayloadWord, finds_word, stores_word}
+use Rattle.fl_ring.specs.SharedRing.{stores_control, loads_told, loads_control, loads_word, loads_peeked, loads_taken, stores_told, compares}
 use Rattle.fl_ring.proofs.Places.{slot_within}
 use Rattle.fl_ring.proofs.SharedTables.{Moves, allows_by, allows_load}
 use Rattle.fl_ring.proofs.SharedWays.{runs_found, runs_stored, runs_put, runs_known, runs_control, peeked_there, runs_loaded, runs_peeked, runs_got, loaded_again, got_unspent, runs_told, runs_elsewhere, front_within}
@@ -71,12 +73,12 @@ holds_found n x ws w r h small is = record {
   told_is = h.told_is;
 }
 
-holds_stored : (n x : ℕ) (ws : List ℕ) (w : Writing) (r : Reading) → RingHolds n ws w r → length w.sent < w.known + n → 0 < length w.part
-    → RingHolds n (set ws (slot 0 n (length w.sent) + (length w.part - 1)) x) (with_stored w x) r
-holds_stored n x ws w r h room some = record {
-  wide = length-set ws (slot 0 n (length w.sent) + (length w.part - 1)) x ∙ h.wide;
-  way = runs_stored 0 n ws w r r.told x h.way room some;
-  told_is = told_stays n (length w.sent) (length w.part - 1) x ws h.way.holds.marked.some (omega (arith, h.way.seven)) ∙ h.told_is;
+holds_stored : (n k x : ℕ) (ws : List ℕ) (w : Writing) (r : Reading) → RingHolds n ws w r → length w.sent < w.known + n → k ≤ length w.part → k < 7
+    → RingHolds n (set ws (slot 0 n (length w.sent) + k) x) (with_stored w k x) r
+holds_stored n k x ws w r h room few small = record {
+  wide = length-set ws (slot 0 n (length w.sent) + k) x ∙ h.wide;
+  way = runs_stored 0 n ws w r r.told x k h.way room few small;
+  told_is = told_stays n (length w.sent) k x ws h.way.holds.marked.some (omega arith) ∙ h.told_is;
 }
 
 holds_put : (n c : ℕ) (ws : List ℕ) (w : Writing) (r : Reading) → RingHolds n ws w r → length w.sent < w.known + n → length w.part ≡ 7 → length w.sent < 2 ^ 62 → epoch_of c ≡ epoch_at n (length w.sent)
@@ -111,14 +113,17 @@ allows_found n slots id i me key writes (at, small, room) =
     writer_moves m id ws s me.0 (with_found me.0.put x) (λ v. finds_word (step slots place 0 0 none) me x (v, me.1)) writes fits
     (holds_found m x ws me.0.put s.take h small refl) (refl, (refl, small, room)))))
 
-pub allows_stored : (n slots id i x : ℕ) (me : Seated) → n ≡ me.0.size → me.0.writes ≡ true → IsLastWord i me.0 → Allows (RingRule n) slots id me i (λ _. x) (λ _. stores_word (step slots i x 0 none) me x)
-allows_stored n slots id i x me key writes (at, some, few, room) =
-    subst (λ (k : ℕ). Allows (RingRule k) slots id me i (λ _. x) (λ _. stores_word (step slots i x 0 none) me x)) (sym key)
-    (subst (λ (k : ℕ). Allows (RingRule me.0.size) slots id me k (λ _. x) (λ _. stores_word (step slots k x 0 none) me x)) (sym at)
-    (let m : ℕ = me.0.size in let place : ℕ = slot 0 m (length me.0.put.sent) + (length me.0.put.part - 1) in
+pub allows_stored : (n slots id i k x : ℕ) (me : Seated) → n ≡ me.0.size → me.0.writes ≡ true → IsPayloadWord i k me.0
+    → Allows (RingRule n) slots id me i (λ _. x) (λ _. stores_word (step slots i x 0 none) me x)
+allows_stored n slots id i k x me key writes (at, few, small, room) =
+    subst (λ (y : ℕ). Allows (RingRule y) slots id me i (λ _. x) (λ _. stores_word (step slots i x 0 none) me x)) (sym key)
+    (subst (λ (y : ℕ). Allows (RingRule me.0.size) slots id me y (λ _. x) (λ _. stores_word (step slots y x 0 none) me x)) (sym at)
+    (let m : ℕ = me.0.size in let place : ℕ = slot 0 m (length me.0.put.sent) + k in
     allows_by (Fits m) (Held m) slots id place me (λ _. x) (λ _. stores_word (step slots place x 0 none) me x)
-    (λ ws s fits held. writer_moves m id (set ws place x) s me.0 (with_stored me.0.put x) (λ v. stores_word (step slots place x 0 none) me x (v, me.1)) writes fits
-    (holds_stored m x ws me.0.put s.take (as_writer m id ws s me.0 writes fits held) room some) (refl, (refl, some, few, room)))))
+    (λ ws s fits held.
+    let h : RingHolds m ws me.0.put s.take = as_writer m id ws s me.0 writes fits held in
+    writer_moves m id (set ws place x) s me.0 (with_stored me.0.put k x) (λ v. stores_word (step slots place x 0 none) me x (v, me.1)) writes fits
+    (holds_stored m k x ws me.0.put s.take h room few small) (k, refl, (refl, few, small, room)))))
 
 pub allows_put : (n slots id i c : ℕ) (me : Seated) → n ≡ me.0.size → me.0.writes ≡ true → i ≡ slot 0 me.0.size (length me.0.put.sent) + 7
     → length me.0.put.part ≡ 7 → length me.0.put.sent < me.0.put.known + me.0.size → length me.0.put.sent < 2 ^ 62 → epoch_of c ≡ epoch_at me.0.size (length me.0.put.sent)

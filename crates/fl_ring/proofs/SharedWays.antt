@@ -1,9 +1,9 @@
 -- The steps of a way between two threads: each leaves what holds at every moment.
-use Rattle.std.proofs.Common.{ℕ, ◌≡◌, ◌≢◌, ◌<◌, ◌≤◌, ◌+◌, ◌-◌, ◌*◌, ◌%◌, ◌^◌, ◌⊎◌, inl, inr, List, [], ◌∷◌, ◌++◌, length, get_or, set, ap, subst, ◌∙◌, sym, refl, arith, Option, Some, None, length-append, length-set, append_assoc, get_or-set_same, get_or-set_other}
-use Rattle.std.proofs.lemmas.List.{get_or_append_left, get_or_push, length_push}
+use Rattle.std.proofs.Common.{ℕ, ◌≡◌, ◌≢◌, ◌<◌, ◌≤◌, ◌+◌, ◌*◌, ◌%◌, ◌^◌, ◌⊎◌, inl, inr, List, [], ◌∷◌, ◌++◌, length, get_or, set, take, ap, subst, ◌∙◌, sym}
+use Rattle.std.proofs.Common.{refl, arith, Option, Some, None, length-append, append_assoc, get_or-set_same, get_or-set_other}
+use Rattle.std.proofs.lemmas.List.{get_or_append_left, get_or_push, get_or-take, length_push, length-take-le}
 use Rattle.std.proofs.lemmas.List.FromFn.{fill_by_all, get_or-map-range_with_len}
 use Rattle.std.proofs.lemmas.Bool.{cases_lt}
-use native.Mathlib.Decide.{ℕ_discrete}
 use Rattle.fl_base.specs.declared.fragment.Frag.{Frag}
 use Rattle.fl_base.specs.Control.{epoch_of}
 use Rattle.fl_base.specs.Prefix.{IsPrefix}
@@ -75,37 +75,39 @@ module _ (b n : ℕ) (ws : List ℕ) (w : Writing) (r : Reading) (told : ℕ) wh
     peeked = h.peeked;
   }
 
-  -- a number is stored into payload word j
-  part_stored : (x j : ℕ) → WayRuns b n ws w r told → j < length w.part → (k : ℕ) → k < length w.part → Dec (k ≡ j)
-      → get_or (set ws (slot b n (length w.sent) + j) x) (slot b n (length w.sent) + k) 0 ≡ get_or (set w.part j x) k 0
-  part_stored x j h has k lt (yes e) =
-      let s : ℕ = slot b n (length w.sent) in
-      let inside : s + j < length ws = omega (arith, slot_fits h, h.seven) in
-      ap (λ (i : ℕ). get_or (set ws (s + j) x) (s + i) 0) e ∙ get_or-set_same ws (s + j) x 0 inside
-      ∙ sym (get_or-set_same w.part j x 0 has) ∙ ap (λ (i : ℕ). get_or (set w.part j x) i 0) (sym e)
-  part_stored x j h has k lt (no other) =
-      let s : ℕ = slot b n (length w.sent) in
-      let away : s + k ≢ s + j = λ e. other (omega arith) in
-      get_or-set_other ws (s + j) (s + k) x 0 away ∙ h.part k lt ∙ sym (get_or-set_other w.part j k x 0 other)
+  -- a number is stored into payload word j, and the words before it are known
+  stored_length : (x j : ℕ) → j ≤ length w.part → length (take j w.part ++ x ∷ []) ≡ j + 1
+  stored_length x j few = omega (arith, length_push (take j w.part) x, length-take-le j w.part few)
 
-  pub runs_stored : (x : ℕ) → WayRuns b n ws w r told → length w.sent < w.known + n → 0 < length w.part
-      → WayRuns b n (set ws (slot b n (length w.sent) + (length w.part - 1)) x) (with_stored w x) r told
-  runs_stored x h room some =
-      let j : ℕ = length w.part - 1 in
-      let has : j < length w.part = omega arith in
-      let same : length (set w.part j x) ≡ length w.part = length-set w.part j x in
-      record {
-        holds = holds_word b n ws w.sent told j x h.holds (omega (arith, h.known_told)) (omega (arith, h.seven));
-        told_got = h.told_got;
-        got_sent = h.got_sent;
-        known_told = h.known_told;
-        room = h.room;
-        most = h.most;
-        seven = omega (arith, same, h.seven);
-        part = λ k lt. part_stored x j h has k (omega (arith, same)) (ℕ_discrete k j);
-        due = h.due;
-        peeked = h.peeked;
-      }
+  part_stored : (x j : ℕ) → WayRuns b n ws w r told → j ≤ length w.part → j < 7 → (k : ℕ) → k < length (take j w.part ++ x ∷ []) → (k < j) ⊎ (j ≤ k)
+      → get_or (set ws (slot b n (length w.sent) + j) x) (slot b n (length w.sent) + k) 0 ≡ get_or (take j w.part ++ x ∷ []) k 0
+  part_stored x j h few small k lt (inl before) =
+      let s : ℕ = slot b n (length w.sent) in
+      let away : s + k ≢ s + j = λ e. omega arith in
+      let inside : k < length (take j w.part) = omega (arith, length-take-le j w.part few) in
+      get_or-set_other ws (s + j) (s + k) x 0 away ∙ h.part k (omega arith) ∙ sym (get_or-take j w.part k 0 before)
+      ∙ sym (get_or_append_left (take j w.part) (x ∷ []) 0 k inside)
+  part_stored x j h few small k lt (inr there) =
+      let s : ℕ = slot b n (length w.sent) in
+      let here : k ≡ j = omega (arith, stored_length x j few) in
+      let last : length (take j w.part) ≡ k = omega (arith, length-take-le j w.part few) in
+      let inside : s + j < length ws = omega (arith, slot_fits h) in
+      ap (λ (i : ℕ). get_or (set ws (s + j) x) (s + i) 0) here ∙ get_or-set_same ws (s + j) x 0 inside ∙ sym (get_or_push (take j w.part) x 0 k last)
+
+  pub runs_stored : (x j : ℕ) → WayRuns b n ws w r told → length w.sent < w.known + n → j ≤ length w.part → j < 7
+      → WayRuns b n (set ws (slot b n (length w.sent) + j) x) (with_stored w j x) r told
+  runs_stored x j h room few small = record {
+    holds = holds_word b n ws w.sent told j x h.holds (omega (arith, h.known_told)) small;
+    told_got = h.told_got;
+    got_sent = h.got_sent;
+    known_told = h.known_told;
+    room = h.room;
+    most = h.most;
+    seven = omega (arith, stored_length x j few);
+    part = λ k lt. part_stored x j h few small k lt (cases_lt k j);
+    due = h.due;
+    peeked = h.peeked;
+  }
 
   pub runs_put : (c : ℕ) → WayRuns b n ws w r told → length w.sent < w.known + n → length w.part ≡ 7 → length w.sent < 2 ^ 62 → epoch_of c ≡ epoch_at n (length w.sent)
       → WayRuns b n (set ws (slot b n (length w.sent) + 7) c) (with_put w c) r told

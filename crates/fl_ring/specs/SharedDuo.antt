@@ -4,17 +4,18 @@
 -- way back. There is no word for the number told: bits 48 to 63 of every control word say how many
 -- fragments its writer had got, modulo 65,536. The steps are these, each by the seat of its side:
 --
---   the next payload word of the slot that is put into next is loaded: the side has found fewer than
+--   the next payload word of the slot that is put into next is loaded: the side knows fewer than
 --     seven, and fewer than n fragments are sent beyond those known to be told
---   a number is stored in place of the payload word that was found last: fewer than n fragments are
---     sent beyond those known to be told
---   a control word is stored, with the epoch due and the number got: the side has found all seven
+--   a number is stored into a payload word of that slot: the side knows each payload word before that
+--     one, and fewer than n fragments are sent beyond those known to be told. What it knew from that
+--     word on it knows no more
+--   a control word is stored, with the epoch due and the number got: the side knows all seven
 --     payload words. It tells all that the side got
 --   the control word of the slot that is read next is loaded. Where it has the epoch due, the side
 --     knows the count that its number names; else it knows what it knew
 --   a payload word of that slot is loaded: the epoch due was seen
 --   at the start the first seat is cut in two, and at the end the two are joined
-use Rattle.std.specs.Prelude.{ℕ, ◌≡◌, ◌+◌, ◌-◌, ◌*◌, ◌/◌, ◌%◌, ◌≤◌, ◌<◌, ◌^◌, ◌⊎◌, ◌==◌, if◌then◌else◌, List, [], ◌++◌, length, replicate, Some, None}
+use Rattle.std.specs.Prelude.{ℕ, ◌≡◌, ◌+◌, ◌*◌, ◌/◌, ◌%◌, ◌≤◌, ◌<◌, ◌^◌, ◌⊎◌, ◌==◌, if◌then◌else◌, List, [], ◌++◌, length, replicate, Some, None}
 use Rattle.atomic_table.specs.Table.{State, Me, Step}
 use Rattle.fl_base.specs.declared.fragment.Frag.{Frag}
 use Rattle.fl_base.specs.Control.{epoch_of, told_of}
@@ -132,9 +133,9 @@ with_mine v s = record { size = v.size; holder = v.holder; mine = s; theirs = v.
 abbrev pub side_found : SideView → ℕ → SideView
 side_found s x = record { put = with_found s.put x; take = s.take }
 
--- a number is stored in place of the payload word that was found last
-abbrev pub side_stored : SideView → ℕ → SideView
-side_stored s x = record { put = with_stored s.put x; take = s.take }
+-- a number is stored at payload word k of the next slot: known are the words before it and this one
+abbrev pub side_stored : SideView → ℕ → ℕ → SideView
+side_stored s k x = record { put = with_stored s.put k x; take = s.take }
 
 -- the fragment is put, and all that was got is told
 abbrev pub side_put : SideView → ℕ → SideView
@@ -185,13 +186,13 @@ take_word v k = slot (other_of v.holder v.size) v.size (length v.mine.take.got) 
 abbrev pub HasSlot : DuoView → Type 0
 HasSlot v = length v.mine.put.sent < v.mine.put.known + v.size
 
--- of the slot that is put into next, which is free, this is the first of the seven payload words that the side hasn't found yet
+-- of the slot that is put into next, which is free, this is the first of the seven payload words that the side doesn't know yet
 abbrev pub IsNextWord : ℕ → DuoView → Type 0
 IsNextWord word v = (word ≡ put_word v (length v.mine.put.part)) × (length v.mine.put.part < 7) × HasSlot v
 
--- this is the last of them that it has found, and the slot is free
-abbrev pub IsLastWord : ℕ → DuoView → Type 0
-IsLastWord word v = (word ≡ put_word v (length v.mine.put.part - 1)) × (0 < length v.mine.put.part) × (length v.mine.put.part ≤ 7) × HasSlot v
+-- of that slot, which is free, this is payload word k of seven, and the side knows all before it
+abbrev pub IsPayloadWord : ℕ → ℕ → DuoView → Type 0
+IsPayloadWord word k v = (word ≡ put_word v k) × (k ≤ length v.mine.put.part) × (k < 7) × HasSlot v
 
 -- ---- what each step tells: of the step, the seat before, the number found or stored, the seat after;
 -- which word it was, and where alone such a step is made
@@ -202,8 +203,9 @@ DuoPlayer = Step (Unit {0}) → Me (Unit {0}) DuoView → ℕ → Me (Unit {0}) 
 abbrev pub duo_finds_word : DuoPlayer
 duo_finds_word st m x m' = (m' ≡ (with_mine m.0 (side_found m.0.mine x), m.1)) × IsNextWord st.word m.0
 
+-- at the first word not known this makes the part longer by one, at the last word known it puts this number in its place
 abbrev pub duo_stores_word : DuoPlayer
-duo_stores_word st m x m' = (m' ≡ (with_mine m.0 (side_stored m.0.mine x), m.1)) × IsLastWord st.word m.0
+duo_stores_word st m x m' = (k : ℕ) × (m' ≡ (with_mine m.0 (side_stored m.0.mine k x), m.1)) × IsPayloadWord st.word k m.0
 
 -- with the epoch due, and the number of all that was got
 abbrev pub duo_stores_control : DuoPlayer

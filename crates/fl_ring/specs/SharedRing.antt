@@ -4,17 +4,17 @@
 -- after it are nobody's: they keep what is read at every step off the cache line that the reader writes when
 -- it tells. One seat is the writer's and one the reader's. The steps are these, each by the seat that it names:
 --
---   the writer loads the next payload word of the slot that it puts into next: it has found fewer than seven,
---     and fewer than n fragments are sent beyond those known to be told
---   the writer stores another number into the payload word that it has found last: fewer than n fragments are
---     sent beyond those known to be told
---   the writer stores the control word, with the epoch due: it has found all seven payload words
+--   the writer loads the next payload word of the slot that it puts into next: it knows fewer than seven, and
+--     fewer than n fragments are sent beyond those known to be told
+--   the writer stores a number into a payload word of that slot: it knows each payload word before that one, and
+--     fewer than n fragments are sent beyond those known to be told. What it knew from that word on it knows no more
+--   the writer stores the control word, with the epoch due: it knows all seven payload words
 --   the writer loads the number told
 --   the reader loads the control word of the slot that it reads next
 --   the reader loads a payload word of that slot: it has seen the epoch due
 --   the reader stores the number told: no more than it got, and no less than it has told
 --   at the start the first seat is cut in two, and at the end the two are joined
-use Rattle.std.specs.Prelude.{ℕ, ◌≡◌, ◌+◌, ◌-◌, ◌*◌, ◌≤◌, ◌<◌, ◌^◌, true, false, List, [], length, slice_index, Some, None}
+use Rattle.std.specs.Prelude.{ℕ, ◌≡◌, ◌+◌, ◌*◌, ◌≤◌, ◌<◌, ◌^◌, true, false, List, [], length, slice_index, Some, None}
 use Rattle.atomic_table.specs.Table.{State, Me, Step}
 use Rattle.fl_base.specs.declared.fragment.Frag.{Frag}
 use Rattle.fl_base.specs.Control.{epoch_of}
@@ -100,13 +100,13 @@ told_word v = 8 * v.size
 abbrev pub HasSlot : View → Type 0
 HasSlot v = length v.put.sent < v.put.known + v.size
 
--- of the slot that is put into next, which is free, this is the first of the seven payload words that the writer hasn't found yet
+-- of the slot that is put into next, which is free, this is the first of the seven payload words that the writer doesn't know yet
 abbrev pub IsNextWord : ℕ → View → Type 0
 IsNextWord word v = (word ≡ put_word v (length v.put.part)) × (length v.put.part < 7) × HasSlot v
 
--- this is the last of them that it has found, and the slot is free
-abbrev pub IsLastWord : ℕ → View → Type 0
-IsLastWord word v = (word ≡ put_word v (length v.put.part - 1)) × (0 < length v.put.part) × (length v.put.part ≤ 7) × HasSlot v
+-- of that slot, which is free, this is payload word k of seven, and the writer knows all before it
+abbrev pub IsPayloadWord : ℕ → ℕ → View → Type 0
+IsPayloadWord word k v = (word ≡ put_word v k) × (k ≤ length v.put.part) × (k < 7) × HasSlot v
 
 -- ---- what each step tells: of the step, the seat before, the number found or stored, the seat after;
 -- which word it was, and where alone such a step is made
@@ -117,8 +117,9 @@ Player = Step (Unit {0}) → Me (Unit {0}) View → ℕ → Me (Unit {0}) View �
 abbrev pub finds_word : Player
 finds_word st m x m' = (m' ≡ (with_writing m.0 (with_found m.0.put x), m.1)) × IsNextWord st.word m.0
 
+-- at the first word not known this makes the part longer by one, at the last word known it puts this number in its place
 abbrev pub stores_word : Player
-stores_word st m x m' = (m' ≡ (with_writing m.0 (with_stored m.0.put x), m.1)) × IsLastWord st.word m.0
+stores_word st m x m' = (k : ℕ) × (m' ≡ (with_writing m.0 (with_stored m.0.put k x), m.1)) × IsPayloadWord st.word k m.0
 
 -- with the epoch due
 abbrev pub stores_control : Player

@@ -3,7 +3,7 @@
 -- A side steps by single loads and stores of words. What it knows is plain data of the proofs: the
 -- writer's is the fragments sent and the first payload words of the slot that it puts into next, the
 -- reader's the fragments got and the payload words loaded of the next.
-use Rattle.std.specs.Prelude.{ℕ, ◌≡◌, ◌+◌, ◌-◌, ◌≤◌, ◌<◌, ◌^◌, List, [], ◌∷◌, ◌++◌, length, slice_index, slice_set, Some, None, ◌==◌, if◌then◌else◌}
+use Rattle.std.specs.Prelude.{ℕ, ◌≡◌, ◌+◌, ◌≤◌, ◌<◌, ◌^◌, List, [], ◌∷◌, ◌++◌, length, take, slice_index, Some, None, ◌==◌, if◌then◌else◌}
 use Rattle.fl_base.specs.declared.fragment.Frag.{Frag}
 use Rattle.fl_base.specs.Control.{epoch_of}
 use Rattle.fl_base.specs.Prefix.{IsPrefix}
@@ -38,7 +38,7 @@ pub record WayRuns (b n : ℕ) (words : List ℕ) (w : Writing) (r : Reading) (t
   pub known_told : w.known ≤ told
   pub room : length w.sent ≤ w.known + n
   pub most : length w.sent ≤ 2 ^ 62
-  -- the words that the writer has found, or stored then, are in the next slot
+  -- the words that the writer has found or stored are in the next slot
   pub seven : length w.part ≤ 7
   pub part : (k : ℕ) → k < length w.part → slice_index words (slot b n (length w.sent) + k) ≡ slice_index w.part k
   -- where the reader has seen the epoch due, the next fragment is there, and so is one that it peeked
@@ -63,9 +63,9 @@ frag_from words control = record { words = words; control = control }
 abbrev pub with_found : Writing → ℕ → Writing
 with_found w x = record { sent = w.sent; part = w.part ++ x ∷ []; known = w.known; loads = w.loads }
 
--- a number is stored in place of the payload word that was found last
-abbrev pub with_stored : Writing → ℕ → Writing
-with_stored w x = record { sent = w.sent; part = slice_set w.part (length w.part - 1) x; known = w.known; loads = w.loads }
+-- a number is stored at payload word k of the next slot: known are the words before it and this one
+abbrev pub with_stored : Writing → ℕ → ℕ → Writing
+with_stored w k x = record { sent = w.sent; part = take k w.part ++ x ∷ []; known = w.known; loads = w.loads }
 
 -- a control word is stored: the fragment is put
 abbrev pub with_put : Writing → ℕ → Writing

@@ -13,7 +13,7 @@ impl Play<(), DuoView> for FindWord {
     ghost then = { duo_finds_word };
 }
 
-/// A side stores a number in place of the payload word that it has found last.
+/// A side stores a number into a payload word of the slot that it puts into next.
 pub(crate) struct StoreWord;
 
 impl Play<(), DuoView> for StoreWord {

@@ -13,7 +13,7 @@ impl Play<(), View> for FindWord {
     ghost then = { finds_word };
 }
 
-/// The writer stores a number in place of the payload word that it has found last.
+/// The writer stores a number into a payload word of the slot that it puts into next.
 pub(crate) struct StoreWord;
 
 impl Play<(), View> for StoreWord {

@@ -30,5 +30,5 @@ returns-then-found-number c = record {
 pub returns : goal.returns
 returns c = record {
   table = c.store.ensures.0 ∙ c.load-found.ensures.0;
-  stands = found_stored c.args.seat.now.me _ _ _ _ c.load-found.ensures.2.0 c.store.ensures.2.0;
+  stands = found_stored c.args.seat.now.me _ _ _ _ _ _ c.requires.word c.load-found.ensures.2.0 c.store.ensures.2.2 c.store.ensures.2.1;
 }
