@@ -1,6 +1,6 @@
 //! Lines read: each function is a row of the table, behind the words before it.
 
-ghost use Rattle.std.specs.Prelude.{◌≡◌, option_map, is_some, if◌then◌else◌, codes, IfSome};
+ghost use Rattle.std.specs.Prelude.{◌≡◌, ◌++◌, option_map, is_some, if◌then◌else◌, codes, IfSome};
 ghost use Rattle.std.specs.Str.{bytes_eq};
 ghost use Rattle.fl_base.specs.declared.identity.Side.TheVariants.{Client, Server};
 ghost use Rattle.std.specs.Prelude.{None, Some};
@@ -451,20 +451,38 @@ fn read_heading(rest: &[u8]) -> Opening<'static>
     Opening::Unread
 }
 
+// What stands behind these bytes, where a line begins with them.
+#[inline(always)]
+fn behind<'a>(line: &'a [u8], bytes: &[u8]) -> Option<&'a [u8]>
+    ensures told { IfSome result (λ rest. line.now ≡ bytes.now ++ rest.now) }
+{
+    line.strip_prefix(bytes)
+}
+
 // The verb of a line that is repeated, where a space stands behind it, and what stands behind that.
 #[inline(always)]
 fn repeated(line: &[u8]) -> Option<(Verb, &[u8])>
     ensures told { IfSome result (λ p. line_with (command_by p.0 p.1.now) ≡ read_line line.now) }
 {
-    match line {
-        [b'c', b'a', b'l', b'l', b' ', rest @ ..] => Some((Verb::Call, rest)),
-        [b'w', b'r', b'i', b't', b'e', b' ', rest @ ..] => Some((Verb::Write, rest)),
-        [b't', b'u', b'r', b'n', b' ', rest @ ..] => Some((Verb::Turn, rest)),
-        [b's', b'h', b'o', b'w', b' ', rest @ ..] => Some((Verb::Show, rest)),
-        [b'a', b'c', b'k', b' ', rest @ ..] => Some((Verb::Ack, rest)),
-        [b'f', b'o', b'r', b'w', b'a', b'r', b'd', b' ', rest @ ..] => Some((Verb::Forward, rest)),
-        _ => None,
+    if let Some(rest) = behind(line, b"call ") {
+        return Some((Verb::Call, rest));
     }
+    if let Some(rest) = behind(line, b"write ") {
+        return Some((Verb::Write, rest));
+    }
+    if let Some(rest) = behind(line, b"turn ") {
+        return Some((Verb::Turn, rest));
+    }
+    if let Some(rest) = behind(line, b"show ") {
+        return Some((Verb::Show, rest));
+    }
+    if let Some(rest) = behind(line, b"ack ") {
+        return Some((Verb::Ack, rest));
+    }
+    if let Some(rest) = behind(line, b"forward ") {
+        return Some((Verb::Forward, rest));
+    }
+    None
 }
 
 // What a line is by its first word.
