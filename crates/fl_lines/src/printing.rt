@@ -2,7 +2,7 @@
 
 ghost use Rattle.std.specs.Prelude.{◌≡◌, ◌++◌, ◌∷◌, [], OnOk, OnErr, map};
 ghost use Rattle.std.specs.Fmt.{decimal};
-ghost use Rattle.fl_lines.specs.Commands.{end_text, a_number, an_end, back_end_row};
+ghost use Rattle.fl_lines.specs.Commands.{end_text, a_name, a_number, an_end, back_end_row};
 ghost use Rattle.fl_lines.specs.Grammar.{printed_command, printed_more};
 ghost use Rattle.fl_lines.specs.Views.{end_name_of, back_end_of, command_of};
 
@@ -35,6 +35,16 @@ fn put_end(out: &mut Vec<u8>, end: EndName<'_>) -> Result<(), AllocError>
         Side::Client => out.extend_from_slice(b".c"),
         Side::Server => out.extend_from_slice(b".s"),
     }
+}
+
+// Names, with a space before each.
+fn put_names(out: &mut Vec<u8>, names: &[&[u8]]) -> Result<(), AllocError>
+    ensures put { OnOk result (out.new.items ≡ out.old.items ++ printed_more (map (λ n. a_name n.now) names.now)) }
+{
+    for name in names {
+        put_word(out, name)?;
+    }
+    Ok(())
 }
 
 // Numbers, with a space before each.
@@ -90,6 +100,14 @@ fn put_cores(
     put_number(alloc, out, neighbour)
 }
 
+// A command's word, and names.
+fn put_named(out: &mut Vec<u8>, word: &[u8], names: &[&[u8]]) -> Result<(), AllocError>
+    ensures put { OnOk result (out.new.items ≡ out.old.items ++ (word.now ++ printed_more (map (λ n. a_name n.now) names.now))) }
+{
+    out.extend_from_slice(word)?;
+    put_names(out, names)
+}
+
 // A command, as a line without its end.
 fn put_command(alloc: Global, out: &mut Vec<u8>, command: Command<'_>) -> Result<(), AllocError>
     ensures put { OnOk result (out.new.items ≡ out.old.items ++ printed_command (command_of command.entry)) }
@@ -104,20 +122,14 @@ fn put_command(alloc: Global, out: &mut Vec<u8>, command: Command<'_>) -> Result
             put_number(alloc, out, slots)
         }
         Command::Disp { name, core } => {
-            out.extend_from_slice(b"disp")?;
-            put_word(out, name)?;
+            put_named(out, b"disp", &[name])?;
             put_number(alloc, out, core)
         }
         Command::Export {
             name,
             dispatcher,
             interface,
-        } => {
-            out.extend_from_slice(b"export")?;
-            put_word(out, name)?;
-            put_word(out, dispatcher)?;
-            put_word(out, interface)
-        }
+        } => put_named(out, b"export", &[name, dispatcher, interface]),
         Command::Bind {
             name,
             client,
@@ -125,11 +137,7 @@ fn put_command(alloc: Global, out: &mut Vec<u8>, command: Command<'_>) -> Result
             service,
             back_end,
         } => {
-            out.extend_from_slice(b"bind")?;
-            put_word(out, name)?;
-            put_word(out, client)?;
-            put_word(out, interface)?;
-            put_word(out, service)?;
+            put_named(out, b"bind", &[name, client, interface, service])?;
             put_back_end(alloc, out, back_end)
         }
         Command::Call(end, text) => {
@@ -138,10 +146,7 @@ fn put_command(alloc: Global, out: &mut Vec<u8>, command: Command<'_>) -> Result
         }
         Command::Show(end) => put_at_end(out, b"show", end),
         Command::Write(end) => put_at_end(out, b"write", end),
-        Command::Turn(dispatcher) => {
-            out.extend_from_slice(b"turn")?;
-            put_word(out, dispatcher)
-        }
+        Command::Turn(dispatcher) => put_named(out, b"turn", &[dispatcher]),
         Command::Ack(end) => put_at_end(out, b"ack", end),
         Command::Register(end) => put_at_end(out, b"register", end),
         Command::Deregister(end) => put_at_end(out, b"deregister", end),
@@ -151,8 +156,7 @@ fn put_command(alloc: Global, out: &mut Vec<u8>, command: Command<'_>) -> Result
             answer,
         } => {
             put_at_end(out, b"reply", end)?;
-            put_word(out, message)?;
-            put_word(out, answer)
+            put_names(out, &[message, answer])
         }
         Command::MonitorWrite { core, neighbour } => {
             put_cores(alloc, out, b"mwrite", core, neighbour)

@@ -1,6 +1,6 @@
 //! Lines read: each function is a row of the table, behind the words before it.
 
-ghost use Rattle.std.specs.Prelude.{◌≡◌, option_map, is_some, if◌then◌else◌, codes, IfSome};
+ghost use Rattle.std.specs.Prelude.{◌≡◌, ◌++◌, option_map, is_some, if◌then◌else◌, codes, IfSome};
 ghost use Rattle.std.specs.Str.{bytes_eq};
 ghost use Rattle.fl_base.specs.declared.identity.Side.TheVariants.{Client, Server};
 ghost use Rattle.std.specs.Prelude.{None, Some};
@@ -253,17 +253,25 @@ fn ump_row(line: &[u8]) -> Option<BackEnd<'_>>
     Some(BackEnd::Ump(one_number(line)?))
 }
 
+// Whether a word is this text.
+#[inline(always)]
+fn is_text(word: &[u8], text: &[u8]) -> bool
+    ensures same { result ≡ bytes_eq word.now text.now }
+{
+    word == text
+}
+
 fn back_end_row(line: &[u8]) -> Option<BackEnd<'_>>
     ensures same { option_map back_end_of result ≡ back_end_row line.now }
 {
     let (kind, rest) = next_word(line);
-    if kind == b"local".as_slice() {
+    if is_text(kind, b"local") {
         return local_row(rest);
     }
-    if kind == b"ump".as_slice() {
+    if is_text(kind, b"ump") {
         return ump_row(rest);
     }
-    if kind == b"hop".as_slice() {
+    if is_text(kind, b"hop") {
         return route_row(rest);
     }
     None
@@ -336,23 +344,23 @@ fn reply_row(line: &[u8]) -> Option<Command<'_>>
 fn making_verb(word: &[u8]) -> Verb
     ensures same { result ≡ making_verb_of word.now }
 {
-    if word == b"bind".as_slice() {
+    if is_text(word, b"bind") {
         Verb::Bind
-    } else if word == b"disp".as_slice() {
+    } else if is_text(word, b"disp") {
         Verb::Disp
-    } else if word == b"export".as_slice() {
+    } else if is_text(word, b"export") {
         Verb::Export
-    } else if word == b"link".as_slice() {
+    } else if is_text(word, b"link") {
         Verb::Link
-    } else if word == b"cores".as_slice() {
+    } else if is_text(word, b"cores") {
         Verb::Cores
-    } else if word == b"register".as_slice() {
+    } else if is_text(word, b"register") {
         Verb::Register
-    } else if word == b"deregister".as_slice() {
+    } else if is_text(word, b"deregister") {
         Verb::Deregister
-    } else if word == b"reply".as_slice() {
+    } else if is_text(word, b"reply") {
         Verb::Reply
-    } else if word == b"idl".as_slice() {
+    } else if is_text(word, b"idl") {
         Verb::Idl
     } else {
         Verb::Unknown
@@ -362,21 +370,21 @@ fn making_verb(word: &[u8]) -> Verb
 fn read_verb(word: &[u8]) -> Verb
     ensures same { result ≡ verb_of word.now }
 {
-    if word == b"call".as_slice() {
+    if is_text(word, b"call") {
         Verb::Call
-    } else if word == b"write".as_slice() {
+    } else if is_text(word, b"write") {
         Verb::Write
-    } else if word == b"turn".as_slice() {
+    } else if is_text(word, b"turn") {
         Verb::Turn
-    } else if word == b"ack".as_slice() {
+    } else if is_text(word, b"ack") {
         Verb::Ack
-    } else if word == b"forward".as_slice() {
+    } else if is_text(word, b"forward") {
         Verb::Forward
-    } else if word == b"mack".as_slice() {
+    } else if is_text(word, b"mack") {
         Verb::Mack
-    } else if word == b"mwrite".as_slice() {
+    } else if is_text(word, b"mwrite") {
         Verb::Mwrite
-    } else if word == b"show".as_slice() {
+    } else if is_text(word, b"show") {
         Verb::Show
     } else {
         making_verb(word)
@@ -437,10 +445,18 @@ fn read_heading(rest: &[u8]) -> Opening<'static>
     if plan.is_empty() {
         return Opening::Heading(PlanNo::Two);
     }
-    if plan == b"1".as_slice() && is_last(rest) {
+    if is_text(plan, b"1") && is_last(rest) {
         return Opening::Heading(PlanNo::One);
     }
     Opening::Unread
+}
+
+// What stands behind these bytes, where a line begins with them.
+#[inline(always)]
+fn behind<'a>(line: &'a [u8], bytes: &[u8]) -> Option<&'a [u8]>
+    ensures told { IfSome result (λ rest. line.now ≡ bytes.now ++ rest.now) }
+{
+    line.strip_prefix(bytes)
 }
 
 // The verb of a line that is repeated, where a space stands behind it, and what stands behind that.
@@ -448,15 +464,25 @@ fn read_heading(rest: &[u8]) -> Opening<'static>
 fn repeated(line: &[u8]) -> Option<(Verb, &[u8])>
     ensures told { IfSome result (λ p. line_with (command_by p.0 p.1.now) ≡ read_line line.now) }
 {
-    match line {
-        [b'c', b'a', b'l', b'l', b' ', rest @ ..] => Some((Verb::Call, rest)),
-        [b'w', b'r', b'i', b't', b'e', b' ', rest @ ..] => Some((Verb::Write, rest)),
-        [b't', b'u', b'r', b'n', b' ', rest @ ..] => Some((Verb::Turn, rest)),
-        [b's', b'h', b'o', b'w', b' ', rest @ ..] => Some((Verb::Show, rest)),
-        [b'a', b'c', b'k', b' ', rest @ ..] => Some((Verb::Ack, rest)),
-        [b'f', b'o', b'r', b'w', b'a', b'r', b'd', b' ', rest @ ..] => Some((Verb::Forward, rest)),
-        _ => None,
+    if let Some(rest) = behind(line, b"call ") {
+        return Some((Verb::Call, rest));
     }
+    if let Some(rest) = behind(line, b"write ") {
+        return Some((Verb::Write, rest));
+    }
+    if let Some(rest) = behind(line, b"turn ") {
+        return Some((Verb::Turn, rest));
+    }
+    if let Some(rest) = behind(line, b"show ") {
+        return Some((Verb::Show, rest));
+    }
+    if let Some(rest) = behind(line, b"ack ") {
+        return Some((Verb::Ack, rest));
+    }
+    if let Some(rest) = behind(line, b"forward ") {
+        return Some((Verb::Forward, rest));
+    }
+    None
 }
 
 // What a line is by its first word.
