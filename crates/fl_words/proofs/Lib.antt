@@ -1,2 +1,3 @@
 mod Asking
+mod Levels
 mod PlainWords
