@@ -57,3 +57,19 @@ one_written {A = A} image view xs k x out out2 total split e so_far =
 pub length_of_map : {A B : Type 0} (f : A → B) (xs : List A) → length (map f xs) ≡ length xs
 length_of_map f [] = refl
 length_of_map f (x ∷ xs) = ap suc (length_of_map f xs)
+
+-- whether all of a list from a place on pass a test: one more passes it, one doesn't, none is left
+pub goes_past : {A B : Type 0} (every : List B → Bool) (test : B → Bool) → ((y : B) (ys : List B) → every (y ∷ ys) ≡ (test y && every ys)) → (view : A → B) (xs : List A) (k : ℕ) (x : A) (total : Bool)
+    → k < length xs → x ≡ get_or xs k x → test (view x) ≡ true → every (map view (drop k xs)) ≡ total → every (map view (drop (k + 1) xs)) ≡ total
+goes_past every test law view xs k x total lt e passed so_far =
+    let rest = map view (drop (k + 1) xs) in
+    sym (ap every (map_from_place view xs k x lt e) ∙ law (view x) rest ∙ ap (λ (b : Bool). b && every rest) passed) ∙ so_far
+
+pub stops_at : {A B : Type 0} (every : List B → Bool) (test : B → Bool) → ((y : B) (ys : List B) → every (y ∷ ys) ≡ (test y && every ys)) → (view : A → B) (xs : List A) (k : ℕ) (x : A) (total : Bool)
+    → k < length xs → x ≡ get_or xs k x → test (view x) ≡ false → every (map view (drop k xs)) ≡ total → false ≡ total
+stops_at every test law view xs k x total lt e failed so_far =
+    let rest = map view (drop (k + 1) xs) in
+    sym (ap every (map_from_place view xs k x lt e) ∙ law (view x) rest ∙ ap (λ (b : Bool). b && every rest) failed) ∙ so_far
+
+pub all_passed : {A B : Type 0} (every : List B → Bool) → every [] ≡ true → (view : A → B) (xs : List A) (k : ℕ) (total : Bool) → length xs ≤ k → every (map view (drop k xs)) ≡ total → true ≡ total
+all_passed every none view xs k total le so_far = sym (ap every (at_end view xs k le) ∙ none) ∙ so_far

@@ -1,14 +1,14 @@
 -- What words ask for, from what `clap` made of them.
-use Rattle.std.proofs.Common.{◌≡◌, ◌∙◌, ◌⊎◌, ◌<◌, ◌^◌, inl, inr, ap, ap₂, refl, sym, arith, codes, ℕ, Bool, true, false, List, [], ◌∷◌, Option, Some, None, ◌||◌, ◌&&◌}
+use Rattle.std.proofs.Common.{◌≡◌, ◌∙◌, ◌<◌, ◌^◌, inl, inr, ap, ap₂, refl, sym, arith, codes, ℕ, Bool, true, false, List, [], ◌∷◌, Option, Some, None, ◌||◌, ◌&&◌}
 use Rattle.std.proofs.lemmas.Bool.{ltb-true, le-leb}
-use Rattle.std.specs.Prelude.{option_map, option_and_then, nat_le, nat_lt, Result, Ok, Err, MatchResult}
+use Rattle.std.specs.Prelude.{option_map, option_and_then, nat_le, nat_lt, Result, Ok, Err}
 use Rattle.std.specs.Str.Parse.{IsNumeral, ParsesUnsigned, without_leading_plus}
 use Rattle.clap.specs.ValueTests.{is_numeral}
 use Rattle.clap.specs.Matches.{ReadsOne}
 use Rattle.clap.specs.declared.builder.value_parser.ValueParser.TheVariants.{Unsigned}
 use Rattle.clap.proofs.ValueTestLemmas.{accepts-Accepts, Accepts-accepts}
 use Rattle.clap.proofs.WalkLemmas.{both}
-use Rattle.clap.specs.Words.{App, Row, Rule, Text, Kinds, app_of, rule_of, with_rule, with_subcommand, AddsArg, AddsSubcommand, HasKind, IsAmong, FailsBy, fault_of, first_of, is_simple, kind_of, HasMatchesOf, subcommand_of, subcommand_rows_of}
+use Rattle.clap.specs.Words.{App, Row, Rule, Text, Kinds, rule_of, with_rule, with_subcommand, AddsArg, AddsSubcommand, HasKind, IsAmong, fault_of, first_of, is_simple, kind_of, HasMatchesOf, subcommand_of, subcommand_rows_of}
 use Rattle.clap.specs.Faults.{is_simple_and_free}
 use Rattle.clap.specs.declared.parser.matches.ArgMatches.{ArgMatches}
 use Rattle.clap.specs.Kinds.{or_else}

@@ -1,7 +1,7 @@
 //! The words of the command line, read by `clap`.
 
 ghost use Rattle.std.specs.Prelude.{◌≡◌, false, map, option_map, IfOk, Some, codes};
-ghost use Rattle.clap.specs.Words.{FailsBy, fault_of, first_of, found_of, rows_of, rule_of, subcommand_rows_of};
+ghost use Rattle.clap.specs.Words.{FailsBy, new_app, with_rule, fault_of, first_of, found_of, rows_of, rule_of, subcommand_rows_of};
 ghost use Rattle.fl_words.specs.Words.{exec_command, bare_program, to_compile, show_command, compile_command, program, IsCommand};
 ghost use Rattle.fl_words.specs.Words.{required, compile_with_file, with_exec, with_compile, with_show};
 ghost use Rattle.fl_words.specs.Words.{turns_option, cores_with_file, cores_command, cores_asked, turns_asked, to_run_cores};
@@ -168,24 +168,33 @@ fn exec_command<'a>(alloc: Global) -> Command<'a>
         .after_help(AFTER_EXEC)
 }
 
+/// A command of this name that wants a file.
+fn with_file<'a>(
+    alloc: Global,
+    name: &'a str,
+    about: &'a str,
+    after: &'a str,
+    help: &'a str,
+) -> Result<Command<'a>, AllocError>
+    ensures is { IfOk result (IsCommand (with_rule (new_app name.now) (required (codes "FILE")))) }
+{
+    let file = Arg::new(alloc, FILE).required(true).help(help);
+    Command::new(alloc, name)
+        .about(about)
+        .after_help(after)
+        .arg(file)
+}
+
 fn show_command<'a>(alloc: Global) -> Result<Command<'a>, AllocError>
     ensures is { IfOk result (IsCommand show_command) }
 {
-    let file = Arg::new(alloc, FILE).required(true).help(HELP_SHOWN);
-    Command::new(alloc, SHOW)
-        .about(ABOUT_SHOW)
-        .after_help(AFTER_SHOW)
-        .arg(file)
+    with_file(alloc, SHOW, ABOUT_SHOW, AFTER_SHOW, HELP_SHOWN)
 }
 
 fn compile_with_file<'a>(alloc: Global) -> Result<Command<'a>, AllocError>
     ensures is { IfOk result (IsCommand compile_with_file) }
 {
-    let file = Arg::new(alloc, FILE).required(true).help(HELP_TEXT);
-    Command::new(alloc, COMPILE)
-        .about(ABOUT_COMPILE)
-        .after_help(AFTER_COMPILE)
-        .arg(file)
+    with_file(alloc, COMPILE, ABOUT_COMPILE, AFTER_COMPILE, HELP_TEXT)
 }
 
 fn out_argument<'a>(alloc: Global) -> Arg<'a>
@@ -215,11 +224,7 @@ fn turns_option<'a>(alloc: Global) -> Arg<'a>
 fn cores_with_file<'a>(alloc: Global) -> Result<Command<'a>, AllocError>
     ensures is { IfOk result (IsCommand cores_with_file) }
 {
-    let file = Arg::new(alloc, FILE).required(true).help(HELP_CORES);
-    Command::new(alloc, CORES)
-        .about(ABOUT_CORES)
-        .after_help(AFTER_CORES)
-        .arg(file)
+    with_file(alloc, CORES, ABOUT_CORES, AFTER_CORES, HELP_CORES)
 }
 
 fn cores_command<'a>(alloc: Global) -> Result<Command<'a>, AllocError>

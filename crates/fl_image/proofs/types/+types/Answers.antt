@@ -3,7 +3,7 @@ use Rattle.std.proofs.lemmas.Result.{err_from_is_err_and}
 use Rattle.std.proofs.lemmas.List.{map_push}
 use Rattle.fl_interface.specs.Interface.{TheType, type_of}
 use Rattle.fl_image.specs.Reading.{Read, Gives, type_at, many_at}
-use Rattle.fl_image.proofs.Loop.{goes_on, ends}
+use Rattle.fl_image.proofs.Loop.{goes_on, ends, is_done}
 use Rattle.fl_image.proofs.Nest.{no_code, too_deep, behind_code}
 use Rattle.fl_image.proofs.types.+types.Goals as goal
 
@@ -31,3 +31,6 @@ fixed_type-returns t c =
     let some : 0 < c.args.left = omega (arith, c.if-left-eq0.false) in
     let e = behind_code c.args.left c.in_ok-code.code c.args.bytes.now c.in_ok-code.rest.now some c.in_ok-code.ensures.reads in
     record { reads = subst (λ (r : Read TheType). Gives (λ x. (type_of x.0, x.1.now)) c.coded_type.result r) (sym e) c.coded_type.ensures.reads }
+
+pub fields-returns : goal.fields-returns
+fields-returns t c = record { reads = is_done (λ before. type_at c.args.left) (map type_of c.loop.found.items) c.args.count c.loop.counter c.loop.rest.now (many_at (type_at c.args.left) c.args.count c.args.bytes.now) c.loop-test.false c.loop.invariant }
