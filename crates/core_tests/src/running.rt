@@ -1,4 +1,5 @@
-//! One running core, over its public calls alone: over local queues, and over a ring whose other side is driven by hand.
+//! One running core, over its public calls alone: over local queues, and over a ring whose other side is driven by hand;
+//! and what the cores of a run tell one another.
 //!
 //! - `rig.rt`: cores with a binding, their jobs and their tickets
 //! - `runs.rt`: whole runs

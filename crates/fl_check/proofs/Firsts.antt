@@ -3,7 +3,7 @@ use Rattle.std.proofs.Common.{◌≡◌, ◌≤◌, ℕ, min, List, [], ◌∷�
 use Rattle.std.proofs.lemmas.Bool.{cases_lt}
 use Rattle.std.specs.List.{All, Contains}
 use Rattle.std.proofs.lemmas.List.Elements.{All-nil, All-cons, All-head, All-tail, All-weaker, All-contains, Contains-push, Contains-append_left, Contains-append_right}
-use Rattle.fl_check.specs.Places.{Place}
+use Rattle.fl_check.specs.Places.{TextPlace}
 use Rattle.fl_interface.specs.Interface.{TheInterface, TheMessage}
 use Rattle.fl_interface.specs.declared.interface.Interface.{Interface}
 use Rattle.fl_check.specs.declared.fault.CheckFault.{CheckFault}
@@ -15,7 +15,7 @@ use Rattle.fl_check.specs.Checks.{Fault, IsSound, FirstFault, least_of, fault_at
 use Rattle.fl_parse.specs.Tree.{TheTree}
 use Rattle.fl_check.proofs.FirstFaults.{none_after}
 
-abbrev told_at : Place → ℕ → Fault
+abbrev told_at : TextPlace → ℕ → Fault
 told_at p n = record { number = n; at = p.at }
 
 pub contains_head : {X : Type 0} (x : X) (xs : List X) → Contains (x ∷ xs) x
@@ -86,32 +86,32 @@ abbrev pub told : ℕ → ℕ → Fault
 told n at = record { number = n; at = at }
 
 -- the fault at a place, by the least number broken there
-tells_of : (p : Place) (o : Option ℕ) (n at : ℕ) → option_map (told_at p) o ≡ Some (told n at) → (o ≡ Some n) × (p.at ≡ at)
+tells_of : (p : TextPlace) (o : Option ℕ) (n at : ℕ) → option_map (told_at p) o ≡ Some (told n at) → (o ≡ Some n) × (p.at ≡ at)
 tells_of p None n at e = cc
 tells_of p (Some k) n at e = (let q : told k p.at ≡ told n at = cc in ap (λ (f : Fault). Some f.number) q, let q : told k p.at ≡ told n at = cc in ap (λ (f : Fault). f.at) q)
 
-none_of : (p : Place) (o : Option ℕ) → option_map (told_at p) o ≡ None → o ≡ None
+none_of : (p : TextPlace) (o : Option ℕ) → option_map (told_at p) o ≡ None → o ≡ None
 none_of p None e = refl
 none_of p (Some k) e = cc
 
-sound_at : (p : Place) → fault_at p ≡ None → IsSound p
+sound_at : (p : TextPlace) → fault_at p ≡ None → IsSound p
 sound_at p e = none_is_nil p.broken (none_of p (least_of p.broken) e)
 
-nothing_at : (p : Place) → IsSound p → fault_at p ≡ None
+nothing_at : (p : TextPlace) → IsSound p → fault_at p ≡ None
 nothing_at p e = ap (λ l. option_map (told_at p) (least_of l)) e
 
 abbrev or_else : Option Fault → Option Fault → Option Fault
 or_else o p = elim o as (λ _. Option Fault) [ None ↦ p | Some f ↦ Some f ]
 
 -- a fault at the first of these places
-first_here : (p : Place) (ps : List Place) (n at : ℕ) → fault_at p ≡ Some (told n at) → FirstFault (p ∷ ps) n at
+first_here : (p : TextPlace) (ps : List TextPlace) (n at : ℕ) → fault_at p ≡ Some (told n at) → FirstFault (p ∷ ps) n at
 first_here p ps n at e =
     let t = tells_of p (least_of p.broken) n at e in
     let l = least_is p.broken n t.0 in
     record { prefix = []; here = p; rest = ps; stands = refl; sound = All-nil IsSound; place = t.1; broken = l.0; least = l.1 }
 
 -- a sound place before these
-first_later : (p : Place) (ps : List Place) (n at : ℕ) → IsSound p → FirstFault ps n at → FirstFault (p ∷ ps) n at
+first_later : (p : TextPlace) (ps : List TextPlace) (n at : ℕ) → IsSound p → FirstFault ps n at → FirstFault (p ∷ ps) n at
 first_later p ps n at s f = record {
   prefix = p ∷ f.prefix;
   here = f.here;
@@ -123,34 +123,34 @@ first_later p ps n at s f = record {
   least = f.least;
 }
 
-first_step : (p : Place) (ps : List Place) (n at : ℕ) (o r : Option Fault) → o ≡ fault_at p → (r ≡ Some (told n at) → FirstFault ps n at) → or_else o r ≡ Some (told n at) → FirstFault (p ∷ ps) n at
+first_step : (p : TextPlace) (ps : List TextPlace) (n at : ℕ) (o r : Option Fault) → o ≡ fault_at p → (r ≡ Some (told n at) → FirstFault ps n at) → or_else o r ≡ Some (told n at) → FirstFault (p ∷ ps) n at
 first_step p ps n at None r q ih e = first_later p ps n at (sound_at p (sym q)) (ih e)
 first_step p ps n at (Some f) r q ih e = let g : fault_at p ≡ Some (told n at) = sym q ∙ e in first_here p ps n at g
 
-pub first_is : (ps : List Place) (n at : ℕ) → first_fault ps ≡ Some (told n at) → FirstFault ps n at
+pub first_is : (ps : List TextPlace) (n at : ℕ) → first_fault ps ≡ Some (told n at) → FirstFault ps n at
 unfolding first_fault
 first_is [] n at e = cc
 first_is (p ∷ ps) n at e = first_step p ps n at (fault_at p) (first_fault ps) refl (λ h. first_is ps n at h) e
 
-sound_step : (p : Place) (ps : List Place) (o r : Option Fault) → o ≡ fault_at p → (r ≡ None → All IsSound ps) → or_else o r ≡ None → All IsSound (p ∷ ps)
+sound_step : (p : TextPlace) (ps : List TextPlace) (o r : Option Fault) → o ≡ fault_at p → (r ≡ None → All IsSound ps) → or_else o r ≡ None → All IsSound (p ∷ ps)
 sound_step p ps None r q ih e = All-cons IsSound p ps (sound_at p (sym q)) (ih e)
 sound_step p ps (Some f) r q ih e = cc
 
-pub all_sound : (ps : List Place) → first_fault ps ≡ None → All IsSound ps
+pub all_sound : (ps : List TextPlace) → first_fault ps ≡ None → All IsSound ps
 unfolding first_fault
 all_sound [] e = All-nil IsSound
 all_sound (p ∷ ps) e = sound_step p ps (fault_at p) (first_fault ps) refl (λ h. all_sound ps h) e
 
-pub no_fault : (ps : List Place) → All IsSound ps → first_fault ps ≡ None
+pub no_fault : (ps : List TextPlace) → All IsSound ps → first_fault ps ≡ None
 unfolding first_fault
 no_fault [] s = refl
 no_fault (p ∷ ps) s = ap (λ o. or_else o (first_fault ps)) (nothing_at p (All-head IsSound p ps s)) ∙ no_fault ps (All-tail IsSound p ps s)
 
-here_first : (p : Place) (ps : List Place) (f : Fault) → fault_at p ≡ Some f → first_fault (p ∷ ps) ≡ Some f
+here_first : (p : TextPlace) (ps : List TextPlace) (f : Fault) → fault_at p ≡ Some f → first_fault (p ∷ ps) ≡ Some f
 unfolding first_fault
 here_first p ps f e = ap (λ o. or_else o (first_fault ps)) e
 
-pub fault_from : (ps : List Place) (n at : ℕ) → FirstFault ps n at → first_fault ps ≡ Some (told n at)
+pub fault_from : (ps : List TextPlace) (n at : ℕ) → FirstFault ps n at → first_fault ps ≡ Some (told n at)
 fault_from ps n at f =
     let l = least_from f.here.broken n (least_of f.here.broken) refl (f.broken, f.least) in
     let h : fault_at f.here ≡ Some (told n at) = ap (option_map (told_at f.here)) l ∙ ap (λ a. Some (told n a)) f.place in

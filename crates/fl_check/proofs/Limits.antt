@@ -15,7 +15,7 @@ use Rattle.std.proofs.lemmas.List.Elements.{All-nil, All-cons, All-head, All-tai
 use Rattle.fl_interface.specs.Interface.{TheType, scalar, enumeration, structure, fields_from, fixed, text, TheMessage, TheInterface}
 use Rattle.fl_check.specs.Known.{is_string, is_capability, is_built_in, scalar_named, Named, Before, declared_as, type_named, bound_or, message_from, stands_for, counted, field_type, argument_type, after, after_all, nothing_declared, call_name, response_name, ins, outs, if_in, if_out}
 use Rattle.fl_interface.specs.Limits.{is_among}
-use Rattle.fl_check.specs.Places.{Place, rule, fixed_type_place, plain_type_place, string_place, new_type_place, whole_type_place, count_place, count_places, bound_place, bound_places, listed_place, other_place, member_places, field_place, field_places, argument_place, argument_places, whole_message_place, message_name_place, rpc_name_place, declaration_places, places_from, arguments_of, argument_names, some_too_long, type_names, is_unknown, message_names}
+use Rattle.fl_check.specs.Places.{TextPlace, rule, fixed_type_place, plain_type_place, string_place, new_type_place, whole_type_place, count_place, count_places, bound_place, bound_places, listed_place, other_place, member_places, field_place, field_places, argument_place, argument_places, whole_message_place, message_name_place, rpc_name_place, declaration_places, places_from, arguments_of, argument_names, some_too_long, type_names, is_unknown, message_names}
 use Rattle.fl_interface.specs.Limits.{is_too_long}
 use Rattle.fl_check.specs.Checks.{IsSound, interface_from, places, first_fault, Checks, checked}
 use Rattle.fl_interface.specs.Limits.{is_well_made, are_well_made, is_type_within, is_argument_within, are_arguments_within, is_message_within, are_messages_within, are_distinct, is_within_limits, count_of}
@@ -53,11 +53,11 @@ not_true a e = ap not e
 
 -- ---- all places of a list
 
-pub all_prefix : (ps qs : List Place) → All IsSound (ps ++ qs) → All IsSound ps
+pub all_prefix : (ps qs : List TextPlace) → All IsSound (ps ++ qs) → All IsSound ps
 all_prefix [] qs a = All-nil IsSound
 all_prefix (p ∷ ps) qs a = All-cons IsSound p ps (All-head IsSound p (ps ++ qs) a) (all_prefix ps qs (All-tail IsSound p (ps ++ qs) a))
 
-pub all_back : (ps qs : List Place) → All IsSound (ps ++ qs) → All IsSound qs
+pub all_back : (ps qs : List TextPlace) → All IsSound (ps ++ qs) → All IsSound qs
 all_back [] qs a = a
 all_back (p ∷ ps) qs a = all_back ps qs (All-tail IsSound p (ps ++ qs) a)
 

@@ -6,7 +6,7 @@ use Rattle.fl_interface.specs.Types.{TheType, enumeration, structure, fields_fro
 use Rattle.fl_interface.specs.Depth.{is_too_big}
 use Rattle.fl_check.specs.Known.{is_string, is_capability, is_built_in, Before, stands_for, counted, field_type, messages_of, message_from, after, after_all, nothing_declared, call_name, response_name, ins, outs}
 use Rattle.fl_interface.specs.Limits.{is_among}
-use Rattle.fl_check.specs.Places.{Place, rule, is_unknown, type_names, message_names, fixed_type_place, plain_type_place, string_place, new_type_place, whole_type_place, count_place, count_places, bound_place, bound_places, listed_place, other_place, member_places, field_place, field_places, argument_names, argument_place, argument_places, some_too_long, whole_message_place, message_name_place, rpc_name_place, arguments_of, declaration_places, places_from}
+use Rattle.fl_check.specs.Places.{TextPlace, rule, is_unknown, type_names, message_names, fixed_type_place, plain_type_place, string_place, new_type_place, whole_type_place, count_place, count_places, bound_place, bound_places, listed_place, other_place, member_places, field_place, field_places, argument_names, argument_place, argument_places, some_too_long, whole_message_place, message_name_place, rpc_name_place, arguments_of, declaration_places, places_from}
 use Rattle.fl_interface.specs.Limits.{is_too_long}
 use Rattle.fl_check.specs.Checks.{IsSound, Fault, first_fault, places}
 use Rattle.fl_interface.specs.Limits.{are_arguments_within}
@@ -18,10 +18,10 @@ use Rattle.fl_check.proofs.Limits.{Kept, kept_none, kept_after, all_prefix, all_
 
 -- ---- all other places tell of other rules
 
-abbrev IsOther : Place → Type 0
+abbrev IsOther : TextPlace → Type 0
 IsOther p = All (λ n. n ≤ 20) p.broken
 
-abbrev AllOther : List Place → Type 0
+abbrev AllOther : List TextPlace → Type 0
 AllOther ps = All IsOther ps
 
 one : (n : ℕ) (a : Bool) → n ≤ 20 → All (λ k. k ≤ 20) (rule n a)
@@ -84,7 +84,7 @@ rpc_other b n =
 none : AllOther []
 none = All-nil IsOther
 
-more : (p : Place) (ps : List Place) → IsOther p → AllOther ps → AllOther (p ∷ ps)
+more : (p : TextPlace) (ps : List TextPlace) → IsOther p → AllOther ps → AllOther (p ∷ ps)
 more p ps h t = All-cons IsOther p ps h t
 
 counts_other : (count : Option TheNumber) → AllOther (count_places count)
@@ -132,11 +132,11 @@ arguments_other b others k (g ∷ args) =
     All-append IsOther (argument_place b others k g) (argument_places b names (k + 1) args)
     (argument_other b others k g.type_name g.name g.shape) (arguments_other b names (k + 1) args)
 
-back : (ps qs : List Place) → AllOther (ps ++ qs) → AllOther qs
+back : (ps qs : List TextPlace) → AllOther (ps ++ qs) → AllOther qs
 back [] qs a = a
 back (p ∷ ps) qs a = back ps qs (All-tail IsOther p (ps ++ qs) a)
 
-not_told : (ps : List Place) (at : ℕ) → AllOther ps → first_fault ps ≡ Some (told 21 at) → ⊥
+not_told : (ps : List TextPlace) (at : ℕ) → AllOther ps → first_fault ps ≡ Some (told 21 at) → ⊥
 not_told ps at a e =
     let f = first_is ps 21 at e in
     let all = subst AllOther f.stands a in
@@ -151,19 +151,19 @@ unfolding whole_message_place first_fault
 at_whole n true at e = (refl, let q : told 21 n.at ≡ told 21 at = cc in ap (λ (f : Fault). f.at) q)
 at_whole n false at e = absurd cc
 
-record AtEnd (prefix : List Place) (n : TheName) (t : Bool) (at : ℕ) : Type 0 where
+record AtEnd (prefix : List TextPlace) (n : TheName) (t : Bool) (at : ℕ) : Type 0 where
   sound : All IsSound prefix
   long : t ≡ true
   place : n.at ≡ at
 
-end_step : (prefix : List Place) (n : TheName) (t : Bool) (at : ℕ) (o : Option Fault) → first_fault prefix ≡ o → AllOther prefix
+end_step : (prefix : List TextPlace) (n : TheName) (t : Bool) (at : ℕ) (o : Option Fault) → first_fault prefix ≡ o → AllOther prefix
     → first_fault (prefix ++ whole_message_place n t ∷ []) ≡ Some (told 21 at) → AtEnd prefix n t at
 end_step prefix n t at None q a e =
     let w = at_whole n t at (sym (none_after prefix (whole_message_place n t ∷ []) q) ∙ e) in
     record { sound = all_sound prefix q; long = w.0; place = w.1 }
 end_step prefix n t at (Some f) q a e = absurd (not_told prefix at a (q ∙ sym (fault_prefix prefix (whole_message_place n t ∷ []) f q) ∙ e))
 
-at_end : (prefix : List Place) (n : TheName) (t : Bool) (at : ℕ) → AllOther prefix → first_fault (prefix ++ whole_message_place n t ∷ []) ≡ Some (told 21 at) → AtEnd prefix n t at
+at_end : (prefix : List TextPlace) (n : TheName) (t : Bool) (at : ℕ) → AllOther prefix → first_fault (prefix ++ whole_message_place n t ∷ []) ≡ Some (told 21 at) → AtEnd prefix n t at
 at_end prefix n t at a e = end_step prefix n t at (first_fault prefix) refl a e
 
 -- ---- one of several messages is too long
@@ -292,7 +292,7 @@ sound_there : (b : Before) (before : List TheDeclaration) (d : TheDeclaration) (
 sound_there b [] d rest s = all_prefix (declaration_places b d) (places_from (after b d) rest) s
 sound_there b (x ∷ before) d rest s = sound_there (after b x) before d rest (all_back (declaration_places b x) (places_from (after b x) (before ++ d ∷ rest)) s)
 
-not_long : (ms : List TheMessage) (m : TheMessage) (prefix : List Place) (n : TheName) → All IsSound (prefix ++ whole_message_place n (some_too_long ms) ∷ []) → Contains ms m → is_too_long m ≡ true → ⊥
+not_long : (ms : List TheMessage) (m : TheMessage) (prefix : List TextPlace) (n : TheName) → All IsSound (prefix ++ whole_message_place n (some_too_long ms) ∷ []) → Contains ms m → is_too_long m ≡ true → ⊥
 not_long ms m prefix n s c e =
     let last = whole_message_place n (some_too_long ms) in
     let t = too_long_sound n (some_too_long ms) (All-head IsSound last [] (all_back prefix (last ∷ []) s)) in

@@ -3,7 +3,7 @@ use Rattle.std.proofs.Common.{◌≡◌, ◌<◌, ℕ, zero, suc, ◌+◌, nat_e
 use Rattle.std.specs.List.{All}
 use Rattle.std.specs.Result.{IsErrAnd}
 use Rattle.fl_check.specs.Known.{Before, nothing_declared}
-use Rattle.fl_check.specs.Places.{Place, other_place, new_type_place, field_place, field_places, declaration_places, places_from, first_look, first_looks}
+use Rattle.fl_check.specs.Places.{TextPlace, other_place, new_type_place, field_place, field_places, declaration_places, places_from, first_look, first_looks}
 use Rattle.fl_check.specs.Checks.{IsSound, first_fault}
 use Rattle.fl_check.specs.Faults.{ComesAfter}
 use Rattle.fl_check.specs.declared.fault.CheckFault.{CheckFault}
@@ -17,22 +17,22 @@ use Rattle.fl_check.proofs.Firsts.{all_sound}
 
 -- ---- errors
 
-pub sound_before : (e : CheckFault) (looks : List Place) → first_fault looks ≡ None → ComesAfter e looks
+pub sound_before : (e : CheckFault) (looks : List TextPlace) → first_fault looks ≡ None → ComesAfter e looks
 sound_before (Broken r at) looks h = tt
 sound_before Memory looks h = h
 
 -- the error of a `?` is the callee's
-pub err_after : {T : Type 0} (r : Result T CheckFault) (e : CheckFault) (looks : List Place) → IsErrAnd r (λ x. x ≡ e) → ComesAfter e looks
+pub err_after : {T : Type 0} (r : Result T CheckFault) (e : CheckFault) (looks : List TextPlace) → IsErrAnd r (λ x. x ≡ e) → ComesAfter e looks
     → IfErr r (λ x. ComesAfter x looks)
 err_after (Ok v) e looks h t = absurd h
 err_after (Err x) e looks h t = subst (λ y. ComesAfter y looks) (sym h) t
 
 -- a call behind the first look
-pub call_after : {T : Type 0} (r : Result T CheckFault) (looks : List Place) → first_fault looks ≡ None → IfErr r (λ x. ComesAfter x looks)
+pub call_after : {T : Type 0} (r : Result T CheckFault) (looks : List TextPlace) → first_fault looks ≡ None → IfErr r (λ x. ComesAfter x looks)
 call_after (Ok v) looks h = tt
 call_after (Err x) looks h = sound_before x looks h
 
-pub memory_sound : {T : Type 0} (r : Result T CheckFault) (e : CheckFault) (looks : List Place) → IsErrAnd r (λ x. x ≡ e) → ComesAfter e looks
+pub memory_sound : {T : Type 0} (r : Result T CheckFault) (e : CheckFault) (looks : List TextPlace) → IsErrAnd r (λ x. x ≡ e) → ComesAfter e looks
     → IfErr r (λ x. x ≡ Memory → All IsSound looks)
 memory_sound (Ok v) e looks h t = absurd h
 memory_sound (Err x) e looks h t = λ m. all_sound looks (subst (λ y. ComesAfter y looks) (sym h ∙ m) t)
@@ -83,10 +83,10 @@ memory_after (Err x) ds h = λ m. looks_sound ds h
 -- ---- loops
 
 -- before part i of a loop, with s before that part: the first part has s0 before it, and after it its look found nothing
-abbrev pub Looked : {S X : Type 0} → (List X → List Place) → S → S → List X → ℕ → Type 0
+abbrev pub Looked : {S X : Type 0} → (List X → List TextPlace) → S → S → List X → ℕ → Type 0
 Looked look s0 s xs i = (i ≡ 0 → s ≡ s0) × (0 < i → first_fault (look xs) ≡ None)
 
-pub looked_fault : {S X : Type 0} (look : List X → List Place) (here : S → X → List Place) (s0 s : S) (e : CheckFault) (xs : List X) (i : ℕ) (x d : X)
+pub looked_fault : {S X : Type 0} (look : List X → List TextPlace) (here : S → X → List TextPlace) (s0 s : S) (e : CheckFault) (xs : List X) (i : ℕ) (x d : X)
     → ((x : X) (xs : List X) → look (x ∷ xs) ≡ here s0 x) → i < length xs → x ≡ get_or xs i d → Looked look s0 s xs i → ComesAfter e (here s x)
     → ComesAfter e (look xs)
 looked_fault look here s0 s e [] i x d same h q l t = absurd (omega (arith, h))
@@ -95,13 +95,13 @@ looked_fault look here s0 s e (y ∷ ys) zero x d same h q l t =
     subst (ComesAfter e) (sym (same y ys)) (subst (λ z. ComesAfter e (here s0 z)) first (subst (λ z. ComesAfter e (here z x)) (l.0 refl) t))
 looked_fault look here s0 s e (y ∷ ys) (suc i) x d same h q l t = sound_before e (look (y ∷ ys)) (l.1 (omega arith))
 
-pub looked_on : {S X : Type 0} (look : List X → List Place) (here : S → X → List Place) (s0 s s2 : S) (xs : List X) (i : ℕ) (x d : X)
+pub looked_on : {S X : Type 0} (look : List X → List TextPlace) (here : S → X → List TextPlace) (s0 s s2 : S) (xs : List X) (i : ℕ) (x d : X)
     → ((x : X) (xs : List X) → look (x ∷ xs) ≡ here s0 x) → i < length xs → x ≡ get_or xs i d → Looked look s0 s xs i → first_fault (here s x) ≡ None
     → Looked look s0 s2 xs (i + 1)
 looked_on look here s0 s s2 xs i x d same h q l t =
     (λ e. absurd (omega (arith, e)), λ _. looked_fault look here s0 s Memory xs i x d same h q l t)
 
-abbrev pub fields_look : Before → List Field → List Place
+abbrev pub fields_look : Before → List Field → List TextPlace
 fields_look b fs = take 1 (field_places b [] (map field_of fs))
 
 pub field_looked : (b : Before) (s : List (List ℕ)) (e : CheckFault) (fs : List Field) (i : ℕ) (f d : Field) → i < length fs → f ≡ get_or fs i d
@@ -113,7 +113,7 @@ pub field_looked_on : (b : Before) (s s2 : List (List ℕ)) (fs : List Field) (i
 field_looked_on b s s2 fs i f d h q l sound =
     looked_on (fields_look b) (λ s f. take 1 (field_place b s (field_of f))) [] s s2 fs i f d (λ x xs. refl) h q l (first_sound (field_place b s (field_of f)) sound)
 
-abbrev pub declarations_look : List Declaration → List Place
+abbrev pub declarations_look : List Declaration → List TextPlace
 declarations_look ds = first_looks (map declaration_of ds)
 
 pub declaration_looked : (b : Before) (e : CheckFault) (ds : List Declaration) (i : ℕ) (x d : Declaration) → i < length ds → x ≡ get_or ds i d

@@ -1,7 +1,7 @@
 -- Loops over the parts of a tree: what is still to be looked at, and the first fault there.
 use Rattle.std.proofs.Common.{◌≡◌, ◌≤◌, ◌<◌, ℕ, ◌+◌, List, [], ◌∷◌, ◌++◌, length, drop, take, map, get_or, Option, None, refl, sym, ap, ◌∙◌, subst}
 use Rattle.std.proofs.lemmas.List.{drop_more, drop_all, take_more, take_all, map_push}
-use Rattle.fl_check.specs.Places.{Place}
+use Rattle.fl_check.specs.Places.{TextPlace}
 use Rattle.fl_check.specs.Checks.{Fault, first_fault}
 use Rattle.fl_check.specs.Faults.{Tells}
 use Rattle.fl_check.specs.declared.fault.CheckFault.{CheckFault}
@@ -12,23 +12,23 @@ unfolding first_fault
 no_places = refl
 
 -- F s xs are the places of the parts xs, where s stands before them; P s x those of the part x
-pub record IsWalk {S X : Type 0} (F : S → List X → List Place) (P : S → X → List Place) (next : S → X → S) : Type 0 where
+pub record IsWalk {S X : Type 0} (F : S → List X → List TextPlace) (P : S → X → List TextPlace) (next : S → X → S) : Type 0 where
   pub step : (s : S) (x : X) (xs : List X) → F s (x ∷ xs) ≡ P s x ++ F (next s x) xs
   pub stop : (s : S) → F s [] ≡ []
 
-turn : {S X : Type 0} (F : S → List X → List Place) (P : S → X → List Place) (next : S → X → S) → IsWalk F P next → (s : S) (xs : List X) (i : ℕ) (x d : X) → i < length xs → x ≡ get_or xs i d → F s (drop i xs) ≡ P s x ++ F (next s x) (drop (i + 1) xs)
+turn : {S X : Type 0} (F : S → List X → List TextPlace) (P : S → X → List TextPlace) (next : S → X → S) → IsWalk F P next → (s : S) (xs : List X) (i : ℕ) (x d : X) → i < length xs → x ≡ get_or xs i d → F s (drop i xs) ≡ P s x ++ F (next s x) (drop (i + 1) xs)
 turn F P next w s xs i x d h q =
     ap (F s) (drop_more xs i d h) ∙ ap (λ y. F s (y ∷ drop (i + 1) xs)) (sym q) ∙ w.step s x (drop (i + 1) xs)
 
-pub walk_on : {S X : Type 0} (F : S → List X → List Place) (P : S → X → List Place) (next : S → X → S) → IsWalk F P next → (whole : Option Fault) (s s2 : S) (xs : List X) (i : ℕ) (x d : X) → i < length xs → x ≡ get_or xs i d → whole ≡ first_fault (F s (drop i xs)) → first_fault (P s x) ≡ None → s2 ≡ next s x → whole ≡ first_fault (F s2 (drop (i + 1) xs))
+pub walk_on : {S X : Type 0} (F : S → List X → List TextPlace) (P : S → X → List TextPlace) (next : S → X → S) → IsWalk F P next → (whole : Option Fault) (s s2 : S) (xs : List X) (i : ℕ) (x d : X) → i < length xs → x ≡ get_or xs i d → whole ≡ first_fault (F s (drop i xs)) → first_fault (P s x) ≡ None → s2 ≡ next s x → whole ≡ first_fault (F s2 (drop (i + 1) xs))
 walk_on F P next w whole s s2 xs i x d h q inv sound more =
     inv ∙ ap first_fault (turn F P next w s xs i x d h q) ∙ none_after (P s x) (F (next s x) (drop (i + 1) xs)) sound ∙ ap (λ t. first_fault (F t (drop (i + 1) xs))) (sym more)
 
-pub walk_fault : {S X : Type 0} (F : S → List X → List Place) (P : S → X → List Place) (next : S → X → S) → IsWalk F P next → (whole : Option Fault) (e : CheckFault) (s : S) (xs : List X) (i : ℕ) (x d : X) → i < length xs → x ≡ get_or xs i d → whole ≡ first_fault (F s (drop i xs)) → Tells e (first_fault (P s x)) → Tells e whole
+pub walk_fault : {S X : Type 0} (F : S → List X → List TextPlace) (P : S → X → List TextPlace) (next : S → X → S) → IsWalk F P next → (whole : Option Fault) (e : CheckFault) (s : S) (xs : List X) (i : ℕ) (x d : X) → i < length xs → x ≡ get_or xs i d → whole ≡ first_fault (F s (drop i xs)) → Tells e (first_fault (P s x)) → Tells e whole
 walk_fault F P next w whole e s xs i x d h q inv told =
     subst (Tells e) (sym (inv ∙ ap first_fault (turn F P next w s xs i x d h q))) (tells_prefix e (P s x) (F (next s x) (drop (i + 1) xs)) told)
 
-pub walk_end : {S X : Type 0} (F : S → List X → List Place) (P : S → X → List Place) (next : S → X → S) → IsWalk F P next → (whole : Option Fault) (s : S) (xs : List X) (i : ℕ) → length xs ≤ i → whole ≡ first_fault (F s (drop i xs)) → whole ≡ None
+pub walk_end : {S X : Type 0} (F : S → List X → List TextPlace) (P : S → X → List TextPlace) (next : S → X → S) → IsWalk F P next → (whole : Option Fault) (s : S) (xs : List X) (i : ℕ) → length xs ≤ i → whole ≡ first_fault (F s (drop i xs)) → whole ≡ None
 walk_end F P next w whole s xs i h inv =
     inv ∙ ap (λ l. first_fault (F s l)) (drop_all i xs h) ∙ ap first_fault (w.stop s) ∙ no_places
 

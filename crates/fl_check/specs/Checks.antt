@@ -3,15 +3,15 @@ use Rattle.std.specs.Prelude.{◌≡◌, ◌≤◌, ℕ, List, [], ◌∷◌, �
 use Rattle.std.specs.Prelude.{option_map, min}
 use Rattle.fl_interface.specs.Types.{TheInterface}
 use Rattle.fl_check.specs.Known.{nothing_declared, after_all}
-use Rattle.fl_check.specs.Places.{Place, places_from}
+use Rattle.fl_check.specs.Places.{TextPlace, places_from}
 use Rattle.fl_parse.specs.Tree.{TheTree}
 
 -- all places of a tree, in the order in which they are looked at
-abbrev pub places : TheTree → List Place
+abbrev pub places : TheTree → List TextPlace
 places tree = places_from nothing_declared tree.declarations
 
 -- no rule is broken at a place
-abbrev pub IsSound : Place → Type 0
+abbrev pub IsSound : TextPlace → Type 0
 IsSound p = p.broken ≡ []
 
 -- the tree's name, and the messages of its declarations with each type's name replaced by its type
@@ -23,10 +23,10 @@ abbrev pub StandsFor : TheTree → TheInterface → Type 0
 StandsFor tree i = All IsSound (places tree) × (i ≡ interface_from tree)
 
 -- the first place at which a rule is broken, and the least number of those broken there
-pub record FirstFault (ps : List Place) (number at : ℕ) : Type 0 where
-  pub prefix : List Place
-  pub here : Place
-  pub rest : List Place
+pub record FirstFault (ps : List TextPlace) (number at : ℕ) : Type 0 where
+  pub prefix : List TextPlace
+  pub here : TextPlace
+  pub rest : List TextPlace
   pub stands : ps ≡ prefix ++ here ∷ rest
   pub sound : All IsSound prefix
   pub place : here.at ≡ at
@@ -55,10 +55,10 @@ abbrev pub least_of : List ℕ → Option ℕ
 least_of [] = None
 least_of (n ∷ ns) = elim (least_of ns) as (λ _. Option ℕ) [ None ↦ Some n | Some m ↦ Some (min n m) ]
 
-abbrev pub fault_at : Place → Option Fault
+abbrev pub fault_at : TextPlace → Option Fault
 fault_at p = option_map (λ n. record { number = n; at = p.at }) (least_of p.broken)
 
 -- the first fault at these places
-unfoldable pub first_fault : List Place → Option Fault
+unfoldable pub first_fault : List TextPlace → Option Fault
 first_fault [] = None
 first_fault (p ∷ ps) = elim (fault_at p) as (λ _. Option Fault) [ None ↦ first_fault ps | Some f ↦ Some f ]

@@ -5,7 +5,7 @@ use Rattle.fl_check.specs.declared.fault.Rule.TheVariants.{TypeNameTaken, Unknow
 use Rattle.fl_check.specs.declared.fault.Rule.TheVariants.{TooBig, NotFixed, TooMany, BadBound, TooLong}
 use Rattle.fl_check.specs.declared.fault.CheckFault.{CheckFault}
 use Rattle.fl_check.specs.declared.fault.CheckFault.TheVariants.{Broken, Memory}
-use Rattle.fl_check.specs.Places.{Place}
+use Rattle.fl_check.specs.Places.{TextPlace}
 use Rattle.fl_check.specs.Checks.{Fault, first_fault}
 
 abbrev pub rule_number : Rule → ℕ
@@ -37,6 +37,6 @@ Tells (Broken r at) f = f ≡ Some (record { number = rule_number r; at = at })
 Tells Memory f = Unit {0}
 
 -- out of memory comes after a look at these places, which found nothing
-abbrev pub ComesAfter : CheckFault → List Place → Type 0
+abbrev pub ComesAfter : CheckFault → List TextPlace → Type 0
 ComesAfter (Broken r at) looks = Unit {0}
 ComesAfter Memory looks = first_fault looks ≡ None

@@ -36,7 +36,7 @@ pub record Unread (file : List ℕ) (deeds : List Deed) (status : ℕ) : Type 0 
 -- ---- compile FILE OUT
 
 -- FILE was read and its text stands for an interface; then OUT was written: the interface's image under plan 2
-pub record Compiled (file out : List ℕ) (deeds : List Deed) (status : ℕ) : Type 0 where
+pub record WritesImage (file out : List ℕ) (deeds : List Deed) (status : ℕ) : Type 0 where
   pub bytes : List ℕ
   pub interface : TheInterface
   pub stands : StandsFor bytes interface
@@ -64,7 +64,7 @@ pub record NotWritten (file out : List ℕ) (deeds : List Deed) (status : ℕ) :
 
 abbrev pub Compiles : List ℕ → List ℕ → ℕ → List Deed → Type 0
 Compiles file out status deeds =
-    Compiled file out deeds status ⊎ (Unread file deeds status ⊎ (NotCompiled file deeds status ⊎ NotWritten file out deeds status))
+    WritesImage file out deeds status ⊎ (Unread file deeds status ⊎ (NotCompiled file deeds status ⊎ NotWritten file out deeds status))
 
 -- ---- show FILE
 

@@ -17,7 +17,7 @@ use Rattle.fl_machine.specs.Receiving.{Stand, Between, Inside, After, Before}
 use Rattle.fl_machine.specs.Taking.{Stands, so_far}
 use Rattle.fl_machine.specs.declared.intake.Fed.{Fed}
 use Rattle.fl_machine.specs.declared.intake.Fed.TheVariants.{Part, Whole}
-use Rattle.fl_machine.specs.Receiving.{TheHeld, TheStored, receiving, fed_of, fed_before, block_at, frags_begun, tape_before, numbers_in, IsStand, GoesOnFrom, IsBefore, IsStored}
+use Rattle.fl_machine.specs.Receiving.{TheHeld, TheStored, receiving, fed_of, fed_before, block_at, frags_begun, tape_before, numbers_in, IsStand, CountsNow, IsBefore, IsStored}
 use Rattle.fl_machine.specs.Receiving.{Adds, AddsPart, AddsLast, Feeds, stand_after, HoldsTapes, HoldsTwo, HasPlaces}
 
 -- ---- room
@@ -120,20 +120,20 @@ before_same : (plan : PlanNo) (i : TheInterface) (n : ℕ) (tape tape2 spare : L
 before_same plan i n tape tape2 spare None same x = tt
 before_same plan i n tape tape2 spare (Some b) same (stands, few) = (by_tape b.began refl few stands, few)
   where
-    by_tape : (v : Bool) → b.began ≡ v → GoesOnFrom b.began (numbers_in b.stand) n → IsStand plan i (tape_before tape spare b) b.stand → IsStand plan i (tape_before tape2 spare b) b.stand
+    by_tape : (v : Bool) → b.began ≡ v → CountsNow b.began (numbers_in b.stand) n → IsStand plan i (tape_before tape spare b) b.stand → IsStand plan i (tape_before tape2 spare b) b.stand
     by_tape true e few x = rw e (rw e at x)
     by_tape false e few x =
-        let less : numbers_in b.stand ≤ n = subst (λ (v : Bool). GoesOnFrom v (numbers_in b.stand) n) e few in
+        let less : numbers_in b.stand ≤ n = subst (λ (v : Bool). CountsNow v (numbers_in b.stand) n) e few in
         rw e (stand_same plan i n tape tape2 b.stand same less (rw e at x))
 
 fed_before_same : (plan : PlanNo) (i : TheInterface) (n : ℕ) (tape tape2 spare : List ℕ) (o : Option Before) → Same n tape tape2 → IsBefore plan i tape spare n o → fed_before plan i tape2 spare o ≡ fed_before plan i tape spare o
 fed_before_same plan i n tape tape2 spare None same x = refl
 fed_before_same plan i n tape tape2 spare (Some b) same (stands, few) = ap Some (by_tape b.began refl few)
   where
-    by_tape : (v : Bool) → b.began ≡ v → GoesOnFrom b.began (numbers_in b.stand) n → fed_of plan i (tape_before tape2 spare b) b.stand ≡ fed_of plan i (tape_before tape spare b) b.stand
+    by_tape : (v : Bool) → b.began ≡ v → CountsNow b.began (numbers_in b.stand) n → fed_of plan i (tape_before tape2 spare b) b.stand ≡ fed_of plan i (tape_before tape spare b) b.stand
     by_tape true e few = rw e refl
     by_tape false e few =
-        let less : numbers_in b.stand ≤ n = subst (λ (v : Bool). GoesOnFrom v (numbers_in b.stand) n) e few in
+        let less : numbers_in b.stand ≤ n = subst (λ (v : Bool). CountsNow v (numbers_in b.stand) n) e few in
         rw e (fed_same plan i n tape tape2 b.stand same less)
 
 pub stored_same : (plan : PlanNo) (i : TheInterface) (s : TheStored) (b : Begun) (tape2 : List ℕ) → s.stand ≡ Inside b → Same b.intake.count s.tape tape2 → IsStored plan i s → IsStored plan i (with_tape tape2 s)
@@ -201,12 +201,12 @@ before_moved : (plan : PlanNo) (i : TheInterface) (n : ℕ) (tape tape2 spare sp
 before_moved plan i n tape tape2 spare spare2 None many same x = tt
 before_moved plan i n tape tape2 spare spare2 (Some b) many same (stands, few) = (by_tape b.began refl few stands, few)
   where
-    by_tape : (v : Bool) → b.began ≡ v → GoesOnFrom b.began (numbers_in b.stand) n → IsStand plan i (tape_before tape spare b) b.stand → IsStand plan i (tape_before tape2 spare2 b) b.stand
+    by_tape : (v : Bool) → b.began ≡ v → CountsNow b.began (numbers_in b.stand) n → IsStand plan i (tape_before tape spare b) b.stand → IsStand plan i (tape_before tape2 spare2 b) b.stand
     by_tape true e few x =
-        let less : n ≤ 56 = subst (λ (v : Bool). GoesOnFrom v (numbers_in b.stand) n) e few in
+        let less : n ≤ 56 = subst (λ (v : Bool). CountsNow v (numbers_in b.stand) n) e few in
         absurd (omega (arith, less, many))
     by_tape false e few x =
-        let less : numbers_in b.stand ≤ n = subst (λ (v : Bool). GoesOnFrom v (numbers_in b.stand) n) e few in
+        let less : numbers_in b.stand ≤ n = subst (λ (v : Bool). CountsNow v (numbers_in b.stand) n) e few in
         rw e (stand_same plan i n tape tape2 b.stand same less (rw e at x))
 
 fed_before_moved : (plan : PlanNo) (i : TheInterface) (n : ℕ) (tape tape2 spare spare2 : List ℕ) (o : Option Before) → 56 < n → Same n tape tape2 → IsBefore plan i tape spare n o
@@ -214,12 +214,12 @@ fed_before_moved : (plan : PlanNo) (i : TheInterface) (n : ℕ) (tape tape2 spar
 fed_before_moved plan i n tape tape2 spare spare2 None many same x = refl
 fed_before_moved plan i n tape tape2 spare spare2 (Some b) many same (stands, few) = ap Some (by_tape b.began refl few)
   where
-    by_tape : (v : Bool) → b.began ≡ v → GoesOnFrom b.began (numbers_in b.stand) n → fed_of plan i (tape_before tape2 spare2 b) b.stand ≡ fed_of plan i (tape_before tape spare b) b.stand
+    by_tape : (v : Bool) → b.began ≡ v → CountsNow b.began (numbers_in b.stand) n → fed_of plan i (tape_before tape2 spare2 b) b.stand ≡ fed_of plan i (tape_before tape spare b) b.stand
     by_tape true e few =
-        let less : n ≤ 56 = subst (λ (v : Bool). GoesOnFrom v (numbers_in b.stand) n) e few in
+        let less : n ≤ 56 = subst (λ (v : Bool). CountsNow v (numbers_in b.stand) n) e few in
         absurd (omega (arith, less, many))
     by_tape false e few =
-        let less : numbers_in b.stand ≤ n = subst (λ (v : Bool). GoesOnFrom v (numbers_in b.stand) n) e few in
+        let less : numbers_in b.stand ≤ n = subst (λ (v : Bool). CountsNow v (numbers_in b.stand) n) e few in
         rw e (fed_same plan i n tape tape2 b.stand same less)
 
 pub moved_stored : (plan : PlanNo) (i : TheInterface) (s : TheStored) (b : Begun) (tape2 spare2 fresh2 : List ℕ) → s.stand ≡ Inside b → 56 < b.intake.count

@@ -247,16 +247,16 @@ numbers_in Between = 0
 numbers_in (Inside b) = b.intake.count
 numbers_in (After e) = e.count
 
--- where the last accepted feed began a call, the numbers now are no more than one fragment's, 56; else those of before are
--- among the first of them
-abbrev pub GoesOnFrom : Bool → ℕ → ℕ → Type 0
-GoesOnFrom true before count = count ≤ 56
-GoesOnFrom false before count = before ≤ count
+-- how many numbers there are now: no more than one fragment's, 56, where the last accepted feed began a call; else no fewer
+-- than before
+abbrev pub CountsNow : Bool → ℕ → ℕ → Type 0
+CountsNow true before count = count ≤ 56
+CountsNow false before count = before ≤ count
 
--- what was before stands on its tape, and the numbers now are behind it
+-- what was before stands on its tape, and the numbers now are so many
 abbrev pub IsBefore : PlanNo → TheInterface → List ℕ → List ℕ → ℕ → Option Before → Type 0
 IsBefore plan i tape spare count None = Unit {0}
-IsBefore plan i tape spare count (Some b) = IsStand plan i (tape_before tape spare b) b.stand × GoesOnFrom b.began (numbers_in b.stand) count
+IsBefore plan i tape spare count (Some b) = IsStand plan i (tape_before tape spare b) b.stand × CountsNow b.began (numbers_in b.stand) count
 
 -- each tape has room for the numbers of two fragments, and the longest for each call's
 pub record IsStored (plan : PlanNo) (i : TheInterface) (s : TheStored) : Type 0 where

@@ -7,10 +7,11 @@
 --   the next payload word of the slot that is put into next is loaded: the side knows fewer than
 --     seven, and fewer than n fragments are sent beyond those known to be told
 --   a number is stored into a payload word of that slot: the side knows each payload word before that
---     one, and fewer than n fragments are sent beyond those known to be told. What it knew from that
---     word on it knows no more
+--     one, and fewer than n fragments are sent beyond those known to be told. Then it knows those words
+--     and this one, and none behind it
 --   a control word is stored, with the epoch due and the number got: the side knows all seven
---     payload words. It tells all that the side got
+--     payload words, the slot is free by what it knows, and fewer than 2^62 fragments are sent. It
+--     tells all that the side got
 --   the control word of the slot that is read next is loaded. Where it has the epoch due, the side
 --     knows the count that its number names; else it knows what it knew
 --   a payload word of that slot is loaded: the epoch due was seen
@@ -186,7 +187,7 @@ take_word v k = slot (other_of v.holder v.size) v.size (length v.mine.take.got) 
 abbrev pub HasSlot : DuoView → Type 0
 HasSlot v = length v.mine.put.sent < v.mine.put.known + v.size
 
--- of the slot that is put into next, which is free, this is the first of the seven payload words that the side doesn't know yet
+-- of the seven payload words of the slot that is put into next, which is free, this is the first that the side doesn't know yet
 abbrev pub IsNextWord : ℕ → DuoView → Type 0
 IsNextWord word v = (word ≡ put_word v (length v.mine.put.part)) × (length v.mine.put.part < 7) × HasSlot v
 
@@ -203,7 +204,8 @@ DuoPlayer = Step (Unit {0}) → Me (Unit {0}) DuoView → ℕ → Me (Unit {0}) 
 abbrev pub duo_finds_word : DuoPlayer
 duo_finds_word st m x m' = (m' ≡ (with_mine m.0 (side_found m.0.mine x), m.1)) × IsNextWord st.word m.0
 
--- at the first word not known this makes the part longer by one, at the last word known it puts this number in its place
+-- at the first word not known this makes the part longer by one; at a word that is known it puts this number in its place, and
+-- those behind it aren't known any more
 abbrev pub duo_stores_word : DuoPlayer
 duo_stores_word st m x m' = (k : ℕ) × (m' ≡ (with_mine m.0 (side_stored m.0.mine k x), m.1)) × IsPayloadWord st.word k m.0
 

@@ -7,8 +7,10 @@
 --   the writer loads the next payload word of the slot that it puts into next: it knows fewer than seven, and
 --     fewer than n fragments are sent beyond those known to be told
 --   the writer stores a number into a payload word of that slot: it knows each payload word before that one, and
---     fewer than n fragments are sent beyond those known to be told. What it knew from that word on it knows no more
---   the writer stores the control word, with the epoch due: it knows all seven payload words
+--     fewer than n fragments are sent beyond those known to be told. Then it knows those words and this one, and none
+--     behind it
+--   the writer stores the control word, with the epoch due: it knows all seven payload words, the slot is free by
+--     what it knows, and fewer than 2^62 fragments are sent
 --   the writer loads the number told
 --   the reader loads the control word of the slot that it reads next
 --   the reader loads a payload word of that slot: it has seen the epoch due
@@ -100,7 +102,7 @@ told_word v = 8 * v.size
 abbrev pub HasSlot : View → Type 0
 HasSlot v = length v.put.sent < v.put.known + v.size
 
--- of the slot that is put into next, which is free, this is the first of the seven payload words that the writer doesn't know yet
+-- of the seven payload words of the slot that is put into next, which is free, this is the first that the writer doesn't know yet
 abbrev pub IsNextWord : ℕ → View → Type 0
 IsNextWord word v = (word ≡ put_word v (length v.put.part)) × (length v.put.part < 7) × HasSlot v
 
@@ -117,7 +119,8 @@ Player = Step (Unit {0}) → Me (Unit {0}) View → ℕ → Me (Unit {0}) View �
 abbrev pub finds_word : Player
 finds_word st m x m' = (m' ≡ (with_writing m.0 (with_found m.0.put x), m.1)) × IsNextWord st.word m.0
 
--- at the first word not known this makes the part longer by one, at the last word known it puts this number in its place
+-- at the first word not known this makes the part longer by one; at a word that is known it puts this number in its place, and
+-- those behind it aren't known any more
 abbrev pub stores_word : Player
 stores_word st m x m' = (k : ℕ) × (m' ≡ (with_writing m.0 (with_stored m.0.put k x), m.1)) × IsPayloadWord st.word k m.0
 

@@ -19,7 +19,7 @@ const REFUSED: &[u8] = b"interface i { message m(cap c); }";
 
 // What `compile` makes of a file: its content, errors of reading and of writing; and the status, how often it is written, and what is
 // told: none for whatever it may be.
-struct Compiled {
+struct CompileRow {
     content: &'static [u8],
     unread: Option<io::ErrorKind>,
     unwritten: Option<io::ErrorKind>,
@@ -27,7 +27,7 @@ struct Compiled {
     told: Option<&'static [u8]>,
 }
 
-const WRITTEN: Compiled = Compiled {
+const WRITTEN: CompileRow = CompileRow {
     content: PING,
     unread: None,
     unwritten: None,
@@ -35,7 +35,7 @@ const WRITTEN: Compiled = Compiled {
     told: Some(b""),
 };
 
-const REFUSED_TEXT: Compiled = Compiled {
+const REFUSED_TEXT: CompileRow = CompileRow {
     content: REFUSED,
     unread: None,
     unwritten: None,
@@ -51,7 +51,7 @@ help: leave the argument out
 };
 
 // An image begins like a word, and its version's byte begins no token.
-const REFUSED_IMAGE: Compiled = Compiled {
+const REFUSED_IMAGE: CompileRow = CompileRow {
     content: b"FLND\x02\x00",
     unread: None,
     unwritten: None,
@@ -71,43 +71,43 @@ const OTHER: Option<io::ErrorKind> = Some(io::ErrorKind::Other);
 const FULL: Option<io::ErrorKind> = Some(io::ErrorKind::OutOfMemory);
 
 // Reading the file, its content, writing. A text is compiled, and nothing else.
-const FIRST_FAULTS: &[Compiled] = &[
-    Compiled {
+const FIRST_FAULTS: &[CompileRow] = &[
+    CompileRow {
         content: REFUSED,
         unread: OTHER,
         unwritten: OTHER,
         ends: (4, 0),
         told: None,
     },
-    Compiled {
+    CompileRow {
         content: REFUSED,
         unread: FULL,
         unwritten: OTHER,
         ends: (3, 0),
         told: None,
     },
-    Compiled {
+    CompileRow {
         content: REFUSED,
         unread: None,
         unwritten: OTHER,
         ends: (2, 0),
         told: None,
     },
-    Compiled {
+    CompileRow {
         content: IMAGE,
         unread: None,
         unwritten: OTHER,
         ends: (2, 0),
         told: None,
     },
-    Compiled {
+    CompileRow {
         content: PING,
         unread: None,
         unwritten: OTHER,
         ends: (4, 1),
         told: None,
     },
-    Compiled {
+    CompileRow {
         content: PING,
         unread: None,
         unwritten: FULL,
@@ -123,18 +123,18 @@ fn is_told(errors: &[u8], told: Option<&[u8]>) -> bool {
     }
 }
 
-fn ends_so(alloc: Global, desk: &mut Desk, row: &Compiled) -> bool {
+fn ends_so(alloc: Global, desk: &mut Desk, row: &CompileRow) -> bool {
     let mut errors = Vec::new(alloc);
     let status = compile_file(alloc, "in.if", "out", desk, &mut errors);
     status == row.ends.0 && desk.writes == row.ends.1 && is_told(&errors, row.told)
 }
 
-fn is_compiled(alloc: Global, row: &Compiled) -> bool {
+fn is_compiled(alloc: Global, row: &CompileRow) -> bool {
     let mut desk = Desk::new(alloc, row.content, row.unread, row.unwritten);
     ends_so(alloc, &mut desk, row)
 }
 
-impl Row for Compiled {
+impl Row for CompileRow {
     fn holds(&self, alloc: Global) -> Result<bool, Fail> {
         Ok(is_compiled(alloc, self))
     }

@@ -40,9 +40,9 @@ const MIXED: Shelf = Shelf::Holds(
 const REFUSED: Shelf = Shelf::Holds("cap.if", b"interface i { message m(cap c); }");
 
 // A file that is asked for and the one that is there, the status, and what is printed and told.
-struct Shown(&'static str, Shelf, u8, &'static [u8], &'static [u8]);
+struct ShowRow(&'static str, Shelf, u8, &'static [u8], &'static [u8]);
 
-const TABLE: &[Shown] = &[Shown(
+const TABLE: &[ShowRow] = &[ShowRow(
     "mixed.if",
     MIXED,
     0,
@@ -57,7 +57,7 @@ arg 2 at 0 fixed 2
 )];
 
 // The first line is the fault alone.
-const TOLD: &[Shown] = &[Shown(
+const TOLD: &[ShowRow] = &[ShowRow(
     "cap.if",
     REFUSED,
     2,
@@ -71,29 +71,29 @@ help: leave the argument out
 )];
 
 // Where another byte stands in an image's magic it is read as a text: its version's first byte begins no token.
-const NO_TEXTS: &[Shown] = &[
-    Shown(
+const NO_TEXTS: &[ShowRow] = &[
+    ShowRow(
         "x",
         Shelf::Holds("x", b""),
         2,
         b"",
         b"E7 at 0\nx:1:1: this isn't expected here\nhelp: compare with the grammar in docs/INTERFACES.md\n",
     ),
-    Shown(
+    ShowRow(
         "x",
         Shelf::Holds("x", b"FLNE\x02\x00"),
         2,
         b"",
         b"E1 at 4\nx:1:5: no token begins with this byte\nfound there: \\x02\\x00\n",
     ),
-    Shown(
+    ShowRow(
         "x",
         Shelf::Holds("x", b"interface\ni {\n"),
         2,
         b"",
         b"E7 at 14\nx:3:1: this isn't expected here\nhelp: compare with the grammar in docs/INTERFACES.md\n",
     ),
-    Shown(
+    ShowRow(
         "x",
         Shelf::Holds("x", b"\xef\xbb\xbfinterface i { }"),
         2,
@@ -101,7 +101,7 @@ const NO_TEXTS: &[Shown] = &[
         b"E1 at 0\nx:1:1: no token begins with this byte\nfound there: \\xef\\xbb\\xbfinterface i { }\n\
             help: the file begins with a byte order mark: save it without one\n",
     ),
-    Shown(
+    ShowRow(
         "x",
         Shelf::Holds(
             "x",
@@ -112,7 +112,7 @@ const NO_TEXTS: &[Shown] = &[
         b"E11 at 24\nx:1:25: no type of this name is declared before\nfound there: later x); typedef uint8 later; }\n\
             help: declare the type above what uses it, or mend its name\n",
     ),
-    Shown(
+    ShowRow(
         "x",
         Shelf::Holds("x", b"FLND\x02\x00"),
         2,
@@ -121,7 +121,7 @@ const NO_TEXTS: &[Shown] = &[
     ),
 ];
 
-impl Row for Shown {
+impl Row for ShowRow {
     fn holds(&self, alloc: Global) -> Result<bool, Fail> {
         Ok(show(alloc, self.0, self.1).is(self.2, self.3, self.4))
     }

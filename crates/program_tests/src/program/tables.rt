@@ -32,11 +32,11 @@ impl Row for UnderPlanOne {
 }
 
 /// A text, and the status and the plan table or what is told: to the end of the line at the fault, 40 bytes at most.
-pub struct Shown(&'static [u8], u8, &'static [u8]);
+pub struct TableRow(&'static [u8], u8, &'static [u8]);
 
-pub const TEXTS: &[Shown] = &[
+pub const TEXTS: &[TableRow] = &[
     // a struct of 16 bytes, an array of 2 times 2, and an rpc's two messages, of which one is empty
-    Shown(
+    TableRow(
         b"\
 interface store {
     typedef struct { uint8 a; uint64 b; } t;
@@ -59,17 +59,17 @@ arg 0 at 0 fixed 1
 message 3 nop least 0 greatest 0 fragments 1
 ",
     ),
-    Shown(
+    TableRow(
         b"interface i {\n message m(cap c); }",
         2,
         b"E14 at 25\nline 2, column 12: messages carry no capabilities\nfound there: cap c); }",
     ),
-    Shown(
+    TableRow(
         b"interface i {",
         2,
         b"E7 at 13\nline 1, column 14: this isn't expected here",
     ),
-    Shown(
+    TableRow(
         b"0123456 a b c d e f g h i j k l m n o p q r s t u v w x y z\n;",
         2,
         b"E7 at 0\nline 1, column 1: this isn't expected here\nfound there: 0123456 a b c d e f g h i j k l m n o p ",
@@ -87,7 +87,7 @@ fn is_told(
     Ok(fault.status() == status && told.as_bytes() == words)
 }
 
-impl Row for Shown {
+impl Row for TableRow {
     fn holds(&self, alloc: Global) -> Result<bool, Fail> {
         match show_text(alloc, self.0) {
             Ok(table) => Ok(self.1 == 0 && table.as_slice() == self.2),

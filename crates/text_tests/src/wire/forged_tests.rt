@@ -23,7 +23,7 @@ type Outcome = Result<(usize, usize), u8>;
 
 // Where a fragment stands.
 #[derive(Clone, Copy)]
-enum Position {
+enum Subject {
     /// First, of `bool b, string s[2]`.
     Short,
     /// First, of an enumerator, a number and enumerators.
@@ -35,45 +35,45 @@ enum Position {
 }
 
 // Its control word, its first three words, and what it reads as.
-struct Fragment(Position, u64, [u64; 3], Outcome);
+struct Fragment(Subject, u64, [u64; 3], Outcome);
 
 const FRAGMENTS: &[Fragment] = &[
-    Fragment(Position::Short, 1, [0, 0, 0], Err(60)),
-    Fragment(Position::Short, 3, [2, 0, 0], Err(65)),
-    Fragment(Position::Short, 3, [1, 3, 0], Err(66)),
-    Fragment(Position::Short, 3, [257, 0, 0], Err(63)),
-    Fragment(Position::Short, 3, [1, 1, 0], Err(65)),
-    Fragment(Position::Short, 11, [0, 0, 0], Err(63)),
-    Fragment(Position::Short, 65_539, [0, 0, 0], Err(62)),
-    Fragment(Position::Short, 3, [1, 1, 0x61], Ok((1, 0))),
+    Fragment(Subject::Short, 1, [0, 0, 0], Err(60)),
+    Fragment(Subject::Short, 3, [2, 0, 0], Err(65)),
+    Fragment(Subject::Short, 3, [1, 3, 0], Err(66)),
+    Fragment(Subject::Short, 3, [257, 0, 0], Err(63)),
+    Fragment(Subject::Short, 3, [1, 1, 0], Err(65)),
+    Fragment(Subject::Short, 11, [0, 0, 0], Err(63)),
+    Fragment(Subject::Short, 65_539, [0, 0, 0], Err(62)),
+    Fragment(Subject::Short, 3, [1, 1, 0x61], Ok((1, 0))),
     // several faults in one fragment
-    Fragment(Position::Short, 65_545, [2, 3, 0], Err(63)),
-    Fragment(Position::Short, 0x1_0000_0003, [1, 0, 0], Err(63)),
-    Fragment(Position::Short, 65_537, [2, 3, 0], Err(60)),
-    Fragment(Position::Short, 65_539, [2, 3, 0], Err(62)),
-    Fragment(Position::Short, 3, [2, 3, 1], Err(65)),
-    Fragment(Position::Short, 3, [0x101, 3, 1], Err(63)),
-    Fragment(Position::Short, 3, [1, 3, 1], Err(66)),
+    Fragment(Subject::Short, 65_545, [2, 3, 0], Err(63)),
+    Fragment(Subject::Short, 0x1_0000_0003, [1, 0, 0], Err(63)),
+    Fragment(Subject::Short, 65_537, [2, 3, 0], Err(60)),
+    Fragment(Subject::Short, 65_539, [2, 3, 0], Err(62)),
+    Fragment(Subject::Short, 3, [2, 3, 1], Err(65)),
+    Fragment(Subject::Short, 3, [0x101, 3, 1], Err(63)),
+    Fragment(Subject::Short, 3, [1, 3, 1], Err(66)),
     // behind the first fragment of 49 letters
-    Fragment(Position::Second, 3, [0x61, 0, 0], Err(61)),
-    Fragment(Position::Second, 65_537, [0x61, 0, 0], Err(62)),
-    Fragment(Position::Second, 1, [0x6161, 0, 0], Err(63)),
-    Fragment(Position::Second, 1, [0, 0, 0], Err(65)),
-    Fragment(Position::Second, 1, [0x61, 0, 0], Ok((1, 0))),
-    Fragment(Position::Second, 65_539, [0, 0, 0], Err(61)),
-    Fragment(Position::Second, 65_551, [0, 0, 0], Err(63)),
+    Fragment(Subject::Second, 3, [0x61, 0, 0], Err(61)),
+    Fragment(Subject::Second, 65_537, [0x61, 0, 0], Err(62)),
+    Fragment(Subject::Second, 1, [0x6161, 0, 0], Err(63)),
+    Fragment(Subject::Second, 1, [0, 0, 0], Err(65)),
+    Fragment(Subject::Second, 1, [0x61, 0, 0], Ok((1, 0))),
+    Fragment(Subject::Second, 65_539, [0, 0, 0], Err(61)),
+    Fragment(Subject::Second, 65_551, [0, 0, 0], Err(63)),
     // of a number the byte at fault is the first with which it reaches the bound; what stands before it may be one of a
     // fitting call
-    Fragment(Position::Colours, 3, [2, 0, 0], Ok((1, 0))),
-    Fragment(Position::Colours, 3, [3, 0, 0], Err(65)),
-    Fragment(Position::Colours, 3, [0x100_0002, 0, 0], Err(65)),
-    Fragment(Position::Colours, 3, [2, 300, 0], Ok((0, 1))),
-    Fragment(Position::Colours, 3, [2, 301, 0], Err(66)),
-    Fragment(Position::Colours, 3, [2, 0x1_0000_0000, 0], Err(66)),
-    Fragment(Position::Colours, 3, [0x1_0000_0000_0002, 0, 0], Err(63)),
+    Fragment(Subject::Colours, 3, [2, 0, 0], Ok((1, 0))),
+    Fragment(Subject::Colours, 3, [3, 0, 0], Err(65)),
+    Fragment(Subject::Colours, 3, [0x100_0002, 0, 0], Err(65)),
+    Fragment(Subject::Colours, 3, [2, 300, 0], Ok((0, 1))),
+    Fragment(Subject::Colours, 3, [2, 301, 0], Err(66)),
+    Fragment(Subject::Colours, 3, [2, 0x1_0000_0000, 0], Err(66)),
+    Fragment(Subject::Colours, 3, [0x1_0000_0000_0002, 0, 0], Err(63)),
     // of a call without arguments
-    Fragment(Position::Blob, 65_538, [0, 0, 1], Err(63)),
-    Fragment(Position::Blob, 0xfffa_0000_0001_0003, [0, 0, 0], Ok((1, 0))),
+    Fragment(Subject::Blob, 65_538, [0, 0, 1], Err(63)),
+    Fragment(Subject::Blob, 0xfffa_0000_0001_0003, [0, 0, 0], Ok((1, 0))),
 ];
 
 // Eight of 49 letters `a`.
@@ -149,11 +149,11 @@ fn is_read(alloc: Global, interface: &Interface, frags: &[Frag], wanted: Outcome
 }
 
 // The text of its interface.
-fn text_at(place: Position) -> &'static [u8] {
+fn text_at(place: Subject) -> &'static [u8] {
     match place {
-        Position::Short => SHORT,
-        Position::Colours => COLOURS,
-        Position::Blob | Position::Second => BLOB,
+        Subject::Short => SHORT,
+        Subject::Colours => COLOURS,
+        Subject::Blob | Subject::Second => BLOB,
     }
 }
 
@@ -161,7 +161,7 @@ impl Row for Fragment {
     fn holds(&self, alloc: Global) -> Result<bool, Fail> {
         let interface = interface(alloc, text_at(self.0))?;
         let frags = [FIRST, starting(self.1, self.2)];
-        let skipped = if matches!(self.0, Position::Second) {
+        let skipped = if matches!(self.0, Subject::Second) {
             0
         } else {
             1

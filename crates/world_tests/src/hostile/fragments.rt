@@ -137,13 +137,17 @@ fn rows_fail_an_end_for_good(rt: HostRuntime) -> Result<(), Fail> {
 
 // The fragments of which each control word and each byte is tried.
 #[derive(Clone, Copy)]
-enum Position {
+enum WhichFragment {
     Alone,
     First,
     Last,
 }
 
-const PLACES: &[Position] = &[Position::Alone, Position::First, Position::Last];
+const EACH_FRAGMENT: &[WhichFragment] = &[
+    WhichFragment::Alone,
+    WhichFragment::First,
+    WhichFragment::Last,
+];
 
 // The bytes that each byte of a payload becomes: those at which something ends, and some between.
 const BYTES: &[u8] = &[
@@ -183,43 +187,43 @@ fn said_last(at: usize, to: u8) -> Said {
     }
 }
 
-impl Position {
+impl WhichFragment {
     fn name(self) -> &'static str {
         match self {
-            Position::Alone => "the only fragment",
-            Position::First => "the first fragment",
-            Position::Last => "the last fragment",
+            WhichFragment::Alone => "the only fragment",
+            WhichFragment::First => "the first fragment",
+            WhichFragment::Last => "the last fragment",
         }
     }
 
     fn text(self) -> &'static [u8] {
         match self {
-            Position::Alone => SHORT,
-            Position::First | Position::Last => BLOB,
+            WhichFragment::Alone => SHORT,
+            WhichFragment::First | WhichFragment::Last => BLOB,
         }
     }
 
     fn frag(self) -> Frag {
         match self {
-            Position::Alone => ALONE,
-            Position::First => FIRST,
-            Position::Last => LAST,
+            WhichFragment::Alone => ALONE,
+            WhichFragment::First => FIRST,
+            WhichFragment::Last => LAST,
         }
     }
 
     // The fragment before it in its call.
     fn before(self) -> Option<&'static Frag> {
         match self {
-            Position::Last => Some(&FIRST),
+            WhichFragment::Last => Some(&FIRST),
             _ => None,
         }
     }
 
     fn said_of_byte(self, at: usize, to: u8) -> Said {
         match self {
-            Position::Alone => said_alone(at, to),
-            Position::First => said_first(at, to),
-            Position::Last => said_last(at, to),
+            WhichFragment::Alone => said_alone(at, to),
+            WhichFragment::First => said_first(at, to),
+            WhichFragment::Last => said_last(at, to),
         }
     }
 
@@ -231,10 +235,10 @@ impl Position {
             return Said::Refused(63);
         }
         match (self, control / 65_536) {
-            (Position::Last, _) if is_first => Said::Refused(61),
-            (Position::Alone | Position::First, _) if !is_first => Said::Refused(60),
-            (Position::First, 0) => Said::Part,
-            (Position::First, 1) => Said::Refused(63),
+            (WhichFragment::Last, _) if is_first => Said::Refused(61),
+            (WhichFragment::Alone | WhichFragment::First, _) if !is_first => Said::Refused(60),
+            (WhichFragment::First, 0) => Said::Part,
+            (WhichFragment::First, 1) => Said::Refused(63),
             (_, 0) => Said::Whole,
             _ => Said::Refused(62),
         }
@@ -268,7 +272,7 @@ fn with_control(frag: &Frag, control: u64) -> Frag {
 fn is_byte_told(
     alloc: Global,
     program: &Program,
-    place: Position,
+    place: WhichFragment,
     at: usize,
     to: u8,
 ) -> Result<bool, AllocError> {
@@ -278,7 +282,7 @@ fn is_byte_told(
 }
 
 // Tells at which place a byte isn't answered as it should be.
-fn bytes_at(alloc: Global, program: &Program, place: Position, at: usize) -> Result<(), Fail> {
+fn bytes_at(alloc: Global, program: &Program, place: WhichFragment, at: usize) -> Result<(), Fail> {
     for to in BYTES {
         let to = *to;
         if !is_byte_told(alloc, program, place, at, to)? {
@@ -288,7 +292,7 @@ fn bytes_at(alloc: Global, program: &Program, place: Position, at: usize) -> Res
     Ok(())
 }
 
-fn each_byte(alloc: Global, place: Position, plan: PlanNo) -> Result<(), Fail> {
+fn each_byte(alloc: Global, place: WhichFragment, plan: PlanNo) -> Result<(), Fail> {
     let program = program(alloc, place.text(), plan)?;
     for at in 0..56 {
         bytes_at(alloc, &program, place, at)?;
@@ -298,7 +302,7 @@ fn each_byte(alloc: Global, place: Position, plan: PlanNo) -> Result<(), Fail> {
 
 #[test]
 fn each_byte_is_forged(rt: HostRuntime) -> Result<(), Fail> {
-    for place in PLACES {
+    for place in EACH_FRAGMENT {
         each_byte(rt.alloc(), *place, PlanNo::One)?;
         each_byte(rt.alloc(), *place, PlanNo::Two)?;
     }
@@ -308,7 +312,7 @@ fn each_byte_is_forged(rt: HostRuntime) -> Result<(), Fail> {
 fn is_control_told(
     alloc: Global,
     program: &Program,
-    place: Position,
+    place: WhichFragment,
     control: u64,
 ) -> Result<bool, AllocError> {
     let frag = with_control(&place.frag(), control);
@@ -317,7 +321,12 @@ fn is_control_told(
 }
 
 // Tells which control word with this bit and at most one more, of bits 0 to 47, isn't answered as it should be.
-fn controls_with(alloc: Global, program: &Program, place: Position, bit: u64) -> Result<(), Fail> {
+fn controls_with(
+    alloc: Global,
+    program: &Program,
+    place: WhichFragment,
+    bit: u64,
+) -> Result<(), Fail> {
     let mut other = 1_u64;
     for _ in 0..48 {
         let control = bit | other;
@@ -329,7 +338,7 @@ fn controls_with(alloc: Global, program: &Program, place: Position, bit: u64) ->
     Ok(())
 }
 
-fn each_control(alloc: Global, place: Position) -> Result<(), Fail> {
+fn each_control(alloc: Global, place: WhichFragment) -> Result<(), Fail> {
     let program = program(alloc, place.text(), PlanNo::Two)?;
     let mut bit = 1_u64;
     for _ in 0..48 {
@@ -341,7 +350,7 @@ fn each_control(alloc: Global, place: Position) -> Result<(), Fail> {
 
 #[test]
 fn each_control_word_is_forged(rt: HostRuntime) -> Result<(), Fail> {
-    for place in PLACES {
+    for place in EACH_FRAGMENT {
         each_control(rt.alloc(), *place)?;
     }
     Ok(())
