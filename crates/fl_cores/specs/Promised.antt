@@ -97,8 +97,8 @@ pub record LacksThread (c : TheConfig) (jobs : List Job) : Type 0 where
   pub made : Made c parts
   pub passed : IsRunFault parts jobs run.Thread
 
--- a job is refused, or a thread, only where the set-up isn't; and memory only where there may be so many cores, from 1 to 16: no more is known of it then, since it may
--- be refused for the first thing that is made
+-- a job is refused, or a thread, only where the set-up isn't; and memory only where there may be so many cores, from 1 to 16:
+-- no more is known of it then, since it may be refused for the first thing that is made
 abbrev pub IsFault : TheConfig → List Job → CoresFault → Type 0
 IsFault c jobs (fault.Setup number place) = IsRefused c number place
 IsFault c jobs (fault.Job number place) = RefusesJob c jobs number place
