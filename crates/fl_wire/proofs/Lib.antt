@@ -22,3 +22,4 @@ pub mod Texts
 pub mod Ranks
 pub mod Scalars
 pub mod Wides
+pub mod Turns

@@ -1,4 +1,6 @@
-use Rattle.std.proofs.Common.{◌∙◌, map, ap, rules}
+use Rattle.std.proofs.Common.{◌∙◌, ◌++◌, ◌∷◌, [], List, length, map, ap, sym, rules}
+use Rattle.std.proofs.lemmas.Slice.Zip.{zip_turn}
+use Rattle.std.proofs.lemmas.List.{drop_all, length-append}
 use Rattle.std.proofs.lemmas.Result.{on_ok_weaker}
 use Rattle.fl_interface.specs.declared.interface.FixedType.TheViews.{the_lemmas}
 use Rattle.fl_interface.specs.declared.interface.FixedType.TheFolds.{fold-roll-FixedType, fold_out-FixedType}
@@ -6,7 +8,13 @@ use Rattle.fl_interface.specs.Interface.{TheType, fields_from, type_of, type_ste
 use Rattle.fl_interface.specs.Sizes.{greatest_align}
 use Rattle.fl_wire.proofs.Arguments.{align_along, types_align}
 use Rattle.fl_wire.proofs.Encoding.{elements_left, elements_next, scalars_within, enumerators_within, scalars_leaves, enumerators_leaves}
+use Rattle.fl_value.specs.Value.{datum_of, data_from}
+use Rattle.fl_value.specs.declared.value.Value.{Value}
+use Rattle.fl_layout.specs.Leaves.{elements_onto}
+use Rattle.fl_wire.proofs.Turns.{element_fits, fields_left, field_written}
 use Rattle.fl_wire.specs.Payload.{payload_bytes}
+use denote.Ref.{Bor}
+use Rattle.fl_interface.specs.declared.interface.FixedType.{FixedType}
 use Rattle.fl_wire.proofs.encode.+values.Goals as goal
 
 pub put_each-loop-value-preserved : goal.put_each-loop-value-preserved
@@ -59,4 +67,36 @@ put_elements-returns-in-Enumeration t c = record {
       (λ done before old. done before old
       ∙ ap payload_bytes (enumerators_leaves (type_of c.args.element.now) c.in-Enumeration.count c.args.values.now before (search (rules, the_lemmas, fold-roll-FixedType TheType type_step, fold_out-FixedType TheType type_step)) c.requires.fit))
       c.put_numbers-in-Enumeration.ensures.ok;
+}
+
+pub put_each-put_value-requires : goal.put_each-put_value-requires
+put_each-put_value-requires t c = (
+  search (rules, the_lemmas),
+  (
+    c.requires.aligned,
+    element_fits (type_of c.args.element.now) c.args.values.now c.loop-value.value-index c.value-item.result c.loop-value-test.true c.value-item.is c.loop-value.invariant.fit,
+  ),
+)
+
+pub put_fields-loop-field-preserved : goal.put_fields-loop-field-preserved
+put_fields-loop-field-preserved t c =
+    let ts = c.args.fields.now in
+    let vs = c.args.values.now in
+    let n = length c.loop-field.yielded in
+    let one : List (Bor FixedType × Bor Value) = (c.in-Some.field, c.in-Some.value) ∷ [] in
+    let turn = zip_turn ts vs c.loop-field.yielded c.into_iter-field-iterator.result c.loop-field.field-iterator c.next.new.self _ (search rules) (search rules) c.loop-field.yielded_by _ c.in-Some.is c.next.ensures.steps in
+    let next = length-append c.loop-field.yielded one in
+    record {
+      fit = fields_left ts vs n (length (c.loop-field.yielded ++ one)) c.in-Some.field.now c.in-Some.value.now next turn c.loop-field.invariant.fit;
+      written = λ before old.
+          let (now, shown, done) = c.loop-field.invariant.written before old in
+          (_, c.in_ok-put_fixed.ensures.ok now shown, field_written ts vs n (length (c.loop-field.yielded ++ one)) c.in-Some.field.now c.in-Some.value.now next turn now ∙ done);
+    }
+
+pub put_each-returns : goal.put_each-returns
+put_each-returns t c = record {
+  ok = λ before old.
+      let (now, shown, done) = c.loop-value.invariant.written before old in
+      shown
+      ∙ ap payload_bytes (sym (ap (λ (vs : List Value). elements_onto (type_of c.args.element.now) (data_from (map datum_of vs)) now) (drop_all c.loop-value.value-index c.args.values.now c.loop-value-test.false)) ∙ done);
 }

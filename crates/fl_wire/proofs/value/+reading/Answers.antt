@@ -254,3 +254,10 @@ read_value-returns-in_ok-values-in-Array-clause-read t c =
     subst (λ (u : TheType). ReadAt (values_of u) c.args.frags.now c.args.at (datum_of c.list_value.result) end) (sym ty)
     (subst (λ (d : Datum). ReadAt (values_of (array n e)) c.args.frags.now c.args.at d end) (sym c.list_value.ensures.value)
     (whole_read (values_of (array n e)) (elements_of n e) c.args.frags.now c.args.at end (λ ds u. elements ds) ds (begins_array n e) c.in_ok-values-in-Array.ensures.later c.in_ok-values-in-Array.ensures.within c.in_ok-values-in-Array.ensures.read))
+
+pub read_each-loop-index-init : goal.read_each-loop-index-init
+read_each-loop-index-init t c = record {
+  within = c.requires.within;
+  later = omega arith;
+  come = elements_start c.args.count 0 (type_of c.args.element.now) c.args.frags.now c.args.at c.args.at (map datum_of c.in_ok-values.values.items) refl refl (ap (map datum_of) c.in_ok-values.ensures.items) c.requires.within;
+}

@@ -1,0 +1,28 @@
+use Rattle.std.proofs.Common.{◌≡◌, ◌∙◌, ℤ, true, List, map, ap, sym, subst, rules}
+use mir.Syntax.{w128}
+use mir.Val.{SFits}
+use Rattle.std.proofs.lemmas.Int.{to_z-of_z}
+use Rattle.std.proofs.lemmas.List.{drop_all}
+use Rattle.fl_value.specs.Value.{Datum, number, datum_step, datum_of}
+use Rattle.fl_value.specs.declared.value.Value.{Value}
+use Rattle.fl_value.specs.declared.value.Value.TheViews.{the_lemmas}
+use Rattle.fl_value.specs.declared.value.Value.TheFolds.{fold_out-Value}
+use Rattle.fl_wire.specs.Payload.{payload_bytes}
+use Rattle.fl_wire.specs.Widths.{fits_width, is_number_within, numbers_onto}
+use Rattle.fl_wire.proofs.Encoding.{numbers_here}
+use Rattle.fl_wire.proofs.encode.put_each_number.Goals as goal
+
+pub returns : goal.returns
+returns c = record {
+  ok = λ before old.
+      let (now, shown, done) = c.loop-value.invariant.written before old in
+      shown ∙ ap payload_bytes (sym (ap (λ (vs : List Value). numbers_onto c.args.width (map datum_of vs) now) (drop_all c.loop-value.value-index c.args.values.now c.loop-value-test.false)) ∙ done);
+}
+
+pub bits-requires-clause-fits : goal.bits-requires-clause-fits
+bits-requires-clause-fits c =
+    let width = c.args.width in
+    let fits : SFits w128 c.in-Int.number = search rules in
+    let seen : number c.in-Int.number ≡ datum_of c.value-item.result = search (rules, the_lemmas, fold_out-Value Datum datum_step) in
+    let here = numbers_here width c.args.values.now c.loop-value.value-index c.value-item.result c.loop-value-test.true c.value-item.is c.loop-value.invariant.fit in
+    subst (λ (z : ℤ). fits_width width z ≡ true) (sym (to_z-of_z w128 c.in-Int.number fits)) (subst (λ (d : Datum). is_number_within width d ≡ true) (sym seen) here)
