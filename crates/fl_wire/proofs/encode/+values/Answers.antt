@@ -84,7 +84,7 @@ put_fields-loop-field-preserved t c =
     let vs = c.args.values.now in
     let n = length c.loop-field.yielded in
     let one : List (Bor FixedType × Bor Value) = (c.in-Some.field, c.in-Some.value) ∷ [] in
-    let turn = zip_turn ts vs c.loop-field.yielded c.into_iter-field-iterator.result c.loop-field.field-iterator c.next.new.self _ (search rules) (search rules) c.loop-field.yielded_by _ c.in-Some.is c.next.ensures.steps in
+    let turn = zip_turn ts vs c.loop-field.yielded c.into_iter-field-iterator.result c.loop-field.field-iterator c.next.new.self _ (rw (c.into_iter-field-iterator.ensures.into_iter_gives, c.zip-field-items.ensures.first) c.iter.ensures.rest) (rw c.into_iter-field-iterator.ensures.into_iter_gives c.zip-field-items.ensures.second.0) c.loop-field.yielded_by _ c.in-Some.is c.next.ensures.steps in
     let next = length-append c.loop-field.yielded one in
     record {
       fit = fields_left ts vs n (length (c.loop-field.yielded ++ one)) c.in-Some.field.now c.in-Some.value.now next turn c.loop-field.invariant.fit;

@@ -1,4 +1,4 @@
-use Rattle.std.proofs.Common.{◌≡◌, ◌++◌, ◌∷◌, [], length, map, drop, ap, ◌∙◌, sym, min, rules, List}
+use Rattle.std.proofs.Common.{◌≡◌, ◌++◌, ◌∷◌, [], length, map, drop, ap, ◌∙◌, sym, min, List}
 use Rattle.std.proofs.lemmas.Slice.Zip.{zip_end, zip_turn}
 use Rattle.std.proofs.lemmas.List.{length-append}
 use Rattle.fl_interface.specs.Interface.{arg_type_of}
@@ -19,7 +19,7 @@ pub returns : goal.returns
 returns c =
     let types = c.args.types.now in
     let values = c.args.values.now in
-    let turns : length c.loop-argument.yielded ≡ min (length types) (length values) = zip_end types values c.loop-argument.yielded c.into_iter-argument-iterator.result c.loop-argument.argument-iterator c.next.new.self c.next.result (search rules) (search rules) c.loop-argument.yielded_by c.in-None.is c.next.ensures.steps in
+    let turns : length c.loop-argument.yielded ≡ min (length types) (length values) = zip_end types values c.loop-argument.yielded c.into_iter-argument-iterator.result c.loop-argument.argument-iterator c.next.new.self c.next.result (rw (c.into_iter-argument-iterator.ensures.into_iter_gives, c.zip-argument-items.ensures.first) c.iter.ensures.rest) (rw c.into_iter-argument-iterator.ensures.into_iter_gives c.zip-argument-items.ensures.second.0) c.loop-argument.yielded_by c.in-None.is c.next.ensures.steps in
     let left = map arg_type_of (drop (length c.loop-argument.yielded) types) in
     let none : left ≡ [] = none_left types values (length c.loop-argument.yielded) turns c.requires.fit in
     record {
@@ -35,7 +35,7 @@ loop-argument-preserved c =
     let vs = c.args.values.now in
     let n = length c.loop-argument.yielded in
     let one : List (Bor ArgType × Bor Value) = (c.in-Some.argument, c.in-Some.value) ∷ [] in
-    let turn = zip_turn ts vs c.loop-argument.yielded c.into_iter-argument-iterator.result c.loop-argument.argument-iterator c.next.new.self _ (search rules) (search rules) c.loop-argument.yielded_by _ c.in-Some.is c.next.ensures.steps in
+    let turn = zip_turn ts vs c.loop-argument.yielded c.into_iter-argument-iterator.result c.loop-argument.argument-iterator c.next.new.self _ (rw (c.into_iter-argument-iterator.ensures.into_iter_gives, c.zip-argument-items.ensures.first) c.iter.ensures.rest) (rw c.into_iter-argument-iterator.ensures.into_iter_gives c.zip-argument-items.ensures.second.0) c.loop-argument.yielded_by _ c.in-Some.is c.next.ensures.steps in
     let next = length-append c.loop-argument.yielded one in
     record {
       fit = turn_left ts vs n (length (c.loop-argument.yielded ++ one)) c.in-Some.argument.now c.in-Some.value.now next turn c.loop-argument.invariant.fit;
@@ -54,6 +54,6 @@ put_next-requires c =
     let vs = c.args.values.now in
     let n = length c.loop-argument.yielded in
     let one : List (Bor ArgType × Bor Value) = (c.in-Some.argument, c.in-Some.value) ∷ [] in
-    let turn = zip_turn ts vs c.loop-argument.yielded c.into_iter-argument-iterator.result c.loop-argument.argument-iterator c.next.new.self _ (search rules) (search rules) c.loop-argument.yielded_by _ c.in-Some.is c.next.ensures.steps in
+    let turn = zip_turn ts vs c.loop-argument.yielded c.into_iter-argument-iterator.result c.loop-argument.argument-iterator c.next.new.self _ (rw (c.into_iter-argument-iterator.ensures.into_iter_gives, c.zip-argument-items.ensures.first) c.iter.ensures.rest) (rw c.into_iter-argument-iterator.ensures.into_iter_gives c.zip-argument-items.ensures.second.0) c.loop-argument.yielded_by _ c.in-Some.is c.next.ensures.steps in
     let next = length-append c.loop-argument.yielded one in
     record { fits = turn_fits ts vs n (length (c.loop-argument.yielded ++ one)) c.in-Some.argument.now c.in-Some.value.now next turn c.loop-argument.invariant.fit }

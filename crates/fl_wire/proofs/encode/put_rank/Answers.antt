@@ -1,4 +1,4 @@
-use Rattle.std.proofs.Common.{◌≡◌, ◌++◌, ◌∷◌, [], length, ap, ◌∙◌, sym, min, rules, List}
+use Rattle.std.proofs.Common.{◌≡◌, ◌++◌, ◌∷◌, [], length, ap, ◌∙◌, sym, min, List}
 use Rattle.std.proofs.lemmas.Slice.Zip.{zip_end, zip_turn}
 use Rattle.std.proofs.lemmas.List.{length-append}
 use Rattle.fl_interface.specs.Interface.{arg_type_of}
@@ -17,7 +17,7 @@ pub returns : goal.returns
 returns c = record {
   ok = λ before old.
       let (now, shown, done) = c.loop-ty.invariant.written before old in
-      let turns : length c.loop-ty.yielded ≡ min (length c.args.types.now) (length c.args.values.now) = zip_end c.args.types.now c.args.values.now c.loop-ty.yielded c.into_iter-ty-iterator.result c.loop-ty.ty-iterator c.next.new.self c.next.result (search rules) (search rules) c.loop-ty.yielded_by c.in-None.is c.next.ensures.steps in
+      let turns : length c.loop-ty.yielded ≡ min (length c.args.types.now) (length c.args.values.now) = zip_end c.args.types.now c.args.values.now c.loop-ty.yielded c.into_iter-ty-iterator.result c.loop-ty.ty-iterator c.next.new.self c.next.result (rw (c.into_iter-ty-iterator.ensures.into_iter_gives, c.zip-ty-items.ensures.first) c.iter.ensures.rest) (rw c.into_iter-ty-iterator.ensures.into_iter_gives c.zip-ty-items.ensures.second.0) c.loop-ty.yielded_by c.in-None.is c.next.ensures.steps in
       let none = zip_done arg_type_of datum_of c.args.types.now c.args.values.now (length c.loop-ty.yielded) turns in
       shown ∙ ap payload_bytes (sym (ap (λ (xs : List Argument). arguments_onto c.loop-ty.after_dynamic (of_rank kind c.args.plan c.args.rank xs) now) none) ∙ done);
 }
@@ -28,7 +28,7 @@ loop-ty-preserved c =
     let vs = c.args.values.now in
     let n = length c.loop-ty.yielded in
     let one : List (Bor ArgType × Bor Value) = (c.in-Some.ty, c.in-Some.value) ∷ [] in
-    let turn = zip_turn ts vs c.loop-ty.yielded c.into_iter-ty-iterator.result c.loop-ty.ty-iterator c.next.new.self _ (search rules) (search rules) c.loop-ty.yielded_by _ c.in-Some.is c.next.ensures.steps in
+    let turn = zip_turn ts vs c.loop-ty.yielded c.into_iter-ty-iterator.result c.loop-ty.ty-iterator c.next.new.self _ (rw (c.into_iter-ty-iterator.ensures.into_iter_gives, c.zip-ty-items.ensures.first) c.iter.ensures.rest) (rw c.into_iter-ty-iterator.ensures.into_iter_gives c.zip-ty-items.ensures.second.0) c.loop-ty.yielded_by _ c.in-Some.is c.next.ensures.steps in
     let next = length-append c.loop-ty.yielded one in
     record {
       fit = turn_left ts vs n (length (c.loop-ty.yielded ++ one)) c.in-Some.ty.now c.in-Some.value.now next turn c.loop-ty.invariant.fit;
@@ -46,7 +46,7 @@ loop-ty-preserved-then-rank_of-rank c =
     let vs = c.args.values.now in
     let n = length c.loop-ty.yielded in
     let one : List (Bor ArgType × Bor Value) = (c.in-Some.ty, c.in-Some.value) ∷ [] in
-    let turn = zip_turn ts vs c.loop-ty.yielded c.into_iter-ty-iterator.result c.loop-ty.ty-iterator c.next.new.self _ (search rules) (search rules) c.loop-ty.yielded_by _ c.in-Some.is c.next.ensures.steps in
+    let turn = zip_turn ts vs c.loop-ty.yielded c.into_iter-ty-iterator.result c.loop-ty.ty-iterator c.next.new.self _ (rw (c.into_iter-ty-iterator.ensures.into_iter_gives, c.zip-ty-items.ensures.first) c.iter.ensures.rest) (rw c.into_iter-ty-iterator.ensures.into_iter_gives c.zip-ty-items.ensures.second.0) c.loop-ty.yielded_by _ c.in-Some.is c.next.ensures.steps in
     let next = length-append c.loop-ty.yielded one in
     record {
       fit = turn_left ts vs n (length (c.loop-ty.yielded ++ one)) c.in-Some.ty.now c.in-Some.value.now next turn c.loop-ty.invariant.fit;
@@ -61,6 +61,6 @@ put_next-requires c =
     let vs = c.args.values.now in
     let n = length c.loop-ty.yielded in
     let one : List (Bor ArgType × Bor Value) = (c.in-Some.ty, c.in-Some.value) ∷ [] in
-    let turn = zip_turn ts vs c.loop-ty.yielded c.into_iter-ty-iterator.result c.loop-ty.ty-iterator c.next.new.self _ (search rules) (search rules) c.loop-ty.yielded_by _ c.in-Some.is c.next.ensures.steps in
+    let turn = zip_turn ts vs c.loop-ty.yielded c.into_iter-ty-iterator.result c.loop-ty.ty-iterator c.next.new.self _ (rw (c.into_iter-ty-iterator.ensures.into_iter_gives, c.zip-ty-items.ensures.first) c.iter.ensures.rest) (rw c.into_iter-ty-iterator.ensures.into_iter_gives c.zip-ty-items.ensures.second.0) c.loop-ty.yielded_by _ c.in-Some.is c.next.ensures.steps in
     let next = length-append c.loop-ty.yielded one in
     record { fits = turn_fits ts vs n (length (c.loop-ty.yielded ++ one)) c.in-Some.ty.now c.in-Some.value.now next turn c.loop-ty.invariant.fit }

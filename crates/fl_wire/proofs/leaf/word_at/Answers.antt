@@ -1,5 +1,5 @@
-use Rattle.std.proofs.Common.{◌≡◌, ◌/◌, ◌%◌, ap, sym, length, refl}
-use Rattle.std.specs.Prelude.{slice_get, slice_index, Option}
+use Rattle.std.proofs.Common.{◌/◌, ◌%◌, ap, sym, length, refl}
+use Rattle.std.specs.Prelude.{slice_index, Option}
 use Rattle.std.proofs.lemmas.Bool.{ltb-true, ltb-false}
 use Rattle.std.proofs.lemmas.Option.{slice_get_read, slice_get_past}
 use Rattle.fl_base.specs.declared.fragment.Frag.{Frag}
