@@ -23,3 +23,4 @@ pub mod Ranks
 pub mod Scalars
 pub mod Wides
 pub mod Turns
+pub mod Seen

@@ -1,6 +1,7 @@
 -- One turn of a loop over types and values side by side, or over elements.
-use Rattle.std.proofs.Common.{◌≡◌, ℕ, ◌+◌, ◌-◌, ◌<◌, ◌≤◌, Bool, true, List, ◌∷◌, map, length, take, drop, get_or, sym, ◌∙◌, ap, subst, arith}
+use Rattle.std.proofs.Common.{◌≡◌, ℕ, zero, suc, refl, ◌+◌, ◌-◌, ◌<◌, ◌≤◌, Bool, true, List, ◌∷◌, map, length, take, drop, get_or, sym, ◌∙◌, ap, subst, arith}
 use Rattle.std.specs.List.{zip}
+use Rattle.std.specs.Int.{byte_at, to_le_bytes, w64}
 use Rattle.std.specs.Cmp.{first_so, second_so}
 use Rattle.std.proofs.lemmas.List.{drop_more, length-take, length-drop}
 use Rattle.fl_interface.specs.declared.interface.ArgType.{ArgType}
@@ -24,6 +25,18 @@ module _ {A : Type 0} where
   -- what follows so many is shorter
   pub shorter : (xs : List A) (n : ℕ) → 0 < n → n ≤ length xs → length (take (length xs - n) (drop n xs)) < length xs
   shorter xs n some within = omega (arith, some, within, length-take (length xs - n) (drop n xs), length-drop n xs)
+
+-- a byte of a number that is written low byte first
+pub byte_low : (n k : ℕ) → k < 8 → get_or (to_le_bytes w64 n) k 0 ≡ byte_at k n
+byte_low n zero h = refl
+byte_low n (suc zero) h = refl
+byte_low n (suc (suc zero)) h = refl
+byte_low n (suc (suc (suc zero))) h = refl
+byte_low n (suc (suc (suc (suc zero)))) h = refl
+byte_low n (suc (suc (suc (suc (suc zero))))) h = refl
+byte_low n (suc (suc (suc (suc (suc (suc zero)))))) h = refl
+byte_low n (suc (suc (suc (suc (suc (suc (suc zero))))))) h = refl
+byte_low n (suc (suc (suc (suc (suc (suc (suc (suc k)))))))) h = absurd (omega (arith, h))
 
 -- an element has the type
 pub element_fits : (t : TheType) (vs : List Value) (j : ℕ) (v : Value) → j < length vs → v ≡ get_or vs j v → all_have_type t (data_from (map datum_of (drop j vs))) ≡ true

@@ -15,6 +15,7 @@ use Rattle.fl_wire.proofs.Turns.{element_fits, fields_left, field_written}
 use Rattle.fl_wire.specs.Payload.{payload_bytes}
 use denote.Ref.{Bor}
 use Rattle.fl_interface.specs.declared.interface.FixedType.{FixedType}
+use Rattle.fl_wire.proofs.Seen.{scalar_seen, enumeration_seen}
 use Rattle.fl_wire.proofs.encode.+values.Goals as goal
 
 pub put_each-loop-value-preserved : goal.put_each-loop-value-preserved
@@ -47,17 +48,17 @@ put_struct-returns t c = record {
 
 pub put_elements-put_numbers-requires-clause-fit : goal.put_elements-put_numbers-requires-clause-fit
 put_elements-put_numbers-requires-clause-fit t c =
-    scalars_within (type_of c.args.element.now) c.in-Scalar.field-0 c.args.align c.args.values.now (search (rules, the_lemmas, fold-roll-FixedType TheType type_step, fold_out-FixedType TheType type_step)) c.requires.aligned c.requires.fit
+    scalars_within (type_of c.args.element.now) c.in-Scalar.field-0 c.args.align c.args.values.now (ap type_of c.in-Scalar.is ∙ scalar_seen c.in-Scalar.field-0) c.requires.aligned c.requires.fit
 
 pub put_elements-put_numbers-requires-in-Enumeration-clause-fit : goal.put_elements-put_numbers-requires-in-Enumeration-clause-fit
 put_elements-put_numbers-requires-in-Enumeration-clause-fit t c =
-    enumerators_within (type_of c.args.element.now) c.in-Enumeration.count c.args.values.now (search (rules, the_lemmas, fold-roll-FixedType TheType type_step, fold_out-FixedType TheType type_step)) c.type_inv._count.fits c.requires.fit
+    enumerators_within (type_of c.args.element.now) c.in-Enumeration.count c.args.values.now (ap type_of c.in-Enumeration.is ∙ enumeration_seen c.in-Enumeration.count) c.type_inv._count.fits c.requires.fit
 
 pub put_elements-returns-in-Scalar : goal.put_elements-returns-in-Scalar
 put_elements-returns-in-Scalar t c = record {
   ok = on_ok_weaker c.put_numbers.result
       (λ done before old. done before old
-      ∙ ap payload_bytes (scalars_leaves (type_of c.args.element.now) c.in-Scalar.field-0 c.args.align c.args.values.now before (search (rules, the_lemmas, fold-roll-FixedType TheType type_step, fold_out-FixedType TheType type_step)) c.requires.aligned c.requires.fit))
+      ∙ ap payload_bytes (scalars_leaves (type_of c.args.element.now) c.in-Scalar.field-0 c.args.align c.args.values.now before (ap type_of c.in-Scalar.is ∙ scalar_seen c.in-Scalar.field-0) c.requires.aligned c.requires.fit))
       c.put_numbers.ensures.ok;
 }
 
@@ -65,7 +66,7 @@ pub put_elements-returns-in-Enumeration : goal.put_elements-returns-in-Enumerati
 put_elements-returns-in-Enumeration t c = record {
   ok = on_ok_weaker c.put_numbers-in-Enumeration.result
       (λ done before old. done before old
-      ∙ ap payload_bytes (enumerators_leaves (type_of c.args.element.now) c.in-Enumeration.count c.args.values.now before (search (rules, the_lemmas, fold-roll-FixedType TheType type_step, fold_out-FixedType TheType type_step)) c.requires.fit))
+      ∙ ap payload_bytes (enumerators_leaves (type_of c.args.element.now) c.in-Enumeration.count c.args.values.now before (ap type_of c.in-Enumeration.is ∙ enumeration_seen c.in-Enumeration.count) c.requires.fit))
       c.put_numbers-in-Enumeration.ensures.ok;
 }
 

@@ -11,6 +11,7 @@ use Rattle.fl_wire.proofs.Arguments.{align_along, types_align}
 use Rattle.fl_wire.proofs.Steps.{first_stop, come_rest, come_done}
 use Rattle.fl_wire.proofs.Parts.{pushed, elements_on, elements_stop, elements_end, fields_on, fields_stop, fields_end, begins_struct, begins_array, whole_read, struct_start, struct_fields, struct_stop}
 use Rattle.fl_wire.proofs.Wides.{elements_start, fields_start}
+use Rattle.fl_wire.proofs.Seen.{scalar_seen}
 use Rattle.fl_wire.proofs.value.+reading.Goals as goal
 
 pub read_each-returns-in_err-value-clause-stop : goal.read_each-returns-in_err-value-clause-stop
@@ -80,7 +81,7 @@ read_fields-push_reserved-requires-in-loop-field t c = omega (arith, c.loop-fiel
 
 pub read_fields-returns-in_err-number-clause-stop : goal.read_fields-returns-in_err-number-clause-stop
 read_fields-returns-in_err-number-clause-stop t c =
-    let is : scalar c.in-Scalar.kind ≡ type_of c.field-item.result = search (rules, the_lemmas, fold-roll-FixedType TheType type_step, fold_out-FixedType TheType type_step) in
+    let is : scalar c.in-Scalar.kind ≡ type_of c.field-item.result = sym (ap type_of c.in-Scalar.is ∙ scalar_seen c.in-Scalar.kind) in
     let stop = c.in_err-number.field-0.0 in
     let p = err_from_is_err_and c.from_residual-in_err-number.result c.from_residual-in_err-number.ensures.1 in
     rw (p.1, p.2) (fields_stop type_of c.args.fields.now c.loop-field.field-index c.field-item.result c.args.frags.now c.args.at c.loop-field.end (map datum_of c.loop-field.values.items) stop
@@ -89,7 +90,7 @@ read_fields-returns-in_err-number-clause-stop t c =
 
 pub read_fields-loop-field-preserved-in-Scalar : goal.read_fields-loop-field-preserved-in-Scalar
 read_fields-loop-field-preserved-in-Scalar t c =
-    let is : scalar c.in-Scalar.kind ≡ type_of c.field-item.result = search (rules, the_lemmas, fold-roll-FixedType TheType type_step, fold_out-FixedType TheType type_step) in
+    let is : scalar c.in-Scalar.kind ≡ type_of c.field-item.result = sym (ap type_of c.in-Scalar.is ∙ scalar_seen c.in-Scalar.kind) in
     let inv = c.loop-field.invariant in
     let read = c.in_ok-number.ensures in
     let next = c.in_ok-number.next in
@@ -198,12 +199,12 @@ read_struct-returns-clause-read t c =
 
 pub read_elements-returns-in-Scalar-clause-read : goal.read_elements-returns-in-Scalar-clause-read
 read_elements-returns-in-Scalar-clause-read t c =
-    let is : scalar c.in-Scalar.kind ≡ type_of c.args.element.now = search (rules, the_lemmas, fold-roll-FixedType TheType type_step, fold_out-FixedType TheType type_step) in
+    let is : scalar c.in-Scalar.kind ≡ type_of c.args.element.now = sym (ap type_of c.in-Scalar.is ∙ scalar_seen c.in-Scalar.kind) in
     subst (λ (u : TheType). IfOk c.read_scalars.result (λ r. ReadAt (elements_of c.args.count u) c.args.frags.now c.args.at (data_from (map datum_of r.0.items)) r.1)) is c.read_scalars.ensures.read
 
 pub read_elements-returns-in-Scalar-clause-stop : goal.read_elements-returns-in-Scalar-clause-stop
 read_elements-returns-in-Scalar-clause-stop t c =
-    let is : scalar c.in-Scalar.kind ≡ type_of c.args.element.now = search (rules, the_lemmas, fold-roll-FixedType TheType type_step, fold_out-FixedType TheType type_step) in
+    let is : scalar c.in-Scalar.kind ≡ type_of c.args.element.now = sym (ap type_of c.in-Scalar.is ∙ scalar_seen c.in-Scalar.kind) in
     subst (λ (u : TheType). IfErr c.read_scalars.result (λ stop. StopsAt stop (elements_of c.args.count u) c.args.frags.now c.args.at)) is c.read_scalars.ensures.stop
 
 pub read_elements-returns-in-Structure-clause-read : goal.read_elements-returns-in-Structure-clause-read
