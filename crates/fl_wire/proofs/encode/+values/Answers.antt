@@ -1,10 +1,9 @@
-use Rattle.std.proofs.Common.{◌∙◌, ◌++◌, ◌∷◌, [], List, length, map, ap, sym, rules}
+use Rattle.std.proofs.Common.{◌∙◌, ◌++◌, ◌∷◌, [], List, length, map, ap, sym, rules, ◌≡◌, ℕ, ℤ}
 use Rattle.std.proofs.lemmas.Slice.Zip.{zip_turn}
 use Rattle.std.proofs.lemmas.List.{drop_all, length-append}
 use Rattle.std.proofs.lemmas.Result.{on_ok_weaker}
 use Rattle.fl_interface.specs.declared.interface.FixedType.TheViews.{the_lemmas}
-use Rattle.fl_interface.specs.declared.interface.FixedType.TheFolds.{fold-roll-FixedType, fold_out-FixedType}
-use Rattle.fl_interface.specs.Interface.{TheType, fields_from, type_of, type_step}
+use Rattle.fl_interface.specs.Interface.{TheType, fields_from, type_of}
 use Rattle.fl_interface.specs.Sizes.{greatest_align}
 use Rattle.fl_wire.proofs.Arguments.{align_along, types_align}
 use Rattle.fl_wire.proofs.Encoding.{elements_left, elements_next, scalars_within, enumerators_within, scalars_leaves, enumerators_leaves}
@@ -13,9 +12,17 @@ use Rattle.fl_value.specs.declared.value.Value.{Value}
 use Rattle.fl_layout.specs.Leaves.{elements_onto}
 use Rattle.fl_wire.proofs.Turns.{element_fits, fields_left, field_written}
 use Rattle.fl_wire.specs.Payload.{payload_bytes}
+use mir.Syntax.{w128}
+use mir.Val.{SFits}
+use Rattle.std.proofs.lemmas.Int.{to_z-of_z}
+use Rattle.fl_interface.specs.declared.interface.Scalar.{Scalar}
+use Rattle.fl_interface.specs.Interface.{scalar}
+use Rattle.fl_interface.specs.Sizes.{align_of}
+use Rattle.fl_value.specs.Value.{Datum, number}
+use Rattle.fl_layout.specs.Leaves.{Leaf, whole, bits_of, value_onto}
 use denote.Ref.{Bor}
 use Rattle.fl_interface.specs.declared.interface.FixedType.{FixedType}
-use Rattle.fl_wire.proofs.Seen.{scalar_seen, enumeration_seen}
+use Rattle.fl_wire.proofs.Seen.{scalar_seen, enumeration_seen, int_seen}
 use Rattle.fl_wire.proofs.encode.+values.Goals as goal
 
 pub put_each-loop-value-preserved : goal.put_each-loop-value-preserved
@@ -101,3 +108,22 @@ put_each-returns t c = record {
       shown
       ∙ ap payload_bytes (sym (ap (λ (vs : List Value). elements_onto (type_of c.args.element.now) (data_from (map datum_of vs)) now) (drop_all c.loop-value.value-index c.args.values.now c.loop-value-test.false)) ∙ done);
 }
+
+-- a number's leaf is its value's
+int_written : (t : TheType) (d : Datum) (s : Scalar) (z : ℤ) (width : ℕ) (before : List Leaf) → t ≡ scalar s → d ≡ number z → width ≡ align_of t
+    → whole width (bits_of width z) ∷ before ≡ value_onto t d before
+int_written t d s z width before is seen wide =
+    ap (λ (w : ℕ). whole w (bits_of w z) ∷ before) (wide ∙ ap align_of is)
+    ∙ sym (ap (λ (u : TheType). value_onto u d before) is ∙ ap (λ (e : Datum). value_onto (scalar s) e before) seen)
+
+pub put_value-returns-in-Int : goal.put_value-returns-in-Int
+put_value-returns-in-Int t c =
+    let fits : SFits w128 c.in-Int.number = search rules in
+    let ty = ap type_of c.in-Scalar.is ∙ scalar_seen c.in-Scalar.field-0 in
+    let seen = ap datum_of c.in-Int.is ∙ int_seen c.in-Int.number in
+    record {
+      ok = on_ok_weaker c.put_int.result
+          (λ done before old. done before old ∙ ap payload_bytes (ap (λ (z : ℤ). whole c.args.align (bits_of c.args.align z) ∷ before) (to_z-of_z w128 c.in-Int.number fits)
+          ∙ int_written (type_of c.args.ty.now) (datum_of c.args.value.now) c.in-Scalar.field-0 c.in-Int.number c.args.align before ty seen c.requires.aligned))
+          c.put_int.ensures.ok;
+    }
