@@ -22,3 +22,5 @@ pub mod Texts
 pub mod Ranks
 pub mod Scalars
 pub mod Wides
+pub mod Turns
+pub mod Seen

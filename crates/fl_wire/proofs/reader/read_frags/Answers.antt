@@ -6,6 +6,7 @@ use Rattle.fl_value.specs.declared.value.Call.{Call}
 use Rattle.fl_wire.specs.Headers.{StandsFirst}
 use Rattle.fl_interface.specs.Interface.{interface_of}
 use Rattle.fl_value.specs.Value.{call_of}
+use Rattle.fl_wire.proofs.Turns.{shorter}
 use Rattle.fl_wire.proofs.Parts.{pushed}
 use Rattle.fl_wire.proofs.Exits.{one_call, calls_then, all_read, leaves_right, wrong_left, nothing_left}
 use Rattle.fl_wire.proofs.reader.read_frags.Goals as goal
@@ -53,3 +54,21 @@ returns-clause-right c =
       | then-loop-alloc-test+in_ok-call+in-None w ↦ leaves_right c.args.plan i c.args.frags.now calls (length left)
           (all_read c.args.plan i c.args.frags.now calls left c.loop-alloc.invariant (inr (w.in_ok-call.ensures.part w.in-None.is)))
     ]
+
+pub slice_bounds-left-count : goal.slice_bounds-left-count
+slice_bounds-left-count c =
+    let left = c.loop-alloc.left.now in
+    let first = subst (λ (o : Option (Call × ℕ)). IfSome o (λ r. StandsFirst c.args.plan (interface_of c.args.interface.now) left (call_of r.0) r.1)) c.in-Some.is c.in_ok-call.ensures.call in
+    first.within
+
+pub slice_bounds-left-start : goal.slice_bounds-left-start
+slice_bounds-left-start c =
+    let left = c.loop-alloc.left.now in
+    let first = subst (λ (o : Option (Call × ℕ)). IfSome o (λ r. StandsFirst c.args.plan (interface_of c.args.interface.now) left (call_of r.0) r.1)) c.in-Some.is c.in_ok-call.ensures.call in
+    first.within
+
+pub loop-alloc-smaller : goal.loop-alloc-smaller
+loop-alloc-smaller c =
+    let left = c.loop-alloc.left.now in
+    let first = subst (λ (o : Option (Call × ℕ)). IfSome o (λ r. StandsFirst c.args.plan (interface_of c.args.interface.now) left (call_of r.0) r.1)) c.in-Some.is c.in_ok-call.ensures.call in
+    shorter left c.in-Some.count first.some first.within

@@ -11,6 +11,7 @@ use Rattle.fl_wire.proofs.Arguments.{align_along, types_align}
 use Rattle.fl_wire.proofs.Steps.{first_stop, come_rest, come_done}
 use Rattle.fl_wire.proofs.Parts.{pushed, elements_on, elements_stop, elements_end, fields_on, fields_stop, fields_end, begins_struct, begins_array, whole_read, struct_start, struct_fields, struct_stop}
 use Rattle.fl_wire.proofs.Wides.{elements_start, fields_start}
+use Rattle.fl_wire.proofs.Seen.{scalar_seen, structure_seen}
 use Rattle.fl_wire.proofs.value.+reading.Goals as goal
 
 pub read_each-returns-in_err-value-clause-stop : goal.read_each-returns-in_err-value-clause-stop
@@ -80,7 +81,7 @@ read_fields-push_reserved-requires-in-loop-field t c = omega (arith, c.loop-fiel
 
 pub read_fields-returns-in_err-number-clause-stop : goal.read_fields-returns-in_err-number-clause-stop
 read_fields-returns-in_err-number-clause-stop t c =
-    let is : scalar c.in-Scalar.kind ≡ type_of c.field-item.result = search (rules, the_lemmas, fold-roll-FixedType TheType type_step, fold_out-FixedType TheType type_step) in
+    let is : scalar c.in-Scalar.kind ≡ type_of c.field-item.result = sym (ap type_of c.in-Scalar.is ∙ scalar_seen c.in-Scalar.kind) in
     let stop = c.in_err-number.field-0.0 in
     let p = err_from_is_err_and c.from_residual-in_err-number.result c.from_residual-in_err-number.ensures.1 in
     rw (p.1, p.2) (fields_stop type_of c.args.fields.now c.loop-field.field-index c.field-item.result c.args.frags.now c.args.at c.loop-field.end (map datum_of c.loop-field.values.items) stop
@@ -89,7 +90,7 @@ read_fields-returns-in_err-number-clause-stop t c =
 
 pub read_fields-loop-field-preserved-in-Scalar : goal.read_fields-loop-field-preserved-in-Scalar
 read_fields-loop-field-preserved-in-Scalar t c =
-    let is : scalar c.in-Scalar.kind ≡ type_of c.field-item.result = search (rules, the_lemmas, fold-roll-FixedType TheType type_step, fold_out-FixedType TheType type_step) in
+    let is : scalar c.in-Scalar.kind ≡ type_of c.field-item.result = sym (ap type_of c.in-Scalar.is ∙ scalar_seen c.in-Scalar.kind) in
     let inv = c.loop-field.invariant in
     let read = c.in_ok-number.ensures in
     let next = c.in_ok-number.next in
@@ -198,39 +199,39 @@ read_struct-returns-clause-read t c =
 
 pub read_elements-returns-in-Scalar-clause-read : goal.read_elements-returns-in-Scalar-clause-read
 read_elements-returns-in-Scalar-clause-read t c =
-    let is : scalar c.in-Scalar.kind ≡ type_of c.args.element.now = search (rules, the_lemmas, fold-roll-FixedType TheType type_step, fold_out-FixedType TheType type_step) in
+    let is : scalar c.in-Scalar.kind ≡ type_of c.args.element.now = sym (ap type_of c.in-Scalar.is ∙ scalar_seen c.in-Scalar.kind) in
     subst (λ (u : TheType). IfOk c.read_scalars.result (λ r. ReadAt (elements_of c.args.count u) c.args.frags.now c.args.at (data_from (map datum_of r.0.items)) r.1)) is c.read_scalars.ensures.read
 
 pub read_elements-returns-in-Scalar-clause-stop : goal.read_elements-returns-in-Scalar-clause-stop
 read_elements-returns-in-Scalar-clause-stop t c =
-    let is : scalar c.in-Scalar.kind ≡ type_of c.args.element.now = search (rules, the_lemmas, fold-roll-FixedType TheType type_step, fold_out-FixedType TheType type_step) in
+    let is : scalar c.in-Scalar.kind ≡ type_of c.args.element.now = sym (ap type_of c.in-Scalar.is ∙ scalar_seen c.in-Scalar.kind) in
     subst (λ (u : TheType). IfErr c.read_scalars.result (λ stop. StopsAt stop (elements_of c.args.count u) c.args.frags.now c.args.at)) is c.read_scalars.ensures.stop
 
 pub read_elements-returns-in-Structure-clause-read : goal.read_elements-returns-in-Structure-clause-read
 read_elements-returns-in-Structure-clause-read t c =
     let ts = fields_from (map type_of c.in-Structure.fields.items) in
-    let ty : type_of c.args.element.now ≡ structure ts = search (rules, the_lemmas, fold-roll-FixedType TheType type_step, fold_out-FixedType TheType type_step) in
+    let ty : type_of c.args.element.now ≡ structure ts = ap type_of c.in-Structure.is ∙ structure_seen c.in-Structure.fields in
     let inner : fields_from (map type_of c.deref.result.now) ≡ ts = ap (λ (fs : List FixedType). fields_from (map type_of fs)) c.deref.ensures.value in
     subst (λ (u : TheType). IfOk c.read_structs.result (λ r. ReadAt (elements_of c.args.count u) c.args.frags.now c.args.at (data_from (map datum_of r.0.items)) r.1)) (ap structure inner ∙ sym ty) c.read_structs.ensures.read
 
 pub read_elements-returns-in-Structure-clause-stop : goal.read_elements-returns-in-Structure-clause-stop
 read_elements-returns-in-Structure-clause-stop t c =
     let ts = fields_from (map type_of c.in-Structure.fields.items) in
-    let ty : type_of c.args.element.now ≡ structure ts = search (rules, the_lemmas, fold-roll-FixedType TheType type_step, fold_out-FixedType TheType type_step) in
+    let ty : type_of c.args.element.now ≡ structure ts = ap type_of c.in-Structure.is ∙ structure_seen c.in-Structure.fields in
     let inner : fields_from (map type_of c.deref.result.now) ≡ ts = ap (λ (fs : List FixedType). fields_from (map type_of fs)) c.deref.ensures.value in
     subst (λ (u : TheType). IfErr c.read_structs.result (λ stop. StopsAt stop (elements_of c.args.count u) c.args.frags.now c.args.at)) (ap structure inner ∙ sym ty) c.read_structs.ensures.stop
 
 pub read_value-returns-in-Structure-clause-read : goal.read_value-returns-in-Structure-clause-read
 read_value-returns-in-Structure-clause-read t c =
     let ts = fields_from (map type_of c.in-Structure.fields.items) in
-    let ty : type_of c.args.ty.now ≡ structure ts = search (rules, the_lemmas, fold-roll-FixedType TheType type_step, fold_out-FixedType TheType type_step) in
+    let ty : type_of c.args.ty.now ≡ structure ts = ap type_of c.in-Structure.is ∙ structure_seen c.in-Structure.fields in
     let inner : fields_from (map type_of c.deref-in-Structure.result.now) ≡ ts = ap (λ (fs : List FixedType). fields_from (map type_of fs)) c.deref-in-Structure.ensures.value in
     subst (λ (u : TheType). IfOk c.read_struct.result (λ r. ReadAt (values_of u) c.args.frags.now c.args.at (datum_of r.0) r.1)) (ap structure inner ∙ sym ty) c.read_struct.ensures.read
 
 pub read_value-returns-in-Structure-clause-stop : goal.read_value-returns-in-Structure-clause-stop
 read_value-returns-in-Structure-clause-stop t c =
     let ts = fields_from (map type_of c.in-Structure.fields.items) in
-    let ty : type_of c.args.ty.now ≡ structure ts = search (rules, the_lemmas, fold-roll-FixedType TheType type_step, fold_out-FixedType TheType type_step) in
+    let ty : type_of c.args.ty.now ≡ structure ts = ap type_of c.in-Structure.is ∙ structure_seen c.in-Structure.fields in
     let inner : fields_from (map type_of c.deref-in-Structure.result.now) ≡ ts = ap (λ (fs : List FixedType). fields_from (map type_of fs)) c.deref-in-Structure.ensures.value in
     subst (λ (u : TheType). IfErr c.read_struct.result (λ stop. StopsAt stop (values_of u) c.args.frags.now c.args.at)) (ap structure inner ∙ sym ty) c.read_struct.ensures.stop
 
@@ -254,3 +255,10 @@ read_value-returns-in_ok-values-in-Array-clause-read t c =
     subst (λ (u : TheType). ReadAt (values_of u) c.args.frags.now c.args.at (datum_of c.list_value.result) end) (sym ty)
     (subst (λ (d : Datum). ReadAt (values_of (array n e)) c.args.frags.now c.args.at d end) (sym c.list_value.ensures.value)
     (whole_read (values_of (array n e)) (elements_of n e) c.args.frags.now c.args.at end (λ ds u. elements ds) ds (begins_array n e) c.in_ok-values-in-Array.ensures.later c.in_ok-values-in-Array.ensures.within c.in_ok-values-in-Array.ensures.read))
+
+pub read_each-loop-index-init : goal.read_each-loop-index-init
+read_each-loop-index-init t c = record {
+  within = c.requires.within;
+  later = omega arith;
+  come = elements_start c.args.count 0 (type_of c.args.element.now) c.args.frags.now c.args.at c.args.at (map datum_of c.in_ok-values.values.items) refl refl (ap (map datum_of) c.in_ok-values.ensures.items) c.requires.within;
+}

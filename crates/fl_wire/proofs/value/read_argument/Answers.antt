@@ -1,4 +1,4 @@
-use Rattle.std.proofs.Common.{◌≡◌, ◌+◌, rules, map, sym, subst, IfOk, IfErr}
+use Rattle.std.proofs.Common.{◌≡◌, ◌+◌, map, ap, sym, subst, IfOk, IfErr}
 use Rattle.std.proofs.lemmas.Result.{err_from_is_err_and}
 use Rattle.fl_interface.specs.Interface.{TheArgType, fixed, text, sized, type_of, arg_type_of}
 use Rattle.fl_value.specs.Value.{Datum, string, elements, datum_of, data_from}
@@ -10,7 +10,7 @@ use Rattle.fl_wire.proofs.value.read_argument.Goals as goal
 pub returns-in_err-count-in-Text-clause-stop : goal.returns-in_err-count-in-Text-clause-stop
 returns-in_err-count-in-Text-clause-stop c =
     let most = c.in-Text.most in
-    let ty : arg_type_of c.args.ty.now ≡ text most = search rules in
+    let ty : arg_type_of c.args.ty.now ≡ text most = ap arg_type_of c.in-Text.is in
     let p = err_from_is_err_and c.from_residual.result c.from_residual.ensures.1 in
     let stop = c.in_err-count-in-Text.field-0.0 in
     rw (p.1, p.2) (subst (λ (u : TheArgType). StopsAt stop (arguments_of u) c.args.frags.now c.args.at) (sym ty)
@@ -19,7 +19,7 @@ returns-in_err-count-in-Text-clause-stop c =
 pub returns-in_err-bytes-in-Text-clause-stop : goal.returns-in_err-bytes-in-Text-clause-stop
 returns-in_err-bytes-in-Text-clause-stop c =
     let most = c.in-Text.most in
-    let ty : arg_type_of c.args.ty.now ≡ text most = search rules in
+    let ty : arg_type_of c.args.ty.now ≡ text most = ap arg_type_of c.in-Text.is in
     let n = c.in_ok-count-in-Text.count in
     let start = c.in_ok-count-in-Text.start in
     let come = text_start most n c.args.frags.now c.args.at start c.in_ok-count-in-Text.ensures.later c.in_ok-count-in-Text.ensures.within c.in_ok-count-in-Text.ensures.read in
@@ -32,7 +32,7 @@ pub returns-in_err-count-in-Sized-clause-stop : goal.returns-in_err-count-in-Siz
 returns-in_err-count-in-Sized-clause-stop c =
     let most = c.in-Sized.most in
     let e = type_of c.in-Sized.element in
-    let ty : arg_type_of c.args.ty.now ≡ sized most e = search rules in
+    let ty : arg_type_of c.args.ty.now ≡ sized most e = ap arg_type_of c.in-Sized.is in
     let p = err_from_is_err_and c.from_residual-in_err-count-in-Sized.result c.from_residual-in_err-count-in-Sized.ensures.1 in
     let stop = c.in_err-count-in-Sized.field-0.0 in
     rw (p.1, p.2) (subst (λ (u : TheArgType). StopsAt stop (arguments_of u) c.args.frags.now c.args.at) (sym ty)
@@ -42,7 +42,7 @@ pub returns-in_err-values-in-Sized-clause-stop : goal.returns-in_err-values-in-S
 returns-in_err-values-in-Sized-clause-stop c =
     let most = c.in-Sized.most in
     let e = type_of c.in-Sized.element in
-    let ty : arg_type_of c.args.ty.now ≡ sized most e = search rules in
+    let ty : arg_type_of c.args.ty.now ≡ sized most e = ap arg_type_of c.in-Sized.is in
     let n = c.in_ok-count-in-Sized.count in
     let start = c.in_ok-count-in-Sized.start in
     let come = sized_start most n e c.args.frags.now c.args.at start c.in_ok-count-in-Sized.ensures.later c.in_ok-count-in-Sized.ensures.within c.in_ok-count-in-Sized.ensures.read in
@@ -53,13 +53,13 @@ returns-in_err-values-in-Sized-clause-stop c =
 
 pub returns-in-Fixed-clause-read : goal.returns-in-Fixed-clause-read
 returns-in-Fixed-clause-read c =
-    let ty : arg_type_of c.args.ty.now ≡ fixed (type_of c.in-Fixed.fixed) = search rules in
+    let ty : arg_type_of c.args.ty.now ≡ fixed (type_of c.in-Fixed.fixed) = ap arg_type_of c.in-Fixed.is in
     subst (λ (u : TheArgType). IfOk c.read_value.result (λ r. ReadAt (arguments_of u) c.args.frags.now c.args.at (datum_of r.0) r.1)) (sym ty) c.read_value.ensures.read
 
 pub returns-in_ok-bytes-in-Text-clause-read : goal.returns-in_ok-bytes-in-Text-clause-read
 returns-in_ok-bytes-in-Text-clause-read c =
     let most = c.in-Text.most in
-    let ty : arg_type_of c.args.ty.now ≡ text most = search rules in
+    let ty : arg_type_of c.args.ty.now ≡ text most = ap arg_type_of c.in-Text.is in
     let n = c.in_ok-count-in-Text.count in
     let start = c.in_ok-count-in-Text.start in
     let come = text_start most n c.args.frags.now c.args.at start c.in_ok-count-in-Text.ensures.later c.in_ok-count-in-Text.ensures.within c.in_ok-count-in-Text.ensures.read in
@@ -73,7 +73,7 @@ pub returns-in_ok-values-in-Sized-clause-read : goal.returns-in_ok-values-in-Siz
 returns-in_ok-values-in-Sized-clause-read c =
     let most = c.in-Sized.most in
     let e = type_of c.in-Sized.element in
-    let ty : arg_type_of c.args.ty.now ≡ sized most e = search rules in
+    let ty : arg_type_of c.args.ty.now ≡ sized most e = ap arg_type_of c.in-Sized.is in
     let n = c.in_ok-count-in-Sized.count in
     let start = c.in_ok-count-in-Sized.start in
     let come = sized_start most n e c.args.frags.now c.args.at start c.in_ok-count-in-Sized.ensures.later c.in_ok-count-in-Sized.ensures.within c.in_ok-count-in-Sized.ensures.read in
@@ -85,5 +85,5 @@ returns-in_ok-values-in-Sized-clause-read c =
 
 pub returns-in-Fixed-clause-stop : goal.returns-in-Fixed-clause-stop
 returns-in-Fixed-clause-stop c =
-    let ty : arg_type_of c.args.ty.now ≡ fixed (type_of c.in-Fixed.fixed) = search rules in
+    let ty : arg_type_of c.args.ty.now ≡ fixed (type_of c.in-Fixed.fixed) = ap arg_type_of c.in-Fixed.is in
     subst (λ (u : TheArgType). IfErr c.read_value.result (λ stop. StopsAt stop (arguments_of u) c.args.frags.now c.args.at)) (sym ty) c.read_value.ensures.stop

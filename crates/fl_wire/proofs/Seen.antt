@@ -1,0 +1,23 @@
+-- What a type and a value of one kind are, over plain variables.
+use Rattle.std.proofs.Common.{◌≡◌, ℕ, ℤ, Vec, Global, map, rules}
+use Rattle.fl_interface.specs.declared.interface.Scalar.{Scalar}
+use Rattle.fl_interface.specs.declared.interface.FixedType.{FixedType, Scalar as OfScalar, Enumeration, Structure}
+use Rattle.fl_interface.specs.declared.interface.FixedType.TheViews.{the_lemmas as type_lemmas}
+use Rattle.fl_interface.specs.declared.interface.FixedType.TheFolds.{fold_out-FixedType}
+use Rattle.fl_interface.specs.Interface.{TheType, scalar, enumeration, structure, fields_from, type_of, type_step}
+use Rattle.fl_value.specs.declared.value.Value.{Int}
+use Rattle.fl_value.specs.declared.value.Value.TheViews.{the_lemmas as value_lemmas}
+use Rattle.fl_value.specs.declared.value.Value.TheFolds.{fold_out-Value}
+use Rattle.fl_value.specs.Value.{Datum, number, datum_step, datum_of}
+
+pub scalar_seen : (s : Scalar) → type_of (OfScalar s) ≡ scalar s
+scalar_seen s = search (rules, type_lemmas, fold_out-FixedType TheType type_step)
+
+pub enumeration_seen : (n : ℕ) → type_of (Enumeration n) ≡ enumeration n
+enumeration_seen n = search (rules, type_lemmas, fold_out-FixedType TheType type_step)
+
+pub structure_seen : (fs : Vec FixedType Global) → type_of (Structure fs) ≡ structure (fields_from (map type_of fs.items))
+structure_seen fs = search (rules, type_lemmas, fold_out-FixedType TheType type_step)
+
+pub int_seen : (z : ℤ) → datum_of (Int z) ≡ number z
+int_seen z = search (rules, value_lemmas, fold_out-Value Datum datum_step)
