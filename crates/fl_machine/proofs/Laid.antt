@@ -184,6 +184,9 @@ are_added long capacity more ss owed size t room =
       reserved = room;
     }
 
+pub more_room : (long capacity more : ℕ) (ss : List Span) (owed : ℕ) → AreRooms long capacity ss owed → long + owed ≤ more → AreRooms long more ss owed
+more_room long capacity more ss owed t room = record { laid = t.laid; owed_is = t.owed_is; reserved = room }
+
 pub are_opened : (long capacity more : ℕ) (ss : List Span) (owed k : ℕ) (s : Span) → AreRooms long capacity ss owed → slice_get ss k ≡ Some s → s.start ≡ None → capacity ≤ more
     → AreRooms (long + s.size) more (set ss k (record { size = s.size; start = Some long })) (owed - s.size)
 are_opened long capacity more ss owed k s t at none grown =

@@ -331,3 +331,17 @@ gone_as s tape tape2 stand stand2 from e h k = λ n. record {
   stand = sym h n;
   before = Some (record { stand = sym k n; began = false });
 }
+
+-- a run whose fresh tape is another of as many places
+abbrev pub with_fresh : List ℕ → TheStored → TheStored
+with_fresh fresh s = record { tape = s.tape; spare = s.spare; fresh = fresh; stand = s.stand; before = s.before }
+
+pub fresh_stored : (plan : PlanNo) (i : TheInterface) (s : TheStored) (fresh : List ℕ) → length fresh ≡ length s.fresh → IsStored plan i s → IsStored plan i (with_fresh fresh s)
+fresh_stored plan i s fresh long x = record {
+  tape = x.tape;
+  spare = x.spare;
+  fresh = two_more plan i (length s.fresh) (length fresh) (omega (arith, long)) x.fresh;
+  longest = λ n past_tape past_spare past_fresh. x.longest n past_tape past_spare (omega (arith, long, past_fresh));
+  stand = x.stand;
+  before = x.before;
+}

@@ -16,3 +16,6 @@ returns-clause-fed c before all fed =
     span c.args.ops.now before c.args.tape.now c.copy_bytes-many.new.tape c.args.buffer.now all c.args.self.now c.pass_turns.new.self c.args.field c.args.used c.copy_bytes-many.result
     c.requires.field c.requires.run c.if-field-ne1.false c.if-many-eq0.false (omega (arith, some, turns)) (stance_depth c.args.ops.now c.args.self.now c.requires.stance) c.pass_turns.ensures.wide
     (omega (arith, some, inside)) whole copied.right c.pass_turns.ensures.passed copied.tape fed
+
+pub pass_turns-requires-clause-high : goal.pass_turns-requires-clause-high
+pass_turns-requires-clause-high c = stance_depth c.args.ops.now c.args.self.now c.requires.stance

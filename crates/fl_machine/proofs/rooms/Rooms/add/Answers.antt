@@ -1,6 +1,6 @@
-use Rattle.std.proofs.Common.{length, ap, arith}
+use Rattle.std.proofs.Common.{length, refl, ap, arith}
 use Rattle.std.specs.Vec.{vec_capacity}
-use Rattle.fl_machine.proofs.Laid.{are_added, are_same}
+use Rattle.fl_machine.proofs.Laid.{are_added, are_same, more_room}
 use Rattle.fl_machine.proofs.rooms.Rooms.add.Goals as goal
 
 pub returns-clause-rooms : goal.returns-clause-rooms
@@ -11,3 +11,12 @@ returns-clause-rooms c =
     (are_added (length t.block.items) (vec_capacity t.block) (vec_capacity c.reserve.new.self) t.spans.items t.owed c.args.size c.requires.rooms
     (omega (arith, reserved.ok, reserved.len, c.in-Some.ensures.1)))
     (ap length reserved.items) c.in-Ok.ensures.items c.in-Some.ensures.1
+
+pub returns-in_default-push-clause-rooms : goal.returns-in_default-push-clause-rooms
+returns-in_default-push-clause-rooms c =
+    let t = c.args.self.now in
+    let reserved = c.in_ok-reserve.ensures in
+    let rooms = c.requires.rooms in
+    are_same (more_room (length t.block.items) (vec_capacity t.block) (vec_capacity c.reserve.new.self) t.spans.items t.owed rooms
+    (omega (arith, reserved.ok, reserved.len, c.in-Some.ensures.1)))
+    (ap length reserved.items) c.in_default-push.ensures.items refl
