@@ -20,3 +20,10 @@ returns-clause-puts c put long holds =
     c.pass_bytes.ensures.bytes
     (subst (λ (n : ℕ). Holds buffer (put ++ map low_byte (old.value ∷ take (many - 1) (drop n tape)))) c.next.ensures
     (subst (λ (v : ℕ). Holds buffer (put ++ map low_byte (v ∷ take (many - 1) (drop c.next.result tape)))) c.number.ensures (c.put_bytes.ensures.holds put long holds)))
+
+pub pass_bytes-requires-clause-there : goal.pass_bytes-requires-clause-there
+pass_bytes-requires-clause-there c =
+    let many = c.bytes_there-many.result in
+    let is : many ≡ suc (many - 1) = omega (arith, c.if-many-eq0.false) in
+    let there = c.bytes_there-many.ensures.there (omega (arith, is)) in
+    omega (arith, there, is)

@@ -1,6 +1,8 @@
-use Rattle.std.proofs.Common.{◌≡◌, length, arith}
+use Rattle.fl_machine.specs.Taking.{IsRunOf}
+use Rattle.fl_machine.specs.declared.intake.Intake.{Intake}
+use Rattle.std.proofs.Common.{◌≡◌, length, arith, sym, subst}
 use Rattle.fl_machine.proofs.Intakes.{stance_depth}
-use Rattle.fl_machine.proofs.Spans.{span}
+use Rattle.fl_machine.proofs.Spans.{span, run_behind}
 use Rattle.fl_machine.proofs.intake.Intake.take_bytes.Goals as goal
 
 pub bytes_wanted-most-requires-clause-high : goal.bytes_wanted-most-requires-clause-high
@@ -19,3 +21,9 @@ returns-clause-fed c before all fed =
 
 pub pass_turns-requires-clause-high : goal.pass_turns-requires-clause-high
 pass_turns-requires-clause-high c = stance_depth c.args.ops.now c.args.self.now c.requires.stance
+
+pub returns-clause-run : goal.returns-clause-run
+returns-clause-run c =
+    let deep = stance_depth c.args.ops.now c.args.self.now c.requires.stance in
+    subst (λ (d : Intake). IsRunOf c.args.ops.now d c.args.field) (sym c.pass_turns.ensures.passed)
+    (run_behind c.args.ops.now c.args.self.now c.args.field c.copy_bytes-many.result c.requires.run deep c.pass_turns.ensures.wide)

@@ -1,11 +1,12 @@
-use Rattle.std.proofs.Common.{◌≡◌, ℕ, List, length, Some, true, sym, ap, subst, ◌∙◌, arith}
+use Rattle.fl_base.specs.declared.fragment.Frag.{Frag}
+use Rattle.std.proofs.Common.{◌≡◌, ℕ, List, length, Some, true, sym, ap, subst, ◌∙◌, arith, refl}
 use Rattle.std.specs.Prelude.{Ok}
 use Rattle.std.specs.Vec.{with_items}
 use Rattle.std.proofs.lemmas.List.{with_items_is}
 use Rattle.fl_interface.specs.Interface.{interface_of}
 use Rattle.fl_compile.specs.Programs.{program_of}
 use Rattle.fl_machine.specs.declared.recv.Begun.{Begun}
-use Rattle.fl_machine.specs.Receiving.{TheStored, stored_of, receiving, stand_of, stand_after, Feeds, HasPlaces, IsStored, IsNew}
+use Rattle.fl_machine.specs.Receiving.{TheStored, stored_of, receiving, stand_of, stand_after, Feeds, HasPlaces, IsStored, IsNew, IsRefused}
 use Rattle.fl_machine.proofs.Storing.{room_for, begun_on, begun_stored, begun_feeds, begun_as, with_fresh, fresh_stored}
 use Rattle.fl_machine.proofs.recv.Stored.feed_first.Goals as goal
 
@@ -58,3 +59,8 @@ returns-in-Err-clause-stored c =
 
 pub begin-requires-clause-new : goal.begin-requires-clause-new
 begin-requires-clause-new c = subst IsNew (sym c.deref_mut-2.ensures.value) c.renew.ensures.new
+
+pub returns-in-Err-clause-feeds : goal.returns-in-Err-clause-feeds
+returns-in-Err-clause-feeds c =
+    let p = c.args.program.now in
+    (subst (λ (fs : List Frag). IsRefused p.plan (interface_of p.compiled.value.plans.interface) fs c.args.frag.now c.in-Err.fault) (sym c.requires.outside) c.in-Err.ensures.wrong, refl)
