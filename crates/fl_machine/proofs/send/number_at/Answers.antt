@@ -1,5 +1,5 @@
 use Rattle.std.proofs.lemmas.Option.{slice_get_within}
-use Rattle.std.proofs.Common.{◌≡◌, Some, slice_get, sym, ◌∙◌, arith}
+use Rattle.std.proofs.Common.{sym, ◌∙◌, arith}
 use Rattle.fl_machine.proofs.send.number_at.Goals as goal
 
 pub returns-in-Some-Emit-clause-place : goal.returns-in-Some-Emit-clause-place
