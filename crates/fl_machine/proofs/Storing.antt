@@ -17,8 +17,8 @@ use Rattle.fl_machine.specs.Receiving.{Stand, Between, Inside, After, Before}
 use Rattle.fl_machine.specs.Taking.{Stands, so_far}
 use Rattle.fl_machine.specs.declared.intake.Fed.{Fed}
 use Rattle.fl_machine.specs.declared.intake.Fed.TheVariants.{Part, Whole}
-use Rattle.fl_machine.specs.Receiving.{TheHeld, TheStored, receiving, parts_of, fed_of, fed_before, block_at, frags_begun, tape_before, numbers_in, IsStand, CountsNow, IsBefore, IsStored}
-use Rattle.fl_machine.specs.Receiving.{Adds, AddsPart, AddsLast, Feeds, stand_after, HoldsTapes, HoldsTwo, HasPlaces}
+use Rattle.fl_machine.specs.Receiving.{TheHeld, TheStored, receiving, fed_of, fed_before, block_at, frags_begun, tape_before, numbers_in, IsStand, CountsNow, IsBefore, IsStored}
+use Rattle.fl_machine.specs.Receiving.{parts_of, Adds, AddsPart, AddsLast, Feeds, stand_after, HoldsTapes, HoldsTwo, HasPlaces}
 
 -- ---- room
 
@@ -333,7 +333,8 @@ gone_as s tape tape2 stand stand2 from e h k = λ n. record {
 }
 
 gone_before : (plan : PlanNo) (i : TheInterface) (s : TheStored) (b : Begun) (tape : List ℕ) → s.stand ≡ Inside b → Same b.intake.count s.tape tape
-    → fed_of plan i tape s.stand ≡ (let h : TheHeld = record { parts = (fed_of plan i s.tape s.stand).parts; whole = (fed_of plan i s.tape s.stand).whole } in h)
+    → fed_of plan i tape s.stand
+    ≡ (let h : TheHeld = record { parts = (fed_of plan i s.tape s.stand).parts; whole = (fed_of plan i s.tape s.stand).whole } in h)
 gone_before plan i s b tape inside same =
     let counts : numbers_in s.stand ≡ b.intake.count = ap numbers_in inside in
     let own : Same (numbers_in s.stand) s.tape tape = subst (λ (n : ℕ). Same n s.tape tape) (sym counts) same in
@@ -362,7 +363,8 @@ gone_feeds program s b d tape f Whole inside same adds =
 abbrev pub with_fresh : List ℕ → TheStored → TheStored
 with_fresh fresh s = record { tape = s.tape; spare = s.spare; fresh = fresh; stand = s.stand; before = s.before }
 
-pub fresh_stored : (plan : PlanNo) (i : TheInterface) (s : TheStored) (fresh : List ℕ) → length fresh ≡ length s.fresh → IsStored plan i s → IsStored plan i (with_fresh fresh s)
+pub fresh_stored : (plan : PlanNo) (i : TheInterface) (s : TheStored) (fresh : List ℕ) → length fresh ≡ length s.fresh
+    → IsStored plan i s → IsStored plan i (with_fresh fresh s)
 fresh_stored plan i s fresh long x = record {
   tape = x.tape;
   spare = x.spare;

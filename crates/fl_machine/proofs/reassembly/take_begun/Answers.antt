@@ -41,8 +41,11 @@ returns-in-Ok-Whole-clause-takes c =
 pub returns-in-Err-clause-takes : goal.returns-in-Err-clause-takes
 returns-in-Err-clause-takes c =
     let p = c.args.program.now in
-    let i = interface_of p.compiled.value.plans.interface in
-    (subst (λ (o : Option Begun). IsRefused p.plan i (parts_under c.args.room.now o) c.args.frag.now c.in-Err.fault) (sym c.requires.between) c.in-Err.ensures.wrong, refl)
+    let i = interface_of p.compiled.value.plans.interface in (
+      subst (λ (o : Option Begun). IsRefused p.plan i (parts_under c.args.room.now o) c.args.frag.now c.in-Err.fault)
+          (sym c.requires.between) c.in-Err.ensures.wrong,
+      refl,
+    )
 
 pub tell-requires-clause-stands : goal.tell-requires-clause-stands
 tell-requires-clause-stands c =

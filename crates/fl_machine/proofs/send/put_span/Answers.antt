@@ -16,10 +16,12 @@ returns-clause-puts c put long holds =
     let buffer = c.put_bytes.new.buffer in
     let is : many ≡ suc (many - 1) = omega (arith, c.if-many-eq0.false) in
     let there = c.bytes_there-many.ensures.there (omega (arith, is)) in
-    puts_span c.args.ops.now (spot_of tape old) (spot_of tape c.pass_bytes.new.self) put buffer tape c.args.at old.value old.next (many - 1) many long is (omega (arith, there, is))
+    puts_span c.args.ops.now (spot_of tape old) (spot_of tape c.pass_bytes.new.self) put buffer tape c.args.at
+    old.value old.next (many - 1) many long is (omega (arith, there, is))
     c.pass_bytes.ensures.bytes
     (subst (λ (n : ℕ). Holds buffer (put ++ map low_byte (old.value ∷ take (many - 1) (drop n tape)))) c.next.ensures
-    (subst (λ (v : ℕ). Holds buffer (put ++ map low_byte (v ∷ take (many - 1) (drop c.next.result tape)))) c.number.ensures (c.put_bytes.ensures.holds put long holds)))
+    (subst (λ (v : ℕ). Holds buffer (put ++ map low_byte (v ∷ take (many - 1) (drop c.next.result tape))))
+    c.number.ensures (c.put_bytes.ensures.holds put long holds)))
 
 pub pass_bytes-requires-clause-there : goal.pass_bytes-requires-clause-there
 pass_bytes-requires-clause-there c =

@@ -62,5 +62,8 @@ begin-requires-clause-new c = subst IsNew (sym c.deref_mut-2.ensures.value) c.re
 
 pub returns-in-Err-clause-feeds : goal.returns-in-Err-clause-feeds
 returns-in-Err-clause-feeds c =
-    let p = c.args.program.now in
-    (subst (λ (fs : List Frag). IsRefused p.plan (interface_of p.compiled.value.plans.interface) fs c.args.frag.now c.in-Err.fault) (sym c.requires.outside) c.in-Err.ensures.wrong, refl)
+    let p = c.args.program.now in (
+      subst (λ (fs : List Frag). IsRefused p.plan (interface_of p.compiled.value.plans.interface) fs c.args.frag.now c.in-Err.fault)
+          (sym c.requires.outside) c.in-Err.ensures.wrong,
+      refl,
+    )

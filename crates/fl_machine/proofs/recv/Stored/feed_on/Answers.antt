@@ -75,7 +75,8 @@ go_on-requires-clause-begun c =
     let tape = c.args.self.now.tape.items in
     let copied : c.deref_mut-2.result.now ≡ c.args.self.now.now.value = c.deref_mut-2.ensures.value ∙ c.deref.ensures in
     subst (λ (t : List ℕ). (0 < c.deref_mut-2.result.now.fed) × IsBegun p.plan i t c.deref_mut-2.result.now) (sym c.deref_mut-3.ensures.value)
-    (subst (λ (b : Begun). (0 < b.fed) × IsBegun p.plan i tape b) (sym copied) (subst (λ (t : Stand). IsStand p.plan i tape t) c.requires.inside c.requires.stored.stand))
+    (subst (λ (b : Begun). (0 < b.fed) × IsBegun p.plan i tape b) (sym copied)
+    (subst (λ (t : Stand). IsStand p.plan i tape t) c.requires.inside c.requires.stored.stand))
 
 pub go_on-requires-clause-room : goal.go_on-requires-clause-room
 go_on-requires-clause-room c =

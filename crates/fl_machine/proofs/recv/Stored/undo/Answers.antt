@@ -11,4 +11,5 @@ returns-in_default-clause-undone c =
     let p = c.args.program.now in
     let s = c.args.self.now in
     let i = interface_of p.compiled.value.plans.interface in
-    sym (ap (λ (o : Option Former). undone (receiving p (stored_of s)) (fed_before p.plan i s.tape.items s.spare.items (option_map (before_of s.last.value) o))) c.in_default.is)
+    sym (ap (λ (o : Option Former). undone (receiving p (stored_of s))
+    (fed_before p.plan i s.tape.items s.spare.items (option_map (before_of s.last.value) o))) c.in_default.is)
