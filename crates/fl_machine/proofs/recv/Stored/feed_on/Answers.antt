@@ -6,7 +6,8 @@ use Rattle.std.proofs.lemmas.List.{with_items_is}
 use Rattle.fl_base.specs.declared.fragment.Frag.{Frag}
 use Rattle.fl_interface.specs.Interface.{interface_of}
 use Rattle.fl_machine.specs.declared.recv.Begun.{Begun}
-use Rattle.fl_machine.specs.Receiving.{Stand, TheStored, stored_of, receiving, parts_of, fed_of, stand_of, stand_after, numbers_in, IsRefused, IsStored, IsBegun, IsStand, HasPlaces, Adds, Feeds}
+use Rattle.fl_machine.specs.Receiving.{Stand, TheStored, stored_of, receiving, parts_of, fed_of, stand_of, stand_after}
+use Rattle.fl_machine.specs.Receiving.{numbers_in, IsRefused, IsStored, IsBegun, IsStand, HasPlaces, Adds, Feeds}
 use Rattle.fl_machine.proofs.Storing.{Same, with_tape, stored_same, receiving_same, gone_on_stored, gone_as, gone_feeds}
 use Rattle.fl_machine.proofs.recv.Stored.feed_on.Goals as goal
 
@@ -62,10 +63,12 @@ returns-in-Ok-clause-stored c =
     = with_items_is c.args.self.now.tape c.go_on.new.tape (omega (arith, c.in-Ok.ensures.long, c.deref_mut-3.ensures.len)) in
     let begun : c.swap-in-Ok.new.x.value ≡ c.go_on.new.begun = ap (λ v. v.value) (c.swap-in-Ok.ensures.x_after ∙ c.swap.ensures.x_after) in
     let there : stand_of c.after-self.result c.swap-in-Ok.new.x.value ≡ stand
-    = ap (stand_of c.after-self.result) (sym c.deref-in-Ok.ensures) ∙ c.after-self.ensures.stand ∙ ap (λ (d : Begun). stand_after d c.in-Ok.fed) (c.deref-in-Ok.ensures ∙ begun) in
+    = ap (stand_of c.after-self.result) (sym c.deref-in-Ok.ensures)
+    ∙ c.after-self.ensures.stand ∙ ap (λ (d : Begun). stand_after d c.in-Ok.fed) (c.deref-in-Ok.ensures ∙ begun) in
     let grows = subst (λ (d : Begun). d.intake.count ≤ numbers_in stand) copied c.in-Ok.ensures.grows in
     subst (λ (t : TheStored). IsStored p.plan i t)
-    (gone_as s c.go_on.new.tape _ stand _ (stand_of c.args.self.now.phase c.swap-in-Ok.new.y.value) tape there (ap (λ v. stand_of c.args.self.now.phase v.value) c.swap-in-Ok.ensures.y_after))
+    (gone_as s c.go_on.new.tape _ stand _ (stand_of c.args.self.now.phase c.swap-in-Ok.new.y.value) tape there
+    (ap (λ v. stand_of c.args.self.now.phase v.value) c.swap-in-Ok.ensures.y_after))
     (gone_on_stored p.plan i s b c.go_on.new.tape stand c.requires.inside same c.requires.stored grows c.in-Ok.ensures.stands)
 
 pub go_on-requires-clause-begun : goal.go_on-requires-clause-begun
@@ -102,10 +105,12 @@ returns-in-Ok-clause-feeds c =
     = with_items_is c.args.self.now.tape c.go_on.new.tape (omega (arith, c.in-Ok.ensures.long, c.deref_mut-3.ensures.len)) in
     let begun : c.swap-in-Ok.new.x.value ≡ c.go_on.new.begun = ap (λ v. v.value) (c.swap-in-Ok.ensures.x_after ∙ c.swap.ensures.x_after) in
     let there : stand_of c.after-self.result c.swap-in-Ok.new.x.value ≡ stand
-    = ap (stand_of c.after-self.result) (sym c.deref-in-Ok.ensures) ∙ c.after-self.ensures.stand ∙ ap (λ (d : Begun). stand_after d c.in-Ok.fed) (c.deref-in-Ok.ensures ∙ begun) in
+    = ap (stand_of c.after-self.result) (sym c.deref-in-Ok.ensures)
+    ∙ c.after-self.ensures.stand ∙ ap (λ (d : Begun). stand_after d c.in-Ok.fed) (c.deref-in-Ok.ensures ∙ begun) in
     let parts : parts_of p.plan i c.deref_mut-3.result.now c.deref_mut-2.result.now ≡ parts_of p.plan i s.tape b
     = ap (λ (t : List ℕ). parts_of p.plan i t c.deref_mut-2.result.now) c.deref_mut-3.ensures.value ∙ ap (λ (d : Begun). parts_of p.plan i s.tape d) copied in
     let adds = subst (λ (fs : List Frag). Adds p.plan i fs c.args.frag.now (fed_of p.plan i c.go_on.new.tape stand) stand) parts c.in-Ok.ensures.adds in
     subst (λ (t : TheStored). Feeds (receiving p s) c.args.frag.now (Ok c.in-Ok.fed) (receiving p t))
-    (gone_as s c.go_on.new.tape _ stand _ (stand_of c.args.self.now.phase c.swap-in-Ok.new.y.value) tape there (ap (λ v. stand_of c.args.self.now.phase v.value) c.swap-in-Ok.ensures.y_after))
+    (gone_as s c.go_on.new.tape _ stand _ (stand_of c.args.self.now.phase c.swap-in-Ok.new.y.value) tape there
+    (ap (λ v. stand_of c.args.self.now.phase v.value) c.swap-in-Ok.ensures.y_after))
     (gone_feeds p s b c.go_on.new.begun c.go_on.new.tape c.args.frag.now c.in-Ok.fed c.requires.inside same adds)
