@@ -184,16 +184,6 @@ are_added long capacity more ss owed size t room =
       reserved = room;
     }
 
-pub no_rooms : (capacity : ℕ) → AreRooms 0 capacity [] 0
-no_rooms capacity = record {
-  laid = record { within = λ k s e start at. absurd (none-some s e); apart = λ j k s u e d n a b p q. absurd (none-some s e) };
-  owed_is = refl;
-  reserved = omega arith;
-}
-
-pub more_room : (long capacity more : ℕ) (ss : List Span) (owed : ℕ) → AreRooms long capacity ss owed → long + owed ≤ more → AreRooms long more ss owed
-more_room long capacity more ss owed t room = record { laid = t.laid; owed_is = t.owed_is; reserved = room }
-
 pub are_opened : (long capacity more : ℕ) (ss : List Span) (owed k : ℕ) (s : Span) → AreRooms long capacity ss owed → slice_get ss k ≡ Some s → s.start ≡ None → capacity ≤ more
     → AreRooms (long + s.size) more (set ss k (record { size = s.size; start = Some long })) (owed - s.size)
 are_opened long capacity more ss owed k s t at none grown =

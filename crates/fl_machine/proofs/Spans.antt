@@ -8,7 +8,7 @@ use Rattle.fl_machine.specs.declared.cursor.Loop.{Loop}
 use Rattle.fl_machine.specs.declared.intake.Field.{Field}
 use Rattle.fl_machine.specs.declared.intake.Intake.{Intake}
 use Rattle.fl_machine.specs.Cursors.{no_loop}
-use Rattle.fl_machine.specs.Taking.{IsFed, HasField, Grows, IsRunOf, AreWithin, inner_loop, turned, after_bytes, run_at}
+use Rattle.fl_machine.specs.Taking.{IsFed, HasField, Grows, IsRunOf, AreWithin, inner_loop, after_bytes, run_at}
 use Rattle.fl_machine.proofs.Intakes.{here_of, Turned, turned_inner, run_again, run_field, run_turn, first_left, behind_more}
 use Rattle.fl_machine.proofs.Eights.{set_again}
 
@@ -156,17 +156,3 @@ run_turned c left count phase f deep few long =
 
 pub run_long : (c : Intake) (left count phase : ℕ) → length c.loops ≡ 8 → length (run_at c left count phase).loops ≡ 8
 run_long c left count phase long = length-set c.loops (c.depth - 1) (record { start = (inner_loop c).start; turns = left }) ∙ long
-
--- the loop so many bytes further
-pub run_behind : (ops : List Op) (c : Intake) (f : Field) (many : ℕ) → IsRunOf ops c f → c.depth ≤ 8 → length c.loops ≡ 8 → IsRunOf ops (after_bytes c many) f
-run_behind ops c f many run few long =
-    let deep = run.deep in
-    let inner : Loop = turned (inner_loop c) many in
-    record {
-      deep = deep;
-      idle = run.idle;
-      told = run.told;
-      plain = run.plain;
-      start = ap Loop.start (get_or-set_same c.loops (c.depth - 1) inner no_loop (omega (arith, deep, few, long))) ∙ run.start;
-      back = run.back;
-    }

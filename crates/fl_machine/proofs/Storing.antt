@@ -18,7 +18,7 @@ use Rattle.fl_machine.specs.Taking.{Stands, so_far}
 use Rattle.fl_machine.specs.declared.intake.Fed.{Fed}
 use Rattle.fl_machine.specs.declared.intake.Fed.TheVariants.{Part, Whole}
 use Rattle.fl_machine.specs.Receiving.{TheHeld, TheStored, receiving, fed_of, fed_before, block_at, frags_begun, tape_before, numbers_in, IsStand, CountsNow, IsBefore, IsStored}
-use Rattle.fl_machine.specs.Receiving.{parts_of, Adds, AddsPart, AddsLast, Feeds, stand_after, HoldsTapes, HoldsTwo, HasPlaces}
+use Rattle.fl_machine.specs.Receiving.{Adds, AddsPart, AddsLast, Feeds, stand_after, HoldsTapes, HoldsTwo, HasPlaces}
 
 -- ---- room
 
@@ -330,46 +330,4 @@ gone_as s tape tape2 stand stand2 from e h k = λ n. record {
   fresh = s.fresh;
   stand = sym h n;
   before = Some (record { stand = sym k n; began = false });
-}
-
-gone_before : (plan : PlanNo) (i : TheInterface) (s : TheStored) (b : Begun) (tape : List ℕ) → s.stand ≡ Inside b → Same b.intake.count s.tape tape
-    → fed_of plan i tape s.stand
-    ≡ (let h : TheHeld = record { parts = (fed_of plan i s.tape s.stand).parts; whole = (fed_of plan i s.tape s.stand).whole } in h)
-gone_before plan i s b tape inside same =
-    let counts : numbers_in s.stand ≡ b.intake.count = ap numbers_in inside in
-    let own : Same (numbers_in s.stand) s.tape tape = subst (λ (n : ℕ). Same n s.tape tape) (sym counts) same in
-    fed_same plan i (numbers_in s.stand) s.tape tape s.stand own (omega arith) ∙ held_again plan i s.tape s.stand
-
-pub gone_feeds : (program : Program) (s : TheStored) (b d : Begun) (tape : List ℕ) (f : Frag) (fed : Fed) → s.stand ≡ Inside b → Same b.intake.count s.tape tape
-    → Adds (program_of program).plan (program_of program).interface (parts_of (program_of program).plan (program_of program).interface s.tape b) f
-    (fed_of (program_of program).plan (program_of program).interface tape (stand_after d fed)) (stand_after d fed)
-    → Feeds (receiving program s) f (Ok fed) (receiving program (gone_on s tape (stand_after d fed)))
-gone_feeds program s b d tape f Part inside same adds =
-    let plan = (program_of program).plan in
-    let i = (program_of program).interface in
-    let parts : parts_of plan i s.tape b ≡ (fed_of plan i s.tape s.stand).parts = sym (ap (λ (t : Stand). (fed_of plan i s.tape t).parts) inside) in (
-      subst (λ (fs : List Frag). AddsPart plan i fs f (fed_of plan i tape (Inside d))) parts adds,
-      record { program = refl; before = ap Some (gone_before plan i s b tape inside same) },
-    )
-gone_feeds program s b d tape f Whole inside same adds =
-    let plan = (program_of program).plan in
-    let i = (program_of program).interface in
-    let parts : parts_of plan i s.tape b ≡ (fed_of plan i s.tape s.stand).parts = sym (ap (λ (t : Stand). (fed_of plan i s.tape t).parts) inside) in (
-      subst (λ (fs : List Frag). AddsLast plan i fs f (fed_of plan i tape (stand_after d Whole))) parts adds,
-      record { program = refl; before = ap Some (gone_before plan i s b tape inside same) },
-    )
-
--- a run whose fresh tape is another of as many places
-abbrev pub with_fresh : List ℕ → TheStored → TheStored
-with_fresh fresh s = record { tape = s.tape; spare = s.spare; fresh = fresh; stand = s.stand; before = s.before }
-
-pub fresh_stored : (plan : PlanNo) (i : TheInterface) (s : TheStored) (fresh : List ℕ) → length fresh ≡ length s.fresh
-    → IsStored plan i s → IsStored plan i (with_fresh fresh s)
-fresh_stored plan i s fresh long x = record {
-  tape = x.tape;
-  spare = x.spare;
-  fresh = two_more plan i (length s.fresh) (length fresh) (omega (arith, long)) x.fresh;
-  longest = λ n past_tape past_spare past_fresh. x.longest n past_tape past_spare (omega (arith, long, past_fresh));
-  stand = x.stand;
-  before = x.before;
 }

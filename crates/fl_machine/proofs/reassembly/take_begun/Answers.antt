@@ -1,12 +1,8 @@
-use Rattle.fl_machine.specs.declared.recv.Ended.{Ended}
-use Rattle.fl_machine.specs.declared.intake.Fed.{Fed}
-use Rattle.fl_machine.specs.Receiving.{IsRefused, IsEnded, StandsIn, stand_after}
-use Rattle.fl_interface.specs.Interface.{interface_of}
-use Rattle.std.proofs.Common.{inr, sym, subst, arith, refl}
+use Rattle.std.proofs.Common.{inr, sym, subst, arith}
 use Rattle.std.specs.Prelude.{Option}
 use Rattle.fl_compile.specs.Programs.{program_of}
 use Rattle.fl_machine.specs.declared.recv.Begun.{Begun}
-use Rattle.fl_machine.specs.Reassembling.{Takes, IsUnderWay, reassembly_on, parts_under}
+use Rattle.fl_machine.specs.Reassembling.{Takes, IsUnderWay, reassembly_on}
 use Rattle.fl_machine.proofs.Parts.{first_part, part_fits}
 use Rattle.fl_machine.proofs.reassembly.take_begun.Goals as goal
 
@@ -37,19 +33,3 @@ returns-in-Ok-Whole-clause-under_way c = subst (λ (o : Option Begun). IsUnderWa
 pub returns-in-Ok-Whole-clause-takes : goal.returns-in-Ok-Whole-clause-takes
 returns-in-Ok-Whole-clause-takes c =
     subst (λ (o : Option Begun). Takes (reassembly_on c.args.program.now c.args.room.now o) c.args.frag.now c.tell.result (reassembly_on c.args.program.now c.args.room.now o)) (sym c.requires.between) c.tell.ensures.takes
-
-pub returns-in-Err-clause-takes : goal.returns-in-Err-clause-takes
-returns-in-Err-clause-takes c =
-    let p = c.args.program.now in
-    let i = interface_of p.compiled.value.plans.interface in (
-      subst (λ (o : Option Begun). IsRefused p.plan i (parts_under c.args.room.now o) c.args.frag.now c.in-Err.fault)
-          (sym c.requires.between) c.in-Err.ensures.wrong,
-      refl,
-    )
-
-pub tell-requires-clause-stands : goal.tell-requires-clause-stands
-tell-requires-clause-stands c =
-    let p = c.args.program.now in
-    let b = c.begin.new.begun in
-    let whole = subst (λ (fed : Fed). StandsIn (program_of p) c.begin.new.tape (stand_after b fed)) c.in-Ok-Whole.field-0-is c.in-Ok-Whole.ensures.stands in
-    subst (λ (e : Ended). IsEnded p.plan (interface_of p.compiled.value.plans.interface) c.begin.new.tape e) (sym c.ended.ensures.ended) whole

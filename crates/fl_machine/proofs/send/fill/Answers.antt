@@ -33,8 +33,3 @@ returns-after-loop-filled c =
     let (put, long, holds, joined) = c.loop-filled.invariant.3 in
     let f = fills c.loop-filled.buffer put _ _ c.loop-filled.filled holds long c.loop-filled.invariant.2 joined (inl c.loop-filled-test.false) in
     record { spot = c.loop-filled.invariant.0; settled = c.loop-filled.invariant.1; bytes = f.each; left = f.left }
-
-pub settle-requires : goal.settle-requires
-settle-requires c =
-    let (put, long, holds, bytes) = c.loop-filled.invariant.3 in
-    (c.put_next-filled.ensures put long holds).spot

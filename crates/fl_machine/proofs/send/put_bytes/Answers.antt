@@ -1,6 +1,4 @@
-use Rattle.fl_machine.proofs.Pours.{holds_more}
-use Rattle.fl_machine.specs.Filling.{Holds}
-use Rattle.std.proofs.Common.{◌+◌, ◌∙◌, arith, ◌≡◌, ◌++◌, ◌∷◌, [], ℕ, length, slice_set, subst}
+use Rattle.std.proofs.Common.{◌+◌, ◌∙◌, arith}
 use Rattle.std.proofs.lemmas.List.{length-set}
 use Rattle.fl_machine.proofs.Eights.{bytes_put}
 use Rattle.fl_machine.proofs.send.put_bytes.Goals as goal
@@ -17,17 +15,4 @@ loop-index-preserved c =
       λ put long holds.
           bytes_put c.loop-index.buffer put c.args.numbers.now c.args.at c.args.first c.args.from c.loop-index.index c.low_byte-in-loop-index.result i.1 long
           (omega (arith, few, inside)) (omega (arith, few, there)) c.low_byte-in-loop-index.ensures (i.2 put long holds),
-    )
-
-pub loop-index-init : goal.loop-index-init
-loop-index-init c =
-    let long : length c.args.buffer.now ≡ 56 = omega arith in
-    let inside = c.requires.inside in
-    let byte = c.low_byte.result in
-    let after = slice_set c.args.buffer.now c.args.at byte in (
-      omega arith,
-      length-set c.args.buffer.now c.args.at byte ∙ long,
-      λ put is holds.
-          subst (λ (b : ℕ). Holds after (put ++ b ∷ [])) c.low_byte.ensures
-          (holds_more c.args.buffer.now put c.args.at byte long is (omega (arith, inside)) holds),
     )

@@ -1,4 +1,3 @@
-use Rattle.std.proofs.lemmas.Option.{slice_get_within}
 use Rattle.std.proofs.Common.{◌≡◌, ◌+◌, ◌-◌, suc, ap, arith}
 use Rattle.std.proofs.Common.{ℕ}
 use Rattle.fl_machine.specs.declared.cursor.Cursor.{Cursor}
@@ -25,9 +24,3 @@ returns c =
     counted_turns c.args.ops.now c.args.tape.now c.args.self.now c.take_number-turns.new.self c.enter.new.self c.args.most turns _ (turns - 1)
     c.requires.op c.requires.spot c.requires.idle c.take_number-turns.ensures.number c.take_number-turns.ensures.spot more c.take_number-turns.ensures.fits
     (ap (λ (x : Cursor). x.place + 2) c.take_number-turns.ensures.rest) (c.enter.ensures c.args.tape.now)
-
-pub overflow_add-start : goal.overflow_add-start
-overflow_add-start c =
-    let inside = slice_get_within c.args.ops.now c.args.self.now.place _ c.requires.op in
-    let same : c.take_number-turns.new.self.place ≡ c.args.self.now.place = ap Cursor.place c.take_number-turns.ensures.rest in
-    omega (arith, inside, same)

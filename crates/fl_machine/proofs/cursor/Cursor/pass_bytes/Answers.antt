@@ -1,4 +1,3 @@
-use Rattle.fl_machine.proofs.Turns.{depth_small}
 use Rattle.std.proofs.Common.{◌≡◌, ◌+◌, suc, length, arith}
 use Rattle.fl_machine.proofs.Eights.{bytes_on}
 use Rattle.fl_machine.proofs.cursor.Cursor.pass_bytes.Goals as goal
@@ -9,18 +8,3 @@ returns c =
     let is : c.args.others + 1 ≡ suc c.args.others = omega arith in
     let t = bytes_on c.args.others (c.args.others + 1) c.args.ops.now c.args.tape.now c.args.self.now is c.requires.spot c.requires.run c.requires.one c.requires.more c.requires.there long in
     record { width = t.width; run = t.run; spot = t.spot; bytes = t.bytes }
-
-pub offset_bounds-self-self : goal.offset_bounds-self-self
-offset_bounds-self-self c =
-    let few = depth_small c.args.ops.now c.args.tape.now c.args.self.now c.requires.spot in
-    omega (arith, few)
-
-pub bounds-self-self-2 : goal.bounds-self-self-2
-bounds-self-self-2 c =
-    let few = depth_small c.args.ops.now c.args.tape.now c.args.self.now c.requires.spot in
-    omega (arith, few)
-
-pub bounds-self-self : goal.bounds-self-self
-bounds-self-self c =
-    let few = depth_small c.args.ops.now c.args.tape.now c.args.self.now c.requires.spot in
-    omega (arith, few)

@@ -1,4 +1,3 @@
-use Rattle.std.proofs.lemmas.Option.{slice_get_within}
 use Rattle.std.proofs.Common.{◌≡◌, ◌-◌, suc, refl, arith}
 use Rattle.fl_machine.proofs.Turns.{times_at, repeats}
 use Rattle.fl_machine.proofs.cursor.Cursor.repeat.Goals as goal
@@ -16,8 +15,3 @@ returns c =
     let least = (times_at c.args.ops.now c.args.tape.now c.args.self.now c.args.turns c.requires.op c.requires.spot).0 in
     let many : c.args.turns ≡ suc (c.from.result - 1) = omega (arith, least, c.from.ensures) in
     repeats c.args.ops.now c.args.tape.now c.args.self.now c.enter.new.self c.args.turns _ (c.from.result - 1) c.requires.op c.requires.spot refl many (c.enter.ensures c.args.tape.now)
-
-pub overflow_add-self : goal.overflow_add-self
-overflow_add-self c =
-    let inside = slice_get_within c.args.ops.now c.args.self.now.place _ c.requires.op in
-    omega (arith, inside)

@@ -1,7 +1,7 @@
 use Rattle.std.proofs.Common.{◌≡◌, ◌∙◌, length, refl, ap, arith}
 use Rattle.fl_stub.specs.Structure.{is_width}
 use Rattle.fl_machine.specs.declared.cursor.Cursor.{Cursor}
-use Rattle.fl_machine.proofs.Turns.{turned_run, run_fits, depth_small}
+use Rattle.fl_machine.proofs.Turns.{turned_run, run_fits}
 use Rattle.fl_machine.proofs.cursor.Cursor.take_turn.Goals as goal
 
 pub low_bytes-self-requires : goal.low_bytes-self-requires
@@ -15,21 +15,3 @@ returns c =
     c.requires.spot c.requires.run c.requires.more long c.take_number-number.ensures.number c.take_number-number.ensures.spot c.take_number-number.ensures.rest
     c.low_bytes-self.ensures.bytes c.low_bytes-self.ensures.small in
     record { number = refl; width = t.width; run = t.run; turns = t.turns; spot = t.goes.spot; bytes = t.goes.bytes }
-
-pub offset_bounds-self-self : goal.offset_bounds-self-self
-offset_bounds-self-self c =
-    let few = depth_small c.args.ops.now c.args.tape.now c.args.self.now c.requires.spot in
-    let same : c.take_number-number.new.self.depth ≡ c.args.self.now.depth = ap Cursor.depth c.take_number-number.ensures.rest in
-    omega (arith, few, same)
-
-pub bounds-self-self-2 : goal.bounds-self-self-2
-bounds-self-self-2 c =
-    let few = depth_small c.args.ops.now c.args.tape.now c.args.self.now c.requires.spot in
-    let same : c.take_number-number.new.self.depth ≡ c.args.self.now.depth = ap Cursor.depth c.take_number-number.ensures.rest in
-    omega (arith, few, same)
-
-pub bounds-self-self : goal.bounds-self-self
-bounds-self-self c =
-    let few = depth_small c.args.ops.now c.args.tape.now c.args.self.now c.requires.spot in
-    let same : c.take_number-number.new.self.depth ≡ c.args.self.now.depth = ap Cursor.depth c.take_number-number.ensures.rest in
-    omega (arith, few, same)

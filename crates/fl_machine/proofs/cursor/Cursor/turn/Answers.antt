@@ -1,4 +1,3 @@
-use Rattle.std.proofs.lemmas.Option.{slice_get_within}
 use Rattle.std.proofs.Common.{◌≡◌, ◌-◌, suc, get_or, refl, arith}
 use Rattle.fl_machine.specs.Cursors.{no_loop}
 use Rattle.fl_machine.proofs.Turns.{back_at, ended_turns, next_turn}
@@ -21,11 +20,3 @@ returns c =
     let turns = (get_or c.args.self.now.loops (c.args.self.now.depth - 1) no_loop).turns in
     let more : turns ≡ suc (turns - 1) = omega (arith, c.if-inner-eq0.false) in
     next_turn c.args.ops.now c.args.tape.now c.args.self.now c.enter.new.self _ turns (turns - 1) c.requires.op c.requires.spot refl refl more (c.enter.ensures c.args.tape.now)
-
-pub overflow_add-self : goal.overflow_add-self
-overflow_add-self c =
-    let inside = slice_get_within c.args.ops.now c.args.self.now.place _ c.requires.op in
-    omega (arith, inside)
-
-pub enter-requires : goal.enter-requires
-enter-requires c = let b = back_at c.args.ops.now c.args.tape.now c.args.self.now c.requires.op c.requires.spot in omega (arith, b.0, b.1)

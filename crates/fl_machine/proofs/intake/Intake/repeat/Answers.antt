@@ -1,4 +1,3 @@
-use Rattle.std.proofs.lemmas.Option.{slice_get_within}
 use Rattle.std.proofs.Common.{◌≡◌, ◌-◌, suc, arith}
 use Rattle.fl_machine.proofs.Intakes.{times_at, repeats}
 use Rattle.fl_machine.proofs.intake.Intake.repeat.Goals as goal
@@ -16,8 +15,3 @@ returns c =
     let least = (times_at c.args.ops.now c.args.self.now c.args.turns c.requires.op c.requires.stance).0 in
     let many : c.args.turns ≡ suc (c.from.result - 1) = omega (arith, least, c.from.ensures) in
     repeats c.args.ops.now c.args.self.now c.enter.new.self c.args.turns (c.from.result - 1) c.requires.op c.requires.stance many c.enter.ensures.loops c.enter.ensures.others
-
-pub overflow_add-self : goal.overflow_add-self
-overflow_add-self c =
-    let inside = slice_get_within c.args.ops.now c.args.self.now.place _ c.requires.op in
-    omega (arith, inside)

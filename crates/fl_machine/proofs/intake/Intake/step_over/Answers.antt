@@ -1,5 +1,3 @@
-use Rattle.std.proofs.lemmas.Option.{slice_get_within}
-use Rattle.std.proofs.Common.{arith}
 use Rattle.fl_stub.specs.declared.op.Column.TheVariants.{Receive}
 use Rattle.fl_machine.proofs.Intakes.{over_step, over_none, over_turns, length_deep}
 use Rattle.fl_machine.proofs.intake.Intake.step_over.Goals as goal
@@ -19,13 +17,3 @@ pub returns : goal.returns
 returns c =
     over_turns c.args.ops.now c.args.self.now c.enter.new.self c.args.field c.args.number c.requires.field c.requires.stance (c.is_length.ensures.yes c.if-not-is_length.false) c.if-number-eq0.false
     c.enter.ensures.loops c.enter.ensures.others
-
-pub overflow_add-self-then-not-is_length : goal.overflow_add-self-then-not-is_length
-overflow_add-self-then-not-is_length c =
-    let inside = slice_get_within c.args.ops.now c.args.self.now.place _ c.requires.field.there in
-    omega (arith, inside)
-
-pub overflow_add-start : goal.overflow_add-start
-overflow_add-start c =
-    let inside = slice_get_within c.args.ops.now c.args.self.now.place _ c.requires.field.there in
-    omega (arith, inside)

@@ -1,8 +1,6 @@
-use Rattle.fl_machine.specs.Taking.{IsRunOf}
-use Rattle.fl_machine.specs.declared.intake.Intake.{Intake}
-use Rattle.std.proofs.Common.{◌≡◌, length, arith, sym, subst}
+use Rattle.std.proofs.Common.{◌≡◌, length, arith}
 use Rattle.fl_machine.proofs.Intakes.{stance_depth}
-use Rattle.fl_machine.proofs.Spans.{span, run_behind}
+use Rattle.fl_machine.proofs.Spans.{span}
 use Rattle.fl_machine.proofs.intake.Intake.take_bytes.Goals as goal
 
 pub bytes_wanted-most-requires-clause-high : goal.bytes_wanted-most-requires-clause-high
@@ -18,12 +16,3 @@ returns-clause-fed c before all fed =
     span c.args.ops.now before c.args.tape.now c.copy_bytes-many.new.tape c.args.buffer.now all c.args.self.now c.pass_turns.new.self c.args.field c.args.used c.copy_bytes-many.result
     c.requires.field c.requires.run c.if-field-ne1.false c.if-many-eq0.false (omega (arith, some, turns)) (stance_depth c.args.ops.now c.args.self.now c.requires.stance) c.pass_turns.ensures.wide
     (omega (arith, some, inside)) whole copied.right c.pass_turns.ensures.passed copied.tape fed
-
-pub pass_turns-requires-clause-high : goal.pass_turns-requires-clause-high
-pass_turns-requires-clause-high c = stance_depth c.args.ops.now c.args.self.now c.requires.stance
-
-pub returns-clause-run : goal.returns-clause-run
-returns-clause-run c =
-    let deep = stance_depth c.args.ops.now c.args.self.now c.requires.stance in
-    subst (λ (d : Intake). IsRunOf c.args.ops.now d c.args.field) (sym c.pass_turns.ensures.passed)
-    (run_behind c.args.ops.now c.args.self.now c.args.field c.copy_bytes-many.result c.requires.run deep c.pass_turns.ensures.wide)

@@ -49,19 +49,3 @@ returns-clause-fed c before all fed =
     whole_here c.args.ops.now (before ++ take c.args.self.now.count c.args.tape.now) _ c.args.self.now c.tell.new.self c.step_over.new.self c.settle.new.self all _ _ c.args.field c.grow-number.result.0 c.grow-number.result.1
     fed c.requires.field c.grow-number.ensures.grows (omega (arith, within, past)) c.if-number-field.false c.if-number-field-2.false c.tell.ensures.others
     (behind_more before (take c.args.self.now.count c.args.tape.now) (take c.settle.new.self.count c.tell.new.tape) _ (ap (λ k. take k c.tell.new.tape) count ∙ c.tell.ensures.tape)) c.step_over.ensures c.settle.ensures.passes
-
-pub returns-clause-pace : goal.returns-clause-pace
-returns-clause-pace c =
-    let all : c.settle.new.self.count ≡ c.step_over.new.self.count = ap Intake.count c.settle.ensures.passes.others in
-    let over = c.step_over.ensures.count in
-    let most = c.tell.ensures.most in
-    let some = c.grow-number.ensures.some in
-    omega (arith, all, over, most, some)
-
-pub returns-clause-count : goal.returns-clause-count
-returns-clause-count c =
-    let all : c.settle.new.self.count ≡ c.step_over.new.self.count = ap Intake.count c.settle.ensures.passes.others in
-    let over = c.step_over.ensures.count in
-    let told = c.tell.ensures.count in
-    let inside = c.tell.ensures.inside c.requires.count in
-    (omega (arith, all, over, told), omega (arith, all, over, inside))

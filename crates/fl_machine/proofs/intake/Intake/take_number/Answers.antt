@@ -1,4 +1,3 @@
-use Rattle.std.proofs.lemmas.Option.{slice_get_within}
 use Rattle.std.proofs.Common.{◌≡◌, ◌++◌, Some, take, slice_get, sym, ◌∙◌, arith}
 use Rattle.fl_machine.specs.Plain.{plain_behind}
 use Rattle.fl_machine.proofs.Intakes.{behind_more}
@@ -46,9 +45,3 @@ returns-clause-more c =
     let least = more.0 in
     let most = more.1 in
     (least, omega (arith, some, most), more.2)
-
-pub returns-clause-place : goal.returns-clause-place
-returns-clause-place c =
-    let there : slice_get c.args.ops.now c.args.place ≡ Some c.in-Some.op = sym c.op_at.ensures ∙ c.in-Some.is in
-    let inside = slice_get_within c.args.ops.now c.args.place _ there in
-    omega (arith, inside)

@@ -1,4 +1,3 @@
-use Rattle.fl_machine.specs.declared.intake.Fed.TheVariants.{Part, Whole}
 use Rattle.std.proofs.Common.{◌≡◌, ◌-◌, ◌++◌, ℕ, List, length, take, sym, ◌∙◌, subst, arith}
 use Rattle.std.proofs.lemmas.Result.{IfOk-weaker, IfErr-weaker, err_from_is_err_and}
 use Rattle.fl_stub.specs.declared.mark.Mark.{Mark}
@@ -153,15 +152,3 @@ returns-in-None-clause-grows c = c.loop-used.invariant.2
 
 pub returns-in-None-clause-within : goal.returns-in-None-clause-within
 returns-in-None-clause-within c = c.loop-used.invariant.3
-
-not_part : {A : Type 0} → Whole ≡ Part → A
-not_part e = absurd (cc)
-
-not_whole : {A : Type 0} → Part ≡ Whole → A
-not_whole e = absurd (cc)
-
-pub returns-in-None-clause-part : goal.returns-in-None-clause-part
-returns-in-None-clause-part c e = not_part e
-
-pub returns-in-Some-field-clause-whole : goal.returns-in-Some-field-clause-whole
-returns-in-Some-field-clause-whole c e = not_whole e

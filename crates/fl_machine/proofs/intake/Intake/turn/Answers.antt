@@ -1,4 +1,3 @@
-use Rattle.std.proofs.lemmas.Option.{slice_get_within}
 use Rattle.std.proofs.Common.{arith}
 use Rattle.fl_machine.proofs.Intakes.{back_at, turns_over, turns_on_again}
 use Rattle.fl_machine.proofs.intake.Intake.turn.Goals as goal
@@ -17,11 +16,3 @@ returns-then-inner-eq0 c = turns_over c.args.ops.now c.args.self.now c.requires.
 
 pub returns : goal.returns
 returns c = turns_on_again c.args.ops.now c.args.self.now c.enter.new.self c.requires.op c.requires.stance c.if-inner-eq0.false c.enter.ensures.loops c.enter.ensures.others
-
-pub overflow_add-self : goal.overflow_add-self
-overflow_add-self c =
-    let inside = slice_get_within c.args.ops.now c.args.self.now.place _ c.requires.op in
-    omega (arith, inside)
-
-pub enter-requires : goal.enter-requires
-enter-requires c = let b = back_at c.args.ops.now c.args.self.now c.requires.op c.requires.stance in omega (arith, b.0, b.1)

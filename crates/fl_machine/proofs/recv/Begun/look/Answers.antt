@@ -1,5 +1,4 @@
-use Rattle.fl_machine.specs.declared.intake.Fed.TheVariants.{Part, Whole}
-use Rattle.std.proofs.Common.{inr, arith, ◌≡◌}
+use Rattle.std.proofs.Common.{inr, arith}
 use Rattle.fl_interface.specs.Interface.{interface_of}
 use Rattle.fl_machine.proofs.Looking.{kept_taking, kept_stands, kept_on, kept_end, kept_fault, kept_few}
 use Rattle.fl_machine.proofs.recv.Begun.look.Goals as goal
@@ -52,15 +51,3 @@ returns-in-Err-clause-wrong c parts k =
     c.is_line.ensures.line k c.requires.control c.in-Some.ensures.exact c.ops.ensures.ops in
     kept_fault p.plan i parts c.args.self.now c.args.frag.now c.ops.result.now c.in-Err.mark c.fault_of.result c.tells_faults.ensures.tells k x (c.requires.header parts k) c.requires.message c.fault_of.ensures.fault
     (c.in-Err.ensures.wrong k.taken x.bytes (kept_stands p.plan i parts c.args.self.now c.args.frag.now c.ops.result.now _ k x))
-
-not_part : {A : Type 0} → Whole ≡ Part → A
-not_part e = absurd (cc)
-
-not_whole : {A : Type 0} → Part ≡ Whole → A
-not_whole e = absurd (cc)
-
-pub returns-in-Ok-Whole-clause-part : goal.returns-in-Ok-Whole-clause-part
-returns-in-Ok-Whole-clause-part c e = not_part e
-
-pub returns-in-Ok-Part-clause-whole : goal.returns-in-Ok-Part-clause-whole
-returns-in-Ok-Part-clause-whole c e = not_whole e

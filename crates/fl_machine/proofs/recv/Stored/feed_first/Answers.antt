@@ -1,13 +1,12 @@
-use Rattle.fl_base.specs.declared.fragment.Frag.{Frag}
-use Rattle.std.proofs.Common.{◌≡◌, ℕ, List, length, Some, true, sym, ap, subst, ◌∙◌, arith, refl}
+use Rattle.std.proofs.Common.{◌≡◌, ℕ, List, length, Some, true, sym, ap, subst, ◌∙◌, arith}
 use Rattle.std.specs.Prelude.{Ok}
 use Rattle.std.specs.Vec.{with_items}
 use Rattle.std.proofs.lemmas.List.{with_items_is}
 use Rattle.fl_interface.specs.Interface.{interface_of}
 use Rattle.fl_compile.specs.Programs.{program_of}
 use Rattle.fl_machine.specs.declared.recv.Begun.{Begun}
-use Rattle.fl_machine.specs.Receiving.{TheStored, stored_of, receiving, stand_of, stand_after, Feeds, HasPlaces, IsStored, IsNew, IsRefused}
-use Rattle.fl_machine.proofs.Storing.{room_for, begun_on, begun_stored, begun_feeds, begun_as, with_fresh, fresh_stored}
+use Rattle.fl_machine.specs.Receiving.{TheStored, stored_of, receiving, stand_of, stand_after, Feeds, HasPlaces, IsStored}
+use Rattle.fl_machine.proofs.Storing.{room_for, begun_on, begun_stored, begun_feeds, begun_as}
 use Rattle.fl_machine.proofs.recv.Stored.feed_first.Goals as goal
 
 -- what is stored then is a call begun on the fresh tape
@@ -47,23 +46,3 @@ returns-in-Ok-clause-feeds c =
     let p = c.args.program.now in
     subst (λ (s : TheStored). Feeds (receiving p (stored_of c.args.self.now)) c.args.frag.now (Ok c.in-Ok.fed) (receiving p s)) (stored_then c)
     (begun_feeds p (stored_of c.args.self.now) c.begin.new.tape c.begin.new.begun c.args.frag.now c.in-Ok.fed c.requires.outside c.in-Ok.ensures.adds)
-
-pub returns-in-Err-clause-stored : goal.returns-in-Err-clause-stored
-returns-in-Err-clause-stored c =
-    let p = c.args.program.now in
-    let i = interface_of p.compiled.value.plans.interface in
-    let items : (with_items c.args.self.now.fresh c.begin.new.tape).items ≡ c.begin.new.tape
-    = with_items_is c.args.self.now.fresh c.begin.new.tape (omega (arith, c.in-Err.ensures.long, c.deref_mut-3.ensures.len)) in
-    subst (λ (t : List ℕ). IsStored p.plan i (with_fresh t (stored_of c.args.self.now))) (sym items)
-    (fresh_stored p.plan i (stored_of c.args.self.now) c.begin.new.tape (c.in-Err.ensures.long ∙ ap length c.deref_mut-3.ensures.value) c.requires.stored)
-
-pub begin-requires-clause-new : goal.begin-requires-clause-new
-begin-requires-clause-new c = subst IsNew (sym c.deref_mut-2.ensures.value) c.renew.ensures.new
-
-pub returns-in-Err-clause-feeds : goal.returns-in-Err-clause-feeds
-returns-in-Err-clause-feeds c =
-    let p = c.args.program.now in (
-      subst (λ (fs : List Frag). IsRefused p.plan (interface_of p.compiled.value.plans.interface) fs c.args.frag.now c.in-Err.fault)
-          (sym c.requires.outside) c.in-Err.ensures.wrong,
-      refl,
-    )

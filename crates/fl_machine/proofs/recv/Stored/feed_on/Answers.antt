@@ -1,14 +1,11 @@
-use Rattle.std.specs.Prelude.{Ok}
-use Rattle.fl_compile.specs.Programs.{program_of}
-use Rattle.std.proofs.Common.{◌≡◌, ◌≤◌, ℕ, List, take, length, sym, ap, subst, ◌∙◌, arith, ◌<◌}
+use Rattle.std.proofs.Common.{◌≡◌, ◌≤◌, ℕ, List, take, length, sym, ap, subst, ◌∙◌, arith}
 use Rattle.std.specs.Vec.{with_items}
 use Rattle.std.proofs.lemmas.List.{with_items_is}
 use Rattle.fl_base.specs.declared.fragment.Frag.{Frag}
 use Rattle.fl_interface.specs.Interface.{interface_of}
 use Rattle.fl_machine.specs.declared.recv.Begun.{Begun}
-use Rattle.fl_machine.specs.Receiving.{Stand, TheStored, stored_of, receiving, parts_of, fed_of, stand_of, stand_after}
-use Rattle.fl_machine.specs.Receiving.{numbers_in, IsRefused, IsStored, IsBegun, IsStand, HasPlaces, Adds, Feeds}
-use Rattle.fl_machine.proofs.Storing.{Same, with_tape, stored_same, receiving_same, gone_on_stored, gone_as, gone_feeds}
+use Rattle.fl_machine.specs.Receiving.{Stand, TheStored, stored_of, receiving, parts_of, fed_of, stand_of, stand_after, numbers_in, IsRefused, IsStored}
+use Rattle.fl_machine.proofs.Storing.{Same, with_tape, stored_same, receiving_same, gone_on_stored, gone_as}
 use Rattle.fl_machine.proofs.recv.Stored.feed_on.Goals as goal
 
 -- the call at the place to go on at was that under way
@@ -63,54 +60,8 @@ returns-in-Ok-clause-stored c =
     = with_items_is c.args.self.now.tape c.go_on.new.tape (omega (arith, c.in-Ok.ensures.long, c.deref_mut-3.ensures.len)) in
     let begun : c.swap-in-Ok.new.x.value ≡ c.go_on.new.begun = ap (λ v. v.value) (c.swap-in-Ok.ensures.x_after ∙ c.swap.ensures.x_after) in
     let there : stand_of c.after-self.result c.swap-in-Ok.new.x.value ≡ stand
-    = ap (stand_of c.after-self.result) (sym c.deref-in-Ok.ensures)
-    ∙ c.after-self.ensures.stand ∙ ap (λ (d : Begun). stand_after d c.in-Ok.fed) (c.deref-in-Ok.ensures ∙ begun) in
+    = ap (stand_of c.after-self.result) (sym c.deref-in-Ok.ensures) ∙ c.after-self.ensures.stand ∙ ap (λ (d : Begun). stand_after d c.in-Ok.fed) (c.deref-in-Ok.ensures ∙ begun) in
     let grows = subst (λ (d : Begun). d.intake.count ≤ numbers_in stand) copied c.in-Ok.ensures.grows in
     subst (λ (t : TheStored). IsStored p.plan i t)
-    (gone_as s c.go_on.new.tape _ stand _ (stand_of c.args.self.now.phase c.swap-in-Ok.new.y.value) tape there
-    (ap (λ v. stand_of c.args.self.now.phase v.value) c.swap-in-Ok.ensures.y_after))
+    (gone_as s c.go_on.new.tape _ stand _ (stand_of c.args.self.now.phase c.swap-in-Ok.new.y.value) tape there (ap (λ v. stand_of c.args.self.now.phase v.value) c.swap-in-Ok.ensures.y_after))
     (gone_on_stored p.plan i s b c.go_on.new.tape stand c.requires.inside same c.requires.stored grows c.in-Ok.ensures.stands)
-
-pub go_on-requires-clause-begun : goal.go_on-requires-clause-begun
-go_on-requires-clause-begun c =
-    let p = c.args.program.now in
-    let i = interface_of p.compiled.value.plans.interface in
-    let tape = c.args.self.now.tape.items in
-    let copied : c.deref_mut-2.result.now ≡ c.args.self.now.now.value = c.deref_mut-2.ensures.value ∙ c.deref.ensures in
-    subst (λ (t : List ℕ). (0 < c.deref_mut-2.result.now.fed) × IsBegun p.plan i t c.deref_mut-2.result.now) (sym c.deref_mut-3.ensures.value)
-    (subst (λ (b : Begun). (0 < b.fed) × IsBegun p.plan i tape b) (sym copied)
-    (subst (λ (t : Stand). IsStand p.plan i tape t) c.requires.inside c.requires.stored.stand))
-
-pub go_on-requires-clause-room : goal.go_on-requires-clause-room
-go_on-requires-clause-room c =
-    let p = program_of c.args.program.now in
-    let copied : c.deref_mut-2.result.now ≡ c.args.self.now.now.value = c.deref_mut-2.ensures.value ∙ c.deref.ensures in
-    subst (λ (t : List ℕ). HasPlaces p c.deref_mut-2.result.now.intake.count (length t)) (sym c.deref_mut-3.ensures.value)
-    (subst (λ (b : Begun). HasPlaces p b.intake.count (length c.args.self.now.tape.items)) (sym copied) c.requires.room)
-
-pub returns-in-Ok-clause-feeds : goal.returns-in-Ok-clause-feeds
-returns-in-Ok-clause-feeds c =
-    let p = c.args.program.now in
-    let i = interface_of p.compiled.value.plans.interface in
-    let s = stored_of c.args.self.now in
-    let b = c.args.self.now.now.value in
-    let stand = stand_after c.go_on.new.begun c.in-Ok.fed in
-    let copied : c.deref_mut-2.result.now ≡ b = c.deref_mut-2.ensures.value ∙ c.deref.ensures in
-    let same : Same b.intake.count s.tape c.go_on.new.tape = record {
-      prefix = subst (λ (d : Begun). take d.intake.count c.go_on.new.tape ≡ take d.intake.count c.deref_mut-3.result.now) copied c.in-Ok.ensures.kept
-          ∙ ap (take b.intake.count) c.deref_mut-3.ensures.value;
-      long = omega (arith, c.in-Ok.ensures.long, ap length c.deref_mut-3.ensures.value);
-    } in
-    let tape : (with_items c.args.self.now.tape c.go_on.new.tape).items ≡ c.go_on.new.tape
-    = with_items_is c.args.self.now.tape c.go_on.new.tape (omega (arith, c.in-Ok.ensures.long, c.deref_mut-3.ensures.len)) in
-    let begun : c.swap-in-Ok.new.x.value ≡ c.go_on.new.begun = ap (λ v. v.value) (c.swap-in-Ok.ensures.x_after ∙ c.swap.ensures.x_after) in
-    let there : stand_of c.after-self.result c.swap-in-Ok.new.x.value ≡ stand
-    = ap (stand_of c.after-self.result) (sym c.deref-in-Ok.ensures)
-    ∙ c.after-self.ensures.stand ∙ ap (λ (d : Begun). stand_after d c.in-Ok.fed) (c.deref-in-Ok.ensures ∙ begun) in
-    let parts : parts_of p.plan i c.deref_mut-3.result.now c.deref_mut-2.result.now ≡ parts_of p.plan i s.tape b
-    = ap (λ (t : List ℕ). parts_of p.plan i t c.deref_mut-2.result.now) c.deref_mut-3.ensures.value ∙ ap (λ (d : Begun). parts_of p.plan i s.tape d) copied in
-    let adds = subst (λ (fs : List Frag). Adds p.plan i fs c.args.frag.now (fed_of p.plan i c.go_on.new.tape stand) stand) parts c.in-Ok.ensures.adds in
-    subst (λ (t : TheStored). Feeds (receiving p s) c.args.frag.now (Ok c.in-Ok.fed) (receiving p t))
-    (gone_as s c.go_on.new.tape _ stand _ (stand_of c.args.self.now.phase c.swap-in-Ok.new.y.value) tape there
-    (ap (λ v. stand_of c.args.self.now.phase v.value) c.swap-in-Ok.ensures.y_after))
-    (gone_feeds p s b c.go_on.new.begun c.go_on.new.tape c.args.frag.now c.in-Ok.fed c.requires.inside same adds)

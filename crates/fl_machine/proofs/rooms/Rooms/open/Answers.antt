@@ -5,7 +5,7 @@ use Rattle.std.proofs.lemmas.Option.{slice_get_read}
 use Rattle.fl_base.specs.declared.fragment.Frag.{Frag}
 use Rattle.fl_machine.specs.declared.rooms.Span.{Span}
 use Rattle.fl_machine.specs.Rooms.{IsOpened, room_in}
-use Rattle.fl_machine.proofs.Laid.{are_opened, are_same, is_open, is_opened, is_owed}
+use Rattle.fl_machine.proofs.Laid.{are_opened, are_same, is_open, is_opened}
 use Rattle.fl_machine.proofs.rooms.Rooms.open.Goals as goal
 
 -- what stands in a room before a fragment does
@@ -52,14 +52,3 @@ returns-clause-opened c =
     subst (λ (block : List Frag). IsOpened (map (room_in t.block.items) t.spans.items) c.args.place (map (room_in block) spans)) (sym e)
     (subst (λ (n : ℕ). let x : Span = record { size = s.size; start = Some n } in
     IsOpened (map (room_in t.block.items) t.spans.items) c.args.place (map (room_in (t.block.items ++ replicate s.size empty)) (set t.spans.items c.args.place x))) (sym start) opened)
-
-pub index_mut-requires : goal.index_mut-requires
-index_mut-requires c = omega (arith, c.requires.there, length-map c.args.self.now.spans.items (room_in c.args.self.now.block.items))
-
-pub overflow_sub-self : goal.overflow_sub-self
-overflow_sub-self c =
-    let t = c.args.self.now in
-    let s = c.index-span.result.now in
-    let inside : c.args.place < length t.spans.items = omega (arith, c.requires.there, length-map t.spans.items (room_in t.block.items)) in
-    let at = slice_get_read t.spans.items (length t.spans.items) c.args.place s refl inside c.index-span.ensures in
-    is_owed (length t.block.items) (vec_capacity t.block) t.spans.items t.owed c.args.place s c.requires.rooms at c.in-None.is

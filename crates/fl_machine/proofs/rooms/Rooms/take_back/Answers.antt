@@ -1,4 +1,4 @@
-use Rattle.std.proofs.Common.{◌≡◌, ◌-◌, ℕ, List, length, refl, sym, ap, subst, arith, ◌∙◌, append-nil}
+use Rattle.std.proofs.Common.{◌≡◌, ◌-◌, ℕ, List, length, refl, sym, ap, subst, arith}
 use Rattle.std.specs.Vec.{vec_capacity}
 use Rattle.fl_machine.specs.declared.rooms.Span.{Span}
 use Rattle.fl_machine.specs.Rooms.{AreRooms, owed_from}
@@ -18,6 +18,3 @@ returns-in-Some-start-clause-rooms c =
     let before = subst (λ (ss : List Span). AreRooms (length t.block.items) (vec_capacity t.block) ss t.owed) c.in-Some.ensures.items c.requires.rooms in
     let none : owed_from c.in-Some.last.size c.in-Some.last.start ≡ 0 = ap (owed_from c.in-Some.last.size) c.in-Some-start.is in
     are_same (are_before (length t.block.items) (vec_capacity t.block) c.pop.new.self.items c.in-Some.last t.owed before) refl refl (omega (arith, none))
-
-pub returns-in_default-clause-rooms : goal.returns-in_default-clause-rooms
-returns-in_default-clause-rooms c = are_same c.requires.rooms refl (sym (c.in_default.ensures.items ∙ append-nil c.pop.new.self.items)) refl
