@@ -87,7 +87,7 @@ fn turn() -> Event<'static> {
 }
 
 // Two parts of a text.
-fn joined(alloc: Global, one: &[u8], two: &[u8]) -> Result<Vec<u8>, AllocError> {
+fn join(alloc: Global, one: &[u8], two: &[u8]) -> Result<Vec<u8>, AllocError> {
     let mut text = Vec::new(alloc);
     add(&mut text, one)?;
     add(&mut text, two)?;
@@ -96,7 +96,7 @@ fn joined(alloc: Global, one: &[u8], two: &[u8]) -> Result<Vec<u8>, AllocError> 
 
 // A row with 100 calls each way.
 fn both_ways(alloc: Global, row: &[u8]) -> Result<Vec<u8>, AllocError> {
-    let mut text = joined(alloc, PINGS, row)?;
+    let mut text = join(alloc, PINGS, row)?;
     add_lines(alloc, &mut text, "call p.c", (0, 100))?;
     add_lines(alloc, &mut text, "call p.s", (100, 200))?;
     Ok(text)
@@ -123,7 +123,7 @@ fn counts(alloc: Global, told: &Told) -> Result<Option<(u64, u64)>, AllocError> 
 
 #[test]
 fn turns_of_one_core(rt: HostRuntime) -> Result<(), Fail> {
-    let text = joined(rt.alloc(), PINGS, THREE_CALLS)?;
+    let text = join(rt.alloc(), PINGS, THREE_CALLS)?;
     let told = run(&rt, rt.alloc(), &text, 2, &Open)?;
     assert_eq!(rt; told.end, CoresEnd::TurnsOut);
     assert_eq!(rt;
@@ -248,7 +248,7 @@ fn refused_lines(rt: HostRuntime) -> Result<(), Fail> {
         ),
         (b"turn d\n".as_slice(), b"line 9 refused E90\n".as_slice()),
     ] {
-        let text = joined(rt.alloc(), RULED, line)?;
+        let text = join(rt.alloc(), RULED, line)?;
         let told = run(&rt, rt.alloc(), &text, MANY, &Open)?;
         assert_eq!(rt; told.end, CoresEnd::Refused);
         assert_eq!(rt; told.text.as_slice(), wanted);

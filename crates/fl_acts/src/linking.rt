@@ -7,7 +7,7 @@ ghost use Rattle.fl_lines.specs.Events.{answer_of};
 ghost use Rattle.fl_acts.specs.Parts.{ByRing};
 
 use crate::lending::{which_at, whole};
-use crate::taking::acked;
+use crate::taking::answer_ack;
 use fl_base::LinkId;
 use fl_lines::Answer;
 use fl_node::{Core, MonitorWrite};
@@ -16,7 +16,7 @@ use fl_ring::{DuoSide, OneDuo};
 // ---- the monitor writes
 
 // What is answered for what a write of the monitor came to.
-fn told(answer: MonitorWrite) -> Answer
+fn answer_write(answer: MonitorWrite) -> Answer
     ensures told { answer_of result ≡ write_answer answer }
 {
     match answer {
@@ -31,7 +31,7 @@ fn write_by_side(core: &mut Core, link: LinkId, side: &mut DuoSide<'_>) -> Answe
     ensures same { SameSide side.old side.new }
     ensures writes { MonitorWritesWith link.0 (answer_of result) core.old side.old core.new side.new }
 {
-    told(core.monitor_write(link, side))
+    answer_write(core.monitor_write(link, side))
 }
 
 /// A core's monitor writes, over side m of a ring.
@@ -51,7 +51,7 @@ fn ack_by_side(core: &Core, link: LinkId, side: &mut DuoSide<'_>) -> Answer
     ensures same { SameSide side.old side.new }
     ensures acks { AcksLinkWith (answer_of result) core.now side.old core.now side.new }
 {
-    acked(core.monitor_ack(link, side))
+    answer_ack(core.monitor_ack(link, side))
 }
 
 /// A core acknowledges what it took on a link, over side m of a ring.

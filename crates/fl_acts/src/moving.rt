@@ -97,7 +97,7 @@ pub fn hear_by_ring(
 // ---- a fragment moves
 
 // What is answered for a fragment that was to move.
-fn moved(outcome: Outcome) -> Answer
+fn answer_move(outcome: Outcome) -> Answer
     ensures moved { answer_of result ≡ moved_answer outcome }
 {
     match outcome {
@@ -121,7 +121,7 @@ fn arrive_by_side(
     ensures arrives { ArrivesWith (inbound at.link.0 frag.now name) (answer_of result) core.old side.old core.new side.new }
 {
     match core.arrive(at.link, side, frag, name) {
-        Ok(outcome) => moved(outcome),
+        Ok(outcome) => answer_move(outcome),
         Err(fault) => Answer::Refused(fault.number()),
     }
 }
@@ -179,5 +179,5 @@ pub(crate) fn move_between(passing: &Passing, from: &mut OneDuo, onto: &mut OneD
 {
     let mut side = from.side(which_at(passing.from));
     let mut next = onto.side(which_at(passing.onto));
-    moved(move_by_sides(passing, &mut side, &mut next))
+    answer_move(move_by_sides(passing, &mut side, &mut next))
 }

@@ -40,7 +40,7 @@ fn call_fault(fault: EndFault) -> Result<Answer, AllocError>
 
 // What is answered for an end's answer to a call.
 #[inline(always)]
-fn called(outcome: Result<(), EndFault>) -> Result<Answer, AllocError>
+fn answer_call(outcome: Result<(), EndFault>) -> Result<Answer, AllocError>
     ensures called { IfOk result (λ a. IsCalled outcome (answer_of a)) }
     ensures memory { OnErr result (outcome ≡ Err EndFault.Memory) }
 {
@@ -63,7 +63,7 @@ pub fn call_in(core: &mut Core, place: usize, call: &Call) -> Result<Answer, All
     whole(core);
     let outcome = core.call(place, call);
     whole(core);
-    called(outcome)
+    answer_call(outcome)
 }
 
 /// The end that a binding keeps makes a call.
@@ -80,14 +80,14 @@ pub fn call_kept(
 {
     match &mut binding.unmade {
         None => Ok(Answer::Refused(92)),
-        Some(end) => called(end.call(call, spare)),
+        Some(end) => answer_call(end.call(call, spare)),
     }
 }
 
 // ---- shows
 
 // What is answered for a fragment that is shown.
-fn shown(outcome: Result<Option<Frag>, EndFault>) -> Answer
+fn answer_show(outcome: Result<Option<Frag>, EndFault>) -> Answer
     ensures shown { IsShown outcome (answer_of result) }
 {
     match outcome {
@@ -104,7 +104,7 @@ pub fn show_by_queue(core: &Core, place: usize, queue: &QueueLink) -> Answer
     requires place { place < length core.now.board.seats }
     ensures shows { PreviewsWith (next_epoch_of queue.now) 0 core.now place (answer_of result) }
 {
-    shown(core.show(place, queue))
+    answer_show(core.show(place, queue))
 }
 
 /// The end at a place of a core's board shows its next fragment, over side m of a ring.
@@ -115,7 +115,7 @@ pub fn show_by_ring(core: &Core, place: usize, ring: &mut OneDuo, m: usize) -> A
     ensures kept { ring.new ≡ ring.old }
 {
     let side = ring.side(which_at(m));
-    shown(core.show(place, &side))
+    answer_show(core.show(place, &side))
 }
 
 // ---- writes

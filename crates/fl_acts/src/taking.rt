@@ -45,7 +45,7 @@ pub struct Due {
 // What is answered for a turn that looked at an end. Out of line, so that the answer is made in memory once: in line it
 // is moved on by pieces, and each move waits for the stores of the one before.
 #[inline(never)]
-fn turned(answer: TurnAnswer, end: EndId) -> Answer
+fn answer_turn(answer: TurnAnswer, end: EndId) -> Answer
     ensures turned { answer_of result ≡ turn_answer end answer }
 {
     match answer {
@@ -87,7 +87,7 @@ pub fn turn_by_queue(core: &mut Core, at: Due, queue: &mut QueueLink) -> Result<
     let answer = core.turn(at.dispatcher, at.end, queue);
     whole(core);
     match answer {
-        Ok(answer) => Ok(turned(answer, at.name)),
+        Ok(answer) => Ok(answer_turn(answer, at.name)),
         Err(error) => Err(error),
     }
 }
@@ -151,7 +151,7 @@ pub fn turn_by_ring(
     let known = ring.known(which_at(m));
     sound(core, at.end);
     match turn_over(core, at, ring, m) {
-        Ok(answer) => Ok(turned(answer, at.name)),
+        Ok(answer) => Ok(answer_turn(answer, at.name)),
         Err(error) => {
             forgets_looks();
             ring.forget(which_at(m), known);
@@ -177,7 +177,7 @@ pub fn turn_in(core: &mut Core, at: Due) -> Result<Answer, AllocError>
     let answer = core.turn_arrivals(at.dispatcher, at.end);
     whole(core);
     match answer {
-        Ok(answer) => Ok(turned(answer, at.name)),
+        Ok(answer) => Ok(answer_turn(answer, at.name)),
         Err(error) => Err(error),
     }
 }
@@ -185,7 +185,7 @@ pub fn turn_in(core: &mut Core, at: Due) -> Result<Answer, AllocError>
 // ---- acknowledgements
 
 // What is answered for what an end's acknowledgement came to.
-pub(crate) fn acked(answer: AckAnswer) -> Answer
+pub(crate) fn answer_ack(answer: AckAnswer) -> Answer
     ensures acked { answer_of result ≡ ack_answer answer }
 {
     match answer {
@@ -214,7 +214,7 @@ pub fn ack_by_ring(core: &Core, place: usize, ring: &mut OneDuo, m: usize) -> An
     whole(core);
     let mut side = ring.side(which_at(m));
     match ack_by_side(core, place, &mut side) {
-        Ok(answer) => acked(answer),
+        Ok(answer) => answer_ack(answer),
         Err(fault) => Answer::Refused(fault.number()),
     }
 }
@@ -234,7 +234,7 @@ pub fn tell_nothing(core: &Core, place: usize) -> Answer
 // ---- registrations
 
 // What is answered for an end that is registered or deregistered.
-fn registered(outcome: Result<(), BoardFault>) -> Answer
+fn answer_register(outcome: Result<(), BoardFault>) -> Answer
     ensures registered { IsRegistered outcome (answer_of result) }
 {
     match outcome {
@@ -252,7 +252,7 @@ pub fn register_by_queue(core: &mut Core, place: usize, queue: &mut QueueLink) -
     whole(core);
     let outcome = core.register(place, queue);
     whole(core);
-    registered(outcome)
+    answer_register(outcome)
 }
 
 // The same over a side that is lent.
@@ -262,7 +262,7 @@ fn register_by_side(core: &mut Core, place: usize, side: &mut DuoSide<'_>) -> An
     ensures same { SameSide side.old side.new }
     ensures registers { RegistersWith SideTakes (answer_at place (answer_of result)) core.old side.old core.new side.new }
 {
-    registered(core.register(place, side))
+    answer_register(core.register(place, side))
 }
 
 /// The channel of the end at a place of a core's board is registered, over side m of a ring.
@@ -286,7 +286,7 @@ pub fn register_in(core: &mut Core, place: usize) -> Answer
     whole(core);
     let outcome = core.register_arrivals(place);
     whole(core);
-    registered(outcome)
+    answer_register(outcome)
 }
 
 /// The channel of the end at a place of a core's board is deregistered.
@@ -297,13 +297,13 @@ pub fn deregister_in(core: &mut Core, place: usize) -> Answer
     whole(core);
     let outcome = core.deregister(place);
     whole(core);
-    registered(outcome)
+    answer_register(outcome)
 }
 
 // ---- reply rules
 
 // What is answered for an end that gets a reply rule.
-fn ruled(outcome: Result<(), EndFault>) -> Answer
+fn answer_rule(outcome: Result<(), EndFault>) -> Answer
     ensures ruled { IsRuled outcome (answer_of result) }
 {
     match outcome {
@@ -320,7 +320,7 @@ pub fn rule_in(core: &mut Core, place: usize, message: MsgNo, answer: MsgNo) -> 
     whole(core);
     let outcome = core.reply_rule(place, message, answer);
     whole(core);
-    ruled(outcome)
+    answer_rule(outcome)
 }
 
 /// The end that a binding keeps gets a rule.
@@ -329,6 +329,6 @@ pub fn rule_kept(binding: &mut Binding, message: MsgNo, answer: MsgNo) -> Answer
 {
     match &mut binding.unmade {
         None => Answer::Refused(92),
-        Some(end) => ruled(end.reply_rule(message, answer)),
+        Some(end) => answer_rule(end.reply_rule(message, answer)),
     }
 }

@@ -163,7 +163,7 @@ fn text(bytes: &[u8]) -> Result<(ArgType, &[u8]), ImageFault>
 
 /// A sized array behind its code.
 #[tactic(auto, unfolding(crate::specs::Reading::sized_at))]
-fn sized(alloc: Global, bytes: &[u8]) -> Result<(ArgType, &[u8]), ImageFault>
+fn sized_type(alloc: Global, bytes: &[u8]) -> Result<(ArgType, &[u8]), ImageFault>
     ensures reads { Gives (λ x. (arg_type_of x.0, x.1.now)) result (sized_at bytes.now) }
 {
     let (most, rest) = two(bytes)?;
@@ -173,7 +173,7 @@ fn sized(alloc: Global, bytes: &[u8]) -> Result<(ArgType, &[u8]), ImageFault>
 
 /// A fixed type.
 #[tactic(auto, unfolding(crate::specs::Reading::fixed_at))]
-fn fixed(alloc: Global, bytes: &[u8]) -> Result<(ArgType, &[u8]), ImageFault>
+fn type_alone(alloc: Global, bytes: &[u8]) -> Result<(ArgType, &[u8]), ImageFault>
     ensures reads { Gives (λ x. (arg_type_of x.0, x.1.now)) result (fixed_at bytes.now) }
 {
     let (fixed, rest) = fixed_type(alloc, 18, bytes)?;
@@ -188,8 +188,8 @@ fn argument(alloc: Global, bytes: &[u8]) -> Result<(ArgType, &[u8]), ImageFault>
     match bytes {
         [] => Err(ImageFault::Refused(Refusal::EndsEarly)),
         [32, rest @ ..] => text(rest),
-        [33, rest @ ..] => sized(alloc, rest),
-        [_, ..] => fixed(alloc, bytes),
+        [33, rest @ ..] => sized_type(alloc, rest),
+        [_, ..] => type_alone(alloc, bytes),
     }
 }
 

@@ -461,7 +461,7 @@ fn behind<'a>(line: &'a [u8], bytes: &[u8]) -> Option<&'a [u8]>
 
 // The verb of a line that is repeated, where a space stands behind it, and what stands behind that.
 #[inline(always)]
-fn repeated(line: &[u8]) -> Option<(Verb, &[u8])>
+fn read_repeated(line: &[u8]) -> Option<(Verb, &[u8])>
     ensures told { IfSome result (λ p. line_with (command_by p.0 p.1.now) ≡ read_line line.now) }
 {
     if let Some(rest) = behind(line, b"call ") {
@@ -506,7 +506,7 @@ fn read_any_opening(line: &[u8]) -> Opening<'_>
 fn read_opening(line: &[u8]) -> Opening<'_>
     ensures same { opening_of result ≡ read_line line.now }
 {
-    match repeated(line) {
+    match read_repeated(line) {
         Some((verb, rest)) => Opening::Command(verb, rest),
         None => read_any_opening(line),
     }

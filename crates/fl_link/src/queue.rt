@@ -64,7 +64,7 @@ impl QueueLink {
     ///
     /// # Errors
     /// `size` isn't such a number (E32); else out of memory (E99).
-    pub fn acked(alloc: Global, size: usize) -> Result<QueueLink, LinkFault>
+    pub fn with_acks(alloc: Global, size: usize) -> Result<QueueLink, LinkFault>
         ensures made { IfOk result (λ q. q ≡ record { items = []; untold = 0; sent = 0; capacity = size; acked = true }) }
         ensures sized { OnOk result (MayHave true size) }
         ensures bad_size { (result ≡ Err LinkFault.BadSize) ↔ (¬ MayHave true size) }

@@ -169,7 +169,7 @@ fn take_begun(
             *under = Some(begun);
             keep(program, &begun, room, frag)
         }
-        Ok(Fed::Whole) => tell(alloc, program, begun.ended(), &*numbers, frag),
+        Ok(Fed::Whole) => tell(alloc, program, begun.to_ended(), &*numbers, frag),
         Err(fault) => Err(TakeFault::Wire(fault)),
     }
 }

@@ -155,7 +155,7 @@ impl Begun {
 
     // The call as one that is whole.
     #[inline(always)]
-    pub(crate) fn ended(&self) -> Ended
+    pub(crate) fn to_ended(&self) -> Ended
         ensures ended { result ≡ ended_as self.now }
     {
         Ended {
@@ -171,7 +171,7 @@ impl Begun {
     {
         match fed {
             Fed::Part => Phase::Busy,
-            Fed::Whole => Phase::Done(self.ended()),
+            Fed::Whole => Phase::Done(self.to_ended()),
         }
     }
 

@@ -7,7 +7,7 @@ use crate::one_core::Core;
 use crate::wire::{Lane, Port, Wire};
 
 // What stands in a list at this place; where the list is shorter, the number itself.
-fn moved(numbers: &[usize], n: usize) -> usize
+fn move_number(numbers: &[usize], n: usize) -> usize
     ensures moved { result ≡ moved numbers.now n }
 {
     match numbers.get(n) {
@@ -22,10 +22,10 @@ fn moved_wire(sides: &[usize], queues: &[usize], wire: Wire) -> Wire
 {
     match wire {
         Wire::Queues { out, from } => Wire::Queues {
-            out: moved(queues, out),
-            from: moved(queues, from),
+            out: move_number(queues, out),
+            from: move_number(queues, from),
         },
-        Wire::Ring(side) => Wire::Ring(moved(sides, side)),
+        Wire::Ring(side) => Wire::Ring(move_number(sides, side)),
         Wire::Circuit { link, arrivals } => Wire::Circuit { link, arrivals },
     }
 }
@@ -38,7 +38,7 @@ fn move_lanes(sides: &[usize], lanes: &mut Vec<Lane>)
     for k in 0..lanes.len() {
         let lane = lanes[k];
         lanes[k] = Lane {
-            side: moved(sides, lane.side),
+            side: move_number(sides, lane.side),
             failed: lane.failed,
         };
     }

@@ -170,7 +170,7 @@ fn direction<'t, 'a>(tokens: &'t [Token<'a>]) -> Result<(Direction, &'t [Token<'
 
 /// Takes an rpc's argument.
 #[tactic(auto, unfolding(crate::specs::Reading::directed_at))]
-fn directed<'t, 'a>(
+fn directed_argument<'t, 'a>(
     tokens: &'t [Token<'a>],
 ) -> Result<(DirectedArgument<'a>, &'t [Token<'a>]), Stop<'t, 'a>>
     ensures reads { Gives (λ x. (directed_of x.0, map token_of x.1.now)) result (directed_at (map token_of tokens.now)) }
@@ -268,7 +268,7 @@ fn next_directed<'t, 'a>(
         (map directed_of arguments.new.items) (map token_of rest.now)) }
     ensures refusal { IfErr result (λ stop. Fails stop (directed_at (map token_of tokens.now))) }
 {
-    let (next, rest) = directed(tokens)?;
+    let (next, rest) = directed_argument(tokens)?;
     arguments.push(next)?;
     Ok(rest)
 }

@@ -79,7 +79,7 @@ fn counted_turns<S: PutSide + TakeSide + Drop, G: Gate>(
                 end: End::Finished,
             });
         }
-        if ticket.seat.ended() >= STOP {
+        if ticket.seat.load_ended() >= STOP {
             return Ok(Part {
                 turns,
                 end: End::Told,
@@ -120,7 +120,7 @@ fn idle_turns<R: Wait, S: PutSide + TakeSide + Drop, G: Gate>(
 {
     let core = run.core.monitor().circuits().core();
     for _ in rt.forever() {
-        let ended = ticket.seat.ended();
+        let ended = ticket.seat.load_ended();
         if ended >= STOP || ended == plan.cores {
             break;
         }

@@ -6,7 +6,7 @@ ghost use Rattle.fl_value.specs.declared.value.PlanNo.TheVariants.{Two};
 ghost use Rattle.fl_show.specs.Content.{StandsFor, IsRefusalOf, IsImageOf};
 
 use crate::fault::ShowFault;
-use crate::reading::accepted;
+use crate::reading::accept;
 use fl_compile::compile;
 use fl_image::write_image;
 use fl_value::PlanNo;
@@ -21,7 +21,7 @@ pub fn compile_text(alloc: Global, text: &[u8]) -> Result<Vec<u8>, ShowFault<'_>
     ensures image { IfOk result (λ v. (i : TheInterface) × StandsFor text.now i × IsImageOf v.items Two i) }
     ensures refused { IfErr result (λ e. IsRefusalOf text.now e) }
 {
-    let interface = accepted(alloc, text)?;
+    let interface = accept(alloc, text)?;
     let program = compile(alloc, &interface, PlanNo::Two)?;
     let image = write_image(alloc, &program)?;
     Ok(image)

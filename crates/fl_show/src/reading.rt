@@ -45,7 +45,7 @@ pub fn texts_have_images()
 ///
 /// # Errors
 /// [`ShowFault::Refused`] with the text's first fault; [`ShowFault::Memory`] when out of memory.
-pub(crate) fn accepted(alloc: Global, text: &[u8]) -> Result<Interface, ShowFault<'_>>
+pub(crate) fn accept(alloc: Global, text: &[u8]) -> Result<Interface, ShowFault<'_>>
     ensures interface { IfOk result (λ i. StandsFor text.now (interface_of i)) }
     ensures refused { IfErr result (λ e. IsRefusalOf text.now e) }
 {

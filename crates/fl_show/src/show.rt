@@ -5,7 +5,7 @@ ghost use Rattle.fl_image.specs.Reading.{FirstFault};
 ghost use Rattle.fl_show.specs.Content.{is_meant_as_image, ShowsText, ShowsImage, Shows, IsRefusalOf, IsImageRefusalOf, IsRefusedAs};
 
 use crate::fault::{ImageRefusal, ShowFault};
-use crate::reading::accepted;
+use crate::reading::accept;
 use crate::table::plan_table;
 use fl_image::{ImageFault, read_image};
 use fl_layout::plan;
@@ -44,7 +44,7 @@ pub fn show_text(alloc: Global, text: &[u8]) -> Result<Vec<u8>, ShowFault<'_>>
     ensures table { IfOk result (λ t. ShowsText text.now t.items) }
     ensures refused { IfErr result (λ e. IsRefusalOf text.now e) }
 {
-    let interface = accepted(alloc, text)?;
+    let interface = accept(alloc, text)?;
     let plans = plan(alloc, &interface, PlanNo::Two)?;
     let table = plan_table(alloc, &plans)?;
     Ok(table)

@@ -29,25 +29,25 @@ use fl_running::{Desk, Job};
 use fl_value::Call;
 
 // What goes to a thread.
-fn sent<T: Send>()
+fn assert_send<T: Send>()
     ensures sent { IsSend T.row }
 {}
 
 // What threads share.
-fn shared<T: Sync>()
+fn assert_sync<T: Sync>()
     ensures shared { IsSync T.row }
 {}
 
 fn call_sent()
     ensures sent { IsSend CallRows.the_row }
 {
-    sent::<Call>();
+    assert_send::<Call>();
 }
 
 fn program_sent()
     ensures sent { IsSend ProgramRows.the_row }
 {
-    sent::<Program>();
+    assert_send::<Program>();
 }
 
 fn end_sent()
@@ -55,14 +55,14 @@ fn end_sent()
 {
     call_sent();
     program_sent();
-    sent::<End>();
+    assert_send::<End>();
 }
 
 fn calls_sent()
     ensures sent { IsSend ReassembliesRows.the_row }
 {
     program_sent();
-    sent::<Reassemblies>();
+    assert_send::<Reassemblies>();
 }
 
 fn board_sent()
@@ -75,20 +75,20 @@ fn board_sent()
 fn messenger_sent()
     ensures sent { IsSend MessengerRows.the_row }
 {
-    sent::<Messenger>();
+    assert_send::<Messenger>();
 }
 
 fn monitor_sent()
     ensures sent { IsSend MonitorRows.the_row }
 {
     messenger_sent();
-    sent::<Monitor>();
+    assert_send::<Monitor>();
 }
 
 fn queue_sent()
     ensures sent { IsSend QueueLinkRows.the_row }
 {
-    sent::<QueueLink>();
+    assert_send::<QueueLink>();
 }
 
 fn core_sent()
@@ -103,27 +103,27 @@ fn core_sent()
 fn side_sent()
     ensures sent { IsSend SharedSideRows.the_row }
 {
-    sent::<SharedSide>();
+    assert_send::<SharedSide>();
 }
 
 fn names_sent()
     ensures sent { IsSend NamesRows.the_row }
 {
-    sent::<Names>();
+    assert_send::<Names>();
 }
 
 fn desk_sent()
     ensures sent { IsSend DeskRows.the_row }
 {
     call_sent();
-    sent::<Desk>();
+    assert_send::<Desk>();
 }
 
 // Jobs may be shared.
 pub(crate) fn job_shared()
     ensures shared { IsSync JobRows.the_row }
 {
-    shared::<Job>();
+    assert_sync::<Job>();
 }
 
 // So may a core with its sides of rings, as a part of a station.

@@ -67,7 +67,7 @@ impl EndSeat {
     }
 
     /// The counter: a core that finished counts 1, a stop 17.
-    pub fn ended(&mut self) -> u64
+    pub fn load_ended(&mut self) -> u64
         ensures seen { self.new ≡ knowing self.old (with_seen self.old.knows result) }
         ensures rises { self.old.knows.seen ≤ result }
         ensures least { added self.old.knows ≤ result }

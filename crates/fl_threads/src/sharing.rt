@@ -127,7 +127,7 @@ fn all_to_first(alloc: Global, rings: usize) -> Result<Vec<usize>, AllocError>
 
 impl Owners {
     /// As the cores name them.
-    pub(crate) fn named(
+    pub(crate) fn from_names(
         alloc: Global,
         rings: usize,
         queues: usize,

@@ -365,7 +365,7 @@ fn share(
     requires some { 0 < length cores.now }
     ensures shares { IfOk result (λ s. SharesOut cores.now rings.now queues.items s.sides s.queues) }
 {
-    let by_name = Owners::named(alloc, rings.len(), queues.as_slice().len(), cores)?;
+    let by_name = Owners::from_names(alloc, rings.len(), queues.as_slice().len(), cores)?;
     Ok(Shares {
         sides: deal_sides(alloc, rings, &by_name.sides, cores.len())?,
         queues: deal_queues(alloc, queues, &by_name.queues, cores.len())?,

@@ -139,7 +139,7 @@ fn push_each(tape: &mut Vec<u64>, bytes: &[u8]) -> Result<(), AllocError>
 
 /// Bytes as numbers, by a loop that the compiler makes vector code of.
 #[inline(always)]
-fn widened(bytes: &[u8]) -> [u64; 64]
+fn widen(bytes: &[u8]) -> [u64; 64]
     requires long { length bytes.now ≡ 64 }
     ensures same { result ≡ bytes.now }
 {
@@ -183,7 +183,7 @@ fn push_bytes(tape: &mut Vec<u64>, bytes: &[u8]) -> Result<(), AllocError>
     let mut rest = bytes;
     while rest.len() >= 64 {
         let (first, after) = rest.split_at(64);
-        tape.extend_from_slice(&widened(first))?;
+        tape.extend_from_slice(&widen(first))?;
         rest = after;
     }
     push_eights(tape, rest)

@@ -221,7 +221,7 @@ fn read_length(tape: &[u64], most: u32) -> Option<(u32, &[u64])>
 
 /// Eight bytes as a number, the first of them lowest.
 #[inline(always)]
-fn packed(a: u64, b: u64, c: u64, d: u64, e: u64, f: u64, g: u64, h: u64) -> u64
+fn pack(a: u64, b: u64, c: u64, d: u64, e: u64, f: u64, g: u64, h: u64) -> u64
     requires a { a < 256 }
     requires b { b < 256 }
     requires c { c < 256 }
@@ -246,7 +246,7 @@ fn push_eights<'a>(bytes: &mut Vec<u8>, numbers: &'a [u64]) -> Result<&'a [u64],
         if a | b | c | d | e | f | g | h > 0xff {
             return Ok(rest);
         }
-        bytes.extend_from_slice(&packed(*a, *b, *c, *d, *e, *f, *g, *h).to_le_bytes())?;
+        bytes.extend_from_slice(&pack(*a, *b, *c, *d, *e, *f, *g, *h).to_le_bytes())?;
         rest = after;
     }
     Ok(rest)

@@ -352,7 +352,7 @@ fn request_of<'a>(matches: &ArgMatches<'a>) -> Option<Request<'a>>
 }
 
 // What the words ask for; nothing where a value of their command is missing.
-fn asked<'a, S: AsStr>(
+fn find_request<'a, S: AsStr>(
     command: &mut Command<'a>,
     words: &'a [S],
 ) -> Result<Option<Request<'a>>, Error>
@@ -370,7 +370,7 @@ fn request_by<'a, S: AsStr>(command: &mut Command<'a>, words: &'a [S]) -> Result
     ensures asked { IfOk result (λ request. asks_for (map S.text words.entry.now) ≡ Some (asked_by request)) }
     ensures refused { FailsBy (refusals (map S.text words.entry.now)) result }
 {
-    match asked(command, words)? {
+    match find_request(command, words)? {
         Some(request) => Ok(request),
         None => Err(command.error(
             ErrorKind::MissingRequiredArgument,

@@ -100,7 +100,7 @@ fn make_end(alloc: Global, binding: &Binding) -> Result<End, AllocError> {
 
 fn make_queue(alloc: Global, binding: &Binding) -> Result<QueueLink, AllocError> {
     let made = if binding.is_acked {
-        QueueLink::acked(alloc, binding.size)
+        QueueLink::with_acks(alloc, binding.size)
     } else {
         QueueLink::local(alloc, binding.size)
     };
@@ -131,7 +131,7 @@ pub fn add_end(
     board.add_end(dispatcher, end, kind)
 }
 
-fn done(answer: Result<(), BoardFault>) -> Said {
+fn say_done(answer: Result<(), BoardFault>) -> Said {
     match answer {
         Ok(()) => Said::Done,
         Err(fault) => Said::Refused(fault.number()),
@@ -145,7 +145,7 @@ fn done_at_end(answer: Result<(), EndFault>) -> Said {
     }
 }
 
-fn shown(answer: Result<Option<Frag>, EndFault>) -> Said {
+fn say_show(answer: Result<Option<Frag>, EndFault>) -> Said {
     match answer {
         Ok(Some(frag)) => Said::Stands(frag.control, frag.words),
         Ok(None) => Said::Nothing,
@@ -153,7 +153,7 @@ fn shown(answer: Result<Option<Frag>, EndFault>) -> Said {
     }
 }
 
-fn written(answer: Result<WriteAnswer, EndFault>) -> Said {
+fn say_write(answer: Result<WriteAnswer, EndFault>) -> Said {
     match answer {
         Ok(WriteAnswer::Written { number, count }) => Said::Written(number, count),
         Ok(WriteAnswer::Full) => Said::Full,
@@ -162,7 +162,7 @@ fn written(answer: Result<WriteAnswer, EndFault>) -> Said {
     }
 }
 
-fn acked(answer: Result<AckAnswer, BoardFault>) -> Said {
+fn say_ack(answer: Result<AckAnswer, BoardFault>) -> Said {
     match answer {
         Ok(AckAnswer::Done) => Said::Done,
         Ok(AckAnswer::Nothing) => Said::Nothing,
@@ -172,7 +172,7 @@ fn acked(answer: Result<AckAnswer, BoardFault>) -> Said {
 }
 
 // What a turn at an end answered that handled no call.
-fn turned(e: usize, answer: TurnAnswer) -> Said {
+fn say_turn(e: usize, answer: TurnAnswer) -> Said {
     match answer {
         TurnAnswer::Handle(_) => Said::Other,
         TurnAnswer::Part => Said::Part(e),
@@ -237,7 +237,7 @@ fn ask(board: &mut Board, e: usize, deed: &Deed) -> Said {
         return Said::Other;
     }
     match deed {
-        Deed::Deregister => done(board.deregister(e)),
+        Deed::Deregister => say_done(board.deregister(e)),
         Deed::Reply => done_at_end(board.reply_rule(e, MsgNo(0), MsgNo(1))),
         Deed::Trigger => trigger(board, e),
         Deed::Bind(circuit) => {
@@ -254,8 +254,8 @@ fn put_at(board: &mut Board, e: usize, out: &mut QueueLink, deed: &Deed) -> Said
         return Said::Other;
     }
     match deed {
-        Deed::Show => shown(board.show(e, out)),
-        Deed::Write => written(board.write(e, out)),
+        Deed::Show => say_show(board.show(e, out)),
+        Deed::Write => say_write(board.write(e, out)),
         Deed::Put(control, words) => put(out, *control, words),
         _ => peek(out),
     }
@@ -267,8 +267,8 @@ fn take_at(board: &mut Board, e: usize, from: &mut QueueLink, deed: &Deed) -> Sa
         return Said::Other;
     }
     match deed {
-        Deed::Ack => acked(board.ack(e, from)),
-        _ => done(board.register(e, from)),
+        Deed::Ack => say_ack(board.ack(e, from)),
+        _ => say_done(board.register(e, from)),
     }
 }
 
@@ -356,7 +356,7 @@ impl Rig {
         self.board.due(dispatcher)
     }
 
-    fn handled(&self, e: usize, call: &Call, text: &[u8]) -> Result<Said, AllocError> {
+    fn say_handle(&self, e: usize, call: &Call, text: &[u8]) -> Result<Said, AllocError> {
         if e >= self.board.ends() || !is_text(self.alloc, self.board.end(e), call, text)? {
             return Ok(Said::Other);
         }
@@ -374,8 +374,8 @@ impl Rig {
             return Ok(Said::Other);
         };
         match self.board.turn(dispatcher, e, from) {
-            Ok(TurnAnswer::Handle(call)) => self.handled(e, &call, text),
-            Ok(answer) => Ok(turned(e, answer)),
+            Ok(TurnAnswer::Handle(call)) => self.say_handle(e, &call, text),
+            Ok(answer) => Ok(say_turn(e, answer)),
             Err(AllocError) => Ok(Said::Refused(99)),
         }
     }

@@ -113,7 +113,7 @@ const LAST: Registration<'static> = Registration {
 };
 
 // A copy can go to another core's thread.
-fn sent<T: Send>(value: T) -> T {
+fn send<T: Send>(value: T) -> T {
     value
 }
 
@@ -143,7 +143,7 @@ fn has_all(names: &Names, all: &[Registration<'static>]) -> bool {
 // The same of a copy.
 fn has_copy(names: &Names, all: &[Registration<'static>]) -> Result<bool, AllocError> {
     match names.duplicate() {
-        Ok(copy) => Ok(has_all(&sent(copy), all)),
+        Ok(copy) => Ok(has_all(&send(copy), all)),
         Err(_) => Err(AllocError),
     }
 }

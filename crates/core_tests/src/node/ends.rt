@@ -4,7 +4,7 @@ ghost use Rattle.std.specs.Prelude.{◌≡◌};
 ghost use Rattle.fl_endpoint.specs.View.{interface_in};
 
 use crate::node::known::Known;
-use crate::node::words::{Word, refused};
+use crate::node::words::{Word, refuse};
 use fl_base::{Circuit, CoreId, EndId, LinkId, MsgNo, Side};
 use fl_endpoint::End;
 use fl_node::{Core, Joining, Newcomer, Port, Wire};
@@ -27,7 +27,7 @@ fn add_end(core: &mut Core, end: End, name: EndId) -> Word {
     };
     match core.add_end(0, end, port) {
         Ok(e) => Word::At(Some(e)),
-        Err(fault) => refused(fault.number()),
+        Err(fault) => refuse(fault.number()),
     }
 }
 
@@ -54,7 +54,7 @@ fn pass_through(core: &mut Core, end: End, name: EndId) -> Word {
             core.take_back_end();
             Word::Done
         }
-        Err(fault) => refused(fault.number()),
+        Err(fault) => refuse(fault.number()),
     }
 }
 
@@ -80,7 +80,7 @@ fn put_both(core: &mut Core, both: Joining) -> Word {
     }
     match core.add_both(both) {
         Ok(both) => Word::Joined(both.client, both.server),
-        Err(fault) => refused(fault.number()),
+        Err(fault) => refuse(fault.number()),
     }
 }
 
@@ -134,7 +134,7 @@ pub fn adds_dispatcher(core: &mut Core) -> Word {
 pub fn links(core: &mut Core, neighbour: CoreId, side: usize) -> Word {
     match core.add_link(neighbour, side) {
         Ok(link) => Word::Linked(link),
-        Err(fault) => refused(fault.number()),
+        Err(fault) => refuse(fault.number()),
     }
 }
 
@@ -146,7 +146,7 @@ pub fn link_comes_and_goes(core: &mut Core, neighbour: CoreId) -> Word {
             core.take_back_link();
             Word::Linked(link)
         }
-        Err(fault) => refused(fault.number()),
+        Err(fault) => refuse(fault.number()),
     }
 }
 
@@ -156,7 +156,7 @@ pub fn side_of(core: &Core, link: LinkId) -> Word {
 }
 
 // An end that sits nowhere, with a rule.
-fn ruled(known: &Known) -> Result<End, AllocError> {
+fn make_ruled(known: &Known) -> Result<End, AllocError> {
     let mut end = End::unbound(known.alloc, known.program()?)?;
     let _ = end.reply_rule(MsgNo(0), MsgNo(0));
     Ok(end)
@@ -189,12 +189,12 @@ fn after_exchange(core: &mut Core, end: End, name: EndId, other: &mut End) -> Wo
             core.exchange_rules(e, other);
             Word::Rules(rule_at(core, e), rule_of(other))
         }
-        Err(fault) => refused(fault.number()),
+        Err(fault) => refuse(fault.number()),
     }
 }
 
 fn exchange(core: &mut Core, known: &Known, name: EndId) -> Result<Word, AllocError> {
-    let mut other = ruled(known)?;
+    let mut other = make_ruled(known)?;
     let end = End::new(
         known.alloc,
         other.program().duplicate(known.alloc)?,

@@ -1,7 +1,7 @@
 //! A core's events, whose answers are words.
 
 use crate::node::known::{Known, ping};
-use crate::node::words::{Word, refused};
+use crate::node::words::{Word, refuse};
 use fl_base::{CoreId, EndId, Frag, IRef, LinkId, Side};
 use fl_compile::Program;
 use fl_core::TurnAnswer;
@@ -24,7 +24,7 @@ fn open(core: &mut Core, program: Program, link: LinkId, opening: &Opening) -> W
     }
     match core.open(0, program, link, opening) {
         Ok(_) => Word::Begun,
-        Err(fault) => refused(fault.number()),
+        Err(fault) => refuse(fault.number()),
     }
 }
 
@@ -58,21 +58,21 @@ pub fn say_to(core: &mut Core, out: &mut QueueLink) -> Word {
     say(core, LinkId(1), out)
 }
 
-fn heard(answer: Result<MonitorAnswer, LinkFault>) -> Word {
+fn tell_hear(answer: Result<MonitorAnswer, LinkFault>) -> Word {
     match answer {
         Ok(MonitorAnswer::Full) => Word::Full,
         Ok(MonitorAnswer::Done) => Word::Done,
         Ok(MonitorAnswer::Opened(_)) => Word::Opened,
         Ok(MonitorAnswer::OpeningRefused(_, reason)) => Word::EndRefused(reason),
-        Err(fault) => refused(fault.number()),
+        Err(fault) => refuse(fault.number()),
     }
 }
 
-fn arrived(answer: Result<Outcome, LinkFault>) -> Word {
+fn tell_arrive(answer: Result<Outcome, LinkFault>) -> Word {
     match answer {
         Ok(Outcome::Moved) => Word::Arrived,
         Ok(_) => Word::Full,
-        Err(fault) => refused(fault.number()),
+        Err(fault) => refuse(fault.number()),
     }
 }
 
@@ -84,11 +84,11 @@ fn hear<T: TakeSide>(core: &mut Core, link: LinkId, from: &mut T, known: &Known)
     match core.look(link, from) {
         Ok(Ahead::Nothing) => Word::Nothing,
         Ok(Ahead::Message(frag)) => {
-            heard(core.hear(link, from, &frag, &known.names, known.programs.as_slice()))
+            tell_hear(core.hear(link, from, &frag, &known.names, known.programs.as_slice()))
         }
-        Ok(Ahead::Arrival(frag, end)) => arrived(core.arrive(link, from, &frag, end)),
+        Ok(Ahead::Arrival(frag, end)) => tell_arrive(core.arrive(link, from, &frag, end)),
         Ok(Ahead::Acknowledged | Ahead::Onward(_, _, _)) => Word::Other,
-        Err(fault) => refused(fault.number()),
+        Err(fault) => refuse(fault.number()),
     }
 }
 
@@ -119,7 +119,7 @@ fn write<P: PutSide>(core: &mut Core, out: &mut P) -> Word {
         Ok(WriteAnswer::Written { .. }) => Word::Written,
         Ok(WriteAnswer::Full) => Word::Full,
         Ok(WriteAnswer::Nothing) => Word::Nothing,
-        Err(fault) => refused(fault.number()),
+        Err(fault) => refuse(fault.number()),
     }
 }
 
@@ -129,7 +129,7 @@ fn call(core: &mut Core, call: &Call) -> Word {
     }
     match core.call(0, call) {
         Ok(()) => Word::Done,
-        Err(fault) => refused(fault.number()),
+        Err(fault) => refuse(fault.number()),
     }
 }
 
@@ -181,7 +181,7 @@ pub fn act<L: PutSide + TakeSide>(
     }
 }
 
-fn handled(call: &Call) -> Word {
+fn tell_handle(call: &Call) -> Word {
     match call.args.first() {
         Some(Value::Int(v)) => Word::Handled(*v),
         _ => Word::Other,
@@ -200,7 +200,7 @@ pub fn turn(core: &mut Core) -> Word {
         return Word::Other;
     }
     match core.turn_arrivals(0, e) {
-        Ok(TurnAnswer::Handle(call)) => handled(&call),
+        Ok(TurnAnswer::Handle(call)) => tell_handle(&call),
         Ok(_) => Word::Other,
         Err(_) => Word::NoMemory,
     }

@@ -126,7 +126,7 @@ fn leg_of(link: u16) -> Leg {
     if link == 0 { Leg::Out } else { Leg::Back }
 }
 
-fn told(line: &mut Line, said: Said) -> Word {
+fn tell(line: &mut Line, said: Said) -> Word {
     let leg = leg_of(said.0);
     let word = line.step(&Step::Tell(leg, said.1));
     if word != Word::Done {
@@ -147,7 +147,7 @@ fn fails_for_good(line: &mut Line, link: u16, fault: u8) -> bool {
 /// Whether what is out of its place is refused, behind what is heard first.
 pub fn is_astray(line: &mut Line, before: &[Said], said: Said) -> bool {
     for one in before {
-        told(line, *one);
+        tell(line, *one);
     }
     let (link, words) = said;
     line.step(&Step::Tell(leg_of(link), words)) == Word::Done && fails_for_good(line, link, 67)
@@ -156,7 +156,7 @@ pub fn is_astray(line: &mut Line, before: &[Said], said: Said) -> bool {
 /// Whether a fragment is refused for this fault, behind an opening that made an end.
 pub fn is_forged(line: &mut Line, opening: Said, frag: Frag, fault: u8) -> bool {
     let link = opening.0;
-    told(line, opening) == Word::Opened
+    tell(line, opening) == Word::Opened
         && line.step(&Step::Put(leg_of(link), frag)) == Word::Done
         && fails_for_good(line, link, fault)
 }

@@ -57,7 +57,7 @@ fn exports(names: &mut Names, name: &[u8], core: u8) -> Result<(), AllocError> {
     }
 }
 
-fn boxed(alloc: Global, messenger: Messenger) -> Result<Box<Known>, AllocError> {
+fn box_known(alloc: Global, messenger: Messenger) -> Result<Box<Known>, AllocError> {
     let known = Known {
         alloc,
         names: Names::new(alloc),
@@ -69,7 +69,7 @@ fn boxed(alloc: Global, messenger: Messenger) -> Result<Box<Known>, AllocError> 
 
 fn bare_known(alloc: Global) -> Result<Box<Known>, AllocError> {
     match Messenger::new(alloc) {
-        Ok(messenger) => boxed(alloc, messenger),
+        Ok(messenger) => box_known(alloc, messenger),
         Err(_) => Err(AllocError),
     }
 }

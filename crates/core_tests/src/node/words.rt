@@ -40,7 +40,7 @@ pub enum Word {
 }
 
 /// Refused for the fault of this number.
-pub fn refused(number: u8) -> Word {
+pub fn refuse(number: u8) -> Word {
     if number == 99 {
         return Word::NoMemory;
     }

@@ -76,7 +76,7 @@ pub struct Rig {
 }
 
 // A core without links, dispatchers and ends, which is to have so many dispatchers.
-fn boxed(alloc: Global, core: Core, dispatchers: usize) -> Result<Box<Rig>, AllocError> {
+fn box_rig(alloc: Global, core: Core, dispatchers: usize) -> Result<Box<Rig>, AllocError> {
     let rig = Rig {
         run: Running {
             alloc,
@@ -100,7 +100,7 @@ fn boxed(alloc: Global, core: Core, dispatchers: usize) -> Result<Box<Rig>, Allo
 
 fn bare(alloc: Global, dispatchers: usize) -> Result<Box<Rig>, AllocError> {
     match Core::new(alloc, CoreId(0)) {
-        Ok(core) => boxed(alloc, core, dispatchers),
+        Ok(core) => box_rig(alloc, core, dispatchers),
         Err(_) => Err(AllocError),
     }
 }

@@ -25,7 +25,7 @@ fn run<R: Wait>(
 }
 
 // How many calls were handled at the desk of a place.
-fn handled(rig: &Rig, desk: usize) -> usize {
+fn count_handled(rig: &Rig, desk: usize) -> usize {
     match rig.run.desks.get(desk) {
         Some(desk) => desk.handled().len(),
         None => 0,
@@ -51,7 +51,7 @@ fn comes_to<R: Wait>(
     row: &Row,
 ) -> Result<bool, AllocError> {
     let part = run(rt, alloc, rig, jobs, row.0)?;
-    Ok(part.turns == row.1 && part.end == row.2 && handled(rig, 1) == row.3)
+    Ok(part.turns == row.1 && part.end == row.2 && count_handled(rig, 1) == row.3)
 }
 
 fn runs_so<R: Wait>(rt: &R, alloc: Global, jobs: &[Job], row: &Row) -> Result<bool, AllocError> {

@@ -17,7 +17,7 @@ pub fn ping(v: u64) -> Frag
 }
 
 /// What a look finds where `ping(v)` stands with this control word.
-pub fn arrived(v: u64, control: u64) -> Sight {
+pub fn sight_of(v: u64, control: u64) -> Sight {
     Sight::Data(Frag {
         words: [v, 0, 0, 0, 0, 0, 0],
         control,
@@ -54,8 +54,8 @@ pub enum Step {
 pub fn answers<L: Link>(link: &mut L, step: Step) -> bool {
     match step {
         Step::Put(v, answer) => link.put(&ping(v)) == answer,
-        Step::Peek(v, control) => link.peek() == arrived(v, control),
-        Step::Take(v, control) => link.take() == arrived(v, control),
+        Step::Peek(v, control) => link.peek() == sight_of(v, control),
+        Step::Take(v, control) => link.take() == sight_of(v, control),
         Step::TakeNothing => link.take() == Sight::Empty,
         Step::TakeAcknowledgement => link.take() == Sight::Acknowledgement,
         Step::Tell(told) => link.tell() == told,

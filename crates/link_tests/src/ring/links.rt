@@ -58,7 +58,7 @@ const SCRIPTS: &[Script] = &[Script(false, 2, LOCAL), Script(true, 2, ACKED)];
 impl Row for Script {
     fn holds(&self, alloc: Global) -> Result<bool, Fail> {
         let mut queue = if self.0 {
-            QueueLink::acked(alloc, self.1)?
+            QueueLink::with_acks(alloc, self.1)?
         } else {
             QueueLink::local(alloc, self.1)?
         };
@@ -155,7 +155,7 @@ fn keeps_acknowledgement(from: &mut QueueLink, to: &mut QueueLink) -> bool {
 /// A fragment goes on, and an acknowledgement doesn't.
 pub fn passes_on(alloc: Global) -> Result<bool, Fail> {
     let mut to = QueueLink::local(alloc, 1)?;
-    let mut from = QueueLink::acked(alloc, 4)?;
+    let mut from = QueueLink::with_acks(alloc, 4)?;
     let mut acknowledges = QueueLink::local(alloc, 1)?;
     Ok(moves_one(&mut from, &mut to) && keeps_acknowledgement(&mut acknowledges, &mut to))
 }

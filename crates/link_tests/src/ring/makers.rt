@@ -144,7 +144,7 @@ fn answer_of(alloc: Global, maker: Maker, size: usize) -> Answer {
         Maker::Lists => make_lists(alloc, size),
         Maker::Waitset => make_waitset(alloc, size),
         Maker::LocalQueue => queue_of(QueueLink::local(alloc, size)),
-        Maker::AckedQueue => queue_of(QueueLink::acked(alloc, size)),
+        Maker::AckedQueue => queue_of(QueueLink::with_acks(alloc, size)),
         Maker::Ring => make_ring(alloc, size),
         Maker::Duo => make_duo(alloc, size),
         Maker::SharedRing => make_shared_ring(alloc, size),

@@ -6,7 +6,7 @@ ghost use Rattle.fl_link.specs.Looks.{placed, peeked, taken};
 ghost use Rattle.fl_ring.specs.Duo.{DuoPuts, DuoTakes};
 
 use crate::examples::Example;
-use crate::ring::fragments::{Step, answers, arrived, fill, pass_on, ping};
+use crate::ring::fragments::{Step, answers, fill, pass_on, ping, sight_of};
 use crate::rows::{Row, all_hold};
 use fl_base::Frag;
 use fl_link::{Link, Passed, PutFault, PutSide, QueueLink, Sight, TakeSide, Told};
@@ -15,7 +15,7 @@ use std::alloc::{AllocError, Global};
 use std::test::Fail;
 
 // What the putting side says of itself: room, epoch due, count told next, count known.
-fn said<P: PutSide>(side: &P) -> (bool, u64, u16, u64) {
+fn say<P: PutSide>(side: &P) -> (bool, u64, u16, u64) {
     (
         side.room(),
         side.next_epoch(),
@@ -139,7 +139,7 @@ pub fn begins_with_zeros(alloc: Global) -> Result<bool, Fail> {
 fn duo_answers(duo: &mut OneDuo, which: Which, step: Step) -> bool {
     match step {
         Step::Put(v, answer) => put_by_side(duo, which, &ping(v)) == answer,
-        Step::Take(v, control) => take_by_side(duo, which) == arrived(v, control),
+        Step::Take(v, control) => take_by_side(duo, which) == sight_of(v, control),
         Step::TakeAcknowledgement => take_by_side(duo, which) == Sight::Acknowledgement,
         Step::Tell(told) => duo.tell(which) == told,
         _ => false,
@@ -196,7 +196,7 @@ const ASKED_AND_ANSWERED: &[DuoRow] = &[
 
 // A look tells side one that its fragment was taken; forgotten, it is told again by the next.
 fn forgets(duo: &mut OneDuo) -> bool {
-    let answer = arrived(8, 0x0001_0000_0000_0003);
+    let answer = sight_of(8, 0x0001_0000_0000_0003);
     look_and_forget(duo, Which::One) == answer
         && duo.known(Which::One) == 0
         && duo.peek(Which::One) == answer
@@ -241,7 +241,7 @@ fn goes_from_ring(local: &mut QueueLink, ring: &mut OneRing, duo: &mut OneDuo, v
     pass_on(&mut duo.side(Which::Two), local) == Passed::Nothing
         && pass_on(ring, &mut duo.side(Which::One)) == Passed::Moved
         && pass_on(&mut duo.side(Which::Two), local) == Passed::Moved
-        && take_local(local) == arrived(v, 3)
+        && take_local(local) == sight_of(v, 3)
         && ring.tell() == Told::Written
         && duo.tell(Which::Two) == Ok(told)
         && pass_on(&mut duo.side(Which::One), local) == passed
@@ -264,7 +264,7 @@ fn ten_go_through(
 
 pub fn passes_through_each(alloc: Global) -> Result<bool, Fail> {
     let mut local = QueueLink::local(alloc, 1)?;
-    let mut acked = QueueLink::acked(alloc, 2)?;
+    let mut acked = QueueLink::with_acks(alloc, 2)?;
     let mut ring = OneRing::new(alloc, 2)?;
     let mut duo = OneDuo::new(alloc, 4)?;
     Ok(ten_go_through(&mut local, &mut acked, &mut ring, &mut duo))
@@ -278,23 +278,23 @@ type OfItself = (u64, Said, (Sight, Sight, bool), Said);
 
 fn of_itself<L: Link>(link: &mut L) -> OfItself {
     let filled = fill(link, 0);
-    let full = said(link);
+    let full = say(link);
     let looked = look_take_tell(link);
-    (filled, full, looked, said(link))
+    (filled, full, looked, say(link))
 }
 
 // The same of a duo that is filled by side two and read by side one; and what that one says then.
 fn duo_of_itself(duo: &mut OneDuo) -> (OfItself, Said) {
     let filled = fill(&mut duo.side(Which::Two), 0);
-    let full = said(&duo.side(Which::Two));
+    let full = say(&duo.side(Which::Two));
     let looked = look_take_tell(&mut duo.side(Which::One));
-    let two = said(&duo.side(Which::Two));
-    ((filled, full, looked, two), said(&duo.side(Which::One)))
+    let two = say(&duo.side(Which::Two));
+    ((filled, full, looked, two), say(&duo.side(Which::One)))
 }
 
 // What a look and a take get of the first fragment, and whether a tell then writes.
 fn first(tells: bool) -> (Sight, Sight, bool) {
-    (arrived(0, 3), arrived(0, 3), tells)
+    (sight_of(0, 3), sight_of(0, 3), tells)
 }
 
 pub fn a_local_queue(alloc: Global) -> Result<bool, Fail> {
@@ -304,7 +304,7 @@ pub fn a_local_queue(alloc: Global) -> Result<bool, Fail> {
 }
 
 pub fn an_acked_queue(alloc: Global) -> Result<bool, Fail> {
-    let mut queue = QueueLink::acked(alloc, 2)?;
+    let mut queue = QueueLink::with_acks(alloc, 2)?;
     let wanted = (2, (false, 0, 0, 0), first(true), (true, 0, 0, 0));
     Ok(of_itself(&mut queue) == wanted)
 }

@@ -3,7 +3,7 @@
 ghost use Rattle.std.specs.Prelude.{◌≡◌, ◌≤◌, ◌^◌};
 
 use crate::examples::Example;
-use crate::ring::fragments::{Step, answers, arrived, pass_on, ping};
+use crate::ring::fragments::{Step, answers, pass_on, ping, sight_of};
 use crate::rows::all_hold;
 use fl_link::{Passed, PutFault, Sight, Told};
 use fl_ring::{
@@ -20,8 +20,8 @@ use std::thread::{Threads, join};
 fn ring_answers(tx: &mut RingTx, rx: &mut RingRx, step: Step) -> bool {
     match step {
         Step::Put(v, answer) => tx.try_put(&ping(v)) == answer,
-        Step::Peek(v, control) => rx.try_peek() == arrived(v, control),
-        Step::Take(v, control) => rx.try_take() == arrived(v, control),
+        Step::Peek(v, control) => rx.try_peek() == sight_of(v, control),
+        Step::Take(v, control) => rx.try_take() == sight_of(v, control),
         Step::TakeNothing => rx.try_take() == Sight::Empty,
         Step::Tell(told) => {
             rx.tell();
@@ -103,7 +103,7 @@ pub fn a_duo_of_four(alloc: Global) -> Result<bool, Fail> {
 
 // Whether a fragment that is put at one side is taken with this control word at the other.
 fn crosses(from: &mut SharedSide, to: &mut SharedSide, word: u64, control: u64) -> bool {
-    from.try_put(&ping(word)) == Ok(()) && to.try_take() == arrived(word, control)
+    from.try_put(&ping(word)) == Ok(()) && to.try_take() == sight_of(word, control)
 }
 
 // Through this ring so many fragments have passed each way. Its sides are told nothing of them, so

@@ -22,14 +22,14 @@ enum Asked {
 // A pick where it is asked for the next event, else nothing.
 type Answer = Result<Option<Pick>, WaitFault>;
 
-fn done(answer: Result<(), WaitFault>) -> Answer {
+fn say_done(answer: Result<(), WaitFault>) -> Answer {
     match answer {
         Ok(()) => Ok(None),
         Err(fault) => Err(fault),
     }
 }
 
-fn picked(answer: Result<Pick, WaitFault>) -> Answer {
+fn say_pick(answer: Result<Pick, WaitFault>) -> Answer {
     match answer {
         Ok(pick) => Ok(Some(pick)),
         Err(fault) => Err(fault),
@@ -39,12 +39,12 @@ fn picked(answer: Result<Pick, WaitFault>) -> Answer {
 // What the waitset answers.
 fn ask(waitset: &mut Waitset, asked: Asked) -> Answer {
     match asked {
-        Asked::Register(c) => done(waitset.register(c)),
-        Asked::RegisterPolled(c) => done(waitset.register_polled(c)),
-        Asked::Deregister(c) => done(waitset.deregister(c)),
-        Asked::Trigger(c) => done(waitset.trigger(c)),
-        Asked::PutBack(c, place) => done(waitset.put_back(c, place)),
-        Asked::NextEvent => picked(waitset.next_event()),
+        Asked::Register(c) => say_done(waitset.register(c)),
+        Asked::RegisterPolled(c) => say_done(waitset.register_polled(c)),
+        Asked::Deregister(c) => say_done(waitset.deregister(c)),
+        Asked::Trigger(c) => say_done(waitset.trigger(c)),
+        Asked::PutBack(c, place) => say_done(waitset.put_back(c, place)),
+        Asked::NextEvent => say_pick(waitset.next_event()),
     }
 }
 
@@ -189,7 +189,7 @@ fn random_call(random: u64) -> Asked {
 
 // Whether the two answer alike to a call, and to the question for the next event after it.
 fn alike(fast: &mut Waitset, slow: &mut Slow, asked: Asked) -> Result<bool, AllocError> {
-    Ok(ask(fast, asked) == ask_slow(slow, asked)? && picked(fast.next_event()) == slow_next(slow))
+    Ok(ask(fast, asked) == ask_slow(slow, asked)? && say_pick(fast.next_event()) == slow_next(slow))
 }
 
 fn pick_of(answer: Answer) -> Option<ChanId> {
@@ -209,7 +209,7 @@ fn drain(fast: &mut Waitset, slow: &mut Slow) -> Result<bool, AllocError> {
             return Ok(false);
         }
     }
-    Ok(picked(fast.next_event()) == Err(WaitFault::NoEvent))
+    Ok(say_pick(fast.next_event()) == Err(WaitFault::NoEvent))
 }
 
 // Whether the same channels are idle: no call shows in which order they stood, so each in turn is triggered.

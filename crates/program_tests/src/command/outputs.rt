@@ -60,7 +60,7 @@ impl Ran {
     }
 
     /// Whether it ended with this status and nothing on standard output, and told of a fault.
-    pub fn told(&self, status: u8) -> bool {
+    pub fn has_told(&self, status: u8) -> bool {
         self.status == status && self.out.is_empty() && !self.err.is_empty()
     }
 }

@@ -57,7 +57,7 @@ fn scripts_are_run(rt: HostRuntime) {
 }
 
 fn is_unread(alloc: Global) -> bool {
-    exec(alloc, &mut NoSource).told(4)
+    exec(alloc, &mut NoSource).has_told(4)
 }
 
 // Nothing is printed of a script that isn't read.

@@ -138,7 +138,7 @@ impl Row for Words {
         Ok(match self.0 {
             Asked::TwoTurns => are_two_turns(alloc, self.1),
             Asked::Exec => are_exec(alloc, self.1),
-            Asked::Nothing => tell(alloc, self.1).told(1),
+            Asked::Nothing => tell(alloc, self.1).has_told(1),
             Asked::Help => are_help(alloc, self.1),
         })
     }

@@ -69,7 +69,7 @@ fn push_text(alloc: Global, client: &mut Vec<Call>) -> Result<(), AllocError> {
 }
 
 // What each binding's ends handled.
-fn handled(alloc: Global) -> Result<Vec<BothEnds>, AllocError> {
+fn make_handled(alloc: Global) -> Result<Vec<BothEnds>, AllocError> {
     let mut last = both(alloc, &[], &[])?;
     push_text(alloc, &mut last.client)?;
     let mut handled = Vec::new(alloc);
@@ -80,7 +80,7 @@ fn handled(alloc: Global) -> Result<Vec<BothEnds>, AllocError> {
 
 fn report(alloc: Global, ending: Ending) -> Result<Report, AllocError> {
     let refused = Vec::from_slice(alloc, &[None, None, None, None, Some(74)])?;
-    let handled = handled(alloc)?;
+    let handled = make_handled(alloc)?;
     Ok(Report {
         made: Vec::new(alloc),
         handled,

@@ -140,7 +140,12 @@ fn reads_of(alloc: Global, script: &[u8], writer: &mut Sheet) -> Option<usize>
 }
 
 // Whether it came to the fault, and what was written until then is a prefix of the transcript.
-fn stopped(outcome: Result<(), ExecFault>, fault: ExecFault, status: u8, writer: &Sheet) -> bool {
+fn has_stopped(
+    outcome: Result<(), ExecFault>,
+    fault: ExecFault,
+    status: u8,
+    writer: &Sheet,
+) -> bool {
     outcome == Err(fault)
         && fault.number() == status
         && TRANSCRIPT.starts_with(writer.written())
@@ -166,7 +171,7 @@ fn stops_at_read(alloc: Global, at: usize) -> bool {
     let mut reader = Source::new(SCRIPT, 1, at);
     let mut writer = Sheet::new(512, 0, 0);
     let outcome = run(alloc, &mut reader, &mut writer);
-    stopped(outcome, ExecFault::Read, 4, &writer) && writer.calls == 0
+    has_stopped(outcome, ExecFault::Read, 4, &writer) && writer.calls == 0
 }
 
 fn stops_at_each_read(alloc: Global) -> bool {
@@ -188,7 +193,7 @@ fn a_read_fails(rt: HostRuntime) {
 fn stops_at_write(alloc: Global, writer: &mut Sheet, at: usize) -> bool {
     let mut reader = Source::new(SCRIPT, 4096, 0);
     let outcome = run(alloc, &mut reader, writer);
-    stopped(outcome, ExecFault::Write, 4, writer)
+    has_stopped(outcome, ExecFault::Write, 4, writer)
         && writer.calls == at
         && writer.written().len() == at.saturating_sub(1)
 }
@@ -225,7 +230,7 @@ fn is_written_or_stopped(alloc: Global) -> bool {
     let mut writer = Sheet::new(16, 0, 0);
     match run(alloc, &mut reader, &mut writer) {
         Ok(()) => writer.written() == TRANSCRIPT,
-        outcome => stopped(outcome, ExecFault::Memory, 3, &writer),
+        outcome => has_stopped(outcome, ExecFault::Memory, 3, &writer),
     }
 }
 

@@ -49,7 +49,7 @@ pub fn answer(alloc: Global, bytes: &[u8]) -> Result<u8, AllocError> {
 }
 
 /// The bytes with another one at a place.
-pub fn changed(alloc: Global, bytes: &[u8], at: usize, to: u8) -> Result<Vec<u8>, AllocError> {
+pub fn change(alloc: Global, bytes: &[u8], at: usize, to: u8) -> Result<Vec<u8>, AllocError> {
     let mut bytes = Vec::from_slice(alloc, bytes)?;
     if let Some(byte) = bytes.get_mut(at) {
         *byte = to;
@@ -59,6 +59,6 @@ pub fn changed(alloc: Global, bytes: &[u8], at: usize, to: u8) -> Result<Vec<u8>
 
 /// What is answered to the bytes with another one at a place.
 pub fn answer_to_change(alloc: Global, bytes: &[u8], at: usize, to: u8) -> Result<u8, AllocError> {
-    let changed = changed(alloc, bytes, at, to)?;
+    let changed = change(alloc, bytes, at, to)?;
     answer(alloc, &changed)
 }

@@ -1,6 +1,6 @@
 //! Images of texts, as they are and with one mistake.
 
-use crate::image::images::{MIXED, PING, answer, answer_to_change, changed, image_of};
+use crate::image::images::{MIXED, PING, answer, answer_to_change, change, image_of};
 use crate::rows::{Row, all_hold};
 use fl_image::read_image;
 use fl_value::PlanNo;
@@ -26,7 +26,7 @@ const PLANS: &[Example] = &[
 
 // Whether an image has the bytes written by hand, with the plan's number, and is read.
 fn is_ping(alloc: Global, image: &[u8], number: u8) -> Result<bool, Fail> {
-    let ping = changed(alloc, &PING, 4, number)?;
+    let ping = change(alloc, &PING, 4, number)?;
     Ok(image == ping.as_slice() && answer(alloc, image)? == 0)
 }
 

@@ -1,6 +1,6 @@
 //! What is shown of texts and images, and what is told of them where they are refused.
 
-use crate::image::images::{MIXED, PING, PING_TWO, changed, image_of};
+use crate::image::images::{MIXED, PING, PING_TWO, change, image_of};
 use crate::rows::Row;
 use fl_image::read_image;
 use fl_show::{ShowFault, compile_text, show_content, show_text};
@@ -77,7 +77,7 @@ fn begins(alloc: Global, content: &[u8], line: &str) -> Result<bool, Fail> {
 }
 
 fn is_changed(alloc: Global, at: usize, to: u8, line: &str) -> Result<bool, Fail> {
-    let bytes = changed(alloc, &PING, at, to)?;
+    let bytes = change(alloc, &PING, at, to)?;
     begins(alloc, &bytes, line)
 }
 

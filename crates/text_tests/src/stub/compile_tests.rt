@@ -376,7 +376,7 @@ const CODES: &[Codes] = &[
     },
 ];
 
-fn compiled(alloc: Global, text: &[u8], plan: PlanNo) -> Result<Program, Fail> {
+fn compile_text(alloc: Global, text: &[u8], plan: PlanNo) -> Result<Program, Fail> {
     let interface = interface(alloc, text)?;
     Ok(compile(alloc, &interface, plan)?)
 }
@@ -409,7 +409,7 @@ fn has_duplicate(alloc: Global, program: &Program, row: &Codes) -> Result<bool, 
 
 impl Row for Codes {
     fn holds(&self, alloc: Global) -> Result<bool, Fail> {
-        let program = compiled(alloc, self.text, self.plan)?;
+        let program = compile_text(alloc, self.text, self.plan)?;
         Ok(is_of(&program, self) && has_duplicate(alloc, &program, self)?)
     }
 }

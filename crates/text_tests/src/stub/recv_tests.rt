@@ -196,7 +196,7 @@ fn fragments_fed_to_new_runs(rt: HostRuntime) -> Result<(), Fail> {
 }
 
 // What is answered to a fragment at a place.
-fn taken(calls: &mut Reassemblies, place: usize, frag: &Frag) -> Result<Answer, AllocError> {
+fn take(calls: &mut Reassemblies, place: usize, frag: &Frag) -> Result<Answer, AllocError> {
     if place >= calls.len() {
         return Ok(Err(0));
     }
@@ -239,7 +239,7 @@ fn places(alloc: Global, text: &[u8]) -> Result<Reassemblies, AllocError> {
 fn reassembles(alloc: Global, text: &[u8], steps: &[Step]) -> Result<bool, AllocError> {
     let mut calls = places(alloc, text)?;
     for (frag, wanted, _) in steps {
-        if taken(&mut calls, 1, frag)? != *wanted || taken(&mut calls, 2, frag)? != *wanted {
+        if take(&mut calls, 1, frag)? != *wanted || take(&mut calls, 2, frag)? != *wanted {
             return Ok(false);
         }
     }

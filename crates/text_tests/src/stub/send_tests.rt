@@ -1,7 +1,7 @@
 //! The fragments that runs of send code give.
 
 use crate::rows::{Row, all_hold};
-use crate::stub::verify_tests::verified;
+use crate::stub::verify_tests::verify_ops;
 use fl_base::{Circuit, Frag, MsgNo};
 use fl_machine::SendRun;
 use fl_stub::{Column, Op, VerifiedCode};
@@ -159,7 +159,7 @@ fn is_sent(code: &VerifiedCode, tape: Vec<u64>, row: &Sent) -> bool {
 
 impl Row for Sent {
     fn holds(&self, alloc: Global) -> Result<bool, Fail> {
-        let Some(code) = verified(alloc, self.ops)? else {
+        let Some(code) = verify_ops(alloc, self.ops)? else {
             return Ok(false);
         };
         let tape = Vec::from_slice(alloc, self.tape)?;

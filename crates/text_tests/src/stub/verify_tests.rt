@@ -6,7 +6,7 @@ use fl_stub::{Code, Column, Op, VerifiedCode, verify};
 use std::alloc::{AllocError, Global};
 use std::test::Fail;
 
-pub(crate) fn verified(alloc: Global, ops: &[Op]) -> Result<Option<VerifiedCode>, AllocError> {
+pub(crate) fn verify_ops(alloc: Global, ops: &[Op]) -> Result<Option<VerifiedCode>, AllocError> {
     let code = Code {
         ops: Vec::from_slice(alloc, ops)?,
     };
@@ -62,7 +62,7 @@ fn has_duplicate(
 // The code is of the column, and so is its duplicate.
 impl Row for OfColumn {
     fn holds(&self, alloc: Global) -> Result<bool, Fail> {
-        let Some(code) = verified(alloc, self.1)? else {
+        let Some(code) = verify_ops(alloc, self.1)? else {
             return Ok(false);
         };
         Ok(is_of(&code, self.0, self.1) && has_duplicate(alloc, &code, self.0, self.1)?)
@@ -177,7 +177,7 @@ const REFUSED: &[&[Op]] = &[
 // Whether `verify` answers so on each of the rows.
 fn all_answer(alloc: Global, rows: &[&[Op]], wanted: bool) -> Result<(), Fail> {
     for (index, ops) in rows.iter().enumerate() {
-        if verified(alloc, ops)?.is_some() != wanted {
+        if verify_ops(alloc, ops)?.is_some() != wanted {
             return Err(wrong(index));
         }
     }
@@ -185,11 +185,11 @@ fn all_answer(alloc: Global, rows: &[&[Op]], wanted: bool) -> Result<(), Fail> {
 }
 
 #[test]
-fn accepted(rt: HostRuntime) -> Result<(), Fail> {
+fn accept(rt: HostRuntime) -> Result<(), Fail> {
     all_answer(rt.alloc(), ACCEPTED, true)
 }
 
 #[test]
-fn refused(rt: HostRuntime) -> Result<(), Fail> {
+fn refuse(rt: HostRuntime) -> Result<(), Fail> {
     all_answer(rt.alloc(), REFUSED, false)
 }

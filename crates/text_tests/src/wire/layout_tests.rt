@@ -3,7 +3,7 @@
 
 use crate::interfaces::interface;
 use crate::rows::{Row, all_hold};
-use crate::wire::payload_tests::sent;
+use crate::wire::payload_tests::send;
 use crate::wire::strings::{STRING, letters};
 use fl_base::MsgNo;
 use fl_layout::{Plans, plan};
@@ -186,7 +186,7 @@ const TOLD: &[Told] = &[
     },
 ];
 
-fn planned(alloc: Global, text: &[u8], number: PlanNo) -> Result<Plans, Fail> {
+fn make_plans(alloc: Global, text: &[u8], number: PlanNo) -> Result<Plans, Fail> {
     let interface = interface(alloc, text)?;
     Ok(plan(alloc, &interface, number)?)
 }
@@ -223,7 +223,7 @@ fn has_arguments(plans: &Plans, msg: MsgNo, wanted: &[(Option<usize>, usize)]) -
 
 impl Row for Told {
     fn holds(&self, alloc: Global) -> Result<bool, Fail> {
-        let plans = planned(alloc, self.text, self.plan)?;
+        let plans = make_plans(alloc, self.text, self.plan)?;
         Ok(
             figures(&plans, self.msg) == self.figures
                 && has_arguments(&plans, self.msg, self.arguments),
@@ -279,7 +279,7 @@ const EXTENTS: &[Extent] = &[
 ];
 
 // The bytes and the fragments of a call; nothing where it doesn't fit.
-fn measured(plans: &Plans, call: &Call) -> Option<(usize, usize)> {
+fn measure(plans: &Plans, call: &Call) -> Option<(usize, usize)> {
     if !fits(call, &plans.interface) {
         return None;
     }
@@ -294,9 +294,9 @@ fn measures(
     wanted: (usize, usize),
 ) -> Result<bool, ValueFault> {
     let call = read_call(alloc, text, &plans.interface)?;
-    match sent(alloc, plans.plan, &plans.interface, &call)? {
+    match send(alloc, plans.plan, &plans.interface, &call)? {
         Some((len, frags)) => Ok(
-            (len, frags.len()) == wanted && measured(plans, &call) == Some(wanted),
+            (len, frags.len()) == wanted && measure(plans, &call) == Some(wanted),
         ),
         None => Ok(false),
     }
@@ -309,7 +309,7 @@ fn is_sent(
     plan: PlanNo,
     wanted: (usize, usize),
 ) -> Result<bool, Fail> {
-    let plans = planned(alloc, text, plan)?;
+    let plans = make_plans(alloc, text, plan)?;
     Ok(measures(alloc, &plans, call, wanted)?)
 }
 

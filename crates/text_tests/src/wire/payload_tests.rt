@@ -309,7 +309,7 @@ fn has_frags(
 }
 
 /// The payload's length and the fragments of a call; nothing where it doesn't fit, or has others one by one.
-pub fn sent(
+pub fn send(
     alloc: Global,
     plan: PlanNo,
     interface: &Interface,
@@ -363,7 +363,7 @@ fn is_sent(
     row: &Carried,
 ) -> Result<bool, ValueFault> {
     let call = read_call(alloc, row.call, interface)?;
-    match sent(alloc, plan, interface, &call)? {
+    match send(alloc, plan, interface, &call)? {
         Some((len, frags)) => Ok(len == row.len && frags.as_slice() == row.frags),
         None => Ok(false),
     }

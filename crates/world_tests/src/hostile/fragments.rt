@@ -62,7 +62,7 @@ fn frag_of(row: &Row) -> Frag {
 // Whether an end at a board is refused a row's fragment, and is told E64 for good: to a call, a look, a write and a registering, twice. It
 // is due no more, so no turn looks at it.
 fn fails_for_good(post: &mut Post, row: &Row) -> bool {
-    let is_refused = post.given(&frag_of(row)) == Said::Refused(row.2);
+    let is_refused = post.give(&frag_of(row)) == Said::Refused(row.2);
     is_refused
         && post.refusals() == [64; 4]
         && post.turn() == Said::Nothing
@@ -84,7 +84,7 @@ const FORGED: &[Forged] = &[
 
 fn are_parts(post: &mut Post, frags: &[Frag]) -> bool {
     for frag in frags {
-        if post.given(frag) != Said::Part {
+        if post.give(frag) != Said::Part {
             return false;
         }
     }
@@ -246,7 +246,7 @@ impl WhichFragment {
 }
 
 // A word with another byte at a place.
-fn changed(word: u64, at: usize, to: u8) -> u64 {
+fn change(word: u64, at: usize, to: u8) -> u64 {
     let mut bytes = word.to_le_bytes();
     if let Some(byte) = bytes.get_mut(at) {
         *byte = to;
@@ -257,7 +257,7 @@ fn changed(word: u64, at: usize, to: u8) -> u64 {
 fn with_byte(frag: &Frag, at: usize, to: u8) -> Frag {
     let mut changes = *frag;
     if let Some(word) = changes.words.get_mut(at / 8) {
-        *word = changed(*word, at % 8, to);
+        *word = change(*word, at % 8, to);
     }
     changes
 }

@@ -108,7 +108,7 @@ fn put_in_one(bytes: &mut Vec<u8>, numbers: &mut Numbers) -> Result<(), AllocErr
 }
 
 // The bytes with one to three edits.
-fn edited(alloc: Global, image: &[u8], numbers: &mut Numbers) -> Result<Vec<u8>, AllocError> {
+fn edit(alloc: Global, image: &[u8], numbers: &mut Numbers) -> Result<Vec<u8>, AllocError> {
     let mut bytes = Vec::from_slice(alloc, image)?;
     let edits = numbers.below(3).saturating_add(1);
     for _ in 0..edits {
@@ -167,7 +167,7 @@ fn is_told(
     numbers: &mut Numbers,
     tally: &mut Tally,
 ) -> Result<bool, AllocError> {
-    let bytes = edited(alloc, image, numbers)?;
+    let bytes = edit(alloc, image, numbers)?;
     Ok(tally.counts(answer(alloc, &bytes)?))
 }
 

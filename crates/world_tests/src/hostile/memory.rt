@@ -95,8 +95,8 @@ const LAST: Frag = Frag {
 };
 
 fn takes_again(taker: &mut Taker) -> bool {
-    let first = taker.given(&FIRST);
-    let said = match taker.given(&LAST) {
+    let first = taker.give(&FIRST);
+    let said = match taker.give(&LAST) {
         Said::Refused(99) => taker.receives(),
         said => said,
     };

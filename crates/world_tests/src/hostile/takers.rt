@@ -98,11 +98,11 @@ impl Taker {
     // The same of the only fragment of a call, or of one after another.
     fn answer(&mut self, before: Option<&Frag>, frag: &Frag) -> Said {
         if let Some(before) = before {
-            if self.given(before) != Said::Part {
+            if self.give(before) != Said::Part {
                 return Said::Other;
             }
         }
-        let said = self.given(frag);
+        let said = self.give(frag);
         let wanted = match said {
             Said::Refused(_) => Said::Refused(64),
             _ => Said::Nothing,
@@ -114,7 +114,7 @@ impl Taker {
     }
 
     /// What it answers to a fragment that is put there.
-    pub fn given(&mut self, frag: &Frag) -> Said {
+    pub fn give(&mut self, frag: &Frag) -> Said {
         match self.from.put(frag) {
             Ok(()) => self.receives(),
             Err(_) => Said::Other,
@@ -144,7 +144,7 @@ pub struct Post {
     call: Call,
 }
 
-fn turned(answer: Result<TurnAnswer, AllocError>) -> Said {
+fn say_turn(answer: Result<TurnAnswer, AllocError>) -> Said {
     match answer {
         Ok(TurnAnswer::Part) => Said::Part,
         Ok(TurnAnswer::Handle(_)) => Said::Whole,
@@ -243,11 +243,11 @@ impl Post {
         let Some(e) = self.board.due(0) else {
             return Said::Nothing;
         };
-        turned(self.board.turn(0, e, &mut self.from))
+        say_turn(self.board.turn(0, e, &mut self.from))
     }
 
     /// What a turn comes to once a fragment stands on the end's queue.
-    pub fn given(&mut self, frag: &Frag) -> Said {
+    pub fn give(&mut self, frag: &Frag) -> Said {
         if self.from.put(frag).is_err() || self.board.ends() == 0 {
             return Said::Other;
         }

@@ -4,7 +4,7 @@ use crate::world::acts::{AT_0, AT_2, Act, PING};
 use crate::world::runs::Row;
 use crate::world::tables::Claim;
 use crate::world::words::Word;
-use crate::world::worlds::{Way, answers_all, booted};
+use crate::world::worlds::{Way, answers_all, boot};
 use fl_system::{BootFault, World};
 use std::alloc::{AllocError, Global};
 
@@ -49,7 +49,7 @@ fn is_fault(
 
 impl Claim for Refused {
     fn holds(&self, alloc: Global) -> Result<bool, AllocError> {
-        is_fault(booted(alloc, self.0, self.1), self.2, self.3)
+        is_fault(boot(alloc, self.0, self.1), self.2, self.3)
     }
 }
 

@@ -4,7 +4,7 @@ use crate::world::acts::{AT_0, AT_1, Act, CLIENT, ECHO, Joint, NEAR, NEXT_AT_0, 
 use crate::world::runs::Row;
 use crate::world::tables::Claim;
 use crate::world::words::Word;
-use crate::world::worlds::{Way, answers_all, made};
+use crate::world::worlds::{Way, answers_all, make};
 use fl_base::{EndId, Side};
 use fl_system::World;
 use std::alloc::{AllocError, Global};
@@ -184,7 +184,7 @@ fn is_limit(alloc: Global, world: &mut World, limit: &Limit) -> Result<bool, All
 
 impl Claim for Limit {
     fn holds(&self, alloc: Global) -> Result<bool, AllocError> {
-        let mut world = made(alloc, 2, self.set_up)?;
+        let mut world = make(alloc, 2, self.set_up)?;
         is_limit(alloc, &mut world, self)
     }
 }

@@ -3,7 +3,7 @@
 use crate::world::acts::{Act, event, events};
 use crate::world::tables::Claim;
 use crate::world::words::{Word, is};
-use crate::world::worlds::{Way, answers, answers_all, made};
+use crate::world::worlds::{Way, answers, answers_all, make};
 use fl_lines::{Answer, DispatcherId, Event};
 use fl_system::World;
 use std::alloc::{AllocError, Global};
@@ -65,7 +65,7 @@ fn holds_on(alloc: Global, world: &mut World, row: &Row, way: Way) -> Result<boo
 }
 
 fn holds_by(alloc: Global, row: &Row, way: Way) -> Result<bool, AllocError> {
-    let mut world = made(alloc, row.cores, row.set_up)?;
+    let mut world = make(alloc, row.cores, row.set_up)?;
     holds_on(alloc, &mut world, row, way)
 }
 
@@ -124,7 +124,7 @@ fn adds_to(alloc: Global, world: &mut World, events: &[Event<'_>]) -> Result<boo
 }
 
 fn adds_each(alloc: Global, events: &[Event<'_>]) -> Result<bool, AllocError> {
-    let mut world = made(alloc, 1, &[])?;
+    let mut world = make(alloc, 1, &[])?;
     adds_to(alloc, &mut world, events)
 }
 

@@ -28,7 +28,7 @@ pub fn config(alloc: Global, cores: u8, acts: &[Act]) -> Result<Config<'static>,
 ///
 /// # Errors
 /// Why there is none.
-pub fn booted(alloc: Global, cores: u8, acts: &[Act]) -> Result<World, BootFault> {
+pub fn boot(alloc: Global, cores: u8, acts: &[Act]) -> Result<World, BootFault> {
     match config(alloc, cores, acts) {
         Ok(config) => World::boot(alloc, &config),
         Err(_) => Err(BootFault::Memory),
@@ -39,8 +39,8 @@ pub fn booted(alloc: Global, cores: u8, acts: &[Act]) -> Result<World, BootFault
 ///
 /// # Errors
 /// Out of memory.
-pub fn made(alloc: Global, cores: u8, acts: &[Act]) -> Result<World, AllocError> {
-    match booted(alloc, cores, acts) {
+pub fn make(alloc: Global, cores: u8, acts: &[Act]) -> Result<World, AllocError> {
+    match boot(alloc, cores, acts) {
         Ok(world) => Ok(world),
         Err(_) => Err(AllocError),
     }

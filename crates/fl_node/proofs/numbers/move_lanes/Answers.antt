@@ -10,7 +10,7 @@ loop-k-preserved c =
     let within : c.loop-k.k < length c.loop-k.lanes.items = search rules in
     let at = slice_get_read c.loop-k.lanes.items (length c.loop-k.lanes.items) c.loop-k.k c.index-lane.result.now refl within c.index-lane.ensures in
     changed_one (moved_lane c.args.sides.now) c.args.lanes.now.items c.loop-k.lanes.items c.loop-k.k c.index-lane.result.now _ c.loop-k.invariant at
-    (ap (λ (n : ℕ). let x : Lane = record { side = n; failed = c.index-lane.result.now.failed } in x) c.moved.ensures.moved)
+    (ap (λ (n : ℕ). let x : Lane = record { side = n; failed = c.index-lane.result.now.failed } in x) c.move_number.ensures.moved)
 
 pub returns : goal.returns
 returns c =

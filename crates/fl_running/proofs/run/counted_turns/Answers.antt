@@ -14,14 +14,14 @@ loop-turns-preserved g c =
     let t = task c.args.plan.now c.args.jobs.now c.args.limit in
     let first = moment (run_of c.args.run.now) (ticket_of c.args.ticket.now) in
     let before = moment (run_of c.loop-turns.run) (ticket_of c.loop-turns.ticket) in
-    let few = c.if-ended-ge-STOP.false in
+    let few = c.if-load_ended-ge-STOP.false in
     let below = c.loop-turns-test.true in (
       one_turn_more w t first before _ c.loop-turns.turns c.loop-turns.invariant.0
-          (counted_turn w t before c.take_stock.new.ticket.words.items c.take_stock.new.ticket.seat c.ended.new.self c.ended.result (run_of c.turn.new.self)
-          c.take_stock.ensures.exchanges (sym c.take_stock.ensures.finished ∙ c.if-take_stock.false) (omega (arith, few)) c.ended.ensures.seen c.in_ok-turn.ensures.turn),
+          (counted_turn w t before c.take_stock.new.ticket.words.items c.take_stock.new.ticket.seat c.load_ended.new.self c.load_ended.result (run_of c.turn.new.self)
+          c.take_stock.ensures.exchanges (sym c.take_stock.ensures.finished ∙ c.if-take_stock.false) (omega (arith, few)) c.load_ended.ensures.seen c.in_ok-turn.ensures.turn),
       c.take_stock.ensures.as_many,
-      subst (λ (s : TheSeat). AreWords c.take_stock.new.ticket.words.items s.knows) (sym c.ended.ensures.seen) (seen_words _ _ c.ended.result c.take_stock.ensures.may),
-      quiet_then _ _ _ (quiet_then _ _ _ c.loop-turns.invariant.3 c.take_stock.ensures.seat) (seen_quiet c.take_stock.new.ticket.seat c.ended.new.self c.ended.result c.ended.ensures.seen),
+      subst (λ (s : TheSeat). AreWords c.take_stock.new.ticket.words.items s.knows) (sym c.load_ended.ensures.seen) (seen_words _ _ c.load_ended.result c.take_stock.ensures.may),
+      quiet_then _ _ _ (quiet_then _ _ _ c.loop-turns.invariant.3 c.take_stock.ensures.seat) (seen_quiet c.take_stock.new.ticket.seat c.load_ended.new.self c.load_ended.result c.load_ended.ensures.seen),
       omega (arith, below),
     )
 
@@ -32,14 +32,14 @@ returns-then-take_stock-clause-counted g c =
     c.take_stock.new.ticket.words.items c.take_stock.new.ticket.seat c.loop-turns.invariant.0 c.loop-turns.invariant.4 c.take_stock.ensures.exchanges
     (sym c.take_stock.ensures.finished ∙ c.if-take_stock.true) (quiet_then _ _ _ c.loop-turns.invariant.3 c.take_stock.ensures.seat)
 
-pub returns-then-ended-ge-STOP-clause-counted : goal.returns-then-ended-ge-STOP-clause-counted
-returns-then-ended-ge-STOP-clause-counted g c =
-    let stop = c.if-ended-ge-STOP.true in
+pub returns-then-load_ended-ge-STOP-clause-counted : goal.returns-then-load_ended-ge-STOP-clause-counted
+returns-then-load_ended-ge-STOP-clause-counted g c =
+    let stop = c.if-load_ended-ge-STOP.true in
     counted_told (ways g.S.PutSide.puts g.S.TakeSide.takes g.S.TakeSide.front) (task c.args.plan.now c.args.jobs.now c.args.limit)
     (moment (run_of c.args.run.now) (ticket_of c.args.ticket.now)) (run_of c.loop-turns.run) (ticket_of c.loop-turns.ticket) c.loop-turns.turns
     c.take_stock.new.ticket.words.items c.take_stock.new.ticket.seat c.loop-turns.invariant.0 c.loop-turns.invariant.4 c.take_stock.ensures.exchanges
-    c.ended.new.self c.ended.result (sym c.take_stock.ensures.finished ∙ c.if-take_stock.false) (omega (arith, stop)) c.ended.ensures.seen
-    (quiet_then _ _ _ (quiet_then _ _ _ c.loop-turns.invariant.3 c.take_stock.ensures.seat) (seen_quiet c.take_stock.new.ticket.seat c.ended.new.self c.ended.result c.ended.ensures.seen))
+    c.load_ended.new.self c.load_ended.result (sym c.take_stock.ensures.finished ∙ c.if-take_stock.false) (omega (arith, stop)) c.load_ended.ensures.seen
+    (quiet_then _ _ _ (quiet_then _ _ _ c.loop-turns.invariant.3 c.take_stock.ensures.seat) (seen_quiet c.take_stock.new.ticket.seat c.load_ended.new.self c.load_ended.result c.load_ended.ensures.seen))
 
 pub returns-then-take_stock-2-clause-counted : goal.returns-then-take_stock-2-clause-counted
 returns-then-take_stock-2-clause-counted g c =

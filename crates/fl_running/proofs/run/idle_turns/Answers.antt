@@ -11,9 +11,9 @@ loop-preserved g c = (
   tt,
   tt,
   some_more _ _ _ _ _ _ c.loop.invariant.2 c.in_ok-turn.ensures.turn,
-  quiet_then _ _ _ c.loop.invariant.3 (seen_quiet c.loop.ticket.seat c.ended-ended.new.self c.ended-ended.result c.ended-ended.ensures.seen),
-  seen_stored c.loop.ticket.seat c.ended-ended.new.self c.ended-ended.result c.ended-ended.ensures.seen ∙ c.loop.invariant.4,
-  seen_heard c.loop.ticket.seat c.ended-ended.new.self c.ended-ended.result c.ended-ended.ensures.seen ∙ c.loop.invariant.5,
+  quiet_then _ _ _ c.loop.invariant.3 (seen_quiet c.loop.ticket.seat c.load_ended-ended.new.self c.load_ended-ended.result c.load_ended-ended.ensures.seen),
+  seen_stored c.loop.ticket.seat c.load_ended-ended.new.self c.load_ended-ended.result c.load_ended-ended.ensures.seen ∙ c.loop.invariant.4,
+  seen_heard c.loop.ticket.seat c.load_ended-ended.new.self c.load_ended-ended.result c.load_ended-ended.ensures.seen ∙ c.loop.invariant.5,
 )
 
 pub returns-in_err-turn : goal.returns-in_err-turn
@@ -21,7 +21,7 @@ returns-in_err-turn g c = record {
   turned = IfOk-from_err c.from_residual.result _ c.from_residual.ensures.0;
   part = on_err c.from_residual.result (c.loop.invariant.2.0, run_of c.loop.run, c.loop.invariant.2.1, c.in_err-turn.ensures.part);
   others = IfOk-from_err c.from_residual.result _ c.from_residual.ensures.0;
-  seat = quiet_then _ _ _ c.loop.invariant.3 (seen_quiet c.loop.ticket.seat c.ended-ended.new.self c.ended-ended.result c.ended-ended.ensures.seen);
-  stored = seen_stored c.loop.ticket.seat c.ended-ended.new.self c.ended-ended.result c.ended-ended.ensures.seen ∙ c.loop.invariant.4;
-  heard = seen_heard c.loop.ticket.seat c.ended-ended.new.self c.ended-ended.result c.ended-ended.ensures.seen ∙ c.loop.invariant.5;
+  seat = quiet_then _ _ _ c.loop.invariant.3 (seen_quiet c.loop.ticket.seat c.load_ended-ended.new.self c.load_ended-ended.result c.load_ended-ended.ensures.seen);
+  stored = seen_stored c.loop.ticket.seat c.load_ended-ended.new.self c.load_ended-ended.result c.load_ended-ended.ensures.seen ∙ c.loop.invariant.4;
+  heard = seen_heard c.loop.ticket.seat c.load_ended-ended.new.self c.load_ended-ended.result c.load_ended-ended.ensures.seen ∙ c.loop.invariant.5;
 }

@@ -23,26 +23,26 @@ all_few : (r : List ℕ) → bit_or (bit_or (bit_or (bit_or (bit_or (bit_or (bit
     → (get_or r 0 0 < 256) × (get_or r 1 0 < 256) × (get_or r 2 0 < 256) × (get_or r 3 0 < 256) × (get_or r 4 0 < 256) × (get_or r 5 0 < 256) × (get_or r 6 0 < 256) × (get_or r 7 0 < 256)
 all_few r few = few_of_eight (get_or r 0 0) (get_or r 1 0) (get_or r 2 0) (get_or r 3 0) (get_or r 4 0) (get_or r 5 0) (get_or r 6 0) (get_or r 7 0) few
 
-pub packed-requires-clause-a : goal.packed-requires-clause-a
-packed-requires-clause-a c = (all_few c.loop-rest.rest.now c.if-a-b-gt255.false).0
+pub pack-requires-clause-a : goal.pack-requires-clause-a
+pack-requires-clause-a c = (all_few c.loop-rest.rest.now c.if-a-b-gt255.false).0
 
-pub packed-requires-clause-b : goal.packed-requires-clause-b
-packed-requires-clause-b c = (all_few c.loop-rest.rest.now c.if-a-b-gt255.false).1
+pub pack-requires-clause-b : goal.pack-requires-clause-b
+pack-requires-clause-b c = (all_few c.loop-rest.rest.now c.if-a-b-gt255.false).1
 
-pub packed-requires-clause-c : goal.packed-requires-clause-c
-packed-requires-clause-c c = (all_few c.loop-rest.rest.now c.if-a-b-gt255.false).2
+pub pack-requires-clause-c : goal.pack-requires-clause-c
+pack-requires-clause-c c = (all_few c.loop-rest.rest.now c.if-a-b-gt255.false).2
 
-pub packed-requires-clause-d : goal.packed-requires-clause-d
-packed-requires-clause-d c = (all_few c.loop-rest.rest.now c.if-a-b-gt255.false).3
+pub pack-requires-clause-d : goal.pack-requires-clause-d
+pack-requires-clause-d c = (all_few c.loop-rest.rest.now c.if-a-b-gt255.false).3
 
-pub packed-requires-clause-e : goal.packed-requires-clause-e
-packed-requires-clause-e c = (all_few c.loop-rest.rest.now c.if-a-b-gt255.false).4
+pub pack-requires-clause-e : goal.pack-requires-clause-e
+pack-requires-clause-e c = (all_few c.loop-rest.rest.now c.if-a-b-gt255.false).4
 
-pub packed-requires-clause-f : goal.packed-requires-clause-f
-packed-requires-clause-f c = (all_few c.loop-rest.rest.now c.if-a-b-gt255.false).5
+pub pack-requires-clause-f : goal.pack-requires-clause-f
+pack-requires-clause-f c = (all_few c.loop-rest.rest.now c.if-a-b-gt255.false).5
 
-pub packed-requires-clause-g : goal.packed-requires-clause-g
-packed-requires-clause-g c = (all_few c.loop-rest.rest.now c.if-a-b-gt255.false).6
+pub pack-requires-clause-g : goal.pack-requires-clause-g
+pack-requires-clause-g c = (all_few c.loop-rest.rest.now c.if-a-b-gt255.false).6
 
-pub packed-requires-clause-h : goal.packed-requires-clause-h
-packed-requires-clause-h c = (all_few c.loop-rest.rest.now c.if-a-b-gt255.false).7
+pub pack-requires-clause-h : goal.pack-requires-clause-h
+pack-requires-clause-h c = (all_few c.loop-rest.rest.now c.if-a-b-gt255.false).7

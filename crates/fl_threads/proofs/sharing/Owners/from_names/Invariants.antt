@@ -1,7 +1,7 @@
 use Rattle.std.proofs.Common.{◌*◌}
 use Rattle.fl_threads.specs.Shares.{NamesSide, NamesQueue}
 use Rattle.fl_threads.proofs.Owning.{SoFar}
-use Rattle.fl_threads.proofs.sharing.Owners.named.Given as goal
+use Rattle.fl_threads.proofs.sharing.Owners.from_names.Given as goal
 
 -- whose the things are that the cores so far name
 abbrev pub invariant-loop-k : goal.invariant-loop-k

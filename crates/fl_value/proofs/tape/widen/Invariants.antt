@@ -1,5 +1,5 @@
 use Rattle.std.proofs.Common.{◌≡◌, ◌≤◌, ◌-◌, length, take}
-use Rattle.fl_value.proofs.tape.widened.Given as goal
+use Rattle.fl_value.proofs.tape.widen.Given as goal
 
 abbrev pub invariant-loop-index : goal.invariant-loop-index
 invariant-loop-index l = (l.index ≤ 64) × (take l.index l.numbers ≡ take l.index l.fn.bytes) × (length l.numbers ≡ 64)

@@ -1,7 +1,7 @@
 use Rattle.std.proofs.Common.{◌≡◌, List, ℕ, refl, sym, subst}
 use Rattle.fl_lines.specs.declared.command.Verb.TheVariants as verb
 use Rattle.fl_lines.specs.Reading.{command_by, line_with, read_line}
-use Rattle.fl_lines.proofs.reader.repeated.Goals as goal
+use Rattle.fl_lines.proofs.reader.read_repeated.Goals as goal
 
 pub returns-in-Some : goal.returns-in-Some
 returns-in-Some c = record { told = subst (λ (l : List ℕ). line_with (command_by verb.Call c.in-Some.rest.now) ≡ read_line l) (sym c.in-Some.ensures.told) refl }

@@ -4,7 +4,7 @@ use Rattle.std.proofs.lemmas.Result.{err_from_is_err_and}
 use Rattle.clap.specs.Words.{app_of}
 use Rattle.fl_words.specs.Words.{asked_by}
 use Rattle.fl_words.proofs.Asking.{words_ask, words_accepted, words_refused}
-use Rattle.fl_words.proofs.words.asked.Goals as goal
+use Rattle.fl_words.proofs.words.find_request.Goals as goal
 
 pub returns-in_err-matches-clause-refused : goal.returns-in_err-matches-clause-refused
 returns-in_err-matches-clause-refused g c =

@@ -1,7 +1,7 @@
 use Rattle.std.proofs.Common.{◌*◌, arith}
 use Rattle.fl_threads.specs.Shares.{NamesSide, NamesQueue}
 use Rattle.fl_threads.proofs.Owning.{one_core_more, all_cores, core_at}
-use Rattle.fl_threads.proofs.sharing.Owners.named.Goals as goal
+use Rattle.fl_threads.proofs.sharing.Owners.from_names.Goals as goal
 
 pub loop-k-preserved : goal.loop-k-preserved
 loop-k-preserved c = record {

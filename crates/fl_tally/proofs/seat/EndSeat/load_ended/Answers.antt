@@ -1,6 +1,6 @@
 use Rattle.std.proofs.Common.{rules, ◌≡◌, ◌+◌, ◌<◌, length, arith}
 use Rattle.fl_tally.proofs.Steps.{allows_look}
-use Rattle.fl_tally.proofs.seat.EndSeat.ended.Goals as goal
+use Rattle.fl_tally.proofs.seat.EndSeat.load_ended.Goals as goal
 
 pub load-requires : goal.load-requires
 load-requires c =
