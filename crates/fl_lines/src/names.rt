@@ -130,7 +130,7 @@ impl Names {
     }
 
     // An event that needs no name and gives none.
-    fn ask<'a>(&self, event: Event<'a>) -> Result<Asked<'a>, LineFault>
+    fn ask_event<'a>(&self, event: Event<'a>) -> Result<Asked<'a>, LineFault>
         ensures tells { Tells (names_of self.now) result (asks (event_of event.entry) (names_of self.now)) }
         ensures new { IfOk result (λ a. IsNew (names_of self.now) a.naming) }
     {
@@ -325,7 +325,7 @@ impl Names {
         ensures new { IfOk result (λ a. IsNew (names_of self.now) a.naming) }
     {
         match self.call_at(end, text, Vec::new(self.alloc)) {
-            Ok((end, call)) => self.ask(Event::Call(end, call)),
+            Ok((end, call)) => self.ask_event(Event::Call(end, call)),
             Err(fault) => Err(fault),
         }
     }
@@ -340,8 +340,8 @@ impl Names {
         ensures new { IfOk result (λ a. IsNew (names_of self.now) a.naming) }
     {
         match command {
-            Command::Cores(n) => self.ask(Event::SetCores(n)),
-            Command::Link { a, b, slots } => self.ask(Event::AddLink { a, b, slots }),
+            Command::Cores(n) => self.ask_event(Event::SetCores(n)),
+            Command::Link { a, b, slots } => self.ask_event(Event::AddLink { a, b, slots }),
             Command::Disp { name, core } => self.ask_disp(name, core),
             Command::Export {
                 name,
@@ -368,11 +368,14 @@ impl Names {
                 answer,
             } => self.ask_reply(end, message, answer),
             Command::MonitorWrite { core, neighbour } => {
-                self.ask(Event::MonitorWrite { core, neighbour })
+                self.ask_event(Event::MonitorWrite { core, neighbour })
             }
-            Command::Forward { core, neighbour } => self.ask(Event::Forward { core, neighbour }),
+            Command::Forward { core, neighbour } => self.ask_event(Event::Forward {
+                core,
+                neighbour,
+            }),
             Command::MonitorAck { core, neighbour } => {
-                self.ask(Event::MonitorAcknowledge { core, neighbour })
+                self.ask_event(Event::MonitorAcknowledge { core, neighbour })
             }
         }
     }

@@ -6,8 +6,8 @@ use Rattle.fl_lines.proofs.names.Names.ask_text.Goals as goal
 
 pub returns-in-Ok-clause-asks : goal.returns-in-Ok-clause-asks
 returns-in-Ok-clause-asks c =
-    asked_call (names_of c.args.self.now) (end_name_of c.args.end) c.args.text.now (rust.Call c.in-Ok.end c.in-Ok.call) c.ask.result
-    (rw c.in-Ok.is at c.call_at.ensures.tells) c.ask.ensures.tells
+    asked_call (names_of c.args.self.now) (end_name_of c.args.end) c.args.text.now (rust.Call c.in-Ok.end c.in-Ok.call) c.ask_event.result
+    (rw c.in-Ok.is at c.call_at.ensures.tells) c.ask_event.ensures.tells
 
 pub returns-in-Err-clause-asks : goal.returns-in-Err-clause-asks
 returns-in-Err-clause-asks c =
