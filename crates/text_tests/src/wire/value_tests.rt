@@ -201,7 +201,7 @@ fn is_printed(alloc: Global, values: &[Value], text: &[u8]) -> Result<bool, Valu
 }
 
 // The call of a text, read without an interface and then found in it.
-fn resolve(alloc: Global, interface: &Interface, text: &[u8]) -> Result<Call, ValueFault> {
+fn read_and_resolve(alloc: Global, interface: &Interface, text: &[u8]) -> Result<Call, ValueFault> {
     resolve(interface, read_call_text(alloc, text)?)
 }
 
@@ -246,7 +246,7 @@ impl Row for Printed {
 impl Row for Spelled {
     fn holds(&self, alloc: Global) -> Result<bool, Fail> {
         let types = interface(alloc, TYPES)?;
-        let call = resolve(alloc, &types, self.0)?;
+        let call = read_and_resolve(alloc, &types, self.0)?;
         Ok(is_printed(alloc, &call.args, self.1)?)
     }
 }
