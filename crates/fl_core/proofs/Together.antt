@@ -156,7 +156,7 @@ new_belongs s r program none alone sound = record { program = program; sound = s
 
 -- what stands at a place is of the end
 pub as_place : (s : TheEnd) (calls : List TheReassembly) (e : ℕ) (r : TheReassembly) → slice_get calls e ≡ Some r → Belongs r s → IsPlaceOf s calls e
-as_place s calls e r there of = subst (λ (o : Option TheReassembly). IsSomeAnd o (λ x. IsOf s x)) (sym there) (record { program = of.program; plain = of.sound.plain })
+as_place s calls e r there of = subst (λ (o : Option TheReassembly). IsSomeAnd o (λ x. IsOf s x)) (sym there) (record { program = of.program; are_bare = of.sound.are_bare })
 
 pub standing : (s : TheEnd) (o : Option TheReassembly) → IsSomeAnd o (λ x. IsOf s x) → (r : TheReassembly) × (o ≡ Some r)
 standing s None h = absurd h

@@ -419,7 +419,7 @@ reads_more x f c s h sound bare_is are =
     let split : x.got ++ f ∷ [] ≡ h.reads.whole ++ (s.parts ++ f ∷ [])
     = ap (λ (fs : List Frag). fs ++ f ∷ []) h.reads.joined ∙ append_assoc h.reads.whole s.parts (f ∷ []) in
     let bare_all : map bare (s.parts ++ f ∷ []) ≡ s.parts ++ f ∷ []
-    = map-append bare s.parts (f ∷ []) ∙ ap (λ (fs : List Frag). fs ++ bare f ∷ []) sound.plain ∙ ap (λ (g : Frag). s.parts ++ g ∷ []) bare_is in
+    = map-append bare s.parts (f ∷ []) ∙ ap (λ (fs : List Frag). fs ++ bare f ∷ []) sound.are_bare ∙ ap (λ (g : Frag). s.parts ++ g ∷ []) bare_is in
     record {
       whole = x.got ++ f ∷ [];
       joined = sym (append-nil (x.got ++ f ∷ []));

@@ -101,13 +101,13 @@ handled_program s c (Err (Wire fault)) t h = absurd h
 are_whole : (s : TheEnd) (r : TheReassembly) (f : Frag) (c : TheCall) → OneReading → interface_words_fit (interface_in s) ≡ true → IsOf s r → bare f ≡ f → AreWhole r (r.parts ++ f ∷ []) c
     → AreCall (with_parts s r.parts) (r.parts ++ f ∷ []) c
 are_whole s r f c law words of is whole =
-    are_call (with_parts s r.parts) f c law words of.plain is
+    are_call (with_parts s r.parts) f c law words of.are_bare is
     (subst (λ (p : TheProgram). fits_of p.interface c ≡ true) of.program whole.fits)
     (subst (λ (p : TheProgram). Means p.plan p.interface (r.parts ++ f ∷ []) c 0) of.program whole.means)
 
--- an end of the same program has the place, where its fragments are plain
+-- an end of the same program has the place, where its fragments are bare
 still_of : (s t : TheEnd) (r : TheReassembly) (parts : List Frag) → t.program ≡ s.program → IsOf s r → map bare parts ≡ parts → IsOf t (record { program = r.program; parts = parts })
-still_of s t r parts same of plain = record { program = of.program ∙ ap (λ (p : Program). program_of p) (sym same); plain = plain }
+still_of s t r parts same of are_bare = record { program = of.program ∙ ap (λ (p : Program). program_of p) (sym same); are_bare = are_bare }
 
 -- ---- the place of an end
 
@@ -153,7 +153,7 @@ module _ (s : TheEnd) (calls : List TheReassembly) (place : ℕ) (known : IsPlac
         → TakesInAt (taking s f (Err (Wire fault)) t) calls place after
     refused_at fault t t_is h = changes_as (λ a b. Takes a f (Err (refused.Wire fault)) b) (TakesInWith (taking s f (Err (Wire fault)) t)) after
         (λ was is of e. takes_same (Err (Wire fault)) t was is e.1 (record {
-          of = still_of s t was was.parts (ap (λ (x : TheEnd). x.program) t_is) of of.plain;
+          of = still_of s t was was.parts (ap (λ (x : TheEnd). x.program) t_is) of of.are_bare;
           program = refl;
           takes_in = (subst (λ (p : TheProgram). IsRefused p.plan p.interface was.parts f fault) of.program e.0, ap (λ (x : TheEnd). with_parts x was.parts) t_is);
         })) h
@@ -163,7 +163,7 @@ module _ (s : TheEnd) (calls : List TheReassembly) (place : ℕ) (known : IsPlac
         (λ was is of e.
         let is_more : is ≡ record { program = was.program; parts = was.parts ++ f ∷ [] } = e.1 ∙ ap (λ (x : Frag). let r : TheReassembly = record { program = was.program; parts = was.parts ++ x ∷ [] } in r) bare_is in
         subst (λ (x : TheReassembly). TakesInWith (taking s f (Ok Part) s) was x) (sym is_more) (record {
-          of = still_of s s was (was.parts ++ f ∷ []) refl of (bare_more was.parts f of.plain bare_is);
+          of = still_of s s was (was.parts ++ f ∷ []) refl of (bare_more was.parts f of.are_bare bare_is);
           program = refl;
           takes_in = (subst (λ (p : TheProgram). IsPart p.plan p.interface (was.parts ++ f ∷ [])) of.program e.0, refl);
         })) h
@@ -181,7 +181,7 @@ module _ (s : TheEnd) (calls : List TheReassembly) (place : ℕ) (known : IsPlac
           → TakesInAt (taking s f (Err fault) t) calls place after
       whole_refused call h fault t handles = changes_as (λ a b. Takes a f (Ok (taken.Whole call)) b) (TakesInWith (taking s f (Err fault) t)) after
           (λ was is of e. takes_same (Err fault) t was is e.1 (record {
-            of = still_of s t was was.parts (handled_program s (call_of call) (Err fault) t handles) of of.plain;
+            of = still_of s t was was.parts (handled_program s (call_of call) (Err fault) t handles) of of.are_bare;
             program = refl;
             takes_in = handled_in (with_parts s was.parts) f (call_of call) (Err fault) (with_parts t was.parts) (are_whole s was f (call_of call) law words of bare_is e.0) (refused_with s was.parts (call_of call) fault t handles);
           })) h

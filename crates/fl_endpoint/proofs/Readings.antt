@@ -88,7 +88,7 @@ take_twice (suc m) (suc n) (x ∷ xs) h = ap (λ (ys : List Frag). x ∷ ys) (ta
 -- part of a call is shorter than the call with which it begins
 pub part_short : (p : TheProgram) (parts more y : List Frag) (c : TheCall) → NoneBeginsWithAnother → interface_words_fit p.interface ≡ true → Fits p c
     → map bare parts ≡ parts → IsPart p.plan p.interface parts → parts ++ more ≡ frags p c ++ y → length parts < many p c
-part_short p parts more y c law words fc plain part e = ⊎_elim
+part_short p parts more y c law words fc are_bare part e = ⊎_elim
     (λ (h : length parts < many p c). h)
     (λ (h : many p c ≤ length parts).
     let d = part.call in
@@ -97,7 +97,7 @@ part_short p parts more y c law words fc plain part e = ⊎_elim
     let less = part.short in
     let in_parts : take (many p c) parts ≡ frags p c
     = sym (take-append-le (many p c) parts more h) ∙ ap (take (many p c)) e ∙ prefix p c y in
-    let parts_are : parts ≡ take (length parts) (frags p d) = sym plain ∙ part.prefix in
+    let parts_are : parts ≡ take (length parts) (frags p d) = sym are_bare ∙ part.prefix in
     let in_other : take (many p c) (take (length parts) (frags p d)) ≡ take (many p c) (frags p d)
     = take_twice (many p c) (length parts) (frags p d) h in
     let same : c ≡ d = law p.plan p.interface c d words fc part.fits (omega (arith, h, less))
@@ -113,10 +113,10 @@ some_frags p c = omega arith
 pub rest_short : (p : TheProgram) (parts more : List Frag) (left : List TheCall) (c : TheCall) (rest : List TheCall) → NoneBeginsWithAnother → interface_words_fit p.interface ≡ true
     → AllFit p.interface left → map bare parts ≡ parts → (parts ≡ []) ⊎ IsPart p.plan p.interface parts → parts ++ more ≡ stream p 0 left → left ≡ c ∷ rest
     → length parts < many p c
-rest_short p parts more left c rest law words fit plain goes e is = ⊎_elim
+rest_short p parts more left c rest law words fit are_bare goes e is = ⊎_elim
     (λ (none : parts ≡ []). let zero : length parts ≡ 0 = ap length none in let some = some_frags p c in omega (arith, zero, some))
     (λ (part : IsPart p.plan p.interface parts).
-    part_short p parts more (stream p 0 rest) c law words (All-head (Fits p) c rest (subst (λ (cs : List TheCall). AllFit p.interface cs) is fit)) plain part
+    part_short p parts more (stream p 0 rest) c law words (All-head (Fits p) c rest (subst (λ (cs : List TheCall). AllFit p.interface cs) is fit)) are_bare part
     (e ∙ ap (stream p 0) is))
     goes
 
@@ -127,16 +127,16 @@ pub takes_next : (s : TheEnd) (f : Frag) (more : List Frag) (left : List TheCall
 takes_next s f more left law sound is fit e =
     let p = program_of s.program in
     let apart : (s.parts ++ f ∷ []) ++ more ≡ stream p 0 left = append_assoc s.parts (f ∷ []) more ∙ e in
-    let plain : map bare (s.parts ++ f ∷ []) ≡ s.parts ++ f ∷ [] = bare_more s.parts f sound.plain is in
+    let are_bare : map bare (s.parts ++ f ∷ []) ≡ s.parts ++ f ∷ [] = bare_more s.parts f sound.are_bare is in
     record {
-      no_fault = λ fault refused. refused.wrong left more fit (sym apart ∙ ap (λ (xs : List Frag). xs ++ more) (sym plain));
+      no_fault = λ fault refused. refused.wrong left more fit (sym apart ∙ ap (λ (xs : List Frag). xs ++ more) (sym are_bare));
       handled_is = λ c are.
           let one : AllFit p.interface (c ∷ []) = one_fits p c are.fits in
           let s2 = split p (c ∷ []) left more law sound.words one fit
           (ap (λ (xs : List Frag). xs ++ more) (append_nil (frags p c) ∙ sym are.mean) ∙ apart) in
           (s2.left, s2.calls_are, s2.rest_is);
       part_is = λ c rest part first.
-          rest_short p (s.parts ++ f ∷ []) more left c rest law sound.words fit plain (inr part) apart first;
+          rest_short p (s.parts ++ f ∷ []) more left c rest law sound.words fit are_bare (inr part) apart first;
     }
   where
     one_fits : (p : TheProgram) (c : TheCall) → Fits p c → AllFit p.interface (c ∷ [])

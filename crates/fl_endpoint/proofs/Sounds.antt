@@ -61,7 +61,7 @@ sound_call s c sound bound fits few =
       unbound = λ e. none_is_not s.circuit bound e;
       sends = record { calls = q.calls; fit = q.all; number = q.number; left = q.left; few = q.few few };
       part = sound.part;
-      plain = sound.plain;
+      are_bare = sound.are_bare;
     }
 
 pub sound_written : (s : TheEnd) (f : Frag) (rest : List Frag) → Sound s → IsSome s.circuit → s.outgoing.unwritten ≡ f ∷ rest → Sound (with_written s rest)
@@ -75,7 +75,7 @@ sound_written s f rest sound bound e =
       unbound = λ e. none_is_not s.circuit bound e;
       sends = record { calls = w.calls; fit = w.all; number = w.number; left = w.left; few = omega (arith, w.few, sound.sends.few) };
       part = sound.part;
-      plain = sound.plain;
+      are_bare = sound.are_bare;
     }
 
 -- ---- an end that is made, and one that is bound
@@ -101,7 +101,7 @@ sound_fresh program within words = record {
   unbound = λ e. record { outgoing = refl; parts = refl; failed = refl };
   sends = record { calls = []; fit = All-nil (Fits (fresh program None)); number = 0; left = refl; few = omega arith };
   part = inl refl;
-  plain = refl;
+  are_bare = refl;
 }
 
 bound_now : (o : Option ℕ) (s : TheEnd) (circuit : ℕ) → s.circuit ≡ o → circuit < 2 ^ 16 → Sound s → Sound (bound_by o circuit s)
@@ -116,7 +116,7 @@ bound_now None s circuit is small sound =
       unbound = λ e. absurd cc;
       sends = record { calls = []; fit = All-nil (Fits (record s { circuit = Some circuit })); number = 0; left = idle.outgoing; few = subst (λ (o : TheOutgoing). length o.waiting ≤ 16) (sym idle.outgoing) (omega arith) };
       part = inl idle.parts;
-      plain = sound.plain;
+      are_bare = sound.are_bare;
     }
 
 pub sound_bound : (s : TheEnd) (circuit : ℕ) → circuit < 2 ^ 16 → Sound s → Sound (bound s circuit)
@@ -133,7 +133,7 @@ sound_failed s bound sound = record {
   unbound = λ e. none_is_not s.circuit bound e;
   sends = record { calls = sound.sends.calls; fit = sound.sends.fit; number = sound.sends.number; left = sound.sends.left; few = sound.sends.few };
   part = sound.part;
-  plain = sound.plain;
+  are_bare = sound.are_bare;
 }
 
 pub bare_more : (parts : List Frag) (f : Frag) → map bare parts ≡ parts → bare f ≡ f → map bare (parts ++ f ∷ []) ≡ parts ++ f ∷ []
@@ -148,7 +148,7 @@ sound_part s f bound is part sound = record {
   unbound = λ e. none_is_not s.circuit bound e;
   sends = record { calls = sound.sends.calls; fit = sound.sends.fit; number = sound.sends.number; left = sound.sends.left; few = sound.sends.few };
   part = inr part;
-  plain = bare_more s.parts f sound.plain is;
+  are_bare = bare_more s.parts f sound.are_bare is;
 }
 
 -- with nothing taken since the last whole call
@@ -164,7 +164,7 @@ sound_emptied s bound sound = record {
   unbound = λ e. none_is_not s.circuit bound e;
   sends = record { calls = sound.sends.calls; fit = sound.sends.fit; number = sound.sends.number; left = sound.sends.left; few = sound.sends.few };
   part = inl refl;
-  plain = refl;
+  are_bare = refl;
 }
 
 -- ---- replies by rule
@@ -245,7 +245,7 @@ sound_ruled s rules are sound = record {
   unbound = λ e. let idle = sound.unbound e in record { outgoing = idle.outgoing; parts = idle.parts; failed = idle.failed };
   sends = record { calls = sound.sends.calls; fit = sound.sends.fit; number = sound.sends.number; left = sound.sends.left; few = sound.sends.few };
   part = sound.part;
-  plain = sound.plain;
+  are_bare = sound.are_bare;
 }
 
 -- the rules of another end of the same interface
@@ -262,8 +262,8 @@ sound_rule s msg reply new sound =
 -- fragments that mean a call mean no other
 pub are_call : (s : TheEnd) (f : Frag) (c : TheCall) → OneReading → interface_words_fit (interface_in s) ≡ true → map bare s.parts ≡ s.parts → bare f ≡ f → fits_of (interface_in s) c ≡ true
     → map bare (s.parts ++ f ∷ []) ≡ frags_of (plan_in s) (interface_in s) c → AreCall s (s.parts ++ f ∷ []) c
-are_call s f c law words plain is fits means =
-    let mean : s.parts ++ f ∷ [] ≡ frags_of (plan_in s) (interface_in s) c = sym (bare_more s.parts f plain is) ∙ means in
+are_call s f c law words are_bare is fits means =
+    let mean : s.parts ++ f ∷ [] ≡ frags_of (plan_in s) (interface_in s) c = sym (bare_more s.parts f are_bare is) ∙ means in
     let one : (d : TheCall) → fits_of (interface_in s) d ≡ true → AllFit (interface_in s) (d ∷ []) = λ d h. All-cons (Fits s) d [] h (All-nil (Fits s)) in
     record {
       fits = fits;

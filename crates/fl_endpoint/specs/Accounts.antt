@@ -60,7 +60,7 @@ pub record Sound (s : TheEnd) : Type 0 where
   pub sends : Sends s
   pub part : GoesOn s
   -- without epochs and counts told
-  pub plain : map bare s.parts ≡ s.parts
+  pub are_bare : map bare s.parts ≡ s.parts
 
 -- ---- accounts
 

@@ -13,7 +13,7 @@ use Rattle.fl_base.specs.Control.{bare}
 -- what stands at a place is of the end's program, and without epochs and counts told
 pub record IsOf (s : TheEnd) (r : TheReassembly) : Type 0 where
   pub program : program_of r.program ≡ program_of s.program
-  pub plain : map bare r.parts ≡ r.parts
+  pub are_bare : map bare r.parts ≡ r.parts
 
 -- such a place is there
 abbrev pub IsPlaceOf : TheEnd → List TheReassembly → ℕ → Type 0

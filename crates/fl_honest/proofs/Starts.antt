@@ -75,7 +75,7 @@ fresh_sound x sound = record {
   unbound = λ e. record { outgoing = refl; parts = refl; failed = refl };
   sends = record { calls = []; fit = All-nil (λ (c : TheCall). fits_of (interface_in x) c ≡ true); number = 0; left = refl; few = omega arith };
   part = inl refl;
-  plain = refl;
+  are_bare = refl;
 }
 
 pub since_new : (d : Traffic) (x y : TheEnd) → x.outgoing ≡ nothing_to_send → x.parts ≡ [] → EndGoes d x y → Sound y → SinceMade d y

@@ -45,7 +45,7 @@ circuit_is false msg circuit m k = omega (arith, m, k)
 carried_control : (words : List ℕ) (first : Bool) (msg circuit : ℕ) → msg < 2 ^ 16 → circuit < 2 ^ 16
     → IsCarried (record { words = words; control = control_word first msg circuit })
 carried_control words first msg circuit m k = record {
-  plain = ap (λ (w : ℕ). record { words = words; control = w }) (body_is first msg circuit m k);
+  is_bare = ap (λ (w : ℕ). record { words = words; control = w }) (body_is first msg circuit m k);
   no_ack = data_control words first msg circuit;
 }
 
@@ -88,7 +88,7 @@ said_frags m k w =
 
 pub is_said : Known → (m : Said) → HasWidths (message_of m) → IsSaid m
 is_said k m w =
-    let plain : bare (said_frag m) ≡ said_frag m = (said_carried m).plain in
+    let plain : bare (said_frag m) ≡ said_frag m = (said_carried m).is_bare in
     let frags_are : frags_of One intermon (call_for (message_of m)) ≡ said_frag m ∷ [] = said_frags m k w in
     let first : Says (said_frag m) (message_of m) = k.written (said_frag m) (message_of m) w (sym frags_are) in
     let read : (f : Frag) → bare f ≡ said_frag m → Says f (message_of m) = λ f e. k.same (said_frag m) f (message_of m) (e ∙ sym plain) first in

@@ -22,7 +22,7 @@ use Rattle.fl_shows.specs.Rings.{which_of, RingShows}
 
 -- a link carries it unchanged, and takes it for no acknowledgement
 pub record IsCarried (f : Frag) : Type 0 where
-  pub plain : bare f ≡ f
+  pub is_bare : bare f ≡ f
   pub no_ack : is_ack_only f ≡ false
 
 abbrev pub AllCarried : Streams → Type 0

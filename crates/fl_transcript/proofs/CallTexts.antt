@@ -10,7 +10,7 @@ use Rattle.std.specs.Str.Parse.{digits_value}
 use Rattle.fl_lex.specs.Words.{is_digit, is_word_byte, is_name}
 use Rattle.fl_lex.proofs.Classes.{both}
 use Rattle.fl_value.specs.Value.{Datum, number, string, elements, fields, Data, nothing_more, also, data_from}
-use Rattle.fl_value.specs.CallText.{is_blank, is_mark, is_plain, is_close, Blanks, Digits, TextByte, itself, quote, backslash, coded, TextBytes, Closed, Token, a_number, a_text, a_mark, StopsAt, SpellsValue, SpellsCall, Listed, Enclosed, depth_of, greatest_depth}
+use Rattle.fl_value.specs.CallText.{is_blank, is_mark, is_literal, is_close, Blanks, Digits, TextByte, itself, quote, backslash, coded, TextBytes, Closed, Token, a_number, a_text, a_mark, StopsAt, SpellsValue, SpellsCall, Listed, Enclosed, depth_of, greatest_depth}
 use Rattle.fl_value.proofs.Scan.{run_once, run_passes, run_stops, counted, digits_count, blank_none}
 use Rattle.fl_value.proofs.Once.{head_of, tail_of, not_that, differ, token_shorter}
 use Rattle.fl_value.proofs.Reading.{minus_found, plain_found, minus_none, plain_none, mark_none, text_found, text_unopened, text_unclosed}
@@ -106,9 +106,9 @@ empty_closed b rest (quote p e) = absurd (cc)
 empty_closed b rest (backslash p e) = absurd (cc)
 empty_closed b rest (coded high low h l v e) = absurd (cc)
 
--- neither a plain byte nor a backslash
-odd_closed : (c : ℕ) (a : List ℕ) → is_plain c ≡ false → (c == 92) ≡ false → Closed (c ∷ a)
-odd_closed c a odd other b rest (itself p e) = not_that is_plain b c p (head_of b c rest a (sym e)) odd
+-- neither a byte that stands for itself nor a backslash
+odd_closed : (c : ℕ) (a : List ℕ) → is_literal c ≡ false → (c == 92) ≡ false → Closed (c ∷ a)
+odd_closed c a odd other b rest (itself p e) = not_that is_literal b c p (head_of b c rest a (sym e)) odd
 odd_closed c a odd other b rest (quote p e) = differ c 92 other (head_of c 92 a _ e)
 odd_closed c a odd other b rest (backslash p e) = differ c 92 other (head_of c 92 a _ e)
 odd_closed c a odd other b rest (coded high low h l v e) = differ c 92 other (head_of c 92 a _ e)
@@ -116,7 +116,7 @@ odd_closed c a odd other b rest (coded high low h l v e) = differ c 92 other (he
 -- a backslash, and nothing that it may stand before
 backslash_closed : (a : List ℕ) → ((x : List ℕ) → a ≡ 34 ∷ x → ⊥) → ((x : List ℕ) → a ≡ 92 ∷ x → ⊥)
     → ((high low : ℕ) (x : List ℕ) → digit_value high < 16 → digit_value low < 16 → a ≡ 120 ∷ high ∷ low ∷ x → ⊥) → Closed (92 ∷ a)
-backslash_closed a q s h b rest (itself p e) = not_that is_plain b 92 p (head_of b 92 rest a (sym e)) refl
+backslash_closed a q s h b rest (itself p e) = not_that is_literal b 92 p (head_of b 92 rest a (sym e)) refl
 backslash_closed a q s h b rest (quote p e) = q rest (tail_of 92 92 a _ e)
 backslash_closed a q s h b rest (backslash p e) = s rest (tail_of 92 92 a _ e)
 backslash_closed a q s h b rest (coded high low g l v e) = h high low rest g l (tail_of 92 92 a _ e)
@@ -155,17 +155,17 @@ escaped a (inr q) (inr s) (inl (high, low, x, g, l, e)) =
     inl (_, x, coded high low g l refl (ap (λ (z : List ℕ). 92 ∷ z) e), let n = ap (λ (z : List ℕ). length z) e in omega (arith, n))
 escaped a (inr q) (inr s) (inr h) = inr (backslash_closed a q s h)
 
-slashed : (c : ℕ) (a : List ℕ) (t : Bool) → is_plain c ≡ false → (c == 92) ≡ t → ByteAt (c ∷ a)
+slashed : (c : ℕ) (a : List ℕ) (t : Bool) → is_literal c ≡ false → (c == 92) ≡ t → ByteAt (c ∷ a)
 slashed c a true odd e = subst (λ z. ByteAt (z ∷ a)) (sym (eqb-true c 92 e)) (escaped a (headed 34 a) (headed 92 a) (hex_at a))
 slashed c a false odd e = inr (odd_closed c a odd e)
 
-byte_by : (c : ℕ) (a : List ℕ) (t : Bool) → is_plain c ≡ t → ByteAt (c ∷ a)
+byte_by : (c : ℕ) (a : List ℕ) (t : Bool) → is_literal c ≡ t → ByteAt (c ∷ a)
 byte_by c a true e = inl (c, a, itself e refl, omega arith)
 byte_by c a false e = slashed c a (c == 92) e refl
 
 byte_at : (a : List ℕ) → ByteAt a
 byte_at [] = inr empty_closed
-byte_at (c ∷ a) = byte_by c a (is_plain c) refl
+byte_at (c ∷ a) = byte_by c a (is_literal c) refl
 
 abbrev pub BytesAt : List ℕ → Type 0
 BytesAt a = (s : List ℕ) × (last : List ℕ) × TextBytes s a last × Closed last

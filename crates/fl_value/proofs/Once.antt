@@ -8,7 +8,7 @@ use Rattle.std.specs.Cmp.{first_so, second_so}
 use Rattle.std.specs.List.{list_all}
 use Rattle.std.specs.Char.{digit_value}
 use Rattle.fl_lex.specs.Words.{is_digit}
-use Rattle.fl_value.specs.CallText.{is_blank, is_mark, is_plain, Blanks, Digits, Number, plain, minus, TextByte, itself, quote, backslash, coded, TextBytes, Closed, Token, TokenAt, TheToken, a_number, a_text, a_mark, StopsAt}
+use Rattle.fl_value.specs.CallText.{is_blank, is_mark, is_literal, Blanks, Digits, Number, unsigned, minus, TextByte, itself, quote, backslash, coded, TextBytes, Closed, Token, TokenAt, TheToken, a_number, a_text, a_mark, StopsAt}
 use Rattle.fl_value.proofs.Scan.{run_once, digits_once}
 
 pub head_of : (x y : ℕ) (xs ys : List ℕ) → x ∷ xs ≡ y ∷ ys → x ≡ y
@@ -24,8 +24,8 @@ not_that p b c passes same fails = false≢true (sym fails ∙ ap p (sym same) �
 pub differ : (m n : ℕ) → eqb m n ≡ false → m ≡ n → ⊥
 differ m n fails same = false≢true (sym fails ∙ eq-eqb m n same)
 
-plain_alone : (b c d : ℕ) (a x y : List ℕ) → is_plain b ≡ true → a ≡ b ∷ x → a ≡ 92 ∷ y → ⊥
-plain_alone b c d a x y p e f = not_that is_plain b 92 p (head_of b 92 x y (sym e ∙ f)) refl
+literal_alone : (b c d : ℕ) (a x y : List ℕ) → is_literal b ≡ true → a ≡ b ∷ x → a ≡ 92 ∷ y → ⊥
+literal_alone b c d a x y p e f = not_that is_literal b 92 p (head_of b 92 x y (sym e ∙ f)) refl
 
 seconds : (a : List ℕ) (c d : ℕ) (x y : List ℕ) → a ≡ 92 ∷ c ∷ x → a ≡ 92 ∷ d ∷ y → c ≡ d
 seconds a c d x y e f = head_of c d x y (tail_of 92 92 (c ∷ x) (d ∷ y) (sym e ∙ f))
@@ -36,18 +36,18 @@ thirds a c d x y e f = tail_of c d x y (tail_of 92 92 (c ∷ x) (d ∷ y) (sym e
 -- a byte of a text is told by the bytes there
 pub byte_once : (b c : ℕ) (a x y : List ℕ) → TextByte b a x → TextByte c a y → (b ≡ c) × (x ≡ y)
 byte_once b c a x y (itself p e) (itself q f) = (head_of b c x y (sym e ∙ f), tail_of b c x y (sym e ∙ f))
-byte_once b c a x y (itself p e) (quote q f) = absurd (plain_alone b 0 0 a x _ p e f)
-byte_once b c a x y (itself p e) (backslash q f) = absurd (plain_alone b 0 0 a x _ p e f)
-byte_once b c a x y (itself p e) (coded h l hh ll v f) = absurd (plain_alone b 0 0 a x _ p e f)
-byte_once b c a x y (quote p e) (itself q f) = absurd (plain_alone c 0 0 a y _ q f e)
+byte_once b c a x y (itself p e) (quote q f) = absurd (literal_alone b 0 0 a x _ p e f)
+byte_once b c a x y (itself p e) (backslash q f) = absurd (literal_alone b 0 0 a x _ p e f)
+byte_once b c a x y (itself p e) (coded h l hh ll v f) = absurd (literal_alone b 0 0 a x _ p e f)
+byte_once b c a x y (quote p e) (itself q f) = absurd (literal_alone c 0 0 a y _ q f e)
 byte_once b c a x y (quote p e) (quote q f) = (p ∙ sym q, thirds a 34 34 x y e f)
 byte_once b c a x y (quote p e) (backslash q f) = absurd (differ 34 92 refl (seconds a 34 92 x y e f))
 byte_once b c a x y (quote p e) (coded h l hh ll v f) = absurd (differ 34 120 refl (seconds a 34 120 x _ e f))
-byte_once b c a x y (backslash p e) (itself q f) = absurd (plain_alone c 0 0 a y _ q f e)
+byte_once b c a x y (backslash p e) (itself q f) = absurd (literal_alone c 0 0 a y _ q f e)
 byte_once b c a x y (backslash p e) (quote q f) = absurd (differ 92 34 refl (seconds a 92 34 x y e f))
 byte_once b c a x y (backslash p e) (backslash q f) = (p ∙ sym q, thirds a 92 92 x y e f)
 byte_once b c a x y (backslash p e) (coded h l hh ll v f) = absurd (differ 92 120 refl (seconds a 92 120 x _ e f))
-byte_once b c a x y (coded h l hh ll v e) (itself q f) = absurd (plain_alone c 0 0 a y _ q f e)
+byte_once b c a x y (coded h l hh ll v e) (itself q f) = absurd (literal_alone c 0 0 a y _ q f e)
 byte_once b c a x y (coded h l hh ll v e) (quote q f) = absurd (differ 120 34 refl (seconds a 120 34 _ y e f))
 byte_once b c a x y (coded h l hh ll v e) (backslash q f) = absurd (differ 120 92 refl (seconds a 120 92 _ y e f))
 byte_once b c a x y (coded h l hh ll v e) (coded g k gg kk w f) =
@@ -59,7 +59,7 @@ byte_once b c a x y (coded h l hh ll v e) (coded g k gg kk w f) =
 
 -- no byte of a text stands at its closing quote
 pub quote_closes : (x : List ℕ) → Closed (34 ∷ x)
-quote_closes x b rest (itself p e) = not_that is_plain b 34 p (head_of b 34 rest x (sym e)) refl
+quote_closes x b rest (itself p e) = not_that is_literal b 34 p (head_of b 34 rest x (sym e)) refl
 quote_closes x b rest (quote p e) = differ 34 92 refl (head_of 34 92 x _ e)
 quote_closes x b rest (backslash p e) = differ 34 92 refl (head_of 34 92 x _ e)
 quote_closes x b rest (coded h l hh ll v e) = differ 34 92 refl (head_of 34 92 x _ e)
@@ -115,7 +115,7 @@ digits_begin n bytes rest [] all some e = absurd (omega arith)
 digits_begin n bytes rest (d ∷ ds) all some e = (d, ds ++ rest, e, first_so (is_digit d) (list_all is_digit ds) all)
 
 number_begins : (z : ℤ) (bytes rest : List ℕ) → Number z bytes rest → Begins (a_number z) bytes
-number_begins z bytes rest (plain n e d) =
+number_begins z bytes rest (unsigned n e d) =
     let (b, more, split, one) = digits_begin n bytes rest d.digits d.all d.some d.split in
     record { first = b; more = more; split = split; kind = inl (digit_range b one); dark = not_blank is_digit b refl refl one }
 number_begins z bytes rest (minus n digits e split d) = record { first = 45; more = digits; split = split; kind = inr refl; dark = refl }
@@ -126,13 +126,13 @@ token_begins (a_text s) bytes rest h = record { first = 34; more = h.0; split = 
 token_begins (a_mark m) bytes rest h = record { first = m; more = rest; split = h.1; kind = (refl, h.0); dark = not_blank is_mark m refl refl h.0 }
 
 pub number_once : (z w : ℤ) (a x y : List ℕ) → Number z a x → Number w a y → (z ≡ w) × (x ≡ y)
-number_once z w a x y (plain n e d) (plain m f g) =
+number_once z w a x y (unsigned n e d) (unsigned m f g) =
     let r = digits_once a n m x y d g in
     (e ∙ ap pos r.0 ∙ sym f, r.1)
-number_once z w a x y (plain n e d) (minus m digits f split g) =
+number_once z w a x y (unsigned n e d) (minus m digits f split g) =
     let (b, more, at, one) = digits_begin n a x d.digits d.all d.some d.split in
     absurd (not_that is_digit b 45 one (head_of b 45 more digits (sym at ∙ split)) refl)
-number_once z w a x y (minus n digits e split d) (plain m f g) =
+number_once z w a x y (minus n digits e split d) (unsigned m f g) =
     let (b, more, at, one) = digits_begin m a y g.digits g.all g.some g.split in
     absurd (not_that is_digit b 45 one (head_of b 45 more digits (sym at ∙ split)) refl)
 number_once z w a x y (minus n digits e split d) (minus m others f at g) =
@@ -202,7 +202,7 @@ digits_shorter : (n : ℕ) (a x : List ℕ) → Digits n a x → length x < leng
 digits_shorter n a x d = omega (arith, ap length d.split, length-append d.digits x, d.some)
 
 number_shorter : (z : ℤ) (a x : List ℕ) → Number z a x → length x < length a
-number_shorter z a x (plain n e d) = digits_shorter n a x d
+number_shorter z a x (unsigned n e d) = digits_shorter n a x d
 number_shorter z a x (minus n digits e split d) = omega (arith, ap length split, digits_shorter n digits x d)
 
 at_shorter : (t : TheToken) (a x : List ℕ) → TokenAt t a x → length x < length a

@@ -13,7 +13,7 @@ use Rattle.std.specs.List.{flat_map, list_all}
 use Rattle.fl_value.specs.Value.{Datum, number, string, elements, fields, Data, nothing_more, also, data_from}
 use Rattle.fl_value.specs.Printed.{printed_byte, printed_text, printed_value, printed_values, printed_more, printed_call, is_short, is_printable, are_printable}
 use Rattle.fl_lex.specs.Words.{is_digit, is_name}
-use Rattle.fl_value.specs.CallText.{is_plain, StopsAt, Digits, Number, plain, minus, TextByte, itself, quote, backslash, coded, TextBytes, TokenAt, Token, TheToken, a_number, a_text, a_mark, SpellsValue, SpellsValues, SpellsMore, SpellsCall, greatest_depth}
+use Rattle.fl_value.specs.CallText.{is_literal, StopsAt, Digits, Number, unsigned, minus, TextByte, itself, quote, backslash, coded, TextBytes, TokenAt, Token, TheToken, a_number, a_text, a_mark, SpellsValue, SpellsValues, SpellsMore, SpellsCall, greatest_depth}
 use Rattle.fl_value.proofs.Scan.{blank_none}
 
 -- the values from an index on, as they stand after those before
@@ -45,7 +45,7 @@ decimal_digits n rest small stops =
     }
 
 printed_number : (z : ℤ) (rest : List ℕ) → is_short z ≡ true → StopsAt is_digit rest → Number z (signed_decimal z ++ rest) rest
-printed_number (pos n) rest short stops = plain n refl (decimal_digits n rest (ltb-true n (10 ^ 20) short) stops)
+printed_number (pos n) rest short stops = unsigned n refl (decimal_digits n rest (ltb-true n (10 ^ 20) short) stops)
 printed_number (negsuc n) rest short stops = minus (suc n) (decimal (suc n) ++ rest) refl refl (decimal_digits (suc n) rest (omega (arith, ltb-true (n + 1) (10 ^ 20) short)) stops)
 
 -- texts
@@ -58,8 +58,8 @@ printed_code b x h =
     let low = hex_reads (b % 16) (omega arith) in
     coded (digit_char (b / 16)) (digit_char (b % 16)) (omega (arith, high)) (omega (arith, low)) (omega (arith, high, low)) refl
 
-plain_byte : (b : ℕ) → eqb b 34 ≡ false → eqb b 92 ≡ false → (leb 32 b && leb b 126) ≡ true → is_plain b ≡ true
-plain_byte b no_quote no_backslash here =
+literal_byte : (b : ℕ) → eqb b 34 ≡ false → eqb b 92 ≡ false → (leb 32 b && leb b 126) ≡ true → is_literal b ≡ true
+literal_byte b no_quote no_backslash here =
     let from : leb 32 b ≡ true = first_so (leb 32 b) (leb b 126) here in
     ap (λ t. t && not (eqb b 34) && not (eqb b 92)) from ∙ ap (λ t. not t && not (eqb b 92)) no_quote ∙ ap not no_backslash
 
@@ -67,7 +67,7 @@ byte_reads : (b : ℕ) (x : List ℕ) (v w u : Bool) → eqb b 34 ≡ v → eqb 
     → TextByte b ((cond v (92 ∷ 34 ∷ []) (cond w (92 ∷ 92 ∷ []) (cond u (b ∷ []) (92 ∷ 120 ∷ digit_char (b / 16) ∷ digit_char (b % 16) ∷ [])))) ++ x) x
 byte_reads b x true w u e f g h = quote (eqb-true b 34 e) refl
 byte_reads b x false true u e f g h = backslash (eqb-true b 92 f) refl
-byte_reads b x false false true e f g h = itself (plain_byte b e f g) refl
+byte_reads b x false false true e f g h = itself (literal_byte b e f g) refl
 byte_reads b x false false false e f g h = printed_code b x h
 
 printed_byte_reads : (b : ℕ) (x : List ℕ) → b < 256 → TextByte b (printed_byte b ++ x) x

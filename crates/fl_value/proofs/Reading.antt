@@ -6,7 +6,7 @@ use Rattle.std.proofs.Common.{length-drop}
 use Rattle.std.specs.List.{prefix_len}
 use Rattle.std.specs.Str.Parse.{digits_value}
 use Rattle.fl_lex.specs.Words.{is_digit}
-use Rattle.fl_value.specs.CallText.{is_blank, without_blanks, Blanks, Digits, Number, plain, minus, TextBytes, Closed, Token, TokenAt, TheToken, a_number, a_text, a_mark, StopsAt}
+use Rattle.fl_value.specs.CallText.{is_blank, without_blanks, Blanks, Digits, Number, unsigned, minus, TextBytes, Closed, Token, TokenAt, TheToken, a_number, a_text, a_mark, StopsAt}
 use Rattle.fl_value.proofs.Scan.{blank_more, counted}
 use Rattle.fl_value.proofs.Once.{head_of, tail_of, not_that, blanks_once, bytes_once, quote_closes, token_stops, digits_begin}
 
@@ -48,15 +48,15 @@ counted_at xs n value e some few v =
 pub minus_found : (bytes start digits rest : List ℕ) (n : ℕ) (z : ℤ) → Blanks bytes start → start ≡ 45 ∷ digits → Digits n digits rest → z ≡ neg_ℤ (pos n) → Token (a_number z) bytes rest
 minus_found bytes start digits rest n z blanks e d v = (start, blanks, minus n digits v e d)
 
-pub plain_found : (bytes start rest : List ℕ) (n : ℕ) (z : ℤ) → Blanks bytes start → Digits n start rest → z ≡ pos n → Token (a_number z) bytes rest
-plain_found bytes start rest n z blanks d v = (start, blanks, plain n v d)
+pub digits_found : (bytes start rest : List ℕ) (n : ℕ) (z : ℤ) → Blanks bytes start → Digits n start rest → z ≡ pos n → Token (a_number z) bytes rest
+digits_found bytes start rest n z blanks d v = (start, blanks, unsigned n v d)
 
 pub at_start : (t : TheToken) (bytes start rest : List ℕ) → Blanks bytes start → StopsAt is_blank start → Token t bytes rest → TokenAt t start rest
 at_start t bytes start rest blanks stops (begin, dark, at) =
     subst (λ a. TokenAt t a rest) (blanks_once bytes begin start dark (token_stops t begin rest at) blanks stops) at
 
 no_minus : (start digits rest : List ℕ) (z : ℤ) → start ≡ 45 ∷ digits → ((n : ℕ) (x : List ℕ) → Digits n digits x → ⊥) → Number z start rest → ⊥
-no_minus start digits rest z e none (plain n v d) =
+no_minus start digits rest z e none (unsigned n v d) =
     let (b, more, at, one) = digits_begin n start rest d.digits d.all d.some d.split in
     not_that is_digit b 45 one (head_of b 45 more digits (sym at ∙ e)) refl
 no_minus start digits rest z e none (minus n others v split d) =
@@ -65,12 +65,12 @@ no_minus start digits rest z e none (minus n others v split d) =
 pub minus_none : (bytes start digits : List ℕ) → Blanks bytes start → StopsAt is_blank start → start ≡ 45 ∷ digits → ((n : ℕ) (x : List ℕ) → Digits n digits x → ⊥) → (z : ℤ) (rest : List ℕ) → Token (a_number z) bytes rest → ⊥
 minus_none bytes start digits blanks stops e none z rest t = no_minus start digits rest z e none (at_start (a_number z) bytes start rest blanks stops t)
 
-no_plain : (start rest : List ℕ) (z : ℤ) → ((x : List ℕ) → start ≡ 45 ∷ x → ⊥) → ((n : ℕ) (x : List ℕ) → Digits n start x → ⊥) → Number z start rest → ⊥
-no_plain start rest z other none (plain n v d) = none n rest d
-no_plain start rest z other none (minus n digits v split d) = other digits split
+no_digits : (start rest : List ℕ) (z : ℤ) → ((x : List ℕ) → start ≡ 45 ∷ x → ⊥) → ((n : ℕ) (x : List ℕ) → Digits n start x → ⊥) → Number z start rest → ⊥
+no_digits start rest z other none (unsigned n v d) = none n rest d
+no_digits start rest z other none (minus n digits v split d) = other digits split
 
-pub plain_none : (bytes start : List ℕ) → Blanks bytes start → StopsAt is_blank start → ((x : List ℕ) → start ≡ 45 ∷ x → ⊥) → ((n : ℕ) (x : List ℕ) → Digits n start x → ⊥) → (z : ℤ) (rest : List ℕ) → Token (a_number z) bytes rest → ⊥
-plain_none bytes start blanks stops other none z rest t = no_plain start rest z other none (at_start (a_number z) bytes start rest blanks stops t)
+pub digits_none : (bytes start : List ℕ) → Blanks bytes start → StopsAt is_blank start → ((x : List ℕ) → start ≡ 45 ∷ x → ⊥) → ((n : ℕ) (x : List ℕ) → Digits n start x → ⊥) → (z : ℤ) (rest : List ℕ) → Token (a_number z) bytes rest → ⊥
+digits_none bytes start blanks stops other none z rest t = no_digits start rest z other none (at_start (a_number z) bytes start rest blanks stops t)
 
 pub none_weaker : {T P Q : Type 0} (o : Option T) → (P → Q) → IfNone o P → IfNone o Q
 none_weaker None f h = f h

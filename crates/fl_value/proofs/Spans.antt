@@ -4,7 +4,7 @@ use Rattle.std.specs.Prelude.{not, ◌&&◌}
 use Rattle.std.specs.Cmp.{first_so, second_so}
 use Rattle.std.specs.List.{prefix_len, flat_map, list_all}
 use Rattle.std.proofs.lemmas.List.{take_all, length-drop, drop-drop}
-use Rattle.fl_value.specs.CallText.{is_plain, itself, TextBytes}
+use Rattle.fl_value.specs.CallText.{is_literal, itself, TextBytes}
 use Rattle.fl_value.specs.Printed.{is_shown, printed_byte}
 
 count_next : (p : Bool) (n : ℕ) → cond p (1 + n) 0 ≡ cond p (suc n) 0
@@ -15,18 +15,18 @@ count_next false n = refl
 pub left_of_slice : (bytes : List ℕ) (n : ℕ) → take (length bytes - n) (drop n bytes) ≡ drop n bytes
 left_of_slice bytes n = take_all (length bytes - n) (drop n bytes) (omega (arith, length-drop n bytes))
 
-plain_next : (p : Bool) (b : ℕ) (bs : List ℕ) (n m : ℕ) → is_plain b ≡ p → m ≡ cond p (suc n) 0 → TextBytes (take n bs) bs (drop n bs) → TextBytes (take m (b ∷ bs)) (b ∷ bs) (drop m (b ∷ bs))
-plain_next true b bs n m e is rest = subst (λ (k : ℕ). TextBytes (take k (b ∷ bs)) (b ∷ bs) (drop k (b ∷ bs))) (sym is) (bs, itself e refl, rest)
-plain_next false b bs n m e is rest = subst (λ (k : ℕ). TextBytes (take k (b ∷ bs)) (b ∷ bs) (drop k (b ∷ bs))) (sym is) refl
+literal_next : (p : Bool) (b : ℕ) (bs : List ℕ) (n m : ℕ) → is_literal b ≡ p → m ≡ cond p (suc n) 0 → TextBytes (take n bs) bs (drop n bs) → TextBytes (take m (b ∷ bs)) (b ∷ bs) (drop m (b ∷ bs))
+literal_next true b bs n m e is rest = subst (λ (k : ℕ). TextBytes (take k (b ∷ bs)) (b ∷ bs) (drop k (b ∷ bs))) (sym is) (bs, itself e refl, rest)
+literal_next false b bs n m e is rest = subst (λ (k : ℕ). TextBytes (take k (b ∷ bs)) (b ∷ bs) (drop k (b ∷ bs))) (sym is) refl
 
-plain_read : (bytes : List ℕ) → TextBytes (take (prefix_len is_plain bytes) bytes) bytes (drop (prefix_len is_plain bytes) bytes)
-plain_read [] = refl
-plain_read (b ∷ bs) =
-    plain_next (is_plain b) b bs (prefix_len is_plain bs) (prefix_len is_plain (b ∷ bs)) refl (count_next (is_plain b) (prefix_len is_plain bs)) (plain_read bs)
+literal_read : (bytes : List ℕ) → TextBytes (take (prefix_len is_literal bytes) bytes) bytes (drop (prefix_len is_literal bytes) bytes)
+literal_read [] = refl
+literal_read (b ∷ bs) =
+    literal_next (is_literal b) b bs (prefix_len is_literal bs) (prefix_len is_literal (b ∷ bs)) refl (count_next (is_literal b) (prefix_len is_literal bs)) (literal_read bs)
 
 -- they are read as they are
-pub plain_span : (bytes text rest : List ℕ) (n : ℕ) → n ≡ prefix_len is_plain bytes → text ≡ take n bytes → rest ≡ drop n bytes → TextBytes text bytes rest
-plain_span bytes text rest n is span behind = rw (span, behind, is) (plain_read bytes)
+pub literal_span : (bytes text rest : List ℕ) (n : ℕ) → n ≡ prefix_len is_literal bytes → text ≡ take n bytes → rest ≡ drop n bytes → TextBytes text bytes rest
+literal_span bytes text rest n is span behind = rw (span, behind, is) (literal_read bytes)
 
 -- a byte by the tests that its printed form makes
 by_tests : (b : ℕ) (from quote backslash to : Bool) → ((from && not quote && not backslash) && to) ≡ true

@@ -52,16 +52,16 @@ pub record Digits (n : ℕ) (bytes rest : List ℕ) : Type 0 where
 
 -- digits, perhaps with a minus directly before them
 pub data Number (z : ℤ) (bytes rest : List ℕ) : Type 0 where
-  plain : (n : ℕ) → z ≡ pos n → Digits n bytes rest → Number z bytes rest
+  unsigned : (n : ℕ) → z ≡ pos n → Digits n bytes rest → Number z bytes rest
   minus : (n : ℕ) (digits : List ℕ) → z ≡ neg_ℤ (pos n) → bytes ≡ 45 ∷ digits → Digits n digits rest → Number z bytes rest
 
 -- a byte that stands for itself in a text: any from 32 up but `"` and `\`
-abbrev pub is_plain : ℕ → Bool
-is_plain b = nat_le 32 b && not (b == 34) && not (b == 92)
+abbrev pub is_literal : ℕ → Bool
+is_literal b = nat_le 32 b && not (b == 34) && not (b == 92)
 
 -- a byte of a text: itself, `\"`, `\\`, or `\x` and two hexadecimal digits
 pub data TextByte (b : ℕ) (bytes rest : List ℕ) : Type 0 where
-  itself : is_plain b ≡ true → bytes ≡ b ∷ rest → TextByte b bytes rest
+  itself : is_literal b ≡ true → bytes ≡ b ∷ rest → TextByte b bytes rest
   quote : b ≡ 34 → bytes ≡ 92 ∷ 34 ∷ rest → TextByte b bytes rest
   backslash : b ≡ 92 → bytes ≡ 92 ∷ 92 ∷ rest → TextByte b bytes rest
   coded : (high low : ℕ) → digit_value high < 16 → digit_value low < 16

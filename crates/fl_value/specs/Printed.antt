@@ -8,14 +8,14 @@ use Rattle.fl_interface.specs.Interface.{TheMessage, TheInterface}
 use Rattle.fl_interface.specs.Limits.{is_within_limits}
 use Rattle.fl_interface.specs.Counts.{interface_words_fit}
 use Rattle.fl_lex.specs.Words.{is_name}
-use Rattle.fl_value.specs.CallText.{is_plain, SpellsCall, greatest_depth}
+use Rattle.fl_value.specs.CallText.{is_literal, SpellsCall, greatest_depth}
 use Rattle.fl_value.specs.Fits.{fits_of}
 use Rattle.fl_value.specs.Resolve.{ComesTo}
 use Rattle.fl_value.specs.Value.{TheCall, Datum, number, string, elements, fields, Data, nothing_more, also, data_from}
 
 -- a byte that is printed as it is
 abbrev pub is_shown : ℕ → Bool
-is_shown b = is_plain b && nat_le b 126
+is_shown b = is_literal b && nat_le b 126
 
 -- bytes 32 to 126 as they are, but `\"` and `\\`; all others as `\x` and two lower-case digits
 abbrev pub printed_byte : ℕ → List ℕ

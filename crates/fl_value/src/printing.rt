@@ -7,7 +7,7 @@ ghost use Rattle.std.specs.Fmt.{decimal, signed_decimal};
 ghost use Rattle.fl_value.specs.Value.{datum_of, data_from};
 ghost use Rattle.fl_value.specs.Printed.{is_shown, printed_byte, printed_text, printed_value, printed_values, printed_call, separator, BeginsToAppend};
 
-use crate::tokens::is_plain;
+use crate::tokens::is_literal;
 use crate::value::Value;
 use itoa::Buffer;
 use std::alloc::{AllocError, Global};
@@ -28,7 +28,7 @@ fn hex_digit(number: u8) -> u8
 fn is_shown(byte: u8) -> bool
     ensures same { result ≡ is_shown byte }
 {
-    is_plain(byte) && byte <= b'~'
+    is_literal(byte) && byte <= b'~'
 }
 
 /// Whether all bytes are printed as they are. It doesn't stop at the first that isn't, so that many are looked at at once.

@@ -5,7 +5,7 @@ ghost use Rattle.std.specs.List.{prefix_len, list_all};
 ghost use Rattle.std.specs.Char.{digit_value};
 ghost use Rattle.std.specs.Str.Parse.{digits_value};
 ghost use Rattle.fl_lex.specs.Words.{is_digit};
-ghost use Rattle.fl_value.specs.CallText.{is_blank, without_blanks, is_mark, is_plain, Blanks, Digits, TextByte, TextBytes};
+ghost use Rattle.fl_value.specs.CallText.{is_blank, without_blanks, is_mark, is_literal, Blanks, Digits, TextByte, TextBytes};
 ghost use Rattle.fl_value.specs.CallText.{Token, a_number, a_text, a_mark, StopsAt, Closed};
 
 use fl_lex::{count_digits, is_digit};
@@ -186,31 +186,31 @@ fn read_byte(bytes: &[u8]) -> Option<(u8, &[u8])>
 }
 
 /// Whether a byte stands for itself in a text.
-pub(crate) fn is_plain(byte: u8) -> bool
-    ensures same { result ≡ is_plain byte }
+pub(crate) fn is_literal(byte: u8) -> bool
+    ensures same { result ≡ is_literal byte }
 {
     byte >= b' ' && byte != b'"' && byte != b'\\'
 }
 
 /// Whether all bytes stand for themselves in a text. It doesn't stop at the first that doesn't, so that many are looked at at once.
-fn are_plain(bytes: &[u8]) -> bool
-    ensures same { result ≡ list_all is_plain bytes.now }
+fn are_literal(bytes: &[u8]) -> bool
+    ensures same { result ≡ list_all is_literal bytes.now }
 {
     let mut all = true;
     for byte in bytes {
-        all &= is_plain(*byte);
+        all &= is_literal(*byte);
     }
     all
 }
 
 /// How many bytes from here on stand for themselves for sure: whole spans, each looked at at once.
-fn count_plain_spans(bytes: &[u8]) -> usize
+fn count_literal_spans(bytes: &[u8]) -> usize
     ensures within { result ≤ length bytes.now }
-    ensures plain { result + prefix_len is_plain (drop result bytes.now) ≡ prefix_len is_plain bytes.now }
+    ensures literal { result + prefix_len is_literal (drop result bytes.now) ≡ prefix_len is_literal bytes.now }
 {
     let mut count = 0;
     while bytes.len() - count >= SPAN {
-        if !are_plain(&bytes[count..count + SPAN]) {
+        if !are_literal(&bytes[count..count + SPAN]) {
             return count;
         }
         count += SPAN;
@@ -219,21 +219,21 @@ fn count_plain_spans(bytes: &[u8]) -> usize
 }
 
 /// How many bytes from here on stand for themselves in a text.
-fn count_plain(bytes: &[u8]) -> usize
-    ensures same { result ≡ prefix_len is_plain bytes.now }
+fn count_literal(bytes: &[u8]) -> usize
+    ensures same { result ≡ prefix_len is_literal bytes.now }
     ensures within { result ≤ length bytes.now }
 {
-    let start = count_plain_spans(bytes);
-    start + count_plain_bytes(&bytes[start..])
+    let start = count_literal_spans(bytes);
+    start + count_literal_bytes(&bytes[start..])
 }
 
 /// The same, one byte after another.
-fn count_plain_bytes(bytes: &[u8]) -> usize
-    ensures same { result ≡ prefix_len is_plain bytes.now }
+fn count_literal_bytes(bytes: &[u8]) -> usize
+    ensures same { result ≡ prefix_len is_literal bytes.now }
     ensures within { result ≤ length bytes.now }
 {
     for (count, byte) in bytes.iter().enumerate() {
-        if !is_plain(*byte) {
+        if !is_literal(*byte) {
             return count;
         }
     }
@@ -245,9 +245,9 @@ fn read_bytes(alloc: Global, bytes: &[u8]) -> Result<(Vec<u8>, &[u8]), AllocErro
     ensures found { IfOk result (λ r. TextBytes r.0.items bytes.now r.1.now) }
     ensures stops { IfOk result (λ r. Closed r.1.now) }
 {
-    let plain = count_plain(bytes);
-    let mut text = Vec::from_slice(alloc, &bytes[..plain])?;
-    let mut rest = &bytes[plain..];
+    let literal = count_literal(bytes);
+    let mut text = Vec::from_slice(alloc, &bytes[..literal])?;
+    let mut rest = &bytes[literal..];
     while let Some((byte, after)) = read_byte(rest) {
         text.push(byte)?;
         rest = after;

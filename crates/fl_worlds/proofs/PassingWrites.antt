@@ -138,7 +138,7 @@ module _ (law : Pictures) (frame : RingFrame) (w : TheWorld) (s : State) (shows 
     is_put : (m : Said) (f : Frag) → Rattle.fl_monitor.specs.Intermon.HasWidths (message_of m) → f ≡ said_frag m → (streams : Streams) → IsPutOf streams (says m) (placed f)
     is_put m f widths is streams g same =
         let one : f ≡ g = (let p : placed f ≡ placed g = same in cc) in
-        let plain : bare (said_frag m) ≡ said_frag m = (law.said m widths).carried.plain in
+        let plain : bare (said_frag m) ≡ said_frag m = (law.said m widths).carried.is_bare in
         ap (λ (x : Frag). Some x) (sym plain ∙ ap bare (sym is ∙ one))
 
     no_put : (m : Said) (look : Look) → ((g : Frag) → look ≡ placed g → ⊥) → (streams : Streams) → IsPutOf streams (says m) look

@@ -269,7 +269,7 @@ own_sound x peer t h k =
       unbound = λ q. absurd (let e : false ≡ true = ap is_some (sym q ∙ h.circuit) ∙ k.bound in cc);
       sends = sends_by x peer t h k (is_busy i x.out) refl;
       part = part_by i peer t.parts h.parts k.peer_fits plain;
-      plain = plain;
+      are_bare = plain;
     }
 
 pub sound_end : (i : Planned) (x : End) (peer : Direction) (t : TheEnd) → EndShows i x peer t → Fair i x peer → EndIsSound t
@@ -356,5 +356,5 @@ fair s e b i sound limits all small p q h =
       few = sound.waiting e (end_in e.side b) (end_of_binding s e b p);
       busy = sound.busy e b i p q;
       peer_fits = (sound.calls (peer e) b i p q).accepted;
-      plain = λ n f r. (all.off_links (peer e) n f (ap (λ (fs : List Frag). slice_get fs n) (calls_are s (peer e) b i p q) ∙ r)).plain;
+      plain = λ n f r. (all.off_links (peer e) n f (ap (λ (fs : List Frag). slice_get fs n) (calls_are s (peer e) b i p q) ∙ r)).is_bare;
     }

@@ -266,7 +266,7 @@ by_result law w w2 s a e n place out from h x k k2 q left (Ok (Written number co
     (law.next s e h.binding h.interface shown.sound.routes shown.sound.numbers shown.sound.verdicts shown.sound.bound
     (record { binding = h.binding_is; interface = h.interface_is }) g.0.0) in
     let is = next ∙ g.1.1 in
-    let plain = ((all_carried law w s shown).off_links e (written_of (end_in e.side h.binding).out) g.1.0 is).plain in
+    let plain = ((all_carried law w s shown).off_links e (written_of (end_in e.side h.binding).out) g.1.0 is).is_bare in
     let core : k ≡ h.core = same_some (slice_get w.cores n) k h.core here h.core_is in
     let who : joined_to k place ≡ Some x.spot = ap (λ (c : TheCore). joined_to c place) core ∙ wakes w s e n place h out from x wire in
     let tells : TriggersIf (Some x.spot) wrote.wrote k2.board = subst (λ (o : Option ℕ). TriggersIf o wrote.wrote k2.board) who wrote.triggers in

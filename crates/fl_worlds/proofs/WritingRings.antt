@@ -124,7 +124,7 @@ put_of streams label f there plain g q = there ∙ ap (λ (x : Frag). Some x) (s
 record IsNext (s : State) (at : RingEnd) (label : Label) (streams : Streams) (f : Frag) : Type 0 where
   pub carries : Carries s at.ring streams
   pub is : frag_of streams label ≡ Some f
-  pub plain : bare f ≡ f
+  pub is_bare : bare f ≡ f
 
 -- the fragment is written
 written_agrees : (law : WriteLaws) (w w2 : TheWorld) (s : State) (a : Answer) (e : EndId) (n place : ℕ) (h : Stands w s e n place) (at : RingEnd) (x : RingWrite w s e n place h at)
@@ -157,7 +157,7 @@ written_agrees law w w2 s a e n place h at x left t f number count k shown more 
       silent = bound_not (end_in e.side h.binding) more.0;
     }) shows in
     let first = put_agrees law w s s w at e (written_of d) r x.duo left (placed f) x.puts_on.streams shown shown.picture refl refl x.puts_on.ring_is x.duo_is
-    next.carries (put_of x.puts_on.streams label f next.is next.plain) put in
+    next.carries (put_of x.puts_on.streams label f next.is next.is_bare) put in
     agreed (writes_fragment e s) z (written number count) a (with_ring w1 at.ring left) w2
     (found_writes e h.binding i s h.binding_is h.interface_is
     ∙ goes_writes e i h.binding (end_in e.side h.binding) s (ring_side at) more.0 more.1 x.outlet
@@ -171,7 +171,7 @@ written_agrees law w w2 s a e n place h at x left t f number count k shown more 
     let was = carried_before s e turn h.binding at.ring streams h.binding_is same c in
     let agree = streams_agree s at.ring was.streams x.puts_on.streams shown.sound.links shown.sound.owners was.carries next.carries label in
     (put_agrees law w s s1 w1 at e (written_of d) r x.duo left (placed f) streams shown p1 refl refl x.puts_on.ring_is x.duo_is
-    c (put_of streams label f (was.go_on label f (agree ∙ next.is)) next.plain) put).1))
+    c (put_of streams label f (was.go_on label f (agree ∙ next.is)) next.is_bare) put).1))
 
 its_next : (law : WriteLaws) (w : TheWorld) (s : State) (e : EndId) (n place : ℕ) (h : Stands w s e n place) (at : RingEnd) (x : RingWrite w s e n place h at)
     (f : Frag) → Shows w s → HasMore h.interface (end_in e.side h.binding) → next_fragment h.interface (end_in e.side h.binding) ≡ Some f
@@ -181,7 +181,7 @@ its_next law w s e n place h at x f shown more q =
     record {
       carries = x.puts_on.carries;
       is = is;
-      plain = (ring_carried s at.ring x.puts_on.streams (all_carried law w s shown) x.puts_on.carries e (written_of (end_in e.side h.binding).out) f is).plain;
+      is_bare = (ring_carried s at.ring x.puts_on.streams (all_carried law w s shown) x.puts_on.carries e (written_of (end_in e.side h.binding).out) f is).is_bare;
     }
 
 -- ---- the write

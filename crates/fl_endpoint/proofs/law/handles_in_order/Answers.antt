@@ -17,7 +17,7 @@ in_order law program circuit t h calls more sound a fit e =
       left = s.left;
       calls_are = s.calls_are;
       ahead = s.rest_is;
-      short = λ c rest is. rest_short p t.parts more s.left c rest law sound.words s.fit sound.plain sound.part s.rest_is is;
+      short = λ c rest is. rest_short p t.parts more s.left c rest law sound.words s.fit sound.are_bare sound.part s.rest_is is;
     }
 
 pub returns : goal.returns

@@ -1,7 +1,7 @@
 use Rattle.std.proofs.Common.{subst, sym}
 use Rattle.fl_value.specs.CallText.{TextBytes}
 use Rattle.fl_value.proofs.Once.{bytes_more}
-use Rattle.fl_value.proofs.Spans.{left_of_slice, plain_span}
+use Rattle.fl_value.proofs.Spans.{left_of_slice, literal_span}
 use Rattle.fl_value.proofs.tokens.read_bytes.Goals as goal
 
 pub loop-byte-preserved : goal.loop-byte-preserved
@@ -12,5 +12,5 @@ loop-byte-preserved c =
 pub loop-byte-init : goal.loop-byte-init
 loop-byte-init c =
     let bytes = c.args.bytes.now in
-    let n = c.count_plain-plain.result in
-    plain_span bytes c.in_ok-text.text.items _ n c.count_plain-plain.ensures.same c.in_ok-text.ensures.items (left_of_slice bytes n)
+    let n = c.count_literal-literal.result in
+    literal_span bytes c.in_ok-text.text.items _ n c.count_literal-literal.ensures.same c.in_ok-text.ensures.items (left_of_slice bytes n)

@@ -1,5 +1,5 @@
 use Rattle.std.proofs.Common.{pos, refl, arith}
-use Rattle.fl_value.proofs.Reading.{counted_at, plain_found}
+use Rattle.fl_value.proofs.Reading.{counted_at, digits_found}
 use Rattle.fl_value.proofs.tokens.read_short.Goals as goal
 
 pub returns : goal.returns
@@ -8,7 +8,7 @@ returns c =
     let value = c.short_digits-value.result.0 in
     let few = c.if-count-gt19.false in
     record {
-      found = plain_found c.args.bytes.now start _ value (pos value) c.skip_blanks-start.ensures.blank
+      found = digits_found c.args.bytes.now start _ value (pos value) c.skip_blanks-start.ensures.blank
           (counted_at start c.short_digits-value.result.1 value c.short_digits-value.ensures.all c.if-count-eq0.false (omega (arith, few)) (c.short_digits-value.ensures.value (omega (arith, few))))
           refl;
     }

@@ -32,18 +32,18 @@ pub returns-in-Err-take_in-clause-receives : goal.returns-in-Err-take_in-clause-
 returns-in-Err-take_in-clause-receives g c =
     let opened : IsOpen c.args.self.now = search rules in
     let f = c.bare.result in
-    let plain : bare f ≡ f = search rules in
+    let is_bare : bare f ≡ f = search rules in
     let sees : g.T.TakeSide.takes c.args.from.now (saw f) c.peek.new.self = search rules in
-    leaves_at c.args.self.now c.args.calls.now c.args.place c.requires.place g.T.TakeSide.takes c.args.from.now c.peek.new.self opened f plain c.take_in.new.self c.take_in.new.calls c.in-Err-take_in.fault sees c.in-Err-take_in.ensures.takes_in
+    leaves_at c.args.self.now c.args.calls.now c.args.place c.requires.place g.T.TakeSide.takes c.args.from.now c.peek.new.self opened f is_bare c.take_in.new.self c.take_in.new.calls c.in-Err-take_in.fault sees c.in-Err-take_in.ensures.takes_in
 
 pub returns-in-Ok-take_in-clause-receives : goal.returns-in-Ok-take_in-clause-receives
 returns-in-Ok-take_in-clause-receives g c =
     let opened : IsOpen c.args.self.now = search rules in
     let f = c.bare.result in
-    let plain : bare f ≡ f = search rules in
+    let is_bare : bare f ≡ f = search rules in
     let sees : g.T.TakeSide.takes c.args.from.now (saw f) c.peek.new.self = search rules in
     let takes_it : g.T.TakeSide.takes c.peek.new.self (found f) c.take-in-Ok-take_in.new.self = search rules in
-    takes_at c.args.self.now c.args.calls.now c.args.place c.requires.place g.T.TakeSide.takes c.args.from.now c.take-in-Ok-take_in.new.self opened f plain c.take_in.new.self c.take_in.new.calls c.in-Ok-take_in.answer c.peek.new.self sees takes_it c.in-Ok-take_in.ensures.takes_in
+    takes_at c.args.self.now c.args.calls.now c.args.place c.requires.place g.T.TakeSide.takes c.args.from.now c.take-in-Ok-take_in.new.self opened f is_bare c.take_in.new.self c.take_in.new.calls c.in-Ok-take_in.answer c.peek.new.self sees takes_it c.in-Ok-take_in.ensures.takes_in
 
 pub returns-in-Err-take_in-clause-place : goal.returns-in-Err-take_in-clause-place
 returns-in-Err-take_in-clause-place g c =

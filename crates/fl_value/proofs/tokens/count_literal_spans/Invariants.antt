@@ -1,10 +1,10 @@
 use Rattle.std.proofs.Common.{◌≡◌, ◌≤◌, ◌+◌, ◌-◌, length, drop}
 use Rattle.std.specs.List.{prefix_len}
-use Rattle.fl_value.specs.CallText.{is_plain}
-use Rattle.fl_value.proofs.tokens.count_plain_spans.Given as goal
+use Rattle.fl_value.specs.CallText.{is_literal}
+use Rattle.fl_value.proofs.tokens.count_literal_spans.Given as goal
 
 abbrev pub invariant-loop-count : goal.invariant-loop-count
-invariant-loop-count l = (l.count + prefix_len is_plain (drop l.count l.bytes) ≡ prefix_len is_plain l.bytes) × (l.count ≤ length l.bytes)
+invariant-loop-count l = (l.count + prefix_len is_literal (drop l.count l.bytes) ≡ prefix_len is_literal l.bytes) × (l.count ≤ length l.bytes)
 
 abbrev pub decreases-loop-count : goal.decreases-loop-count
 decreases-loop-count l = length l.bytes - l.count
