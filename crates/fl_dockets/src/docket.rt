@@ -9,7 +9,7 @@ use fl_base::{EndId, MsgNo, Side};
 use std::alloc::{AllocError, Global};
 
 /// A binding, by its interface and the cores of its ends, each by its place, from 0.
-#[derive(Clone, Copy, Debug, PartialEq, Eq)]
+#[derive(Clone, Copy)]
 pub struct Bound {
     /// The interface that its ends speak.
     pub interface: usize,
@@ -34,7 +34,7 @@ impl Bound {
 }
 
 /// What is handed in at an end.
-#[derive(Debug, Drop)]
+#[derive(Drop)]
 pub struct Docket {
     /// The places of its jobs among all, in order.
     pub jobs: Vec<usize>,

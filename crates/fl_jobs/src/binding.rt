@@ -21,7 +21,7 @@ use fl_base::{MAX_BINDINGS, MAX_CHANNELS, MAX_CORES, MAX_QUEUE};
 use fl_lines::{BackEnd, DispatcherId, Event, Route};
 
 /// What a binding is asked for, once its service is known.
-#[derive(Clone, Copy, Debug)]
+#[derive(Clone, Copy)]
 pub struct Wanted<'a> {
     pub client: DispatcherId,
     pub server: DispatcherId,

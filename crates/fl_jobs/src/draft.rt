@@ -14,28 +14,28 @@ use fl_value::PlanNo;
 use std::alloc::Global;
 
 /// An interface, and the plan by which its calls are laid out.
-#[derive(Debug, Drop)]
+#[derive(Drop)]
 pub struct Planned {
     pub interface: Interface,
     pub plan: PlanNo,
 }
 
 /// A link, by its two cores.
-#[derive(Clone, Copy, Debug, PartialEq, Eq)]
+#[derive(Clone, Copy)]
 pub struct Joint {
     pub first: u32,
     pub second: u32,
 }
 
 /// Who offers a service, and under which interface.
-#[derive(Clone, Copy, Debug, PartialEq, Eq)]
+#[derive(Clone, Copy)]
 pub struct Offer {
     pub dispatcher: DispatcherId,
     pub interface: usize,
 }
 
 /// What the jobs at an end are so far.
-#[derive(Clone, Copy, Debug, PartialEq, Eq)]
+#[derive(Clone, Copy)]
 pub enum Use {
     Free,
     Calls,
@@ -43,7 +43,7 @@ pub enum Use {
 }
 
 /// A binding.
-#[derive(Clone, Copy, Debug, PartialEq, Eq)]
+#[derive(Clone, Copy)]
 pub struct Bound {
     /// Whether it is opened while the cores run; else it is set up before.
     pub opened: bool,

@@ -15,14 +15,14 @@ ghost use Rattle.fl_machine.specs.Cursors.{spot_of, loops_of, inside_after as in
 use fl_stub::Op;
 
 /// An open loop: the place of its first instruction, and the turns that it makes after this one.
-#[derive(Clone, Copy, Debug, PartialEq, Eq)]
+#[derive(Clone, Copy)]
 pub struct Loop {
     pub(crate) start: usize,
     pub(crate) turns: u64,
 }
 
 /// Where a run of send code stands.
-#[derive(Clone, Copy, Debug, PartialEq, Eq)]
+#[derive(Clone, Copy)]
 pub struct Cursor {
     // The next instruction.
     pub(crate) place: usize,

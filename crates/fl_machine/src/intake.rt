@@ -42,7 +42,7 @@ pub(crate) struct Field {
 }
 
 /// Where a run of receive code stands.
-#[derive(Clone, Copy, Debug, PartialEq, Eq)]
+#[derive(Clone, Copy)]
 pub struct Intake {
     // The next instruction.
     pub(crate) place: usize,
