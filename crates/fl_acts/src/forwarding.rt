@@ -109,6 +109,7 @@ pub fn take_rules_of(core: &mut Core, place: usize, binding: &mut Binding)
 // ---- a fragment moves on
 
 // It moves onto a ring behind the one that it comes from, in the order of the rings.
+#[inline(always)]
 fn move_up(passing: &Passing, rings: &mut [OneDuo]) -> Answer
     requires up { ring_at passing.now.from < ring_at passing.now.onto }
     requires onto { ring_at passing.now.onto < length rings.old }
@@ -121,6 +122,7 @@ fn move_up(passing: &Passing, rings: &mut [OneDuo]) -> Answer
 }
 
 // It moves onto a ring before it.
+#[inline(always)]
 fn move_down(passing: &Passing, rings: &mut [OneDuo]) -> Answer
     requires down { ring_at passing.now.onto < ring_at passing.now.from }
     requires from { ring_at passing.now.from < length rings.old }
@@ -133,6 +135,7 @@ fn move_down(passing: &Passing, rings: &mut [OneDuo]) -> Answer
 }
 
 /// A fragment moves on, from one of the world's rings onto another.
+#[inline(always)]
 pub fn move_among(passing: &Passing, rings: &mut [OneDuo]) -> Answer
     requires apart { ring_at passing.now.from ≢ ring_at passing.now.onto }
     requires from { ring_at passing.now.from < length rings.old }

@@ -171,7 +171,9 @@ fn move_by_sides(passing: &Passing, from: &mut DuoSide<'_>, onto: &mut DuoSide<'
     move_on(from, onto, &passing.frag, passing.circuit)
 }
 
-// It moves over two rings.
+// It moves over two rings. In line, as what calls it: an answer that is made out of line is moved on, and each move waits for the
+// stores of the one before.
+#[inline(always)]
 pub(crate) fn move_between(passing: &Passing, from: &mut OneDuo, onto: &mut OneDuo) -> Answer
     requires seen { front_of (side_of (which_at passing.now.from) from.old).waiting ≡ saw (bare passing.now.frag) }
     requires call { is_ack_only (with_circuit passing.now.circuit.0 passing.now.frag) ≡ false }

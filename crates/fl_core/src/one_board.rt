@@ -277,7 +277,7 @@ impl Board {
     ///
     /// # Errors
     /// As the end's: E43, E64, E33. The board is as it was then.
-    #[inline]
+    #[inline(always)]
     pub fn write<P: PutSide>(&mut self, e: usize, out: &mut P) -> Result<WriteAnswer, EndFault>
         requires { e < length self.old.seats }
         ensures writes { ChangesEnd self.old e (λ s t. Writes P.puts s out.old result t out.new) self.new }

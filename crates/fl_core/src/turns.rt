@@ -54,7 +54,7 @@ impl Board {
     /// # Errors
     /// Out of memory (E99), only where the fragment would make a call whole. The board is as it was then, and the fragment,
     /// which was looked at, is left.
-    #[inline]
+    #[inline(always)]
     pub fn turn<T: TakeSide>(
         &mut self,
         dispatcher: usize,

@@ -309,7 +309,9 @@ impl Parts {
         calls.add(program, capacity)
     }
 
-    // What a fragment that is to be taken comes to, at the end's place.
+    // What a fragment that is to be taken comes to, at the end's place. In line, so that the call isn't read back just after its
+    // parts were stored.
+    #[inline(always)]
     fn take_in(
         &mut self,
         circuit: Circuit,

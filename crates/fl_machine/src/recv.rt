@@ -334,7 +334,8 @@ pub(crate) fn look_on(
     begun.look(program, numbers, frag)
 }
 
-// The call of a whole tape.
+// The call of a whole tape. In line, so that the call isn't read back just after its parts were stored.
+#[inline(always)]
 pub(crate) fn whole(
     alloc: Global,
     program: &Program,

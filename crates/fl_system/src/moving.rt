@@ -29,8 +29,9 @@ impl World {
         look_by_ring(&mut self.cores[n], at, ring)
     }
 
-    // What stands first, and was seen, arrives for an end of the core.
-    #[inline(never)]
+    // What stands first, and was seen, arrives for an end of the core. In line, as all that makes a forward's answer: from a function
+    // out of line it is moved on, and each move waits for the stores of the one before.
+    #[inline(always)]
     pub(crate) fn arrive(&mut self, n: usize, at: Lane, frag: &Frag, name: EndId) -> Answer
         requires link { HasLink self.old.cores n at.link.0 }
         requires ring { ring_at at.side < length self.old.rings }

@@ -51,7 +51,8 @@ impl World {
         call_in(core, place, call)
     }
 
-    #[inline(never)]
+    // In line, though it is seldom: an answer from out of line would lie in memory, and with it the usual one.
+    #[inline(always)]
     fn call_unmade(&mut self, n: usize, call: &Call) -> Result<Answer, AllocError>
         requires binding { n < length self.old.bindings }
         ensures calls { IfOk result (λ a. AtUnmadeOrNone self.old n (CallsWith (call_of call.now) (answer_of a)) (answer_of a) self.new) }

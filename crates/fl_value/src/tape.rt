@@ -292,11 +292,12 @@ fn push_arguments(
     push_ranks(tape, arguments, values)
 }
 
-/// The tape of a call, in the memory of what stood there before.
+/// The tape of a call, in the memory of what stood there before. In line, so that the list isn't read back just after its length was stored.
 ///
 /// # Errors
 ///
 /// Where memory runs out: nothing is known of what stands there then.
+#[inline(always)]
 pub fn flatten_into(
     tape: &mut Vec<u64>,
     call: &Call,
