@@ -1,5 +1,5 @@
 -- A circuit that may be asked for, and what came of asking.
-use Rattle.std.proofs.Common.{◌≡◌, refl, sym, ap, ℕ, ◌<◌, ◌&&◌, Bool, true, nat_lt, length, Option, Some, None, Err}
+use Rattle.std.proofs.Common.{◌≡◌, refl, sym, ap, ℕ, ◌<◌, ◌&&◌, Bool, true, nat_lt, length, Option, Some, None, Result, Ok, Err}
 use Rattle.std.proofs.lemmas.Bool.{and_parts, ltb-true}
 use Rattle.std.specs.Prelude.{not, is_some}
 use Rattle.fl_monitor.specs.Monitors.{can_say}
@@ -9,7 +9,7 @@ use Rattle.fl_node.specs.declared.fault.OpenFault.{OpenFault}
 use Rattle.fl_node.specs.declared.fault.OpenFault.TheVariants.{Board, Monitor}
 use Rattle.fl_running.specs.declared.job.Wish.{Wish}
 use Rattle.fl_running.specs.Run.{TheRun}
-use Rattle.fl_running.specs.Steps.{may_ask}
+use Rattle.fl_running.specs.Steps.{lacks_to_open, may_ask}
 
 pub record MayAsk {S : Type 0} (s : TheRun S) (wish : Wish) : Type 0 where
   pub dispatcher : wish.dispatcher < length s.core.board.dispatchers
@@ -41,10 +41,11 @@ may s wish h =
       new = none_there (place_of s.core (client_of wish.opening.binding)) all.3;
     }
 
--- where it was refused here, the core is as it was
-pub core_left : (a : Asked) (k k2 : TheCore) (fault : OpenFault) → Asks a k (Err fault) k2 → k2 ≡ k
+-- where it was refused here, the core is as it was, and where memory was refused all is
+core_left : (a : Asked) (k k2 : TheCore) (fault : OpenFault) → Asks a k (Err fault) k2 → k2 ≡ k
 core_left a k k2 (Board fault) h = h.1
 core_left a k k2 (Monitor fault) h = h.2
 
-pub run_left : {S : Type 0} (s : TheRun S) (k : TheCore) → k ≡ s.core → record s { core = k } ≡ s
-run_left s k same = ap (λ (c : TheCore). record s { core = c }) same
+pub asked_left : {S : Type 0} (a : Asked) (s : TheRun S) (k : TheCore) (answer : Result ℕ OpenFault) → lacks_to_open answer ≡ true → Asks a s.core answer k → record s { core = k } ≡ s
+asked_left a s k (Ok e) is h = absurd (cc)
+asked_left a s k (Err fault) is h = ap (λ (c : TheCore). record s { core = c }) (core_left a s.core k fault h)

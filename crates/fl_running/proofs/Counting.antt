@@ -11,7 +11,7 @@ use Rattle.fl_tally.specs.Seats.{TheSeat, knowing}
 use Rattle.fl_running.specs.declared.job.Job.{Job}
 use Rattle.fl_running.specs.declared.plan.Plan.{Plan}
 use Rattle.fl_running.specs.declared.run.End.{End}
-use Rattle.fl_running.specs.declared.run.End.TheVariants.{Finished, Unfinished}
+use Rattle.fl_running.specs.declared.run.End.TheVariants.{Finished, Unfinished, Told}
 use Rattle.fl_running.specs.declared.run.Part.{Part}
 use Rattle.fl_running.specs.declared.word.Word.{Word}
 use Rattle.fl_running.specs.Run.{Ways, TheRun}
@@ -43,6 +43,20 @@ pub turn_done : {S : Type 0} (w : Ways S) (d e : ℕ) (name : EndId) (from : Inl
     → TurnsOver w (dispatcher_turn d e result) from s t → result ≡ Ok answer → place_of s.core name ≡ Some e → due s.core.board d ≡ Some e → Does w (turned d name from answer) s t
 turn_done w d e name from result answer s t turns is place due_is =
     (e, place, due_is, subst (λ (r : Result TurnAnswer AllocError). TurnsOver w (dispatcher_turn d e r) from s t) is turns)
+
+-- a core that saw that another stopped
+pub ran_told : {S : Type 0} (w : Ways S) (t : Task) (a b : Moment S) (part : Part) → Counted w t a part b → part.end ≡ Told → CoreRan w t a part b
+ran_told w t a b part counted is = record {
+  middle = b;
+  counted = counted;
+  told = b.ticket.seat;
+  tells = subst (λ (e : End). TellsEnd e b.ticket.seat b.ticket.seat) (sym is) refl;
+  goes_on = subst (λ (e : End). GoesOn w t e b.run b.run) (sym is) refl;
+  after = quiet b.ticket.seat;
+  stored = refl;
+  heard = refl;
+  others = λ finished. let same : Told ≡ Finished = sym is ∙ finished in absurd (cc same);
+}
 
 module _ {S : Type 0} (w : Ways S) (t : Task) (a b : Moment S) (part : Part) (u : TheSeat) (counted : Counted w t a part b) where
   -- a core that reached its limit

@@ -1,14 +1,16 @@
 -- What changes at the desk of an end, and which job is next there.
-use Rattle.std.proofs.Common.{◌≡◌, refl, sym, ap, ◌∙◌, subst, ℕ, ◌<◌, List, length, slice_get, slice_set, slice_index_or, nat_lt, Option, Some, None, Bor}
+use Rattle.std.proofs.Common.{◌≡◌, refl, sym, ap, ◌∙◌, subst, ℕ, ◌<◌, List, length, slice_get, slice_set, slice_index_or, nat_lt, true, Option, Some, None, Bor}
 use Rattle.std.proofs.lemmas.Option.{slice_get_read, slice_get_past, same_Some}
 use Rattle.std.proofs.lemmas.Bool.{ltb-true, ltb-false}
 use Rattle.std.specs.Prelude.{is_some, IfSome, IfNone}
 use Rattle.fl_base.specs.declared.identity.EndId.{EndId}
 use Rattle.fl_monitor.specs.Routing.{given}
 use Rattle.fl_running.specs.declared.job.Job.{Job}
-use Rattle.fl_running.specs.Desks.{TheDesk, desk_place, ChangesIf}
+use Rattle.fl_running.specs.Desks.{TheDesk, desk_place, ChangesIf, is_clear}
 use Rattle.fl_running.specs.Run.{TheRun, AtDesk, next_job}
 use Rattle.fl_running.specs.Inside.{HasLeft}
+use Rattle.fl_running.specs.Finished.{is_desk_clear}
+use Rattle.fl_running.specs.Words.{refusal_at}
 
 -- an end without a desk
 pub no_desk : {S : Type 0} (s : TheRun S) (name : EndId) (change : TheDesk → TheDesk) (desks : List TheDesk) → desks ≡ s.desks → None ≡ desk_place desks name
@@ -51,6 +53,16 @@ module _ {S : Type 0} (s : TheRun S) (name : EndId) (desks : List TheDesk) (n : 
       ap (λ (o : Option ℕ). given o None λ i. given (slice_get s.desks i) None λ desk. given (slice_get desk.jobs desk.done) None λ j. slice_get jobs j) place
       ∙ ap (λ (o : Option TheDesk). given o None λ desk. given (slice_get desk.jobs desk.done) None λ j. slice_get jobs j) stands
       ∙ ap (λ (o : Option ℕ). given o None λ j. slice_get jobs j) (sym next)
+
+  pub clear_by : is_desk_clear s name ≡ is_clear p
+  clear_by =
+      ap (λ (o : Option ℕ). given o true λ i. given (slice_get s.desks i) true λ desk. is_clear desk) place
+      ∙ ap (λ (o : Option TheDesk). given o true λ desk. is_clear desk) stands
+
+  pub refusal_by : refusal_at s name ≡ p.refused
+  refusal_by =
+      ap (λ (o : Option ℕ). given o 0 λ i. given (slice_get s.desks i) 0 λ desk. desk.refused) place
+      ∙ ap (λ (o : Option TheDesk). given o 0 λ desk. desk.refused) stands
 
 -- the job at a place of a list, where it is looked up there
 pub job_read : (jobs : List Job) (i : ℕ) (o : Option (Bor Job)) (next : Option Job) → next ≡ slice_get jobs i → is_some o ≡ nat_lt i (length jobs)

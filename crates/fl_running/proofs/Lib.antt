@@ -15,6 +15,8 @@ pub mod Refusing
 pub mod Rows
 pub mod Desking
 pub mod Sides
+pub mod Crossing
+pub mod Calling
 pub mod Dealing
 pub mod Asking
 pub mod Trying

@@ -1,5 +1,5 @@
 -- Where memory is wanted nothing is half done, but for what is told.
-use Rattle.std.proofs.Common.{◌≡◌, refl, sym, ap, ◌∙◌, subst, inr, ℕ, zero, suc, ◌+◌, ◌<◌, false, Bool, List, length, slice_set, slice_index_or, Result, Ok, Err, arith}
+use Rattle.std.proofs.Common.{◌≡◌, refl, sym, ap, ◌∙◌, subst, inr, ℕ, zero, suc, ◌+◌, ◌<◌, false, Bool, List, length, slice_set, slice_index_or, Option, Some, Result, Ok, Err, arith}
 use Rattle.std.specs.Prelude.{OnErr}
 use Rattle.std.proofs.lemmas.Option.{slice_get_read}
 use Rattle.std.proofs.lemmas.Result.{on_err_weaker}
@@ -9,14 +9,15 @@ use Rattle.fl_value.specs.declared.value.Call.{Call}
 use Rattle.fl_core.proofs.Places.{set_same}
 use Rattle.fl_core.specs.declared.answer.TurnAnswer.{TurnAnswer}
 use Rattle.fl_core.specs.declared.answer.TurnAnswer.TheVariants.{Handle}
+use Rattle.fl_node.specs.View.{place_of}
 use Rattle.fl_running.specs.declared.job.Job.{Job}
 use Rattle.fl_running.specs.declared.lent.Due.{Due}
 use Rattle.fl_running.specs.declared.plan.Plan.{Plan}
 use Rattle.fl_running.specs.declared.run.Part.{Part}
 use Rattle.fl_running.specs.Desks.{TheDesk}
-use Rattle.fl_running.specs.Run.{Ways, TheRun}
+use Rattle.fl_running.specs.Run.{Ways, TheRun, lent_due}
 use Rattle.fl_running.specs.Deeds.{turned, Does}
-use Rattle.fl_running.specs.Steps.{Forwards, Says, Serves, TakesTurn}
+use Rattle.fl_running.specs.Steps.{Forwards, Says, Serves, awaits, due_turn, TurnsIf, TurnsAt, TakesTurn}
 use Rattle.fl_running.specs.Turn.{Swept, ForEach, OneTurn}
 use Rattle.fl_running.specs.Ran.{Task, Moment, CountedTurn, Counted}
 use Rattle.fl_running.specs.Stops.{LeavesJob, LeavesCall, LeavesTurn, StopsIn, StopsAmong, PartOfTurn, in_serves, in_turns, StopsInTurn}
@@ -49,6 +50,17 @@ handled_left w d name due b answer s m t r ready does left =
             (subst (λ (a : TurnAnswer). Does w (turned d name due.inlet a) s m) h.1 does),
       ),
     )) left
+
+-- ---- a turn of a dispatcher, at the end that is due
+
+module _ {S : Type 0} (w : Ways S) (jobs : List Job) (d : ℕ) (name : EndId) (at : Due) (s t : TheRun S) (due_is : Some at ≡ lent_due s d)
+    (name_is : place_of s.core name ≡ Some at.end) where
+  pub taken : (b : Bool) → b ≡ awaits jobs s name → TurnsIf w b (due_turn d name at) s t → TakesTurn w jobs d s t
+  taken b is h =
+      subst (λ (o : Option Due). TurnsAt w jobs d o s t) due_is (name, name_is, subst (λ (c : Bool). TurnsIf w c (due_turn d name at) s t) is h)
+
+  pub left_turn : awaits jobs s name ≡ false → LeavesCall w d name at s t → LeavesTurn w jobs d s t
+  left_turn ready leaves = record { due = at; due_is = sym due_is; name = name; name_is = name_is; ready = ready; leaves = leaves }
 
 -- ---- a part of a turn
 

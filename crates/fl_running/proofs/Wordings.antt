@@ -1,6 +1,7 @@
 -- Words stay usable while refusals are told and learned.
-use Rattle.std.proofs.Common.{◌≡◌, ◌≢◌, sym, ap, ◌∙◌, subst, ℕ, ◌<◌, ◌+◌, ◌⊎◌, inl, inr, ◌==◌, if◌then◌else◌, List, length, slice_get, slice_set, Option, Some, None, Bool, true, false, rules}
+use Rattle.std.proofs.Common.{◌≡◌, ◌≢◌, refl, sym, ap, ◌∙◌, subst, ℕ, ◌<◌, ◌+◌, ◌⊎◌, inl, inr, ◌==◌, if◌then◌else◌, List, length, slice_get, slice_set, slice_index_or, Option, Some, None, Bool, true, false, rules}
 use Rattle.std.specs.List.{slice_index}
+use Rattle.std.proofs.lemmas.Option.{slice_get-get_or}
 use Rattle.fl_hop.proofs.Lists.{set_cases}
 use Rattle.fl_base.specs.declared.identity.EndId.{EndId}
 use Rattle.fl_node.specs.View.{place_of}
@@ -10,7 +11,7 @@ use Rattle.fl_tally.specs.Seats.{TheSeat}
 use Rattle.fl_running.specs.declared.word.Word.{Word}
 use Rattle.fl_running.specs.declared.word.Word.TheVariants.{Silent, Tells, Hears, Refused}
 use Rattle.fl_running.specs.Run.{TheRun}
-use Rattle.fl_running.specs.Words.{refusal_at, MayUse, TellsIf, HearsOf, Exchanges, AreWords}
+use Rattle.fl_running.specs.Words.{refusal_at, MayUse, TellsIf, HearsOf, Exchanges, ExchangesAt, AreWords, stock}
 
 -- ---- one word is replaced
 
@@ -95,12 +96,26 @@ module _ {S : Type 0} (s : TheRun S) (name : EndId) (words : List Word) (k : ℕ
       (λ i is. absurd (no_tells job number i (number == 0) (sym h.3 ∙ is)))
       (λ m x ne there may. heard_may x v.knows job number may))
 
-  pub words_kept : (word : Word) → slice_get words k ≡ Some word → Exchanges s name word v w v2 → AreWords (slice_set words k w) v2.knows
+  words_kept : (word : Word) → slice_get words k ≡ Some word → Exchanges s name word v w v2 → AreWords (slice_set words k w) v2.knows
   words_kept Silent at h = stays Silent at h.0 h.1
   words_kept (Tells job) at h = tells_by job (refusal_at s name) (refusal_at s name == 0) at h
   words_kept (Hears job) at h = hears_by job (place_of s.core name) at h
   words_kept (Refused number) at h = stays (Refused number) at h.0 h.1
 
--- what a word is for may be done
-pub may_at : (words : List Word) (k : ℕ) (word : Word) (v : View) → AreWords words v → slice_get words k ≡ Some word → MayUse word v
-may_at words k word v known at = known.may k word at
+-- ---- at a place of the list
+
+module _ {S : Type 0} (s : TheRun S) (ends : List EndId) (words : List Word) (k : ℕ) (other : EndId) (d : Word) (v v2 : TheSeat) (after : Word)
+    (few : k < length ends) (below : k < length words) (exchanges : Exchanges s (slice_index_or ends k other) (slice_index_or words k d) v after v2) where
+  pub exchanged : ExchangesAt s ends k (stock words v) (stock (slice_set words k after) v2)
+  exchanged = record {
+    name = slice_index_or ends k other;
+    name_is = slice_get-get_or ends k other few;
+    word = slice_index_or words k d;
+    word_is = slice_get-get_or words k d below;
+    after = after;
+    exchanges = exchanges;
+    rest = refl;
+  }
+
+  pub still_words : AreWords words v.knows → AreWords (slice_set words k after) v2.knows
+  still_words known = words_kept s (slice_index_or ends k other) words k v v2 after known (slice_index_or words k d) (slice_get-get_or words k d below) exchanges

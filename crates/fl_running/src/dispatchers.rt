@@ -7,14 +7,14 @@ ghost use Rattle.fl_core.specs.declared.answer.TurnAnswer.TheVariants.{Handle};
 ghost use Rattle.fl_node.specs.View.{place_of, inlet_of};
 ghost use Rattle.fl_running.specs.Run.{ways, run_of, lends_in};
 ghost use Rattle.fl_running.specs.Deeds.{dispatcher_turn, TurnsOver, turned, Does, NotesTurned};
-ghost use Rattle.fl_running.specs.Steps.{awaits, due_turn, TurnsIf, TakesTurn};
+ghost use Rattle.fl_running.specs.Steps.{awaits, TakesTurn};
 ghost use Rattle.fl_running.specs.Turn.{Swept};
-ghost use Rattle.fl_running.specs.Stops.{LeavesCall, LeavesTurn, StopsIn};
+ghost use Rattle.fl_running.specs.Stops.{LeavesTurn, StopsIn};
 
 use crate::desk::find;
 use crate::ends::next_job;
 use crate::job::Job;
-use crate::lent::{Due, lent_due};
+use crate::lent::lent_due;
 use crate::running::{Running, sound, sound_at};
 use fl_base::EndId;
 use fl_core::TurnAnswer;
@@ -110,35 +110,7 @@ fn awaits<S>(run: &Running<S>, jobs: &[Job], name: EndId) -> bool
     }
 }
 
-// A turn of a dispatcher at the end of this name, which is due; it waits while that end has something to wait for.
-fn turn_at<S: PutSide + TakeSide + Drop>(
-    run: &mut Running<S>,
-    jobs: &[Job],
-    dispatcher: usize,
-    name: EndId,
-    at: Due,
-) -> Result<(), AllocError>
-    requires there { dispatcher < length run.old.core.board.dispatchers }
-    requires end { at.end < length run.old.core.board.seats }
-    requires place { place_of run.old.core name ≡ Some at.end }
-    requires due { due run.old.core.board dispatcher ≡ Some at.end }
-    requires inlet { inlet_of run.old.core at.end ≡ Some at.inlet }
-    requires lent { lends_in (run_of run.old) at.inlet ≡ true }
-    ensures turns { OnOk result (TurnsIf (ways S.puts S.takes S.front) (awaits jobs.now (run_of run.old) name) (due_turn dispatcher name at)
-        (run_of run.old) (run_of run.new)) }
-    ensures left { OnErr result ((awaits jobs.now (run_of run.old) name ≡ false)
-        × LeavesCall (ways S.puts S.takes S.front) dispatcher name at (run_of run.old) (run_of run.new)) }
-{
-    sound(run);
-    sound_at(run, name, at.end);
-    if awaits(run, jobs, name) {
-        return Ok(());
-    }
-    let answer = turn_named(run, dispatcher, name, at.end, at.inlet)?;
-    note(run, name, answer)
-}
-
-// One turn of a dispatcher.
+// One turn of a dispatcher, at the end that is due; it waits while that end has something to wait for.
 fn turn<S: PutSide + TakeSide + Drop>(
     run: &mut Running<S>,
     jobs: &[Job],
@@ -147,13 +119,17 @@ fn turn<S: PutSide + TakeSide + Drop>(
     ensures turns { OnOk result (TakesTurn (ways S.puts S.takes S.front) jobs.now dispatcher (run_of run.old) (run_of run.new)) }
     ensures left { OnErr result (LeavesTurn (ways S.puts S.takes S.front) jobs.now dispatcher (run_of run.old) (run_of run.new)) }
 {
-    match lent_due(run, dispatcher) {
-        None => Ok(()),
-        Some(due) => {
-            let name = run.core.name(due.end);
-            turn_at(run, jobs, dispatcher, name, due)
-        }
+    sound(run);
+    let Some(at) = lent_due(run, dispatcher) else {
+        return Ok(());
+    };
+    let name = run.core.name(at.end);
+    sound_at(run, name, at.end);
+    if awaits(run, jobs, name) {
+        return Ok(());
     }
+    let answer = turn_named(run, dispatcher, name, at.end, at.inlet)?;
+    note(run, name, answer)
 }
 
 /// A turn for each dispatcher.

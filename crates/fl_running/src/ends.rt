@@ -1,13 +1,11 @@
 //! What is done for an end: its next job, a write, an acknowledgement.
 
-ghost use Rattle.std.specs.Prelude.{◌≡◌, ◌<◌, true, false, length, Some, Ok, IfOk, IfSome, IfNone, OnOk, OnErr, None};
-ghost use Rattle.fl_value.specs.Value.{call_of};
-ghost use Rattle.fl_node.specs.View.{place_of, inlet_of};
-ghost use Rattle.fl_node.specs.declared.wire.Inlet.TheVariants.{Side};
+ghost use Rattle.std.specs.Prelude.{◌≡◌, ◌<◌, true, false, length, Some, Ok, IfSome, IfNone, OnOk, OnErr, None};
+ghost use Rattle.fl_node.specs.View.{place_of};
 ghost use Rattle.fl_running.specs.Run.{ways, run_of, AtDesk, lends_out, lent_post, next_job};
 ghost use Rattle.fl_running.specs.Desks.{advanced};
 ghost use Rattle.fl_running.specs.Inside.{HasNext};
-ghost use Rattle.fl_running.specs.Deeds.{called, ruled, wrote, acked, Does, NotesCalled};
+ghost use Rattle.fl_running.specs.Deeds.{wrote, Does};
 ghost use Rattle.fl_running.specs.Steps.{lacks_to_call, Tries, WritesFrom, Serves, Acknowledges, CallsAt, reply_rule, RulesAt};
 ghost use Rattle.fl_running.specs.Turn.{ForEach};
 ghost use Rattle.fl_running.specs.Stops.{LeavesJob, StopsAmong};
@@ -18,7 +16,6 @@ use crate::lent::{lent_berth, lent_post};
 use crate::opening::open;
 use crate::running::{Running, sound, sound_at};
 use fl_base::{EndId, MsgNo};
-use fl_core::{AckAnswer, BoardFault};
 use fl_endpoint::{EndFault, WriteAnswer};
 use fl_link::{PutSide, TakeSide};
 use fl_node::Outlet;
@@ -53,27 +50,6 @@ fn is_memory(answer: Result<(), EndFault>) -> bool
     }
 }
 
-// Makes a call at an end.
-fn call<S: PutSide + TakeSide + Drop>(
-    run: &mut Running<S>,
-    name: EndId,
-    e: usize,
-    call: &Call,
-) -> Result<Result<(), EndFault>, AllocError>
-    requires there { e < length run.old.core.board.seats }
-    requires place { place_of run.old.core name ≡ Some e }
-    ensures called { IfOk result (λ answer. Does (ways S.puts S.takes S.front) (called name (call_of call.now) answer) (run_of run.old) (run_of run.new)) }
-    ensures memory { IfOk result (λ answer. lacks_to_call answer ≡ false) }
-    ensures kept { OnErr result (run_of run.new ≡ run_of run.old) }
-    ensures left { HasNext name (run_of run.old) → HasNext name (run_of run.new) }
-{
-    let answer = run.core.call(e, call);
-    if is_memory(answer) {
-        return Err(AllocError);
-    }
-    Ok(answer)
-}
-
 // The next job of an end is done.
 pub(crate) fn advance<S>(run: &mut Running<S>, name: EndId)
     requires left { HasNext name (run_of run.old) }
@@ -84,18 +60,7 @@ pub(crate) fn advance<S>(run: &mut Running<S>, name: EndId)
     }
 }
 
-// Notes a call that was made; one that was refused waits.
-fn note<S>(run: &mut Running<S>, name: EndId, answer: Result<(), EndFault>)
-    requires left { HasNext name (run_of run.old) }
-    ensures notes { NotesCalled name answer (run_of run.old) (run_of run.new) }
-{
-    match answer {
-        Ok(()) => advance(run, name),
-        Err(_) => (),
-    }
-}
-
-// Tries to make the next call of an end.
+// Tries to make the next call of an end; one that is refused waits.
 fn try_call<S: PutSide + TakeSide + Drop>(
     run: &mut Running<S>,
     name: EndId,
@@ -114,27 +79,17 @@ fn try_call<S: PutSide + TakeSide + Drop>(
             if run.core.board().end(e).is_busy() {
                 return Ok(());
             }
-            let answer = call(run, name, e, next)?;
-            note(run, name, answer);
+            let answer = run.core.call(e, next);
+            if is_memory(answer) {
+                return Err(AllocError);
+            }
+            match answer {
+                Ok(()) => advance(run, name),
+                Err(_) => (),
+            }
             Ok(())
         }
     }
-}
-
-// Sets a reply rule at an end.
-fn rule<S: PutSide + TakeSide + Drop>(
-    run: &mut Running<S>,
-    name: EndId,
-    e: usize,
-    msg: MsgNo,
-    reply: MsgNo,
-) -> Result<(), EndFault>
-    requires there { e < length run.old.core.board.seats }
-    requires place { place_of run.old.core name ≡ Some e }
-    ensures ruled { Does (ways S.puts S.takes S.front) (ruled name msg reply result) (run_of run.old) (run_of run.new) }
-    ensures left { HasNext name (run_of run.old) → HasNext name (run_of run.new) }
-{
-    run.core.reply_rule(e, msg, reply)
 }
 
 // Sets the rule that is the next job of an end, where that is there.
@@ -152,7 +107,7 @@ fn try_rule<S: PutSide + TakeSide + Drop>(
         None => (),
         Some(e) => {
             sound_at(run, name, e);
-            let _ = rule(run, name, e, msg, reply);
+            let _ = run.core.reply_rule(e, msg, reply);
             advance(run, name);
         }
     }
@@ -217,20 +172,6 @@ fn write<S: PutSide + TakeSide + Drop>(run: &mut Running<S>, name: EndId)
     }
 }
 
-// Its next job, where that can be done, and one write.
-fn serve<S: PutSide + TakeSide + Drop>(
-    run: &mut Running<S>,
-    name: EndId,
-    jobs: &[Job],
-) -> Result<(), AllocError>
-    ensures serves { OnOk result (Serves (ways S.puts S.takes S.front) jobs.now name (run_of run.old) (run_of run.new)) }
-    ensures left { OnErr result (LeavesJob name (run_of run.old) (run_of run.new)) }
-{
-    try_job(run, jobs, name)?;
-    write(run, name);
-    Ok(())
-}
-
 /// For each end its next job, where that can be done, and one write.
 pub(crate) fn serve_all<S: PutSide + TakeSide + Drop>(
     run: &mut Running<S>,
@@ -241,28 +182,14 @@ pub(crate) fn serve_all<S: PutSide + TakeSide + Drop>(
     ensures stops { OnErr result (StopsAmong ends.now (Serves (ways S.puts S.takes S.front) jobs.now) LeavesJob (run_of run.old) (run_of run.new)) }
 {
     for k in 0..ends.len() {
-        serve(run, ends[k], jobs)?;
+        let name = ends[k];
+        try_job(run, jobs, name)?;
+        write(run, name);
     }
     Ok(())
 }
 
 // ---- acknowledgements
-
-// Tells what was taken at an end of a ring.
-fn ack_over<S: PutSide + TakeSide + Drop>(
-    run: &mut Running<S>,
-    name: EndId,
-    e: usize,
-    n: usize,
-) -> Result<AckAnswer, BoardFault>
-    requires there { e < length run.old.core.board.seats }
-    requires place { place_of run.old.core name ≡ Some e }
-    requires inlet { inlet_of run.old.core e ≡ Some (Side n) }
-    requires side { n < length run.old.rings.items }
-    ensures acked { Does (ways S.puts S.takes S.front) (acked name n result) (run_of run.old) (run_of run.new) }
-{
-    run.core.ack(e, &mut run.rings[n])
-}
 
 // One acknowledgement of an end, where it is a ring's.
 fn ack<S: PutSide + TakeSide + Drop>(run: &mut Running<S>, name: EndId)
@@ -272,7 +199,7 @@ fn ack<S: PutSide + TakeSide + Drop>(run: &mut Running<S>, name: EndId)
     match lent_berth(run, name) {
         None => (),
         Some(berth) => {
-            let _ = ack_over(run, name, berth.end, berth.side);
+            let _ = run.core.ack(berth.end, &mut run.rings[berth.side]);
         }
     }
 }

@@ -2,7 +2,7 @@
 
 ghost use Rattle.std.specs.Prelude.{◌≡◌, ◌<◌, length};
 ghost use Rattle.fl_running.specs.Run.{run_of};
-ghost use Rattle.fl_running.specs.Finished.{is_at_rest, is_desk_clear, is_done_at, is_done, is_finished};
+ghost use Rattle.fl_running.specs.Finished.{is_at_rest, is_desk_clear, is_done_at, is_finished};
 
 use crate::desk::find;
 use crate::running::Running;
@@ -44,23 +44,13 @@ fn is_done_at<S>(run: &Running<S>, name: EndId, word: Word) -> bool
     }
 }
 
-// Whether that is so at the end of a place of the list.
-fn is_done<S>(run: &Running<S>, ends: &[EndId], words: &[Word], k: usize) -> bool
-    requires end { k < length ends.now }
-    requires word { k < length words.now }
-    ensures done { result ≡ is_done (run_of run.now) ends.now words.now k }
-{
-    is_done_at(run, ends[k], words[k])
-}
-
 /// Whether nothing is left to do.
-#[tactic(auto, using(crate::proofs::Stock::not_all_done))]
 pub(crate) fn is_finished<S>(run: &Running<S>, ends: &[EndId], words: &[Word]) -> bool
     requires { length words.now ≡ length ends.now }
     ensures finished { result ≡ is_finished (run_of run.now) ends.now words.now }
 {
     for k in 0..ends.len() {
-        if !is_done(run, ends, words, k) {
+        if !is_done_at(run, ends[k], words[k]) {
             return false;
         }
     }

@@ -5,7 +5,7 @@ use fl_monitor::Opening;
 use fl_value::Call;
 
 /// A circuit that is to be asked for, by the core of its client's end.
-#[derive(Clone, Copy, Debug, PartialEq, Eq)]
+#[derive(Clone, Copy)]
 pub struct Wish {
     /// The client's dispatcher, by its place at the core.
     pub dispatcher: usize,

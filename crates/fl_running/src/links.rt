@@ -1,44 +1,27 @@
 //! What is done for a link: a forward, a monitor write, an acknowledgement.
 
-ghost use Rattle.std.specs.Prelude.{◌≡◌, ◌≢◌, ◌<◌, false, ℕ, length, slice_get, Some, Ok, IfOk, OnOk, OnErr};
+ghost use Rattle.std.specs.Prelude.{◌≡◌, ◌≢◌, ◌<◌, false, length, slice_get, Some, Ok, IfOk, OnOk, OnErr};
 ghost use Rattle.fl_base.specs.Control.{is_ack_only, with_circuit, bare};
 ghost use Rattle.fl_base.specs.declared.fragment.Frag.{Frag as TheFrag};
 ghost use Rattle.fl_link.specs.Looks.{saw, found};
 ghost use Rattle.fl_running.specs.Run.{ways, run_of};
-ghost use Rattle.fl_running.specs.Deeds.{PutsAt, TakesAt, looked, passed, arrived, heard, said, told, Does, NotesHeard};
+ghost use Rattle.fl_running.specs.Deeds.{passed, arrived, heard, Does, NotesHeard};
 ghost use Rattle.fl_running.specs.Steps.{lacks_to_hear, Deals, Forwards, Says, Tells};
 ghost use Rattle.fl_running.specs.Turn.{ForEach};
 ghost use Rattle.fl_running.specs.Stops.{LeavesMessage, StopsAmong};
 ghost use Rattle.fl_node.specs.declared.answer.Ahead.TheVariants.{Message};
-ghost use Rattle.fl_running.specs.Inside.{Fronts, Foresees, put_label};
+ghost use Rattle.fl_running.specs.Inside.{Fronts, Foresees};
 
 use crate::desk::find;
 use crate::lent::lent_lane;
 use crate::running::{Running, sound};
 use fl_base::{Circuit, EndId, Frag, LinkId};
-use fl_core::AckAnswer;
 use fl_hop::Outcome;
 use fl_link::{PutFault, PutSide, TakeSide};
-use fl_node::{Ahead, LinkFault, MonitorAnswer, MonitorWrite};
+use fl_node::{Ahead, LinkFault, MonitorAnswer};
 use std::alloc::AllocError;
 
 // ---- forwards
-
-// Looks at what stands first on a link.
-fn look<S: PutSide + TakeSide + Drop>(
-    run: &mut Running<S>,
-    n: usize,
-    link: LinkId,
-) -> Result<Ahead, LinkFault>
-    requires side { n < length run.old.rings.items }
-    requires link { link.0 < length run.old.core.lanes }
-    ensures looked { Does (ways S.puts S.takes S.front) (looked n link result) (run_of run.old) (run_of run.new) }
-    ensures foreseen { Foresees (ways S.puts S.takes S.front) n result (run_of run.new) }
-    ensures side { n < length run.new.rings.items }
-    ensures link { link.0 < length run.new.core.lanes }
-{
-    run.core.look(link, &mut run.rings[n])
-}
 
 // Whether memory was refused.
 fn is_memory(answer: Result<MonitorAnswer, LinkFault>) -> bool
@@ -70,6 +53,9 @@ fn hear<S: PutSide + TakeSide + Drop>(
     if is_memory(answer) {
         return Err(AllocError);
     }
+    if !matches!(answer, Ok(MonitorAnswer::Full)) {
+        run.idle = 0;
+    }
     Ok(answer)
 }
 
@@ -85,30 +71,7 @@ fn note<S>(run: &mut Running<S>, answer: Result<MonitorAnswer, LinkFault>)
     }
 }
 
-// Puts a fragment at a side.
-fn put_at<S: PutSide + TakeSide + Drop>(
-    run: &mut Running<S>,
-    n: usize,
-    frag: &Frag,
-) -> Result<(), PutFault>
-    requires side { n < length run.old.rings.items }
-    requires call { is_ack_only frag.now ≡ false }
-    ensures puts { PutsAt (ways S.puts S.takes S.front) n (put_label frag.now result) (run_of run.old) (run_of run.new) }
-{
-    run.rings[n].put(frag)
-}
-
-// Takes a fragment that was seen to stand first at a side.
-fn take_at<S: PutSide + TakeSide + Drop>(run: &mut Running<S>, n: usize, frag: &Frag)
-    requires side { n < length run.old.rings.items }
-    requires seen { Fronts (ways S.puts S.takes S.front) n frag.now (run_of run.old) }
-    ensures takes { TakesAt (ways S.puts S.takes S.front) n (found (bare frag.now)) (run_of run.old) (run_of run.new) }
-{
-    let _ = run.rings[n].take();
-}
-
 // Passes on a fragment that was seen to stand first on one side, over another.
-#[tactic(auto, using(crate::proofs::Foreseen::stands_elsewhere))]
 fn cross<S: PutSide + TakeSide + Drop>(
     run: &mut Running<S>,
     from: usize,
@@ -124,11 +87,12 @@ fn cross<S: PutSide + TakeSide + Drop>(
     ensures passed { Does (ways S.puts S.takes S.front) (passed from to frag.now circuit result) (run_of run.old) (run_of run.new) }
 {
     let sent = frag.with_circuit(circuit);
-    match put_at(run, to, &sent) {
+    match run.rings[to].put(&sent) {
         Err(PutFault::Full) => Outcome::Full,
         Err(PutFault::Spent) => Outcome::Spent,
         Ok(()) => {
-            take_at(run, from, frag);
+            let _ = run.rings[from].take();
+            run.idle = 0;
             Outcome::Moved
         }
     }
@@ -174,17 +138,11 @@ fn deal<S: PutSide + TakeSide + Drop>(
         Ok(Ahead::Message(frag)) => {
             let answer = hear(run, n, link, &frag)?;
             note(run, answer);
-            if !matches!(answer, Ok(MonitorAnswer::Full)) {
-                run.idle = 0;
-            }
             Ok(())
         }
         Ok(Ahead::Onward(frag, to, circuit)) => {
             if to != n && to < run.rings.len() {
-                let outcome = cross(run, n, to, &frag, circuit);
-                if matches!(outcome, Outcome::Moved) {
-                    run.idle = 0;
-                }
+                let _ = cross(run, n, to, &frag, circuit);
             }
             Ok(())
         }
@@ -210,7 +168,7 @@ fn forward<S: PutSide + TakeSide + Drop>(
     match lent_lane(run, link) {
         None => Ok(()),
         Some(n) => {
-            let found = look(run, n, link);
+            let found = run.core.look(link, &mut run.rings[n]);
             deal(run, n, link, found)
         }
     }
@@ -233,18 +191,6 @@ pub(crate) fn forward_all<S: PutSide + TakeSide + Drop>(
 
 // ---- monitor writes
 
-// The monitor writes over a side.
-fn say_over<S: PutSide + TakeSide + Drop>(
-    run: &mut Running<S>,
-    n: usize,
-    link: LinkId,
-) -> MonitorWrite
-    requires side { n < length run.old.rings.items }
-    ensures said { Does (ways S.puts S.takes S.front) (said n link result) (run_of run.old) (run_of run.new) }
-{
-    run.core.monitor_write(link, &mut run.rings[n])
-}
-
 // One monitor write.
 fn say<S: PutSide + TakeSide + Drop>(run: &mut Running<S>, link: LinkId)
     ensures says { Says (ways S.puts S.takes S.front) link (run_of run.old) (run_of run.new) }
@@ -253,7 +199,7 @@ fn say<S: PutSide + TakeSide + Drop>(run: &mut Running<S>, link: LinkId)
     match lent_lane(run, link) {
         None => (),
         Some(n) => {
-            let _ = say_over(run, n, link);
+            let _ = run.core.monitor_write(link, &mut run.rings[n]);
         }
     }
 }
@@ -269,19 +215,6 @@ pub(crate) fn say_all<S: PutSide + TakeSide + Drop>(run: &mut Running<S>, links:
 
 // ---- acknowledgements
 
-// Tells what was taken over a side.
-fn tell_over<S: PutSide + TakeSide + Drop>(
-    run: &mut Running<S>,
-    n: usize,
-    link: LinkId,
-) -> AckAnswer
-    requires side { n < length run.old.rings.items }
-    requires link { link.0 < length run.old.core.lanes }
-    ensures told { Does (ways S.puts S.takes S.front) (told n link result) (run_of run.old) (run_of run.new) }
-{
-    run.core.monitor_ack(link, &mut run.rings[n])
-}
-
 // One acknowledgement.
 fn tell<S: PutSide + TakeSide + Drop>(run: &mut Running<S>, link: LinkId)
     ensures tells { Tells (ways S.puts S.takes S.front) link (run_of run.old) (run_of run.new) }
@@ -290,7 +223,7 @@ fn tell<S: PutSide + TakeSide + Drop>(run: &mut Running<S>, link: LinkId)
     match lent_lane(run, link) {
         None => (),
         Some(n) => {
-            let _ = tell_over(run, n, link);
+            let _ = run.core.monitor_ack(link, &mut run.rings[n]);
         }
     }
 }

@@ -1,11 +1,10 @@
 //! A job that opens a circuit.
 
-ghost use Rattle.std.specs.Prelude.{◌≡◌, ◌<◌, true, false, length, None, Ok, Err, IfOk, OnOk, OnErr};
+ghost use Rattle.std.specs.Prelude.{◌≡◌, ◌<◌, length, IfOk, OnOk, OnErr};
 ghost use Rattle.fl_monitor.specs.Monitors.{can_say};
-ghost use Rattle.fl_node.specs.View.{place_of, client_of};
 ghost use Rattle.fl_running.specs.Run.{ways, run_of, AtDesk};
 ghost use Rattle.fl_running.specs.Desks.{advanced, with_refusal};
-ghost use Rattle.fl_running.specs.Deeds.{IsCopyOf, opened, NotesOpened, Does};
+ghost use Rattle.fl_running.specs.Deeds.{IsCopyOf, NotesOpened};
 ghost use Rattle.fl_running.specs.Steps.{lacks_to_open, may_ask, OpensIf};
 ghost use Rattle.fl_running.specs.Inside.{HasNext};
 
@@ -64,42 +63,15 @@ fn copy<S>(run: &Running<S>, n: usize) -> Result<Program, AllocError>
 }
 
 // Whether memory was refused.
-fn is_memory(fault: OpenFault) -> bool
-    ensures memory { result ≡ lacks_to_open (Err fault) }
+fn is_memory(answer: Result<usize, OpenFault>) -> bool
+    ensures memory { result ≡ lacks_to_open answer }
 {
-    match fault {
-        OpenFault::Board(fault) => matches!(fault, BoardFault::Memory),
-        OpenFault::Monitor(fault) => matches!(fault, MonitorFault::Memory),
-    }
-}
-
-// Asks for a circuit.
-fn ask<S: PutSide + TakeSide + Drop>(
-    run: &mut Running<S>,
-    name: EndId,
-    wish: &Wish,
-) -> Result<Result<usize, OpenFault>, AllocError>
-    requires dispatcher { wish.now.dispatcher < length run.old.core.board.dispatchers }
-    requires program { wish.now.interface < length run.old.programs.items }
-    requires few { wish.now.opening.binding < 1024 }
-    requires new { place_of run.old.core (client_of wish.now.opening.binding) ≡ None }
-    ensures opened { IfOk result (λ answer. Does (ways S.puts S.takes S.front) (opened name wish.now answer) (run_of run.old) (run_of run.new)) }
-    ensures memory { IfOk result (λ answer. lacks_to_open answer ≡ false) }
-    ensures kept { OnErr result (run_of run.new ≡ run_of run.old) }
-    ensures left { HasNext name (run_of run.old) → HasNext name (run_of run.new) }
-{
-    let program = copy(run, wish.interface)?;
-    match run
-        .core
-        .open(wish.dispatcher, program, wish.link, &wish.opening)
-    {
-        Ok(e) => Ok(Ok(e)),
-        Err(fault) => {
-            if is_memory(fault) {
-                return Err(AllocError);
-            }
-            Ok(Err(fault))
-        }
+    match answer {
+        Ok(_) => false,
+        Err(fault) => match fault {
+            OpenFault::Board(fault) => matches!(fault, BoardFault::Memory),
+            OpenFault::Monitor(fault) => matches!(fault, MonitorFault::Memory),
+        },
     }
 }
 
@@ -141,7 +113,13 @@ pub(crate) fn open<S: PutSide + TakeSide + Drop>(
     if !may_ask(run, wish) {
         return Ok(());
     }
-    let answer = ask(run, name, wish)?;
+    let program = copy(run, wish.interface)?;
+    let answer = run
+        .core
+        .open(wish.dispatcher, program, wish.link, &wish.opening);
+    if is_memory(answer) {
+        return Err(AllocError);
+    }
     note(run, name, answer);
     Ok(())
 }

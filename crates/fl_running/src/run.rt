@@ -22,7 +22,7 @@ use std::alloc::AllocError;
 use std::sync::Wait;
 
 /// How a core's counted turns came to an end.
-#[derive(Clone, Copy, Debug, PartialEq, Eq)]
+#[derive(Clone, Copy, PartialEq, Eq)]
 pub enum End {
     /// Nothing was left to do.
     Finished,
@@ -132,7 +132,6 @@ fn idle_turns<R: Wait, S: PutSide + TakeSide + Drop, G: Gate>(
 }
 
 // The whole run, but for what is told where memory is refused.
-#[tactic(auto, using(crate::proofs::Counting::ran_unfinished, crate::proofs::Counting::ran_finished))]
 fn run_through<R: Wait, S: PutSide + TakeSide + Drop, G: Gate>(
     rt: &R,
     run: &mut Running<S>,

@@ -1,7 +1,6 @@
 //! What a core knows of openings, and tells of them.
 
-ghost use Rattle.std.specs.Prelude.{◌≡◌, ◌<◌, ℕ, List, length, slice_get, slice_set, Some};
-ghost use Rattle.fl_running.specs.declared.word.Word.{Word as WordOf};
+ghost use Rattle.std.specs.Prelude.{◌≡◌, ◌<◌, length};
 ghost use Rattle.fl_running.specs.Run.{run_of};
 ghost use Rattle.fl_running.specs.Words.{refusal_at, MayUse, Exchanges, ExchangesAt, AreWords, stock, ExchangesAll, SaidNothing};
 
@@ -63,19 +62,7 @@ fn exchange<S>(run: &Running<S>, name: EndId, word: Word, seat: &mut EndSeat) ->
     }
 }
 
-// The same; whatever else the words of a core are for may still be done.
-fn exchange_one<S>(run: &Running<S>, name: EndId, word: Word, seat: &mut EndSeat) -> Word
-    requires may { MayUse word seat.old.knows }
-    ensures exchanges { Exchanges (run_of run.now) name word seat.old result seat.new }
-    ensures quiet { SaidNothing seat.old seat.new }
-    ensures kept { (words : List WordOf) (k : ℕ) → slice_get words k ≡ Some word → AreWords words seat.old.knows
-        → AreWords (slice_set words k result) seat.new.knows }
-{
-    exchange(run, name, word, seat)
-}
-
 // Does so for the end at a place of the list.
-#[tactic(auto, using(crate::proofs::Wordings::may_at))]
 fn exchange_at<S>(
     run: &Running<S>,
     ends: &[EndId],
@@ -91,7 +78,7 @@ fn exchange_at<S>(
     ensures may { AreWords words.new seat.new.knows }
     ensures quiet { SaidNothing seat.old seat.new }
 {
-    words[k] = exchange_one(run, ends[k], words[k], seat);
+    words[k] = exchange(run, ends[k], words[k], seat);
 }
 
 /// For each end tells a refusal that is to be told, and learns of one where the end isn't there.

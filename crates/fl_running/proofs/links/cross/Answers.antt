@@ -1,17 +1,41 @@
-use Rattle.std.proofs.Common.{◌≡◌, sym, subst, false}
-use Rattle.fl_base.specs.Control.{is_ack_only, bare}
+use Rattle.std.proofs.Common.{◌≡◌, ◌∙◌, refl, sym, ap, subst, false, Err}
+use Rattle.fl_base.specs.Control.{is_ack_only}
 use Rattle.fl_base.specs.declared.fragment.Frag.{Frag}
-use Rattle.fl_link.specs.Looks.{placed}
-use Rattle.fl_running.specs.Deeds.{PutsAt}
 use Rattle.fl_running.specs.Run.{ways, run_of}
-use Rattle.fl_running.proofs.Foreseen.{stands_elsewhere}
+use Rattle.fl_running.specs.Deeds.{passing}
+use Rattle.fl_running.proofs.Foreseen.{passed_on}
+use Rattle.fl_running.proofs.Sides.{stands}
 use Rattle.fl_running.proofs.links.cross.Goals as goal
 
-pub put_at-requires-clause-side : goal.put_at-requires-clause-side
-put_at-requires-clause-side g c = c.requires.to
+pub put-requires : goal.put-requires
+put-requires g c = record { «data» = subst (λ (f : Frag). is_ack_only f ≡ false) (sym c.with_circuit-sent.ensures.set) c.requires.call }
 
-pub put_at-requires-clause-call : goal.put_at-requires-clause-call
-put_at-requires-clause-call g c = subst (λ (f : Frag). is_ack_only f ≡ false) (sym c.with_circuit-sent.ensures.set) c.requires.call
+pub returns-in-Err-Full : goal.returns-in-Err-Full
+returns-in-Err-Full g c = record {
+  passed = record {
+    before = c.index_mut.result.now;
+    before_is = stands (run_of c.args.run.now) c.args.to c.index_mut.result.now c.requires.to c.index_mut.ensures.value;
+    after = c.put.new.self;
+    event = (c.put.ensures.full (c.in-Err-Full.is ∙ ap Err c.in-Err-Full.field-0-is), refl);
+    rest = refl;
+  };
+}
 
-pub take_at-requires-clause-seen : goal.take_at-requires-clause-seen
-take_at-requires-clause-seen g c = stands_elsewhere (ways g.S.PutSide.puts g.S.TakeSide.takes g.S.TakeSide.front) c.args.from c.args.to _ c.args.frag.now (run_of c.args.run.now) (run_of c.put_at.new.run) c.requires.two c.put_at.ensures.puts c.requires.seen
+pub returns-in-Err-Spent : goal.returns-in-Err-Spent
+returns-in-Err-Spent g c = record {
+  passed = record {
+    before = c.index_mut.result.now;
+    before_is = stands (run_of c.args.run.now) c.args.to c.index_mut.result.now c.requires.to c.index_mut.ensures.value;
+    after = c.put.new.self;
+    event = (c.put.ensures.spent (c.in-Err-Spent.is ∙ ap Err c.in-Err-Spent.field-0-is), refl);
+    rest = refl;
+  };
+}
+
+pub returns-in-Ok : goal.returns-in-Ok
+returns-in-Ok g c = record {
+  passed = passed_on (ways g.S.PutSide.puts g.S.TakeSide.takes g.S.TakeSide.front) (run_of c.args.run.now) (passing c.args.from c.args.to c.args.frag.now c.args.circuit) c.with_circuit-sent.result
+      c.index_mut.result.now c.put.new.self c.index_mut-in-Ok.result.now c.take.new.self _ c.requires.from c.requires.to c.requires.two
+      c.index_mut.ensures.value c.index_mut-in-Ok.ensures.value c.with_circuit-sent.ensures.set c.in-Ok.ensures.placed c.requires.seen
+      c.take.ensures.«data» c.take.ensures.look;
+}

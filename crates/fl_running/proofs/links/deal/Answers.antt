@@ -1,4 +1,4 @@
-use Rattle.std.proofs.Common.{◌≡◌, ◌∙◌, refl, sym, ap, inl, Ok}
+use Rattle.std.proofs.Common.{◌∙◌, refl, ap, inl, Ok}
 use Rattle.fl_node.specs.declared.answer.Ahead.TheVariants.{Acknowledged, Message, Onward, Arrival}
 use Rattle.fl_running.specs.Run.{ways, run_of}
 use Rattle.fl_running.proofs.Dealing.{foreseen, dealt}
@@ -12,11 +12,11 @@ pub returns-in_err-answer-in-Ok-Message-clause-left : goal.returns-in_err-answer
 returns-in_err-answer-in-Ok-Message-clause-left g c = on_err c.from_residual.result
     (c.in-Ok-Message.frag, c.in-Ok-Message.is ∙ ap Ok (rw c.in-Ok-Message.is at c.in-Ok-Message.field-0-is), c.in_err-answer-in-Ok-Message.ensures.kept)
 
-pub cross-outcome-requires-clause-seen : goal.cross-outcome-requires-clause-seen
-cross-outcome-requires-clause-seen g c = (foreseen (ways g.S.PutSide.puts g.S.TakeSide.takes g.S.TakeSide.front) c.args.n c.args.link c.args.found c.in-Ok-Onward.field-0 (Onward c.in-Ok-Onward.frag c.in-Ok-Onward.to c.in-Ok-Onward.circuit) (run_of c.args.run.now) c.in-Ok-Onward.is (rw c.in-Ok-Onward.is at c.in-Ok-Onward.field-0-is) c.requires.foreseen).0
+pub cross-requires-clause-seen : goal.cross-requires-clause-seen
+cross-requires-clause-seen g c = (foreseen (ways g.S.PutSide.puts g.S.TakeSide.takes g.S.TakeSide.front) c.args.n c.args.link c.args.found c.in-Ok-Onward.field-0 (Onward c.in-Ok-Onward.frag c.in-Ok-Onward.to c.in-Ok-Onward.circuit) (run_of c.args.run.now) c.in-Ok-Onward.is (rw c.in-Ok-Onward.is at c.in-Ok-Onward.field-0-is) c.requires.foreseen).0
 
-pub cross-outcome-requires-clause-call : goal.cross-outcome-requires-clause-call
-cross-outcome-requires-clause-call g c = (foreseen (ways g.S.PutSide.puts g.S.TakeSide.takes g.S.TakeSide.front) c.args.n c.args.link c.args.found c.in-Ok-Onward.field-0 (Onward c.in-Ok-Onward.frag c.in-Ok-Onward.to c.in-Ok-Onward.circuit) (run_of c.args.run.now) c.in-Ok-Onward.is (rw c.in-Ok-Onward.is at c.in-Ok-Onward.field-0-is) c.requires.foreseen).1
+pub cross-requires-clause-call : goal.cross-requires-clause-call
+cross-requires-clause-call g c = (foreseen (ways g.S.PutSide.puts g.S.TakeSide.takes g.S.TakeSide.front) c.args.n c.args.link c.args.found c.in-Ok-Onward.field-0 (Onward c.in-Ok-Onward.frag c.in-Ok-Onward.to c.in-Ok-Onward.circuit) (run_of c.args.run.now) c.in-Ok-Onward.is (rw c.in-Ok-Onward.is at c.in-Ok-Onward.field-0-is) c.requires.foreseen).1
 
 pub arrive-outcome-requires-clause-seen : goal.arrive-outcome-requires-clause-seen
 arrive-outcome-requires-clause-seen g c = (foreseen (ways g.S.PutSide.puts g.S.TakeSide.takes g.S.TakeSide.front) c.args.n c.args.link c.args.found c.in-Ok-Arrival.field-0 (Arrival c.in-Ok-Arrival.frag c.in-Ok-Arrival.end) (run_of c.args.run.now) c.in-Ok-Arrival.is (rw c.in-Ok-Arrival.is at c.in-Ok-Arrival.field-0-is) c.requires.foreseen).0
@@ -27,26 +27,18 @@ arrive-outcome-requires-clause-call g c = (foreseen (ways g.S.PutSide.puts g.S.T
 pub returns-in-Ok-Acknowledged-clause-deals : goal.returns-in-Ok-Acknowledged-clause-deals
 returns-in-Ok-Acknowledged-clause-deals g c = dealt (ways g.S.PutSide.puts g.S.TakeSide.takes g.S.TakeSide.front) c.args.n c.args.link c.args.found c.in-Ok-Acknowledged.field-0 Acknowledged (run_of c.args.run.now) c.in-Ok-Acknowledged.is (rw c.in-Ok-Acknowledged.is at c.in-Ok-Acknowledged.field-0-is) (run_of c.args.run.now) refl
 
-pub returns-then-not-matches-clause-deals : goal.returns-then-not-matches-clause-deals
-returns-then-not-matches-clause-deals g c = dealt (ways g.S.PutSide.puts g.S.TakeSide.takes g.S.TakeSide.front) c.args.n c.args.link c.args.found c.in-Ok-Message.field-0 (Message c.in-Ok-Message.frag) (run_of c.args.run.now) c.in-Ok-Message.is (rw c.in-Ok-Message.is at c.in-Ok-Message.field-0-is) (run_of c.note.new.run)
+pub returns-in_ok-answer-in-Ok-Message-clause-deals : goal.returns-in_ok-answer-in-Ok-Message-clause-deals
+returns-in_ok-answer-in-Ok-Message-clause-deals g c = dealt (ways g.S.PutSide.puts g.S.TakeSide.takes g.S.TakeSide.front) c.args.n c.args.link c.args.found c.in-Ok-Message.field-0 (Message c.in-Ok-Message.frag) (run_of c.args.run.now) c.in-Ok-Message.is (rw c.in-Ok-Message.is at c.in-Ok-Message.field-0-is) (run_of c.note.new.run)
     (c.in_ok-answer-in-Ok-Message.answer, (run_of c.hear.new.run, c.in_ok-answer-in-Ok-Message.ensures.heard, c.note.ensures.notes, c.sound.ensures.sound, tt), c.in_ok-answer-in-Ok-Message.ensures.memory)
 
-pub returns-else-not-matches-clause-deals : goal.returns-else-not-matches-clause-deals
-returns-else-not-matches-clause-deals g c = dealt (ways g.S.PutSide.puts g.S.TakeSide.takes g.S.TakeSide.front) c.args.n c.args.link c.args.found c.in-Ok-Message.field-0 (Message c.in-Ok-Message.frag) (run_of c.args.run.now) c.in-Ok-Message.is (rw c.in-Ok-Message.is at c.in-Ok-Message.field-0-is) (run_of c.note.new.run)
-    (c.in_ok-answer-in-Ok-Message.answer, (run_of c.hear.new.run, c.in_ok-answer-in-Ok-Message.ensures.heard, c.note.ensures.notes, c.sound.ensures.sound, tt), c.in_ok-answer-in-Ok-Message.ensures.memory)
+pub returns-then-to-len-clause-deals : goal.returns-then-to-len-clause-deals
+returns-then-to-len-clause-deals g c = dealt (ways g.S.PutSide.puts g.S.TakeSide.takes g.S.TakeSide.front) c.args.n c.args.link c.args.found c.in-Ok-Onward.field-0 (Onward c.in-Ok-Onward.frag c.in-Ok-Onward.to c.in-Ok-Onward.circuit) (run_of c.args.run.now) c.in-Ok-Onward.is (rw c.in-Ok-Onward.is at c.in-Ok-Onward.field-0-is) (run_of c.cross.new.run)
+    (inl (c.cross.result, (run_of c.cross.new.run, c.cross.ensures.passed, refl, c.sound.ensures.sound, tt)))
 
 pub returns-then-matches-clause-deals : goal.returns-then-matches-clause-deals
-returns-then-matches-clause-deals g c = dealt (ways g.S.PutSide.puts g.S.TakeSide.takes g.S.TakeSide.front) c.args.n c.args.link c.args.found c.in-Ok-Onward.field-0 (Onward c.in-Ok-Onward.frag c.in-Ok-Onward.to c.in-Ok-Onward.circuit) (run_of c.args.run.now) c.in-Ok-Onward.is (rw c.in-Ok-Onward.is at c.in-Ok-Onward.field-0-is) (run_of c.cross-outcome.new.run)
-    (inl (c.cross-outcome.result, (run_of c.cross-outcome.new.run, c.cross-outcome.ensures.passed, refl, c.sound.ensures.sound, tt)))
-
-pub returns-else-matches-clause-deals : goal.returns-else-matches-clause-deals
-returns-else-matches-clause-deals g c = dealt (ways g.S.PutSide.puts g.S.TakeSide.takes g.S.TakeSide.front) c.args.n c.args.link c.args.found c.in-Ok-Onward.field-0 (Onward c.in-Ok-Onward.frag c.in-Ok-Onward.to c.in-Ok-Onward.circuit) (run_of c.args.run.now) c.in-Ok-Onward.is (rw c.in-Ok-Onward.is at c.in-Ok-Onward.field-0-is) (run_of c.cross-outcome.new.run)
-    (inl (c.cross-outcome.result, (run_of c.cross-outcome.new.run, c.cross-outcome.ensures.passed, refl, c.sound.ensures.sound, tt)))
-
-pub returns-then-matches-2-clause-deals : goal.returns-then-matches-2-clause-deals
-returns-then-matches-2-clause-deals g c = dealt (ways g.S.PutSide.puts g.S.TakeSide.takes g.S.TakeSide.front) c.args.n c.args.link c.args.found c.in-Ok-Arrival.field-0 (Arrival c.in-Ok-Arrival.frag c.in-Ok-Arrival.end) (run_of c.args.run.now) c.in-Ok-Arrival.is (rw c.in-Ok-Arrival.is at c.in-Ok-Arrival.field-0-is) (run_of c.arrive-outcome.new.run)
+returns-then-matches-clause-deals g c = dealt (ways g.S.PutSide.puts g.S.TakeSide.takes g.S.TakeSide.front) c.args.n c.args.link c.args.found c.in-Ok-Arrival.field-0 (Arrival c.in-Ok-Arrival.frag c.in-Ok-Arrival.end) (run_of c.args.run.now) c.in-Ok-Arrival.is (rw c.in-Ok-Arrival.is at c.in-Ok-Arrival.field-0-is) (run_of c.arrive-outcome.new.run)
     (c.arrive-outcome.result, (run_of c.arrive-outcome.new.run, c.arrive-outcome.ensures.arrived, refl, c.sound.ensures.sound, tt))
 
-pub returns-else-matches-2-clause-deals : goal.returns-else-matches-2-clause-deals
-returns-else-matches-2-clause-deals g c = dealt (ways g.S.PutSide.puts g.S.TakeSide.takes g.S.TakeSide.front) c.args.n c.args.link c.args.found c.in-Ok-Arrival.field-0 (Arrival c.in-Ok-Arrival.frag c.in-Ok-Arrival.end) (run_of c.args.run.now) c.in-Ok-Arrival.is (rw c.in-Ok-Arrival.is at c.in-Ok-Arrival.field-0-is) (run_of c.arrive-outcome.new.run)
+pub returns-else-matches-clause-deals : goal.returns-else-matches-clause-deals
+returns-else-matches-clause-deals g c = dealt (ways g.S.PutSide.puts g.S.TakeSide.takes g.S.TakeSide.front) c.args.n c.args.link c.args.found c.in-Ok-Arrival.field-0 (Arrival c.in-Ok-Arrival.frag c.in-Ok-Arrival.end) (run_of c.args.run.now) c.in-Ok-Arrival.is (rw c.in-Ok-Arrival.is at c.in-Ok-Arrival.field-0-is) (run_of c.arrive-outcome.new.run)
     (c.arrive-outcome.result, (run_of c.arrive-outcome.new.run, c.arrive-outcome.ensures.arrived, refl, c.sound.ensures.sound, tt))

@@ -1,27 +1,48 @@
-use Rattle.std.proofs.Common.{refl, subst, Bool}
+use Rattle.std.proofs.Common.{refl, sym, ◌∙◌, subst, Bool}
 use Rattle.std.proofs.lemmas.Result.{IfOk-from_err}
+use Rattle.fl_node.specs.Making.{asked}
 use Rattle.fl_running.specs.Run.{ways, run_of}
 use Rattle.fl_running.specs.Steps.{OpensIf}
-use Rattle.fl_running.proofs.Asking.{may}
+use Rattle.fl_running.proofs.Asking.{may, asked_left}
 use Rattle.fl_running.proofs.Stopping.{on_err}
 use Rattle.fl_running.proofs.opening.open.Goals as goal
 
 pub returns-then-not-may_ask-clause-opens : goal.returns-then-not-may_ask-clause-opens
 returns-then-not-may_ask-clause-opens g c = subst (λ (b : Bool). OpensIf (ways g.S.PutSide.puts g.S.TakeSide.takes g.S.TakeSide.front) b c.args.name c.args.wish.now (run_of c.args.run.now) (run_of c.args.run.now)) c.if-not-may_ask.ensures.may refl
 
-pub ask-requires : goal.ask-requires
-ask-requires g c = let asks = may (run_of c.args.run.now) c.args.wish.now c.if-not-may_ask.ensures.may in
-    record { dispatcher = asks.dispatcher; program = asks.program; few = asks.few; new = asks.new }
+pub copy-requires : goal.copy-requires
+copy-requires g c = (may (run_of c.args.run.now) c.args.wish.now c.if-not-may_ask.ensures.may).program
 
-pub returns-in_err-answer : goal.returns-in_err-answer
-returns-in_err-answer g c = record {
+pub returns-in_err-program : goal.returns-in_err-program
+returns-in_err-program g c = record {
   opens = IfOk-from_err c.from_residual.result _ c.from_residual.ensures.0;
-  kept = on_err c.from_residual.result c.in_err-answer.ensures.kept;
+  kept = on_err c.from_residual.result refl;
 }
 
+pub open-answer-requires : goal.open-answer-requires
+open-answer-requires g c = let asks = may (run_of c.args.run.now) c.args.wish.now c.if-not-may_ask.ensures.may in
+    record { dispatcher = asks.dispatcher; few = asks.few; new = asks.new }
+
+pub returns-then-is_memory-clause-kept : goal.returns-then-is_memory-clause-kept
+returns-then-is_memory-clause-kept g c =
+    asked_left (asked c.args.wish.now.dispatcher c.in_ok-program.program c.args.wish.now.link c.args.wish.now.opening) (run_of c.args.run.now) c.open-answer.new.self
+    c.open-answer.result (sym c.is_memory.ensures.memory ∙ c.if-is_memory.true) c.open-answer.ensures.asks
+
 pub note-requires : goal.note-requires
-note-requires g c = record { left = c.in_ok-answer.ensures.left c.requires.left }
+note-requires g c = record { left = c.requires.left }
 
 pub returns-clause-opens : goal.returns-clause-opens
-returns-clause-opens g c = subst (λ (b : Bool). OpensIf (ways g.S.PutSide.puts g.S.TakeSide.takes g.S.TakeSide.front) b c.args.name c.args.wish.now (run_of c.args.run.now) (run_of c.note.new.run)) c.if-not-may_ask.ensures.may
-    (c.in_ok-answer.answer, (run_of c.ask.new.run, c.in_ok-answer.ensures.opened, c.note.ensures.notes, c.sound.ensures.sound, tt), c.in_ok-answer.ensures.memory)
+returns-clause-opens g c = subst (λ (b : Bool). OpensIf (ways g.S.PutSide.puts g.S.TakeSide.takes g.S.TakeSide.front) b c.args.name c.args.wish.now (run_of c.args.run.now) (run_of c.note.new.run)) c.if-not-may_ask.ensures.may (
+  c.open-answer.result,
+  (
+    record (run_of c.args.run.now) { core = c.open-answer.new.self },
+    record {
+      event = record { program = c.in_ok-program.program; copy = c.in_ok-program.ensures.copy; asks = c.open-answer.ensures.asks };
+      rest = refl;
+    },
+    c.note.ensures.notes,
+    c.sound.ensures.sound,
+    tt,
+  ),
+  sym c.is_memory.ensures.memory ∙ c.if-is_memory.false,
+)

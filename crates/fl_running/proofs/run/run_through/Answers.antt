@@ -3,9 +3,16 @@ use Rattle.std.proofs.lemmas.Result.{IfOk-from_err}
 use Rattle.fl_tally.specs.Seats.{TheSeat}
 use Rattle.fl_running.specs.Run.{ways, run_of}
 use Rattle.fl_running.specs.Ran.{ticket_of, task, moment}
-use Rattle.fl_running.proofs.Counting.{ran_unfinished, ran_finished}
+use Rattle.fl_running.proofs.Counting.{ran_told, ran_unfinished, ran_finished}
+use Rattle.fl_running.proofs.Stock.{may_finish}
 use Rattle.fl_running.proofs.Stopping.{on_err, stopped_behind}
 use Rattle.fl_running.proofs.run.run_through.Goals as goal
+
+pub returns-in-Told-clause-ran : goal.returns-in-Told-clause-ran
+returns-in-Told-clause-ran g c =
+    ran_told (ways g.S.PutSide.puts g.S.TakeSide.takes g.S.TakeSide.front) (task c.args.plan.now c.args.jobs.now c.args.limit)
+    (moment (run_of c.args.run.now) (ticket_of c.args.ticket.now)) (moment (run_of c.counted_turns.new.run) (ticket_of c.counted_turns.new.ticket))
+    c.in_ok-part.part c.in_ok-part.ensures.counted c.in-Told.is
 
 pub returns-in-Unfinished-clause-ran : goal.returns-in-Unfinished-clause-ran
 returns-in-Unfinished-clause-ran g c =
@@ -66,3 +73,9 @@ returns-in_ok-idle_turns-in-Finished-clause-ran g c =
     c.in_ok-part.part c.finish-in-Finished.new.self c.in_ok-part.ensures.counted (run_of c.idle_turns.new.run) c.idle_turns.new.ticket.words.items
     c.idle_turns.new.ticket.seat c.in-Finished.is c.finish-in-Finished.ensures.told c.in_ok-idle_turns-in-Finished.ensures.turned c.idle_turns.ensures.seat
     c.idle_turns.ensures.stored c.idle_turns.ensures.heard c.in_ok-idle_turns-in-Finished.ensures.others
+
+pub finish-requires : goal.finish-requires
+finish-requires g c = record { once = may_finish c.args.ticket.now.seat c.counted_turns.new.ticket.seat c.counted_turns.ensures.seat c.requires.once }
+
+pub finish-requires-in-Finished : goal.finish-requires-in-Finished
+finish-requires-in-Finished g c = record { once = may_finish c.args.ticket.now.seat c.counted_turns.new.ticket.seat c.counted_turns.ensures.seat c.requires.once }
