@@ -2,7 +2,8 @@
 //! tests begins with reading all that it stands on, and proves how each of its types is dropped.
 //!
 //! - `tables.rt`: tables, of which a test tells the first row that isn't so; `texts.rt`: programs of texts;
-//!   `faults.rt`: the numbers and the words of faults
+//!   `faults.rt`: the numbers and the words of faults; `answers.rt`: ends, queues, and what ends and boards answer;
+//!   `words.rt`: messages of monitors
 //! - `endpoint.rt`: ends of bindings over queues
 //! - `cores.rt`: the board of one core
 //! - `monitor.rt`: monitors' messages, circuits and names
@@ -14,11 +15,15 @@
 #![tactic(auto)]
 
 #[cfg(test)]
+mod answers;
+#[cfg(test)]
 mod cores;
 #[cfg(test)]
 mod endpoint;
 #[cfg(test)]
 mod faults;
+#[cfg(test)]
+mod memory;
 #[cfg(test)]
 mod monitor;
 #[cfg(test)]
@@ -29,3 +34,5 @@ mod running;
 mod tables;
 #[cfg(test)]
 mod texts;
+#[cfg(test)]
+mod words;

@@ -5,7 +5,7 @@ ghost use Rattle.fl_endpoint.specs.View.{interface_in};
 
 use crate::node::known::Known;
 use crate::node::words::{Word, refuse};
-use fl_base::{Circuit, CoreId, EndId, LinkId, MsgNo, Side};
+use fl_base::{Circuit, CoreId, EndId, MsgNo, Side};
 use fl_endpoint::End;
 use fl_node::{Core, Joining, Newcomer, Port, Wire};
 use std::alloc::AllocError;
@@ -123,13 +123,6 @@ pub fn queues_of(core: &Core, e: usize) -> Word {
     Word::Queues(core.outlet(e), core.inlet(e))
 }
 
-pub fn adds_dispatcher(core: &mut Core) -> Word {
-    match core.add_dispatcher() {
-        Ok(place) => Word::At(Some(place)),
-        Err(_) => Word::NoMemory,
-    }
-}
-
 /// A link more, to a core: its number.
 pub fn links(core: &mut Core, neighbour: CoreId, side: usize) -> Word {
     match core.add_link(neighbour, side) {
@@ -150,11 +143,6 @@ pub fn link_comes_and_goes(core: &mut Core, neighbour: CoreId) -> Word {
     }
 }
 
-/// The side of a link, by its number among the rings' sides.
-pub fn side_of(core: &Core, link: LinkId) -> Word {
-    Word::At(core.side(link))
-}
-
 // An end that sits nowhere, with a rule.
 fn make_ruled(known: &Known) -> Result<End, AllocError> {
     let mut end = End::unbound(known.alloc, known.program()?)?;
@@ -162,15 +150,11 @@ fn make_ruled(known: &Known) -> Result<End, AllocError> {
     Ok(end)
 }
 
-fn rule_of(end: &End) -> Option<MsgNo> {
-    end.rule_for(MsgNo(0))
-}
-
 fn rule_at(core: &Core, e: usize) -> Option<MsgNo> {
     if e >= core.board().ends() {
         return None;
     }
-    rule_of(core.board().end(e))
+    core.board().end(e).rule_for(MsgNo(0))
 }
 
 // The rules of a new end and of one that sits nowhere, after they were exchanged.
@@ -187,7 +171,7 @@ fn after_exchange(core: &mut Core, end: End, name: EndId, other: &mut End) -> Wo
     match core.add_end(0, end, port) {
         Ok(e) => {
             core.exchange_rules(e, other);
-            Word::Rules(rule_at(core, e), rule_of(other))
+            Word::Rules(rule_at(core, e), other.rule_for(MsgNo(0)))
         }
         Err(fault) => refuse(fault.number()),
     }

@@ -4,8 +4,9 @@ ghost use Rattle.std.specs.Prelude.{◌≡◌, ◌<◌, None, length, IfOk};
 ghost use Rattle.fl_node.specs.View.{arrivals_by, arrivals_of};
 ghost use Rattle.core_tests.specs.Tickets.{IsNew};
 
-use crate::texts::program;
-use fl_base::{Circuit, CoreId, EndId, MsgNo, Side};
+use crate::answers::make_end;
+use crate::texts::{PING, ping};
+use fl_base::{Circuit, CoreId, EndId, Side};
 use fl_endpoint::End;
 use fl_link::{QueueLink, TakeSide};
 use fl_nameserv::Names;
@@ -13,7 +14,7 @@ use fl_node::{Core, Port, Wire};
 use fl_ring::SharedSide;
 use fl_running::{Desk, Gate, Job, Plan, Running, Ticket, Word};
 use fl_tally::EndSeat;
-use fl_value::{Call, PlanNo, Value};
+use fl_value::PlanNo;
 use std::alloc::{AllocError, Global};
 
 /// A gate that is always open.
@@ -23,32 +24,23 @@ impl Gate for Open {
     fn before_turn(&self, _core: CoreId) {}
 }
 
-const PING: &[u8] = b"interface i { message ping(uint32 v); }";
+// The ends of the binding.
+const CLIENT: EndId = EndId {
+    binding: 0,
+    side: Side::Client,
+};
 
-/// An end of binding 0.
-pub fn name(side: Side) -> EndId {
-    EndId { binding: 0, side }
-}
-
-// A call at the client: `ping(v)`.
-fn ping(alloc: Global, v: i128) -> Result<Job, AllocError> {
-    let mut args = Vec::new(alloc);
-    args.push(Value::Int(v))?;
-    let call = Call {
-        msg: MsgNo(0),
-        args,
-    };
-    Ok(Job::Call {
-        end: name(Side::Client),
-        call,
-    })
-}
+const SERVER: EndId = EndId {
+    binding: 0,
+    side: Side::Server,
+};
 
 /// So many calls at the client: `ping(1)`, `ping(2)` and so on.
 pub fn pings(alloc: Global, count: usize) -> Result<Vec<Job>, AllocError> {
     let mut jobs = Vec::new(alloc);
     for v in 0..count {
-        jobs.push(ping(alloc, v as i128 + 1)?)?;
+        let call = ping(alloc, v as i128 + 1)?;
+        jobs.push(Job::Call { end: CLIENT, call })?;
     }
     Ok(jobs)
 }
@@ -142,18 +134,19 @@ fn add<T: TakeSide>(
     }
 }
 
-// An end that isn't at a core yet.
-fn end(alloc: Global) -> Result<End, AllocError> {
-    End::new(alloc, program(alloc, PING, PlanNo::One)?, Circuit(0))
-}
-
 // The server's end is added over the two queues.
 fn add_server(alloc: Global, core: &mut Core, from: &mut QueueLink) -> Result<(), AllocError> {
     let port = Port {
-        name: name(Side::Server),
+        name: SERVER,
         wire: Wire::Queues { out: 1, from: 0 },
     };
-    add(core, 1, end(alloc)?, port, from)
+    add(
+        core,
+        1,
+        make_end(alloc, PING, PlanNo::One, Some(Circuit(0)))?,
+        port,
+        from,
+    )
 }
 
 // The client's end is added over what it takes from.
@@ -165,11 +158,14 @@ fn add_client<T: TakeSide>(
 ) -> Result<(), AllocError>
     requires { arrivals_by wire ≡ None }
 {
-    let port = Port {
-        name: name(Side::Client),
-        wire,
-    };
-    add(core, 0, end(alloc)?, port, from)
+    let port = Port { name: CLIENT, wire };
+    add(
+        core,
+        0,
+        make_end(alloc, PING, PlanNo::One, Some(Circuit(0)))?,
+        port,
+        from,
+    )
 }
 
 fn add_dispatchers(core: &mut Core, count: usize) -> Result<(), AllocError> {
@@ -212,8 +208,8 @@ fn put_desk(
 
 impl Rig {
     // An end is planned; so many calls are to be made there, and so many handled.
-    fn plan(&mut self, side: Side, calls: usize, due: usize) -> Result<(), AllocError> {
-        self.plan.ends.push(name(side))?;
+    fn plan(&mut self, name: EndId, calls: usize, due: usize) -> Result<(), AllocError> {
+        self.plan.ends.push(name)?;
         put_desk(self.run.alloc, &mut self.run.desks, calls, due)
     }
 
@@ -223,8 +219,8 @@ impl Rig {
         put_queue(alloc, &mut run.queues)?;
         put_queue(alloc, &mut run.queues)?;
         join(alloc, &mut run.core, run.queues.as_mut_slice())?;
-        self.plan(Side::Client, calls, 0)?;
-        self.plan(Side::Server, 0, calls)
+        self.plan(CLIENT, calls, 0)?;
+        self.plan(SERVER, 0, calls)
     }
 
     fn join_ring(&mut self, side: SharedSide, calls: usize) -> Result<(), AllocError> {
@@ -239,7 +235,7 @@ impl Rig {
         };
         add_dispatchers(&mut run.core, self.plan.dispatchers)?;
         add_client(alloc, &mut run.core, Wire::Ring(0), side)?;
-        self.plan(Side::Client, calls, 0)?;
+        self.plan(CLIENT, calls, 0)?;
         put_desk(alloc, &mut self.run.desks, 0, calls)
     }
 }
