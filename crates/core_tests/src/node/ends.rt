@@ -84,33 +84,45 @@ fn put_both(core: &mut Core, both: Joining) -> Word {
     }
 }
 
-fn joining(
+// The same, with a new end for the server.
+fn join_server(
+    core: &mut Core,
     known: &Known,
     binding: usize,
-    client: usize,
-    server: usize,
-) -> Result<Joining, AllocError> {
-    let client = Newcomer {
-        dispatcher: client,
-        end: make_end(known)?,
-    };
-    let server = Newcomer {
-        dispatcher: server,
-        end: make_end(known)?,
-    };
-    Ok(Joining {
-        binding,
-        client,
-        server,
-        to_server: 3,
-        to_client: 4,
-    })
+    client: Newcomer,
+    at: usize,
+) -> Word {
+    match make_end(known) {
+        Ok(end) => {
+            let server = Newcomer {
+                dispatcher: at,
+                end,
+            };
+            put_both(
+                core,
+                Joining {
+                    binding,
+                    client,
+                    server,
+                    to_server: 3,
+                    to_client: 4,
+                },
+            )
+        }
+        Err(_) => Word::NoMemory,
+    }
 }
 
 /// Both ends of a binding at two dispatchers, joined by queues 3 and 4: their places.
 pub fn joins(core: &mut Core, known: &Known, binding: usize, client: usize, server: usize) -> Word {
-    match joining(known, binding, client, server) {
-        Ok(both) => put_both(core, both),
+    match make_end(known) {
+        Ok(end) => {
+            let client = Newcomer {
+                dispatcher: client,
+                end,
+            };
+            join_server(core, known, binding, client, server)
+        }
         Err(_) => Word::NoMemory,
     }
 }
@@ -177,20 +189,20 @@ fn after_exchange(core: &mut Core, end: End, name: EndId, other: &mut End) -> Wo
     }
 }
 
-fn exchange(core: &mut Core, known: &Known, name: EndId) -> Result<Word, AllocError> {
-    let mut other = make_ruled(known)?;
-    let end = End::new(
-        known.alloc,
-        other.program().duplicate(known.alloc)?,
-        Circuit(0),
-    )?;
-    Ok(after_exchange(core, end, name, &mut other))
+fn exchange(core: &mut Core, known: &Known, name: EndId, other: &mut End) -> Word {
+    let Ok(program) = other.program().duplicate(known.alloc) else {
+        return Word::NoMemory;
+    };
+    match End::new(known.alloc, program, Circuit(0)) {
+        Ok(end) => after_exchange(core, end, name, other),
+        Err(_) => Word::NoMemory,
+    }
 }
 
 /// What an end of this name and one that sits nowhere have for rules, after they were exchanged: the other had one before.
 pub fn exchanges(core: &mut Core, known: &Known, name: EndId) -> Word {
-    match exchange(core, known, name) {
-        Ok(word) => word,
+    match make_ruled(known) {
+        Ok(mut other) => exchange(core, known, name, &mut other),
         Err(_) => Word::NoMemory,
     }
 }

@@ -136,6 +136,16 @@ pub fn make_line(alloc: Global, plan: Plan) -> Result<Line, AllocError> {
     })
 }
 
+// The leg that leads back, which begins where this one ends.
+fn back(leg: Leg) -> Leg {
+    match leg {
+        Leg::Out => Leg::Home,
+        Leg::On => Leg::Back,
+        Leg::Back => Leg::On,
+        Leg::Home => Leg::Out,
+    }
+}
+
 // The names of ends, two of each binding from 0.
 fn nth_name(place: u32) -> EndId {
     let side = if place % 2 == 0 {
@@ -218,16 +228,6 @@ impl Line {
         }
     }
 
-    // The core at a leg's end hears: there the leg begins that leads back.
-    fn hears(&mut self, leg: Leg) -> Word {
-        match leg {
-            Leg::Out => self.acts_from(Leg::Home, &Deed::Hear),
-            Leg::On => self.acts_from(Leg::Back, &Deed::Hear),
-            Leg::Back => self.acts_from(Leg::On, &Deed::Hear),
-            Leg::Home => self.acts_from(Leg::Out, &Deed::Hear),
-        }
-    }
-
     fn tells(&mut self, leg: Leg, words: Words) -> Word {
         let Some(message) = message(words) else {
             return Word::Other;
@@ -255,7 +255,7 @@ impl Line {
             Step::Turn(at) => turn(cores.at(at)),
             Step::Add(at, name) => adds(cores.at(at), known, name),
             Step::Say(leg) => self.acts_from(leg, &Deed::Say),
-            Step::Hear(leg) => self.hears(leg),
+            Step::Hear(leg) => self.acts_from(back(leg), &Deed::Hear),
             Step::Tell(leg, words) => self.tells(leg, words),
             Step::Put(leg, frag) => self.acts_from(leg, &Deed::Put(frag)),
             Step::Pass(leg) => self.passes(leg),

@@ -117,55 +117,22 @@ fn seat(core: &mut Core, dispatcher: usize, end: End, port: Port) -> Result<usiz
     }
 }
 
-// The same, registered over what it takes from.
+// A new end, registered over what it takes from.
 fn add<T: TakeSide>(
+    alloc: Global,
     core: &mut Core,
     dispatcher: usize,
-    end: End,
     port: Port,
     from: &mut T,
 ) -> Result<(), AllocError>
     requires { arrivals_by port.wire ≡ None }
 {
+    let end = make_end(alloc, PING, PlanNo::One, Some(Circuit(0)))?;
     let e = seat(core, dispatcher, end, port)?;
     match core.register(e, from) {
         Ok(()) => Ok(()),
         Err(_) => Err(AllocError),
     }
-}
-
-// The server's end is added over the two queues.
-fn add_server(alloc: Global, core: &mut Core, from: &mut QueueLink) -> Result<(), AllocError> {
-    let port = Port {
-        name: SERVER,
-        wire: Wire::Queues { out: 1, from: 0 },
-    };
-    add(
-        core,
-        1,
-        make_end(alloc, PING, PlanNo::One, Some(Circuit(0)))?,
-        port,
-        from,
-    )
-}
-
-// The client's end is added over what it takes from.
-fn add_client<T: TakeSide>(
-    alloc: Global,
-    core: &mut Core,
-    wire: Wire,
-    from: &mut T,
-) -> Result<(), AllocError>
-    requires { arrivals_by wire ≡ None }
-{
-    let port = Port { name: CLIENT, wire };
-    add(
-        core,
-        0,
-        make_end(alloc, PING, PlanNo::One, Some(Circuit(0)))?,
-        port,
-        from,
-    )
 }
 
 fn add_dispatchers(core: &mut Core, count: usize) -> Result<(), AllocError> {
@@ -188,8 +155,16 @@ fn join(alloc: Global, core: &mut Core, queues: &mut [QueueLink]) -> Result<(), 
     let [there, back] = queues else {
         return Err(AllocError);
     };
-    add_client(alloc, core, Wire::Queues { out: 0, from: 1 }, back)?;
-    add_server(alloc, core, there)
+    let client = Port {
+        name: CLIENT,
+        wire: Wire::Queues { out: 0, from: 1 },
+    };
+    let server = Port {
+        name: SERVER,
+        wire: Wire::Queues { out: 1, from: 0 },
+    };
+    add(alloc, core, 0, client, back)?;
+    add(alloc, core, 1, server, there)
 }
 
 // A desk with the first so many jobs, at which so many calls are to be handled.
@@ -234,7 +209,11 @@ impl Rig {
             return Err(AllocError);
         };
         add_dispatchers(&mut run.core, self.plan.dispatchers)?;
-        add_client(alloc, &mut run.core, Wire::Ring(0), side)?;
+        let client = Port {
+            name: CLIENT,
+            wire: Wire::Ring(0),
+        };
+        add(alloc, &mut run.core, 0, client, side)?;
         self.plan(CLIENT, calls, 0)?;
         put_desk(alloc, &mut self.run.desks, 0, calls)
     }
