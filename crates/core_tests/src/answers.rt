@@ -4,7 +4,7 @@ use crate::texts::program;
 use fl_base::{Circuit, Frag, MsgNo};
 use fl_endpoint::{End, EndFault, WriteAnswer};
 use fl_link::QueueLink;
-use fl_value::PlanNo;
+use fl_value::{Call, PlanNo, print_call};
 use std::alloc::{AllocError, Global};
 
 /// What an end or a board answers.
@@ -86,6 +86,19 @@ pub fn said_of_write(answer: Result<WriteAnswer, EndFault>) -> Said {
         Ok(WriteAnswer::Full) => Said::Full,
         Ok(WriteAnswer::Nothing) => Said::Nothing,
         Err(fault) => Said::Refused(fault.number()),
+    }
+}
+
+/// Adds the text of a call that an end handles.
+pub fn print(alloc: Global, text: &mut Vec<u8>, end: &End, call: &Call) -> Result<(), AllocError> {
+    match end
+        .program()
+        .interface()
+        .messages
+        .get(usize::from(call.msg.0))
+    {
+        Some(message) => print_call(alloc, text, &message.name.bytes, &call.args),
+        None => Ok(()),
     }
 }
 

@@ -1,12 +1,14 @@
 //! A board with its ends and their queues, driven by deeds whose answers are words.
 
-use crate::answers::{Said, make_end, make_queue, put, said_of, said_of_show, said_of_write};
+use crate::answers::{
+    Said, make_end, make_queue, print, put, said_of, said_of_show, said_of_write,
+};
 use crate::tables::Row;
 use fl_base::{Circuit, MsgNo};
 use fl_core::{AckAnswer, Board, BoardFault, Kind, TurnAnswer};
 use fl_endpoint::End;
 use fl_link::{QueueLink, Sight};
-use fl_value::{Call, PlanNo, print_call, read_call};
+use fl_value::{Call, PlanNo, read_call};
 use std::alloc::{AllocError, Global};
 
 /// What is done at an end; `Turn` and `Due` are of a dispatcher.
@@ -195,14 +197,7 @@ fn take_at(board: &mut Board, e: usize, from: &mut QueueLink, deed: &Deed) -> Sa
 // Whether this is the text of a call that an end handles.
 fn is_text(alloc: Global, end: &End, call: &Call, text: &[u8]) -> Result<bool, AllocError> {
     let mut said = Vec::new(alloc);
-    if let Some(message) = end
-        .program()
-        .interface()
-        .messages
-        .get(usize::from(call.msg.0))
-    {
-        print_call(alloc, &mut said, &message.name.bytes, &call.args)?;
-    }
+    print(alloc, &mut said, end, call)?;
     Ok(said.as_slice() == text)
 }
 

@@ -2,7 +2,9 @@
 
 ghost use Rattle.std.specs.Prelude.{◌≡◌};
 
-use crate::answers::{Said, make_end, make_queue, put, said_of, said_of_show, said_of_write};
+use crate::answers::{
+    Said, make_end, make_queue, print, put, said_of, said_of_show, said_of_write,
+};
 use crate::endpoint::sides::Refusing;
 use crate::tables::Row;
 use crate::texts::program;
@@ -10,7 +12,7 @@ use fl_base::{Circuit, MsgNo, Side};
 use fl_endpoint::{End, ReceiveAnswer};
 use fl_link::{PutFault, QueueLink};
 use fl_machine::Reassemblies;
-use fl_value::{Call, PlanNo, ValueFault, print_call, read_call};
+use fl_value::{Call, PlanNo, ValueFault, read_call};
 use std::alloc::{AllocError, Global};
 use std::marker::Model;
 
@@ -140,10 +142,7 @@ fn handle(
     end: &End,
     call: &Call,
 ) -> Result<Said, AllocError> {
-    let messages = &end.program().interface().messages;
-    if let Some(message) = messages.get(usize::from(call.msg.0)) {
-        print_call(alloc, handled, &message.name.bytes, &call.args)?;
-    }
+    print(alloc, handled, end, call)?;
     handled.push(b'\n')?;
     Ok(Said::Handled)
 }
