@@ -8,6 +8,6 @@
 
 mod boards;
 mod faults;
-mod refusals;
+pub mod refusals;
 mod rig;
 mod rows;

@@ -10,7 +10,7 @@
 
 mod ends;
 mod faults;
-mod forged;
+pub mod forged;
 mod pair;
 mod rows;
 mod sides;

@@ -2,23 +2,28 @@
 //! tests begins with reading all that it stands on, and proves how each of its types is dropped.
 //!
 //! - `tables.rt`: tables, of which a test tells the first row that isn't so; `texts.rt`: programs of texts;
-//!   `faults.rt`: the numbers and the words of faults
+//!   `faults.rt`: the numbers and the words of faults; `answers.rt`: ends, queues, and what ends and boards answer;
+//!   `words.rt`: messages of monitors; `memory.rt`: work for which there is no memory
 //! - `endpoint.rt`: ends of bindings over queues
 //! - `cores.rt`: the board of one core
 //! - `monitor.rt`: monitors' messages, circuits and names
 //! - `node.rt`: whole cores
 //! - `running.rt`: one running core
 //!
-//! `rt try --test --fail-alloc N` runs each with its Nth allocation refused: then the tests whose names end in
-//! `without_memory` and those of `node.rt` have to pass, and others end with out of memory or pass.
+//! `rt try --test --fail-alloc N` runs each with its Nth allocation refused: then the test of `memory.rt` and that of
+//! `node.rt` have to pass, and others end with out of memory or pass.
 #![tactic(auto)]
 
+#[cfg(test)]
+mod answers;
 #[cfg(test)]
 mod cores;
 #[cfg(test)]
 mod endpoint;
 #[cfg(test)]
 mod faults;
+#[cfg(test)]
+mod memory;
 #[cfg(test)]
 mod monitor;
 #[cfg(test)]
@@ -29,3 +34,5 @@ mod running;
 mod tables;
 #[cfg(test)]
 mod texts;
+#[cfg(test)]
+mod words;

@@ -1,32 +1,17 @@
 //! Interfaces of texts, and their programs.
 
-use fl_check::check;
+use fl_base::MsgNo;
 use fl_compile::{Program, compile};
 use fl_interface::Interface;
-use fl_lex::{Tokens, lex};
-use fl_parse::{Tree, parse};
-use fl_value::PlanNo;
+use fl_text::{TextRead, read_text};
+use fl_value::{Call, PlanNo, Value};
 use std::alloc::{AllocError, Global};
-
-fn interface_of(alloc: Global, tree: &Tree) -> Result<Interface, AllocError> {
-    match check(alloc, tree) {
-        Ok(interface) => Ok(interface),
-        Err(_) => Err(AllocError),
-    }
-}
-
-fn interface_in(alloc: Global, tokens: &Tokens) -> Result<Interface, AllocError> {
-    match parse(alloc, tokens) {
-        Ok(tree) => interface_of(alloc, &tree),
-        Err(_) => Err(AllocError),
-    }
-}
 
 /// The interface of a text; none only where memory runs out.
 pub fn interface(alloc: Global, text: &[u8]) -> Result<Interface, AllocError> {
-    match lex(alloc, text) {
-        Ok(tokens) => interface_in(alloc, &tokens),
-        Err(_) => Err(AllocError),
+    match read_text(alloc, text) {
+        Ok(TextRead::Interface(interface)) => Ok(interface),
+        _ => Err(AllocError),
     }
 }
 
@@ -36,4 +21,17 @@ pub fn program(alloc: Global, text: &[u8], plan: PlanNo) -> Result<Program, Allo
         Ok(interface) => compile(alloc, &interface, plan),
         Err(_) => Err(AllocError),
     }
+}
+
+/// An interface of one message.
+pub const PING: &[u8] = b"interface i { message ping(uint32 v); }";
+
+/// A call of that message.
+pub fn ping(alloc: Global, v: i128) -> Result<Call, AllocError> {
+    let mut args = Vec::new(alloc);
+    args.push(Value::Int(v))?;
+    Ok(Call {
+        msg: MsgNo(0),
+        args,
+    })
 }

@@ -4,12 +4,12 @@ use crate::cores::refusals::{taken_back, too_many_ends};
 use crate::cores::rig::add_dispatchers;
 use crate::cores::{faults, refusals, rows};
 use crate::tables::{Row, all_hold};
-use fl_core::Board;
+use fl_core::{Board, one_dispatcher_changes, one_end_changes, turn_accounts};
+use fl_link::QueueLink;
 use std::alloc::{AllocError, Global};
 use std::test::Fail;
 
 // What is no row of a table.
-#[derive(Clone, Copy)]
 enum Example {
     TooManyEnds,
     TakenBack,
@@ -30,9 +30,15 @@ impl Row for Example {
     }
 }
 
+fn laws() {
+    one_end_changes();
+    one_dispatcher_changes();
+    turn_accounts::<QueueLink>();
+}
+
 #[test]
 fn boards(rt: HostRuntime) -> Result<(), Fail> {
-    rows::laws();
+    laws();
     all_hold(rt.alloc(), "faults", faults::FAULTS)?;
     all_hold(rt.alloc(), "worked rows", rows::EXAMPLES)?;
     all_hold(rt.alloc(), "refusals", refusals::EXAMPLES)?;
@@ -41,10 +47,4 @@ fn boards(rt: HostRuntime) -> Result<(), Fail> {
         "examples",
         &[Example::TooManyEnds, Example::TakenBack],
     )
-}
-
-#[test]
-fn without_memory(rt: HostRuntime) {
-    assert!(rt; refusals::adds_without_memory(rt.alloc()));
-    assert!(rt; refusals::turns_without_memory(rt.alloc()));
 }

@@ -1,8 +1,7 @@
 //! What is refused, limits, and no memory.
 
-use crate::cores::rig::{Binding, Deed, Example, Said, Step, add_end};
-use crate::tables::Row;
-use crate::texts::program;
+use crate::answers::{Said, make_end};
+use crate::cores::rig::{Binding, Deed, Example, Step, add_end};
 use fl_base::Circuit;
 use fl_core::{Board, BoardFault, Kind};
 use fl_endpoint::End;
@@ -29,7 +28,7 @@ const FAILED: &[Step] = &[
     (1, Deed::Register, Said::Refused(64)),
     (1, Deed::Deregister, Said::Refused(51)),
     (1, Deed::Ack, Said::Nothing),
-    (0, Deed::Peek, Said::Stands(3, FORGED)),
+    (0, Deed::Peek, Said::Shown(3, FORGED)),
 ];
 
 // Until it is bound an end is told E43, but may have rules; then a trigger moves its channel to pending once.
@@ -95,10 +94,6 @@ pub const EXAMPLES: &[Example] = &[
     },
 ];
 
-fn unbound(alloc: Global) -> Result<End, AllocError> {
-    End::unbound(alloc, program(alloc, ECHO, PlanNo::One)?)
-}
-
 fn ends_at(board: &Board, dispatcher: usize) -> usize {
     if dispatcher >= board.dispatchers() {
         return 0;
@@ -108,7 +103,7 @@ fn ends_at(board: &Board, dispatcher: usize) -> usize {
 
 // What is answered to one end more at a dispatcher.
 fn adds(alloc: Global, board: &mut Board, dispatcher: usize) -> Result<usize, BoardFault> {
-    match unbound(alloc) {
+    match make_end(alloc, ECHO, PlanNo::One, None) {
         Ok(end) => add_end(board, dispatcher, end, Kind::Ring),
         Err(_) => Err(BoardFault::Memory),
     }
@@ -143,7 +138,7 @@ fn comes_and_goes(board: &mut Board, end: End) -> bool {
 
 // Whether an end is taken back behind so many, and the next has its place and its channel.
 fn is_taken_back(alloc: Global, board: &mut Board, place: usize) -> Result<bool, AllocError> {
-    let end = unbound(alloc)?;
+    let end = make_end(alloc, ECHO, PlanNo::One, None)?;
     Ok(
         comes_and_goes(board, end)
             && board.ends() == place
@@ -193,24 +188,16 @@ pub fn adds_without_memory(alloc: Global) -> bool {
     add_dispatcher(&mut board) == Ok(0) && adds_each(alloc, &mut board)
 }
 
-// The channel stays due until the call is handled.
-const TURN: Example = Example {
+/// The channel stays due until the call is handled. A turn for which there is no memory leaves the fragment and the channel, and the
+/// next turn handles the call.
+pub const TURN: Example = Example {
     dispatchers: 2,
     bindings: &[BOUND],
     rows: &[
         (0, Deed::CallAtLast(b"echo_call(9)"), Said::Done),
         (0, Deed::Write, Said::Written(1, 1)),
         (1, Deed::Due, Said::Due(Some(1))),
-        (1, Deed::TurnAtLast(b"echo_call(9)"), Said::Handled(1)),
+        (1, Deed::TurnAtLast(b"echo_call(9)"), Said::HandledAt(1)),
         (1, Deed::Due, Said::Due(None)),
     ],
 };
-
-/// A turn for which there is no memory leaves the fragment and the channel, and the next turn handles the call. Where memory runs out
-/// before the turn there is nothing to show.
-pub fn turns_without_memory(alloc: Global) -> bool {
-    match TURN.holds(alloc) {
-        Ok(holds) => holds,
-        Err(_) => true,
-    }
-}

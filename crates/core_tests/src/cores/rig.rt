@@ -1,12 +1,14 @@
 //! A board with its ends and their queues, driven by deeds whose answers are words.
 
+use crate::answers::{
+    Said, make_end, make_queue, print, put, said_of, said_of_show, said_of_write,
+};
 use crate::tables::Row;
-use crate::texts::program;
-use fl_base::{Circuit, Frag, MsgNo};
+use fl_base::{Circuit, MsgNo};
 use fl_core::{AckAnswer, Board, BoardFault, Kind, TurnAnswer};
-use fl_endpoint::{End, EndFault, WriteAnswer};
+use fl_endpoint::End;
 use fl_link::{QueueLink, Sight};
-use fl_value::{Call, PlanNo, print_call, read_call};
+use fl_value::{Call, PlanNo, read_call};
 use std::alloc::{AllocError, Global};
 
 /// What is done at an end; `Turn` and `Due` are of a dispatcher.
@@ -38,26 +40,6 @@ pub enum Deed {
     Due,
 }
 
-/// What is answered.
-#[derive(Clone, Copy, PartialEq, Eq)]
-pub enum Said {
-    Done,
-    Written(usize, usize),
-    Full,
-    Nothing,
-    /// A fragment's control word and words.
-    Stands(u64, [u64; 7]),
-    /// Of turns: at which end.
-    Handled(usize),
-    Part(usize),
-    Ready(usize),
-    Quiet(usize),
-    RefusedAt(usize, u8),
-    Refused(u8),
-    Due(Option<usize>),
-    Other,
-}
-
 /// A place, what is done there, and what is answered.
 pub type Step = (usize, Deed, Said);
 
@@ -82,32 +64,12 @@ pub struct Example {
     pub rows: &'static [Step],
 }
 
-// A board, and the queue to which each of its ends puts. An end takes from the queue of its peer.
+// A board, and the queue to which each of its ends puts. An end takes from the queue of its peer: that of end e is end e ^ 1.
 #[derive(Drop)]
 struct Rig {
     alloc: Global,
     board: Box<Board>,
     queues: Vec<QueueLink>,
-}
-
-fn make_end(alloc: Global, binding: &Binding) -> Result<End, AllocError> {
-    let program = program(alloc, binding.text, PlanNo::One)?;
-    match binding.circuit {
-        Some(circuit) => End::new(alloc, program, circuit),
-        None => End::unbound(alloc, program),
-    }
-}
-
-fn make_queue(alloc: Global, binding: &Binding) -> Result<QueueLink, AllocError> {
-    let made = if binding.is_acked {
-        QueueLink::with_acks(alloc, binding.size)
-    } else {
-        QueueLink::local(alloc, binding.size)
-    };
-    match made {
-        Ok(queue) => Ok(queue),
-        Err(_) => Err(AllocError),
-    }
 }
 
 /// So many dispatchers more.
@@ -138,30 +100,6 @@ fn say_done(answer: Result<(), BoardFault>) -> Said {
     }
 }
 
-fn done_at_end(answer: Result<(), EndFault>) -> Said {
-    match answer {
-        Ok(()) => Said::Done,
-        Err(fault) => Said::Refused(fault.number()),
-    }
-}
-
-fn say_show(answer: Result<Option<Frag>, EndFault>) -> Said {
-    match answer {
-        Ok(Some(frag)) => Said::Stands(frag.control, frag.words),
-        Ok(None) => Said::Nothing,
-        Err(fault) => Said::Refused(fault.number()),
-    }
-}
-
-fn say_write(answer: Result<WriteAnswer, EndFault>) -> Said {
-    match answer {
-        Ok(WriteAnswer::Written { number, count }) => Said::Written(number, count),
-        Ok(WriteAnswer::Full) => Said::Full,
-        Ok(WriteAnswer::Nothing) => Said::Nothing,
-        Err(fault) => Said::Refused(fault.number()),
-    }
-}
-
 fn say_ack(answer: Result<AckAnswer, BoardFault>) -> Said {
     match answer {
         Ok(AckAnswer::Done) => Said::Done,
@@ -175,36 +113,20 @@ fn say_ack(answer: Result<AckAnswer, BoardFault>) -> Said {
 fn say_turn(e: usize, answer: TurnAnswer) -> Said {
     match answer {
         TurnAnswer::Handle(_) => Said::Other,
-        TurnAnswer::Part => Said::Part(e),
-        TurnAnswer::Ready => Said::Ready(e),
-        TurnAnswer::Quiet => Said::Quiet(e),
+        TurnAnswer::Part => Said::PartAt(e),
+        TurnAnswer::Ready => Said::ReadyAt(e),
+        TurnAnswer::Quiet => Said::QuietAt(e),
         TurnAnswer::Full => Said::Full,
         TurnAnswer::Nothing => Said::Nothing,
         TurnAnswer::Refused(fault) => Said::RefusedAt(e, fault.number()),
     }
 }
 
-fn put(queue: &mut QueueLink, control: u64, words: &[u64; 7]) -> Said {
-    let frag = Frag {
-        words: *words,
-        control,
-    };
-    match queue.put(&frag) {
-        Ok(()) => Said::Done,
-        Err(_) => Said::Full,
-    }
-}
-
 fn peek(queue: &QueueLink) -> Said {
     match queue.peek() {
-        Sight::Data(frag) => Said::Stands(frag.control, frag.words),
+        Sight::Data(frag) => Said::Shown(frag.control, frag.words),
         _ => Said::Nothing,
     }
-}
-
-// The end that takes from the queue of another, and the other way round.
-fn peer(e: usize) -> usize {
-    e ^ 1
 }
 
 fn call(alloc: Global, board: &mut Board, e: usize, text: &[u8]) -> Said {
@@ -212,7 +134,7 @@ fn call(alloc: Global, board: &mut Board, e: usize, text: &[u8]) -> Said {
         return Said::Other;
     }
     match read_call(alloc, text, board.end(e).program().interface()) {
-        Ok(call) => done_at_end(board.call(e, &call)),
+        Ok(call) => said_of(board.call(e, &call)),
         Err(fault) => Said::Refused(fault.number()),
     }
 }
@@ -238,7 +160,7 @@ fn ask(board: &mut Board, e: usize, deed: &Deed) -> Said {
     }
     match deed {
         Deed::Deregister => say_done(board.deregister(e)),
-        Deed::Reply => done_at_end(board.reply_rule(e, MsgNo(0), MsgNo(1))),
+        Deed::Reply => said_of(board.reply_rule(e, MsgNo(0), MsgNo(1))),
         Deed::Trigger => trigger(board, e),
         Deed::Bind(circuit) => {
             board.bind(e, *circuit);
@@ -254,8 +176,8 @@ fn put_at(board: &mut Board, e: usize, out: &mut QueueLink, deed: &Deed) -> Said
         return Said::Other;
     }
     match deed {
-        Deed::Show => say_show(board.show(e, out)),
-        Deed::Write => say_write(board.write(e, out)),
+        Deed::Show => said_of_show(board.show(e, out)),
+        Deed::Write => said_of_write(board.write(e, out)),
         Deed::Put(control, words) => put(out, *control, words),
         _ => peek(out),
     }
@@ -275,36 +197,23 @@ fn take_at(board: &mut Board, e: usize, from: &mut QueueLink, deed: &Deed) -> Sa
 // Whether this is the text of a call that an end handles.
 fn is_text(alloc: Global, end: &End, call: &Call, text: &[u8]) -> Result<bool, AllocError> {
     let mut said = Vec::new(alloc);
-    if let Some(message) = end
-        .program()
-        .interface()
-        .messages
-        .get(usize::from(call.msg.0))
-    {
-        print_call(alloc, &mut said, &message.name.bytes, &call.args)?;
-    }
+    print(alloc, &mut said, end, call)?;
     Ok(said.as_slice() == text)
 }
 
 impl Rig {
-    fn add_queue(&mut self, binding: &Binding) -> Result<(), AllocError> {
-        match make_queue(self.alloc, binding) {
-            Ok(queue) => Ok(self.queues.push(queue)?),
-            Err(_) => Err(AllocError),
-        }
+    fn add(&mut self, binding: &Binding, dispatcher: usize) -> Result<(), AllocError> {
+        let queue = make_queue(self.alloc, binding.size, binding.is_acked)?;
+        self.queues.push(queue)?;
+        self.add_end(binding, dispatcher)
     }
 
     fn add_end(&mut self, binding: &Binding, dispatcher: usize) -> Result<(), AllocError> {
-        let end = make_end(self.alloc, binding)?;
+        let end = make_end(self.alloc, binding.text, PlanNo::One, binding.circuit)?;
         match add_end(&mut self.board, dispatcher, end, binding.kind) {
             Ok(_) => Ok(()),
             Err(_) => Err(AllocError),
         }
-    }
-
-    fn add(&mut self, binding: &Binding, dispatcher: usize) -> Result<(), AllocError> {
-        self.add_queue(binding)?;
-        self.add_end(binding, dispatcher)
     }
 
     // Both ends of a binding, which are registered, client first.
@@ -314,7 +223,7 @@ impl Rig {
         self.add(binding, client)?;
         self.add(binding, server)?;
         self.take(e, &Deed::Register);
-        self.take(peer(e), &Deed::Register);
+        self.take(e ^ 1, &Deed::Register);
         Ok(())
     }
 
@@ -326,7 +235,7 @@ impl Rig {
     }
 
     fn take(&mut self, e: usize, deed: &Deed) -> Said {
-        match self.queues.get_mut(peer(e)) {
+        match self.queues.get_mut(e ^ 1) {
             Some(from) => take_at(&mut self.board, e, from, deed),
             None => Said::Other,
         }
@@ -336,7 +245,7 @@ impl Rig {
     fn write(&mut self, e: usize) -> Said {
         let said = self.put(e, &Deed::Write);
         if matches!(said, Said::Written(_, _)) {
-            trigger(&mut self.board, peer(e));
+            trigger(&mut self.board, e ^ 1);
         }
         said
     }
@@ -360,7 +269,7 @@ impl Rig {
         if e >= self.board.ends() || !is_text(self.alloc, self.board.end(e), call, text)? {
             return Ok(Said::Other);
         }
-        Ok(Said::Handled(e))
+        Ok(Said::HandledAt(e))
     }
 
     fn turn(&mut self, dispatcher: usize, text: &[u8]) -> Result<Said, AllocError> {
@@ -370,7 +279,7 @@ impl Rig {
         let Some(e) = self.board.due(dispatcher) else {
             return Ok(Said::Nothing);
         };
-        let Some(from) = self.queues.get_mut(peer(e)) else {
+        let Some(from) = self.queues.get_mut(e ^ 1) else {
             return Ok(Said::Other);
         };
         match self.board.turn(dispatcher, e, from) {

@@ -1,9 +1,9 @@
 //! Worked rows of deeds and answers. Each is told with the mistake that it would show.
 
-use crate::cores::rig::{Binding, Deed, Example, Said, Step};
+use crate::answers::Said;
+use crate::cores::rig::{Binding, Deed, Example, Step};
 use fl_base::Circuit;
-use fl_core::{Kind, one_dispatcher_changes, one_end_changes, turn_accounts};
-use fl_link::QueueLink;
+use fl_core::Kind;
 
 const PING: &[u8] = b"interface i { message ping(uint32 v); }";
 
@@ -16,9 +16,9 @@ const LONG: &[u8] = b"blob(\"aaaaaaaaaaaaaaaaaaaaaaaaaaaaaaaaaaaaaaaaaaaaaaaaa\"
 // One call: its fragment, and the turn that handles it.
 const ONE: &[Step] = &[
     (0, Deed::Call(b"ping(7)"), Said::Done),
-    (0, Deed::Show, Said::Stands(3, [7, 0, 0, 0, 0, 0, 0])),
+    (0, Deed::Show, Said::Shown(3, [7, 0, 0, 0, 0, 0, 0])),
     (0, Deed::Write, Said::Written(1, 1)),
-    (1, Deed::Turn(b"ping(7)"), Said::Handled(1)),
+    (1, Deed::Turn(b"ping(7)"), Said::HandledAt(1)),
     (1, Deed::Turn(b""), Said::Nothing),
     (1, Deed::Ack, Said::Nothing),
 ];
@@ -40,8 +40,8 @@ const RING: &[Step] = &[
     (0, Deed::Write, Said::Written(1, 1)),
     (0, Deed::Call(b"ping(3)"), Said::Done),
     (0, Deed::Write, Said::Full),
-    (1, Deed::Turn(b""), Said::Ready(1)),
-    (1, Deed::Turn(b"ping(1)"), Said::Handled(1)),
+    (1, Deed::Turn(b""), Said::ReadyAt(1)),
+    (1, Deed::Turn(b"ping(1)"), Said::HandledAt(1)),
     (0, Deed::Write, Said::Full),
     (1, Deed::Ack, Said::Done),
     (0, Deed::Write, Said::Written(1, 1)),
@@ -52,10 +52,10 @@ const PARTS: &[Step] = &[
     (0, Deed::Call(LONG), Said::Done),
     (0, Deed::Write, Said::Written(1, 2)),
     (0, Deed::Call(b"blob(\"x\")"), Said::Refused(40)),
-    (1, Deed::Turn(b""), Said::Part(1)),
+    (1, Deed::Turn(b""), Said::PartAt(1)),
     (0, Deed::Write, Said::Written(2, 2)),
     (0, Deed::Call(b"blob(\"x\")"), Said::Done),
-    (1, Deed::Turn(LONG), Said::Handled(1)),
+    (1, Deed::Turn(LONG), Said::HandledAt(1)),
 ];
 
 // A reply by rule.
@@ -63,10 +63,10 @@ const REPLY: &[Step] = &[
     (1, Deed::Reply, Said::Done),
     (0, Deed::Call(b"echo_call(9)"), Said::Done),
     (0, Deed::Write, Said::Written(1, 1)),
-    (1, Deed::Turn(b"echo_call(9)"), Said::Handled(1)),
-    (1, Deed::Show, Said::Stands(0x1_0003, [9, 0, 0, 0, 0, 0, 0])),
+    (1, Deed::Turn(b"echo_call(9)"), Said::HandledAt(1)),
+    (1, Deed::Show, Said::Shown(0x1_0003, [9, 0, 0, 0, 0, 0, 0])),
     (1, Deed::Write, Said::Written(1, 1)),
-    (0, Deed::Turn(b"echo_response(9)"), Said::Handled(0)),
+    (0, Deed::Turn(b"echo_response(9)"), Said::HandledAt(0)),
 ];
 
 // Three bindings of dispatcher 0: p and q by rings, r by a queue. What is pending comes first, and what is polled in turn.
@@ -75,19 +75,19 @@ const ORDER: &[Step] = &[
     (4, Deed::Write, Said::Written(1, 1)),
     (4, Deed::Call(b"ping(2)"), Said::Done),
     (4, Deed::Write, Said::Written(1, 1)),
-    (0, Deed::Turn(b"ping(1)"), Said::Handled(5)),
-    (0, Deed::Turn(b"ping(2)"), Said::Handled(5)),
-    (0, Deed::Turn(b""), Said::Quiet(1)),
-    (0, Deed::Turn(b""), Said::Quiet(3)),
-    (0, Deed::Turn(b""), Said::Quiet(1)),
+    (0, Deed::Turn(b"ping(1)"), Said::HandledAt(5)),
+    (0, Deed::Turn(b"ping(2)"), Said::HandledAt(5)),
+    (0, Deed::Turn(b""), Said::QuietAt(1)),
+    (0, Deed::Turn(b""), Said::QuietAt(3)),
+    (0, Deed::Turn(b""), Said::QuietAt(1)),
     (5, Deed::Register, Said::Refused(50)),
     (5, Deed::Deregister, Said::Done),
     (5, Deed::Deregister, Said::Refused(51)),
     (4, Deed::Call(b"ping(3)"), Said::Done),
     (4, Deed::Write, Said::Written(1, 1)),
-    (0, Deed::Turn(b""), Said::Quiet(3)),
+    (0, Deed::Turn(b""), Said::QuietAt(3)),
     (5, Deed::Register, Said::Done),
-    (0, Deed::Turn(b"ping(3)"), Said::Handled(5)),
+    (0, Deed::Turn(b"ping(3)"), Said::HandledAt(5)),
 ];
 
 // Two queues of one dispatcher take turns, though one holds two fragments.
@@ -98,9 +98,9 @@ const TURNS: &[Step] = &[
     (0, Deed::Write, Said::Written(1, 1)),
     (2, Deed::Call(b"ping(3)"), Said::Done),
     (2, Deed::Write, Said::Written(1, 1)),
-    (1, Deed::Turn(b"ping(1)"), Said::Handled(1)),
-    (1, Deed::Turn(b"ping(3)"), Said::Handled(3)),
-    (1, Deed::Turn(b"ping(2)"), Said::Handled(1)),
+    (1, Deed::Turn(b"ping(1)"), Said::HandledAt(1)),
+    (1, Deed::Turn(b"ping(3)"), Said::HandledAt(3)),
+    (1, Deed::Turn(b"ping(2)"), Said::HandledAt(1)),
 ];
 
 // 17 calls are answered by rule, one reply in transmission and 16 that wait; then no fragment is taken until one is written.
@@ -124,27 +124,27 @@ const WAITING: &[Step] = &[
     (0, Deed::Send(b"echo_call(16)"), Said::Written(1, 1)),
     (0, Deed::Send(b"echo_call(17)"), Said::Written(1, 1)),
     (0, Deed::Send(b"echo_call(18)"), Said::Written(1, 1)),
-    (1, Deed::Turn(b"echo_call(1)"), Said::Handled(1)),
-    (1, Deed::Turn(b"echo_call(2)"), Said::Handled(1)),
-    (1, Deed::Turn(b"echo_call(3)"), Said::Handled(1)),
-    (1, Deed::Turn(b"echo_call(4)"), Said::Handled(1)),
-    (1, Deed::Turn(b"echo_call(5)"), Said::Handled(1)),
-    (1, Deed::Turn(b"echo_call(6)"), Said::Handled(1)),
-    (1, Deed::Turn(b"echo_call(7)"), Said::Handled(1)),
-    (1, Deed::Turn(b"echo_call(8)"), Said::Handled(1)),
-    (1, Deed::Turn(b"echo_call(9)"), Said::Handled(1)),
-    (1, Deed::Turn(b"echo_call(10)"), Said::Handled(1)),
-    (1, Deed::Turn(b"echo_call(11)"), Said::Handled(1)),
-    (1, Deed::Turn(b"echo_call(12)"), Said::Handled(1)),
-    (1, Deed::Turn(b"echo_call(13)"), Said::Handled(1)),
-    (1, Deed::Turn(b"echo_call(14)"), Said::Handled(1)),
-    (1, Deed::Turn(b"echo_call(15)"), Said::Handled(1)),
-    (1, Deed::Turn(b"echo_call(16)"), Said::Handled(1)),
-    (1, Deed::Turn(b"echo_call(17)"), Said::Handled(1)),
+    (1, Deed::Turn(b"echo_call(1)"), Said::HandledAt(1)),
+    (1, Deed::Turn(b"echo_call(2)"), Said::HandledAt(1)),
+    (1, Deed::Turn(b"echo_call(3)"), Said::HandledAt(1)),
+    (1, Deed::Turn(b"echo_call(4)"), Said::HandledAt(1)),
+    (1, Deed::Turn(b"echo_call(5)"), Said::HandledAt(1)),
+    (1, Deed::Turn(b"echo_call(6)"), Said::HandledAt(1)),
+    (1, Deed::Turn(b"echo_call(7)"), Said::HandledAt(1)),
+    (1, Deed::Turn(b"echo_call(8)"), Said::HandledAt(1)),
+    (1, Deed::Turn(b"echo_call(9)"), Said::HandledAt(1)),
+    (1, Deed::Turn(b"echo_call(10)"), Said::HandledAt(1)),
+    (1, Deed::Turn(b"echo_call(11)"), Said::HandledAt(1)),
+    (1, Deed::Turn(b"echo_call(12)"), Said::HandledAt(1)),
+    (1, Deed::Turn(b"echo_call(13)"), Said::HandledAt(1)),
+    (1, Deed::Turn(b"echo_call(14)"), Said::HandledAt(1)),
+    (1, Deed::Turn(b"echo_call(15)"), Said::HandledAt(1)),
+    (1, Deed::Turn(b"echo_call(16)"), Said::HandledAt(1)),
+    (1, Deed::Turn(b"echo_call(17)"), Said::HandledAt(1)),
     (1, Deed::Turn(b""), Said::Full),
     (1, Deed::Turn(b""), Said::Full),
     (1, Deed::Write, Said::Written(1, 1)),
-    (1, Deed::Turn(b"echo_call(18)"), Said::Handled(1)),
+    (1, Deed::Turn(b"echo_call(18)"), Said::HandledAt(1)),
 ];
 
 // A binding of dispatcher 0 to dispatcher 1 by queues.
@@ -230,9 +230,3 @@ pub const EXAMPLES: &[Example] = &[
         rows: TURNS,
     },
 ];
-
-pub fn laws() {
-    one_end_changes();
-    one_dispatcher_changes();
-    turn_accounts::<QueueLink>();
-}

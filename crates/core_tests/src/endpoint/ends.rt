@@ -1,22 +1,33 @@
 //! All tables.
 
 use crate::endpoint::{faults, forged, rows, sides};
-use crate::tables::{Row, all_hold};
+use crate::tables::all_hold;
+use fl_endpoint::{
+    accounts_add_up, bind_accounts, call_accounts, handles_in_order, on_another_circuit,
+    receive_accounts, replies_add_up, rule_accounts, since_made, takes_in_order, write_accounts,
+};
+use fl_link::QueueLink;
 use std::test::Fail;
+
+fn laws() {
+    accounts_add_up();
+    replies_add_up();
+    call_accounts();
+    write_accounts::<QueueLink>();
+    receive_accounts::<QueueLink>();
+    bind_accounts();
+    rule_accounts();
+    since_made();
+    handles_in_order();
+    takes_in_order();
+    on_another_circuit();
+}
 
 #[test]
 fn ends(rt: HostRuntime) -> Result<(), Fail> {
-    sides::laws();
+    laws();
     all_hold(rt.alloc(), "faults", faults::FAULTS)?;
     all_hold(rt.alloc(), "worked rows", rows::EXAMPLES)?;
     all_hold(rt.alloc(), "ends not bound at first", sides::EXAMPLES)?;
     all_hold(rt.alloc(), "forged fragments", forged::EXAMPLES)
-}
-
-// Where memory runs out before the call becomes whole there is nothing to show.
-#[test]
-fn receives_without_memory(rt: HostRuntime) {
-    if let Ok(holds) = forged::AT_LAST.holds(rt.alloc()) {
-        assert!(rt; holds);
-    }
 }

@@ -1,6 +1,7 @@
 //! Fragments that can't follow those before them, and memory refused where a call becomes whole.
 
-use crate::endpoint::pair::{Deed, Example, Said, Step};
+use crate::answers::Said;
+use crate::endpoint::pair::{Deed, Example, Step};
 use fl_base::{Circuit, Side};
 use std::alloc::Global;
 

@@ -2,15 +2,17 @@
 
 ghost use Rattle.std.specs.Prelude.{◌≡◌};
 
+use crate::answers::{
+    Said, make_end, make_queue, print, put, said_of, said_of_show, said_of_write,
+};
 use crate::endpoint::sides::Refusing;
 use crate::tables::Row;
 use crate::texts::program;
-use fl_base::{Circuit, Frag, MsgNo, Side};
-use fl_compile::Program;
-use fl_endpoint::{End, EndFault, ReceiveAnswer, WriteAnswer};
+use fl_base::{Circuit, MsgNo, Side};
+use fl_endpoint::{End, ReceiveAnswer};
 use fl_link::{PutFault, QueueLink};
 use fl_machine::Reassemblies;
-use fl_value::{Call, PlanNo, ValueFault, print_call, read_call};
+use fl_value::{Call, PlanNo, ValueFault, read_call};
 use std::alloc::{AllocError, Global};
 use std::marker::Model;
 
@@ -41,28 +43,6 @@ pub enum Deed {
     Bind(Circuit),
     Look,
     Count,
-}
-
-/// What an end answers.
-#[derive(Clone, Copy, PartialEq, Eq)]
-pub enum Said {
-    Done,
-    Written(usize, usize),
-    Full,
-    Nothing,
-    /// A fragment's control word and words.
-    Shown(u64, [u64; 7]),
-    Handled,
-    Part,
-    Quiet,
-    Empty,
-    HeldBack,
-    Refused(u8),
-    Rule(Option<MsgNo>),
-    /// Its circuit, and whether it is bound, busy, failed, and has rules.
-    Seen(Option<Circuit>, [bool; 4]),
-    /// How many replies wait, and how many messages its interface has.
-    Counts(usize, usize),
 }
 
 /// A deed at an end, and what the end answers.
@@ -115,27 +95,6 @@ struct Pair {
     handled: Vec<u8>,
 }
 
-fn end_of(alloc: Global, program: Program, circuit: Option<Circuit>) -> Result<End, AllocError> {
-    match circuit {
-        Some(circuit) => End::new(alloc, program, circuit),
-        None => End::unbound(alloc, program),
-    }
-}
-
-fn queue(alloc: Global, size: usize) -> Result<QueueLink, AllocError> {
-    match QueueLink::local(alloc, size) {
-        Ok(queue) => Ok(queue),
-        Err(_) => Err(AllocError),
-    }
-}
-
-fn end(alloc: Global, plan: PlanNo, example: &Example) -> Result<End, AllocError> {
-    match program(alloc, example.text, plan) {
-        Ok(program) => end_of(alloc, program, example.circuit),
-        Err(_) => Err(AllocError),
-    }
-}
-
 fn half_of(alloc: Global, end: End, out: QueueLink) -> Result<Box<Half>, AllocError> {
     let mut calls = Reassemblies::new(alloc);
     end.add_place(&mut calls)?;
@@ -143,45 +102,10 @@ fn half_of(alloc: Global, end: End, out: QueueLink) -> Result<Box<Half>, AllocEr
 }
 
 fn make_half(alloc: Global, plan: PlanNo, example: &Example) -> Result<Box<Half>, AllocError> {
-    let end = end(alloc, plan, example)?;
-    match queue(alloc, example.size) {
+    let end = make_end(alloc, example.text, plan, example.circuit)?;
+    match make_queue(alloc, example.size, false) {
         Ok(out) => half_of(alloc, end, out),
         Err(_) => Err(AllocError),
-    }
-}
-
-fn said_of(answer: Result<(), EndFault>) -> Said {
-    match answer {
-        Ok(()) => Said::Done,
-        Err(fault) => Said::Refused(fault.number()),
-    }
-}
-
-fn said_of_show(answer: Result<Option<Frag>, EndFault>) -> Said {
-    match answer {
-        Ok(Some(frag)) => Said::Shown(frag.control, frag.words),
-        Ok(None) => Said::Nothing,
-        Err(fault) => Said::Refused(fault.number()),
-    }
-}
-
-fn said_of_write(answer: Result<WriteAnswer, EndFault>) -> Said {
-    match answer {
-        Ok(WriteAnswer::Written { number, count }) => Said::Written(number, count),
-        Ok(WriteAnswer::Full) => Said::Full,
-        Ok(WriteAnswer::Nothing) => Said::Nothing,
-        Err(fault) => Said::Refused(fault.number()),
-    }
-}
-
-fn put(queue: &mut QueueLink, control: u64, words: &[u64; 7]) -> Said {
-    let frag = Frag {
-        words: *words,
-        control,
-    };
-    match queue.put(&frag) {
-        Ok(()) => Said::Done,
-        Err(_) => Said::Full,
     }
 }
 
@@ -218,10 +142,7 @@ fn handle(
     end: &End,
     call: &Call,
 ) -> Result<Said, AllocError> {
-    let messages = &end.program().interface().messages;
-    if let Some(message) = messages.get(usize::from(call.msg.0)) {
-        print_call(alloc, handled, &message.name.bytes, &call.args)?;
-    }
+    print(alloc, handled, end, call)?;
     handled.push(b'\n')?;
     Ok(Said::Handled)
 }

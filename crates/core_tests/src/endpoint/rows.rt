@@ -1,6 +1,7 @@
 //! Worked examples between the two ends of a binding.
 
-use crate::endpoint::pair::{Deed, Example, Said, Step};
+use crate::answers::Said;
+use crate::endpoint::pair::{Deed, Example, Step};
 use fl_base::{Circuit, MsgNo, Side};
 
 const PING: &[u8] = b"interface i { message ping(uint32 v); }";

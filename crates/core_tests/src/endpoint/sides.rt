@@ -2,13 +2,10 @@
 
 ghost use Rattle.std.specs.Prelude.{true};
 
-use crate::endpoint::pair::{Deed, Example, Said, Step};
+use crate::answers::Said;
+use crate::endpoint::pair::{Deed, Example, Step};
 use fl_base::{Circuit, Frag, MsgNo, Side};
-use fl_endpoint::{
-    accounts_add_up, bind_accounts, call_accounts, handles_in_order, on_another_circuit,
-    receive_accounts, replies_add_up, rule_accounts, since_made, takes_in_order, write_accounts,
-};
-use fl_link::{PutFault, PutSide, QueueLink};
+use fl_link::{PutFault, PutSide};
 
 const PING: &[u8] = b"interface i { message ping(uint32 v); }";
 
@@ -149,18 +146,4 @@ impl PutSide for Refusing {
     fn known(&self) -> u64 {
         0
     }
-}
-
-pub fn laws() {
-    accounts_add_up();
-    replies_add_up();
-    call_accounts();
-    write_accounts::<QueueLink>();
-    receive_accounts::<QueueLink>();
-    bind_accounts();
-    rule_accounts();
-    since_made();
-    handles_in_order();
-    takes_in_order();
-    on_another_circuit();
 }

@@ -1,9 +1,9 @@
 //! Fragments that say no message.
 
-use crate::monitor::messages::{Claim, all_read};
-use std::test::Fail;
+use crate::monitor::messages::Claim;
 
-const FAULTS: &[Claim] = &[
+/// Fragments, and their first faults.
+pub const FAULTS: &[Claim] = &[
     // no first fragment, with either epoch
     Claim::Fails(0, [0, 0, 0, 0], 60),
     Claim::Fails(0x1_0001, [0, 0, 0, 0], 60),
@@ -30,8 +30,3 @@ const FAULTS: &[Claim] = &[
     Claim::Fails(0x1_0002, [0x1_0000, 0, 0, 0], 63),
     Claim::Fails(0x2_0002, [0, 1, 0, 0], 63),
 ];
-
-#[test]
-fn the_first_fault(rt: HostRuntime) -> Result<(), Fail> {
-    all_read(rt.alloc(), "faults", FAULTS)
-}

@@ -1,7 +1,7 @@
 //! Scripts of messages out of their place, one by one, at core 1 between core 0 and core 2; nothing has changed after each.
 
 use crate::monitor::monitors::{CROWDED, ENDS, FIRST, FREE, HOME, LINE, OUT, SECOND, Step};
-use crate::monitor::words::Words;
+use crate::words::Words;
 use fl_base::{Circuit, CoreId, EndId, LinkId, Side};
 use fl_monitor::{Heard, Here, MonitorFault};
 

@@ -1,7 +1,7 @@
 //! Scripts up to the limits of outboxes.
 
 use crate::monitor::monitors::{ENDS, FIRST, FREE, LINE, SECOND, Step};
-use crate::monitor::words::Words;
+use crate::words::Words;
 use fl_base::Circuit;
 use fl_monitor::{Heard, MonitorFault};
 

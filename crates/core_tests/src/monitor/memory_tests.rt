@@ -6,11 +6,6 @@ use fl_hop::HopFault;
 use fl_monitor::{Monitor, MonitorFault, Opening, Path};
 use std::alloc::Global;
 
-// The number of the next circuit on the first link.
-fn next(monitor: &Monitor) -> Option<Circuit> {
-    monitor.circuits().next(FIRST)
-}
-
 // Whether asking for a circuit was refused as out of memory and left the monitor as it was, or did its work.
 fn asks_with_little_memory(monitor: &mut Monitor) -> bool {
     let Some(path) = Path::new(LINE) else {
@@ -25,7 +20,7 @@ fn asks_with_little_memory(monitor: &mut Monitor) -> bool {
         Ok(circuit) => circuit == Circuit(1) && sends(monitor, FIRST),
         Err(fault) => {
             fault == MonitorFault::Memory
-                && next(monitor) == Some(Circuit(1))
+                && monitor.circuits().next(FIRST) == Some(Circuit(1))
                 && !sends(monitor, FIRST)
         }
     }
@@ -35,18 +30,14 @@ fn asks_with_little_memory(monitor: &mut Monitor) -> bool {
 fn starts_with_little_memory(monitor: &mut Monitor) -> bool {
     match monitor.add_link(CoreId(1)) {
         Ok(_) => asks_with_little_memory(monitor),
-        Err(fault) => fault == HopFault::Memory && next(monitor).is_none(),
+        Err(fault) => fault == HopFault::Memory && monitor.circuits().next(FIRST).is_none(),
     }
 }
 
-fn with_little_memory(alloc: Global) -> bool {
+/// Whether a monitor does its work or leaves all as it was.
+pub fn opens(alloc: Global) -> bool {
     match Monitor::new(alloc, CoreId(0)) {
         Ok(mut monitor) => starts_with_little_memory(&mut monitor),
         Err(_no_memory) => true,
     }
-}
-
-#[test]
-fn opens_without_memory(rt: HostRuntime) {
-    assert!(rt; with_little_memory(rt.alloc()));
 }

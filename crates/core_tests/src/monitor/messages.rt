@@ -1,13 +1,14 @@
 //! What a messenger writes and reads, row by row, by one messenger.
 
+use crate::monitor::monitors::Line;
 use crate::monitor::outbox_tests::in_order;
-use crate::monitor::words::{Words, message};
+use crate::tables::RowOn;
 use crate::texts::interface;
+use crate::words::{Words, message};
 use fl_base::{Circuit, Frag};
 use fl_monitor::{Message, Messenger};
 use fl_wire::WireFault;
 use std::alloc::Global;
-use std::test::Fail;
 
 /// A row.
 pub enum Claim {
@@ -87,31 +88,14 @@ fn publishes(alloc: Global, messenger: &Messenger, text: &[u8]) -> Result<bool, 
     }
 }
 
-fn holds(alloc: Global, messenger: &mut Messenger, claim: &Claim) -> Result<bool, WireFault> {
-    match claim {
-        Claim::Stands(words, first, control) => stands_for(messenger, *words, *first, *control),
-        Claim::Fails(control, words, number) => fails(messenger, *control, *words, *number),
-        Claim::Publishes(text) => publishes(alloc, messenger, text),
-        Claim::Queues => in_order(alloc, messenger),
-    }
-}
-
-fn all_read_by(
-    alloc: Global,
-    messenger: &mut Messenger,
-    table: &str,
-    claims: &[Claim],
-) -> Result<(), Fail> {
-    for (index, claim) in claims.iter().enumerate() {
-        if !holds(alloc, messenger, claim)? {
-            return Err(Fail::new(format_args!("row {index} of {table}, counted from 0, is wrong")));
+impl RowOn<Line> for Claim {
+    fn holds_on(&self, line: &mut Line) -> Result<bool, WireFault> {
+        let (alloc, messenger) = (line.alloc, &mut line.messenger);
+        match self {
+            Claim::Stands(words, first, control) => stands_for(messenger, *words, *first, *control),
+            Claim::Fails(control, words, number) => fails(messenger, *control, *words, *number),
+            Claim::Publishes(text) => publishes(alloc, messenger, text),
+            Claim::Queues => in_order(alloc, messenger),
         }
     }
-    Ok(())
-}
-
-/// Tells which row is the first that isn't so, by one messenger.
-pub fn all_read(alloc: Global, table: &str, claims: &[Claim]) -> Result<(), Fail> {
-    let mut messenger = Messenger::new(alloc)?;
-    all_read_by(alloc, &mut messenger, table, claims)
 }

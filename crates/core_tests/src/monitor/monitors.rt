@@ -1,8 +1,9 @@
 //! Monitors of a line of three cores that hear each other's fragments, in one thread, and scripts of what they do.
 
 use crate::monitor::offer_tests::SAME;
-use crate::monitor::words::{Words, message};
+use crate::tables::{RowOn, all_hold_on};
 use crate::texts::program;
+use crate::words::{Words, message};
 use fl_base::{Circuit, CoreId, IRef, LinkId};
 use fl_compile::Program;
 use fl_hop::{Hop, HopFault};
@@ -79,12 +80,12 @@ struct Cores {
     last: Box<Monitor>,
 }
 
-// The cores, what reads the fragments between them, and the table of names.
+/// The cores, what reads the fragments between them, and the table of names.
 #[derive(Drop)]
-struct Line {
-    alloc: Global,
+pub struct Line {
+    pub alloc: Global,
     cores: Cores,
-    messenger: Messenger,
+    pub messenger: Messenger,
     names: Names,
 }
 
@@ -118,21 +119,20 @@ fn make_cores(alloc: Global) -> Result<Cores, HopFault> {
     })
 }
 
-// A service of interface 0 is registered.
-fn register(names: &mut Names, name: &[u8], core: u8, dispatcher: usize) -> Result<(), NameFault> {
-    let service = Service {
-        core: CoreId(core),
-        dispatcher,
-        interface: 0,
-    };
-    names.register(name, service)?;
-    Ok(())
-}
+// The services: name, core and dispatcher. Service 1 is at core 2, and service 2 at core 1.
+const SERVICES: &[(&[u8], u8, usize)] = &[(b"far", 2, 5), (b"near", 1, 3)];
 
-// Service 1 at dispatcher 5 of core 2, and service 2 at dispatcher 3 of core 1.
-fn register_both(names: &mut Names) -> Result<(), NameFault> {
-    register(names, b"far", 2, 5)?;
-    register(names, b"near", 1, 3)
+// They are registered, each of interface 0.
+fn register_all(names: &mut Names) -> Result<(), NameFault> {
+    for (name, core, dispatcher) in SERVICES {
+        let service = Service {
+            core: CoreId(*core),
+            dispatcher: *dispatcher,
+            interface: 0,
+        };
+        names.register(name, service)?;
+    }
+    Ok(())
 }
 
 // The core of a number.
@@ -283,17 +283,8 @@ fn counts(monitor: &Monitor, own: u16, due: u16) -> bool {
     circuits.next(FIRST) == Some(Circuit(own)) && circuits.next_due(FIRST) == Some(Circuit(due))
 }
 
-fn hop(monitor: &Monitor) -> Option<Hop> {
-    monitor.circuits().hop_of(FIRST, Circuit(1))
-}
-
 // What is wanted: a service at a core, and a route.
 type Offer = (u8, &'static [CoreId], Result<LinkId, MonitorFault>);
-
-fn may_open(monitor: &Monitor, client: &Program, offered: &Program, offer: Offer) -> bool {
-    let (server, cores, wanted) = offer;
-    monitor.may_open(client, offered, CoreId(server), cores, 3) == wanted
-}
 
 fn is_answered(
     line: &Line,
@@ -303,7 +294,11 @@ fn is_answered(
     offer: Offer,
 ) -> Result<bool, WireFault> {
     match program(line.alloc, text, plan) {
-        Ok(offered) => Ok(may_open(&line.cores.first, client, &offered, offer)),
+        Ok(offered) => {
+            let (server, cores, wanted) = offer;
+            let first = &line.cores.first;
+            Ok(first.may_open(client, &offered, CoreId(server), cores, 3) == wanted)
+        }
         Err(_) => Err(WireFault::Memory),
     }
 }
@@ -315,49 +310,49 @@ fn offers(line: &Line, text: &[u8], plan: PlanNo, offer: Offer) -> Result<bool, 
     }
 }
 
-// Whether a step comes to what it has to.
-fn holds(line: &mut Line, step: &Step) -> Result<bool, WireFault> {
-    match *step {
-        Step::Asks(core, link, asked, wanted) => {
-            asks(at(&mut line.cores, core), link, asked, wanted)
-        }
-        Step::Goes(leg, here, wanted) => goes(line, leg, here, wanted),
-        Step::AsksForEach(core, link, count, cores, sent) => {
-            asks_for_each(at(&mut line.cores, core), link, count, cores, sent)
-        }
-        Step::RefusesEach(count) => refuses_each(line, count),
-        Step::Hears(link, here, words, wanted) => is_told(line, link, here, words, wanted),
-        Step::Sends(core, link, wanted) => Ok(sends(at(&mut line.cores, core), link) == wanted),
-        Step::Keeps(core, wanted) => Ok(hop(at(&mut line.cores, core)) == wanted),
-        Step::Counts(core, own, due) => Ok(counts(at(&mut line.cores, core), own, due)),
-        Step::Offers(text, plan, server, cores, wanted) => {
-            offers(line, text, plan, (server, cores, wanted))
+impl RowOn<Line> for Step {
+    // Whether it comes to what it has to.
+    fn holds_on(&self, line: &mut Line) -> Result<bool, WireFault> {
+        match *self {
+            Step::Asks(core, link, asked, wanted) => {
+                asks(at(&mut line.cores, core), link, asked, wanted)
+            }
+            Step::Goes(leg, here, wanted) => goes(line, leg, here, wanted),
+            Step::AsksForEach(core, link, count, cores, sent) => {
+                asks_for_each(at(&mut line.cores, core), link, count, cores, sent)
+            }
+            Step::RefusesEach(count) => refuses_each(line, count),
+            Step::Hears(link, here, words, wanted) => is_told(line, link, here, words, wanted),
+            Step::Sends(core, link, wanted) => Ok(sends(at(&mut line.cores, core), link) == wanted),
+            Step::Keeps(core, wanted) => {
+                let circuits = at(&mut line.cores, core).circuits();
+                Ok(circuits.hop_of(FIRST, Circuit(1)) == wanted)
+            }
+            Step::Counts(core, own, due) => Ok(counts(at(&mut line.cores, core), own, due)),
+            Step::Offers(text, plan, server, cores, wanted) => {
+                offers(line, text, plan, (server, cores, wanted))
+            }
         }
     }
 }
 
-// Tells which step of a script is the first that doesn't come to what it has to.
-fn run_on(line: &mut Line, name: &str, script: &[Step]) -> Result<(), Fail> {
-    register_both(&mut line.names)?;
-    for (place, step) in script.iter().enumerate() {
-        if !holds(line, step)? {
-            return Err(Fail::new(format_args!("step {place} of {name}, counted from 0, is wrong")));
-        }
-    }
-    Ok(())
-}
-
-fn make_line(alloc: Global) -> Result<Line, HopFault> {
-    Ok(Line {
+fn make_line(alloc: Global) -> Result<Box<Line>, HopFault> {
+    let line = Line {
         alloc,
         cores: make_cores(alloc)?,
         messenger: Messenger::new(alloc)?,
         names: Names::new(alloc),
-    })
+    };
+    Ok(Box::new(alloc, line)?)
 }
 
-/// Tells which step of a script is the first that isn't so, on a new line.
-pub fn run(alloc: Global, name: &str, script: &[Step]) -> Result<(), Fail> {
+fn run_on<R: RowOn<Line>>(line: &mut Line, name: &str, rows: &[R]) -> Result<(), Fail> {
+    register_all(&mut line.names)?;
+    all_hold_on(line, name, rows)
+}
+
+/// Tells which step or row is the first that doesn't come to what it has to, on a new line.
+pub fn run<R: RowOn<Line>>(alloc: Global, name: &str, rows: &[R]) -> Result<(), Fail> {
     let mut line = make_line(alloc)?;
-    run_on(&mut line, name, script)
+    run_on(&mut line, name, rows)
 }

@@ -1,10 +1,11 @@
 //! The table of names: each call where it is answered and where it is refused, and refused memory.
 
 use crate::faults::{Fault, Told};
-use crate::tables::{Row, all_hold};
+use crate::tables::{RowOn, all_hold_on};
 use fl_base::{CoreId, IRef};
 use fl_nameserv::{NameFault, Names, Registration, Service};
-use std::alloc::{AllocError, Global};
+use fl_wire::WireFault;
+use std::alloc::Global;
 use std::test::Fail;
 
 // A service's core, dispatcher and interface, all told apart.
@@ -50,30 +51,28 @@ const SERVICES: &[Registration<'static>] = &[
     },
 ];
 
-// What is asked of a table of names, and what it has to answer.
-enum Asked {
-    // These are registered under their numbers, and are all that the table and a copy of it have.
+/// What is asked of a table of names, and what it has to answer.
+pub enum Asked {
+    /// These are registered under their numbers, and are all that the table and a copy of it have.
     Keeps(&'static [Registration<'static>]),
     Registers(Registration<'static>),
-    // A name that is taken (E71).
+    /// A name that is taken (E71).
     Taken(&'static [u8]),
     Finds(Registration<'static>),
-    // No service has this name (E70), nor this reference.
+    /// No service has this name (E70), nor this reference.
     Unknown(&'static [u8], u32),
-    // A name more. Where there is no memory for it the table is left as it was, and it is tried again.
+    /// A name more. Where there is no memory for it the table is left as it was, and it is tried again.
     AddsAtLast(&'static [u8]),
-    // The last of nine is found, also in a copy, if there is memory for one.
+    /// The nine are all that the table has, and a copy of it, if there is memory for one.
     Nine,
 }
 
-// What is asked of a new table, one after another.
-struct Script(&'static [Asked]);
+/// What is asked of new tables, one after another.
+pub const NONE: &[Asked] = &[Asked::Keeps(&[])];
 
-const TABLES: &[Script] = &[
-    Script(&[Asked::Keeps(&[])]),
-    Script(&[Asked::Keeps(&[S])]),
-    Script(&[Asked::Keeps(SERVICES)]),
-];
+pub const ONE_NAME: &[Asked] = &[Asked::Keeps(&[S])];
+
+pub const THREE_NAMES: &[Asked] = &[Asked::Keeps(SERVICES)];
 
 const T: Registration<'static> = Registration {
     name: b"t",
@@ -81,7 +80,7 @@ const T: Registration<'static> = Registration {
     service: TWO,
 };
 
-const REFUSALS: &[Script] = &[Script(&[
+pub const REFUSALS: &[Asked] = &[
     Asked::Unknown(b"s", 1),
     Asked::Registers(S),
     Asked::Taken(b"s"),
@@ -90,9 +89,10 @@ const REFUSALS: &[Script] = &[Script(&[
     Asked::Unknown(b"", 2),
     Asked::Unknown(b"", u32::MAX),
     Asked::Registers(T),
-])];
+];
 
-const AT_LAST: Script = Script(&[
+/// Nine names, each added at last.
+pub const AT_LAST: &[Asked] = &[
     Asked::AddsAtLast(b"a"),
     Asked::AddsAtLast(b"b"),
     Asked::AddsAtLast(b"c"),
@@ -103,14 +103,56 @@ const AT_LAST: Script = Script(&[
     Asked::AddsAtLast(b"h"),
     Asked::AddsAtLast(b"i"),
     Asked::Nine,
-]);
+];
 
-// The ninth of the names.
-const LAST: Registration<'static> = Registration {
-    name: b"i",
-    iref: IRef(9),
-    service: ONE,
-};
+// The nine names, each of the same service.
+const NINE: &[Registration<'static>] = &[
+    Registration {
+        name: b"a",
+        iref: IRef(1),
+        service: ONE,
+    },
+    Registration {
+        name: b"b",
+        iref: IRef(2),
+        service: ONE,
+    },
+    Registration {
+        name: b"c",
+        iref: IRef(3),
+        service: ONE,
+    },
+    Registration {
+        name: b"d",
+        iref: IRef(4),
+        service: ONE,
+    },
+    Registration {
+        name: b"e",
+        iref: IRef(5),
+        service: ONE,
+    },
+    Registration {
+        name: b"f",
+        iref: IRef(6),
+        service: ONE,
+    },
+    Registration {
+        name: b"g",
+        iref: IRef(7),
+        service: ONE,
+    },
+    Registration {
+        name: b"h",
+        iref: IRef(8),
+        service: ONE,
+    },
+    Registration {
+        name: b"i",
+        iref: IRef(9),
+        service: ONE,
+    },
+];
 
 // A copy can go to another core's thread.
 fn send<T: Send>(value: T) -> T {
@@ -141,23 +183,23 @@ fn has_all(names: &Names, all: &[Registration<'static>]) -> bool {
 }
 
 // The same of a copy.
-fn has_copy(names: &Names, all: &[Registration<'static>]) -> Result<bool, AllocError> {
+fn has_copy(names: &Names, all: &[Registration<'static>]) -> Result<bool, WireFault> {
     match names.duplicate() {
         Ok(copy) => Ok(has_all(&send(copy), all)),
-        Err(_) => Err(AllocError),
+        Err(_) => Err(WireFault::Memory),
     }
 }
 
 // Whether a service is registered under its number.
-fn registers(names: &mut Names, one: &Registration<'static>) -> Result<bool, AllocError> {
+fn registers(names: &mut Names, one: &Registration<'static>) -> Result<bool, WireFault> {
     match names.register(one.name, one.service) {
         Ok(iref) => Ok(iref == one.iref),
-        Err(NameFault::Memory) => Err(AllocError),
+        Err(NameFault::Memory) => Err(WireFault::Memory),
         Err(_) => Ok(false),
     }
 }
 
-fn keeps(names: &mut Names, all: &[Registration<'static>]) -> Result<bool, AllocError> {
+fn keeps(names: &mut Names, all: &[Registration<'static>]) -> Result<bool, WireFault> {
     for one in all {
         if !registers(names, one)? {
             return Ok(false);
@@ -183,61 +225,28 @@ fn adds_at_last(names: &mut Names, name: &[u8]) -> bool {
     names.list().len().checked_sub(1) == Some(count)
 }
 
-fn has_nine(names: &Names) -> bool {
-    names.list().len() == 9 && is_found(names, &LAST)
-}
-
-fn nine_are_copied(names: &Names) -> bool {
-    match names.duplicate() {
-        Ok(copy) => has_nine(names) && has_nine(&copy),
-        Err(_no_memory) => has_nine(names),
-    }
-}
-
-fn answers(names: &mut Names, asked: &Asked) -> Result<bool, AllocError> {
-    match asked {
-        Asked::Keeps(all) => keeps(names, all),
-        Asked::Registers(one) => registers(names, one),
-        Asked::Taken(name) => Ok(names.register(name, TWO) == Err(NameFault::Taken)),
-        Asked::Finds(one) => Ok(is_found(names, one)),
-        Asked::Unknown(name, iref) => Ok(is_unknown(names, name, *iref)),
-        Asked::AddsAtLast(name) => Ok(adds_at_last(names, name)),
-        Asked::Nine => Ok(nine_are_copied(names)),
-    }
-}
-
-fn answers_all(names: &mut Names, script: &[Asked]) -> Result<bool, AllocError> {
-    for asked in script {
-        if !answers(names, asked)? {
-            return Ok(false);
+impl RowOn<Names> for Asked {
+    fn holds_on(&self, names: &mut Names) -> Result<bool, WireFault> {
+        match self {
+            Asked::Keeps(all) => keeps(names, all),
+            Asked::Registers(one) => registers(names, one),
+            Asked::Taken(name) => Ok(names.register(name, TWO) == Err(NameFault::Taken)),
+            Asked::Finds(one) => Ok(is_found(names, one)),
+            Asked::Unknown(name, iref) => Ok(is_unknown(names, name, *iref)),
+            Asked::AddsAtLast(name) => Ok(adds_at_last(names, name)),
+            Asked::Nine => Ok(has_all(names, NINE) && has_copy(names, NINE) != Ok(false)),
         }
     }
-    Ok(true)
 }
 
-impl Row for Script {
-    fn holds(&self, alloc: Global) -> Result<bool, AllocError> {
-        let mut names = Names::new(alloc);
-        answers_all(&mut names, self.0)
-    }
+/// Tells what a new table is the first to answer otherwise.
+pub fn all_answered(alloc: Global, name: &str, script: &[Asked]) -> Result<(), Fail> {
+    let mut names = Names::new(alloc);
+    all_hold_on(&mut names, name, script)
 }
 
-#[test]
-fn registrations(rt: HostRuntime) -> Result<(), Fail> {
-    all_hold(rt.alloc(), "tables", TABLES)
-}
-
-#[test]
-fn refusals(rt: HostRuntime) -> Result<(), Fail> {
-    all_hold(rt.alloc(), "refusals", REFUSALS)
-}
-
-#[test]
-fn registers_without_memory(rt: HostRuntime) {
-    assert!(rt; AT_LAST.holds(rt.alloc()) == Ok(true));
-}
-
-const FAULTS: &[Told] = &[
+/// The numbers and the words of the faults.
+pub const FAULTS: &[Told] = &[
     Told(
         Fault::Name(NameFault::Unknown),
         70,
@@ -250,8 +259,3 @@ const FAULTS: &[Told] = &[
         "no memory for one more service",
     ),
 ];
-
-#[test]
-fn name_faults(rt: HostRuntime) -> Result<(), Fail> {
-    all_hold(rt.alloc(), "faults", FAULTS)
-}

@@ -1,10 +1,9 @@
 //! What may be asked for: the service's interface, its plan, and the route.
 
-use crate::monitor::monitors::{FIRST, LINE, Step, run};
+use crate::monitor::monitors::{FIRST, LINE, Step};
 use fl_base::{CoreId, LinkId};
 use fl_monitor::MonitorFault;
 use fl_value::PlanNo;
-use std::test::Fail;
 
 /// The text of the client's interface.
 pub const SAME: &[u8] = b"interface i { message m(uint8 a, uint64 b); };";
@@ -13,7 +12,8 @@ const OTHER: &[u8] = b"interface i { message m(uint8 a, uint32 b); };";
 
 const NO_ROUTE: Result<LinkId, MonitorFault> = Err(MonitorFault::NoRoute);
 
-const OFFERS: &[Step] = &[
+/// The script.
+pub const OFFERS: &[Step] = &[
     Step::Offers(OTHER, PlanNo::Two, 9, &[], Err(MonitorFault::Differs)),
     Step::Offers(SAME, PlanNo::Two, 9, &[], Err(MonitorFault::PlansDiffer)),
     Step::Offers(SAME, PlanNo::One, 2, LINE, Ok(FIRST)),
@@ -36,8 +36,3 @@ const OFFERS: &[Step] = &[
         NO_ROUTE,
     ),
 ];
-
-#[test]
-fn what_may_be_asked_for(rt: HostRuntime) -> Result<(), Fail> {
-    run(rt.alloc(), "offers", OFFERS)
-}

@@ -1,14 +1,12 @@
 //! What waits in an outbox, in which order, and how much.
 
 use crate::faults::{Fault, Told};
-use crate::monitor::messages::{Claim, all_read};
-use crate::tables::all_hold;
+use crate::monitor::messages::Claim;
 use fl_base::{Circuit, Frag};
-use fl_monitor::{MAX_WAITING, Message, Messenger, MonitorFault, Outbox, outboxes_say_messages};
+use fl_monitor::{MAX_WAITING, Message, Messenger, MonitorFault, Outbox};
 use fl_wire::WireFault;
 use std::alloc::{AllocError, Global};
 use std::ops::Range;
-use std::test::Fail;
 
 // Whether an outbox answers so where the message is put that a circuit stands; out of memory ends the test.
 fn puts(
@@ -79,15 +77,11 @@ pub fn in_order(alloc: Global, messenger: &Messenger) -> Result<bool, WireFault>
     Ok(goes_in_order(messenger, &mut outbox)?)
 }
 
-const OUTBOX: &[Claim] = &[Claim::Queues];
+/// One claim: what is put is sent in order.
+pub const OUTBOX: &[Claim] = &[Claim::Queues];
 
-#[test]
-fn first_in_first_out(rt: HostRuntime) -> Result<(), Fail> {
-    outboxes_say_messages();
-    all_read(rt.alloc(), "outboxes", OUTBOX)
-}
-
-const FAULTS: &[Told] = &[
+/// The numbers and the words of the faults.
+pub const FAULTS: &[Told] = &[
     Told(
         Fault::Monitor(MonitorFault::Astray),
         67,
@@ -120,8 +114,3 @@ const FAULTS: &[Told] = &[
         "no memory for one more circuit",
     ),
 ];
-
-#[test]
-fn monitor_faults(rt: HostRuntime) -> Result<(), Fail> {
-    all_hold(rt.alloc(), "faults", FAULTS)
-}

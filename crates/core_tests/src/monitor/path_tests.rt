@@ -1,7 +1,9 @@
 //! Routes made of cores, and given back.
 
+use crate::tables::Row;
 use fl_base::CoreId;
 use fl_monitor::{MAX_ROUTE, Path};
+use std::alloc::{AllocError, Global};
 
 const CORES: &[CoreId] = &[
     CoreId(3),
@@ -45,16 +47,17 @@ fn are_kept() -> bool {
     true
 }
 
-// Routes of up to 16 cores are kept. A core 0 at the end of a route is told from the place behind a shorter one.
-fn are_told() -> bool {
-    are_kept()
-        && MAX_ROUTE == 16
-        && Path::new(CORES).is_none()
-        && differ(&[CoreId(3)], &[CoreId(3), CoreId(0)])
-        && differ(&[], &[CoreId(0)])
-}
+/// Routes of up to 16 cores are kept. A core 0 at the end of a route is told from the place behind a shorter one.
+pub struct Routes;
 
-#[test]
-fn routes(rt: HostRuntime) {
-    assert!(rt; are_told());
+impl Row for Routes {
+    fn holds(&self, _alloc: Global) -> Result<bool, AllocError> {
+        Ok(
+            are_kept()
+                && MAX_ROUTE == 16
+                && Path::new(CORES).is_none()
+                && differ(&[CoreId(3)], &[CoreId(3), CoreId(0)])
+                && differ(&[], &[CoreId(0)]),
+        )
+    }
 }

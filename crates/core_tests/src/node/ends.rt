@@ -5,7 +5,7 @@ ghost use Rattle.fl_endpoint.specs.View.{interface_in};
 
 use crate::node::known::Known;
 use crate::node::words::{Word, refuse};
-use fl_base::{Circuit, CoreId, EndId, LinkId, MsgNo, Side};
+use fl_base::{Circuit, CoreId, EndId, MsgNo, Side};
 use fl_endpoint::End;
 use fl_node::{Core, Joining, Newcomer, Port, Wire};
 use std::alloc::AllocError;
@@ -84,33 +84,45 @@ fn put_both(core: &mut Core, both: Joining) -> Word {
     }
 }
 
-fn joining(
+// The same, with a new end for the server.
+fn join_server(
+    core: &mut Core,
     known: &Known,
     binding: usize,
-    client: usize,
-    server: usize,
-) -> Result<Joining, AllocError> {
-    let client = Newcomer {
-        dispatcher: client,
-        end: make_end(known)?,
-    };
-    let server = Newcomer {
-        dispatcher: server,
-        end: make_end(known)?,
-    };
-    Ok(Joining {
-        binding,
-        client,
-        server,
-        to_server: 3,
-        to_client: 4,
-    })
+    client: Newcomer,
+    at: usize,
+) -> Word {
+    match make_end(known) {
+        Ok(end) => {
+            let server = Newcomer {
+                dispatcher: at,
+                end,
+            };
+            put_both(
+                core,
+                Joining {
+                    binding,
+                    client,
+                    server,
+                    to_server: 3,
+                    to_client: 4,
+                },
+            )
+        }
+        Err(_) => Word::NoMemory,
+    }
 }
 
 /// Both ends of a binding at two dispatchers, joined by queues 3 and 4: their places.
 pub fn joins(core: &mut Core, known: &Known, binding: usize, client: usize, server: usize) -> Word {
-    match joining(known, binding, client, server) {
-        Ok(both) => put_both(core, both),
+    match make_end(known) {
+        Ok(end) => {
+            let client = Newcomer {
+                dispatcher: client,
+                end,
+            };
+            join_server(core, known, binding, client, server)
+        }
         Err(_) => Word::NoMemory,
     }
 }
@@ -121,13 +133,6 @@ pub fn queues_of(core: &Core, e: usize) -> Word {
         return Word::Other;
     }
     Word::Queues(core.outlet(e), core.inlet(e))
-}
-
-pub fn adds_dispatcher(core: &mut Core) -> Word {
-    match core.add_dispatcher() {
-        Ok(place) => Word::At(Some(place)),
-        Err(_) => Word::NoMemory,
-    }
 }
 
 /// A link more, to a core: its number.
@@ -150,11 +155,6 @@ pub fn link_comes_and_goes(core: &mut Core, neighbour: CoreId) -> Word {
     }
 }
 
-/// The side of a link, by its number among the rings' sides.
-pub fn side_of(core: &Core, link: LinkId) -> Word {
-    Word::At(core.side(link))
-}
-
 // An end that sits nowhere, with a rule.
 fn make_ruled(known: &Known) -> Result<End, AllocError> {
     let mut end = End::unbound(known.alloc, known.program()?)?;
@@ -162,15 +162,11 @@ fn make_ruled(known: &Known) -> Result<End, AllocError> {
     Ok(end)
 }
 
-fn rule_of(end: &End) -> Option<MsgNo> {
-    end.rule_for(MsgNo(0))
-}
-
 fn rule_at(core: &Core, e: usize) -> Option<MsgNo> {
     if e >= core.board().ends() {
         return None;
     }
-    rule_of(core.board().end(e))
+    core.board().end(e).rule_for(MsgNo(0))
 }
 
 // The rules of a new end and of one that sits nowhere, after they were exchanged.
@@ -187,26 +183,26 @@ fn after_exchange(core: &mut Core, end: End, name: EndId, other: &mut End) -> Wo
     match core.add_end(0, end, port) {
         Ok(e) => {
             core.exchange_rules(e, other);
-            Word::Rules(rule_at(core, e), rule_of(other))
+            Word::Rules(rule_at(core, e), other.rule_for(MsgNo(0)))
         }
         Err(fault) => refuse(fault.number()),
     }
 }
 
-fn exchange(core: &mut Core, known: &Known, name: EndId) -> Result<Word, AllocError> {
-    let mut other = make_ruled(known)?;
-    let end = End::new(
-        known.alloc,
-        other.program().duplicate(known.alloc)?,
-        Circuit(0),
-    )?;
-    Ok(after_exchange(core, end, name, &mut other))
+fn exchange(core: &mut Core, known: &Known, name: EndId, other: &mut End) -> Word {
+    let Ok(program) = other.program().duplicate(known.alloc) else {
+        return Word::NoMemory;
+    };
+    match End::new(known.alloc, program, Circuit(0)) {
+        Ok(end) => after_exchange(core, end, name, other),
+        Err(_) => Word::NoMemory,
+    }
 }
 
 /// What an end of this name and one that sits nowhere have for rules, after they were exchanged: the other had one before.
 pub fn exchanges(core: &mut Core, known: &Known, name: EndId) -> Word {
-    match exchange(core, known, name) {
-        Ok(word) => word,
+    match make_ruled(known) {
+        Ok(mut other) => exchange(core, known, name, &mut other),
         Err(_) => Word::NoMemory,
     }
 }

@@ -1,13 +1,14 @@
 //! A core's events, whose answers are words.
 
-use crate::node::known::{Known, ping};
+use crate::node::known::Known;
 use crate::node::words::{Word, refuse};
+use crate::texts::ping;
 use fl_base::{CoreId, EndId, Frag, IRef, LinkId, Side};
 use fl_compile::Program;
 use fl_core::TurnAnswer;
 use fl_endpoint::WriteAnswer;
 use fl_hop::{Outcome, move_on};
-use fl_link::{PutSide, QueueLink, TakeSide};
+use fl_link::{PutSide, TakeSide};
 use fl_monitor::{Opening, Path};
 use fl_node::{Ahead, Core, Inlet, LinkFault, MonitorAnswer, MonitorWrite};
 use fl_value::{Call, Value};
@@ -44,18 +45,13 @@ pub fn asks(core: &mut Core, known: &Known, link: LinkId, route: &[CoreId], bind
     }
 }
 
-// A core's monitor writes on a link.
-fn say<P: PutSide>(core: &mut Core, link: LinkId, out: &mut P) -> Word {
+/// A core's monitor writes on a link.
+pub fn say<P: PutSide>(core: &mut Core, link: LinkId, out: &mut P) -> Word {
     match core.monitor_write(link, out) {
         MonitorWrite::Written => Word::Written,
         MonitorWrite::Full | MonitorWrite::Spent => Word::Full,
         MonitorWrite::Nothing => Word::Nothing,
     }
-}
-
-/// What is said on a core's second link goes to a queue.
-pub fn say_to(core: &mut Core, out: &mut QueueLink) -> Word {
-    say(core, LinkId(1), out)
 }
 
 fn tell_hear(answer: Result<MonitorAnswer, LinkFault>) -> Word {
@@ -123,26 +119,18 @@ fn write<P: PutSide>(core: &mut Core, out: &mut P) -> Word {
     }
 }
 
-fn call(core: &mut Core, call: &Call) -> Word {
-    if core.board().ends() == 0 {
-        return Word::Other;
-    }
-    match core.call(0, call) {
-        Ok(()) => Word::Done,
-        Err(fault) => refuse(fault.number()),
-    }
-}
-
 // Makes a call at a core's first end, and writes its fragment.
 fn send<P: PutSide>(core: &mut Core, alloc: Global, v: i128, out: &mut P) -> Word {
     let Ok(made) = ping(alloc, v) else {
         return Word::NoMemory;
     };
-    let word = call(core, &made);
-    if word != Word::Done {
-        return word;
+    if core.board().ends() == 0 {
+        return Word::Other;
     }
-    write(core, out)
+    match core.call(0, &made) {
+        Ok(()) => write(core, out),
+        Err(fault) => refuse(fault.number()),
+    }
 }
 
 // Puts a fragment as a neighbour would that may do what it likes.

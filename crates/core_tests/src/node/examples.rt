@@ -1,10 +1,11 @@
 //! Worked examples, each on a new line of cores, and all tables of them.
 
 use crate::node::forged::{ASTRAY, ASTRAY_BACK, FRAGMENTS, is_astray, is_forged};
-use crate::node::line::{Line, Plan, Step, Words, make_line};
+use crate::node::line::{Line, Plan, Step, make_line};
 use crate::node::scripts::{PLAN, SCRIPTS};
 use crate::node::words::Word;
 use crate::tables::{Row, all_hold};
+use crate::words::Words;
 use fl_base::Frag;
 use std::alloc::{AllocError, Global};
 use std::test::Fail;
@@ -13,7 +14,6 @@ use std::test::Fail;
 pub type Said = (u16, Words);
 
 /// An example.
-#[derive(Clone, Copy)]
 pub enum Example {
     /// A line's plan, and what its steps come to, in parts.
     Script(Plan, &'static [&'static [(Step, Word)]]),
@@ -30,23 +30,17 @@ fn plan_of(example: &Example) -> Plan {
     }
 }
 
-fn starting(control: u64, word: u64) -> Frag {
-    Frag {
-        words: [word, 0, 0, 0, 0, 0, 0],
-        control,
-    }
-}
-
 fn is_so(line: &mut Line, example: &Example) -> Result<bool, AllocError> {
     match example {
         Example::Script(_, parts) => line.follows_all(parts),
         Example::Astray(before, said) => Ok(is_astray(line, before, *said)),
-        Example::Forged(opening, control, word, fault) => Ok(is_forged(
-            line,
-            *opening,
-            starting(*control, *word),
-            *fault,
-        )),
+        Example::Forged(opening, control, word, fault) => {
+            let frag = Frag {
+                words: [*word, 0, 0, 0, 0, 0, 0],
+                control: *control,
+            };
+            Ok(is_forged(line, *opening, frag, *fault))
+        }
     }
 }
 

@@ -2,8 +2,9 @@
 //! the higher one. What comes on that link has failed then for good, and nothing else has.
 
 use crate::node::examples::{Example, Said};
-use crate::node::line::{Leg, Line, Step, Words};
+use crate::node::line::{Leg, Line, Step};
 use crate::node::words::Word;
+use crate::words::Words;
 use fl_base::{CoreId, Frag};
 
 const LINE: &[CoreId] = &[CoreId(0), CoreId(1), CoreId(2)];

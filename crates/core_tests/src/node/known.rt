@@ -1,16 +1,13 @@
 //! What the cores know in common, and how they are made.
 
-use crate::texts::program;
-use fl_base::{CoreId, MsgNo};
+use crate::texts::{PING, program};
+use fl_base::CoreId;
 use fl_compile::Program;
 use fl_monitor::Messenger;
 use fl_nameserv::{Names, Service};
 use fl_node::Core;
-use fl_value::{Call, PlanNo, Value};
+use fl_value::PlanNo;
 use std::alloc::{AllocError, Global};
-
-// The interface of all tests.
-const PING: &[u8] = b"interface i { message ping(uint32 v); }";
 
 /// The names, the programs of the services, of which the first is that of the ends too; and what writes messages.
 #[derive(Drop)]
@@ -30,18 +27,14 @@ impl Known {
         }
     }
 
-    // Service 1 at this core, and service 2 at core 1; or none.
-    fn learn(&mut self, core: Option<u8>) -> Result<(), AllocError> {
+    // With service 1 at this core, and service 2 at core 1; or with none.
+    fn fill(&mut self, core: Option<u8>) -> Result<(), AllocError> {
+        self.programs.push(program(self.alloc, PING, PlanNo::One)?)?;
         if let Some(core) = core {
             exports(&mut self.names, b"far", core)?;
             exports(&mut self.names, b"near", 1)?;
         }
         Ok(())
-    }
-
-    fn fill(&mut self, core: Option<u8>) -> Result<(), AllocError> {
-        self.programs.push(program(self.alloc, PING, PlanNo::One)?)?;
-        self.learn(core)
     }
 }
 
@@ -81,18 +74,14 @@ pub fn make_known(alloc: Global, core: Option<u8>) -> Result<Box<Known>, AllocEr
     Ok(known)
 }
 
-fn links_to(core: &mut Core, neighbours: &[u8]) -> Result<(), AllocError> {
+fn outfit(core: &mut Core, neighbours: &[u8]) -> Result<(), AllocError> {
+    core.add_dispatcher()?;
     for (side, neighbour) in neighbours.iter().enumerate() {
         if core.add_link(CoreId(*neighbour), side).is_err() {
             return Err(AllocError);
         }
     }
     Ok(())
-}
-
-fn outfit(core: &mut Core, neighbours: &[u8]) -> Result<(), AllocError> {
-    core.add_dispatcher()?;
-    links_to(core, neighbours)
 }
 
 fn bare_core(alloc: Global, number: u8) -> Result<Box<Core>, AllocError> {
@@ -107,14 +96,4 @@ pub fn make_core(alloc: Global, number: u8, neighbours: &[u8]) -> Result<Box<Cor
     let mut core = bare_core(alloc, number)?;
     outfit(&mut core, neighbours)?;
     Ok(core)
-}
-
-/// A call of the interface's only message.
-pub fn ping(alloc: Global, v: i128) -> Result<Call, AllocError> {
-    let mut args = Vec::new(alloc);
-    args.push(Value::Int(v))?;
-    Ok(Call {
-        msg: MsgNo(0),
-        args,
-    })
 }

@@ -1,16 +1,15 @@
 //! Three cores in a line, with rings between them, driven by steps whose answers are words.
 
 use crate::node::ends::{
-    adds, adds_dispatcher, comes_and_goes, exchanges, joins, link_comes_and_goes, links, queues_of,
-    side_of,
+    adds, comes_and_goes, exchanges, joins, link_comes_and_goes, links, queues_of,
 };
-use crate::node::events::{Deed, asks, say_to, turn};
+use crate::node::events::{Deed, asks, say, turn};
 use crate::node::known::{Known, make_core, make_known};
 use crate::node::rings::{Ring, make_ring, pass_down, pass_up};
 use crate::node::words::{State, Word, state_of};
-use fl_base::{Circuit, CoreId, EndId, Frag, IRef, LinkId, Side};
+use crate::words::{Words, message};
+use fl_base::{CoreId, EndId, Frag, LinkId, Side};
 use fl_link::QueueLink;
-use fl_monitor::{Message, Path};
 use fl_node::Core;
 use fl_ring::Which;
 use std::alloc::{AllocError, Global};
@@ -29,15 +28,6 @@ pub enum Leg {
 pub enum At {
     First,
     Last,
-}
-
-/// A message of monitors.
-#[derive(Clone, Copy)]
-pub enum Words {
-    /// A circuit, a binding, a service and a route.
-    Open(u16, u32, u32, &'static [CoreId]),
-    Opened(u16),
-    Refused(u16, u32),
 }
 
 /// A step.
@@ -82,7 +72,7 @@ pub enum Step {
     /// Those of the middle core, each said, and heard by nobody.
     OpenOnEach,
     /// So many ends more at a core's first dispatcher, two of each binding from 0 on.
-    Fill(At, usize),
+    Fill(At, u32),
 }
 
 /// What differs between lines: where the service is, if there is one; the link and the route along which the first core asks for
@@ -146,40 +136,32 @@ pub fn make_line(alloc: Global, plan: Plan) -> Result<Line, AllocError> {
     })
 }
 
-// The message of these words; none where the route is too long.
-fn message(words: Words) -> Option<Message> {
-    match words {
-        Words::Open(circuit, binding, service, cores) => Some(Message::OpenCircuit {
-            circuit: Circuit(circuit),
-            binding,
-            service: IRef(service),
-            path: Path::new(cores)?,
-        }),
-        Words::Opened(circuit) => Some(Message::CircuitOpened {
-            circuit: Circuit(circuit),
-        }),
-        Words::Refused(circuit, reason) => Some(Message::CircuitRefused {
-            circuit: Circuit(circuit),
-            reason,
-        }),
+// The leg that leads back, which begins where this one ends.
+fn back(leg: Leg) -> Leg {
+    match leg {
+        Leg::Out => Leg::Home,
+        Leg::On => Leg::Back,
+        Leg::Back => Leg::On,
+        Leg::Home => Leg::Out,
     }
 }
 
 // The names of ends, two of each binding from 0.
-fn nth_name(place: usize) -> EndId {
+fn nth_name(place: u32) -> EndId {
     let side = if place % 2 == 0 {
         Side::Client
     } else {
         Side::Server
     };
     EndId {
-        binding: place / 2,
+        binding: (place / 2) as usize,
         side,
     }
 }
 
 // Of all that were done one by one, what the last came to: the place of the first that isn't as the others, and what it came to.
-fn until(count: usize, word: Word) -> Word {
+fn until(count: u32, word: Word) -> Word {
+    let count = count as usize;
     match word {
         Word::Refused(fault) => Word::Until(count, fault),
         Word::Full => Word::Times(count),
@@ -197,13 +179,6 @@ impl Cores {
         ]
     }
 
-    fn are(&self, states: &[State; 3]) -> bool {
-        let [first, middle, last] = states;
-        state_of(&self.first) == *first
-            && state_of(&self.middle) == *middle
-            && state_of(&self.last) == *last
-    }
-
     fn at(&mut self, at: At) -> &mut Core {
         match at {
             At::First => &mut self.first,
@@ -217,13 +192,16 @@ fn makes(core: &mut Core, known: &Known, step: &Step) -> Word {
     match *step {
         Step::ComeAndGo(name) => comes_and_goes(core, known, name),
         Step::LinkComesAndGoes(neighbour) => link_comes_and_goes(core, neighbour),
-        Step::AddDispatcher => adds_dispatcher(core),
+        Step::AddDispatcher => match core.add_dispatcher() {
+            Ok(place) => Word::At(Some(place)),
+            Err(_) => Word::NoMemory,
+        },
         Step::AddLink(neighbour, side) => links(core, neighbour, side),
         Step::Join(binding, client, server) => joins(core, known, binding, client, server),
         Step::Place(name) => Word::At(core.place(name)),
         Step::Queues(e) => queues_of(core, e),
         Step::Ends => Word::Times(core.board().ends()),
-        Step::SideOf(link) => side_of(core, link),
+        Step::SideOf(link) => Word::At(core.side(link)),
         Step::Exchange(name) => exchanges(core, known, name),
         _ => Word::Other,
     }
@@ -250,16 +228,6 @@ impl Line {
         }
     }
 
-    // The core at a leg's end hears: there the leg begins that leads back.
-    fn hears(&mut self, leg: Leg) -> Word {
-        match leg {
-            Leg::Out => self.acts_from(Leg::Home, &Deed::Hear),
-            Leg::On => self.acts_from(Leg::Back, &Deed::Hear),
-            Leg::Back => self.acts_from(Leg::On, &Deed::Hear),
-            Leg::Home => self.acts_from(Leg::Out, &Deed::Hear),
-        }
-    }
-
     fn tells(&mut self, leg: Leg, words: Words) -> Word {
         let Some(message) = message(words) else {
             return Word::Other;
@@ -279,13 +247,6 @@ impl Line {
         }
     }
 
-    fn sends(&mut self, at: At, v: i128) -> Word {
-        match at {
-            At::First => self.acts_from(Leg::Out, &Deed::Send(v)),
-            At::Last => self.acts_from(Leg::Back, &Deed::Send(v)),
-        }
-    }
-
     fn step_once(&mut self, step: &Step) -> Word {
         let (cores, known, plan) = (&mut self.cores, &self.known, &self.plan);
         match *step {
@@ -294,11 +255,12 @@ impl Line {
             Step::Turn(at) => turn(cores.at(at)),
             Step::Add(at, name) => adds(cores.at(at), known, name),
             Step::Say(leg) => self.acts_from(leg, &Deed::Say),
-            Step::Hear(leg) => self.hears(leg),
+            Step::Hear(leg) => self.acts_from(back(leg), &Deed::Hear),
             Step::Tell(leg, words) => self.tells(leg, words),
             Step::Put(leg, frag) => self.acts_from(leg, &Deed::Put(frag)),
             Step::Pass(leg) => self.passes(leg),
-            Step::Send(at, v) => self.sends(at, v),
+            Step::Send(At::First, v) => self.acts_from(Leg::Out, &Deed::Send(v)),
+            Step::Send(At::Last, v) => self.acts_from(Leg::Back, &Deed::Send(v)),
             _ => makes(&mut cores.first, known, step),
         }
     }
@@ -314,34 +276,38 @@ impl Line {
         if word != Word::NoMemory {
             return word;
         }
-        if !self.cores.are(before) {
+        if self.cores.states() != *before {
             return Word::Changed;
         }
         self.step_once(step)
     }
 
-    // How many circuits the first core begins while nothing is said, and what the next is answered.
-    fn opens_each(&mut self) -> Word {
-        for binding in 0..1_024 {
-            let word = self.step(&Step::Open(binding));
-            if word != Word::Begun {
-                return until(binding as usize, word);
+    // One of those that are done in turn, and what it has to come to.
+    fn nth(&mut self, step: &Step, place: u32) -> (Word, Word) {
+        match *step {
+            Step::Fill(at, _) => (
+                self.step(&Step::Add(at, nth_name(place))),
+                Word::At(Some(place as usize)),
+            ),
+            Step::TakeEach => {
+                self.step(&Step::Open(place));
+                self.step(&Step::Say(Leg::Out));
+                (self.step(&Step::Hear(Leg::Out)), Word::Done)
             }
+            _ => (self.step(&Step::Open(place)), Word::Begun),
         }
-        Word::Times(1_024)
     }
 
-    // How many openings the middle core takes while it says nothing.
-    fn takes_each(&mut self) -> Word {
-        for binding in 0..1_024 {
-            self.step(&Step::Open(binding));
-            self.step(&Step::Say(Leg::Out));
-            let word = self.step(&Step::Hear(Leg::Out));
-            if word != Word::Done {
-                return until(binding as usize, word);
+    // How many are done in turn, and what the next is answered: ends are added, the first core begins circuits while nothing is said, or
+    // the middle core takes openings while it says nothing.
+    fn each(&mut self, step: &Step, count: u32) -> Word {
+        for place in 0..count {
+            let (word, wanted) = self.nth(step, place);
+            if word != wanted {
+                return until(place, word);
             }
         }
-        Word::Times(1_024)
+        Word::Times(count as usize)
     }
 
     // How many circuits the middle core begins, and what the next is answered; what it says goes to this queue.
@@ -349,23 +315,13 @@ impl Line {
         for binding in 0..1_024 {
             let word = self.step(&Step::OpenOn(binding));
             if word != Word::Begun {
-                return until(binding as usize, word);
+                return until(binding, word);
             }
-            if say_to(&mut self.cores.middle, out) != Word::Written {
+            if say(&mut self.cores.middle, LinkId(1), out) != Word::Written {
                 return Word::Other;
             }
         }
         Word::Times(1_024)
-    }
-
-    fn fills(&mut self, at: At, count: usize) -> Word {
-        for place in 0..count {
-            let word = self.step(&Step::Add(at, nth_name(place)));
-            if word != Word::At(Some(place)) {
-                return until(place, word);
-            }
-        }
-        Word::Times(count)
     }
 
     fn opens_on_each_to_a_queue(&mut self) -> Word {
@@ -378,10 +334,9 @@ impl Line {
     // What a step or many steps come to.
     fn comes_to(&mut self, step: &Step) -> Word {
         match *step {
-            Step::OpenEach => self.opens_each(),
-            Step::TakeEach => self.takes_each(),
+            Step::OpenEach | Step::TakeEach => self.each(step, 1_024),
             Step::OpenOnEach => self.opens_on_each_to_a_queue(),
-            Step::Fill(at, count) => self.fills(at, count),
+            Step::Fill(_, count) => self.each(step, count),
             _ => self.step(step),
         }
     }

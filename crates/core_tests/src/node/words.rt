@@ -48,21 +48,10 @@ pub fn refuse(number: u8) -> Word {
 }
 
 // What waits for a link, its own next number there and the neighbour's.
-#[derive(Clone, Copy, PartialEq, Eq)]
-struct Lane {
-    waiting: Option<usize>,
-    next: Option<Circuit>,
-    next_due: Option<Circuit>,
-}
+type Lane = (Option<usize>, Option<Circuit>, Option<Circuit>);
 
 /// What is compared of a core: how many ends it has, and which is due; and its first two links.
-#[derive(Clone, Copy, PartialEq, Eq)]
-pub struct State {
-    ends: usize,
-    due: Option<usize>,
-    near: Lane,
-    far: Lane,
-}
+pub type State = (usize, Option<usize>, Lane, Lane);
 
 fn waiting(core: &Core, link: LinkId) -> Option<usize> {
     let outbox = core.monitor().outbox(link)?;
@@ -70,11 +59,12 @@ fn waiting(core: &Core, link: LinkId) -> Option<usize> {
 }
 
 fn lane_of(core: &Core, link: LinkId) -> Lane {
-    Lane {
-        waiting: waiting(core, link),
-        next: core.monitor().circuits().next(link),
-        next_due: core.monitor().circuits().next_due(link),
-    }
+    let circuits = core.monitor().circuits();
+    (
+        waiting(core, link),
+        circuits.next(link),
+        circuits.next_due(link),
+    )
 }
 
 // The end that is due at a core's first dispatcher.
@@ -86,10 +76,10 @@ fn due(core: &Core) -> Option<usize> {
 }
 
 pub fn state_of(core: &Core) -> State {
-    State {
-        ends: core.board().ends(),
-        due: due(core),
-        near: lane_of(core, LinkId(0)),
-        far: lane_of(core, LinkId(1)),
-    }
+    (
+        core.board().ends(),
+        due(core),
+        lane_of(core, LinkId(0)),
+        lane_of(core, LinkId(1)),
+    )
 }

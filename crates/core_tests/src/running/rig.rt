@@ -4,8 +4,9 @@ ghost use Rattle.std.specs.Prelude.{◌≡◌, ◌<◌, None, length, IfOk};
 ghost use Rattle.fl_node.specs.View.{arrivals_by, arrivals_of};
 ghost use Rattle.core_tests.specs.Tickets.{IsNew};
 
-use crate::texts::program;
-use fl_base::{Circuit, CoreId, EndId, MsgNo, Side};
+use crate::answers::make_end;
+use crate::texts::{PING, ping};
+use fl_base::{Circuit, CoreId, EndId, Side};
 use fl_endpoint::End;
 use fl_link::{QueueLink, TakeSide};
 use fl_nameserv::Names;
@@ -13,7 +14,7 @@ use fl_node::{Core, Port, Wire};
 use fl_ring::SharedSide;
 use fl_running::{Desk, Gate, Job, Plan, Running, Ticket, Word};
 use fl_tally::EndSeat;
-use fl_value::{Call, PlanNo, Value};
+use fl_value::PlanNo;
 use std::alloc::{AllocError, Global};
 
 /// A gate that is always open.
@@ -23,32 +24,23 @@ impl Gate for Open {
     fn before_turn(&self, _core: CoreId) {}
 }
 
-const PING: &[u8] = b"interface i { message ping(uint32 v); }";
+// The ends of the binding.
+const CLIENT: EndId = EndId {
+    binding: 0,
+    side: Side::Client,
+};
 
-/// An end of binding 0.
-pub fn name(side: Side) -> EndId {
-    EndId { binding: 0, side }
-}
-
-// A call at the client: `ping(v)`.
-fn ping(alloc: Global, v: i128) -> Result<Job, AllocError> {
-    let mut args = Vec::new(alloc);
-    args.push(Value::Int(v))?;
-    let call = Call {
-        msg: MsgNo(0),
-        args,
-    };
-    Ok(Job::Call {
-        end: name(Side::Client),
-        call,
-    })
-}
+const SERVER: EndId = EndId {
+    binding: 0,
+    side: Side::Server,
+};
 
 /// So many calls at the client: `ping(1)`, `ping(2)` and so on.
 pub fn pings(alloc: Global, count: usize) -> Result<Vec<Job>, AllocError> {
     let mut jobs = Vec::new(alloc);
     for v in 0..count {
-        jobs.push(ping(alloc, v as i128 + 1)?)?;
+        let call = ping(alloc, v as i128 + 1)?;
+        jobs.push(Job::Call { end: CLIENT, call })?;
     }
     Ok(jobs)
 }
@@ -125,51 +117,22 @@ fn seat(core: &mut Core, dispatcher: usize, end: End, port: Port) -> Result<usiz
     }
 }
 
-// The same, registered over what it takes from.
+// A new end, registered over what it takes from.
 fn add<T: TakeSide>(
+    alloc: Global,
     core: &mut Core,
     dispatcher: usize,
-    end: End,
     port: Port,
     from: &mut T,
 ) -> Result<(), AllocError>
     requires { arrivals_by port.wire ≡ None }
 {
+    let end = make_end(alloc, PING, PlanNo::One, Some(Circuit(0)))?;
     let e = seat(core, dispatcher, end, port)?;
     match core.register(e, from) {
         Ok(()) => Ok(()),
         Err(_) => Err(AllocError),
     }
-}
-
-// An end that isn't at a core yet.
-fn end(alloc: Global) -> Result<End, AllocError> {
-    End::new(alloc, program(alloc, PING, PlanNo::One)?, Circuit(0))
-}
-
-// The server's end is added over the two queues.
-fn add_server(alloc: Global, core: &mut Core, from: &mut QueueLink) -> Result<(), AllocError> {
-    let port = Port {
-        name: name(Side::Server),
-        wire: Wire::Queues { out: 1, from: 0 },
-    };
-    add(core, 1, end(alloc)?, port, from)
-}
-
-// The client's end is added over what it takes from.
-fn add_client<T: TakeSide>(
-    alloc: Global,
-    core: &mut Core,
-    wire: Wire,
-    from: &mut T,
-) -> Result<(), AllocError>
-    requires { arrivals_by wire ≡ None }
-{
-    let port = Port {
-        name: name(Side::Client),
-        wire,
-    };
-    add(core, 0, end(alloc)?, port, from)
 }
 
 fn add_dispatchers(core: &mut Core, count: usize) -> Result<(), AllocError> {
@@ -192,8 +155,16 @@ fn join(alloc: Global, core: &mut Core, queues: &mut [QueueLink]) -> Result<(), 
     let [there, back] = queues else {
         return Err(AllocError);
     };
-    add_client(alloc, core, Wire::Queues { out: 0, from: 1 }, back)?;
-    add_server(alloc, core, there)
+    let client = Port {
+        name: CLIENT,
+        wire: Wire::Queues { out: 0, from: 1 },
+    };
+    let server = Port {
+        name: SERVER,
+        wire: Wire::Queues { out: 1, from: 0 },
+    };
+    add(alloc, core, 0, client, back)?;
+    add(alloc, core, 1, server, there)
 }
 
 // A desk with the first so many jobs, at which so many calls are to be handled.
@@ -212,8 +183,8 @@ fn put_desk(
 
 impl Rig {
     // An end is planned; so many calls are to be made there, and so many handled.
-    fn plan(&mut self, side: Side, calls: usize, due: usize) -> Result<(), AllocError> {
-        self.plan.ends.push(name(side))?;
+    fn plan(&mut self, name: EndId, calls: usize, due: usize) -> Result<(), AllocError> {
+        self.plan.ends.push(name)?;
         put_desk(self.run.alloc, &mut self.run.desks, calls, due)
     }
 
@@ -223,8 +194,8 @@ impl Rig {
         put_queue(alloc, &mut run.queues)?;
         put_queue(alloc, &mut run.queues)?;
         join(alloc, &mut run.core, run.queues.as_mut_slice())?;
-        self.plan(Side::Client, calls, 0)?;
-        self.plan(Side::Server, 0, calls)
+        self.plan(CLIENT, calls, 0)?;
+        self.plan(SERVER, 0, calls)
     }
 
     fn join_ring(&mut self, side: SharedSide, calls: usize) -> Result<(), AllocError> {
@@ -238,8 +209,12 @@ impl Rig {
             return Err(AllocError);
         };
         add_dispatchers(&mut run.core, self.plan.dispatchers)?;
-        add_client(alloc, &mut run.core, Wire::Ring(0), side)?;
-        self.plan(Side::Client, calls, 0)?;
+        let client = Port {
+            name: CLIENT,
+            wire: Wire::Ring(0),
+        };
+        add(alloc, &mut run.core, 0, client, side)?;
+        self.plan(CLIENT, calls, 0)?;
         put_desk(alloc, &mut self.run.desks, 0, calls)
     }
 }

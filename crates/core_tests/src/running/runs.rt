@@ -1,13 +1,33 @@
 //! Whole runs of one core.
 
 use crate::running::rig::{Open, Rig, client, local, pings, ticket};
-use crate::tables::is_so;
+use crate::tables::tell;
 use fl_link::Sight;
 use fl_ring::{SharedSide, duo};
 use fl_running::{End, Job, Part, core_run};
 use std::alloc::{AllocError, Global};
 use std::sync::Wait;
 use std::test::Fail;
+
+// A limit, and how many turns were taken, how they came to an end, and how many calls the server handled at this core.
+struct Row(u64, u64, End, usize);
+
+// An example.
+enum Example {
+    // Three calls within a core.
+    Within(Row),
+    // Five calls over a ring, of which the server is somewhere else.
+    OverARing,
+}
+
+// A limit of 2 leaves one of three calls; with 3 turns nothing is left.
+const EXAMPLES: &[Example] = &[
+    Example::Within(Row(0, 0, End::Unfinished, 0)),
+    Example::Within(Row(2, 2, End::Unfinished, 2)),
+    Example::Within(Row(3, 3, End::Finished, 3)),
+    Example::Within(Row(9, 3, End::Finished, 3)),
+    Example::OverARing,
+];
 
 // A run of a core alone.
 fn run<R: Wait>(
@@ -32,17 +52,6 @@ fn count_handled(rig: &Rig, desk: usize) -> usize {
     }
 }
 
-// A limit, and how many turns were taken, how they came to an end, and how many calls the server handled at this core.
-struct Row(u64, u64, End, usize);
-
-// Of three calls. A limit of 2 leaves one; with 3 turns nothing is left.
-const WITHIN: &[Row] = &[
-    Row(0, 0, End::Unfinished, 0),
-    Row(2, 2, End::Unfinished, 2),
-    Row(3, 3, End::Finished, 3),
-    Row(9, 3, End::Finished, 3),
-];
-
 fn comes_to<R: Wait>(
     rt: &R,
     alloc: Global,
@@ -54,24 +63,14 @@ fn comes_to<R: Wait>(
     Ok(part.turns == row.1 && part.end == row.2 && count_handled(rig, 1) == row.3)
 }
 
-fn runs_so<R: Wait>(rt: &R, alloc: Global, jobs: &[Job], row: &Row) -> Result<bool, AllocError> {
+fn runs_within<R: Wait>(
+    rt: &R,
+    alloc: Global,
+    jobs: &[Job],
+    row: &Row,
+) -> Result<bool, AllocError> {
     let mut rig = local(alloc, 3)?;
     comes_to(rt, alloc, &mut rig, jobs, row)
-}
-
-fn all_run_so<R: Wait>(rt: &R, alloc: Global, jobs: &[Job]) -> Result<(), Fail> {
-    for (index, row) in WITHIN.iter().enumerate() {
-        if !runs_so(rt, alloc, jobs, row)? {
-            return Err(Fail::new(format_args!("row {index}, counted from 0, is wrong")));
-        }
-    }
-    Ok(())
-}
-
-#[test]
-fn three_calls_within_a_core(rt: HostRuntime) -> Result<(), Fail> {
-    let jobs = pings(rt.alloc(), 3)?;
-    all_run_so(&rt, rt.alloc(), &jobs)
 }
 
 // The first word of what stands first on the other side, which is taken.
@@ -92,7 +91,6 @@ fn has_words(other: &mut SharedSide, words: &[u64]) -> bool {
     next_word(other).is_none()
 }
 
-// Of five calls, of which the server is somewhere else.
 const STOPS: Row = Row(8, 8, End::Unfinished, 0);
 
 // A ring of four slots takes three fragments; when they are read and told, the others follow.
@@ -111,34 +109,48 @@ fn stops_and_goes_on<R: Wait>(
     Ok(part.end == End::Finished && has_words(other, &[4, 5]))
 }
 
-fn goes_over<R: Wait>(
-    rt: &R,
-    alloc: Global,
-    rig: &mut Rig,
-    other: &mut SharedSide,
-) -> Result<bool, AllocError> {
-    let jobs = pings(alloc, 5)?;
-    stops_and_goes_on(rt, alloc, rig, &jobs, other)
-}
-
 fn goes_from<R: Wait>(
     rt: &R,
     alloc: Global,
+    jobs: &[Job],
     side: SharedSide,
     other: &mut SharedSide,
 ) -> Result<bool, AllocError> {
     let mut rig = client(alloc, side, 5)?;
-    goes_over(rt, alloc, &mut rig, other)
+    stops_and_goes_on(rt, alloc, &mut rig, jobs, other)
 }
 
-fn over_a_ring<R: Wait>(rt: &R, alloc: Global) -> Result<bool, AllocError> {
+fn goes_over_a_ring<R: Wait>(rt: &R, alloc: Global, jobs: &[Job]) -> Result<bool, AllocError> {
     match duo(alloc, 4) {
-        Ok((side, mut other)) => goes_from(rt, alloc, side, &mut other),
+        Ok((side, mut other)) => goes_from(rt, alloc, jobs, side, &mut other),
         Err(_) => Err(AllocError),
     }
 }
 
+fn holds<R: Wait>(
+    rt: &R,
+    alloc: Global,
+    jobs: &[Job],
+    example: &Example,
+) -> Result<bool, AllocError> {
+    match example {
+        Example::Within(row) => runs_within(rt, alloc, jobs, row),
+        Example::OverARing => goes_over_a_ring(rt, alloc, jobs),
+    }
+}
+
+fn all_run_so<R: Wait>(rt: &R, alloc: Global, jobs: &[Job]) -> Result<(), Fail> {
+    for (index, example) in EXAMPLES.iter().enumerate() {
+        if !holds(rt, alloc, jobs, example)? {
+            return tell("runs", index);
+        }
+    }
+    Ok(())
+}
+
+// The rig of each names the first jobs that it is to do.
 #[test]
-fn five_calls_over_a_ring(rt: HostRuntime) -> Result<(), Fail> {
-    is_so(over_a_ring(&rt, rt.alloc()))
+fn runs(rt: HostRuntime) -> Result<(), Fail> {
+    let jobs = pings(rt.alloc(), 5)?;
+    all_run_so(&rt, rt.alloc(), &jobs)
 }
