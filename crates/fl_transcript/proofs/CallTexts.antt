@@ -13,7 +13,7 @@ use Rattle.fl_value.specs.Value.{Datum, number, string, elements, fields, Data, 
 use Rattle.fl_value.specs.CallText.{is_blank, is_mark, is_literal, is_close, Blanks, Digits, TextByte, itself, quote, backslash, coded, TextBytes, Closed, Token, a_number, a_text, a_mark, StopsAt, SpellsValue, SpellsCall, Listed, Enclosed, depth_of, greatest_depth}
 use Rattle.fl_value.proofs.Scan.{run_once, run_passes, run_stops, counted, digits_count, blank_none}
 use Rattle.fl_value.proofs.Once.{head_of, tail_of, not_that, differ, token_shorter}
-use Rattle.fl_value.proofs.Reading.{minus_found, plain_found, minus_none, plain_none, mark_none, text_found, text_unopened, text_unclosed}
+use Rattle.fl_value.proofs.Reading.{minus_found, digits_found, minus_none, digits_none, mark_none, text_found, text_unopened, text_unclosed}
 use Rattle.fl_value.proofs.Nested.{Commas, with_last, depth_last, commas_more, commas_end, no_value, no_mark, no_kind, not_enclosed, not_inside}
 use Rattle.fl_value.proofs.Words.{word_all, no_word, no_open, no_arguments, not_ended, spelled_call}
 
@@ -73,8 +73,8 @@ behind_minus a start digits blanks stops e (inl (n, rest, d)) = inl (neg_ℤ (po
 behind_minus a start digits blanks stops e (inr none) = inr (minus_none a start digits blanks stops e none)
 
 without_minus : (a start : List ℕ) → Blanks a start → StopsAt is_blank start → ((x : List ℕ) → start ≡ 45 ∷ x → ⊥) → DigitsAt start → NumberAt a
-without_minus a start blanks stops other (inl (n, rest, d)) = inl (pos n, rest, plain_found a start rest n (pos n) blanks d refl)
-without_minus a start blanks stops other (inr none) = inr (plain_none a start blanks stops other none)
+without_minus a start blanks stops other (inl (n, rest, d)) = inl (pos n, rest, digits_found a start rest n (pos n) blanks d refl)
+without_minus a start blanks stops other (inr none) = inr (digits_none a start blanks stops other none)
 
 number_by : (a start : List ℕ) → Blanks a start → StopsAt is_blank start → Headed 45 start → NumberAt a
 number_by a start blanks stops (inl (digits, e)) = behind_minus a start digits blanks stops e (digits_at digits)
