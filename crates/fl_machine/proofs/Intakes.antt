@@ -18,7 +18,7 @@ use Rattle.fl_stub.specs.Streams.{Follows, BeginsPayload, IsPayload, LeavesPaylo
 use Rattle.fl_stub.specs.Rests.{TheField, Rest, no_more, goes_by, takes, zeros_field, field_of, rest_from, rest_all, left_behind, is_taken, taken_field, is_silent, steps_left, onto, told, Reaches, IsPlaceIn, IsStance}
 use Rattle.fl_stub.proofs.Numbers.{pow_positive, join_bytes, join_small, low_bytes_of, length_bytes}
 use Rattle.fl_stub.proofs.Reaching.{reach_by, reach_field, leaves_over, leaves_under, leaves_end, begins_payload, is_payload, shows_bytes, turns_on}
-use Rattle.fl_stub.proofs.Stances.{Passed, times_fits, times_stance, back_fits, again_stance, over_stance, stepped_stance, length_stance, turns_stance, skips_stance, stance_takes, stance_field, done_stance, never_past, Takes, step_or_length, IsPlainStep, IsLength, no_length}
+use Rattle.fl_stub.proofs.Stances.{Passed, times_fits, times_stance, back_fits, again_stance, over_stance, stepped_stance, length_stance, turns_stance, skips_stance, stance_takes, stance_field, done_stance, never_past, Takes, step_or_length, IsStraightStep, IsLength, no_length}
 use Rattle.fl_machine.specs.declared.cursor.Loop.{Loop}
 use Rattle.fl_machine.specs.declared.intake.Field.{Field}
 use Rattle.fl_machine.specs.declared.intake.Intake.{Intake}
@@ -148,15 +148,15 @@ phase_on a w = omega arith
 
 pub over_step : (ops : List Op) (c : Intake) (f : Field) (x : ℕ) → HasField ops c f → IsTaking ops c → f.mark ≢ Length
     → StepsOver ops c (record c { place = c.place + 1; phase = (c.phase % 8 + f.width) % 8; value = 0; have = 0 }) f x
-over_step ops c f x h s plain = by_kind (step_or_length h.op h.taken)
+over_step ops c f x h s straight = by_kind (step_or_length h.op h.taken)
   where
     d : Intake
     d = record c { place = c.place + 1; phase = (c.phase % 8 + f.width) % 8; value = 0; have = 0 }
 
-    by_kind : IsPlainStep h.op ⊎ IsLength h.op → StepsOver ops c d f x
+    by_kind : IsStraightStep h.op ⊎ IsLength h.op → StepsOver ops c d f x
     by_kind (inr l) =
         let mark : f.mark ≡ Length = ap TheField.mark (h.view c.phase refl) ∙ ap (λ (o : Op). (taken_field o c.phase).mark) l.is in
-        absurd (plain mark)
+        absurd (straight mark)
     by_kind (inl p) =
         let st = stepped_stance ops c.place (loops_of c.loops c.depth) h.op (at_op ops c.place h.op h.there) s p.step in
         record {
@@ -174,7 +174,7 @@ over_step ops c f x h s plain = by_kind (step_or_length h.op h.taken)
 length_there : (ops : List Op) (c : Intake) (f : Field) → (h : HasField ops c f) → f.mark ≡ Length → IsLength h.op
 length_there ops c f h mark = by_kind (step_or_length h.op h.taken)
   where
-    by_kind : IsPlainStep h.op ⊎ IsLength h.op → IsLength h.op
+    by_kind : IsStraightStep h.op ⊎ IsLength h.op → IsLength h.op
     by_kind (inr l) = l
     by_kind (inl p) = absurd (no_length (move_of h.op) c.phase (sym (ap TheField.mark (h.view c.phase refl ∙ p.field c.phase)) ∙ mark))
 
@@ -597,7 +597,7 @@ told_move zeros_to_8 at at2 e = absurd (cc)
 told_same : (op : Op) (at at2 : ℕ) → is_taken op ≡ true → (taken_field op at).told ≡ true → taken_field op at ≡ taken_field op at2
 told_same op at at2 taken e = by_kind (step_or_length op taken)
   where
-    by_kind : IsPlainStep op ⊎ IsLength op → taken_field op at ≡ taken_field op at2
+    by_kind : IsStraightStep op ⊎ IsLength op → taken_field op at ≡ taken_field op at2
     by_kind (inl p) = p.field at ∙ told_move (move_of op) at at2 (ap TheField.told (sym (p.field at)) ∙ e) ∙ sym (p.field at2)
     by_kind (inr l) = ap (λ (o : Op). taken_field o at) l.is ∙ sym (ap (λ (o : Op). taken_field o at2) l.is)
 
@@ -652,7 +652,7 @@ run_again ops c d f run t few long =
       deep = subst (λ (k : ℕ). 0 < k) (sym (ap Intake.depth t.others)) run.deep;
       idle = ap Intake.have t.others ∙ run.idle;
       told = run.told;
-      plain = run.plain;
+      no_length = run.no_length;
       start = ap Loop.start (turned_inner c d f t run.deep few long) ∙ run.start ∙ sym place;
       back = ap (λ (k : ℕ). slice_get ops (k + 1)) place ∙ run.back;
     }
@@ -667,7 +667,7 @@ run_turn ops taken taken2 c d all left rest f low n fed field run more few long 
     let h = here_of ops taken c all left f fed field in
     let c1 : Intake = record c { count = d.count } in
     let c2 : Intake = record c1 { place = c.place + 1; phase = (c.phase % 8 + f.width) % 8; value = 0; have = 0 } in
-    let over = over_step ops c1 f low (same_field ops c c1 f field refl) (same_stance ops c c1 h.stance refl) run.plain in
+    let over = over_step ops c1 f low (same_field ops c c1 f field refl) (same_stance ops c c1 h.stance refl) run.no_length in
     let idle = run.idle in
     let small = h.small in
     let one : 256 ^ c.have ≡ 1 = ap (λ (k : ℕ). 256 ^ k) idle in

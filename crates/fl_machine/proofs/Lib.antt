@@ -11,7 +11,7 @@ pub mod Looking
 pub mod Storing
 pub mod Rounds
 pub mod Circuits
-pub mod Plains
+pub mod Straights
 pub mod Emits
 pub mod Laid
 pub mod Joined

@@ -12,7 +12,7 @@ pub mod Taking
 pub mod Runs
 pub mod Reassembled
 pub mod Filling
-pub mod Plain
+pub mod Straight
 pub mod Rooms
 pub mod Places
 pub mod Kept

@@ -9,7 +9,7 @@
 //! - `cursor.rt`: where a run of send code stands, and how it goes on by an instruction
 //! - `send.rt`: `SendRun`, and a call's first fragment without one
 //! - `intake.rt`: where a run of receive code stands, and how it takes bytes
-//! - `plain.rt`: numbers that lie in one fragment, taken outside loops: those of a call of one fragment, and those that others begin with
+//! - `straight.rt`: numbers that lie in one fragment, taken outside loops: those of a call of one fragment, and those that others begin with
 //! - `recv.rt`: `RecvRun`
 //! - `reassembly.rt`: what is taken of a call under way: its fragments are kept, and read once they are all there
 //! - `reassemblies.rt`: `Reassemblies`, calls put together at many places
@@ -20,12 +20,12 @@
 mod cursor;
 mod intake;
 mod law;
-mod plain;
 mod reassemblies;
 mod reassembly;
 mod recv;
 mod rooms;
 mod send;
+mod straight;
 
 pub use cursor::{Cursor, Loop};
 pub use intake::{Fed, Intake};

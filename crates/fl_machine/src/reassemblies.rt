@@ -8,7 +8,7 @@ ghost use Rattle.fl_machine.specs.Places.{ArePlaces, IsBetween, IsInside, reasse
 ghost use Rattle.fl_machine.specs.Rooms.{IsThere, rooms_of};
 
 use crate::reassembly::{Assembly, TakeFault, Taken, has_few_args, tell};
-use crate::recv::begin_plain;
+use crate::recv::begin_straight;
 use crate::rooms::Rooms;
 use fl_base::Frag;
 use fl_compile::Program;
@@ -133,7 +133,7 @@ impl Places {
             return self.take_begun(place, frag);
         }
         let mut numbers = [0; 8];
-        let Some(ended) = begin_plain(program, &mut numbers, frag) else {
+        let Some(ended) = begin_straight(program, &mut numbers, frag) else {
             return self.take_begun(place, frag);
         };
         tell(self.alloc, program, ended, &numbers, frag)

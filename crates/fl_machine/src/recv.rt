@@ -16,7 +16,7 @@ ghost use Rattle.fl_machine.specs.Kept.{counting, IsKeptIn, GoesOn, Ends, IsFaul
 ghost use Rattle.fl_machine.specs.Receiving.{Inside as inside, After as after};
 
 use crate::intake::{Fed, Intake};
-use crate::plain::take_plain;
+use crate::straight::take_straight;
 use fl_base::{FRAG_BYTES, Frag, MsgNo};
 use fl_compile::{Program, tells_faults};
 use fl_stub::Mark;
@@ -269,7 +269,7 @@ pub(crate) fn begin(
 // Takes a fragment where a call is to begin, if it is all of a call, which code without loops takes: the call's numbers are then
 // the first of the places.
 #[inline(always)]
-pub(crate) fn begin_plain(program: &Program, places: &mut [u64; 8], frag: &Frag) -> Option<Ended>
+pub(crate) fn begin_straight(program: &Program, places: &mut [u64; 8], frag: &Frag) -> Option<Ended>
     ensures stands { IfSome result (λ ended. StandsIn (program_of program.now) places.new (after ended)) }
     ensures adds { IfSome result (λ ended. AddsUpTo (program_of program.now) [] frag.now places.new (after ended)) }
 {
@@ -282,7 +282,7 @@ pub(crate) fn begin_plain(program: &Program, places: &mut [u64; 8], frag: &Frag)
     let Some(code) = program.receive_code(msg) else {
         return None;
     };
-    let Some(count) = take_plain(code.ops(), places, &frag.words) else {
+    let Some(count) = take_straight(code.ops(), places, &frag.words) else {
         return None;
     };
     Some(Ended { msg, count })

@@ -11,7 +11,7 @@ ghost use Rattle.fl_stub.specs.Given.{bytes_given};
 ghost use Rattle.fl_stub.specs.Spots.{IsSpot, IsSettled, bytes_from};
 ghost use Rattle.fl_machine.specs.Cursors.{spot_of, low_byte as low_byte_of, IsRun};
 ghost use Rattle.fl_machine.specs.Filling.{Holds, Puts, PutsRun};
-ghost use Rattle.fl_machine.specs.Plain.{plain_spot};
+ghost use Rattle.fl_machine.specs.Straight.{straight_spot};
 ghost use Rattle.fl_wire.specs.Payload.{word as word_of};
 ghost use Rattle.fl_machine.specs.Sending.{frags_holding, frags_left, RunsOn};
 
@@ -314,9 +314,9 @@ fn run_first(code: &VerifiedCode, msg: MsgNo, circuit: Circuit, tape: &[u64]) ->
 // The bytes of a call whose send code gives numbers alone, zeros after their end; `None` for other code, and where they may be more
 // than a fragment's.
 #[inline(always)]
-fn plain_bytes(ops: &[Op], tape: &[u64]) -> Option<[u8; 56]>
-    requires spot { IsSpot ops.now (plain_spot tape.now 0 0) }
-    ensures bytes { IfSome result (λ buffer. (i : ℕ) → i < 56 → slice_index buffer i ≡ slice_index (bytes_from ops.now (plain_spot tape.now 0 0)) i) }
+fn straight_bytes(ops: &[Op], tape: &[u64]) -> Option<[u8; 56]>
+    requires spot { IsSpot ops.now (straight_spot tape.now 0 0) }
+    ensures bytes { IfSome result (λ buffer. (i : ℕ) → i < 56 → slice_index buffer i ≡ slice_index (bytes_from ops.now (straight_spot tape.now 0 0)) i) }
 {
     let mut buffer = [0; 56];
     let mut count = 0;
@@ -347,7 +347,7 @@ pub fn first_frag(code: &VerifiedCode, msg: MsgNo, circuit: Circuit, tape: &[u64
     requires { code.now.column ≡ send }
     ensures { Some result ≡ slice_get (frags_holding true msg.0 circuit.0 (bytes_given (block_of code.now.ops) tape.now)) 0 }
 {
-    match plain_bytes(code.ops(), tape) {
+    match straight_bytes(code.ops(), tape) {
         Some(buffer) => frag_with(&buffer, true, msg, circuit),
         None => run_first(code, msg, circuit, tape),
     }

@@ -267,11 +267,11 @@ pub record IsLength (op : Op) : Type 0 where
   pub most : ℕ
   pub is : op ≡ ReadLength most
 
-pub record IsPlainStep (op : Op) : Type 0 where
+pub record IsStraightStep (op : Op) : Type 0 where
   pub step : is_step Receive op ≡ true
   pub field : (at : ℕ) → taken_field op at ≡ field_of (move_of op) at
 
-pub step_or_length : (op : Op) → is_taken op ≡ true → IsPlainStep op ⊎ IsLength op
+pub step_or_length : (op : Op) → is_taken op ≡ true → IsStraightStep op ⊎ IsLength op
 step_or_length (ReadLength most) h = inr (record { most = most; is = refl })
 step_or_length (Read n) h = inl (record { step = h; field = λ at. refl })
 step_or_length ReadBool h = inl (record { step = h; field = λ at. refl })
@@ -295,7 +295,7 @@ stance_field ops place loops op e s taken at = by_kind (step_or_length op taken)
     whole : (r : Rest) (f : TheField) (k : ℕ → Rest) → r ≡ takes f k → r ≡ takes f (left_behind r)
     whole r f k e = e ∙ ap (λ (q : Rest). takes f (left_behind q)) (sym e)
 
-    by_kind : IsPlainStep op ⊎ IsLength op → rest_from ops place loops at ≡ takes (taken_field op at) (left_behind (rest_from ops place loops at))
+    by_kind : IsStraightStep op ⊎ IsLength op → rest_from ops place loops at ≡ takes (taken_field op at) (left_behind (rest_from ops place loops at))
     by_kind (inl p) =
         let st = stepped_stance ops place loops op e s p.step in
         let f = field_of (move_of op) at in

@@ -90,28 +90,28 @@ told_zeros count count2 m n m2 n2 same z z2 at bytes =
     after_zeros (suc k) r s e = after_zeros k r s (cc)
 
 -- a move whose bytes tell its number
-abbrev pub IsPlain : Move → Type 0
-IsPlain (number width least bound) = OneOfFour width × (bound ≤ 256 ^ width)
-IsPlain (zeros count) = Unit {0}
-IsPlain zeros_to_8 = Unit {0}
+abbrev pub IsSoundMove : Move → Type 0
+IsSoundMove (number width least bound) = OneOfFour width × (bound ≤ 256 ^ width)
+IsSoundMove (zeros count) = Unit {0}
+IsSoundMove zeros_to_8 = Unit {0}
 
-plain_width : (width : ℕ) → is_width width ≡ true → IsPlain (number width 0 (256 ^ width))
-plain_width width h = (one_of_four width h, omega arith)
+sound_width : (width : ℕ) → is_width width ≡ true → IsSoundMove (number width 0 (256 ^ width))
+sound_width width h = (one_of_four width h, omega arith)
 
-plain_step : (column : Column) (op : Op) → is_step column op ≡ true → IsPlain (move_of op)
-plain_step Send (Emit n) h = plain_width n h
-plain_step Send (Pad n) h = tt
-plain_step Send Align h = tt
-plain_step Receive Align h = tt
-plain_step Receive (Read n) h = plain_width n h
-plain_step Receive ReadBool h = (inl (inl refl), lit≤ tt)
-plain_step Receive (ReadEnum n) h = let e : n ≤ 4294967296 = leb-true n 4294967296 (second_so (leb 1 n) (leb n 4294967296) h) in (inr (inl refl), omega (arith, e))
-plain_step Receive ReadChar h = (inl (inl refl), lit≤ tt)
-plain_step Receive (Skip n) h = tt
-plain_step Receive ReadText h = (inl (inl refl), lit≤ tt)
-plain_step column op h = absurd (cc)
+sound_step : (column : Column) (op : Op) → is_step column op ≡ true → IsSoundMove (move_of op)
+sound_step Send (Emit n) h = sound_width n h
+sound_step Send (Pad n) h = tt
+sound_step Send Align h = tt
+sound_step Receive Align h = tt
+sound_step Receive (Read n) h = sound_width n h
+sound_step Receive ReadBool h = (inl (inl refl), lit≤ tt)
+sound_step Receive (ReadEnum n) h = let e : n ≤ 4294967296 = leb-true n 4294967296 (second_so (leb 1 n) (leb n 4294967296) h) in (inr (inl refl), omega (arith, e))
+sound_step Receive ReadChar h = (inl (inl refl), lit≤ tt)
+sound_step Receive (Skip n) h = tt
+sound_step Receive ReadText h = (inl (inl refl), lit≤ tt)
+sound_step column op h = absurd (cc)
 
-told_move : (move : Move) → IsPlain move → IsTold (Moves move)
+told_move : (move : Move) → IsSoundMove move → IsTold (Moves move)
 told_move (number width least bound) (four, high) m n m2 n2 (x, k) (y, k2) at bytes = (told_number width least bound four high x y m n m2 n2 k k2 at bytes).1
 told_move (zeros count) p m n m2 n2 z z2 at bytes = told_zeros count count m n m2 n2 refl z z2 at bytes
 told_move zeros_to_8 p m n m2 n2 z z2 at bytes = told_zeros (gap_to_8 m.at) (gap_to_8 m2.at) m n m2 n2 (ap gap_to_8 at) z z2 at bytes
@@ -134,7 +134,7 @@ told_repeats R r (suc k) m n m2 n2 (l, a, b) (l2, a2, b2) at bytes =
 
 mutual
   piece_told : (column : Column) (p : Piece) → piece_fits column p ≡ true → IsTold (PieceTurns p)
-  piece_told column (one op) fits m n m2 n2 t t2 at bytes = told_move (move_of op) (plain_step column op fits) m n m2 n2 t t2 at bytes
+  piece_told column (one op) fits m n m2 n2 t t2 at bytes = told_move (move_of op) (sound_step column op fits) m n m2 n2 t t2 at bytes
   piece_told column (times k b) fits m n m2 n2 t t2 at bytes =
       told_repeats (BlockTurns b) (block_told column b (second_so (is_within 1024 k) (block_fits column b) fits)) k m n m2 n2 t t2 at bytes
   piece_told column (counted most b) fits m n m2 n2 (x, l, k, t) (y, l2, k2, t2) at bytes =

@@ -32,16 +32,16 @@ pub record Shape : Type 1 where
   pub alive : Type 0
 
 -- things without lengths
-abbrev pub plain_shape : (what : Type 0) → (what → Type 0) → (what → List Leaf → List Leaf) → Type 0 → Shape
-plain_shape what fits onto alive = record { what = what; fits = fits; onto = onto; lengths = λ w low p. false; alive = alive }
+abbrev pub lengthless_shape : (what : Type 0) → (what → Type 0) → (what → List Leaf → List Leaf) → Type 0 → Shape
+lengthless_shape what fits onto alive = record { what = what; fits = fits; onto = onto; lengths = λ w low p. false; alive = alive }
 
 -- nothing
 abbrev pub nothing : Shape
-nothing = plain_shape (Unit {0}) (λ u. Unit {0}) (λ u low. low) (Unit {0})
+nothing = lengthless_shape (Unit {0}) (λ u. Unit {0}) (λ u low. low) (Unit {0})
 
 -- zeros up to a multiple of an alignment
 abbrev pub padding : ℕ → Shape
-padding align = plain_shape (Unit {0}) (λ u. Unit {0}) (λ u low. gap align ∷ low) (Unit {0})
+padding align = lengthless_shape (Unit {0}) (λ u. Unit {0}) (λ u low. gap align ∷ low) (Unit {0})
 
 -- numbers below a bound, in so many bytes: lengths, or others
 abbrev pub number_in : Bool → ℕ → ℕ → Shape
@@ -62,27 +62,27 @@ length_below bound = number_in true 8 bound
 
 -- the values of a type
 abbrev pub values_of : TheType → Shape
-values_of t = plain_shape Datum (λ d. has_type t d ≡ true) (λ d low. value_onto t d low) (has_values t ≡ true)
+values_of t = lengthless_shape Datum (λ d. has_type t d ≡ true) (λ d low. value_onto t d low) (has_values t ≡ true)
 
 -- the fields of a struct
 abbrev pub fields_of : TheTypes → Shape
-fields_of ts = plain_shape Data (λ ds. have_types ts ds ≡ true) (λ ds low. fields_onto ts ds low) (all_have_values ts ≡ true)
+fields_of ts = lengthless_shape Data (λ ds. have_types ts ds ≡ true) (λ ds low. fields_onto ts ds low) (all_have_values ts ≡ true)
 
 -- what is left of a struct after the zeros before it: its fields, and zeros up to its alignment
 abbrev pub struct_from : TheTypes → Shape
-struct_from ts = plain_shape Data (λ ds. have_types ts ds ≡ true) (λ ds low. gap (greatest_align ts) ∷ fields_onto ts ds low) (all_have_values ts ≡ true)
+struct_from ts = lengthless_shape Data (λ ds. have_types ts ds ≡ true) (λ ds low. gap (greatest_align ts) ∷ fields_onto ts ds low) (all_have_values ts ≡ true)
 
 -- so many elements of a type
 abbrev pub elements_of : ℕ → TheType → Shape
-elements_of n t = plain_shape Data (λ ds. (count_of ds ≡ n) × (all_have_type t ds ≡ true)) (λ ds low. elements_onto t ds low) (has_values t ≡ true)
+elements_of n t = lengthless_shape Data (λ ds. (count_of ds ≡ n) × (all_have_type t ds ≡ true)) (λ ds low. elements_onto t ds low) (has_values t ≡ true)
 
 -- a string's bytes
 abbrev pub text_byte : Shape
-text_byte = plain_shape ℕ (λ b. is_text_byte b ≡ true) (λ b low. single b ∷ low) (Unit {0})
+text_byte = lengthless_shape ℕ (λ b. is_text_byte b ≡ true) (λ b low. single b ∷ low) (Unit {0})
 
 -- so many bytes of a string
 abbrev pub texts_of : ℕ → Shape
-texts_of n = plain_shape (List ℕ) (λ bs. (length bs ≡ n) × (list_all is_text_byte bs ≡ true)) (λ bs low. bytes_onto bs low) (Unit {0})
+texts_of n = lengthless_shape (List ℕ) (λ bs. (length bs ≡ n) × (list_all is_text_byte bs ≡ true)) (λ bs low. bytes_onto bs low) (Unit {0})
 
 -- the arguments of a type
 abbrev pub arguments_of : TheArgType → Shape
@@ -96,7 +96,7 @@ arguments_of t = record {
 
 -- what stands before an argument: after a string or a sized array zeros up to a multiple of 8
 abbrev pub starts_after : Bool → Shape
-starts_after after_dynamic = plain_shape (Unit {0}) (λ u. Unit {0}) (λ u low. start_onto after_dynamic low) (Unit {0})
+starts_after after_dynamic = lengthless_shape (Unit {0}) (λ u. Unit {0}) (λ u low. start_onto after_dynamic low) (Unit {0})
 
 -- an argument and what stands before it
 abbrev pub next_argument : Bool → TheArgType → Shape

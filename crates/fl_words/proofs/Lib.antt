@@ -1,4 +1,4 @@
 mod Asking
 mod Levels
 mod Making
-mod PlainWords
+mod WhatWordsAsk

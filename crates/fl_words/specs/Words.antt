@@ -1,5 +1,5 @@
 -- What the words of the command line ask for: the program's commands as `clap` is told of them, what its definition makes of
--- words, and the laws on plain words. Public promises rest on this file.
+-- words, and the laws on what words ask for. Public promises rest on this file.
 use Rattle.std.specs.Prelude.{◌≡◌, ◌==◌, ◌&&◌, ◌^◌, ℕ, Bool, true, false, List, [], ◌∷◌, Option, Some, None, option_map, option_and_then, nat_lt}
 use Rattle.std.specs.Prelude.{if◌then◌else◌, codes}
 use Rattle.std.specs.Str.{bytes_eq}
@@ -133,16 +133,16 @@ missing_kinds (Some asked) = []
 abbrev pub refusals : List Text → Kinds
 refusals words = or_else (fault_of program words) (missing_kinds (asks_for words))
 
--- ---- laws on plain words
+-- ---- laws on what words ask for
 
 -- words that ask for this, and that are refused only when out of memory
 abbrev pub AskFor : List Text → Asked → Type 0
 AskFor words asked = (asks_for words ≡ Some asked) × (refusals words ≡ [])
 
 -- a word that doesn't begin with `-`
-abbrev pub IsPlainWord : Text → Type 0
-IsPlainWord [] = Unit {0}
-IsPlainWord (byte ∷ bytes) = (byte == 45) ≡ false
+abbrev pub BeginsWithoutHyphen : Text → Type 0
+BeginsWithoutHyphen [] = Unit {0}
+BeginsWithoutHyphen (byte ∷ bytes) = (byte == 45) ≡ false
 
 -- Without a word, or with `exec` alone, a script is run.
 abbrev pub ExecIsAsked : Type 0
@@ -150,22 +150,22 @@ ExecIsAsked = (name : Text) → AskFor (name ∷ []) to_run × AskFor (name ∷ 
 
 -- `show FILE` and `compile FILE OUT` ask for that, where the files' names don't begin with `-`.
 abbrev pub ShowIsAsked : Type 0
-ShowIsAsked = (name file : Text) → IsPlainWord file → AskFor (name ∷ codes "show" ∷ file ∷ []) (to_show file)
+ShowIsAsked = (name file : Text) → BeginsWithoutHyphen file → AskFor (name ∷ codes "show" ∷ file ∷ []) (to_show file)
 
 abbrev pub CompileIsAsked : Type 0
-CompileIsAsked = (name file out : Text) → IsPlainWord file → IsPlainWord out
+CompileIsAsked = (name file out : Text) → BeginsWithoutHyphen file → BeginsWithoutHyphen out
     → AskFor (name ∷ codes "compile" ∷ file ∷ out ∷ []) (to_compile file out)
 
 -- `cores FILE --turns N` asks for that, where the file's name doesn't begin with `-`, and N is a number that isn't too great;
 abbrev pub CoresIsAsked : Type 0
-CoresIsAsked = (name file turns : Text) → IsPlainWord file → IsUnsignedIn 0 most_turns turns
+CoresIsAsked = (name file turns : Text) → BeginsWithoutHyphen file → IsUnsignedIn 0 most_turns turns
     → AskFor (name ∷ codes "cores" ∷ file ∷ codes "--turns" ∷ turns ∷ []) (to_run_cores file (value_of turns))
 
 -- another word in the place of N is refused, and so are words without `--turns`.
 abbrev pub TurnsAreWanted : Type 0
-TurnsAreWanted = (name file : Text) → IsPlainWord file
+TurnsAreWanted = (name file : Text) → BeginsWithoutHyphen file
     → (refusals (name ∷ codes "cores" ∷ file ∷ []) ≡ MissingRequiredArgument ∷ [])
-    × ((turns : Text) → IsPlainWord turns → (IsUnsignedIn 0 most_turns turns → ⊥)
+    × ((turns : Text) → BeginsWithoutHyphen turns → (IsUnsignedIn 0 most_turns turns → ⊥)
     → refusals (name ∷ codes "cores" ∷ file ∷ codes "--turns" ∷ turns ∷ []) ≡ ValueValidation ∷ [])
 
 -- `--help` asks for help, also behind a command.

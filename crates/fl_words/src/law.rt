@@ -2,10 +2,10 @@
 
 ghost use Rattle.fl_words.specs.Words.{ExecIsAsked, ShowIsAsked, CompileIsAsked, CoresIsAsked, TurnsAreWanted, HelpIsAsked};
 
-/// What plain words ask for, whatever the program is called: no word and `exec` run a script, `show FILE`,
+/// What words ask for, whatever the program is called: no word and `exec` run a script, `show FILE`,
 /// `compile FILE OUT` and `cores FILE --turns N` do that with these files and this number, and `--help`, also behind a
 /// command, asks for help. Without `--turns`, and with a word that is no such number, the words are refused.
-pub fn plain_words()
+pub fn what_words_ask()
     ensures exec { ExecIsAsked }
     ensures show { ShowIsAsked }
     ensures compile { CompileIsAsked }

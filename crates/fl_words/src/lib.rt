@@ -1,7 +1,7 @@
 //! The words of the command line: what the program is asked for.
 //!
 //! - [`read_words`]: the request that the words make, or why they make none, as `clap` reads them (`specs/Words.antt`)
-//! - [`plain_words`]: what plain words ask for
+//! - [`what_words_ask`]: what words ask for
 //!
 //! Files: `words.rt` the commands, their help and their values; `law.rt` the laws.
 #![tactic(auto)]
@@ -9,5 +9,5 @@
 mod law;
 mod words;
 
-pub use law::plain_words;
+pub use law::what_words_ask;
 pub use words::{Request, read_words};

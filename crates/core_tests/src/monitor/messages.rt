@@ -50,8 +50,8 @@ fn stands_for(
     let Some(message) = message(words) else {
         return Ok(false);
     };
-    let plain = frag(first, control);
-    if messenger.frag(&message)? != plain || !is_read(messenger, &plain, &message)? {
+    let wanted = frag(first, control);
+    if messenger.frag(&message)? != wanted || !is_read(messenger, &wanted, &message)? {
         return Ok(false);
     }
     let stamped = frag(first, control | 0xfffa_0000_0000_0001);

@@ -8,9 +8,9 @@ use Rattle.fl_machine.proofs.send.first_frag.Goals as goal
 start : Cursor
 start = record { place = 0; loops = []; depth = 0; next = 0; phase = 0; value = 0; width = 0 }
 
-pub plain_bytes-requires : goal.plain_bytes-requires
+pub straight_bytes-requires : goal.straight_bytes-requires
 unfolding start
-plain_bytes-requires c = record {
+straight_bytes-requires c = record {
   spot = first_is_spot c.args.code.now.column c.args.code.now.ops c.ops.result.now c.args.tape.now start c.requires c.ops.ensures.ops c.ops.ensures.structure refl;
 }
 

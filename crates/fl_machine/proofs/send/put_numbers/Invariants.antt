@@ -2,7 +2,7 @@ use Rattle.std.proofs.Common.{◌≡◌, ◌≢◌, ◌≤◌, ◌-◌, [], leng
 use Rattle.fl_stub.specs.Spots.{IsSpot}
 use Rattle.fl_machine.specs.Cursors.{spot_of}
 use Rattle.fl_machine.specs.Filling.{PutsRun}
-use Rattle.fl_machine.specs.Plain.{cursor_on}
+use Rattle.fl_machine.specs.Straight.{cursor_on}
 use Rattle.fl_machine.proofs.send.put_numbers.Given as goal
 
 abbrev pub invariant-loop-number : goal.invariant-loop-number

@@ -1,9 +1,9 @@
 use Rattle.std.proofs.Common.{◌≡◌, ◌+◌, ◌-◌, ◌%◌, ◌++◌, ℕ, List, take, drop, refl, sym, ◌∙◌, ap, subst, arith}
 use Rattle.fl_machine.specs.declared.intake.Intake.{Intake}
 use Rattle.fl_machine.specs.Taking.{IsFed, bytes_left}
-use Rattle.fl_machine.specs.Plain.{plain_behind}
+use Rattle.fl_machine.specs.Straight.{straight_behind}
 use Rattle.fl_machine.proofs.Intakes.{take_kept, stance_depth}
-use Rattle.fl_machine.proofs.Plains.{plain_begin, plain_settled, phase_further}
+use Rattle.fl_machine.proofs.Straights.{straight_begin, straight_settled, phase_further}
 use Rattle.fl_machine.proofs.intake.Intake.take_numbers.Goals as goal
 
 pub is_alone-requires : goal.is_alone-requires
@@ -17,7 +17,7 @@ loop-more-init c = record {
   within = c.requires.count;
   long = refl;
   kept = refl;
-  fed = λ before all fed. plain_begin c.args.ops.now (before ++ take c.args.self.now.count c.args.tape.now) c.args.self.now ((c.args.self.now.phase % 8 + (c.args.used - c.args.used)) % 8) all _ fed
+  fed = λ before all fed. straight_begin c.args.ops.now (before ++ take c.args.self.now.count c.args.tape.now) c.args.self.now ((c.args.self.now.phase % 8 + (c.args.used - c.args.used)) % 8) all _ fed
       (omega (arith, c.if-self-ne0.false)) (omega arith);
   pace = omega arith;
 }
@@ -44,7 +44,7 @@ loop-more-preserved c =
       long = e.long ∙ i.long;
       kept = take_kept c.args.self.now.count c.loop-more.count c.take_number.new.tape c.loop-more.tape i.more e.kept ∙ i.kept;
       fed = λ before all fed.
-          subst (λ (p : ℕ). IsFed c.args.ops.now (before ++ take c.in-Some.more c.take_number.new.tape) (plain_behind c.args.self.now (here.place + 1) c.in-Some.more p) all (drop next (take 56 c.args.buffer.now)))
+          subst (λ (p : ℕ). IsFed c.args.ops.now (before ++ take c.in-Some.more c.take_number.new.tape) (straight_behind c.args.self.now (here.place + 1) c.in-Some.more p) all (drop next (take 56 c.args.buffer.now)))
           (phase_further phase c.args.used here.end next from (omega (arith, end)))
           (e.fed before all ((phase % 8 + (here.end - c.args.used)) % 8) (i.fed before all fed));
       pace = omega (arith, i.pace, pace);
@@ -57,9 +57,9 @@ pub returns-clause-fed : goal.returns-clause-fed
 returns-clause-fed c before all fed =
     let same : c.take_number.new.tape ≡ c.loop-more.tape = c.in_default.ensures.none in
     let here = c.loop-more.invariant.fed before all fed in
-    let behind = plain_behind c.args.self.now c.loop-more.place c.loop-more.count ((c.args.self.now.phase % 8 + (c.loop-more.end - c.args.used)) % 8) in
+    let behind = straight_behind c.args.self.now c.loop-more.place c.loop-more.count ((c.args.self.now.phase % 8 + (c.loop-more.end - c.args.used)) % 8) in
     let passes = c.settle.ensures.passes in
     let count : c.settle.new.self.count ≡ c.loop-more.count = ap Intake.count passes.others in
-    let settled = plain_settled c.args.ops.now (before ++ take c.loop-more.count c.loop-more.tape) behind c.settle.new.self all (bytes_left c.args.buffer.now c.loop-more.end) here refl refl passes in
+    let settled = straight_settled c.args.ops.now (before ++ take c.loop-more.count c.loop-more.tape) behind c.settle.new.self all (bytes_left c.args.buffer.now c.loop-more.end) here refl refl passes in
     subst (λ (k : ℕ). IsFed c.args.ops.now (before ++ take k c.take_number.new.tape) c.settle.new.self all (bytes_left c.args.buffer.now c.loop-more.end)) (sym count)
     (subst (λ (t : List ℕ). IsFed c.args.ops.now (before ++ take c.loop-more.count t) c.settle.new.self all (bytes_left c.args.buffer.now c.loop-more.end)) (sym same) settled)

@@ -1,5 +1,5 @@
 //! Numbers that lie in one fragment, taken without what a run stores of numbers that were begun: those of
-//! plain instructions one after another, and those of a loop over one number, whose place and count are kept
+//! straight instructions one after another, and those of a loop over one number, whose place and count are kept
 //! in locals meanwhile.
 
 ghost use Rattle.std.specs.Prelude.{◌≡◌, ◌%◌, ◌+◌, ◌-◌, ◌<◌, ◌≤◌, ◌++◌, ◌^◌, ℕ, List, true, take, length};
@@ -11,7 +11,7 @@ ghost use Rattle.fl_stub.specs.Streams.{IsPayload, LeavesPayloads};
 ghost use Rattle.fl_stub.specs.Rests.{told, is_taken, taken_field};
 ghost use Rattle.fl_machine.specs.Taking.{words_bytes, bytes_left, field_view, IsFed, IsFedBy, IsAtField};
 ghost use Rattle.fl_machine.specs.Taking.{HasField, HasRoom, IsRunOf, run_at};
-ghost use Rattle.fl_machine.specs.Plain.{is_plain as is_plain_op, plain_behind, HasNumber};
+ghost use Rattle.fl_machine.specs.Straight.{is_straight as is_straight_op, straight_behind, HasNumber};
 
 use crate::cursor::is_op;
 use crate::intake::{Field, Intake, end_of, greatest, is_last, low_part, op_at, spread, word_at};
@@ -19,8 +19,8 @@ use fl_stub::{Mark, Op};
 
 // Whether an instruction takes bytes wherever it stands, and one number or zeros by them.
 #[inline(always)]
-fn is_plain(op: Op) -> bool
-    ensures plain { IsTrue result → is_plain_op op ≡ true }
+fn is_straight(op: Op) -> bool
+    ensures straight { IsTrue result → is_straight_op op ≡ true }
 {
     match op {
         Op::Read(_) | Op::ReadBool | Op::ReadEnum(_) | Op::ReadChar | Op::ReadText | Op::Skip(_) =>
@@ -69,7 +69,7 @@ fn put(places: &mut [u64; 8], count: usize, field: Field, number: u64) -> Option
 /// places. `None` for code with loops, for more than eight numbers, and where the words aren't all of a call.
 /// Takes no memory.
 #[inline(always)]
-pub(crate) fn take_plain(ops: &[Op], places: &mut [u64; 8], words: &[u64; 7]) -> Option<usize>
+pub(crate) fn take_straight(ops: &[Op], places: &mut [u64; 8], words: &[u64; 7]) -> Option<usize>
     requires code { IsCode receive ops.now (block_of ops.now) }
     ensures few { IfSome result (λ count. count ≤ 8) }
     ensures whole { IfSome result
@@ -90,7 +90,7 @@ pub(crate) fn take_plain(ops: &[Op], places: &mut [u64; 8], words: &[u64; 7]) ->
                 Err(_) => None,
             };
         }
-        if !is_plain(op) {
+        if !is_straight(op) {
             return None;
         }
         let field = Field::of(op, 0);
@@ -107,15 +107,15 @@ pub(crate) fn take_plain(ops: &[Op], places: &mut [u64; 8], words: &[u64; 7]) ->
     None
 }
 
-// What a plain instruction takes, and its number by the bytes from a place on, if all are there and it is
+// What a straight instruction takes, and its number by the bytes from a place on, if all are there and it is
 // right: a number of eight bytes, which may be any, is told before the others.
 #[inline(always)]
-fn plain_number(op: Op, buffer: &[u8; 64], used: usize) -> Option<(Field, u64)>
+fn straight_number(op: Op, buffer: &[u8; 64], used: usize) -> Option<(Field, u64)>
     requires inside { used ≤ 56 }
-    requires taken { is_plain_op op ≡ true → is_taken op ≡ true }
-    requires narrow { (f : Field) → is_plain_op op ≡ true
+    requires taken { is_straight_op op ≡ true → is_taken op ≡ true }
+    requires narrow { (f : Field) → is_straight_op op ≡ true
         → ((at : ℕ) → 0 % 8 ≡ at % 8 → field_view f ≡ taken_field op at) → f.width ≤ 8 }
-    ensures plain { IfSome result (λ r. is_plain_op op ≡ true) }
+    ensures straight { IfSome result (λ r. is_straight_op op ≡ true) }
     ensures field { IfSome result (λ r. (at : ℕ) → 0 % 8 ≡ at % 8 → field_view r.0 ≡ taken_field op at) }
     ensures number { IfSome result (λ r. HasNumber r.0 buffer.now used r.1) }
 {
@@ -138,7 +138,7 @@ fn plain_number(op: Op, buffer: &[u8; 64], used: usize) -> Option<(Field, u64)>
         }
         return Some((Field::zeros(zeros), 0));
     }
-    if !is_plain(op) {
+    if !is_straight(op) {
         return None;
     }
     let field = Field::of(op, 0);
@@ -251,9 +251,9 @@ impl Intake {
         end
     }
 
-    // Takes the number of an instruction, if it is plain, all its bytes are there, and it is right: how many
+    // Takes the number of an instruction, if it is straight, all its bytes are there, and it is right: how many
     // numbers there are then, and where the next bytes are. The run stands where it stood before so many
-    // instructions, which were plain.
+    // instructions, which were straight.
     #[inline(always)]
     fn take_number(
         &self,
@@ -267,13 +267,13 @@ impl Intake {
         requires inside { used ≤ 56 }
         requires count { count ≤ length tape.old }
         requires fed { (before all : List ℕ) × (phase : ℕ)
-            × IsFed ops.now (before ++ take count tape.old) (plain_behind self.now place count phase) all
+            × IsFed ops.now (before ++ take count tape.old) (straight_behind self.now place count phase) all
             (bytes_left buffer.now used) }
         ensures fed { IfSome result (λ r. (before all : List ℕ) (phase : ℕ)
-            → IsFed ops.now (before ++ take count tape.old) (plain_behind self.now place count phase) all
+            → IsFed ops.now (before ++ take count tape.old) (straight_behind self.now place count phase) all
             (bytes_left buffer.now used)
             → IsFed ops.now (before ++ take r.0 tape.new)
-            (plain_behind self.now (place + 1) r.0 ((phase % 8 + (r.1 - used)) % 8)) all
+            (straight_behind self.now (place + 1) r.0 ((phase % 8 + (r.1 - used)) % 8)) all
             (bytes_left buffer.now r.1)) }
         ensures end { IfSome result (λ r. (used < r.1) × (r.1 ≤ 56)) }
         ensures more { IfSome result (λ r. (count ≤ r.0) × (r.0 + used ≤ count + r.1)
@@ -286,7 +286,7 @@ impl Intake {
         let Some(op) = op_at(ops, place) else {
             return None;
         };
-        let Some((field, number)) = plain_number(op, buffer, used) else {
+        let Some((field, number)) = straight_number(op, buffer, used) else {
             return None;
         };
         let Some(more) = put_on(tape, count, field, number) else {
@@ -306,7 +306,7 @@ impl Intake {
         self.loops[self.depth - 1].start == self.place && is_op(ops, self.place + 1, Op::Back)
     }
 
-    /// Takes numbers from a place of a fragment on, as long as instructions are plain, and all bytes are
+    /// Takes numbers from a place of a fragment on, as long as instructions are straight, and all bytes are
     /// there and right; where the next bytes are. None in a loop over one number alone, which `take_run`
     /// takes.
     #[inline(always)]
@@ -350,7 +350,7 @@ impl Intake {
         end
     }
 
-    // Takes those of a field's bytes that are there, and the plain numbers behind it; where the next bytes
+    // Takes those of a field's bytes that are there, and the straight numbers behind it; where the next bytes
     // are.
     #[inline(always)]
     pub(crate) fn take_fields(

@@ -1,6 +1,6 @@
 use Rattle.std.proofs.Common.{refl, arith}
 use Rattle.fl_machine.proofs.Intakes.{run_grows}
-use Rattle.fl_machine.proofs.plain.number_at.Goals as goal
+use Rattle.fl_machine.proofs.straight.number_at.Goals as goal
 
 pub returns : goal.returns
 returns c =

@@ -1,5 +1,5 @@
-use Rattle.fl_words.proofs.PlainWords.{no_word, exec_word, show_words, compile_words, cores_words, turns_missing, turns_refused, help_word, exec_help, show_help, compile_help, cores_help}
-use Rattle.fl_words.proofs.law.plain_words.Goals as goal
+use Rattle.fl_words.proofs.WhatWordsAsk.{no_word, exec_word, show_words, compile_words, cores_words, turns_missing, turns_refused, help_word, exec_help, show_help, compile_help, cores_help}
+use Rattle.fl_words.proofs.law.what_words_ask.Goals as goal
 
 pub returns : goal.returns
 returns c = record {

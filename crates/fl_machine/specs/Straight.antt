@@ -9,22 +9,22 @@ use Rattle.fl_machine.specs.declared.intake.Intake.{Intake}
 use Rattle.fl_machine.specs.Taking.{Grows, bytes_left}
 
 -- an instruction that takes bytes wherever it stands, and one number or zeros by them
-abbrev pub is_plain : Op → Bool
-is_plain (Read width) = true
-is_plain ReadBool = true
-is_plain (ReadEnum count) = true
-is_plain ReadChar = true
-is_plain ReadText = true
-is_plain (Skip zeros) = true
-is_plain op = false
+abbrev pub is_straight : Op → Bool
+is_straight (Read width) = true
+is_straight ReadBool = true
+is_straight (ReadEnum count) = true
+is_straight ReadChar = true
+is_straight ReadText = true
+is_straight (Skip zeros) = true
+is_straight op = false
 
 -- where a run stands that has met no loop, at so many bytes of a call's first fragment
-abbrev pub plain_intake : ℕ → ℕ → ℕ → Intake
-plain_intake place count used = record { place = place; loops = []; depth = 0; count = count; phase = used % 8; value = 0; have = 0 }
+abbrev pub straight_intake : ℕ → ℕ → ℕ → Intake
+straight_intake place count used = record { place = place; loops = []; depth = 0; count = count; phase = used % 8; value = 0; have = 0 }
 
--- where a run stands behind plain instructions from where it stood: at this place, with so many numbers, at this place in the payload
-abbrev pub plain_behind : Intake → ℕ → ℕ → ℕ → Intake
-plain_behind c place count phase = record c { place = place; count = count; phase = phase; value = 0; have = 0 }
+-- where a run stands behind straight instructions from where it stood: at this place, with so many numbers, at this place in the payload
+abbrev pub straight_behind : Intake → ℕ → ℕ → ℕ → Intake
+straight_behind c place count phase = record c { place = place; count = count; phase = phase; value = 0; have = 0 }
 
 -- the bytes of a field from a place on are this number, which is right
 pub record HasNumber (f : Field) (buffer : List ℕ) (used number : ℕ) : Type 0 where
@@ -34,8 +34,8 @@ pub record HasNumber (f : Field) (buffer : List ℕ) (used number : ℕ) : Type 
   pub last : number ≤ f.last
 
 -- where a run of send code stands that has given so many numbers of a tape, in so many bytes, and nothing else
-abbrev pub plain_spot : List ℕ → ℕ → ℕ → TheSpot
-plain_spot tape count filled = record { place = count; loops = []; tape = drop count tape; at = filled % 8; value = 0; width = 0 }
+abbrev pub straight_spot : List ℕ → ℕ → ℕ → TheSpot
+straight_spot tape count filled = record { place = count; loops = []; tape = drop count tape; at = filled % 8; value = 0; width = 0 }
 
 -- where a run of send code stands further on in the same loops: before this instruction, this number of the tape, at this place in
 -- the payload, with so many bytes of a number to be given

@@ -1,0 +1,28 @@
+use Rattle.std.proofs.Common.{◌≡◌, ◌≤◌, None, length, arith, rules}
+use Rattle.fl_interface.specs.Interface.{interface_of}
+use Rattle.fl_wire.specs.Wrong.{start_fault}
+use Rattle.fl_machine.specs.declared.recv.Ended.{Ended}
+use Rattle.fl_machine.proofs.Straights.{straight_ends}
+use Rattle.fl_machine.proofs.recv.begin_straight.Goals as goal
+
+pub returns-clause-stands : goal.returns-clause-stands
+returns-clause-stands c =
+    let p = c.args.program.now in
+    let i = interface_of p.compiled.value.plans.interface in
+    let e : Ended = record { msg = c.msg-msg.result; count = c.in-Some-take_straight.count } in
+    let none : start_fault i c.args.frag.now ≡ None = search rules in
+    let few = c.in-Some-take_straight.ensures.few in
+    let inside : c.in-Some-take_straight.count ≤ length c.take_straight.new.places = omega (arith, few, c.take_straight.array_long) in
+    (straight_ends p.plan i c.args.frag.now c.in-Some-receive_code.code.now c.ops.result.now c.take_straight.new.places e p.compiled.value.plans.interface.within p.words c.is_line.ensures.line none c.msg-msg.ensures
+    c.in-Some-receive_code.ensures.exact c.ops.ensures.ops inside c.in-Some-take_straight.ensures.whole).0
+
+pub returns-clause-adds : goal.returns-clause-adds
+returns-clause-adds c =
+    let p = c.args.program.now in
+    let i = interface_of p.compiled.value.plans.interface in
+    let e : Ended = record { msg = c.msg-msg.result; count = c.in-Some-take_straight.count } in
+    let none : start_fault i c.args.frag.now ≡ None = search rules in
+    let few = c.in-Some-take_straight.ensures.few in
+    let inside : c.in-Some-take_straight.count ≤ length c.take_straight.new.places = omega (arith, few, c.take_straight.array_long) in
+    (straight_ends p.plan i c.args.frag.now c.in-Some-receive_code.code.now c.ops.result.now c.take_straight.new.places e p.compiled.value.plans.interface.within p.words c.is_line.ensures.line none c.msg-msg.ensures
+    c.in-Some-receive_code.ensures.exact c.ops.ensures.ops inside c.in-Some-take_straight.ensures.whole).1
