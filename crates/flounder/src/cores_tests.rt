@@ -150,27 +150,42 @@ handle p.s ping(3)
 complete
 ";
 
-// Files, how many turns are counted, the status and the report.
-const FILES: &[(&[u8], &str, u8, &[u8])] = &[
-    (CALLS, "2", 5, CALLS_REPORT),
-    (CALLS, "3", 0, ALL_CALLS),
-    (CALLS, MANY, 0, ALL_CALLS),
-    (CALLS, "0", 5, b"turns out\n"),
-    (b"", "0", 0, b"complete\n"),
-    (DISK, MANY, 0, DISK_REPORT),
-    (ECHO, MANY, 0, ECHO_REPORT),
-    (HOPS, MANY, 0, HOPS_REPORT),
-    (WRONG, "8", 2, WRONG_REPORT),
-    (b"disp d 0\nwrite p.c\n", "8", 2, b"line 2 refused E90\n"),
+const AFTER_0: &[u8] =
+    b"a core had not finished after 0 turns; docs/CORES.md says how to choose the number\n";
+
+const AFTER_2: &[u8] =
+    b"a core had not finished after 2 turns; docs/CORES.md says how to choose the number\n";
+
+const LINE_REFUSED: &[u8] =
+    b"x: nothing was run, since a line is refused; docs/FAULTS.md says of its fault what to do\n";
+
+// Files of the name x, how many turns are counted, the status, the report, and what is said on standard error.
+const FILES: &[(&[u8], &str, u8, &[u8], &[u8])] = &[
+    (CALLS, "2", 5, CALLS_REPORT, AFTER_2),
+    (CALLS, "3", 0, ALL_CALLS, b""),
+    (CALLS, MANY, 0, ALL_CALLS, b""),
+    (CALLS, "0", 5, b"turns out\n", AFTER_0),
+    (b"", "0", 0, b"complete\n", b""),
+    (DISK, MANY, 0, DISK_REPORT, b""),
+    (ECHO, MANY, 0, ECHO_REPORT, b""),
+    (HOPS, MANY, 0, HOPS_REPORT, b""),
+    (WRONG, "8", 2, WRONG_REPORT, LINE_REFUSED),
+    (
+        b"disp d 0\nwrite p.c\n",
+        "8",
+        2,
+        b"line 2 refused E90\n",
+        LINE_REFUSED,
+    ),
 ];
 
 #[test]
 fn files_are_run(rt: HostRuntime) {
-    for (content, turns, status, report) in FILES {
+    for (content, turns, status, report, said) in FILES {
         let words = ["flounder", "cores", "x", "--turns", *turns];
         let ran = go(&rt, &words, Shelf::Holds("x", content), b"");
         assert!(rt; ran.status == *status && ran.out.as_slice() == *report);
-        assert_eq!(rt; ran.err.is_empty(), *status == 0);
+        assert!(rt; ran.err.as_slice() == *said);
     }
 }
 
@@ -191,10 +206,10 @@ fn the_first_fault_of_cores_counts(rt: HostRuntime) {
     }
 }
 
-const ENDS: &[(CoresEnd, u8)] = &[
-    (CoresEnd::Complete, 0),
-    (CoresEnd::Refused, 2),
-    (CoresEnd::TurnsOut, 5),
+const ENDS: &[(CoresEnd, u8, &[u8])] = &[
+    (CoresEnd::Complete, 0, b""),
+    (CoresEnd::Refused, 2, LINE_REFUSED),
+    (CoresEnd::TurnsOut, 5, AFTER_2),
 ];
 
 const SETUP: CoresFault = CoresFault::Setup {
@@ -207,24 +222,24 @@ const JOB: CoresFault = CoresFault::Job {
     place: 1,
 };
 
-const FAULTS: &[(CoresFault, u8)] = &[
-    (SETUP, 2),
-    (JOB, 2),
-    (CoresFault::Memory, 3),
-    (CoresFault::Thread, 3),
+const FAULTS: &[(CoresFault, u8, &[u8])] = &[
+    (SETUP, 2, b"the set-up is refused\n"),
+    (JOB, 2, b"a job is refused\n"),
+    (CoresFault::Memory, 3, b"out of memory\n"),
+    (CoresFault::Thread, 3, b"a thread doesn't start\n"),
 ];
 
 // A fault is told, and nothing else.
 #[test]
 fn statuses_of_runs(rt: HostRuntime) {
-    for (end, status) in ENDS {
+    for (end, status, said) in ENDS {
         let mut err = Vec::new(rt.alloc());
         assert_eq!(rt; finish(outcome_of("x", 2, *end), &mut err), *status);
-        assert_eq!(rt; err.is_empty(), *status == 0);
+        assert!(rt; err.as_slice() == *said);
     }
-    for (fault, status) in FAULTS {
+    for (fault, status, said) in FAULTS {
         let mut err = Vec::new(rt.alloc());
         assert_eq!(rt; tell_no_report(*fault, &mut err), *status);
-        assert!(rt; !err.is_empty());
+        assert!(rt; err.as_slice() == *said);
     }
 }
