@@ -155,7 +155,7 @@ pub record IsRunOf (ops : List Op) (c : Intake) (f : Field) : Type 0 where
   pub deep : 0 < c.depth
   pub idle : c.have ≡ 0
   pub told : f.told ≡ true
-  pub straight : f.mark ≢ Length
+  pub no_length : f.mark ≢ Length
   pub start : (inner_loop c).start ≡ c.place
   pub back : slice_get ops (c.place + 1) ≡ Some Back
 
