@@ -14,7 +14,7 @@ ghost use Rattle.fl_lines.specs.Events.{answer_of};
 ghost use Rattle.fl_acts.specs.Parts.{InCore, ByQueue, ByRing, CallsIn, CallsWith, KeptOrNone};
 
 use crate::lending::{which_at, whole};
-use fl_base::Frag;
+use fl_base::{Frag, faults};
 use fl_endpoint::{EndFault, WriteAnswer};
 use fl_lines::Answer;
 use fl_link::QueueLink;
@@ -79,7 +79,7 @@ pub fn call_kept(
     ensures kept { OnErr result (binding.new ≡ binding.old) }
 {
     match &mut binding.unmade {
-        None => Ok(Answer::Refused(92)),
+        None => Ok(Answer::Refused(faults::WRONG_NAME)),
         Some(end) => answer_call(end.call(call, spare)),
     }
 }

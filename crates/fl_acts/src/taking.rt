@@ -19,7 +19,7 @@ ghost use Rattle.fl_lines.specs.Events.{answer_of};
 ghost use Rattle.fl_acts.specs.Parts.{InCore, ByQueue, ByRing, KeptOrNone, RulesIn, RulesWith};
 
 use crate::lending::{which_at, whole};
-use fl_base::{EndId, MsgNo};
+use fl_base::{EndId, MsgNo, faults};
 use fl_core::{AckAnswer, BoardFault, TurnAnswer};
 use fl_endpoint::EndFault;
 use fl_lines::Answer;
@@ -227,7 +227,7 @@ pub fn tell_nothing(core: &Core, place: usize) -> Answer
     if core.board().end(place).is_bound() {
         Answer::Nothing
     } else {
-        Answer::Refused(43)
+        Answer::Refused(faults::NOT_BOUND)
     }
 }
 
@@ -328,7 +328,7 @@ pub fn rule_kept(binding: &mut Binding, message: MsgNo, answer: MsgNo) -> Answer
     ensures rules { KeptOrNone (RulesWith message.0 answer.0 (answer_of result)) (answer_of result) binding.old binding.new }
 {
     match &mut binding.unmade {
-        None => Answer::Refused(92),
+        None => Answer::Refused(faults::WRONG_NAME),
         Some(end) => answer_rule(end.reply_rule(message, answer)),
     }
 }

@@ -24,9 +24,9 @@ use Rattle.fl_laws.proofs.Cases.{either, each_changed}
 use Rattle.fl_laws.proofs.Refusals.{refusals_same}
 use Rattle.fl_laws.proofs.SoundSteps.{steps_are_sound}
 use Rattle.fl_worlds.proofs.FramesBase.{not_both}
-use Rattle.fl_running.specs.declared.job.Job.{Job}
-use Rattle.fl_running.specs.declared.job.Job.TheVariants as job
-use Rattle.fl_running.specs.Jobs.{calls_of_job, calls_of_jobs}
+use Rattle.fl_work.specs.declared.job.Job.{Job}
+use Rattle.fl_work.specs.declared.job.Job.TheVariants as job
+use Rattle.fl_work.specs.Jobs.{calls_of_job, calls_of_jobs}
 use Rattle.fl_alone.specs.Turns.{Desk, Alone, at_desk, advanced, with_handled as desk_handled, next_job, goes, is_there, call_noted, calls as desk_calls, tries}
 use Rattle.fl_alone.specs.Turns.{serves as desk_serves, here, end_due, due_at, is_before_calls, turn_noted, turns_at, takes_turn, Work, swept}
 use Rattle.fl_alone.specs.Turns.{serves_at as desk_serves_at, one_turn as desk_turn, turned as desk_turned, is_still, is_clear as desk_is_clear}
@@ -238,10 +238,6 @@ is_away s e sound q = by (binding_of s e) refl
         let end : end_of s e ≡ Some (end_in e.side b) = ap (λ o. given o None λ (x : Binding). Some (end_in e.side x)) r in
         let seat : is_some (end_in e.side b).seat ≡ false = sym (ap (λ o. given o false λ (x : End). is_some x.seat) end) ∙ q in
         away_at s e b r (unbound_by s e.side b e.binding sound r (none_seated (end_in e.side b).seat seat)) (interface_of s b) refl
-
--- so nothing comes of it
-with_refused : (n : ℕ) (e : EndId) (a : Answer) (b : Solo) → a ≡ refused n → with_made e a b ≡ b
-with_refused n e a b q = ap (λ x. with_made e x b) q
 
 calls_away : (b : Solo) (e : EndId) (c : TheCall) → IsRefused b.state (machine_calls e c b.state) → calls e c b ≡ b
 calls_away b e c (n, q) =

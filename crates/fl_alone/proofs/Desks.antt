@@ -12,7 +12,7 @@ use Rattle.fl_queues.specs.Given.{given, changed_at}
 use Rattle.fl_shows.proofs.Tests.{lt_true, true_lt}
 use Rattle.fl_worlds.specs.View.{TheWorld}
 use Rattle.fl_worlds.specs.Picture.{Shows}
-use Rattle.fl_running.specs.declared.job.Job.{Job}
+use Rattle.fl_work.specs.declared.job.Job.{Job}
 use Rattle.fl_running.specs.Desks.{TheDesk, desk_place, ChangesIf, advanced as one_more, with_handled as and_handled}
 use Rattle.fl_running.specs.Run.{TheRun, AtDesk, next_job as job_there}
 use Rattle.fl_alone.specs.Turns.{Desk, Alone, at_desk, advanced, with_handled, next_job}

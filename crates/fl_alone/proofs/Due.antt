@@ -20,10 +20,11 @@ use Rattle.fl_worlds.specs.Picture.{name_at, DispatcherShows}
 use Rattle.fl_worlds.specs.Laws.{StepsAgree}
 use Rattle.fl_worlds.proofs.FramesBase.{gets, same_some, not_both}
 use Rattle.fl_worlds.proofs.WritingPieces.{dispatcher_shown}
-use Rattle.fl_running.specs.declared.job.Job.{Job}
-use Rattle.fl_running.specs.declared.job.Job.TheVariants as job
+use Rattle.fl_work.specs.declared.job.Job.{Job}
+use Rattle.fl_work.specs.declared.job.Job.TheVariants as job
 use Rattle.fl_running.specs.Run.{Ways, TheRun, lends_in, lent_due}
-use Rattle.fl_running.specs.Steps.{is_before_calls as is_before, awaits, due_turn, TurnsIf, TurnsAt, TakesTurn}
+use Rattle.fl_work.specs.Jobs.{is_before_calls as is_before}
+use Rattle.fl_running.specs.Steps.{awaits, due_turn, TurnsIf, TurnsAt, TakesTurn}
 use Rattle.fl_alone.specs.Turns.{Alone, next_job, here, end_due, due_at, is_before_calls, turns_at, takes_turn}
 use Rattle.fl_alone.specs.Shown.{world_with, ShowsAlone}
 use Rattle.fl_alone.proofs.Standing.{Wired, wired}

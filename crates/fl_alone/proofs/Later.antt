@@ -9,7 +9,7 @@ use Rattle.fl_queues.specs.Given.{given, changed_at}
 use Rattle.fl_queues.specs.Events.{write, turn, Answer, done, accepted, nothing, full, written, handle, part, ready, quiet, forwarded, opened}
 use Rattle.fl_queues.specs.Events.{opening_refused, words, refused}
 use Rattle.fl_queues.specs.Step.{step}
-use Rattle.fl_running.specs.declared.job.Job.{Job}
+use Rattle.fl_work.specs.declared.job.Job.{Job}
 use Rattle.fl_alone.specs.Turns.{Desk, Alone, goes, is_there, tries, serves, next_job, with_handled, turn_noted, here, due_at}
 use Rattle.fl_alone.specs.Turns.{is_before_calls, turns_at, takes_turn, Work, swept, serves_at, one_turn, turned, is_clear}
 use Rattle.fl_alone.specs.Laws.{EachDesk, IsClear, HasNoMore, LaterTurnsChangeNothing}

@@ -9,7 +9,7 @@ use Rattle.fl_queues.specs.Given.{given}
 use Rattle.fl_shows.proofs.Tests.{lt_false}
 use Rattle.fl_worlds.specs.View.{TheWorld}
 use Rattle.fl_worlds.specs.Laws.{StepsAgree}
-use Rattle.fl_running.specs.declared.job.Job.{Job}
+use Rattle.fl_work.specs.declared.job.Job.{Job}
 use Rattle.fl_running.specs.declared.plan.Plan.{Plan}
 use Rattle.fl_running.specs.Run.{Ways, TheRun, lent_lane, side_in}
 use Rattle.fl_running.specs.Steps.{ForwardsOver, Forwards, SaysOver, Says, TellsOver, Tells, Serves, AcksFrom, Acknowledges, TakesTurn}

@@ -19,9 +19,9 @@ use Rattle.fl_worlds.specs.View.{TheWorld}
 use Rattle.fl_worlds.specs.Laws.{StepsAgree}
 use Rattle.fl_worlds.proofs.FramesBase.{not_both, end_of_binding, binding_of_end}
 use Rattle.fl_worlds.proofs.FramesFind.{interface_known}
-use Rattle.fl_running.specs.declared.job.Job.{Job}
-use Rattle.fl_running.specs.declared.job.Job.TheVariants as job
-use Rattle.fl_running.specs.declared.job.Wish.{Wish}
+use Rattle.fl_work.specs.declared.job.Job.{Job}
+use Rattle.fl_work.specs.declared.job.Job.TheVariants as job
+use Rattle.fl_work.specs.declared.job.Wish.{Wish}
 use Rattle.fl_running.specs.Run.{Ways, TheRun, lends_out, lent_post, next_job as job_there}
 use Rattle.fl_running.specs.Steps.{lacks_to_call, may_ask, OpensIf, CallsAt, reply_rule, RulesAt, Tries, WritesFrom, Serves}
 use Rattle.fl_alone.specs.Turns.{Alone, goes, is_there, tries, serves, next_job}

@@ -11,9 +11,9 @@ use Rattle.fl_queues.specs.Events.{Event, call, write, turn, Answer, accepted, h
 use Rattle.fl_queues.specs.Sound.{Sound}
 use Rattle.fl_queues.specs.State.{State}
 use Rattle.fl_queues.specs.Step.{step}
-use Rattle.fl_running.specs.declared.job.Job.{Job}
-use Rattle.fl_running.specs.declared.job.Job.TheVariants as job
-use Rattle.fl_running.specs.Jobs.{calls_of_jobs}
+use Rattle.fl_work.specs.declared.job.Job.{Job}
+use Rattle.fl_work.specs.declared.job.Job.TheVariants as job
+use Rattle.fl_work.specs.Jobs.{calls_of_jobs}
 use Rattle.fl_alone.specs.Turns.{Desk, Alone, here, is_there, is_still, swept, Work, turned as turned_by_jobs, counted as counted_by_jobs}
 use Rattle.fl_alone.specs.Turns.{is_finished as is_finished_by_jobs}
 

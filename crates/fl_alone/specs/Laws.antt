@@ -15,7 +15,7 @@ use Rattle.fl_queues.specs.Step.{step}
 use Rattle.fl_worlds.specs.View.{TheWorld}
 use Rattle.fl_worlds.specs.Sending.{IsCalled, IsWritten}
 use Rattle.fl_worlds.specs.Taking.{turn_answer, IsRuled}
-use Rattle.fl_running.specs.declared.job.Job.{Job}
+use Rattle.fl_work.specs.declared.job.Job.{Job}
 use Rattle.fl_running.specs.declared.plan.Plan.{Plan}
 use Rattle.fl_running.specs.declared.run.End.{End}
 use Rattle.fl_running.specs.declared.run.End.TheVariants.{Finished, Unfinished, Told}

@@ -9,7 +9,7 @@ use Rattle.fl_worlds.specs.View.{TheWorld}
 use Rattle.fl_worlds.specs.Picture.{Shows}
 use Rattle.fl_running.specs.Desks.{TheDesk}
 use Rattle.fl_running.specs.Run.{TheRun}
-use Rattle.fl_running.specs.declared.job.Job.{Job}
+use Rattle.fl_work.specs.declared.job.Job.{Job}
 use Rattle.fl_running.specs.declared.plan.Plan.{Plan}
 use Rattle.fl_running.specs.declared.word.Word.{Word}
 use Rattle.fl_running.specs.declared.word.Word.TheVariants.{Silent}

@@ -11,8 +11,8 @@ use Rattle.fl_queues.specs.Waits.{Dispatcher, Due, pending, polled, no_one, due}
 use Rattle.fl_queues.specs.State.{State, dispatcher_of, binding_of, interface_of, end_in, end_of}
 use Rattle.fl_queues.specs.Step.{step}
 use Rattle.fl_node.specs.View.{slot_of}
-use Rattle.fl_running.specs.declared.job.Job.{Job}
-use Rattle.fl_running.specs.declared.job.Job.TheVariants as job
+use Rattle.fl_work.specs.declared.job.Job.{Job}
+use Rattle.fl_work.specs.declared.job.Job.TheVariants as job
 
 -- ---- the machine, and what is to be done
 

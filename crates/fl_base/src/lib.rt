@@ -7,8 +7,10 @@
 //! - `identity.rt`: numbers with a meaning, and `Span`, a stretch of a text
 //! - `fragment.rt`: `Frag` and its control word
 //! - `limits.rt`: how many of each thing there may be
+//! - `faults.rt`: the numbers of refusals
 #![tactic(auto)]
 
+pub mod faults;
 mod fragment;
 mod identity;
 mod limits;

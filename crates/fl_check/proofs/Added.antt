@@ -1,5 +1,5 @@
 -- What a declaration adds: messages, or a type.
-use Rattle.std.proofs.Common.{◌≡◌, ℕ, List, [], ◌∷◌, ◌++◌, map, false, refl, sym, ap, ◌∙◌, subst, append_assoc, append-nil, Result, Ok, Err, OnOk}
+use Rattle.std.proofs.Common.{◌≡◌, ℕ, List, [], ◌∷◌, ◌++◌, map, false, refl, sym, ap, ◌∙◌, subst, append-nil, Result, Ok, Err, OnOk}
 use Rattle.std.specs.Str.{bytes_eq}
 use Rattle.std.proofs.lemmas.List.{map_push}
 use Rattle.fl_interface.specs.Interface.{TheType, TheArgType, TheMessage}
@@ -20,10 +20,6 @@ second_new ms ms2 m response e two new =
 pub two_names : (n : TheName) (call response : List ℕ) → call ≡ call_name n → response ≡ response_name n → bytes_eq call response ≡ false
 two_names n call response p q =
     ap (λ a. bytes_eq a response) p ∙ ap (λ b. bytes_eq (call_name n) b) q ∙ other_name n (bytes_eq (call_name n) (response_name n)) refl
-
--- two messages that are added one by one
-pub two_added : (ms ms2 ms3 : List TheMessage) (a b : TheMessage) → ms2 ≡ ms ++ a ∷ [] → ms3 ≡ ms2 ++ b ∷ [] → ms3 ≡ ms ++ a ∷ (b ∷ [])
-two_added ms ms2 ms3 a b p q = q ∙ ap (λ l. l ++ b ∷ []) p ∙ append_assoc ms (a ∷ []) (b ∷ [])
 
 both_same : (b : Before) (ts : List Named) (ms : List TheMessage) → b.types ≡ ts → b.messages ≡ ms → b ≡ record { types = ts; messages = ms }
 both_same b ts ms p q =

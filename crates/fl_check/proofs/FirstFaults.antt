@@ -65,9 +65,6 @@ pub tells_after : (e : CheckFault) (ps qs : List TextPlace) → first_fault ps �
 tells_after (Broken r at) ps qs n h = none_after ps qs n ∙ h
 tells_after Memory ps qs n h = tt
 
-pub tells_same : (e : CheckFault) (f g : Option Fault) → f ≡ g → Tells e f → Tells e g
-tells_same e f g h t = subst (Tells e) h t
-
 -- the error of a `?` is the callee's
 pub err_of : {T : Type 0} (r : Result T CheckFault) (e : CheckFault) (f : Option Fault) → IsErrAnd r (λ x. x ≡ e) → Tells e f → IfErr r (λ x. Tells x f)
 err_of (Ok v) e f h t = absurd h

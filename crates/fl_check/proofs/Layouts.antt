@@ -37,10 +37,5 @@ depth_is t m a s q = cc
 pub arrays_is : (t : TheType) (m : List TheType) (a : ℕ) → t ≡ structure (fields_from m) → deepest_array (fields_from m) ≡ a → a ≡ array_depth_of t
 arrays_is t m a s q = cc
 
--- an argument is added to those of a payload
-pub payload_push : (xs ys : List TheArgType) (a : TheArgType) (e d e2 d2 : ℕ) → ((more : List TheArgType) → greatest_end 0 1 (xs ++ more) ≡ greatest_end e d more) → ys ≡ xs ++ a ∷ [] → ((more : List TheArgType) → greatest_end e d (a ∷ more) ≡ greatest_end e2 d2 more) → (more : List TheArgType) → greatest_end 0 1 (ys ++ more) ≡ greatest_end e2 d2 more
-payload_push xs ys a e d e2 d2 h q r more =
-    ap (λ l. greatest_end 0 1 (l ++ more)) q ∙ ap (λ l. greatest_end 0 1 l) (append_assoc xs (a ∷ []) more) ∙ h (a ∷ more) ∙ r more
-
 pub payload_whole : (xs : List TheArgType) (e d : ℕ) → ((more : List TheArgType) → greatest_end 0 1 (xs ++ more) ≡ greatest_end e d more) → greatest_end 0 1 xs ≡ e
 payload_whole xs e d h = ap (λ l. greatest_end 0 1 l) (sym (append-nil xs)) ∙ h []

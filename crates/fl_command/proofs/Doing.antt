@@ -5,7 +5,6 @@ use Rattle.std.specs.Io.KnownBytes.{Appends, Keeps, append_known}
 use Rattle.std.specs.declared.io.ErrorKind.{ErrorKind}
 use Rattle.std.proofs.lemmas.List.{take-append-drop}
 use Rattle.clap.specs.declared.error.kind.ErrorKind.TheVariants.{DisplayHelp}
-use Rattle.fl_base.specs.Prefix.{IsPrefix}
 use Rattle.fl_interface.specs.Interface.{TheInterface}
 use Rattle.fl_value.specs.declared.value.PlanNo.TheVariants.{Two}
 use Rattle.fl_transcript.specs.declared.running.ExecFault.{ExecFault}
@@ -167,14 +166,6 @@ more_put u v w text rest left n e p a = record {
 
 pub all_put : (u v : Option (List ℕ)) (text rest : List ℕ) → rest ≡ [] → PutSo u v text rest → Appends u v text
 all_put u v text rest e p = subst (λ (t : List ℕ). Appends u v t) (sym (p.parts ∙ ap (λ (t : List ℕ). p.prefix ++ t) e ∙ append-nil p.prefix)) p.put
-
-pub part_put : (u v w : Option (List ℕ)) (text rest : List ℕ) → PutSo u v text rest → Keeps v w → (prefix : List ℕ) × IsPrefix prefix text × Appends u w prefix
-part_put u v w text rest p k = (p.prefix, (rest, p.parts), puts_kept u v w p.prefix p.put k)
-
-pub part_stalled : (u v w : Option (List ℕ)) (text rest : List ℕ) (n : ℕ) → PutSo u v text rest → n ≡ 0 → Appends v w (take n rest) → (prefix : List ℕ) × IsPrefix prefix text × Appends u w prefix
-part_stalled u v w text rest n p e a =
-    let q = more_put u v w text rest (drop n rest) n refl p a in
-    (q.prefix, (drop n rest, q.parts), q.put)
 
 -- ---- exec
 

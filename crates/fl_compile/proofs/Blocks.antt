@@ -4,12 +4,11 @@ use Rattle.std.proofs.lemmas.List.{append-nil, drop_all}
 use Rattle.fl_interface.specs.Interface.{TheType, scalar, enumeration, structure, array, TheTypes, no_more, field, fields_from, TheArgType, fixed}
 use Rattle.fl_interface.specs.Sizes.{round_up, align_of, greatest_align, size_of}
 use Rattle.fl_stub.specs.declared.op.Op.{Op}
-use Rattle.fl_stub.specs.declared.op.Op.TheVariants.{Align}
 use Rattle.fl_stub.specs.declared.op.Column.{Column}
-use Rattle.fl_stub.specs.Structure.{Block, finished, next, one, times, counted, piece_ops, block_ops}
+use Rattle.fl_stub.specs.Structure.{Block, finished, next, one, times, piece_ops, block_ops}
 use Rattle.fl_compile.specs.declared.arguments.Standing.{Standing}
 use Rattle.fl_compile.specs.declared.arguments.Standing.TheVariants.{At, AfterDynamic}
-use Rattle.fl_compile.specs.Compiled.{padding, pad_op, zeros_then, type_then, fields_then, start_at, start_then, counted_then, arguments_block}
+use Rattle.fl_compile.specs.Compiled.{padding, pad_op, zeros_then, type_then, fields_then, start_at, start_then, arguments_block}
 use Rattle.fl_interface.proofs.FieldSizes.{rest_is}
 
 pub zeros_code : (column : Column) (count : ℕ) (rest : Block)
@@ -120,18 +119,3 @@ fixed_written column standing t align start size old begun new args is_align is_
     ∙ append_assoc old zeros (own ++ block_ops column rest)
     ∙ ap (λ (ops : List Op). old ++ (zeros ++ ops)) (sym (type_code column t rest))
     ∙ ap (λ (ops : List Op). old ++ ops) (sym (start_code column standing (align_of t) (type_then column t rest)))
-
--- a string or a sized array is written
-counted_code : (column : Column) (most : ℕ) (element rest : Block)
-    → block_ops column (counted_then most element rest) ≡ block_ops column (counted_then most element finished) ++ block_ops column rest
-counted_code column most element rest =
-    let loop = piece_ops column (counted most element) in
-    ap (λ (ops : List Op). (Align ∷ ops) ++ block_ops column rest) (sym (append-nil loop))
-
-pub counted_written : (column : Column) (most : ℕ) (element rest : Block) (old new : List Op)
-    → new ≡ old ++ block_ops column (counted_then most element finished)
-    → new ++ block_ops column rest ≡ old ++ block_ops column (counted_then most element rest)
-counted_written column most element rest old new e =
-    ap (λ (ops : List Op). ops ++ block_ops column rest) e
-    ∙ append_assoc old (block_ops column (counted_then most element finished)) (block_ops column rest)
-    ∙ ap (λ (ops : List Op). old ++ ops) (sym (counted_code column most element rest))

@@ -94,13 +94,6 @@ was_free w c below h = elim (cases_Bool (is_registered w c)) [
   | inr free ↦ free
 ]
 
--- it was, where that is the answer
-pub was_registered : (w : ThreeLists) (c : ℕ) (fault : WaitFault) → c < w.size → register_answer w c ≡ Err fault → is_registered w c ≡ true
-was_registered w c fault below h = elim (cases_Bool (is_registered w c)) [
-  | inl here ↦ here
-  | inr free ↦ let told : register_answer w c ≡ Ok tt = grind (arith, nat_tests, below, free) in absurd (cc (told, h))
-]
-
 -- at the back of idle, and then moved to where it waits
 pub joined : (w v u : ThreeLists) (c : ℕ) (to : Place) (r : Result (Unit {0}) WaitFault) → c < w.size → is_registered w c ≡ false → v ≡ pushed w c place.Idle
     → r ≡ registered_answer v c → OnOk r (u ≡ moved v c to) → u ≡ pushed w c to

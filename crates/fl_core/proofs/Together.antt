@@ -45,12 +45,6 @@ as_many [] (r ∷ calls) h = absurd h
 as_many (x ∷ seats) [] h = absurd h
 as_many (x ∷ seats) (r ∷ calls) h = ap suc (as_many seats calls h.1)
 
-pub as_many_calls : (seats : List TheSeat) (calls : List TheReassembly) → GoTogether seats calls → length calls ≡ length seats
-as_many_calls [] [] h = refl
-as_many_calls [] (r ∷ calls) h = absurd h
-as_many_calls (x ∷ seats) [] h = absurd h
-as_many_calls (x ∷ seats) (r ∷ calls) h = ap suc (as_many_calls seats calls h.1)
-
 -- ---- a seat changes
 
 pub set_seat : (seats : List TheSeat) (calls : List TheReassembly) (e : ℕ) (t : TheSeat) (r : TheReassembly) → slice_get calls e ≡ Some r

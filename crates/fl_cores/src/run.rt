@@ -11,6 +11,7 @@ ghost use Rattle.fl_cores.specs.Promised.{is_other, asks_other, cores_by, IsAcce
 ghost use Rattle.fl_threads.specs.Ran.{Keeps, RanFrom};
 
 use crate::fault::CoresFault;
+use fl_base::faults;
 use fl_jobs::{Job, Report};
 use fl_lines::{BackEnd, Event};
 use fl_running::Gate;
@@ -115,7 +116,7 @@ fn refuse_other(alloc: Global, config: &Config<'_>, place: usize) -> CoresFault
     let (before, _) = config.setup.as_slice().split_at(place);
     match World::rehearse(alloc, config.cores, before) {
         Ok(()) => CoresFault::Setup {
-            number: 93,
+            number: faults::NOT_NOW,
             place: place + 1,
         },
         Err(fault) => CoresFault::from(fault),

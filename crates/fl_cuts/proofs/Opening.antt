@@ -24,7 +24,7 @@ use Rattle.fl_node.specs.declared.fault.OpenFault.TheVariants as opening
 use Rattle.fl_node.specs.declared.wire.Port.{Port}
 use Rattle.fl_node.specs.View.{TheCore, client_of, slot_of, circuit_port, kind_of, new_arrivals as node_arrivals}
 use Rattle.fl_node.specs.Making.{asked, Asks}
-use Rattle.fl_running.specs.declared.job.Wish.{Wish}
+use Rattle.fl_work.specs.declared.job.Wish.{Wish}
 use Rattle.fl_running.specs.Run.{TheRun}
 use Rattle.fl_running.specs.Deeds.{opened, OnCore, AsksFor, IsSound}
 use Rattle.fl_ring.specs.SharedSides.{TheSide}

@@ -28,7 +28,7 @@ use Rattle.fl_node.specs.declared.wire.Inlet.TheVariants as inlet
 use Rattle.fl_node.specs.declared.wire.Outlet.TheVariants as outlet
 use Rattle.fl_node.specs.Hearing.{known_for, offer_for, offering, Follows as NodeFollows, HearsAll, HearsFrag, TakesHeard}
 use Rattle.fl_node.specs.View.{TheCore, with_monitor}
-use Rattle.fl_running.specs.declared.job.Job.{Job}
+use Rattle.fl_work.specs.declared.job.Job.{Job}
 use Rattle.fl_running.specs.declared.plan.Plan.{Plan}
 use Rattle.fl_running.specs.Deeds.{Deed, looked, passed, arrived, heard, said, told, opened, called, ruled, wrote, acked, turned, OnRing, Does, Happens, IsSound}
 use Rattle.fl_running.specs.Run.{Ways, TheRun}

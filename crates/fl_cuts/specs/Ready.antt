@@ -7,7 +7,7 @@ use Rattle.fl_monitor.specs.Fates.{comes_along}
 use Rattle.fl_monitor.specs.Saying.{Says}
 use Rattle.fl_node.specs.declared.answer.MonitorAnswer.TheVariants.{Done}
 use Rattle.fl_ring.specs.SharedSides.{TheSide}
-use Rattle.fl_running.specs.declared.job.Job.{Job}
+use Rattle.fl_work.specs.declared.job.Job.{Job}
 use Rattle.fl_running.specs.declared.plan.Plan.{Plan}
 use Rattle.fl_running.specs.Deeds.{Deed, heard}
 use Rattle.fl_running.specs.Run.{TheRun}

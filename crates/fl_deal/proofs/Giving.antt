@@ -223,11 +223,6 @@ deals size first second d m d2 one two new a b = record {
 
 -- ---- empty hands
 
-empty_look : {X T : Type 0} (f : X → List T) (xs : List X) → ((n : ℕ) (x : X) → slice_get xs n ≡ Some x → f x ≡ []) → (c : ℕ) → hand_at (map f xs) c ≡ []
-empty_look f [] none c = refl
-empty_look f (x ∷ xs) none zero = none zero x refl
-empty_look f (x ∷ xs) none (suc c) = empty_look f xs (λ n y e. none (suc n) y e) c
-
 pub holds_none : {T : Type 0} (d : Dealt T) → d.owners.items ≡ [] → d.places.items ≡ [] → ((c : ℕ) → hand_at (hands_in d) c ≡ []) → Holds d []
 holds_none {T} d owners places empty = record {
   dealt = record { count = ap length (sym owners); each = λ c. empty c ∙ sym (ap (λ (os : List ℕ). own_things {T = T} c os []) owners) };

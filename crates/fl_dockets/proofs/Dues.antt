@@ -6,7 +6,7 @@ use Rattle.fl_base.specs.declared.identity.EndId.{EndId}
 use Rattle.fl_base.specs.Ends.{peer}
 use Rattle.fl_queues.specs.Runs.{same_end}
 use Rattle.fl_node.specs.View.{slot_of}
-use Rattle.fl_running.specs.declared.job.Job.{Job as CoreJob}
+use Rattle.fl_work.specs.declared.job.Job.{Job as CoreJob}
 use Rattle.fl_dockets.specs.Dockets.{TheDocket, docket_at, due_in}
 use Rattle.fl_dockets.specs.State.{TheJoined, changing, with_due, undue, DuesUpTo}
 use Rattle.fl_dockets.proofs.Ends.{changed, slots, one_end}

@@ -127,13 +127,6 @@ changed dockets e f g h =
     changed_place dockets (slot_of f) (slot_of e) g h
     ∙ ap (λ (b : Bool). if b then g (docket_at dockets e) else docket_at dockets e) (slots e f)
 
--- two more, which are empty
-more_place : (dockets : List TheDocket) (k : ℕ) → at_place (dockets ++ no_docket ∷ []) k ≡ at_place dockets k
-more_place [] zero = refl
-more_place [] (suc k) = refl
-more_place (d ∷ dockets) zero = refl
-more_place (d ∷ dockets) (suc k) = more_place dockets k
-
 two_places : (dockets : List TheDocket) (k : ℕ) → at_place (dockets ++ no_docket ∷ no_docket ∷ []) k ≡ at_place dockets k
 two_places [] zero = refl
 two_places [] (suc zero) = refl

@@ -8,14 +8,14 @@ use Rattle.fl_base.specs.Ends.{peer}
 use Rattle.fl_interface.specs.SameTypes.{same_arguments}
 use Rattle.fl_interface.proofs.SameTypes.{same_arguments_are}
 use Rattle.fl_compile.specs.declared.program.Program.{Program}
-use Rattle.fl_nameserv.specs.Registrations.{TheRegistration, by_iref}
+use Rattle.fl_nameserv.specs.Registrations.{TheRegistration}
 use Rattle.fl_queues.specs.Calls.{Planned}
 use Rattle.fl_queues.specs.Given.{given}
 use Rattle.fl_queues.specs.Taking.{arguments_of, has_message}
 use Rattle.fl_node.specs.View.{TheCore}
-use Rattle.fl_running.specs.declared.job.Job.{Job as CoreJob}
-use Rattle.fl_running.specs.declared.job.Job.TheVariants as core
-use Rattle.fl_running.specs.declared.job.Wish.{Wish as CoreWish}
+use Rattle.fl_work.specs.declared.job.Job.{Job as CoreJob}
+use Rattle.fl_work.specs.declared.job.Job.TheVariants as core
+use Rattle.fl_work.specs.declared.job.Wish.{Wish as CoreWish}
 use Rattle.fl_value.specs.declared.value.Call.{Call}
 use Rattle.fl_worlds.specs.declared.binding.Binding.{Binding}
 use Rattle.fl_jobs.specs.Jobs.{Job, opens, replies, calls}
@@ -28,17 +28,6 @@ use Rattle.fl_dockets.specs.Whole.{is_set_up, so_far, Joins}
 use Rattle.fl_dockets.proofs.Growing.{got, kept, last}
 use Rattle.fl_dockets.proofs.Openings.{within}
 use Rattle.fl_dockets.proofs.Routed.{left_true, right_true}
-
--- ---- a service that is found
-
-pub offered_by : (names : List TheRegistration) (r : TheRegistration) (iref interface core : ℕ) → by_iref r.iref names ≡ Some r → r.iref ≡ iref
-    → r.service.interface ≡ interface → r.service.core.0 ≡ core → IsOffered names iref interface core
-offered_by names r iref interface core found is interface_is core_is = record {
-  registration = r;
-  registered = ap (λ (n : ℕ). by_iref n names) (sym is) ∙ found;
-  core_is = core_is;
-  interface_is = interface_is;
-}
 
 -- ---- a rule that passes the tests
 

@@ -8,7 +8,7 @@ use Rattle.fl_base.specs.Ends.{peer}
 use Rattle.fl_value.specs.Value.{TheCall}
 use Rattle.fl_queues.specs.Given.{given}
 use Rattle.fl_queues.specs.Runs.{same_end}
-use Rattle.fl_running.specs.declared.job.Job.{Job as CoreJob}
+use Rattle.fl_work.specs.declared.job.Job.{Job as CoreJob}
 use Rattle.fl_jobs.specs.Jobs.{Job, replies, calls, calls_in, own_calls, rule_in, rule_for, is_rule_at, has_rules}
 use Rattle.fl_dockets.specs.Dockets.{TheDocket, end_of, places_of, calls_at, core_calls, rule_at, is_ruled, are_some, IsAsked, Rules}
 use Rattle.fl_dockets.specs.State.{with_calls}

@@ -5,8 +5,8 @@ use Rattle.std.proofs.lemmas.Bool.{cases_lt}
 use Rattle.std.proofs.lemmas.List.{map-append}
 use Rattle.fl_base.specs.declared.identity.EndId.{EndId}
 use Rattle.fl_node.specs.View.{TheCore, client_of}
-use Rattle.fl_running.specs.declared.job.Job.{Job as CoreJob}
-use Rattle.fl_running.specs.Jobs.{HasNoRule, RulesLead}
+use Rattle.fl_work.specs.declared.job.Job.{Job as CoreJob}
+use Rattle.fl_work.specs.Jobs.{HasNoRule, RulesLead}
 use Rattle.fl_worlds.specs.declared.binding.Binding.{Binding}
 use Rattle.fl_jobs.specs.declared.job.Job.{Job as RustJob}
 use Rattle.fl_jobs.specs.Jobs.{Job, has_rules}

@@ -11,8 +11,8 @@ use Rattle.fl_value.specs.Value.{call_of}
 use Rattle.fl_queues.specs.Given.{given, changed_at}
 use Rattle.fl_queues.specs.Runs.{same_end}
 use Rattle.fl_node.specs.View.{slot_of}
-use Rattle.fl_running.specs.declared.job.Job.{Job as CoreJob}
-use Rattle.fl_running.specs.declared.job.Job.TheVariants as core
+use Rattle.fl_work.specs.declared.job.Job.{Job as CoreJob}
+use Rattle.fl_work.specs.declared.job.Job.TheVariants as core
 use Rattle.fl_jobs.specs.Jobs.{Job, Wish, opens, replies, calls, calls_in, has_rules}
 use Rattle.fl_dockets.specs.declared.docket.Bound.{Bound}
 use Rattle.fl_dockets.specs.Dockets.{TheDocket, no_docket, docket_at, with_place, end_of, places_of, core_calls, is_ruled, Rules, IsDocket}

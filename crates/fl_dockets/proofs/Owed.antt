@@ -8,9 +8,9 @@ use Rattle.fl_base.specs.Ends.{peer}
 use Rattle.fl_value.specs.Value.{TheCall, call_of}
 use Rattle.fl_queues.specs.Given.{given}
 use Rattle.fl_queues.specs.Runs.{same_end}
-use Rattle.fl_running.specs.declared.job.Job.{Job as CoreJob}
-use Rattle.fl_running.specs.declared.job.Job.TheVariants as core
-use Rattle.fl_running.specs.Jobs.{calls_of_job, calls_of_jobs}
+use Rattle.fl_work.specs.declared.job.Job.{Job as CoreJob}
+use Rattle.fl_work.specs.declared.job.Job.TheVariants as core
+use Rattle.fl_work.specs.Jobs.{calls_of_job, calls_of_jobs}
 use Rattle.fl_jobs.specs.Jobs.{Job, own_calls, has_rules, reply_to, handed_in}
 use Rattle.fl_dockets.specs.Dockets.{TheDocket, docket_at, end_of, places_of, calls_at, core_calls, reply_by, is_ruled, due_in, IsAsked, IsDocket}
 use Rattle.fl_dockets.specs.Joined.{AreBindings}

@@ -6,8 +6,8 @@ use Rattle.std.proofs.lemmas.List.Concat.{flat_map-append, flat_map-cons}
 use Rattle.fl_base.specs.declared.identity.MsgNo.{MsgNo}
 use Rattle.fl_value.specs.Value.{TheCall}
 use Rattle.fl_queues.specs.Given.{given}
-use Rattle.fl_running.specs.declared.job.Job.{Job as CoreJob}
-use Rattle.fl_running.specs.Jobs.{calls_of_job, calls_of_jobs}
+use Rattle.fl_work.specs.declared.job.Job.{Job as CoreJob}
+use Rattle.fl_work.specs.Jobs.{calls_of_job, calls_of_jobs}
 use Rattle.fl_dockets.specs.Dockets.{rule_at, reply_by}
 
 by_rule : (c : TheCall) (o : Option ℕ) (f : ℕ → TheCall) → length (given o [] (λ answer. f answer ∷ [])) ≡ (if is_some o then 1 else 0)

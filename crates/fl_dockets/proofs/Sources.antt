@@ -7,10 +7,10 @@ use Rattle.fl_base.specs.declared.identity.EndId.{EndId}
 use Rattle.fl_value.specs.Value.{TheCall, call_of}
 use Rattle.fl_queues.specs.Given.{given}
 use Rattle.fl_queues.specs.Runs.{same_end}
-use Rattle.fl_running.specs.declared.job.Job.{Job as CoreJob}
-use Rattle.fl_running.specs.declared.job.Job.TheVariants as core
-use Rattle.fl_running.specs.Steps.{is_before_calls}
-use Rattle.fl_running.specs.Jobs.{is_rule, HasNoRule, RulesLead}
+use Rattle.fl_work.specs.declared.job.Job.{Job as CoreJob}
+use Rattle.fl_work.specs.declared.job.Job.TheVariants as core
+use Rattle.fl_work.specs.Jobs.{is_before_calls}
+use Rattle.fl_work.specs.Jobs.{is_rule, HasNoRule, RulesLead}
 use Rattle.fl_node.specs.View.{TheCore}
 use Rattle.fl_worlds.specs.declared.binding.Binding.{Binding}
 use Rattle.fl_jobs.specs.Jobs.{Job, opens, replies, calls, rule_in, rule_for, is_rule_at, has_rules}

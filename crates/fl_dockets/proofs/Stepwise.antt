@@ -10,7 +10,7 @@ use Rattle.fl_base.specs.declared.identity.MsgNo.{MsgNo}
 use Rattle.fl_value.specs.declared.value.Call.{Call}
 use Rattle.fl_value.specs.Value.{TheCall, call_of}
 use Rattle.fl_node.specs.View.{TheCore, client_of}
-use Rattle.fl_running.specs.declared.job.Job.TheVariants as core
+use Rattle.fl_work.specs.declared.job.Job.TheVariants as core
 use Rattle.fl_worlds.specs.declared.binding.Binding.{Binding}
 use Rattle.fl_worlds.specs.View.{core_in}
 use Rattle.fl_jobs.specs.declared.job.Job.{Job as RustJob}
@@ -18,22 +18,14 @@ use Rattle.fl_jobs.specs.Jobs.{Job, Wish, opens, replies, calls}
 use Rattle.fl_jobs.specs.Views.{job_of}
 use Rattle.fl_worlds.specs.declared.parts.Parts.{Parts}
 use Rattle.fl_dockets.specs.declared.docket.Bound.{Bound}
-use Rattle.fl_dockets.specs.declared.joining.Joined.{Joined}
-use Rattle.fl_dockets.specs.Dockets.{docket_of, end_of}
-use Rattle.fl_dockets.specs.Joined.{HasDockets}
+use Rattle.fl_dockets.specs.Dockets.{end_of}
 use Rattle.fl_dockets.specs.Rules.{RuleNow, RuleOf, RulesOf}
-use Rattle.fl_dockets.specs.State.{TheJoined, joined_of, nothing_joined, with_binding, with_owner, with_job, IsSafe, Opened, CallPlanned, RulePlanned, ArePlaced, DuesUpTo}
+use Rattle.fl_dockets.specs.State.{TheJoined, nothing_joined, with_binding, with_owner, with_job, Opened, CallPlanned, RulePlanned, ArePlaced, DuesUpTo}
 use Rattle.fl_dockets.specs.Whole.{bound_of, SetUp, is_set_up, so_far, Ruled, Joins, IsBeside, About, about, wish_in, all_about, AreBound}
 use Rattle.fl_dockets.proofs.Ends.{slot_within}
 use Rattle.fl_dockets.proofs.Growing.{got, kept, last, core_stays}
 use Rattle.fl_dockets.proofs.Openings.{within}
 use Rattle.fl_dockets.proofs.OneMore.{add_quiet, add_call, add_rule, add_set_up, add_opened, add_wish}
-
-pub has_dockets : (j : Joined) → length (joined_of j).dockets ≡ 2 * length j.bindings.items → HasDockets j.bindings.items j.dockets.items
-has_dockets j h = sym (length-map j.dockets.items docket_of) ∙ h
-
-pub is_safe : (cores : ℕ) (asked : List Job) (j : TheJoined) → ArePlaced cores asked j → IsSafe cores j
-is_safe cores asked j k = (k.bindings, k.dockets)
 
 -- ---- bindings that are set up
 
@@ -45,9 +37,6 @@ set_up_more cores asked x j j2 s k =
 
 one_longer : {X : Type 0} (xs : List X) (x : X) → length xs < length (xs ++ x ∷ [])
 one_longer xs x = let l = length-append xs (x ∷ []) in omega (arith, l)
-
-within_client : (n m : ℕ) → n < m → (client_of n).binding < m
-within_client n m h = h
 
 module _ (cores : ℕ) (asked : List Job) (w : Wish) (j j2 : TheJoined) (o : Opened cores w j j2) (k : ArePlaced cores asked j) where
   abbrev bound_there : TheJoined

@@ -8,9 +8,9 @@ use Rattle.fl_base.specs.declared.identity.MsgNo.{MsgNo}
 use Rattle.fl_monitor.specs.Monitors.{TheMonitor, first_link}
 use Rattle.fl_nameserv.specs.Registrations.{TheRegistration}
 use Rattle.fl_node.specs.View.{TheCore}
-use Rattle.fl_running.specs.declared.job.Job.{Job as CoreJob}
-use Rattle.fl_running.specs.declared.job.Job.TheVariants as core
-use Rattle.fl_running.specs.declared.job.Wish.{Wish as CoreWish}
+use Rattle.fl_work.specs.declared.job.Job.{Job as CoreJob}
+use Rattle.fl_work.specs.declared.job.Job.TheVariants as core
+use Rattle.fl_work.specs.declared.job.Wish.{Wish as CoreWish}
 use Rattle.fl_worlds.specs.declared.binding.Binding.{Binding}
 use Rattle.fl_worlds.specs.View.{core_in}
 use Rattle.fl_jobs.specs.declared.job.Job.{Job as RustJob}

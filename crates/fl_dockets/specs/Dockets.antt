@@ -8,10 +8,10 @@ use Rattle.fl_value.specs.Value.{TheCall, call_of}
 use Rattle.fl_queues.specs.Given.{given}
 use Rattle.fl_queues.specs.Runs.{same_end}
 use Rattle.fl_node.specs.View.{slot_of, client_of}
-use Rattle.fl_running.specs.declared.job.Job.{Job as CoreJob}
-use Rattle.fl_running.specs.declared.job.Job.TheVariants as job
-use Rattle.fl_running.specs.declared.job.Wish.{Wish as CoreWish}
-use Rattle.fl_running.specs.Jobs.{calls_of_jobs}
+use Rattle.fl_work.specs.declared.job.Job.{Job as CoreJob}
+use Rattle.fl_work.specs.declared.job.Job.TheVariants as job
+use Rattle.fl_work.specs.declared.job.Wish.{Wish as CoreWish}
+use Rattle.fl_work.specs.Jobs.{calls_of_jobs}
 use Rattle.fl_jobs.specs.Jobs.{Job, own_calls, rule_for, has_rules}
 use Rattle.fl_dockets.specs.declared.docket.Docket.{Docket}
 

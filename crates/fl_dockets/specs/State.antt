@@ -6,10 +6,10 @@ use Rattle.fl_value.specs.declared.value.Call.{Call}
 use Rattle.fl_base.specs.Ends.{peer}
 use Rattle.fl_queues.specs.Given.{changed_at}
 use Rattle.fl_node.specs.View.{slot_of, client_of}
-use Rattle.fl_running.specs.declared.job.Job.{Job as CoreJob}
-use Rattle.fl_running.specs.declared.job.Job.TheVariants as core
-use Rattle.fl_running.specs.declared.job.Wish.{Wish as CoreWish}
-use Rattle.fl_running.specs.Jobs.{HasNoRule, RulesLead}
+use Rattle.fl_work.specs.declared.job.Job.{Job as CoreJob}
+use Rattle.fl_work.specs.declared.job.Job.TheVariants as core
+use Rattle.fl_work.specs.declared.job.Wish.{Wish as CoreWish}
+use Rattle.fl_work.specs.Jobs.{HasNoRule, RulesLead}
 use Rattle.fl_jobs.specs.Jobs.{Wish, Job}
 use Rattle.fl_dockets.specs.declared.docket.Bound.{Bound}
 use Rattle.fl_dockets.specs.declared.joining.Joined.{Joined}

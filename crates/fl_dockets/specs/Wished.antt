@@ -6,8 +6,8 @@ use Rattle.fl_hop.specs.Table.{TheCircuits}
 use Rattle.fl_monitor.specs.Monitors.{first_link}
 use Rattle.fl_nameserv.specs.Registrations.{TheRegistration, by_name, by_iref}
 use Rattle.fl_node.specs.View.{TheCore}
-use Rattle.fl_running.specs.declared.job.Job.TheVariants as core
-use Rattle.fl_running.specs.declared.job.Wish.{Wish as CoreWish}
+use Rattle.fl_work.specs.declared.job.Job.TheVariants as core
+use Rattle.fl_work.specs.declared.job.Wish.{Wish as CoreWish}
 use Rattle.fl_jobs.specs.Jobs.{Wish, Job, opens}
 use Rattle.fl_dockets.specs.declared.docket.Bound.{Bound}
 use Rattle.fl_dockets.specs.State.{TheJoined}

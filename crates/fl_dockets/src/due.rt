@@ -4,7 +4,7 @@ ghost use Rattle.std.specs.Prelude.{◌≡◌, ◌<◌, ◌≤◌, ◌*◌, leng
 ghost use Rattle.std.specs.List.{flat_map};
 ghost use Rattle.fl_queues.specs.Given.{changed_at};
 ghost use Rattle.fl_node.specs.View.{slot_of};
-ghost use Rattle.fl_running.specs.Jobs.{calls_of_job, calls_of_jobs};
+ghost use Rattle.fl_work.specs.Jobs.{calls_of_job, calls_of_jobs};
 ghost use Rattle.fl_base.specs.Ends.{peer};
 ghost use Rattle.fl_dockets.specs.Dockets.{docket_of, docket_at, rule_at, reply_by, due_in};
 ghost use Rattle.fl_dockets.specs.State.{joined_of, changing, with_due, DuesUpTo};
@@ -12,7 +12,7 @@ ghost use Rattle.fl_dockets.specs.State.{joined_of, changing, with_due, DuesUpTo
 use crate::docket::{Docket, end_at, slot_of};
 use crate::joining::Joined;
 use fl_base::{EndId, MsgNo};
-use fl_running::Job as CoreJob;
+use fl_work::Job as CoreJob;
 
 // Whether there is a rule for a message.
 fn has_rule(rules: &[Option<MsgNo>], msg: MsgNo) -> bool

@@ -6,7 +6,7 @@ ghost use Rattle.fl_queues.specs.Given.{changed_at};
 ghost use Rattle.fl_node.specs.View.{slot_of, client_of};
 ghost use Rattle.fl_jobs.specs.Views.{wish_of};
 ghost use Rattle.fl_value.specs.Value.{call_of};
-ghost use Rattle.fl_running.specs.declared.job.Job.TheVariants as core;
+ghost use Rattle.fl_work.specs.declared.job.Job.TheVariants as core;
 ghost use Rattle.fl_dockets.specs.Dockets.{docket_of, docket_at, is_ruled, with_place};
 ghost use Rattle.fl_dockets.specs.Faults.{call_fault_at, rule_fault_at, wish_fault, StopsFor, WishStops};
 ghost use Rattle.fl_dockets.specs.Fitting.{NewFit};
@@ -17,12 +17,12 @@ ghost use Rattle.fl_dockets.specs.Wished.{AddsOpening};
 
 use crate::docket::{Bound, Docket, slot_of};
 use crate::opening::ask;
-use fl_base::{EndId, MsgNo, Side};
+use fl_base::{EndId, MsgNo, Side, faults};
 use fl_compile::Program;
 use fl_interface::same_args;
 use fl_jobs::{Stop, Wish};
-use fl_running::{Job as CoreJob, Wish as CoreWish};
 use fl_value::{Call, fits};
+use fl_work::{Job as CoreJob, Wish as CoreWish};
 use fl_worlds::Parts;
 use std::alloc::{AllocError, Global};
 
@@ -152,20 +152,20 @@ impl Joined {
         ensures same { result ≡ call_fault_at programs.now self.now.bindings.items (map docket_of self.now.dockets.items) end (call_of call.now) }
     {
         let Some(bound) = self.bindings.get(end.binding) else {
-            return Some(92);
+            return Some(faults::WRONG_NAME);
         };
         let Some(program) = programs.get(bound.interface) else {
-            return Some(92);
+            return Some(faults::WRONG_NAME);
         };
         let interface = program.interface();
         if usize::from(call.msg.0) >= interface.messages.as_slice().len() {
-            return Some(41);
+            return Some(faults::NO_SUCH_MESSAGE);
         }
         if !fits(call, interface) {
-            return Some(42);
+            return Some(faults::DOES_NOT_FIT);
         }
         if self.dockets[slot_of(end)].has_rules() {
-            return Some(44);
+            return Some(faults::CALLS_AND_RULES);
         }
         None
     }
@@ -186,23 +186,23 @@ impl Joined {
         ensures same { result ≡ rule_fault_at programs.now self.now.bindings.items (map docket_of self.now.dockets.items) end message.0 answer.0 }
     {
         let Some(bound) = self.bindings.get(end.binding) else {
-            return Some(92);
+            return Some(faults::WRONG_NAME);
         };
         let Some(program) = programs.get(bound.interface) else {
-            return Some(92);
+            return Some(faults::WRONG_NAME);
         };
         let messages = program.interface().messages.as_slice();
         let Some(one) = messages.get(usize::from(message.0)) else {
-            return Some(41);
+            return Some(faults::NO_SUCH_MESSAGE);
         };
         let Some(other) = messages.get(usize::from(answer.0)) else {
-            return Some(41);
+            return Some(faults::NO_SUCH_MESSAGE);
         };
         if !same_args(&one.args, &other.args) {
-            return Some(42);
+            return Some(faults::DOES_NOT_FIT);
         }
         if self.dockets[slot_of(end)].makes_calls || self.dockets[slot_of(end.peer())].has_rules() {
-            return Some(44);
+            return Some(faults::CALLS_AND_RULES);
         }
         None
     }

@@ -7,13 +7,13 @@ ghost use Rattle.fl_dockets.specs.Faults.{offer_fault, path_fault, link_fault, w
 ghost use Rattle.fl_dockets.specs.Fitting.{IsOffered};
 ghost use Rattle.fl_dockets.specs.Wished.{cores_on, IsNamed, BeginsOn, BeginsAt};
 
-use fl_base::{CoreId, IRef, LinkId, MAX_BINDINGS};
+use fl_base::{CoreId, IRef, LinkId, MAX_BINDINGS, faults};
 use fl_compile::Program;
 use fl_jobs::{Stop, Wish};
 use fl_monitor::{Opening, Path};
 use fl_nameserv::{Names, each_is_found, found_is_registered};
 use fl_node::Core;
-use fl_running::Wish as CoreWish;
+use fl_work::Wish as CoreWish;
 use fl_worlds::Parts;
 use std::alloc::Global;
 
@@ -41,10 +41,10 @@ fn find(names: &Names, wish: &Wish<'_>) -> Result<Found, Stop>
     found_is_registered(names);
     each_is_found(names);
     let Ok(found) = names.lookup(wish.service) else {
-        return Err(Stop::Refused(70));
+        return Err(Stop::Refused(faults::NO_SUCH_SERVICE));
     };
     if found.service.interface != wish.interface {
-        return Err(Stop::Refused(72));
+        return Err(Stop::Refused(faults::OTHER_INTERFACE));
     }
     Ok(Found {
         core: found.service.core,
@@ -62,13 +62,13 @@ fn path_over(alloc: Global, cores: &[u32]) -> Result<Path, Stop>
     for core in cores {
         let core = *core;
         if core > 255 {
-            return Err(Stop::Refused(73));
+            return Err(Stop::Refused(faults::NO_SUCH_ROUTE));
         }
         ids.push(CoreId(core as u8))?;
     }
     match Path::new(ids.as_slice()) {
         Some(path) => Ok(path),
-        None => Err(Stop::Refused(73)),
+        None => Err(Stop::Refused(faults::NO_SUCH_ROUTE)),
     }
 }
 
@@ -117,16 +117,16 @@ pub(crate) fn ask(
 {
     let client = wish.client.core as usize;
     let Some(core) = parts.cores.get(client) else {
-        return Err(Stop::Refused(92));
+        return Err(Stop::Refused(faults::WRONG_NAME));
     };
     let Some(program) = parts.programs.get(wish.interface) else {
-        return Err(Stop::Refused(92));
+        return Err(Stop::Refused(faults::WRONG_NAME));
     };
     if wish.client.place >= core.board().dispatchers() {
-        return Err(Stop::Refused(92));
+        return Err(Stop::Refused(faults::WRONG_NAME));
     }
     if binding >= MAX_BINDINGS {
-        return Err(Stop::Refused(94));
+        return Err(Stop::Refused(faults::TOO_MANY));
     }
     let found = find(&parts.names, wish)?;
     let path = path_over(alloc, &wish.route)?;

@@ -5,7 +5,7 @@ ghost use Rattle.fl_worlds.specs.View.{core_in};
 ghost use Rattle.fl_dockets.specs.Faults.{core_fault, end_fault, fault_at_once, StopsFor};
 ghost use Rattle.fl_dockets.specs.Rules.{RulesCore, RulesAt, RuleNow};
 
-use fl_base::{EndId, MsgNo, Side};
+use fl_base::{EndId, MsgNo, Side, faults};
 use fl_jobs::Stop;
 use fl_node::Core;
 use fl_worlds::Binding;
@@ -28,7 +28,7 @@ fn rule_core(core: &mut Core, end: EndId, message: MsgNo, answer: MsgNo) -> Resu
     ensures refused { IfErr result (λ stop. StopsFor (core_fault core.old end message.0 answer.0) stop) }
 {
     let Some(place) = core.place(end) else {
-        return Err(Stop::Refused(92));
+        return Err(Stop::Refused(faults::WRONG_NAME));
     };
     match core.reply_rule(place, message, answer) {
         Ok(()) => Ok(()),
@@ -51,7 +51,7 @@ fn rule_at(
     ensures refused { IfErr result (λ stop. StopsFor (end_fault cores.old.items n end message.0 answer.0) stop) }
 {
     if n >= cores.len() {
-        return Err(Stop::Refused(92));
+        return Err(Stop::Refused(faults::WRONG_NAME));
     }
     let core = &mut cores[n];
     rule_core(core, end, message, answer)

@@ -18,7 +18,7 @@ use crate::docket::Bound;
 use crate::fault::JobFault;
 use crate::joining::Joined;
 use crate::rules::rule_now;
-use fl_base::{EndId, MAX_BINDINGS, MsgNo};
+use fl_base::{EndId, MAX_BINDINGS, MsgNo, faults};
 use fl_jobs::{Job, Stop};
 use fl_worlds::{Binding, Parts};
 use std::alloc::Global;
@@ -41,10 +41,10 @@ impl Joined {
         ensures refused { IfErr result (λ stop. StopsFor (binding_fault cores (length self.old.bindings.items) binding.now) stop) }
     {
         if self.bindings.as_slice().len() >= MAX_BINDINGS {
-            return Err(Stop::Refused(94));
+            return Err(Stop::Refused(faults::TOO_MANY));
         }
         if binding.client >= cores || binding.server >= cores {
-            return Err(Stop::Refused(92));
+            return Err(Stop::Refused(faults::WRONG_NAME));
         }
         self.add_binding(alloc, bound_of(binding))?;
         Ok(())

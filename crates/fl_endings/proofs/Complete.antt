@@ -13,8 +13,8 @@ use Rattle.fl_hop.proofs.Lists.{at_within, within}
 use Rattle.fl_queues.specs.Given.{given}
 use Rattle.fl_queues.specs.Runs.{same_side, same_end}
 use Rattle.fl_node.specs.View.{slot_of}
-use Rattle.fl_running.specs.declared.job.Job.{Job as CoreJob}
-use Rattle.fl_running.specs.declared.job.Job.TheVariants as core
+use Rattle.fl_work.specs.declared.job.Job.{Job as CoreJob}
+use Rattle.fl_work.specs.declared.job.Job.TheVariants as core
 use Rattle.fl_running.specs.declared.run.End.TheVariants.{Finished}
 use Rattle.fl_logs.specs.Logs.{handled_of, TurnsAreLogged, DesksTellHandled, CountedAreTurns}
 use Rattle.fl_jobs.specs.Jobs.{Job, own_calls, has_rules, reply_to, handed_in}

@@ -18,7 +18,7 @@ use Rattle.fl_hop.specs.Stretch.{same_end}
 use Rattle.fl_monitor.specs.Routing.{given}
 use Rattle.fl_node.specs.View.{place_of}
 use Rattle.fl_node.specs.declared.wire.Inlet.{Inlet}
-use Rattle.fl_running.specs.declared.job.Job.{Job as CoreJob}
+use Rattle.fl_work.specs.declared.job.Job.{Job as CoreJob}
 use Rattle.fl_running.specs.declared.run.End.{End}
 use Rattle.fl_running.specs.declared.run.End.TheVariants.{Finished, Unfinished, Told}
 use Rattle.fl_running.specs.Desks.{TheDesk, desk_place}

@@ -8,7 +8,7 @@ use Rattle.fl_tally.specs.declared.board.Refusal.{Refusal}
 use Rattle.fl_tally.specs.Seats.{TheSeat}
 use Rattle.fl_core.proofs.Places.{one_stands, set_here, set_elsewhere}
 use Rattle.fl_node.specs.View.{place_of}
-use Rattle.fl_running.specs.declared.job.Job.{Job as CoreJob}
+use Rattle.fl_work.specs.declared.job.Job.{Job as CoreJob}
 use Rattle.fl_running.specs.declared.word.Word.{Word}
 use Rattle.fl_running.specs.declared.word.Word.TheVariants.{Silent, Tells, Hears, Refused}
 use Rattle.fl_running.specs.declared.run.End.{End}

@@ -16,7 +16,7 @@ use Rattle.fl_node.specs.Sound.{IsCore}
 use Rattle.fl_node.specs.View.{client_of}
 use Rattle.fl_running.specs.Desks.{TheDesk, desk_place}
 use Rattle.fl_running.specs.Deeds.{Deed}
-use Rattle.fl_running.specs.Jobs.{calls_of_jobs}
+use Rattle.fl_work.specs.Jobs.{calls_of_jobs}
 use Rattle.fl_running.specs.Words.{refusal_at}
 use Rattle.fl_logs.specs.Led.{IsLed}
 use Rattle.fl_logs.specs.Logs.{Goes, handled_at, in_desk, handled_of, TurnsAreLogged, DesksTellHandled, CountedAreTurns}

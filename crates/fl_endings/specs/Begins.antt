@@ -13,7 +13,7 @@ use Rattle.fl_node.specs.View.{client_of, place_of, arrivals_by}
 use Rattle.fl_running.specs.declared.word.Word.{Word}
 use Rattle.fl_running.specs.declared.word.Word.TheVariants.{Silent, Tells, Hears}
 use Rattle.fl_running.specs.Desks.{TheDesk}
-use Rattle.fl_running.specs.Jobs.{calls_of_jobs}
+use Rattle.fl_work.specs.Jobs.{calls_of_jobs}
 use Rattle.fl_running.specs.Words.{refusal_at}
 use Rattle.fl_logs.specs.Logs.{handled_of}
 use Rattle.fl_logs.specs.Made.{desk_of}

@@ -1,7 +1,7 @@
 -- What a report tells of turns, and of how a run came to its end. Law.
 use Rattle.std.specs.Prelude.{ℕ, ◌≡◌, ◌≤◌, Bool, true, false, if◌then◌else◌, List, map, length, slice_get, Some}
 use Rattle.std.specs.List.{list_any}
-use Rattle.fl_running.specs.declared.job.Job.{Job as CoreJob}
+use Rattle.fl_work.specs.declared.job.Job.{Job as CoreJob}
 use Rattle.fl_running.specs.declared.run.End.{End}
 use Rattle.fl_running.specs.declared.run.End.TheVariants.{Unfinished, Told}
 use Rattle.fl_jobs.specs.Report.{TheReport, complete, turns_out}

@@ -18,9 +18,9 @@ use Rattle.fl_hop.specs.Forward.{IsOther}
 use Rattle.fl_hop.specs.Later.{way_at}
 use Rattle.fl_monitor.specs.Routing.{given}
 use Rattle.fl_node.specs.View.{TheCore, place_of, side_of_link}
-use Rattle.fl_running.specs.declared.job.Job.{Job}
-use Rattle.fl_running.specs.declared.job.Job.TheVariants as job
-use Rattle.fl_running.specs.declared.job.Wish.{Wish}
+use Rattle.fl_work.specs.declared.job.Job.{Job}
+use Rattle.fl_work.specs.declared.job.Job.TheVariants as job
+use Rattle.fl_work.specs.declared.job.Wish.{Wish}
 use Rattle.fl_running.specs.declared.plan.Plan.{Plan}
 use Rattle.fl_running.specs.declared.run.End.{End as EndOf}
 use Rattle.fl_running.specs.declared.run.End.TheVariants.{Finished, Unfinished, Told}
@@ -28,7 +28,7 @@ use Rattle.fl_running.specs.Run.{Ways, TheRun, next_job, lent_lane, lent_post, l
 use Rattle.fl_running.specs.Deeds.{Deed, looked, passed, arrived, heard, said, told, opened, called, ruled, wrote, acked, turned, Does, Happens}
 use Rattle.fl_running.specs.Steps.{Deals, ForwardsOver, Forwards, SaysOver, Says, TellsOver, Tells, may_ask, OpensIf, CallsAt, Tries, WritesFrom, Serves, AcksFrom, Acknowledges, reply_rule, RulesAt, awaits, due_turn, TurnsIf, TurnsAt, TakesTurn}
 use Rattle.fl_running.specs.Turn.{Swept, At, OneTurn, Turned}
-use Rattle.fl_running.specs.Jobs.{calls_of_job}
+use Rattle.fl_work.specs.Jobs.{calls_of_job}
 use Rattle.fl_running.specs.Ran.{Task, GoesOn}
 use Rattle.fl_logs.specs.Logs.{LeadsTo, GoesOnOver, InPlace, Goes, CountedAreTurns}
 use Rattle.fl_honest.specs.Cores.{shared_ways, IsAmple, AreAmple, CoresGoAmply}

@@ -116,9 +116,6 @@ NoNew l n = ⊥
 abbrev pub New : ℕ → ℕ → ℕ → ℕ → Type 0
 New m c l n = (l ≡ m) × (n ≡ c)
 
-any_new : (new : ℕ → ℕ → Type 0) (t u : TheCircuits) → Answers NoNew t u → Answers new t u
-any_new new t u a = record { stays = a.stays; came = λ l n here yes_there. elim (a.came l n here yes_there) [ inl old ↦ inl old | inr none ↦ absurd none ] }
-
 -- links that changed, and nothing else
 links_answer : (t : TheCircuits) (links : List LinkState) → Answers NoNew t (with_links t links)
 links_answer t links = record {

@@ -21,7 +21,7 @@ use Rattle.fl_monitor.specs.Monitors.{TheMonitor, AllSaid, Said, waiting_for, as
 use Rattle.fl_monitor.specs.Outboxes.{IsFragOf}
 use Rattle.fl_monitor.specs.Saying.{Says}
 use Rattle.fl_monitor.proofs.Single.{says_no_other, says_the_same, says_what_is_written}
-use Rattle.fl_running.specs.declared.job.Job.{Job}
+use Rattle.fl_work.specs.declared.job.Job.{Job}
 use Rattle.fl_honest.specs.Named.{Has}
 use Rattle.fl_honest.specs.Asked.{AsksBy, IsWished, CameAlong, AreAsked}
 use Rattle.fl_honest.proofs.Named.{has_split, waits}

@@ -2,7 +2,7 @@
 use Rattle.std.proofs.Common.{inl, inr, refl, List, [], slice_get}
 use Rattle.fl_endpoint.specs.Laws.{OnAnotherCircuit}
 use Rattle.fl_monitor.specs.Monitors.{TheMonitor}
-use Rattle.fl_running.specs.declared.job.Job.{Job}
+use Rattle.fl_work.specs.declared.job.Job.{Job}
 use Rattle.fl_logs.proofs.Stepping.{log_steps}
 use Rattle.fl_hop.specs.Table.{TheCircuits}
 use Rattle.fl_honest.specs.Cores.{shared_ways, OneCore}

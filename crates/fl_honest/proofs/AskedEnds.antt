@@ -10,8 +10,8 @@ use Rattle.fl_jobs.specs.Jobs.{Job}
 use Rattle.fl_nameserv.specs.Registrations.{TheRegistration, by_iref}
 use Rattle.fl_node.specs.View.{client_of, server_of}
 use Rattle.fl_queues.specs.Runs.{same_end}
-use Rattle.fl_running.specs.declared.job.Job.{Job as CoreJob}
-use Rattle.fl_running.specs.declared.job.Job.TheVariants as job
+use Rattle.fl_work.specs.declared.job.Job.{Job as CoreJob}
+use Rattle.fl_work.specs.declared.job.Job.TheVariants as job
 use Rattle.fl_logs.proofs.Handling.{one_end}
 use Rattle.fl_logs.proofs.Leading.{map_there}
 use Rattle.fl_dockets.specs.declared.docket.Bound.{Bound}

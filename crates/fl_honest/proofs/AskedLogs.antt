@@ -6,7 +6,7 @@ use Rattle.fl_base.specs.declared.identity.Circuit.{Circuit}
 use Rattle.fl_hop.specs.Table.{TheCircuits}
 use Rattle.fl_monitor.specs.declared.opening.Opening.{Opening}
 use Rattle.fl_monitor.specs.Monitors.{TheMonitor, asks}
-use Rattle.fl_running.specs.declared.job.Job.{Job}
+use Rattle.fl_work.specs.declared.job.Job.{Job}
 use Rattle.fl_honest.specs.Named.{Has}
 use Rattle.fl_honest.specs.Asked.{IsWished, AreAsked}
 use Rattle.fl_honest.proofs.Asked.{came_more, asked_rests, one_more, hears_asked}

@@ -49,8 +49,8 @@ use Rattle.fl_node.specs.declared.wire.Inlet.TheVariants as inlet
 use Rattle.fl_node.specs.Ends.{at_side}
 use Rattle.fl_node.proofs.Named.{put_elsewhere, here_or_not}
 use Rattle.fl_node.proofs.Offers.{made_for, made_new, offer_found}
-use Rattle.fl_running.specs.declared.job.Job.{Job}
-use Rattle.fl_running.specs.declared.job.Wish.{Wish}
+use Rattle.fl_work.specs.declared.job.Job.{Job}
+use Rattle.fl_work.specs.declared.job.Wish.{Wish}
 use Rattle.fl_running.specs.Run.{Ways, TheRun}
 use Rattle.fl_running.specs.Deeds.{Deed, looked, passed, arrived, heard, said, told, opened, called, ruled, wrote, acked, turned, Does, IsCopyOf}
 use Rattle.fl_logs.specs.Logs.{InPlace, Goes}

@@ -23,7 +23,7 @@ use Rattle.fl_monitor.specs.Routing.{given, is_core, comes_after, is_named_behin
 use Rattle.fl_node.specs.declared.wire.Lane.{Lane}
 use Rattle.fl_node.specs.Sound.{IsCore}
 use Rattle.fl_node.specs.View.{TheCore, side_of_link, client_of, server_of}
-use Rattle.fl_running.specs.declared.job.Job.{Job}
+use Rattle.fl_work.specs.declared.job.Job.{Job}
 use Rattle.fl_honest.specs.Cores.{shared_ways, OneCore}
 use Rattle.fl_honest.specs.Circuits.{AreOneLink}
 use Rattle.fl_honest.specs.Named.{Has}

@@ -8,7 +8,7 @@ use Rattle.fl_hop.specs.Joined.{Leads}
 use Rattle.fl_hop.specs.Numbers.{OpenedThere}
 use Rattle.fl_hop.specs.Table.{hop_at}
 use Rattle.fl_node.specs.View.{client_of}
-use Rattle.fl_running.specs.declared.job.Job.{Job}
+use Rattle.fl_work.specs.declared.job.Job.{Job}
 use Rattle.fl_honest.specs.Cores.{OneCore}
 use Rattle.fl_honest.specs.Circuits.{Point, Station, IsRoute}
 use Rattle.fl_honest.specs.Neighbours.{ComesFrom, EntriesLeadBack}

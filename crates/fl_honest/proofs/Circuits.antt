@@ -10,8 +10,8 @@ use Rattle.fl_hop.specs.Stretch.{taken_from, come_to}
 use Rattle.fl_endpoint.specs.View.{TheEnd, is_rule, has_rules}
 use Rattle.fl_core.specs.View.{TheSeat}
 use Rattle.fl_node.specs.View.{new_arrivals, client_of, server_of}
-use Rattle.fl_running.specs.declared.job.Job.{Job as CoreJob}
-use Rattle.fl_running.specs.Jobs.{HasNoRule, RulesLead}
+use Rattle.fl_work.specs.declared.job.Job.{Job as CoreJob}
+use Rattle.fl_work.specs.Jobs.{HasNoRule, RulesLead}
 use Rattle.fl_logs.specs.Carried.{SetsNone, calls_handled, rules_at, traffic}
 use Rattle.fl_logs.specs.Flows.{Flows, MadeCarries}
 use Rattle.fl_logs.specs.Agree.{Arrived}

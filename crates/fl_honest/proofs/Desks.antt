@@ -7,10 +7,10 @@ use Rattle.fl_value.specs.declared.value.Call.{Call}
 use Rattle.fl_value.specs.Value.{TheCall, call_of}
 use Rattle.fl_ring.specs.SharedSides.{TheSide}
 use Rattle.fl_monitor.specs.Routing.{given}
-use Rattle.fl_running.specs.declared.job.Job.{Job as CoreJob}
+use Rattle.fl_work.specs.declared.job.Job.{Job as CoreJob}
 use Rattle.fl_running.specs.Desks.{TheDesk, desk_place}
 use Rattle.fl_running.specs.Run.{TheRun}
-use Rattle.fl_running.specs.Jobs.{calls_of_jobs}
+use Rattle.fl_work.specs.Jobs.{calls_of_jobs}
 use Rattle.fl_logs.specs.Logs.{DesksTellHandled, in_desk, handled_of, handled_at}
 use Rattle.fl_logs.specs.Made.{LogsMakeJobs, DoneAreFirst, handed_at, done_at, done_of, handed_in, made_at}
 use Rattle.fl_logs.specs.Carried.{calls_handled, jobs_left}

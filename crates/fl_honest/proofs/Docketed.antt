@@ -14,9 +14,9 @@ use Rattle.fl_queues.specs.Given.{given}
 use Rattle.fl_queues.specs.Runs.{same_end}
 use Rattle.fl_endpoint.specs.View.{is_rule, has_rules as end_has_rules, rule_at as rule_of_end}
 use Rattle.fl_endpoint.specs.Accounts.{followed, replies_by}
-use Rattle.fl_running.specs.declared.job.Job.{Job as CoreJob}
-use Rattle.fl_running.specs.declared.job.Job.TheVariants as core
-use Rattle.fl_running.specs.Jobs.{calls_of_job, calls_of_jobs}
+use Rattle.fl_work.specs.declared.job.Job.{Job as CoreJob}
+use Rattle.fl_work.specs.declared.job.Job.TheVariants as core
+use Rattle.fl_work.specs.Jobs.{calls_of_job, calls_of_jobs}
 use Rattle.fl_jobs.specs.Jobs.{Job, own_calls, reply_to, handed_in}
 use Rattle.fl_dockets.specs.Dockets.{TheDocket, end_of, places_of, calls_at, core_calls, rule_at, reply_by, is_ruled, IsAsked, IsDocket}
 use Rattle.fl_honest.specs.Ends.{AreItsRules}

@@ -12,7 +12,7 @@ use Rattle.fl_hop.specs.Numbers.{OpenedHere, OpenedThere}
 use Rattle.fl_hop.specs.Table.{TheCircuits, hop_at, leading}
 use Rattle.fl_hop.proofs.Answering.{numbers_apart}
 use Rattle.fl_node.specs.View.{client_of}
-use Rattle.fl_running.specs.declared.job.Job.{Job}
+use Rattle.fl_work.specs.declared.job.Job.{Job}
 use Rattle.fl_logs.specs.Led.{IsSettled}
 use Rattle.fl_honest.specs.Cores.{OneCore}
 use Rattle.fl_honest.specs.Neighbours.{NeighboursAgree}

@@ -12,8 +12,8 @@ use Rattle.fl_monitor.specs.declared.opening.Opening.{Opening}
 use Rattle.fl_monitor.specs.Monitors.{TheMonitor, asks}
 use Rattle.fl_monitor.specs.Saying.{Says}
 use Rattle.fl_ring.specs.SharedSides.{TheSide}
-use Rattle.fl_running.specs.declared.job.Job.{Job}
-use Rattle.fl_running.specs.declared.job.Wish.{Wish}
+use Rattle.fl_work.specs.declared.job.Job.{Job}
+use Rattle.fl_work.specs.declared.job.Wish.{Wish}
 use Rattle.fl_running.specs.Run.{TheRun}
 use Rattle.fl_running.specs.Deeds.{Deed, IsSound}
 use Rattle.fl_logs.specs.Logs.{Goes}

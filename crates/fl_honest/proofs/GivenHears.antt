@@ -30,7 +30,7 @@ use Rattle.fl_monitor.specs.Monitors.{TheMonitor, AllSaid, Said, waiting_for, as
 use Rattle.fl_monitor.specs.Saying.{Says}
 use Rattle.fl_monitor.proofs.Single.{says_the_same}
 use Rattle.fl_node.specs.View.{TheCore, place_of, client_of}
-use Rattle.fl_running.specs.declared.job.Job.{Job}
+use Rattle.fl_work.specs.declared.job.Job.{Job}
 use Rattle.fl_honest.specs.Named.{Has, AreNamed}
 use Rattle.fl_honest.specs.Asked.{IsWished}
 use Rattle.fl_honest.specs.Reasons.{CameUnder, AsksOnly, HeardRefused, IsFrom, AreReasoned, LeadsOver, Origin, from_job, from_link, IsSince, IsGivenTo, AreGivenOnce, GivesNone, AreSettled, as_talk}

@@ -15,8 +15,8 @@ use Rattle.fl_node.specs.Sound.{IsCore}
 use Rattle.fl_node.specs.Hearing.{known_for}
 use Rattle.fl_node.specs.Making.{Asked, Begins}
 use Rattle.fl_node.proofs.Named.{put_here}
-use Rattle.fl_running.specs.declared.job.Job.{Job}
-use Rattle.fl_running.specs.declared.job.Wish.{Wish}
+use Rattle.fl_work.specs.declared.job.Job.{Job}
+use Rattle.fl_work.specs.declared.job.Wish.{Wish}
 use Rattle.fl_running.specs.Run.{Ways, TheRun}
 use Rattle.fl_running.specs.Deeds.{Deed, opened, Does, IsSound}
 use Rattle.fl_logs.specs.Led.{IsLed}

@@ -7,8 +7,8 @@ use Rattle.fl_hop.specs.OfCircuit.{of_circuit}
 use Rattle.fl_hop.specs.Stretch.{taken_from}
 use Rattle.fl_hop.proofs.Counting.{next_is, next_few}
 use Rattle.fl_node.specs.View.{TheCore, place_of, client_of, server_of}
-use Rattle.fl_running.specs.declared.job.Job.{Job}
-use Rattle.fl_running.specs.declared.job.Wish.{Wish}
+use Rattle.fl_work.specs.declared.job.Job.{Job}
+use Rattle.fl_work.specs.declared.job.Wish.{Wish}
 use Rattle.fl_running.specs.Run.{Ways, TheRun}
 use Rattle.fl_running.specs.Deeds.{Deed, opened, Does}
 use Rattle.fl_logs.specs.Led.{IsLed}

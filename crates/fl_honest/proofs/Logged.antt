@@ -49,8 +49,8 @@ use Rattle.fl_node.specs.Links.{LooksAhead, inbound, ArrivesAt}
 use Rattle.fl_node.specs.Making.{Asked, asked, Asks}
 use Rattle.fl_node.specs.Hearing.{Offers, known_for, offer_for, HearsAll, offering, Follows, BindsIf}
 use Rattle.fl_node.specs.Ends.{at_side}
-use Rattle.fl_running.specs.declared.job.Job.{Job}
-use Rattle.fl_running.specs.declared.job.Wish.{Wish}
+use Rattle.fl_work.specs.declared.job.Job.{Job}
+use Rattle.fl_work.specs.declared.job.Wish.{Wish}
 use Rattle.fl_running.specs.Run.{Ways, TheRun}
 use Rattle.fl_running.specs.Deeds.{IsSound, Deed, looked, passed, arrived, heard, said, told, opened, called, ruled, wrote, acked, turned, Does, ActsSoundly}
 use Rattle.fl_logs.specs.Logs.{InPlace, Goes}

@@ -3,7 +3,7 @@ use Rattle.std.proofs.Common.{◌≡◌, inl, inr, sym, subst, ℕ, List}
 use Rattle.fl_base.specs.declared.fragment.Frag.{Frag}
 use Rattle.fl_hop.specs.Table.{TheCircuits}
 use Rattle.fl_monitor.specs.Monitors.{TheMonitor}
-use Rattle.fl_running.specs.declared.job.Job.{Job}
+use Rattle.fl_work.specs.declared.job.Job.{Job}
 use Rattle.fl_honest.specs.Named.{Has}
 use Rattle.fl_honest.specs.Answered.{IsOpen, AreAnswered}
 use Rattle.fl_honest.proofs.Answered.{answers_rest, hears_answered, asks_answered}

@@ -14,7 +14,7 @@ use Rattle.fl_monitor.specs.declared.message.Message.TheVariants.{OpenCircuit}
 use Rattle.fl_monitor.specs.declared.opening.Opening.{Opening}
 use Rattle.fl_monitor.specs.Monitors.{TheMonitor, Said, asks}
 use Rattle.fl_node.specs.View.{client_of}
-use Rattle.fl_running.specs.declared.job.Job.{Job}
+use Rattle.fl_work.specs.declared.job.Job.{Job}
 use Rattle.fl_honest.specs.Named.{Has, IsGivenFor, AreNamed}
 use Rattle.fl_honest.proofs.Bound.{entry_binding, given_there}
 use Rattle.fl_honest.proofs.Counted.{taken_still, opened_new}

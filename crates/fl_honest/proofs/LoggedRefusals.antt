@@ -15,7 +15,7 @@ use Rattle.fl_monitor.specs.declared.message.Message.TheVariants.{OpenCircuit}
 use Rattle.fl_monitor.specs.declared.opening.Opening.{Opening}
 use Rattle.fl_monitor.specs.Monitors.{TheMonitor, Said, asks}
 use Rattle.fl_node.specs.View.{client_of}
-use Rattle.fl_running.specs.declared.job.Job.{Job}
+use Rattle.fl_work.specs.declared.job.Job.{Job}
 use Rattle.fl_honest.specs.Named.{Has, AreRefused}
 use Rattle.fl_honest.proofs.Logged.{IsKept}
 use Rattle.fl_honest.proofs.Refused.{opened_before, newest_next, none_before, no_asked, refused_rests, quiet, gone_as_before, hears_refused}

@@ -14,7 +14,7 @@ use Rattle.fl_hop.specs.OfCircuit.{as_carried, of_circuit}
 use Rattle.fl_hop.specs.Stretch.{Step, wrote, written_in, written_by, OnlyOnto}
 use Rattle.fl_hop.proofs.Laws.{end_same, stood_finish, own_alone}
 use Rattle.fl_node.specs.View.{place_of, client_of, server_of}
-use Rattle.fl_running.specs.declared.job.Job.{Job}
+use Rattle.fl_work.specs.declared.job.Job.{Job}
 use Rattle.fl_logs.specs.Carried.{Traffic, calls_handled, left_to_put, traffic}
 use Rattle.fl_logs.specs.Agree.{SinceMade}
 use Rattle.fl_logs.specs.Led.{stretch}

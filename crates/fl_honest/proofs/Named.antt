@@ -1,5 +1,5 @@
 -- What a monitor says and hears keeps numbers named by their bindings.
-use Rattle.std.proofs.Common.{◌≡◌, ◌⊎◌, inl, inr, refl, sym, ap, ◌∙◌, subst, ℕ, ◌==◌, ◌&&◌, nat_lt, not, drop, Bool, true, false, List, [], ◌∷◌, ◌++◌, slice_get, slice_set}
+use Rattle.std.proofs.Common.{◌≡◌, ◌⊎◌, inl, inr, refl, sym, ap, ◌∙◌, subst, ℕ, ◌==◌, ◌&&◌, nat_lt, not, Bool, true, false, List, [], ◌∷◌, ◌++◌, slice_get, slice_set}
 use Rattle.std.proofs.Common.{Option, Some, None}
 use Rattle.fl_base.specs.declared.fragment.Frag.{Frag}
 use Rattle.fl_base.specs.declared.identity.IRef.{IRef}
@@ -53,10 +53,6 @@ has_first f (x ∷ xs) ys (inr rest) = inr (has_first f xs ys rest)
 pub has_last : (f : Frag) (xs ys : List Frag) → Has f ys → Has f (xs ++ ys)
 has_last f [] ys h = h
 has_last f (x ∷ xs) ys h = inr (has_last f xs ys h)
-
-has_dropped : (f : Frag) (xs : List Frag) → Has f (drop 1 xs) → Has f xs
-has_dropped f [] h = h
-has_dropped f (x ∷ xs) h = inr h
 
 -- ---- outboxes
 

@@ -10,7 +10,7 @@ use Rattle.fl_hop.specs.Stretch.{Step, put_on, taken_from}
 use Rattle.fl_monitor.specs.Routing.{given}
 use Rattle.fl_node.specs.View.{side_of_link}
 use Rattle.fl_ring.specs.SharedSides.{TheSide}
-use Rattle.fl_running.specs.declared.job.Job.{Job}
+use Rattle.fl_work.specs.declared.job.Job.{Job}
 use Rattle.fl_running.specs.Run.{Ways, TheRun}
 use Rattle.fl_running.specs.Deeds.{Deed}
 use Rattle.fl_logs.specs.Logs.{Goes}

@@ -9,8 +9,8 @@ use Rattle.fl_base.specs.Prefix.{IsPrefix}
 use Rattle.fl_value.specs.Value.{TheCall}
 use Rattle.fl_compile.specs.Programs.{program_of}
 use Rattle.fl_endpoint.specs.Accounts.{replies_by}
-use Rattle.fl_running.specs.declared.job.Job.{Job as CoreJob}
-use Rattle.fl_running.specs.Jobs.{calls_of_jobs}
+use Rattle.fl_work.specs.declared.job.Job.{Job as CoreJob}
+use Rattle.fl_work.specs.Jobs.{calls_of_jobs}
 use Rattle.fl_logs.specs.Logs.{DesksTellHandled}
 use Rattle.fl_logs.specs.Made.{LogsMakeJobs, DoneAreFirst, done_of, made_at}
 use Rattle.fl_logs.specs.Carried.{SentAreMade, SentAreReplies, sent_at, calls_handled, rules_at, traffic}

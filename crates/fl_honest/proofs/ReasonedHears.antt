@@ -24,7 +24,7 @@ use Rattle.fl_monitor.specs.Hearing.{opening_of, opened_at, refused_at, ComesTo,
 use Rattle.fl_monitor.specs.Monitors.{TheMonitor, AllSaid, Said, asks}
 use Rattle.fl_monitor.specs.Saying.{Says}
 use Rattle.fl_node.specs.View.{client_of, server_of}
-use Rattle.fl_running.specs.declared.job.Job.{Job}
+use Rattle.fl_work.specs.declared.job.Job.{Job}
 use Rattle.fl_honest.specs.Named.{Has, AreNamed}
 use Rattle.fl_honest.specs.Asked.{IsWished}
 use Rattle.fl_honest.specs.Reasons.{IsUsedUp, Refuses, CameUnder, IsFrom, AreReasoned, as_talk}

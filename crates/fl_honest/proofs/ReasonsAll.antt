@@ -24,9 +24,9 @@ use Rattle.fl_monitor.specs.Hearing.{opening_of}
 use Rattle.fl_monitor.specs.Routing.{given, is_core}
 use Rattle.fl_monitor.specs.Saying.{Says}
 use Rattle.fl_running.specs.Words.{refusal_at}
-use Rattle.fl_running.specs.declared.job.Job.{Job as CoreJob}
-use Rattle.fl_running.specs.declared.job.Job.TheVariants as job
-use Rattle.fl_running.specs.declared.job.Wish.{Wish}
+use Rattle.fl_work.specs.declared.job.Job.{Job as CoreJob}
+use Rattle.fl_work.specs.declared.job.Job.TheVariants as job
+use Rattle.fl_work.specs.declared.job.Wish.{Wish}
 use Rattle.fl_logs.proofs.Stepping.{log_steps}
 use Rattle.fl_core.specs.View.{TheDispatcher}
 use Rattle.fl_node.specs.Hearing.{Offers, known_for, offer_for, offer_of}

@@ -53,8 +53,8 @@ use Rattle.fl_node.specs.Faults.{open_number}
 use Rattle.fl_node.specs.Hearing.{known_for, offer_for, HearsAll, offering, Follows}
 use Rattle.fl_node.specs.Making.{asked}
 use Rattle.fl_node.specs.View.{TheCore, place_of, slot_of, client_of, with_monitor}
-use Rattle.fl_running.specs.declared.job.Job.{Job}
-use Rattle.fl_running.specs.declared.job.Wish.{Wish}
+use Rattle.fl_work.specs.declared.job.Job.{Job}
+use Rattle.fl_work.specs.declared.job.Wish.{Wish}
 use Rattle.fl_running.specs.Desks.{TheDesk, desk_place, advanced, with_handled, with_refusal, ChangesIf}
 use Rattle.fl_running.specs.Run.{Ways, TheRun, AtDesk}
 use Rattle.fl_running.specs.Deeds.{IsSound, Deed, looked, passed, arrived, heard, said, told, opened, called, ruled, wrote, acked, turned, Does, NotesHeard, NotesOpened, NotesCalled, NotesTurned, Notes}

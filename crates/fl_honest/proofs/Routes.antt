@@ -7,7 +7,7 @@ use Rattle.fl_base.specs.Prefix.{IsPrefix}
 use Rattle.fl_deal.specs.Settled.{RingsConserve}
 use Rattle.fl_hop.specs.OfCircuit.{of_circuit}
 use Rattle.fl_hop.specs.Stretch.{taken_from, put_on}
-use Rattle.fl_running.specs.declared.job.Job.{Job as CoreJob}
+use Rattle.fl_work.specs.declared.job.Job.{Job as CoreJob}
 use Rattle.fl_logs.specs.Flows.{LogsFlow}
 use Rattle.fl_honest.specs.Cores.{shared_ways, OneCore, Went}
 use Rattle.fl_honest.specs.Circuits.{Leading, AreOneLink, Point, Station, behind, PassesOn, IsRoute}

@@ -19,14 +19,14 @@ use Rattle.fl_node.specs.declared.fault.LinkFault.{LinkFault}
 use Rattle.fl_node.specs.declared.fault.OpenFault.{OpenFault}
 use Rattle.fl_node.specs.declared.fault.OpenFault.TheVariants as opening
 use Rattle.fl_node.specs.View.{slot_of}
-use Rattle.fl_running.specs.declared.job.Job.{Job}
-use Rattle.fl_running.specs.declared.job.Job.TheVariants as job
-use Rattle.fl_running.specs.declared.job.Wish.{Wish}
+use Rattle.fl_work.specs.declared.job.Job.{Job}
+use Rattle.fl_work.specs.declared.job.Job.TheVariants as job
+use Rattle.fl_work.specs.declared.job.Wish.{Wish}
 use Rattle.fl_running.specs.Desks.{TheDesk, desk_place, advanced, with_handled, with_refusal, ChangesIf}
 use Rattle.fl_running.specs.Run.{Ways, TheRun, AtDesk, next_job}
 use Rattle.fl_running.specs.Deeds.{Deed, looked, passed, arrived, heard, said, told, opened, called, ruled, wrote, acked, turned, Happens, NotesHeard, NotesOpened, NotesCalled, NotesTurned, Notes}
-use Rattle.fl_running.specs.Steps.{is_before_calls}
-use Rattle.fl_running.specs.Jobs.{calls_of_job, is_rule, HasNoRule, RulesLead}
+use Rattle.fl_work.specs.Jobs.{is_before_calls}
+use Rattle.fl_work.specs.Jobs.{calls_of_job, is_rule, HasNoRule, RulesLead}
 use Rattle.fl_logs.specs.Logs.{InPlace, Goes, call_in, handled_in, handled_at}
 use Rattle.fl_logs.specs.Made.{desk_of}
 use Rattle.fl_logs.specs.Carried.{rules_by, rules_in, rules_at}

@@ -19,12 +19,12 @@ use Rattle.fl_endpoint.specs.declared.fault.EndFault.TheVariants as fault
 use Rattle.fl_hop.proofs.Lists.{at_within}
 use Rattle.fl_monitor.specs.Routing.{given}
 use Rattle.fl_node.specs.View.{place_of}
-use Rattle.fl_running.specs.declared.job.Job.{Job}
-use Rattle.fl_running.specs.declared.job.Job.TheVariants as job
+use Rattle.fl_work.specs.declared.job.Job.{Job}
+use Rattle.fl_work.specs.declared.job.Job.TheVariants as job
 use Rattle.fl_running.specs.Desks.{TheDesk}
 use Rattle.fl_running.specs.Run.{Ways, TheRun, next_job}
 use Rattle.fl_running.specs.Deeds.{Deed, looked, passed, arrived, heard, said, told, opened, called, ruled, wrote, acked, turned}
-use Rattle.fl_running.specs.Jobs.{HasNoRule, RulesLead}
+use Rattle.fl_work.specs.Jobs.{HasNoRule, RulesLead}
 use Rattle.fl_logs.specs.Logs.{DesksTellHandled, Goes}
 use Rattle.fl_logs.specs.Made.{LogsMakeJobs, DoneAreFirst, desk_of}
 use Rattle.fl_logs.specs.Carried.{rules_at}

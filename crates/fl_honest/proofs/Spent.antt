@@ -18,8 +18,8 @@ use Rattle.fl_monitor.specs.declared.message.Message.TheVariants.{CircuitRefused
 use Rattle.fl_monitor.specs.Saying.{Says}
 use Rattle.fl_monitor.specs.Routing.{is_core}
 use Rattle.fl_node.specs.View.{client_of}
-use Rattle.fl_running.specs.declared.job.Job.TheVariants as job
-use Rattle.fl_running.specs.declared.job.Wish.{Wish}
+use Rattle.fl_work.specs.declared.job.Job.TheVariants as job
+use Rattle.fl_work.specs.declared.job.Wish.{Wish}
 use Rattle.fl_running.specs.Words.{refusal_at}
 use Rattle.fl_jobs.specs.Jobs.{Job}
 use Rattle.fl_dockets.specs.declared.docket.Bound.{Bound}

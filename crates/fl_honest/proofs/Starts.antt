@@ -14,9 +14,9 @@ use Rattle.fl_compile.specs.Programs.{program_of}
 use Rattle.fl_endpoint.specs.View.{TheEnd, TheOutgoing, interface_in, nothing_to_send, fresh, rule_in, number_or_0}
 use Rattle.fl_endpoint.specs.Accounts.{Sound, stream, stream_from}
 use Rattle.fl_node.specs.declared.wire.Wire.{Wire}
-use Rattle.fl_running.specs.declared.job.Job.{Job as CoreJob}
+use Rattle.fl_work.specs.declared.job.Job.{Job as CoreJob}
 use Rattle.fl_running.specs.Deeds.{Deed, looked, passed, arrived, heard, said, told, opened, called, ruled, wrote, acked, turned}
-use Rattle.fl_running.specs.Jobs.{HasNoRule}
+use Rattle.fl_work.specs.Jobs.{HasNoRule}
 use Rattle.fl_logs.specs.Carried.{Traffic, EndGoes, left_to_put, rules_by, rules_in, rules_at, sets_rule, SetsNone, RulesFirst, RulesComeFirst, traffic}
 use Rattle.fl_logs.specs.Flows.{Flows, LogsFlow, EndCarries}
 use Rattle.fl_logs.specs.Agree.{SinceMade, Arrived, CarriedOffLinks}

@@ -21,10 +21,10 @@ use Rattle.fl_node.specs.declared.wire.Inlet.{Inlet}
 use Rattle.fl_node.specs.declared.wire.Inlet.TheVariants as inlet
 use Rattle.fl_node.specs.View.{place_of, client_of, server_of}
 use Rattle.fl_node.specs.Sound.{IsCore}
-use Rattle.fl_running.specs.declared.job.Job.{Job as CoreJob}
+use Rattle.fl_work.specs.declared.job.Job.{Job as CoreJob}
 use Rattle.fl_running.specs.Run.{Ways, TheRun}
 use Rattle.fl_running.specs.Deeds.{Deed, looked, passed, arrived, heard, said, told, opened, called, ruled, wrote, acked, turned, dispatcher_turn, TurnsOver}
-use Rattle.fl_running.specs.Jobs.{calls_of_jobs}
+use Rattle.fl_work.specs.Jobs.{calls_of_jobs}
 use Rattle.fl_logs.specs.Logs.{DesksTellHandled, Goes, handled_in, handled_at}
 use Rattle.fl_logs.specs.Made.{LogsMakeJobs, DoneAreFirst, made_in, made_at, done_of}
 use Rattle.fl_logs.proofs.Carrying.{IsHere, log_goes}

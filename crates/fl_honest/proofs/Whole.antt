@@ -1,6 +1,6 @@
 -- A core's whole run is a log.
 use Rattle.std.proofs.Common.{subst, List, [], ◌∷◌, ◌++◌}
-use Rattle.fl_running.specs.declared.job.Job.{Job}
+use Rattle.fl_work.specs.declared.job.Job.{Job}
 use Rattle.fl_running.specs.declared.run.End.{End}
 use Rattle.fl_running.specs.declared.run.End.TheVariants.{Finished, Unfinished, Told}
 use Rattle.fl_running.specs.Run.{Ways, TheRun}

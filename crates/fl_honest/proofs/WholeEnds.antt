@@ -10,7 +10,7 @@ use Rattle.fl_hop.specs.Table.{TheCircuits}
 use Rattle.fl_core.proofs.Places.{one_stands}
 use Rattle.fl_node.specs.declared.wire.Port.{Port}
 use Rattle.fl_node.specs.View.{TheCore, place_of, client_of, server_of}
-use Rattle.fl_running.specs.declared.job.Job.{Job}
+use Rattle.fl_work.specs.declared.job.Job.{Job}
 use Rattle.fl_running.specs.Run.{Ways, TheRun}
 use Rattle.fl_running.specs.Deeds.{Deed}
 use Rattle.fl_logs.specs.Logs.{Goes}

@@ -4,7 +4,7 @@ use Rattle.std.specs.Option.{option_map}
 use Rattle.fl_base.specs.declared.identity.LinkId.{LinkId}
 use Rattle.fl_hop.specs.declared.links.LinkState.{LinkState}
 use Rattle.fl_node.specs.View.{TheCore, side_of_link}
-use Rattle.fl_running.specs.declared.job.Job.{Job}
+use Rattle.fl_work.specs.declared.job.Job.{Job}
 use Rattle.fl_running.specs.Run.{Ways, TheRun}
 use Rattle.fl_running.specs.Deeds.{Deed}
 use Rattle.fl_logs.specs.Logs.{Goes}

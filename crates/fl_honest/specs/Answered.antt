@@ -15,7 +15,7 @@ use Rattle.fl_monitor.specs.declared.message.Message.TheVariants.{CircuitOpened}
 use Rattle.fl_monitor.specs.Monitors.{TheMonitor, waiting_for}
 use Rattle.fl_monitor.specs.Saying.{Says}
 use Rattle.fl_node.specs.View.{side_of_link}
-use Rattle.fl_running.specs.declared.job.Job.{Job as CoreJob}
+use Rattle.fl_work.specs.declared.job.Job.{Job as CoreJob}
 use Rattle.fl_logs.specs.Flows.{SideCarries}
 use Rattle.fl_honest.specs.Cores.{shared_ways, OneCore}
 use Rattle.fl_honest.specs.Circuits.{Leading, AreOneLink}

@@ -18,9 +18,9 @@ use Rattle.fl_monitor.specs.Fates.{comes_along}
 use Rattle.fl_monitor.specs.Monitors.{TheMonitor, waiting_for, asks}
 use Rattle.fl_monitor.specs.Saying.{Says}
 use Rattle.fl_node.specs.View.{place_of, side_of_link, client_of, server_of}
-use Rattle.fl_running.specs.declared.job.Job.{Job as CoreJob}
-use Rattle.fl_running.specs.declared.job.Job.TheVariants as job
-use Rattle.fl_running.specs.declared.job.Wish.{Wish}
+use Rattle.fl_work.specs.declared.job.Job.{Job as CoreJob}
+use Rattle.fl_work.specs.declared.job.Job.TheVariants as job
+use Rattle.fl_work.specs.declared.job.Wish.{Wish}
 use Rattle.fl_running.specs.Desks.{TheDesk}
 use Rattle.fl_running.specs.Run.{Ways, TheRun}
 use Rattle.fl_running.specs.Deeds.{Deed, opened}

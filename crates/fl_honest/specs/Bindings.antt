@@ -9,7 +9,7 @@ use Rattle.fl_compile.specs.Programs.{program_of}
 use Rattle.fl_endpoint.specs.View.{TheEnd}
 use Rattle.fl_node.specs.declared.wire.Wire.TheVariants.{Queues, Ring}
 use Rattle.fl_node.specs.View.{client_of, server_of}
-use Rattle.fl_running.specs.declared.job.Job.{Job as CoreJob}
+use Rattle.fl_work.specs.declared.job.Job.{Job as CoreJob}
 use Rattle.fl_logs.specs.Agree.{Arrived}
 use Rattle.fl_jobs.specs.Jobs.{Job, handed_in}
 use Rattle.fl_jobs.specs.Report.{TheReport, Honest}

@@ -10,8 +10,8 @@ use Rattle.fl_core.specs.View.{TheSeat}
 use Rattle.fl_node.specs.declared.wire.Port.{Port}
 use Rattle.fl_node.specs.declared.wire.Wire.TheVariants.{Circuit}
 use Rattle.fl_node.specs.View.{place_of, side_of_link, client_of, server_of}
-use Rattle.fl_running.specs.declared.job.Job.{Job as CoreJob}
-use Rattle.fl_running.specs.Jobs.{HasNoRule, RulesLead}
+use Rattle.fl_work.specs.declared.job.Job.{Job as CoreJob}
+use Rattle.fl_work.specs.Jobs.{HasNoRule, RulesLead}
 use Rattle.fl_logs.specs.Led.{IsLed}
 use Rattle.fl_jobs.specs.Jobs.{Job}
 use Rattle.fl_dockets.specs.Dockets.{TheDocket, docket_at, is_ruled}

@@ -6,7 +6,7 @@ use Rattle.fl_ring.specs.SharedSides.{TheSide, SharedPuts, SharedTakes}
 use Rattle.fl_core.specs.View.{TheSeat}
 use Rattle.fl_endpoint.specs.Accounts.{Sound as IsEnd}
 use Rattle.fl_node.specs.Sound.{IsCore}
-use Rattle.fl_running.specs.declared.job.Job.{Job as CoreJob}
+use Rattle.fl_work.specs.declared.job.Job.{Job as CoreJob}
 use Rattle.fl_running.specs.Run.{Ways, ways, TheRun}
 use Rattle.fl_running.specs.Deeds.{Deed, opened}
 use Rattle.fl_running.specs.Steps.{lacks_to_open}

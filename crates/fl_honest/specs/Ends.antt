@@ -8,10 +8,10 @@ use Rattle.fl_core.specs.View.{TheSeat}
 use Rattle.fl_node.specs.declared.wire.Port.{Port}
 use Rattle.fl_node.specs.declared.wire.Wire.{Wire}
 use Rattle.fl_node.specs.View.{place_of}
-use Rattle.fl_running.specs.declared.job.Job.{Job as CoreJob}
+use Rattle.fl_work.specs.declared.job.Job.{Job as CoreJob}
 use Rattle.fl_running.specs.Desks.{TheDesk}
 use Rattle.fl_running.specs.Run.{TheRun}
-use Rattle.fl_running.specs.Jobs.{HasNoRule}
+use Rattle.fl_work.specs.Jobs.{HasNoRule}
 use Rattle.fl_logs.specs.Made.{desk_of}
 use Rattle.fl_logs.specs.Carried.{SetsNone, RulesFirst, rules_at, calls_handled, traffic}
 use Rattle.fl_logs.specs.Agree.{SinceMade}

@@ -2,7 +2,7 @@
 use Rattle.std.specs.Prelude.{ℕ, ◌≡◌, List, [], slice_get, Some, None}
 use Rattle.fl_base.specs.declared.identity.LinkId.{LinkId}
 use Rattle.fl_node.specs.View.{place_of, side_of_link, client_of, server_of}
-use Rattle.fl_running.specs.declared.job.Job.{Job as CoreJob}
+use Rattle.fl_work.specs.declared.job.Job.{Job as CoreJob}
 use Rattle.fl_dockets.specs.Dockets.{TheDocket}
 use Rattle.fl_honest.specs.Cores.{OneCore}
 use Rattle.fl_honest.specs.Ends.{HasDesk}

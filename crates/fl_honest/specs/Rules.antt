@@ -6,9 +6,9 @@ use Rattle.fl_endpoint.specs.View.{interface_in}
 use Rattle.fl_endpoint.specs.Events.{IsMessage, SameTypes}
 use Rattle.fl_core.specs.View.{TheSeat}
 use Rattle.fl_node.specs.View.{place_of}
-use Rattle.fl_running.specs.declared.job.Job.{Job as CoreJob}
-use Rattle.fl_running.specs.declared.job.Job.TheVariants as job
-use Rattle.fl_running.specs.Jobs.{RulesLead}
+use Rattle.fl_work.specs.declared.job.Job.{Job as CoreJob}
+use Rattle.fl_work.specs.declared.job.Job.TheVariants as job
+use Rattle.fl_work.specs.Jobs.{RulesLead}
 use Rattle.fl_dockets.specs.Dockets.{TheDocket, rule_at, rule_by}
 use Rattle.fl_honest.specs.Cores.{OneCore, Went}
 use Rattle.fl_honest.specs.Ends.{HasDesk, AreItsRules}

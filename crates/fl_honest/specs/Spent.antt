@@ -5,7 +5,7 @@ use Rattle.fl_nameserv.specs.Registrations.{TheRegistration}
 use Rattle.fl_hop.specs.Table.{TheCircuits, most_openings}
 use Rattle.fl_monitor.specs.declared.opening.Opening.{Opening}
 use Rattle.fl_node.specs.View.{client_of}
-use Rattle.fl_running.specs.declared.job.Wish.{Wish}
+use Rattle.fl_work.specs.declared.job.Wish.{Wish}
 use Rattle.fl_running.specs.Words.{refusal_at}
 use Rattle.fl_jobs.specs.Jobs.{Job}
 use Rattle.fl_compile.specs.Programs.{TheProgram}

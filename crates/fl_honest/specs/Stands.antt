@@ -9,9 +9,9 @@ use Rattle.fl_core.specs.View.{TheSeat}
 use Rattle.fl_hop.specs.declared.entry.Way.TheVariants.{End}
 use Rattle.fl_hop.specs.Joined.{Leads}
 use Rattle.fl_node.specs.View.{place_of, client_of, server_of}
-use Rattle.fl_running.specs.declared.job.Job.{Job as CoreJob}
+use Rattle.fl_work.specs.declared.job.Job.{Job as CoreJob}
 use Rattle.fl_running.specs.Run.{TheRun}
-use Rattle.fl_running.specs.Jobs.{HasNoRule, RulesLead}
+use Rattle.fl_work.specs.Jobs.{HasNoRule, RulesLead}
 use Rattle.fl_dockets.specs.Dockets.{TheDocket, rule_at, rule_by, is_ruled}
 use Rattle.fl_honest.specs.Cores.{OneCore}
 use Rattle.fl_honest.specs.Ends.{HasDesk}

@@ -1,9 +1,8 @@
 -- Measures that are told up to 65,536 alone.
-use Rattle.std.proofs.Common.{◌≡◌, ℕ, zero, suc, ◌+◌, ◌*◌, ◌<◌, ◌≤◌, inl, inr, ⊎_elim, true, max, min, ltb, List, [], ◌∷◌, refl, sym, ap, subst, ◌∙◌, arith}
-use Rattle.std.specs.Prelude.{nat_lt}
+use Rattle.std.proofs.Common.{◌≡◌, ℕ, zero, suc, ◌+◌, ◌*◌, ◌<◌, ◌≤◌, inl, inr, ⊎_elim, max, min, List, [], ◌∷◌, refl, sym, ap, subst, ◌∙◌, arith}
 use Rattle.std.proofs.Math.Nat.{mul-le-mul_right}
-use Rattle.std.proofs.lemmas.Bool.{cases_lt, lt-ltb}
-use Rattle.fl_interface.specs.Interface.{TheType, structure, array, TheTypes, no_more, field, TheArgType, fixed, text, sized}
+use Rattle.std.proofs.lemmas.Bool.{cases_lt}
+use Rattle.fl_interface.specs.Interface.{TheType, array, TheTypes, no_more, field, TheArgType, fixed, text, sized}
 use Rattle.fl_interface.specs.Sizes.{size_of, align_of, greatest_align, end_after, round_up, IsAlign}
 use Rattle.fl_interface.specs.Depth.{depth_of, deepest, array_depth_of, deepest_array}
 use Rattle.fl_interface.specs.Payload.{greatest_end}
@@ -26,11 +25,6 @@ near_sum : (a b x y : ℕ) → Near a x → Near b y → Near (a + b) (x + y)
 near_sum a b x y (inl e) (inl f) = inl (omega (arith, e, f))
 near_sum a b x y (inl e) (inr q) = inr (omega (arith, q.0), omega (arith, q.1))
 near_sum a b x y (inr p) q = inr (omega (arith, p.0), omega (arith, p.1))
-
-near_max : (a b x y : ℕ) → Near a x → Near b y → Near (max a b) (max x y)
-near_max a b x y (inl e) (inl f) = inl (omega (arith, e, f))
-near_max a b x y (inl e) (inr q) = inr (omega (arith, q.0), omega (arith, q.1))
-near_max a b x y (inr p) q = inr (omega (arith, p.0), omega (arith, p.1))
 
 near_round : (align a x : ℕ) → IsAlign align → Near a x → Near (round_up a align) (round_up x align)
 near_round align a x h (inl e) = inl (ap (λ (n : ℕ). round_up n align) e)
@@ -65,14 +59,6 @@ near_greatest_end (sized bound t ∷ args) due a x d h =
     let n = 8 + bound * size_of t in
     near_greatest_end args 8 (round_up a 8 + n) (round_up x 8 + n) align_eight
     (near_sum (round_up a 8) n (round_up x 8) n (near_round 8 a x align_eight h) (inl refl))
-
--- what is past a limit is told by what is near
-pub same_past : (limit n m : ℕ) → limit < 65536 → Near n m → nat_lt limit n ≡ nat_lt limit m
-same_past limit n m h (inl e) = ap (nat_lt limit) e
-same_past limit n m h (inr p) =
-    let a : ltb limit n ≡ true = lt-ltb limit n (omega (arith, h, p.0)) in
-    let b : ltb limit m ≡ true = lt-ltb limit m (omega (arith, h, p.1)) in
-    a ∙ sym b
 
 -- ---- types
 
@@ -118,28 +104,6 @@ one_more before next m end t left all h f at size align depth arrays =
       shallow = omega (arith, depth, h.shallow, f.shallow);
       few = omega (arith, arrays, h.few, f.few);
       aligned = subst IsAlign (sym align) (greater_align next.align before.align h.aligned f.aligned);
-    }
-
-pub measures_fields : (before m : Measured) (end : ℕ) (all : TheTypes) → SoFar before no_more all
-    → end ≡ round_up before.size before.align → m.size ≡ min end 65536 → m.align ≡ before.align → m.depth ≡ min (before.depth + 1) 65536 → m.arrays ≡ before.arrays
-    → Measures m (structure all)
-measures_fields before m end all f at size align depth arrays =
-    let small = align_small before.align f.aligned in
-    let whole : before.align ≡ greatest_align all = omega (arith, f.align, small.0) in
-    let deep : Near before.depth (deepest all) = subst (λ (n : ℕ). Near n (deepest all)) (omega arith) f.depth in
-    let nested : Near before.arrays (deepest_array all) = subst (λ (n : ℕ). Near n (deepest_array all)) (omega arith) f.arrays in
-    let up : Near (round_up before.size (greatest_align all)) (round_up (end_after 0 all) (greatest_align all)) = near_round (greatest_align all) before.size (end_after 0 all) (types_align all) f.size in
-    let start : end ≡ round_up before.size (greatest_align all) = at ∙ ap (round_up before.size) whole in
-    record {
-      size = subst (λ (n : ℕ). Near n (size_of (structure all))) (sym size)
-          (near_then (min end 65536) end (size_of (structure all)) (capped end) (subst (λ (n : ℕ). Near n (size_of (structure all))) (sym start) up));
-      align = align ∙ whole;
-      depth = subst (λ (n : ℕ). Near n (deepest all + 1)) (sym depth) (near_then (min (before.depth + 1) 65536) (before.depth + 1) (deepest all + 1) (capped (before.depth + 1)) (near_sum before.depth 1 (deepest all) 1 deep (inl refl)));
-      arrays = subst (λ (n : ℕ). Near n (deepest_array all)) (sym arrays) nested;
-      small = omega (arith, size);
-      shallow = omega (arith, depth);
-      few = omega (arith, arrays, f.few);
-      aligned = subst IsAlign (sym align) f.aligned;
     }
 
 -- no field so far

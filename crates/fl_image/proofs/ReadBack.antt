@@ -87,10 +87,6 @@ mapped {A = A} {B = B} read1 image1 fits1 make image fits law1 same = record {
       ∙ ap (λ (y : B). Ok (y, rest)) c.1;
 }
 
--- a value that was read already, where it passes a test
-abbrev pub is_this : {A : Type 0} → (A → Bool) → A → A → Type 0
-is_this test a b = (a ≡ b) × (test a ≡ true)
-
 pub range_ok : {A : Type 0} (b : Bool) (p q : A × List ℕ) → in_range b p ≡ Ok q → (b ≡ true) × (p ≡ q)
 range_ok true p q e = (refl, cc)
 range_ok false p q e = absurd cc

@@ -1,6 +1,6 @@
 -- Lists seen by a function of their elements.
 use Rattle.std.proofs.Common.{◌≡◌, ◌<◌, ◌≤◌, ◌∙◌, refl, sym, ap, ℕ, zero, suc, ◌+◌, ◌||◌, ◌++◌, append_assoc, arith, Bool, List, [], ◌∷◌}
-use Rattle.std.proofs.Common.{true, false, not, ◌&&◌, if◌then◌else◌, length, map, take, drop, get_or, set, slice_get, slice_set, Option, Some, None}
+use Rattle.std.proofs.Common.{true, false, not, ◌&&◌, if◌then◌else◌, length, map, take, drop, get_or, slice_get, slice_set, Option, Some, None}
 use Rattle.std.specs.List.{list_any, flat_map, range_with_len}
 use Rattle.std.proofs.lemmas.Bool.Decides.{nat_tests}
 use Rattle.std.proofs.lemmas.List.{append-nil}
@@ -83,18 +83,6 @@ no_fault side msg answer b i m n p q same calls rules =
 -- what is changed so far, and the rest as it will be
 abbrev pub front_of : {X Y : Type 0} → (X → Y) → (Y → Y) → ℕ → List X → List Y
 front_of v f n xs = map v (take n xs) ++ map f (map v (drop n xs))
-
-pub front_more : {X Y : Type 0} (v : X → Y) (f : Y → Y) (xs : List X) (n : ℕ) (x y : X) → n < length xs → x ≡ get_or xs n x → v y ≡ f (v x)
-    → front_of v f (suc n) (set xs n y) ≡ front_of v f n xs
-front_more v f [] n x y h e is = absurd (omega arith)
-front_more v f (z ∷ xs) zero x y h e is = ap (λ k. k ∷ map f (map v xs)) (is ∙ ap (λ k. f (v k)) e)
-front_more v f (z ∷ xs) (suc n) x y h e is = ap (λ ys. v z ∷ ys) (front_more v f xs n x y (omega arith) e is)
-
-pub front_all : {X Y : Type 0} (v : X → Y) (f : Y → Y) (xs : List X) (n : ℕ) → length xs ≤ n → front_of v f n xs ≡ map v xs
-front_all v f [] zero h = refl
-front_all v f [] (suc n) h = refl
-front_all v f (z ∷ xs) zero h = absurd (omega arith)
-front_all v f (z ∷ xs) (suc n) h = ap (λ ys. v z ∷ ys) (front_all v f xs n (omega arith))
 
 -- ---- a file, with bindings numbered
 

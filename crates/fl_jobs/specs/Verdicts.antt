@@ -25,8 +25,3 @@ ComesTo (Err Memory) left P = Unit {0}
 abbrev pub stop_of : Option ℕ → Stop
 stop_of None = Memory
 stop_of (Some number) = Refused number
-
--- the fault's number
-abbrev pub number_of : Stop → ℕ
-number_of (Refused number) = number
-number_of Memory = 99

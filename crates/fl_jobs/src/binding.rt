@@ -17,7 +17,7 @@ use crate::draft::{Bound, Draft, Offer, Use};
 use crate::job::{Job, Wish};
 use crate::setup::is_ring_size;
 use crate::stop::Stop;
-use fl_base::{MAX_BINDINGS, MAX_CHANNELS, MAX_CORES, MAX_QUEUE};
+use fl_base::{MAX_BINDINGS, MAX_CHANNELS, MAX_CORES, MAX_QUEUE, faults};
 use fl_lines::{BackEnd, DispatcherId, Event, Route};
 
 /// What a binding is asked for, once its service is known.
@@ -125,13 +125,13 @@ impl<'a> Draft<'a> {
         ensures comes { Comes result (draft_of self.new) (binds_by_queues (wanted_of want.entry) slots (draft_of self.old)) }
     {
         if want.client.core != want.server.core {
-            return Err(Stop::Refused(73));
+            return Err(Stop::Refused(faults::NO_SUCH_ROUTE));
         }
         if slots < 1 || slots as usize > MAX_QUEUE {
-            return Err(Stop::Refused(32));
+            return Err(Stop::Refused(faults::BAD_SIZE));
         }
         if !self.has_both_places(want) {
-            return Err(Stop::Refused(54));
+            return Err(Stop::Refused(faults::TOO_MANY_CHANNELS));
         }
         self.set_up(want, BackEnd::Local(slots))
     }
@@ -140,13 +140,13 @@ impl<'a> Draft<'a> {
         ensures comes { Comes result (draft_of self.new) (binds_by_ring (wanted_of want.entry) slots (draft_of self.old)) }
     {
         if want.client.core == want.server.core {
-            return Err(Stop::Refused(73));
+            return Err(Stop::Refused(faults::NO_SUCH_ROUTE));
         }
         if !is_ring_size(slots) {
-            return Err(Stop::Refused(32));
+            return Err(Stop::Refused(faults::BAD_SIZE));
         }
         if !self.has_both_places(want) {
-            return Err(Stop::Refused(54));
+            return Err(Stop::Refused(faults::TOO_MANY_CHANNELS));
         }
         self.set_up(want, BackEnd::Ump(slots))
     }
@@ -169,7 +169,7 @@ impl<'a> Draft<'a> {
         ensures comes { Comes result (draft_of self.new) (binds_by_route (wanted_of want.entry) route.items (draft_of self.old)) }
     {
         if !self.is_route(want, &route) {
-            return Err(Stop::Refused(73));
+            return Err(Stop::Refused(faults::NO_SUCH_ROUTE));
         }
         self.put_binding(true, want.interface)?;
         self.put_job(Job::Open(Wish {
@@ -223,16 +223,16 @@ impl<'a> Draft<'a> {
             (binds (id_of client) interface service.now (kind_of (back_end_of back_end.entry)) (draft_of self.old)) }
     {
         if !(self.is_dispatcher(client) && self.is_interface(interface)) {
-            return Err(Stop::Refused(92));
+            return Err(Stop::Refused(faults::WRONG_NAME));
         }
         if self.bindings.as_slice().len() >= MAX_BINDINGS {
-            return Err(Stop::Refused(94));
+            return Err(Stop::Refused(faults::TOO_MANY));
         }
         let Some(offer) = self.offer(service) else {
-            return Err(Stop::Refused(70));
+            return Err(Stop::Refused(faults::NO_SUCH_SERVICE));
         };
         if offer.interface != interface {
-            return Err(Stop::Refused(72));
+            return Err(Stop::Refused(faults::OTHER_INTERFACE));
         }
         let want = Wanted {
             client,

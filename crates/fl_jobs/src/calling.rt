@@ -11,7 +11,7 @@ ghost use Rattle.fl_jobs.specs.Views.{use_from, bound_of, planned_of, draft_of};
 use crate::draft::{Bound, Draft, Planned, Use};
 use crate::job::Job;
 use crate::stop::Stop;
-use fl_base::{EndId, MsgNo, Side};
+use fl_base::{EndId, MsgNo, Side, faults};
 use fl_interface::same_args;
 use fl_value::{Call, fits};
 
@@ -60,13 +60,13 @@ fn call_fault(side: Side, call: &Call, binding: &Bound, planned: &Planned) -> Op
     ensures same { result ≡ call_fault side (call_of call.now) (bound_of binding.now) (planned_of planned.now) }
 {
     if usize::from(call.msg.0) >= planned.interface.messages.as_slice().len() {
-        return Some(41);
+        return Some(faults::NO_SUCH_MESSAGE);
     }
     if !fits(call, &planned.interface) {
-        return Some(42);
+        return Some(faults::DOES_NOT_FIT);
     }
     if binding.use_at(side).is_for_rules() {
-        return Some(44);
+        return Some(faults::CALLS_AND_RULES);
     }
     None
 }
@@ -83,16 +83,16 @@ fn rule_fault(
 {
     let messages = planned.interface.messages.as_slice();
     let Some(one) = messages.get(usize::from(message.0)) else {
-        return Some(41);
+        return Some(faults::NO_SUCH_MESSAGE);
     };
     let Some(other) = messages.get(usize::from(answer.0)) else {
-        return Some(41);
+        return Some(faults::NO_SUCH_MESSAGE);
     };
     if !same_args(&one.args, &other.args) {
-        return Some(42);
+        return Some(faults::DOES_NOT_FIT);
     }
     if binding.use_at(side).is_for_calls() || binding.use_at(side.other()).is_for_rules() {
-        return Some(44);
+        return Some(faults::CALLS_AND_RULES);
     }
     None
 }
@@ -136,10 +136,10 @@ impl<'a> Draft<'a> {
         ensures same { result ≡ fault_at end (call_fault end.side (call_of call.now)) (draft_of self.now) }
     {
         let Some(binding) = self.bindings.get(end.binding) else {
-            return Some(92);
+            return Some(faults::WRONG_NAME);
         };
         let Some(planned) = self.interfaces.get(binding.interface) else {
-            return Some(92);
+            return Some(faults::WRONG_NAME);
         };
         call_fault(end.side, call, binding, planned)
     }
@@ -149,10 +149,10 @@ impl<'a> Draft<'a> {
         ensures same { result ≡ fault_at end (rule_fault end.side message.0 answer.0) (draft_of self.now) }
     {
         let Some(binding) = self.bindings.get(end.binding) else {
-            return Some(92);
+            return Some(faults::WRONG_NAME);
         };
         let Some(planned) = self.interfaces.get(binding.interface) else {
-            return Some(92);
+            return Some(faults::WRONG_NAME);
         };
         rule_fault(end.side, message, answer, binding, planned)
     }

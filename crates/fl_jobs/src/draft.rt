@@ -8,6 +8,7 @@ ghost use Rattle.fl_jobs.specs.Views.{draft_of, job_of};
 
 use crate::job::Job;
 use crate::stop::Stop;
+use fl_base::faults;
 use fl_interface::Interface;
 use fl_lines::{DispatcherId, Event, NameTable};
 use fl_value::PlanNo;
@@ -164,7 +165,7 @@ impl<'a> Draft<'a> {
             | Event::Deregister(_)
             | Event::MonitorWrite { .. }
             | Event::Forward { .. }
-            | Event::MonitorAcknowledge { .. } => Err(Stop::Refused(90)),
+            | Event::MonitorAcknowledge { .. } => Err(Stop::Refused(faults::UNREAD)),
         }
     }
 }

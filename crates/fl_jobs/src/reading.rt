@@ -17,6 +17,7 @@ ghost use Rattle.fl_jobs.specs.Verdicts.{Comes, ComesTo};
 use crate::draft::Draft;
 use crate::file::{CoresFile, CoresText, number};
 use crate::stop::{Stop, stop_by};
+use fl_base::faults;
 use fl_interface::Interface;
 use fl_lines::{Answer, Asked, Command, Item, Line, LineFault, Names, next_item, some_items};
 use fl_text::{TextRead, read_text};
@@ -99,7 +100,7 @@ impl<'a> Reading<'a> {
         ensures comes { ComesTo result (reading_of self.new) (DoesCommand (reading_of self.old) (command_of command.entry)) }
     {
         if !belongs(&command) {
-            return Err(Stop::Refused(90));
+            return Err(Stop::Refused(faults::UNREAD));
         }
         let asked = self.names.ask(command);
         self.take_asked(asked)
@@ -129,7 +130,7 @@ impl<'a> Reading<'a> {
         match line {
             Line::Silent => Ok(()),
             Line::Command(command) => self.command(command),
-            Line::Heading(_) | Line::Unread => Err(Stop::Refused(90)),
+            Line::Heading(_) | Line::Unread => Err(Stop::Refused(faults::UNREAD)),
         }
     }
 
@@ -140,7 +141,7 @@ impl<'a> Reading<'a> {
         match item {
             Item::Line(line) => self.line(line),
             Item::Block(plan, text) => self.block(plan, text),
-            Item::OpenBlock => Err(Stop::Refused(90)),
+            Item::OpenBlock => Err(Stop::Refused(faults::UNREAD)),
         }
     }
 
@@ -229,7 +230,7 @@ pub fn read_cores_text<'a>(alloc: Global, text: &'a [u8]) -> Result<CoresText<'a
     if text.len() > MAX_TEXT {
         return Ok(CoresText::Refused {
             line: 1,
-            number: 91,
+            number: faults::TEXT_TOO_LONG,
         });
     }
     read_items(alloc, text)

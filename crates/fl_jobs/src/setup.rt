@@ -12,7 +12,7 @@ ghost use Rattle.fl_jobs.specs.Views.{planned_of, joint_of, draft_of};
 
 use crate::draft::{Draft, Joint, Offer, Planned};
 use crate::stop::Stop;
-use fl_base::{MAX_CORES, MAX_DISPATCHERS, MAX_INTERFACES, MAX_SERVICES};
+use fl_base::{MAX_CORES, MAX_DISPATCHERS, MAX_INTERFACES, MAX_SERVICES, faults};
 use fl_interface::Interface;
 use fl_lines::{DispatcherId, Event};
 use fl_value::PlanNo;
@@ -96,10 +96,10 @@ impl<'a> Draft<'a> {
         ensures comes { Comes result (draft_of self.new) (adds_interface (interface_of interface) plan (draft_of self.old)) }
     {
         if self.has_interface(&interface.name.bytes) {
-            return Err(Stop::Refused(92));
+            return Err(Stop::Refused(faults::WRONG_NAME));
         }
         if self.interfaces.as_slice().len() >= MAX_INTERFACES {
-            return Err(Stop::Refused(94));
+            return Err(Stop::Refused(faults::TOO_MANY));
         }
         let kept = interface.duplicate(self.alloc)?;
         self.interfaces.push(Planned {
@@ -114,10 +114,10 @@ impl<'a> Draft<'a> {
         ensures comes { Comes result (draft_of self.new) (sets_cores n (draft_of self.old)) }
     {
         if self.settled {
-            return Err(Stop::Refused(93));
+            return Err(Stop::Refused(faults::NOT_NOW));
         }
         if n < 1 || n as usize > MAX_CORES {
-            return Err(Stop::Refused(94));
+            return Err(Stop::Refused(faults::TOO_MANY));
         }
         self.settled = true;
         self.cores = n;
@@ -136,10 +136,10 @@ impl<'a> Draft<'a> {
         ensures comes { Comes result (draft_of self.new) (adds_link a b slots (draft_of self.old)) }
     {
         if !(self.is_core(a) && self.is_core(b)) || a == b || self.has_link(a, b) {
-            return Err(Stop::Refused(73));
+            return Err(Stop::Refused(faults::NO_SUCH_ROUTE));
         }
         if !is_ring_size(slots) {
-            return Err(Stop::Refused(32));
+            return Err(Stop::Refused(faults::BAD_SIZE));
         }
         self.links.push(Joint {
             first: a,
@@ -152,10 +152,10 @@ impl<'a> Draft<'a> {
         ensures comes { Comes result (draft_of self.new) (adds_dispatcher core (draft_of self.old)) }
     {
         if self.dispatchers.as_slice().len() >= MAX_DISPATCHERS {
-            return Err(Stop::Refused(94));
+            return Err(Stop::Refused(faults::TOO_MANY));
         }
         if !self.is_core(core) {
-            return Err(Stop::Refused(73));
+            return Err(Stop::Refused(faults::NO_SUCH_ROUTE));
         }
         self.dispatchers.push(core)?;
         self.put_event(Event::AddDispatcher(core))
@@ -170,13 +170,13 @@ impl<'a> Draft<'a> {
         ensures comes { Comes result (draft_of self.new) (exports name.now (id_of dispatcher) interface (draft_of self.old)) }
     {
         if !(self.is_dispatcher(dispatcher) && self.is_interface(interface)) {
-            return Err(Stop::Refused(92));
+            return Err(Stop::Refused(faults::WRONG_NAME));
         }
         if self.services.find(name).is_some() {
-            return Err(Stop::Refused(71));
+            return Err(Stop::Refused(faults::SERVICE_TAKEN));
         }
         if self.offers.as_slice().len() >= MAX_SERVICES {
-            return Err(Stop::Refused(94));
+            return Err(Stop::Refused(faults::TOO_MANY));
         }
         self.services.add(self.alloc, name)?;
         self.offers.push(Offer {

@@ -3,7 +3,7 @@
 ghost use Rattle.std.specs.Prelude.{◌≡◌};
 ghost use Rattle.fl_lines.specs.Faults.{refusal_of};
 ghost use Rattle.fl_jobs.specs.declared.stop.Stop.TheVariants.{Memory as OutOfMemory};
-ghost use Rattle.fl_jobs.specs.Verdicts.{number_of, stop_of};
+ghost use Rattle.fl_jobs.specs.Verdicts.{stop_of};
 
 use fl_lines::LineFault;
 use std::alloc::{AllocError, AllocFailed};
@@ -18,18 +18,6 @@ pub enum Stop {
     /// Memory was refused (E99).
     #[error("out of memory")]
     Memory,
-}
-
-impl Stop {
-    /// The fault's number: the refused line's own, or 99.
-    pub fn number(self) -> u8
-        ensures number { result ≡ number_of self }
-    {
-        match self {
-            Stop::Refused(number) => number,
-            Stop::Memory => 99,
-        }
-    }
 }
 
 impl From<AllocError> for Stop {

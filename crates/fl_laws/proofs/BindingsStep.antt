@@ -252,9 +252,6 @@ pub record IsBoundTo (n : ℕ) (i : Planned) (s : State) : Type 0 where
   pub there : slice_get s.bindings n ≡ Some binding
   pub interface : interface_of s binding ≡ Some i
 
-abbrev ToInterface : List Planned → Planned → Option Binding → Type 0
-ToInterface interfaces i o = (b : Binding) × (o ≡ Some b) × (slice_get interfaces b.interface ≡ Some i)
-
 there_set : {X : Type 0} (P : X → Type 0) (xs : List X) (n k : ℕ) (f : X → X) (w : X) → slice_get xs k ≡ Some w → ((x : X) → P x → P (f x)) → (x : X) → slice_get xs n ≡ Some x → P x
     → (y : X) × (slice_get (slice_set xs k (f w)) n ≡ Some y) × P y
 there_set P [] n k f w q e x p h = absurd (cc)

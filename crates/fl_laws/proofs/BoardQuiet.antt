@@ -75,9 +75,6 @@ ring_fits w size s h =
 
 -- ---- an end takes from its binding's ring
 
-ring_said : List Ring → RingEnd → List Said
-ring_said rs at = given (slice_get rs at.ring) [] (λ r. side_said at.side (sides_of r))
-
 own_else : (rs : List Ring) (at x : RingEnd) → (x ≡ at → ⊥) → unread_said (map sides_of (changed_at at.ring (takes at.side) rs)) x ≡ unread_said (map sides_of rs) x
 own_else rs at x away =
     given_map sides_of [] (side_said x.side) (changed_at at.ring (takes at.side) rs) x.ring

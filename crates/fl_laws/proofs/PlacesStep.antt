@@ -277,11 +277,6 @@ ring_there s n b m h q r =
     by None e k = absurd (cc)
     by (Some y) e k = within s.rings m y e
 
-back_ring : (back : Back) (n : ℕ) → ring_no back ≡ Some n → back ≡ over_ring n
-back_ring local n h = absurd (cc)
-back_ring (over_ring m) n h = let e : m ≡ n = cc in ap (λ k. over_ring k) e
-back_ring (over_route route) n h = absurd (cc)
-
 pub own_back : (side : Side) (back : Back) (at : RingEnd) → own_ring side back ≡ Some at → back ≡ over_ring at.ring
 own_back side local at h = absurd (cc)
 own_back side (over_ring m) at h = let e : ring_side_of side m ≡ at = cc in ap (λ (x : RingEnd). over_ring x.ring) e

@@ -4,7 +4,6 @@ use Rattle.fl_queues.specs.State.{State}
 use Rattle.fl_queues.specs.SoundRoutes.{RoutesLead, NumbersGoAlongRoutes, VerdictsFit, EndsAreBound, NumbersWereOpened, NumbersAreOnce}
 use Rattle.fl_queues.specs.SoundLimits.{RoutesKeepToCores, NumbersAreOnceBothWays}
 use Rattle.fl_queues.specs.Sound.{Sound}
-use Rattle.fl_queues.specs.Laws.{RunsAreSound, NumbersAreGivenOnce}
 use Rattle.fl_queues.specs.Step.{step}
 use Rattle.fl_laws.proofs.Routed.{routes_lead, numbers_go, verdicts_fit}
 use Rattle.fl_laws.proofs.BoundEnds.{ends_bound}
@@ -34,7 +33,3 @@ sound_within s v sound = routes_keep s (step s v).state sound.within (step_comes
 
 pub sound_once_back : (s : State) (v : Event) → Sound s → NumbersAreOnceBothWays (step s v).state
 sound_once_back s v sound = numbers_once_back (step s v).state (sound_routes s v sound) (sound_numbers s v sound) (sound_opened s v sound)
-
--- so a number is given once, where every run is sound
-pub given_once : RunsAreSound → NumbersAreGivenOnce
-given_once sound vs = (sound vs).numbers_once

@@ -8,8 +8,8 @@ use Rattle.fl_hop.specs.declared.links.LinkState.{LinkState}
 use Rattle.fl_hop.specs.Table.{TheCircuits}
 use Rattle.fl_queues.specs.Given.{given, changed_at}
 use Rattle.fl_queues.specs.Rings.{Said, RingLabel, Ring}
-use Rattle.fl_queues.specs.Monitors.{Core, Link, link_to}
-use Rattle.fl_queues.specs.State.{Back, State, Binding, link_between}
+use Rattle.fl_queues.specs.Monitors.{Core, Link}
+use Rattle.fl_queues.specs.State.{Back, State, Binding}
 use Rattle.fl_queues.specs.Standing.{labels_of, said_by}
 use Rattle.fl_laws.proofs.Cases.{by_given}
 
@@ -116,11 +116,3 @@ link_in neighbour p = found (λ (a : LinkState). a.neighbour.0 == neighbour) p.c
 
 abbrev pub link_at : View → ℕ → ℕ → Option Link
 link_at v a b = given (slice_get v.parts a) None (link_in b)
-
-pub link_viewed : (s : State) (a b : ℕ) → link_between s a b ≡ link_at (view s) a b
-link_viewed s a b = by s.cores a
-  where
-    by : (ks : List Core) (n : ℕ) → given (slice_get ks n) None (λ k. given (link_to b k) None (λ l. slice_get k.links l)) ≡ given (slice_get (map part_of ks) n) None (link_in b)
-    by [] n = refl
-    by (k ∷ ks) zero = found_is (λ (a : LinkState). a.neighbour.0 == b) k.circuits.links k.links
-    by (k ∷ ks) (suc n) = by ks n

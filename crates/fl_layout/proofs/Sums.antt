@@ -1,5 +1,5 @@
 -- Sums over lists, and that a plan's order changes no sum.
-use Rattle.std.proofs.Common.{◌≡◌, ℕ, ◌+◌, true, false, Bool, if◌then◌else◌, List, [], ◌∷◌, ◌++◌, map, filter, refl, arith}
+use Rattle.std.proofs.Common.{◌≡◌, ℕ, ◌+◌, true, false, Bool, if◌then◌else◌, List, [], ◌∷◌, ◌++◌, filter, refl, arith}
 use Rattle.std.specs.Prelude.{◌==◌}
 use Rattle.fl_interface.specs.Interface.{TheArgType, fixed, text, sized}
 use Rattle.fl_interface.specs.Sizes.{align_of}
@@ -15,10 +15,6 @@ total w (x ∷ xs) = w x + total w xs
 pub total_append : {A : Type 0} (w : A → ℕ) (xs ys : List A) → total w (xs ++ ys) ≡ total w xs + total w ys
 total_append w [] ys = omega arith
 total_append w (x ∷ xs) ys = omega (arith, total_append w xs ys)
-
-pub total_map : {A B : Type 0} (w : B → ℕ) (f : A → B) (xs : List A) → total w (map f xs) ≡ total (λ x. w (f x)) xs
-total_map w f [] = refl
-total_map w f (x ∷ xs) = omega (arith, total_map w f xs)
 
 -- what a test leaves of a weight
 abbrev pub part : {A : Type 0} → (A → ℕ) → (A → Bool) → A → ℕ

@@ -287,6 +287,3 @@ mark_cuts (byte ∷ tail) mark some first = cuts (byte ∷ tail) _ (byte ∷ [])
 pub blank_cuts : (text : List ℕ) → 0 < length text → class_of (get_or text 0 0) ≡ classes.Blank → Cuts text gap 1
 blank_cuts [] some first = absurd (omega (arith, some))
 blank_cuts (byte ∷ tail) some first = cuts (byte ∷ tail) gap (byte ∷ []) tail 1 (blank_begins byte tail first) tt refl
-
-pub fits_length : (text : List ℕ) (item : Item) (n : ℕ) → length text < 2 ^ 64 → Cuts text item n → n < 2 ^ 64
-fits_length text item n small cut = omega (arith, small, cut.within)

@@ -9,7 +9,6 @@ use Rattle.std.specs.Str.{bytes_eq}
 use Rattle.std.proofs.lemmas.Slice.Eq.{bytes_eq-Decides}
 use Rattle.memchr.specs.Find.{NoneBefore, Nowhere, Passes, is_byte}
 use Rattle.fl_value.specs.declared.value.PlanNo.{PlanNo}
-use Rattle.fl_lines.specs.Commands.{Command}
 use Rattle.fl_lines.specs.Grammar.{Line, silent, heading, command, unread, LineIs}
 use Rattle.fl_lines.specs.Items.{put_first, lines_of, WithoutEnd, Item, a_line, a_block, open_block, EndsBlock, Mode, outside, inside, Behind, Items, ItemsOf, BlockOf, SomeItems, OneItems}
 use Rattle.fl_lines.specs.Reading.{read_line}
@@ -78,9 +77,6 @@ pub record Within (bytes rest : List ℕ) (taken : ℕ) : Type 0 where
   pub whole : bytes ≡ take taken bytes ++ rest
   pub long : taken + length rest ≡ length bytes
 
-pub within_first : (bytes : List ℕ) → Within bytes bytes 0
-within_first bytes = record { items = λ plan items h. h; whole = refl; long = omega arith }
-
 goes_on : (plan : PlanNo) (text line : List ℕ) (lines : List (List ℕ)) (items : List Item) → (EndsBlock line → ⊥)
     → Items lines (inside plan (text ++ line)) items → Items (line ∷ lines) (inside plan text) items
 goes_on plan text line lines items e h = inr (e, h)
@@ -102,49 +98,11 @@ within_more bytes rest line behind taken w lines split e =
       long = let size = w.long in omega (arith, size, sizes);
     }
 
-pub within_end : (bytes rest line behind : List ℕ) (taken : ℕ) → Within bytes rest taken → lines_of rest ≡ line ∷ lines_of behind → EndsBlock line
-    → (plan : PlanNo) (items : List Item) → ItemsOf behind items → BlockOf plan [] bytes (a_block plan (take taken bytes) ∷ items)
-within_end bytes rest line behind taken w lines e plan items h =
-    w.items plan (a_block plan (take taken bytes) ∷ items)
-    (subst (λ (ls : List (List ℕ)). Items ls (inside plan (take taken bytes)) (a_block plan (take taken bytes) ∷ items)) (sym lines)
-    (stops plan (take taken bytes) line (lines_of behind) items e h))
-
-pub within_open : (bytes rest : List ℕ) (taken : ℕ) → Within bytes rest taken → length rest ≡ 0 → (plan : PlanNo) → BlockOf plan [] bytes (open_block ∷ [])
-within_open bytes [] taken w e plan = w.items plan (open_block ∷ []) refl
-within_open bytes (b ∷ rest) taken w e plan = absurd (omega (arith, e))
-
 -- ---- items
 
 first_line : (bytes line bare behind : List ℕ) (l : Line) (items : List Item) → lines_of bytes ≡ line ∷ lines_of behind → WithoutEnd line bare
     → LineIs bare l → Behind l (Items (lines_of behind)) items → ItemsOf bytes items
 first_line bytes line bare behind l items lines end is h = subst (λ (ls : List (List ℕ)). Items ls outside items) (sym lines) (bare, l, end, is, h)
-
-pub silent_first : (bytes line bare behind : List ℕ) → lines_of bytes ≡ line ∷ lines_of behind → WithoutEnd line bare → LineIs bare silent
-    → (items : List Item) → ItemsOf behind items → ItemsOf bytes (a_line silent ∷ items)
-silent_first bytes line bare behind lines end is items h = first_line bytes line bare behind silent (a_line silent ∷ items) lines end is (items, h, refl)
-
-pub command_first : (bytes line bare behind : List ℕ) (c : Command) → lines_of bytes ≡ line ∷ lines_of behind → WithoutEnd line bare
-    → LineIs bare (command c) → (items : List Item) → ItemsOf behind items → ItemsOf bytes (a_line (command c) ∷ items)
-command_first bytes line bare behind c lines end is items h =
-    first_line bytes line bare behind (command c) (a_line (command c) ∷ items) lines end is (items, h, refl)
-
-pub unread_first : (bytes line bare behind : List ℕ) → lines_of bytes ≡ line ∷ lines_of behind → WithoutEnd line bare → LineIs bare unread
-    → (items : List Item) → ItemsOf behind items → ItemsOf bytes (a_line unread ∷ items)
-unread_first bytes line bare behind lines end is items h = first_line bytes line bare behind unread (a_line unread ∷ items) lines end is (items, h, refl)
-
-pub block_first : (bytes line bare behind last text : List ℕ) (plan : PlanNo) → lines_of bytes ≡ line ∷ lines_of behind → WithoutEnd line bare
-    → LineIs bare (heading plan) → ((items : List Item) → ItemsOf last items → BlockOf plan [] behind (a_block plan text ∷ items))
-    → (items : List Item) → ItemsOf last items → ItemsOf bytes (a_block plan text ∷ items)
-block_first bytes line bare behind last text plan lines end is f items h =
-    first_line bytes line bare behind (heading plan) (a_block plan text ∷ items) lines end is (f items h)
-
-pub open_first : (bytes line bare behind last : List ℕ) (plan : PlanNo) → lines_of bytes ≡ line ∷ lines_of behind → WithoutEnd line bare
-    → LineIs bare (heading plan) → BlockOf plan [] behind (open_block ∷ []) → last ≡ []
-    → (items : List Item) → ItemsOf last items → ItemsOf bytes (open_block ∷ items)
-open_first bytes line bare behind last plan lines end is f e items h =
-    let none : items ≡ [] = subst (λ (z : List ℕ). ItemsOf z items) e h in
-    first_line bytes line bare behind (heading plan) (open_block ∷ items) lines end is
-    (subst (λ (xs : List Item). Items (lines_of behind) (inside plan []) (open_block ∷ xs)) (sym none) f)
 
 -- ---- some list of items
 

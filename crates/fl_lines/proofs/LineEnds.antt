@@ -96,9 +96,6 @@ pub with_feed : (line text : List ℕ) → ((front : List ℕ) → line ≢ fron
 with_feed line text no_return e =
     inr (inl (e, λ front g. no_return front (e ∙ (ap (λ (z : List ℕ). z ++ 10 ∷ []) g ∙ sym (two_ends front)))))
 
-pub with_neither : (line : List ℕ) → ((front : List ℕ) → line ≢ front ++ 10 ∷ []) → WithoutEnd line line
-with_neither line no_feed = inr (inr (refl, λ front g. no_feed front g))
-
 pub found_suffix : (s p : List ℕ) (x : Bor (List ℕ))
     → (pointwise nat_eq (drop (length s - length p) s) p ≡ true) × (x.now ≡ take (length s - length p) s) × (length x.now + length p ≡ length s) → s ≡ x.now ++ p
 found_suffix s p x h = strip_suffix_is Decides-eqb s p (Some x) h

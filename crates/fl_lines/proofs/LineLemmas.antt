@@ -12,9 +12,9 @@ use Rattle.fl_lines.specs.declared.fault.LineFault.TheVariants.{Memory}
 use Rattle.fl_lines.specs.Asked.{Asked, refuses, asks, Asks, asks_end, asks_turn}
 use Rattle.fl_lines.specs.Commands.{EndName, Command, call, turn}
 use Rattle.fl_lines.specs.Events.{event_of}
-use Rattle.fl_lines.specs.Lines.{LineAsks, TellsEvent, LineTells, CallTells, asks_by_end, asks_by_dispatcher, asks_by_cores}
+use Rattle.fl_lines.specs.Lines.{LineAsks, TellsEvent, LineTells, CallTells, asks_by_end, asks_by_dispatcher}
 use Rattle.fl_lines.specs.Names.{Names}
-use Rattle.fl_lines.specs.Reading.{one_end, two_numbers, end_of, with_end, with_cores, turn_row, call_row}
+use Rattle.fl_lines.specs.Reading.{one_end, end_of, with_end, turn_row, call_row}
 use Rattle.fl_lines.specs.Told.{Tells, AsksAs}
 use Rattle.fl_lines.specs.Words.{first_word, behind_word, is_none}
 
@@ -25,14 +25,6 @@ end_tells n mk f rest result h t = inr (asks_by_end n f rest, by (one_end rest),
     by : (o : Option EndName) → LineAsks n (given o None λ e. Some (mk e)) (given o (refuses 90) λ e. asks_end n f e)
     by None = refl
     by (Some e) = h e
-
-pub cores_tell : (n : Names) (mk : ℕ → ℕ → Command) (f : ℕ → ℕ → Event) (rest : List ℕ) (result : Result RustEvent LineFault)
-    → ((a b : ℕ) → Asks n (mk a b) (asks (f a b) n)) → TellsEvent n result (asks_by_cores n f rest) → LineTells n (with_cores mk rest) result
-cores_tell n mk f rest result h t = inr (asks_by_cores n f rest, by (two_numbers rest), t)
-  where
-    by : (o : Option (ℕ × ℕ)) → LineAsks n (given o None λ p. Some (mk p.0 p.1)) (given o (refuses 90) λ p. asks (f p.0 p.1) n)
-    by None = refl
-    by (Some p) = h p.0 p.1
 
 pub turn_tells : (n : Names) (rest : List ℕ) (result : Result RustEvent LineFault) → TellsEvent n result (asks_by_dispatcher n rest)
     → LineTells n (turn_row rest) result

@@ -13,11 +13,6 @@ head_before c Idle e = omega arith
 head_before c Polled e = omega arith
 head_before c Pending e = omega arith
 
-pub head_within : (len : ℕ) (p : Place) → 3 ≤ len → head_of p < len
-head_within len Idle h = omega arith
-head_within len Polled h = omega arith
-head_within len Pending h = omega arith
-
 pub is_in-indexes : (c : ℕ) (xs : List ℕ) → is_in (index_of c) (indexes xs) ≡ is_in c xs
 is_in-indexes c [] = refl
 is_in-indexes c (x ∷ xs) = elim (cases_eq x c) [

@@ -48,9 +48,6 @@ pub first_below : (w : ThreeLists) → IsApart w → (p : Place) (first : Option
 first_below w apart p (Some c) is = apart.below p c (front_in (list_at w p) c (sym is))
 first_below w apart p None is = tt
 
-pub place_over : (w : TheLists) → IsOver w → (c : ℕ) → place_of (lists_of w.table) c ≡ place_of w.lists c
-place_over w over c = ap (λ (v : ThreeLists). place_of v c) (sym over.lists)
-
 pub over_held : (few : Bool) (near nodes : List Node) (n : ℕ) (w : TheLists) → IsHeld few near nodes n → seen_of few near nodes n ≡ w → IsOver w
 over_held few near nodes n w held seen =
     subst (λ (v : TheLists). IsOver v) seen record { table = held.table; within = held.within; short = held.short; lists = refl }

@@ -7,7 +7,7 @@ use Rattle.fl_lists.specs.declared.place.Place.TheVariants.{Idle, Polled, Pendin
 use Rattle.fl_lists.specs.declared.node.Node.{Node}
 use Rattle.fl_lists.specs.ThreeLists.{ThreeLists, list_at, is_in, without, place_of, unlinked, pushed, moved, popped, empty, NoRepeat, IsApart}
 use Rattle.fl_lists.specs.Table.{free_node, node_at, next_at, prev_at, place_at, AllFree, Joined, TakenOut, PutBefore, ChangesFew, head_of, index_of, indexes, numbers, Chain, Ring, list_from, lists_of, IsTable}
-use Rattle.fl_lists.proofs.Members.{first_is_in, without_first, without_later, without_none, left_out}
+use Rattle.fl_lists.proofs.Members.{first_is_in, without_first, without_later, without_none}
 use Rattle.fl_lists.proofs.Numbers.{head_before, is_in-indexes, without-indexes, indexes_push, NoRepeat_of, number_back, numbers-indexes}
 use Rattle.fl_lists.proofs.Rings.{same_or_not, placed_below, list_is, prev_placed, next_placed, last_placed, in_list, ring_without, ring_push, ring_besides_out, ring_besides_in}
 
@@ -366,11 +366,6 @@ module _ (nodes : List Node) (c : ℕ) (table : IsTable nodes) where
         lists = come.1 ∙ ap (λ (w : ThreeLists). pushed w c p) out.1;
         few = few_both 2 2 (index_of c) nodes free new (few_out nodes free (index_of c) steps.0) (few_in free new (index_of c) _ p steps.1);
       }
-
--- a node that was taken out is free
-pub free_after : (w : ThreeLists) (c : ℕ) → place_of (unlinked w c) c ≡ None
-free_after w c =
-    cond-false _ _ _ (left_out c w.idle) ∙ cond-false _ _ _ (left_out c w.polled) ∙ cond-false _ _ _ (left_out c w.pending)
 
 -- what is in a list has a place
 pub linked_in : (w : ThreeLists) (p : Place) (c : ℕ) → is_in c (list_at w p) ≡ true → IsSome (place_of w c)

@@ -52,7 +52,7 @@ use Rattle.fl_node.specs.declared.wire.Outlet.TheVariants as outlet
 use Rattle.fl_node.specs.declared.wire.Inlet.{Inlet}
 use Rattle.fl_node.specs.declared.wire.Inlet.TheVariants as inlet
 use Rattle.fl_node.proofs.Offers.{made_for, made_new}
-use Rattle.fl_running.specs.declared.job.Job.{Job}
+use Rattle.fl_work.specs.declared.job.Job.{Job}
 use Rattle.fl_running.specs.Run.{Ways, TheRun}
 use Rattle.fl_running.specs.Deeds.{Deed, looked, passed, arrived, heard, said, told, opened, called, ruled, wrote, acked, turned, Does, dispatcher_turn, TurnsOver, WritesOver, IsSoundAt, ActsSoundly}
 use Rattle.fl_logs.specs.Logs.{InPlace, Goes, call_in, handled_in, handled_at}

@@ -13,7 +13,7 @@ use Rattle.fl_hop.specs.Stretch.{Step, Deed as HopDeed, passed as hop_passed, wr
 use Rattle.fl_node.specs.View.{TheCore, place_of}
 use Rattle.fl_node.specs.declared.wire.Port.{Port}
 use Rattle.fl_node.specs.declared.wire.Wire.TheVariants.{Circuit}
-use Rattle.fl_running.specs.declared.job.Job.{Job}
+use Rattle.fl_work.specs.declared.job.Job.{Job}
 use Rattle.fl_running.specs.Run.{Ways, TheRun}
 use Rattle.fl_running.specs.Deeds.{Deed}
 use Rattle.fl_logs.specs.Logs.{Goes}

@@ -20,13 +20,13 @@ use Rattle.fl_node.specs.declared.fault.LinkFault.{LinkFault}
 use Rattle.fl_node.specs.declared.fault.OpenFault.{OpenFault}
 use Rattle.fl_node.specs.declared.fault.OpenFault.TheVariants as opening
 use Rattle.fl_node.specs.View.{slot_of}
-use Rattle.fl_running.specs.declared.job.Job.{Job}
-use Rattle.fl_running.specs.declared.job.Job.TheVariants as job
-use Rattle.fl_running.specs.declared.job.Wish.{Wish}
+use Rattle.fl_work.specs.declared.job.Job.{Job}
+use Rattle.fl_work.specs.declared.job.Job.TheVariants as job
+use Rattle.fl_work.specs.declared.job.Wish.{Wish}
 use Rattle.fl_running.specs.Desks.{TheDesk, desk_place, advanced, with_handled, with_refusal, ChangesIf}
 use Rattle.fl_running.specs.Run.{Ways, TheRun, AtDesk, next_job}
 use Rattle.fl_running.specs.Deeds.{Deed, looked, passed, arrived, heard, said, told, opened, called, ruled, wrote, acked, turned, NotesHeard, NotesOpened, NotesCalled, NotesTurned, Notes, Happens}
-use Rattle.fl_running.specs.Jobs.{calls_of_job, calls_of_jobs}
+use Rattle.fl_work.specs.Jobs.{calls_of_job, calls_of_jobs}
 use Rattle.fl_logs.specs.Logs.{InPlace, Goes}
 use Rattle.fl_logs.specs.Made.{made_by, made_in, made_at, handed_at, done_at, desk_of, handed_in, done_of, MakesItsJobs}
 use Rattle.fl_logs.proofs.Handling.{desks_stay, same_place, at_slot, slots, as_many, one_end}

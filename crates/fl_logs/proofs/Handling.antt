@@ -23,7 +23,7 @@ use Rattle.fl_node.specs.declared.fault.OpenFault.TheVariants as opening
 use Rattle.fl_node.specs.declared.wire.Outlet.TheVariants as outlet
 use Rattle.fl_node.specs.declared.wire.Inlet.TheVariants as inlet
 use Rattle.fl_node.specs.View.{most_bindings, side_number, slot_of}
-use Rattle.fl_running.specs.declared.job.Job.{Job}
+use Rattle.fl_work.specs.declared.job.Job.{Job}
 use Rattle.fl_running.specs.Desks.{TheDesk, desk_place, advanced, with_handled, with_refusal, ChangesIf}
 use Rattle.fl_running.specs.Run.{Ways, TheRun, AtDesk}
 use Rattle.fl_running.specs.Deeds.{Deed, looked, passed, arrived, heard, said, told, opened, called, ruled, wrote, acked, turned, Does, NotesHeard, NotesOpened, NotesCalled, NotesTurned, Notes, Happens}
@@ -70,13 +70,6 @@ slot_from e k n false b is = absurd (cc)
 
 pub at_slot : (desks : List TheDesk) (e : EndId) (n : ℕ) → desk_place desks e ≡ Some n → n ≡ slot_of e
 at_slot desks e n is = slot_from e (length desks) n (nat_lt e.binding most_bindings) (nat_lt (slot_of e) (length desks)) is
-
--- two ends are one exactly where their slots are
-sides_by : (a b : Side) → side_number a ≡ side_number b → same_side a b ≡ true
-sides_by Client Client e = refl
-sides_by Client Server e = absurd (omega (arith, e))
-sides_by Server Client e = absurd (omega (arith, e))
-sides_by Server Server e = refl
 
 sides_differ : (a b : Side) → same_side a b ≡ false → side_number a ≢ side_number b
 sides_differ Client Client not_same e = absurd (cc)

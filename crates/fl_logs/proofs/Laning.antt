@@ -25,7 +25,7 @@ use Rattle.fl_node.specs.declared.wire.Outlet.{Outlet}
 use Rattle.fl_node.specs.declared.wire.Outlet.TheVariants as outlet
 use Rattle.fl_node.specs.declared.wire.Inlet.{Inlet}
 use Rattle.fl_node.specs.declared.wire.Inlet.TheVariants as inlet
-use Rattle.fl_running.specs.declared.job.Job.{Job}
+use Rattle.fl_work.specs.declared.job.Job.{Job}
 use Rattle.fl_running.specs.declared.lent.Due.{Due}
 use Rattle.fl_running.specs.declared.lent.Post.{Post}
 use Rattle.fl_running.specs.Run.{Ways, TheRun, lent_lane, lends_out, lends_in, lent_post, lent_due}
@@ -80,9 +80,6 @@ bare_heard (Ok heard_as.Done) frag = refl
 bare_heard (Ok (heard_as.Opened e)) frag = refl
 bare_heard (Ok (heard_as.OpeningRefused e reason)) frag = refl
 bare_heard (Err fault) frag = refl
-
-if_list : Bool → List Frag → List Frag
-if_list b frags = if b then frags else []
 
 module _ (t : TheCircuits) (l m : ℕ) where
   -- all on this link, or none
@@ -200,11 +197,6 @@ module _ {S : Type 0} (s : TheRun S) where
       due_by (inlet_of s.core f) f d
       (sym (ap (λ (o : Option ℕ). given o None λ (e : ℕ). given (inlet_of s.core e) None λ (x : Inlet). if lends_in s x then (let p : Due = record { end = e; inlet = x } in Some p) else None) at) ∙ is)
       ∙ ap Some same
-
--- an end that puts somewhere has a wire
-record HasPort (k : TheCore) (f : ℕ) : Type 0 where
-  pub port : Port
-  pub port_is : slice_get k.ports f ≡ Some port
 
 pub port_out : (k : TheCore) (f : ℕ) (out : Outlet) (o : Option Port) → slice_get k.ports f ≡ o → (given o None λ p. outlet_by k.lanes p.wire) ≡ Some out → (p : Port) × (slice_get k.ports f ≡ Some p) × (outlet_by k.lanes p.wire ≡ Some out)
 port_out k f out None at is = absurd (cc)

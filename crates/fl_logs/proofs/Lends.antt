@@ -25,7 +25,7 @@ use Rattle.fl_node.specs.declared.wire.Outlet.TheVariants as outlet
 use Rattle.fl_node.specs.declared.wire.Inlet.{Inlet}
 use Rattle.fl_node.specs.declared.wire.Inlet.TheVariants as inlet
 use Rattle.fl_node.proofs.Ported.{seats_ports}
-use Rattle.fl_running.specs.declared.job.Job.{Job}
+use Rattle.fl_work.specs.declared.job.Job.{Job}
 use Rattle.fl_running.specs.declared.lent.Due.{Due}
 use Rattle.fl_running.specs.declared.lent.Post.{Post}
 use Rattle.fl_running.specs.declared.lent.Berth.{Berth}

@@ -49,7 +49,7 @@ use Rattle.fl_node.specs.declared.fault.LinkFault.TheVariants as link
 use Rattle.fl_node.specs.declared.wire.Outlet.TheVariants as outlet
 use Rattle.fl_node.specs.declared.wire.Inlet.TheVariants as inlet
 use Rattle.fl_node.specs.Ends.{at_side}
-use Rattle.fl_running.specs.declared.job.Job.{Job}
+use Rattle.fl_work.specs.declared.job.Job.{Job}
 use Rattle.fl_running.specs.Run.{Ways, TheRun}
 use Rattle.fl_running.specs.Deeds.{Deed, looked, passed, arrived, heard, said, told, opened, called, ruled, wrote, acked, turned, OnRing, Does}
 use Rattle.fl_logs.specs.Logs.{Goes, Looked, Carries, SidesGo}

@@ -22,7 +22,7 @@ use Rattle.fl_node.specs.View.{TheCore, place_of, arrivals_of, arriving}
 use Rattle.fl_node.specs.Sound.{IsCore}
 use Rattle.fl_node.specs.declared.wire.Port.{Port}
 use Rattle.fl_node.specs.declared.wire.Wire.TheVariants.{Circuit}
-use Rattle.fl_running.specs.declared.job.Job.{Job}
+use Rattle.fl_work.specs.declared.job.Job.{Job}
 use Rattle.fl_running.specs.Run.{Ways, TheRun}
 use Rattle.fl_running.specs.Deeds.{Deed, looked, passed, arrived, heard, said, told, opened, called, ruled, wrote, acked, turned, Does, Happens}
 use Rattle.fl_logs.specs.Logs.{InPlace, Goes}

@@ -5,7 +5,7 @@ use Rattle.fl_hop.specs.Stretch.{Step}
 use Rattle.fl_hop.proofs.Lists.{at_within}
 use Rattle.fl_node.proofs.Ported.{placed_below}
 use Rattle.fl_node.specs.View.{TheCore, place_of}
-use Rattle.fl_running.specs.declared.job.Job.{Job}
+use Rattle.fl_work.specs.declared.job.Job.{Job}
 use Rattle.fl_running.specs.Run.{Ways, TheRun}
 use Rattle.fl_running.specs.Deeds.{Deed, Does, Notes, Happens}
 use Rattle.fl_logs.specs.Logs.{InPlace, Goes}

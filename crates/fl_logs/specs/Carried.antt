@@ -18,10 +18,10 @@ use Rattle.fl_core.specs.declared.answer.TurnAnswer.{TurnAnswer}
 use Rattle.fl_core.specs.declared.answer.TurnAnswer.TheVariants.{Handle}
 use Rattle.fl_hop.specs.Stretch.{same_end}
 use Rattle.fl_monitor.specs.Routing.{given}
-use Rattle.fl_running.specs.declared.job.Job.{Job}
+use Rattle.fl_work.specs.declared.job.Job.{Job}
 use Rattle.fl_running.specs.Run.{Ways, TheRun}
 use Rattle.fl_running.specs.Deeds.{Deed, called, ruled, turned}
-use Rattle.fl_running.specs.Jobs.{HasNoRule, RulesLead}
+use Rattle.fl_work.specs.Jobs.{HasNoRule, RulesLead}
 use Rattle.fl_logs.specs.Logs.{Goes, handled_in, handled_at}
 use Rattle.fl_logs.specs.Made.{made_by, made_at, desk_of}
 

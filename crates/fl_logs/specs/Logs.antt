@@ -16,8 +16,8 @@ use Rattle.fl_hop.specs.Later.{way_at}
 use Rattle.fl_hop.specs.Stretch.{same_end}
 use Rattle.fl_monitor.specs.Routing.{given}
 use Rattle.fl_node.specs.View.{place_of, side_of_link}
-use Rattle.fl_running.specs.declared.job.Job.{Job}
-use Rattle.fl_running.specs.declared.job.Job.TheVariants as job
+use Rattle.fl_work.specs.declared.job.Job.{Job}
+use Rattle.fl_work.specs.declared.job.Job.TheVariants as job
 use Rattle.fl_running.specs.declared.lent.Due.{Due}
 use Rattle.fl_running.specs.declared.lent.Post.{Post}
 use Rattle.fl_running.specs.declared.lent.Berth.{Berth}
@@ -29,7 +29,7 @@ use Rattle.fl_running.specs.Deeds.{Deed, looked, passed, arrived, heard, said, t
 use Rattle.fl_running.specs.Steps.{may_ask, awaits}
 use Rattle.fl_running.specs.Turn.{Turned}
 use Rattle.fl_running.specs.Ran.{Task, Moment, Counted}
-use Rattle.fl_running.specs.Jobs.{calls_of_job}
+use Rattle.fl_work.specs.Jobs.{calls_of_job}
 
 -- the fragment stands on a link under a number that leads this way, as the core's table has it
 pub record LeadsTo {S : Type 0} (s : TheRun S) (n : ℕ) (l : LinkId) (frag : Frag) (way : Way) : Type 0 where

@@ -4,11 +4,11 @@ use Rattle.std.proofs.lemmas.List.{drop_more, length-set, length-map, length-app
 use Rattle.fl_stub.specs.declared.op.Op.{Op}
 use Rattle.fl_stub.specs.Meaning.{number_bytes}
 use Rattle.fl_stub.specs.Given.{first_of_tape, rest_of_tape}
-use Rattle.fl_stub.specs.Spots.{TheSpot, IsSpot, bytes_from}
+use Rattle.fl_stub.specs.Spots.{IsSpot, bytes_from}
 use Rattle.fl_machine.specs.declared.cursor.Loop.{Loop}
 use Rattle.fl_machine.specs.declared.cursor.Cursor.{Cursor}
 use Rattle.fl_machine.specs.Cursors.{no_loop, spot_of, inner_of, turns_of, low_byte, IsRun}
-use Rattle.fl_machine.specs.Filling.{Holds, PutsRun}
+use Rattle.fl_machine.specs.Filling.{Holds}
 use Rattle.fl_machine.proofs.Turns.{after_turn, turned_at, depth_small}
 use Rattle.fl_machine.proofs.Pours.{holds_more}
 
@@ -148,13 +148,3 @@ bytes_put buffer put numbers at first from index byte whole long inside room is 
     let all : (put ++ before) ++ byte ∷ [] ≡ put ++ map low_byte (first ∷ take (index + 1) ys)
     = append_assoc put before (byte ∷ []) ∙ ap (λ (zs : List ℕ). put ++ (low_byte first ∷ zs)) (ap (λ (b : ℕ). map low_byte (take index ys) ++ b ∷ []) is ∙ sym mapped) in
     subst (λ (zs : List ℕ). Holds (slice_set buffer (at + 1 + index) byte) zs) all (holds_more buffer (put ++ before) (at + 1 + index) byte whole end inside h)
-
-pub puts_span : (ops : List Op) (s t : TheSpot) (put buffer numbers : List ℕ) (at first from others many : ℕ) → length put ≡ at → many ≡ suc others → from + others ≤ length numbers
-    → bytes_from ops s ≡ map low_byte (first ∷ take others (drop from numbers)) ++ bytes_from ops t
-    → Holds buffer (put ++ map low_byte (first ∷ take others (drop from numbers))) → PutsRun ops s t put buffer (at + many)
-puts_span ops s t put buffer numbers at first from others many long is room bytes h =
-    let ys = drop from numbers in
-    let more = map low_byte (first ∷ take others ys) in
-    let there : others ≤ length ys = omega (arith, room, length-drop from numbers) in
-    let few : length more ≡ others + 1 = length-map (first ∷ take others ys) low_byte ∙ omega (arith, length-take-le others ys there) in
-    record { more = more; bytes = bytes; holds = h; long = length-append put more ∙ omega (arith, long, few, is) }

@@ -657,9 +657,6 @@ run_again ops c d f run t few long =
       back = ap (λ (k : ℕ). slice_get ops (k + 1)) place ∙ run.back;
     }
 
-pub run_fewer : (ops : List Op) (c d : Intake) (f : Field) → IsRunOf ops c f → Turned c d f → c.depth ≤ 8 → length c.loops ≡ 8 → 0 < (inner_loop c).turns → (inner_loop d).turns < (inner_loop c).turns
-run_fewer ops c d f run t few long more = let e = ap Loop.turns (turned_inner c d f t run.deep few long) in omega (arith, e, more)
-
 pub run_turn : (ops : List Op) (taken taken2 : List ℕ) (c d : Intake) (all left rest : List ℕ) (f : Field) (low n : ℕ) → IsFed ops taken c all left → HasField ops c f → IsRunOf ops c f
     → 0 < (inner_loop c).turns → c.depth ≤ 8 → length c.loops ≡ 8 → Grows c.have c.value low n left rest → c.have + n ≡ f.width → low ≤ f.last → f.least ≤ low
     → taken2 ≡ taken ++ told f.told low → Turned c d f → IsFed ops taken2 d all rest

@@ -199,13 +199,6 @@ are_opened long capacity more ss owed k s t at none grown =
       reserved = omega (arith, less, t.reserved, grown);
     }
 
--- how many fragments a room takes that isn't there yet
-pub is_owed : (long capacity : ℕ) (ss : List Span) (owed k : ℕ) (s : Span) → AreRooms long capacity ss owed → slice_get ss k ≡ Some s → s.start ≡ None → s.size ≤ owed
-is_owed long capacity ss owed k s t at none =
-    let own : owed_for s ≡ s.size = ap (owed_from s.size) none in
-    let read : owed_for (get_or ss k s) ≡ owed_for s = ap owed_for (get_or_from_slice_get ss k s s at) in
-    omega (arith, own, read, t.owed_is, get_or-le-sum_by owed_for ss k s (slice_get_within ss k s at))
-
 pub are_before : (long capacity : ℕ) (ss : List Span) (s : Span) (owed : ℕ) → AreRooms long capacity (ss ++ s ∷ []) owed → AreRooms long capacity ss (owed - owed_for s)
 are_before long capacity ss s owed t =
     let sum : sum_by owed_for (ss ++ s ∷ []) ≡ sum_by owed_for ss + owed_for s = sum_by_push owed_for ss s in

@@ -23,9 +23,6 @@ use Rattle.fl_machine.specs.Reassembling.{IsUnderWay, GoesOnFrom, parts_under}
 use Rattle.fl_machine.proofs.Feeding.{few_messages}
 use Rattle.fl_machine.proofs.Looking.{forgotten, kept_length}
 
-pub under_kept : (p : TheProgram) (room : List Frag) (o : Option Begun) (b : Begun) → o ≡ Some b → IsUnderWay p room o → IsKeptIn p (parts_under room o) b
-under_kept p room o b e = subst (λ (x : Option Begun). IsUnderWay p room x → IsKeptIn p (parts_under room x) b) (sym e) (λ u. u.1)
-
 -- a room has place for one part more, and for a call's last fragment
 pub part_fits : (p : TheProgram) (parts : List Frag) (f : Frag) (d : Begun) (n : ℕ) → HoldsParts p.plan p.interface n → IsPartIn p (parts ++ f ∷ []) → IsKeptIn p (parts ++ bare f ∷ []) d → d.fed ≤ n
 part_fits p parts f d n holds part k =

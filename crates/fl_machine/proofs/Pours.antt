@@ -3,7 +3,7 @@ use Rattle.std.proofs.Common.{lit<, ◌≡◌, ℕ, zero, suc, ◌+◌, ◌-◌,
 use Rattle.std.specs.Int.{bytes_low_first, byte_at}
 use Rattle.std.proofs.Math.Nat.{div-div-eq-div-mul, pow-suc, pow-succ', pow-le-pow_right, div-eq_of_lt}
 use Rattle.std.proofs.lemmas.Nat.{div_below}
-use Rattle.std.proofs.lemmas.List.{length-append, get_or_append_left, get_or-append_right, append-nil, drop_all, get_or_past, get_or-replicate, get_or-take, get_or-drop, length-take-le, length-drop}
+use Rattle.std.proofs.lemmas.List.{length-append, get_or_append_left, get_or-append_right, append-nil, drop_all, get_or_past, get_or-replicate, get_or-take, get_or-drop, length-take-le}
 use Rattle.std.proofs.Math.Seq.{drop-append_seam}
 use Rattle.std.proofs.lemmas.Bool.{cases_lt}
 use Rattle.fl_stub.specs.declared.op.Op.{Op}
@@ -87,10 +87,6 @@ fills buffer put left all filled h end few joined (inr none) =
       left = none ∙ sym (drop_all 56 all (omega (arith, ap length whole, end, few)));
     }
 
--- a byte goes from what is left to what was put
-pub put_more : (put left all rest : List ℕ) (byte : ℕ) → put ++ left ≡ all → left ≡ byte ∷ rest → (put ++ byte ∷ []) ++ rest ≡ all
-put_more put left all rest byte joined e = append_assoc put (byte ∷ []) rest ∙ ap (λ (x : List ℕ). put ++ x) (sym e) ∙ joined
-
 -- nothing was put yet
 pub holds_none : Holds (replicate 56 0) []
 holds_none = record { each = λ i small. get_or-replicate 56 i 0 0 small ∙ sym (get_or_past {X = ℕ} [] i 0 (omega arith)) }
@@ -133,15 +129,6 @@ same_bytes width value j few small h = ⊎_elim
 -- a buffer with eight bytes in the place of its own
 abbrev pub over_eight : List ℕ → ℕ → ℕ → List ℕ
 over_eight buffer at value = take at buffer ++ (number_bytes 8 value ++ drop (at + 8) buffer)
-
-pub length_over : (buffer : List ℕ) (at value : ℕ) → length buffer ≡ 56 → at + 8 ≤ 56 → length (over_eight buffer at value) ≡ 56
-length_over buffer at value long room =
-    let a : length (take at buffer) ≡ at = length-take-le at buffer (omega (arith, long, room)) in
-    let b : length (number_bytes 8 value) ≡ 8 = length_bytes 0 8 value in
-    let d : length (drop (at + 8) buffer) ≡ length buffer - (at + 8) = length-drop (at + 8) buffer in
-    length-append (take at buffer) (number_bytes 8 value ++ drop (at + 8) buffer)
-    ∙ ap (λ (k : ℕ). length (take at buffer) + k) (length-append (number_bytes 8 value) (drop (at + 8) buffer))
-    ∙ omega (arith, a, b, d, long, room)
 
 pub holds_number : (buffer put : List ℕ) (at width value : ℕ) → length buffer ≡ 56 → length put ≡ at → at + 8 ≤ 56 → width ≤ 8 → value < 256 ^ width
     → Holds buffer put → Holds (over_eight buffer at value) (put ++ number_bytes width value)

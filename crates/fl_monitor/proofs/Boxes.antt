@@ -1,5 +1,5 @@
 -- The fragments in an outbox are those of one list of messages.
-use Rattle.std.proofs.Common.{◌≡◌, ◌<◌, false, List, [], ◌∷◌, ◌++◌, length, drop, length-append, refl, sym, ◌∙◌, ap, subst, arith}
+use Rattle.std.proofs.Common.{◌≡◌, ◌<◌, false, List, [], ◌∷◌, ◌++◌, length, length-append, refl, sym, ◌∙◌, ap, subst, arith}
 use Rattle.std.specs.Prelude.{Option, IfSome, slice_get}
 use Rattle.fl_base.specs.declared.fragment.Frag.{Frag}
 use Rattle.fl_base.specs.Control.{bare, is_ack_only}
@@ -35,12 +35,6 @@ with_one_more frags f s room some = record {
   messages = s.messages ++ some.0 ∷ [];
   are = put_is_one_more frags s.messages f some.0 s.are some.1;
 }
-
-pub with_one_less : (frags : List Frag) → IsOutbox frags → IsOutbox (drop 1 frags)
-with_one_less [] s = s
-with_one_less (f ∷ frags) s =
-    let less = sent_is_one_less f frags s.messages s.are in
-    record { few = omega (arith, s.few); messages = less.1; are = less.4 }
 
 -- ---- a fragment that waits
 

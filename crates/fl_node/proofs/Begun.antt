@@ -16,8 +16,7 @@ use Rattle.fl_core.specs.declared.kind.Kind.{Kind}
 use Rattle.fl_core.specs.declared.kind.Kind.TheVariants.{Queue}
 use Rattle.fl_core.specs.declared.fault.BoardFault.{BoardFault}
 use Rattle.fl_core.specs.View.{TheDispatcher, TheBoard, with_new_end}
-use Rattle.fl_core.specs.Sound.{IsBoard}
-use Rattle.fl_core.specs.Events.{Adds, IsGrown}
+use Rattle.fl_core.specs.Events.{Adds}
 use Rattle.fl_monitor.specs.declared.opening.Opening.{Opening}
 use Rattle.fl_monitor.specs.Monitors.{TheMonitor, Opens}
 use Rattle.fl_node.specs.declared.wire.Wire.{Wire}
@@ -25,17 +24,13 @@ use Rattle.fl_node.specs.declared.wire.Wire.TheVariants.{Queues, Ring, Circuit}
 use Rattle.fl_node.specs.declared.wire.Port.{Port}
 use Rattle.fl_node.specs.declared.fault.OpenFault.{OpenFault}
 use Rattle.fl_node.specs.declared.fault.OpenFault.TheVariants.{Board, Monitor}
-use Rattle.fl_node.specs.View.{TheCore, slot_of, place_of, new_arrivals, client_of, arrivals_by, circuit_port, with_circuit_port}
+use Rattle.fl_node.specs.View.{TheCore, slot_of, place_of, new_arrivals, arrivals_by, circuit_port, with_circuit_port}
 use Rattle.fl_node.specs.Sound.{IsCore, IsWired}
 use Rattle.fl_node.specs.Making.{HasPlace, HasNoPlace, Asked, BeginsOn, Asks}
 use Rattle.fl_node.proofs.Ported.{seats_ports, grown_kept}
 use Rattle.fl_node.proofs.Making.{added_kinds}
 
 -- ---- an end that was added last
-
-pub grown_board : (b c : TheBoard) (n e : ℕ) (s : TheEnd) (kind : Kind) → IsBoard b → Adds b n s kind (Ok e) c → IsGrown c
-grown_board b c n e s kind sound (e_is, (d, at, few, c_is)) =
-    record { before = b; sound = sound; place = n; dispatcher = d; dispatcher_is = at; end = s; kind = kind; board = c_is }
 
 pub taken_back : (b c c2 : TheBoard) (n e : ℕ) (s : TheEnd) (kind : Kind) → Adds b n s kind (Ok e) c
     → ((x : TheBoard) (m : ℕ) (d : TheDispatcher) (t : TheEnd) (k : Kind) → slice_get x.dispatchers m ≡ Some d → c ≡ with_new_end x m d t k → c2 ≡ x) → c2 ≡ b
@@ -112,11 +107,6 @@ pub no_place_asked : (a : Asked) (k base : TheCore) → base ≡ k → (fault : 
 no_place_asked a k base same fault ports arrivals ports_are arrivals_are h =
     subst (λ (x : TheCore). Asks a x (Err (Board fault)) (record base { ports = ports; arrivals = arrivals })) same
     (h (fresh a.program None) Queue, ap (λ (x : List Port). record base { ports = x; arrivals = arrivals }) ports_are ∙ ap (λ (x : List TheQueue). record base { arrivals = x }) arrivals_are)
-
-pub asks_done : (a : Asked) (k base : TheCore) → base ≡ k → (e : ℕ) (k2 : TheCore) → Adds base.board a.dispatcher (fresh a.program None) Queue (Ok e) k2.board
-    → ((c : Number) × Opens a.link a.opening base.monitor (Ok c) k2.monitor)
-    → k2 ≡ record (with_circuit_port base k2.board e (client_of a.opening.binding) a.link) { monitor = k2.monitor } → Asks a k (Ok e) k2
-asks_done a k base same e k2 adds (c, opens) rest = subst (λ (x : TheCore). Asks a x (Ok e) k2) same (record { adds = adds; circuit = c; opens = opens; rest = rest })
 
 pub link_opened : (l : LinkId) (o : Opening) (m m2 : TheMonitor) (c : Number) → Opens l o m (Ok c) m2 → l.0 < length m.circuits.links
 link_opened l o m m2 c h = link_there m.circuits l.0 o.binding (nat_lt l.0 (length m.circuits.links)) refl h.0

@@ -1,6 +1,5 @@
 -- The server's end that a message makes, and the offer that it is made for.
 use Rattle.std.proofs.Common.{◌≡◌, refl, sym, ap, ◌∙◌, subst, ℕ, ◌<◌, ◌==◌, ◌&&◌, ◌||◌, nat_lt, not, Bool, true, false, if◌then◌else◌, length, slice_get, Option, Some, None, is_some, arith}
-use Rattle.std.proofs.lemmas.Option.{slice_get_within}
 use Rattle.fl_base.specs.declared.identity.LinkId.{LinkId}
 use Rattle.fl_base.specs.declared.identity.CoreId.{CoreId}
 use Rattle.fl_base.specs.declared.identity.Circuit.{Circuit}
@@ -146,20 +145,6 @@ three false b c h = absurd (cc)
 place_left : (b : TheBoard) (n : ℕ) (x : Option TheDispatcher) → slice_get b.dispatchers n ≡ x → given x false (λ d. nat_lt (length d.ends) 1024) ≡ true → HasPlace b n
 place_left b n None is h = absurd (cc)
 place_left b n (Some d) is h = (d, is, is_less (length d.ends) 1024 h)
-
-pub offer_place : (o : Offers) (k : TheCore) (m : Message) (offer : Offered) → OfferFor o k m offer → HasPlace k.board offer.dispatcher
-offer_place o k m offer f =
-    let parts = three (f.registration.service.core.0 == k.monitor.circuits.core) (has_place k.board f.registration.service.dispatcher) (nat_lt f.registration.service.interface (length o.programs)) f.may in
-    subst (HasPlace k.board) (sym f.dispatcher) (place_left k.board f.registration.service.dispatcher (slice_get k.board.dispatchers f.registration.service.dispatcher) refl parts.0)
-
-pub offer_there : (o : Offers) (k : TheCore) (m : Message) (offer : Offered) → OfferFor o k m offer → offer.dispatcher < length k.board.dispatchers
-offer_there o k m offer f = let it = offer_place o k m offer f in slice_get_within k.board.dispatchers offer.dispatcher it.0 it.1
-
-pub offer_program : (o : Offers) (k : TheCore) (m : Message) (offer : Offered) → OfferFor o k m offer → offer.interface < length o.programs
-offer_program o k m offer f =
-    let parts = three (f.registration.service.core.0 == k.monitor.circuits.core) (has_place k.board f.registration.service.dispatcher) (nat_lt f.registration.service.interface (length o.programs)) f.may in
-    let below = is_less f.registration.service.interface (length o.programs) parts.1 in
-    omega (arith, below, f.interface)
 
 -- the end that is made is at the dispatcher of the offer
 pub offer_leads : (o : Offers) (k : TheCore) (l : LinkId) (m : Message) (offer : Offered) → OfferFor o k m offer → LeadsTo (known_for o k m) k.monitor.circuits l m offer.dispatcher (circuit_in m)

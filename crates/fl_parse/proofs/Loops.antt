@@ -6,8 +6,8 @@ use Rattle.fl_lex.specs.Token.{TheToken, token_of}
 use Rattle.fl_parse.specs.declared.stop.Stop.{Stop}
 use Rattle.fl_parse.specs.declared.stop.Stop.TheVariants as stops
 use Rattle.fl_parse.specs.Tree.{TheName}
-use Rattle.fl_parse.specs.Grammar.{is_mark, name_in, if_so}
-use Rattle.fl_parse.specs.Reading.{Read, ◌>>=◌, begins, one_of, one_at, mark_at, Fails, many_at, behind_comma, separated_at, members_at}
+use Rattle.fl_parse.specs.Grammar.{is_mark, name_in}
+use Rattle.fl_parse.specs.Reading.{Read, ◌>>=◌, begins, one_at, mark_at, Fails, many_at, behind_comma, separated_at, members_at}
 use Rattle.fl_parse.proofs.Laws.{WasRefused, Answers, Reads}
 
 -- what is read behind items that are read already
@@ -48,12 +48,6 @@ many_open : {A : Type 0} (ends : TheToken → Bool) (p : List TheToken → Read 
 many_open ends p k t rest test e =
     ap (λ b. if b then Ok ([], t ∷ rest) else (p (t ∷ rest) >>= λ q. many_at ends p k q.1 >>= λ r. Ok (q.0 ∷ r.0, r.1))) e
 
-many_ends : {A : Type 0} (ends : TheToken → Bool) (p : List TheToken → Read A) (whole : Read (List A)) (xs : List A) (rest : List TheToken) (k : ℕ)
-    → length rest ≤ k → begins ends rest ≡ true → prepend xs (many_at ends p k rest) ≡ whole → whole ≡ Ok (xs ++ [], rest)
-many_ends ends p whole xs [] k short e j = cc
-many_ends ends p whole xs (t ∷ rest) zero short e j = absurd (omega arith)
-many_ends ends p whole xs (t ∷ rest) (suc k) short e j = sym j ∙ ap (prepend xs) (many_open ends p k t rest true e)
-
 many_stops : {A : Type 0} {L : List TheToken → A → Type 0} {F : List TheToken → Type 0} (ends : TheToken → Bool) (p : List TheToken → Read A) (whole : Read (List A)) (xs : List A) (rest stop : List TheToken) (k : ℕ)
     → Reads L F p → length rest ≤ k → begins ends rest ≡ false → p rest ≡ Err stop → prepend xs (many_at ends p k rest) ≡ whole → whole ≡ Err stop
 many_stops ends p whole xs [] stop zero reads short e stops j = sym j ∙ ap Err (at_once stop reads stops)
@@ -75,12 +69,6 @@ many_goes ends p whole xs x (t ∷ rest) after (suc k) short e one less j =
           ∙ sym (ap (λ o. prepend xs (o >>= λ q. many_at ends p k q.1 >>= λ r. Ok (q.0 ∷ r.0, r.1))) one)
           ∙ sym (ap (prepend xs) (many_open ends p k t rest false e)) ∙ j;
     }
-
--- The items are the whole where the rest begins with the end.
-pub left_ends : {A : Type 0} (ends : TheToken → Bool) (p : List TheToken → Read A) {whole : Read (List A)} {xs : List A} {rest : List TheToken}
-    → Left (many_at ends p) whole xs rest → begins ends rest ≡ true → whole ≡ Ok (xs, rest)
-left_ends ends p {whole = whole} {xs = xs} {rest = rest} left e =
-    many_ends ends p whole xs rest left.fuel left.enough e left.joins ∙ ap (λ z. Ok (z, rest)) (append-nil xs)
 
 -- Where the next item stops, the whole stops.
 pub left_stops : {A : Type 0} {L : List TheToken → A → Type 0} {F : List TheToken → Type 0} (ends : TheToken → Bool) {p : List TheToken → Read A} {whole : Read (List A)} {xs : List A} {rest : List TheToken} (e : Stop)
@@ -148,20 +136,6 @@ members_open : (k : ℕ) (t : TheToken) (rest : List TheToken) (test : Bool) →
 members_open k t rest test e =
     ap (λ b. if b then Ok ([], t ∷ rest) else (one_at name_in (t ∷ rest) >>= λ p. rest_of_members k p.1 >>= λ q. Ok (p.0 ∷ q.0, q.1))) e
 
-members_end : (whole : Read (List TheName)) (xs : List TheName) (rest : List TheToken) (k : ℕ)
-    → length rest ≤ k → begins (λ token. is_mark token CloseBrace) rest ≡ true → prepend xs (members_at k rest) ≡ whole → whole ≡ Ok (xs ++ [], rest)
-members_end whole xs [] k short e j = cc
-members_end whole xs (t ∷ rest) zero short e j = absurd (omega arith)
-members_end whole xs (t ∷ rest) (suc k) short e j = sym j ∙ ap (prepend xs) (members_open k t rest true e)
-
-members_stop : (whole : Read (List TheName)) (xs : List TheName) (rest stop : List TheToken) (k : ℕ)
-    → length rest ≤ k → begins (λ token. is_mark token CloseBrace) rest ≡ false → one_at name_in rest ≡ Err stop → prepend xs (members_at k rest) ≡ whole → whole ≡ Err stop
-members_stop whole xs [] stop zero short e stops j = let none : [] ≡ stop = cc in sym j ∙ ap Err none
-members_stop whole xs [] stop (suc k) short e stops j = let none : [] ≡ stop = cc in sym j ∙ ap Err none
-members_stop whole xs (t ∷ rest) stop zero short e stops j = absurd (omega arith)
-members_stop whole xs (t ∷ rest) stop (suc k) short e stops j =
-    sym j ∙ ap (prepend xs) (members_open k t rest false e) ∙ ap (λ o. prepend xs (o >>= λ p. rest_of_members k p.1 >>= λ q. Ok (p.0 ∷ q.0, q.1))) stops
-
 -- one name, and what is read behind it
 members_one : (whole : Read (List TheName)) (xs : List TheName) (x : TheName) (rest after : List TheToken) (k : ℕ)
     → length rest ≤ k → begins (λ token. is_mark token CloseBrace) rest ≡ false → one_at name_in rest ≡ Ok (x, after) → prepend xs (members_at k rest) ≡ whole
@@ -181,17 +155,6 @@ members_one whole xs x (t ∷ rest) after (suc k) short e one j = (
 rest_by : (k : ℕ) (rest : List TheToken) (test : Bool) → begins (λ token. is_mark token Comma) rest ≡ test
     → rest_of_members k rest ≡ (if test then (mark_at Comma rest >>= λ comma. members_at k comma.1) else Ok ([], rest))
 rest_by k rest test e = ap (λ b. if b then (mark_at Comma rest >>= λ comma. members_at k comma.1) else Ok ([], rest)) e
-
-pub members_ends : {whole : Read (List TheName)} {xs : List TheName} {rest : List TheToken}
-    → Left members_at whole xs rest → begins (λ token. is_mark token CloseBrace) rest ≡ true → whole ≡ Ok (xs, rest)
-members_ends {whole = whole} {xs = xs} {rest = rest} left e =
-    members_end whole xs rest left.fuel left.enough e left.joins ∙ ap (λ z. Ok (z, rest)) (append-nil xs)
-
-pub members_stops : {whole : Read (List TheName)} {xs : List TheName} {rest : List TheToken} (e : Stop)
-    → Left members_at whole xs rest → begins (λ token. is_mark token CloseBrace) rest ≡ false → Fails e (one_at name_in rest) → Fails e whole
-members_stops stops.Memory left more stopped = tt
-members_stops {whole = whole} {xs = xs} {rest = rest} (stops.Unexpected at) left more stopped =
-    members_stop whole xs rest (map token_of at.now) left.fuel left.enough more stopped left.joins
 
 -- The last name has no comma behind it.
 pub members_last : {whole : Read (List TheName)} {xs : List TheName} {rest : List TheToken} (x : TheName) (after : List TheToken)
@@ -214,10 +177,3 @@ members_go {whole = whole} {xs = xs} {rest = rest} x after next left more one co
       joins = sym (ap (λ o. prepend (xs ++ x ∷ []) (o >>= λ comma. members_at k comma.1)) taken)
           ∙ sym (ap (prepend (xs ++ x ∷ [])) (rest_by k after true comma)) ∙ joined;
     }
-
--- Where a comma is there, taking it does not stop.
-pub comma_there : (tokens : List TheToken) (rest : List TheToken) → begins (λ token. is_mark token Comma) tokens ≡ true → mark_at Comma tokens ≡ Err rest → ⊥
-comma_there [] rest there stopped = cc
-comma_there (t ∷ tokens) rest there stopped =
-    let taken : mark_at Comma (t ∷ tokens) ≡ Ok (tt, tokens) = ap (λ b. one_of (if_so b tt) t tokens) there in
-    cc

@@ -3,7 +3,7 @@ use Rattle.std.proofs.Common.{◌≡◌, refl, sym, ap, ◌∙◌, subst, ℕ, z
 use Rattle.fl_hop.proofs.Lists.{within}
 use Rattle.fl_tally.specs.declared.board.Refusal.{Refusal}
 use Rattle.fl_tally.specs.Seats.{TheSeat}
-use Rattle.fl_running.specs.declared.job.Job.{Job}
+use Rattle.fl_work.specs.declared.job.Job.{Job}
 use Rattle.fl_running.specs.declared.run.End.{End}
 use Rattle.fl_running.specs.declared.run.End.TheVariants.{Finished, Unfinished, Told}
 use Rattle.fl_running.specs.Ran.{TellsEnd}

@@ -5,7 +5,7 @@ use Rattle.fl_base.specs.declared.identity.Side.TheVariants.{Client}
 use Rattle.std.specs.List.{flat_map}
 use Rattle.fl_value.specs.declared.value.Call.{Call}
 use Rattle.fl_value.specs.Value.{call_of}
-use Rattle.fl_running.specs.Jobs.{calls_of_jobs}
+use Rattle.fl_work.specs.Jobs.{calls_of_jobs}
 use Rattle.fl_logs.specs.Made.{desk_of}
 use Rattle.fl_dockets.specs.Dockets.{docket_at, reply_by}
 use Rattle.fl_queues.specs.Given.{given}

@@ -4,9 +4,9 @@ use Rattle.std.specs.List.{list_any}
 use Rattle.fl_base.specs.declared.identity.CoreId.{CoreId}
 use Rattle.fl_monitor.specs.Routing.{is_core, all_differ}
 use Rattle.fl_queues.specs.Binding.{all_differ as numbers_differ}
-use Rattle.fl_running.specs.declared.job.Job.{Job as CoreJob}
-use Rattle.fl_running.specs.declared.job.Job.TheVariants as job
-use Rattle.fl_running.specs.declared.job.Wish.{Wish}
+use Rattle.fl_work.specs.declared.job.Job.{Job as CoreJob}
+use Rattle.fl_work.specs.declared.job.Job.TheVariants as job
+use Rattle.fl_work.specs.declared.job.Wish.{Wish}
 use Rattle.fl_jobs.specs.Jobs.{Job}
 use Rattle.fl_jobs.specs.Report.{TheReport}
 use Rattle.fl_system.specs.Booting.{TheConfig}

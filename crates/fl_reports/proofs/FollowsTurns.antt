@@ -1,7 +1,7 @@
 -- A core's whole run is turns: those that are counted, and then some that aren't.
 use Rattle.std.proofs.Common.{sym, subst, ℕ, zero, suc, ◌≤◌, List, arith}
 use Rattle.fl_ring.specs.SharedSides.{TheSide}
-use Rattle.fl_running.specs.declared.job.Job.{Job}
+use Rattle.fl_work.specs.declared.job.Job.{Job}
 use Rattle.fl_running.specs.declared.plan.Plan.{Plan}
 use Rattle.fl_running.specs.declared.run.End.{End}
 use Rattle.fl_running.specs.declared.run.End.TheVariants.{Finished, Unfinished, Told}

@@ -25,7 +25,7 @@ use Rattle.fl_monitor.specs.Saying.{Says}
 use Rattle.fl_monitor.proofs.Single.{says_the_same, says_alone}
 use Rattle.fl_node.specs.declared.answer.MonitorAnswer.TheVariants as answer
 use Rattle.fl_node.specs.View.{TheCore, side_of_link}
-use Rattle.fl_running.specs.declared.job.Job.{Job as CoreJob}
+use Rattle.fl_work.specs.declared.job.Job.{Job as CoreJob}
 use Rattle.fl_running.specs.Deeds.{Deed, looked, passed, arrived, heard, said, told, opened, called, ruled, wrote, acked, turned, Happens}
 use Rattle.fl_running.specs.Run.{TheRun}
 use Rattle.fl_logs.specs.Logs.{InPlace, Goes, LogsLook}

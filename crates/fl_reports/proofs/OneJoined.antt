@@ -11,10 +11,10 @@ use Rattle.fl_hop.proofs.Lists.{at_within, within}
 use Rattle.fl_node.specs.View.{client_of, server_of}
 use Rattle.fl_queues.specs.Given.{given}
 use Rattle.fl_queues.specs.Runs.{same_end}
-use Rattle.fl_running.specs.declared.job.Job.{Job as CoreJob}
-use Rattle.fl_running.specs.declared.job.Job.TheVariants as core
-use Rattle.fl_running.specs.declared.job.Wish.{Wish as CoreWish}
-use Rattle.fl_running.specs.Jobs.{is_rule, HasNoRule, calls_of_job, calls_of_jobs}
+use Rattle.fl_work.specs.declared.job.Job.{Job as CoreJob}
+use Rattle.fl_work.specs.declared.job.Job.TheVariants as core
+use Rattle.fl_work.specs.declared.job.Wish.{Wish as CoreWish}
+use Rattle.fl_work.specs.Jobs.{is_rule, HasNoRule, calls_of_job, calls_of_jobs}
 use Rattle.fl_worlds.specs.declared.binding.Binding.{Binding}
 use Rattle.fl_jobs.specs.Jobs.{Job, Wish, own_calls, reply_to}
 use Rattle.fl_dockets.specs.declared.docket.Bound.{Bound}

@@ -8,8 +8,8 @@ use Rattle.fl_node.specs.View.{slot_of}
 use Rattle.fl_queues.specs.Given.{given, changed_at}
 use Rattle.fl_queues.specs.Events.{call, turn, write, Answer, accepted, handle}
 use Rattle.fl_queues.specs.Step.{step}
-use Rattle.fl_running.specs.declared.job.Job.{Job}
-use Rattle.fl_running.specs.declared.job.Job.TheVariants as job
+use Rattle.fl_work.specs.declared.job.Job.{Job}
+use Rattle.fl_work.specs.declared.job.Job.TheVariants as job
 use Rattle.fl_alone.specs.Turns.{Desk, Alone, advanced, with_handled, next_job, goes, is_there, call_noted, tries, serves, here, due_at, is_before_calls}
 use Rattle.fl_alone.specs.Turns.{turn_noted, turns_at, takes_turn, Work, swept, serves_at, one_turn, turned}
 use Rattle.fl_alone.proofs.Desks.{get_some, map_set}

@@ -17,7 +17,7 @@ use Rattle.fl_queues.specs.Sound.{Sound}
 use Rattle.fl_queues.specs.State.{State}
 use Rattle.fl_running.specs.declared.run.End.{End}
 use Rattle.fl_running.specs.Desks.{TheDesk}
-use Rattle.fl_running.specs.Jobs.{calls_of_jobs}
+use Rattle.fl_work.specs.Jobs.{calls_of_jobs}
 use Rattle.fl_jobs.specs.Jobs.{Job, handed_in, reply_to}
 use Rattle.fl_jobs.specs.Report.{BothEnds, TheReport, complete, turns_out, at_end, Honest}
 use Rattle.fl_worlds.specs.declared.binding.Binding.{Binding}

@@ -11,8 +11,8 @@ use Rattle.fl_hop.specs.Table.{TheCircuits, link_of}
 use Rattle.fl_monitor.specs.declared.opening.Opening.{Opening}
 use Rattle.fl_monitor.specs.Routing.{next_on}
 use Rattle.fl_node.specs.View.{TheCore, client_of}
-use Rattle.fl_running.specs.declared.job.Job.TheVariants as job
-use Rattle.fl_running.specs.declared.job.Wish.{Wish}
+use Rattle.fl_work.specs.declared.job.Job.TheVariants as job
+use Rattle.fl_work.specs.declared.job.Wish.{Wish}
 use Rattle.fl_running.specs.Run.{TheRun}
 use Rattle.fl_logs.specs.Led.{LeadsAtFirst}
 use Rattle.fl_queues.specs.State.{core_of}

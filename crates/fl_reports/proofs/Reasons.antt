@@ -13,8 +13,8 @@ use Rattle.fl_monitor.specs.declared.opening.Opening.{Opening}
 use Rattle.fl_monitor.specs.Routing.{all_differ}
 use Rattle.fl_node.specs.Hearing.{Offers}
 use Rattle.fl_node.specs.View.{TheCore, client_of}
-use Rattle.fl_running.specs.declared.job.Job.{Job as CoreJob}
-use Rattle.fl_running.specs.declared.job.Wish.{Wish}
+use Rattle.fl_work.specs.declared.job.Job.{Job as CoreJob}
+use Rattle.fl_work.specs.declared.job.Wish.{Wish}
 use Rattle.fl_running.specs.Deeds.{Deed}
 use Rattle.fl_running.specs.Ran.{task, moment}
 use Rattle.fl_running.specs.Run.{TheRun}

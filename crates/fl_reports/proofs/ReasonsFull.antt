@@ -16,7 +16,7 @@ use Rattle.fl_node.specs.declared.hearing.Offered.{Offered}
 use Rattle.fl_node.specs.Hearing.{Offers, has_place, may_offer, offer_of}
 use Rattle.fl_node.specs.declared.wire.Port.{Port}
 use Rattle.fl_node.specs.View.{TheCore, place_of, client_of}
-use Rattle.fl_running.specs.declared.job.Job.{Job}
+use Rattle.fl_work.specs.declared.job.Job.{Job}
 use Rattle.fl_running.specs.Deeds.{Deed, IsSound}
 use Rattle.fl_running.specs.Run.{TheRun}
 use Rattle.fl_logs.specs.Logs.{Goes}

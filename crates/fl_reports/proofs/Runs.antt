@@ -4,7 +4,7 @@ use Rattle.fl_ring.specs.SharedSides.{TheSide}
 use Rattle.fl_hop.specs.Joined.{Sound as IsTable}
 use Rattle.fl_node.specs.View.{TheCore}
 use Rattle.fl_node.specs.Sound.{IsCore}
-use Rattle.fl_running.specs.declared.job.Job.{Job as CoreJob}
+use Rattle.fl_work.specs.declared.job.Job.{Job as CoreJob}
 use Rattle.fl_running.specs.Ran.{task, moment}
 use Rattle.fl_running.specs.Run.{TheRun}
 use Rattle.fl_logs.specs.Flows.{IsApart}

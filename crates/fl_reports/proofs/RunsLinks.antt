@@ -30,7 +30,7 @@ use Rattle.fl_node.specs.Hearing.{Offers, known_for, offer_for, HearsAll, offeri
 use Rattle.fl_node.specs.Ends.{at_side}
 use Rattle.fl_node.proofs.Begun.{opens_length}
 use Rattle.fl_node.proofs.Hearsay.{hears_length}
-use Rattle.fl_running.specs.declared.job.Job.{Job}
+use Rattle.fl_work.specs.declared.job.Job.{Job}
 use Rattle.fl_running.specs.Run.{Ways, TheRun}
 use Rattle.fl_running.specs.Deeds.{Deed, looked, passed, arrived, heard, said, told, opened, called, ruled, wrote, acked, turned, Does}
 use Rattle.fl_logs.specs.Logs.{Goes}

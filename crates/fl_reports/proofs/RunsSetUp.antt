@@ -19,9 +19,9 @@ use Rattle.fl_queues.specs.Given.{given as in_machine}
 use Rattle.fl_queues.specs.Runs.{same_end}
 use Rattle.fl_node.specs.View.{TheCore, most_bindings, slot_of, place_of, side_of_link}
 use Rattle.fl_node.proofs.Numbering.{goes_to}
-use Rattle.fl_running.specs.declared.job.Job.{Job as CoreJob}
-use Rattle.fl_running.specs.declared.job.Job.TheVariants as job
-use Rattle.fl_running.specs.declared.job.Wish.{Wish}
+use Rattle.fl_work.specs.declared.job.Job.{Job as CoreJob}
+use Rattle.fl_work.specs.declared.job.Job.TheVariants as job
+use Rattle.fl_work.specs.declared.job.Wish.{Wish}
 use Rattle.fl_running.specs.Desks.{TheDesk, desk_place}
 use Rattle.fl_running.specs.Run.{TheRun}
 use Rattle.fl_logs.specs.Made.{desk_of}

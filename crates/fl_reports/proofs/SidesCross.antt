@@ -4,7 +4,7 @@ use Rattle.fl_ring.specs.SharedSides.{TheSide}
 use Rattle.fl_core.proofs.Places.{one_stands}
 use Rattle.fl_node.specs.Numbers.{moved}
 use Rattle.fl_node.proofs.Numbering.{goes_to}
-use Rattle.fl_running.specs.declared.job.Job.{Job as CoreJob}
+use Rattle.fl_work.specs.declared.job.Job.{Job as CoreJob}
 use Rattle.fl_running.specs.Run.{TheRun}
 use Rattle.fl_logs.specs.Logs.{LogsLook}
 use Rattle.fl_worlds.specs.declared.parts.Parts.{Parts}

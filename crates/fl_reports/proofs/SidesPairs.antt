@@ -42,16 +42,6 @@ new_ring (x ∷ rings) (p ∷ pairs) (suc r) new below =
     let it = new_ring rings pairs r new.1 (omega (arith, below)) in
     record { ring = it.ring; pair = it.pair; pair_is = it.pair_is; new = it.new }
 
-pub new_count : (rings : List TheDuo) (pairs : List Pair) → AreNewRings rings pairs → length pairs ≡ length rings
-new_count [] [] new = refl
-new_count [] (p ∷ pairs) new = absurd new
-new_count (x ∷ rings) [] new = absurd new
-new_count (x ∷ rings) (p ∷ pairs) new = ap suc (new_count rings pairs new.1)
-
-pub sides_count : (pairs : List Pair) → length (sides_of pairs) ≡ 2 * length pairs
-sides_count [] = refl
-sides_count (p ∷ pairs) = let rest = sides_count pairs in omega (arith, rest)
-
 -- ---- sides by twos
 
 pub record ArePairs (sides : List TheSide) (n : ℕ) : Type 0 where

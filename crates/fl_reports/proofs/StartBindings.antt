@@ -14,7 +14,7 @@ use Rattle.fl_node.specs.Sound.{IsCore}
 use Rattle.fl_node.specs.Numbers.{moved, moved_wire, renumbered}
 use Rattle.fl_node.proofs.Numbering.{goes_to}
 use Rattle.fl_running.specs.Run.{TheRun}
-use Rattle.fl_running.specs.Jobs.{HasNoRule}
+use Rattle.fl_work.specs.Jobs.{HasNoRule}
 use Rattle.fl_logs.specs.Flows.{IsApart}
 use Rattle.fl_worlds.specs.declared.binding.Binding.{Binding}
 use Rattle.fl_worlds.specs.View.{TheWorld, core_in}

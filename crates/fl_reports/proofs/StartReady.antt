@@ -13,9 +13,9 @@ use Rattle.fl_node.specs.View.{TheCore, place_of}
 use Rattle.fl_node.specs.Sound.{IsCore}
 use Rattle.fl_node.specs.Numbers.{moved_wire, moved_port, renumbered}
 use Rattle.fl_node.proofs.Numbering.{goes_to}
-use Rattle.fl_running.specs.declared.job.Job.{Job as CoreJob}
+use Rattle.fl_work.specs.declared.job.Job.{Job as CoreJob}
 use Rattle.fl_running.specs.Run.{TheRun}
-use Rattle.fl_running.specs.Jobs.{HasNoRule}
+use Rattle.fl_work.specs.Jobs.{HasNoRule}
 use Rattle.fl_worlds.specs.declared.binding.Binding.{Binding}
 use Rattle.fl_worlds.specs.View.{TheWorld, core_in}
 use Rattle.fl_worlds.specs.Picture.{wire_of}

@@ -10,10 +10,10 @@ use Rattle.fl_value.specs.Value.{TheCall, call_of}
 use Rattle.fl_ring.specs.SharedSides.{TheSide}
 use Rattle.fl_queues.specs.Given.{given}
 use Rattle.fl_node.specs.View.{TheCore, most_bindings, slot_of}
-use Rattle.fl_running.specs.declared.job.Job.{Job as CoreJob}
+use Rattle.fl_work.specs.declared.job.Job.{Job as CoreJob}
 use Rattle.fl_running.specs.Desks.{TheDesk}
 use Rattle.fl_running.specs.Run.{TheRun}
-use Rattle.fl_running.specs.Jobs.{calls_of_jobs}
+use Rattle.fl_work.specs.Jobs.{calls_of_jobs}
 use Rattle.fl_logs.specs.Logs.{in_desk, handled_of}
 use Rattle.fl_logs.specs.Made.{done_at, done_of}
 use Rattle.fl_jobs.specs.Report.{BothEnds, TheReport, at_side, at_end}

@@ -18,8 +18,8 @@ use Rattle.fl_queues.specs.Given.{given}
 use Rattle.fl_queues.specs.Monitors.{Service}
 use Rattle.fl_queues.specs.State.{end_in}
 use Rattle.fl_node.specs.View.{TheCore, place_in, place_of, client_of}
-use Rattle.fl_running.specs.declared.job.Job.TheVariants as job
-use Rattle.fl_running.specs.declared.job.Wish.{Wish}
+use Rattle.fl_work.specs.declared.job.Job.TheVariants as job
+use Rattle.fl_work.specs.declared.job.Wish.{Wish}
 use Rattle.fl_running.specs.Run.{TheRun}
 use Rattle.fl_logs.specs.Led.{LeadsAtFirst}
 use Rattle.fl_logs.specs.Logs.{Goes}

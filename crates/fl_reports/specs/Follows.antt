@@ -1,6 +1,6 @@
 -- That each core of a run goes on as the machine does, from the set-up. Law.
 use Rattle.std.specs.Prelude.{ℕ, ◌≡◌, ◌≤◌, List, slice_get, Some, None}
-use Rattle.fl_running.specs.declared.job.Job.{Job as CoreJob}
+use Rattle.fl_work.specs.declared.job.Job.{Job as CoreJob}
 use Rattle.fl_running.specs.Deeds.{Deed}
 use Rattle.fl_running.specs.Turn.{Turned}
 use Rattle.fl_logs.specs.Logs.{Goes}

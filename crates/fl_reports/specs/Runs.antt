@@ -1,6 +1,6 @@
 -- The cores of a run, each as it began, by what happened there, and as it ended.
 use Rattle.std.specs.Prelude.{◌≡◌, List, [], ◌∷◌}
-use Rattle.fl_running.specs.declared.job.Job.{Job as CoreJob}
+use Rattle.fl_work.specs.declared.job.Job.{Job as CoreJob}
 use Rattle.fl_logs.specs.Logs.{Goes}
 use Rattle.fl_honest.specs.Cores.{shared_ways, OneCore}
 use Rattle.fl_stations.specs.Runs.{TheOutcome, TheStation}

@@ -171,10 +171,6 @@ half_join s p t q u v xs ys a b = record {
   elsewhere = b.elsewhere ∙ ap (λ (h : TheHalf). with_waiting h v.waiting) a.elsewhere;
 }
 
-half_step : (n : ℕ) (s p t q : TheHalf) (look : Look) → HalfPuts n s p look t q ⊎ HalfTakes n s p look t q → HalfConserves s p (look ∷ []) t q
-half_step n s p t q look (inl put) = half_put n s p t q look put
-half_step n s p t q look (inr took) = half_take n s p t q look took
-
 duo_step : (which : Which) (s t : TheDuo) (look : Look) → LinkStep (DuoPuts which) (DuoTakes which) s look t → DuoConserves which s (look ∷ []) t
 duo_step One s t look (inl put) = record { same_size = put.1; sides = half_put s.size s.one s.two t.one t.two look put.0 }
 duo_step One s t look (inr took) = record { same_size = took.1; sides = half_take s.size s.one s.two t.one t.two look took.0 }

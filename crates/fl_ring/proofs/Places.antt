@@ -55,7 +55,3 @@ other_epoch n i p e =
 
 pub epoch_bit : (n i : ℕ) → epoch_at n i < 2
 epoch_bit n i = mod_below (i / n + 1) 2 (omega arith)
-
--- of two bits that each differ from a third, both are the same
-pub third_bit : (x y z : ℕ) → x < 2 → y < 2 → z < 2 → x ≢ z → y ≢ z → x ≡ y
-third_bit x y z a b c h k = omega arith

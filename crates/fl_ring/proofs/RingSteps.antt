@@ -173,17 +173,6 @@ puts_placed ws ws' n sent taken e f r unspent room w turn =
 
 -- ---- taking
 
--- one more is taken: the ring stands
-pub take_stands : (ws : List ℕ) (n sent taken : ℕ) → IsRing ws n sent taken → taken < sent → IsRing ws n sent (taken + 1)
-take_stands ws n sent taken r lt = record {
-  few = r.few;
-  wide = r.wide;
-  told_taken = omega (arith, r.told_taken);
-  taken_sent = omega arith;
-  most = r.most;
-  marked = r.marked;
-}
-
 -- the first of the fragments that stand goes to those read
 pub take_moves : (ws : List ℕ) (n sent taken : ℕ) → IsRing ws n sent taken → taken < sent
     → (ring_of ws n sent (taken + 1)).read ≡ (ring_of ws n sent taken).read ++ frag_of 0 n ws taken ∷ []

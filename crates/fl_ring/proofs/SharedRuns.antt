@@ -20,9 +20,6 @@ Seated = Me (Unit {0}) View
 pub taken_length : (k : ℕ) (xs : List ℕ) → length xs ≡ 7 → k < 7 → length (take k xs) ≡ k
 taken_length k xs seven lt = length-take-le k xs (omega arith)
 
-pub taken_all : (xs : List ℕ) → length xs ≡ 7 → take 7 xs ≡ xs
-taken_all xs seven = take_all 7 xs (omega arith)
-
 -- ---- a payload word found, and another number stored there
 
 -- those before the last item stay, and another is the last

@@ -7,7 +7,7 @@ use Rattle.fl_node.specs.Making.{Asked, Asks}
 use Rattle.fl_node.specs.View.{TheCore, place_of, client_of}
 use Rattle.fl_node.specs.declared.fault.OpenFault.{OpenFault}
 use Rattle.fl_node.specs.declared.fault.OpenFault.TheVariants.{Board, Monitor}
-use Rattle.fl_running.specs.declared.job.Wish.{Wish}
+use Rattle.fl_work.specs.declared.job.Wish.{Wish}
 use Rattle.fl_running.specs.Run.{TheRun}
 use Rattle.fl_running.specs.Steps.{lacks_to_open, may_ask}
 

@@ -5,7 +5,7 @@ use Rattle.std.proofs.lemmas.Bool.{ltb-true, ltb-false}
 use Rattle.std.specs.Prelude.{is_some, IfSome, IfNone}
 use Rattle.fl_base.specs.declared.identity.EndId.{EndId}
 use Rattle.fl_monitor.specs.Routing.{given}
-use Rattle.fl_running.specs.declared.job.Job.{Job}
+use Rattle.fl_work.specs.declared.job.Job.{Job}
 use Rattle.fl_running.specs.Desks.{TheDesk, desk_place, ChangesIf, is_clear}
 use Rattle.fl_running.specs.Run.{TheRun, AtDesk, next_job}
 use Rattle.fl_running.specs.Inside.{HasLeft}

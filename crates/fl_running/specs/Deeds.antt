@@ -47,7 +47,7 @@ use Rattle.fl_node.specs.Sound.{IsCore}
 use Rattle.fl_node.specs.Ends.{at_side, OnBoard, OverArrivals, WritesAt}
 use Rattle.fl_node.specs.Links.{MonitorWrites, LooksAhead, inbound, ArrivesAt, Acknowledges}
 use Rattle.fl_node.specs.Hearing.{HearsFrag, TakesHeard}
-use Rattle.fl_running.specs.declared.job.Wish.{Wish}
+use Rattle.fl_work.specs.declared.job.Wish.{Wish}
 use Rattle.fl_running.specs.Desks.{advanced, with_handled, with_refusal}
 use Rattle.fl_running.specs.Run.{Ways, TheRun, AtDesk}
 

@@ -8,6 +8,5 @@ pub mod Words
 pub mod Finished
 pub mod Ran
 pub mod Stops
-pub mod Jobs
 -- This one only the proofs need.
 pub mod Inside

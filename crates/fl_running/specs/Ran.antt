@@ -2,7 +2,7 @@
 use Rattle.std.specs.Prelude.{ℕ, ◌≡◌, ◌⊎◌, ◌<◌, ◌≤◌, Bool, true, false, List}
 use Rattle.fl_tally.specs.Tally.{with_finish, with_seen}
 use Rattle.fl_tally.specs.Seats.{TheSeat, knowing}
-use Rattle.fl_running.specs.declared.job.Job.{Job}
+use Rattle.fl_work.specs.declared.job.Job.{Job}
 use Rattle.fl_running.specs.declared.plan.Plan.{Plan}
 use Rattle.fl_running.specs.declared.ticket.Ticket.{Ticket}
 use Rattle.fl_running.specs.declared.run.End.{End}

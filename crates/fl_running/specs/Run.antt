@@ -13,7 +13,7 @@ use Rattle.fl_node.specs.declared.wire.Inlet.TheVariants as inlet
 use Rattle.fl_node.specs.View.{TheCore, place_of, side_of_link, outlet_of, inlet_of}
 use Rattle.fl_node.specs.Hearing.{Offers}
 use Rattle.fl_running.specs.Desks.{TheDesk, desk_place, ChangesIf}
-use Rattle.fl_running.specs.declared.job.Job.{Job}
+use Rattle.fl_work.specs.declared.job.Job.{Job}
 use Rattle.fl_running.specs.declared.lent.Due.{Due}
 use Rattle.fl_running.specs.declared.lent.Post.{Post}
 use Rattle.fl_running.specs.declared.lent.Berth.{Berth}

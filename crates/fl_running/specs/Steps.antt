@@ -26,9 +26,10 @@ use Rattle.fl_node.specs.declared.fault.LinkFault.TheVariants as link
 use Rattle.fl_node.specs.declared.fault.OpenFault.{OpenFault}
 use Rattle.fl_node.specs.declared.fault.OpenFault.TheVariants as opening
 use Rattle.fl_node.specs.View.{place_of, client_of, most_bindings}
-use Rattle.fl_running.specs.declared.job.Wish.{Wish}
-use Rattle.fl_running.specs.declared.job.Job.{Job}
-use Rattle.fl_running.specs.declared.job.Job.TheVariants as job
+use Rattle.fl_work.specs.declared.job.Wish.{Wish}
+use Rattle.fl_work.specs.declared.job.Job.{Job}
+use Rattle.fl_work.specs.declared.job.Job.TheVariants as job
+use Rattle.fl_work.specs.Jobs.{is_before_calls}
 use Rattle.fl_running.specs.declared.lent.Due.{Due}
 use Rattle.fl_running.specs.declared.lent.Post.{Post}
 use Rattle.fl_running.specs.declared.lent.Berth.{Berth}
@@ -148,12 +149,6 @@ Acknowledges w name s t = AcksFrom w name (lent_berth s name) s t
 -- ---- for a dispatcher: a turn
 
 -- the end is still to be opened, or a reply rule is still to be set there: it takes nothing before that
-abbrev pub is_before_calls : Option Job → Bool
-is_before_calls None = false
-is_before_calls (Some (job.Open wish)) = true
-is_before_calls (Some (job.Reply e msg reply)) = true
-is_before_calls (Some (job.Call e call)) = false
-
 abbrev pub awaits : {S : Type 0} → List Job → TheRun S → EndId → Bool
 awaits jobs s name = is_before_calls (next_job jobs s name)
 

@@ -9,7 +9,7 @@ use Rattle.fl_value.specs.declared.value.Call.{Call}
 use Rattle.fl_core.specs.declared.answer.TurnAnswer.TheVariants.{Handle}
 use Rattle.fl_node.specs.declared.answer.Ahead.TheVariants.{Message}
 use Rattle.fl_node.specs.View.{place_of}
-use Rattle.fl_running.specs.declared.job.Job.{Job}
+use Rattle.fl_work.specs.declared.job.Job.{Job}
 use Rattle.fl_running.specs.declared.lent.Due.{Due}
 use Rattle.fl_running.specs.declared.plan.Plan.{Plan}
 use Rattle.fl_running.specs.Run.{Ways, TheRun, lent_lane, lent_due}

@@ -1,6 +1,6 @@
 -- One turn of a core, and turns in a row.
 use Rattle.std.specs.Prelude.{ℕ, zero, suc, ◌≡◌, List, length, slice_get, Some}
-use Rattle.fl_running.specs.declared.job.Job.{Job}
+use Rattle.fl_work.specs.declared.job.Job.{Job}
 use Rattle.fl_running.specs.declared.plan.Plan.{Plan}
 use Rattle.fl_running.specs.Run.{Ways, TheRun}
 use Rattle.fl_running.specs.Steps.{Forwards, Says, Tells, Serves, Acknowledges, TakesTurn}

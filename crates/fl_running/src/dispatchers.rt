@@ -13,13 +13,13 @@ ghost use Rattle.fl_running.specs.Stops.{LeavesTurn, StopsIn};
 
 use crate::desk::find;
 use crate::ends::next_job;
-use crate::job::Job;
 use crate::lent::lent_due;
 use crate::running::{Running, sound, sound_at};
 use fl_base::EndId;
 use fl_core::TurnAnswer;
 use fl_link::{PutSide, TakeSide};
 use fl_node::Inlet;
+use fl_work::Job;
 use std::alloc::AllocError;
 
 // A turn of a dispatcher at the end that is due, over where it takes from.

@@ -11,7 +11,6 @@ ghost use Rattle.fl_running.specs.Turn.{ForEach};
 ghost use Rattle.fl_running.specs.Stops.{LeavesJob, StopsAmong};
 
 use crate::desk::find;
-use crate::job::Job;
 use crate::lent::{lent_berth, lent_post};
 use crate::opening::open;
 use crate::running::{Running, sound, sound_at};
@@ -20,6 +19,7 @@ use fl_endpoint::{EndFault, WriteAnswer};
 use fl_link::{PutSide, TakeSide};
 use fl_node::Outlet;
 use fl_value::Call;
+use fl_work::Job;
 use std::alloc::AllocError;
 
 // ---- jobs

@@ -7,8 +7,8 @@
 //!
 //! Contract for the layers above: each event is the core's own (`specs/Deeds.antt`: what a core's log is made of); which
 //! events come in a turn, and in which order, stands in `specs/Steps.antt` and `specs/Turn.antt`; when a core has nothing left to do in
-//! `specs/Finished.antt`, what it tells of refused openings in `specs/Words.antt`, and the whole run in `specs/Ran.antt`. What jobs ask for stands in
-//! `specs/Jobs.antt`. What follows for logs is `fl_logs`'s.
+//! `specs/Finished.antt`, what it tells of refused openings in `specs/Words.antt`, and the whole run in `specs/Ran.antt`. What jobs are, and ask for,
+//! stands in `fl_work`. What follows for logs is `fl_logs`'s.
 //!
 //! - `running.rt`: `Running`, and turns
 //! - `links.rt`: what is done for a link
@@ -17,7 +17,7 @@
 //! - `dispatchers.rt`: what is done for a dispatcher
 //! - `lent.rt`: which sides are lent
 //! - `desk.rt`: desks
-//! - `job.rt`, `plan.rt`: jobs, and what a turn goes over
+//! - `plan.rt`: what a turn goes over
 //! - `word.rt`, `ticket.rt`: what is told of refused openings
 //! - `finish.rt`: when nothing is left to do
 //! - `run.rt`, `gate.rt`, `fault.rt`: the whole run
@@ -30,7 +30,6 @@ mod ends;
 mod fault;
 mod finish;
 mod gate;
-mod job;
 mod lent;
 mod links;
 mod opening;
@@ -44,7 +43,6 @@ mod word;
 pub use desk::Desk;
 pub use fault::CoresFault;
 pub use gate::Gate;
-pub use job::{Job, Wish};
 pub use lent::{Berth, Due, Post};
 pub use plan::Plan;
 pub use run::{End, Part, core_run};

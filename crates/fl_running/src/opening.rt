@@ -10,7 +10,6 @@ ghost use Rattle.fl_running.specs.Inside.{HasNext};
 
 use crate::desk::find;
 use crate::ends::advance;
-use crate::job::Wish;
 use crate::running::{Running, sound};
 use fl_base::{EndId, LinkId, MAX_BINDINGS, Side};
 use fl_compile::Program;
@@ -18,6 +17,7 @@ use fl_core::BoardFault;
 use fl_link::{PutSide, TakeSide};
 use fl_monitor::{Monitor, MonitorFault};
 use fl_node::OpenFault;
+use fl_work::Wish;
 use std::alloc::AllocError;
 
 // Whether the outbox of a link has room.

@@ -10,7 +10,6 @@ ghost use Rattle.fl_running.specs.Stops.{StopsInTurn};
 use crate::fault::CoresFault;
 use crate::finish::is_finished;
 use crate::gate::Gate;
-use crate::job::Job;
 use crate::plan::Plan;
 use crate::rest::rest;
 use crate::running::Running;
@@ -18,6 +17,7 @@ use crate::ticket::Ticket;
 use crate::word::exchange_all;
 use fl_link::{PutSide, TakeSide};
 use fl_tally::STOP;
+use fl_work::Job;
 use std::alloc::AllocError;
 use std::sync::Wait;
 

@@ -10,7 +10,6 @@ ghost use Rattle.fl_running.specs.Stops.{PartOfTurn};
 use crate::desk::Desk;
 use crate::dispatchers::turn_all;
 use crate::ends::{ack_all, serve_all};
-use crate::job::Job;
 use crate::links::{forward_all, say_all, tell_all};
 use crate::plan::Plan;
 use fl_base::EndId;
@@ -19,6 +18,7 @@ use fl_hop::never_shared;
 use fl_link::{PutSide, QueueLink, TakeSide};
 use fl_nameserv::Names;
 use fl_node::Core;
+use fl_work::Job;
 use std::alloc::{AllocError, Global};
 
 /// A core with all that its thread works on.

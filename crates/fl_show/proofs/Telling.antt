@@ -1,8 +1,6 @@
 -- What is written of things one after another tells of each.
-use Rattle.std.proofs.Common.{◌≡◌, ◌∙◌, ℕ, ◌+◌, ◌<◌, ◌≤◌, List, [], ◌∷◌, ◌++◌, length, map, drop, get_or, slice_get, Some, refl, sym, ap, subst, append_assoc}
+use Rattle.std.proofs.Common.{◌≡◌, ◌∙◌, ℕ, ◌+◌, ◌<◌, ◌≤◌, List, [], ◌∷◌, ◌++◌, length, map, drop, refl, sym, ap, subst, append_assoc}
 use Rattle.std.proofs.lemmas.List.{drop_all, append-nil}
-use Rattle.std.proofs.lemmas.Option.{slice_get-map, slice_get_read}
-use Rattle.std.specs.Option.{option_map}
 use Rattle.fl_show.specs.Table.{TellsEach}
 
 -- some things are written behind what stood there, and what tells of the others tells behind them of all
@@ -28,10 +26,6 @@ pub told_all : {A : Type 0} (tells : ℕ → A → List ℕ → Type 0) (all : L
     → left ≡ [] → Told tells all number left start now → (lines : List ℕ) × TellsEach tells 0 all lines × (now ≡ start ++ lines)
 told_all tells all number left start now e t =
     (t.lines ++ [], t.rest [] (subst (λ z. TellsEach tells number z []) (sym e) refl), t.written ∙ ap (λ z. start ++ z) (sym (append-nil t.lines)))
-
--- the element that a loop looks at
-pub element_at : {A B : Type 0} (f : A → B) (xs : List A) (n : ℕ) (x : A) → n < length xs → x ≡ get_or xs n x → slice_get (map f xs) n ≡ Some (f x)
-element_at f xs n x h e = slice_get-map f xs n ∙ ap (option_map f) (slice_get_read xs (length xs) n x refl h e)
 
 pub none_left : {A B : Type 0} (f : A → B) (xs : List A) (n : ℕ) → length xs ≤ n → map f (drop n xs) ≡ []
 none_left f xs n h = ap (map f) (drop_all n xs h)

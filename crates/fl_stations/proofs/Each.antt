@@ -3,7 +3,7 @@ use borrow.Author.Count.{below_more}
 use Rattle.std.proofs.Common.{◌≡◌, sym, subst, ℕ, ◌+◌, ◌<◌, List, [], ◌∷◌, ◌++◌, slice_get, Some, Result, Ok, Err, IfOk, IsOkAnd}
 use Rattle.fl_core.specs.View.{TheSeat}
 use Rattle.fl_endpoint.specs.Accounts.{Sound as IsEnd}
-use Rattle.fl_running.specs.declared.job.Job.{Job}
+use Rattle.fl_work.specs.declared.job.Job.{Job}
 use Rattle.fl_stations.specs.declared.station.Station.{Station}
 use Rattle.fl_stations.specs.declared.station.Done.{Done}
 use Rattle.fl_stations.specs.Runs.{Each2}

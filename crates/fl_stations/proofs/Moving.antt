@@ -11,9 +11,9 @@ use Rattle.fl_value.specs.Value.{TheCall}
 use Rattle.fl_queues.specs.Given.{given}
 use Rattle.fl_queues.specs.Runs.{same_side, same_end}
 use Rattle.fl_node.specs.View.{slot_of, client_of, server_of}
-use Rattle.fl_running.specs.declared.job.Job.{Job}
+use Rattle.fl_work.specs.declared.job.Job.{Job}
 use Rattle.fl_running.specs.Desks.{TheDesk}
-use Rattle.fl_running.specs.Jobs.{calls_of_job, calls_of_jobs}
+use Rattle.fl_work.specs.Jobs.{calls_of_job, calls_of_jobs}
 use Rattle.fl_jobs.specs.declared.report.BothEnds.{BothEnds as RustBoth}
 use Rattle.fl_jobs.specs.Report.{BothEnds}
 use Rattle.fl_jobs.specs.Reports.{both_of}
@@ -114,10 +114,6 @@ within : (places : List ℕ) (i n : ℕ) → slice_get places i ≡ Some n → i
 within [] i n at = absurd (let no : None ≡ Some n = at in cc)
 within (p ∷ places) zero n at = omega arith
 within (p ∷ places) (suc i) n at = let low = within places i n at in omega (arith, low)
-
-pub once_first : (count : ℕ) (places some : List ℕ) → some ≡ take count places → AreOnce places → AreOnce some
-once_first count places some is once =
-    subst AreOnce (sym is) (λ i k n less at there. once i k n less (first_at count places k n at) (first_at count places i n there))
 
 pub keeps_first : (count : ℕ) (places some : List ℕ) (jobs now : List Job) → some ≡ take count places → KeepsOthers some (length some) jobs now
     → KeepsOthers places (length places) jobs now

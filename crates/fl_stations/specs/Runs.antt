@@ -6,7 +6,7 @@ use Rattle.fl_ring.specs.SharedSides.{TheSide, SharedPuts, SharedTakes}
 use Rattle.fl_hop.specs.Joined.{Sound as IsTable}
 use Rattle.fl_endpoint.specs.Accounts.{Sound as IsEnd}
 use Rattle.fl_core.specs.View.{TheSeat}
-use Rattle.fl_running.specs.declared.job.Job.{Job}
+use Rattle.fl_work.specs.declared.job.Job.{Job}
 use Rattle.fl_running.specs.declared.plan.Plan.{Plan}
 use Rattle.fl_running.specs.declared.run.Part.{Part}
 use Rattle.fl_running.specs.Run.{Ways, ways, TheRun}

@@ -2,7 +2,7 @@
 -- promise of a crate above rests on it by itself.
 use Rattle.std.specs.Prelude.{ℕ, ◌≡◌, ◌<◌, Bool, List, [], ◌∷◌, length}
 use Rattle.fl_node.specs.Sound.{IsCore}
-use Rattle.fl_running.specs.declared.job.Job.{Job}
+use Rattle.fl_work.specs.declared.job.Job.{Job}
 use Rattle.fl_running.specs.Run.{run_of}
 use Rattle.fl_running.specs.Words.{AreWords}
 use Rattle.fl_running.specs.Ran.{ticket_of}

@@ -3,7 +3,7 @@
 use Rattle.std.specs.Prelude.{ℕ, ◌≡◌, ◌≢◌, ◌≤◌, ◌<◌, List, map, slice_get, Some}
 use Rattle.fl_base.specs.declared.identity.EndId.{EndId}
 use Rattle.fl_node.specs.View.{slot_of}
-use Rattle.fl_running.specs.declared.job.Job.{Job}
+use Rattle.fl_work.specs.declared.job.Job.{Job}
 use Rattle.fl_dockets.specs.Dockets.{TheDocket, docket_at, end_of, places_of}
 use Rattle.fl_dockets.specs.State.{TheJoined}
 use Rattle.fl_stations.specs.Runs.{TheOutcome}

@@ -13,7 +13,7 @@ ghost use Rattle.fl_node.specs.contracts.one_core.Core as CoreRows;
 ghost use Rattle.fl_ring.specs.contracts.shared.duo_sides.SharedSide as SharedSideRows;
 ghost use Rattle.fl_nameserv.specs.contracts.names.Names as NamesRows;
 ghost use Rattle.fl_running.specs.contracts.desk.Desk as DeskRows;
-ghost use Rattle.fl_running.specs.contracts.job.Job as JobRows;
+ghost use Rattle.fl_work.specs.contracts.job.Job as JobRows;
 ghost use Rattle.fl_running.specs.contracts.running.Running as RunningRows;
 ghost use Rattle.fl_stations.specs.contracts.station.Station as StationRows;
 ghost use Rattle.fl_stations.specs.contracts.station.Done as DoneRows;
@@ -25,8 +25,9 @@ use fl_machine::Reassemblies;
 use fl_monitor::{Messenger, Monitor};
 use fl_nameserv::Names;
 use fl_ring::SharedSide;
-use fl_running::{Desk, Job};
+use fl_running::Desk;
 use fl_value::Call;
+use fl_work::Job;
 
 // What goes to a thread.
 fn assert_send<T: Send>()

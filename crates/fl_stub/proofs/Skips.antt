@@ -1,5 +1,5 @@
 -- Passing over a loop: where its end is, by a count of the loops inside it.
-use Rattle.std.proofs.Common.{◌≡◌, ℕ, zero, suc, ◌+◌, ◌-◌, Bool, true, false, ◌&&◌, ◌⊎◌, inl, inr, List, [], ◌∷◌, Some, refl, sym, ◌∙◌, ap, subst, arith, add-one}
+use Rattle.std.proofs.Common.{◌≡◌, ℕ, zero, suc, ◌+◌, ◌-◌, Bool, true, false, ◌&&◌, ◌⊎◌, inl, inr, List, [], ◌∷◌, Some, sym, ◌∙◌, ap, subst, arith, add-one}
 use Rattle.std.specs.Prelude.{nat_lt, ◌==◌}
 use borrow.Author.Tests.{eqb-true}
 use Rattle.std.specs.Cmp.{second_so}
@@ -128,14 +128,3 @@ skip_other column d more (Times n) blocks ops e s = absurd (cc)
 skip_other column d more Each blocks ops e s = absurd (cc)
 skip_other column d more Back blocks ops e s = absurd (cc)
 skip_other column d more op blocks ops e (inr i) = let z : false ≡ true = i.place in absurd (cc)
-
--- in no loop, and behind no length, does code end
-pub skip_never : (column : Column) (d more : ℕ) (blocks : List Block) → Skips column d more blocks [] → ⊥
-skip_never column d more blocks (inl i) = let z : false ≡ true = i.place in absurd (cc)
-skip_never column d more blocks (inr i) = let z : false ≡ true = i.place in absurd (cc)
-
--- at a loop's first instruction
-pub skip_first : (column : Column) (d : ℕ) (ops : List Op) → accepts column (Some (Inside (suc d))) ops ≡ true → Skips column d 0 (outer (frames_of ops)) ops
-skip_first column d ops h =
-    let e : suc d ≡ suc (d + 0) = omega arith in
-    inl (record { place = subst (λ (z : ℕ). accepts column (Some (Inside z)) ops ≡ true) e h; frames = refl })

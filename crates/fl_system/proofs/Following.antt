@@ -1,6 +1,5 @@
 -- What a core follows after a look, and what is left of the look where it isn't followed.
 use Rattle.std.proofs.Common.{◌≡◌, ◌≢◌, ◌<◌, refl, sym, ap, ◌∙◌, subst, ℕ, zero, suc, List, [], ◌∷◌, length, slice_get, slice_set, slice_index_or, length-set, Some, None, Result, Ok, Err, IfOk, OnOk, OnErr, inl, inr}
-use Rattle.std.proofs.lemmas.Result.{IfOk-weaker}
 use Rattle.std.proofs.lemmas.Option.{slice_get_within, same_Some}
 use Rattle.std.specs.declared.alloc.AllocError.{AllocError}
 use Rattle.fl_base.specs.declared.fragment.Frag.{Frag}
@@ -25,7 +24,7 @@ use Rattle.fl_queues.specs.Events.{Answer}
 use Rattle.fl_worlds.specs.declared.binding.Binding.{Binding}
 use Rattle.fl_worlds.specs.View.{TheWorld, ring_at, which_at, with_ring}
 use Rattle.fl_worlds.specs.Lending.{OverSide, front_for}
-use Rattle.fl_worlds.specs.Linking.{LinkEnd, offers_in, link_id, LooksWith, incoming, HearsWith, HearsFirst, IsHeard, HasRules, ForwardsBy, ForwardsFirst}
+use Rattle.fl_worlds.specs.Linking.{LinkEnd, offers_in, link_id, LooksWith, incoming, HearsWith, HearsFirst, IsHeard, HasRules}
 use Rattle.fl_lines.specs.declared.answer.Answer.{Answer as RustAnswer}
 use Rattle.fl_lines.specs.Events.{answer_of}
 use Rattle.fl_acts.specs.declared.moving.Passing.{Passing}
@@ -144,12 +143,6 @@ follow_forgotten law w w2 w3 n m l known knows (ahead.Onward f onto circuit) h f
 follow_forgotten law w w2 w3 n m l known knows (ahead.Arrival f name) h forgets = absurd forgets
 
 -- ---- a core forwards
-
-pub forwarded_first : (w w2 w3 : TheWorld) (n : ℕ) (at : LinkEnd) (a : Ahead) → OverSide w n at.side (LooksWith at.link (Ok a)) w2
-    → (r : Result RustAnswer AllocError) → IfOk r (λ x. ForwardsBy (Ok a) n at w2 (answer_of x) w3) → IfOk r (λ x. ForwardsFirst n at w (answer_of x) w3)
-forwarded_first w w2 w3 n at a looks r h =
-    IfOk-weaker r (λ x. ForwardsBy (Ok a) n at w2 (answer_of x) w3) (λ x. ForwardsFirst n at w (answer_of x) w3)
-    (λ x follows. record { ahead = Ok a; looked = w2; looks = looks; follows = follows }) h
 
 forward_kept_ahead : ForgetsLooks → (w w2 w3 : TheWorld) (n m l known : ℕ) → KnowsAt w.rings m known → (a : Ahead) → OverSide w n m (LooksWith l (Ok a)) w2
     → (r : Result RustAnswer AllocError) → OnErr r (Forgets a w2 m known w3) → OnErr r (w3 ≡ w)

@@ -175,11 +175,6 @@ at_unmade w base same n below b read value view Event a b2 (inr h) =
     = ap (λ (xs : List Binding). record base { bindings = xs }) (put_back base.bindings n b2 b read value view h.2) in
     subst (λ (x : TheWorld). AtUnmadeOrNone x n Event a (record base { bindings = slice_set base.bindings n b2 })) same (inr (here, (h.1, kept)))
 
-pub binding_put_back : (w base : TheWorld) → base ≡ w → (n : ℕ) (b2 b read : Binding) → read ≡ slice_index_or base.bindings n read → b ≡ read → b2 ≡ b
-    → record base { bindings = slice_set base.bindings n b2 } ≡ w
-binding_put_back w base same n b2 b read value view kept =
-    ap (λ (xs : List Binding). record base { bindings = xs }) (put_back base.bindings n b2 b read value view kept) ∙ same
-
 -- core n is there, and queue q or a ring alone has changed
 pub over_side_alone : (w base : TheWorld) → base ≡ w → (n m i : ℕ) → i ≡ ring_at m → n < length base.cores → i < length base.rings
     → (k read : TheCore) → read ≡ slice_index_or base.cores n read → k ≡ read → (r rread : TheDuo) → rread ≡ slice_index_or base.rings i rread → r ≡ rread

@@ -1,7 +1,6 @@
 -- What is made, from the facts of the code.
-use Rattle.std.proofs.Common.{◌≡◌, ◌≤◌, ◌<◌, ◌+◌, refl, sym, ap, ◌∙◌, subst, ℕ, Bool, true, false, nat_le, List, [], ◌∷◌, ◌++◌, length, arith}
+use Rattle.std.proofs.Common.{◌≡◌, ◌≤◌, ◌<◌, ◌+◌, sym, ap, ◌∙◌, subst, ℕ, Bool, false, nat_le, List, [], ◌∷◌, ◌++◌, length, arith}
 use Rattle.std.proofs.lemmas.List.FromFn.{map-range_with_len_more, length-map-range_with_len}
-use Rattle.std.proofs.lemmas.Bool.{leb-true}
 use Rattle.std.specs.List.{list_any}
 use Rattle.std.specs.Str.{bytes_eq}
 use Rattle.fl_interface.specs.Interface.{TheInterface}
@@ -38,13 +37,6 @@ no_program w base same name n2 ps r all named is none =
     subst (λ (x : TheWorld). has_program name x ≡ false) same
     (subst (λ (qs : List Program). list_any (λ (p : Program). bytes_eq name (program_of p).interface.name) qs ≡ false) all
     (subst (λ (n : List ℕ). list_any (λ (p : Program). bytes_eq n (program_of p).interface.name) ps ≡ false) named (sym is ∙ none)))
-
-not_yet : (b : Bool) (n : ℕ) → nat_le 64 n ≡ b → n < 64 → b ≡ false
-not_yet true n e h = absurd (omega (arith, leb-true 64 n e, h))
-not_yet false n e h = refl
-
-pub few_programs : (w base : TheWorld) → base ≡ w → length base.programs < 64 → nat_le 64 (length w.programs) ≡ false
-few_programs w base same h = subst (λ (x : TheWorld). nat_le 64 (length x.programs) ≡ false) same (not_yet _ (length base.programs) refl h)
 
 pub with_program : (w base : TheWorld) → base ≡ w → (ps : List Program) (p : Program) → ps ≡ base.programs ++ p ∷ []
     → record base { programs = ps } ≡ record w { programs = w.programs ++ p ∷ [] }

@@ -12,7 +12,7 @@ ghost use Rattle.fl_system.specs.Wishes.{IsCopyOf, IsNewEnd};
 
 use crate::world::World;
 use fl_acts::{has_end, has_places};
-use fl_base::{Circuit, IRef, MAX_BINDINGS};
+use fl_base::{Circuit, IRef, MAX_BINDINGS, faults};
 use fl_compile::Program;
 use fl_endpoint::End;
 use fl_lines::{Answer, BackEnd, DispatcherId};
@@ -107,17 +107,17 @@ impl World {
         ensures server { IfOk result (λ x. x.server.core < 256) }
     {
         if !self.has_dispatcher(client) || self.programs.as_slice().len() <= interface {
-            return Err(92);
+            return Err(faults::WRONG_NAME);
         }
         if self.bindings.as_slice().len() >= MAX_BINDINGS {
-            return Err(94);
+            return Err(faults::TOO_MANY);
         }
         let Ok(found) = self.names.lookup(service) else {
-            return Err(70);
+            return Err(faults::NO_SUCH_SERVICE);
         };
         let offered = found.service;
         if offered.interface != interface {
-            return Err(72);
+            return Err(faults::OTHER_INTERFACE);
         }
         let server = DispatcherId {
             core: u32::from(offered.core.0),

@@ -11,7 +11,7 @@ ghost use Rattle.fl_system.specs.Booting.{config_by, config_of, Passes, Stands, 
 ghost use Rattle.fl_system.specs.Stepping.{fault_in};
 
 use crate::world::World;
-use fl_base::MAX_CORES;
+use fl_base::{MAX_CORES, faults};
 use fl_lines::{Answer, Event};
 use fl_worlds::fresh_shows;
 use std::alloc::Global;
@@ -101,7 +101,7 @@ impl World {
         let cores = u32::from(cores);
         if cores < 1 || cores as usize > MAX_CORES {
             return Err(BootFault::Refused {
-                number: 94,
+                number: faults::TOO_MANY,
                 place: 0,
             });
         }

@@ -13,7 +13,7 @@ ghost use Rattle.fl_system.specs.Wishes.{OfWish, IsNewAt};
 use crate::binding::Wish;
 use crate::world::World;
 use fl_acts::{join_at, new_queue, push_both};
-use fl_base::MAX_QUEUE;
+use fl_base::{MAX_QUEUE, faults};
 use fl_lines::Answer;
 use fl_node::{Joining, Newcomer};
 use fl_worlds::Binding;
@@ -103,13 +103,13 @@ impl World {
         ensures kept { OnErr result (self.new ≡ self.old) }
     {
         if want.client.core != want.server.core {
-            return Ok(Answer::Refused(73));
+            return Ok(Answer::Refused(faults::NO_SUCH_ROUTE));
         }
         if slots < 1 || slots as usize > MAX_QUEUE {
-            return Ok(Answer::Refused(32));
+            return Ok(Answer::Refused(faults::BAD_SIZE));
         }
         if !self.has_both_places(want.client, want.server) {
-            return Ok(Answer::Refused(54));
+            return Ok(Answer::Refused(faults::TOO_MANY_CHANNELS));
         }
         self.join_if_new(want, slots)
     }

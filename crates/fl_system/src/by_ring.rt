@@ -14,7 +14,7 @@ ghost use Rattle.fl_system.specs.Wishes.{OfWish, IsNewAt};
 use crate::binding::Wish;
 use crate::world::World;
 use fl_acts::{Joiner, join_parts};
-use fl_base::{EndId, Side};
+use fl_base::{EndId, Side, faults};
 use fl_lines::{Answer, DispatcherId};
 use fl_ring::{OneDuo, RingFault};
 use fl_worlds::Binding;
@@ -134,7 +134,7 @@ impl World {
         ensures kept { OnErr result (self.new ≡ self.old) }
     {
         if !self.has_both_places(want.client, want.server) {
-            return Ok(Answer::Refused(54));
+            return Ok(Answer::Refused(faults::TOO_MANY_CHANNELS));
         }
         if self.is_begun(want) {
             return Ok(Answer::Nothing);
@@ -151,11 +151,11 @@ impl World {
         ensures kept { OnErr result (self.new ≡ self.old) }
     {
         if want.client.core == want.server.core {
-            return Ok(Answer::Refused(73));
+            return Ok(Answer::Refused(faults::NO_SUCH_ROUTE));
         }
         match OneDuo::new(self.alloc, slots as usize) {
             Ok(ring) => self.join_if_places(want, ring),
-            Err(RingFault::BadSize) => Ok(Answer::Refused(32)),
+            Err(RingFault::BadSize) => Ok(Answer::Refused(faults::BAD_SIZE)),
             Err(_) => Err(AllocError),
         }
     }

@@ -14,7 +14,7 @@ ghost use Rattle.fl_system.specs.Routes.{MayOpenFrom, OpensOnLink, OpensAlong};
 use crate::binding::Wish;
 use crate::world::World;
 use fl_acts::{Begun, all_differ, are_cores, begin_at, may_open_in, path_over};
-use fl_base::{CoreId, LinkId, MAX_CORES};
+use fl_base::{CoreId, LinkId, MAX_CORES, faults};
 use fl_compile::Program;
 use fl_endpoint::End;
 use fl_lines::Answer;
@@ -137,7 +137,7 @@ impl World {
         ensures kept { OnErr result (self.new ≡ self.old) }
     {
         if !self.may_be_route(cores) {
-            return Ok(Answer::Refused(73));
+            return Ok(Answer::Refused(faults::NO_SUCH_ROUTE));
         }
         let path = self.path(cores)?;
         self.open_along(want, path)

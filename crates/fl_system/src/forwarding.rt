@@ -14,7 +14,7 @@ use crate::world::World;
 use fl_acts::{
     Lane, Passing, Spot, answer_heard, answer_unheard, move_among, ring_at, take_rules_of, which_at,
 };
-use fl_base::{EndId, Frag, Side};
+use fl_base::{EndId, Frag, Side, faults};
 use fl_lines::Answer;
 use fl_node::{Ahead, LinkFault, MonitorAnswer};
 use fl_ring::forgets_looks;
@@ -33,7 +33,7 @@ impl World {
         ensures kept { OnErr result (self.new ≡ self.old) }
     {
         let Some(at) = self.lane(core, neighbour) else {
-            return Ok(Answer::Refused(73));
+            return Ok(Answer::Refused(faults::NO_SUCH_ROUTE));
         };
         if self.rings.get(ring_at(at.side)).is_none() {
             return Ok(Answer::Nothing);

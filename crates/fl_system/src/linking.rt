@@ -9,6 +9,7 @@ ghost use Rattle.fl_acts.specs.Places.{HasLink};
 
 use crate::world::World;
 use fl_acts::{Lane, monitor_ack_by_ring, monitor_write_by_ring, ring_at};
+use fl_base::faults;
 use fl_lines::Answer;
 
 // ---- the monitor writes
@@ -20,7 +21,7 @@ impl World {
         ensures writes { WritesMessage core neighbour self.old (answer_of result) self.new }
     {
         match self.lane(core, neighbour) {
-            None => Answer::Refused(73),
+            None => Answer::Refused(faults::NO_SUCH_ROUTE),
             Some(at) => self.write_over(core as usize, at),
         }
     }
@@ -42,7 +43,7 @@ impl World {
         ensures acks { AcksLink core neighbour self.old (answer_of result) self.new }
     {
         match self.lane(core, neighbour) {
-            None => Answer::Refused(73),
+            None => Answer::Refused(faults::NO_SUCH_ROUTE),
             Some(at) => self.ack_over(core as usize, at),
         }
     }

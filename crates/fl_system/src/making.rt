@@ -13,7 +13,7 @@ ghost use Rattle.fl_system.specs.Parts.{is_no_pair};
 
 use crate::world::World;
 use fl_acts::{fresh_cores, has_name, link_both};
-use fl_base::{CoreId, MAX_CORES, MAX_DISPATCHERS, MAX_INTERFACES, MAX_SERVICES};
+use fl_base::{CoreId, MAX_CORES, MAX_DISPATCHERS, MAX_INTERFACES, MAX_SERVICES, faults};
 use fl_compile::compile;
 use fl_interface::Interface;
 use fl_lines::{Answer, DispatcherId};
@@ -73,10 +73,10 @@ impl World {
         ensures kept { OnErr result (self.new ≡ self.old) }
     {
         if self.has_program(interface.name.bytes.as_slice()) {
-            return Ok(Answer::Refused(92));
+            return Ok(Answer::Refused(faults::WRONG_NAME));
         }
         if self.programs.len() >= MAX_INTERFACES {
-            return Ok(Answer::Refused(94));
+            return Ok(Answer::Refused(faults::TOO_MANY));
         }
         self.with_program(interface, plan)
     }
@@ -101,10 +101,10 @@ impl World {
         ensures kept { OnErr result (self.new ≡ self.old) }
     {
         if !self.may_set_cores {
-            return Ok(Answer::Refused(93));
+            return Ok(Answer::Refused(faults::NOT_NOW));
         }
         if n < 1 || n as usize > MAX_CORES {
-            return Ok(Answer::Refused(94));
+            return Ok(Answer::Refused(faults::TOO_MANY));
         }
         self.cores = fresh_cores(self.alloc, n)?;
         Ok(Answer::Done)
@@ -120,10 +120,10 @@ impl World {
         ensures kept { OnErr result (self.new ≡ self.old) }
     {
         if self.dispatchers >= MAX_DISPATCHERS {
-            return Ok(Answer::Refused(94));
+            return Ok(Answer::Refused(faults::TOO_MANY));
         }
         match self.cores.get_mut(core as usize) {
-            None => Ok(Answer::Refused(73)),
+            None => Ok(Answer::Refused(faults::NO_SUCH_ROUTE)),
             Some(core) => {
                 core.add_dispatcher()?;
                 self.dispatchers += 1;
@@ -147,13 +147,13 @@ impl World {
         ensures kept { OnErr result (self.new ≡ self.old) }
     {
         if !self.has_dispatcher(d) || self.programs.len() <= interface {
-            return Ok(Answer::Refused(92));
+            return Ok(Answer::Refused(faults::WRONG_NAME));
         }
         if self.names.lookup(name).is_ok() {
-            return Ok(Answer::Refused(71));
+            return Ok(Answer::Refused(faults::SERVICE_TAKEN));
         }
         if self.names.list().len() >= MAX_SERVICES {
-            return Ok(Answer::Refused(94));
+            return Ok(Answer::Refused(faults::TOO_MANY));
         }
         let service = Service {
             core: CoreId(d.core as u8),
@@ -212,11 +212,11 @@ impl World {
         ensures kept { OnErr result (self.new ≡ self.old) }
     {
         if self.is_no_pair(a as usize, b as usize) {
-            return Ok(Answer::Refused(73));
+            return Ok(Answer::Refused(faults::NO_SUCH_ROUTE));
         }
         match OneDuo::new(self.alloc, slots as usize) {
             Ok(ring) => self.join(a as usize, b as usize, ring),
-            Err(RingFault::BadSize) => Ok(Answer::Refused(32)),
+            Err(RingFault::BadSize) => Ok(Answer::Refused(faults::BAD_SIZE)),
             Err(_) => Err(AllocError),
         }
     }

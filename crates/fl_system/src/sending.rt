@@ -16,7 +16,7 @@ use crate::world::World;
 use fl_acts::{
     Spot, call_in, call_kept, ring_at, show_by_queue, show_by_ring, write_by_queue, write_by_ring,
 };
-use fl_base::EndId;
+use fl_base::{EndId, faults};
 use fl_lines::Answer;
 use fl_node::Outlet;
 use fl_value::Call;
@@ -35,7 +35,7 @@ impl World {
         ensures kept { OnErr result (self.new ≡ self.old) }
     {
         match self.spot(e) {
-            Spot::Nowhere => Ok(Answer::Refused(92)),
+            Spot::Nowhere => Ok(Answer::Refused(faults::WRONG_NAME)),
             Spot::Unmade => self.call_unmade(e.binding, call),
             Spot::Made(n, place) => self.call_made(n, place, call),
         }
@@ -73,8 +73,8 @@ impl World {
         ensures shows { Previews e self.old (answer_of result) self.new }
     {
         match self.spot(e) {
-            Spot::Nowhere => Answer::Refused(92),
-            Spot::Unmade => Answer::Refused(43),
+            Spot::Nowhere => Answer::Refused(faults::WRONG_NAME),
+            Spot::Unmade => Answer::Refused(faults::NOT_BOUND),
             Spot::Made(n, place) => self.show_made(n, place),
         }
     }
@@ -128,8 +128,8 @@ impl World {
         ensures writes { WritesFragment e self.old (answer_of result) self.new }
     {
         match self.spot(e) {
-            Spot::Nowhere => Answer::Refused(92),
-            Spot::Unmade => Answer::Refused(43),
+            Spot::Nowhere => Answer::Refused(faults::WRONG_NAME),
+            Spot::Unmade => Answer::Refused(faults::NOT_BOUND),
             Spot::Made(n, place) => self.write_made(n, place),
         }
     }

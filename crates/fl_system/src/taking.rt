@@ -21,7 +21,7 @@ use fl_acts::{
     Due, Spot, ack_by_ring, deregister_in, register_by_queue, register_by_ring, register_in,
     ring_at, rule_in, rule_kept, tell_nothing, turn_by_queue, turn_by_ring, turn_in,
 };
-use fl_base::{EndId, MsgNo};
+use fl_base::{EndId, MsgNo, faults};
 use fl_lines::{Answer, DispatcherId};
 use fl_node::Inlet;
 use std::alloc::AllocError;
@@ -54,7 +54,7 @@ impl World {
         ensures kept { OnErr result (self.new ≡ self.old) }
     {
         if !self.has_dispatcher(d) {
-            return Ok(Answer::Refused(92));
+            return Ok(Answer::Refused(faults::WRONG_NAME));
         }
         match self.due(d) {
             None => Ok(Answer::Nothing),
@@ -126,8 +126,8 @@ impl World {
         ensures acks { Acknowledges e self.old (answer_of result) self.new }
     {
         match self.spot(e) {
-            Spot::Nowhere => Answer::Refused(92),
-            Spot::Unmade => Answer::Refused(43),
+            Spot::Nowhere => Answer::Refused(faults::WRONG_NAME),
+            Spot::Unmade => Answer::Refused(faults::NOT_BOUND),
             Spot::Made(n, place) => self.ack_made(n, place),
         }
     }
@@ -180,8 +180,8 @@ impl World {
         ensures registers { RegistersChannel e self.old (answer_of result) self.new }
     {
         match self.spot(e) {
-            Spot::Nowhere => Answer::Refused(92),
-            Spot::Unmade => Answer::Refused(43),
+            Spot::Nowhere => Answer::Refused(faults::WRONG_NAME),
+            Spot::Unmade => Answer::Refused(faults::NOT_BOUND),
             Spot::Made(n, place) => self.register_made(n, place),
         }
     }
@@ -234,8 +234,8 @@ impl World {
         ensures deregisters { DeregistersChannel e self.old (answer_of result) self.new }
     {
         match self.spot(e) {
-            Spot::Nowhere => Answer::Refused(92),
-            Spot::Unmade => Answer::Refused(43),
+            Spot::Nowhere => Answer::Refused(faults::WRONG_NAME),
+            Spot::Unmade => Answer::Refused(faults::NOT_BOUND),
             Spot::Made(n, place) => self.deregister_made(n, place),
         }
     }
@@ -258,7 +258,7 @@ impl World {
         ensures rules { SetsReply e message.0 answer.0 self.old (answer_of result) self.new }
     {
         match self.spot(e) {
-            Spot::Nowhere => Answer::Refused(92),
+            Spot::Nowhere => Answer::Refused(faults::WRONG_NAME),
             Spot::Unmade => self.rule_unmade(e.binding, message, answer),
             Spot::Made(n, place) => self.rule_made(n, place, message, answer),
         }

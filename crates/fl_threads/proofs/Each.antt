@@ -3,7 +3,7 @@ use Rattle.std.proofs.Common.{◌≡◌, refl, sym, ap, ◌∙◌, subst, arith,
 use Rattle.std.proofs.lemmas.List.{map-append}
 use Rattle.fl_node.specs.View.{TheCore}
 use Rattle.fl_node.specs.Sound.{IsCore}
-use Rattle.fl_running.specs.declared.job.Job.{Job}
+use Rattle.fl_work.specs.declared.job.Job.{Job}
 use Rattle.fl_stations.specs.declared.station.Station.{Station}
 use Rattle.fl_stations.specs.declared.station.Done.{Done}
 use Rattle.fl_stations.specs.Runs.{TheOutcome, Each2, TheStation, IsLeftSound, RanTo}
@@ -35,17 +35,6 @@ stations_from c m all ks xs k x whole at rest one =
 
 -- ---- what they are given, and what they leave
 
--- one hand more is given
-pub given_push : {X T : Type 0} (of : X → List T) (its : TheStation → List T) (all rest : List X) (hand : X) (xs : List Station) (x : Station) → all ≡ rest ++ hand ∷ []
-    → map its (map station_of xs) ≡ map of rest → its (station_of x) ≡ of hand → map its (map station_of (xs ++ x ∷ [])) ≡ map of all
-given_push {X} {T} of its all rest hand xs x whole so is =
-    ap (map its) (map-append station_of xs (x ∷ []))
-    ∙ map-append its (map station_of xs) (station_of x ∷ [])
-    ∙ ap (λ (hs : List (List T)). hs ++ its (station_of x) ∷ []) so
-    ∙ ap (λ (h : List T). map of rest ++ h ∷ []) is
-    ∙ sym (map-append of rest (hand ∷ []))
-    ∙ ap (map of) (sym whole)
-
 pub begin_sound : (xs : List Station) → AllReady xs → (n : ℕ) (s : TheStation) → slice_get (map station_of xs) n ≡ Some s → IsCore s.run.core
 begin_sound [] all n s at = absurd (let no : None ≡ Some s = at in cc)
 begin_sound (x ∷ xs) all zero s at =
@@ -62,10 +51,6 @@ left_sound jobs limit (x ∷ xs) (y ∷ ys) all zero o at =
     let same : outcome_of y ≡ o = cc in
     subst IsLeftSound same all.0.left
 left_sound jobs limit (x ∷ xs) (y ∷ ys) all (suc n) o at = left_sound jobs limit xs ys all.1 n o at
-
--- a core that was moved is as sound
-pub core_moved : (k k2 : TheCore) → k2 ≡ k → IsCore k → IsCore k2
-core_moved k k2 same sound = subst IsCore (sym same) sound
 
 pub each_ran : (jobs : List Job) (limit : ℕ) (xs : List Station) (ys : List Done) → Each2 (StationRan jobs limit) xs ys
     → Each2 (RanTo jobs limit) (map station_of xs) (map outcome_of ys)

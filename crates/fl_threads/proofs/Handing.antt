@@ -48,9 +48,6 @@ sides_more : (pairs : List Pair) (p : Pair) → sides_of (pairs ++ p ∷ []) ≡
 sides_more [] p = refl
 sides_more (q ∷ pairs) p = ap (λ (xs : List TheSide). q.one ∷ q.two ∷ xs) (sides_more pairs p)
 
-pub no_ring_yet : (cores : ℕ) (d : Dealt TheSide) → d.owners.items ≡ [] → length d.hands.items ≡ cores → Holds d [] → DealsRings [] [] cores d
-no_ring_yet cores d owners same holds = record { pairs = []; new = tt; holds = holds; owners_are = owners; as_many = same }
-
 pub one_ring_more : (rings : List TheDuo) (owners : List ℕ) (cores i place : ℕ) (d d2 : Dealt TheSide) (r : TheDuo) (first second : ℕ) → i < length rings
     → r ≡ get_or rings i r → place + 1 < length owners → first ≡ get_or owners place 0 → second ≡ get_or owners (place + 1) 0
     → DealsRings (take i rings) (take place owners) cores d → Deals r.size first second d d2 → DealsRings (take (i + 1) rings) (take (place + 2) owners) cores d2
@@ -65,16 +62,7 @@ one_ring_more rings owners cores i place d d2 r first second below is within one
       as_many = deals.cores ∙ so.as_many;
     }
 
-pub all_rings : (rings : List TheDuo) (owners : List ℕ) (cores i place : ℕ) (d : Dealt TheSide) → length rings ≤ i → length owners ≤ place
-    → DealsRings (take i rings) (take place owners) cores d → DealsRings rings owners cores d
-all_rings rings owners cores i place d all whole so =
-    subst (λ (os : List ℕ). DealsRings rings os cores d) (take_all place owners whole)
-    (subst (λ (rs : List TheDuo). DealsRings rs (take place owners) cores d) (take_all i rings all) so)
-
 -- ---- queues
-
-pub no_queue_yet : (cores : ℕ) (d : Dealt TheQueue) → d.owners.items ≡ [] → length d.hands.items ≡ cores → Holds d [] → DealsQueues [] [] cores d
-no_queue_yet cores d owners same holds = record { holds = holds; owners_are = owners; as_many = same }
 
 pub one_queue_more : (queues : List TheQueue) (owners : List ℕ) (cores place : ℕ) (d d2 : Dealt TheQueue) (q : TheQueue) (owner : ℕ) → place < length owners
     → owner ≡ get_or owners place 0 → DealsQueues queues (take place owners) cores d → Gives owner q d d2

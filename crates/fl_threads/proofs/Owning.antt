@@ -1,6 +1,6 @@
 -- Whose each side of a ring and each queue is, by what cores name.
 use borrow.Author.Count.{below_more}
-use Rattle.std.proofs.Common.{◌≡◌, ◌⊎◌, inl, inr, ⊎_elim, refl, sym, ap, ◌∙◌, subst, arith, ℕ, zero, suc, ◌+◌, ◌<◌, ◌≤◌, List, [], ◌∷◌, ◌++◌, length, slice_get, slice_set, get_or, replicate, Option, Some, None}
+use Rattle.std.proofs.Common.{◌≡◌, ◌⊎◌, inl, inr, ⊎_elim, refl, sym, ap, ◌∙◌, subst, arith, ℕ, zero, suc, ◌+◌, ◌<◌, ◌≤◌, List, [], ◌∷◌, ◌++◌, length, slice_get, slice_set, get_or, Option, Some, None}
 use Rattle.std.proofs.lemmas.Option.{slice_get_within, slice_get-get_or}
 use Rattle.fl_base.specs.declared.identity.EndId.{EndId}
 use Rattle.fl_queues.specs.Given.{given}
@@ -46,16 +46,6 @@ owns_none Named k o none = record {
   own = λ t named below. absurd (none t named);
   others = λ t. inl refl;
 }
-
--- just this thing
-pub owns_one : (Named : ℕ → Type 0) (k n : ℕ) (o o2 : List ℕ) → o2 ≡ slice_set o n k → Named n → ((t : ℕ) → Named t → t ≡ n) → Owns Named k o o2
-owns_one Named k n o o2 is named only = subst (λ (v : List ℕ). Owns Named k o v) (sym is) (record {
-  count = set_length o n k;
-  own = λ t h below.
-      let same : t ≡ n = only t h in
-      subst (λ (x : ℕ). slice_get (slice_set o n k) x ≡ Some k) (sym same) (set_here o n k (omega (arith, same, below)));
-  others = λ t. ⊎_elim (λ h. inl h) (λ (same : t ≡ n). inr (subst Named (sym same) named)) (set_else o n k t);
-})
 
 pub owns_both : (P Q R : ℕ → Type 0) (k : ℕ) (o m o2 : List ℕ) → Owns P k o m → Owns Q k m o2 → ((t : ℕ) → P t → R t) → ((t : ℕ) → Q t → R t)
     → ((t : ℕ) → R t → P t ⊎ Q t) → Owns R k o o2
@@ -211,14 +201,6 @@ pub record SoFar (cores : List TheCore) (Names : TheCore → ℕ → Type 0) (co
   pub each : (m thing : ℕ) (c : TheCore) → m < n → slice_get cores m ≡ Some c → Names c thing → thing < count
       → ((k : ℕ) (d : TheCore) → slice_get cores k ≡ Some d → Names d thing → k ≡ m) → slice_get owners thing ≡ Some m
 
-pub no_core_yet : (cores : List TheCore) (Names : TheCore → ℕ → Type 0) (count : ℕ) (owners : List ℕ) → 0 < length cores → length owners ≡ count → AreOf 1 owners
-    → SoFar cores Names count 0 owners
-no_core_yet cores Names count owners some same of = record {
-  count_is = same;
-  of = λ thing owner at. let first = of thing owner at in omega (arith, first, some);
-  each = λ m thing c below at names within only. absurd (omega (arith, below));
-}
-
 pub one_core_more : (cores : List TheCore) (Names : TheCore → ℕ → Type 0) (count n : ℕ) (c : TheCore) (o o2 : List ℕ) → slice_get cores n ≡ Some c
     → SoFar cores Names count n o → Owns (Names c) n o o2 → SoFar cores Names count (n + 1) o2
 one_core_more cores Names count n c o o2 core_is so owns = record {
@@ -270,16 +252,3 @@ all_cores cores Names count n owners all so = record {
 
 pub none_of : (k : ℕ) → AreOf k []
 none_of k thing owner at = absurd (let no : None ≡ Some owner = at in cc)
-
-pub first_ahead : (owners : List ℕ) → AreOf 1 owners → AreOf 1 (0 ∷ owners)
-first_ahead owners of zero owner at = (let same : 0 ≡ owner = cc in omega (arith, same))
-first_ahead owners of (suc thing) owner at = of thing owner at
-
-pub first_behind : (owners : List ℕ) → AreOf 1 owners → AreOf 1 (owners ++ 0 ∷ [])
-first_behind [] of thing owner at = first_ahead [] of thing owner at
-first_behind (o ∷ owners) of zero owner at = of zero owner at
-first_behind (o ∷ owners) of (suc thing) owner at = first_behind owners (λ t. of (suc t)) thing owner at
-
-pub all_first : (n : ℕ) → AreOf 1 (replicate n 0)
-all_first zero = none_of 1
-all_first (suc n) = first_ahead (replicate n 0) (all_first n)

@@ -6,7 +6,7 @@ use Rattle.fl_tally.specs.declared.board.View.{View}
 use Rattle.fl_tally.specs.declared.board.Refusal.{Refusal}
 use Rattle.fl_tally.specs.Tally.{Agrees, number_of, both, core_alone, with_heard}
 use Rattle.fl_tally.specs.Seats.{TheSeat, knowing}
-use Rattle.fl_running.specs.declared.job.Job.{Job}
+use Rattle.fl_work.specs.declared.job.Job.{Job}
 use Rattle.fl_running.specs.declared.run.End.{End}
 use Rattle.fl_running.specs.declared.run.End.TheVariants.{Finished, Unfinished, Told}
 use Rattle.fl_running.specs.Ran.{TellsEnd}

@@ -24,9 +24,3 @@ abbrev pub IsRunFault : Parts → List Job → RunFault → Type 0
 IsRunFault p jobs (Refused number place) = IsFault p jobs (job.Refused number place)
 IsRunFault p jobs Memory = IsFault p jobs job.Memory ⊎ NoneRefused p jobs
 IsRunFault p jobs Thread = NoneRefused p jobs
-
--- the fault's number; of a thread that doesn't start the program's status
-abbrev pub number_of : RunFault → ℕ
-number_of (Refused number place) = number
-number_of Memory = 99
-number_of Thread = 3

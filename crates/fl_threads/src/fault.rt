@@ -2,7 +2,7 @@
 
 ghost use Rattle.std.specs.Prelude.{◌≡◌};
 ghost use Rattle.fl_threads.specs.declared.fault.RunFault.TheVariants.{Memory as OutOfMemory};
-ghost use Rattle.fl_threads.specs.Faults.{by_job, by_stop, number_of};
+ghost use Rattle.fl_threads.specs.Faults.{by_job, by_stop};
 
 use fl_dockets::JobFault;
 use fl_stations::Stop;
@@ -20,19 +20,6 @@ pub enum RunFault {
     /// A thread doesn't start.
     #[error("a thread doesn't start")]
     Thread,
-}
-
-impl RunFault {
-    /// The fault's number; of a thread that doesn't start the program's status, 3.
-    pub fn number(self) -> u8
-        ensures number { result ≡ number_of self }
-    {
-        match self {
-            RunFault::Refused { number, .. } => number,
-            RunFault::Memory => 99,
-            RunFault::Thread => 3,
-        }
-    }
 }
 
 impl From<Stop> for RunFault {

@@ -77,9 +77,6 @@ at_test : (b : Bool) (P Q : Type 0) → (b ≡ true → P) → (b ≡ false → 
 at_test true P Q whenever otherwise = whenever refl
 at_test false P Q whenever otherwise = otherwise refl
 
-pub reads_all : (input text : List ℕ) → text ≡ input → ReadsWhole input text
-reads_all input text e = at_test (is_too_long text) (is_too_long input ≡ true) (text ≡ input) (λ t. sym (ap is_too_long e) ∙ t) (λ _. e)
-
 longer : (input text more : List ℕ) → input ≡ text ++ more → 1048576 < length text → is_too_long input ≡ true
 longer input text more e h =
     let l : length input ≡ length text + length more = ap (λ (z : List ℕ). length z) e ∙ length-append text more in
@@ -89,50 +86,11 @@ longer input text more e h =
 long_text : (text : List ℕ) → 1048576 < length text → is_too_long text ≡ true
 long_text text h = grind (arith, nat_tests, h)
 
-pub reads_long : (u v : Option (List ℕ)) (text : List ℕ) → Consumes u v text → 1048576 < length text → IfSome u (λ input. ReadsWhole input text)
-reads_long None v text x h = tt
-reads_long (Some xs) None text x h = absurd x
-reads_long (Some xs) (Some ys) text x h =
-    at_test (is_too_long text) (is_too_long xs ≡ true) (text ≡ xs) (λ _. longer xs text ys x h) (λ f. absurd (opposite (long_text text h) f))
-  where
-    opposite : {b : Bool} → b ≡ true → b ≡ false → ⊥
-    opposite t f = let e : true ≡ false = sym t ∙ f in cc
-
-pub reads_end : (u v w : Option (List ℕ)) (text : List ℕ) → Consumes u v text → Consumes v w [] → IsAtEnd w → IfSome u (λ input. ReadsWhole input text)
-reads_end None v w text x y end = tt
-reads_end (Some xs) None w text x y end = absurd x
-reads_end (Some xs) (Some ys) None text x y end = absurd y
-reads_end (Some xs) (Some ys) (Some zs) text x y end =
-    reads_all xs text (sym (append-nil text) ∙ (ap (λ (t : List ℕ). text ++ t) (sym (y ∙ end)) ∙ sym x))
-
--- memory is refused for bytes that were read
-pub some_read : (u v w : Option (List ℕ)) (text more : List ℕ) → Consumes u v text → Consumes v w more → 0 < length more → IfSome u (λ input. CanBeUnread Memory input)
-some_read None v w text more x y some = tt
-some_read (Some xs) None w text more x y some = absurd x
-some_read (Some xs) (Some ys) None text more x y some = absurd y
-some_read (Some xs) (Some ys) (Some zs) text more x y some =
-    let l : length xs ≡ length text + length ys = ap (λ (z : List ℕ). length z) x ∙ length-append text ys in
-    let m : length ys ≡ length more + length zs = ap (λ (z : List ℕ). length z) y ∙ length-append more zs in
-    omega (arith, l, m, some)
-
-pub never_read : (u : Option (List ℕ)) → IfSome u (λ input. CanBeUnread Read input)
-never_read None = tt
-never_read (Some xs) = tt
-
 -- ---- What the reader has given.
-
-consumes_kept : (u v w : Option (List ℕ)) (text : List ℕ) → Consumes u v text → Keeps v w → Consumes u w text
-consumes_kept None v w text x y = tt
-consumes_kept (Some xs) None w text x y = absurd x
-consumes_kept (Some xs) (Some ys) None text x y = absurd y
-consumes_kept (Some xs) (Some ys) (Some zs) text x y = x ∙ ap (λ (t : List ℕ). text ++ t) (sym y)
 
 -- a script and one read more
 both_few : (text more : List ℕ) → length text ≤ 1048576 → length more ≤ 4096 → length (text ++ more) ≤ 1052672
 both_few text more few chunk = omega (arith, length-append text more, few, chunk)
-
-pub gives_some : (u v w : Option (List ℕ)) (text : List ℕ) → Consumes u v text → length text ≤ 1048576 → Keeps v w → GivesSome u w
-gives_some u v w text x few y = (text, (consumes_kept u v w text x y, omega (arith, few)))
 
 pub gives_more : (u v w : Option (List ℕ)) (text more : List ℕ) → Consumes u v text → length text ≤ 1048576 → Consumes v w more → length more ≤ 4096
     → GivesSome u w
@@ -147,12 +105,6 @@ gives_all u v w text x few y end = (
   (subst (λ (t : List ℕ). Consumes u w t) (append-nil text) (consumes_then u v w text [] x y), omega (arith, few)),
   at_test (is_too_long text) ⊤ (IsAtEnd w) (λ _. tt) (λ _. end),
 )
-
-opposites : {X : Type 0} (b : Bool) → b ≡ true → b ≡ false → X
-opposites b t f = let e : true ≡ false = sym t ∙ f in absurd (cc)
-
-pub gives_long : (u v : Option (List ℕ)) (text : List ℕ) → Consumes u v text → length text ≤ 1052672 → 1048576 < length text → GivesScript u text v
-gives_long u v text x few h = ((x, few), at_test (is_too_long text) ⊤ (IsAtEnd v) (λ _. tt) (λ f. opposites (is_too_long text) (long_text text h) f))
 
 pub given_until : (u v : Option (List ℕ)) (r : Result (Unit {0}) ExecFault) (text : List ℕ) → GivesScript u text v → GivesUntil u r v
 given_until u v (Ok done) text g = (text, g)
@@ -334,14 +286,6 @@ leaves_run shows (Err fault) script u v w text bytes h short at e stops =
     leaves_part fault u v w text h short
     (subst (λ (t : List ℕ). (out : List ℕ) × StopsWith fault beginning t out × Appends v w out) e (stops beginning at))
 
--- a script that is too long
-pub transcript_long : (u : Option (List ℕ)) (v w : Option (List ℕ)) (text : List ℕ) → IfSome u (λ input. ReadsWhole input text) → 1048576 < length text
-    → Appends v w (line (codes "refused E91")) → IfSome u (λ input. (out : List ℕ) × Transcript input out × Appends v w out)
-transcript_long None v w text h long a = tt
-transcript_long (Some input) v w text h long a =
-    let most : is_too_long text ≡ true = grind (arith, nat_tests, long) in
-    (line (codes "refused E91"), at_long input _ (long_input input text h most) refl, a)
-
 long_write : (u : Option (List ℕ)) (v w : Option (List ℕ)) (text : List ℕ) → IfSome u (λ input. ReadsWhole input text) → 1048576 < length text
     → (prefix : List ℕ) × IsProperPrefix prefix (line (codes "refused E91")) × Appends v w prefix
     → IfSome u (λ input. (out : List ℕ) × LeavesWritten Write input out × Appends v w out)
@@ -394,12 +338,6 @@ leaves_unstarted (Some input) v text h short some =
     let (same, few) = short_whole input text h short in
     let long : length text ≡ length input = ap (λ (z : List ℕ). length z) same in
     ([], no_answer input [] refl (omega (arith, long, some)), appends_nothing v)
-
--- an empty script was read
-pub transcript_none : (u : Option (List ℕ)) (v : Option (List ℕ)) (text : List ℕ) → IfSome u (λ input. ReadsWhole input text) → length text ≡ 0
-    → IfSome u (λ input. (out : List ℕ) × Transcript input out × Appends v v out)
-transcript_none u v [] h none = transcript_all u v v [] h (omega arith) ([], ([], refl, refl), appends_nothing v)
-transcript_none u v (b ∷ text) h none = absurd (omega (arith, none))
 
 -- what was put into an empty buffer
 pub put_alone : (before after deref text : List ℕ) → before ≡ [] → after ≡ before ++ text → deref ≡ after → deref ≡ text

@@ -18,6 +18,7 @@ ghost use Rattle.fl_transcript.specs.Transcript.{block_effect, Does};
 ghost use Rattle.fl_text.specs.Text.{stands_for, text_fault};
 
 use crate::machine::QueueMachine;
+use fl_base::faults;
 use fl_interface::Interface;
 use fl_lines::{
     Answer, Asked, Command, LineFault, Names, Part, Verb, print_answer, print_fault, read_command,
@@ -189,7 +190,7 @@ impl<M: QueueMachine> Script<M> {
     {
         match read_command(verb, rest) {
             Some(command) => self.command(command, out),
-            None => self.refuse(90, out),
+            None => self.refuse(faults::UNREAD, out),
         }
     }
 
@@ -308,9 +309,9 @@ impl<M: QueueMachine> Script<M> {
         match part {
             Part::Silent => self.silent(out),
             Part::Command(verb, rest) => self.line(verb, rest, out),
-            Part::Unread => self.refuse(90, out),
+            Part::Unread => self.refuse(faults::UNREAD, out),
             Part::Block(plan, text) => self.block(plan, text, out),
-            Part::OpenBlock => self.refuse(90, out),
+            Part::OpenBlock => self.refuse(faults::UNREAD, out),
         }
     }
 }

@@ -5,7 +5,7 @@ use Rattle.std.proofs.Math.Nat.{mod-eq_of_lt}
 use Rattle.std.proofs.lemmas.Bool.{cases_lt, ltb-true, lt-ltb, le-ltb, cond-true, cond-false, false≢true}
 use Rattle.fl_interface.specs.declared.interface.Scalar.{Scalar}
 use Rattle.fl_interface.specs.declared.interface.Scalar.TheVariants.{Uint8, Int8, Bool as BoolType, Char, Uint16, Int16, Uint32, Int32, Iref, Uint64, Int64, Uintptr, Intptr, Size, Errval}
-use Rattle.fl_interface.specs.Interface.{scalar, enumeration}
+use Rattle.fl_interface.specs.Interface.{scalar}
 use Rattle.fl_value.specs.Value.{Datum, number, string, elements, fields}
 use Rattle.fl_value.specs.Fits.{is_scalar_value, is_enumerator, scalar_bits, is_signed, least_above, how_many_below}
 use Rattle.fl_value.specs.Tape.{raw_of}
@@ -180,59 +180,3 @@ scalar_one s n after z e =
       stands = record { typed = in_range s z b.0; prefix = ap (λ (k : ℕ). k ∷ after) (sym b.1) };
       only = scalar_only s n after z e;
     }
-
-pub scalar_none : (s : Scalar) (n : ℕ) (after : List ℕ) → scalar_back s n ≡ None → (c : Datum) (end : List ℕ) → ValueAt (scalar s) (n ∷ after) c end → ⊥
-scalar_none s n after e (number y) end h =
-    let prefix : n ∷ after ≡ raw_of (scalar_bits s) y ∷ end = h.prefix in
-    let heads : raw_of (scalar_bits s) y ≡ n = cc in
-    let found : scalar_back s n ≡ Some y = scalar_all s n y (scalar_range s y h.typed, heads) in
-    cc
-scalar_none s n after e (string bs) end h = false≢true h.typed
-scalar_none s n after e (elements ds) end h = false≢true h.typed
-scalar_none s n after e (fields ds) end h = false≢true h.typed
-
-pub scalar_at_end : (s : Scalar) (c : Datum) (end : List ℕ) → ValueAt (scalar s) [] c end → ⊥
-scalar_at_end s (number y) end h = let prefix : [] ≡ raw_of (scalar_bits s) y ∷ end = h.prefix in cc
-scalar_at_end s (string bs) end h = false≢true h.typed
-scalar_at_end s (elements ds) end h = false≢true h.typed
-scalar_at_end s (fields ds) end h = false≢true h.typed
-
-enum_value : (count : ℕ) (z : ℤ) → InRange count 0 z → is_enumerator count z ≡ true
-enum_value count (pos n) h = lt-ltb n count h
-enum_value count (negsuc n) h = absurd (omega (arith, h))
-
-enum_only : (count n : ℕ) (after : List ℕ) (z : ℤ) → count ≤ 2 ^ 32 → unsigned_back count n ≡ Some z → (c : Datum) (end : List ℕ) → ValueAt (enumeration count) (n ∷ after) c end → (number z ≡ c) × (after ≡ end)
-enum_only count n after z few e (number y) end h =
-    let prefix : n ∷ after ≡ raw_of 32 y ∷ end = h.prefix in
-    let heads : raw_of 32 y ≡ n = cc in
-    let tails : after ≡ end = cc in
-    let found : unsigned_back count n ≡ Some y = unsigned_all 32 count n y few (enum_range count y h.typed, heads) in
-    let same : z ≡ y = cc in
-    (ap number same, tails)
-enum_only count n after z few e (string bs) end h = absurd (false≢true h.typed)
-enum_only count n after z few e (elements ds) end h = absurd (false≢true h.typed)
-enum_only count n after z few e (fields ds) end h = absurd (false≢true h.typed)
-
-pub enum_one : (count n : ℕ) (after : List ℕ) (z : ℤ) → count ≤ 2 ^ 32 → unsigned_back count n ≡ Some z → TheOne (ValueAt (enumeration count) (n ∷ after)) (number z) after
-enum_one count n after z few e =
-    let b = unsigned_found 32 count n z few e in
-    record {
-      stands = record { typed = enum_value count z b.0; prefix = ap (λ (k : ℕ). k ∷ after) (sym b.1) };
-      only = enum_only count n after z few e;
-    }
-
-pub enum_none : (count n : ℕ) (after : List ℕ) → count ≤ 2 ^ 32 → unsigned_back count n ≡ None → (c : Datum) (end : List ℕ) → ValueAt (enumeration count) (n ∷ after) c end → ⊥
-enum_none count n after few e (number y) end h =
-    let prefix : n ∷ after ≡ raw_of 32 y ∷ end = h.prefix in
-    let heads : raw_of 32 y ≡ n = cc in
-    let found : unsigned_back count n ≡ Some y = unsigned_all 32 count n y few (enum_range count y h.typed, heads) in
-    cc
-enum_none count n after few e (string bs) end h = false≢true h.typed
-enum_none count n after few e (elements ds) end h = false≢true h.typed
-enum_none count n after few e (fields ds) end h = false≢true h.typed
-
-pub enum_at_end : (count : ℕ) (c : Datum) (end : List ℕ) → ValueAt (enumeration count) [] c end → ⊥
-enum_at_end count (number y) end h = let prefix : [] ≡ raw_of 32 y ∷ end = h.prefix in cc
-enum_at_end count (string bs) end h = false≢true h.typed
-enum_at_end count (elements ds) end h = false≢true h.typed
-enum_at_end count (fields ds) end h = false≢true h.typed

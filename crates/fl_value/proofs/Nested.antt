@@ -17,10 +17,6 @@ abbrev pub with_last : Data → Datum → Data
 with_last nothing_more d = also d nothing_more
 with_last (also e ds) d = also e (with_last ds d)
 
-pub data_last : (ds : List Datum) (d : Datum) → data_from (ds ++ (d ∷ [])) ≡ with_last (data_from ds) d
-data_last [] d = refl
-data_last (e ∷ ds) d = ap (also e) (data_last ds d)
-
 pub values_last : (vs : List Value) (v : Value) → data_from (map datum_of (vs ++ (v ∷ []))) ≡ with_last (data_from (map datum_of vs)) (datum_of v)
 values_last [] v = refl
 values_last (w ∷ vs) v = ap (also (datum_of w)) (values_last vs v)

@@ -18,9 +18,6 @@ pub uncons : (a : List ℕ) → 1 ≤ length a → a ≡ get_or a 0 0 ∷ tail a
 uncons [] h = absurd (omega arith)
 uncons (b ∷ a) h = let same : take (length (b ∷ a) - 1) a ≡ a = take_all _ a (omega arith) in ap (λ x. b ∷ x) (sym same)
 
-pub uncons_at : (a : List ℕ) (b : ℕ) → 1 ≤ length a → get_or a 0 0 ≡ b → a ≡ b ∷ tail a
-uncons_at a b h e = uncons a h ∙ ap (λ x. x ∷ tail a) e
-
 pub tail_shorter : (a : List ℕ) → length (tail a) ≤ length a
 tail_shorter [] = omega arith
 tail_shorter (b ∷ a) = let same : take (length (b ∷ a) - 1) a ≡ a = take_all _ a (omega arith) in omega (arith, ap length same)

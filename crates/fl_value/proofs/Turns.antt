@@ -4,7 +4,7 @@ use Rattle.std.specs.Prelude.{Result, Ok, Err, Option, Some, None, IfOk, IfSome,
 use Rattle.std.specs.Cmp.{first_so, second_so}
 use Rattle.std.proofs.lemmas.List.{map-append, take_more, take_all}
 use Rattle.std.proofs.lemmas.List.Elements.{filter-append}
-use Rattle.std.proofs.lemmas.Bool.{false≢true, eqb-true, leb-true, le-leb}
+use Rattle.std.proofs.lemmas.Bool.{false≢true, eqb-true, le-leb}
 use Rattle.fl_interface.specs.Interface.{TheType, structure, array, fixed, text, sized, fields_from}
 use Rattle.fl_value.specs.Value.{Datum, number, string, elements, fields, Data, nothing_more, also, data_from, datum_of}
 use Rattle.fl_value.specs.declared.value.Value.{Value}
@@ -215,10 +215,6 @@ array_one n t tape ds rest one =
 
 -- ---- arguments
 
--- a fixed argument is a value
-pub fixed_none : (t : TheType) (tape : List ℕ) → NoneOf (ValueAt t tape) → (c : Datum) (end : List ℕ) → ArgumentAt (fixed t) tape c end → ⊥
-fixed_none t tape none c end h = none c end (record { typed = h.typed; prefix = h.prefix })
-
 pub fixed_one : (t : TheType) (tape : List ℕ) (d : Datum) (rest : List ℕ) → TheOne (ValueAt t tape) d rest → TheOne (ArgumentAt (fixed t) tape) d rest
 fixed_one t tape d rest one = record {
   stands = record { typed = one.stands.typed; prefix = one.stands.prefix };
@@ -233,23 +229,10 @@ length_same most tape n after m more l e =
     let tails : after ≡ more = cc in
     (heads, tails)
 
-pub string_too_long : (most : ℕ) (tape : List ℕ) → NoneOf (LengthAt most tape) → (c : Datum) (end : List ℕ) → ArgumentAt (text most) tape c end → ⊥
-string_too_long most tape none (string bs) end h =
-    none (length bs) (bs ++ end) (record { few = leb-true (length bs) most (first_so _ _ h.typed); prefix = h.prefix })
-string_too_long most tape none (number z) end h = false≢true h.typed
-string_too_long most tape none (elements ds) end h = false≢true h.typed
-string_too_long most tape none (fields ds) end h = false≢true h.typed
-
 string_bytes : (most : ℕ) (tape : List ℕ) (n : ℕ) (after : List ℕ) (bs end : List ℕ) → LengthAt most tape n after → ArgumentAt (text most) tape (string bs) end → BytesAt n after bs end
 string_bytes most tape n after bs end l h =
     let p = length_same most tape n after (length bs) (bs ++ end) l h.prefix in
     record { many = sym p.0; typed = second_so _ _ h.typed; prefix = p.1 }
-
-pub string_none : (most : ℕ) (tape : List ℕ) (n : ℕ) (after : List ℕ) → LengthAt most tape n after → NoneOf (BytesAt n after) → (c : Datum) (end : List ℕ) → ArgumentAt (text most) tape c end → ⊥
-string_none most tape n after l none (string bs) end h = none bs end (string_bytes most tape n after bs end l h)
-string_none most tape n after l none (number z) end h = false≢true h.typed
-string_none most tape n after l none (elements ds) end h = false≢true h.typed
-string_none most tape n after l none (fields ds) end h = false≢true h.typed
 
 -- two prefixes of one length
 pub split_same : {A : Type 0} (a b c d : List A) → length a ≡ length b → a ++ c ≡ b ++ d → (a ≡ b) × (c ≡ d)
@@ -281,13 +264,6 @@ string_one most tape n after bs rest l b =
       stands = record { typed = rw few b.typed; prefix = whole };
       only = string_only most tape n after bs rest l b;
     }
-
-pub sized_too_long : (most : ℕ) (t : TheType) (tape : List ℕ) → NoneOf (LengthAt most tape) → (c : Datum) (end : List ℕ) → ArgumentAt (sized most t) tape c end → ⊥
-sized_too_long most t tape none (elements ds) end h =
-    none (count_of ds) (elements_tape t ds ++ end) (record { few = leb-true (count_of ds) most (first_so _ _ h.typed); prefix = h.prefix })
-sized_too_long most t tape none (number z) end h = false≢true h.typed
-sized_too_long most t tape none (string bs) end h = false≢true h.typed
-sized_too_long most t tape none (fields ds) end h = false≢true h.typed
 
 sized_elements : (most : ℕ) (t : TheType) (tape : List ℕ) (n : ℕ) (after : List ℕ) (ds : Data) (end : List ℕ) → LengthAt most tape n after → ArgumentAt (sized most t) tape (elements ds) end
     → InTurn ValueAt (replicate n t) after (list_from ds) end
@@ -371,10 +347,6 @@ pub weaker_none : {A E : Type 0} (r : Result (Option A) E) (P Q : Type 0) → (P
 weaker_none (Ok (Some a)) P Q f h = h
 weaker_none (Ok None) P Q f h = f h
 weaker_none (Err e) P Q f h = h
-
-pub all_pass : {A : Type 0} (xs : List A) → filter (λ x. true) xs ≡ xs
-all_pass [] = refl
-all_pass (x ∷ xs) = ap (λ l. x ∷ l) (all_pass xs)
 
 -- one more element, where it passes a test or not
 pub filter_taken : {A B : Type 0} (p : B → Bool) (f : A → B) (xs : List A) (n : ℕ) (x : A) → n < length xs → x ≡ get_or xs n x

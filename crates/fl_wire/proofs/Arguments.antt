@@ -1,19 +1,18 @@
 -- Arguments in the plan's order, rank by rank.
-use Rattle.std.proofs.Common.{◌≡◌, ℕ, pos, negsuc, zero, suc, ◌+◌, ◌-◌, ◌*◌, ◌^◌, ◌<◌, ◌≤◌, Bool, true, false, ⊎_elim, List, [], ◌∷◌, ◌++◌, map, length, drop, refl, sym, ◌∙◌, ap, subst, arith, cond, ltb, eqb, min, lit≤}
-use Rattle.std.specs.Prelude.{slice_get, Option, Some, None}
-use Rattle.std.specs.List.{zip, list_all}
+use Rattle.std.proofs.Common.{◌≡◌, ℕ, pos, negsuc, ◌+◌, ◌-◌, ◌*◌, ◌^◌, ◌<◌, ◌≤◌, true, false, ⊎_elim, List, [], ◌∷◌, ◌++◌, map, length, drop, refl, sym, ◌∙◌, ap, subst, arith, ltb, min, lit≤}
+use Rattle.std.specs.Prelude.{Option, Some, None}
+use Rattle.std.specs.List.{zip}
 use Rattle.std.proofs.lemmas.List.{drop_all}
 use Rattle.std.proofs.lemmas.Bool.{cases_lt, lt-ltb, ltb-true, false≢true}
-use Rattle.std.specs.Cmp.{first_so, second_so}
 use Rattle.fl_interface.specs.declared.interface.Scalar.{Scalar}
 use Rattle.fl_interface.specs.declared.interface.Scalar.TheVariants.{Uint8, Int8, Bool as BoolType, Char, Uint16, Int16, Uint32, Int32, Iref, Uint64, Int64, Uintptr, Intptr, Size, Errval}
 use Rattle.fl_interface.specs.Interface.{scalar, enumeration, structure, array, TheArgType, fixed, text, sized, TheMessage, TheInterface}
 use Rattle.fl_interface.specs.Sizes.{scalar_size}
 use Rattle.fl_value.specs.Value.{Datum, number, string, elements, fields, TheCall}
 use Rattle.fl_value.specs.Fits.{is_argument, are_arguments, fit_message, least_above, how_many_below}
-use Rattle.fl_value.specs.Plan.{is_dynamic, rank_of, of_rank, of_ranks}
+use Rattle.fl_value.specs.Plan.{of_ranks}
 use Rattle.fl_value.specs.declared.value.PlanNo.{PlanNo}
-use Rattle.fl_layout.specs.Leaves.{Leaf, leaves, Argument, kind, argument_onto, arguments_onto, argument_types, types_of, is_number_type}
+use Rattle.fl_layout.specs.Leaves.{leaves, Argument, kind, arguments_onto, argument_types, types_of, is_number_type}
 use Rattle.fl_wire.specs.Widths.{number_width, number_of, fits_width, IsWordSized}
 pub use Rattle.fl_interface.specs.Sizes.{IsAlign}
 pub use Rattle.fl_interface.proofs.Aligned.{scalar_align, type_align, types_align, by_align}
@@ -89,62 +88,7 @@ number_fits (fixed (array n t)) d k w h = absurd (false≢true k)
 number_fits (text m) d k w h = absurd (false≢true k)
 number_fits (sized m t) d k w h = absurd (false≢true k)
 
--- ---- ranks
-
--- one number is no dynamic argument
-pub number_is_fixed : (t : TheArgType) → is_number_type t ≡ true → is_dynamic t ≡ false
-number_is_fixed (fixed t) h = refl
-number_is_fixed (text m) h = absurd (false≢true h)
-number_is_fixed (sized m t) h = absurd (false≢true h)
-
-abbrev pub numbers_only : List Argument → Bool
-numbers_only args = list_all (λ (a : Argument). is_number_type a.0) args
-
--- a number and what follows it
-pub onto_one : (a : Argument) (rest : List Argument) (before : List Leaf) → is_number_type a.0 ≡ true
-    → arguments_onto false (a ∷ rest) before ≡ arguments_onto false rest (argument_onto a.0 a.1 before)
-onto_one a rest before h = ap (λ (v : Bool). arguments_onto v rest (argument_onto a.0 a.1 before)) (number_is_fixed a.0 h)
-
--- what follows numbers
-pub onto_append : (args rest : List Argument) (before : List Leaf) → numbers_only args ≡ true
-    → arguments_onto false (args ++ rest) before ≡ arguments_onto false rest (arguments_onto false args before)
-onto_append [] rest before h = refl
-onto_append (a ∷ args) rest before h =
-    let one = first_so (is_number_type a.0) _ h in
-    onto_one a (args ++ rest) before one ∙ onto_append args rest (argument_onto a.0 a.1 before) (second_so (is_number_type a.0) _ h)
-    ∙ ap (λ (now : List Leaf). arguments_onto false rest now) (sym (onto_one a args before one))
-
--- numbers of a rank
-pub rank_numbers : (plan : PlanNo) (rank : ℕ) (args : List Argument) → numbers_only args ≡ true → numbers_only (of_rank kind plan rank args) ≡ true
-rank_numbers plan rank [] h = refl
-rank_numbers plan rank (a ∷ args) h =
-    let one = first_so (is_number_type a.0) _ h in
-    let rest = rank_numbers plan rank args (second_so (is_number_type a.0) _ h) in
-    elim (eqb (rank_of plan a.0) rank) as (λ v. numbers_only (cond v (a ∷ of_rank kind plan rank args) (of_rank kind plan rank args)) ≡ true) [
-      | true ↦ rw one rest
-      | false ↦ rest
-    ]
-
--- numbers beside their values
-pub zip_numbers : (ts : List TheArgType) (ds : List Datum) → list_all is_number_type ts ≡ true → numbers_only (zip ts ds) ≡ true
-zip_numbers [] ds h = refl
-zip_numbers (t ∷ ts) [] h = refl
-zip_numbers (t ∷ ts) (d ∷ ds) h = rw (first_so (is_number_type t) _ h) (zip_numbers ts ds (second_so (is_number_type t) _ h))
-
--- one rank more
-pub rank_more : (plan : PlanNo) (rank left : ℕ) (args : List Argument) (now : List Leaf) → rank < 5 → 5 - (rank + 1) ≡ left → numbers_only args ≡ true
-    → arguments_onto false (of_ranks kind plan left (rank + 1) args) (arguments_onto false (of_rank kind plan rank args) now)
-    ≡ arguments_onto false (of_ranks kind plan (5 - rank) rank args) now
-rank_more plan rank left args now small e h =
-    let more : 5 - rank ≡ suc left = omega arith in
-    rw more (sym (onto_append (of_rank kind plan rank args) (of_ranks kind plan left (rank + 1) args) now (rank_numbers plan rank args h)))
-
 -- ---- the message of a call
-
-pub types_number : (ms : List TheMessage) (n : ℕ) → list_all (λ (m : TheMessage). list_all is_number_type m.args) ms ≡ true → list_all is_number_type (types_of (slice_get ms n)) ≡ true
-types_number [] n h = refl
-types_number (m ∷ ms) zero h = first_so (list_all is_number_type m.args) _ h
-types_number (m ∷ ms) (suc n) h = types_number ms n (second_so (list_all is_number_type m.args) _ h)
 
 pub arguments_fit : (m : Option TheMessage) (ds : List Datum) → fit_message m ds ≡ true → are_arguments (types_of m) ds ≡ true
 arguments_fit None ds h = absurd (false≢true h)

@@ -89,7 +89,7 @@ fn word_after(frag: usize, word: usize) -> (usize, usize)
 
 /// The arguments of a call, and where the last one ends, if all are scalars that the plan keeps in declared
 /// order, and the bytes are a call's. Many calls are such, and want no blanks and no search for each rank.
-fn read_scalars(
+fn read_scalar_arguments(
     alloc: Global,
     frags: &[Frag],
     plan: PlanNo,
@@ -171,7 +171,7 @@ pub(crate) fn read_arguments(
     ensures stop { IfErr result (λ stop.
         StopsAt stop (calls_of plan (map arg_type_of types.now)) frags.now 0) }
 {
-    match read_scalars(alloc, frags, plan, types) {
+    match read_scalar_arguments(alloc, frags, plan, types) {
         Some(read) => Ok(read),
         None => read_ranks(alloc, frags, plan, types),
     }

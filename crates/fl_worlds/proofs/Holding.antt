@@ -10,7 +10,7 @@ use Rattle.fl_core.specs.Events.{ChangesEnd}
 use Rattle.fl_node.specs.View.{TheCore, with_board}
 use Rattle.fl_node.specs.Ends.{OnBoard}
 use Rattle.fl_queues.specs.Given.{changed_at}
-use Rattle.fl_queues.specs.Events.{Answer, refused, nothing}
+use Rattle.fl_queues.specs.Events.{Answer, refused}
 use Rattle.fl_queues.specs.Calls.{Planned, total}
 use Rattle.fl_queues.specs.Ends.{taken_of, End}
 use Rattle.fl_queues.specs.State.{Back, local, over_ring, over_route, Binding, State, Outcome, answers, binding_of, interface_of, end_in, with_end_in, change_end}
@@ -22,7 +22,7 @@ use Rattle.fl_shows.proofs.Others.{parts_stay}
 use Rattle.fl_shows.proofs.Turns.{first_in_turn}
 use Rattle.fl_worlds.specs.declared.binding.Binding.{Binding as TheBinding}
 use Rattle.fl_worlds.specs.View.{TheWorld, with_core, with_binding, keeping}
-use Rattle.fl_worlds.specs.Lending.{Refuses, DoesNothing, AtCore, AtUnmade, KeepsNone}
+use Rattle.fl_worlds.specs.Lending.{Refuses, AtCore, AtUnmade, KeepsNone}
 use Rattle.fl_worlds.specs.Picture.{IsSilent, IsPicture}
 use Rattle.fl_worlds.specs.Laws.{Agrees}
 use Rattle.fl_worlds.proofs.Frames.{Stands, Awaits, EndStays}
@@ -44,9 +44,6 @@ same_answer w v s a b p q r = record { answer = sym q; picture = subst (λ x. Is
 
 pub refuses : (w v : TheWorld) (s : State) (a : Answer) (n : ℕ) → IsPicture w s → Refuses n w a v → Agrees (answers s (refused n)) a v
 refuses w v s a n p h = same_answer w v s a (refused n) p h.0 h.1
-
-pub does_nothing : (w v : TheWorld) (s : State) (a : Answer) → IsPicture w s → DoesNothing w a v → Agrees (answers s nothing) a v
-does_nothing w v s a p h = same_answer w v s a nothing p h.0 h.1
 
 -- ---- an end, wherever it is
 

@@ -75,13 +75,6 @@ use Rattle.fl_worlds.proofs.PassingWrites.{agrees_at, agrees_with, with_rings_li
 queue_seat : (f : Queue → Queue) (x : End) → (in_queue f x).seat ≡ x.seat
 queue_seat f x = by_given (λ (y : End). y.seat ≡ x.seat) x.queue x _ refl (λ q r. refl)
 
-end_twice : (e : EndId) → peer (peer e) ≡ e
-end_twice e = ap (λ (side : Side). record { binding = e.binding; side = side }) (by e.side)
-  where
-    by : (side : Side) → other (other side) ≡ side
-    by Client = refl
-    by Server = refl
-
 bound_seat : (route : Route) (b : Binding) (v : Verdict) (i : ℕ) → v ≡ granted i → BoundBy route v b → IsSome b.server.seat
 bound_seat route b v i e h = (subst (λ (x : Verdict). BoundBy route x b) e h).2
 

@@ -12,9 +12,10 @@ use fl_link::{QueueLink, TakeSide};
 use fl_nameserv::Names;
 use fl_node::{Core, Port, Wire};
 use fl_ring::SharedSide;
-use fl_running::{Desk, Gate, Job, Plan, Running, Ticket, Word};
+use fl_running::{Desk, Gate, Plan, Running, Ticket, Word};
 use fl_tally::EndSeat;
 use fl_value::PlanNo;
+use fl_work::Job;
 use std::alloc::{AllocError, Global};
 
 /// A gate that is always open.

@@ -1,5 +1,5 @@
 use Rattle.std.proofs.Common.{◌≡◌, ◌≤◌, ◌+◌, length, drop}
-use Rattle.fl_running.specs.Jobs.{calls_of_jobs}
+use Rattle.fl_work.specs.Jobs.{calls_of_jobs}
 use Rattle.fl_dockets.proofs.due.count_calls.Given as goal
 
 abbrev pub invariant-loop-k : goal.invariant-loop-k

@@ -1,6 +1,6 @@
 use Rattle.std.proofs.Common.{◌≡◌, ◌≤◌, ◌+◌, length, drop}
 use Rattle.std.specs.List.{flat_map}
-use Rattle.fl_running.specs.Jobs.{calls_of_jobs}
+use Rattle.fl_work.specs.Jobs.{calls_of_jobs}
 use Rattle.fl_dockets.specs.Dockets.{reply_by}
 use Rattle.fl_dockets.proofs.due.count_replies.Given as goal
 

@@ -1,6 +1,6 @@
 use Rattle.std.proofs.Common.{refl, sym, subst, Option}
-use Rattle.fl_running.specs.declared.job.Job.{Job}
-use Rattle.fl_running.specs.declared.job.Job.TheVariants.{Open, Call, Reply}
+use Rattle.fl_work.specs.declared.job.Job.{Job}
+use Rattle.fl_work.specs.declared.job.Job.TheVariants.{Open, Call, Reply}
 use Rattle.fl_running.specs.Run.{ways, run_of, next_job}
 use Rattle.fl_running.specs.Steps.{Tries}
 use Rattle.fl_running.proofs.Trying.{tried, tried_if}

@@ -1,6 +1,6 @@
 use Rattle.std.proofs.Common.{◌≡◌, ◌++◌, map, drop}
 use Rattle.fl_value.specs.Value.{call_of}
-use Rattle.fl_running.specs.Jobs.{calls_of_jobs}
+use Rattle.fl_work.specs.Jobs.{calls_of_jobs}
 use Rattle.fl_stations.specs.Taking.{KeepsOthers}
 use Rattle.fl_stations.proofs.telling.move_calls.Given as goal
 

@@ -1,6 +1,6 @@
 use Rattle.std.proofs.Common.{◌≡◌, Result, Vec, Global, List, length, subst, refl, IfOk}
 use Rattle.fl_jobs.specs.Reports.{report_of}
-use Rattle.fl_running.specs.declared.job.Job.{Job}
+use Rattle.fl_work.specs.declared.job.Job.{Job}
 use Rattle.fl_dockets.specs.State.{joined_of}
 use Rattle.fl_stations.specs.declared.station.Done.{Done}
 use Rattle.fl_stations.specs.Runs.{Each2}

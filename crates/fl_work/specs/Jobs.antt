@@ -1,9 +1,8 @@
 -- What the jobs at places of a core's list ask for: calls, and reply rules.
 use Rattle.std.specs.Prelude.{ℕ, ◌≡◌, Bool, true, false, List, [], ◌∷◌, ◌++◌, slice_get, Option, Some, None}
 use Rattle.fl_value.specs.Value.{TheCall, call_of}
-use Rattle.fl_running.specs.declared.job.Job.{Job}
-use Rattle.fl_running.specs.declared.job.Job.TheVariants as job
-use Rattle.fl_running.specs.Steps.{is_before_calls}
+use Rattle.fl_work.specs.declared.job.Job.{Job}
+use Rattle.fl_work.specs.declared.job.Job.TheVariants as job
 
 -- ---- calls
 
@@ -25,6 +24,13 @@ is_rule None = false
 is_rule (Some (job.Open wish)) = false
 is_rule (Some (job.Reply e msg reply)) = true
 is_rule (Some (job.Call e call)) = false
+
+-- a job that comes before its end takes anything: it opens a circuit, or sets a rule
+abbrev pub is_before_calls : Option Job → Bool
+is_before_calls None = false
+is_before_calls (Some (job.Open wish)) = true
+is_before_calls (Some (job.Reply e msg reply)) = true
+is_before_calls (Some (job.Call e call)) = false
 
 -- of the jobs at these places none sets a rule; and none behind a call does
 abbrev pub HasNoRule : List Job → List ℕ → Type 0

@@ -5,7 +5,7 @@ use Rattle.fl_value.specs.Value.{datum_of}
 use Rattle.fl_value.specs.Plan.{never_falls}
 use Rattle.fl_wire.proofs.Steps.{Come}
 use Rattle.fl_wire.proofs.Scalars.{rises, in_order, behind}
-use Rattle.fl_wire.proofs.call.read_scalars.Given as goal
+use Rattle.fl_wire.proofs.call.read_scalar_arguments.Given as goal
 
 -- the arguments so far, and those that are left
 abbrev pub invariant-loop-ty : goal.invariant-loop-ty

@@ -6,8 +6,8 @@ use Rattle.fl_value.specs.Value.{datum_of}
 use Rattle.fl_value.specs.Plan.{rank_of}
 use Rattle.fl_wire.proofs.Parts.{pushed}
 use Rattle.fl_wire.proofs.Scalars.{wide_rank, rises_all, up_on, wide_on, order_start, order_on, order_read}
-use Rattle.fl_wire.proofs.call.read_scalars.Goals as goal
-use Rattle.fl_wire.proofs.call.read_scalars.Goals.{then-least-eq0+then-at-eq0+then-is_wide+else-frag-frags, else-least-eq0+in-Some}
+use Rattle.fl_wire.proofs.call.read_scalar_arguments.Goals as goal
+use Rattle.fl_wire.proofs.call.read_scalar_arguments.Goals.{then-least-eq0+then-at-eq0+then-is_wide+else-frag-frags, else-least-eq0+in-Some}
 
 pub read_wide-value-requires : goal.read_wide-value-requires
 read_wide-value-requires c = record { inside = c.loop-ty.invariant.inside }

@@ -1,0 +1,2 @@
+-- The promises rest on this.
+pub mod Jobs
