@@ -8,7 +8,7 @@ ghost use Rattle.fl_hop.specs.Openings.{is_next};
 
 use crate::opening::Opening;
 use crate::routing::{is_on_route, next_on};
-use fl_base::{Circuit, CoreId, IRef, LinkId, MAX_BINDINGS, faults};
+use fl_base::{Circuit, CoreId, IRef, LinkId, MAX_BINDINGS};
 use fl_hop::Circuits;
 use fl_nameserv::Names;
 
@@ -38,12 +38,12 @@ fn arrival(names: &Names, here: Here, service: IRef) -> Fate
     ensures next { (t : TheCircuits) → HasNext t result }
 {
     let Ok(registration) = names.lookup_iref(service) else {
-        return Fate::Fails(faults::NO_SUCH_SERVICE);
+        return Fate::Fails(70);
     };
     if here.has_place {
         Fate::EndsAt(registration.service.dispatcher)
     } else {
-        Fate::Fails(faults::TOO_MANY_CHANNELS)
+        Fate::Fails(54)
     }
 }
 
@@ -54,7 +54,7 @@ fn onward(circuits: &Circuits, link: LinkId) -> Fate
 {
     match circuits.next(link) {
         Some(circuit) => Fate::GoesOn(link, circuit),
-        None => Fate::Fails(faults::NUMBERS_USED_UP),
+        None => Fate::Fails(74),
     }
 }
 
@@ -66,11 +66,11 @@ fn passage(circuits: &Circuits, link: LinkId, next: CoreId) -> Fate
     match circuits.link_to(next) {
         Some(on) => {
             if link.0 == on.0 {
-                return Fate::Fails(faults::NO_SUCH_ROUTE);
+                return Fate::Fails(73);
             }
             onward(circuits, on)
         }
-        None => Fate::Fails(faults::NO_SUCH_ROUTE),
+        None => Fate::Fails(73),
     }
 }
 
