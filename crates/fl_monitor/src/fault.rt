@@ -4,6 +4,7 @@ ghost use Rattle.std.specs.Prelude.{◌≡◌};
 ghost use Rattle.fl_monitor.specs.Faults.{fault_number};
 ghost use Rattle.fl_monitor.specs.declared.fault.MonitorFault.TheVariants.{Memory};
 
+use fl_base::faults;
 use std::alloc::AllocError;
 use std::fmt;
 use thiserror::Error;
@@ -35,9 +36,9 @@ impl MonitorFault {
     {
         match self {
             MonitorFault::Astray => 67,
-            MonitorFault::Differs => 72,
-            MonitorFault::NoRoute => 73,
-            MonitorFault::UsedUp => 74,
+            MonitorFault::Differs => faults::OTHER_INTERFACE,
+            MonitorFault::NoRoute => faults::NO_SUCH_ROUTE,
+            MonitorFault::UsedUp => faults::NUMBERS_USED_UP,
             MonitorFault::OutboxFull => 75,
             MonitorFault::PlansDiffer => 76,
             MonitorFault::Memory => 99,
