@@ -1,13 +1,14 @@
 -- A binding by a route: one of all cores has changed.
-use Rattle.std.proofs.Common.{◌≡◌, refl, ℕ, ◌<◌, List, length, slice_set, slice_index_or, Result, Ok, Err, IfOk}
+use Rattle.std.proofs.Common.{◌≡◌, refl, subst, ℕ, ◌<◌, List, length, slice_set, slice_index_or, Result, Ok, Err, IfOk}
 use Rattle.std.specs.declared.alloc.AllocError.{AllocError}
 use Rattle.std.proofs.lemmas.Option.{slice_get_within}
 use Rattle.fl_node.specs.View.{TheCore}
-use Rattle.fl_queues.specs.Events.{DispatcherId}
+use Rattle.fl_queues.specs.Events.{Answer, DispatcherId}
+use Rattle.fl_worlds.specs.declared.binding.Binding.{Binding}
 use Rattle.fl_acts.specs.declared.by_route.Begun.{Begun}
 use Rattle.fl_acts.specs.Parts.{InCore}
 use Rattle.fl_acts.specs.Wishes.{HasDispatcher}
-use Rattle.fl_acts.specs.Routes.{AtOne}
+use Rattle.fl_acts.specs.Routes.{AtOne, Follows}
 use Rattle.fl_acts.proofs.Lifts.{stands}
 
 -- ---- the client's core
@@ -22,3 +23,9 @@ pub at_one : (cores : List TheCore) (n : ℕ) → n < length cores → (read : T
 at_one cores n below read value Event k2 (Ok o) h =
     record { before = read; before_is = stands cores n read read below value refl; after = k2; event = h; rest = refl }
 at_one cores n below read value Event k2 (Err e) h = tt
+
+-- ---- among the bindings
+
+pub follows_from : (o : Begun) (b : Binding) (bs cs : List Binding) → bs ≡ cs → (a : Answer) (bs2 : List Binding) → Follows o b bs a bs2 → Follows o b cs a
+    bs2
+follows_from o b bs cs same a bs2 h = subst (λ (xs : List Binding). Follows o b xs a bs2) same h

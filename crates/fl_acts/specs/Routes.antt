@@ -1,13 +1,22 @@
 -- A binding by a route, at the client's core.
-use Rattle.std.specs.Prelude.{ℕ, ◌≡◌, true, List, slice_get, slice_set, Some, Ok, Err}
+use Rattle.std.specs.Prelude.{ℕ, ◌≡◌, ◌++◌, true, List, [], ◌∷◌, slice_get, slice_set, Some, None, Ok, Err}
+use Rattle.fl_base.specs.declared.identity.LinkId.{LinkId}
+use Rattle.fl_compile.specs.declared.program.Program.{Program}
+use Rattle.fl_compile.specs.Programs.{program_of}
 use Rattle.fl_core.specs.declared.fault.BoardFault.TheVariants as board
+use Rattle.fl_endpoint.specs.View.{fresh}
+use Rattle.fl_lines.specs.declared.event.DispatcherId.{DispatcherId}
+use Rattle.fl_monitor.specs.declared.opening.Opening.{Opening}
 use Rattle.fl_monitor.specs.declared.fault.MonitorFault.TheVariants as monitor
 use Rattle.fl_node.specs.declared.fault.OpenFault.{OpenFault}
 use Rattle.fl_node.specs.declared.fault.OpenFault.TheVariants as fault
 use Rattle.fl_node.specs.Faults.{open_number}
-use Rattle.fl_node.specs.Making.{Asked, Asks}
+use Rattle.fl_node.specs.Making.{Asked, asked, Asks}
 use Rattle.fl_node.specs.View.{TheCore}
+use Rattle.fl_queues.specs.Events.{Answer, done, nothing, refused}
+use Rattle.fl_worlds.specs.declared.binding.Binding.{Binding}
 use Rattle.fl_acts.specs.declared.by_route.Begun.{Begun}
+use Rattle.fl_acts.specs.declared.by_route.Between.{Between}
 use Rattle.fl_acts.specs.declared.by_route.Begun.TheVariants as begun
 use Rattle.fl_acts.specs.Parts.{InCore}
 use Rattle.fl_acts.specs.Wishes.{has_end_in}
@@ -33,3 +42,32 @@ pub record AtOne (cores : List TheCore) (n : ℕ) (Event : TheCore → TheCore �
   pub after : TheCore
   pub event : InCore Event before after
   pub rest : cores2 ≡ slice_set cores n after
+
+-- so a circuit is begun, with a copy of a program for the client's end
+pub record BeginsWith (p : Program) (d : DispatcherId) (l : LinkId) (opening : Opening) (o : Begun) (cores cores2 : List TheCore) : Type 0 where
+  pub own : Program
+  pub own_is : program_of own ≡ program_of p
+  pub begins : AtOne cores d.core (BeginsIn (asked d.place own l opening) o) cores2
+
+-- ---- a binding
+
+-- it keeps an end with a copy of a program for its server
+pub record IsUnmade (p : Program) (x : Between) (b : Binding) : Type 0 where
+  pub copy : Program
+  pub copy_is : program_of copy ≡ program_of p
+  pub is : b ≡ record { interface = x.interface; client = x.client.core; server = x.server; unmade = Some (fresh copy None) }
+
+-- it comes behind the others where its opening waits
+abbrev pub Follows : Begun → Binding → List Binding → Answer → List Binding → Type 0
+Follows begun.There b bs a bs2 = (a ≡ nothing) × (bs2 ≡ bs)
+Follows (begun.Refused n) b bs a bs2 = (a ≡ refused n) × (bs2 ≡ bs)
+Follows begun.Waits b bs a bs2 = (a ≡ done) × (bs2 ≡ bs ++ b ∷ [])
+
+-- a circuit is begun for it, among all cores and all bindings
+pub record OpensOver (p : Program) (x : Between) (l : LinkId) (opening : Opening) (a : Answer) (cores cores2 : List TheCore)
+    (bs bs2 : List Binding) : Type 0 where
+  pub begun : Begun
+  pub begins : BeginsWith p x.client l opening begun cores cores2
+  pub binding : Binding
+  pub unmade : IsUnmade p x binding
+  pub follows : Follows begun binding bs a bs2

@@ -1,7 +1,10 @@
 -- What is looked at before a binding is made: ends that a core has, and places at its dispatchers.
 use Rattle.std.specs.Prelude.{ℕ, ◌≡◌, ◌<◌, ◌+◌, ◌||◌, nat_le, Bool, false, List, length}
 use Rattle.std.specs.Prelude.{slice_get, Some, None, is_some}
+use Rattle.fl_compile.specs.declared.program.Program.{Program}
+use Rattle.fl_compile.specs.Programs.{program_of}
 use Rattle.fl_core.specs.View.{TheBoard}
+use Rattle.fl_endpoint.specs.View.{TheEnd, fresh}
 use Rattle.fl_node.specs.View.{TheCore, place_of, client_of, server_of}
 use Rattle.fl_queues.specs.Given.{given}
 use Rattle.fl_queues.specs.Events.{DispatcherId}
@@ -28,3 +31,11 @@ pub record HasDispatcher (cores : List TheCore) (d : DispatcherId) : Type 0 wher
 -- a dispatcher of a board has places for so many ends more
 abbrev pub places_in : TheBoard → ℕ → ℕ → Bool
 places_in b place n = given (slice_get b.dispatchers place) false λ x. nat_le (length x.ends + n) 1024
+
+-- ---- ends that are made
+
+-- a new end with a copy of a program, bound to circuit 0
+pub record IsNewEndOf (p : Program) (s : TheEnd) : Type 0 where
+  pub copy : Program
+  pub copy_is : program_of copy ≡ program_of p
+  pub end : s ≡ fresh copy (Some 0)

@@ -1,9 +1,10 @@
 //! A binding is begun whose fragments go along a circuit.
 
-ghost use Rattle.std.specs.Prelude.{◌≡◌, ◌<◌, ◌≤◌, ◌⊎◌, ◌++◌, length, map, nat_lt, true, None, IfOk, OnOk, OnErr};
+ghost use Rattle.std.specs.Prelude.{◌≡◌, ◌<◌, ◌≤◌, ◌⊎◌, ◌++◌, length, map, nat_lt, true, None, IfOk, OnOk, OnErr, vec_len};
+ghost use Rattle.std.specs.Vec.{vec_capacity};
 ghost use Rattle.std.specs.List.{list_all};
 ghost use Rattle.fl_core.specs.declared.fault.BoardFault.{BoardFault};
-ghost use Rattle.fl_lines.specs.Events.{id_of};
+ghost use Rattle.fl_lines.specs.Events.{id_of, answer_of};
 ghost use Rattle.fl_lists.specs.ThreeLists.{is_in};
 ghost use Rattle.fl_monitor.specs.declared.fault.MonitorFault.{MonitorFault};
 ghost use Rattle.fl_monitor.specs.Monitors.{MayOpen, wanted};
@@ -15,16 +16,18 @@ ghost use Rattle.fl_worlds.specs.Making.{core_id};
 ghost use Rattle.fl_worlds.specs.View.{IsWhole};
 ghost use Rattle.fl_acts.specs.Parts.{InCore};
 ghost use Rattle.fl_acts.specs.Wishes.{HasDispatcher};
-ghost use Rattle.fl_acts.specs.Routes.{IsNumberOf, BeginsIn, AtOne};
+ghost use Rattle.fl_acts.specs.Routes.{IsNumberOf, BeginsIn, AtOne, BeginsWith, IsUnmade, Follows, OpensOver};
 
 use crate::binding::has_end;
 use crate::lending::whole;
 use fl_base::{CoreId, LinkId};
 use fl_compile::Program;
 use fl_core::BoardFault;
-use fl_lines::DispatcherId;
+use fl_endpoint::End;
+use fl_lines::{Answer, DispatcherId};
 use fl_monitor::{MonitorFault, Opening, Path};
 use fl_node::{Core, OpenFault};
+use fl_worlds::Binding;
 use std::alloc::{AllocError, Global};
 
 /// What a core makes of an opening.
@@ -36,6 +39,17 @@ pub enum Begun {
     Refused(u8),
     /// The client's end is there, and the opening waits.
     Waits,
+}
+
+/// What a binding along a circuit is between.
+#[derive(Clone, Copy)]
+pub struct Between {
+    /// The place of its interface.
+    pub interface: usize,
+    /// The client's dispatcher.
+    pub client: DispatcherId,
+    /// The core at which the server's end will be made.
+    pub server: usize,
 }
 
 // ---- a route
@@ -169,11 +183,8 @@ fn begin(
     open_in(core, dispatcher, program, link, opening)
 }
 
-/// A dispatcher's core, among all cores, begins a circuit for a binding, unless it has an end of that.
-///
-/// # Errors
-/// Out of memory.
-pub fn begin_at(
+// A dispatcher's core, among all cores, begins a circuit for a binding, unless it has an end of that.
+fn begin_at(
     cores: &mut [Core],
     client: DispatcherId,
     program: Program,
@@ -192,4 +203,78 @@ pub fn begin_at(
         link,
         opening,
     )
+}
+
+// The same with a copy of a program for the client's end.
+fn begin_with(
+    cores: &mut [Core],
+    client: DispatcherId,
+    alloc: Global,
+    program: &Program,
+    link: LinkId,
+    opening: &Opening,
+) -> Result<Begun, AllocError>
+    requires client { HasDispatcher cores.old (id_of client) }
+    requires few { opening.now.binding < 1024 }
+    ensures begins { IfOk result (λ o. BeginsWith program.now client link opening.now o cores.old cores.new) }
+    ensures kept { OnErr result (cores.new ≡ cores.old) }
+{
+    let own = program.duplicate(alloc)?;
+    begin_at(cores, client, own, link, opening)
+}
+
+// ---- among the bindings
+
+// A binding that keeps an end for its server until it is made there.
+fn unmade_binding(alloc: Global, program: &Program, between: Between) -> Result<Binding, AllocError>
+    ensures binding { IfOk result (λ b. IsUnmade program.now between b) }
+{
+    let copy = program.duplicate(alloc)?;
+    let kept = End::unbound(alloc, copy)?;
+    Ok(Binding {
+        interface: between.interface,
+        client: between.client.core as usize,
+        server: between.server,
+        unmade: Some(kept),
+    })
+}
+
+// A binding comes behind the others where its opening waits.
+fn keep(bindings: &mut Vec<Binding>, begun: Begun, binding: Binding) -> Answer
+    requires room { vec_len bindings.old < vec_capacity bindings.old }
+    ensures follows { Follows begun binding bindings.old.items (answer_of result) bindings.new.items }
+{
+    match begun {
+        Begun::There => Answer::Nothing,
+        Begun::Refused(number) => Answer::Refused(number),
+        Begun::Waits => {
+            bindings.push_reserved(binding);
+            Answer::Done
+        }
+    }
+}
+
+/// A circuit is begun for a binding, which keeps the server's end until it is made; copies of a program are for both ends.
+///
+/// # Errors
+/// Out of memory.
+pub fn open_over(
+    cores: &mut [Core],
+    bindings: &mut Vec<Binding>,
+    alloc: Global,
+    program: &Program,
+    between: Between,
+    link: LinkId,
+    opening: &Opening,
+) -> Result<Answer, AllocError>
+    requires client { HasDispatcher cores.old (id_of between.client) }
+    requires few { opening.now.binding < 1024 }
+    ensures opens { IfOk result (λ a. OpensOver program.now between link opening.now (answer_of a) cores.old cores.new bindings.old.items bindings.new.items) }
+    ensures kept { OnErr result (cores.new ≡ cores.old) }
+    ensures same { OnErr result (bindings.new.items ≡ bindings.old.items) }
+{
+    bindings.reserve(1)?;
+    let binding = unmade_binding(alloc, program, between)?;
+    let begun = begin_with(cores, between.client, alloc, program, link, opening)?;
+    Ok(keep(bindings, begun, binding))
 }

@@ -29,14 +29,14 @@ mod places;
 mod sending;
 mod taking;
 
-pub use binding::{has_end, has_places};
+pub use binding::{NewEnds, has_end, has_places, new_ends};
 pub use by_queues::{join_at, new_queue, push_both};
 pub use by_ring::{Joiner, join_parts};
-pub use by_route::{Begun, all_differ, are_cores, begin_at, may_open_in, path_over};
+pub use by_route::{Begun, Between, all_differ, are_cores, may_open_in, open_over, path_over};
 pub use forwarding::{answer_heard, answer_unheard, move_among, take_rules_of};
 pub use lending::{ring_at, which_at};
 pub use linking::{monitor_ack_by_ring, monitor_write_by_ring};
-pub use making::{fresh_cores, has_name, link_both};
+pub use making::{fresh_cores, has_name, let_go, link_both, renew_cores};
 pub use moving::{Passing, arrive_by_ring, hear_by_ring, look_by_ring};
 pub use places::{Lane, Spot, core_in, lane_at, spot_at};
 pub use sending::{call_in, call_kept, show_by_queue, show_by_ring, write_by_queue, write_by_ring};

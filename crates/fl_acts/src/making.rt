@@ -13,6 +13,7 @@ use crate::lending::whole;
 use fl_base::CoreId;
 use fl_compile::Program;
 use fl_node::Core;
+use fl_worlds::Parts;
 use std::alloc::{AllocError, Global};
 
 /// So many cores with nothing on them.
@@ -29,6 +30,24 @@ pub fn fresh_cores(alloc: Global, n: u32) -> Result<Vec<Core>, AllocError>
         cores.push(core)?;
     }
     Ok(cores)
+}
+
+/// So many cores with nothing on them, in place of those that are there.
+///
+/// # Errors
+/// Out of memory: the cores stay.
+pub fn renew_cores(cores: &mut Vec<Core>, alloc: Global, n: u32) -> Result<(), AllocError>
+    requires { n ≤ 16 }
+    ensures fresh { OnOk result (cores.new.items ≡ fresh_cores n) }
+    ensures kept { OnErr result (cores.new ≡ cores.old) }
+{
+    *cores = fresh_cores(alloc, n)?;
+    Ok(())
+}
+
+/// Lets go of what a world was made of. Here, once: whoever lets a core go proves anew how each of its parts is.
+pub fn let_go(parts: Parts) {
+    drop(parts);
 }
 
 /// Whether a program's interface has this name.

@@ -252,7 +252,7 @@ impl Core {
     }
 
     // Hears a message that asks for no offer.
-    fn hear_plainly(
+    fn hear_without_offer(
         &mut self,
         link: LinkId,
         message: &Message,
@@ -343,7 +343,7 @@ impl Core {
         ensures hears { HearsMessage (record { names = names.now; programs = programs.now }) link message.now self.old result self.new }
     {
         match self.offer_for(message, names, programs) {
-            None => self.hear_plainly(link, message, names, programs),
+            None => self.hear_without_offer(link, message, names, programs),
             Some(offer) => self.hear_offered(link, message, names, programs, offer),
         }
     }

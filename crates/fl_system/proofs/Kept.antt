@@ -5,6 +5,7 @@ use Rattle.std.specs.Result.{IsErr}
 use Rattle.fl_link.specs.Queue.{TheQueue, front_of}
 use Rattle.fl_link.specs.Looks.{saw}
 use Rattle.fl_base.specs.Control.{bare}
+use Rattle.fl_compile.specs.declared.program.Program.{Program}
 use Rattle.fl_base.specs.declared.fragment.Frag.{Frag}
 use Rattle.fl_ring.specs.Duo.{TheDuo, side_of}
 use Rattle.fl_node.specs.View.{TheCore}
@@ -30,6 +31,9 @@ same_parts w base same cores rings queues bindings c r q b =
     ∙ ap (λ (xs : List TheDuo). record base { rings = xs; queues = queues; bindings = bindings }) r
     ∙ ap (λ (xs : List TheQueue). record base { queues = xs; bindings = bindings }) q
     ∙ ap (λ (xs : List Binding). record base { bindings = xs }) b ∙ same
+
+pub same_programs : (w base : TheWorld) → base ≡ w → (programs : List Program) → programs ≡ base.programs → record base { programs = programs } ≡ w
+same_programs w base same programs p = ap (λ (xs : List Program). record base { programs = xs }) p ∙ same
 
 -- cores that are as many
 pub few_again : (xs ys : List TheCore) → length xs ≡ length ys → length ys ≤ 16 → length xs ≤ 16

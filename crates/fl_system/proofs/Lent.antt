@@ -1,5 +1,5 @@
 -- What was read of a core, a queue or a ring before it is lent to an event: w is the world before, and base the same by its fields.
-use Rattle.std.proofs.Common.{◌≡◌, refl, sym, ap, ◌∙◌, subst, ℕ, ◌<◌, ◌≤◌, length, slice_get, slice_index_or, List, Option, Some, None, Result, Ok, Err, IfOk, inl, inr, true, false, zero, suc, arith}
+use Rattle.std.proofs.Common.{◌≡◌, refl, sym, ap, ◌∙◌, subst, ℕ, ◌<◌, ◌≤◌, length, slice_get, slice_index_or, List, Option, Some, None, is_some, Result, Ok, Err, IfOk, inl, inr, true, false, zero, suc, arith}
 use Rattle.std.proofs.lemmas.Option.{none-some, slice_get_past, slice_get_within, same_Some}
 use Rattle.std.proofs.lemmas.Bool.{false≢true}
 use Rattle.std.specs.declared.alloc.AllocError.{AllocError}
@@ -7,6 +7,7 @@ use Rattle.fl_base.specs.declared.identity.EndId.{EndId}
 use Rattle.fl_base.specs.declared.fragment.Frag.{Frag}
 use Rattle.fl_ring.specs.Duo.{TheDuo}
 use Rattle.fl_monitor.specs.Routing.{given}
+use Rattle.fl_core.specs.Events.{Holds}
 use Rattle.fl_core.specs.View.{due}
 use Rattle.fl_node.specs.declared.wire.Inlet.{Inlet}
 use Rattle.fl_node.specs.declared.wire.Inlet.TheVariants as inlet
@@ -16,8 +17,8 @@ use Rattle.fl_node.specs.declared.wire.Wire.TheVariants.{Queues, Ring, Circuit}
 use Rattle.fl_node.specs.View.{TheCore, place_of, inlet_of, inlet_by, arrivals_of, arrivals_by}
 use Rattle.fl_queues.specs.Events.{Answer, DispatcherId, nothing}
 use Rattle.fl_worlds.specs.View.{TheWorld, made, ring_at}
-use Rattle.fl_worlds.specs.Lending.{IsStray}
-use Rattle.fl_worlds.specs.Taking.{TurnsAt, HasInlet, RegistersOver, RegistersBy}
+use Rattle.fl_worlds.specs.Lending.{IsStray, answer_at}
+use Rattle.fl_worlds.specs.Taking.{TurnsAt, HasInlet, AcksOver, AcksAt, TellsNothing, RegistersOver, RegistersBy}
 use Rattle.fl_lines.specs.declared.answer.Answer.{Answer as RustAnswer}
 use Rattle.fl_lines.specs.Events.{answer_of}
 use Rattle.fl_acts.specs.declared.taking.Due.{Due}
@@ -45,6 +46,13 @@ stray w base same list n past =
 pub stray_ring : (w base : TheWorld) → base ≡ w → (m i : ℕ) → i ≡ ring_at m → length base.rings ≤ i → IsStray w.rings (ring_at m) w nothing base
 stray_ring w base same m i at past =
     stray w base same (λ (x : TheWorld). x.rings) (ring_at m) (subst (λ (j : ℕ). length base.rings ≤ j) at past)
+
+pub ring_here : (w base : TheWorld) → base ≡ w → (m i : ℕ) → i ≡ ring_at m → i < length base.rings → ring_at m < length w.rings
+ring_here w base same m i at there =
+    subst (λ (x : TheWorld). ring_at m < length x.rings) same (subst (λ (j : ℕ). j < length base.rings) at there)
+
+pub nothing_at : (w base : TheWorld) → base ≡ w → (n : ℕ) → length base.cores ≤ n → slice_get w.cores n ≡ None
+nothing_at w base same n past = subst (λ (x : TheWorld). slice_get x.cores n ≡ None) same (slice_get_past base.cores n past)
 
 pub no_rules : (w base : TheWorld) → base ≡ w → (n place i : ℕ) → length base.bindings ≤ i → TakesRulesOrNone w n place i base
 no_rules w base same n place i past =
@@ -83,6 +91,17 @@ side_by (Some p) m h = by_wire p.wire h where
   by_wire (Queues out from) e = refl
   by_wire (Ring side) e = refl
   by_wire (Circuit link arrivals) e = absurd (cc)
+
+own_by : (o : Option Port) → given o None (λ p. Some (inlet_by p.wire)) ≡ Some inlet.Arrivals → is_some (given o None (λ p. arrivals_by p.wire)) ≡ true
+own_by None h = absurd (cc)
+own_by (Some p) h = by_wire p.wire h where
+  by_wire : (x : Wire) → Some (inlet_by x) ≡ Some inlet.Arrivals → is_some (arrivals_by x) ≡ true
+  by_wire (Queues out from) e = absurd (cc)
+  by_wire (Ring side) e = absurd (cc)
+  by_wire (Circuit link arrivals) e = refl
+
+pub own_arrivals : (k : TheCore) (e : ℕ) → inlet_of k e ≡ Some inlet.Arrivals → is_some (arrivals_of k e) ≡ true
+own_arrivals k e h = own_by (slice_get k.ports e) h
 
 pub lent_queue : (k : TheCore) (e q : ℕ) → inlet_of k e ≡ Some (inlet.Queue q) → arrivals_of k e ≡ None
 lent_queue k e q h = lent_by (slice_get k.ports e) q h
@@ -171,3 +190,16 @@ module _ (w base : TheWorld) (same : base ≡ w) (n place : ℕ) (h : HasEnd w.c
 
   pub registers_by : (a : Answer) (w2 : TheWorld) → RegistersOver i n place w a w2 → RegistersBy (made n place) w a w2
   registers_by a w2 r = (i, record { core = read; core_is = core_is; inlet_is = takes }, r)
+
+  -- and where it has nothing to tell
+  pub has_inlet : HasInlet w n place i
+  has_inlet = record { core = read; core_is = core_is; inlet_is = takes }
+
+  pub nothing_told : (again : TheCore) → again ≡ slice_index_or base.cores n again → (a : Answer) → Holds again.board place (λ s. TellsNothing s.end a)
+      → Holds read.board place (λ s. TellsNothing s.end a)
+  nothing_told again avalue a told =
+      let one : again ≡ read = same_Some again read (sym (read_is w base same n place h again avalue) ∙ core_is) in
+      subst (λ (k : TheCore). Holds k.board place (λ s. TellsNothing s.end a)) one told
+
+  pub acks_by : (a : Answer) (w2 : TheWorld) → AcksOver i read n (answer_at place a) w w2 → AcksAt (made n place) w a w2
+  acks_by a w2 r = (i, (record { core = read; core_is = core_is; inlet_is = takes }, r))

@@ -2,6 +2,7 @@ pub mod Lifts
 pub mod Lent
 pub mod Kept
 pub mod Seen
+pub mod Added
 pub mod Made
 pub mod Makes
 pub mod Following

@@ -24,7 +24,7 @@ use Rattle.fl_worlds.specs.declared.binding.Binding.{Binding}
 use Rattle.fl_queues.specs.Given.{given}
 use Rattle.fl_worlds.specs.Sending.{PreviewsWith, PreviewsOver}
 use Rattle.fl_node.specs.declared.wire.Outlet.TheVariants as outlet
-use Rattle.fl_worlds.specs.View.{TheWorld, ring_at, which_at, nowhere, unmade, spot_at, spot_of, core_in}
+use Rattle.fl_worlds.specs.View.{TheWorld, Spot, ring_at, which_at, nowhere, unmade, spot_at, spot_of, core_in}
 use Rattle.fl_worlds.specs.Lending.{AtCore, OverQueue, OverSide, KeepsNone, IsStray}
 use Rattle.fl_acts.specs.Places.{HasEnd, HasLink}
 use Rattle.fl_system.specs.Places.{IsDueOver}
@@ -86,6 +86,11 @@ over_side w base same n m i at below there k read value view r rread rvalue rvie
     })
 
 -- ---- ends
+
+-- an event by where its end is, from what it comes to there
+pub at_spot : (Event : Spot → TheWorld → Answer → TheWorld → Type 0) (w : TheWorld) (e : EndId) (s : Spot) → s ≡ spot_of w e → (a : Answer) (w2 : TheWorld)
+    → Event s w a w2 → Event (spot_of w e) w a w2
+at_spot Event w e s is a w2 h = subst (λ (x : Spot). Event x w a w2) is h
 
 pub core_below : (cores : List TheCore) (n place : ℕ) → HasEnd cores n place → n < length cores
 core_below cores n place h = slice_get_within cores n h.core h.core_is

@@ -26,13 +26,15 @@ use Rattle.fl_worlds.specs.Making.{is_core, core_id}
 use Rattle.fl_worlds.specs.View.{TheWorld, IsWhole}
 use Rattle.fl_system.specs.declared.binding.Wish.{Wish}
 use Rattle.fl_acts.specs.declared.by_route.Begun.{Begun}
+use Rattle.fl_acts.specs.declared.by_route.Between.{Between}
 use Rattle.fl_acts.specs.declared.by_route.Begun.TheVariants as begun
 use Rattle.fl_acts.specs.Wishes.{HasDispatcher}
 use Rattle.fl_system.specs.Wishes.{request, IsCopyOf}
-use Rattle.fl_acts.specs.Routes.{IsNumberOf, BeginsIn, AtOne}
+use Rattle.fl_acts.specs.Routes.{IsNumberOf, BeginsIn, AtOne, Follows, OpensOver}
 use Rattle.fl_system.specs.Routes.{Keeps, opening_along, unmade_binding, MayOpenFrom, OpensOnLink}
 use Rattle.fl_acts.proofs.Lifts.{one_value, stands}
 use Rattle.fl_acts.proofs.Routes.{core_below}
+use Rattle.fl_system.proofs.Wished.{copied}
 
 -- ---- a route
 
@@ -161,6 +163,27 @@ opened_on_link w base same x l path own kept own_is kept_is bindings reserved b 
     subst (λ (v : TheWorld). OpensOnLink x l path v a (world_of base cores3 bindings2)) same
     (subst (λ (ks : List TheCore). OpensOnLink x l path base a (world_of base ks bindings2)) (sym written)
     (opens_on_link base x l own kept a cores2 bindings2 own_copy kept_copy path o begins follows))
+
+keeps_of : (o : Begun) (b : Binding) (bs : List Binding) (a : Answer) (bs2 : List Binding) → Follows o b bs a bs2 → Keeps o b bs a bs2
+keeps_of begun.There b bs a bs2 h = h
+keeps_of (begun.Refused n) b bs a bs2 h = h
+keeps_of begun.Waits b bs a bs2 h = h
+
+abbrev pub between_of : Wish → Between
+between_of x = record { interface = x.interface; client = x.client; server = x.server.core }
+
+-- base lends its cores and bindings, and a program that is read
+pub opened_over : (w base : TheWorld) → base ≡ w → (x : Wish) (l : LinkId) (path : List CoreId) → x.interface < length w.programs
+    → (read : Program) → read ≡ slice_index_or base.programs x.interface read → (n : ℕ) → n ≡ length base.bindings
+    → (cores cores2 : List TheCore) → cores ≡ base.cores → (a : Answer) (bindings2 : List Binding)
+    → OpensOver read (between_of x) l (opening_along x n path) a cores cores2 base.bindings bindings2 → (cores3 : List TheCore) → cores3 ≡ cores2
+    → OpensOnLink x l path w a (world_of base cores3 bindings2)
+opened_over w base same x l path within read value n n_is cores cores2 cores_are a bindings2 h cores3 written =
+    opened_on_link w base same x l path h.begins.own h.unmade.copy
+    (copied w base same x.interface within read h.begins.own value h.begins.own_is) (copied w base same x.interface within read h.unmade.copy value
+    h.unmade.copy_is)
+    base.bindings refl h.binding h.unmade.is n n_is h.begun cores cores2 cores_are h.begins.begins a bindings2
+    (keeps_of h.begun h.binding base.bindings a bindings2 h.follows) cores3 written
 
 -- ---- where a circuit may be begun
 

@@ -1,7 +1,8 @@
 -- What is looked at before a binding is made, from the facts of the code; and what is asked for, from the names.
-use Rattle.std.proofs.Common.{◌≡◌, ◌≢◌, ◌≤◌, ◌<◌, ◌+◌, ◌&&◌, ◌||◌, ◌==◌, not, nat_le, refl, sym, ap, ap₂, ◌∙◌, subst, ℕ, Bool, true, false, if◌then◌else◌, List, length, slice_get, slice_index_or, Option, Some, None, is_some, Ok, Err}
+use Rattle.std.proofs.Common.{◌≡◌, arith, nat_lt, ◌≢◌, ◌≤◌, ◌<◌, ◌+◌, ◌&&◌, ◌||◌, ◌==◌, not, nat_le, refl, sym, ap, ap₂, ◌∙◌, subst, ℕ, Bool, true, false, if◌then◌else◌, List, length, slice_get, slice_index_or, Option, Some, None, is_some, Ok, Err}
 use Rattle.std.proofs.lemmas.Bool.{eqb-true, ne_eqb, eq-eqb, le-leb, lt-leb, or_cases, and_parts}
 use Rattle.std.proofs.lemmas.Option.{slice_get_within, slice_get_past, same_Some}
+use Rattle.fl_endpoint.specs.View.{TheEnd}
 use Rattle.fl_compile.specs.declared.program.Program.{Program}
 use Rattle.fl_compile.specs.Programs.{program_of}
 use Rattle.fl_nameserv.specs.declared.registration.Registration.{Registration}
@@ -19,7 +20,8 @@ use Rattle.fl_worlds.specs.View.{Given, If, TheWorld, has_dispatcher}
 use Rattle.fl_worlds.specs.Binding.{Request, HasEndOf, has_places, BindsBy, wanted_from}
 use Rattle.fl_system.specs.declared.binding.Wish.{Wish}
 use Rattle.fl_acts.specs.Wishes.{has_end_in, HasDispatcher, places_in}
-use Rattle.fl_system.specs.Wishes.{request, IsWish, has_end_of, IsNewAt, both_places, IsCopyOf}
+use Rattle.fl_acts.specs.Wishes.{IsNewEndOf}
+use Rattle.fl_system.specs.Wishes.{request, IsWish, has_end_of, IsNewAt, both_places, IsCopyOf, IsNewEnd}
 use Rattle.fl_acts.proofs.Lifts.{stands}
 use Rattle.fl_acts.proofs.Wished.{at_place}
 
@@ -119,6 +121,34 @@ copied w base same n below read copy value equal p is =
     = stands base.programs n read read (subst (λ (x : TheWorld). n < length x.programs) (sym same) below) value refl in
     let one : read ≡ p = same_Some read p (sym there ∙ subst (λ (x : TheWorld). slice_get x.programs n ≡ Some p) (sym same) is) in
     equal ∙ ap program_of one
+
+pub copied_end : (w base : TheWorld) → base ≡ w → (n : ℕ) → n < length w.programs → (read : Program) → read ≡ slice_index_or base.programs n read
+    → (s : TheEnd) → IsNewEndOf read s → IsNewEnd n w s
+copied_end w base same n below read value s h =
+    record { program = h.copy; copy = copied w base same n below read h.copy value h.copy_is; end = h.end }
+
+-- lists that were lent
+module _ (w base : TheWorld) (same : base ≡ w) where
+  pub within : {X : Type 0} (list : TheWorld → List X) (xs : List X) → xs ≡ list base → (n : ℕ) → n < length xs → n < length (list w)
+  within {X} list xs lent n h = subst (λ (x : TheWorld). n < length (list x)) same (subst (λ (ys : List X). n < length ys) lent h)
+
+  pub still_few : (bs : List Binding) → bs ≡ base.bindings → length bs < 1024 → length w.bindings < 1024
+  still_few bs lent h = subst (λ (x : TheWorld). length x.bindings < 1024) same (subst (λ (cs : List Binding). length cs < 1024) lent h)
+
+  pub all_taken : (bs : List Binding) → bs ≡ base.bindings → 1024 ≤ length bs → 1024 ≤ length w.bindings
+  all_taken bs lent h = subst (λ (x : TheWorld). 1024 ≤ length x.bindings) same (subst (λ (cs : List Binding). 1024 ≤ length cs) lent h)
+
+-- a dispatcher that is there is on one of few cores
+pub core_small : (w base : TheWorld) → base ≡ w → (d : DispatcherId) → has_dispatcher w d ≡ true → length base.cores ≤ 16 → d.core < 256
+core_small w base same d has few = by (slice_get w.cores d.core) refl where
+  by : (o : Option TheCore) → slice_get w.cores d.core ≡ o → d.core < 256
+  by None is =
+      let none : has_dispatcher w d ≡ false = ap (λ (o : Option TheCore). given o false (λ k. nat_lt d.place (length k.board.dispatchers))) is in
+      absurd (cc)
+  by (Some k) is =
+      let below : d.core < length w.cores = slice_get_within w.cores d.core k is in
+      let fewer : length w.cores ≤ 16 = subst (λ (x : TheWorld). length x.cores ≤ 16) same few in
+      omega (arith, below, fewer)
 
 -- ---- what is asked for
 

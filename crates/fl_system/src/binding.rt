@@ -8,13 +8,11 @@ ghost use Rattle.fl_worlds.specs.View.{has_dispatcher};
 ghost use Rattle.fl_worlds.specs.Binding.{has_places, HasEndOf, BindsBy, named_request, Binds};
 ghost use Rattle.fl_acts.specs.Wishes.{HasDispatcher};
 ghost use Rattle.fl_system.specs.Wishes.{OfWish, IsWish, has_end_of, IsNewAt, both_places};
-ghost use Rattle.fl_system.specs.Wishes.{IsCopyOf, IsNewEnd};
+ghost use Rattle.fl_system.specs.Wishes.{IsNewEnd};
 
 use crate::world::World;
-use fl_acts::{has_end, has_places};
-use fl_base::{Circuit, IRef, MAX_BINDINGS, faults};
-use fl_compile::Program;
-use fl_endpoint::End;
+use fl_acts::{NewEnds, has_end, has_places, new_ends};
+use fl_base::{IRef, MAX_BINDINGS, faults};
 use fl_lines::{Answer, BackEnd, DispatcherId};
 use std::alloc::AllocError;
 
@@ -73,27 +71,16 @@ impl World {
         self.finds_both_places(client, server)
     }
 
-    /// A copy of the program of an interface.
+    /// Two ends of an interface, to which nothing happened; they are bound.
     ///
     /// # Errors
     /// Out of memory.
-    pub(crate) fn copy_of(&self, interface: usize) -> Result<Program, AllocError>
+    pub(crate) fn new_ends(&self, interface: usize) -> Result<NewEnds, AllocError>
         requires { interface < length self.now.programs }
-        ensures copy { IfOk result (λ copy. IsCopyOf interface self.now copy) }
+        ensures client { IfOk result (λ ends. IsNewEnd interface self.now ends.client) }
+        ensures server { IfOk result (λ ends. IsNewEnd interface self.now ends.server) }
     {
-        self.programs[interface].duplicate(self.alloc)
-    }
-
-    /// An end of an interface, that nothing happened to; it is bound.
-    ///
-    /// # Errors
-    /// Out of memory.
-    pub(crate) fn new_end(&self, interface: usize) -> Result<End, AllocError>
-        requires { interface < length self.now.programs }
-        ensures end { IfOk result (λ s. IsNewEnd interface self.now s) }
-    {
-        let program = self.copy_of(interface)?;
-        End::new(self.alloc, program, Circuit(0))
+        new_ends(self.alloc, &self.programs[interface])
     }
 
     // ---- the event

@@ -11,9 +11,10 @@ ghost use Rattle.fl_system.specs.Booting.{config_by, config_of, Passes, Stands, 
 ghost use Rattle.fl_system.specs.Stepping.{fault_in};
 
 use crate::world::World;
+use fl_acts::let_go;
 use fl_base::{MAX_CORES, faults};
 use fl_lines::{Answer, Event};
-use fl_worlds::fresh_shows;
+use fl_worlds::{Parts, fresh_shows};
 use std::alloc::Global;
 use thiserror::Error;
 
@@ -89,6 +90,29 @@ impl World {
         Ok(())
     }
 
+    // Lets go of the world.
+    fn end(self) {
+        let World {
+            alloc: _,
+            may_set_cores: _,
+            cores,
+            dispatchers: _,
+            rings,
+            queues,
+            programs,
+            names,
+            bindings,
+        } = self;
+        let_go(Parts {
+            cores,
+            rings,
+            queues,
+            programs,
+            names,
+            bindings,
+        });
+    }
+
     /// A world of so many cores, after these events. If they only make things, but no circuit, the world may be taken apart ([`World::into_parts`]).
     ///
     /// # Errors
@@ -111,7 +135,10 @@ impl World {
         };
         match world.set_up(events) {
             Ok(()) => Ok(world),
-            Err(fault) => Err(fault),
+            Err(fault) => {
+                world.end();
+                Err(fault)
+            }
         }
     }
 
@@ -124,7 +151,10 @@ impl World {
         ensures refused { IfErr result (λ fault. IsFaultOf (config_by cores events.now) fault) }
     {
         match World::boot_by(alloc, cores, events) {
-            Ok(_) => Ok(()),
+            Ok(world) => {
+                world.end();
+                Ok(())
+            }
             Err(fault) => Err(fault),
         }
     }

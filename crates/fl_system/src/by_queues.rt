@@ -25,18 +25,17 @@ impl World {
         requires program { want.interface < length self.now.programs }
         ensures joining { IfOk result (λ both. IsJoining want self.now both) }
     {
-        let client = self.new_end(want.interface)?;
-        let server = self.new_end(want.interface)?;
+        let ends = self.new_ends(want.interface)?;
         let to_server = self.queues.as_slice().len();
         Ok(Joining {
             binding: self.bindings.as_slice().len(),
             client: Newcomer {
                 dispatcher: want.client.place,
-                end: client,
+                end: ends.client,
             },
             server: Newcomer {
                 dispatcher: want.server.place,
-                end: server,
+                end: ends.server,
             },
             to_server,
             to_client: to_server + 1,

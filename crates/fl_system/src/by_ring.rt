@@ -7,7 +7,7 @@ ghost use Rattle.fl_worlds.specs.Making.{new_duo};
 ghost use Rattle.fl_worlds.specs.Binding.{BindsByRing, HasEndOf, JoinsByRing};
 ghost use Rattle.fl_worlds.specs.View.{has_dispatcher};
 ghost use Rattle.fl_acts.specs.RingEnds.{HasRoom};
-ghost use Rattle.fl_system.specs.RingEnds.{IsJoiner, JoinsIn, JoinsIfPlaces};
+ghost use Rattle.fl_system.specs.RingEnds.{JoinsIn, JoinsIfPlaces};
 ghost use Rattle.fl_acts.specs.Wishes.{HasDispatcher};
 ghost use Rattle.fl_system.specs.Wishes.{OfWish, IsNewAt};
 
@@ -15,7 +15,7 @@ use crate::binding::Wish;
 use crate::world::World;
 use fl_acts::{Joiner, join_parts};
 use fl_base::{EndId, Side, faults};
-use fl_lines::{Answer, DispatcherId};
+use fl_lines::Answer;
 use fl_ring::{OneDuo, RingFault};
 use fl_worlds::Binding;
 use std::alloc::AllocError;
@@ -36,27 +36,6 @@ impl World {
         ensures few { result < 2 ^ 64 - 1 }
     {
         2 * self.rings.as_slice().len()
-    }
-
-    // An end of the binding that is to be, of the interface at a place.
-    fn joiner(
-        &self,
-        interface: usize,
-        at: DispatcherId,
-        side: Side,
-        ring_side: usize,
-    ) -> Result<Joiner, AllocError>
-        requires program { interface < length self.now.programs }
-        ensures joiner { IfOk result (λ x. IsJoiner self.now interface at (record { binding = length self.now.bindings; side = side }) ring_side x) }
-    {
-        let binding = self.next_binding();
-        let end = self.new_end(interface)?;
-        Ok(Joiner {
-            at,
-            name: EndId { binding, side },
-            side: ring_side,
-            end,
-        })
     }
 
     // Whether an end of the binding that is to be is at one of its cores already.
@@ -113,15 +92,33 @@ impl World {
         ensures kept { OnErr result (self.new ≡ self.old) }
     {
         let side = self.next_side();
-        let client = self.joiner(want.interface, want.client, Side::Client, side)?;
-        let server = self.joiner(want.interface, want.server, Side::Server, side + 1)?;
-        let binding = Binding {
+        let binding = self.next_binding();
+        let ends = self.new_ends(want.interface)?;
+        let client = Joiner {
+            at: want.client,
+            name: EndId {
+                binding,
+                side: Side::Client,
+            },
+            side,
+            end: ends.client,
+        };
+        let server = Joiner {
+            at: want.server,
+            name: EndId {
+                binding,
+                side: Side::Server,
+            },
+            side: side + 1,
+            end: ends.server,
+        };
+        let kept = Binding {
             interface: want.interface,
             client: want.client.core as usize,
             server: want.server.core as usize,
             unmade: None,
         };
-        self.join_ends(ring, binding, client, server)
+        self.join_ends(ring, kept, client, server)
     }
 
     // The same, where there are places for both ends, unless an end of the binding is at one of the cores already.

@@ -1,56 +1,21 @@
 //! A binding is begun whose fragments go along a circuit.
 
-ghost use Rattle.std.specs.Prelude.{◌≡◌, ◌<◌, length, map, true, IfOk, OnErr, vec_len};
-ghost use Rattle.std.specs.Vec.{vec_capacity};
+ghost use Rattle.std.specs.Prelude.{◌≡◌, ◌<◌, length, map, true, IfOk, OnErr};
 ghost use Rattle.fl_lines.specs.Events.{id_of, answer_of};
 ghost use Rattle.fl_worlds.specs.Binding.{BindsByRoute, may_be_route};
 ghost use Rattle.fl_worlds.specs.Making.{core_id};
 ghost use Rattle.fl_worlds.specs.View.{has_dispatcher};
 ghost use Rattle.fl_acts.specs.Wishes.{HasDispatcher};
 ghost use Rattle.fl_system.specs.Wishes.{OfWish};
-ghost use Rattle.fl_system.specs.Routes.{Keeps, unmade_binding};
 ghost use Rattle.fl_system.specs.Routes.{MayOpenFrom, OpensOnLink, OpensAlong};
 
 use crate::binding::Wish;
 use crate::world::World;
-use fl_acts::{Begun, all_differ, are_cores, begin_at, may_open_in, path_over};
+use fl_acts::{Between, all_differ, are_cores, may_open_in, open_over, path_over};
 use fl_base::{CoreId, LinkId, MAX_CORES, faults};
-use fl_compile::Program;
-use fl_endpoint::End;
 use fl_lines::Answer;
 use fl_monitor::{MonitorFault, Opening, Path};
-use fl_worlds::Binding;
-use std::alloc::{AllocError, Global};
-
-// ---- among the bindings
-
-// The binding that is asked for, with an end for its server until it is made there.
-fn unmade_binding(alloc: Global, want: Wish, program: Program) -> Result<Binding, AllocError>
-    ensures binding { IfOk result (λ b. b ≡ unmade_binding want program) }
-{
-    let kept = End::unbound(alloc, program)?;
-    Ok(Binding {
-        interface: want.interface,
-        client: want.client.core as usize,
-        server: want.server.core as usize,
-        unmade: Some(kept),
-    })
-}
-
-// A binding comes behind the others where its opening waits.
-fn keep(bindings: &mut Vec<Binding>, begun: Begun, binding: Binding) -> Answer
-    requires room { vec_len bindings.old < vec_capacity bindings.old }
-    ensures keeps { Keeps begun binding bindings.old.items (answer_of result) bindings.new.items }
-{
-    match begun {
-        Begun::There => Answer::Nothing,
-        Begun::Refused(number) => Answer::Refused(number),
-        Begun::Waits => {
-            bindings.push_reserved(binding);
-            Answer::Done
-        }
-    }
-}
+use std::alloc::AllocError;
 
 impl World {
     // Whether these are 2 to 16 of the world's cores, none twice.
@@ -93,17 +58,25 @@ impl World {
         ensures opens { IfOk result (λ a. OpensOnLink want link path self.old (answer_of a) self.new) }
         ensures kept { OnErr result (self.new ≡ self.old) }
     {
-        let own = self.copy_of(want.interface)?;
-        let kept = self.copy_of(want.interface)?;
-        let binding = unmade_binding(self.alloc, want, kept)?;
-        self.bindings.reserve(1)?;
         let opening = Opening {
             binding: self.bindings.as_slice().len() as u32,
             service: want.iref,
             path,
         };
-        let begun = begin_at(self.cores.as_mut_slice(), want.client, own, link, &opening)?;
-        Ok(keep(&mut self.bindings, begun, binding))
+        let between = Between {
+            interface: want.interface,
+            client: want.client,
+            server: want.server.core as usize,
+        };
+        open_over(
+            self.cores.as_mut_slice(),
+            &mut self.bindings,
+            self.alloc,
+            &self.programs[want.interface],
+            between,
+            link,
+            &opening,
+        )
     }
 
     // A circuit is begun along this route, where it may be.

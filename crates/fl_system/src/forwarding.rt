@@ -35,7 +35,8 @@ impl World {
         let Some(at) = self.lane(core, neighbour) else {
             return Ok(Answer::Refused(faults::NO_SUCH_ROUTE));
         };
-        if self.rings.get(ring_at(at.side)).is_none() {
+        let place = ring_at(at.side);
+        if place >= self.rings.len() {
             return Ok(Answer::Nothing);
         }
         self.forward_first(core as usize, at)

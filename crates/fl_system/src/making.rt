@@ -12,7 +12,7 @@ ghost use Rattle.fl_worlds.specs.Step.{fresh_world};
 ghost use Rattle.fl_system.specs.Parts.{is_no_pair};
 
 use crate::world::World;
-use fl_acts::{fresh_cores, has_name, link_both};
+use fl_acts::{fresh_cores, has_name, link_both, renew_cores};
 use fl_base::{CoreId, MAX_CORES, MAX_DISPATCHERS, MAX_INTERFACES, MAX_SERVICES, faults};
 use fl_compile::compile;
 use fl_interface::Interface;
@@ -86,8 +86,9 @@ impl World {
         ensures adds { IfOk result (λ a. WithProgram (record { interface = interface_of interface.now; plan = plan }) self.old (answer_of a) self.new) }
         ensures kept { OnErr result (self.new ≡ self.old) }
     {
+        self.programs.reserve(1)?;
         let program = compile(self.alloc, interface, plan)?;
-        self.programs.push(program)?;
+        self.programs.push_reserved(program);
         Ok(Answer::Done)
     }
 
@@ -106,7 +107,7 @@ impl World {
         if n < 1 || n as usize > MAX_CORES {
             return Ok(Answer::Refused(faults::TOO_MANY));
         }
-        self.cores = fresh_cores(self.alloc, n)?;
+        renew_cores(&mut self.cores, self.alloc, n)?;
         Ok(Answer::Done)
     }
 

@@ -4,12 +4,11 @@ ghost use Rattle.std.specs.Prelude.{◌≡◌, ◌<◌, length, slice_get, Some,
 ghost use Rattle.fl_value.specs.Value.{call_of};
 ghost use Rattle.fl_node.specs.View.{TheCore};
 ghost use Rattle.fl_worlds.specs.View.{made};
-ghost use Rattle.fl_worlds.specs.Lending.{AtCore};
 ghost use Rattle.fl_worlds.specs.Sending.{MakesCall, PreviewsOver, PreviewsAt, Previews, HasOutlet};
 ghost use Rattle.fl_worlds.specs.Sending.{WritesOver, WritesBy, WritesFragment};
 ghost use Rattle.fl_lines.specs.Events.{answer_of};
 ghost use Rattle.fl_acts.specs.Places.{HasEnd};
-ghost use Rattle.fl_acts.specs.Parts.{CallsIn, CallsWith};
+ghost use Rattle.fl_acts.specs.Parts.{CallsWith};
 ghost use Rattle.fl_system.specs.Parts.{AtUnmadeOrNone};
 
 use crate::world::World;
@@ -37,18 +36,8 @@ impl World {
         match self.spot(e) {
             Spot::Nowhere => Ok(Answer::Refused(faults::WRONG_NAME)),
             Spot::Unmade => self.call_unmade(e.binding, call),
-            Spot::Made(n, place) => self.call_made(n, place, call),
+            Spot::Made(n, place) => call_in(&mut self.cores[n], place, call),
         }
-    }
-
-    #[inline(always)]
-    fn call_made(&mut self, n: usize, place: usize, call: &Call) -> Result<Answer, AllocError>
-        requires end { HasEnd self.old.cores n place }
-        ensures calls { IfOk result (λ a. AtCore self.old n (CallsIn place (call_of call.now) (answer_of a)) self.new) }
-        ensures kept { OnErr result (self.new ≡ self.old) }
-    {
-        let core = &mut self.cores[n];
-        call_in(core, place, call)
     }
 
     // In line, though it is seldom: an answer from out of line would lie in memory, and with it the usual one.

@@ -1,20 +1,17 @@
 //! Turns of dispatchers, and what ends say of themselves.
 
-ghost use Rattle.std.specs.Prelude.{◌≡◌, ◌<◌, length, slice_get, Some, IfOk, IfSome, OnErr};
+ghost use Rattle.std.specs.Prelude.{◌≡◌, ◌<◌, slice_get, Some, IfOk, IfSome, OnErr};
 ghost use Rattle.fl_core.specs.View.{due};
-ghost use Rattle.fl_core.specs.Events.{Holds};
 ghost use Rattle.fl_node.specs.View.{TheCore, inlet_of};
 ghost use Rattle.fl_worlds.specs.View.{made};
-ghost use Rattle.fl_worlds.specs.Lending.{answer_at, AtCore};
+ghost use Rattle.fl_worlds.specs.Lending.{answer_at};
 ghost use Rattle.fl_worlds.specs.Taking.{TurnsAt, due_at, HasTurn};
 ghost use Rattle.fl_worlds.specs.Taking.{AcksOver, AcksAt, Acknowledges, HasInlet};
-ghost use Rattle.fl_worlds.specs.Taking.{TellsNothing, RegistersOver, RegistersBy, RegistersChannel};
-ghost use Rattle.fl_worlds.specs.Taking.{DeregistersBy, DeregistersChannel, SetsReply};
+ghost use Rattle.fl_worlds.specs.Taking.{RegistersOver, RegistersBy, RegistersChannel};
+ghost use Rattle.fl_worlds.specs.Taking.{DeregistersChannel, SetsReply};
 ghost use Rattle.fl_lines.specs.Events.{answer_of, id_of};
 ghost use Rattle.fl_acts.specs.Places.{HasEnd};
 ghost use Rattle.fl_system.specs.Places.{HasDue, IsDueOver, TurnsFrom};
-ghost use Rattle.fl_acts.specs.Parts.{RulesIn, RulesWith};
-ghost use Rattle.fl_system.specs.Parts.{AtUnmadeOrNone};
 
 use crate::world::World;
 use fl_acts::{
@@ -136,27 +133,11 @@ impl World {
         requires end { HasEnd self.old.cores n place }
         ensures acks { AcksAt (made n place) self.old (answer_of result) self.new }
     {
-        match self.inlet(n, place) {
+        match self.cores[n].inlet(place) {
             Inlet::Side(m) => self.ack_over_side(n, place, m),
-            Inlet::Queue(_) => self.tell_nothing(n, place),
-            Inlet::Arrivals => self.tell_nothing(n, place),
+            Inlet::Queue(_) => tell_nothing(&self.cores[n], place),
+            Inlet::Arrivals => tell_nothing(&self.cores[n], place),
         }
-    }
-
-    // Where the end at a place of a core takes from.
-    fn inlet(&self, n: usize, place: usize) -> Inlet
-        requires end { HasEnd self.now.cores n place }
-        ensures inlet { HasInlet self.now n place result }
-    {
-        self.cores[n].inlet(place)
-    }
-
-    // The end at a place of a core takes from a queue, which has nothing to tell.
-    fn tell_nothing(&self, n: usize, place: usize) -> Answer
-        requires end { HasEnd self.now.cores n place }
-        ensures tells { (k : TheCore) → slice_get self.now.cores n ≡ Some k → Holds k.board place (λ s. TellsNothing s.end (answer_of result)) }
-    {
-        tell_nothing(&self.cores[n], place)
     }
 
     fn ack_over_side(&mut self, n: usize, place: usize, m: usize) -> Answer
@@ -193,7 +174,7 @@ impl World {
         match self.cores[n].inlet(place) {
             Inlet::Queue(q) => self.register_over_queue(n, place, q),
             Inlet::Side(m) => self.register_over_side(n, place, m),
-            Inlet::Arrivals => self.register_over_arrivals(n, place),
+            Inlet::Arrivals => register_in(&mut self.cores[n], place),
         }
     }
 
@@ -219,15 +200,6 @@ impl World {
         }
     }
 
-    fn register_over_arrivals(&mut self, n: usize, place: usize) -> Answer
-        requires end { HasEnd self.old.cores n place }
-        requires inlet { (k : TheCore) → slice_get self.old.cores n ≡ Some k → inlet_of k place ≡ Some Inlet.Arrivals }
-        ensures registers { RegistersOver Inlet.Arrivals n place self.old (answer_of result) self.new }
-    {
-        let core = &mut self.cores[n];
-        register_in(core, place)
-    }
-
     /// An end's channel is deregistered.
     #[inline(never)]
     pub(crate) fn deregister(&mut self, e: EndId) -> Answer
@@ -236,16 +208,8 @@ impl World {
         match self.spot(e) {
             Spot::Nowhere => Answer::Refused(faults::WRONG_NAME),
             Spot::Unmade => Answer::Refused(faults::NOT_BOUND),
-            Spot::Made(n, place) => self.deregister_made(n, place),
+            Spot::Made(n, place) => deregister_in(&mut self.cores[n], place),
         }
-    }
-
-    fn deregister_made(&mut self, n: usize, place: usize) -> Answer
-        requires end { HasEnd self.old.cores n place }
-        ensures deregisters { DeregistersBy (made n place) self.old (answer_of result) self.new }
-    {
-        let core = &mut self.cores[n];
-        deregister_in(core, place)
     }
 }
 
@@ -259,24 +223,8 @@ impl World {
     {
         match self.spot(e) {
             Spot::Nowhere => Answer::Refused(faults::WRONG_NAME),
-            Spot::Unmade => self.rule_unmade(e.binding, message, answer),
-            Spot::Made(n, place) => self.rule_made(n, place, message, answer),
+            Spot::Unmade => rule_kept(&mut self.bindings[e.binding], message, answer),
+            Spot::Made(n, place) => rule_in(&mut self.cores[n], place, message, answer),
         }
-    }
-
-    fn rule_made(&mut self, n: usize, place: usize, message: MsgNo, answer: MsgNo) -> Answer
-        requires end { HasEnd self.old.cores n place }
-        ensures rules { AtCore self.old n (RulesIn place message.0 answer.0 (answer_of result)) self.new }
-    {
-        let core = &mut self.cores[n];
-        rule_in(core, place, message, answer)
-    }
-
-    fn rule_unmade(&mut self, n: usize, message: MsgNo, answer: MsgNo) -> Answer
-        requires binding { n < length self.old.bindings }
-        ensures rules { AtUnmadeOrNone self.old n (RulesWith message.0 answer.0 (answer_of result)) (answer_of result) self.new }
-    {
-        let binding = &mut self.bindings[n];
-        rule_kept(binding, message, answer)
     }
 }

@@ -1,10 +1,12 @@
-use Rattle.std.proofs.Common.{refl, subst, IfOk}
+use Rattle.std.proofs.Common.{refl, subst, IfOk, arith}
+use Rattle.std.proofs.lemmas.Result.{IfOk-weaker}
 use Rattle.fl_value.specs.Value.{call_of}
-use Rattle.fl_queues.specs.Events.{refused}
+use Rattle.fl_queues.specs.Events.{Answer, refused}
 use Rattle.fl_lines.specs.Events.{answer_of}
-use Rattle.fl_worlds.specs.View.{Spot}
+use Rattle.fl_acts.specs.Parts.{CallsIn}
+use Rattle.fl_worlds.specs.View.{Spot, TheWorld}
 use Rattle.fl_worlds.specs.Sending.{CallsAt}
-use Rattle.fl_system.proofs.Lifts.{unmade_below}
+use Rattle.fl_system.proofs.Lifts.{unmade_below, core_read, end_read, few_kept, core_if_ok, core_put_back, on_err_map, at_spot}
 use Rattle.fl_system.proofs.world.World.call.Goals as goal
 
 pub returns-in-Nowhere : goal.returns-in-Nowhere
@@ -19,11 +21,26 @@ returns-in-Unmade-clause-calls c = subst (λ (s : Spot). IfOk c.call_unmade.resu
 pub returns-in-Unmade-clause-kept : goal.returns-in-Unmade-clause-kept
 returns-in-Unmade-clause-kept c = c.call_unmade.ensures.kept
 
-pub call_made-requires : goal.call_made-requires
-call_made-requires c = record { end = c.in-Made.ensures.there }
+pub index_mut-requires : goal.index_mut-requires
+index_mut-requires c = omega (arith, core_read c.args.self.now _ c.self.view_is c.in-Made.n c.in-Made.place c.in-Made.ensures.there, c.self.inside.cores.ok.0)
+
+pub call_in-requires : goal.call_in-requires
+call_in-requires c = record {
+  place = end_read c.args.self.now _ c.self.view_is c.in-Made.n c.in-Made.place c.in-Made.ensures.there c.index_mut.result.now _
+      c.index_mut.ensures.value refl;
+}
+
+pub invariant_of-self : goal.invariant_of-self
+invariant_of-self c = few_kept c.self.inside.cores.items c.in-Made.n c.call_in.new.core c.self.invariant
 
 pub returns-in-Made-clause-calls : goal.returns-in-Made-clause-calls
-returns-in-Made-clause-calls c = subst (λ (s : Spot). IfOk c.call_made.result (λ a. CallsAt s c.args.e (call_of c.args.call.now) c.args.self.now (answer_of a) c.call_made.new.self)) c.in-Made.ensures.spot c.call_made.ensures.calls
+returns-in-Made-clause-calls c = IfOk-weaker c.call_in.result _ _
+    (λ a h. at_spot (λ (s : Spot) (w : TheWorld) (x : Answer) (w2 : TheWorld). CallsAt s c.args.e (call_of c.args.call.now) w x w2) c.args.self.now c.args.e
+    _ c.in-Made.ensures.spot (answer_of a) _ h)
+    (core_if_ok c.args.self.now _ c.self.view_is c.in-Made.n (core_read c.args.self.now _ c.self.view_is c.in-Made.n c.in-Made.place
+    c.in-Made.ensures.there) _ _ c.index_mut.ensures.value refl
+    (λ a. CallsIn c.in-Made.place (call_of c.args.call.now) (answer_of a)) c.call_in.new.core c.call_in.result c.call_in.ensures.calls)
 
 pub returns-in-Made-clause-kept : goal.returns-in-Made-clause-kept
-returns-in-Made-clause-kept c = c.call_made.ensures.kept
+returns-in-Made-clause-kept c = on_err_map _ _ c.call_in.result (λ k. core_put_back c.args.self.now _ c.self.view_is c.in-Made.n _ _ _
+    c.index_mut.ensures.value refl k) c.call_in.ensures.kept

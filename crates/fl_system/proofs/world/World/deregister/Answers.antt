@@ -1,8 +1,9 @@
-use Rattle.std.proofs.Common.{refl, subst}
+use Rattle.std.proofs.Common.{refl, subst, arith}
 use Rattle.fl_queues.specs.Events.{refused}
 use Rattle.fl_lines.specs.Events.{answer_of}
 use Rattle.fl_worlds.specs.View.{Spot}
 use Rattle.fl_worlds.specs.Taking.{DeregistersBy}
+use Rattle.fl_system.proofs.Lifts.{core_read, end_read, few_kept, at_core, at_spot}
 use Rattle.fl_system.proofs.world.World.deregister.Goals as goal
 
 pub returns-in-Nowhere : goal.returns-in-Nowhere
@@ -11,8 +12,21 @@ returns-in-Nowhere c = record { deregisters = subst (λ (s : Spot). DeregistersB
 pub returns-in-Unmade : goal.returns-in-Unmade
 returns-in-Unmade c = record { deregisters = subst (λ (s : Spot). DeregistersBy s c.args.self.now (refused 43) c.args.self.now) c.in-Unmade.ensures.spot (refl, refl) }
 
-pub deregister_made-requires : goal.deregister_made-requires
-deregister_made-requires c = record { end = c.in-Made.ensures.there }
+pub index_mut-requires : goal.index_mut-requires
+index_mut-requires c = omega (arith, core_read c.args.self.now _ c.self.view_is c.in-Made.n c.in-Made.place c.in-Made.ensures.there, c.self.inside.cores.ok.0)
+
+pub deregister_in-requires : goal.deregister_in-requires
+deregister_in-requires c = record {
+  place = end_read c.args.self.now _ c.self.view_is c.in-Made.n c.in-Made.place c.in-Made.ensures.there
+      c.index_mut.result.now _ c.index_mut.ensures.value refl;
+}
+
+pub invariant_of-self : goal.invariant_of-self
+invariant_of-self c = few_kept c.self.inside.cores.items c.in-Made.n c.deregister_in.new.core c.self.invariant
 
 pub returns-in-Made : goal.returns-in-Made
-returns-in-Made c = record { deregisters = subst (λ (s : Spot). DeregistersBy s c.args.self.now (answer_of c.deregister_made.result) c.deregister_made.new.self) c.in-Made.ensures.spot c.deregister_made.ensures.deregisters }
+returns-in-Made c = record {
+  deregisters = at_spot DeregistersBy c.args.self.now c.args.e _ c.in-Made.ensures.spot (answer_of c.deregister_in.result) _
+      (at_core c.args.self.now _ c.self.view_is c.in-Made.n (core_read c.args.self.now _ c.self.view_is c.in-Made.n c.in-Made.place c.in-Made.ensures.there) _
+      _ c.index_mut.ensures.value refl _ _ c.deregister_in.ensures.deregisters);
+}

@@ -1,11 +1,12 @@
-use Rattle.std.proofs.Common.{◌≡◌, ◌⊎◌, ℕ, Option, Some, None, Result, Ok, Err, IfOk, subst, refl, inl}
+use Rattle.std.proofs.Common.{◌≡◌, ◌⊎◌, ℕ, Option, Some, None, Result, Ok, Err, IfOk, subst, refl, inl, inr, length, ◌≤◌, arith}
 use Rattle.std.specs.declared.alloc.AllocError.{AllocError}
-use Rattle.fl_queues.specs.Events.{Answer, refused}
+use Rattle.fl_queues.specs.Events.{Answer, refused, nothing}
 use Rattle.fl_worlds.specs.View.{Given, TheWorld, ring_at}
 use Rattle.fl_worlds.specs.Lending.{Refuses, IsStray}
 use Rattle.fl_worlds.specs.Linking.{LinkEnd, lane_to, Forwards, ForwardsFirst}
 use Rattle.fl_lines.specs.declared.answer.Answer.{Answer as RustAnswer}
 use Rattle.fl_lines.specs.Events.{answer_of}
+use Rattle.fl_system.proofs.Lent.{stray_ring, ring_here}
 use Rattle.fl_system.proofs.world.World.forward.Goals as goal
 
 -- by the lane that was found
@@ -19,6 +20,23 @@ first w core neighbour at is (Err e) w2 h = tt
 
 no_lane : (w : TheWorld) (core neighbour : ℕ) → None ≡ lane_to w core neighbour → Forwards core neighbour w (refused 73) w
 no_lane w core neighbour is = subst (λ (o : Option LinkEnd). by_lane o core w (refused 73) w) is (refl, refl)
+
+no_ring : (w base : TheWorld) → base ≡ w → (core neighbour : ℕ) (at : LinkEnd) → Some at ≡ lane_to w core neighbour → (i : ℕ) → i ≡ ring_at at.side
+    → length base.rings ≤ i → Forwards core neighbour w nothing w
+no_ring w base same core neighbour at is i ring past =
+    subst (λ (o : Option LinkEnd). by_lane o core w nothing w) is (inr ((stray_ring w base same at.side i ring past).0, (refl, refl)))
+
+pub returns-then-place-len-clause-forwards : goal.returns-then-place-len-clause-forwards
+returns-then-place-len-clause-forwards c = no_ring c.args.self.now _ c.self.view_is c.args.core c.args.neighbour _ c.in-Some.ensures.lane _
+    c.ring_at-place.ensures.ring (omega (arith, c.if-place-len.true, c.len.ensures, c.self.inside.rings.ok.0))
+
+pub forward_first-requires-clause-ring : goal.forward_first-requires-clause-ring
+forward_first-requires-clause-ring c = ring_here c.args.self.now _ c.self.view_is _ _ c.ring_at-place.ensures.ring (omega (
+  arith,
+  c.if-place-len.false,
+  c.len.ensures,
+  c.self.inside.rings.ok.0,
+))
 
 pub returns-in_default-clause-forwards : goal.returns-in_default-clause-forwards
 returns-in_default-clause-forwards c = no_lane c.args.self.now c.args.core c.args.neighbour c.in_default.ensures.lane

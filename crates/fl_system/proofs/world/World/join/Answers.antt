@@ -1,4 +1,6 @@
-use Rattle.std.proofs.Common.{refl, sym, ap, ◌∙◌, length}
+use Rattle.std.proofs.Common.{ℕ, refl, sym, ap, ◌∙◌, ◌*◌, length, List, [], ◌∷◌, ◌++◌}
+use Rattle.fl_ring.specs.Duo.{TheDuo}
+use Rattle.fl_system.proofs.Added.{links, as_many_linked}
 use Rattle.fl_system.proofs.Kept.{no_answer, on_any, same_parts, few_again, core_lent}
 use Rattle.std.specs.Vec.{with_items}
 use Rattle.std.proofs.lemmas.List.{with_items_is}
@@ -36,3 +38,13 @@ returns-in_err-link_both-clause-kept c = on_any _ c.from_residual-in_err-link_bo
 
 pub invariant_of-self-2 : goal.invariant_of-self-2
 invariant_of-self-2 c = few_again _ c.self.inside.cores.items (sym (with_items c.self.inside.cores c.link_both.new.cores).ok.0 ∙ c.self.inside.cores.ok.0) c.self.invariant
+
+pub returns-clause-joins : goal.returns-clause-joins
+returns-clause-joins c = (
+  refl,
+  links c.args.a c.args.b c.args.self.now _ c.self.view_is c.as_mut_slice.result.now c.as_mut_slice.ensures.value c.link_both.new.cores _
+      (ap (λ (n : ℕ). 2 * n) (ap length (c.as_slice.ensures.value ∙ c.reserve.ensures.items))) c.in_ok-link_both.ensures.links _
+      (with_items_is c.self.inside.cores c.link_both.new.cores (as_many_linked _ _ _ _ _ c.in_ok-link_both.ensures.links ∙ c.as_mut_slice.ensures.len))
+      c.args.ring c.requires.new c.requires.sized c.push_reserved.new.self.items
+      (c.push_reserved.ensures.items ∙ ap (λ (rs : List TheDuo). rs ++ c.args.ring ∷ []) c.reserve.ensures.items),
+)

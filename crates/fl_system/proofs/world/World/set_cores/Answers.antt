@@ -2,5 +2,5 @@ use Rattle.std.proofs.Common.{arith}
 use Rattle.fl_system.proofs.Makes.{few_fresh}
 use Rattle.fl_system.proofs.world.World.set_cores.Goals as goal
 
-pub invariant_of-self : goal.invariant_of-self
-invariant_of-self c = few_fresh c.args.n _ c.in_ok-self-inside.ensures (omega (arith, c.if-n-gt-MAX_CORES.false))
+pub invariant_of-self-2 : goal.invariant_of-self-2
+invariant_of-self-2 c = few_fresh c.args.n _ c.in_ok-renew_cores.ensures.fresh (omega (arith, c.if-n-gt-MAX_CORES.false))

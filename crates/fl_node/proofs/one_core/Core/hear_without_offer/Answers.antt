@@ -5,7 +5,7 @@ use Rattle.fl_node.specs.Hearing.{Offers, offer_for, offering}
 use Rattle.fl_node.proofs.Kept.{parts_kept}
 use Rattle.fl_node.proofs.Hearsay.{hears_kept, unheard_length, not_heard, none_so, message_heard}
 use Rattle.std.proofs.Common.{length}
-use Rattle.fl_node.proofs.one_core.Core.hear_plainly.Goals as goal
+use Rattle.fl_node.proofs.one_core.Core.hear_without_offer.Goals as goal
 
 pub invariant_of-self : goal.invariant_of-self
 invariant_of-self c = parts_kept _ c.self.inside.board c.on_message.new.self c.unheard.new.lanes.items c.self.inside.arrivals.items c.self.invariant refl (ap (λ (m : TheMonitor). length m.circuits.links) (hears_kept _ c.args.link c.args.message.now c.self.inside.monitor c.on_message.new.self c.in-Err.fault c.in-Err.ensures.hears)) (unheard_length c.args.link c.in-Err.fault c.self.inside.lanes.items c.unheard.new.lanes.items _ c.unheard.ensures.unheard) refl
