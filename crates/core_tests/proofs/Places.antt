@@ -1,10 +1,10 @@
 -- An end that was added stands last, and takes from no arrival queue of its own.
 use Rattle.std.proofs.Common.{◌≡◌, refl, sym, ap, ◌∙◌, subst, ℕ, ◌<◌, List, [], ◌∷◌, ◌++◌, length, slice_get, Option, Some, None, Ok, arith}
 use Rattle.std.proofs.lemmas.Option.{slice_get_within}
+use Rattle.fl_base.specs.Given.{given}
 use Rattle.fl_endpoint.specs.View.{TheEnd}
 use Rattle.fl_core.proofs.Places.{push_last}
 use Rattle.fl_core.specs.View.{TheSeat, TheBoard}
-use Rattle.fl_monitor.specs.Routing.{given}
 use Rattle.fl_node.specs.declared.wire.Port.{Port}
 use Rattle.fl_node.specs.View.{TheCore, arrivals_of, arrivals_by}
 use Rattle.fl_node.specs.Sound.{IsCore}

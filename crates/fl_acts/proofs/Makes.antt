@@ -3,10 +3,11 @@ use Rattle.std.proofs.Common.{◌≡◌, ◌≢◌, refl, sym, ap, ap₂, ◌∙
 use Rattle.std.specs.List.{range_with_len}
 use Rattle.std.proofs.lemmas.List.{map-append, set-get_or, set-set, get_or-set_same, get_or-set_other}
 use Rattle.std.proofs.lemmas.Option.{slice_get_read}
+use Rattle.fl_base.specs.Numbered.{core_id}
 use Rattle.fl_node.specs.View.{TheCore, fresh_core}
 use Rattle.fl_node.specs.Making.{linked}
 use Rattle.fl_worlds.specs.View.{IsWhole}
-use Rattle.fl_worlds.specs.Making.{fresh_cores, core_id}
+use Rattle.fl_worlds.specs.Making.{fresh_cores}
 use Rattle.fl_acts.specs.Parts.{LinksBoth}
 
 -- ---- cores

@@ -2,6 +2,7 @@
 use Rattle.std.proofs.Common.{◌≡◌, ◌<◌, ◌+◌, refl, sym, ap, ◌∙◌, subst, ℕ, zero, suc, length, slice_get, List, [], ◌∷◌, ◌++◌, Option, Some, None, Result, Ok, Err, inl, inr, arith}
 use Rattle.std.proofs.lemmas.List.{length_push, length-map}
 use Rattle.std.proofs.lemmas.Option.{same_Some}
+use Rattle.fl_base.specs.Given.{given}
 use Rattle.fl_lists.specs.declared.place.Place.{Place}
 use Rattle.fl_lists.specs.declared.place.Place.TheVariants as place
 use Rattle.fl_lists.specs.ThreeLists.{ThreeLists}
@@ -14,7 +15,6 @@ use Rattle.fl_core.specs.declared.fault.BoardFault.TheVariants as fault
 use Rattle.fl_core.specs.View.{TheSeat, TheBoard}
 use Rattle.fl_core.specs.Events.{Registers}
 use Rattle.fl_core.specs.Turns.{WaitsIn, lent, over}
-use Rattle.fl_monitor.specs.Routing.{given}
 use Rattle.fl_node.specs.declared.wire.Port.{Port}
 use Rattle.fl_node.specs.declared.joining.Joining.{Joining}
 use Rattle.fl_node.specs.declared.joining.BothEnds.{BothEnds}

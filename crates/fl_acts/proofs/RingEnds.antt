@@ -4,13 +4,13 @@ use Rattle.std.proofs.Common.{List, [], ◌∷◌, ◌++◌, length, slice_get, 
 use Rattle.std.proofs.lemmas.List.{length-map, get_or-set_other, get_or-set_same, set-set}
 use Rattle.std.proofs.lemmas.Option.{slice_get_read, slice_get_within}
 use Rattle.fl_base.specs.declared.identity.EndId.{EndId}
+use Rattle.fl_base.specs.Given.{given}
 use Rattle.fl_hop.proofs.Lists.{set_swap}
 use Rattle.fl_lists.specs.declared.place.Place.TheVariants as place
 use Rattle.fl_ring.specs.Duo.{TheDuo}
 use Rattle.fl_core.specs.declared.kind.Kind.TheVariants.{Ring as RingKind}
 use Rattle.fl_core.specs.View.{TheBoard}
 use Rattle.fl_core.specs.Turns.{lent}
-use Rattle.fl_monitor.specs.Routing.{given}
 use Rattle.fl_node.specs.declared.wire.Port.{Port}
 use Rattle.fl_node.specs.declared.wire.Wire.TheVariants.{Ring}
 use Rattle.fl_node.specs.View.{TheCore, arrivals_by, place_of}

@@ -1,8 +1,8 @@
 -- What a board says of its dispatchers' places.
 use Rattle.std.proofs.Common.{◌≡◌, ◌≤◌, ◌<◌, ◌+◌, nat_le, refl, sym, ap, ◌∙◌, ℕ, zero, suc, false, List, [], ◌∷◌, length, slice_get, Option, Some, arith}
+use Rattle.fl_base.specs.Given.{given}
 use Rattle.fl_core.specs.View.{TheDispatcher, TheBoard}
 use Rattle.fl_core.specs.Sound.{IsBoard}
-use Rattle.fl_queues.specs.Given.{given}
 use Rattle.fl_acts.specs.Wishes.{places_in}
 
 -- ---- tests

@@ -1,6 +1,7 @@
 -- What an event comes to at the parts of a world that it touches: a core, and the queue or the ring that is lent to it, or a
 -- binding that keeps an end.
 use Rattle.std.specs.Prelude.{ℕ, ◌≡◌, ◌⊎◌, ◌+◌, List, slice_get, slice_set, Some, None, Result}
+use Rattle.fl_base.specs.Numbered.{core_id}
 use Rattle.fl_value.specs.Value.{TheCall}
 use Rattle.fl_link.specs.Queue.{TheQueue}
 use Rattle.fl_ring.specs.Duo.{TheDuo}
@@ -16,7 +17,6 @@ use Rattle.fl_queues.specs.Events.{Answer, refused}
 use Rattle.fl_worlds.specs.declared.binding.Binding.{Binding}
 use Rattle.fl_worlds.specs.View.{IsWhole, keeping}
 use Rattle.fl_worlds.specs.Lending.{IsLent}
-use Rattle.fl_worlds.specs.Making.{core_id}
 use Rattle.fl_worlds.specs.Sending.{IsCalled}
 use Rattle.fl_worlds.specs.Taking.{IsRuled}
 

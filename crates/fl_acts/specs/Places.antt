@@ -1,8 +1,8 @@
 -- Where ends and links are, in the code's own words for it.
 use Rattle.std.specs.Prelude.{ℕ, ◌≡◌, ◌<◌, List, length, slice_get, Option, Some, None}
+use Rattle.fl_base.specs.Given.{given}
 use Rattle.fl_hop.specs.Table.{link_of}
 use Rattle.fl_node.specs.View.{TheCore, side_of_link}
-use Rattle.fl_queues.specs.Given.{given}
 use Rattle.fl_worlds.specs.View as view
 use Rattle.fl_worlds.specs.Linking as linking
 use Rattle.fl_acts.specs.declared.places.Spot.{Spot}

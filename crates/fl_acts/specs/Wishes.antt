@@ -1,12 +1,12 @@
 -- What is looked at before a binding is made: ends that a core has, and places at its dispatchers.
 use Rattle.std.specs.Prelude.{ℕ, ◌≡◌, ◌<◌, ◌+◌, ◌||◌, nat_le, Bool, false, List, length}
 use Rattle.std.specs.Prelude.{slice_get, Some, None, is_some}
+use Rattle.fl_base.specs.Given.{given}
 use Rattle.fl_compile.specs.declared.program.Program.{Program}
 use Rattle.fl_compile.specs.Programs.{program_of}
 use Rattle.fl_core.specs.View.{TheBoard}
 use Rattle.fl_endpoint.specs.View.{TheEnd, fresh}
 use Rattle.fl_node.specs.View.{TheCore, place_of, client_of, server_of}
-use Rattle.fl_queues.specs.Given.{given}
 use Rattle.fl_queues.specs.Events.{DispatcherId}
 
 -- ---- ends that are there

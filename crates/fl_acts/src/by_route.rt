@@ -3,6 +3,7 @@
 ghost use Rattle.std.specs.Prelude.{◌≡◌, ◌<◌, ◌≤◌, ◌⊎◌, ◌++◌, length, map, nat_lt, true, None, IfOk, OnOk, OnErr, vec_len};
 ghost use Rattle.std.specs.Vec.{vec_capacity};
 ghost use Rattle.std.specs.List.{list_all};
+ghost use Rattle.fl_base.specs.Numbered.{core_id};
 ghost use Rattle.fl_core.specs.declared.fault.BoardFault.{BoardFault};
 ghost use Rattle.fl_lines.specs.Events.{id_of, answer_of};
 ghost use Rattle.fl_lists.specs.ThreeLists.{is_in};
@@ -12,7 +13,6 @@ ghost use Rattle.fl_node.specs.declared.fault.OpenFault.{OpenFault};
 ghost use Rattle.fl_node.specs.Making.{asked};
 ghost use Rattle.fl_node.specs.View.{client_of, place_of};
 ghost use Rattle.fl_queues.specs.Binding.{all_differ};
-ghost use Rattle.fl_worlds.specs.Making.{core_id};
 ghost use Rattle.fl_worlds.specs.View.{IsWhole};
 ghost use Rattle.fl_acts.specs.Parts.{InCore};
 ghost use Rattle.fl_acts.specs.Wishes.{HasDispatcher};

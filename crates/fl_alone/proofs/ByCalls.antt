@@ -4,11 +4,12 @@ use Rattle.std.proofs.Common.{◌∷◌, ◌++◌, length, map, slice_get, slice
 use Rattle.fl_base.specs.declared.identity.EndId.{EndId}
 use Rattle.fl_base.specs.declared.identity.Side.{Side}
 use Rattle.fl_base.specs.declared.identity.Side.TheVariants.{Client, Server}
+use Rattle.fl_base.specs.Given.{given}
 use Rattle.fl_value.specs.declared.value.Call.{Call}
 use Rattle.fl_value.specs.Fits.{fits_of}
 use Rattle.fl_value.specs.Value.{TheCall, call_of}
 use Rattle.fl_node.specs.View.{slot_of}
-use Rattle.fl_queues.specs.Given.{given, changed_at}
+use Rattle.fl_queues.specs.Given.{changed_at}
 use Rattle.fl_queues.specs.Events.{Event, call, write, turn, Answer, accepted, handle, nothing, refused}
 use Rattle.fl_queues.specs.Calls.{Planned}
 use Rattle.fl_queues.specs.Ends.{End, is_bound}
@@ -19,7 +20,7 @@ use Rattle.fl_queues.specs.State.{Verdict, undecided, granted, denied, Back, loc
 use Rattle.fl_queues.specs.State.{Route, interface_of, end_in, end_of, dispatcher_of}
 use Rattle.fl_queues.specs.Step.{settles_by, settles, step}
 use Rattle.fl_queues.specs.Taking.{turns as machine_turns, turns_by, gives, chosen, examines}
-use Rattle.fl_queues.specs.Waits.{Dispatcher, Due, pending, polled, no_one, due}
+use Rattle.fl_queues.specs.Waits.{Dispatcher, Due, pending, polled, no_one, due, end_due}
 use Rattle.fl_laws.proofs.Cases.{either, each_changed}
 use Rattle.fl_laws.proofs.Refusals.{refusals_same}
 use Rattle.fl_laws.proofs.SoundSteps.{steps_are_sound}
@@ -28,7 +29,7 @@ use Rattle.fl_work.specs.declared.job.Job.{Job}
 use Rattle.fl_work.specs.declared.job.Job.TheVariants as job
 use Rattle.fl_work.specs.Jobs.{calls_of_job, calls_of_jobs}
 use Rattle.fl_alone.specs.Turns.{Desk, Alone, at_desk, advanced, with_handled as desk_handled, next_job, goes, is_there, call_noted, calls as desk_calls, tries}
-use Rattle.fl_alone.specs.Turns.{serves as desk_serves, here, end_due, due_at, is_before_calls, turn_noted, turns_at, takes_turn, Work, swept}
+use Rattle.fl_alone.specs.Turns.{serves as desk_serves, here, due_at, is_before_calls, turn_noted, turns_at, takes_turn, Work, swept}
 use Rattle.fl_alone.specs.Turns.{serves_at as desk_serves_at, one_turn as desk_turn, turned as desk_turned, is_still, is_clear as desk_is_clear}
 use Rattle.fl_alone.specs.Turns.{is_done_at as desk_is_done_at, are_done as desks_are_done, is_finished as desks_finished, first_finished as desks_first}
 use Rattle.fl_alone.specs.Calls.{Post, Solo, post_at, next_call, does, one_made, one_handled, with_made, with_handled, calls, serves, has_turn, serves_at}

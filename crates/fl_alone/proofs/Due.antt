@@ -2,17 +2,16 @@
 use Rattle.std.proofs.Common.{◌≡◌, refl, sym, ◌∙◌, ap, subst, ℕ, zero, suc, Bool, true, false, if◌then◌else◌, List, [], ◌∷◌, length, map, slice_get}
 use Rattle.std.proofs.Common.{Option, Some, None}
 use Rattle.fl_base.specs.declared.identity.EndId.{EndId}
+use Rattle.fl_base.specs.Given.{given as given_at, given}
 use Rattle.fl_lists.specs.ThreeLists.{ThreeLists}
 use Rattle.fl_waitset.specs.Waiting.{next_pick, first_of}
 use Rattle.fl_core.specs.View.{TheDispatcher, due_in, end_picked, due as due_on}
-use Rattle.fl_monitor.specs.Routing.{given as given_at}
 use Rattle.fl_node.specs.declared.wire.Inlet.{Inlet}
 use Rattle.fl_node.specs.declared.wire.Inlet.TheVariants as inlet
 use Rattle.fl_node.specs.declared.wire.Port.{Port}
 use Rattle.fl_node.specs.View.{TheCore, place_of, inlet_of}
 use Rattle.fl_node.specs.Sound.{IsCore}
-use Rattle.fl_queues.specs.Given.{given}
-use Rattle.fl_queues.specs.Waits.{Dispatcher, due, first_due}
+use Rattle.fl_queues.specs.Waits.{Dispatcher, due, first_due, end_due}
 use Rattle.fl_queues.specs.Monitors.{Core}
 use Rattle.fl_queues.specs.State.{dispatcher_of}
 use Rattle.fl_worlds.specs.View.{TheWorld}
@@ -25,7 +24,7 @@ use Rattle.fl_work.specs.declared.job.Job.TheVariants as job
 use Rattle.fl_running.specs.Run.{Ways, TheRun, lends_in, lent_due}
 use Rattle.fl_work.specs.Jobs.{is_before_calls as is_before}
 use Rattle.fl_running.specs.Steps.{awaits, due_turn, TurnsIf, TurnsAt, TakesTurn}
-use Rattle.fl_alone.specs.Turns.{Alone, next_job, here, end_due, due_at, is_before_calls, turns_at, takes_turn}
+use Rattle.fl_alone.specs.Turns.{Alone, next_job, here, due_at, is_before_calls, turns_at, takes_turn}
 use Rattle.fl_alone.specs.Shown.{world_with, ShowsAlone}
 use Rattle.fl_alone.proofs.Standing.{Wired, wired}
 use Rattle.fl_alone.proofs.Desks.{is_few, same_job}

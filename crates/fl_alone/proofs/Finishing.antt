@@ -4,13 +4,13 @@ use Rattle.std.proofs.Common.{length, map, slice_get, Option, Some, None, is_som
 use Rattle.fl_base.specs.declared.fragment.Frag.{Frag}
 use Rattle.fl_base.specs.declared.identity.EndId.{EndId}
 use Rattle.fl_base.specs.Ends.{other}
+use Rattle.fl_base.specs.Given.{given as given_at, given}
+use Rattle.fl_base.specs.Numbered.{most_bindings}
 use Rattle.fl_value.specs.Value.{call_of}
 use Rattle.fl_hop.proofs.Lists.{at_within, within}
 use Rattle.fl_endpoint.specs.View.{TheEnd, is_circuit, are_some, is_busy as is_busy_at}
 use Rattle.fl_core.specs.View.{TheSeat}
-use Rattle.fl_monitor.specs.Routing.{given as given_at}
-use Rattle.fl_node.specs.View.{TheCore, place_of, slot_of, most_bindings}
-use Rattle.fl_queues.specs.Given.{given}
+use Rattle.fl_node.specs.View.{TheCore, place_of, slot_of}
 use Rattle.fl_queues.specs.Calls.{Planned}
 use Rattle.fl_queues.specs.Ends.{End, Direction, is_bound, is_busy}
 use Rattle.fl_queues.specs.State.{Binding, interface_of, end_in}

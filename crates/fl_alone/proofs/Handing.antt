@@ -2,6 +2,7 @@
 use Rattle.std.proofs.Common.{◌≡◌, inr, refl, sym, ◌∙◌, ap, subst, ℕ, zero, suc, false, List, [], ◌∷◌, length, map, slice_get, Option, Some, None}
 use Rattle.fl_base.specs.declared.identity.EndId.{EndId}
 use Rattle.fl_base.specs.Ends.{peer}
+use Rattle.fl_base.specs.Given.{given}
 use Rattle.fl_hop.proofs.Lists.{map_same}
 use Rattle.fl_link.specs.Queue.{TheQueue}
 use Rattle.fl_core.specs.View.{TheDispatcher}
@@ -10,7 +11,6 @@ use Rattle.fl_node.specs.declared.wire.Wire.TheVariants.{Queues, Ring as OverRin
 use Rattle.fl_node.specs.declared.wire.Port.{Port}
 use Rattle.fl_node.specs.View.{TheCore, place_of}
 use Rattle.fl_node.specs.Numbers.{moved, moved_lane, moved_wire, moved_port, renumbered}
-use Rattle.fl_queues.specs.Given.{given}
 use Rattle.fl_queues.specs.Calls.{Planned}
 use Rattle.fl_queues.specs.Ends.{Seat}
 use Rattle.fl_queues.specs.Waits.{Dispatcher}

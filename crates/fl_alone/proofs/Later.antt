@@ -3,9 +3,10 @@ use Rattle.std.proofs.Common.{◌≡◌, refl, sym, ◌∙◌, ap, subst, ℕ, z
 use Rattle.std.proofs.Common.{◌∷◌, length, length-append, slice_get, slice_set, Option, Some, None, arith}
 use Rattle.std.proofs.lemmas.Bool.Decides.{nat_tests}
 use Rattle.fl_base.specs.declared.identity.EndId.{EndId}
+use Rattle.fl_base.specs.Given.{given}
 use Rattle.fl_value.specs.Value.{TheCall}
 use Rattle.fl_node.specs.View.{slot_of}
-use Rattle.fl_queues.specs.Given.{given, changed_at}
+use Rattle.fl_queues.specs.Given.{changed_at}
 use Rattle.fl_queues.specs.Events.{write, turn, Answer, done, accepted, nothing, full, written, handle, part, ready, quiet, forwarded, opened}
 use Rattle.fl_queues.specs.Events.{opening_refused, words, refused}
 use Rattle.fl_queues.specs.Step.{step}

@@ -2,10 +2,9 @@
 use Rattle.std.proofs.Common.{◌≡◌, sym, ◌∙◌, ap, subst, ℕ, zero, suc, nat_lt, Bool, true, false, if◌then◌else◌, List, [], length, Option, Some, None, arith}
 use Rattle.fl_base.specs.declared.identity.EndId.{EndId}
 use Rattle.fl_base.specs.declared.identity.LinkId.{LinkId}
-use Rattle.fl_monitor.specs.Routing.{given as given_at}
+use Rattle.fl_base.specs.Given.{given as given_at, given}
 use Rattle.fl_node.specs.declared.wire.Inlet.{Inlet}
 use Rattle.fl_node.specs.View.{place_of, side_of_link, inlet_of}
-use Rattle.fl_queues.specs.Given.{given}
 use Rattle.fl_shows.proofs.Tests.{lt_false}
 use Rattle.fl_worlds.specs.View.{TheWorld}
 use Rattle.fl_worlds.specs.Laws.{StepsAgree}

@@ -4,14 +4,14 @@ use Rattle.std.proofs.Common.{length, slice_get, Option, Some, None, is_some}
 use Rattle.std.specs.Prelude.{Result, Err}
 use Rattle.fl_base.specs.declared.fragment.Frag.{Frag}
 use Rattle.fl_base.specs.declared.identity.EndId.{EndId}
+use Rattle.fl_base.specs.Given.{given as given_at, given}
+use Rattle.fl_base.specs.Numbered.{most_bindings}
 use Rattle.fl_value.specs.Value.{call_of}
 use Rattle.fl_endpoint.specs.declared.fault.EndFault.{EndFault}
 use Rattle.fl_endpoint.specs.declared.fault.EndFault.TheVariants.{Memory}
 use Rattle.fl_monitor.specs.Monitors.{can_say}
 use Rattle.fl_node.specs.declared.wire.Outlet.TheVariants as outlet
-use Rattle.fl_monitor.specs.Routing.{given as given_at}
-use Rattle.fl_node.specs.View.{TheCore, place_in, place_of, outlet_of, client_of, most_bindings}
-use Rattle.fl_queues.specs.Given.{given}
+use Rattle.fl_node.specs.View.{TheCore, place_in, place_of, outlet_of, client_of}
 use Rattle.fl_queues.specs.Events.{write}
 use Rattle.fl_queues.specs.Ends.{End}
 use Rattle.fl_queues.specs.State.{end_of}

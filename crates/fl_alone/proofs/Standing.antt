@@ -1,6 +1,7 @@
 -- Where the ends of one core by itself stand: each is joined by queues, which are the core's.
 use Rattle.std.proofs.Common.{◌≡◌, refl, sym, ◌∙◌, ap, subst, ℕ, true, nat_lt, if◌then◌else◌, List, [], length, slice_get, Option, Some, None}
 use Rattle.fl_base.specs.declared.identity.EndId.{EndId}
+use Rattle.fl_base.specs.Given.{given as given_at, given}
 use Rattle.fl_hop.proofs.Lists.{within}
 use Rattle.fl_node.specs.declared.wire.Wire.{Wire}
 use Rattle.fl_node.specs.declared.wire.Wire.TheVariants.{Queues, Ring as OverRing, Circuit}
@@ -10,8 +11,6 @@ use Rattle.fl_node.specs.declared.wire.Outlet.{Outlet}
 use Rattle.fl_node.specs.declared.wire.Outlet.TheVariants as outlet
 use Rattle.fl_node.specs.declared.wire.Inlet.TheVariants as inlet
 use Rattle.fl_node.specs.View.{TheCore, place_of, side_of_link, outlet_by, outlet_of, inlet_by, inlet_of}
-use Rattle.fl_monitor.specs.Routing.{given as given_at}
-use Rattle.fl_queues.specs.Given.{given}
 use Rattle.fl_queues.specs.Rings.{RingEnd}
 use Rattle.fl_queues.specs.State.{Back, local, over_ring, over_route, Binding, State, binding_of, own_ring}
 use Rattle.fl_shows.proofs.Tests.{lt_true}

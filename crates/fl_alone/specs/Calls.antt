@@ -3,10 +3,11 @@
 use Rattle.std.specs.Prelude.{ℕ, zero, suc, ◌≡◌, ◌+◌, ◌==◌, ◌&&◌, Bool, true, false, if◌then◌else◌, List, [], ◌∷◌, ◌++◌, map, length, slice_get, Option}
 use Rattle.std.specs.Prelude.{Some, None}
 use Rattle.fl_base.specs.declared.identity.EndId.{EndId}
+use Rattle.fl_base.specs.Given.{given}
 use Rattle.fl_value.specs.Value.{TheCall}
 use Rattle.fl_value.specs.declared.value.Call.{Call}
 use Rattle.fl_node.specs.View.{slot_of}
-use Rattle.fl_queues.specs.Given.{given, changed_at}
+use Rattle.fl_queues.specs.Given.{changed_at}
 use Rattle.fl_queues.specs.Events.{Event, call, write, turn, Answer, accepted, handle}
 use Rattle.fl_queues.specs.Sound.{Sound}
 use Rattle.fl_queues.specs.State.{State}

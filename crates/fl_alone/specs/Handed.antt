@@ -1,20 +1,12 @@
 -- A core as its thread is handed it: it names its queues by other numbers, where they stand then. Law.
-use Rattle.std.specs.Prelude.{ℕ, ◌≡◌, ◌⊎◌, false, List, [], ◌∷◌, slice_get, Some}
-use Rattle.fl_base.specs.declared.identity.EndId.{EndId}
+use Rattle.std.specs.Prelude.{ℕ, ◌≡◌, false, List, [], ◌∷◌, slice_get, Some}
 use Rattle.fl_link.specs.Queue.{TheQueue}
-use Rattle.fl_node.specs.declared.wire.Wire.TheVariants.{Queues}
 use Rattle.fl_node.specs.View.{TheCore}
 use Rattle.fl_node.specs.Numbers.{moved, renumbered}
 use Rattle.fl_queues.specs.State.{State}
 use Rattle.fl_worlds.specs.View.{TheWorld}
-use Rattle.fl_worlds.specs.Picture.{wire_of, Shows}
+use Rattle.fl_worlds.specs.Picture.{Shows, NamesQueue}
 use Rattle.fl_alone.specs.Shown.{alone_with}
-
--- an end of the core puts to the queue of this number, or takes from it
-abbrev pub NamesQueue : TheCore → ℕ → Type 0
-NamesQueue c queue =
-    ((e : EndId) × (from : ℕ) × (wire_of c e ≡ Some (Queues queue from)))
-    ⊎ ((e : EndId) × (out : ℕ) × (wire_of c e ≡ Some (Queues out queue)))
 
 -- each queue that the core names stands where its new number says, and no two have one
 pub record AreHanded (w : TheWorld) (k : TheCore) (numbers : List ℕ) (queues : List TheQueue) : Type 0 where

@@ -1,9 +1,10 @@
 -- When a running core shows a state of the machine, with desks: by its own queues, and no link and no ring.
 use Rattle.std.specs.Prelude.{ℕ, ◌≡◌, ◌<◌, nat_lt, true, false, List, [], ◌∷◌, map, length, slice_get, Some}
 use Rattle.fl_base.specs.declared.identity.EndId.{EndId}
+use Rattle.fl_base.specs.Numbered.{most_bindings}
 use Rattle.fl_value.specs.Value.{call_of}
 use Rattle.fl_link.specs.Queue.{TheQueue}
-use Rattle.fl_node.specs.View.{TheCore, most_bindings}
+use Rattle.fl_node.specs.View.{TheCore}
 use Rattle.fl_node.specs.Sound.{IsCore}
 use Rattle.fl_worlds.specs.View.{TheWorld}
 use Rattle.fl_worlds.specs.Picture.{Shows}

@@ -3,11 +3,12 @@
 use Rattle.std.specs.Prelude.{ℕ, zero, suc, ◌+◌, ◌==◌, ◌&&◌, not, Bool, true, false, if◌then◌else◌, List, [], ◌∷◌, ◌++◌, length, slice_get, Option}
 use Rattle.std.specs.Prelude.{Some, None, is_some}
 use Rattle.fl_base.specs.declared.identity.EndId.{EndId}
+use Rattle.fl_base.specs.Given.{given}
 use Rattle.fl_value.specs.Value.{TheCall, call_of}
-use Rattle.fl_queues.specs.Given.{given, changed_at}
+use Rattle.fl_queues.specs.Given.{changed_at}
 use Rattle.fl_queues.specs.Events.{DispatcherId, Event, call, write, turn, reply, Answer, accepted, handle}
 use Rattle.fl_queues.specs.Ends.{is_bound, is_busy}
-use Rattle.fl_queues.specs.Waits.{Dispatcher, Due, pending, polled, no_one, due}
+use Rattle.fl_queues.specs.Waits.{due, end_due}
 use Rattle.fl_queues.specs.State.{State, dispatcher_of, binding_of, interface_of, end_in, end_of}
 use Rattle.fl_queues.specs.Step.{step}
 use Rattle.fl_node.specs.View.{slot_of}
@@ -92,12 +93,6 @@ serves jobs e a = if is_there a.state e then goes (write e) (tries e (next_job j
 -- the core's dispatcher at this place
 abbrev pub here : ℕ → DispatcherId
 here d = record { core = 0; place = d }
-
--- the end whose turn it is
-abbrev pub end_due : Dispatcher → Due → Option EndId
-end_due x (pending c) = slice_get x.ends c
-end_due x (polled c) = slice_get x.ends c
-end_due x no_one = None
 
 abbrev pub due_at : State → ℕ → Option EndId
 due_at s d = given (dispatcher_of s (here d)) None λ x. end_due x (due x)

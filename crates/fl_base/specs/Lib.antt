@@ -1,4 +1,6 @@
--- All three are what promises rest on.
+-- All are what promises rest on.
 pub mod Control
 pub mod Ends
+pub mod Given
+pub mod Numbered
 pub mod Prefix

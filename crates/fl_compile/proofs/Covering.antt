@@ -11,12 +11,13 @@ use Rattle.fl_interface.specs.Limits.{is_well_made, are_well_made, count_of as f
 use Rattle.fl_value.specs.Value.{Datum, number, string, elements, fields, Data, nothing_more, also}
 use Rattle.fl_value.specs.Fits.{has_type, have_types, all_have_type, count_of, is_argument}
 use Rattle.fl_value.specs.Plan.{is_dynamic}
-use Rattle.fl_layout.specs.Leaves.{Leaf, gap, whole, single, bits_of, value_onto, fields_onto, elements_onto, bytes_onto, Argument, argument_onto, start_onto, arguments_onto}
+use Rattle.fl_layout.specs.Leaves.{Leaf, gap, whole, single, bits_of, value_onto, fields_onto, elements_onto, bytes_onto, argument_onto, start_onto, arguments_onto}
 use Rattle.fl_layout.specs.Places.{size, place}
 use Rattle.fl_wire.specs.Covered.{holds, is_covered, is_length}
 use Rattle.fl_wire.specs.Payload.{payload_bytes}
 use Rattle.fl_interface.specs.Counts.{words_fit, all_words_fit, argument_words_fit}
 use Rattle.fl_interface.proofs.Aligned.{align_eight, type_align, types_align, IsMultiple, multiple_of_less}
+use Rattle.fl_value.specs.Tape.{Argument}
 use Rattle.fl_wire.proofs.Covers.{holds_before, holds_in, covered_past, covered_before, covered_in}
 use Rattle.fl_stub.specs.declared.mark.Mark.{Mark}
 use Rattle.fl_stub.specs.declared.mark.Mark.TheVariants.{Length, Number, Zero}

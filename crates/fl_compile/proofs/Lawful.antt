@@ -9,7 +9,7 @@ use Rattle.fl_value.specs.Value.{Datum, TheCall}
 use Rattle.fl_value.specs.Fits.{fits_of, fit_message, are_arguments}
 use Rattle.fl_value.specs.Plan.{arranged}
 use Rattle.fl_value.specs.Tape.{Argument, kind, tape_of_argument, tape_of, types_of}
-use Rattle.fl_layout.specs.Leaves.{arguments_onto, types_of as leaf_types_of}
+use Rattle.fl_layout.specs.Leaves.{arguments_onto}
 use Rattle.fl_wire.specs.Payload.{payload_bytes, payload_of}
 use Rattle.fl_interface.specs.Counts.{argument_words_fit}
 use Rattle.fl_stub.specs.declared.op.Column.{Column}
@@ -52,7 +52,7 @@ message_turns column plan m ds h w f =
 -- by the message that a call has
 abbrev CallTurns : Column → PlanNo → TheMessage → Option TheMessage → List Datum → Type 0
 CallTurns column plan m found ds =
-    Turns (message_block column plan m) (flat_map tape_of_argument (ordered plan (types_of found) ds)) (payload_bytes (arguments_onto false (ordered plan (leaf_types_of found) ds) []))
+    Turns (message_block column plan m) (flat_map tape_of_argument (ordered plan (types_of found) ds)) (payload_bytes (arguments_onto false (ordered plan (types_of found) ds) []))
 
 pub call_turns : (column : Column) (plan : PlanNo) (i : TheInterface) (m : TheMessage) (c : TheCall) → HasMessage i c.msg m → fits_of i c ≡ true
     → Turns (message_block column plan m) (tape_of plan i c) (payload_of plan i c)
@@ -91,7 +91,7 @@ takes plan i msg m tape bytes has turns =
         message = refl;
         fits = subst (λ (o : Option TheMessage). fit_message o u.ds ≡ true) (sym e) u.fit;
         tape_is = subst (λ (o : Option TheMessage). tape ≡ flat_map tape_of_argument (ordered plan (types_of o) u.ds)) (sym e) tape_is;
-        bytes_are = subst (λ (o : Option TheMessage). bytes ≡ payload_bytes (arguments_onto false (ordered plan (leaf_types_of o) u.ds) [])) (sym e) bytes_are;
+        bytes_are = subst (λ (o : Option TheMessage). bytes ≡ payload_bytes (arguments_onto false (ordered plan (types_of o) u.ds) [])) (sym e) bytes_are;
       },
     )
 

@@ -9,7 +9,6 @@ use Rattle.fl_value.specs.Value.{Datum}
 use Rattle.fl_value.specs.Fits.{fit_message, are_arguments}
 use Rattle.fl_value.specs.Plan.{arranged}
 use Rattle.fl_value.specs.Tape.{kind, tape_of_argument, types_of}
-use Rattle.fl_layout.specs.Leaves.{types_of as leaf_types_of}
 use Rattle.fl_interface.specs.Counts.{argument_words_fit}
 use Rattle.fl_wire.specs.declared.fault.WireFault.TheVariants.{NotZero, OutOfType, TooLong}
 use Rattle.fl_stub.specs.declared.mark.Mark.{Mark}
@@ -47,7 +46,7 @@ message_tells plan m ds h w f p =
 -- by the message that a call has
 abbrev Tells : PlanNo → TheMessage → Option TheMessage → List Datum → ℕ → Type 0
 Tells plan m found ds p =
-    stands_at false (ordered plan (leaf_types_of found) ds) [] p
+    stands_at false (ordered plan (types_of found) ds) [] p
     ≡ mark_at (marks_of (message_block Receive plan m) (flat_map tape_of_argument (ordered plan (types_of found) ds))) p
 
 pub tells_faults : TellsFaults

@@ -7,16 +7,16 @@ use Rattle.std.specs.List.{list_all, position}
 use Rattle.std.proofs.lemmas.Bool.{and_from}
 use Rattle.std.proofs.lemmas.Bool.Decides.{nat_tests}
 use Rattle.std.proofs.lemmas.List.Folds.{list_all-append}
+use Rattle.fl_base.specs.Given.{given}
+use Rattle.fl_base.specs.Numbered.{most_cores, most_bindings}
 use Rattle.fl_text.specs.Text.{TextOutcome, stands_for, text_fault}
-use Rattle.fl_queues.specs.Binding.{most_bindings}
 use Rattle.fl_queues.specs.Events.{DispatcherId, Kind, by_queues, by_ring, by_route, Event, add_interface, set_cores, add_link, add_dispatcher}
 use Rattle.fl_queues.specs.Events as event
-use Rattle.fl_queues.specs.Given.{given}
-use Rattle.fl_queues.specs.Making.{most_cores, most_interfaces, most_dispatchers, most_services, is_ring_size}
+use Rattle.fl_queues.specs.Making.{most_interfaces, most_dispatchers, most_services, is_ring_size}
 use Rattle.fl_lines.specs.Asked.{Asked, refuses, asks, Asks, asks_interface, is_taken}
 use Rattle.fl_lines.specs.Commands.{Command}
 use Rattle.fl_lines.specs.Grammar.{silent, heading, command, unread}
-use Rattle.fl_lines.specs.Items.{Item, a_line, a_block, open_block}
+use Rattle.fl_lines.specs.Items.{Item, a_line, a_block, open_block, is_too_long}
 use Rattle.fl_lines.specs.Names.{Names}
 use Rattle.fl_worlds.specs.Apart.{is_making}
 use Rattle.fl_system.specs.Booting.{has_bad_cores}
@@ -25,7 +25,7 @@ use Rattle.fl_jobs.specs.Draft.{Draft, Wanted, has_interface, is_core, has_link,
 use Rattle.fl_jobs.specs.Draft.{sets_cores, adds_link, adds_dispatcher, exports, binds_by_queues, binds_by_ring, binds_by_route, binds_by, binds}
 use Rattle.fl_jobs.specs.Draft.{call_fault, rule_fault, fault_at, takes}
 use Rattle.fl_jobs.specs.CoresFile.{Reading, CoresFile, Outcome, is_file, refused_at, beginning, belongs, named_by, does, does_block, DoesCommand, Does}
-use Rattle.fl_jobs.specs.CoresFile.{lines_in, Behind, Follows, is_too_long, ReadsFrom, Reads}
+use Rattle.fl_jobs.specs.CoresFile.{lines_in, Behind, Follows, ReadsFrom, Reads}
 use Rattle.fl_cores.specs.Promised.{is_other, config_in}
 use Rattle.fl_cores.proofs.Booted.{none_other}
 

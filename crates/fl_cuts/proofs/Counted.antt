@@ -1,8 +1,9 @@
 -- Directions of calls, counted in fragments: all calls but the last are written, whatever an end does.
 use Rattle.std.proofs.Common.{◌≡◌, refl, ℕ, ◌+◌, ◌≤◌, ◌<◌, true, false, List, [], ◌∷◌, ◌++◌, length, Option, Some, None, slice_get, slice_set, arith}
 use Rattle.std.proofs.lemmas.List.{length-set}
+use Rattle.fl_base.specs.Given.{given}
 use Rattle.fl_value.specs.Value.{TheCall}
-use Rattle.fl_queues.specs.Given.{given, changed_at}
+use Rattle.fl_queues.specs.Given.{changed_at}
 use Rattle.fl_queues.specs.Events.{nothing}
 use Rattle.fl_queues.specs.Calls.{Planned, fragments, total}
 use Rattle.fl_queues.specs.Rings.{there_is_room}

@@ -1,6 +1,8 @@
 -- A cut of which parts are changed shows a core of which these parts have changed.
 use Rattle.std.proofs.Common.{◌≡◌, refl, sym, ◌∙◌, ap, subst, ℕ, List, map, slice_get, slice_set, Option, Some, None}
+use Rattle.std.specs.List.{AllZip}
 use Rattle.fl_base.specs.declared.identity.EndId.{EndId}
+use Rattle.fl_base.specs.Given.{given}
 use Rattle.fl_lists.specs.ThreeLists.{ThreeLists}
 use Rattle.fl_waitset.specs.Waiting.{triggered}
 use Rattle.fl_link.specs.Queue.{TheQueue}
@@ -16,14 +18,13 @@ use Rattle.fl_node.specs.Sound.{IsCore, IsPlaced}
 use Rattle.fl_node.specs.Ends.{TriggersIf}
 use Rattle.fl_running.specs.Desks.{TheDesk}
 use Rattle.fl_running.specs.Run.{TheRun}
-use Rattle.fl_queues.specs.Given.{given}
 use Rattle.fl_queues.specs.Ends.{Seat}
 use Rattle.fl_queues.specs.Waits.{Dispatcher, triggers}
 use Rattle.fl_queues.specs.Monitors.{Core}
 use Rattle.fl_shows.specs.Cores.{MonitorShows}
 use Rattle.fl_cuts.specs.Sides.{SideCut, ShowsSide}
 use Rattle.fl_cuts.specs.Ends.{EndCut}
-use Rattle.fl_cuts.specs.Cut.{Each2, QueueCut, Cut, UsesQueue, UsesArrivals, QueuesShow, ShowsWaits, ShowsSeat, ShowsCut}
+use Rattle.fl_cuts.specs.Cut.{QueueCut, Cut, UsesQueue, UsesArrivals, QueuesShow, ShowsWaits, ShowsSeat, ShowsCut}
 use Rattle.fl_cuts.specs.Events.{EndAt, triggers_seat, triggers_end, with_waits}
 use Rattle.fl_cuts.proofs.Lists.{there, set_both, map_same, map_at}
 
@@ -48,8 +49,8 @@ with_parts s p = record s {
 }
 
 pub shown_all : (a : Cut) (s : TheRun TheSide) → ShowsCut a s → (b : Cut) (p : Parts) → MonitorShows b.core p.monitor
-    → Each2 (ShowsWaits s.core.ports) b.core.dispatchers p.board.dispatchers → Each2 (ShowsSeat p.monitor.circuits.core) b.ends p.board.seats
-    → map (λ (x : EndCut). x.port) b.ends ≡ map (λ (x : EndCut). x.port) a.ends → b.places ≡ a.places → b.plans ≡ a.plans → b.lanes ≡ p.lanes → Each2 ShowsSide b.sides p.rings
+    → AllZip (ShowsWaits s.core.ports) b.core.dispatchers p.board.dispatchers → AllZip (ShowsSeat p.monitor.circuits.core) b.ends p.board.seats
+    → map (λ (x : EndCut). x.port) b.ends ≡ map (λ (x : EndCut). x.port) a.ends → b.places ≡ a.places → b.plans ≡ a.plans → b.lanes ≡ p.lanes → AllZip ShowsSide b.sides p.rings
     → QueuesShow UsesQueue s.core.ports b.queues p.stands → QueuesShow UsesArrivals s.core.ports b.arrivals p.arrivals → ShowsCut b (with_parts s p)
 shown_all a s h b p monitor waits ends ports places plans lanes sides queues arrivals = record {
   monitor = monitor;
@@ -74,9 +75,9 @@ same_monitor : (a : Cut) (s : TheRun TheSide) (waits : List Dispatcher) → Show
 same_monitor a s waits h = record { circuits = h.monitor.circuits; outboxes = h.monitor.outboxes }
 
 pub shown_by : (a : Cut) (s : TheRun TheSide) → ShowsCut a s → (waits : List Dispatcher) (ends : List EndCut) (sides : List SideCut) (queues : List QueueCut)
-    (b : TheBoard) (rings : List TheSide) (stands : List TheQueue) (desks : List TheDesk) → Each2 (ShowsWaits s.core.ports) waits b.dispatchers
-    → Each2 (ShowsSeat s.core.monitor.circuits.core) ends b.seats → map (λ (x : EndCut). x.port) ends ≡ map (λ (x : EndCut). x.port) a.ends
-    → Each2 ShowsSide sides rings → QueuesShow UsesQueue s.core.ports queues stands → ShowsCut (changed a waits ends sides queues) (built s b rings stands desks)
+    (b : TheBoard) (rings : List TheSide) (stands : List TheQueue) (desks : List TheDesk) → AllZip (ShowsWaits s.core.ports) waits b.dispatchers
+    → AllZip (ShowsSeat s.core.monitor.circuits.core) ends b.seats → map (λ (x : EndCut). x.port) ends ≡ map (λ (x : EndCut). x.port) a.ends
+    → AllZip ShowsSide sides rings → QueuesShow UsesQueue s.core.ports queues stands → ShowsCut (changed a waits ends sides queues) (built s b rings stands desks)
 shown_by a s h waits ends sides queues b rings stands desks waits_show ends_show ports sides_show queues_show =
     shown_all a s h (changed a waits ends sides queues) (record {
       board = b;
@@ -90,9 +91,9 @@ shown_by a s h waits ends sides queues b rings stands desks waits_show ends_show
 
 -- over the end's own arrival queue
 pub shown_arrivals : (a : Cut) (s : TheRun TheSide) → ShowsCut a s → (waits : List Dispatcher) (ends : List EndCut) (sides : List SideCut) (arrivals : List QueueCut)
-    (b : TheBoard) (rings : List TheSide) (stands : List TheQueue) (desks : List TheDesk) → Each2 (ShowsWaits s.core.ports) waits b.dispatchers
-    → Each2 (ShowsSeat s.core.monitor.circuits.core) ends b.seats → map (λ (x : EndCut). x.port) ends ≡ map (λ (x : EndCut). x.port) a.ends
-    → Each2 ShowsSide sides rings → QueuesShow UsesArrivals s.core.ports arrivals stands
+    (b : TheBoard) (rings : List TheSide) (stands : List TheQueue) (desks : List TheDesk) → AllZip (ShowsWaits s.core.ports) waits b.dispatchers
+    → AllZip (ShowsSeat s.core.monitor.circuits.core) ends b.seats → map (λ (x : EndCut). x.port) ends ≡ map (λ (x : EndCut). x.port) a.ends
+    → AllZip ShowsSide sides rings → QueuesShow UsesArrivals s.core.ports arrivals stands
     → ShowsCut (record (with_waits a waits) { ends = ends; sides = sides; arrivals = arrivals })
     (record s { core = record s.core { board = b; arrivals = stands }; rings = rings; desks = desks })
 shown_arrivals a s h waits ends sides arrivals b rings stands desks waits_show ends_show ports sides_show arrivals_show =
@@ -108,7 +109,7 @@ shown_arrivals a s h waits ends sides arrivals b rings stands desks waits_show e
 
 -- sides and lanes alone
 pub shown_lanes : (a : Cut) (s : TheRun TheSide) → ShowsCut a s → (sides : List SideCut) (here lanes : List Lane) (rings : List TheSide) (desks : List TheDesk)
-    → Each2 ShowsSide sides rings → here ≡ lanes
+    → AllZip ShowsSide sides rings → here ≡ lanes
     → ShowsCut (record a { sides = sides; lanes = here }) (record s { core = record s.core { lanes = lanes }; rings = rings; desks = desks })
 shown_lanes a s h sides here lanes rings desks sides_show same =
     shown_all a s h (record a { sides = sides; lanes = here }) (record {
@@ -123,7 +124,7 @@ shown_lanes a s h sides here lanes rings desks sides_show same =
 
 -- sides and outboxes alone
 pub shown_monitor : (a : Cut) (s : TheRun TheSide) → ShowsCut a s → (sides : List SideCut) (core : Core) (m : TheMonitor) (rings : List TheSide) (desks : List TheDesk)
-    → Each2 ShowsSide sides rings → MonitorShows core m → core.dispatchers ≡ a.core.dispatchers → m.circuits ≡ s.core.monitor.circuits
+    → AllZip ShowsSide sides rings → MonitorShows core m → core.dispatchers ≡ a.core.dispatchers → m.circuits ≡ s.core.monitor.circuits
     → ShowsCut (record a { core = core; sides = sides }) (record s { core = record s.core { monitor = m }; rings = rings; desks = desks })
 shown_monitor a s h sides core m rings desks sides_show monitor waits circuits =
     shown_all a s h (record a { core = core; sides = sides }) (record {
@@ -134,8 +135,8 @@ shown_monitor a s h sides core m rings desks sides_show monitor waits circuits =
       rings = rings;
       stands = s.queues;
       desks = desks;
-    }) monitor (subst (λ (ds : List Dispatcher). Each2 (ShowsWaits s.core.ports) ds s.core.board.dispatchers) (sym waits) h.waits)
-    (subst (λ (t : TheCircuits). Each2 (ShowsSeat t.core) a.ends s.core.board.seats) (sym circuits) h.ends) refl refl refl h.lanes sides_show h.queues h.arrivals
+    }) monitor (subst (λ (ds : List Dispatcher). AllZip (ShowsWaits s.core.ports) ds s.core.board.dispatchers) (sym waits) h.waits)
+    (subst (λ (t : TheCircuits). AllZip (ShowsSeat t.core) a.ends s.core.board.seats) (sym circuits) h.ends) refl refl refl h.lanes sides_show h.queues h.arrivals
 
 -- the board has changed, and the desks, and nothing else; or a side, or a queue, too
 pub board_run : (s m t : TheRun TheSide) → m ≡ record s { core = m.core } → m.core ≡ with_board s.core m.core.board → t ≡ record m { desks = t.desks }
@@ -189,8 +190,8 @@ seated seat t = record { end = t; dispatcher = seat.dispatcher; channel = seat.c
 
 -- ends, one of which has changed
 pub ends_shown : (a : Cut) (core : ℕ) (name : EndId) (e : ℕ) (seat : TheSeat) (seats : List TheSeat) (x : Seen a core name e seat) (y : EndCut) (t : TheEnd)
-    → Each2 (ShowsSeat core) a.ends seats → ShowsSeat core y (seated seat t)
-    → Each2 (ShowsSeat core) (slice_set a.ends e y) (slice_set seats e (seated seat t))
+    → AllZip (ShowsSeat core) a.ends seats → ShowsSeat core y (seated seat t)
+    → AllZip (ShowsSeat core) (slice_set a.ends e y) (slice_set seats e (seated seat t))
 ends_shown a core name e seat seats x y t h k = set_both (ShowsSeat core) a.ends seats e y (seated seat t) h k
 
 pub ports_same : (a : Cut) (core : ℕ) (name : EndId) (e : ℕ) (seat : TheSeat) (x : Seen a core name e seat) (y : EndCut) → y.port ≡ x.end.port
@@ -200,15 +201,15 @@ ports_same a core name e seat x y same = map_same (λ (z : EndCut). z.port) a.en
 -- ---- a channel is triggered
 
 pub record Triggered (core : ℕ) (ports : List Port) (waits : List Dispatcher) (ends : List EndCut) (b : TheBoard) : Type 0 where
-  pub waits_show : Each2 (ShowsWaits ports) waits b.dispatchers
-  pub ends_show : Each2 (ShowsSeat core) ends b.seats
+  pub waits_show : AllZip (ShowsWaits ports) waits b.dispatchers
+  pub ends_show : AllZip (ShowsSeat core) ends b.seats
 
 pub on_board : (core : ℕ) (ports : List Port) (waits : List Dispatcher) (ends : List EndCut) (b c : TheBoard) → c ≡ b → Triggered core ports waits ends b
     → Triggered core ports waits ends c
 on_board core ports waits ends b c e h = subst (Triggered core ports waits ends) (sym e) h
 
 pub triggers_shown : (core : ℕ) (ports : List Port) (o : Option ℕ) (waits : List Dispatcher) (ends : List EndCut) (b c : TheBoard) → TriggersIf o b c
-    → Each2 (ShowsWaits ports) waits b.dispatchers → Each2 (ShowsSeat core) ends b.seats → Triggered core ports (triggers_end o ends waits) ends c
+    → AllZip (ShowsWaits ports) waits b.dispatchers → AllZip (ShowsSeat core) ends b.seats → Triggered core ports (triggers_end o ends waits) ends c
 triggers_shown core ports None waits ends b c e w h = on_board core ports waits ends b c e (record { waits_show = w; ends_show = h })
 triggers_shown core ports (Some place) waits ends b c t w h =
     let x = there (ShowsSeat core) ends b.seats place t.seat h t.seat_is in
@@ -222,7 +223,7 @@ triggers_shown core ports (Some place) waits ends b c t w h =
       ends = d.2.ends;
     } in
     on_board core ports (triggers_end (Some place) ends waits) ends _ c t.board (record {
-      waits_show = subst (λ (ds : List Dispatcher). Each2 (ShowsWaits ports) ds
+      waits_show = subst (λ (ds : List Dispatcher). AllZip (ShowsWaits ports) ds
           (slice_set b.dispatchers t.seat.dispatcher (record { lists = t.lists; ends = t.dispatcher.ends }))) (sym is)
           (set_both (ShowsWaits ports) waits b.dispatchers t.seat.dispatcher (triggers t.seat.channel d.0) (record { lists = t.lists; ends = t.dispatcher.ends }) w shows);
       ends_show = h;

@@ -8,6 +8,7 @@ use Rattle.std.proofs.lemmas.Grind.{flat_map-append}
 use Rattle.std.proofs.lemmas.Option.{slice_get_past}
 use Rattle.fl_base.specs.declared.fragment.Frag.{Frag}
 use Rattle.fl_base.specs.Control.{bare}
+use Rattle.fl_base.specs.Given.{given}
 use Rattle.fl_value.specs.declared.value.Call.{Call}
 use Rattle.fl_value.specs.Value.{TheCall, call_of}
 use Rattle.fl_value.specs.Fits.{fits_of}
@@ -24,7 +25,6 @@ use Rattle.fl_endpoint.specs.declared.answer.ReceiveAnswer.TheVariants as receiv
 use Rattle.fl_endpoint.specs.View.{TheEnd, TheOutgoing, holds_back as end_holds_back}
 use Rattle.fl_endpoint.specs.Events.{Calls as EndCalls, Writes as EndWrites, SetsRule as EndSets, TakesIn, AreCall, IsReady}
 use Rattle.fl_endpoint.specs.Accounts.{Sound}
-use Rattle.fl_queues.specs.Given.{given}
 use Rattle.fl_queues.specs.Calls.{Planned, fragments, total, whole_in, stream}
 use Rattle.fl_queues.specs.Rings.{Label, there_is_room}
 use Rattle.fl_queues.specs.Ends.{Direction, taken_of, accepts, writes, End, is_bound, holds_back, with_rule as machine_rule, Taken, whole, a_part, takes_one, handled, comes_to, replies}

@@ -1,9 +1,11 @@
 -- Each event of a core without links: what the machine makes of the cut is what the core shows then.
 use Rattle.std.proofs.Common.{◌≡◌, inl, inr, refl, sym, ◌∙◌, ap, subst, ℕ, zero, suc, List, [], ◌∷◌, map, slice_get, slice_set, Option, Some, None}
 use Rattle.std.specs.Prelude.{Result, Ok, Err}
+use Rattle.std.specs.List.{AllZip}
 use Rattle.fl_base.specs.declared.identity.EndId.{EndId}
 use Rattle.fl_base.specs.declared.identity.MsgNo.{MsgNo}
 use Rattle.fl_base.specs.Ends.{peer}
+use Rattle.fl_base.specs.Given.{given as given_at, given}
 use Rattle.fl_lists.specs.declared.place.Place.{Place}
 use Rattle.fl_lists.specs.declared.place.Place.TheVariants as place
 use Rattle.fl_lists.specs.ThreeLists.{ThreeLists}
@@ -34,20 +36,18 @@ use Rattle.fl_node.specs.declared.wire.Wire.TheVariants.{Queues, Ring as OverRin
 use Rattle.fl_node.specs.declared.wire.Outlet.TheVariants as outlet
 use Rattle.fl_node.specs.declared.wire.Inlet.{Inlet}
 use Rattle.fl_node.specs.declared.wire.Inlet.TheVariants as inlet
-use Rattle.fl_monitor.specs.Routing.{given as given_at}
 use Rattle.fl_node.specs.View.{TheCore, with_board, place_in, place_of, kind_of, side_of_link, outlet_by, outlet_of, inlet_by, inlet_of, joined_by, joined_to}
 use Rattle.fl_node.specs.Sound.{IsCore}
 use Rattle.fl_node.specs.Ends.{at_side, OnBoard, TriggersIf, WritesAt, woken_by as node_woken}
 use Rattle.fl_running.specs.Run.{TheRun}
 use Rattle.fl_running.specs.Deeds.{Deed, called, ruled, wrote, acked, turned, OnCore, OnRing, OnQueue, IsSound, IsSoundAt}
-use Rattle.fl_queues.specs.Given.{given}
 use Rattle.fl_queues.specs.Rings.{Label}
-use Rattle.fl_queues.specs.Waits.{Dispatcher, Due, pending, polled, due}
+use Rattle.fl_queues.specs.Waits.{Dispatcher, Due, pending, polled, due, end_due}
 use Rattle.fl_shows.specs.EndLaws.{TakeShows}
 use Rattle.fl_cuts.specs.Sides.{SideCut, ShowsSide, Places}
 use Rattle.fl_cuts.specs.Ends.{EndCut, ShowsEnd}
-use Rattle.fl_cuts.specs.Cut.{Each2, QueueCut, Cut, ShowsQueue, UsesQueue, IsUsed, QueuesShow, name_at, ShowsWaits, ShowsSeat, ShowsCut}
-use Rattle.fl_cuts.specs.Events.{QueuePlaces, Giving, ring_gives, queue_gives, Turns, Acks, triggers_end, woken_by, end_due, HasTurn}
+use Rattle.fl_cuts.specs.Cut.{QueueCut, Cut, ShowsQueue, UsesQueue, IsUsed, QueuesShow, name_at, ShowsWaits, ShowsSeat, ShowsCut}
+use Rattle.fl_cuts.specs.Events.{QueuePlaces, Giving, ring_gives, queue_gives, Turns, Acks, triggers_end, woken_by, HasTurn}
 use Rattle.fl_cuts.specs.Does.{CutActs}
 use Rattle.fl_cuts.specs.Laws.{HasNoLinks}
 use Rattle.fl_logs.proofs.Laning.{port_out, port_in}
@@ -391,8 +391,8 @@ pub record TurnShown {T P : Type 0} (Shows : P → T → Type 0) (g : Giving P) 
   pub ends : List EndCut
   pub sides : List P
   pub turn : HasTurn g (record { dispatcher = d; end = name; from = n; answer = answer }) a xs waits (record { ends = ends; sides = sides })
-  pub waits_show : Each2 (ShowsWaits ports) waits b.dispatchers
-  pub ends_show : Each2 (ShowsSeat core) ends b.seats
+  pub waits_show : AllZip (ShowsWaits ports) waits b.dispatchers
+  pub ends_show : AllZip (ShowsSeat core) ends b.seats
   pub ports_are : map (λ (x : EndCut). x.port) ends ≡ map (λ (x : EndCut). x.port) a.ends
   pub side : P
   pub sides_are : sides ≡ slice_set xs n side
@@ -464,7 +464,7 @@ side_turns_follow law a s m t d name n answer e h sound soundly at from on desks
       shows = subst (ShowsCut next) (sym run)
           (shown_by a s h one.waits one.ends one.sides a.queues m.core.board (slice_set s.rings n on.after) s.queues t.desks
           one.waits_show one.ends_show one.ports_are
-          (subst (λ (ys : List SideCut). Each2 ShowsSide ys (slice_set s.rings n on.after)) (sym one.sides_are)
+          (subst (λ (ys : List SideCut). AllZip ShowsSide ys (slice_set s.rings n on.after)) (sym one.sides_are)
           (set_both ShowsSide a.sides s.rings n one.side on.after h.sides one.side_shows)) h.queues);
       links = still_none s t m.core.board (ap (λ (r : TheRun TheSide). r.core) run);
     }

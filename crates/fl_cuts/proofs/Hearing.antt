@@ -4,12 +4,14 @@ use Rattle.std.specs.Prelude.{Result, Ok, Err, IsSome}
 use Rattle.std.specs.Option.{option_map}
 use Rattle.std.proofs.lemmas.Bool.{false≢true}
 use Rattle.std.proofs.lemmas.Option.{same_Some, slice_get_past}
+use Rattle.std.specs.List.{AllZip}
 use Rattle.fl_base.specs.declared.fragment.Frag.{Frag}
 use Rattle.fl_base.specs.declared.identity.CoreId.{CoreId}
 use Rattle.fl_base.specs.declared.identity.EndId.{EndId}
 use Rattle.fl_base.specs.declared.identity.LinkId.{LinkId}
 use Rattle.fl_base.specs.declared.identity.Circuit.{Circuit}
 use Rattle.fl_base.specs.Control.{bare}
+use Rattle.fl_base.specs.Given.{given as given_at, given}
 use Rattle.fl_lists.specs.declared.place.Place.{Place}
 use Rattle.fl_lists.specs.declared.place.Place.TheVariants as place
 use Rattle.fl_lists.specs.ThreeLists.{ThreeLists, list_at, is_in, pushed}
@@ -43,7 +45,6 @@ use Rattle.fl_monitor.specs.declared.heard.Heard.TheVariants as was
 use Rattle.fl_monitor.specs.declared.message.Message.{Message}
 use Rattle.fl_monitor.specs.declared.message.Message.TheVariants.{OpenCircuit, CircuitOpened, CircuitRefused}
 use Rattle.fl_monitor.specs.Monitors.{TheMonitor, Hears as MonitorHears}
-use Rattle.fl_monitor.specs.Routing.{given as given_at}
 use Rattle.fl_monitor.specs.Fates.{Known}
 use Rattle.fl_monitor.specs.Saying.{Says}
 use Rattle.fl_node.specs.declared.answer.MonitorAnswer.{MonitorAnswer}
@@ -62,7 +63,6 @@ use Rattle.fl_node.specs.Sound.{IsPlaced}
 use Rattle.fl_running.specs.Run.{TheRun}
 use Rattle.fl_running.specs.Deeds.{OnRing, IsSound}
 use Rattle.fl_queues.specs.Events.{DispatcherId}
-use Rattle.fl_queues.specs.Given.{given}
 use Rattle.fl_queues.specs.Rings.{Said, says, open_circuit, circuit_opened, circuit_refused, Opening}
 use Rattle.fl_queues.specs.Ends.{Direction, Seat}
 use Rattle.fl_queues.specs.Calls.{Planned}
@@ -78,7 +78,7 @@ use Rattle.fl_shows.specs.Ends.{planned_of, outgoing_of, circuit_of}
 use Rattle.fl_shows.proofs.Tests.{either}
 use Rattle.fl_cuts.specs.Sides.{SideCut, ShowsSide}
 use Rattle.fl_cuts.specs.Ends.{EndCut, ShowsEnd}
-use Rattle.fl_cuts.specs.Cut.{Each2, QueueCut, Cut, ShowsQueue, ShowsWaits, ShowsSeat, ShowsCut}
+use Rattle.fl_cuts.specs.Cut.{QueueCut, Cut, ShowsQueue, ShowsWaits, ShowsSeat, ShowsCut}
 use Rattle.fl_cuts.specs.Events.{EndAt, with_waits}
 use Rattle.fl_cuts.specs.Opening.{new_arrivals, new_end, next_seat, with_new_end}
 use Rattle.fl_cuts.specs.Hearing.{said_of, asked_service, route_length, hearing, Request, MakesServer, registers_seat, bound_to, BindsEnd, BindsIf, ThenFollows, Hears, HearsOver, IsUnbound, IsInOrder}
@@ -165,7 +165,7 @@ hears_keeps services l (circuit_refused c fault) k =
 abbrev pub heard_run : TheRun TheSide → TheMonitor → List TheSide → TheRun TheSide
 heard_run s m rings = record s { core = with_monitor s.core m; rings = rings }
 
-pub heard_shows : (a : Cut) (s : TheRun TheSide) (sides : List SideCut) (core : Core) (m : TheMonitor) (rings : List TheSide) → ShowsCut a s → Each2 ShowsSide sides rings
+pub heard_shows : (a : Cut) (s : TheRun TheSide) (sides : List SideCut) (core : Core) (m : TheMonitor) (rings : List TheSide) → ShowsCut a s → AllZip ShowsSide sides rings
     → MonitorShows core m → core.dispatchers ≡ a.core.dispatchers → m.circuits.core ≡ s.core.monitor.circuits.core
     → ShowsCut (record a { core = core; sides = sides }) (heard_run s m rings)
 heard_shows a s sides core m rings h sides_show monitor_shows waits number =
@@ -177,8 +177,8 @@ heard_shows a s sides core m rings h sides_show monitor_shows waits number =
       rings = rings;
       stands = s.queues;
       desks = s.desks;
-    }) monitor_shows (subst (λ (ds : List Dispatcher). Each2 (ShowsWaits s.core.ports) ds s.core.board.dispatchers) (sym waits) h.waits)
-    (subst (λ (n : ℕ). Each2 (ShowsSeat n) a.ends s.core.board.seats) (sym number) h.ends) refl refl refl h.lanes sides_show h.queues h.arrivals
+    }) monitor_shows (subst (λ (ds : List Dispatcher). AllZip (ShowsWaits s.core.ports) ds s.core.board.dispatchers) (sym waits) h.waits)
+    (subst (λ (n : ℕ). AllZip (ShowsSeat n) a.ends s.core.board.seats) (sym number) h.ends) refl refl refl h.lanes sides_show h.queues h.arrivals
 
 -- ---- a channel is registered
 
@@ -211,12 +211,12 @@ registers_so seat w v q p (Err board.Memory) h queue is_bound ready free x = abs
 
 -- the waitsets then
 record Joined (core : ℕ) (ports : List Port) (waits : List Dispatcher) (ends : List EndCut) (b : TheBoard) : Type 0 where
-  pub waits_show : Each2 (ShowsWaits ports) waits b.dispatchers
-  pub ends_show : Each2 (ShowsSeat core) ends b.seats
+  pub waits_show : AllZip (ShowsWaits ports) waits b.dispatchers
+  pub ends_show : AllZip (ShowsSeat core) ends b.seats
 
 registers_shown : (core : ℕ) (ports : List Port) (waits : List Dispatcher) (ends : List EndCut) (b c : TheBoard) (e : ℕ) (q : QueueCut) (p : TheQueue)
-    (r : Result (Unit {0}) BoardFault) (ch : ChangesLists b e (λ s w v. Registers QueueTakes s (lent w p) r (lent v p)) c) → Each2 (ShowsWaits ports) waits b.dispatchers
-    → Each2 (ShowsSeat core) ends b.seats → ShowsQueue q p → ch.seat.kind ≡ kind.Queue → IsSome ch.seat.end.circuit → ch.seat.end.failed ≡ false
+    (r : Result (Unit {0}) BoardFault) (ch : ChangesLists b e (λ s w v. Registers QueueTakes s (lent w p) r (lent v p)) c) → AllZip (ShowsWaits ports) waits b.dispatchers
+    → AllZip (ShowsSeat core) ends b.seats → ShowsQueue q p → ch.seat.kind ≡ kind.Queue → IsSome ch.seat.end.circuit → ch.seat.end.failed ≡ false
     → (is_registered ch.dispatcher.lists ch.seat.channel ≡ true → ⊥) → (x : EndCut) → slice_get ends e ≡ Some x
     → Joined core ports (registers_seat x.end.seat q waits) ends c
 registers_shown core ports waits ends b c e q p r ch w h shown queue some ready free x x_is =
@@ -233,7 +233,7 @@ registers_shown core ports waits ends b c e q p r ch w h shown queue some ready 
       ends = d.2.ends;
     } in
     subst (Joined core ports (registers_seat x.end.seat q waits) ends) (sym ch.board) (record {
-      waits_show = subst (λ (ds : List Dispatcher). Each2 (ShowsWaits ports) ds
+      waits_show = subst (λ (ds : List Dispatcher). AllZip (ShowsWaits ports) ds
           (slice_set b.dispatchers ch.seat.dispatcher (record { lists = ch.lists; ends = ch.dispatcher.ends }))) (sym is)
           (set_both (ShowsWaits ports) waits b.dispatchers ch.seat.dispatcher (registers ch.seat.channel (waits_in (Some q.queue)) d.0)
           (record { lists = ch.lists; ends = ch.dispatcher.ends }) w shows);
@@ -460,7 +460,7 @@ binds_end name c e number a s t h kinds placed sound at none b rest =
     let was_none : seat.end.circuit ≡ None = x.shows.shows.circuit ∙ unbound.circuit in
     let shows : ShowsEnd y end = subst (ShowsEnd y) (sym b.binds.event) (bound_shows x.end seat.end c.0 x.shows.shows unbound) in
     let sits : ShowsSeat core y (seated seat end) = record { shows = shows; seat = x.shows.seat } in
-    let ends : Each2 (ShowsSeat core) (slice_set a.ends e y) (slice_set s.core.board.seats e (seated seat end))
+    let ends : AllZip (ShowsSeat core) (slice_set a.ends e y) (slice_set s.core.board.seats e (seated seat end))
     = ends_shown a core name e seat s.core.board.seats x y end h.ends sits in
     let q = h.arrivals.each number b.queue (used_at s.core e number found_at.number) b.queue_is in
     let ch : ChangesLists (board_set s.core.board e seat end) e (λ z v u. Registers QueueTakes z (lent v b.queue) b.answer (lent u b.queue)) t.core.board

@@ -7,6 +7,7 @@ use Rattle.fl_base.specs.declared.identity.EndId.{EndId}
 use Rattle.fl_base.specs.declared.identity.LinkId.{LinkId}
 use Rattle.fl_base.specs.declared.identity.Circuit.{Circuit as Number}
 use Rattle.fl_base.specs.Control.{bare, circuit_of, with_circuit}
+use Rattle.fl_base.specs.Given.{given as given_at, given}
 use Rattle.fl_link.specs.Looks.{Look, placed, no_room, spent, saw, found, missed, told, kept}
 use Rattle.fl_link.specs.Queue.{TheQueue, QueueTakes}
 use Rattle.fl_ring.specs.SharedSides.{TheSide, SharedPuts, SharedTakes}
@@ -24,7 +25,6 @@ use Rattle.fl_core.specs.View.{TheSeat}
 use Rattle.fl_core.specs.Turns.{Turns as BoardTurns, over}
 use Rattle.fl_monitor.specs.Monitors.{TheMonitor, waiting_for, without_first}
 use Rattle.fl_monitor.specs.Outboxes.{AreFragsOf}
-use Rattle.fl_monitor.specs.Routing.{given as given_at}
 use Rattle.fl_node.specs.declared.answer.Ahead.{Ahead}
 use Rattle.fl_node.specs.declared.answer.Ahead.TheVariants as ahead
 use Rattle.fl_node.specs.declared.answer.MonitorWrite.{MonitorWrite}
@@ -43,7 +43,6 @@ use Rattle.fl_node.specs.Ends.{at_side, OverArrivals}
 use Rattle.fl_node.specs.Links.{MonitorWrites, IsLane, LooksAhead, inbound, ArrivesAt, Acknowledges}
 use Rattle.fl_running.specs.Run.{TheRun}
 use Rattle.fl_running.specs.Deeds.{looked, passed, arrived, said, told as has_told, turned, OnCore, OnRing, IsSound, IsSoundAt}
-use Rattle.fl_queues.specs.Given.{given}
 use Rattle.fl_queues.specs.Rings.{Label, acknowledges, Said, says}
 use Rattle.fl_queues.specs.Waits.{Dispatcher}
 use Rattle.fl_queues.specs.Monitors.{Core, Link}

@@ -1,15 +1,16 @@
 -- Two lists, one for one.
 use Rattle.std.proofs.Common.{◌≡◌, inl, inr, refl, sym, ◌∙◌, ap, subst, ℕ, zero, suc, ◌+◌, ◌<◌, List, [], ◌∷◌, ◌++◌, length, map, slice_get, slice_set, Option, Some, None, arith}
 use Rattle.std.proofs.lemmas.List.{length-set, length_push}
+use Rattle.std.specs.List.{AllZip}
 use Rattle.fl_hop.proofs.Lists.{set_cases, set_here, set_there, push_cases, push_keeps, at_within, within}
 use Rattle.fl_link.specs.Queue.{TheQueue}
 use Rattle.fl_node.specs.declared.wire.Port.{Port}
 use Rattle.fl_node.specs.declared.wire.Wire.{Wire}
-use Rattle.fl_cuts.specs.Cut.{Each2, QueueCut, ShowsQueue, QueuesShow}
+use Rattle.fl_cuts.specs.Cut.{QueueCut, ShowsQueue, QueuesShow}
 
 module _ {A B : Type 0} (R : A → B → Type 0) where
   -- what stands where one of the second list does
-  pub there : (xs : List A) (ys : List B) (n : ℕ) (y : B) → Each2 R xs ys → slice_get ys n ≡ Some y → (x : A) × (slice_get xs n ≡ Some x) × R x y
+  pub there : (xs : List A) (ys : List B) (n : ℕ) (y : B) → AllZip R xs ys → slice_get ys n ≡ Some y → (x : A) × (slice_get xs n ≡ Some x) × R x y
   there [] [] n y h e = absurd (cc)
   there [] (z ∷ ys) n y h e = absurd h
   there (x ∷ xs) [] n y h e = absurd h
@@ -17,7 +18,7 @@ module _ {A B : Type 0} (R : A → B → Type 0) where
   there (x ∷ xs) (z ∷ ys) (suc n) y h e = there xs ys n y h.1 e
 
   -- both changed at a place
-  pub set_both : (xs : List A) (ys : List B) (n : ℕ) (x : A) (y : B) → Each2 R xs ys → R x y → Each2 R (slice_set xs n x) (slice_set ys n y)
+  pub set_both : (xs : List A) (ys : List B) (n : ℕ) (x : A) (y : B) → AllZip R xs ys → R x y → AllZip R (slice_set xs n x) (slice_set ys n y)
   set_both [] [] n x y h r = h
   set_both [] (z ∷ ys) n x y h r = absurd h
   set_both (w ∷ xs) [] n x y h r = absurd h

@@ -4,10 +4,10 @@ use Rattle.std.specs.Prelude.{Ok, Err}
 use Rattle.fl_base.specs.declared.fragment.Frag.{Frag}
 use Rattle.fl_base.specs.declared.identity.EndId.{EndId}
 use Rattle.fl_base.specs.declared.identity.LinkId.{LinkId}
+use Rattle.fl_base.specs.Given.{given as given_at}
 use Rattle.fl_link.specs.Looks.{Look}
 use Rattle.fl_ring.specs.SharedSides.{TheSide}
 use Rattle.fl_monitor.specs.Monitors.{can_say}
-use Rattle.fl_monitor.specs.Routing.{given as given_at}
 use Rattle.fl_hop.specs.declared.forward.Outcome.TheVariants.{Moved, Full, Spent}
 use Rattle.fl_node.specs.declared.wire.Port.{Port}
 use Rattle.fl_node.specs.declared.wire.Wire.{Wire}

@@ -2,9 +2,12 @@
 use Rattle.std.proofs.Common.{◌≡◌, refl, sym, ◌∙◌, ap, subst, ℕ, zero, suc, ◌+◌, ◌≤◌, ◌<◌, true, List, [], ◌∷◌, ◌++◌, length, map, slice_get, slice_set, Option, Some, None, arith}
 use Rattle.std.specs.Prelude.{Result, Ok, Err}
 use Rattle.std.proofs.lemmas.List.{length-map, map_push}
+use Rattle.std.specs.List.{AllZip}
 use Rattle.fl_base.specs.declared.identity.CoreId.{CoreId}
 use Rattle.fl_base.specs.declared.identity.EndId.{EndId}
 use Rattle.fl_base.specs.declared.identity.Circuit.{Circuit}
+use Rattle.fl_base.specs.Given.{given}
+use Rattle.fl_base.specs.Numbered.{core_id}
 use Rattle.fl_compile.specs.Programs.{TheProgram, program_of}
 use Rattle.fl_compile.specs.declared.program.Program.{Program}
 use Rattle.fl_hop.specs.Table.{TheCircuits}
@@ -28,19 +31,17 @@ use Rattle.fl_work.specs.declared.job.Wish.{Wish}
 use Rattle.fl_running.specs.Run.{TheRun}
 use Rattle.fl_running.specs.Deeds.{opened, OnCore, AsksFor, IsSound}
 use Rattle.fl_ring.specs.SharedSides.{TheSide}
-use Rattle.fl_queues.specs.Given.{given}
 use Rattle.fl_queues.specs.Calls.{Planned}
 use Rattle.fl_queues.specs.Ends.{Seat, fresh_direction}
 use Rattle.fl_queues.specs.Waits.{Dispatcher, has_places, with_end}
 use Rattle.fl_queues.specs.Monitors.{Core, can_say, opens}
-use Rattle.fl_shows.specs.Fragments.{core_id}
 use Rattle.fl_shows.specs.Cores.{MonitorShows}
 use Rattle.fl_shows.specs.CoreLaws.{asked_of, RoomsAgree, OpensAgree}
 use Rattle.fl_shows.specs.Ends.{planned_of}
 use Rattle.fl_shows.proofs.Calling.{fresh_is}
 use Rattle.fl_shows.proofs.Tests.{le_true, le_false}
 use Rattle.fl_cuts.specs.Ends.{EndCut, ShowsEnd}
-use Rattle.fl_cuts.specs.Cut.{Each2, Cut, name_at, UsesQueue, UsesArrivals, ShowsWaits, ShowsSeat, ShowsCut}
+use Rattle.fl_cuts.specs.Cut.{Cut, name_at, UsesQueue, UsesArrivals, ShowsWaits, ShowsSeat, ShowsCut}
 use Rattle.fl_cuts.specs.Opening.{new_arrivals, new_end, next_seat, with_new_end, opening_with, RefusesFor}
 use Rattle.fl_cuts.specs.Laws.{HasNoLinks}
 use Rattle.fl_cuts.proofs.Lists.{there, set_both, push_used, more_ports}
@@ -50,7 +51,7 @@ use Rattle.fl_cuts.proofs.Starting.{nothing_read}
 
 -- ---- lists with one more
 
-pub push_both : {A B : Type 0} (R : A → B → Type 0) (xs : List A) (ys : List B) (x : A) (y : B) → Each2 R xs ys → R x y → Each2 R (xs ++ x ∷ []) (ys ++ y ∷ [])
+pub push_both : {A B : Type 0} (R : A → B → Type 0) (xs : List A) (ys : List B) (x : A) (y : B) → AllZip R xs ys → R x y → AllZip R (xs ++ x ∷ []) (ys ++ y ∷ [])
 push_both R [] [] x y h r = (r, tt)
 push_both R [] (z ∷ ys) x y h r = absurd h
 push_both R (w ∷ xs) [] x y h r = absurd h
@@ -68,13 +69,13 @@ copied programs plans n p source h at same =
     lent_at (x ∷ ps) zero q = let first : x ≡ source = cc in ap (λ (z : Program). Some (planned_of z)) first
     lent_at (x ∷ ps) (suc m) q = lent_at ps m q
 
-pub same_length : {A B : Type 0} (R : A → B → Type 0) (xs : List A) (ys : List B) → Each2 R xs ys → length xs ≡ length ys
+pub same_length : {A B : Type 0} (R : A → B → Type 0) (xs : List A) (ys : List B) → AllZip R xs ys → length xs ≡ length ys
 same_length R [] [] h = refl
 same_length R [] (z ∷ ys) h = absurd h
 same_length R (w ∷ xs) [] h = absurd h
 same_length R (w ∷ xs) (z ∷ ys) h = ap suc (same_length R xs ys h.1)
 
-weaker : {A B : Type 0} (R S : A → B → Type 0) → ((x : A) (y : B) → R x y → S x y) → (xs : List A) (ys : List B) → Each2 R xs ys → Each2 S xs ys
+weaker : {A B : Type 0} (R S : A → B → Type 0) → ((x : A) (y : B) → R x y → S x y) → (xs : List A) (ys : List B) → AllZip R xs ys → AllZip S xs ys
 weaker R S f [] [] h = tt
 weaker R S f [] (z ∷ ys) h = absurd h
 weaker R S f (w ∷ xs) [] h = absurd h
@@ -185,12 +186,12 @@ added_shows a s place d waits program stations e p x t core m h kinds d_is waits
     record {
       plans = h.plans;
       monitor = monitor_shows;
-      waits = subst (λ (ds : List Dispatcher). Each2 (ShowsWaits (s.core.ports ++ p ∷ [])) ds
+      waits = subst (λ (ds : List Dispatcher). AllZip (ShowsWaits (s.core.ports ++ p ∷ [])) ds
           (slice_set s.core.board.dispatchers place (record { lists = d.lists; ends = d.ends ++ length s.core.board.seats ∷ [] }))) (sym cores)
           (set_both (ShowsWaits (s.core.ports ++ p ∷ [])) a.core.dispatchers s.core.board.dispatchers place (with_end p.name waits)
           (record { lists = d.lists; ends = d.ends ++ length s.core.board.seats ∷ [] }) all more);
       ends = push_both (ShowsSeat m.circuits.core) a.ends s.core.board.seats x _
-          (subst (λ (n : ℕ). Each2 (ShowsSeat n) a.ends s.core.board.seats) (sym number) h.ends) sits;
+          (subst (λ (n : ℕ). AllZip (ShowsSeat n) a.ends s.core.board.seats) (sym number) h.ends) sits;
       ports = map_push (λ (y : EndCut). y.port) a.ends x ∙ ap (λ (qs : List Port). qs ++ x.port ∷ []) h.ports ∙ ap (λ (q : Port). s.core.ports ++ q ∷ []) port;
       places = ap (λ (places : List (Option ℕ)). slice_set places (slot_of x.port.name) (Some (length a.ends))) h.places
           ∙ ap (λ (q : Port). slice_set s.core.places (slot_of q.name) (Some (length a.ends))) port

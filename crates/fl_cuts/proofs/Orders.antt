@@ -12,6 +12,8 @@ use Rattle.fl_base.specs.declared.identity.CoreId.{CoreId}
 use Rattle.fl_base.specs.declared.identity.EndId.{EndId}
 use Rattle.fl_base.specs.declared.identity.LinkId.{LinkId}
 use Rattle.fl_base.specs.declared.identity.Circuit.{Circuit}
+use Rattle.fl_base.specs.Given.{given as given_at, given}
+use Rattle.fl_base.specs.Numbered.{core_id}
 use Rattle.fl_core.specs.View.{TheDispatcher}
 use Rattle.fl_hop.proofs.Answering.{numbers_apart}
 use Rattle.fl_hop.proofs.Entering.{same_or}
@@ -29,7 +31,7 @@ use Rattle.fl_monitor.specs.declared.message.Message.TheVariants.{OpenCircuit, C
 use Rattle.fl_monitor.specs.declared.opening.Opening.{Opening as Asked}
 use Rattle.fl_monitor.specs.Fates.{Known, is_offered_elsewhere, is_for_another, is_in_place, comes_along}
 use Rattle.fl_monitor.specs.Hearing.{ComesTo}
-use Rattle.fl_monitor.specs.Routing.{is_core, given as given_at, next_on as next_named, comes_after, is_named_behind, is_on_route}
+use Rattle.fl_monitor.specs.Routing.{is_core, next_on as next_named, comes_after, is_named_behind, is_on_route}
 use Rattle.fl_hop.specs.declared.links.LinkState.{LinkState}
 use Rattle.fl_hop.specs.Numbers.{next_due}
 use Rattle.fl_hop.specs.Openings.{is_next}
@@ -48,12 +50,10 @@ use Rattle.fl_logs.proofs.Leading.{end_binding}
 use Rattle.fl_logs.proofs.Tables.{leads_at}
 use Rattle.fl_logs.specs.Led.{IsSettled, IsLed}
 use Rattle.fl_ring.specs.SharedSides.{TheSide}
-use Rattle.fl_queues.specs.Given.{given}
 use Rattle.fl_queues.specs.Rings.{Opening, Said, open_circuit}
 use Rattle.fl_queues.specs.Waits.{has_places}
 use Rattle.fl_queues.specs.Monitors.{Core, Service, service_of, next_on, link_to, Fate, goes_on, ends_at, fails, fate, can_say, saying, with_said, with_circuits, Hearing, hears_opening, hears_opened, hears_refused, goes_astray}
 use Rattle.fl_queues.specs.Monitors.{Heard as MachineHeard, no_outbox, end_opened}
-use Rattle.fl_shows.specs.Fragments.{core_id}
 use Rattle.fl_shows.specs.Cores.{NamesShow}
 use Rattle.fl_shows.specs.CoreLaws.{registration_of, HasPlaceAt, LeadsOn}
 use Rattle.fl_shows.proofs.Names.{names_agree}

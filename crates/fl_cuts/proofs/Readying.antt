@@ -5,6 +5,8 @@ use Rattle.std.specs.Option.{option_map}
 use Rattle.fl_base.specs.declared.fragment.Frag.{Frag}
 use Rattle.fl_base.specs.declared.identity.LinkId.{LinkId}
 use Rattle.fl_base.specs.Control.{bare}
+use Rattle.fl_base.specs.Given.{given}
+use Rattle.fl_base.specs.Numbered.{core_id}
 use Rattle.fl_endpoint.specs.Laws.{OnAnotherCircuit}
 use Rattle.fl_link.specs.Looks.{Look, found}
 use Rattle.fl_ring.specs.SharedSides.{TheSide, SharedTakes}
@@ -40,10 +42,9 @@ use Rattle.fl_logs.proofs.Aside.{desks_alone}
 use Rattle.fl_logs.proofs.Flowing.{flows}
 use Rattle.fl_logs.proofs.Growing.{does_grow}
 use Rattle.fl_logs.proofs.Logging.{turns_logged}
-use Rattle.fl_queues.specs.Given.{given}
 use Rattle.fl_queues.specs.Rings.{Opening, Said, says, open_circuit, circuit_refused}
 use Rattle.fl_queues.specs.Monitors.{Service, Fate, fate, arrival, passage, goes_on, hears, fails, next_on, can_say, with_said, with_circuits, Hearing, hears_opening, no_outbox, opening_failed}
-use Rattle.fl_shows.specs.Fragments.{core_id, message_of}
+use Rattle.fl_shows.specs.Fragments.{message_of}
 use Rattle.fl_shows.specs.Cores.{MonitorShows}
 use Rattle.fl_shows.specs.CoreLaws.{OutboxesAreShown, RoomsAgree, OpensAgree, delivery, HearsAgree}
 use Rattle.fl_shows.specs.EndLaws.{TakeShows}

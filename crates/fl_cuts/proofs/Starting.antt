@@ -4,6 +4,7 @@ use Rattle.std.specs.Option.{option_map}
 use Rattle.std.proofs.lemmas.List.{length-map}
 use Rattle.std.proofs.lemmas.List.Elements.{All-nil}
 use Rattle.std.proofs.lemmas.Option.{slice_get-map}
+use Rattle.std.specs.List.{AllZip}
 use Rattle.fl_base.specs.Control.{bare}
 use Rattle.fl_value.specs.Fits.{fits_of}
 use Rattle.fl_wire.specs.Reading.{Reads}
@@ -18,11 +19,11 @@ use Rattle.fl_shows.specs.Ends.{planned_of}
 use Rattle.fl_shows.proofs.Calling.{fresh_is}
 use Rattle.fl_cuts.specs.Sides.{ShowsSide}
 use Rattle.fl_cuts.specs.Ends.{EndCut, ShowsEnd}
-use Rattle.fl_cuts.specs.Cut.{Each2, QueueCut, ShowsQueue, ShowsSeat}
+use Rattle.fl_cuts.specs.Cut.{QueueCut, ShowsQueue, ShowsSeat}
 use Rattle.fl_cuts.specs.Start.{IsFirstEnd, IsFirstSide, IsFirstQueue, first_end, first_ends, first_queue, first_side, StartsShow}
 
 -- each of a list, and what is made of it
-mapped : {A B : Type 0} (R : A → B → Type 0) (f : B → A) (ys : List B) → ((n : ℕ) (y : B) → slice_get ys n ≡ Some y → R (f y) y) → Each2 R (map f ys) ys
+mapped : {A B : Type 0} (R : A → B → Type 0) (f : B → A) (ys : List B) → ((n : ℕ) (y : B) → slice_get ys n ≡ Some y → R (f y) y) → AllZip R (map f ys) ys
 mapped R f [] h = tt
 mapped R f (y ∷ ys) h = (h 0 y refl, mapped R f ys (λ n z q. h (suc n) z q))
 
@@ -56,7 +57,7 @@ end_first core port seat h =
     }
 
 ends_first : (core : ℕ) (seats : List TheSeat) (ports : List Port) → map (λ (x : TheSeat). x.kind) seats ≡ map (λ (p : Port). kind_of p.wire) ports
-    → ((e : ℕ) (seat : TheSeat) → slice_get seats e ≡ Some seat → IsFirstEnd seat.end) → Each2 (ShowsSeat core) (first_ends core seats ports) seats
+    → ((e : ℕ) (seat : TheSeat) → slice_get seats e ≡ Some seat → IsFirstEnd seat.end) → AllZip (ShowsSeat core) (first_ends core seats ports) seats
 ends_first core [] ports k h = tt
 ends_first core (seat ∷ seats) [] k h = absurd (cc)
 ends_first core (seat ∷ seats) (p ∷ ports) k h =

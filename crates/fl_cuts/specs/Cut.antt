@@ -1,8 +1,10 @@
 -- A cut: what one core knows of the machine's state. When a core that runs, with the sides and queues that it is lent, shows a cut.
-use Rattle.std.specs.Prelude.{ℕ, ◌≡◌, ◌⊎◌, false, List, [], ◌∷◌, length, map, slice_get, Option, Some, None}
+use Rattle.std.specs.Prelude.{ℕ, ◌≡◌, ◌⊎◌, false, List, length, map, slice_get, Option, Some, None}
+use Rattle.std.specs.List.{AllZip}
 use Rattle.fl_base.specs.declared.fragment.Frag.{Frag}
 use Rattle.fl_base.specs.declared.identity.EndId.{EndId}
 use Rattle.fl_base.specs.Control.{bare}
+use Rattle.fl_base.specs.Given.{given}
 use Rattle.fl_compile.specs.declared.program.Program.{Program}
 use Rattle.fl_link.specs.Queue.{TheQueue}
 use Rattle.fl_ring.specs.SharedSides.{TheSide}
@@ -13,7 +15,6 @@ use Rattle.fl_node.specs.declared.wire.Wire.{Wire}
 use Rattle.fl_node.specs.declared.wire.Wire.TheVariants.{Queues, Ring, Circuit}
 use Rattle.fl_node.specs.View.{arrivals_by}
 use Rattle.fl_running.specs.Run.{TheRun}
-use Rattle.fl_queues.specs.Given.{given}
 use Rattle.fl_queues.specs.Calls.{Planned}
 use Rattle.fl_queues.specs.Ends.{Queue, Seat}
 use Rattle.fl_queues.specs.Waits.{Dispatcher}
@@ -22,12 +23,6 @@ use Rattle.fl_shows.specs.Ends.{planned_of}
 use Rattle.fl_shows.specs.Cores.{MonitorShows}
 use Rattle.fl_cuts.specs.Sides.{SideCut, ShowsSide}
 use Rattle.fl_cuts.specs.Ends.{EndCut, ShowsEnd}
-
--- one for one, of two lists of one length
-abbrev pub Each2 : {A B : Type 0} → (A → B → Type 0) → List A → List B → Type 0
-Each2 R [] [] = Unit {0}
-Each2 R (x ∷ xs) (y ∷ ys) = R x y × Each2 R xs ys
-Each2 R xs ys = ⊥
 
 -- the machine's queue, and the fragments that stand there, one for each label, epochs and counts set aside
 pub record QueueCut : Type 0 where
@@ -102,12 +97,12 @@ pub record ShowsSeat (core : ℕ) (x : EndCut) (t : TheSeat) : Type 0 where
 
 pub record ShowsCut (a : Cut) (s : TheRun TheSide) : Type 0 where
   pub monitor : MonitorShows a.core s.core.monitor
-  pub waits : Each2 (ShowsWaits s.core.ports) a.core.dispatchers s.core.board.dispatchers
-  pub ends : Each2 (ShowsSeat s.core.monitor.circuits.core) a.ends s.core.board.seats
+  pub waits : AllZip (ShowsWaits s.core.ports) a.core.dispatchers s.core.board.dispatchers
+  pub ends : AllZip (ShowsSeat s.core.monitor.circuits.core) a.ends s.core.board.seats
   pub ports : map (λ (x : EndCut). x.port) a.ends ≡ s.core.ports
   pub places : a.places ≡ s.core.places
   pub lanes : a.lanes ≡ s.core.lanes
-  pub sides : Each2 ShowsSide a.sides s.rings
+  pub sides : AllZip ShowsSide a.sides s.rings
   pub queues : QueuesShow UsesQueue s.core.ports a.queues s.queues
   pub arrivals : QueuesShow UsesArrivals s.core.ports a.arrivals s.core.arrivals
   pub plans : map (λ (p : Program). planned_of p) s.offers.programs ≡ a.plans

@@ -5,6 +5,7 @@ use Rattle.fl_base.specs.declared.fragment.Frag.{Frag}
 use Rattle.fl_base.specs.declared.identity.EndId.{EndId}
 use Rattle.fl_base.specs.Control.{bare}
 use Rattle.fl_base.specs.Ends.{peer}
+use Rattle.fl_base.specs.Given.{given}
 use Rattle.fl_lists.specs.declared.place.Place.{Place}
 use Rattle.fl_lists.specs.declared.place.Place.TheVariants.{Polled, Pending}
 use Rattle.fl_value.specs.Value.{call_of}
@@ -20,10 +21,10 @@ use Rattle.fl_core.specs.declared.fault.BoardFault.TheVariants.{NotBound}
 use Rattle.fl_node.specs.declared.wire.Outlet.{Outlet}
 use Rattle.fl_node.specs.declared.wire.Outlet.TheVariants as outlet
 use Rattle.fl_node.specs.View.{place_in}
-use Rattle.fl_queues.specs.Given.{given, changed_at}
+use Rattle.fl_queues.specs.Given.{changed_at}
 use Rattle.fl_queues.specs.Rings.{Label, next_of, there_is_room, no_room as none_free}
 use Rattle.fl_queues.specs.Ends.{joined_by, without_first, queue_room, taken_of, is_bound, holds_back, Seat, whole, a_part}
-use Rattle.fl_queues.specs.Waits.{Dispatcher, waits_in, deregisters, triggers, puts_off, Due, pending, polled, no_one, due}
+use Rattle.fl_queues.specs.Waits.{Dispatcher, waits_in, deregisters, triggers, puts_off, Due, pending, polled, no_one, due, end_due}
 use Rattle.fl_cuts.specs.Sides.{SideCut, Placing, goes_on, is_full, is_spent, Places, Gave, nothing_stands, left_one, gave_one, gave_ack, SideGives}
 use Rattle.fl_cuts.specs.Sides.{is_told, is_little, finds_none, Tells}
 use Rattle.fl_cuts.specs.Ends.{EndCut, Writes, Takes, Fails}
@@ -182,12 +183,6 @@ WritesOver (outlet.Side n) name answer a b =
 WritesOver (outlet.Queue n) name answer a b =
     ChangesBoth a name a.queues n (λ x p y q. Writes QueuePlaces answer x p y q) (record { ends = b.ends; sides = b.queues })
     × (b ≡ record (with_waits a (triggers_end (woken_by name answer a) b.ends a.core.dispatchers)) { ends = b.ends; queues = b.queues })
-
--- the end whose turn it is
-abbrev pub end_due : Dispatcher → Due → Option EndId
-end_due x (pending c) = slice_get x.ends c
-end_due x (polled c) = slice_get x.ends c
-end_due x no_one = None
 
 -- whose turn it is: a dispatcher's, and of its ends this one's, which takes from the side or queue of this number; and what is answered
 pub record TheTurn : Type 0 where

@@ -1,6 +1,7 @@
 -- That messages come to a running core as they come to one of the machine: what the core keeps, whatever others say to it. Laws.
 use Rattle.std.specs.Prelude.{ℕ, ◌≡◌, ◌⊎◌, ◌<◌, true, false, List, [], ◌∷◌, length, map, slice_get, Some, None, Ok}
 use Rattle.fl_base.specs.Control.{bare}
+use Rattle.fl_base.specs.Numbered.{core_id}
 use Rattle.fl_link.specs.Looks.{Look}
 use Rattle.fl_monitor.specs.declared.message.Message.{Message}
 use Rattle.fl_monitor.specs.Fates.{comes_along}
@@ -19,7 +20,6 @@ use Rattle.fl_queues.specs.Binding.{all_differ}
 use Rattle.fl_queues.specs.Monitors.{Service, next_on, link_to, fails, Hearing, hears_opening, opening_failed}
 use Rattle.fl_queues.specs.Rings.{Opening, open_circuit, says}
 use Rattle.fl_shows.specs.Cores.{NamesShow}
-use Rattle.fl_shows.specs.Fragments.{core_id}
 use Rattle.fl_cuts.specs.Sides.{gave_one, SideGives}
 use Rattle.fl_cuts.specs.Ends.{EndCut}
 use Rattle.fl_cuts.specs.Cut.{Cut, ShowsCut}

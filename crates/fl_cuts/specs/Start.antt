@@ -1,5 +1,6 @@
 -- A core with which nothing was done yet, as a set-up leaves it, and the cut that it shows. Law.
 use Rattle.std.specs.Prelude.{ℕ, ◌≡◌, false, List, [], ◌∷◌, length, map, slice_get, Some, None}
+use Rattle.std.specs.List.{AllZip}
 use Rattle.fl_compile.specs.declared.program.Program.{Program}
 use Rattle.fl_link.specs.Queue.{TheQueue}
 use Rattle.fl_ring.specs.SharedSides.{TheSide}
@@ -15,7 +16,7 @@ use Rattle.fl_shows.specs.Ends.{planned_of}
 use Rattle.fl_shows.specs.Cores.{MonitorShows}
 use Rattle.fl_cuts.specs.Sides.{SideCut}
 use Rattle.fl_cuts.specs.Ends.{EndCut}
-use Rattle.fl_cuts.specs.Cut.{Each2, QueueCut, Cut, UsesQueue, UsesArrivals, IsUsed, ShowsWaits, seat_at, ShowsCut}
+use Rattle.fl_cuts.specs.Cut.{QueueCut, Cut, UsesQueue, UsesArrivals, IsUsed, ShowsWaits, seat_at, ShowsCut}
 
 -- ---- nothing was done
 
@@ -89,4 +90,4 @@ first_cut k s = record {
 -- where the core of the machine is the one that the core shows
 abbrev pub StartsShow : Type 0
 StartsShow = (k : Core) (s : TheRun TheSide) → IsStarting s → MonitorShows k s.core.monitor
-    → Each2 (ShowsWaits s.core.ports) k.dispatchers s.core.board.dispatchers → ShowsCut (first_cut k s) s
+    → AllZip (ShowsWaits s.core.ports) k.dispatchers s.core.board.dispatchers → ShowsCut (first_cut k s) s

@@ -7,20 +7,21 @@ use Rattle.fl_base.specs.declared.identity.Side.{Side}
 use Rattle.fl_base.specs.declared.identity.Side.TheVariants.{Client, Server}
 use Rattle.fl_base.specs.declared.identity.EndId.{EndId}
 use Rattle.fl_base.specs.Ends.{peer, other}
+use Rattle.fl_base.specs.Given.{given}
 use Rattle.fl_interface.specs.SameTypes.{same_arguments}
 use Rattle.fl_value.specs.Fits.{fits_of}
 use Rattle.fl_value.specs.Value.{TheCall}
 use Rattle.fl_compile.specs.declared.program.Program.{Program}
 use Rattle.fl_queues.specs.Calls.{Planned}
-use Rattle.fl_queues.specs.Given.{given}
 use Rattle.fl_queues.specs.Taking.{arguments_of, has_message}
 use Rattle.fl_jobs.specs.Jobs.{Wish, Job, opens, own_calls, has_rules}
 use Rattle.fl_jobs.specs.Draft.{Bound as ReadBound, use_at, is_for_calls, is_for_rules, call_fault, rule_fault}
+use Rattle.fl_shows.specs.Ends.{planned_of}
 use Rattle.fl_worlds.specs.declared.binding.Binding.{Binding}
 use Rattle.fl_worlds.specs.declared.parts.Parts.{Parts}
 use Rattle.fl_dockets.specs.declared.docket.Bound.{Bound}
 use Rattle.fl_dockets.specs.Dockets.{TheDocket, docket_at, is_ruled, are_some, IsAsked}
-use Rattle.fl_dockets.specs.Faults.{planned_of, use_in, as_read, found_at, call_fault_by, rule_fault_by, call_fault_at, rule_fault_at, wish_fault}
+use Rattle.fl_dockets.specs.Faults.{use_in, as_read, found_at, call_fault_by, rule_fault_by, call_fault_at, rule_fault_at, wish_fault}
 use Rattle.fl_dockets.specs.State.{TheJoined, AreJoined}
 use Rattle.fl_dockets.specs.Whole.{About, about, all_about, AreBound, found_behind, call_refusal, rule_refusal, job_fault}
 

@@ -6,7 +6,8 @@ use Rattle.fl_base.specs.declared.identity.Side.{Side}
 use Rattle.fl_base.specs.declared.identity.Side.TheVariants.{Client, Server}
 use Rattle.fl_base.specs.declared.identity.EndId.{EndId}
 use Rattle.fl_base.specs.Ends.{peer, other}
-use Rattle.fl_queues.specs.Given.{given, changed_at}
+use Rattle.fl_base.specs.Given.{given}
+use Rattle.fl_queues.specs.Given.{changed_at}
 use Rattle.fl_queues.specs.Runs.{same_side, same_end}
 use Rattle.fl_node.specs.View.{side_number, slot_of}
 use Rattle.fl_dockets.specs.Dockets.{TheDocket, no_docket, docket_at}

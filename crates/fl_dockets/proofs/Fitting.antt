@@ -5,12 +5,12 @@ use Rattle.std.proofs.lemmas.Bool.{cases_lt, ltb-true}
 use Rattle.fl_base.specs.declared.identity.EndId.{EndId}
 use Rattle.fl_base.specs.declared.identity.MsgNo.{MsgNo}
 use Rattle.fl_base.specs.Ends.{peer}
+use Rattle.fl_base.specs.Given.{given}
 use Rattle.fl_interface.specs.SameTypes.{same_arguments}
 use Rattle.fl_interface.proofs.SameTypes.{same_arguments_are}
 use Rattle.fl_compile.specs.declared.program.Program.{Program}
 use Rattle.fl_nameserv.specs.Registrations.{TheRegistration}
 use Rattle.fl_queues.specs.Calls.{Planned}
-use Rattle.fl_queues.specs.Given.{given}
 use Rattle.fl_queues.specs.Taking.{arguments_of, has_message}
 use Rattle.fl_node.specs.View.{TheCore}
 use Rattle.fl_work.specs.declared.job.Job.{Job as CoreJob}
@@ -19,9 +19,10 @@ use Rattle.fl_work.specs.declared.job.Wish.{Wish as CoreWish}
 use Rattle.fl_value.specs.declared.value.Call.{Call}
 use Rattle.fl_worlds.specs.declared.binding.Binding.{Binding}
 use Rattle.fl_jobs.specs.Jobs.{Job, opens, replies, calls}
+use Rattle.fl_shows.specs.Ends.{planned_of}
 use Rattle.fl_dockets.specs.declared.docket.Bound.{Bound}
 use Rattle.fl_dockets.specs.Dockets.{TheDocket, docket_at}
-use Rattle.fl_dockets.specs.Faults.{planned_of, rule_fault_by, rule_fault_at}
+use Rattle.fl_dockets.specs.Faults.{rule_fault_by, rule_fault_at}
 use Rattle.fl_dockets.specs.Fitting.{IsOffered, AreAlike, RuleFits, JobFits, JobsFit, NewFit}
 use Rattle.fl_dockets.specs.State.{TheJoined, with_binding, with_owner, with_job, CallPlanned, RulePlanned, DuesUpTo}
 use Rattle.fl_dockets.specs.Whole.{is_set_up, so_far, Joins}

@@ -1,7 +1,8 @@
 -- Lists seen by a function of their elements.
 use Rattle.std.proofs.Common.{◌≡◌, ◌∙◌, refl, sym, ap, ℕ, zero, suc, ◌<◌, List, [], ◌∷◌, length, get_or, map, slice_get, slice_set, Option, Some, None}
 use Rattle.std.proofs.lemmas.Option.{slice_get-get_or}
-use Rattle.fl_queues.specs.Given.{given, changed_at}
+use Rattle.fl_base.specs.Given.{given}
+use Rattle.fl_queues.specs.Given.{changed_at}
 
 later : {Y : Type 0} (f : Y → Y) (y : Y) (ys : List Y) (n : ℕ) (o : Option Y)
     → given o (y ∷ ys) (λ x. slice_set (y ∷ ys) (suc n) (f x)) ≡ y ∷ given o ys (λ x. slice_set ys n (f x))

@@ -3,8 +3,9 @@ use Rattle.std.proofs.Common.{◌≡◌, refl, sym, ap, ◌∙◌, ℕ, zero, su
 use Rattle.std.specs.List.{list_all}
 use Rattle.std.proofs.lemmas.Bool.Decides.{nat_tests}
 use Rattle.fl_base.specs.declared.identity.CoreId.{CoreId}
+use Rattle.fl_base.specs.Given.{given}
 use Rattle.fl_hop.specs.Table.{TheCircuits}
-use Rattle.fl_monitor.specs.Routing.{given, is_core, is_route, begins_at, ends_at_core, all_differ}
+use Rattle.fl_monitor.specs.Routing.{is_core, is_route, begins_at, ends_at_core, all_differ}
 use Rattle.fl_monitor.specs.Monitors.{first_link}
 
 pub left_true : (a b : Bool) → (a && b) ≡ true → a ≡ true

@@ -3,7 +3,7 @@ use Rattle.std.proofs.Common.{◌≡◌, ◌∙◌, refl, sym, ap, subst, ℕ, �
 use Rattle.std.proofs.lemmas.Option.{slice_get-get_or, slice_get-map}
 use Rattle.std.specs.Option.{option_map}
 use Rattle.fl_base.specs.declared.identity.EndId.{EndId}
-use Rattle.fl_queues.specs.Given.{given}
+use Rattle.fl_base.specs.Given.{given}
 use Rattle.fl_node.specs.View.{slot_of}
 use Rattle.fl_dockets.specs.declared.docket.Docket.{Docket}
 use Rattle.fl_dockets.specs.Dockets.{TheDocket, docket_of, docket_at, no_docket, Rules}

@@ -4,13 +4,13 @@ use Rattle.std.proofs.Common.{Option, Some, None, Bool, true, false, arith}
 use Rattle.std.proofs.lemmas.Bool.{lt-leb, eq-eqb}
 use Rattle.std.proofs.lemmas.Option.{slice_get-get_or}
 use Rattle.fl_base.specs.declared.identity.CoreId.{CoreId}
+use Rattle.fl_base.specs.Numbered.{core_id}
 use Rattle.fl_compile.specs.declared.program.Program.{Program}
 use Rattle.fl_hop.specs.Table.{TheCircuits}
 use Rattle.fl_monitor.specs.Monitors.{first_link}
 use Rattle.fl_nameserv.specs.Registrations.{by_name}
 use Rattle.fl_node.specs.View.{TheCore}
 use Rattle.fl_worlds.specs.declared.parts.Parts.{Parts}
-use Rattle.fl_worlds.specs.Making.{core_id}
 use Rattle.fl_jobs.specs.declared.stop.Stop.{Stop}
 use Rattle.fl_jobs.specs.declared.stop.Stop.TheVariants as stop
 use Rattle.fl_jobs.specs.Jobs.{Wish}

@@ -4,8 +4,8 @@ use Rattle.std.specs.List.{flat_map}
 use Rattle.fl_base.specs.declared.identity.EndId.{EndId}
 use Rattle.fl_base.specs.declared.identity.MsgNo.{MsgNo}
 use Rattle.fl_base.specs.Ends.{peer}
+use Rattle.fl_base.specs.Given.{given}
 use Rattle.fl_value.specs.Value.{TheCall, call_of}
-use Rattle.fl_queues.specs.Given.{given}
 use Rattle.fl_queues.specs.Runs.{same_end}
 use Rattle.fl_node.specs.View.{slot_of, client_of}
 use Rattle.fl_work.specs.declared.job.Job.{Job as CoreJob}

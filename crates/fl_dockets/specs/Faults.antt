@@ -3,13 +3,13 @@ use Rattle.std.specs.Prelude.{ℕ, ◌≡◌, ◌⊎◌, ◌==◌, ◌&&◌, ◌
 use Rattle.std.specs.List.{list_all}
 use Rattle.fl_base.specs.declared.identity.EndId.{EndId}
 use Rattle.fl_base.specs.Ends.{peer}
+use Rattle.fl_base.specs.Given.{given}
+use Rattle.fl_base.specs.Numbered.{core_id}
 use Rattle.fl_interface.specs.SameTypes.{same_arguments}
 use Rattle.fl_value.specs.Fits.{fits_of}
 use Rattle.fl_value.specs.Value.{TheCall}
 use Rattle.fl_compile.specs.declared.program.Program.{Program}
-use Rattle.fl_compile.specs.Programs.{program_of}
 use Rattle.fl_queues.specs.Calls.{Planned}
-use Rattle.fl_queues.specs.Given.{given}
 use Rattle.fl_queues.specs.Taking.{arguments_of, has_message}
 use Rattle.fl_endpoint.specs.View.{TheEnd, interface_in, plan_in}
 use Rattle.fl_hop.specs.Table.{TheCircuits}
@@ -18,17 +18,14 @@ use Rattle.fl_nameserv.specs.Registrations.{TheRegistration, by_name}
 use Rattle.fl_node.specs.View.{TheCore, place_of, client_of, server_of}
 use Rattle.fl_worlds.specs.declared.binding.Binding.{Binding}
 use Rattle.fl_worlds.specs.declared.parts.Parts.{Parts}
-use Rattle.fl_worlds.specs.Making.{core_id}
 use Rattle.fl_worlds.specs.View.{core_in}
 use Rattle.fl_jobs.specs.declared.stop.Stop.{Stop}
 use Rattle.fl_jobs.specs.declared.stop.Stop.TheVariants as stop
 use Rattle.fl_jobs.specs.Jobs.{Wish, Job, own_calls, has_rules}
 use Rattle.fl_jobs.specs.Draft.{Use, free, makes_calls, has_rules as for_rules, Bound as ReadBound}
+use Rattle.fl_shows.specs.Ends.{planned_of}
 use Rattle.fl_dockets.specs.declared.docket.Bound.{Bound}
 use Rattle.fl_dockets.specs.Dockets.{TheDocket, docket_at, is_ruled, are_some}
-
-abbrev pub planned_of : Program → Planned
-planned_of p = record { interface = (program_of p).interface; plan = (program_of p).plan }
 
 -- ---- as the reader has it
 

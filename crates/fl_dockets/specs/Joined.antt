@@ -1,7 +1,9 @@
 -- Jobs joined to the ends at which they are done: what is known of bindings, and of the jobs that open them.
-use Rattle.std.specs.Prelude.{ℕ, ◌≡◌, ◌*◌, ◌≤◌, ◌<◌, List, length, slice_get, Some}
+use Rattle.std.specs.Prelude.{ℕ, ◌≡◌, ◌*◌, ◌≤◌, ◌<◌, List, length, slice_get, Some, Option, None}
 use Rattle.fl_base.specs.declared.identity.Side.{Side}
 use Rattle.fl_base.specs.declared.identity.Side.TheVariants.{Client, Server}
+use Rattle.fl_base.specs.declared.identity.EndId.{EndId}
+use Rattle.fl_base.specs.Given.{given}
 use Rattle.fl_dockets.specs.declared.docket.Bound.{Bound}
 use Rattle.fl_dockets.specs.declared.docket.Docket.{Docket}
 
@@ -9,6 +11,10 @@ use Rattle.fl_dockets.specs.declared.docket.Docket.{Docket}
 abbrev pub core_of : Side → Bound → ℕ
 core_of Client b = b.client
 core_of Server b = b.server
+
+-- that of an end
+abbrev pub core_at : List Bound → EndId → Option ℕ
+core_at bindings e = given (slice_get bindings e.binding) None λ b. Some (core_of e.side b)
 
 -- bindings of a run of so many cores, of which jobs open some: of each such job the core that does it
 pub record AreBindings (cores : ℕ) (bindings : List Bound) (owners : List ℕ) : Type 0 where

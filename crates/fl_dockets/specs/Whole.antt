@@ -5,11 +5,11 @@ use Rattle.std.specs.List.{flat_map}
 use Rattle.fl_base.specs.declared.identity.EndId.{EndId}
 use Rattle.fl_base.specs.declared.identity.MsgNo.{MsgNo}
 use Rattle.fl_base.specs.Ends.{peer}
+use Rattle.fl_base.specs.Given.{given}
 use Rattle.fl_value.specs.declared.value.Call.{Call}
 use Rattle.fl_value.specs.Value.{TheCall, call_of}
 use Rattle.fl_compile.specs.declared.program.Program.{Program}
 use Rattle.fl_queues.specs.Calls.{Planned}
-use Rattle.fl_queues.specs.Given.{given}
 use Rattle.fl_node.specs.View.{TheCore}
 use Rattle.fl_worlds.specs.declared.binding.Binding.{Binding}
 use Rattle.fl_worlds.specs.declared.parts.Parts.{Parts}
@@ -17,11 +17,12 @@ use Rattle.fl_jobs.specs.declared.stop.Stop.{Stop}
 use Rattle.fl_jobs.specs.declared.stop.Stop.TheVariants as stop
 use Rattle.fl_jobs.specs.Draft.{Bound as ReadBound, call_fault, rule_fault}
 use Rattle.fl_jobs.specs.Jobs.{Wish, Job, opens, replies, calls, handed_in}
+use Rattle.fl_shows.specs.Ends.{planned_of}
 use Rattle.fl_dockets.specs.declared.docket.Bound.{Bound}
 use Rattle.fl_dockets.specs.declared.fault.JobFault.{JobFault}
 use Rattle.fl_dockets.specs.declared.fault.JobFault.TheVariants as fault
 use Rattle.fl_dockets.specs.Dockets.{docket_at}
-use Rattle.fl_dockets.specs.Faults.{planned_of, as_read, fault_at_once, wish_fault, the_first, StopsFor, WishStops, RuleStops}
+use Rattle.fl_dockets.specs.Faults.{as_read, fault_at_once, wish_fault, the_first, StopsFor, WishStops, RuleStops}
 use Rattle.fl_dockets.specs.Rules.{RuleNow, RulesOf}
 use Rattle.fl_dockets.specs.State.{TheJoined, with_binding, Opened, CallPlanned, RulePlanned, AreJoined}
 

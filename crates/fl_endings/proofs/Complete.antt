@@ -8,9 +8,9 @@ use Rattle.fl_base.specs.declared.identity.EndId.{EndId}
 use Rattle.fl_base.specs.declared.identity.Side.{Side}
 use Rattle.fl_base.specs.declared.identity.Side.TheVariants.{Client, Server}
 use Rattle.fl_base.specs.Ends.{peer}
+use Rattle.fl_base.specs.Given.{given}
 use Rattle.fl_value.specs.Value.{TheCall, call_of}
 use Rattle.fl_hop.proofs.Lists.{at_within, within}
-use Rattle.fl_queues.specs.Given.{given}
 use Rattle.fl_queues.specs.Runs.{same_side, same_end}
 use Rattle.fl_node.specs.View.{slot_of}
 use Rattle.fl_work.specs.declared.job.Job.{Job as CoreJob}
@@ -21,10 +21,10 @@ use Rattle.fl_jobs.specs.Jobs.{Job, own_calls, has_rules, reply_to, handed_in}
 use Rattle.fl_jobs.specs.Report.{TheReport, complete, at_end, refusal_of, Honest, AllHandled}
 use Rattle.fl_dockets.specs.declared.docket.Bound.{Bound}
 use Rattle.fl_dockets.specs.Dockets.{TheDocket, no_docket, docket_at, is_ruled, end_of, calls_at, core_calls}
-use Rattle.fl_dockets.specs.Joined.{core_of, AreBindings}
+use Rattle.fl_dockets.specs.Joined.{core_of, AreBindings, core_at}
 use Rattle.fl_dockets.specs.State.{TheJoined, AreJoined}
 use Rattle.fl_endings.specs.Cores.{shared_ways, OneCore}
-use Rattle.fl_endings.specs.Begins.{core_at, Ran}
+use Rattle.fl_endings.specs.Begins.{Ran}
 use Rattle.fl_endings.specs.Complete.{Knows, AreNamed, RefusalsAreNamed, AsManyHandled, CompleteHasAsMany, IsFirst, CompleteHasThese, CompleteHasAll}
 use Rattle.fl_endings.proofs.Turns.{all_finished}
 use Rattle.fl_endings.proofs.Desks.{still, prefix_then, no_longer, whole}

@@ -5,11 +5,11 @@ use Rattle.std.proofs.lemmas.Bool.Decides.{nat_tests}
 use Rattle.std.proofs.lemmas.List.{length-map, length-append, append-nil, append_assoc}
 use Rattle.fl_base.specs.declared.identity.EndId.{EndId}
 use Rattle.fl_base.specs.Prefix.{IsPrefix}
+use Rattle.fl_base.specs.Given.{given}
 use Rattle.fl_ring.specs.SharedSides.{TheSide}
 use Rattle.fl_endpoint.specs.declared.fault.EndFault.{EndFault}
 use Rattle.fl_core.specs.declared.answer.TurnAnswer.{TurnAnswer}
 use Rattle.fl_core.specs.declared.answer.TurnAnswer.TheVariants as turn
-use Rattle.fl_monitor.specs.Routing.{given}
 use Rattle.fl_monitor.specs.declared.fault.MonitorFault.TheVariants as monitor
 use Rattle.fl_node.specs.declared.answer.MonitorAnswer.{MonitorAnswer}
 use Rattle.fl_node.specs.declared.answer.MonitorAnswer.TheVariants as heard_as

@@ -2,6 +2,7 @@
 use Rattle.std.proofs.Common.{◌≡◌, ◌≢◌, refl, sym, ap, ◌∙◌, subst, ℕ, zero, suc, ◌<◌, ◌==◌, ◌&&◌, ◌⊎◌, inl, inr, List, length, slice_get, Option, Some, Bool, true, false, arith}
 use Rattle.std.proofs.lemmas.Bool.Decides.{nat_tests}
 use Rattle.fl_base.specs.declared.identity.EndId.{EndId}
+use Rattle.fl_base.specs.Given.{given}
 use Rattle.fl_ring.specs.SharedSides.{TheSide}
 use Rattle.fl_hop.proofs.Lists.{within}
 use Rattle.fl_work.specs.declared.job.Job.{Job as CoreJob}
@@ -15,12 +16,12 @@ use Rattle.fl_running.specs.Words.{Stock, refusal_at}
 use Rattle.fl_running.specs.Finished.{is_desk_clear, is_at_rest, is_done_at, is_done, all_done, is_finished}
 use Rattle.fl_running.specs.Ran.{task, Moment, EndsAs}
 use Rattle.fl_logs.specs.Logs.{handled_of, TurnsAreLogged, DesksTellHandled}
-use Rattle.fl_monitor.specs.Routing.{given}
 use Rattle.fl_logs.specs.Logs.{CountedAreTurns}
 use Rattle.fl_dockets.specs.Dockets.{docket_at}
 use Rattle.fl_dockets.specs.State.{TheJoined}
+use Rattle.fl_dockets.specs.Joined.{core_at}
 use Rattle.fl_endings.specs.Cores.{shared_ways, OneCore, Went}
-use Rattle.fl_endings.specs.Begins.{core_at, word_of, HasDesk, Begins}
+use Rattle.fl_endings.specs.Begins.{word_of, HasDesk, Begins}
 use Rattle.fl_endings.specs.Heard.{Among}
 use Rattle.fl_endings.specs.Complete.{Knows}
 use Rattle.fl_endings.proofs.Going.{Some_, goes_on}

@@ -20,8 +20,9 @@ use Rattle.fl_hop.specs.Table.{TheCircuits, slot, hop_at, link_of, without_entry
 use Rattle.fl_hop.proofs.Answering.{numbers_apart}
 use Rattle.fl_core.proofs.Places.{one_stands, set_here}
 use Rattle.fl_base.specs.declared.identity.CoreId.{CoreId}
+use Rattle.fl_base.specs.Given.{given}
 use Rattle.fl_nameserv.specs.Registrations.{TheRegistration, by_iref}
-use Rattle.fl_monitor.specs.Routing.{given, next_on}
+use Rattle.fl_monitor.specs.Routing.{next_on}
 use Rattle.fl_monitor.specs.Fates.{Known, arrival, passage, fate}
 use Rattle.fl_monitor.specs.Hearing.{ComesTo, heard_by, opened_at, refused_at, table_after}
 use Rattle.fl_monitor.specs.Monitors.{TheMonitor}

@@ -5,6 +5,7 @@ use Rattle.std.proofs.lemmas.List.{length-append}
 use Rattle.std.proofs.lemmas.Option.{same_Some}
 use Rattle.fl_base.specs.declared.identity.EndId.{EndId}
 use Rattle.fl_base.specs.Ends.{peer}
+use Rattle.fl_base.specs.Given.{given}
 use Rattle.fl_ring.specs.SharedSides.{TheSide}
 use Rattle.fl_value.specs.declared.value.Call.{Call}
 use Rattle.fl_waitset.specs.declared.fault.WaitFault.{WaitFault}
@@ -15,7 +16,6 @@ use Rattle.fl_core.specs.declared.answer.TurnAnswer.TheVariants as turn
 use Rattle.fl_core.specs.View.{TheDispatcher, TheSeat, TheBoard, channel_of, end_picked, due_in, due}
 use Rattle.fl_core.specs.Sound.{IsBoard}
 use Rattle.fl_hop.specs.Stretch.{same_end}
-use Rattle.fl_monitor.specs.Routing.{given}
 use Rattle.fl_node.specs.View.{place_of}
 use Rattle.fl_node.specs.declared.wire.Inlet.{Inlet}
 use Rattle.fl_work.specs.declared.job.Job.{Job as CoreJob}
@@ -32,8 +32,9 @@ use Rattle.fl_logs.proofs.Aside.{core_aside}
 use Rattle.fl_jobs.specs.Jobs.{Job, handed_in}
 use Rattle.fl_jobs.specs.Report.{TheReport, at_end}
 use Rattle.fl_dockets.specs.State.{TheJoined}
+use Rattle.fl_dockets.specs.Joined.{core_at}
 use Rattle.fl_endings.specs.Cores.{shared_ways, OneCore}
-use Rattle.fl_endings.specs.Begins.{core_at, HasDesk, Ran}
+use Rattle.fl_endings.specs.Begins.{HasDesk, Ran}
 use Rattle.fl_endings.specs.Complete.{Knows, IsFirst}
 use Rattle.fl_endings.specs.Few.{IsAt, EndsStay, IsOther, AreEnds, handled_at_all, UnfinishedHandleFew, AreFirst, DispatchersHandleFew}
 use Rattle.fl_endings.proofs.Desks.{no_longer}

@@ -5,19 +5,20 @@ use Rattle.std.proofs.lemmas.Bool.Decides.{nat_tests}
 use Rattle.fl_base.specs.declared.identity.EndId.{EndId}
 use Rattle.fl_base.specs.declared.identity.Side.{Side}
 use Rattle.fl_base.specs.declared.identity.Side.TheVariants.{Client, Server}
+use Rattle.fl_base.specs.Given.{given}
 use Rattle.fl_core.proofs.Places.{one_stands}
-use Rattle.fl_queues.specs.Given.{given}
 use Rattle.fl_node.specs.View.{client_of}
 use Rattle.fl_running.specs.declared.word.Word.{Word}
 use Rattle.fl_running.specs.declared.word.Word.TheVariants.{Silent, Tells, Hears, Refused}
-use Rattle.fl_running.specs.Words.{refusal_at}
+use Rattle.fl_running.specs.Words.{refusal_at, word_by}
 use Rattle.fl_logs.specs.Logs.{TurnsAreLogged, DesksTellHandled, CountedAreTurns}
 use Rattle.fl_jobs.specs.Jobs.{Job}
 use Rattle.fl_jobs.specs.Report.{TheReport, refusal_of}
 use Rattle.fl_dockets.specs.declared.docket.Bound.{Bound}
 use Rattle.fl_dockets.specs.State.{TheJoined}
+use Rattle.fl_dockets.specs.Joined.{core_at}
 use Rattle.fl_endings.specs.Cores.{shared_ways, OneCore}
-use Rattle.fl_endings.specs.Begins.{core_at, word_by, word_at, word_of, Ran}
+use Rattle.fl_endings.specs.Begins.{word_at, word_of, Ran}
 use Rattle.fl_endings.specs.Heard.{Among}
 use Rattle.fl_endings.specs.Complete.{Knows, AreNamed, RefusalsStay, RunsKeepRefusals, RefusalsAreNamed}
 use Rattle.fl_endings.specs.Refused.{SetUpIsNotRefused}

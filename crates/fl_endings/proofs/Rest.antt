@@ -8,10 +8,10 @@ use Rattle.fl_base.specs.declared.identity.Side.{Side}
 use Rattle.fl_base.specs.declared.identity.Side.TheVariants.{Client, Server}
 use Rattle.fl_base.specs.Ends.{peer}
 use Rattle.fl_base.specs.Prefix.{IsPrefix}
+use Rattle.fl_base.specs.Given.{given, given as given_at}
 use Rattle.fl_value.specs.declared.value.Call.{Call}
 use Rattle.fl_value.specs.Value.{TheCall, call_of}
 use Rattle.fl_hop.proofs.Lists.{at_within}
-use Rattle.fl_queues.specs.Given.{given}
 use Rattle.fl_node.specs.Sound.{IsCore}
 use Rattle.fl_node.specs.View.{client_of}
 use Rattle.fl_running.specs.Desks.{TheDesk, desk_place}
@@ -21,16 +21,15 @@ use Rattle.fl_running.specs.Words.{refusal_at}
 use Rattle.fl_logs.specs.Led.{IsLed}
 use Rattle.fl_logs.specs.Logs.{Goes, handled_at, in_desk, handled_of, TurnsAreLogged, DesksTellHandled, CountedAreTurns}
 use Rattle.fl_logs.specs.Made.{done_at, desk_of, done_of, made_at, LogsMakeJobs}
-use Rattle.fl_monitor.specs.Routing.{given as given_at}
 use Rattle.fl_logs.proofs.Leading.{leads_at_first}
 use Rattle.fl_jobs.specs.Jobs.{Job}
 use Rattle.fl_jobs.specs.Report.{TheReport, at_end, refusal_of, Honest}
 use Rattle.fl_dockets.specs.declared.docket.Bound.{Bound}
 use Rattle.fl_dockets.specs.Dockets.{docket_at, reply_by}
-use Rattle.fl_dockets.specs.Joined.{core_of}
+use Rattle.fl_dockets.specs.Joined.{core_of, core_at}
 use Rattle.fl_dockets.specs.State.{TheJoined}
 use Rattle.fl_endings.specs.Cores.{shared_ways, OneCore}
-use Rattle.fl_endings.specs.Begins.{core_at, HasDesk, Begins, Ran}
+use Rattle.fl_endings.specs.Begins.{HasDesk, Begins, Ran}
 use Rattle.fl_endings.specs.Complete.{Knows}
 use Rattle.fl_endings.specs.Few.{AreEnds, AreFirst, DispatchersHandleFew}
 use Rattle.fl_endings.specs.Refused.{WasRefused, RefusedAreOpened, RefusedAreSilent, HonestHandleFew}

@@ -5,13 +5,13 @@ use Rattle.fl_base.specs.declared.fragment.Frag.{Frag}
 use Rattle.fl_base.specs.declared.identity.EndId.{EndId}
 use Rattle.fl_base.specs.declared.identity.LinkId.{LinkId}
 use Rattle.fl_base.specs.declared.identity.Side.TheVariants.{Client}
+use Rattle.fl_base.specs.Given.{given}
 use Rattle.fl_ring.specs.SharedSides.{TheSide}
 use Rattle.fl_hop.specs.declared.entry.Way.TheVariants.{End}
 use Rattle.fl_hop.specs.Later.{way_at}
 use Rattle.fl_hop.specs.Stretch.{same_end}
 use Rattle.fl_hop.specs.Table.{slot}
 use Rattle.fl_hop.proofs.Lists.{within}
-use Rattle.fl_monitor.specs.Routing.{given}
 use Rattle.fl_monitor.specs.declared.fault.MonitorFault.TheVariants as monitor
 use Rattle.fl_node.specs.View.{TheCore, client_of}
 use Rattle.fl_node.specs.declared.answer.MonitorAnswer.{MonitorAnswer}

@@ -7,12 +7,12 @@ use Rattle.fl_work.specs.declared.job.Job.{Job as CoreJob}
 use Rattle.fl_running.specs.declared.plan.Plan.{Plan}
 use Rattle.fl_running.specs.declared.run.End.{End}
 use Rattle.fl_running.specs.declared.run.End.TheVariants.{Finished, Unfinished, Told}
-use Rattle.fl_running.specs.Ran.{EndsAs, task, Moment}
+use Rattle.fl_running.specs.Ran.{EndsAs, task, Moment, is_told, is_unfinished}
 use Rattle.fl_running.specs.Words.{Stock}
 use Rattle.fl_ring.specs.SharedSides.{TheSide}
 use Rattle.fl_jobs.specs.Report.{TheReport, Ending, complete, turns_out}
 use Rattle.fl_endings.specs.Cores.{OneCore, AllWent}
-use Rattle.fl_endings.specs.Turns.{is_unfinished, is_told, left_off, was_told, TellsTurns, RanOut, TurnsAreKept}
+use Rattle.fl_endings.specs.Turns.{left_off, was_told, TellsTurns, RanOut, TurnsAreKept}
 
 -- ---- lists
 

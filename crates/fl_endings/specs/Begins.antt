@@ -4,8 +4,8 @@ use Rattle.std.specs.List.{flat_map}
 use Rattle.fl_base.specs.declared.identity.EndId.{EndId}
 use Rattle.fl_base.specs.declared.identity.Side.{Side}
 use Rattle.fl_base.specs.declared.identity.Side.TheVariants.{Client, Server}
+use Rattle.fl_base.specs.Given.{given}
 use Rattle.fl_value.specs.Value.{call_of}
-use Rattle.fl_queues.specs.Given.{given}
 use Rattle.fl_hop.specs.Table.{hop_at}
 use Rattle.fl_monitor.specs.Monitors.{waiting_for}
 use Rattle.fl_node.specs.declared.wire.Port.{Port}
@@ -14,14 +14,14 @@ use Rattle.fl_running.specs.declared.word.Word.{Word}
 use Rattle.fl_running.specs.declared.word.Word.TheVariants.{Silent, Tells, Hears}
 use Rattle.fl_running.specs.Desks.{TheDesk}
 use Rattle.fl_work.specs.Jobs.{calls_of_jobs}
-use Rattle.fl_running.specs.Words.{refusal_at}
+use Rattle.fl_running.specs.Words.{refusal_at, word_by}
 use Rattle.fl_logs.specs.Logs.{handled_of}
 use Rattle.fl_logs.specs.Made.{desk_of}
 use Rattle.fl_jobs.specs.Jobs.{Job}
 use Rattle.fl_jobs.specs.Report.{TheReport, at_end, refusal_of}
 use Rattle.fl_dockets.specs.declared.docket.Bound.{Bound}
 use Rattle.fl_dockets.specs.Dockets.{docket_at, reply_by}
-use Rattle.fl_dockets.specs.Joined.{core_of}
+use Rattle.fl_dockets.specs.Joined.{core_at}
 use Rattle.fl_dockets.specs.State.{TheJoined, AreJoined}
 use Rattle.fl_dockets.specs.Whole.{AreDue}
 use Rattle.fl_endings.specs.Cores.{OneCore, AllWent}
@@ -29,15 +29,6 @@ use Rattle.fl_endings.specs.Turns.{TellsTurns}
 use Rattle.fl_endings.specs.Heard.{HeardIsTold}
 
 -- ---- whose an end is, and its word
-
--- the core of an end
-abbrev pub core_at : List Bound → EndId → Option ℕ
-core_at bindings e = given (slice_get bindings e.binding) None λ b. Some (core_of e.side b)
-
--- the word for a binding that a job opens, and for one that is set up
-abbrev pub word_by : (ℕ → Word) → Option ℕ → Word
-word_by word None = Silent
-word_by word (Some job) = word job
 
 -- the client's core tells of the binding's opening, and the server's hears of it
 abbrev pub word_at : Side → Bound → Word

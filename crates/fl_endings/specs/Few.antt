@@ -10,8 +10,9 @@ use Rattle.fl_jobs.specs.Jobs.{Job}
 use Rattle.fl_running.specs.declared.run.End.TheVariants.{Finished}
 use Rattle.fl_jobs.specs.Report.{TheReport, BothEnds, at_end}
 use Rattle.fl_dockets.specs.State.{TheJoined}
+use Rattle.fl_dockets.specs.Joined.{core_at}
 use Rattle.fl_endings.specs.Cores.{OneCore}
-use Rattle.fl_endings.specs.Begins.{core_at, Ran}
+use Rattle.fl_endings.specs.Begins.{Ran}
 use Rattle.fl_endings.specs.Complete.{Knows, IsFirst}
 
 -- where this end is at the core, it is one of dispatcher d

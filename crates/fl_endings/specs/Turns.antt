@@ -1,19 +1,11 @@
 -- What a report tells of turns, and of how a run came to its end. Law.
-use Rattle.std.specs.Prelude.{ℕ, ◌≡◌, ◌≤◌, Bool, true, false, if◌then◌else◌, List, map, length, slice_get, Some}
+use Rattle.std.specs.Prelude.{ℕ, ◌≡◌, ◌≤◌, Bool, false, if◌then◌else◌, List, map, length, slice_get, Some}
 use Rattle.std.specs.List.{list_any}
 use Rattle.fl_work.specs.declared.job.Job.{Job as CoreJob}
-use Rattle.fl_running.specs.declared.run.End.{End}
-use Rattle.fl_running.specs.declared.run.End.TheVariants.{Unfinished, Told}
+use Rattle.fl_running.specs.declared.run.End.TheVariants.{Unfinished}
 use Rattle.fl_jobs.specs.Report.{TheReport, complete, turns_out}
+use Rattle.fl_running.specs.Ran.{is_told, is_unfinished}
 use Rattle.fl_endings.specs.Cores.{OneCore, AllWent}
-
-abbrev pub is_unfinished : End → Bool
-is_unfinished Unfinished = true
-is_unfinished end = false
-
-abbrev pub is_told : End → Bool
-is_told Told = true
-is_told end = false
 
 abbrev pub left_off : OneCore → Bool
 left_off c = is_unfinished c.part.end

@@ -6,6 +6,7 @@ use Rattle.fl_base.specs.declared.identity.CoreId.{CoreId}
 use Rattle.fl_base.specs.declared.identity.LinkId.{LinkId}
 use Rattle.fl_base.specs.declared.identity.Circuit.{Circuit}
 use Rattle.fl_base.specs.Control.{bare}
+use Rattle.fl_base.specs.Given.{given}
 use Rattle.fl_hop.specs.Table.{TheCircuits, stands}
 use Rattle.fl_hop.specs.Numbers.{next_due}
 use Rattle.fl_hop.specs.Openings.{is_next}
@@ -14,7 +15,6 @@ use Rattle.fl_monitor.specs.declared.heard.Heard.{Heard}
 use Rattle.fl_monitor.specs.declared.heard.Heard.TheVariants.{OpeningWentOn, ServerMade, OpeningFailed, AnswerWentOn, EndOpened, EndRefused}
 use Rattle.fl_monitor.specs.declared.message.Message.{Message}
 use Rattle.fl_monitor.specs.declared.message.Message.TheVariants.{OpenCircuit, CircuitOpened, CircuitRefused}
-use Rattle.fl_monitor.specs.Routing.{given}
 use Rattle.fl_monitor.specs.Fates.{Known, is_in_place, comes_along, is_for_another}
 use Rattle.fl_monitor.specs.Hearing.{ComesTo, says, opening_of, with_circuit, circuit_in}
 use Rattle.fl_monitor.specs.Monitors.{TheMonitor, AllSaid, Said, waiting_for, asks}

@@ -6,6 +6,7 @@ use Rattle.fl_base.specs.declared.fragment.Frag.{Frag}
 use Rattle.fl_base.specs.declared.identity.CoreId.{CoreId}
 use Rattle.fl_base.specs.declared.identity.LinkId.{LinkId}
 use Rattle.fl_base.specs.declared.identity.Circuit.{Circuit}
+use Rattle.fl_base.specs.Given.{given}
 use Rattle.fl_wire.specs.declared.fault.WireFault.TheVariants as wire
 use Rattle.fl_hop.specs.declared.entry.Hop.{Hop}
 use Rattle.fl_hop.specs.declared.entry.Way.TheVariants.{Link}
@@ -18,7 +19,7 @@ use Rattle.fl_monitor.specs.declared.heard.Heard.{Heard}
 use Rattle.fl_monitor.specs.declared.heard.Heard.TheVariants.{OpeningWentOn, ServerMade, OpeningFailed, AnswerWentOn, EndOpened, EndRefused}
 use Rattle.fl_monitor.specs.declared.message.Message.{Message}
 use Rattle.fl_monitor.specs.declared.message.Message.TheVariants.{OpenCircuit, CircuitOpened, CircuitRefused}
-use Rattle.fl_monitor.specs.Routing.{given, is_on_route}
+use Rattle.fl_monitor.specs.Routing.{is_on_route}
 use Rattle.fl_monitor.specs.Fates.{comes_along}
 use Rattle.fl_monitor.specs.Hearing.{after_opening, table_after}
 use Rattle.fl_monitor.specs.Monitors.{TheMonitor}

@@ -9,6 +9,7 @@ use Rattle.fl_base.specs.declared.identity.CoreId.{CoreId}
 use Rattle.fl_base.specs.declared.identity.EndId.{EndId}
 use Rattle.fl_base.specs.declared.identity.LinkId.{LinkId}
 use Rattle.fl_base.specs.declared.identity.Side.TheVariants.{Client, Server}
+use Rattle.fl_base.specs.Given.{given}
 use Rattle.fl_deal.specs.Settled.{RingsConserve}
 use Rattle.fl_hop.specs.declared.links.LinkState.{LinkState}
 use Rattle.fl_nameserv.specs.Registrations.{by_iref}
@@ -19,7 +20,7 @@ use Rattle.fl_hop.proofs.Counting.{none_there}
 use Rattle.fl_hop.proofs.Lists.{at_within, within}
 use Rattle.fl_monitor.specs.declared.opening.Opening.{Opening}
 use Rattle.fl_monitor.specs.Fates.{comes_along}
-use Rattle.fl_monitor.specs.Routing.{given, is_core, comes_after, is_named_behind, is_on_route}
+use Rattle.fl_monitor.specs.Routing.{is_core, comes_after, is_named_behind, is_on_route}
 use Rattle.fl_node.specs.declared.wire.Lane.{Lane}
 use Rattle.fl_node.specs.Sound.{IsCore}
 use Rattle.fl_node.specs.View.{TheCore, side_of_link, client_of, server_of}

@@ -5,9 +5,9 @@ use Rattle.fl_base.specs.declared.fragment.Frag.{Frag}
 use Rattle.fl_base.specs.declared.identity.LinkId.{LinkId}
 use Rattle.fl_base.specs.Control.{bare}
 use Rattle.fl_base.specs.Prefix.{IsPrefix}
+use Rattle.fl_base.specs.Given.{given}
 use Rattle.fl_deal.specs.Settled.{RingsConserve}
 use Rattle.fl_hop.specs.Stretch.{Step, put_on, taken_from}
-use Rattle.fl_monitor.specs.Routing.{given}
 use Rattle.fl_node.specs.View.{side_of_link}
 use Rattle.fl_ring.specs.SharedSides.{TheSide}
 use Rattle.fl_work.specs.declared.job.Job.{Job}

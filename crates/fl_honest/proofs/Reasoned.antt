@@ -8,6 +8,7 @@ use Rattle.fl_base.specs.declared.identity.IRef.{IRef}
 use Rattle.fl_base.specs.declared.identity.LinkId.{LinkId}
 use Rattle.fl_base.specs.declared.identity.Circuit.{Circuit}
 use Rattle.fl_base.specs.Control.{bare}
+use Rattle.fl_base.specs.Given.{given}
 use Rattle.fl_hop.specs.declared.entry.Hop.{Hop}
 use Rattle.fl_hop.specs.declared.entry.Way.{Way}
 use Rattle.fl_hop.specs.declared.entry.Way.TheVariants.{Link, End}
@@ -20,7 +21,6 @@ use Rattle.fl_nameserv.specs.Registrations.{TheRegistration}
 use Rattle.fl_monitor.specs.declared.opening.Opening.{Opening}
 use Rattle.fl_monitor.specs.declared.message.Message.{Message}
 use Rattle.fl_monitor.specs.declared.message.Message.TheVariants.{CircuitOpened, CircuitRefused}
-use Rattle.fl_monitor.specs.Routing.{given}
 use Rattle.fl_monitor.specs.Monitors.{TheMonitor, Said, waiting_for, asks}
 use Rattle.fl_monitor.specs.Saying.{Says}
 use Rattle.fl_monitor.proofs.Single.{says_no_other, says_the_same, says_what_is_written}

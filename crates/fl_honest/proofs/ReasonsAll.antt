@@ -6,6 +6,7 @@ use Rattle.fl_base.specs.declared.identity.CoreId.{CoreId}
 use Rattle.fl_base.specs.declared.identity.EndId.{EndId}
 use Rattle.fl_base.specs.declared.identity.LinkId.{LinkId}
 use Rattle.fl_base.specs.declared.identity.Circuit.{Circuit}
+use Rattle.fl_base.specs.Given.{given}
 use Rattle.fl_deal.specs.Settled.{RingsConserve}
 use Rattle.fl_endpoint.specs.Laws.{OnAnotherCircuit}
 use Rattle.fl_nameserv.specs.Registrations.{TheRegistration, by_iref}
@@ -21,7 +22,7 @@ use Rattle.fl_monitor.specs.declared.opening.Opening.{Opening}
 use Rattle.fl_monitor.specs.Monitors.{TheMonitor, asks}
 use Rattle.fl_monitor.specs.declared.message.Message.{Message}
 use Rattle.fl_monitor.specs.Hearing.{opening_of}
-use Rattle.fl_monitor.specs.Routing.{given, is_core}
+use Rattle.fl_monitor.specs.Routing.{is_core}
 use Rattle.fl_monitor.specs.Saying.{Says}
 use Rattle.fl_running.specs.Words.{refusal_at}
 use Rattle.fl_work.specs.declared.job.Job.{Job as CoreJob}

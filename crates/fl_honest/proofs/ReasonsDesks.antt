@@ -11,6 +11,7 @@ use Rattle.fl_base.specs.declared.identity.Side.{Side}
 use Rattle.fl_base.specs.declared.identity.Side.TheVariants.{Client, Server}
 use Rattle.fl_base.specs.declared.identity.Circuit.{Circuit}
 use Rattle.fl_base.specs.Control.{bare}
+use Rattle.fl_base.specs.Given.{given}
 use Rattle.fl_core.proofs.Places.{set_here, set_elsewhere}
 use Rattle.fl_core.specs.View.{TheDispatcher}
 use Rattle.fl_core.specs.declared.answer.TurnAnswer.{TurnAnswer}
@@ -39,7 +40,6 @@ use Rattle.fl_monitor.specs.declared.opening.Opening.{Opening}
 use Rattle.fl_monitor.specs.Fates.{Known}
 use Rattle.fl_monitor.specs.Hearing.{ComesTo, opened_at, refused_at}
 use Rattle.fl_monitor.specs.Monitors.{TheMonitor, can_say}
-use Rattle.fl_monitor.specs.Routing.{given}
 use Rattle.fl_monitor.specs.Saying.{Says}
 use Rattle.fl_monitor.proofs.Single.{says_the_same}
 use Rattle.fl_compile.specs.declared.program.Program.{Program}

@@ -9,6 +9,7 @@ use Rattle.std.proofs.lemmas.List.Quantifiers.{position-Some}
 use Rattle.std.proofs.lemmas.Option.{get_or_from_slice_get}
 use Rattle.fl_base.specs.declared.identity.CoreId.{CoreId}
 use Rattle.fl_base.specs.declared.identity.Circuit.{Circuit}
+use Rattle.fl_base.specs.Given.{given}
 use Rattle.fl_nameserv.specs.Registrations.{TheRegistration, by_iref}
 use Rattle.fl_hop.specs.declared.links.LinkState.{LinkState}
 use Rattle.fl_hop.specs.Later.{Later}
@@ -22,7 +23,7 @@ use Rattle.fl_monitor.specs.declared.heard.Heard.{Heard}
 use Rattle.fl_monitor.specs.declared.heard.Heard.TheVariants.{OpeningWentOn, ServerMade, OpeningFailed, AnswerWentOn, EndOpened, EndRefused}
 use Rattle.fl_monitor.specs.Fates.{Known, arrival, passage, fate, comes_along, is_offered_elsewhere, is_for_another, is_in_place}
 use Rattle.fl_monitor.specs.Hearing.{heard_by}
-use Rattle.fl_monitor.specs.Routing.{given, is_core, all_differ, next_on, comes_after, is_named_behind, is_on_route}
+use Rattle.fl_monitor.specs.Routing.{is_core, all_differ, next_on, comes_after, is_named_behind, is_on_route}
 use Rattle.fl_honest.specs.Reasons.{IsUsedUp, Refuses}
 use Rattle.fl_honest.proofs.AskedLaid.{Laid}
 

@@ -4,6 +4,7 @@ use Rattle.std.proofs.Common.{Option, Some, None, Bool, true, false, Result, Ok,
 use Rattle.std.proofs.lemmas.Bool.Decides.{nat_tests}
 use Rattle.fl_base.specs.declared.identity.EndId.{EndId}
 use Rattle.fl_base.specs.declared.identity.MsgNo.{MsgNo}
+use Rattle.fl_base.specs.Given.{given}
 use Rattle.fl_value.specs.declared.value.Call.{Call}
 use Rattle.fl_value.specs.Value.{TheCall}
 use Rattle.fl_core.proofs.Places.{one_stands, set_here, set_elsewhere}
@@ -11,7 +12,6 @@ use Rattle.fl_core.specs.declared.answer.TurnAnswer.{TurnAnswer}
 use Rattle.fl_core.specs.declared.answer.TurnAnswer.TheVariants as turn
 use Rattle.fl_endpoint.specs.declared.fault.EndFault.{EndFault}
 use Rattle.fl_hop.specs.Stretch.{same_end}
-use Rattle.fl_monitor.specs.Routing.{given}
 use Rattle.fl_monitor.specs.declared.fault.MonitorFault.TheVariants as monitor
 use Rattle.fl_node.specs.declared.answer.MonitorAnswer.{MonitorAnswer}
 use Rattle.fl_node.specs.declared.answer.MonitorAnswer.TheVariants as heard_as

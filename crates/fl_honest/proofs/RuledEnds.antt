@@ -6,6 +6,7 @@ use Rattle.std.proofs.lemmas.List.{length-set, length-replicate}
 use Rattle.std.proofs.lemmas.Option.{slice_get_within}
 use Rattle.fl_base.specs.declared.identity.EndId.{EndId}
 use Rattle.fl_base.specs.declared.identity.MsgNo.{MsgNo}
+use Rattle.fl_base.specs.Given.{given}
 use Rattle.fl_value.specs.Value.{call_of}
 use Rattle.fl_interface.specs.Interface.{TheMessage, TheInterface}
 use Rattle.fl_compile.specs.declared.program.Program.{Program}
@@ -17,7 +18,6 @@ use Rattle.fl_endpoint.specs.Events.{SetsRule}
 use Rattle.fl_endpoint.specs.declared.fault.EndFault.{EndFault}
 use Rattle.fl_endpoint.specs.declared.fault.EndFault.TheVariants as fault
 use Rattle.fl_hop.proofs.Lists.{at_within}
-use Rattle.fl_monitor.specs.Routing.{given}
 use Rattle.fl_node.specs.View.{place_of}
 use Rattle.fl_work.specs.declared.job.Job.{Job}
 use Rattle.fl_work.specs.declared.job.Job.TheVariants as job

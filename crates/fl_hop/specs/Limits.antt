@@ -1,13 +1,10 @@
 -- The cores of a world are those below 16, and so a core never wants more links than it may have.
 use Rattle.std.specs.Prelude.{ℕ, ◌≡◌, ◌≢◌, ◌<◌, slice_get, Some}
+use Rattle.fl_base.specs.Numbered.{most_cores}
 use Rattle.fl_hop.specs.declared.links.LinkState.{LinkState}
 use Rattle.fl_hop.specs.declared.fault.HopFault.TheVariants.{Limit}
 use Rattle.fl_hop.specs.Table.{TheCircuits, link_fault}
 use Rattle.fl_hop.specs.Joined.{Sound}
-
--- how many cores a world may have
-abbrev pub most_cores : ℕ
-most_cores = 16
 
 -- the table's core and those that its links go to are cores of a world
 pub record AreCores (t : TheCircuits) : Type 0 where

@@ -5,10 +5,10 @@ use Rattle.fl_text.specs.Text.{TextMeans, OneText}
 use Rattle.fl_lines.specs.Asked.{Asked, Asks}
 use Rattle.fl_lines.specs.Commands.{Command}
 use Rattle.fl_lines.specs.Grammar.{silent, heading, command, unread}
-use Rattle.fl_lines.specs.Items.{Item, a_line, a_block, open_block, ItemsOf, OneItems}
+use Rattle.fl_lines.specs.Items.{Item, a_line, a_block, open_block, ItemsOf, OneItems, is_too_long}
 use Rattle.fl_lines.specs.Told.{OneAsked}
 use Rattle.fl_jobs.specs.CoresFile.{Reading, Outcome, beginning, refused_at, belongs, does, does_block, DoesCommand, Does, lines_in, Behind, Follows, ReadsFrom}
-use Rattle.fl_jobs.specs.CoresFile.{is_too_long, Reads, OneOutcome}
+use Rattle.fl_jobs.specs.CoresFile.{Reads, OneOutcome}
 use Rattle.fl_jobs.specs.Verdicts.{Verdict, stops, goes_on}
 
 -- ---- one line

@@ -7,11 +7,11 @@ use Rattle.std.specs.List.{count_by}
 use Rattle.std.proofs.lemmas.Bool.Decides.{nat_tests}
 use Rattle.std.proofs.lemmas.List.Sums.{sum_by-cons, sum_by-append}
 use Rattle.fl_lines.specs.Grammar.{Line, silent, heading, command, unread}
-use Rattle.fl_lines.specs.Items.{Item, put_first, lines_of, Mode, outside, inside, Behind, Items, ItemsOf, SomeItems}
+use Rattle.fl_lines.specs.Items.{Item, put_first, lines_of, Mode, outside, inside, Behind, Items, ItemsOf, SomeItems, is_too_long}
 use Rattle.fl_jobs.specs.declared.stop.Stop.{Stop}
 use Rattle.fl_jobs.specs.declared.stop.Stop.TheVariants.{Refused, Memory}
 use Rattle.fl_jobs.specs.declared.file.CoresText.{CoresText}
-use Rattle.fl_jobs.specs.CoresFile.{Reading, beginning, CoresFile, Outcome, refused_at, is_file, file_of, lines_in, Does, ReadsFrom, is_too_long, Reads}
+use Rattle.fl_jobs.specs.CoresFile.{Reading, beginning, CoresFile, Outcome, refused_at, is_file, file_of, lines_in, Does, ReadsFrom, Reads}
 use Rattle.fl_jobs.specs.Files.{outcome_of}
 use Rattle.fl_jobs.specs.Verdicts.{stops, goes_on, ComesTo}
 

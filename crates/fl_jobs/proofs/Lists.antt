@@ -11,12 +11,13 @@ use Rattle.std.proofs.lemmas.Option.{slice_get_within}
 use Rattle.fl_base.specs.declared.identity.EndId.{EndId}
 use Rattle.fl_base.specs.declared.identity.Side.{Side}
 use Rattle.fl_base.specs.Ends.{other}
+use Rattle.fl_base.specs.Given.{given}
 use Rattle.fl_interface.specs.Interface.{TheMessage}
 use Rattle.fl_interface.specs.SameTypes.{same_arguments}
 use Rattle.fl_value.specs.Tape.{types_of}
 use Rattle.fl_queues.specs.Calls.{Planned}
 use Rattle.fl_queues.specs.Taking.{arguments_of, has_message}
-use Rattle.fl_queues.specs.Given.{given, changed_at}
+use Rattle.fl_queues.specs.Given.{changed_at}
 use Rattle.fl_jobs.specs.CoresFile.{Reading, which_opened, numbers_of, with_numbers, file_by, file_left, file_of}
 use Rattle.fl_jobs.specs.Draft.{Bound, Draft, use_at, is_for_calls, is_for_rules, rule_fault, fault_at}
 

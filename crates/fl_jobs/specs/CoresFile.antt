@@ -1,5 +1,5 @@
 -- Cores files: the lines of one, each checked by those before it, and what they come to.
-use Rattle.std.specs.Prelude.{ℕ, ◌+◌, ◌≡◌, ◌==◌, nat_lt, not, Bool, true, false, List, [], ◌∷◌, map, length, slice_get, unwrap_or}
+use Rattle.std.specs.Prelude.{ℕ, ◌+◌, ◌≡◌, ◌==◌, not, Bool, true, false, List, [], ◌∷◌, map, slice_get, unwrap_or}
 use Rattle.std.specs.Bool.{MatchBool}
 use Rattle.std.specs.List.{count_by}
 use Rattle.fl_base.specs.declared.identity.EndId.{EndId}
@@ -9,7 +9,7 @@ use Rattle.fl_queues.specs.Events.{Event}
 use Rattle.fl_lines.specs.Asked.{Asked, refuses, asks, Asks, asks_interface}
 use Rattle.fl_lines.specs.Commands.{Command, cores, link, disp, export, bind, call, reply}
 use Rattle.fl_lines.specs.Grammar.{silent, heading, command, unread}
-use Rattle.fl_lines.specs.Items.{Item, a_line, a_block, open_block, ItemsOf}
+use Rattle.fl_lines.specs.Items.{Item, a_line, a_block, open_block, ItemsOf, is_too_long}
 use Rattle.fl_lines.specs.Names.{Names, no_names}
 use Rattle.fl_jobs.specs.Jobs.{Job, opens, replies, calls}
 use Rattle.fl_jobs.specs.Draft.{Bound, Draft, nothing_yet, takes}
@@ -146,10 +146,6 @@ Behind line (goes_on r) further o = further r o
 abbrev pub Follows : List Item → ℕ → Reading → Outcome → Type 0
 Follows [] line r o = o ≡ is_file (file_of r)
 Follows (item ∷ items) line r o = (v : Verdict Reading) × Does r item v × Behind line v (Follows items (line + lines_in item)) o
-
--- a text of more than 1,048,576 bytes is refused whole
-abbrev pub is_too_long : List ℕ → Bool
-is_too_long bytes = nat_lt 1048576 (length bytes)
 
 -- what the rest of a text comes to, which begins at this line
 abbrev pub ReadsFrom : Reading → ℕ → List ℕ → Outcome → Type 0

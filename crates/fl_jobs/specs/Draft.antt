@@ -7,18 +7,20 @@ use Rattle.fl_base.specs.declared.identity.EndId.{EndId}
 use Rattle.fl_base.specs.declared.identity.Side.{Side}
 use Rattle.fl_base.specs.declared.identity.Side.TheVariants.{Client, Server}
 use Rattle.fl_base.specs.Ends.{other}
+use Rattle.fl_base.specs.Given.{given}
+use Rattle.fl_base.specs.Numbered.{most_cores, most_bindings}
 use Rattle.fl_interface.specs.Interface.{TheInterface}
 use Rattle.fl_interface.specs.SameTypes.{same_arguments}
 use Rattle.fl_value.specs.Fits.{fits_of}
 use Rattle.fl_value.specs.Value.{TheCall}
 use Rattle.fl_value.specs.declared.value.PlanNo.{PlanNo}
-use Rattle.fl_queues.specs.Binding.{all_differ, same_dispatcher, most_bindings}
+use Rattle.fl_queues.specs.Binding.{all_differ, same_dispatcher}
 use Rattle.fl_queues.specs.Calls.{Planned}
 use Rattle.fl_queues.specs.Events.{DispatcherId, Kind, by_queues, by_ring, by_route, Event, add_interface, set_cores}
 use Rattle.fl_queues.specs.Events.{add_link, add_dispatcher}
 use Rattle.fl_queues.specs.Events as event
-use Rattle.fl_queues.specs.Given.{given, changed_at}
-use Rattle.fl_queues.specs.Making.{most_cores, most_interfaces, most_dispatchers, most_services, is_ring_size}
+use Rattle.fl_queues.specs.Given.{changed_at}
+use Rattle.fl_queues.specs.Making.{most_interfaces, most_dispatchers, most_services, is_ring_size}
 use Rattle.fl_queues.specs.Taking.{arguments_of, has_message}
 use Rattle.fl_queues.specs.Waits.{most_ends}
 use Rattle.fl_lines.specs.Asked.{is_taken}

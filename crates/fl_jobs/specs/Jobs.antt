@@ -3,9 +3,9 @@ use Rattle.std.specs.Prelude.{ℕ, ◌==◌, ◌&&◌, Bool, true, false, if◌t
 use Rattle.std.specs.List.{flat_map, list_any}
 use Rattle.fl_base.specs.declared.identity.EndId.{EndId}
 use Rattle.fl_base.specs.Ends.{peer}
+use Rattle.fl_base.specs.Given.{given}
 use Rattle.fl_value.specs.Value.{TheCall}
 use Rattle.fl_queues.specs.Events.{DispatcherId}
-use Rattle.fl_queues.specs.Given.{given}
 use Rattle.fl_queues.specs.Runs.{same_end}
 
 -- a circuit that is to be opened: the client's dispatcher, the interface, the service's name, and the cores of the route

@@ -6,16 +6,13 @@ use Rattle.std.specs.Fmt.{decimal}
 use Rattle.fl_base.specs.declared.identity.EndId.{EndId}
 use Rattle.fl_base.specs.declared.identity.Side.{Side}
 use Rattle.fl_base.specs.declared.identity.Side.TheVariants.{Client, Server}
+use Rattle.fl_base.specs.Given.{given}
 use Rattle.fl_value.specs.Value.{TheCall}
 use Rattle.fl_queues.specs.Events.{handle, opening_refused}
-use Rattle.fl_queues.specs.Given.{given}
-use Rattle.fl_lines.specs.Answers.{answer_text}
+use Rattle.fl_lines.specs.Answers.{answer_text, line}
 use Rattle.fl_lines.specs.Names.{Names}
 use Rattle.fl_jobs.specs.CoresFile.{CoresFile, numbered, end_by}
 use Rattle.fl_jobs.specs.Report.{TheReport, Ending, complete, turns_out, at_end, refusal_of}
-
-abbrev pub line : List ℕ → List ℕ
-line text = text ++ 10 ∷ []
 
 -- a line that is refused
 abbrev pub refusal_text : ℕ → ℕ → List ℕ

@@ -5,8 +5,8 @@ use Rattle.fl_base.specs.declared.identity.Side.{Side}
 use Rattle.fl_base.specs.declared.identity.Side.TheVariants.{Client, Server}
 use Rattle.fl_base.specs.Ends.{peer}
 use Rattle.fl_base.specs.Prefix.{IsPrefix}
+use Rattle.fl_base.specs.Given.{given}
 use Rattle.fl_value.specs.Value.{TheCall}
-use Rattle.fl_queues.specs.Given.{given}
 use Rattle.fl_jobs.specs.Jobs.{Job, handed_in}
 
 -- calls at a binding's two ends, in order

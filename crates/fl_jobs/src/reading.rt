@@ -5,12 +5,12 @@ ghost use Rattle.std.specs.List.{count_by};
 ghost use Rattle.fl_interface.specs.Interface.{interface_of};
 ghost use Rattle.fl_lines.specs.Asked.{Asked as TheAsked, asks};
 ghost use Rattle.fl_lines.specs.Events.{event_of};
-ghost use Rattle.fl_lines.specs.Items.{a_line, a_block};
+ghost use Rattle.fl_lines.specs.Items.{a_line, a_block, is_too_long};
 ghost use Rattle.fl_lines.specs.Told.{names_of, named, IsNew, Tells};
 ghost use Rattle.fl_lines.specs.Views.{command_of, line_of, item_of};
 ghost use Rattle.fl_text.specs.Text.{stands_for};
 ghost use Rattle.fl_jobs.specs.CoresFile.{beginning, belongs, Does, does, does_block, DoesCommand, lines_in};
-ghost use Rattle.fl_jobs.specs.CoresFile.{file_left, is_file, refused_at, is_too_long, Reads};
+ghost use Rattle.fl_jobs.specs.CoresFile.{file_left, is_file, refused_at, Reads};
 ghost use Rattle.fl_jobs.specs.Files.{reading_of, outcome_of};
 ghost use Rattle.fl_jobs.specs.Verdicts.{Comes, ComesTo};
 

@@ -7,13 +7,13 @@ use Rattle.std.specs.List.{position_or_len}
 use Rattle.std.proofs.lemmas.Bool.{false≢true, eq-eqb, ne_eqb, and_parts, or_left, or_right, cond-true}
 use Rattle.std.proofs.lemmas.Bool.Decides.{nat_tests}
 use Rattle.fl_base.specs.declared.identity.EndId.{EndId}
+use Rattle.fl_base.specs.Given.{given}
 use Rattle.fl_lists.specs.ThreeLists.{is_in}
 use Rattle.fl_hop.specs.declared.entry.Way.{Way}
 use Rattle.fl_hop.specs.declared.entry.Way.TheVariants.{Link as to_link, End as to_end}
 use Rattle.fl_hop.specs.declared.entry.Hop.{Hop}
 use Rattle.fl_hop.specs.Table.{hop_at}
 use Rattle.fl_hop.specs.Numbers.{next_own}
-use Rattle.fl_queues.specs.Given.{given}
 use Rattle.fl_queues.specs.Events.{Event}
 use Rattle.fl_queues.specs.Rings.{Opening, Said, open_circuit, circuit_opened, circuit_refused, says, RingLabel}
 use Rattle.fl_queues.specs.Waits.{Dispatcher, most_ends, has_places}

@@ -4,10 +4,11 @@ use Rattle.std.proofs.Common.{Bool, true, false, List, [], length, slice_get, So
 use Rattle.fl_base.specs.declared.identity.EndId.{EndId}
 use Rattle.fl_base.specs.declared.identity.Side.TheVariants.{Client, Server}
 use Rattle.fl_base.specs.Ends.{peer}
+use Rattle.fl_base.specs.Given.{given}
+use Rattle.fl_base.specs.Numbered.{most_cores}
 use Rattle.fl_interface.specs.Interface.{TheInterface}
 use Rattle.fl_value.specs.declared.value.PlanNo.{PlanNo}
 use Rattle.fl_lists.specs.declared.place.Place.TheVariants.{Polled}
-use Rattle.fl_queues.specs.Given.{given}
 use Rattle.fl_queues.specs.Events.{DispatcherId, Event, add_interface, set_cores, add_link, add_dispatcher, export, bind, call, show, write, turn, acknowledge, register}
 use Rattle.fl_queues.specs.Events.{deregister, reply, monitor_write, forward, monitor_acknowledge}
 use Rattle.fl_queues.specs.Calls.{Planned}
@@ -17,7 +18,7 @@ use Rattle.fl_queues.specs.Waits.{Dispatcher, waits_in}
 use Rattle.fl_queues.specs.Monitors.{Link, link_to, Hearing, hears, Heard, no_outbox, astray, opening_went_on, server_made, opening_failed, answer_went_on, end_opened, end_refused}
 use Rattle.fl_queues.specs.State.{State, Outcome, Binding, local, over_ring, Outlet, peer_queue, ring_side, binding_of, core_of, dispatcher_of, end_of, end_in, link_between}
 use Rattle.fl_queues.specs.State.{change_channel, change_core, change_ring, change_end, change_route, seats, binds_end, in_queue}
-use Rattle.fl_queues.specs.Making.{has_interface, most_interfaces, is_core, has_link, is_ring_size, most_dispatchers, count_dispatchers, most_cores}
+use Rattle.fl_queues.specs.Making.{has_interface, most_interfaces, is_core, has_link, is_ring_size, most_dispatchers, count_dispatchers}
 use Rattle.fl_queues.specs.Binding.{Wanted, end_id, with_new_binding, binds_both}
 use Rattle.fl_queues.specs.Sending.{writes_to}
 use Rattle.fl_queues.specs.Taking.{Chosen, takes_label, goes_back, finds}

@@ -5,15 +5,17 @@ use Rattle.fl_base.specs.declared.identity.EndId.{EndId}
 use Rattle.fl_base.specs.declared.identity.LinkId.{LinkId}
 use Rattle.fl_base.specs.declared.identity.Circuit.{Circuit}
 use Rattle.fl_base.specs.declared.identity.Side.TheVariants.{Client}
+use Rattle.fl_base.specs.Given.{given}
+use Rattle.fl_base.specs.Numbered.{link_id, circuit_id}
 use Rattle.fl_hop.specs.declared.entry.Way.{Way}
 use Rattle.fl_hop.specs.declared.entry.Way.TheVariants.{Link as to_link, End as to_end}
 use Rattle.fl_hop.specs.declared.entry.Hop.{Hop}
 use Rattle.fl_hop.specs.Table.{hop_at, link_of, with_entry, without_entry}
 use Rattle.fl_hop.specs.Openings.{answered}
 use Rattle.fl_hop.proofs.Cells.{same_circuit, same_link}
-use Rattle.fl_queues.specs.Given.{given, changed_at}
+use Rattle.fl_queues.specs.Given.{changed_at}
 use Rattle.fl_queues.specs.Rings.{Opening, Said, open_circuit, circuit_opened, circuit_refused, says, RingLabel, takes}
-use Rattle.fl_queues.specs.Monitors.{Core, says_more, link_id, circuit_id, hears_opened, hears_refused, hears, with_said, with_circuits}
+use Rattle.fl_queues.specs.Monitors.{Core, says_more, hears_opened, hears_refused, hears, with_said, with_circuits}
 use Rattle.fl_queues.specs.State.{Verdict, undecided, granted, denied, Route, State, core_of, change_core, change_ring, change_route, first_on}
 use Rattle.fl_queues.specs.Binding.{end_id}
 use Rattle.fl_queues.specs.Forwarding.{LinkEnd, after_hearing, passes_word}

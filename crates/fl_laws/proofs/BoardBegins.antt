@@ -4,6 +4,7 @@ use Rattle.std.proofs.Common.{List, [], ◌∷◌, ◌++◌, length, map, slice_
 use Rattle.std.proofs.lemmas.Bool.{eqb-true, and_parts}
 use Rattle.std.proofs.lemmas.List.{length-map, map-append}
 use Rattle.fl_base.specs.declared.identity.Side.TheVariants.{Client}
+use Rattle.fl_base.specs.Numbered.{link_id, circuit_id}
 use Rattle.fl_hop.specs.declared.entry.Way.{Way}
 use Rattle.fl_hop.specs.declared.entry.Way.TheVariants.{Link as to_link, End as to_end}
 use Rattle.fl_hop.specs.declared.entry.Hop.{Hop}
@@ -12,7 +13,7 @@ use Rattle.fl_hop.specs.Numbers.{next_own, after_opening}
 use Rattle.fl_hop.specs.Openings.{opened}
 use Rattle.fl_queues.specs.Given.{changed_at}
 use Rattle.fl_queues.specs.Rings.{Opening, open_circuit}
-use Rattle.fl_queues.specs.Monitors.{Core, says_more, link_id, circuit_id, opens}
+use Rattle.fl_queues.specs.Monitors.{Core, says_more, opens}
 use Rattle.fl_queues.specs.State.{Back, over_route, undecided, Route, State, seats}
 use Rattle.fl_queues.specs.Binding.{Wanted, end_id, with_new_binding, with_circuit_begun, is_route, all_differ, arrival_queue}
 use Rattle.fl_queues.specs.Forwarding.{route_of}

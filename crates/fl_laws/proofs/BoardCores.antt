@@ -1,10 +1,11 @@
 -- A board on which one core's table or links changed, or the head of a ring's messages was taken.
 use Rattle.std.proofs.Common.{◌≡◌, refl, sym, ◌∙◌, ap, subst, ℕ, ◌⊎◌, inl, inr}
 use Rattle.std.proofs.Common.{List, slice_get, Option, Some, None, option_map}
+use Rattle.fl_base.specs.Given.{given}
 use Rattle.fl_hop.specs.declared.entry.Hop.{Hop}
 use Rattle.fl_hop.specs.Table.{TheCircuits, hop_at, link_of}
 use Rattle.fl_hop.proofs.Entering.{same_or}
-use Rattle.fl_queues.specs.Given.{given, changed_at}
+use Rattle.fl_queues.specs.Given.{changed_at}
 use Rattle.fl_queues.specs.Monitors.{Link}
 use Rattle.fl_queues.specs.SoundEntries.{Key}
 use Rattle.fl_laws.proofs.Views.{Part}

@@ -5,10 +5,11 @@ use Rattle.std.specs.Prelude.{position}
 use Rattle.std.specs.List.{cons_option}
 use Rattle.std.proofs.lemmas.Option.{slice_get-map}
 use Rattle.fl_base.specs.declared.identity.Side.TheVariants.{Server}
+use Rattle.fl_base.specs.Given.{given}
 use Rattle.fl_hop.specs.Table.{TheCircuits, link_of}
 use Rattle.fl_hop.specs.Numbers.{next_own}
 use Rattle.fl_hop.proofs.Lists.{set_same, within}
-use Rattle.fl_queues.specs.Given.{given, changed_at}
+use Rattle.fl_queues.specs.Given.{changed_at}
 use Rattle.fl_queues.specs.Events.{DispatcherId}
 use Rattle.fl_queues.specs.Rings.{Opening, Said, open_circuit, circuit_opened, circuit_refused, says, RingLabel, RingSide, first_side, second_side, Ring, first_for, takes}
 use Rattle.fl_queues.specs.Waits.{has_places}

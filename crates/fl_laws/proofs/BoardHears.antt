@@ -3,6 +3,7 @@
 use Rattle.std.proofs.Common.{◌≡◌, refl, sym, ◌∙◌, ap, ℕ, ◌+◌, ◌*◌, ◌<◌, ◌≤◌, inl, inr}
 use Rattle.std.proofs.Common.{List, length, slice_get, Some, None, option_map, arith}
 use Rattle.fl_base.specs.declared.identity.EndId.{EndId}
+use Rattle.fl_base.specs.Given.{given}
 use Rattle.fl_hop.specs.declared.entry.Hop.{Hop}
 use Rattle.fl_hop.specs.Joined.{Sound as IsTable}
 use Rattle.fl_hop.specs.Table.{TheCircuits, hop_at, link_of, slot}
@@ -10,7 +11,7 @@ use Rattle.fl_hop.specs.Numbers.{next_own}
 use Rattle.fl_hop.proofs.Counting.{next_is, never_next}
 use Rattle.fl_hop.proofs.Numbering.{small}
 use Rattle.fl_hop.proofs.Lists.{at_within}
-use Rattle.fl_queues.specs.Given.{given, changed_at}
+use Rattle.fl_queues.specs.Given.{changed_at}
 use Rattle.fl_queues.specs.Rings.{Said, RingEnd}
 use Rattle.fl_queues.specs.Monitors.{Link, says_more}
 use Rattle.fl_queues.specs.State.{Route, Back, local, over_ring, over_route, in_route, own_ring}

@@ -2,6 +2,8 @@
 use Rattle.std.proofs.Common.{◌≡◌, ◌≢◌, refl, sym, ◌∙◌, ap, subst, ℕ, suc, ◌+◌, ◌-◌, ◌<◌, ◌≤◌, ◌⊎◌, inl, inr, false}
 use Rattle.std.proofs.Common.{length, Option, Some, None, arith}
 use Rattle.fl_base.specs.declared.identity.Side.TheVariants.{Server}
+use Rattle.fl_base.specs.Given.{given}
+use Rattle.fl_base.specs.Numbered.{link_id, circuit_id}
 use Rattle.fl_hop.specs.declared.entry.Way.{Way}
 use Rattle.fl_hop.specs.declared.entry.Way.TheVariants.{Link as to_link, End as to_end}
 use Rattle.fl_hop.specs.declared.entry.Hop.{Hop}
@@ -10,9 +12,9 @@ use Rattle.fl_hop.specs.Numbers.{next_own, after_opening, after_taking, count_ta
 use Rattle.fl_hop.specs.Openings.{passed_on, arrived}
 use Rattle.fl_hop.proofs.Cells.{slot_once}
 use Rattle.fl_hop.proofs.Entering.{IsSlot}
-use Rattle.fl_queues.specs.Given.{given, changed_at}
+use Rattle.fl_queues.specs.Given.{changed_at}
 use Rattle.fl_queues.specs.Rings.{Opening, Said, open_circuit, circuit_opened, circuit_refused, RingEnd}
-use Rattle.fl_queues.specs.Monitors.{says_more, link_id, circuit_id}
+use Rattle.fl_queues.specs.Monitors.{says_more}
 use Rattle.fl_queues.specs.State.{undecided, granted, denied, Route}
 use Rattle.fl_queues.specs.Binding.{end_id}
 use Rattle.fl_queues.specs.Forwarding.{with_number, grants, denies}

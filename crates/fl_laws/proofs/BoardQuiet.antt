@@ -6,9 +6,10 @@ use Rattle.std.specs.List.{range_with_len}
 use Rattle.std.proofs.lemmas.Option.{slice_get-map}
 use Rattle.std.proofs.lemmas.List.{map-append}
 use Rattle.fl_base.specs.declared.identity.EndId.{EndId}
+use Rattle.fl_base.specs.Given.{given}
 use Rattle.fl_hop.proofs.Entering.{same_or}
 use Rattle.fl_hop.proofs.Lists.{at_within}
-use Rattle.fl_queues.specs.Given.{given, changed_at}
+use Rattle.fl_queues.specs.Given.{changed_at}
 use Rattle.fl_queues.specs.Rings.{Said, says, RingSide, first_side, second_side, RingEnd, Ring, fresh_ring, puts, takes, there_is_room}
 use Rattle.fl_queues.specs.Ends.{Queue}
 use Rattle.fl_queues.specs.Monitors.{Link, fresh_core}

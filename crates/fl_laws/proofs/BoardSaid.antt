@@ -2,8 +2,9 @@
 use Rattle.std.proofs.Common.{◌≡◌, refl, sym, ◌∙◌, ap, subst, ℕ, ◌⊎◌, inl, inr}
 use Rattle.std.proofs.Common.{List, [], ◌∷◌, ◌++◌, drop, slice_get, Option, Some, None, option_map, append_assoc}
 use Rattle.std.proofs.lemmas.List.{append-nil}
+use Rattle.fl_base.specs.Given.{given}
 use Rattle.fl_hop.proofs.Entering.{same_or}
-use Rattle.fl_queues.specs.Given.{given, changed_at}
+use Rattle.fl_queues.specs.Given.{changed_at}
 use Rattle.fl_queues.specs.Rings.{Said, RingSide, first_side, second_side, RingEnd}
 use Rattle.fl_queues.specs.Monitors.{Link, says_more}
 use Rattle.fl_queues.specs.SoundPlaces.{opposite}

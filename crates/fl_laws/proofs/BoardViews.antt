@@ -2,13 +2,13 @@
 use Rattle.std.proofs.Common.{◌≡◌, refl, sym, ◌∙◌, ap, subst, ℕ, zero, suc, ◌<◌, inl, inr}
 use Rattle.std.proofs.Common.{List, [], ◌∷◌, ◌++◌, length, map, slice_get, Option, Some, None, arith}
 use Rattle.std.specs.Prelude.{filter_map, Contains}
+use Rattle.fl_base.specs.Given.{given}
 use Rattle.fl_lists.specs.ThreeLists.{NoRepeat}
 use Rattle.fl_hop.specs.declared.entry.Way.{Way}
 use Rattle.fl_hop.specs.declared.entry.Way.TheVariants.{Link as to_link, End as to_end}
 use Rattle.fl_hop.specs.declared.entry.Hop.{Hop}
 use Rattle.fl_hop.specs.Table.{hop_at, link_of}
 use Rattle.fl_hop.specs.Numbers.{number}
-use Rattle.fl_queues.specs.Given.{given}
 use Rattle.fl_queues.specs.Rings.{Said, Ring, RingSide, first_side, second_side, RingEnd, read_by}
 use Rattle.fl_queues.specs.Monitors.{Core, Link, link_to}
 use Rattle.fl_queues.specs.State.{Route, Back, local, over_ring, over_route, Binding, State, core_of, link_between}

@@ -15,11 +15,10 @@ use Rattle.fl_hop.specs.Numbers.{number, next_own, after_taking, count_opening, 
 use Rattle.fl_hop.specs.Openings.{passed_on, arrived, answered}
 use Rattle.fl_hop.proofs.Lists.{within}
 use Rattle.fl_hop.proofs.Counting.{Next, Due, next_is, counted_opening, counted_taking, next_stays}
-use Rattle.fl_queues.specs.Given.{given}
 use Rattle.fl_queues.specs.Events.{DispatcherId}
 use Rattle.fl_queues.specs.Rings.{Opening, Said, open_circuit, circuit_opened, circuit_refused, Label, says, RingLabel, RingEnd}
 use Rattle.fl_queues.specs.Waits.{has_places}
-use Rattle.fl_queues.specs.Monitors.{Core, Link, Service, service_of, link_to, can_say, with_said, with_circuits, link_id, circuit_id, says_more, next_on, Fate, goes_on, ends_at, fails, arrival, fate, saying, Hearing, hears, hears_opening, hears_opened, hears_refused, Heard}
+use Rattle.fl_queues.specs.Monitors.{Core, Link, Service, service_of, link_to, can_say, with_said, with_circuits, says_more, next_on, Fate, goes_on, ends_at, fails, arrival, fate, saying, Hearing, hears, hears_opening, hears_opened, hears_refused, Heard}
 use Rattle.fl_queues.specs.State.{Verdict, undecided, granted, denied, Route, over_route, Binding, State, core_of, link_between, first_on}
 use Rattle.fl_queues.specs.Binding.{all_differ}
 use Rattle.fl_queues.specs.Forwarding.{LinkEnd}
@@ -41,6 +40,8 @@ use Rattle.fl_laws.proofs.Replies.{length_changed}
 use Rattle.fl_laws.proofs.TablesKept.{Fresh, arrived_sound, passed_sound, answered_sound, removed_sound, taking_counted, leads_range}
 use Rattle.fl_laws.proofs.Walk.{IsHere}
 use Rattle.std.proofs.lemmas.List.Quantifiers.{position-Some}
+use Rattle.fl_base.specs.Given.{given}
+use Rattle.fl_base.specs.Numbered.{link_id, circuit_id}
 use Rattle.fl_laws.proofs.Small.{some_same}
 
 -- ---- a core's links by their neighbours

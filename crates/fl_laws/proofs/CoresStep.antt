@@ -5,6 +5,8 @@ use Rattle.std.specs.Prelude.{is_some}
 use Rattle.std.proofs.lemmas.List.{length-append}
 use Rattle.std.proofs.lemmas.Bool.{eqb-false, and_parts, true≢false, ne_eqb}
 use Rattle.fl_base.specs.declared.identity.Side.TheVariants.{Client}
+use Rattle.fl_base.specs.Given.{given}
+use Rattle.fl_base.specs.Numbered.{link_id, circuit_id}
 use Rattle.fl_lists.specs.declared.place.Place.TheVariants.{Polled}
 use Rattle.fl_hop.specs.declared.fault.HopFault.TheVariants.{NoLink, Limit}
 use Rattle.fl_hop.specs.declared.links.LinkState.{LinkState}
@@ -16,12 +18,11 @@ use Rattle.fl_hop.proofs.Cells.{is_less}
 use Rattle.fl_hop.proofs.Limits.{links_suffice}
 use Rattle.fl_hop.proofs.Lists.{within}
 use Rattle.fl_hop.proofs.Counting.{Next, next_is}
-use Rattle.fl_queues.specs.Given.{given}
 use Rattle.fl_queues.specs.Events.{Event}
 use Rattle.fl_queues.specs.Rings.{Opening, open_circuit, Ring, RingSide, first_side, second_side, first_for, looks, makes_sure, takes}
 use Rattle.fl_queues.specs.Ends.{fresh_queue, without_first}
 use Rattle.fl_queues.specs.Waits.{waits_in}
-use Rattle.fl_queues.specs.Monitors.{Core, Link, link_to, link_id, circuit_id, with_circuits, opens, Hearing, hears}
+use Rattle.fl_queues.specs.Monitors.{Core, Link, link_to, with_circuits, opens, Hearing, hears}
 use Rattle.fl_queues.specs.State.{local, over_ring, over_route, undecided, Binding, State, core_of, end_in, link_between, change_core, change_ring, change_end, seats, in_queue}
 use Rattle.fl_queues.specs.Making.{is_core, has_link, linked, with_dispatcher, with_new_link}
 use Rattle.fl_queues.specs.Binding.{Wanted, end_id, with_new_binding, arrival_queue}

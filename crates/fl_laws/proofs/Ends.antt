@@ -4,7 +4,8 @@ use Rattle.std.proofs.lemmas.Bool.{eqb-true, eqb-false}
 use Rattle.fl_base.specs.declared.identity.Side.{Side}
 use Rattle.fl_base.specs.declared.identity.Side.TheVariants.{Client, Server}
 use Rattle.fl_base.specs.declared.identity.EndId.{EndId}
-use Rattle.fl_queues.specs.Given.{given, changed_at}
+use Rattle.fl_base.specs.Given.{given}
+use Rattle.fl_queues.specs.Given.{changed_at}
 use Rattle.fl_queues.specs.Ends.{End}
 use Rattle.fl_queues.specs.State.{Binding, State, end_in, end_of, with_end_in, change_end}
 use Rattle.fl_queues.specs.Runs.{same_side, same_end}

@@ -22,16 +22,16 @@ use Rattle.fl_queues.specs.Binding.{Wanted, end_id, with_new_binding, binds_both
 use Rattle.fl_queues.specs.Sending.{writes_to}
 use Rattle.fl_queues.specs.Taking.{Chosen, takes_label, finds}
 use Rattle.fl_queues.specs.Forwarding.{follows, takes_said, label_of}
-use Rattle.fl_queues.specs.Given.{given}
 use Rattle.fl_laws.proofs.Cases.{by_given, each_push, none_at_end}
 use Rattle.fl_queues.specs.Runs.{reached}
 use Rattle.std.proofs.Common.{slice_set, zero, drop}
 use Rattle.std.proofs.lemmas.Bool.Decides.{nat_tests}
 use Rattle.fl_base.specs.declared.identity.Side.{Side}
-use Rattle.fl_queues.specs.Given.{given, changed_at}
+use Rattle.fl_queues.specs.Given.{changed_at}
 use Rattle.fl_queues.specs.Monitors.{Hearing}
 use Rattle.fl_queues.specs.Binding.{arrival_queue}
 use Rattle.std.proofs.Common.{suc}
+use Rattle.fl_base.specs.Given.{given, given}
 use Rattle.fl_queues.specs.State.{binds_end}
 use Rattle.fl_queues.specs.State.{Binding, Route, change_out, change_channel, with_end_in, place_in, way_of}
 use Rattle.fl_queues.specs.Ends.{accepts, writes, with_rule, passes, takes_one, replies, unbound_end}

@@ -11,11 +11,12 @@ use Rattle.fl_base.specs.declared.identity.EndId.{EndId}
 use Rattle.fl_base.specs.declared.identity.Side.{Side}
 use Rattle.fl_base.specs.declared.identity.Side.TheVariants.{Client, Server}
 use Rattle.fl_base.specs.Ends.{peer}
+use Rattle.fl_base.specs.Given.{given}
 use Rattle.fl_hop.specs.declared.links.LinkState.{LinkState}
 use Rattle.fl_hop.proofs.Counting.{Grown, grown_on}
 use Rattle.fl_hop.proofs.Entering.{same_or}
 use Rattle.fl_hop.proofs.Lists.{within, at_within}
-use Rattle.fl_queues.specs.Given.{given, changed_at}
+use Rattle.fl_queues.specs.Given.{changed_at}
 use Rattle.fl_queues.specs.Events.{DispatcherId}
 use Rattle.fl_queues.specs.Rings.{Label, next_of, says, acknowledges, RingEnd, there_is_room, takes}
 use Rattle.fl_queues.specs.Calls.{Planned}

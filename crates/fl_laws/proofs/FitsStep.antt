@@ -22,11 +22,10 @@ use Rattle.fl_queues.specs.Binding.{Wanted, end_id, with_new_binding, binds_both
 use Rattle.fl_queues.specs.Sending.{writes_to}
 use Rattle.fl_queues.specs.Taking.{Chosen, takes_label, finds}
 use Rattle.fl_queues.specs.Forwarding.{follows, takes_said, label_of}
-use Rattle.fl_queues.specs.Given.{given}
 use Rattle.fl_laws.proofs.Cases.{by_given, each_push, none_at_end}
 use Rattle.std.proofs.Common.{replicate, slice_set, zero}
 use Rattle.fl_base.specs.declared.identity.Side.{Side}
-use Rattle.fl_queues.specs.Given.{given, changed_at}
+use Rattle.fl_queues.specs.Given.{changed_at}
 use Rattle.fl_queues.specs.Monitors.{Hearing}
 use Rattle.fl_queues.specs.Binding.{arrival_queue}
 use Rattle.std.proofs.Common.{suc}
@@ -37,6 +36,7 @@ use Rattle.fl_laws.proofs.Cases.{Each, each_changed}
 use Rattle.std.proofs.Common.{ap, ◌<◌, ◌-◌, ◌||◌, replicate, is_some}
 use Rattle.std.specs.Prelude.{Contains}
 use Rattle.fl_base.specs.Ends.{other}
+use Rattle.fl_base.specs.Given.{given, given}
 use Rattle.fl_value.specs.Fits.{fits_of}
 use Rattle.fl_lists.specs.declared.place.Place.TheVariants.{Polled}
 use Rattle.fl_queues.specs.Events.{Event}

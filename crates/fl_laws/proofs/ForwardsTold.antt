@@ -15,7 +15,6 @@ use Rattle.fl_hop.specs.declared.entry.Way.{Way}
 use Rattle.fl_hop.specs.declared.entry.Way.TheVariants.{Link as to_link, End as to_end}
 use Rattle.fl_hop.specs.declared.entry.Hop.{Hop}
 use Rattle.fl_hop.specs.Table.{hop_at}
-use Rattle.fl_queues.specs.Given.{given}
 use Rattle.fl_queues.specs.Events.{nothing}
 use Rattle.fl_queues.specs.Rings.{Opening, Said, open_circuit, circuit_opened, circuit_refused, Label, next_of, says, acknowledges, RingLabel, Ring, RingSide, RingEnd, first_for, read_by, looks, Room, there_is_room, no_room, spent, for_data}
 use Rattle.fl_queues.specs.Ends.{Direction, written_of, queue_room}
@@ -41,6 +40,7 @@ use Rattle.fl_laws.proofs.TurnsTold.{there_is, Tells, picked_first, way_length, 
 use Rattle.fl_laws.proofs.WritesTold.{get_at, get_back}
 use Rattle.fl_queues.specs.Binding.{all_differ}
 use Rattle.fl_base.specs.Ends.{peer}
+use Rattle.fl_base.specs.Given.{given}
 use Rattle.fl_laws.proofs.Small.{some_same}
 
 -- ---- what stands first on the link

@@ -2,6 +2,8 @@
 use Rattle.std.proofs.Common.{◌≡◌, refl, sym, ◌∙◌, ap, ℕ, ◌+◌, ◌<◌, ◌≤◌}
 use Rattle.std.proofs.Common.{List, [], ◌∷◌, ◌++◌, length, slice_get, Option, Some, None, arith}
 use Rattle.std.specs.Prelude.{is_some}
+use Rattle.fl_base.specs.Given.{given}
+use Rattle.fl_base.specs.Numbered.{link_id, circuit_id}
 use Rattle.fl_hop.specs.declared.links.LinkState.{LinkState}
 use Rattle.fl_hop.specs.declared.entry.Way.{Way}
 use Rattle.fl_hop.specs.declared.entry.Way.TheVariants.{Link as to_link, End as to_end}
@@ -10,10 +12,10 @@ use Rattle.fl_hop.specs.Table.{TheCircuits, hop_at}
 use Rattle.fl_hop.specs.Numbers.{number, with_opening, with_taking, changed, count_opening, count_taking, next_own}
 use Rattle.fl_hop.proofs.Counting.{Grown, grown_on, grown_set, grown_push, next_is}
 use Rattle.fl_hop.proofs.Lists.{set_here, within}
-use Rattle.fl_queues.specs.Given.{given, changed_at}
+use Rattle.fl_queues.specs.Given.{changed_at}
 use Rattle.fl_queues.specs.Rings.{Opening, Said, open_circuit, circuit_opened, circuit_refused, RingSide}
 use Rattle.fl_hop.specs.Openings.{passed_on}
-use Rattle.fl_queues.specs.Monitors.{link_id, circuit_id, with_said, with_circuits, Core, Link, Service, link_to, opens, says_more, can_say, saying, Fate, goes_on, ends_at, fails, fate, Heard, Hearing}
+use Rattle.fl_queues.specs.Monitors.{with_said, with_circuits, Core, Link, Service, link_to, opens, says_more, can_say, saying, Fate, goes_on, ends_at, fails, fate, Heard, Hearing}
 use Rattle.fl_queues.specs.Monitors.{hears_opening, hears_opened, hears_refused, hears}
 use Rattle.fl_queues.specs.Making.{linked}
 use Rattle.fl_queues.specs.SoundPlaces.{CoreStands}

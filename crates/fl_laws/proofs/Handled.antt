@@ -8,10 +8,10 @@ use Rattle.fl_base.specs.declared.identity.Side.TheVariants.{Client, Server}
 use Rattle.fl_base.specs.declared.identity.EndId.{EndId}
 use Rattle.fl_base.specs.Ends.{other, peer}
 use Rattle.fl_base.specs.Prefix.{IsPrefix}
+use Rattle.fl_base.specs.Given.{given}
 use Rattle.fl_value.specs.Value.{TheCall}
 use Rattle.fl_lists.specs.declared.place.Place.TheVariants.{Polled}
 use Rattle.fl_hop.specs.declared.entry.Hop.{Hop}
-use Rattle.fl_queues.specs.Given.{given}
 use Rattle.fl_queues.specs.Events.{Event, Answer, accepted, handle, quiet}
 use Rattle.fl_queues.specs.Calls.{Planned, total, whole_in}
 use Rattle.fl_queues.specs.Rings.{Label, next_of, says, acknowledges, Ring, RingEnd, RingLabel, there_is_room, takes, read_by, written_by}

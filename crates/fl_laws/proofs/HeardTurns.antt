@@ -5,18 +5,19 @@ use Rattle.std.specs.Prelude.{position, cond}
 use Rattle.std.proofs.lemmas.Bool.{cond-true}
 use Rattle.fl_base.specs.declared.identity.EndId.{EndId}
 use Rattle.fl_base.specs.declared.identity.Side.TheVariants.{Client}
+use Rattle.fl_base.specs.Given.{given}
+use Rattle.fl_base.specs.Numbered.{link_id, circuit_id}
 use Rattle.fl_hop.specs.declared.entry.Way.{Way}
 use Rattle.fl_hop.specs.declared.entry.Way.TheVariants.{Link as to_link, End as to_end}
 use Rattle.fl_hop.specs.declared.entry.Hop.{Hop}
 use Rattle.fl_hop.specs.Table.{TheCircuits, hop_at}
 use Rattle.fl_hop.specs.Numbers.{next_own, count_taking}
 use Rattle.fl_hop.proofs.Lists.{within}
-use Rattle.fl_queues.specs.Given.{given}
 use Rattle.fl_queues.specs.Events.{DispatcherId}
 use Rattle.fl_queues.specs.Rings.{Opening, Said, open_circuit, circuit_opened, circuit_refused, says, RingLabel}
 use Rattle.fl_queues.specs.Waits.{Dispatcher, has_places}
 use Rattle.fl_hop.specs.Openings.{arrived}
-use Rattle.fl_queues.specs.Monitors.{with_said, with_circuits, link_id, circuit_id, Core, Service, service_of, link_to, can_say, next_on, Fate, goes_on, ends_at, fails, arrival, passage, fate}
+use Rattle.fl_queues.specs.Monitors.{with_said, with_circuits, Core, Service, service_of, link_to, can_say, next_on, Fate, goes_on, ends_at, fails, arrival, passage, fate}
 use Rattle.fl_queues.specs.Monitors.{Heard, no_outbox, astray, opening_went_on, server_made, opening_failed, answer_went_on, end_opened, end_refused}
 use Rattle.fl_queues.specs.Monitors.{hears_opening, hears_opened, hears_refused, Hearing, hears}
 use Rattle.fl_queues.specs.State.{Verdict, undecided, granted, denied, Route, State, core_of, dispatcher_of, first_on, change_core}

@@ -6,13 +6,13 @@ use Rattle.std.specs.Prelude.{IsSome, is_some, filter_map, Contains}
 use Rattle.std.proofs.lemmas.Bool.{false≢true}
 use Rattle.fl_base.specs.declared.identity.EndId.{EndId}
 use Rattle.fl_base.specs.declared.identity.Side.TheVariants.{Client}
+use Rattle.fl_base.specs.Given.{given}
 use Rattle.fl_lists.specs.declared.place.Place.{Place}
 use Rattle.fl_lists.specs.ThreeLists.{list_at, is_in}
 use Rattle.fl_hop.specs.declared.entry.Way.{Way}
 use Rattle.fl_hop.specs.declared.entry.Way.TheVariants.{End as to_end}
 use Rattle.fl_hop.specs.declared.entry.Hop.{Hop}
 use Rattle.fl_hop.specs.Table.{hop_at}
-use Rattle.fl_queues.specs.Given.{given}
 use Rattle.fl_queues.specs.Rings.{Opening, Said, open_circuit, circuit_opened, circuit_refused, Label, says, RingLabel, Ring, RingEnd, read_by, first_for}
 use Rattle.fl_queues.specs.Ends.{Seat}
 use Rattle.fl_queues.specs.Waits.{Dispatcher}

@@ -6,8 +6,9 @@ use Rattle.fl_base.specs.declared.identity.EndId.{EndId}
 use Rattle.fl_base.specs.declared.identity.Side.{Side}
 use Rattle.fl_base.specs.declared.identity.Side.TheVariants.{Client, Server}
 use Rattle.fl_base.specs.Ends.{other, peer}
+use Rattle.fl_base.specs.Given.{given}
 use Rattle.fl_hop.proofs.Entering.{same_or}
-use Rattle.fl_queues.specs.Given.{given, changed_at}
+use Rattle.fl_queues.specs.Given.{changed_at}
 use Rattle.fl_queues.specs.Rings.{Label}
 use Rattle.fl_queues.specs.Ends.{Queue, joined_by, without_first, End}
 use Rattle.fl_queues.specs.State.{Binding, State, end_in, in_queue, with_end_in}

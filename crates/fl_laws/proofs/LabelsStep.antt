@@ -3,9 +3,9 @@
 use Rattle.std.proofs.Common.{◌≡◌, refl, sym, ◌∙◌, ap, subst, ℕ, ◌+◌, List, [], ◌∷◌, length, map, slice_get, Option, Some, None}
 use Rattle.std.specs.List.{range_with_len}
 use Rattle.fl_base.specs.declared.identity.Side.TheVariants.{Client}
+use Rattle.fl_base.specs.Given.{given}
 use Rattle.fl_lists.specs.declared.place.Place.TheVariants.{Polled, Pending}
 use Rattle.fl_hop.specs.declared.entry.Hop.{Hop}
-use Rattle.fl_queues.specs.Given.{given}
 use Rattle.fl_queues.specs.Events.{Event}
 use Rattle.fl_queues.specs.Rings.{Opening, Said, Label, next_of, says, acknowledges, RingLabel, Ring, RingSide, RingEnd, first_for, looks, makes_sure, puts, takes}
 use Rattle.fl_queues.specs.Ends.{fresh_queue, accepts, with_rule, without_first}

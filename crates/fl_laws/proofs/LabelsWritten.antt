@@ -5,7 +5,8 @@ use Rattle.fl_base.specs.declared.identity.EndId.{EndId}
 use Rattle.fl_base.specs.declared.identity.Side.{Side}
 use Rattle.fl_base.specs.declared.identity.Side.TheVariants.{Client, Server}
 use Rattle.fl_base.specs.Ends.{other, peer}
-use Rattle.fl_queues.specs.Given.{given, changed_at}
+use Rattle.fl_base.specs.Given.{given}
+use Rattle.fl_queues.specs.Given.{changed_at}
 use Rattle.fl_queues.specs.Calls.{Planned}
 use Rattle.fl_queues.specs.Rings.{Label, next_of, RingEnd, there_is_room, puts}
 use Rattle.fl_queues.specs.Ends.{Direction, End, is_busy, joined_by, writes, written_of}

@@ -7,6 +7,7 @@ use Rattle.std.proofs.lemmas.Bool.Decides.{nat_tests}
 use Rattle.fl_base.specs.declared.identity.EndId.{EndId}
 use Rattle.fl_base.specs.declared.identity.Side.TheVariants.{Client, Server}
 use Rattle.fl_base.specs.Ends.{peer}
+use Rattle.fl_base.specs.Numbered.{most_cores, most_bindings}
 use Rattle.fl_lists.specs.declared.place.Place.TheVariants.{Polled}
 use Rattle.fl_queues.specs.Given.{changed_at}
 use Rattle.fl_queues.specs.Events.{DispatcherId, Event}
@@ -17,8 +18,8 @@ use Rattle.fl_queues.specs.Waits.{Dispatcher, waits_in}
 use Rattle.fl_queues.specs.Monitors.{Core, fresh_core, Heard, Hearing, hears, no_outbox, astray, opening_went_on, server_made, opening_failed, answer_went_on, end_opened, end_refused}
 use Rattle.fl_queues.specs.State.{State, Binding, Outcome, local, over_ring, Outlet, peer_queue, ring_side, dispatcher_of, end_of, end_in, Back}
 use Rattle.fl_queues.specs.State.{change_core, change_ring, change_binding, change_end, change_channel, change_route, seats, binds_end, in_queue}
-use Rattle.fl_queues.specs.Making.{most_cores, most_interfaces, most_services}
-use Rattle.fl_queues.specs.Binding.{Wanted, end_id, most_bindings, with_new_binding, binds_both}
+use Rattle.fl_queues.specs.Making.{most_interfaces, most_services}
+use Rattle.fl_queues.specs.Binding.{Wanted, end_id, with_new_binding, binds_both}
 use Rattle.fl_queues.specs.Sending.{writes_to}
 use Rattle.fl_queues.specs.Taking.{Chosen, takes_label, goes_back, finds}
 use Rattle.fl_queues.specs.Forwarding.{follows, takes_said, grants, passes_word}

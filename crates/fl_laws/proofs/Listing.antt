@@ -5,13 +5,13 @@ use Rattle.std.proofs.Common.{List, [], ◌∷◌, ◌++◌, slice_get, Option, 
 use Rattle.std.specs.Prelude.{IsSome, IsNone}
 use Rattle.std.proofs.lemmas.Bool.{cases_eq}
 use Rattle.fl_base.specs.declared.identity.EndId.{EndId}
+use Rattle.fl_base.specs.Given.{given}
 use Rattle.fl_lists.specs.declared.place.Place.{Place}
 use Rattle.fl_lists.specs.declared.place.Place.TheVariants.{Idle, Polled, Pending}
 use Rattle.fl_lists.specs.ThreeLists.{ThreeLists, list_at, is_in, unlinked, pushed, popped, moved, IsApart, without}
 use Rattle.fl_lists.proofs.Members.{is_in_from-without}
 use Rattle.fl_waitset.specs.Waiting.{triggered}
 use Rattle.fl_waitset.proofs.Moves.{first_moves}
-use Rattle.fl_queues.specs.Given.{given}
 use Rattle.fl_queues.specs.Events.{DispatcherId}
 use Rattle.fl_queues.specs.Rings.{RingLabel, Ring, RingSide, RingEnd, first_for, written_by}
 use Rattle.fl_queues.specs.Ends.{Queue, End, Seat}

@@ -5,9 +5,10 @@ use Rattle.std.specs.Prelude.{IsSome, IsNone}
 use Rattle.fl_base.specs.declared.identity.EndId.{EndId}
 use Rattle.fl_base.specs.declared.identity.Side.{Side}
 use Rattle.fl_base.specs.declared.identity.Side.TheVariants.{Client, Server}
+use Rattle.fl_base.specs.Given.{given}
 use Rattle.fl_lists.specs.declared.place.Place.{Place}
 use Rattle.fl_lists.specs.declared.place.Place.TheVariants.{Idle, Polled, Pending}
-use Rattle.fl_queues.specs.Given.{given, changed_at}
+use Rattle.fl_queues.specs.Given.{changed_at}
 use Rattle.fl_queues.specs.Events.{DispatcherId}
 use Rattle.fl_queues.specs.Rings.{Label, RingLabel, Ring, RingSide, first_side, second_side, RingEnd, first_for, read_by, written_by, puts, takes, looks, makes_sure, is_spent, free, knows, with_halves}
 use Rattle.fl_queues.specs.Ends.{Queue, End, Seat, joined_by}

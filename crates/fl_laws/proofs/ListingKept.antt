@@ -7,10 +7,10 @@ use Rattle.fl_base.specs.declared.identity.EndId.{EndId}
 use Rattle.fl_base.specs.declared.identity.Side.{Side}
 use Rattle.fl_base.specs.declared.identity.Side.TheVariants.{Client, Server}
 use Rattle.fl_base.specs.Ends.{other, peer}
+use Rattle.fl_base.specs.Given.{given}
 use Rattle.fl_lists.specs.declared.place.Place.{Place}
 use Rattle.fl_lists.specs.declared.place.Place.TheVariants.{Idle, Polled, Pending}
 use Rattle.fl_lists.specs.ThreeLists.{list_at, is_in}
-use Rattle.fl_queues.specs.Given.{given}
 use Rattle.fl_queues.specs.Events.{DispatcherId, Event}
 use Rattle.fl_queues.specs.Rings.{Label, RingLabel, Ring, RingEnd, first_for, read_by, written_by, Half}
 use Rattle.fl_queues.specs.Ends.{End, Queue}

@@ -1,11 +1,12 @@
 -- What a core hears keeps the order of the openings under way.
 use Rattle.std.proofs.Common.{◌≡◌, refl, sym, ◌∙◌, ap, subst, ℕ, List, [], ◌∷◌, map, drop, slice_get, Some, None, option_map, inl, inr}
 use Rattle.std.specs.List.{cons_option}
+use Rattle.fl_base.specs.Given.{given}
 use Rattle.fl_hop.specs.declared.links.LinkState.{LinkState}
 use Rattle.fl_hop.specs.Numbers.{number, next_own, after_taking, count_taking}
 use Rattle.fl_hop.proofs.Entering.{same_or}
 use Rattle.fl_hop.proofs.Counting.{next_is}
-use Rattle.fl_queues.specs.Given.{given, changed_at}
+use Rattle.fl_queues.specs.Given.{changed_at}
 use Rattle.fl_queues.specs.Rings.{Said, says, Ring, RingLabel, first_for, read_by, takes}
 use Rattle.fl_queues.specs.Monitors.{Core, link_to, with_circuits}
 use Rattle.fl_queues.specs.State.{State, first_on, core_of}

@@ -4,14 +4,16 @@ use Rattle.std.specs.List.{cons_option}
 use Rattle.std.proofs.lemmas.Option.{slice_get-map}
 use Rattle.std.proofs.lemmas.List.{length-map}
 use Rattle.fl_base.specs.declared.identity.Side.TheVariants.{Client}
+use Rattle.fl_base.specs.Given.{given}
+use Rattle.fl_base.specs.Numbered.{link_id, circuit_id}
 use Rattle.fl_hop.specs.declared.links.LinkState.{LinkState}
 use Rattle.fl_hop.specs.Numbers.{number}
 use Rattle.fl_hop.specs.Openings.{opened}
 use Rattle.fl_hop.proofs.Lists.{at_within}
 use Rattle.fl_hop.proofs.Counting.{next_is}
-use Rattle.fl_queues.specs.Given.{given, changed_at}
+use Rattle.fl_queues.specs.Given.{changed_at}
 use Rattle.fl_queues.specs.Rings.{Said, open_circuit, Opening, says, RingSide, first_side, second_side, RingEnd, Ring, puts}
-use Rattle.fl_queues.specs.Monitors.{Core, Link, says_more, link_to, link_id, circuit_id, opens}
+use Rattle.fl_queues.specs.Monitors.{Core, Link, says_more, link_to, opens}
 use Rattle.fl_queues.specs.State.{State, Route, over_route, undecided, core_of, link_between, seats}
 use Rattle.fl_queues.specs.Binding.{Wanted, with_new_binding, with_circuit_begun, end_id, arrival_queue}
 use Rattle.fl_queues.specs.Forwarding.{LinkEnd, without_first_said}

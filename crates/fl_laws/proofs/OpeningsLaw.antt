@@ -10,9 +10,9 @@ use Rattle.fl_hop.specs.declared.entry.Way.TheVariants.{Link as to_link, End as 
 use Rattle.fl_hop.specs.Table.{TheCircuits, hop_at}
 use Rattle.fl_hop.specs.Numbers.{next_own, after_taking, count_taking}
 use Rattle.fl_hop.proofs.Lists.{at_within, within}
-use Rattle.fl_queues.specs.Given.{given, changed_at}
+use Rattle.fl_queues.specs.Given.{changed_at}
 use Rattle.fl_queues.specs.Rings.{Said, open_circuit, circuit_opened, circuit_refused, Opening, says, RingSide, first_side, second_side, RingEnd, Ring, RingLabel, read_by, puts, takes}
-use Rattle.fl_queues.specs.Monitors.{Core, Link, says_more, link_to, link_id, circuit_id, opens, with_said, with_circuits}
+use Rattle.fl_queues.specs.Monitors.{Core, Link, says_more, link_to, opens, with_said, with_circuits}
 use Rattle.fl_queues.specs.State.{State, first_on, core_of, change_core, change_ring, link_between, seats}
 use Rattle.fl_queues.specs.Binding.{with_new_binding, with_circuit_begun, end_id}
 use Rattle.fl_queues.specs.Forwarding.{LinkEnd, without_first_said}
@@ -44,6 +44,8 @@ use Rattle.fl_queues.specs.Standing.{link_state, under_way, on_link, unread, lab
 use Rattle.fl_queues.specs.SoundPlaces.{CoresStand, EndsStand, LinksArePaired, RingsHaveOneOwner}
 use Rattle.fl_queues.specs.SoundOpenings.{OpeningsGoInOrder}
 use Rattle.std.proofs.lemmas.List.Elements.{filter_map-append}
+use Rattle.fl_base.specs.Given.{given}
+use Rattle.fl_base.specs.Numbered.{link_id, circuit_id}
 use Rattle.fl_laws.proofs.Quiet.{Moves, view_keeps}
 use Rattle.fl_laws.proofs.Walk.{Keeps, with_ring, step_keeps, run_keeps}
 use Rattle.fl_laws.proofs.Start.{start_is_sound}

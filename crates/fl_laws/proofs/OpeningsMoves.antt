@@ -7,10 +7,11 @@ use Rattle.std.proofs.lemmas.List.{length-map, append-nil}
 use Rattle.std.proofs.lemmas.List.Elements.{filter_map-append}
 use Rattle.std.proofs.lemmas.List.Quantifiers.{position-Some}
 use Rattle.fl_base.specs.declared.identity.EndId.{EndId}
+use Rattle.fl_base.specs.Given.{given}
 use Rattle.fl_hop.specs.declared.links.LinkState.{LinkState}
 use Rattle.fl_hop.specs.Numbers.{number, next_own, with_opening, with_taking, changed, count_opening, count_taking}
 use Rattle.fl_hop.proofs.Entering.{same_or}
-use Rattle.fl_queues.specs.Given.{given, changed_at}
+use Rattle.fl_queues.specs.Given.{changed_at}
 use Rattle.fl_queues.specs.Rings.{Said, RingSide, first_side, second_side, RingEnd, Ring, fresh_ring, takes}
 use Rattle.fl_queues.specs.Monitors.{Link, says_more}
 use Rattle.fl_queues.specs.State.{State, Binding, binding_of, own_ring}

@@ -3,10 +3,11 @@ use Rattle.std.proofs.Common.{◌≡◌, refl, sym, ◌∙◌, ap, subst, ℕ, z
 use Rattle.std.specs.List.{range_with_len, cons_option}
 use Rattle.std.proofs.lemmas.List.{length-map, map-append}
 use Rattle.std.proofs.lemmas.List.Elements.{filter_map-append}
+use Rattle.fl_base.specs.Given.{given}
 use Rattle.fl_hop.specs.declared.links.LinkState.{LinkState}
 use Rattle.fl_hop.specs.Table.{with_link}
 use Rattle.fl_hop.proofs.Entering.{same_or}
-use Rattle.fl_queues.specs.Given.{given, changed_at}
+use Rattle.fl_queues.specs.Given.{changed_at}
 use Rattle.fl_queues.specs.Rings.{Said, says, RingSide, first_side, second_side, RingEnd, Ring, RingLabel, first_for, read_by, puts, takes}
 use Rattle.fl_queues.specs.Monitors.{fresh_core, Link}
 use Rattle.fl_queues.specs.State.{State}

@@ -3,16 +3,17 @@ use Rattle.std.proofs.Common.{◌≡◌, sym, ◌∙◌, ap, ℕ, ◌+◌, ◌�
 use Rattle.std.proofs.Common.{List, [], ◌∷◌, ◌++◌, drop, length, slice_get, Option, Some, arith}
 use Rattle.std.proofs.lemmas.List.{length-append}
 use Rattle.std.proofs.lemmas.Bool.Decides.{nat_tests}
+use Rattle.fl_base.specs.Given.{given}
+use Rattle.fl_base.specs.Numbered.{link_id, circuit_id}
 use Rattle.fl_hop.specs.declared.entry.Way.{Way}
 use Rattle.fl_hop.specs.declared.entry.Way.TheVariants.{Link as to_link, End as to_end}
 use Rattle.fl_hop.specs.declared.entry.Hop.{Hop}
 use Rattle.fl_hop.specs.Table.{TheCircuits, hop_at}
 use Rattle.fl_hop.specs.Openings.{opened}
-use Rattle.fl_queues.specs.Given.{given}
 use Rattle.fl_queues.specs.Rings.{Opening, Said, open_circuit, circuit_opened, circuit_refused}
 use Rattle.fl_queues.specs.Events.{Event}
 use Rattle.fl_queues.specs.Monitors.{Link, Core, Service, outbox_room, can_say, says_more, with_said, with_circuits, Heard, Hearing}
-use Rattle.fl_queues.specs.Monitors.{Fate, goes_on, ends_at, fails, fate, saying, link_id, circuit_id, hears_opening, hears_opened, hears_refused, hears}
+use Rattle.fl_queues.specs.Monitors.{Fate, goes_on, ends_at, fails, fate, saying, hears_opening, hears_opened, hears_refused, hears}
 use Rattle.fl_queues.specs.State.{State}
 use Rattle.fl_queues.specs.Step.{step}
 use Rattle.fl_queues.specs.SoundLists.{OutboxesHaveRoom}

@@ -12,7 +12,7 @@ use Rattle.fl_hop.specs.declared.entry.Way.{Way}
 use Rattle.fl_hop.specs.declared.entry.Way.TheVariants.{Link as to_link, End as to_end}
 use Rattle.fl_hop.specs.Table.{TheCircuits, hop_at}
 use Rattle.fl_hop.specs.Numbers.{with_opening, with_taking, changed, count_opening, count_taking}
-use Rattle.fl_queues.specs.Given.{given, changed_at}
+use Rattle.fl_queues.specs.Given.{changed_at}
 use Rattle.fl_queues.specs.Events.{Event}
 use Rattle.fl_queues.specs.Rings.{Said, open_circuit, circuit_opened, circuit_refused, Opening, says, RingSide, first_side, second_side, RingEnd, Ring, fresh_ring, puts, takes}
 use Rattle.fl_queues.specs.Monitors.{Core, Link, fresh_core, link_to, Fate, goes_on, ends_at, fails, fate, Heard, no_outbox, astray, opening_went_on, server_made, opening_failed, answer_went_on, end_opened, end_refused, Hearing, hears, hears_opening, hears_opened, hears_refused, saying, says_more, can_say, Service, opens}
@@ -31,6 +31,7 @@ use Rattle.fl_laws.proofs.Places.{end_ring, ring_side_of, turned, IsEven}
 use Rattle.fl_laws.proofs.Views.{found_is, given_map}
 use Rattle.fl_hop.proofs.Lists.{at_within, within}
 use Rattle.std.specs.Prelude.{IsSome}
+use Rattle.fl_base.specs.Given.{given}
 use Rattle.fl_queues.specs.SoundPlaces.{owns, LinksArePaired, RingsHaveOneOwner, CoresStand, EndsStand, TakesFrom}
 use Rattle.fl_queues.specs.State.{end_in, undecided}
 use Rattle.fl_queues.specs.Binding.{arrival_queue}

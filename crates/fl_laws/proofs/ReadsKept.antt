@@ -1,8 +1,9 @@
 -- What stands before each reader after a label is put on a ring or taken, after a look, and after a ring is made.
 use Rattle.std.proofs.Common.{◌≡◌, ◌≢◌, refl, sym, ◌∙◌, ap, subst, ℕ, ◌<◌, List, [], ◌∷◌, ◌++◌, length, drop, slice_get, Option, Some, None, option_map, ◌⊎◌, inl, inr, ◌||◌, nat_le}
+use Rattle.fl_base.specs.Given.{given}
 use Rattle.fl_hop.proofs.Entering.{same_or}
 use Rattle.fl_hop.proofs.Lists.{push_keeps, at_within}
-use Rattle.fl_queues.specs.Given.{given, changed_at}
+use Rattle.fl_queues.specs.Given.{changed_at}
 use Rattle.fl_queues.specs.Rings.{Label, RingLabel, Ring, RingSide, first_side, second_side, RingEnd, read_by, first_for, puts, takes, looks, makes_sure, fresh_ring, is_spent, free}
 use Rattle.fl_queues.specs.State.{State, first_on, change_ring}
 use Rattle.fl_queues.specs.Making.{with_new_link}

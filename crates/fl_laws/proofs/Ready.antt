@@ -4,7 +4,8 @@ use Rattle.std.proofs.Common.{List, [], ◌∷◌, ◌++◌, length, slice_get, 
 use Rattle.fl_base.specs.declared.identity.EndId.{EndId}
 use Rattle.fl_base.specs.declared.identity.Side.{Side}
 use Rattle.fl_base.specs.declared.identity.Side.TheVariants.{Client, Server}
-use Rattle.fl_queues.specs.Given.{given, changed_at}
+use Rattle.fl_base.specs.Given.{given}
+use Rattle.fl_queues.specs.Given.{changed_at}
 use Rattle.fl_queues.specs.Events.{DispatcherId}
 use Rattle.fl_queues.specs.Ends.{End, Seat}
 use Rattle.fl_queues.specs.Waits.{Dispatcher, with_end}

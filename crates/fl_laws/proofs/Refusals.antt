@@ -3,6 +3,8 @@ use Rattle.std.proofs.Common.{◌≡◌, refl, sym, ◌∙◌, ap, ℕ, zero, su
 use Rattle.std.proofs.Common.{Bool, true, false, List, [], ◌∷◌, length, slice_get, slice_set, slice_index}
 use Rattle.std.proofs.Common.{Option, Some, None}
 use Rattle.fl_base.specs.declared.identity.EndId.{EndId}
+use Rattle.fl_base.specs.Given.{given}
+use Rattle.fl_base.specs.Numbered.{most_cores, most_bindings}
 use Rattle.fl_hop.specs.Numbers.{next_own}
 use Rattle.fl_hop.specs.Table.{hop_at}
 use Rattle.fl_hop.specs.declared.entry.Way.{Way}
@@ -11,7 +13,7 @@ use Rattle.fl_interface.specs.Interface.{TheInterface}
 use Rattle.fl_value.specs.Value.{TheCall}
 use Rattle.fl_value.specs.Fits.{fits_of}
 use Rattle.fl_value.specs.declared.value.PlanNo.{PlanNo}
-use Rattle.fl_queues.specs.Given.{given, changed_at}
+use Rattle.fl_queues.specs.Given.{changed_at}
 use Rattle.fl_queues.specs.Events.{DispatcherId, Kind, by_queues, by_ring, by_route, Event, add_interface, set_cores, add_link}
 use Rattle.fl_queues.specs.Events.{add_dispatcher, export, bind, call, show, write, turn, acknowledge, register, deregister}
 use Rattle.fl_queues.specs.Events.{reply, monitor_write, forward, monitor_acknowledge, Answer}
@@ -27,9 +29,9 @@ use Rattle.fl_queues.specs.State.{State, Outcome, Outlet, peer_queue, ring_side,
 use Rattle.fl_queues.specs.State.{dispatcher_of, binding_of, interface_of, end_of, end_in, first_on, ring_makes_sure, ring_room}
 use Rattle.fl_queues.specs.State.{own_ring, outlet_by, link_between, core_of, number_between, station_at}
 use Rattle.fl_queues.specs.Making.{adds_interface, has_interface, sets_cores, adds_link, is_core, has_link, is_ring_size}
-use Rattle.fl_queues.specs.Making.{adds_dispatcher, count_dispatchers, exports, has_service, most_interfaces, most_dispatchers, most_services, most_cores}
+use Rattle.fl_queues.specs.Making.{adds_dispatcher, count_dispatchers, exports, has_service, most_interfaces, most_dispatchers, most_services}
 use Rattle.fl_queues.specs.Binding.{Wanted, has_both_places, has_places_for, binds_by_queues, binds_by_ring, is_route}
-use Rattle.fl_queues.specs.Binding.{opens_on, binds_by_route, binds_by, binds, most_bindings, place_of_service}
+use Rattle.fl_queues.specs.Binding.{opens_on, binds_by_route, binds_by, binds, place_of_service}
 use Rattle.fl_queues.specs.Sending.{calls, outlet_room, makes_sure_of, shows, next_fragment, writes_to, writes_fragment}
 use Rattle.fl_queues.specs.Taking.{Chosen, takes_label, taken_answer, gives_from_queue, gives_from_ring, gives_by, gives, finds, examines}
 use Rattle.fl_queues.specs.Taking.{chosen, turns_by, turns, acknowledges_by, acknowledges_on, acknowledges_end, registers_channel}

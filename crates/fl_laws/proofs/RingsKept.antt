@@ -3,7 +3,7 @@ use Rattle.std.proofs.Common.{◌≡◌, refl, sym, ◌∙◌, ap, subst, ℕ, z
 use Rattle.std.proofs.Common.{List, [], ◌∷◌, ◌++◌, slice_get}
 use Rattle.std.proofs.Common.{Option, Some, None}
 use Rattle.fl_base.specs.declared.identity.EndId.{EndId}
-use Rattle.fl_queues.specs.Given.{given, changed_at}
+use Rattle.fl_queues.specs.Given.{changed_at}
 use Rattle.fl_queues.specs.Events.{DispatcherId}
 use Rattle.fl_queues.specs.Rings.{Label, RingLabel, Ring, RingSide, RingEnd, first_for, looks, Room, there_is_room, no_room, room, makes_sure, puts, takes}
 use Rattle.fl_queues.specs.Ends.{End}
@@ -11,6 +11,7 @@ use Rattle.fl_queues.specs.Waits.{Dispatcher}
 use Rattle.fl_queues.specs.State.{State, change_channel, seats, dispatcher_of, end_of}
 use Rattle.fl_laws.proofs.Cases.{either, by_given, Each, each_changed}
 use Rattle.std.proofs.Common.{slice_set}
+use Rattle.fl_base.specs.Given.{given}
 use Rattle.fl_queues.specs.Rings.{first_side, second_side, is_spent, free}
 use Rattle.fl_laws.proofs.Rings.{Counted, sure_counted, looks_counted, has_slot, puts_counted, takes_counted}
 

@@ -22,7 +22,6 @@ use Rattle.fl_queues.specs.Binding.{Wanted, end_id, with_new_binding, binds_both
 use Rattle.fl_queues.specs.Sending.{outlet_room, writes_to}
 use Rattle.fl_queues.specs.Taking.{Chosen, takes_label, goes_back, finds}
 use Rattle.fl_queues.specs.Forwarding.{LinkEnd, follows, takes_said, Passing, label_of, arrives_by, grants}
-use Rattle.fl_queues.specs.Given.{given}
 use Rattle.fl_queues.specs.Monitors.{Hearing}
 use Rattle.fl_queues.specs.Step.{step}
 use Rattle.fl_laws.proofs.Cases.{by_given, each_push, none_at_end}
@@ -35,7 +34,7 @@ use Rattle.fl_queues.specs.Laws.{CountsInOrder, RingsCountInOrder}
 use Rattle.fl_laws.proofs.RingsKept.{AllCounted, same_rings, channel_rings, seats_rings, ring_looked, ring_sure, ring_put, ring_taken, first_looked, first_put}
 use Rattle.std.proofs.Common.{◌%◌}
 use Rattle.std.proofs.lemmas.Bool.{eqb-true}
-use Rattle.fl_queues.specs.Given.{given}
+use Rattle.fl_base.specs.Given.{given, given}
 use Rattle.fl_queues.specs.Ends.{written_of}
 use Rattle.fl_queues.specs.Rings.{Half, RingSide, first_side, second_side, written_by, first_for}
 use Rattle.fl_queues.specs.SoundRings.{HalfCounts, RingsCount, RingsFit}

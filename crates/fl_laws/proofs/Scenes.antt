@@ -7,9 +7,10 @@ use Rattle.fl_base.specs.declared.identity.EndId.{EndId}
 use Rattle.fl_base.specs.declared.identity.Side.{Side}
 use Rattle.fl_base.specs.declared.identity.Side.TheVariants.{Client, Server}
 use Rattle.fl_base.specs.Ends.{peer}
+use Rattle.fl_base.specs.Given.{given}
 use Rattle.fl_hop.proofs.Entering.{same_or}
 use Rattle.fl_hop.proofs.Lists.{at_within}
-use Rattle.fl_queues.specs.Given.{given, changed_at}
+use Rattle.fl_queues.specs.Given.{changed_at}
 use Rattle.fl_queues.specs.Rings.{Label, next_of, RingLabel, Ring, RingSide, first_side, second_side, RingEnd, read_by, puts, takes}
 use Rattle.fl_queues.specs.Ends.{End}
 use Rattle.fl_queues.specs.State.{Back, local, over_ring, over_route, Binding, State}

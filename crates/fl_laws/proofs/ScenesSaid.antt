@@ -5,7 +5,7 @@ use Rattle.fl_base.specs.declared.identity.EndId.{EndId}
 use Rattle.fl_base.specs.declared.identity.Side.{Side}
 use Rattle.fl_base.specs.declared.identity.Side.TheVariants.{Client, Server}
 use Rattle.fl_base.specs.Ends.{other, peer}
-use Rattle.fl_queues.specs.Given.{given}
+use Rattle.fl_base.specs.Given.{given}
 use Rattle.fl_queues.specs.Rings.{Label, next_of, says, acknowledges, Ring, RingEnd, read_by, written_by}
 use Rattle.fl_queues.specs.Monitors.{Link}
 use Rattle.fl_queues.specs.State.{Back, local, over_ring, over_route, Route, Binding, State, end_in, way_of, side_of, own_ring, link_between}

@@ -5,7 +5,8 @@ use Rattle.std.specs.Prelude.{Contains, slice_index_or}
 use Rattle.std.proofs.lemmas.Bool.Decides.{nat_tests}
 use Rattle.fl_base.specs.declared.identity.Side.{Side}
 use Rattle.fl_base.specs.declared.identity.Side.TheVariants.{Client, Server}
-use Rattle.fl_queues.specs.Given.{given, changed_at}
+use Rattle.fl_base.specs.Given.{given}
+use Rattle.fl_queues.specs.Given.{changed_at}
 use Rattle.fl_queues.specs.Calls.{Planned}
 use Rattle.fl_queues.specs.Rings.{Label}
 use Rattle.fl_queues.specs.Ends.{End, Taken, whole, a_part, replies, rule_at}

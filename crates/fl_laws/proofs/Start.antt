@@ -22,11 +22,11 @@ use Rattle.fl_queues.specs.Sound.{Sound}
 use Rattle.std.proofs.Common.{◌∙◌, ◌+◌, ◌++◌, map}
 use Rattle.std.specs.List.{range_with_len}
 use Rattle.fl_laws.proofs.Cases.{by_given}
-use Rattle.fl_queues.specs.Given.{given}
 use Rattle.fl_queues.specs.Rings.{Label}
 use Rattle.fl_queues.specs.Standing.{said_by}
 use Rattle.fl_queues.specs.Worlds.{start_with, WorldsAreSound}
 use Rattle.std.proofs.lemmas.List.FromFn.{length-map-range_with_len}
+use Rattle.fl_base.specs.Given.{given}
 
 -- each core is a fresh one
 core_in_range : (a n m : ℕ) (k : Core) → slice_get (map fresh_core (range_with_len a n)) m ≡ Some k → k ≡ fresh_core (a + m)

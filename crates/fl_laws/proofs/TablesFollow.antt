@@ -4,6 +4,8 @@ use Rattle.std.proofs.lemmas.Bool.{eqb-false}
 use Rattle.std.proofs.Common.{List, [], ◌∷◌, length, map, slice_get, Some, None, arith}
 use Rattle.std.specs.List.{range_with_len}
 use Rattle.fl_base.specs.declared.identity.Side.TheVariants.{Client}
+use Rattle.fl_base.specs.Given.{given}
+use Rattle.fl_base.specs.Numbered.{link_id, circuit_id}
 use Rattle.fl_hop.specs.declared.links.LinkState.{LinkState}
 use Rattle.fl_hop.specs.Joined.{Sound as IsTable}
 use Rattle.fl_hop.specs.Numbers.{next_own}
@@ -15,7 +17,7 @@ use Rattle.fl_hop.specs.declared.entry.Hop.{Hop}
 use Rattle.fl_queues.specs.Events.{Event}
 use Rattle.fl_queues.specs.Rings.{Opening, Said, open_circuit, circuit_opened, circuit_refused, RingEnd, takes, says, RingLabel, RingSide, first_side, second_side, looks, makes_sure}
 use Rattle.fl_queues.specs.Ends.{fresh_queue}
-use Rattle.fl_queues.specs.Monitors.{Core, Service, Heard, Hearing, Fate, fresh_core, opens, hears, can_say, saying, link_id, circuit_id, link_to, fate, goes_on, ends_at, fails, hears_opening, hears_opened, hears_refused, no_outbox, astray, opening_went_on, server_made, opening_failed, answer_went_on, end_opened, end_refused}
+use Rattle.fl_queues.specs.Monitors.{Core, Service, Heard, Hearing, Fate, fresh_core, opens, hears, can_say, saying, link_to, fate, goes_on, ends_at, fails, hears_opening, hears_opened, hears_refused, no_outbox, astray, opening_went_on, server_made, opening_failed, answer_went_on, end_opened, end_refused}
 use Rattle.fl_queues.specs.State.{State, link_between, Route, local, over_ring, over_route, undecided, core_of, end_in, first_on, change_core, change_ring, seats}
 use Rattle.fl_queues.specs.Making.{is_core, has_link, linked, with_dispatcher}
 use Rattle.fl_queues.specs.Binding.{Wanted, end_id, with_new_binding, with_circuit_begun, arrival_queue}
@@ -30,7 +32,7 @@ use Rattle.fl_laws.proofs.Turning.{IsLike, like_looked, like_core}
 use Rattle.fl_laws.proofs.Walk.{KeepsFrom, IsHere, BeginsRoute, step_leads, with_ring}
 use Rattle.fl_laws.proofs.WaitsetsKept.{looks_same, sure_same}
 use Rattle.fl_laws.proofs.Small.{is_not, some_same}
-use Rattle.fl_queues.specs.Given.{given, changed_at}
+use Rattle.fl_queues.specs.Given.{changed_at}
 use Rattle.fl_queues.specs.Standing.{on_link}
 use Rattle.fl_queues.specs.SoundPlaces.{Owner, core_to}
 use Rattle.fl_laws.proofs.Cases.{either, by_given}

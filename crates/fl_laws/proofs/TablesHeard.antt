@@ -4,6 +4,8 @@ use Rattle.std.proofs.Common.{List, [], ◌∷◌, ◌++◌, map, slice_get, Opt
 use Rattle.std.specs.Prelude.{is_some, filter_map}
 use Rattle.std.specs.List.{range_with_len}
 use Rattle.fl_base.specs.declared.identity.Side.TheVariants.{Client, Server}
+use Rattle.fl_base.specs.Given.{given}
+use Rattle.fl_base.specs.Numbered.{link_id, circuit_id}
 use Rattle.fl_hop.specs.declared.links.LinkState.{LinkState}
 use Rattle.fl_hop.specs.declared.entry.Way.{Way}
 use Rattle.fl_hop.specs.declared.entry.Way.TheVariants.{Link as to_link, End as to_end}
@@ -16,10 +18,9 @@ use Rattle.fl_hop.proofs.Counting.{Next, Due, next_is, never_next, never_due, gr
 use Rattle.fl_hop.proofs.Laters.{later_without}
 use Rattle.fl_hop.proofs.Laws.{later_same}
 use Rattle.fl_hop.proofs.Numbering.{small}
-use Rattle.fl_queues.specs.Given.{given}
 use Rattle.fl_queues.specs.Events.{DispatcherId}
 use Rattle.fl_queues.specs.Rings.{Opening, Said, open_circuit, circuit_opened, circuit_refused, says, RingLabel, Ring, RingEnd, read_by, first_for}
-use Rattle.fl_queues.specs.Monitors.{Core, Link, Service, link_to, link_id, circuit_id, opens, can_say, saying, Heard, Hearing}
+use Rattle.fl_queues.specs.Monitors.{Core, Link, Service, link_to, opens, can_say, saying, Heard, Hearing}
 use Rattle.fl_queues.specs.Monitors.{next_on, Fate, goes_on, ends_at, fails, arrival, passage, fate, service_of, hears_opening, hears_opened, hears_refused, hears}
 use Rattle.fl_queues.specs.Waits.{has_places}
 use Rattle.fl_queues.specs.State.{State, core_of, link_between, first_on}

@@ -32,9 +32,9 @@ use Rattle.fl_laws.proofs.EndsStep.{queue_out}
 use Rattle.fl_laws.proofs.Ends.{end_alike}
 use Rattle.fl_queues.specs.Binding.{arrival_queue, end_id}
 use Rattle.fl_base.specs.declared.identity.Side.TheVariants.{Client}
+use Rattle.fl_base.specs.Given.{given}
 use Rattle.fl_queues.specs.Monitors.{Hearing}
 use Rattle.fl_queues.specs.Forwarding.{takes_said}
-use Rattle.fl_queues.specs.Given.{given}
 use Rattle.fl_queues.specs.State.{delivers}
 use Rattle.fl_laws.proofs.Walk.{At, with_ring, IsTurn, IsPassing, Keeps}
 use Rattle.fl_laws.proofs.Told.{IsPlain, Tells, step_tells}

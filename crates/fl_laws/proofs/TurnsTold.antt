@@ -9,7 +9,6 @@ use Rattle.fl_base.specs.declared.identity.Side.{Side}
 use Rattle.fl_base.specs.declared.identity.Side.TheVariants.{Client, Server}
 use Rattle.fl_base.specs.Ends.{other, peer}
 use Rattle.fl_lists.specs.declared.place.Place.TheVariants.{Polled, Pending}
-use Rattle.fl_queues.specs.Given.{given}
 use Rattle.fl_queues.specs.Events.{DispatcherId, turn, nothing, full}
 use Rattle.fl_queues.specs.Calls.{Planned}
 use Rattle.fl_queues.specs.Rings.{Label, next_of, says, acknowledges, RingLabel, Ring, RingEnd, first_for, read_by, written_by, looks, takes, Half}
@@ -34,6 +33,7 @@ use Rattle.fl_laws.proofs.WaitsetsStep.{first_pending, first_polled}
 use Rattle.fl_laws.proofs.ListingStep.{first_in, first_none, end_at}
 use Rattle.fl_laws.proofs.ListingKept.{IsListed, listed_of, own_over, reads_other, own_first}
 use Rattle.std.proofs.lemmas.List.{length-reverse}
+use Rattle.fl_base.specs.Given.{given}
 use Rattle.fl_laws.proofs.Small.{some_same}
 
 -- ---- what is there

@@ -2,8 +2,9 @@
 use Rattle.std.proofs.Common.{◌≡◌, refl, sym, ◌∙◌, ap, subst, ℕ, zero, suc, ◌+◌, ◌||◌, nat_le}
 use Rattle.std.proofs.Common.{List, [], ◌∷◌, length, slice_get, slice_set, Some, None}
 use Rattle.fl_base.specs.declared.identity.Side.TheVariants.{Client}
+use Rattle.fl_base.specs.Given.{given}
 use Rattle.fl_lists.specs.declared.place.Place.TheVariants.{Polled, Pending}
-use Rattle.fl_queues.specs.Given.{given, changed_at}
+use Rattle.fl_queues.specs.Given.{changed_at}
 use Rattle.fl_queues.specs.Events.{Event}
 use Rattle.fl_queues.specs.Rings.{Opening, Ring, RingSide, first_for, looks, makes_sure, takes, is_spent, free, first_side, second_side}
 use Rattle.fl_queues.specs.Ends.{fresh_queue, without_first}

@@ -12,7 +12,7 @@ use Rattle.fl_lists.specs.declared.place.Place.{Place}
 use Rattle.fl_lists.specs.declared.place.Place.TheVariants.{Idle, Polled, Pending}
 use Rattle.fl_lists.specs.ThreeLists.{ThreeLists, list_at, is_in, pushed}
 use Rattle.fl_waitset.specs.Waiting.{is_registered}
-use Rattle.fl_queues.specs.Given.{given, changed_at}
+use Rattle.fl_queues.specs.Given.{changed_at}
 use Rattle.fl_queues.specs.Events.{DispatcherId}
 use Rattle.fl_queues.specs.Calls.{Planned}
 use Rattle.fl_queues.specs.Rings.{Said, Label, next_of, says, acknowledges, RingLabel, RingEnd, there_is_room, takes}
@@ -30,6 +30,7 @@ use Rattle.fl_queues.specs.SoundPlaces.{SeatsAgree}
 use Rattle.fl_laws.proofs.Cases.{by_given}
 use Rattle.fl_laws.proofs.BindingWalk.{end_there}
 use Rattle.std.proofs.lemmas.List.{length-append}
+use Rattle.fl_base.specs.Given.{given}
 use Rattle.fl_laws.proofs.Replies.{length_changed}
 use Rattle.fl_laws.proofs.Services.{changed_stays}
 use Rattle.fl_laws.proofs.Waitsets.{IsFree, pushed_from, puts_off_stands}

@@ -24,8 +24,8 @@ use Rattle.fl_queues.specs.Monitors.{hears, can_say, link_to}
 use Rattle.fl_queues.specs.State.{local, over_ring, State, Outcome, answers, Outlet, peer_queue, ring_side}
 use Rattle.fl_queues.specs.State.{change_core, change_ring, change_end}
 use Rattle.fl_queues.specs.State.{dispatcher_of, binding_of, interface_of, end_of, end_in, first_on, ring_makes_sure, ring_room, in_queue, own_ring, outlet_by, link_between, core_of, number_between, station_at}
-use Rattle.fl_queues.specs.Making.{adds_interface, has_interface, with_interface, sets_cores, adds_link, is_core, has_link, is_ring_size, adds_dispatcher, count_dispatchers, exports, has_service, most_interfaces, most_dispatchers, most_services, most_cores}
-use Rattle.fl_queues.specs.Binding.{Wanted, with_new_binding, binds_both, has_both_places, has_places_for, binds_by_queues, binds_by_ring, is_route, with_circuit_begun, binds_by_route, binds_by, binds, most_bindings, place_of_service}
+use Rattle.fl_queues.specs.Making.{adds_interface, has_interface, with_interface, sets_cores, adds_link, is_core, has_link, is_ring_size, adds_dispatcher, count_dispatchers, exports, has_service, most_interfaces, most_dispatchers, most_services}
+use Rattle.fl_queues.specs.Binding.{Wanted, with_new_binding, binds_both, has_both_places, has_places_for, binds_by_queues, binds_by_ring, is_route, with_circuit_begun, binds_by_route, binds_by, binds, place_of_service}
 use Rattle.fl_queues.specs.Sending.{calls, outlet_room, makes_sure_of, shows, next_fragment, writes_to, writes_fragment}
 use Rattle.fl_queues.specs.Taking.{Chosen, takes_label, goes_back, gives_from_queue, gives_from_ring, gives_by, gives, finds, examines, chosen, turns_by, turns, acknowledges_by, acknowledges_on, acknowledges_end, registers_channel, deregisters_channel, sets_rule, has_channel_listed, has_message, arguments_of}
 use Rattle.fl_interface.specs.SameTypes.{same_arguments}
@@ -41,6 +41,7 @@ use Rattle.fl_queues.specs.Taking.{comes_off}
 use Rattle.fl_laws.proofs.RingsKept.{first_looked, first_sure}
 use Rattle.std.proofs.Common.{map}
 use Rattle.std.specs.List.{range_with_len}
+use Rattle.fl_base.specs.Numbered.{most_cores, most_bindings}
 use Rattle.fl_queues.specs.Monitors.{fresh_core}
 use Rattle.fl_queues.specs.Making.{with_new_link, with_dispatcher, with_service}
 use Rattle.fl_queues.specs.Ends.{accepts, with_rule}

@@ -10,9 +10,9 @@ use Rattle.fl_base.specs.declared.fragment.Frag.{Frag}
 use Rattle.fl_base.specs.declared.identity.EndId.{EndId}
 use Rattle.fl_base.specs.declared.identity.Side.{Side}
 use Rattle.fl_base.specs.declared.identity.Side.TheVariants.{Client, Server}
+use Rattle.fl_base.specs.Given.{given}
 use Rattle.fl_value.specs.Value.{TheCall}
 use Rattle.fl_wire.specs.Payload.{payload_of, frag_on, frags_on}
-use Rattle.fl_queues.specs.Given.{given}
 use Rattle.fl_queues.specs.Events.{write, show, nothing}
 use Rattle.fl_queues.specs.Calls.{Planned, fragments, total, stream}
 use Rattle.fl_queues.specs.Rings.{Room, there_is_room, no_room, spent}

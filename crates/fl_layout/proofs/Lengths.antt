@@ -14,10 +14,10 @@ use Rattle.fl_value.specs.Plan.{arranged}
 use Rattle.fl_layout.specs.declared.extent.Placed.{Placed}
 use Rattle.fl_layout.specs.declared.extent.Fill.{Fill}
 use Rattle.fl_layout.specs.declared.extent.Fill.TheVariants.{Empty, Full}
-use Rattle.fl_layout.specs.Leaves.{Argument, kind}
 use Rattle.fl_layout.specs.Extents.{Filled, extent_of, numbered, placing, placed_of, end_of_all, numbers_in_all, count_at, count_by, filled_up, filled_by}
 use Rattle.fl_layout.specs.Layouts.{payload_length, tape_length, IsCallOf, IsLeast, IsGreatest}
 use Rattle.fl_interface.proofs.Aligned.{align_one}
+use Rattle.fl_value.specs.Tape.{Argument, kind}
 use Rattle.fl_layout.proofs.Ends.{filled, is_good, arguments_end}
 use Rattle.fl_layout.proofs.Order.{arranged_map, all_arranged, zip_numbered}
 use Rattle.fl_layout.proofs.Witness.{shortest, longest, shortest_is, longest_is, are_of, count_many, some_value}

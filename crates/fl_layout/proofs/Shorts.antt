@@ -8,8 +8,8 @@ use Rattle.fl_interface.specs.Limits.{is_argument_within, are_arguments_within}
 use Rattle.fl_value.specs.declared.value.PlanNo.{PlanNo}
 use Rattle.fl_value.specs.Value.{Datum, number, string, elements, fields}
 use Rattle.fl_value.specs.Fits.{is_argument, are_arguments}
+use Rattle.fl_value.specs.Tape.{Argument}
 use Rattle.fl_layout.specs.declared.extent.Placed.{Placed}
-use Rattle.fl_layout.specs.Leaves.{Argument}
 use Rattle.fl_layout.specs.Extents.{Filled, placed_of, filled_by, is_short}
 use Rattle.fl_layout.proofs.Ends.{filled, is_good}
 use Rattle.fl_layout.proofs.Lengths.{laid, laid_good, length_by}

@@ -16,11 +16,12 @@ use Rattle.fl_value.specs.Fits.{are_arguments}
 use Rattle.fl_value.specs.Plan.{arranged, is_fixed_at, is_dynamic}
 use Rattle.fl_layout.specs.declared.extent.Extent.{Extent}
 use Rattle.fl_layout.specs.declared.extent.Placed.{Placed}
-use Rattle.fl_layout.specs.Leaves.{Argument, kind, types_of, argument_types, start_onto, arguments_onto}
+use Rattle.fl_layout.specs.Leaves.{argument_types, start_onto, arguments_onto}
 use Rattle.fl_layout.specs.Places.{size}
 use Rattle.fl_layout.specs.Extents.{extent_of, count_at, numbered, placing, placed_of, start_of, end_of, end_of_all, due_after, is_varying, extent_among, start_among, unit_of}
 use Rattle.fl_layout.specs.Layouts.{until, standing_before, start_align, start_align_at, ends_dynamic, end_of_arguments, argument_place, argument_size, has_one_place, IsPlace}
 use Rattle.fl_interface.proofs.Aligned.{align_small, type_align}
+use Rattle.fl_value.specs.Tape.{Argument, kind, types_of}
 use Rattle.fl_layout.proofs.Ends.{filled, is_good, arguments_end}
 use Rattle.fl_layout.proofs.Order.{arranged_map, numbered_are}
 use Rattle.fl_layout.proofs.Arranging.{filter_ext, varying_kind}

@@ -7,8 +7,7 @@ use Rattle.fl_interface.specs.Interface.{TheType, scalar, enumeration, structure
 use Rattle.fl_interface.specs.Limits.{is_argument_within}
 use Rattle.fl_value.specs.Value.{Datum, number, string, elements, fields, Data, nothing_more, also}
 use Rattle.fl_value.specs.Fits.{has_type, have_types, all_have_type, is_argument, count_of}
-use Rattle.fl_value.specs.Tape.{value_tape, fields_tape, elements_tape, argument_tape, tape_of_argument}
-use Rattle.fl_layout.specs.Leaves.{Argument}
+use Rattle.fl_value.specs.Tape.{value_tape, fields_tape, elements_tape, argument_tape, tape_of_argument, Argument}
 use Rattle.fl_layout.specs.Extents.{most_of, count_at, numbers_of, numbers_of_all, extent_of, numbers_in, numbers_in_all}
 use Rattle.fl_layout.proofs.Ends.{filled, is_good}
 use Rattle.fl_layout.proofs.Bounds.{with_count, times_rises}

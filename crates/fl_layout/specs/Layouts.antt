@@ -8,8 +8,8 @@ use Rattle.fl_value.specs.declared.value.PlanNo.{PlanNo}
 use Rattle.fl_value.specs.Value.{TheCall}
 use Rattle.fl_value.specs.Fits.{fits_of}
 use Rattle.fl_value.specs.Plan.{arranged, is_dynamic}
-use Rattle.fl_value.specs.Tape.{tape_of}
-use Rattle.fl_layout.specs.Leaves.{Argument, kind, leaves, start_onto, arguments_onto, argument_types}
+use Rattle.fl_value.specs.Tape.{tape_of, Argument, kind}
+use Rattle.fl_layout.specs.Leaves.{leaves, start_onto, arguments_onto, argument_types}
 use Rattle.fl_layout.specs.Places.{size}
 use Rattle.fl_layout.specs.Extents.{numbered}
 

@@ -1,14 +1,15 @@
 -- The leaves of a call: what stands in its payload, one by one. A list of leaves has the last one first, so
 -- that what stands before a leaf is the rest of the list. No leaf has a position.
-use Rattle.std.specs.Prelude.{ℕ, ℤ, pos, negsuc, ◌-◌, ◌*◌, ◌^◌, Bool, true, false, if◌then◌else◌, List, [], ◌∷◌, length, slice_get, Option, Some, None}
+use Rattle.std.specs.Prelude.{ℕ, ℤ, pos, negsuc, ◌-◌, ◌*◌, ◌^◌, Bool, true, false, if◌then◌else◌, List, [], ◌∷◌, length, slice_get}
 use Rattle.std.specs.List.{zip}
 use Rattle.fl_interface.specs.Interface.{TheType, scalar, enumeration, structure, array, TheTypes, field}
-use Rattle.fl_interface.specs.Interface.{TheArgType, fixed, text, sized, TheMessage, TheInterface}
+use Rattle.fl_interface.specs.Interface.{TheArgType, fixed, text, sized, TheInterface}
 use Rattle.fl_interface.specs.Sizes.{scalar_size, greatest_align}
 use Rattle.fl_value.specs.Value.{Datum, number, string, elements, fields, Data, nothing_more, also, TheCall}
 use Rattle.fl_value.specs.Fits.{count_of}
 use Rattle.fl_value.specs.Plan.{arranged, is_dynamic}
 use Rattle.fl_value.specs.declared.value.PlanNo.{PlanNo}
+use Rattle.fl_value.specs.Tape.{Argument, kind, types_of}
 
 -- so many bytes of a number, at the next multiple of an alignment
 pub record Leaf : Type 0 where
@@ -68,23 +69,11 @@ argument_onto t d before = before
 abbrev pub start_onto : Bool → List Leaf → List Leaf
 start_onto after_dynamic before = if after_dynamic then gap 8 ∷ before else before
 
--- an argument beside its type
-abbrev pub Argument : Type 0
-Argument = TheArgType × Datum
-
-abbrev pub kind : Argument → TheArgType
-kind a = a.0
-
 -- arguments one after another; the first answer says whether a string or a sized array stands before them
 abbrev pub arguments_onto : Bool → List Argument → List Leaf → List Leaf
 arguments_onto after_dynamic [] before = before
 arguments_onto after_dynamic (a ∷ rest) before =
     arguments_onto (is_dynamic a.0) rest (argument_onto a.0 a.1 (start_onto after_dynamic before))
-
--- the arguments' types of a message; none where there is no such message
-abbrev pub types_of : Option TheMessage → List TheArgType
-types_of None = []
-types_of (Some m) = m.args
 
 abbrev pub argument_types : TheInterface → ℕ → List TheArgType
 argument_types i msg = types_of (slice_get i.messages msg)

@@ -4,9 +4,9 @@ use Rattle.std.specs.Prelude.{codes}
 use Rattle.std.specs.Str.{bytes_eq}
 use Rattle.std.proofs.lemmas.Slice.Eq.{bytes_eq-Decides}
 use Rattle.std.proofs.lemmas.Bool.{false≢true}
+use Rattle.fl_base.specs.Given.{given}
 use Rattle.fl_value.specs.declared.value.PlanNo.{PlanNo}
 use Rattle.fl_value.specs.declared.value.PlanNo.TheVariants.{One, Two}
-use Rattle.fl_queues.specs.Given.{given}
 use Rattle.fl_value.specs.CallText.{without_blanks}
 use Rattle.fl_lines.specs.declared.command.Verb.{Verb}
 use Rattle.fl_lines.specs.declared.command.Verb.TheVariants as verb

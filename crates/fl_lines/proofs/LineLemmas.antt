@@ -1,9 +1,9 @@
 -- What lines ask, told from their words.
 use Rattle.std.proofs.Common.{◌≡◌, inl, inr, ℕ, Bool, true, false, cond, List, Option, Some, None, Result, Ok, Err, refl, sym, subst}
 use Rattle.fl_base.specs.declared.identity.EndId.{EndId}
+use Rattle.fl_base.specs.Given.{given}
 use Rattle.fl_lex.specs.Words.{is_name}
 use Rattle.fl_queues.specs.Events.{Event}
-use Rattle.fl_queues.specs.Given.{given}
 use Rattle.fl_value.specs.CallText.{without_blanks}
 use Rattle.fl_lines.specs.declared.event.Asked.{Asked as RustAsked}
 use Rattle.fl_lines.specs.declared.event.Event.{Event as RustEvent}

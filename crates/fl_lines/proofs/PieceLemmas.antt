@@ -8,8 +8,8 @@ use Rattle.std.proofs.lemmas.List.{take-append-drop}
 use Rattle.std.proofs.lemmas.Slice.Eq.{bytes_eq-Decides}
 use Rattle.fl_base.specs.declared.identity.Side.{Side}
 use Rattle.fl_base.specs.declared.identity.Side.TheVariants.{Client, Server}
+use Rattle.fl_base.specs.Given.{given}
 use Rattle.fl_lex.specs.Words.{is_name}
-use Rattle.fl_queues.specs.Given.{given}
 use Rattle.fl_lines.specs.Words.{first_word, behind_word, is_none, number_of}
 use Rattle.fl_lines.specs.Commands.{EndName, a_number, an_end, side_text, end_text}
 use Rattle.fl_lines.specs.Grammar.{Holds}

@@ -1,7 +1,7 @@
 -- The numbers of a route, word by word.
 use Rattle.std.proofs.Common.{◌≡◌, ◌<◌, ℕ, true, false, List, [], ◌∷◌, length, Option, Some, None, option_map, is_some, refl, sym, ap, ◌∙◌}
 use Rattle.std.specs.Prelude.{unwrap_or}
-use Rattle.fl_queues.specs.Given.{given}
+use Rattle.fl_base.specs.Given.{given}
 use Rattle.fl_lines.specs.Words.{first_word, behind_word, number_of, words_of, numbers_of}
 use Rattle.fl_lines.proofs.WordLemmas.{words_step, no_words}
 

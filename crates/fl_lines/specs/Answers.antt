@@ -1,4 +1,4 @@
--- The text of an answer, without the line feed.
+-- The text of an answer, without the line feed; and that of a line.
 use Rattle.std.specs.Prelude.{ℕ, ◌/◌, ◌%◌, false, List, [], ◌∷◌, ◌++◌, slice_get, unwrap_or, codes}
 use Rattle.std.specs.List.{flat_map}
 use Rattle.std.specs.Int.{to_be_bytes, w64}
@@ -51,3 +51,7 @@ answer_text n (refused fault) = codes "refused E" ++ decimal fault
 -- a fault of an interface's text, and where it stands
 abbrev pub fault_text : ℕ → ℕ → List ℕ
 fault_text number offset = codes "refused E" ++ decimal number ++ codes " at " ++ decimal offset
+
+-- a line that has this text
+abbrev pub line : List ℕ → List ℕ
+line text = text ++ 10 ∷ []

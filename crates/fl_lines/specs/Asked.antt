@@ -2,11 +2,11 @@
 -- which they are answered; those that the machine finds come behind them.
 use Rattle.std.specs.Prelude.{◌≡◌, ◌⊎◌, ℕ, Bool, true, false, if◌then◌else◌, List, ◌∷◌, is_some}
 use Rattle.fl_base.specs.declared.identity.EndId.{EndId}
+use Rattle.fl_base.specs.Given.{given}
 use Rattle.fl_interface.specs.Interface.{TheInterface}
 use Rattle.fl_value.specs.Value.{Datum}
 use Rattle.fl_value.specs.CallText.{SpellsCall}
 use Rattle.fl_value.specs.declared.value.PlanNo.{PlanNo}
-use Rattle.fl_queues.specs.Given.{given}
 use Rattle.fl_queues.specs.Events.{Kind, by_queues, by_ring, by_route, Event, add_interface, set_cores}
 use Rattle.fl_queues.specs.Events.{add_link, add_dispatcher, monitor_write, monitor_acknowledge, Answer, done}
 use Rattle.fl_queues.specs.Events as event

@@ -1,5 +1,5 @@
 -- A script's lines, and its items: lines outside blocks, and blocks that hold an interface's text.
-use Rattle.std.specs.Prelude.{◌≡◌, ◌⊎◌, ℕ, ◌==◌, if◌then◌else◌, List, [], ◌∷◌, ◌++◌, codes}
+use Rattle.std.specs.Prelude.{◌≡◌, ◌⊎◌, ℕ, ◌==◌, if◌then◌else◌, List, [], ◌∷◌, ◌++◌, codes, Bool, nat_lt, length}
 use Rattle.fl_value.specs.declared.value.PlanNo.{PlanNo}
 use Rattle.fl_lines.specs.Grammar.{Line, silent, heading, command, unread, LineIs}
 
@@ -25,6 +25,10 @@ WithoutEnd line text =
     (line ≡ text ++ 13 ∷ 10 ∷ [])
     ⊎ ((line ≡ text ++ 10 ∷ []) × EndsNotWith 13 text)
     ⊎ ((line ≡ text) × EndsNotWith 10 text)
+
+-- a text of more than 1,048,576 bytes is refused whole
+abbrev pub is_too_long : List ℕ → Bool
+is_too_long bytes = nat_lt 1048576 (length bytes)
 
 -- ---- items
 

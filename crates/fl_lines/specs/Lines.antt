@@ -1,8 +1,8 @@
 -- What a line asks of the machine, told from the line at once, where it gives no name.
 use Rattle.std.specs.Prelude.{◌≡◌, ◌⊎◌, ℕ, if◌then◌else◌, List, Option, None, Some, Result, Ok, Err}
 use Rattle.fl_base.specs.declared.identity.EndId.{EndId}
+use Rattle.fl_base.specs.Given.{given}
 use Rattle.fl_queues.specs.Events.{Event}
-use Rattle.fl_queues.specs.Given.{given}
 use Rattle.fl_lines.specs.declared.event.DispatcherId.{DispatcherId}
 use Rattle.fl_lines.specs.declared.event.Event.{Event as RustEvent}
 use Rattle.fl_lines.specs.declared.event.Event.TheVariants as rust

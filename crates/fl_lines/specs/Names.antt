@@ -6,8 +6,8 @@ use Rattle.std.specs.Prelude.{if◌then◌else◌, Option, Some, None, unwrap_or
 use Rattle.std.specs.List.{count_by}
 use Rattle.std.specs.Str.{bytes_eq}
 use Rattle.fl_base.specs.declared.identity.EndId.{EndId}
+use Rattle.fl_base.specs.Given.{given}
 use Rattle.fl_interface.specs.Interface.{TheInterface, TheMessage}
-use Rattle.fl_queues.specs.Given.{given}
 use Rattle.fl_queues.specs.Events.{DispatcherId}
 use Rattle.fl_lines.specs.Commands.{EndName}
 

@@ -3,9 +3,9 @@ use Rattle.std.specs.Prelude.{ℕ, ◌==◌, ◌&&◌, nat_le, Bool, true, if◌
 use Rattle.std.specs.Prelude.{Option, Some, None, option_map, unwrap_or}
 use Rattle.std.specs.List.{list_all}
 use Rattle.std.specs.Str.Parse.{digits_value}
+use Rattle.fl_base.specs.Given.{given}
 use Rattle.fl_lex.specs.Words.{is_digit}
 use Rattle.fl_value.specs.CallText.{is_blank, without_blanks}
-use Rattle.fl_queues.specs.Given.{given}
 
 -- the bytes up to the first blank
 abbrev pub to_blank : List ℕ → List ℕ

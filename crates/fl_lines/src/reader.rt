@@ -4,7 +4,7 @@ ghost use Rattle.std.specs.Prelude.{◌≡◌, ◌++◌, option_map, is_some, if
 ghost use Rattle.std.specs.Str.{bytes_eq};
 ghost use Rattle.fl_base.specs.declared.identity.Side.TheVariants.{Client, Server};
 ghost use Rattle.std.specs.Prelude.{None, Some};
-ghost use Rattle.fl_queues.specs.Given.{given};
+ghost use Rattle.fl_base.specs.Given.{given};
 ghost use Rattle.fl_lines.specs.Commands.{local, ump, mwrite, forward, mack};
 ghost use Rattle.fl_lines.specs.Grammar.{LineIs};
 ghost use Rattle.fl_lines.specs.Words.{is_none, first_word, words_of, numbers_of};

@@ -1,8 +1,8 @@
 -- Sides that are apart stay so, and links keep theirs.
 use Rattle.std.proofs.Common.{◌≡◌, refl, sym, ap, ◌∙◌, ℕ, inl, inr, List, slice_get, Option, Some, None, arith}
 use Rattle.std.proofs.lemmas.Option.{slice_get_within}
+use Rattle.fl_base.specs.Given.{given}
 use Rattle.fl_hop.proofs.Lists.{at_within}
-use Rattle.fl_monitor.specs.Routing.{given}
 use Rattle.fl_node.specs.View.{TheCore, side_of_link}
 use Rattle.fl_node.specs.declared.wire.Lane.{Lane}
 use Rattle.fl_node.specs.declared.wire.Port.{Port}

@@ -7,6 +7,7 @@ use Rattle.fl_base.specs.declared.fragment.Frag.{Frag}
 use Rattle.fl_base.specs.declared.identity.EndId.{EndId}
 use Rattle.fl_base.specs.declared.identity.LinkId.{LinkId}
 use Rattle.fl_base.specs.declared.identity.Circuit.{Circuit as Number}
+use Rattle.fl_base.specs.Given.{given}
 use Rattle.fl_wire.specs.declared.fault.WireFault.TheVariants as wire
 use Rattle.fl_link.specs.Queue.{TheQueue, QueuePuts, QueueTakes}
 use Rattle.fl_hop.specs.declared.forward.Outcome.{Outcome}
@@ -15,7 +16,6 @@ use Rattle.fl_hop.specs.OfCircuit.{as_carried}
 use Rattle.fl_hop.specs.Stretch.{Step, same_end, come_to, written_by}
 use Rattle.fl_core.proofs.Places.{push_last, one_stands}
 use Rattle.fl_core.specs.View.{TheSeat}
-use Rattle.fl_monitor.specs.Routing.{given}
 use Rattle.fl_monitor.specs.Hearing.{ComesTo}
 use Rattle.fl_monitor.specs.Monitors.{TheMonitor, can_say, waiting_for}
 use Rattle.fl_monitor.specs.declared.heard.Heard.{Heard}

@@ -7,6 +7,7 @@ use Rattle.fl_base.specs.declared.fragment.Frag.{Frag}
 use Rattle.fl_base.specs.declared.identity.EndId.{EndId}
 use Rattle.fl_base.specs.declared.identity.LinkId.{LinkId}
 use Rattle.fl_base.specs.declared.identity.Circuit.{Circuit as Number}
+use Rattle.fl_base.specs.Given.{given}
 use Rattle.fl_compile.specs.declared.program.Program.{Program}
 use Rattle.fl_wire.specs.declared.fault.WireFault.TheVariants as wire
 use Rattle.fl_link.specs.Queue.{TheQueue, QueuePuts, QueueTakes}
@@ -14,7 +15,6 @@ use Rattle.fl_hop.specs.declared.forward.Outcome.{Outcome}
 use Rattle.fl_hop.specs.declared.forward.Outcome.TheVariants.{Moved, Full, Spent}
 use Rattle.fl_core.proofs.Places.{one_stands, set_here, set_elsewhere, push_stays, push_cases}
 use Rattle.fl_core.specs.View.{TheBoard}
-use Rattle.fl_monitor.specs.Routing.{given}
 use Rattle.fl_monitor.specs.Monitors.{TheMonitor}
 use Rattle.fl_monitor.specs.declared.heard.Heard.{Heard}
 use Rattle.fl_monitor.specs.declared.heard.Heard.TheVariants as outcome

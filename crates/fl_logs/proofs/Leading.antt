@@ -8,6 +8,7 @@ use Rattle.fl_base.specs.declared.fragment.Frag.{Frag}
 use Rattle.fl_base.specs.declared.identity.EndId.{EndId}
 use Rattle.fl_base.specs.declared.identity.LinkId.{LinkId}
 use Rattle.fl_base.specs.Control.{circuit_of}
+use Rattle.fl_base.specs.Given.{given}
 use Rattle.fl_hop.specs.declared.entry.Way.TheVariants.{End}
 use Rattle.fl_hop.specs.declared.entry.Hop.{Hop}
 use Rattle.fl_hop.specs.Joined.{Sound}
@@ -16,7 +17,6 @@ use Rattle.fl_hop.specs.Table.{TheCircuits, is_of, stands, hop_at, slot}
 use Rattle.fl_core.proofs.Places.{set_here, set_elsewhere, push_cases}
 use Rattle.fl_core.specs.View.{TheSeat}
 use Rattle.fl_monitor.specs.Outboxes.{IsFragOf}
-use Rattle.fl_monitor.specs.Routing.{given}
 use Rattle.fl_monitor.specs.Monitors.{waiting_for, AllSaid}
 use Rattle.fl_monitor.specs.Hearing.{says}
 use Rattle.fl_monitor.specs.declared.heard.Heard.{Heard}

@@ -5,6 +5,7 @@ use Rattle.fl_base.specs.declared.fragment.Frag.{Frag}
 use Rattle.fl_base.specs.declared.identity.EndId.{EndId}
 use Rattle.fl_base.specs.declared.identity.LinkId.{LinkId}
 use Rattle.fl_base.specs.declared.identity.Circuit.{Circuit as Number}
+use Rattle.fl_base.specs.Given.{given}
 use Rattle.fl_wire.specs.declared.fault.WireFault.TheVariants as wire
 use Rattle.fl_link.specs.Queue.{QueuePuts, QueueTakes}
 use Rattle.fl_hop.specs.declared.forward.Outcome.{Outcome}
@@ -19,7 +20,6 @@ use Rattle.fl_hop.specs.Table.{TheCircuits, stands}
 use Rattle.fl_hop.proofs.Laws.{later_same}
 use Rattle.fl_endpoint.specs.Events.{Calls, SetsRule}
 use Rattle.fl_core.specs.declared.kind.Kind.TheVariants.{Queue}
-use Rattle.fl_monitor.specs.Routing.{given}
 use Rattle.fl_monitor.specs.Hearing.{ComesTo, table_after}
 use Rattle.fl_monitor.specs.Monitors.{TheMonitor, can_say}
 use Rattle.fl_monitor.specs.declared.heard.Heard.{Heard}

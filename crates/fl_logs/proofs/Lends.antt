@@ -5,6 +5,7 @@ use Rattle.std.proofs.lemmas.List.{length-set}
 use Rattle.std.proofs.lemmas.Option.{slice_get_within}
 use Rattle.fl_base.specs.declared.identity.EndId.{EndId}
 use Rattle.fl_base.specs.declared.identity.LinkId.{LinkId}
+use Rattle.fl_base.specs.Given.{given}
 use Rattle.fl_waitset.specs.declared.fault.WaitFault.{WaitFault}
 use Rattle.fl_waitset.specs.declared.waitset.Pick.{Pick}
 use Rattle.fl_waitset.specs.Waiting.{next_pick}
@@ -13,7 +14,6 @@ use Rattle.fl_core.specs.View.{TheDispatcher, channel_of, end_picked, due_in, du
 use Rattle.fl_core.specs.Sound.{IsBoard}
 use Rattle.fl_hop.proofs.Cells.{less_is}
 use Rattle.fl_hop.specs.declared.forward.Outcome.TheVariants.{Moved, Full, Spent}
-use Rattle.fl_monitor.specs.Routing.{given}
 use Rattle.fl_node.specs.View.{TheCore, place_of, side_of_link, outlet_of, outlet_by, inlet_of, inlet_by}
 use Rattle.fl_node.specs.Sound.{IsCore, IsWired}
 use Rattle.fl_node.specs.declared.wire.Lane.{Lane}

@@ -8,6 +8,7 @@ use Rattle.fl_base.specs.declared.identity.EndId.{EndId}
 use Rattle.fl_base.specs.declared.identity.MsgNo.{MsgNo}
 use Rattle.fl_base.specs.Control.{circuit_of}
 use Rattle.fl_base.specs.declared.identity.LinkId.{LinkId}
+use Rattle.fl_base.specs.Given.{given}
 use Rattle.fl_value.specs.Value.{call_of}
 use Rattle.fl_value.specs.declared.value.Call.{Call as AnyCall}
 use Rattle.fl_core.specs.declared.answer.TurnAnswer.{TurnAnswer}
@@ -19,7 +20,6 @@ use Rattle.fl_hop.specs.declared.entry.Way.{Way}
 use Rattle.fl_hop.specs.declared.entry.Way.TheVariants.{Link, End}
 use Rattle.fl_hop.specs.Forward.{IsOther}
 use Rattle.fl_hop.specs.Later.{way_at}
-use Rattle.fl_monitor.specs.Routing.{given}
 use Rattle.fl_node.specs.View.{TheCore, place_of, side_of_link}
 use Rattle.fl_work.specs.declared.job.Job.{Job}
 use Rattle.fl_work.specs.declared.job.Job.TheVariants as job

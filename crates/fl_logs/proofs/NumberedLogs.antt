@@ -5,6 +5,7 @@ use Rattle.fl_base.specs.declared.fragment.Frag.{Frag}
 use Rattle.fl_base.specs.declared.identity.EndId.{EndId}
 use Rattle.fl_base.specs.declared.identity.LinkId.{LinkId}
 use Rattle.fl_base.specs.declared.identity.Circuit.{Circuit as Number}
+use Rattle.fl_base.specs.Given.{given}
 use Rattle.fl_hop.specs.declared.entry.Way.TheVariants.{Link, End}
 use Rattle.fl_hop.specs.declared.forward.Outcome.TheVariants.{Moved, Full, Spent}
 use Rattle.fl_hop.specs.Joined.{Sound}
@@ -17,7 +18,6 @@ use Rattle.fl_endpoint.specs.Laws.{OnAnotherCircuit}
 use Rattle.fl_core.proofs.Places.{one_stands}
 use Rattle.fl_core.specs.View.{TheSeat}
 use Rattle.fl_monitor.specs.Monitors.{waiting_for}
-use Rattle.fl_monitor.specs.Routing.{given}
 use Rattle.fl_node.specs.View.{TheCore, place_of, arrivals_of, arriving}
 use Rattle.fl_node.specs.Sound.{IsCore}
 use Rattle.fl_node.specs.declared.wire.Port.{Port}

@@ -5,12 +5,12 @@ use Rattle.std.proofs.lemmas.Bool.Decides.{nat_tests}
 use Rattle.fl_base.specs.declared.fragment.Frag.{Frag}
 use Rattle.fl_base.specs.declared.identity.EndId.{EndId}
 use Rattle.fl_base.specs.Control.{bare, with_circuit}
+use Rattle.fl_base.specs.Given.{given}
 use Rattle.fl_core.proofs.Places.{one_stands}
 use Rattle.fl_core.specs.declared.answer.TurnAnswer.{TurnAnswer}
 use Rattle.fl_hop.specs.declared.forward.Outcome.TheVariants.{Moved, Full, Spent}
 use Rattle.fl_hop.specs.Stretch.{same_end}
 use Rattle.fl_monitor.specs.Monitors.{waiting_for}
-use Rattle.fl_monitor.specs.Routing.{given}
 use Rattle.fl_node.specs.View.{place_of, side_of_link, outlet_by, inlet_by}
 use Rattle.fl_node.specs.Sound.{IsCore}
 use Rattle.fl_node.specs.declared.wire.Port.{Port}

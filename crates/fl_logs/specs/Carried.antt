@@ -5,6 +5,7 @@ use Rattle.std.specs.List.{flat_map}
 use Rattle.fl_base.specs.declared.fragment.Frag.{Frag}
 use Rattle.fl_base.specs.declared.identity.EndId.{EndId}
 use Rattle.fl_base.specs.declared.identity.MsgNo.{MsgNo}
+use Rattle.fl_base.specs.Given.{given}
 use Rattle.fl_value.specs.Value.{TheCall, call_of}
 use Rattle.fl_wire.specs.Reading.{AllFit}
 use Rattle.fl_compile.specs.Programs.{program_of}
@@ -17,7 +18,6 @@ use Rattle.fl_endpoint.specs.Accounts.{followed, replies_by, stream, stream_from
 use Rattle.fl_core.specs.declared.answer.TurnAnswer.{TurnAnswer}
 use Rattle.fl_core.specs.declared.answer.TurnAnswer.TheVariants.{Handle}
 use Rattle.fl_hop.specs.Stretch.{same_end}
-use Rattle.fl_monitor.specs.Routing.{given}
 use Rattle.fl_work.specs.declared.job.Job.{Job}
 use Rattle.fl_running.specs.Run.{Ways, TheRun}
 use Rattle.fl_running.specs.Deeds.{Deed, called, ruled, turned}

@@ -5,6 +5,7 @@ use Rattle.fl_base.specs.declared.identity.EndId.{EndId}
 use Rattle.fl_base.specs.declared.identity.LinkId.{LinkId}
 use Rattle.fl_base.specs.declared.identity.Circuit.{Circuit}
 use Rattle.fl_base.specs.Control.{circuit_of}
+use Rattle.fl_base.specs.Given.{given}
 use Rattle.fl_value.specs.declared.value.Call.{Call}
 use Rattle.fl_core.specs.declared.answer.TurnAnswer.{TurnAnswer}
 use Rattle.fl_core.specs.declared.answer.TurnAnswer.TheVariants.{Handle}
@@ -14,7 +15,6 @@ use Rattle.fl_hop.specs.declared.entry.Way.TheVariants.{Link, End}
 use Rattle.fl_hop.specs.Forward.{IsOther}
 use Rattle.fl_hop.specs.Later.{way_at}
 use Rattle.fl_hop.specs.Stretch.{same_end}
-use Rattle.fl_monitor.specs.Routing.{given}
 use Rattle.fl_node.specs.View.{place_of, side_of_link}
 use Rattle.fl_work.specs.declared.job.Job.{Job}
 use Rattle.fl_work.specs.declared.job.Job.TheVariants as job

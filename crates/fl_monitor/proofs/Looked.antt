@@ -3,7 +3,8 @@ use Rattle.std.proofs.Common.{◌≡◌, sym, ap, ◌∙◌, ◌<◌, ◌==◌, 
 use Rattle.std.proofs.lemmas.Bool.{ltb-true, ltb-false, lt-ltb}
 use Rattle.std.proofs.lemmas.Option.{slice_get_read, slice_get_past}
 use Rattle.fl_base.specs.declared.identity.CoreId.{CoreId}
-use Rattle.fl_monitor.specs.Routing.{given, is_core, comes_after}
+use Rattle.fl_base.specs.Given.{given}
+use Rattle.fl_monitor.specs.Routing.{is_core, comes_after}
 
 pub found_at : {X : Type 0} (xs : List X) (i : ℕ) (x : X) → true ≡ nat_lt i (length xs) → x ≡ slice_index_or xs i x → slice_get xs i ≡ Some x
 found_at xs i x within read = slice_get_read xs (length xs) i x refl (ltb-true i (length xs) (sym within)) read

@@ -1,8 +1,8 @@
 -- What an opening comes to at a core that hears it.
 use Rattle.std.specs.Prelude.{ℕ, ◌≡◌, ◌==◌, ◌&&◌, nat_lt, not, Bool, false, if◌then◌else◌, List, slice_get, Some}
-use Rattle.fl_base.specs.declared.identity.LinkId.{LinkId}
 use Rattle.fl_base.specs.declared.identity.CoreId.{CoreId}
-use Rattle.fl_base.specs.declared.identity.Circuit.{Circuit}
+use Rattle.fl_base.specs.Given.{given}
+use Rattle.fl_base.specs.Numbered.{link_id, circuit_id, most_bindings}
 use Rattle.fl_hop.specs.Table.{TheCircuits, link_of, stands}
 use Rattle.fl_hop.specs.Numbers.{next_own, next_due}
 use Rattle.fl_hop.specs.Openings.{is_next}
@@ -11,19 +11,13 @@ use Rattle.fl_monitor.specs.declared.opening.Opening.{Opening}
 use Rattle.fl_monitor.specs.declared.fate.Here.{Here}
 use Rattle.fl_monitor.specs.declared.fate.Fate.{Fate}
 use Rattle.fl_monitor.specs.declared.fate.Fate.TheVariants.{GoesOn, EndsAt, Fails}
-use Rattle.fl_monitor.specs.Routing.{given, next_on, is_on_route}
+use Rattle.fl_monitor.specs.Routing.{next_on, is_on_route}
 
 -- what a core knows beside its circuits: the services, whether an end of the binding is made here, and whether the service's
 -- dispatcher has a place for one more
 pub record Known : Type 0 where
   pub names : List TheRegistration
   pub here : Here
-
-abbrev pub link_id : ℕ → LinkId
-link_id l = record { 0 = l }
-
-abbrev pub circuit_id : ℕ → Circuit
-circuit_id c = record { 0 = c }
 
 -- ---- what an opening comes to
 
@@ -51,10 +45,6 @@ HasNext t (GoesOn m n) = next_own t m.0 ≡ Some n.0
 HasNext t fate = Unit {0}
 
 -- ---- an opening in its place
-
--- bindings are numbered below this
-abbrev pub most_bindings : ℕ
-most_bindings = 1024
 
 -- the service is known, and another core's
 abbrev pub is_offered_elsewhere : List TheRegistration → ℕ → ℕ → Bool

@@ -2,6 +2,7 @@
 use Rattle.std.specs.Prelude.{ℕ, ◌≡◌, true, Option, Some, None}
 use Rattle.fl_base.specs.declared.identity.LinkId.{LinkId}
 use Rattle.fl_base.specs.declared.identity.Circuit.{Circuit}
+use Rattle.fl_base.specs.Given.{given}
 use Rattle.fl_hop.specs.declared.entry.Way.{Way}
 use Rattle.fl_hop.specs.declared.entry.Way.TheVariants.{Link, End}
 use Rattle.fl_hop.specs.declared.entry.Hop.{Hop}
@@ -16,7 +17,6 @@ use Rattle.fl_monitor.specs.declared.heard.Heard.TheVariants.{OpeningWentOn, Ser
 use Rattle.fl_monitor.specs.declared.hearing.Saying.{Saying}
 use Rattle.fl_monitor.specs.declared.message.Message.{Message}
 use Rattle.fl_monitor.specs.declared.message.Message.TheVariants.{OpenCircuit, CircuitOpened, CircuitRefused}
-use Rattle.fl_monitor.specs.Routing.{given}
 use Rattle.fl_monitor.specs.Fates.{Known, fate, is_in_place}
 
 -- ---- what a message on link l comes to

@@ -5,6 +5,7 @@ use Rattle.fl_base.specs.declared.fragment.Frag.{Frag}
 use Rattle.fl_base.specs.declared.identity.CoreId.{CoreId}
 use Rattle.fl_base.specs.declared.identity.LinkId.{LinkId}
 use Rattle.fl_base.specs.declared.identity.Circuit.{Circuit}
+use Rattle.fl_base.specs.Given.{given}
 use Rattle.fl_hop.specs.declared.fault.HopFault.TheVariants.{NoLink, UsedUp as NoNumber, Astray as IsHere}
 use Rattle.fl_hop.specs.Table.{TheCircuits, link_of, with_link}
 use Rattle.fl_hop.specs.Numbers.{next_own}
@@ -18,7 +19,7 @@ use Rattle.fl_monitor.specs.declared.heard.Heard.{Heard}
 use Rattle.fl_monitor.specs.declared.fault.MonitorFault.{MonitorFault}
 use Rattle.fl_monitor.specs.declared.fault.MonitorFault.TheVariants.{Astray, Differs, NoRoute, UsedUp, OutboxFull, PlansDiffer, Memory}
 use Rattle.fl_monitor.specs.Outboxes.{IsFragOf}
-use Rattle.fl_monitor.specs.Routing.{given, is_route}
+use Rattle.fl_monitor.specs.Routing.{is_route}
 use Rattle.fl_monitor.specs.Fates.{Known}
 use Rattle.fl_monitor.specs.declared.hearing.Saying.{Saying}
 use Rattle.fl_monitor.specs.Hearing.{ComesTo, IsAstray, says, table_after}

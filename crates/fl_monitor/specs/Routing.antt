@@ -1,13 +1,9 @@
 -- Routes at a core: which may be asked for, and where the core stands on one.
 use Rattle.std.specs.Prelude.{ℕ, ◌+◌, ◌-◌, ◌==◌, ◌&&◌, nat_lt, nat_le, not, Bool, true, false, if◌then◌else◌}
-use Rattle.std.specs.Prelude.{List, [], ◌∷◌, length, drop, position, slice_get, Option, Some, None}
+use Rattle.std.specs.Prelude.{List, [], ◌∷◌, length, drop, position, slice_get, Option, None}
 use Rattle.std.specs.List.{list_any, list_all}
 use Rattle.fl_base.specs.declared.identity.CoreId.{CoreId}
-
--- `given x otherwise λ y. ..`: with y where x is `Some y`, and else the other
-abbrev pub given : {X Y : Type 0} → Option X → Y → (X → Y) → Y
-given None otherwise f = otherwise
-given (Some x) otherwise f = f x
+use Rattle.fl_base.specs.Given.{given}
 
 abbrev pub is_core : ℕ → CoreId → Bool
 is_core core c = c.0 == core

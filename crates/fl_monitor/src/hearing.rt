@@ -1,6 +1,7 @@
 //! What a message comes to at the core that hears it.
 
 ghost use Rattle.std.specs.Prelude.{◌≡◌, Some, IfSome, IfNone, OnOk, OnErr};
+ghost use Rattle.fl_base.specs.Given.{given};
 ghost use Rattle.fl_hop.specs.declared.entry.Hop.{Hop};
 ghost use Rattle.fl_hop.specs.declared.entry.Way.{Way};
 ghost use Rattle.fl_hop.specs.Table.{TheCircuits, hop_at, without_entry};
@@ -8,7 +9,6 @@ ghost use Rattle.fl_hop.specs.Numbers.{next_own};
 ghost use Rattle.fl_hop.specs.Openings.{IsWaiting, passed_on, answered};
 ghost use Rattle.fl_hop.specs.Later.{Later};
 ghost use Rattle.fl_monitor.specs.Fates.{HasNext};
-ghost use Rattle.fl_monitor.specs.Routing.{given};
 ghost use Rattle.fl_monitor.specs.Hearing.{heard_by, opened_at, refused_at, ComesTo, IsAstray, GoesOnNext, circuit_in, with_circuit, says};
 ghost use Rattle.fl_monitor.specs.Hearing.{after_opening, after_answer, after_refusal, table_after};
 

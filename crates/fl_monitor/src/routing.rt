@@ -3,7 +3,8 @@
 ghost use Rattle.std.specs.Prelude.{◌≡◌, ◌<◌, ◌+◌, ◌-◌, nat_lt, false, length, drop, position, slice_get, IfSome};
 ghost use Rattle.std.specs.List.{list_any, list_all};
 ghost use Rattle.fl_base.specs.declared.identity.CoreId.{CoreId};
-ghost use Rattle.fl_monitor.specs.Routing.{given, is_core, all_differ, is_route};
+ghost use Rattle.fl_base.specs.Given.{given};
+ghost use Rattle.fl_monitor.specs.Routing.{is_core, all_differ, is_route};
 ghost use Rattle.fl_monitor.specs.Routing.{next_on, comes_after, is_on_route};
 
 use crate::path::MAX_ROUTE;

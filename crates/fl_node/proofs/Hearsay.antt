@@ -28,12 +28,12 @@ use Rattle.fl_node.specs.declared.answer.MonitorAnswer.TheVariants.{Full, Done, 
 use Rattle.fl_node.specs.declared.fault.LinkFault.{LinkFault}
 use Rattle.fl_node.specs.declared.fault.LinkFault.TheVariants as link
 use Rattle.fl_base.specs.declared.fragment.Frag.{Frag}
+use Rattle.fl_base.specs.Given.{given}
 use Rattle.fl_monitor.specs.Saying.{Says}
 use Rattle.fl_node.specs.View.{TheCore, with_monitor, server_of, place_of}
 use Rattle.fl_node.specs.Sound.{IsCore, kinds_seated}
 use Rattle.fl_node.specs.Hearing.{Offers, here_for, known_for, offer_for, offering, Follows, MakesServer, HearsAll, HearsMessage, HearsFrag}
 use Rattle.fl_node.specs.Inside.{server_in, LeadsTo, EndFor, for_message, core_parts, HearsWith, Unheard}
-use Rattle.fl_monitor.specs.Routing.{given}
 use Rattle.fl_node.proofs.Kept.{parts_kept, failed_long}
 use Rattle.fl_node.proofs.Offers.{offer_found, offer_leads, made_for, made_new, none_made}
 

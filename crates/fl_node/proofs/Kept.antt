@@ -1,12 +1,12 @@
 -- What is known of a core stays while events change it.
 use Rattle.std.proofs.Common.{◌≡◌, refl, sym, ap, ◌∙◌, ℕ, List, length, length-set, slice_get, slice_set, Option, Some, None, true, arith}
+use Rattle.fl_base.specs.Given.{given}
 use Rattle.fl_link.specs.Queue.{TheQueue}
 use Rattle.fl_core.specs.View.{TheBoard}
 use Rattle.fl_monitor.specs.Monitors.{TheMonitor}
 use Rattle.fl_node.specs.declared.wire.Wire.{Wire}
 use Rattle.fl_node.specs.declared.wire.Wire.TheVariants.{Queues, Ring, Circuit}
 use Rattle.fl_node.specs.declared.wire.Lane.{Lane}
-use Rattle.fl_monitor.specs.Routing.{given}
 use Rattle.fl_node.specs.View.{TheCore, with_board, failed_at, with_failed}
 use Rattle.fl_node.specs.Sound.{IsCore, IsWired, kinds_seated}
 

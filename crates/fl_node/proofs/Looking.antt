@@ -4,6 +4,7 @@ use Rattle.std.proofs.lemmas.Option.{slice_get_read}
 use Rattle.fl_base.specs.declared.fragment.Frag.{Frag}
 use Rattle.fl_base.specs.declared.identity.LinkId.{LinkId}
 use Rattle.fl_base.specs.declared.identity.Circuit.{Circuit}
+use Rattle.fl_base.specs.Given.{given}
 use Rattle.fl_link.specs.Looks.{Look}
 use Rattle.fl_hop.specs.Table.{TheCircuits}
 use Rattle.fl_hop.specs.declared.entry.Way.TheVariants.{Link}
@@ -12,7 +13,6 @@ use Rattle.fl_hop.specs.declared.forward.First.TheVariants as first
 use Rattle.fl_hop.specs.declared.fault.HopFault.{HopFault}
 use Rattle.fl_hop.specs.declared.fault.HopFault.TheVariants as hop
 use Rattle.fl_hop.specs.Forward.{Finds}
-use Rattle.fl_monitor.specs.Routing.{given}
 use Rattle.fl_node.specs.declared.wire.Lane.{Lane}
 use Rattle.fl_node.specs.declared.fault.LinkFault.{LinkFault}
 use Rattle.fl_node.specs.View.{TheCore, with_failed}

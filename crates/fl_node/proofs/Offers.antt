@@ -3,6 +3,7 @@ use Rattle.std.proofs.Common.{◌≡◌, refl, sym, ap, ◌∙◌, subst, ℕ, �
 use Rattle.fl_base.specs.declared.identity.LinkId.{LinkId}
 use Rattle.fl_base.specs.declared.identity.CoreId.{CoreId}
 use Rattle.fl_base.specs.declared.identity.Circuit.{Circuit}
+use Rattle.fl_base.specs.Given.{given}
 use Rattle.fl_hop.specs.declared.entry.Way.{Way}
 use Rattle.fl_hop.specs.declared.entry.Way.TheVariants.{Link, End}
 use Rattle.fl_hop.specs.Table.{TheCircuits, link_of, stands}
@@ -15,7 +16,7 @@ use Rattle.fl_monitor.specs.declared.opening.Opening.{Opening}
 use Rattle.fl_monitor.specs.declared.heard.Heard.{Heard}
 use Rattle.fl_monitor.specs.declared.message.Message.{Message}
 use Rattle.fl_monitor.specs.declared.message.Message.TheVariants.{OpenCircuit, CircuitOpened, CircuitRefused}
-use Rattle.fl_monitor.specs.Routing.{given, next_on}
+use Rattle.fl_monitor.specs.Routing.{next_on}
 use Rattle.fl_monitor.specs.Fates.{Known, arrival, passage, fate, comes_along, is_for_another}
 use Rattle.fl_monitor.specs.Hearing.{heard_by, opened_at, refused_at, opening_of, ComesTo, circuit_in}
 use Rattle.fl_node.specs.declared.hearing.Made.{Made}

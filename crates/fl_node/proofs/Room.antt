@@ -1,12 +1,12 @@
 -- Whether a dispatcher has a place for one more end.
 use Rattle.std.proofs.Common.{◌≡◌, refl, sym, ap, ◌∙◌, nat_le, nat_lt, false, Option, ◌+◌, ℕ, zero, suc, ◌<◌, ◌≤◌, List, [], ◌∷◌, length, slice_get, Some, arith}
 use Rattle.std.proofs.lemmas.Option.{slice_get_past}
+use Rattle.fl_base.specs.Given.{given}
 use Rattle.fl_core.specs.declared.fault.BoardFault.TheVariants.{TooManyEnds, Memory}
 use Rattle.fl_core.specs.View.{TheDispatcher, TheBoard}
 use Rattle.fl_core.specs.Sound.{IsBoard}
 use Rattle.fl_node.specs.Making.{HasPlace, HasNoPlace, has_places}
 use Rattle.fl_node.specs.Hearing.{has_place}
-use Rattle.fl_monitor.specs.Routing.{given}
 
 -- something stands at each place of a list
 pub at_place : {X : Type 0} (xs : List X) (n : ℕ) → n < length xs → (x : X) × (slice_get xs n ≡ Some x)

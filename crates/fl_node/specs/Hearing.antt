@@ -5,6 +5,7 @@ use Rattle.fl_base.specs.declared.fragment.Frag.{Frag}
 use Rattle.fl_base.specs.declared.identity.LinkId.{LinkId}
 use Rattle.fl_base.specs.declared.identity.Circuit.{Circuit}
 use Rattle.fl_base.specs.Control.{bare}
+use Rattle.fl_base.specs.Given.{given}
 use Rattle.fl_compile.specs.declared.program.Program.{Program}
 use Rattle.fl_compile.specs.Programs.{program_of}
 use Rattle.fl_endpoint.specs.View.{fresh, bound}
@@ -21,7 +22,6 @@ use Rattle.fl_monitor.specs.declared.fate.Here.{Here}
 use Rattle.fl_monitor.specs.declared.heard.Heard.{Heard}
 use Rattle.fl_monitor.specs.declared.heard.Heard.TheVariants as heard
 use Rattle.fl_monitor.specs.declared.fault.MonitorFault.TheVariants as monitor
-use Rattle.fl_monitor.specs.Routing.{given}
 use Rattle.fl_monitor.specs.Fates.{Known}
 use Rattle.fl_monitor.specs.Hearing.{opening_of}
 use Rattle.fl_monitor.specs.Saying.{Says, Refuses}

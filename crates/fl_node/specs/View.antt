@@ -8,12 +8,13 @@ use Rattle.fl_base.specs.declared.identity.EndId.{EndId}
 use Rattle.fl_base.specs.declared.identity.LinkId.{LinkId}
 use Rattle.fl_base.specs.declared.identity.Circuit.{Circuit as Number}
 use Rattle.fl_base.specs.Ends.{peer}
+use Rattle.fl_base.specs.Given.{given}
+use Rattle.fl_base.specs.Numbered.{most_bindings}
 use Rattle.fl_link.specs.Queue.{TheQueue}
 use Rattle.fl_core.specs.View.{TheBoard}
 use Rattle.fl_core.specs.declared.kind.Kind.{Kind}
 use Rattle.fl_core.specs.declared.kind.Kind.TheVariants as kind
 use Rattle.fl_monitor.specs.Monitors.{TheMonitor, fresh_monitor}
-use Rattle.fl_monitor.specs.Routing.{given}
 use Rattle.fl_node.specs.declared.wire.Wire.{Wire}
 use Rattle.fl_node.specs.declared.wire.Wire.TheVariants.{Queues, Ring, Circuit}
 use Rattle.fl_node.specs.declared.wire.Outlet.{Outlet}
@@ -39,10 +40,6 @@ pub record TheCore : Type 0 where
   pub lanes : List Lane
   -- the arrival queues of the ends of circuits
   pub arrivals : List TheQueue
-
--- bindings are numbered below this
-abbrev pub most_bindings : ℕ
-most_bindings = 1024
 
 -- a core without links, dispatchers and ends
 abbrev pub fresh_core : ℕ → TheCore

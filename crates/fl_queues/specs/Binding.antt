@@ -7,9 +7,10 @@ use Rattle.std.specs.List.{list_all}
 use Rattle.fl_base.specs.declared.identity.EndId.{EndId}
 use Rattle.fl_base.specs.declared.identity.Side.{Side}
 use Rattle.fl_base.specs.declared.identity.Side.TheVariants.{Client, Server}
+use Rattle.fl_base.specs.Given.{given}
+use Rattle.fl_base.specs.Numbered.{most_bindings}
 use Rattle.fl_lists.specs.ThreeLists.{is_in}
 use Rattle.fl_hop.specs.Numbers.{next_own}
-use Rattle.fl_queues.specs.Given.{given}
 use Rattle.fl_queues.specs.Events.{DispatcherId, Kind, by_queues, by_ring, by_route, done, refused}
 use Rattle.fl_queues.specs.Rings.{Opening, fresh_ring}
 use Rattle.fl_queues.specs.Ends.{Queue, fresh_queue, unbound_end}
@@ -20,9 +21,6 @@ use Rattle.fl_queues.specs.State.{answers, core_of, dispatcher_of, change_core, 
 use Rattle.fl_queues.specs.Making.{is_core, is_ring_size}
 
 -- ---- a new binding
-
-abbrev pub most_bindings : ℕ
-most_bindings = 1024
 
 -- what a bind is asked for, once its names are known: the client's dispatcher, the interface by its place,
 -- the service and its interface reference

@@ -3,8 +3,9 @@ use Rattle.std.specs.Prelude.{ℕ, ◌+◌, ◌-◌, ◌&&◌, nat_le, nat_lt, B
 use Rattle.std.specs.Prelude.{drop, length, replicate, slice_get, slice_index, slice_set, Option, Some, None}
 use Rattle.std.specs.Prelude.{is_some}
 use Rattle.std.specs.List.{list_any}
+use Rattle.fl_base.specs.Given.{given}
 use Rattle.fl_value.specs.Value.{TheCall}
-use Rattle.fl_queues.specs.Given.{given, changed_at}
+use Rattle.fl_queues.specs.Given.{changed_at}
 use Rattle.fl_queues.specs.Events.{DispatcherId, Answer, nothing, full, written, refused}
 use Rattle.fl_queues.specs.Calls.{Planned, total, last_count, whole_in}
 use Rattle.fl_queues.specs.Rings.{Label, Room, there_is_room, no_room, spent}

@@ -1,11 +1,12 @@
 -- Two laws of single events: no refusal has a fault of the wire, and a core's table follows the messages that it hears.
 use Rattle.std.specs.Prelude.{ℕ, ◌≡◌, ◌&&◌, nat_le, Bool, false, drop, slice_get, Some}
+use Rattle.fl_base.specs.Numbered.{link_id, circuit_id}
 use Rattle.fl_hop.specs.Table.{TheCircuits, with_link}
 use Rattle.fl_hop.specs.Numbers.{next_own}
 use Rattle.fl_hop.specs.Openings.{opened}
 use Rattle.fl_queues.specs.Events.{Event, refused}
 use Rattle.fl_queues.specs.Rings.{Said, says}
-use Rattle.fl_queues.specs.Monitors.{Core, link_to, link_id, circuit_id, hears}
+use Rattle.fl_queues.specs.Monitors.{Core, link_to, hears}
 use Rattle.fl_queues.specs.State.{State, core_of}
 use Rattle.fl_queues.specs.Step.{step}
 use Rattle.fl_queues.specs.Standing.{on_link}

@@ -4,10 +4,11 @@ use Rattle.std.specs.Prelude.{ℕ, ◌-◌, drop, length, slice_get, Option, Som
 use Rattle.fl_base.specs.declared.identity.EndId.{EndId}
 use Rattle.fl_base.specs.declared.identity.Side.TheVariants.{Server}
 use Rattle.std.specs.List.{push}
+use Rattle.fl_base.specs.Given.{given}
 use Rattle.fl_hop.specs.declared.entry.Way.{Way}
 use Rattle.fl_hop.specs.declared.entry.Way.TheVariants.{Link as to_link, End as to_end}
 use Rattle.fl_hop.specs.Table.{hop_at}
-use Rattle.fl_queues.specs.Given.{given, changed_at}
+use Rattle.fl_queues.specs.Given.{changed_at}
 use Rattle.fl_queues.specs.Events.{done, nothing, full, written, forwarded, opened, opening_refused, refused}
 use Rattle.fl_queues.specs.Rings.{Said, Label, next_of, says, acknowledges, RingEnd, looks, Room}
 use Rattle.fl_queues.specs.Rings.{there_is_room, puts, takes, for_data}

@@ -8,10 +8,10 @@ use Rattle.fl_base.specs.Ends.{other, peer}
 use Rattle.fl_hop.specs.Later.{Later}
 use Rattle.fl_queues.specs.Monitors.{Core}
 use Rattle.fl_base.specs.Prefix.{IsPrefix}
+use Rattle.fl_base.specs.Given.{given}
 use Rattle.fl_lists.specs.declared.place.Place.TheVariants.{Pending}
 use Rattle.fl_lists.specs.ThreeLists.{IsApart}
 use Rattle.fl_value.specs.Value.{TheCall}
-use Rattle.fl_queues.specs.Given.{given}
 use Rattle.fl_queues.specs.Events.{DispatcherId, Event, turn, forward, Answer, nothing, handle, refused}
 use Rattle.fl_queues.specs.Calls.{Planned}
 use Rattle.fl_queues.specs.Rings.{RingSide, RingEnd, Ring, Half, written_by}

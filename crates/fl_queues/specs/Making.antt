@@ -4,10 +4,11 @@ use Rattle.std.specs.Prelude.{ℕ, ◌^◌, ◌==◌, ◌||◌, ◌&&◌, nat_le
 use Rattle.std.specs.Prelude.{[]}
 use Rattle.std.specs.Prelude.{◌∷◌, ◌++◌, length, map, sum, slice_get, is_some, bytes_eq}
 use Rattle.std.specs.List.{list_any, range_with_len}
+use Rattle.fl_base.specs.Given.{given}
+use Rattle.fl_base.specs.Numbered.{most_cores}
 use Rattle.fl_interface.specs.Interface.{TheInterface}
 use Rattle.fl_value.specs.declared.value.PlanNo.{PlanNo}
 use Rattle.fl_hop.specs.Table.{with_link}
-use Rattle.fl_queues.specs.Given.{given}
 use Rattle.fl_queues.specs.Events.{DispatcherId, done, refused}
 use Rattle.fl_queues.specs.Calls.{Planned}
 use Rattle.fl_queues.specs.Rings.{RingSide, first_side, second_side, fresh_ring}
@@ -16,9 +17,6 @@ use Rattle.fl_queues.specs.Monitors.{Core, fresh_core, Service, link_to}
 use Rattle.fl_queues.specs.State.{State, Outcome, answers, core_of, dispatcher_of, change_core}
 
 -- ---- limits
-
-abbrev pub most_cores : ℕ
-most_cores = 16
 
 abbrev pub most_interfaces : ℕ
 most_interfaces = 64

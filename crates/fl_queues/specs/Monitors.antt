@@ -3,15 +3,15 @@
 use Rattle.std.specs.Prelude.{ℕ, ◌+◌, ◌-◌, ◌==◌, nat_lt, Bool, false, if◌then◌else◌, List, [], ◌∷◌, ◌++◌}
 use Rattle.std.specs.Prelude.{length, position, slice_get, Option, None}
 use Rattle.fl_base.specs.declared.identity.EndId.{EndId}
-use Rattle.fl_base.specs.declared.identity.LinkId.{LinkId}
-use Rattle.fl_base.specs.declared.identity.Circuit.{Circuit}
+use Rattle.fl_base.specs.Given.{given}
+use Rattle.fl_base.specs.Numbered.{link_id, circuit_id}
 use Rattle.fl_hop.specs.declared.entry.Way.{Way}
 use Rattle.fl_hop.specs.declared.entry.Way.TheVariants.{Link as to_link, End as to_end}
 use Rattle.fl_hop.specs.declared.entry.Hop.{Hop}
 use Rattle.fl_hop.specs.Table.{TheCircuits, hop_at, link_of, without_entry}
 use Rattle.fl_hop.specs.Numbers.{next_own, after_taking}
 use Rattle.fl_hop.specs.Openings.{opened, passed_on, arrived, answered}
-use Rattle.fl_queues.specs.Given.{given, changed_at}
+use Rattle.fl_queues.specs.Given.{changed_at}
 use Rattle.fl_queues.specs.Events.{DispatcherId}
 use Rattle.fl_queues.specs.Rings.{Opening, Said, open_circuit, circuit_opened, circuit_refused, RingEnd}
 use Rattle.fl_queues.specs.Waits.{Dispatcher, has_places}
@@ -124,12 +124,6 @@ pub data Heard : Type 0 where
 pub record Hearing : Type 0 where
   pub core : Core
   pub heard : Heard
-
-abbrev pub link_id : ℕ → LinkId
-link_id l = record { 0 = l }
-
-abbrev pub circuit_id : ℕ → Circuit
-circuit_id c = record { 0 = c }
 
 -- where the outbox of a link has room: the core with this message there and these circuits, and else as it
 -- was

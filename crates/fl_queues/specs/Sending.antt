@@ -6,9 +6,9 @@ use Rattle.fl_base.specs.declared.fragment.Frag.{Frag}
 use Rattle.fl_base.specs.declared.identity.EndId.{EndId}
 use Rattle.fl_base.specs.Ends.{peer}
 use Rattle.fl_base.specs.Control.{stamped}
+use Rattle.fl_base.specs.Given.{given}
 use Rattle.fl_value.specs.Value.{TheCall}
 use Rattle.fl_value.specs.Fits.{fits_of}
-use Rattle.fl_queues.specs.Given.{given}
 use Rattle.fl_queues.specs.Events.{accepted, nothing, words, refused}
 use Rattle.fl_queues.specs.Calls.{Planned, stream}
 use Rattle.fl_queues.specs.Rings.{Label, next_of, Ring, RingSide, written_by, read_by, Room}

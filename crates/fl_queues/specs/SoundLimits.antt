@@ -1,9 +1,9 @@
 -- Sound states: how many there are of what a world makes, routes within the world, and numbers in both
 -- directions of a link.
 use Rattle.std.specs.Prelude.{ℕ, ◌≡◌, ◌≤◌, ◌<◌, ◌+◌, length, Contains}
+use Rattle.fl_base.specs.Numbered.{most_cores, most_bindings}
 use Rattle.fl_queues.specs.State.{Route, State}
-use Rattle.fl_queues.specs.Making.{most_cores, most_interfaces, most_services}
-use Rattle.fl_queues.specs.Binding.{most_bindings}
+use Rattle.fl_queues.specs.Making.{most_interfaces, most_services}
 use Rattle.fl_queues.specs.Standing.{Routed, core_at, number_at}
 
 -- so a core has at most 15 links, since no two of them lead to one core, and none to the core itself

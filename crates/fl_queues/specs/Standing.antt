@@ -4,8 +4,8 @@ use Rattle.std.specs.Prelude.{ℕ, zero, suc, ◌≡◌, ◌-◌, ◌==◌, if�
 use Rattle.std.specs.Prelude.{map, filter_map, slice_get, slice_index, Option, Some, None}
 use Rattle.fl_base.specs.declared.identity.EndId.{EndId}
 use Rattle.fl_base.specs.Ends.{peer}
+use Rattle.fl_base.specs.Given.{given}
 use Rattle.fl_hop.specs.declared.links.LinkState.{LinkState}
-use Rattle.fl_queues.specs.Given.{given}
 use Rattle.fl_queues.specs.Monitors.{link_to}
 use Rattle.fl_queues.specs.Rings.{Said, open_circuit, circuit_opened, circuit_refused, Label}
 use Rattle.fl_queues.specs.Rings.{next_of, says, RingLabel, read_by, written_by, RingEnd}

@@ -4,12 +4,12 @@
 use Rattle.std.specs.Prelude.{ℕ, ◌&&◌, nat_lt, not, Bool, false, if◌then◌else◌, List, length, slice_get}
 use Rattle.std.specs.Prelude.{Option, Some, None}
 use Rattle.fl_base.specs.declared.identity.EndId.{EndId}
+use Rattle.fl_base.specs.Given.{given}
 use Rattle.fl_lists.specs.declared.place.Place.{Place}
 use Rattle.fl_lists.specs.declared.place.Place.TheVariants.{Polled, Pending}
 use Rattle.fl_waitset.specs.Waiting.{is_registered}
 use Rattle.fl_interface.specs.Interface.{TheArgType}
 use Rattle.fl_value.specs.Tape.{types_of}
-use Rattle.fl_queues.specs.Given.{given}
 use Rattle.fl_queues.specs.Events.{DispatcherId, Answer, done, nothing, full, handle, part, ready, quiet}
 use Rattle.fl_queues.specs.Events.{refused}
 use Rattle.fl_queues.specs.Calls.{Planned}

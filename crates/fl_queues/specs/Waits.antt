@@ -1,6 +1,6 @@
 -- A dispatcher's waitset: its channels, one an end, in three lists. A channel that is in none isn't
 -- registered.
-use Rattle.std.specs.Prelude.{ℕ, ◌+◌, nat_le, nat_lt, Bool, if◌then◌else◌, List, [], ◌∷◌, ◌++◌, length}
+use Rattle.std.specs.Prelude.{ℕ, ◌+◌, nat_le, nat_lt, Bool, if◌then◌else◌, List, [], ◌∷◌, ◌++◌, length, slice_get}
 use Rattle.std.specs.Prelude.{Option, Some, None}
 use Rattle.fl_base.specs.declared.identity.EndId.{EndId}
 use Rattle.fl_lists.specs.declared.place.Place.{Place}
@@ -66,3 +66,9 @@ first_due [] [] = no_one
 
 abbrev pub due : Dispatcher → Due
 due d = first_due d.lists.pending d.lists.polled
+
+-- the end whose turn it is
+abbrev pub end_due : Dispatcher → Due → Option EndId
+end_due x (pending c) = slice_get x.ends c
+end_due x (polled c) = slice_get x.ends c
+end_due x no_one = None

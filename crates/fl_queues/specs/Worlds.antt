@@ -4,9 +4,10 @@ use Rattle.std.specs.Prelude.{ℕ, ◌≡◌, ◌≢◌, ◌≤◌, true, false,
 use Rattle.std.specs.List.{range_with_len}
 use Rattle.fl_base.specs.declared.identity.EndId.{EndId}
 use Rattle.fl_base.specs.Ends.{other, peer}
+use Rattle.fl_base.specs.Given.{given}
+use Rattle.fl_base.specs.Numbered.{most_cores}
 use Rattle.fl_lists.specs.declared.place.Place.{Place}
 use Rattle.fl_lists.specs.ThreeLists.{is_in, list_at}
-use Rattle.fl_queues.specs.Given.{given}
 use Rattle.fl_queues.specs.Events.{DispatcherId, Event, show, write, turn, Answer, nothing, full, handle, part}
 use Rattle.fl_queues.specs.Calls.{Planned}
 use Rattle.fl_queues.specs.Rings.{Label, next_of, Ring, RingSide, written_by}
@@ -15,7 +16,6 @@ use Rattle.fl_queues.specs.Waits.{Dispatcher, pending, due}
 use Rattle.fl_queues.specs.Monitors.{fresh_core}
 use Rattle.fl_queues.specs.State.{Binding, State, start, dispatcher_of, binding_of, interface_of, end_in}
 use Rattle.fl_queues.specs.State.{own_ring, first_on}
-use Rattle.fl_queues.specs.Making.{most_cores}
 use Rattle.fl_queues.specs.Step.{step}
 use Rattle.fl_queues.specs.Runs.{run, reached, calls_accepted}
 use Rattle.fl_queues.specs.SoundCalls.{AllFit, CallsFit}

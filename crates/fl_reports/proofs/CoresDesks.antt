@@ -5,17 +5,17 @@ use Rattle.std.proofs.lemmas.Option.{slice_get_within, same_Some}
 use Rattle.fl_base.specs.declared.identity.EndId.{EndId}
 use Rattle.fl_base.specs.declared.identity.Side.{Side}
 use Rattle.fl_base.specs.declared.identity.Side.TheVariants.{Client, Server}
+use Rattle.fl_base.specs.Given.{given, given as given_at}
 use Rattle.fl_value.specs.declared.value.Call.{Call}
 use Rattle.fl_value.specs.Value.{TheCall, call_of}
-use Rattle.fl_queues.specs.Given.{given}
-use Rattle.fl_monitor.specs.Routing.{given as given_at}
 use Rattle.fl_node.specs.View.{slot_of, client_of, server_of}
 use Rattle.fl_running.specs.Desks.{TheDesk, desk_place}
 use Rattle.fl_logs.specs.Logs.{in_desk}
 use Rattle.fl_jobs.specs.Report.{BothEnds, at_side, at_end}
 use Rattle.fl_dockets.specs.State.{TheJoined}
 use Rattle.fl_dockets.specs.Dockets.{TheDocket, docket_at}
-use Rattle.fl_endings.specs.Begins.{core_at, IsUntouched, refusal_by}
+use Rattle.fl_dockets.specs.Joined.{core_at}
+use Rattle.fl_endings.specs.Begins.{IsUntouched, refusal_by}
 use Rattle.fl_stations.specs.Tells.{handled_by, refusal_in, both_at, by_binding}
 use Rattle.fl_threads.specs.Begins.{owns, desk_by, desk_for, desks_of}
 use Rattle.fl_reports.proofs.CoresLists.{map_at, map_past, first_at, second_at, twos_many}

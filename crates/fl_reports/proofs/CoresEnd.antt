@@ -5,14 +5,15 @@ use Rattle.std.proofs.lemmas.Option.{same_Some}
 use Rattle.fl_base.specs.declared.identity.EndId.{EndId}
 use Rattle.fl_base.specs.declared.identity.Side.{Side}
 use Rattle.fl_base.specs.declared.identity.Side.TheVariants.{Client, Server}
-use Rattle.fl_queues.specs.Given.{given}
+use Rattle.fl_base.specs.Given.{given}
 use Rattle.fl_node.specs.View.{client_of, server_of}
 use Rattle.fl_running.specs.declared.word.Word.{Word}
 use Rattle.fl_running.specs.declared.word.Word.TheVariants.{Silent, Tells, Hears}
+use Rattle.fl_running.specs.Words.{word_by, word_by as first_word}
 use Rattle.fl_dockets.specs.declared.docket.Bound.{Bound}
-use Rattle.fl_dockets.specs.Joined.{core_of}
-use Rattle.fl_endings.specs.Begins.{core_at, word_by, word_at, word_of}
-use Rattle.fl_threads.specs.Begins.{ends_from, words_of, word_by as first_word}
+use Rattle.fl_dockets.specs.Joined.{core_of, core_at}
+use Rattle.fl_endings.specs.Begins.{word_at, word_of}
+use Rattle.fl_threads.specs.Begins.{ends_from, words_of}
 use Rattle.fl_reports.proofs.CoresLists.{behind, first_in, second_in, one_of}
 
 same_number : (m n : ℕ) → (m == n) ≡ true → m ≡ n

@@ -1,5 +1,6 @@
 -- What the cores of a report heard of refused openings was told.
 use Rattle.std.proofs.Common.{◌≡◌, refl, sym, ap, ◌∙◌, subst, ℕ, zero, suc, ◌⊎◌, inl, inr, List, [], ◌∷◌, ◌++◌, length, slice_get, Some, None}
+use Rattle.std.specs.List.{AllZip}
 use Rattle.fl_hop.proofs.Lists.{within}
 use Rattle.fl_tally.specs.declared.board.Refusal.{Refusal}
 use Rattle.fl_tally.specs.Seats.{TheSeat}
@@ -10,7 +11,7 @@ use Rattle.fl_running.specs.Ran.{TellsEnd}
 use Rattle.fl_dockets.specs.State.{TheJoined}
 use Rattle.fl_endings.specs.Cores.{OneCore}
 use Rattle.fl_endings.specs.Heard.{Among, HeardIsTold, TablesTell}
-use Rattle.fl_stations.specs.Runs.{TheOutcome, Each2, seats_left, TheStation, RanTo}
+use Rattle.fl_stations.specs.Runs.{TheOutcome, seats_left, TheStation, RanTo}
 use Rattle.fl_threads.specs.Heard.{told_by, heard_by, HeardAsTold}
 use Rattle.fl_reports.specs.Cores.{core_of, cores_of}
 
@@ -54,7 +55,7 @@ module _ (jobs : List Job) (limit : ℕ) where
 
   -- ---- all cores
 
-  heard_all : (stations : List TheStation) (outcomes : List TheOutcome) (ran : Each2 (RanTo jobs limit) stations outcomes) (n job number : ℕ) (c : OneCore)
+  heard_all : (stations : List TheStation) (outcomes : List TheOutcome) (ran : AllZip (RanTo jobs limit) stations outcomes) (n job number : ℕ) (c : OneCore)
       → slice_get (cores_of jobs limit stations outcomes ran) n ≡ Some c → Among job number c.point.ticket.seat.knows.heard
       → Among job number (heard_by (seats_left outcomes))
   heard_all [] [] ran n job number c at there = absurd (let no : None ≡ Some c = at in cc)
@@ -73,7 +74,7 @@ module _ (jobs : List Job) (limit : ℕ) where
   abbrev TellsIt : (cores : List OneCore) (job told : ℕ) → Type 0
   TellsIt cores job told = (m : ℕ) × (d : OneCore) × (slice_get cores m ≡ Some d) × Among job told d.point.ticket.seat.knows.stored
 
-  told_all : (stations : List TheStation) (outcomes : List TheOutcome) (ran : Each2 (RanTo jobs limit) stations outcomes) (job told : ℕ)
+  told_all : (stations : List TheStation) (outcomes : List TheOutcome) (ran : AllZip (RanTo jobs limit) stations outcomes) (job told : ℕ)
       → Among job told (told_by (seats_left outcomes)) → TellsIt (cores_of jobs limit stations outcomes ran) job told
   told_all [] [] ran job told there = absurd there
   told_all [] (o ∷ outcomes) ran job told there = absurd ran
@@ -84,7 +85,7 @@ module _ (jobs : List Job) (limit : ℕ) where
   ]
 
 pub heard_is_told : TablesTell → (j : TheJoined) (limit : ℕ) (stations : List TheStation) (outcomes : List TheOutcome)
-    (ran : Each2 (RanTo j.jobs limit) stations outcomes) → HeardAsTold (length j.owners) (seats_left outcomes)
+    (ran : AllZip (RanTo j.jobs limit) stations outcomes) → HeardAsTold (length j.owners) (seats_left outcomes)
     → HeardIsTold j (cores_of j.jobs limit stations outcomes ran)
 heard_is_told tables j limit stations outcomes ran heard =
     tables j (cores_of j.jobs limit stations outcomes ran) (told_by (seats_left outcomes)) (heard_by (seats_left outcomes))

@@ -2,14 +2,13 @@
 use Rattle.std.proofs.Common.{◌≡◌, refl, sym, ap, ◌∙◌, subst, ℕ, ◌<◌, ◌≤◌, List, [], ◌++◌, map, take, length, slice_get, Option, Some, None, Bool, if◌then◌else◌, arith}
 use Rattle.fl_base.specs.declared.identity.EndId.{EndId}
 use Rattle.fl_base.specs.declared.identity.Side.TheVariants.{Client}
-use Rattle.std.specs.List.{flat_map}
+use Rattle.std.specs.List.{flat_map, AllZip}
+use Rattle.fl_base.specs.Given.{given, given as given_at}
 use Rattle.fl_value.specs.declared.value.Call.{Call}
 use Rattle.fl_value.specs.Value.{call_of}
 use Rattle.fl_work.specs.Jobs.{calls_of_jobs}
 use Rattle.fl_logs.specs.Made.{desk_of}
 use Rattle.fl_dockets.specs.Dockets.{docket_at, reply_by}
-use Rattle.fl_queues.specs.Given.{given}
-use Rattle.fl_monitor.specs.Routing.{given as given_at}
 use Rattle.fl_node.specs.View.{TheCore, slot_of, client_of}
 use Rattle.fl_hop.proofs.Lists.{within}
 use Rattle.fl_running.specs.declared.word.Word.{Word}
@@ -20,14 +19,14 @@ use Rattle.fl_jobs.specs.Report.{TheReport, BothEnds, at_end, refusal_of, comple
 use Rattle.fl_worlds.specs.declared.parts.Parts.{Parts}
 use Rattle.fl_setups.specs.Start.{SetUpsStartFresh}
 use Rattle.fl_dockets.specs.declared.docket.Bound.{Bound}
-use Rattle.fl_dockets.specs.Joined.{core_of}
+use Rattle.fl_dockets.specs.Joined.{core_of, core_at}
 use Rattle.fl_dockets.specs.State.{TheJoined, AreJoined}
 use Rattle.fl_endings.specs.Cores.{OneCore, Went}
 use Rattle.fl_endings.specs.Turns.{TellsTurns}
 use Rattle.fl_endings.specs.Heard.{TablesTell}
-use Rattle.fl_endings.specs.Begins.{core_at, Begins, TellsDesks, refusal_by}
+use Rattle.fl_endings.specs.Begins.{Begins, TellsDesks, refusal_by}
 use Rattle.fl_endings.proofs.Complete.{past, bound_by}
-use Rattle.fl_stations.specs.Runs.{TheOutcome, Each2, TheStation, RanTo}
+use Rattle.fl_stations.specs.Runs.{TheOutcome, TheStation, RanTo}
 use Rattle.fl_stations.specs.Tells.{Tells, desk_left, handled_by, handled_at, made_by, made_at, refusal_in, refusal_at}
 use Rattle.fl_threads.specs.Begins.{Places, IsStation, AreStations, common_in, desk_for, desks_of}
 use Rattle.fl_reports.specs.Cores.{core_of as the_core, cores_of, cores_in}
@@ -41,7 +40,7 @@ use Rattle.fl_reports.proofs.CoresStart.{StartsQuiet, quiet_renumbered, ruled_qu
 
 module _ (p : Parts) (j : TheJoined) (places : Places) (limit : ℕ) (stations : List TheStation) (outcomes : List TheOutcome) (r : TheReport)
     (few : length j.bindings ≤ 1024) (are : AreStations (common_in p j places) 0 p.cores.items stations)
-    (ran : Each2 (RanTo j.jobs limit) stations outcomes) (tells : Tells j outcomes r)
+    (ran : AllZip (RanTo j.jobs limit) stations outcomes) (tells : Tells j outcomes r)
     (starts : (n : ℕ) (k : TheCore) → slice_get p.cores.items n ≡ Some k → StartsQuiet j k) where
   abbrev cores : List OneCore
   cores = cores_of j.jobs limit stations outcomes ran

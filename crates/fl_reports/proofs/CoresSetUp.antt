@@ -5,12 +5,12 @@ use Rattle.std.proofs.lemmas.Option.{same_Some, slice_get-map}
 use Rattle.fl_base.specs.declared.identity.EndId.{EndId}
 use Rattle.fl_base.specs.declared.identity.Side.{Side}
 use Rattle.fl_base.specs.declared.identity.Side.TheVariants.{Client, Server}
+use Rattle.fl_base.specs.Given.{given}
 use Rattle.fl_core.specs.View.{TheSeat}
 use Rattle.fl_hop.proofs.Lists.{at_within, within}
 use Rattle.fl_queues.specs.Calls.{Planned}
 use Rattle.fl_queues.specs.Ends.{End}
 use Rattle.fl_queues.specs.Events.{DispatcherId}
-use Rattle.fl_queues.specs.Given.{given}
 use Rattle.fl_queues.specs.Runs.{reached}
 use Rattle.fl_queues.specs.State.{Binding as TheBinding, State, end_in, interface_of}
 use Rattle.fl_queues.specs.Worlds.{start_with}
@@ -26,10 +26,10 @@ use Rattle.fl_jobs.specs.Report.{TheReport}
 use Rattle.fl_system.specs.Booting.{TheConfig}
 use Rattle.fl_setups.specs.Start.{SetUpsStartFresh, StartsFresh}
 use Rattle.fl_dockets.specs.declared.docket.Bound.{Bound}
-use Rattle.fl_dockets.specs.Joined.{core_of}
+use Rattle.fl_dockets.specs.Joined.{core_of, core_at}
 use Rattle.fl_dockets.specs.Whole.{bound_of}
 use Rattle.fl_endings.specs.Cores.{OneCore}
-use Rattle.fl_endings.specs.Begins.{core_at, Ran}
+use Rattle.fl_endings.specs.Begins.{Ran}
 use Rattle.fl_endings.specs.Few.{IsAt, EndsStay, AreEnds}
 use Rattle.fl_cores.proofs.Booted.{all_making}
 use Rattle.fl_threads.specs.Begins.{TheCommon, common_in}

@@ -1,6 +1,6 @@
 -- A core of a run: its station and its outcome, by its place.
 use Rattle.std.proofs.Common.{◌≡◌, refl, sym, ap, ◌∙◌, subst, ℕ, zero, suc, ◌+◌, List, [], ◌∷◌, map, length, slice_get, slice_set, Option, Some, None, Bool, ◌||◌, inl, inr, arith}
-use Rattle.std.specs.List.{list_any}
+use Rattle.std.specs.List.{list_any, AllZip}
 use Rattle.std.proofs.lemmas.List.{length-set}
 use Rattle.fl_base.specs.declared.identity.EndId.{EndId}
 use Rattle.fl_hop.proofs.Lists.{set_cases}
@@ -11,12 +11,13 @@ use Rattle.fl_node.specs.View.{TheCore, with_board}
 use Rattle.fl_worlds.specs.declared.binding.Binding.{Binding}
 use Rattle.fl_worlds.specs.View.{core_in}
 use Rattle.fl_jobs.specs.Jobs.{Job, opens, replies, calls}
+use Rattle.fl_running.specs.Ran.{is_told, is_told as is_stopped, is_unfinished, is_unfinished as is_left}
 use Rattle.fl_dockets.specs.Rules.{RuleNow, RuleOf, RulesOf}
 use Rattle.fl_endings.specs.Cores.{OneCore}
 use Rattle.fl_endings.proofs.Seats.{Keeps, keeps_same, keeps_then, keeps_end}
-use Rattle.fl_endings.specs.Turns.{is_unfinished, is_told, left_off, was_told}
-use Rattle.fl_stations.specs.Runs.{TheOutcome, Each2, TheStation, RanTo}
-use Rattle.fl_stations.specs.Tells.{turns_in, is_unfinished as is_left, is_told as is_stopped, left_off as has_left, was_told as has_stopped}
+use Rattle.fl_endings.specs.Turns.{left_off, was_told}
+use Rattle.fl_stations.specs.Runs.{TheOutcome, TheStation, RanTo}
+use Rattle.fl_stations.specs.Tells.{turns_in, left_off as has_left, was_told as has_stopped}
 use Rattle.fl_threads.specs.Begins.{TheCommon, IsStation, AreStations}
 use Rattle.fl_reports.specs.Cores.{core_of, cores_of}
 
@@ -57,7 +58,7 @@ module _ (jobs : List CoreJob) (limit : ℕ) where
     pub ran : RanTo jobs limit station outcome
     pub core_is : core_of jobs limit station outcome ran ≡ c
 
-  pub at_core : (stations : List TheStation) (outcomes : List TheOutcome) (ran : Each2 (RanTo jobs limit) stations outcomes) (i : ℕ) (c : OneCore)
+  pub at_core : (stations : List TheStation) (outcomes : List TheOutcome) (ran : AllZip (RanTo jobs limit) stations outcomes) (i : ℕ) (c : OneCore)
       → slice_get (cores_of jobs limit stations outcomes ran) i ≡ Some c → AtCore stations outcomes i c
   at_core [] [] ran i c at = absurd (cc)
   at_core [] (o ∷ outcomes) ran i c at = absurd ran
@@ -69,7 +70,7 @@ module _ (jobs : List CoreJob) (limit : ℕ) where
       let rest = at_core stations outcomes ran.1 i c at in
       record { station = rest.station; station_is = rest.station_is; outcome = rest.outcome; outcome_is = rest.outcome_is; ran = rest.ran; core_is = rest.core_is }
 
-  pub as_many_cores : (stations : List TheStation) (outcomes : List TheOutcome) (ran : Each2 (RanTo jobs limit) stations outcomes)
+  pub as_many_cores : (stations : List TheStation) (outcomes : List TheOutcome) (ran : AllZip (RanTo jobs limit) stations outcomes)
       → length (cores_of jobs limit stations outcomes ran) ≡ length stations
   as_many_cores [] [] ran = refl
   as_many_cores [] (o ∷ outcomes) ran = absurd ran
@@ -78,7 +79,7 @@ module _ (jobs : List CoreJob) (limit : ℕ) where
 
   -- ---- how they ended
 
-  pub turns_are : (stations : List TheStation) (outcomes : List TheOutcome) (ran : Each2 (RanTo jobs limit) stations outcomes)
+  pub turns_are : (stations : List TheStation) (outcomes : List TheOutcome) (ran : AllZip (RanTo jobs limit) stations outcomes)
       → map turns_in outcomes ≡ map (λ (c : OneCore). c.part.turns) (cores_of jobs limit stations outcomes ran)
   turns_are [] [] ran = refl
   turns_are [] (o ∷ outcomes) ran = absurd ran
@@ -95,7 +96,7 @@ module _ (jobs : List CoreJob) (limit : ℕ) where
   told_by Unfinished = refl
   told_by Told = refl
 
-  pub left_are : (stations : List TheStation) (outcomes : List TheOutcome) (ran : Each2 (RanTo jobs limit) stations outcomes)
+  pub left_are : (stations : List TheStation) (outcomes : List TheOutcome) (ran : AllZip (RanTo jobs limit) stations outcomes)
       → list_any has_left outcomes ≡ list_any left_off (cores_of jobs limit stations outcomes ran)
   left_are [] [] ran = refl
   left_are [] (o ∷ outcomes) ran = absurd ran
@@ -103,7 +104,7 @@ module _ (jobs : List CoreJob) (limit : ℕ) where
   left_are (s ∷ stations) (o ∷ outcomes) ran =
       ap (λ (b : Bool). b || list_any has_left outcomes) (left_by o.part.end) ∙ ap (λ (b : Bool). is_unfinished o.part.end || b) (left_are stations outcomes ran.1)
 
-  pub told_are : (stations : List TheStation) (outcomes : List TheOutcome) (ran : Each2 (RanTo jobs limit) stations outcomes)
+  pub told_are : (stations : List TheStation) (outcomes : List TheOutcome) (ran : AllZip (RanTo jobs limit) stations outcomes)
       → list_any has_stopped outcomes ≡ list_any was_told (cores_of jobs limit stations outcomes ran)
   told_are [] [] ran = refl
   told_are [] (o ∷ outcomes) ran = absurd ran

@@ -4,7 +4,9 @@ use Rattle.std.specs.Prelude.{IsSome}
 use Rattle.std.specs.Option.{option_map}
 use Rattle.std.proofs.lemmas.List.{length-map}
 use Rattle.std.proofs.lemmas.Option.{slice_get-map}
+use Rattle.std.specs.List.{AllZip}
 use Rattle.fl_base.specs.declared.identity.EndId.{EndId}
+use Rattle.fl_base.specs.Given.{given}
 use Rattle.fl_compile.specs.declared.program.Program.{Program}
 use Rattle.fl_compile.specs.Programs.{program_of}
 use Rattle.fl_core.specs.View.{TheDispatcher, TheSeat}
@@ -19,20 +21,19 @@ use Rattle.fl_node.specs.Sound.{IsCore}
 use Rattle.fl_node.specs.View.{TheCore, place_of, arrivals_by}
 use Rattle.fl_node.proofs.Numbering.{came_from}
 use Rattle.fl_logs.specs.Led.{LeadsAtFirst}
-use Rattle.fl_queues.specs.Given.{given}
 use Rattle.fl_queues.specs.Monitors.{Core}
 use Rattle.fl_queues.specs.State.{core_of}
 use Rattle.fl_shows.specs.Ends.{planned_of}
 use Rattle.fl_shows.specs.Cores.{MonitorShows, NamesShow}
 use Rattle.fl_worlds.specs.declared.parts.Parts.{Parts}
 use Rattle.fl_worlds.specs.Binding.{new_queue}
-use Rattle.fl_worlds.specs.Picture.{CoreShows, wire_of, Shows}
+use Rattle.fl_worlds.specs.Picture.{CoreShows, wire_of, Shows, NamesQueue}
 use Rattle.fl_worlds.specs.View.{TheWorld}
 use Rattle.fl_jobs.specs.Jobs.{Job}
 use Rattle.fl_jobs.specs.Report.{TheReport}
 use Rattle.fl_system.specs.Booting.{TheConfig}
 use Rattle.fl_setups.specs.Untouched.{SetUpsTouchNothing}
-use Rattle.fl_setups.specs.Start.{SetUpsStartFresh, StartsFresh, NamesQueue}
+use Rattle.fl_setups.specs.Start.{SetUpsStartFresh, StartsFresh}
 use Rattle.fl_stations.specs.Runs.{TheStation}
 use Rattle.fl_threads.specs.Begins.{Places, common_in}
 use Rattle.fl_threads.specs.Shares.{sides_given, queues_given}
@@ -44,7 +45,7 @@ use Rattle.fl_reports.proofs.CoresStations.{AtStation, at_station}
 use Rattle.fl_reports.proofs.SidesPlaces.{moved_to, hand_is}
 use Rattle.fl_reports.proofs.StartShared.{AreReady, are_ready, queue_owner, begins_apart}
 use Rattle.fl_cuts.specs.Ends.{EndCut}
-use Rattle.fl_cuts.specs.Cut.{Each2, ShowsWaits, name_at, UsesQueue, IsUsed, ShowsCut}
+use Rattle.fl_cuts.specs.Cut.{ShowsWaits, name_at, UsesQueue, IsUsed, ShowsCut}
 use Rattle.fl_cuts.specs.Start.{IsFirstEnd, IsFirstSide, IsFirstQueue, IsStarting, first_end, first_ends, first_cut, StartsShow}
 use Rattle.fl_cuts.specs.Ready.{Serves, IsReady}
 use Rattle.fl_reports.specs.Follows.{IsOfMachine}
@@ -57,7 +58,7 @@ use Rattle.fl_reports.proofs.FollowsRuled.{WasEnd, Was, were}
 
 -- two lists of one length, one for one
 each_by : {A B : Type 0} (R : A → B → Type 0) (xs : List A) (ys : List B) → length ys ≡ length xs
-    → ((n : ℕ) (x : A) (y : B) → slice_get xs n ≡ Some x → slice_get ys n ≡ Some y → R x y) → Each2 R xs ys
+    → ((n : ℕ) (x : A) (y : B) → slice_get xs n ≡ Some x → slice_get ys n ≡ Some y → R x y) → AllZip R xs ys
 each_by R [] [] long h = tt
 each_by R [] (y ∷ ys) long h = absurd (cc)
 each_by R (x ∷ xs) [] long h = absurd (cc)
@@ -190,7 +191,7 @@ module _ (fresh : SetUpsStartFresh) (c : TheConfig) (jobs : List Job) (limit : �
     ports_are : s.run.core.ports ≡ map (moved_port places.sides places.queues) was.core.ports
     ports_are = ap (λ (y : TheCore). y.ports) run_is ∙ ap (λ (y : TheCore). map (moved_port places.sides places.queues) y.ports) was.ruled.rest
 
-    waits_show : Each2 (ShowsWaits s.run.core.ports) machine.0.dispatchers s.run.core.board.dispatchers
+    waits_show : AllZip (ShowsWaits s.run.core.ports) machine.0.dispatchers s.run.core.board.dispatchers
     waits_show =
         each_by (ShowsWaits s.run.core.ports) machine.0.dispatchers s.run.core.board.dispatchers (ap length same_waits ∙ machine.2.count)
         (λ i x d x_is d_is.

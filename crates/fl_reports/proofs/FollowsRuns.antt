@@ -1,5 +1,6 @@
 -- Each core of a run follows the machine.
 use Rattle.std.proofs.Common.{◌≡◌, ◌⊎◌, inl, inr, sym, ◌∙◌, ap, subst, ℕ, zero, suc, List, [], ◌∷◌, map, slice_get, Some, arith}
+use Rattle.std.specs.List.{AllZip}
 use Rattle.fl_work.specs.declared.job.Job.{Job as CoreJob}
 use Rattle.fl_base.specs.declared.identity.LinkId.{LinkId}
 use Rattle.fl_compile.specs.Programs.{TheProgram, program_of}
@@ -16,7 +17,7 @@ use Rattle.fl_setups.specs.Start.{SetUpsStartFresh}
 use Rattle.fl_setups.specs.Untouched.{SetUpsTouchNothing}
 use Rattle.fl_ring.specs.SharedSeats.{front_seen}
 use Rattle.fl_ring.specs.SharedSides.{TheSide}
-use Rattle.fl_stations.specs.Runs.{TheOutcome, Each2, TheStation, RanTo, shared_ways}
+use Rattle.fl_stations.specs.Runs.{TheOutcome, TheStation, RanTo, shared_ways}
 use Rattle.fl_cores.specs.Promised.{Reports}
 use Rattle.fl_cuts.specs.Start.{first_cut, StartsShow}
 use Rattle.fl_cuts.specs.Ready.{ReadyTurnsFollow}
@@ -43,7 +44,7 @@ use Rattle.fl_queues.specs.Monitors.{Core}
 use Rattle.fl_running.specs.Run.{TheRun}
 use Rattle.fl_shows.specs.Cores.{MonitorShows}
 
-ran_at : (jobs : List CoreJob) (limit : ℕ) (stations : List TheStation) (outcomes : List TheOutcome) → Each2 (RanTo jobs limit) stations outcomes
+ran_at : (jobs : List CoreJob) (limit : ℕ) (stations : List TheStation) (outcomes : List TheOutcome) → AllZip (RanTo jobs limit) stations outcomes
     → (n : ℕ) (s : TheStation) (o : TheOutcome) → slice_get stations n ≡ Some s → slice_get outcomes n ≡ Some o → RanTo jobs limit s o
 ran_at jobs limit [] [] ran n s o at is = absurd (cc)
 ran_at jobs limit [] (y ∷ outcomes) ran n s o at is = absurd ran

@@ -6,6 +6,8 @@ use Rattle.fl_base.specs.declared.fragment.Frag.{Frag}
 use Rattle.fl_base.specs.declared.identity.CoreId.{CoreId}
 use Rattle.fl_base.specs.declared.identity.LinkId.{LinkId}
 use Rattle.fl_base.specs.Control.{bare, body, circuit_of, is_ack_only}
+use Rattle.fl_base.specs.Given.{given}
+use Rattle.fl_base.specs.Numbered.{core_id}
 use Rattle.fl_link.specs.Calls.{bare_calls}
 use Rattle.fl_link.specs.Looks.{found, takes_of}
 use Rattle.fl_ring.specs.Laws.{SideLaw}
@@ -20,7 +22,7 @@ use Rattle.fl_hop.proofs.Lists.{set_here}
 use Rattle.fl_monitor.specs.declared.message.Message.{Message}
 use Rattle.fl_monitor.specs.declared.opening.Opening.{Opening as Asked}
 use Rattle.fl_monitor.specs.Fates.{comes_along}
-use Rattle.fl_monitor.specs.Routing.{given, is_on_route}
+use Rattle.fl_monitor.specs.Routing.{is_on_route}
 use Rattle.fl_monitor.specs.Saying.{Says}
 use Rattle.fl_monitor.proofs.Single.{says_the_same, says_alone}
 use Rattle.fl_node.specs.declared.answer.MonitorAnswer.TheVariants as answer
@@ -47,7 +49,6 @@ use Rattle.fl_cuts.specs.Ready.{TurnsBack, RefusesBack, CutMakesAll}
 use Rattle.fl_cuts.proofs.Hearing.{beside}
 use Rattle.fl_cuts.proofs.Opening.{path_same}
 use Rattle.fl_cuts.proofs.Readying.{asks_for, makes_stay}
-use Rattle.fl_shows.specs.Fragments.{core_id}
 use Rattle.fl_reports.proofs.FollowsRoutes.{RoutesDiffer}
 
 -- ---- a message that was heard

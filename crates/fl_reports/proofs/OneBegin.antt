@@ -2,6 +2,8 @@
 use Rattle.std.proofs.Common.{◌≡◌, inl, inr, refl, sym, ◌∙◌, ap, subst, ℕ, zero, suc, ◌+◌, ◌<◌, ◌≤◌, ◌==◌, Bool, true, false, if◌then◌else◌}
 use Rattle.std.proofs.Common.{List, [], ◌∷◌, ◌++◌, length, length-append, slice_get, Option, Some, None, arith}
 use Rattle.fl_base.specs.declared.identity.EndId.{EndId}
+use Rattle.fl_base.specs.Given.{given}
+use Rattle.fl_base.specs.Numbered.{most_bindings}
 use Rattle.fl_hop.proofs.Lists.{within, index_there}
 use Rattle.fl_link.specs.Queue.{TheQueue}
 use Rattle.fl_ring.specs.Duo.{TheDuo}
@@ -11,23 +13,23 @@ use Rattle.fl_deal.specs.Settled.{Pair, sides_of}
 use Rattle.fl_node.specs.declared.wire.Wire.{Wire}
 use Rattle.fl_node.specs.declared.wire.Wire.TheVariants.{Queues}
 use Rattle.fl_node.specs.declared.wire.Port.{Port}
-use Rattle.fl_node.specs.View.{TheCore, place_of, most_bindings}
+use Rattle.fl_node.specs.View.{TheCore, place_of}
 use Rattle.fl_node.specs.Numbers.{moved}
-use Rattle.fl_queues.specs.Given.{given}
 use Rattle.fl_queues.specs.State.{State}
 use Rattle.fl_shows.proofs.Tests.{lt_true}
 use Rattle.fl_worlds.specs.View.{TheWorld}
-use Rattle.fl_worlds.specs.Picture.{wire_of, IsWire, Shows}
+use Rattle.fl_worlds.specs.Picture.{wire_of, IsWire, Shows, NamesQueue}
 use Rattle.fl_worlds.proofs.FramesBase.{same_some}
 use Rattle.fl_worlds.proofs.WritingPieces.{stands_there}
 use Rattle.fl_worlds.proofs.WritingQueues.{peer_of}
 use Rattle.fl_running.specs.declared.word.Word.{Word}
 use Rattle.fl_running.specs.declared.word.Word.TheVariants.{Silent, Tells, Hears}
+use Rattle.fl_running.specs.Words.{word_by}
 use Rattle.fl_dockets.specs.declared.docket.Bound.{Bound}
-use Rattle.fl_threads.specs.Begins.{ends_at, ends_from, word_by, words_at, words_of}
+use Rattle.fl_threads.specs.Begins.{ends_at, ends_from, words_at, words_of}
 use Rattle.fl_threads.specs.Shares.{AreNewRings, AreOwners, AreShared}
 use Rattle.fl_alone.specs.Shown.{HasFew, AreSilent}
-use Rattle.fl_alone.specs.Handed.{NamesQueue, AreHanded}
+use Rattle.fl_alone.specs.Handed.{AreHanded}
 
 -- ---- queues that the core names are there
 

@@ -6,10 +6,10 @@ use Rattle.std.proofs.lemmas.List.{length-map}
 use Rattle.fl_base.specs.declared.identity.EndId.{EndId}
 use Rattle.fl_base.specs.declared.identity.Side.{Side}
 use Rattle.fl_base.specs.declared.identity.Side.TheVariants.{Client, Server}
+use Rattle.fl_base.specs.Given.{given}
 use Rattle.fl_value.specs.Value.{TheCall, call_of}
 use Rattle.fl_hop.proofs.Lists.{at_within, within}
 use Rattle.fl_node.specs.View.{client_of, server_of}
-use Rattle.fl_queues.specs.Given.{given}
 use Rattle.fl_queues.specs.Runs.{same_end}
 use Rattle.fl_work.specs.declared.job.Job.{Job as CoreJob}
 use Rattle.fl_work.specs.declared.job.Job.TheVariants as core
@@ -19,10 +19,9 @@ use Rattle.fl_worlds.specs.declared.binding.Binding.{Binding}
 use Rattle.fl_jobs.specs.Jobs.{Job, Wish, own_calls, reply_to}
 use Rattle.fl_dockets.specs.declared.docket.Bound.{Bound}
 use Rattle.fl_dockets.specs.Dockets.{TheDocket, docket_at, end_of, places_of, calls_at, core_calls, reply_by, IsAsked, IsDocket}
-use Rattle.fl_dockets.specs.Joined.{core_of}
+use Rattle.fl_dockets.specs.Joined.{core_of, core_at}
 use Rattle.fl_dockets.specs.State.{TheJoined, AreJoined}
 use Rattle.fl_dockets.specs.Whole.{About, about, wish_in, bound_of, AreBound, AreDue}
-use Rattle.fl_stations.specs.Tells.{core_at}
 use Rattle.fl_threads.specs.Begins.{ends_from, desk_by, desk_for, two_desks, desks_of}
 use Rattle.fl_alone.specs.Calls.{Post, AreCalls, post_of}
 use Rattle.fl_alone.specs.Shown.{desk_of}

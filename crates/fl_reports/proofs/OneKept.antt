@@ -2,10 +2,11 @@
 use Rattle.std.proofs.Common.{◌≡◌, refl, ◌∙◌, ap, ℕ, zero, suc, Bool, true, false, if◌then◌else◌, List, length, map, slice_get, slice_set}
 use Rattle.std.proofs.Common.{Option, Some, None}
 use Rattle.fl_base.specs.declared.identity.EndId.{EndId}
+use Rattle.fl_base.specs.Given.{given}
 use Rattle.fl_hop.proofs.Lists.{set_same}
 use Rattle.fl_value.specs.Value.{TheCall, call_of}
 use Rattle.fl_node.specs.View.{slot_of}
-use Rattle.fl_queues.specs.Given.{given, changed_at}
+use Rattle.fl_queues.specs.Given.{changed_at}
 use Rattle.fl_queues.specs.Events.{call, turn, write, Answer, accepted, handle}
 use Rattle.fl_queues.specs.Step.{step}
 use Rattle.fl_work.specs.declared.job.Job.{Job}

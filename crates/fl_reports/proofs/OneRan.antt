@@ -1,30 +1,30 @@
 -- One core by itself behind a report: it begins with what the set-up and the rules come to, and its turns are the machine's.
 use Rattle.std.proofs.Common.{◌≡◌, ◌≢◌, refl, sym, ◌∙◌, ap, subst, ℕ, ◌||◌, true, false, List, [], ◌∷◌, length, map, slice_get, Some, None}
-use Rattle.std.specs.List.{list_any}
+use Rattle.std.specs.List.{list_any, AllZip}
+use Rattle.fl_base.specs.Given.{given}
 use Rattle.fl_ring.specs.SharedSides.{TheSide}
 use Rattle.fl_node.specs.View.{TheCore}
 use Rattle.fl_node.specs.Sound.{IsCore}
 use Rattle.fl_node.specs.Numbers.{moved_lane}
-use Rattle.fl_queues.specs.Given.{given}
 use Rattle.fl_queues.specs.Monitors.{Core}
 use Rattle.fl_queues.specs.State.{State, core_of}
 use Rattle.fl_jobs.specs.Report.{TheReport}
 use Rattle.fl_worlds.specs.View.{TheWorld}
-use Rattle.fl_worlds.specs.Picture.{CoreShows, Shows}
+use Rattle.fl_worlds.specs.Picture.{CoreShows, Shows, NamesQueue}
 use Rattle.fl_worlds.specs.Laws.{StepsAgree}
 use Rattle.fl_worlds.proofs.FramesBase.{gets}
 use Rattle.fl_worlds.specs.declared.parts.Parts.{Parts}
 use Rattle.fl_running.specs.declared.run.End.{End}
 use Rattle.fl_running.specs.declared.run.End.TheVariants.{Finished, Unfinished, Told}
 use Rattle.fl_running.specs.Run.{TheRun}
-use Rattle.fl_running.specs.Ran.{moment, task, GoesOn}
+use Rattle.fl_running.specs.Ran.{moment, task, GoesOn, is_told}
 use Rattle.fl_dockets.specs.declared.docket.Bound.{Bound}
 use Rattle.fl_dockets.specs.Joined.{AreBindings}
 use Rattle.fl_dockets.specs.State.{TheJoined}
-use Rattle.fl_stations.specs.Runs.{TheOutcome, Each2, TheStation, shared_ways, RanTo}
-use Rattle.fl_stations.specs.Tells.{is_told, was_told, Tells}
+use Rattle.fl_stations.specs.Runs.{TheOutcome, TheStation, shared_ways, RanTo}
+use Rattle.fl_stations.specs.Tells.{was_told, Tells}
 use Rattle.fl_threads.specs.Begins.{Places, ends_from, desks_of, IsStation, AreStations, common_in}
-use Rattle.fl_threads.specs.Shares.{NamesQueue, AreOwners, AreShared, Shares, AreSound}
+use Rattle.fl_threads.specs.Shares.{AreOwners, AreShared, Shares, AreSound}
 use Rattle.fl_alone.specs.Turns.{Alone, Work, turned, is_finished, counted, ran}
 use Rattle.fl_alone.specs.Shown.{desk_of, work_of, alone_with, ShowsAlone, HasFew, AreSilent}
 use Rattle.fl_alone.specs.Laws.{end_of, RanAsMachine}
@@ -153,11 +153,11 @@ pub record OneRan (j : TheJoined) (limit : ℕ) (r : TheReport) (s : State) : Ty
 
 pub one_ran : (law : StepsAgree) (p : Parts) (j : TheJoined) (limit : ℕ) (r : TheReport) (s : State) (x : IsAlone p j s) (at : Places)
     (stations : List TheStation) (outcomes : List TheOutcome) → AreStations (common_in p j at) 0 p.cores.items stations
-    → Each2 (RanTo j.jobs limit) stations outcomes → Shares p at stations outcomes → AreSound stations outcomes → Tells j outcomes r → OneRan j limit r s
+    → AllZip (RanTo j.jobs limit) stations outcomes → Shares p at stations outcomes → AreSound stations outcomes → Tells j outcomes r → OneRan j limit r s
 one_ran law p j limit r s x at stations outcomes begin ran shares sound tells =
     by stations outcomes (subst (λ ks. AreStations (common_in p j at) 0 ks stations) x.cores begin) ran shares sound tells
   where
-    by : (sts : List TheStation) (os : List TheOutcome) → AreStations (common_in p j at) 0 (x.core ∷ []) sts → Each2 (RanTo j.jobs limit) sts os
+    by : (sts : List TheStation) (os : List TheOutcome) → AreStations (common_in p j at) 0 (x.core ∷ []) sts → AllZip (RanTo j.jobs limit) sts os
         → Shares p at sts os → AreSound sts os → Tells j os r → OneRan j limit r s
     by [] os b e h k t = absurd b
     by (st ∷ st2 ∷ sts) os b e h k t = absurd b.1

@@ -8,11 +8,11 @@ use Rattle.fl_base.specs.declared.identity.EndId.{EndId}
 use Rattle.fl_base.specs.declared.identity.Side.{Side}
 use Rattle.fl_base.specs.Ends.{peer}
 use Rattle.fl_base.specs.Prefix.{IsPrefix}
+use Rattle.fl_base.specs.Given.{given}
 use Rattle.fl_value.specs.Value.{TheCall}
 use Rattle.fl_hop.proofs.Lists.{within, map_same}
 use Rattle.fl_laws.proofs.Small.{both_are}
 use Rattle.fl_node.specs.View.{client_of, server_of, slot_of}
-use Rattle.fl_queues.specs.Given.{given}
 use Rattle.fl_queues.specs.Sound.{Sound}
 use Rattle.fl_queues.specs.State.{State}
 use Rattle.fl_running.specs.declared.run.End.{End}
@@ -21,11 +21,12 @@ use Rattle.fl_work.specs.Jobs.{calls_of_jobs}
 use Rattle.fl_jobs.specs.Jobs.{Job, handed_in, reply_to}
 use Rattle.fl_jobs.specs.Report.{BothEnds, TheReport, complete, turns_out, at_end, Honest}
 use Rattle.fl_worlds.specs.declared.binding.Binding.{Binding}
+use Rattle.fl_running.specs.Ran.{is_unfinished}
 use Rattle.fl_dockets.specs.Dockets.{docket_at, reply_by}
 use Rattle.fl_dockets.specs.State.{TheJoined, AreJoined}
 use Rattle.fl_dockets.specs.Whole.{wish_in, AreBound, AreDue}
 use Rattle.fl_stations.specs.Runs.{TheOutcome}
-use Rattle.fl_stations.specs.Tells.{desk_left, handled_by, made_by, handled_at, made_at, both_at, refusal_in, refusal_at, is_unfinished}
+use Rattle.fl_stations.specs.Tells.{desk_left, handled_by, made_by, handled_at, made_at, both_at, refusal_in, refusal_at}
 use Rattle.fl_threads.specs.Begins.{ends_from, desk_by, desk_for, desks_of}
 use Rattle.fl_alone.specs.Turns.{Desk, Alone, desk_at, Work, turned, is_clear, is_done_at, are_done, is_finished, counted, ran}
 use Rattle.fl_alone.specs.Shown.{desk_of}

@@ -4,6 +4,7 @@ use Rattle.std.specs.Prelude.{Ok}
 use Rattle.std.specs.List.{flat_map}
 use Rattle.std.proofs.lemmas.List.Concat.{flat_map-cons}
 use Rattle.fl_base.specs.declared.identity.EndId.{EndId}
+use Rattle.fl_base.specs.Given.{given}
 use Rattle.fl_interface.specs.SameTypes.{same_arguments}
 use Rattle.fl_endpoint.specs.Events.{SetsRule}
 use Rattle.fl_core.specs.View.{TheSeat}
@@ -11,7 +12,6 @@ use Rattle.fl_node.specs.View.{TheCore, place_of, with_board}
 use Rattle.fl_queues.specs.Calls.{Planned}
 use Rattle.fl_queues.specs.Ends.{with_rule}
 use Rattle.fl_queues.specs.Events.{Event, reply, done, refused}
-use Rattle.fl_queues.specs.Given.{given}
 use Rattle.fl_queues.specs.Runs.{reached}
 use Rattle.fl_queues.specs.Sound.{Sound}
 use Rattle.fl_queues.specs.State.{Binding, State, Outcome, answers, binding_of, interface_of, end_in, change_end}

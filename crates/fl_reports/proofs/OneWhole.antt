@@ -1,11 +1,11 @@
 -- The report of a run of one core is a function of the configuration, the jobs and the limit.
 use Rattle.std.proofs.Common.{◌≡◌, ◌≢◌, refl, sym, ◌∙◌, ap, subst, ℕ, zero, suc, ◌≤◌, ◌||◌, nat_lt, Bool, true, false, if◌then◌else◌, List, [], ◌∷◌, length, map}
 use Rattle.std.proofs.Common.{slice_get, None, arith}
-use Rattle.std.specs.List.{flat_map, list_all, range_with_len}
+use Rattle.std.specs.List.{flat_map, list_all, range_with_len, AllZip}
 use Rattle.std.proofs.lemmas.Bool.Decides.{nat_tests}
+use Rattle.fl_base.specs.Numbered.{most_cores}
 use Rattle.fl_laws.proofs.Start.{world_is_sound}
 use Rattle.fl_node.specs.View.{TheCore}
-use Rattle.fl_queues.specs.Making.{most_cores}
 use Rattle.fl_queues.specs.Runs.{reached}
 use Rattle.fl_queues.specs.Sound.{Sound}
 use Rattle.fl_queues.specs.State.{State}
@@ -14,7 +14,7 @@ use Rattle.fl_ring.specs.SharedSides.{TheSide}
 use Rattle.fl_running.specs.declared.run.End.{End}
 use Rattle.fl_running.specs.declared.run.End.TheVariants.{Finished, Unfinished, Told}
 use Rattle.fl_running.specs.Finished.{is_finished as is_finished_run}
-use Rattle.fl_running.specs.Ran.{Task, Moment, moment, task, TakesStock, CountedTurn, EndsAs}
+use Rattle.fl_running.specs.Ran.{Task, Moment, moment, task, TakesStock, CountedTurn, EndsAs, is_unfinished}
 use Rattle.fl_running.specs.Turn.{Swept}
 use Rattle.fl_running.specs.Words.{Stock}
 use Rattle.fl_jobs.specs.Jobs.{Job}
@@ -30,8 +30,8 @@ use Rattle.fl_setups.specs.Start.{StartsFresh, SetUpsStartFresh}
 use Rattle.fl_dockets.specs.Rules.{RulesOf}
 use Rattle.fl_dockets.specs.State.{TheJoined, AreJoined}
 use Rattle.fl_dockets.specs.Whole.{wish_in}
-use Rattle.fl_stations.specs.Runs.{TheOutcome, Each2, TheStation, shared_ways, RanTo}
-use Rattle.fl_stations.specs.Tells.{made_at, handled_at, both_at, refusal_at, is_unfinished, Tells}
+use Rattle.fl_stations.specs.Runs.{TheOutcome, TheStation, shared_ways, RanTo}
+use Rattle.fl_stations.specs.Tells.{made_at, handled_at, both_at, refusal_at, Tells}
 use Rattle.fl_threads.specs.Begins.{Places, ends_from, IsStation, AreStations, common_in}
 use Rattle.fl_cores.specs.Promised.{cores_by, Reports}
 use Rattle.fl_cores.proofs.Booted.{all_making}
@@ -66,12 +66,12 @@ pub record Single (p : Parts) (j : TheJoined) (limit : ℕ) (r : TheReport) (at 
   pub tells : Tells j (outcome ∷ []) r
 
 single : (p : Parts) (j : TheJoined) (limit : ℕ) (r : TheReport) (at : Places) (k : TheCore) (cores : List TheCore) (stations : List TheStation)
-    (outcomes : List TheOutcome) → cores ≡ k ∷ [] → AreStations (common_in p j at) 0 cores stations → Each2 (RanTo j.jobs limit) stations outcomes
+    (outcomes : List TheOutcome) → cores ≡ k ∷ [] → AreStations (common_in p j at) 0 cores stations → AllZip (RanTo j.jobs limit) stations outcomes
     → Tells j outcomes r → Single p j limit r at
 single p j limit r at k cores stations outcomes one begin ran tells =
     by stations outcomes (subst (λ ks. AreStations (common_in p j at) 0 ks stations) one begin) ran tells
   where
-    by : (sts : List TheStation) (os : List TheOutcome) → AreStations (common_in p j at) 0 (k ∷ []) sts → Each2 (RanTo j.jobs limit) sts os → Tells j os r
+    by : (sts : List TheStation) (os : List TheOutcome) → AreStations (common_in p j at) 0 (k ∷ []) sts → AllZip (RanTo j.jobs limit) sts os → Tells j os r
         → Single p j limit r at
     by [] os b e t = absurd b
     by (st ∷ st2 ∷ sts) os b e t = absurd b.1

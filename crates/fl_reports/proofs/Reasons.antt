@@ -2,7 +2,9 @@
 use Rattle.std.proofs.Common.{◌≡◌, inl, inr, refl, sym, ap, ◌∙◌, subst, ℕ, zero, suc, ◌+◌, ◌<◌, ◌≤◌, ◌==◌, true, List, [], ◌∷◌, map, length, slice_get, Option, Some, None, IsSome, arith}
 use Rattle.std.proofs.lemmas.List.{length-map}
 use Rattle.std.proofs.lemmas.Option.{same_Some}
+use Rattle.std.specs.List.{AllZip}
 use Rattle.fl_base.specs.declared.identity.CoreId.{CoreId}
+use Rattle.fl_base.specs.Given.{given as in_machine}
 use Rattle.fl_compile.specs.Programs.{program_of}
 use Rattle.fl_ring.specs.SharedSides.{TheSide}
 use Rattle.fl_nameserv.specs.declared.registration.Service.{Service as Offer}
@@ -21,7 +23,6 @@ use Rattle.fl_running.specs.Run.{TheRun}
 use Rattle.fl_logs.specs.Led.{LeadsAtFirst}
 use Rattle.fl_logs.specs.Logs.{Goes}
 use Rattle.fl_queues.specs.Events.{DispatcherId}
-use Rattle.fl_queues.specs.Given.{given as in_machine}
 use Rattle.fl_queues.specs.Making.{has_link}
 use Rattle.fl_queues.specs.Monitors.{Core}
 use Rattle.fl_queues.specs.State.{core_of}
@@ -39,7 +40,7 @@ use Rattle.fl_honest.specs.Runs.{AreSetUp}
 use Rattle.fl_honest.specs.Sitting.{EndsSit}
 use Rattle.fl_endings.specs.Begins.{Ran}
 use Rattle.fl_endings.proofs.Few.{settles}
-use Rattle.fl_stations.specs.Runs.{TheOutcome, Each2, TheStation, RanTo}
+use Rattle.fl_stations.specs.Runs.{TheOutcome, TheStation, RanTo}
 use Rattle.fl_cores.specs.Promised.{Reports}
 use Rattle.fl_reports.specs.Cores.{joined_in, cores_in}
 use Rattle.fl_reports.specs.Outcomes.{ReportsAreOfRuns}
@@ -68,7 +69,7 @@ none_lacks : AllAmple []
 none_lacks n d at = absurd (cc)
 
 -- where each core ran to its outcome, there is such a log of each
-pub ample_runs : CoresGoAmply → (jobs : List CoreJob) (limit : ℕ) (stations : List TheStation) (outcomes : List TheOutcome) → Each2 (RanTo jobs limit) stations outcomes
+pub ample_runs : CoresGoAmply → (jobs : List CoreJob) (limit : ℕ) (stations : List TheStation) (outcomes : List TheOutcome) → AllZip (RanTo jobs limit) stations outcomes
     → (cores : List OneCore) × AreRuns jobs stations outcomes cores × AllAmple cores
 ample_runs go jobs limit [] [] ran = ([], tt, none_lacks)
 ample_runs go jobs limit [] (o ∷ outcomes) ran = absurd ran

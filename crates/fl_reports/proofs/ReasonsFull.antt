@@ -5,13 +5,13 @@ use Rattle.std.proofs.lemmas.Bool.Decides.{nat_tests}
 use Rattle.std.proofs.lemmas.List.{length-map}
 use Rattle.std.proofs.lemmas.Option.{same_Some, slice_get_within, get_or_from_slice_get}
 use Rattle.fl_base.specs.declared.identity.EndId.{EndId}
+use Rattle.fl_base.specs.Given.{given}
 use Rattle.fl_nameserv.specs.Registrations.{TheRegistration, by_iref}
 use Rattle.fl_ring.specs.SharedSides.{TheSide}
 use Rattle.fl_core.proofs.Places.{one_stands}
 use Rattle.fl_core.specs.Sound.{IsBoard, HasChannel}
 use Rattle.fl_core.specs.View.{TheDispatcher, TheSeat, TheBoard}
 use Rattle.fl_monitor.specs.Fates.{is_offered_elsewhere}
-use Rattle.fl_monitor.specs.Routing.{given}
 use Rattle.fl_node.specs.declared.hearing.Offered.{Offered}
 use Rattle.fl_node.specs.Hearing.{Offers, has_place, may_offer, offer_of}
 use Rattle.fl_node.specs.declared.wire.Port.{Port}

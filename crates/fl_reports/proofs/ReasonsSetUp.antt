@@ -4,11 +4,11 @@ use Rattle.std.proofs.lemmas.Bool.Decides.{nat_tests}
 use Rattle.std.proofs.lemmas.List.Quantifiers.{position-Some}
 use Rattle.std.proofs.lemmas.Option.{slice_get_within, get_or_from_slice_get}
 use Rattle.fl_base.specs.declared.identity.CoreId.{CoreId}
+use Rattle.fl_base.specs.Given.{given, given as in_machine}
 use Rattle.fl_hop.specs.Table.{TheCircuits, link_of}
 use Rattle.fl_monitor.specs.Monitors.{TheMonitor}
-use Rattle.fl_monitor.specs.Routing.{given, is_core, next_on}
+use Rattle.fl_monitor.specs.Routing.{is_core, next_on}
 use Rattle.fl_node.specs.View.{TheCore}
-use Rattle.fl_queues.specs.Given.{given as in_machine}
 use Rattle.fl_queues.specs.Making.{has_link}
 use Rattle.fl_queues.specs.Monitors.{Core}
 use Rattle.fl_queues.specs.State.{State, core_of}

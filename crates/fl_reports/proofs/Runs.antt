@@ -1,5 +1,6 @@
 -- The cores of a run, each with its log: from what each was given and what came of it.
 use Rattle.std.proofs.Common.{◌≡◌, refl, sym, ap, ◌∙◌, subst, ℕ, zero, suc, ◌+◌, ◌<◌, ◌≤◌, List, [], ◌∷◌, length, slice_get, Some, None, arith}
+use Rattle.std.specs.List.{AllZip}
 use Rattle.fl_ring.specs.SharedSides.{TheSide}
 use Rattle.fl_hop.specs.Joined.{Sound as IsTable}
 use Rattle.fl_node.specs.View.{TheCore}
@@ -9,7 +10,7 @@ use Rattle.fl_running.specs.Ran.{task, moment}
 use Rattle.fl_running.specs.Run.{TheRun}
 use Rattle.fl_logs.specs.Flows.{IsApart}
 use Rattle.fl_honest.specs.Cores.{OneCore, AllWent, CoresGo}
-use Rattle.fl_stations.specs.Runs.{TheOutcome, Each2, TheStation, RanTo}
+use Rattle.fl_stations.specs.Runs.{TheOutcome, TheStation, RanTo}
 use Rattle.fl_threads.specs.Begins.{TheCommon, IsStation, AreStations}
 use Rattle.fl_threads.specs.Shares.{AreSound}
 use Rattle.fl_reports.specs.Runs.{IsRun, AreRuns}
@@ -34,7 +35,7 @@ one_run go jobs limit s o ran =
     (record { start = s.run; log = log; finish = o.run }, record { start = refl; finish = refl; goes = goes })
 
 -- where each core ran to its outcome, there is a log of each
-pub all_runs : CoresGo → (jobs : List CoreJob) (limit : ℕ) (stations : List TheStation) (outcomes : List TheOutcome) → Each2 (RanTo jobs limit) stations outcomes
+pub all_runs : CoresGo → (jobs : List CoreJob) (limit : ℕ) (stations : List TheStation) (outcomes : List TheOutcome) → AllZip (RanTo jobs limit) stations outcomes
     → (cores : List OneCore) × AreRuns jobs stations outcomes cores
 all_runs go jobs limit [] [] ran = ([], tt)
 all_runs go jobs limit [] (o ∷ outcomes) ran = absurd ran

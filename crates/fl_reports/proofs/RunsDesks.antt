@@ -6,9 +6,9 @@ use Rattle.std.proofs.lemmas.Option.{slice_get_past, slice_get_within}
 use Rattle.fl_base.specs.declared.identity.Side.{Side}
 use Rattle.fl_base.specs.declared.identity.Side.TheVariants.{Client, Server}
 use Rattle.fl_base.specs.declared.identity.EndId.{EndId}
-use Rattle.fl_monitor.specs.Routing.{given}
-use Rattle.fl_queues.specs.Given.{given as in_machine}
-use Rattle.fl_node.specs.View.{TheCore, most_bindings, slot_of, client_of, server_of}
+use Rattle.fl_base.specs.Given.{given, given as in_machine}
+use Rattle.fl_base.specs.Numbered.{most_bindings}
+use Rattle.fl_node.specs.View.{TheCore, slot_of, client_of, server_of}
 use Rattle.fl_running.specs.Desks.{TheDesk, desk_place}
 use Rattle.fl_dockets.specs.declared.docket.Bound.{Bound}
 use Rattle.fl_dockets.specs.Dockets.{docket_at}

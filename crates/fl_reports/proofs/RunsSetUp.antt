@@ -8,16 +8,16 @@ use Rattle.fl_base.specs.declared.identity.EndId.{EndId}
 use Rattle.fl_base.specs.declared.identity.LinkId.{LinkId}
 use Rattle.fl_base.specs.declared.identity.Side.{Side}
 use Rattle.fl_base.specs.declared.identity.Side.TheVariants.{Client, Server}
+use Rattle.fl_base.specs.Given.{given, given as in_machine}
+use Rattle.fl_base.specs.Numbered.{most_bindings}
 use Rattle.fl_interface.specs.Interface.{TheInterface}
 use Rattle.fl_compile.specs.declared.program.Program.{Program}
 use Rattle.fl_compile.specs.Programs.{TheProgram, program_of}
 use Rattle.fl_nameserv.specs.Registrations.{TheRegistration}
 use Rattle.fl_ring.specs.SharedSides.{TheSide}
 use Rattle.fl_core.proofs.Places.{one_stands}
-use Rattle.fl_monitor.specs.Routing.{given}
-use Rattle.fl_queues.specs.Given.{given as in_machine}
 use Rattle.fl_queues.specs.Runs.{same_end}
-use Rattle.fl_node.specs.View.{TheCore, most_bindings, slot_of, place_of, side_of_link}
+use Rattle.fl_node.specs.View.{TheCore, slot_of, place_of, side_of_link}
 use Rattle.fl_node.proofs.Numbering.{goes_to}
 use Rattle.fl_work.specs.declared.job.Job.{Job as CoreJob}
 use Rattle.fl_work.specs.declared.job.Job.TheVariants as job

@@ -22,12 +22,13 @@ use Rattle.fl_worlds.specs.Binding.{new_queue}
 use Rattle.fl_worlds.specs.declared.parts.Parts.{Parts}
 use Rattle.fl_worlds.specs.Apart.{AreParts}
 use Rattle.fl_jobs.specs.Jobs.{Job}
+use Rattle.fl_worlds.specs.Picture.{NamesQueue}
 use Rattle.fl_dockets.specs.declared.docket.Bound.{Bound}
 use Rattle.fl_dockets.specs.Dockets.{docket_at}
 use Rattle.fl_dockets.specs.Rules.{RulesOf}
 use Rattle.fl_dockets.specs.State.{TheJoined, AreJoined}
 use Rattle.fl_dockets.specs.Whole.{bound_of, IsBeside, AreBound}
-use Rattle.fl_setups.specs.Start.{NamesQueue, Stands, StartsFresh}
+use Rattle.fl_setups.specs.Start.{Stands, StartsFresh}
 use Rattle.fl_setups.specs.Start as set_up
 use Rattle.fl_honest.specs.Cores.{OneCore}
 use Rattle.fl_honest.specs.Bindings.{ByQueues, ByRing, HasCores, IsOffLinks}

@@ -2,6 +2,7 @@
 use Rattle.std.proofs.Common.{◌≡◌, inl, inr, refl, sym, ap, ◌∙◌, ℕ, zero, suc, List, [], ◌∷◌, map, slice_get, Option, Some, None, arith}
 use Rattle.std.proofs.lemmas.List.{length-map}
 use Rattle.fl_base.specs.declared.identity.EndId.{EndId}
+use Rattle.fl_base.specs.Given.{given}
 use Rattle.fl_core.specs.declared.kind.Kind.{Kind}
 use Rattle.fl_node.specs.declared.wire.Wire.{Wire}
 use Rattle.fl_node.specs.declared.wire.Wire.TheVariants.{Queues, Ring, Circuit}
@@ -11,10 +12,8 @@ use Rattle.fl_node.specs.View.{TheCore, kind_of, arrivals_by, place_of, side_of_
 use Rattle.fl_node.specs.Sound.{IsCore, IsWired, kinds_wired}
 use Rattle.fl_node.specs.Numbers.{moved, moved_lane, moved_wire, moved_port, renumbered}
 use Rattle.fl_node.proofs.Numbering.{came_from, goes_to}
-use Rattle.fl_queues.specs.Given.{given}
 use Rattle.fl_logs.specs.Flows.{IsApart}
-use Rattle.fl_worlds.specs.Picture.{wire_of}
-use Rattle.fl_setups.specs.Start.{NamesSide, NamesQueue}
+use Rattle.fl_worlds.specs.Picture.{wire_of, NamesQueue, NamesSide}
 
 -- ---- wires
 

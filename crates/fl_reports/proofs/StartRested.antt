@@ -12,7 +12,8 @@ use Rattle.fl_logs.specs.Flows.{IsApart}
 use Rattle.fl_worlds.specs.declared.binding.Binding.{Binding}
 use Rattle.fl_worlds.specs.View.{TheWorld, core_in}
 use Rattle.fl_jobs.specs.Jobs.{Job, opens, replies, calls}
-use Rattle.fl_setups.specs.Start.{NamesSide, NamesQueue, SidesHaveOneCore, QueuesHaveOneCore, CoresAreApart, SidesAreThere, QueuesAreNew, LinksArePaired, CoresAreNumbered, IsIdle, CoresAreIdle}
+use Rattle.fl_worlds.specs.Picture.{NamesQueue, NamesSide}
+use Rattle.fl_setups.specs.Start.{SidesHaveOneCore, QueuesHaveOneCore, CoresAreApart, SidesAreThere, QueuesAreNew, LinksArePaired, CoresAreNumbered, IsIdle, CoresAreIdle}
 use Rattle.fl_dockets.specs.Rules.{RulesCore, RuleNow, RuleOf, RulesOf}
 
 -- ---- a core

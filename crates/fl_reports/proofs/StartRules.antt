@@ -6,12 +6,12 @@ use Rattle.std.proofs.lemmas.List.{length-set}
 use Rattle.fl_base.specs.declared.identity.Side.{Side}
 use Rattle.fl_base.specs.declared.identity.Side.TheVariants.{Client, Server}
 use Rattle.fl_base.specs.declared.identity.EndId.{EndId}
+use Rattle.fl_base.specs.Given.{given}
 use Rattle.fl_endpoint.specs.View.{TheEnd, interface_in, rule_in as what_stands, rule_at as rule_of_end, with_rule}
 use Rattle.fl_endpoint.specs.Events.{IsMessage}
 use Rattle.fl_core.specs.View.{TheSeat, TheBoard}
 use Rattle.fl_core.proofs.Places.{one_stands, set_here, set_elsewhere}
 use Rattle.fl_node.specs.View.{TheCore, place_of, with_board}
-use Rattle.fl_queues.specs.Given.{given}
 use Rattle.fl_queues.specs.Runs.{same_side, same_end}
 use Rattle.fl_worlds.specs.declared.binding.Binding.{Binding}
 use Rattle.fl_worlds.specs.View.{core_in}

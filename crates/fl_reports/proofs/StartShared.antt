@@ -12,8 +12,9 @@ use Rattle.fl_worlds.specs.Apart.{AreParts}
 use Rattle.fl_jobs.specs.Jobs.{Job}
 use Rattle.fl_dockets.specs.Rules.{RulesOf}
 use Rattle.fl_dockets.specs.Whole.{IsBeside}
-use Rattle.fl_setups.specs.Start.{NamesSide, NamesQueue, SidesHaveOneCore, QueuesHaveOneCore, CoresAreApart, SidesAreThere, QueuesAreNew, LinksArePaired, CoresAreNumbered, CoresAreIdle, StartsFresh}
+use Rattle.fl_setups.specs.Start.{SidesHaveOneCore, QueuesHaveOneCore, CoresAreApart, SidesAreThere, QueuesAreNew, LinksArePaired, CoresAreNumbered, CoresAreIdle, StartsFresh}
 use Rattle.fl_deal.specs.Dealt.{Hands}
+use Rattle.fl_worlds.specs.Picture.{NamesQueue, NamesSide}
 use Rattle.fl_stations.specs.Runs.{TheOutcome, TheStation}
 use Rattle.fl_threads.specs.Begins.{Places}
 use Rattle.fl_threads.specs.Shares.{AreShared, Shares}

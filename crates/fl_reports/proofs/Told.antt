@@ -6,10 +6,11 @@ use Rattle.std.proofs.lemmas.Option.{slice_get_past, slice_get_within}
 use Rattle.fl_base.specs.declared.identity.Side.{Side}
 use Rattle.fl_base.specs.declared.identity.Side.TheVariants.{Client, Server}
 use Rattle.fl_base.specs.declared.identity.EndId.{EndId}
+use Rattle.fl_base.specs.Given.{given}
+use Rattle.fl_base.specs.Numbered.{most_bindings}
 use Rattle.fl_value.specs.Value.{TheCall, call_of}
 use Rattle.fl_ring.specs.SharedSides.{TheSide}
-use Rattle.fl_queues.specs.Given.{given}
-use Rattle.fl_node.specs.View.{TheCore, most_bindings, slot_of}
+use Rattle.fl_node.specs.View.{TheCore, slot_of}
 use Rattle.fl_work.specs.declared.job.Job.{Job as CoreJob}
 use Rattle.fl_running.specs.Desks.{TheDesk}
 use Rattle.fl_running.specs.Run.{TheRun}

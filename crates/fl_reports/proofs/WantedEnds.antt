@@ -6,6 +6,7 @@ use Rattle.std.specs.List.{flat_map}
 use Rattle.fl_base.specs.declared.identity.EndId.{EndId}
 use Rattle.fl_base.specs.declared.identity.Side.{Side}
 use Rattle.fl_base.specs.declared.identity.Side.TheVariants.{Client, Server}
+use Rattle.fl_base.specs.Given.{given}
 use Rattle.fl_compile.specs.Programs.{program_of}
 use Rattle.fl_nameserv.specs.declared.registration.Service.{Service as Offer}
 use Rattle.fl_nameserv.specs.Registrations.{TheRegistration}
@@ -14,7 +15,6 @@ use Rattle.fl_core.specs.View.{TheSeat}
 use Rattle.fl_queues.specs.Binding.{place_of_service}
 use Rattle.fl_queues.specs.Ends.{End}
 use Rattle.fl_queues.specs.Events.{DispatcherId}
-use Rattle.fl_queues.specs.Given.{given}
 use Rattle.fl_queues.specs.Monitors.{Service}
 use Rattle.fl_queues.specs.State.{end_in}
 use Rattle.fl_node.specs.View.{TheCore, place_in, place_of, client_of}
@@ -31,7 +31,7 @@ use Rattle.fl_system.specs.Booting.{TheConfig}
 use Rattle.fl_jobs.specs.Jobs.{Job, Wish as FileWish}
 use Rattle.fl_jobs.specs.Report.{TheReport}
 use Rattle.fl_dockets.specs.declared.docket.Bound.{Bound}
-use Rattle.fl_dockets.specs.Joined.{core_of}
+use Rattle.fl_dockets.specs.Joined.{core_of, core_at}
 use Rattle.fl_dockets.specs.State.{TheJoined}
 use Rattle.fl_dockets.specs.Whole.{wish_in}
 use Rattle.fl_setups.specs.Start.{SetUpsStartFresh}
@@ -39,7 +39,7 @@ use Rattle.fl_honest.specs.Asked.{SatAt}
 use Rattle.fl_honest.specs.Cores.{shared_ways, OneCore, CoresGo}
 use Rattle.fl_honest.specs.Runs.{AreSetUp}
 use Rattle.fl_honest.specs.Sitting.{SitsAsWished, EndsSit}
-use Rattle.fl_endings.specs.Begins.{core_at, Ran}
+use Rattle.fl_endings.specs.Begins.{Ran}
 use Rattle.fl_endings.specs.Cores.{OneCore as EndedCore}
 use Rattle.fl_endings.specs.Few.{IsAt, EndsStay, AreEnds}
 use Rattle.fl_endings.proofs.Few.{settles}

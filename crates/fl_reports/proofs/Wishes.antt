@@ -7,9 +7,10 @@ use Rattle.std.proofs.lemmas.List.{length-append, length-map}
 use Rattle.std.proofs.lemmas.List.Quantifiers.{position-Some}
 use Rattle.std.proofs.lemmas.Option.{same_Some}
 use Rattle.fl_base.specs.declared.identity.CoreId.{CoreId}
+use Rattle.fl_base.specs.Given.{given}
 use Rattle.fl_nameserv.specs.Registrations.{TheRegistration, by_name}
 use Rattle.fl_hop.specs.Table.{TheCircuits, link_of}
-use Rattle.fl_monitor.specs.Routing.{given, is_core, is_route, begins_at, ends_at_core, all_differ}
+use Rattle.fl_monitor.specs.Routing.{is_core, is_route, begins_at, ends_at_core, all_differ}
 use Rattle.fl_node.proofs.Numbering.{goes_to}
 use Rattle.fl_laws.proofs.Small.{both_are}
 use Rattle.fl_queues.specs.Binding.{place_of_service}

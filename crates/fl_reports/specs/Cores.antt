@@ -1,5 +1,6 @@
 -- The cores of a run, as they are behind a report of `run_cores`.
 use Rattle.std.specs.Prelude.{ℕ, List, [], ◌∷◌}
+use Rattle.std.specs.List.{AllZip}
 use Rattle.fl_work.specs.declared.job.Job.{Job as CoreJob}
 use Rattle.fl_running.specs.Ran.{moment}
 use Rattle.fl_jobs.specs.Jobs.{Job}
@@ -7,7 +8,7 @@ use Rattle.fl_jobs.specs.Report.{TheReport}
 use Rattle.fl_system.specs.Booting.{TheConfig}
 use Rattle.fl_dockets.specs.State.{TheJoined}
 use Rattle.fl_endings.specs.Cores.{OneCore}
-use Rattle.fl_stations.specs.Runs.{TheOutcome, Each2, TheStation, RanTo}
+use Rattle.fl_stations.specs.Runs.{TheOutcome, TheStation, RanTo}
 use Rattle.fl_cores.specs.Promised.{Reports}
 
 -- one core, from what its thread was given to what came of it
@@ -16,7 +17,7 @@ core_of jobs limit s o ran = record { plan = s.plan; part = o.part; begin = mome
 
 -- all of them, in order
 abbrev pub cores_of : (jobs : List CoreJob) (limit : ℕ) (stations : List TheStation) (outcomes : List TheOutcome)
-    → Each2 (RanTo jobs limit) stations outcomes → List OneCore
+    → AllZip (RanTo jobs limit) stations outcomes → List OneCore
 cores_of jobs limit [] [] ran = []
 cores_of jobs limit [] (o ∷ outcomes) ran = []
 cores_of jobs limit (s ∷ stations) [] ran = []

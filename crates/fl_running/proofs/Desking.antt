@@ -4,7 +4,7 @@ use Rattle.std.proofs.lemmas.Option.{slice_get_read, slice_get_past, same_Some}
 use Rattle.std.proofs.lemmas.Bool.{ltb-true, ltb-false}
 use Rattle.std.specs.Prelude.{is_some, IfSome, IfNone}
 use Rattle.fl_base.specs.declared.identity.EndId.{EndId}
-use Rattle.fl_monitor.specs.Routing.{given}
+use Rattle.fl_base.specs.Given.{given}
 use Rattle.fl_work.specs.declared.job.Job.{Job}
 use Rattle.fl_running.specs.Desks.{TheDesk, desk_place, ChangesIf, is_clear}
 use Rattle.fl_running.specs.Run.{TheRun, AtDesk, next_job}

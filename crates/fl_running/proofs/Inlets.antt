@@ -1,6 +1,6 @@
 -- An end takes from a side that is lent exactly where it has no arrival queue of its own.
 use Rattle.std.proofs.Common.{◌≡◌, refl, subst, ℕ, slice_get, Option, Some, None, IsSome, rules}
-use Rattle.fl_monitor.specs.Routing.{given}
+use Rattle.fl_base.specs.Given.{given}
 use Rattle.fl_node.specs.declared.wire.Wire.{Wire}
 use Rattle.fl_node.specs.declared.wire.Wire.TheVariants.{Queues, Ring, Circuit}
 use Rattle.fl_node.specs.declared.wire.Port.{Port}

@@ -1,7 +1,7 @@
 -- A link whose side is known is one of the core's.
 use Rattle.std.proofs.Common.{◌≡◌, refl, ℕ, ◌<◌, List, length, slice_get, Option, Some, None}
 use Rattle.std.proofs.lemmas.Option.{slice_get_within}
-use Rattle.fl_monitor.specs.Routing.{given}
+use Rattle.fl_base.specs.Given.{given}
 use Rattle.fl_node.specs.declared.wire.Lane.{Lane}
 use Rattle.fl_node.specs.View.{side_of_link}
 

@@ -1,7 +1,7 @@
 -- The end that is due at a dispatcher, and the one of a name, where what they need is lent.
 use Rattle.std.proofs.Common.{◌≡◌, ap, ◌∙◌, ℕ, Bool, if◌then◌else◌, Option, Some, None}
+use Rattle.fl_base.specs.Given.{given}
 use Rattle.fl_core.specs.View.{due}
-use Rattle.fl_monitor.specs.Routing.{given}
 use Rattle.fl_node.specs.declared.wire.Inlet.{Inlet}
 use Rattle.fl_node.specs.View.{inlet_of}
 use Rattle.fl_running.specs.Run.{TheRun, lends_in, lent_due}

@@ -3,7 +3,7 @@ use Rattle.std.proofs.Common.{◌≡◌, refl, sym, ap, ◌∙◌, ℕ, zero, su
 use Rattle.std.proofs.lemmas.Bool.{ltb-true, ltb-false}
 use Rattle.std.proofs.lemmas.Option.{slice_get-get_or}
 use Rattle.fl_base.specs.declared.identity.EndId.{EndId}
-use Rattle.fl_monitor.specs.Routing.{given}
+use Rattle.fl_base.specs.Given.{given}
 use Rattle.fl_tally.specs.declared.board.View.{View}
 use Rattle.fl_tally.specs.Tally.{with_seen}
 use Rattle.fl_tally.specs.Seats.{TheSeat, knowing}

@@ -1,8 +1,9 @@
 -- A desk, as contracts see it: where the jobs of an end lie.
 use Rattle.std.specs.Prelude.{ℕ, ◌≡◌, ◌+◌, ◌==◌, ◌&&◌, nat_lt, Bool, if◌then◌else◌, List, [], ◌∷◌, ◌++◌, length, slice_get, slice_set, Option, Some, None}
 use Rattle.fl_base.specs.declared.identity.EndId.{EndId}
+use Rattle.fl_base.specs.Numbered.{most_bindings}
 use Rattle.fl_value.specs.declared.value.Call.{Call}
-use Rattle.fl_node.specs.View.{most_bindings, slot_of}
+use Rattle.fl_node.specs.View.{slot_of}
 
 -- what is to be done at an end, and what came of it
 pub record TheDesk : Type 0 where

@@ -35,6 +35,14 @@ moment run ticket = record { run = run; ticket = ticket }
 
 -- ---- counted turns
 
+abbrev pub is_unfinished : End → Bool
+is_unfinished Unfinished = true
+is_unfinished end = false
+
+abbrev pub is_told : End → Bool
+is_told Told = true
+is_told end = false
+
 -- refusals are told and learned, and then something is left to do, or nothing is
 abbrev pub TakesStock : {S : Type 0} → Plan → Moment S → Stock → Bool → Type 0
 TakesStock plan a c finished = ExchangesAll a.run plan.ends.items a.ticket c × (is_finished a.run plan.ends.items c.words ≡ finished)

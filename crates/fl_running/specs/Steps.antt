@@ -5,6 +5,7 @@ use Rattle.std.specs.Prelude.{Option, Some, None, Result, Ok, Err}
 use Rattle.fl_base.specs.declared.identity.EndId.{EndId}
 use Rattle.fl_base.specs.declared.identity.LinkId.{LinkId}
 use Rattle.fl_base.specs.declared.identity.MsgNo.{MsgNo}
+use Rattle.fl_base.specs.Numbered.{most_bindings}
 use Rattle.fl_value.specs.declared.value.Call.{Call as AnyCall}
 use Rattle.fl_value.specs.Value.{call_of}
 use Rattle.fl_endpoint.specs.declared.fault.EndFault.{EndFault}
@@ -25,7 +26,7 @@ use Rattle.fl_node.specs.declared.fault.LinkFault.{LinkFault}
 use Rattle.fl_node.specs.declared.fault.LinkFault.TheVariants as link
 use Rattle.fl_node.specs.declared.fault.OpenFault.{OpenFault}
 use Rattle.fl_node.specs.declared.fault.OpenFault.TheVariants as opening
-use Rattle.fl_node.specs.View.{place_of, client_of, most_bindings}
+use Rattle.fl_node.specs.View.{place_of, client_of}
 use Rattle.fl_work.specs.declared.job.Wish.{Wish}
 use Rattle.fl_work.specs.declared.job.Job.{Job}
 use Rattle.fl_work.specs.declared.job.Job.TheVariants as job

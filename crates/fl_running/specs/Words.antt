@@ -1,7 +1,7 @@
 -- What a core tells of refused openings by the words of the run's table, and learns by them, between its turns.
 use Rattle.std.specs.Prelude.{ℕ, ◌≡◌, ◌<◌, ◌==◌, Bool, true, false, if◌then◌else◌, List, length, slice_get, slice_set, Option, Some, None}
 use Rattle.fl_base.specs.declared.identity.EndId.{EndId}
-use Rattle.fl_monitor.specs.Routing.{given}
+use Rattle.fl_base.specs.Given.{given}
 use Rattle.fl_node.specs.View.{place_of}
 use Rattle.fl_tally.specs.declared.board.View.{View}
 use Rattle.fl_tally.specs.Tally.{MayTell, Agrees, with_stored, with_heard}
@@ -20,6 +20,11 @@ refusal_at s name =
     desk.refused
 
 -- ---- one end
+
+-- the word for a binding that a job opens, and for one that is set up
+abbrev pub word_by : (ℕ → Word) → Option ℕ → Word
+word_by word None = Silent
+word_by word (Some job) = word job
 
 -- the seat may do what the word is for: tell of the job, which it hasn't, or ask for it
 abbrev pub MayUse : Word → View → Type 0

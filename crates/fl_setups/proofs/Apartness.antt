@@ -4,6 +4,7 @@ use Rattle.std.specs.Prelude.{is_some}
 use Rattle.fl_base.specs.declared.identity.EndId.{EndId}
 use Rattle.fl_base.specs.declared.identity.Side.{Side}
 use Rattle.fl_base.specs.Ends.{peer}
+use Rattle.fl_base.specs.Given.{given as given_here, given}
 use Rattle.fl_hop.specs.declared.links.LinkState.{LinkState}
 use Rattle.fl_hop.specs.Table.{TheCircuits, link_of}
 use Rattle.fl_node.specs.View.{TheCore, place_of, side_of_link}
@@ -12,8 +13,6 @@ use Rattle.fl_node.specs.declared.wire.Lane.{Lane}
 use Rattle.fl_node.specs.declared.wire.Port.{Port}
 use Rattle.fl_node.specs.declared.wire.Wire.{Wire}
 use Rattle.fl_node.specs.declared.wire.Wire.TheVariants.{Queues, Ring}
-use Rattle.fl_monitor.specs.Routing.{given as given_here}
-use Rattle.fl_queues.specs.Given.{given}
 use Rattle.fl_queues.specs.Rings.{RingEnd, RingSide, first_side, second_side}
 use Rattle.fl_queues.specs.Ends.{Seat, End}
 use Rattle.fl_queues.specs.Monitors.{Core, Link, link_to}
@@ -21,7 +20,7 @@ use Rattle.fl_queues.specs.State.{Back, local, over_ring, over_route, Binding, S
 use Rattle.fl_queues.specs.SoundPlaces.{TakesFrom as EndTakesFrom, opposite, core_to, this_end, owns}
 use Rattle.fl_queues.specs.Sound.{Sound}
 use Rattle.fl_worlds.specs.View.{TheWorld, side_number, side_at, ring_at}
-use Rattle.fl_worlds.specs.Picture.{wire_of, lane_of, CoreShows, SitsAt, Shows}
+use Rattle.fl_worlds.specs.Picture.{wire_of, lane_of, CoreShows, SitsAt, Shows, NamesQueue}
 use Rattle.fl_laws.proofs.BindingWalk.{given_there}
 use Rattle.fl_laws.proofs.CoresKept.{link_place}
 use Rattle.fl_laws.proofs.EndsStanding.{in_range}
@@ -29,7 +28,7 @@ use Rattle.fl_laws.proofs.TurnsTold.{peer_twice}
 use Rattle.fl_worlds.proofs.FramesBase.{gets, same_some, end_of_binding}
 use Rattle.fl_worlds.proofs.MakingBase.{map_at}
 use Rattle.fl_worlds.proofs.PassingLanes.{lane_side, side_of_number, ring_of_number}
-use Rattle.fl_setups.specs.Start.{NamesQueue, SidesHaveOneCore, QueuesHaveOneCore, CoresAreApart, SidesAreThere, across, LeadsBack, LinksArePaired}
+use Rattle.fl_setups.specs.Start.{SidesHaveOneCore, QueuesHaveOneCore, CoresAreApart, SidesAreThere, across, LeadsBack, LinksArePaired}
 use Rattle.fl_setups.proofs.Finding.{wire_at, wired, owns_side}
 use Rattle.fl_setups.proofs.Freshness.{peer_takes}
 

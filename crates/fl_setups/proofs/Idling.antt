@@ -2,11 +2,11 @@
 use Rattle.std.proofs.Common.{◌≡◌, refl, sym, ◌∙◌, ap, subst, ℕ, zero, suc, ◌<◌, List, [], ◌∷◌, ◌++◌, length, map, slice_get, Option, Some, None, arith}
 use Rattle.std.specs.Prelude.{Contains, filter_map}
 use Rattle.fl_base.specs.declared.fragment.Frag.{Frag}
+use Rattle.fl_base.specs.Given.{given}
 use Rattle.fl_hop.specs.declared.entry.Hop.{Hop}
 use Rattle.fl_hop.specs.Table.{TheCircuits, hop_at}
 use Rattle.fl_monitor.specs.Outboxes.{AreFragsOf}
 use Rattle.fl_node.specs.View.{TheCore}
-use Rattle.fl_queues.specs.Given.{given}
 use Rattle.fl_queues.specs.Rings.{Said}
 use Rattle.fl_queues.specs.Monitors.{Link}
 use Rattle.fl_queues.specs.State.{Back, Route, State, link_between}

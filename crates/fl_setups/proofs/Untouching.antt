@@ -3,10 +3,12 @@ use Rattle.std.proofs.Common.{◌≡◌, refl, sym, ◌∙◌, ap, subst, ℕ, z
 use Rattle.std.proofs.Common.{slice_get, Option, Some, None, IfSome}
 use Rattle.std.specs.List.{range_with_len, list_all}
 use Rattle.fl_base.specs.declared.identity.Side.TheVariants.{Client}
+use Rattle.fl_base.specs.Given.{given}
+use Rattle.fl_base.specs.Numbered.{most_cores, most_bindings}
 use Rattle.fl_interface.specs.Interface.{TheInterface}
 use Rattle.fl_value.specs.declared.value.PlanNo.{PlanNo}
 use Rattle.fl_hop.specs.declared.links.LinkState.{LinkState}
-use Rattle.fl_queues.specs.Given.{given, changed_at}
+use Rattle.fl_queues.specs.Given.{changed_at}
 use Rattle.fl_queues.specs.Events.{DispatcherId, Kind, by_queues, by_ring, by_route, Event, add_interface, set_cores, add_link, add_dispatcher, export, bind, call, show, write}
 use Rattle.fl_queues.specs.Events.{turn, acknowledge, register, deregister, reply, monitor_write, forward, monitor_acknowledge, Answer}
 use Rattle.fl_queues.specs.Events.{refused}
@@ -15,9 +17,9 @@ use Rattle.fl_queues.specs.Waits.{Dispatcher, with_end}
 use Rattle.fl_queues.specs.Rings.{RingSide, first_side, second_side, fresh_ring}
 use Rattle.fl_queues.specs.Monitors.{Core, fresh_core}
 use Rattle.fl_queues.specs.State.{Back, local, over_ring, State, Outcome, dispatcher_of, change_dispatcher, change_end}
-use Rattle.fl_queues.specs.Making.{most_cores, most_interfaces, most_dispatchers, most_services, is_ring_size, has_interface, adds_interface, sets_cores, is_core, has_link, linked, adds_link}
+use Rattle.fl_queues.specs.Making.{most_interfaces, most_dispatchers, most_services, is_ring_size, has_interface, adds_interface, sets_cores, is_core, has_link, linked, adds_link}
 use Rattle.fl_queues.specs.Making.{count_dispatchers, adds_dispatcher, has_service, exports}
-use Rattle.fl_queues.specs.Binding.{most_bindings, Wanted, with_new_binding, binds_both, has_both_places, binds_by_queues, binds_by_ring, binds_by, place_of_service, binds}
+use Rattle.fl_queues.specs.Binding.{Wanted, with_new_binding, binds_both, has_both_places, binds_by_queues, binds_by_ring, binds_by, place_of_service, binds}
 use Rattle.fl_queues.specs.Step.{does, settles_by, settles, step}
 use Rattle.fl_queues.specs.Worlds.{start_with}
 use Rattle.fl_queues.specs.Runs.{reached}

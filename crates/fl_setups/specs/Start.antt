@@ -22,7 +22,7 @@ use Rattle.fl_queues.specs.Runs.{reached}
 use Rattle.fl_worlds.specs.declared.binding.Binding.{Binding}
 use Rattle.fl_worlds.specs.View.{TheWorld, ring_at, core_in}
 use Rattle.fl_worlds.specs.Binding.{new_queue}
-use Rattle.fl_worlds.specs.Picture.{wire_of, Shows}
+use Rattle.fl_worlds.specs.Picture.{Shows, NamesQueue, NamesSide}
 use Rattle.fl_worlds.specs.Apart.{is_making}
 use Rattle.fl_setups.specs.Untouched.{Untouched}
 
@@ -44,16 +44,6 @@ EndsHaveBindings w = (n place : ℕ) (c : TheCore) (e : EndId) → slice_get w.c
     → (b : Binding) × (slice_get w.bindings e.binding ≡ Some b) × (core_in e.side b ≡ n)
 
 -- ---- which sides of rings and which queues a core names
-
--- as the side of a link, or as that of an end
-abbrev pub NamesSide : TheCore → ℕ → Type 0
-NamesSide c side = ((l : ℕ) × (side_of_link c.lanes l ≡ Some side)) ⊎ ((e : EndId) × (wire_of c e ≡ Some (Ring side)))
-
--- as that which an end puts to, or as that which an end takes from
-abbrev pub NamesQueue : TheCore → ℕ → Type 0
-NamesQueue c queue =
-    ((e : EndId) × (from : ℕ) × (wire_of c e ≡ Some (Queues queue from)))
-    ⊎ ((e : EndId) × (out : ℕ) × (wire_of c e ≡ Some (Queues out queue)))
 
 -- no two cores name one side
 abbrev pub SidesHaveOneCore : TheWorld → Type 0

@@ -3,16 +3,17 @@ use Rattle.std.proofs.Common.{◌≡◌, refl, sym, ◌∙◌, ap, subst, ℕ, z
 use Rattle.std.proofs.lemmas.Option.{same_Some}
 use Rattle.std.proofs.lemmas.List.{map_push, length-map}
 use Rattle.fl_base.specs.declared.fragment.Frag.{Frag}
+use Rattle.fl_base.specs.Given.{given as given_here, given}
+use Rattle.fl_base.specs.Numbered.{link_id}
 use Rattle.fl_hop.specs.Table.{TheCircuits, with_link}
 use Rattle.fl_monitor.specs.declared.message.Message.{Message}
 use Rattle.fl_monitor.specs.Intermon.{HasWidths}
-use Rattle.fl_monitor.specs.Routing.{given as given_here}
 use Rattle.fl_monitor.specs.Outboxes.{IsFragOf, AreFragsOf}
 use Rattle.fl_monitor.specs.Monitors.{TheMonitor, waiting_for}
 use Rattle.fl_monitor.specs.Monitors.{can_say as monitor_can_say, Said as HasSaid}
-use Rattle.fl_queues.specs.Given.{given, changed_at}
+use Rattle.fl_queues.specs.Given.{changed_at}
 use Rattle.fl_queues.specs.Rings.{Said, RingEnd}
-use Rattle.fl_queues.specs.Monitors.{Link, Core, outbox_room, says_more, with_said, with_circuits, link_id}
+use Rattle.fl_queues.specs.Monitors.{Link, Core, outbox_room, says_more, with_said, with_circuits}
 use Rattle.fl_shows.specs.Fragments.{message_of, said_frag}
 use Rattle.fl_shows.specs.Cores.{OutboxesShow, MonitorShows}
 use Rattle.fl_shows.specs.FragmentLaws.{MessagesAreSaid}

@@ -8,6 +8,7 @@ use Rattle.fl_base.specs.declared.identity.EndId.{EndId}
 use Rattle.fl_base.specs.Control.{body, bare, control_word, circuit_of, with_circuit}
 use Rattle.fl_interface.specs.Limits.{is_within_limits}
 use Rattle.std.proofs.lemmas.Bool.{and_parts, leb-true, false≢true}
+use Rattle.fl_base.specs.Given.{given}
 use Rattle.fl_interface.specs.Interface.{TheMessage, TheInterface}
 use Rattle.fl_value.specs.Value.{Datum, TheCall}
 use Rattle.fl_value.specs.Fits.{fits_of, fit_message}
@@ -17,7 +18,6 @@ use Rattle.fl_wire.specs.Payload.{payload_of, frag_on, frags_of}
 use Rattle.fl_endpoint.specs.Laws.{OnAnotherCircuit}
 use Rattle.fl_monitor.specs.Intermon.{intermon, call_for, HasWidths}
 use Rattle.fl_monitor.specs.Saying.{Says, FitsByWidths, EachTakesOneFragment, SaysNoOther, SaysWhatIsWritten, SaysTheSame, SaysAlone}
-use Rattle.fl_queues.specs.Given.{given}
 use Rattle.fl_queues.specs.Calls.{Planned, stream}
 use Rattle.fl_queues.specs.Rings.{Said, open_circuit, circuit_opened, circuit_refused, Label, next_of, says, acknowledges}
 use Rattle.fl_queues.specs.State.{Route, over_route, Binding, State, binding_of, interface_of, end_in, number_between}

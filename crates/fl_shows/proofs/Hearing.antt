@@ -7,6 +7,8 @@ use Rattle.std.proofs.lemmas.Option.{slice_get-map}
 use Rattle.std.proofs.lemmas.Bool.Decides.{nat_tests}
 use Rattle.std.proofs.lemmas.Iterator.Adapters.{position_from-zero}
 use Rattle.fl_base.specs.declared.identity.Circuit.{Circuit}
+use Rattle.fl_base.specs.Given.{given as given_here, given}
+use Rattle.fl_base.specs.Numbered.{core_id, link_id, circuit_id}
 use Rattle.fl_hop.specs.declared.entry.Way.{Way}
 use Rattle.fl_hop.specs.declared.entry.Way.TheVariants.{Link as to_link, End as to_end}
 use Rattle.fl_hop.specs.declared.entry.Hop.{Hop}
@@ -19,17 +21,16 @@ use Rattle.fl_monitor.specs.declared.heard.Heard.TheVariants.{OpeningWentOn, Ser
 use Rattle.fl_monitor.specs.declared.message.Message.TheVariants.{OpenCircuit, CircuitOpened, CircuitRefused}
 use Rattle.fl_monitor.specs.declared.fault.MonitorFault.{MonitorFault}
 use Rattle.fl_monitor.specs.declared.fault.MonitorFault.TheVariants.{Astray, Differs, NoRoute, UsedUp, OutboxFull, PlansDiffer, Memory}
-use Rattle.fl_monitor.specs.Routing.{given as given_here, is_core, next_on as next_named}
+use Rattle.fl_monitor.specs.Routing.{is_core, next_on as next_named}
 use Rattle.fl_monitor.specs.Fates.{Known, fate as fated, arrival as arrives, passage as passes_by}
 use Rattle.fl_monitor.specs.Hearing.{ComesTo, heard_by, opened_at, refused_at, says as says_then, after_opening, table_after}
 use Rattle.fl_monitor.specs.Monitors.{TheMonitor, may_say, AllSaid, Hears, Opens}
 use Rattle.fl_monitor.specs.Monitors.{can_say as monitor_can_say}
-use Rattle.fl_queues.specs.Given.{given}
 use Rattle.fl_queues.specs.Rings.{Opening, Said, open_circuit, circuit_opened, circuit_refused}
 use Rattle.fl_queues.specs.Waits.{has_places}
-use Rattle.fl_queues.specs.Monitors.{Core, Service, service_of, link_to, next_on, Fate, goes_on, ends_at, fails, arrival, passage, fate, can_say, with_said, with_circuits, link_id, circuit_id}
+use Rattle.fl_queues.specs.Monitors.{Core, Service, service_of, link_to, next_on, Fate, goes_on, ends_at, fails, arrival, passage, fate, can_say, with_said, with_circuits}
 use Rattle.fl_queues.specs.Monitors.{Heard, no_outbox, opening_went_on, server_made, opening_failed, answer_went_on, Hearing, saying, hears_opening, hears_opened, hears_refused, goes_astray, hears, opens}
-use Rattle.fl_shows.specs.Fragments.{message_of, core_id}
+use Rattle.fl_shows.specs.Fragments.{message_of}
 use Rattle.fl_shows.specs.Cores.{MonitorShows, registered_from, offer_of, NamesShow}
 use Rattle.fl_shows.specs.CoreLaws.{registration_of, asked_of, SameHeard, HasPlaceAt, LeadsOn, MayBeHeard, delivery, HearAgrees, HearsAgree, NamesAgree}
 use Rattle.fl_shows.proofs.Tests.{by_test, then_is, else_is}

@@ -11,8 +11,8 @@ use Rattle.fl_base.specs.declared.fragment.Frag.{Frag}
 use Rattle.fl_base.specs.declared.identity.EndId.{EndId}
 use Rattle.fl_base.specs.declared.identity.Side.{Side}
 use Rattle.fl_base.specs.declared.identity.Side.TheVariants.{Client, Server}
+use Rattle.fl_base.specs.Given.{given}
 use Rattle.fl_lists.specs.ThreeLists.{is_in}
-use Rattle.fl_queues.specs.Given.{given}
 use Rattle.fl_queues.specs.Calls.{Planned, stream}
 use Rattle.fl_queues.specs.Rings.{next_of}
 use Rattle.fl_queues.specs.Ends.{written_of, End, is_bound}

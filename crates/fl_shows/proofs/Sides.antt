@@ -3,13 +3,13 @@ use Rattle.std.proofs.Common.{◌≡◌, ◌⊎◌, inl, inr, refl, sym, ◌∙�
 use Rattle.std.proofs.lemmas.Bool.{eqb-true}
 use Rattle.fl_base.specs.declared.fragment.Frag.{Frag}
 use Rattle.fl_base.specs.Control.{bare}
+use Rattle.fl_base.specs.Given.{given}
 use Rattle.fl_link.specs.Looks.{Look, placed, no_room, spent, saw, saw_ack, found, found_ack, missed, told, kept}
 use Rattle.fl_link.specs.Queue.{front_of}
 use Rattle.fl_link.proofs.Conserved.{sees_call, sees_ack}
 use Rattle.fl_ring.specs.Duo.{TheHalf, TheDuo, looked, with_known, with_written, with_arrived, counts_by, HalfPuts, HalfTakes, DuoPuts, DuoTakes, side_of, across, knowing, acknowledgement}
 use Rattle.fl_ring.specs.Duo.{written as written_frag, free as free_slots}
 use Rattle.fl_ring.specs.Duo.{with_taken}
-use Rattle.fl_queues.specs.Given.{given}
 use Rattle.fl_queues.specs.Rings.{Label, acknowledges, RingLabel, Half, Ring, RingSide, first_side, second_side, written_by, read_by, with_halves, first_for, knows, looks, free, is_spent, room, Room, makes_sure, adds, tells_all, puts, reads, takes, owes, for_data, for_acknowledgement}
 use Rattle.fl_queues.specs.Rings.{there_is_room, no_room as none_free, spent as used_up}
 use Rattle.fl_queues.specs.Standing.{labels_of}

@@ -3,8 +3,8 @@ use Rattle.std.proofs.Common.{◌≡◌, refl, sym, ◌∙◌, ap, ℕ, zero, su
 use Rattle.std.specs.Prelude.{IsSome}
 use Rattle.std.proofs.lemmas.Bool.{false≢true}
 use Rattle.std.proofs.lemmas.Option.{slice_get_within, get_or_from_slice_get}
+use Rattle.fl_base.specs.Given.{given}
 use Rattle.fl_hop.specs.declared.links.LinkState.{LinkState}
-use Rattle.fl_queues.specs.Given.{given}
 use Rattle.fl_queues.specs.Monitors.{Core, Link, link_to}
 use Rattle.fl_queues.specs.State.{Route, State, core_of, link_between, place_in, number_between}
 use Rattle.fl_queues.specs.Standing.{core_at, number_at, link_state}

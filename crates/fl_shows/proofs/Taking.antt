@@ -6,6 +6,7 @@ use Rattle.std.proofs.lemmas.List.{length-drop, length-take, take-append-drop, d
 use Rattle.std.proofs.lemmas.Option.{slice_get_within, slice_get_past, get_or_from_slice_get}
 use Rattle.fl_base.specs.declared.fragment.Frag.{Frag}
 use Rattle.fl_base.specs.Control.{bare}
+use Rattle.fl_base.specs.Given.{given}
 use Rattle.fl_value.specs.Value.{TheCall, call_of}
 use Rattle.fl_compile.specs.Programs.{program_of}
 use Rattle.fl_endpoint.specs.declared.fault.EndFault.{EndFault}
@@ -16,7 +17,7 @@ use Rattle.fl_endpoint.specs.View.{TheEnd, TheOutgoing, frags_from, queued, queu
 use Rattle.fl_endpoint.specs.Events.{TakesIn}
 use Rattle.fl_endpoint.specs.Accounts.{Sound}
 use Rattle.fl_endpoint.specs.Laws.{TakesInOrder, TakesNext}
-use Rattle.fl_queues.specs.Given.{given, changed_at}
+use Rattle.fl_queues.specs.Given.{changed_at}
 use Rattle.fl_queues.specs.Calls.{Planned, fragments, total, whole_in, stream}
 use Rattle.fl_queues.specs.Ends.{Direction, taken_of, last_station, takes_one, handled, comes_to, whole, a_part, End, replies, rule_at, accepts_or_waits}
 use Rattle.fl_queues.specs.SoundLabels.{IsCounted}

@@ -10,7 +10,7 @@ use Rattle.fl_base.specs.declared.identity.EndId.{EndId}
 use Rattle.fl_base.specs.declared.identity.Side.{Side}
 use Rattle.fl_base.specs.declared.identity.Side.TheVariants.{Client, Server}
 use Rattle.fl_base.specs.Ends.{peer, other}
-use Rattle.fl_queues.specs.Given.{given}
+use Rattle.fl_base.specs.Given.{given}
 use Rattle.fl_queues.specs.Calls.{Planned, total, stream}
 use Rattle.fl_queues.specs.Rings.{Label, next_of, says, acknowledges, RingLabel, Ring, RingEnd, RingSide, first_side, second_side, written_by, read_by, first_for}
 use Rattle.fl_queues.specs.Ends.{Queue, taken_of, last_station, End}

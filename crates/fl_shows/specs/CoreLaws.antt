@@ -2,6 +2,7 @@
 use Rattle.std.specs.Prelude.{ℕ, ◌≡◌, ◌≢◌, ◌+◌, List, [], ◌∷◌, ◌++◌, map, slice_get, Some, None, Result, Ok, Err}
 use Rattle.fl_base.specs.declared.identity.Circuit.{Circuit}
 use Rattle.fl_base.specs.declared.identity.CoreId.{CoreId}
+use Rattle.fl_base.specs.Numbered.{core_id, link_id}
 use Rattle.fl_hop.specs.Table.{with_link}
 use Rattle.fl_nameserv.specs.Registrations.{TheRegistration, by_name, by_iref, with_registered}
 use Rattle.fl_monitor.specs.declared.heard.Heard.{Heard}
@@ -17,12 +18,12 @@ use Rattle.fl_monitor.specs.Monitors.{TheMonitor, fresh_monitor, waiting_for, wi
 use Rattle.fl_monitor.specs.Monitors.{can_say as monitor_can_say}
 use Rattle.fl_queues.specs.Rings.{Opening, Said, open_circuit, RingEnd}
 use Rattle.fl_queues.specs.Waits.{Dispatcher, has_places}
-use Rattle.fl_queues.specs.Monitors.{can_say, Link, Core, fresh_core, Service, service_of, link_to, next_on, Hearing, hears, opens, link_id}
+use Rattle.fl_queues.specs.Monitors.{can_say, Link, Core, fresh_core, Service, service_of, link_to, next_on, Hearing, hears, opens}
 use Rattle.fl_queues.specs.Monitors.{Heard as MachineHeard, no_outbox, opening_went_on, server_made, opening_failed, answer_went_on}
 use Rattle.fl_queues.specs.Monitors.{end_opened, end_refused}
 use Rattle.fl_queues.specs.Binding.{place_of_service}
 use Rattle.fl_queues.specs.Forwarding.{without_first_said}
-use Rattle.fl_shows.specs.Fragments.{said_frag, message_of, core_id, service_id}
+use Rattle.fl_shows.specs.Fragments.{said_frag, message_of, service_id}
 use Rattle.fl_shows.specs.Cores.{MonitorShows, offer_of, NamesShow}
 
 -- ---- names

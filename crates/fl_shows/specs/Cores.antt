@@ -1,12 +1,13 @@
 -- When what else a core keeps is the picture of the machine's: circuits, outboxes, channels; and the table of names.
 use Rattle.std.specs.Prelude.{ℕ, ◌≡◌, ◌+◌, List, [], ◌∷◌, map}
 use Rattle.fl_base.specs.declared.fragment.Frag.{Frag}
+use Rattle.fl_base.specs.Numbered.{core_id}
 use Rattle.fl_nameserv.specs.declared.registration.Service.{Service as Offer}
 use Rattle.fl_nameserv.specs.Registrations.{TheRegistration}
 use Rattle.fl_monitor.specs.Outboxes.{AreFragsOf}
 use Rattle.fl_monitor.specs.Monitors.{TheMonitor}
 use Rattle.fl_queues.specs.Monitors.{Link, Core, Service}
-use Rattle.fl_shows.specs.Fragments.{message_of, core_id}
+use Rattle.fl_shows.specs.Fragments.{message_of}
 
 -- ---- monitors
 

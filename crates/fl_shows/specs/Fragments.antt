@@ -2,11 +2,11 @@
 -- epoch and telling a count.
 use Rattle.std.specs.Prelude.{ℕ, ◌≡◌, List, [], map, slice_get, Option, Some}
 use Rattle.fl_base.specs.declared.fragment.Frag.{Frag}
-use Rattle.fl_base.specs.declared.identity.CoreId.{CoreId}
-use Rattle.fl_base.specs.declared.identity.Circuit.{Circuit}
 use Rattle.fl_base.specs.declared.identity.IRef.{IRef}
 use Rattle.fl_base.specs.declared.identity.EndId.{EndId}
 use Rattle.fl_base.specs.Control.{bare}
+use Rattle.fl_base.specs.Given.{given}
+use Rattle.fl_base.specs.Numbered.{core_id, circuit_id}
 use Rattle.fl_value.specs.Value.{TheCall}
 use Rattle.fl_value.specs.declared.value.PlanNo.TheVariants.{One}
 use Rattle.fl_wire.specs.Payload.{payload_of, frag_on}
@@ -14,19 +14,12 @@ use Rattle.fl_ring.specs.Duo.{acknowledgement}
 use Rattle.fl_monitor.specs.declared.message.Message.{Message}
 use Rattle.fl_monitor.specs.declared.message.Message.TheVariants.{OpenCircuit, CircuitOpened, CircuitRefused}
 use Rattle.fl_monitor.specs.Intermon.{intermon, call_for, HasWidths}
-use Rattle.fl_queues.specs.Given.{given}
 use Rattle.fl_queues.specs.Calls.{stream}
 use Rattle.fl_queues.specs.Rings.{Said, open_circuit, circuit_opened, circuit_refused, Label, next_of, says, acknowledges}
 use Rattle.fl_queues.specs.State.{State, binding_of, interface_of, end_in, number_between}
 use Rattle.fl_queues.specs.Forwarding.{route_of}
 
 -- ---- what monitors say
-
-abbrev pub circuit_id : ℕ → Circuit
-circuit_id c = record { 0 = c }
-
-abbrev pub core_id : ℕ → CoreId
-core_id core = record { 0 = core }
 
 abbrev pub service_id : ℕ → IRef
 service_id iref = record { 0 = iref }

@@ -1,25 +1,25 @@
 -- Lists of stations, and of what came of them, the last one first.
 use borrow.Author.Count.{below_more}
 use Rattle.std.proofs.Common.{◌≡◌, sym, subst, ℕ, ◌+◌, ◌<◌, List, [], ◌∷◌, ◌++◌, slice_get, Some, Result, Ok, Err, IfOk, IsOkAnd}
+use Rattle.std.specs.List.{AllZip}
 use Rattle.fl_core.specs.View.{TheSeat}
 use Rattle.fl_endpoint.specs.Accounts.{Sound as IsEnd}
 use Rattle.fl_work.specs.declared.job.Job.{Job}
 use Rattle.fl_stations.specs.declared.station.Station.{Station}
 use Rattle.fl_stations.specs.declared.station.Done.{Done}
-use Rattle.fl_stations.specs.Runs.{Each2}
 use Rattle.fl_stations.specs.Stations.{IsReady, AllReady, StationRan}
 
-each_push : {A B : Type 0} (R : A → B → Type 0) (xs : List A) (ys : List B) (x : A) (y : B) → Each2 R xs ys → R x y
-    → Each2 R (xs ++ x ∷ []) (ys ++ y ∷ [])
+each_push : {A B : Type 0} (R : A → B → Type 0) (xs : List A) (ys : List B) (x : A) (y : B) → AllZip R xs ys → R x y
+    → AllZip R (xs ++ x ∷ []) (ys ++ y ∷ [])
 each_push R [] [] x y all one = (one, tt)
 each_push R [] (v ∷ ys) x y all one = absurd all
 each_push R (u ∷ xs) [] x y all one = absurd all
 each_push R (u ∷ xs) (v ∷ ys) x y all one = (all.0, each_push R xs ys x y all.1 one)
 
 -- where the last one was joined
-each_pushed : {A B E : Type 0} (R : A → B → Type 0) (xs : List A) (ys zs : List B) (x : A) (last : Result B E) → Each2 R xs ys → IfOk last (R x)
-    → IsOkAnd last (λ y. zs ≡ ys ++ y ∷ []) → Each2 R (xs ++ x ∷ []) zs
-each_pushed R xs ys zs x (Ok y) all one is = subst (Each2 R (xs ++ x ∷ [])) (sym is) (each_push R xs ys x y all one)
+each_pushed : {A B E : Type 0} (R : A → B → Type 0) (xs : List A) (ys zs : List B) (x : A) (last : Result B E) → AllZip R xs ys → IfOk last (R x)
+    → IsOkAnd last (λ y. zs ≡ ys ++ y ∷ []) → AllZip R (xs ++ x ∷ []) zs
+each_pushed R xs ys zs x (Ok y) all one is = subst (AllZip R (xs ++ x ∷ [])) (sym is) (each_push R xs ys x y all one)
 each_pushed R xs ys zs x (Err e) all one is = absurd is
 
 -- as the promise says of the last one
@@ -33,8 +33,8 @@ ran_last jobs jobs2 limit limit2 s s2 (Err e) same_jobs same_limit same ran = tt
 
 pub each_joined : {E F V : Type 0} (items : V → List Done) (jobs jobs2 : List Job) (limit limit2 : ℕ) (xs : List Station) (ys : List Done) (s s2 : Station)
     (last : Result Done E) (result : Result V F) → jobs2 ≡ jobs → limit2 ≡ limit → s2 ≡ s
-    → Each2 (StationRan jobs limit) xs ys → IfOk last (StationRan jobs2 limit2 s2) → IfOk result (λ v. IsOkAnd last (λ d. items v ≡ ys ++ d ∷ []))
-    → IfOk result (λ v. Each2 (StationRan jobs limit) (xs ++ s ∷ []) (items v))
+    → AllZip (StationRan jobs limit) xs ys → IfOk last (StationRan jobs2 limit2 s2) → IfOk result (λ v. IsOkAnd last (λ d. items v ≡ ys ++ d ∷ []))
+    → IfOk result (λ v. AllZip (StationRan jobs limit) (xs ++ s ∷ []) (items v))
 each_joined items jobs jobs2 limit limit2 xs ys s s2 last (Ok v) same_jobs same_limit same all ran is =
     each_pushed (StationRan jobs limit) xs ys (items v) s last all (ran_last jobs jobs2 limit limit2 s s2 last same_jobs same_limit same ran) is
 each_joined items jobs jobs2 limit limit2 xs ys s s2 last (Err e) same_jobs same_limit same all ran is = tt

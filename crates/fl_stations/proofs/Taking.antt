@@ -1,9 +1,9 @@
 -- What stays where it is while the calls of a report are moved into it.
 use Rattle.std.proofs.Common.{◌≡◌, refl, sym, ap, ◌∙◌, subst, ℕ, zero, suc, ◌+◌, ◌*◌, ◌<◌, ◌≤◌, List, [], ◌∷◌, ◌++◌, map, length, get_or, slice_get, slice_set, Some, None, Option, arith}
-use Rattle.std.specs.List.{range_with_len}
+use Rattle.std.specs.List.{range_with_len, AllZip}
 use Rattle.fl_base.specs.declared.identity.EndId.{EndId}
+use Rattle.fl_base.specs.Given.{given}
 use Rattle.fl_value.specs.Value.{TheCall}
-use Rattle.fl_queues.specs.Given.{given}
 use Rattle.fl_tally.specs.Seats.{TheSeat}
 use Rattle.fl_ring.specs.SharedSides.{TheSide}
 use Rattle.fl_node.specs.View.{slot_of, client_of, server_of}
@@ -12,9 +12,10 @@ use Rattle.fl_dockets.specs.State.{TheJoined}
 use Rattle.fl_jobs.specs.declared.report.BothEnds.{BothEnds as RustBoth}
 use Rattle.fl_jobs.specs.Report.{BothEnds}
 use Rattle.fl_jobs.specs.Reports.{both_of}
+use Rattle.fl_dockets.specs.Joined.{core_at}
 use Rattle.fl_stations.specs.declared.station.Done.{Done}
-use Rattle.fl_stations.specs.Tells.{core_at, both_at, handled_at, handled_by}
-use Rattle.fl_stations.specs.Runs.{sides_left, TheOutcome, Each2, seats_left}
+use Rattle.fl_stations.specs.Tells.{both_at, handled_at, handled_by}
+use Rattle.fl_stations.specs.Runs.{sides_left, TheOutcome, seats_left}
 use Rattle.fl_stations.specs.Stations.{outcome_of}
 use Rattle.fl_stations.specs.Taking.{KeepsFrom}
 use Rattle.fl_stations.proofs.Lists.{both_more}
@@ -22,13 +23,13 @@ use Rattle.fl_stations.proofs.Lists.{both_more}
 keeps_one : (p : ℕ) (o : TheOutcome) → KeepsFrom p o o
 keeps_one p o = record { desks = λ n _. refl; rings = refl; seat = refl }
 
-pub keeps_all : (p : ℕ) (os : List TheOutcome) → Each2 (KeepsFrom p) os os
+pub keeps_all : (p : ℕ) (os : List TheOutcome) → AllZip (KeepsFrom p) os os
 keeps_all p [] = tt
 keeps_all p (o ∷ os) = (keeps_one p o, keeps_all p os)
 
 -- where one of them changes so
 pub keeps_set : (p n : ℕ) (ds : List Done) (d d2 : Done) → d ≡ get_or ds n d → KeepsFrom p (outcome_of d) (outcome_of d2)
-    → Each2 (KeepsFrom p) (map outcome_of ds) (map outcome_of (slice_set ds n d2))
+    → AllZip (KeepsFrom p) (map outcome_of ds) (map outcome_of (slice_set ds n d2))
 keeps_set p n [] d d2 is keeps = tt
 keeps_set p zero (x ∷ ds) d d2 is keeps = (subst (λ (y : Done). KeepsFrom p (outcome_of y) (outcome_of d2)) is keeps, keeps_all p (map outcome_of ds))
 keeps_set p (suc n) (x ∷ ds) d d2 is keeps = (keeps_one p (outcome_of x), keeps_set p n ds d d2 is keeps)
@@ -41,7 +42,7 @@ keeps_both p q a b c less f g = record {
   seat = g.seat ∙ f.seat;
 }
 
-pub keeps_on : (p q : ℕ) (xs ys zs : List TheOutcome) → p ≤ q → Each2 (KeepsFrom p) xs ys → Each2 (KeepsFrom q) ys zs → Each2 (KeepsFrom q) xs zs
+pub keeps_on : (p q : ℕ) (xs ys zs : List TheOutcome) → p ≤ q → AllZip (KeepsFrom p) xs ys → AllZip (KeepsFrom q) ys zs → AllZip (KeepsFrom q) xs zs
 keeps_on p q [] [] [] less f g = tt
 keeps_on p q [] [] (c ∷ zs) less f g = absurd g
 keeps_on p q [] (b ∷ ys) zs less f g = absurd f
@@ -53,30 +54,30 @@ keeps_on p q (a ∷ xs) (b ∷ ys) (c ∷ zs) less f g = (keeps_both p q a b c l
 abbrev desk_of : Option TheOutcome → ℕ → Option TheDesk
 desk_of o slot = given o None λ o. slice_get o.run.desks slot
 
-same_desk : (p n slot : ℕ) (xs ys : List TheOutcome) → Each2 (KeepsFrom p) xs ys → p ≤ slot → desk_of (slice_get ys n) slot ≡ desk_of (slice_get xs n) slot
+same_desk : (p n slot : ℕ) (xs ys : List TheOutcome) → AllZip (KeepsFrom p) xs ys → p ≤ slot → desk_of (slice_get ys n) slot ≡ desk_of (slice_get xs n) slot
 same_desk p n slot [] [] all from = refl
 same_desk p n slot [] (b ∷ ys) all from = absurd all
 same_desk p n slot (a ∷ xs) [] all from = absurd all
 same_desk p zero slot (a ∷ xs) (b ∷ ys) all from = all.0.desks slot from
 same_desk p (suc n) slot (a ∷ xs) (b ∷ ys) all from = same_desk p n slot xs ys all.1 from
 
-same_left : (core : Option ℕ) (p slot : ℕ) (xs ys : List TheOutcome) → Each2 (KeepsFrom p) xs ys → p ≤ slot
+same_left : (core : Option ℕ) (p slot : ℕ) (xs ys : List TheOutcome) → AllZip (KeepsFrom p) xs ys → p ≤ slot
     → given core None (λ n. desk_of (slice_get ys n) slot) ≡ given core None (λ n. desk_of (slice_get xs n) slot)
 same_left None p slot xs ys all from = refl
 same_left (Some n) p slot xs ys all from = same_desk p n slot xs ys all from
 
-pub same_handled : (j : TheJoined) (p : ℕ) (e : EndId) (xs ys : List TheOutcome) → Each2 (KeepsFrom p) xs ys → p ≤ slot_of e
+pub same_handled : (j : TheJoined) (p : ℕ) (e : EndId) (xs ys : List TheOutcome) → AllZip (KeepsFrom p) xs ys → p ≤ slot_of e
     → handled_at j ys e ≡ handled_at j xs e
 same_handled j p e xs ys all from = ap (λ (d : Option TheDesk). given d [] handled_by) (same_left (core_at j.bindings e) p (slot_of e) xs ys all from)
 
-pub same_seats : (p : ℕ) (xs ys : List TheOutcome) → Each2 (KeepsFrom p) xs ys → seats_left ys ≡ seats_left xs
+pub same_seats : (p : ℕ) (xs ys : List TheOutcome) → AllZip (KeepsFrom p) xs ys → seats_left ys ≡ seats_left xs
 same_seats p [] [] all = refl
 same_seats p [] (b ∷ ys) all = absurd all
 same_seats p (a ∷ xs) [] all = absurd all
 same_seats p (a ∷ xs) (b ∷ ys) all =
     ap (λ (s : TheSeat). s ∷ seats_left ys) all.0.seat ∙ ap (λ (ss : List TheSeat). a.ticket.seat ∷ ss) (same_seats p xs ys all.1)
 
-pub same_sides : (p : ℕ) (xs ys : List TheOutcome) → Each2 (KeepsFrom p) xs ys → sides_left ys ≡ sides_left xs
+pub same_sides : (p : ℕ) (xs ys : List TheOutcome) → AllZip (KeepsFrom p) xs ys → sides_left ys ≡ sides_left xs
 same_sides p [] [] all = refl
 same_sides p [] (b ∷ ys) all = absurd all
 same_sides p (a ∷ xs) [] all = absurd all
@@ -84,7 +85,7 @@ same_sides p (a ∷ xs) (b ∷ ys) all =
     ap (λ (s : List TheSide). s ∷ sides_left ys) all.0.rings ∙ ap (λ (ss : List (List TheSide)). a.run.rings ∷ ss) (same_sides p xs ys all.1)
 
 -- one binding
-pub same_both : (j : TheJoined) (n : ℕ) (xs ys : List TheOutcome) → Each2 (KeepsFrom (2 * n)) xs ys → both_at (handled_at j ys) n ≡ both_at (handled_at j xs) n
+pub same_both : (j : TheJoined) (n : ℕ) (xs ys : List TheOutcome) → AllZip (KeepsFrom (2 * n)) xs ys → both_at (handled_at j ys) n ≡ both_at (handled_at j xs) n
 same_both j n xs ys all =
     ap (λ (c : List TheCall). let b : BothEnds = record { client = c; server = handled_at j ys (server_of n) } in b)
     (same_handled j (2 * n) (client_of n) xs ys all (omega arith))
@@ -92,7 +93,7 @@ same_both j n xs ys all =
     (same_handled j (2 * n) (server_of n) xs ys all (omega arith))
 
 -- both ends of it, the client's first
-pub both_taken : (j : TheJoined) (n : ℕ) (xs ys : List TheOutcome) (client server : List TheCall) → Each2 (KeepsFrom (slot_of (client_of n) + 1)) xs ys
+pub both_taken : (j : TheJoined) (n : ℕ) (xs ys : List TheOutcome) (client server : List TheCall) → AllZip (KeepsFrom (slot_of (client_of n) + 1)) xs ys
     → client ≡ handled_at j xs (client_of n) → server ≡ handled_at j ys (server_of n)
     → (let b : BothEnds = record { client = client; server = server } in b) ≡ both_at (handled_at j xs) n
 both_taken j n xs ys client server all first second =
@@ -100,14 +101,14 @@ both_taken j n xs ys client server all first second =
     ∙ ap (λ (c : List TheCall). let b : BothEnds = record { client = handled_at j xs (client_of n); server = c } in b)
     (second ∙ same_handled j (slot_of (client_of n) + 1) (server_of n) xs ys all (omega arith))
 
-pub both_rest : (n : ℕ) (xs ys zs : List TheOutcome) → Each2 (KeepsFrom (slot_of (client_of n) + 1)) xs ys
-    → Each2 (KeepsFrom (slot_of (server_of n) + 1)) ys zs → Each2 (KeepsFrom (2 * (n + 1))) xs zs
+pub both_rest : (n : ℕ) (xs ys zs : List TheOutcome) → AllZip (KeepsFrom (slot_of (client_of n) + 1)) xs ys
+    → AllZip (KeepsFrom (slot_of (server_of n) + 1)) ys zs → AllZip (KeepsFrom (2 * (n + 1))) xs zs
 both_rest n xs ys zs f g =
     let same : slot_of (server_of n) + 1 ≡ 2 * (n + 1) = omega arith in
-    subst (λ (p : ℕ). Each2 (KeepsFrom p) xs zs) same (keeps_on (slot_of (client_of n) + 1) (slot_of (server_of n) + 1) xs ys zs (omega arith) f g)
+    subst (λ (p : ℕ). AllZip (KeepsFrom p) xs zs) same (keeps_on (slot_of (client_of n) + 1) (slot_of (server_of n) + 1) xs ys zs (omega arith) f g)
 
 -- one binding more
-pub handled_more : (j : TheJoined) (n : ℕ) (xs ys : List TheOutcome) (all : List RustBoth) (b : RustBoth) → Each2 (KeepsFrom (2 * n)) xs ys
+pub handled_more : (j : TheJoined) (n : ℕ) (xs ys : List TheOutcome) (all : List RustBoth) (b : RustBoth) → AllZip (KeepsFrom (2 * n)) xs ys
     → map both_of all ≡ map (both_at (handled_at j xs)) (range_with_len 0 n) → both_of b ≡ both_at (handled_at j ys) n
     → map both_of (all ++ b ∷ []) ≡ map (both_at (handled_at j xs)) (range_with_len 0 (n + 1))
 handled_more j n xs ys all b keeps so is = both_more (both_at (handled_at j xs)) n all b so (is ∙ same_both j n xs ys keeps)

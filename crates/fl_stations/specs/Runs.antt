@@ -1,5 +1,5 @@
 -- A core as its thread is given it, and what comes of its run.
-use Rattle.std.specs.Prelude.{ℕ, ◌≡◌, List, [], ◌∷◌, map, slice_get, Some}
+use Rattle.std.specs.Prelude.{ℕ, ◌≡◌, List, map, slice_get, Some}
 use Rattle.fl_tally.specs.Seats.{TheSeat as TallySeat}
 use Rattle.fl_ring.specs.SharedSeats.{front_seen}
 use Rattle.fl_ring.specs.SharedSides.{TheSide, SharedPuts, SharedTakes}
@@ -39,12 +39,6 @@ pub record IsLeftSound (o : TheOutcome) : Type 0 where
   pub table : IsTable o.run.core.monitor.circuits
 
 -- ---- all cores
-
--- each of these with the one at its place
-abbrev pub Each2 : {A B : Type 0} → (A → B → Type 0) → List A → List B → Type 0
-Each2 R [] [] = Unit {0}
-Each2 R (x ∷ xs) (y ∷ ys) = R x y × Each2 R xs ys
-Each2 R xs ys = ⊥
 
 -- by core, the seat that it has in the end
 abbrev pub seats_left : List TheOutcome → List TallySeat

@@ -1,27 +1,21 @@
 -- What a report tells of what came of the cores of a run.
-use Rattle.std.specs.Prelude.{ℕ, ◌≡◌, ◌==◌, Bool, true, false, if◌then◌else◌, List, [], ◌++◌, map, take, length, slice_get, Option, Some, None}
+use Rattle.std.specs.Prelude.{ℕ, ◌≡◌, ◌==◌, Bool, false, if◌then◌else◌, List, [], ◌++◌, map, take, length, slice_get, Option, Some, None}
 use Rattle.std.specs.List.{flat_map, list_any, range_with_len}
 use Rattle.fl_base.specs.declared.identity.EndId.{EndId}
+use Rattle.fl_base.specs.Given.{given}
 use Rattle.fl_value.specs.Value.{TheCall, call_of}
-use Rattle.fl_queues.specs.Given.{given}
 use Rattle.fl_node.specs.View.{client_of, server_of, slot_of}
 use Rattle.fl_work.specs.declared.job.Job.{Job}
-use Rattle.fl_running.specs.declared.run.End.{End}
-use Rattle.fl_running.specs.declared.run.End.TheVariants.{Unfinished, Told}
 use Rattle.fl_running.specs.Desks.{TheDesk}
 use Rattle.fl_work.specs.Jobs.{calls_of_jobs}
-use Rattle.fl_dockets.specs.declared.docket.Bound.{Bound}
 use Rattle.fl_dockets.specs.Dockets.{TheDocket, docket_at, reply_by}
-use Rattle.fl_dockets.specs.Joined.{core_of}
+use Rattle.fl_dockets.specs.Joined.{core_at}
 use Rattle.fl_dockets.specs.State.{TheJoined}
 use Rattle.fl_jobs.specs.Report.{BothEnds, TheReport, complete, turns_out}
+use Rattle.fl_running.specs.Ran.{is_told, is_unfinished}
 use Rattle.fl_stations.specs.Runs.{TheOutcome}
 
 -- ---- an end
-
--- its core
-abbrev pub core_at : List Bound → EndId → Option ℕ
-core_at bindings e = given (slice_get bindings e.binding) None λ b. Some (core_of e.side b)
 
 -- its desk, as its core left it
 abbrev pub desk_left : TheJoined → List TheOutcome → EndId → Option TheDesk
@@ -65,14 +59,6 @@ by_binding j what = map what (range_with_len 0 (length j.bindings))
 
 abbrev pub turns_in : TheOutcome → ℕ
 turns_in o = o.part.turns
-
-abbrev pub is_unfinished : End → Bool
-is_unfinished Unfinished = true
-is_unfinished end = false
-
-abbrev pub is_told : End → Bool
-is_told Told = true
-is_told end = false
 
 abbrev pub left_off : TheOutcome → Bool
 left_off o = is_unfinished o.part.end

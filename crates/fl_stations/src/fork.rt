@@ -2,10 +2,10 @@
 
 ghost use Rattle.std.specs.Prelude.{ℕ, ◌≡◌, ◌+◌, ◌<◌, ◌∷◌, ◌++◌, [], length, slice_get, Some, IfOk, IfErr, IfSome, IsOkAnd};
 ghost use Rattle.std.specs.Thread.{IsSync};
+ghost use Rattle.std.specs.List.{AllZip};
 ghost use Rattle.fl_hop.specs.Joined.{Sound as IsTable};
 ghost use Rattle.fl_endpoint.specs.Accounts.{Sound as IsEnd};
 ghost use Rattle.fl_core.specs.View.{TheSeat};
-ghost use Rattle.fl_stations.specs.Runs.{Each2};
 ghost use Rattle.fl_stations.specs.declared.stop.Stop.TheVariants as stop;
 ghost use Rattle.fl_stations.specs.Stations.{IsReady, AllReady, StationRan};
 
@@ -146,7 +146,7 @@ fn run_in<'s, 'e: 's, R: Threads + Wait + Sync, G: Gate + Sync>(
     requires gate { IsSync G.row }
     requires own { own.knows.stopped < own.knows.seats }
     requires ready { AllReady todo.items }
-    ensures each { IfOk result.0 (λ all. Each2 (StationRan jobs.now limit) todo.items all.items) }
+    ensures each { IfOk result.0 (λ all. AllZip (StationRan jobs.now limit) todo.items all.items) }
     ensures own { IfOk result.0 (λ _. result.1 ≡ own) }
     ensures told { IfErr result.0 (λ e. e ≡ stop.Thread → result.1.knows.stopped ≡ own.knows.stopped + 1) }
 {
@@ -180,7 +180,7 @@ pub fn run_each<R: Threads + Wait + Sync, G: Gate + Sync>(
 ) -> (Result<Vec<Done>, Stop>, EndSeat)
     requires own { own.knows.stopped < own.knows.seats }
     requires ready { AllReady todo.items }
-    ensures each { IfOk result.0 (λ all. Each2 (StationRan jobs.now limit) todo.items all.items) }
+    ensures each { IfOk result.0 (λ all. AllZip (StationRan jobs.now limit) todo.items all.items) }
     ensures own { IfOk result.0 (λ _. result.1 ≡ own) }
     ensures told { IfErr result.0 (λ e. e ≡ stop.Thread → result.1.knows.stopped ≡ own.knows.stopped + 1) }
 {
@@ -192,7 +192,7 @@ pub fn run_each<R: Threads + Wait + Sync, G: Gate + Sync>(
             requires gate { IsSync G.row }
             requires own { own.knows.stopped < own.knows.seats }
             requires ready { AllReady todo.items }
-            ensures each { IfOk result.0 (λ all. Each2 (StationRan jobs.entry.now limit) todo.items all.items) }
+            ensures each { IfOk result.0 (λ all. AllZip (StationRan jobs.entry.now limit) todo.items all.items) }
             ensures own { IfOk result.0 (λ _. result.1 ≡ own) }
             ensures told { IfErr result.0 (λ e. e ≡ stop.Thread → result.1.knows.stopped ≡ own.knows.stopped + 1) }
         { run_in(scope, rt, alloc, gate, own, todo, jobs, limit) },

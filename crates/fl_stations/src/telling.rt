@@ -2,18 +2,18 @@
 
 ghost use Rattle.std.specs.Prelude.{ℕ, ◌≡◌, ◌≢◌, ◌+◌, ◌*◌, ◌++◌, ◌<◌, ◌≤◌, [], false, if◌then◌else◌, map, take, length, slice_get, Some, IfOk, IfSome, OnOk};
 ghost use Rattle.std.specs.Option.{option_map};
-ghost use Rattle.std.specs.List.{list_any, flat_map};
+ghost use Rattle.std.specs.List.{list_any, flat_map, AllZip};
+ghost use Rattle.fl_base.specs.Given.{given};
 ghost use Rattle.fl_value.specs.Value.{datum_of, call_of};
-ghost use Rattle.fl_queues.specs.Given.{given};
 ghost use Rattle.fl_node.specs.View.{slot_of};
 ghost use Rattle.fl_work.specs.Jobs.{calls_of_job, calls_of_jobs};
 ghost use Rattle.fl_jobs.specs.Report.{complete, turns_out};
 ghost use Rattle.fl_jobs.specs.Reports.{both_of, report_of, ending_of};
 ghost use Rattle.fl_dockets.specs.Dockets.{docket_of, end_of, reply_by};
-ghost use Rattle.fl_dockets.specs.Joined.{HasDockets};
+ghost use Rattle.fl_dockets.specs.Joined.{HasDockets, core_at};
 ghost use Rattle.fl_dockets.specs.State.{joined_of};
-ghost use Rattle.fl_stations.specs.Runs.{Each2, seats_left, sides_left};
-ghost use Rattle.fl_stations.specs.Tells.{core_at, desk_left, handled_by, handled_at, made_at, made_by, both_at, refusal_at, by_binding, left_off, was_told};
+ghost use Rattle.fl_stations.specs.Runs.{seats_left, sides_left};
+ghost use Rattle.fl_stations.specs.Tells.{desk_left, handled_by, handled_at, made_at, made_by, both_at, refusal_at, by_binding, left_off, was_told};
 ghost use Rattle.fl_stations.specs.Tells.{turns_in, Tells};
 ghost use Rattle.fl_stations.specs.Taking.{KeepsFrom, AreOnce, KeepsOthers, KeepsJobs, HavePlaces, with_jobs};
 ghost use Rattle.fl_stations.specs.Stations.{outcome_of, has_left_off, has_been_told};
@@ -221,7 +221,7 @@ fn take_from(alloc: Global, one: &mut Done, place: usize) -> Vec<Call>
 fn take_at(alloc: Global, done: &mut Vec<Done>, joined: &Joined, end: EndId) -> Vec<Call>
     requires few { end.binding < 1024 }
     ensures handled { map call_of result.items ≡ handled_at (joined_of joined.now) (map outcome_of done.old.items) end }
-    ensures rest { Each2 (KeepsFrom (slot_of end + 1)) (map outcome_of done.old.items) (map outcome_of done.new.items) }
+    ensures rest { AllZip (KeepsFrom (slot_of end + 1)) (map outcome_of done.old.items) (map outcome_of done.new.items) }
 {
     match core_at(&joined.bindings, end) {
         None => Vec::new(alloc),
@@ -277,7 +277,7 @@ fn refusal_at(done: &[Done], joined: &Joined, binding: usize) -> Option<u32>
 fn both_handled(alloc: Global, done: &mut Vec<Done>, joined: &Joined, binding: usize) -> BothEnds
     requires few { binding < 1024 }
     ensures handled { both_of result ≡ both_at (handled_at (joined_of joined.now) (map outcome_of done.old.items)) binding }
-    ensures rest { Each2 (KeepsFrom (2 * (binding + 1))) (map outcome_of done.old.items) (map outcome_of done.new.items) }
+    ensures rest { AllZip (KeepsFrom (2 * (binding + 1))) (map outcome_of done.old.items) (map outcome_of done.new.items) }
 {
     let side = Side::Client;
     let client = take_at(alloc, done, joined, EndId { binding, side });
@@ -316,7 +316,7 @@ fn all_handled(
     requires few { length joined.now.bindings.items ≤ 1024 }
     ensures handled { IfOk result (λ all. map both_of all.items
         ≡ by_binding (joined_of joined.now) (both_at (handled_at (joined_of joined.now) (map outcome_of done.old.items)))) }
-    ensures rest { OnOk result (Each2 (KeepsFrom (2 * length joined.now.bindings.items)) (map outcome_of done.old.items) (map outcome_of done.new.items)) }
+    ensures rest { OnOk result (AllZip (KeepsFrom (2 * length joined.now.bindings.items)) (map outcome_of done.old.items) (map outcome_of done.new.items)) }
 {
     let mut all = Vec::new(alloc);
     for binding in 0..joined.bindings.as_slice().len() {

@@ -3,6 +3,8 @@ use Rattle.std.proofs.Common.{◌≡◌, ◌∙◌, ◌≤◌, ◌<◌, ◌+◌,
 use Rattle.std.proofs.lemmas.Bool.{leb-true, le-leb, ltb-true, eq-eqb, false≢true}
 use Rattle.std.specs.Option.{option_map}
 use Rattle.fl_base.specs.declared.identity.LinkId.{LinkId}
+use Rattle.fl_base.specs.Given.{given}
+use Rattle.fl_base.specs.Numbered.{core_id}
 use Rattle.fl_hop.specs.declared.circuits.Circuits.{Circuits}
 use Rattle.fl_hop.specs.Table.{link_of}
 use Rattle.fl_ring.specs.Duo.{TheDuo, MayHaveSlots}
@@ -10,9 +12,8 @@ use Rattle.fl_core.specs.View.{with_dispatcher}
 use Rattle.fl_node.specs.Making.{linked}
 use Rattle.fl_node.specs.View.{TheCore, with_board}
 use Rattle.fl_queues.specs.Events.{Answer, done, refused}
-use Rattle.fl_queues.specs.Given.{given}
 use Rattle.fl_worlds.specs.Lending.{Refuses}
-use Rattle.fl_worlds.specs.Making.{new_duo, core_id, is_core, has_link, IsLinked, AddsLink, AddsDispatcher}
+use Rattle.fl_worlds.specs.Making.{new_duo, is_core, has_link, IsLinked, AddsLink, AddsDispatcher}
 use Rattle.fl_worlds.specs.View.{Given, TheWorld}
 use Rattle.fl_acts.specs.Parts.{LinksBoth}
 use Rattle.fl_acts.proofs.Lifts.{stands}

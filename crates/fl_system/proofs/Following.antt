@@ -5,6 +5,7 @@ use Rattle.std.specs.declared.alloc.AllocError.{AllocError}
 use Rattle.fl_base.specs.declared.fragment.Frag.{Frag}
 use Rattle.fl_base.specs.declared.identity.LinkId.{LinkId}
 use Rattle.fl_base.specs.Control.{bare}
+use Rattle.fl_base.specs.Numbered.{link_id}
 use Rattle.fl_link.specs.Looks.{saw}
 use Rattle.fl_link.specs.Queue.{front_of}
 use Rattle.fl_ring.specs.Duo.{TheDuo, DuoTakes, MayForget, side_of, knowing}
@@ -24,7 +25,7 @@ use Rattle.fl_queues.specs.Events.{Answer}
 use Rattle.fl_worlds.specs.declared.binding.Binding.{Binding}
 use Rattle.fl_worlds.specs.View.{TheWorld, ring_at, which_at, with_ring}
 use Rattle.fl_worlds.specs.Lending.{OverSide, front_for}
-use Rattle.fl_worlds.specs.Linking.{LinkEnd, offers_in, link_id, LooksWith, incoming, HearsWith, HearsFirst, IsHeard, HasRules}
+use Rattle.fl_worlds.specs.Linking.{LinkEnd, offers_in, LooksWith, incoming, HearsWith, HearsFirst, IsHeard, HasRules}
 use Rattle.fl_lines.specs.declared.answer.Answer.{Answer as RustAnswer}
 use Rattle.fl_lines.specs.Events.{answer_of}
 use Rattle.fl_acts.specs.declared.moving.Passing.{Passing}

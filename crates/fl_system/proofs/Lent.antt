@@ -5,8 +5,8 @@ use Rattle.std.proofs.lemmas.Bool.{false≢true}
 use Rattle.std.specs.declared.alloc.AllocError.{AllocError}
 use Rattle.fl_base.specs.declared.identity.EndId.{EndId}
 use Rattle.fl_base.specs.declared.fragment.Frag.{Frag}
+use Rattle.fl_base.specs.Given.{given}
 use Rattle.fl_ring.specs.Duo.{TheDuo}
-use Rattle.fl_monitor.specs.Routing.{given}
 use Rattle.fl_core.specs.Events.{Holds}
 use Rattle.fl_core.specs.View.{due}
 use Rattle.fl_node.specs.declared.wire.Inlet.{Inlet}

@@ -15,13 +15,13 @@ use Rattle.fl_node.specs.Hearing.{Offers}
 use Rattle.fl_worlds.specs.Linking.{incoming, HearsWith}
 use Rattle.fl_node.specs.View.{TheCore}
 use Rattle.std.specs.declared.alloc.AllocError.{AllocError}
+use Rattle.fl_base.specs.Given.{given}
 use Rattle.fl_lines.specs.declared.answer.Answer.{Answer as RustAnswer}
 use Rattle.fl_lines.specs.Events.{answer_of}
 use Rattle.fl_node.specs.declared.wire.Inlet.{Inlet}
 use Rattle.fl_acts.specs.declared.taking.Due.{Due}
 use Rattle.fl_queues.specs.Events.{Answer}
 use Rattle.fl_worlds.specs.declared.binding.Binding.{Binding}
-use Rattle.fl_queues.specs.Given.{given}
 use Rattle.fl_worlds.specs.Sending.{PreviewsWith, PreviewsOver}
 use Rattle.fl_node.specs.declared.wire.Outlet.TheVariants as outlet
 use Rattle.fl_worlds.specs.View.{TheWorld, Spot, ring_at, which_at, nowhere, unmade, spot_at, spot_of, core_in}

@@ -7,6 +7,7 @@ use Rattle.std.proofs.lemmas.List.{set-get_or}
 use Rattle.std.proofs.lemmas.Option.{get_or_from_slice_get}
 use Rattle.fl_base.specs.declared.identity.CoreId.{CoreId}
 use Rattle.fl_base.specs.declared.identity.LinkId.{LinkId}
+use Rattle.fl_base.specs.Numbered.{core_id}
 use Rattle.fl_compile.specs.declared.program.Program.{Program}
 use Rattle.fl_core.specs.declared.fault.BoardFault.TheVariants as board
 use Rattle.fl_lines.specs.Events.{id_of}
@@ -22,7 +23,7 @@ use Rattle.fl_queues.specs.Events.{Answer}
 use Rattle.fl_worlds.specs.declared.binding.Binding.{Binding}
 use Rattle.fl_worlds.specs.Binding.{may_be_route, by_cores, OpensBy, AsksBy}
 use Rattle.fl_worlds.specs.Lending.{Refuses}
-use Rattle.fl_worlds.specs.Making.{is_core, core_id}
+use Rattle.fl_worlds.specs.Making.{is_core}
 use Rattle.fl_worlds.specs.View.{TheWorld, IsWhole}
 use Rattle.fl_system.specs.declared.binding.Wish.{Wish}
 use Rattle.fl_acts.specs.declared.by_route.Begun.{Begun}

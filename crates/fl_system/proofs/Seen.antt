@@ -2,9 +2,9 @@
 use Rattle.std.proofs.Common.{◌≡◌, refl, sym, ap, ◌∙◌, subst, ℕ, ◌<◌, ◌≤◌, length, nat_lt, slice_get, slice_index_or, Bool, true, false, List, Option, Some, None}
 use Rattle.std.proofs.lemmas.Option.{slice_get_past}
 use Rattle.std.specs.Prelude.{IfSome}
+use Rattle.fl_base.specs.Given.{given}
 use Rattle.fl_core.specs.View.{TheBoard, due, due_in}
 use Rattle.fl_node.specs.View.{TheCore}
-use Rattle.fl_queues.specs.Given.{given}
 use Rattle.fl_queues.specs.Events.{DispatcherId}
 use Rattle.fl_worlds.specs.View.{TheWorld, has_dispatcher}
 use Rattle.fl_worlds.specs.Taking.{due_at}

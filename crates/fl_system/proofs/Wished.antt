@@ -2,6 +2,7 @@
 use Rattle.std.proofs.Common.{◌≡◌, arith, nat_lt, ◌≢◌, ◌≤◌, ◌<◌, ◌+◌, ◌&&◌, ◌||◌, ◌==◌, not, nat_le, refl, sym, ap, ap₂, ◌∙◌, subst, ℕ, Bool, true, false, if◌then◌else◌, List, length, slice_get, slice_index_or, Option, Some, None, is_some, Ok, Err}
 use Rattle.std.proofs.lemmas.Bool.{eqb-true, ne_eqb, eq-eqb, le-leb, lt-leb, or_cases, and_parts}
 use Rattle.std.proofs.lemmas.Option.{slice_get_within, slice_get_past, same_Some}
+use Rattle.fl_base.specs.Given.{given}
 use Rattle.fl_endpoint.specs.View.{TheEnd}
 use Rattle.fl_compile.specs.declared.program.Program.{Program}
 use Rattle.fl_compile.specs.Programs.{program_of}
@@ -10,7 +11,6 @@ use Rattle.fl_nameserv.specs.Lent.{registration_of}
 use Rattle.fl_nameserv.specs.Registrations.{TheRegistration, by_name}
 use Rattle.fl_core.specs.View.{TheDispatcher, TheBoard}
 use Rattle.fl_node.specs.View.{TheCore, place_of, client_of, server_of}
-use Rattle.fl_queues.specs.Given.{given}
 use Rattle.fl_queues.specs.Events.{DispatcherId}
 use Rattle.fl_queues.specs.Binding.{same_dispatcher}
 use Rattle.fl_lines.specs.declared.event.DispatcherId.{DispatcherId as RustDispatcherId}

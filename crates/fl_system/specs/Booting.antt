@@ -1,9 +1,9 @@
 -- What a world is booted with, and what the machine makes of that.
 use Rattle.std.specs.Prelude.{ℕ, ◌≡◌, ◌⊎◌, ◌+◌, ◌||◌, nat_lt, not, Bool, true, false, List, ◌∷◌, ◌++◌, length, map, is_some}
 use Rattle.std.specs.List.{list_all}
+use Rattle.fl_base.specs.Numbered.{most_cores}
 use Rattle.fl_queues.specs.Events.{Event, Answer, refused}
 use Rattle.fl_queues.specs.State.{State, Outcome}
-use Rattle.fl_queues.specs.Making.{most_cores}
 use Rattle.fl_queues.specs.Step.{step}
 use Rattle.fl_queues.specs.Runs.{answers_to, reached}
 use Rattle.fl_queues.specs.Worlds.{start_with}

@@ -2,6 +2,7 @@
 use Rattle.std.specs.Prelude.{ℕ, ◌≡◌, List, [], ◌∷◌, ◌++◌, length, map, slice_get, Some, None, Result, Ok}
 use Rattle.fl_base.specs.declared.identity.CoreId.{CoreId}
 use Rattle.fl_base.specs.declared.identity.LinkId.{LinkId}
+use Rattle.fl_base.specs.Numbered.{core_id}
 use Rattle.fl_compile.specs.declared.program.Program.{Program}
 use Rattle.fl_endpoint.specs.View.{fresh}
 use Rattle.fl_monitor.specs.declared.fault.MonitorFault.{MonitorFault}
@@ -12,7 +13,6 @@ use Rattle.fl_node.specs.View.{TheCore}
 use Rattle.fl_queues.specs.Events.{Answer, done, nothing, refused}
 use Rattle.fl_worlds.specs.declared.binding.Binding.{Binding}
 use Rattle.fl_worlds.specs.Binding.{by_cores, OpensBy, OpensFrom}
-use Rattle.fl_worlds.specs.Making.{core_id}
 use Rattle.fl_worlds.specs.View.{TheWorld, IsWhole}
 use Rattle.fl_system.specs.declared.binding.Wish.{Wish}
 use Rattle.fl_acts.specs.declared.by_route.Begun.{Begun}

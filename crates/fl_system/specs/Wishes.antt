@@ -1,11 +1,11 @@
 -- What is asked for when a binding is made, in the code's own words for it; and what is looked at before one is.
 use Rattle.std.specs.Prelude.{ℕ, ◌≡◌, ◌&&◌, Bool, false, if◌then◌else◌, List}
 use Rattle.std.specs.Prelude.{slice_get, Some, Result, Ok, Err}
+use Rattle.fl_base.specs.Given.{given}
 use Rattle.fl_compile.specs.declared.program.Program.{Program}
 use Rattle.fl_compile.specs.Programs.{program_of}
 use Rattle.fl_endpoint.specs.View.{TheEnd, fresh}
 use Rattle.fl_node.specs.View.{TheCore}
-use Rattle.fl_queues.specs.Given.{given}
 use Rattle.fl_queues.specs.Events.{DispatcherId, Kind, Answer}
 use Rattle.fl_queues.specs.Binding.{same_dispatcher}
 use Rattle.fl_lines.specs.Events.{id_of}

@@ -1,9 +1,9 @@
 //! A binding is begun whose fragments go along a circuit.
 
 ghost use Rattle.std.specs.Prelude.{◌≡◌, ◌<◌, length, map, true, IfOk, OnErr};
+ghost use Rattle.fl_base.specs.Numbered.{core_id};
 ghost use Rattle.fl_lines.specs.Events.{id_of, answer_of};
 ghost use Rattle.fl_worlds.specs.Binding.{BindsByRoute, may_be_route};
-ghost use Rattle.fl_worlds.specs.Making.{core_id};
 ghost use Rattle.fl_worlds.specs.View.{has_dispatcher};
 ghost use Rattle.fl_acts.specs.Wishes.{HasDispatcher};
 ghost use Rattle.fl_system.specs.Wishes.{OfWish};

@@ -1,12 +1,13 @@
 -- Lists of stations, and of what came of them, the last one first.
 use Rattle.std.proofs.Common.{◌≡◌, refl, sym, ap, ◌∙◌, subst, arith, ℕ, zero, suc, ◌+◌, List, [], ◌∷◌, ◌++◌, length, map, slice_get, Some, None}
 use Rattle.std.proofs.lemmas.List.{map-append}
+use Rattle.std.specs.List.{AllZip}
 use Rattle.fl_node.specs.View.{TheCore}
 use Rattle.fl_node.specs.Sound.{IsCore}
 use Rattle.fl_work.specs.declared.job.Job.{Job}
 use Rattle.fl_stations.specs.declared.station.Station.{Station}
 use Rattle.fl_stations.specs.declared.station.Done.{Done}
-use Rattle.fl_stations.specs.Runs.{TheOutcome, Each2, TheStation, IsLeftSound, RanTo}
+use Rattle.fl_stations.specs.Runs.{TheOutcome, TheStation, IsLeftSound, RanTo}
 use Rattle.fl_stations.specs.Stations.{outcome_of, AllReady, StationRan, station_of}
 use Rattle.fl_threads.specs.Begins.{TheCommon, IsStation, AreStations}
 
@@ -42,7 +43,7 @@ begin_sound (x ∷ xs) all zero s at =
     subst (λ (t : TheStation). IsCore t.run.core) same all.0.core
 begin_sound (x ∷ xs) all (suc n) s at = begin_sound xs all.1 n s at
 
-pub left_sound : (jobs : List Job) (limit : ℕ) (xs : List Station) (ys : List Done) → Each2 (StationRan jobs limit) xs ys → (n : ℕ) (o : TheOutcome)
+pub left_sound : (jobs : List Job) (limit : ℕ) (xs : List Station) (ys : List Done) → AllZip (StationRan jobs limit) xs ys → (n : ℕ) (o : TheOutcome)
     → slice_get (map outcome_of ys) n ≡ Some o → IsLeftSound o
 left_sound jobs limit [] [] all n o at = absurd (let no : None ≡ Some o = at in cc)
 left_sound jobs limit [] (y ∷ ys) all n o at = absurd all
@@ -52,8 +53,8 @@ left_sound jobs limit (x ∷ xs) (y ∷ ys) all zero o at =
     subst IsLeftSound same all.0.left
 left_sound jobs limit (x ∷ xs) (y ∷ ys) all (suc n) o at = left_sound jobs limit xs ys all.1 n o at
 
-pub each_ran : (jobs : List Job) (limit : ℕ) (xs : List Station) (ys : List Done) → Each2 (StationRan jobs limit) xs ys
-    → Each2 (RanTo jobs limit) (map station_of xs) (map outcome_of ys)
+pub each_ran : (jobs : List Job) (limit : ℕ) (xs : List Station) (ys : List Done) → AllZip (StationRan jobs limit) xs ys
+    → AllZip (RanTo jobs limit) (map station_of xs) (map outcome_of ys)
 each_ran jobs limit [] [] all = tt
 each_ran jobs limit [] (y ∷ ys) all = absurd all
 each_ran jobs limit (x ∷ xs) [] all = absurd all

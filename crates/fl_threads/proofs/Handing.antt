@@ -11,10 +11,11 @@ use Rattle.fl_worlds.specs.declared.parts.Parts.{Parts}
 use Rattle.fl_deal.specs.declared.deal.Dealt.{Dealt}
 use Rattle.fl_deal.specs.Dealt.{AreNew, hands_in, Holds, Gives, Deals}
 use Rattle.fl_deal.specs.Settled.{Pair, sides_of}
+use Rattle.fl_worlds.specs.Picture.{NamesQueue, NamesSide}
 use Rattle.fl_dockets.specs.State.{TheJoined}
 use Rattle.fl_stations.specs.Runs.{TheStation}
 use Rattle.fl_threads.specs.Begins.{TheCommon, Places, common_in, AreStations}
-use Rattle.fl_threads.specs.Shares.{NamesSide, NamesQueue, AreOwners, AreShared, AreNewRings, sides_given, queues_given}
+use Rattle.fl_threads.specs.Shares.{AreOwners, AreShared, AreNewRings, sides_given, queues_given}
 use Rattle.fl_threads.specs.Dealing.{AreOf, HaveOwners, DealsRings, DealsQueues, SharesOut, Wires}
 
 -- ---- owners

@@ -1,13 +1,13 @@
 -- What a report of cores that ran keeps.
 use Rattle.std.proofs.Common.{◌≡◌, refl, sym, ap, ◌∙◌, subst, ℕ, zero, suc, ◌≤◌, Bool, true, false, ◌||◌, if◌then◌else◌}
 use Rattle.std.proofs.Common.{List, [], ◌∷◌, length, map, slice_get, Some}
-use Rattle.std.specs.List.{list_any}
+use Rattle.std.specs.List.{list_any, AllZip}
 use Rattle.std.proofs.lemmas.List.{length-map}
 use Rattle.fl_work.specs.declared.job.Job.{Job}
 use Rattle.fl_running.specs.declared.run.End.{End}
 use Rattle.fl_running.specs.declared.run.End.TheVariants.{Finished, Unfinished, Told}
 use Rattle.fl_running.specs.Words.{Stock}
-use Rattle.fl_running.specs.Ran.{Task, task, Moment, EndsAs}
+use Rattle.fl_running.specs.Ran.{Task, task, Moment, EndsAs, is_unfinished}
 use Rattle.fl_ring.specs.SharedSides.{TheSide}
 use Rattle.fl_jobs.specs.Report.{TheReport, Ending, complete, turns_out}
 use Rattle.fl_dockets.specs.State.{TheJoined}
@@ -16,8 +16,8 @@ use Rattle.fl_stations.specs.declared.station.Station.{Station}
 use Rattle.fl_stations.specs.declared.station.Done.{Done}
 use Rattle.fl_deal.specs.Dealt.{AreDealt}
 use Rattle.fl_deal.specs.Settled.{Pair, sides_of, Each, IsNear, HoldRings}
-use Rattle.fl_stations.specs.Runs.{sides_left, TheOutcome, Each2, seats_left, TheStation, RanTo}
-use Rattle.fl_stations.specs.Tells.{Tells, turns_in, left_off, is_unfinished}
+use Rattle.fl_stations.specs.Runs.{sides_left, TheOutcome, seats_left, TheStation, RanTo}
+use Rattle.fl_stations.specs.Tells.{Tells, turns_in, left_off}
 use Rattle.fl_stations.specs.Stations.{outcome_of, AllReady, StationRan, station_of}
 use Rattle.fl_threads.specs.Shares.{Shares}
 use Rattle.fl_threads.specs.Dealing.{Dealing, Wires, RingsHold}
@@ -38,13 +38,13 @@ left_at_limit jobs limit s d ran left = at_limit (task s.plan jobs limit) d.part
 
 -- ---- all cores
 
-as_many : {A B : Type 0} (R : A → B → Type 0) (xs : List A) (ys : List B) → Each2 R xs ys → length ys ≡ length xs
+as_many : {A B : Type 0} (R : A → B → Type 0) (xs : List A) (ys : List B) → AllZip R xs ys → length ys ≡ length xs
 as_many R [] [] all = refl
 as_many R [] (y ∷ ys) all = absurd all
 as_many R (x ∷ xs) [] all = absurd all
 as_many R (x ∷ xs) (y ∷ ys) all = ap suc (as_many R xs ys all.1)
 
-few_each : (jobs : List Job) (limit : ℕ) (xs : List TheStation) (ys : List TheOutcome) → Each2 (RanTo jobs limit) xs ys
+few_each : (jobs : List Job) (limit : ℕ) (xs : List TheStation) (ys : List TheOutcome) → AllZip (RanTo jobs limit) xs ys
     → (core turns : ℕ) → slice_get (map turns_in ys) core ≡ Some turns → turns ≤ limit
 few_each jobs limit [] [] all core turns at = absurd (cc)
 few_each jobs limit [] (y ∷ ys) all core turns at = absurd all
@@ -63,7 +63,7 @@ some_left : (jobs : List Job) (limit : ℕ) (x : TheStation) (y : TheOutcome) (y
 some_left jobs limit x y ys true is ran rest any = (0, ap Some (left_at_limit jobs limit x y ran is))
 some_left jobs limit x y ys false is ran rest any = let there = rest any in (suc there.0, there.1)
 
-limit_each : (jobs : List Job) (limit : ℕ) (xs : List TheStation) (ys : List TheOutcome) → Each2 (RanTo jobs limit) xs ys
+limit_each : (jobs : List Job) (limit : ℕ) (xs : List TheStation) (ys : List TheOutcome) → AllZip (RanTo jobs limit) xs ys
     → list_any left_off ys ≡ true → AtLimit limit ys
 limit_each jobs limit [] [] all any = absurd (cc)
 limit_each jobs limit [] (y ∷ ys) all any = absurd all
@@ -74,7 +74,7 @@ any_left : (any : Bool) (e : Ending) → e ≡ (if any then turns_out else compl
 any_left true e is out = refl
 any_left false e is out = absurd (cc)
 
-pub keeps_of : (n limit : ℕ) (j : TheJoined) (xs : List TheStation) (ys : List TheOutcome) (r : TheReport) → length xs ≡ n → Each2 (RanTo j.jobs limit) xs ys
+pub keeps_of : (n limit : ℕ) (j : TheJoined) (xs : List TheStation) (ys : List TheOutcome) (r : TheReport) → length xs ≡ n → AllZip (RanTo j.jobs limit) xs ys
     → Tells j ys r → Keeps n limit r
 keeps_of n limit j xs ys r count all tells = record {
   count = ap length tells.turns ∙ length-map ys turns_in ∙ as_many (RanTo j.jobs limit) xs ys all ∙ count;
@@ -102,13 +102,13 @@ shares_of p at stations outcomes owners d near = record {
 
 -- the sides that were dealt are still in their owners' hands
 pub still_held : (p : Parts) (j : TheJoined) (limit : ℕ) (xs : List Station) (ys : List Done) (owners : List ℕ) → RingsHold → Wires p j (map station_of xs) owners
-    → Each2 (StationRan j.jobs limit) xs ys → HoldRings owners (sides_left (map outcome_of ys))
+    → AllZip (StationRan j.jobs limit) xs ys → HoldRings owners (sides_left (map outcome_of ys))
 still_held p j limit xs ys owners hold wires all =
     hold j.jobs limit p.rings.items wires.dealing.pairs owners (map station_of xs) (map outcome_of ys) (each_ran j.jobs limit xs ys all) wires.dealing.new
     wires.dealing.sides.dealt
 
 pub cores_ran : (p : Parts) (j : TheJoined) (limit : ℕ) (xs : List Station) (ys : List Done) (owners : List ℕ) (r : TheReport) → Wires p j (map station_of xs) owners
-    → AllReady xs → Each2 (StationRan j.jobs limit) xs ys
+    → AllReady xs → AllZip (StationRan j.jobs limit) xs ys
     → ((after : List Pair) → AreDealt owners (sides_of after) (sides_left (map outcome_of ys)) → Each IsNear after) → (count : ℕ) → count ≡ length j.owners
     → HeardAsTold count (seats_left (map outcome_of ys)) → Tells j (map outcome_of ys) r → CoresRan p j limit r
 cores_ran p j limit xs ys owners r wires ready all near count is heard tells = record {

@@ -8,7 +8,7 @@ use Rattle.fl_running.specs.declared.word.Word.{Word}
 use Rattle.fl_running.specs.Desks.{TheDesk}
 use Rattle.fl_base.specs.declared.identity.EndId.{EndId}
 use Rattle.fl_base.specs.declared.identity.LinkId.{LinkId}
-use Rattle.fl_monitor.specs.Fates.{link_id}
+use Rattle.fl_base.specs.Numbered.{link_id}
 use Rattle.fl_dockets.specs.declared.docket.Bound.{Bound}
 use Rattle.fl_dockets.specs.State.{TheJoined}
 use Rattle.fl_node.specs.View.{client_of, server_of}

@@ -3,8 +3,7 @@ use borrow.Author.Count.{below_more}
 use Rattle.std.proofs.Common.{◌≡◌, ◌⊎◌, inl, inr, ⊎_elim, refl, sym, ap, ◌∙◌, subst, arith, ℕ, zero, suc, ◌+◌, ◌<◌, ◌≤◌, List, [], ◌∷◌, ◌++◌, length, slice_get, slice_set, get_or, Option, Some, None}
 use Rattle.std.proofs.lemmas.Option.{slice_get_within, slice_get-get_or}
 use Rattle.fl_base.specs.declared.identity.EndId.{EndId}
-use Rattle.fl_queues.specs.Given.{given}
-use Rattle.fl_monitor.specs.Routing.{given as given_here}
+use Rattle.fl_base.specs.Given.{given, given as given_here}
 use Rattle.fl_node.specs.declared.wire.Lane.{Lane}
 use Rattle.fl_node.specs.declared.wire.Port.{Port}
 use Rattle.fl_node.specs.declared.wire.Wire.{Wire}
@@ -14,8 +13,7 @@ use Rattle.fl_node.specs.declared.wire.Outlet.TheVariants as outlet
 use Rattle.fl_node.specs.View.{TheCore, place_of, side_of_link, inlet_by, inlet_of, outlet_by, outlet_of}
 use Rattle.fl_node.specs.Sound.{IsCore}
 use Rattle.fl_node.proofs.Ported.{placed_below}
-use Rattle.fl_worlds.specs.Picture.{wire_of}
-use Rattle.fl_threads.specs.Shares.{NamesSide, NamesQueue}
+use Rattle.fl_worlds.specs.Picture.{wire_of, NamesQueue, NamesSide}
 use Rattle.fl_threads.specs.Dealing.{IsLinkSide, TakesSide, UsesQueue, Below, Owns, AreOf, HaveOwners}
 
 -- ---- a list with one element changed

@@ -1,6 +1,7 @@
 -- The sides of rings, from the first moment of a run to its last.
 use Rattle.std.proofs.Common.{◌≡◌, refl, sym, ap, ◌∙◌, subst, arith, ℕ, zero, suc, List, [], ◌∷◌, ◌++◌, length, Some}
 use Rattle.std.proofs.lemmas.List.{length-set}
+use Rattle.std.specs.List.{AllZip}
 use Rattle.fl_hop.specs.declared.forward.Outcome.TheVariants.{Moved, Full, Spent}
 use Rattle.fl_link.specs.Queue.{TheQueue}
 use Rattle.fl_node.specs.declared.wire.Outlet.TheVariants as outlet
@@ -18,7 +19,7 @@ use Rattle.fl_logs.specs.Logs.{Goes, TurnsAreLogged, SidesGo, LogsLook, CountedA
 use Rattle.fl_logs.proofs.Aside.{rings_aside}
 use Rattle.fl_deal.specs.Dealt.{AreDealt}
 use Rattle.fl_deal.specs.Settled.{WentOn, AllWentOn, HandsWentOn, Pair, sides_of, Each, IsRing, DealtGoOn, RingsStay}
-use Rattle.fl_stations.specs.Runs.{TheOutcome, Each2, sides_left, TheStation, shared_ways, RanTo}
+use Rattle.fl_stations.specs.Runs.{TheOutcome, sides_left, TheStation, shared_ways, RanTo}
 use Rattle.fl_threads.specs.Shares.{AreNewRings, sides_given}
 use Rattle.fl_threads.specs.Dealing.{RingsHold}
 
@@ -97,7 +98,7 @@ module _ (counted : CountedAreTurns shared_ways) (logged : TurnsAreLogged shared
       let log = run_log counted logged jobs limit s o ran in
       all_went s.run.rings o.run.rings (log_many shared_ways jobs s.run o.run log.0 log.1) (looks jobs s.run o.run log.0 log.1)
 
-  hands_went : (stations : List TheStation) (outcomes : List TheOutcome) → Each2 (RanTo jobs limit) stations outcomes
+  hands_went : (stations : List TheStation) (outcomes : List TheOutcome) → AllZip (RanTo jobs limit) stations outcomes
       → HandsWentOn (sides_given stations) (sides_left outcomes)
   hands_went [] [] all core = tt
   hands_went [] (o ∷ outcomes) all core = absurd all

@@ -2,6 +2,7 @@
 use Rattle.std.proofs.Common.{◌≡◌, refl, sym, ap, ◌∙◌, subst, arith, ℕ, suc, ◌+◌, ◌-◌, ◌<◌, List, [], ◌∷◌, ◌++◌, map, length}
 use borrow.Author.Count.{below_more}
 use Rattle.std.proofs.lemmas.List.{append-nil, append_assoc}
+use Rattle.std.specs.List.{AllZip}
 use Rattle.fl_tally.specs.declared.board.View.{View}
 use Rattle.fl_tally.specs.declared.board.Refusal.{Refusal}
 use Rattle.fl_tally.specs.Tally.{Agrees, number_of, both, core_alone, with_heard}
@@ -14,7 +15,7 @@ use Rattle.fl_stations.specs.declared.station.Station.{Station}
 use Rattle.fl_stations.specs.declared.station.Done.{Done}
 use Rattle.fl_dockets.specs.State.{TheJoined}
 use Rattle.fl_worlds.specs.declared.parts.Parts.{Parts}
-use Rattle.fl_stations.specs.Runs.{TheOutcome, Each2, seats_left, TheStation, RanTo}
+use Rattle.fl_stations.specs.Runs.{TheOutcome, seats_left, TheStation, RanTo}
 use Rattle.fl_stations.specs.Stations.{outcome_of, StationRan, station_of}
 use Rattle.fl_threads.specs.Begins.{common_in}
 use Rattle.fl_threads.specs.Dealing.{Wires}
@@ -155,7 +156,7 @@ same_table jobs limit s o ran = ran.after.table ∙ table_told o.part.end ran.mi
 same_seats : (jobs : List Job) (limit : ℕ) (s : TheStation) (o : TheOutcome) → RanTo jobs limit s o → o.ticket.seat.knows.seats ≡ s.ticket.seat.knows.seats
 same_seats jobs limit s o ran = ran.after.seats ∙ seats_told o.part.end ran.middle.ticket.seat ran.told ran.tells ∙ ran.counted.seat.seats
 
-seats_ran : (jobs : List Job) (limit : ℕ) (own : TheSeat) (xs : List Station) (ys : List Done) → Each2 (StationRan jobs limit) xs ys
+seats_ran : (jobs : List Job) (limit : ℕ) (own : TheSeat) (xs : List Station) (ys : List Done) → AllZip (StationRan jobs limit) xs ys
     → AreSeats own (seats_given (map station_of xs)) → AreSeats own (seats_left (map outcome_of ys))
 seats_ran jobs limit own [] [] all are = tt
 seats_ran jobs limit own [] (y ∷ ys) all are = absurd all
@@ -170,7 +171,7 @@ many_left : (ys : List Done) → length (seats_left (map outcome_of ys)) ≡ len
 many_left [] = refl
 many_left (y ∷ ys) = ap suc (many_left ys)
 
-many_ran : (jobs : List Job) (limit : ℕ) (xs : List Station) (ys : List Done) → Each2 (StationRan jobs limit) xs ys → length ys ≡ length (map station_of xs)
+many_ran : (jobs : List Job) (limit : ℕ) (xs : List Station) (ys : List Done) → AllZip (StationRan jobs limit) xs ys → length ys ≡ length (map station_of xs)
 many_ran jobs limit [] [] all = refl
 many_ran jobs limit [] (y ∷ ys) all = absurd all
 many_ran jobs limit (x ∷ xs) [] all = absurd all
@@ -196,7 +197,7 @@ rest_is n owners own ss is many are = record {
 
 pub rest_joined : (p : Parts) (j : TheJoined) (limit jobs : ℕ) (xs : List Station) (ys : List Done) (owners : List ℕ) (first own after : TheSeat) → after ≡ own
     → jobs ≡ length j.owners → own.table ≡ first.table → own.knows ≡ left_view (length p.cores.items) j.owners (length p.cores.items)
-    → AreSeats first (seats_given (map station_of xs)) → Wires p j (map station_of xs) owners → Each2 (StationRan j.jobs limit) xs ys
+    → AreSeats first (seats_given (map station_of xs)) → Wires p j (map station_of xs) owners → AllZip (StationRan j.jobs limit) xs ys
     → IsRest after jobs (seats_left (map outcome_of ys))
 rest_joined p j limit jobs xs ys owners first own after same count table is are wires ran =
     let n = length p.cores.items in

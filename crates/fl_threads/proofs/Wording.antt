@@ -7,10 +7,10 @@ use Rattle.fl_tally.specs.declared.board.View.{View}
 use Rattle.fl_tally.specs.Tally.{MayTell, times, times_told}
 use Rattle.fl_running.specs.declared.word.Word.{Word}
 use Rattle.fl_running.specs.declared.word.Word.TheVariants.{Tells, Hears}
-use Rattle.fl_running.specs.Words.{MayUse, AreWords}
+use Rattle.fl_running.specs.Words.{MayUse, AreWords, word_by}
 use Rattle.fl_dockets.specs.declared.docket.Bound.{Bound}
 use Rattle.fl_dockets.specs.Joined.{AreBindings}
-use Rattle.fl_threads.specs.Begins.{word_by, words_of, IsAlone}
+use Rattle.fl_threads.specs.Begins.{words_of, IsAlone}
 
 some_is : {X : Type 0} (x y : X) → Some x ≡ Some y → x ≡ y
 some_is x y e = cc

@@ -1,24 +1,25 @@
 -- With what each core of a run begins: what a set-up made, and the jobs joined to it.
-use Rattle.std.specs.Prelude.{ℕ, ◌≡◌, ◌==◌, suc, Bool, false, if◌then◌else◌, List, [], ◌∷◌, ◌++◌, map, length, Option, Some, None}
+use Rattle.std.specs.Prelude.{ℕ, ◌≡◌, ◌==◌, suc, Bool, false, if◌then◌else◌, List, [], ◌∷◌, ◌++◌, map, length}
 use Rattle.std.specs.List.{flat_map, range_with_len}
 use Rattle.fl_base.specs.declared.identity.EndId.{EndId}
 use Rattle.fl_base.specs.declared.identity.LinkId.{LinkId}
+use Rattle.fl_base.specs.Given.{given}
+use Rattle.fl_base.specs.Numbered.{link_id}
 use Rattle.fl_compile.specs.Programs.{program_of}
-use Rattle.fl_queues.specs.Given.{given}
 use Rattle.fl_tally.specs.declared.board.View.{View}
-use Rattle.fl_monitor.specs.Fates.{link_id}
 use Rattle.fl_node.specs.View.{TheCore, client_of, server_of}
 use Rattle.fl_node.specs.Numbers.{renumbered}
 use Rattle.fl_node.specs.Hearing.{Offers}
 use Rattle.fl_worlds.specs.declared.parts.Parts.{Parts}
 use Rattle.fl_running.specs.declared.word.Word.{Word}
-use Rattle.fl_running.specs.declared.word.Word.TheVariants.{Silent, Tells, Hears}
+use Rattle.fl_running.specs.declared.word.Word.TheVariants.{Tells, Hears}
 use Rattle.fl_running.specs.Desks.{TheDesk}
+use Rattle.fl_running.specs.Words.{word_by}
 use Rattle.fl_dockets.specs.declared.docket.Bound.{Bound}
 use Rattle.fl_dockets.specs.Dockets.{TheDocket, docket_at}
 use Rattle.fl_dockets.specs.State.{TheJoined}
+use Rattle.fl_dockets.specs.Joined.{core_at}
 use Rattle.fl_stations.specs.Runs.{TheStation}
-use Rattle.fl_stations.specs.Tells.{core_at}
 
 -- ---- ends, and what is known at the start at each of them
 
@@ -30,10 +31,6 @@ ends_at core n b = (if b.client == core then client_of n ∷ [] else []) ++ (if 
 abbrev pub ends_from : ℕ → ℕ → List Bound → List EndId
 ends_from core n [] = []
 ends_from core n (b ∷ bindings) = ends_at core n b ++ ends_from core (suc n) bindings
-
-abbrev pub word_by : (ℕ → Word) → Option ℕ → Word
-word_by word None = Silent
-word_by word (Some job) = word job
 
 -- of a binding, the words of its ends at this core, the client's first
 abbrev pub words_at : ℕ → Bound → List Word

@@ -1,5 +1,6 @@
 -- A working file, on which no public promise rests by itself: how what a set-up made is dealt out to stations, as the code has it.
 use Rattle.std.specs.Prelude.{ℕ, ◌≡◌, ◌⊎◌, ◌*◌, ◌<◌, List, length, slice_get, Some}
+use Rattle.std.specs.List.{AllZip}
 use Rattle.fl_link.specs.Queue.{TheQueue}
 use Rattle.fl_ring.specs.Duo.{TheDuo}
 use Rattle.fl_ring.specs.SharedSides.{TheSide}
@@ -13,9 +14,10 @@ use Rattle.fl_dockets.specs.State.{TheJoined}
 use Rattle.fl_deal.specs.declared.deal.Dealt.{Dealt}
 use Rattle.fl_deal.specs.Dealt.{Holds, AreDealt}
 use Rattle.fl_deal.specs.Settled.{Pair, sides_of, HoldRings}
-use Rattle.fl_stations.specs.Runs.{sides_left, TheOutcome, Each2, TheStation, RanTo}
+use Rattle.fl_worlds.specs.Picture.{NamesQueue, NamesSide}
+use Rattle.fl_stations.specs.Runs.{sides_left, TheOutcome, TheStation, RanTo}
 use Rattle.fl_threads.specs.Begins.{Places, common_in, AreStations}
-use Rattle.fl_threads.specs.Shares.{NamesSide, NamesQueue, AreOwners, AreShared, AreNewRings, sides_given, queues_given}
+use Rattle.fl_threads.specs.Shares.{AreOwners, AreShared, AreNewRings, sides_given, queues_given}
 
 -- ---- what is named
 
@@ -107,5 +109,5 @@ pub record Wires (p : Parts) (j : TheJoined) (stations : List TheStation) (owner
 -- where cores ran, the sides of new rings that were dealt to them are still in their owners' hands. Law
 abbrev pub RingsHold : Type 0
 RingsHold = (jobs : List Job) (limit : ℕ) (rings : List TheDuo) (pairs : List Pair) (owners : List ℕ) (stations : List TheStation) (outcomes : List TheOutcome)
-    → Each2 (RanTo jobs limit) stations outcomes → AreNewRings rings pairs → AreDealt owners (sides_of pairs) (sides_given stations)
+    → AllZip (RanTo jobs limit) stations outcomes → AreNewRings rings pairs → AreDealt owners (sides_of pairs) (sides_given stations)
     → HoldRings owners (sides_left outcomes)

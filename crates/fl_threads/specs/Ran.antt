@@ -1,5 +1,6 @@
 -- What is promised of a run of a world's parts on threads. Public promises rest on this file.
 use Rattle.std.specs.Prelude.{ℕ, ◌≡◌, ◌≤◌, List, length, slice_get, Some}
+use Rattle.std.specs.List.{AllZip}
 use Rattle.fl_jobs.specs.Jobs.{Job}
 use Rattle.fl_jobs.specs.Report.{TheReport, turns_out}
 use Rattle.fl_worlds.specs.declared.parts.Parts.{Parts}
@@ -8,7 +9,7 @@ use Rattle.fl_dockets.specs.Rules.{RulesOf}
 use Rattle.fl_dockets.specs.State.{TheJoined, AreJoined}
 use Rattle.fl_dockets.specs.Whole.{AreBound, AreDue, NoneRefused, IsBeside}
 use Rattle.fl_dockets.specs.Wished.{AreWished}
-use Rattle.fl_stations.specs.Runs.{TheOutcome, Each2, seats_left, TheStation, RanTo}
+use Rattle.fl_stations.specs.Runs.{TheOutcome, seats_left, TheStation, RanTo}
 use Rattle.fl_stations.specs.Tells.{Tells}
 use Rattle.fl_threads.specs.Begins.{Places, common_in, AreStations}
 use Rattle.fl_threads.specs.Heard.{HeardAsTold}
@@ -28,7 +29,7 @@ pub record CoresRan (p : Parts) (j : TheJoined) (limit : ℕ) (r : TheReport) : 
   pub places : Places
   pub begin : AreStations (common_in p j places) 0 p.cores.items stations
   pub outcomes : List TheOutcome
-  pub ran : Each2 (RanTo j.jobs limit) stations outcomes
+  pub ran : AllZip (RanTo j.jobs limit) stations outcomes
   pub shares : Shares p places stations outcomes
   pub sound : AreSound stations outcomes
   pub heard : HeardAsTold (length j.owners) (seats_left outcomes)

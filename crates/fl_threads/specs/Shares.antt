@@ -1,13 +1,11 @@
 -- Which sides of rings and which queues each core of a run is given, and what came of the rings.
-use Rattle.std.specs.Prelude.{ℕ, ◌≡◌, ◌⊎◌, ◌*◌, ◌<◌, List, [], ◌∷◌, map, length, slice_get, Some}
-use Rattle.fl_base.specs.declared.identity.EndId.{EndId}
+use Rattle.std.specs.Prelude.{ℕ, ◌≡◌, ◌*◌, ◌<◌, List, [], ◌∷◌, map, length, slice_get, Some}
 use Rattle.fl_link.specs.Queue.{TheQueue}
 use Rattle.fl_ring.specs.Duo.{TheDuo}
 use Rattle.fl_ring.specs.SharedSides.{TheSide}
-use Rattle.fl_node.specs.declared.wire.Wire.TheVariants.{Queues, Ring}
-use Rattle.fl_node.specs.View.{TheCore, side_of_link}
+use Rattle.fl_node.specs.View.{TheCore}
 use Rattle.fl_node.specs.Sound.{IsCore}
-use Rattle.fl_worlds.specs.Picture.{wire_of}
+use Rattle.fl_worlds.specs.Picture.{NamesQueue, NamesSide}
 use Rattle.fl_worlds.specs.declared.parts.Parts.{Parts}
 use Rattle.fl_deal.specs.Dealt.{AreDealt, AreAt, AreApart, AreCounted, AreNew}
 use Rattle.fl_deal.specs.Settled.{Pair, sides_of, Each, IsNear}
@@ -15,16 +13,6 @@ use Rattle.fl_stations.specs.Runs.{TheStation, TheOutcome, IsLeftSound, sides_le
 use Rattle.fl_threads.specs.Begins.{Places}
 
 -- ---- which sides of rings and which queues a core names
-
--- as the side of a link, or as that of an end
-abbrev pub NamesSide : TheCore → ℕ → Type 0
-NamesSide c side = ((l : ℕ) × (side_of_link c.lanes l ≡ Some side)) ⊎ ((e : EndId) × (wire_of c e ≡ Some (Ring side)))
-
--- as that which an end puts to, or as that which an end takes from
-abbrev pub NamesQueue : TheCore → ℕ → Type 0
-NamesQueue c queue =
-    ((e : EndId) × (from : ℕ) × (wire_of c e ≡ Some (Queues queue from)))
-    ⊎ ((e : EndId) × (out : ℕ) × (wire_of c e ≡ Some (Queues out queue)))
 
 -- ---- whose each thing is
 

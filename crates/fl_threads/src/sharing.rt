@@ -1,9 +1,9 @@
 //! Whose each side of a ring and each queue is, and all of them dealt out.
 
 ghost use Rattle.std.specs.Prelude.{◌≡◌, ◌+◌, ◌*◌, ◌<◌, length, slice_get, slice_set, Some, IfOk};
-ghost use Rattle.fl_threads.specs.Shares.{NamesSide, NamesQueue};
 ghost use Rattle.fl_threads.specs.Dealing.{IsLinkSide, TakesSide, TakesQueue, PutsQueue, Below, Owns, AreOf, HaveOwners, DealsRings, DealsQueues};
 ghost use Rattle.fl_deal.specs.Dealt.{Deals};
+ghost use Rattle.fl_worlds.specs.Picture.{NamesQueue, NamesSide};
 
 use fl_base::LinkId;
 use fl_deal::Dealt;

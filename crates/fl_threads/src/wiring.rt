@@ -4,13 +4,12 @@ ghost use Rattle.std.specs.Prelude.{◌≡◌, ◌+◌, ◌<◌, ◌≤◌, ◌=
 ghost use Rattle.fl_compile.specs.Programs.{program_of};
 ghost use Rattle.fl_node.specs.View.{slot_of};
 ghost use Rattle.fl_tally.specs.Tally.{opening_view};
-ghost use Rattle.fl_running.specs.Words.{AreWords};
+ghost use Rattle.fl_running.specs.Words.{AreWords, word_by};
 ghost use Rattle.fl_running.specs.declared.word.Word.TheVariants.{Tells, Hears};
-ghost use Rattle.fl_dockets.specs.Joined.{AreBindings, HasDockets};
+ghost use Rattle.fl_dockets.specs.Joined.{AreBindings, HasDockets, core_at};
 ghost use Rattle.fl_dockets.specs.State.{joined_of};
-ghost use Rattle.fl_stations.specs.Tells.{core_at};
 ghost use Rattle.fl_stations.specs.Stations.{IsReady, AllReady, station_of};
-ghost use Rattle.fl_threads.specs.Begins.{owns, ends_at, ends_from, word_by, words_at, words_of, links_below, desk_for, desks_of};
+ghost use Rattle.fl_threads.specs.Begins.{owns, ends_at, ends_from, words_at, words_of, links_below, desk_for, desks_of};
 ghost use Rattle.fl_threads.specs.Begins.{IsAlone, IsStation, AreStations};
 ghost use Rattle.fl_threads.specs.Shares.{sides_given, queues_given};
 ghost use Rattle.fl_threads.specs.Dealing.{SharesOut, Wires};

@@ -5,13 +5,14 @@ use Rattle.std.specs.Prelude.{codes}
 use Rattle.fl_value.proofs.Words.{call_once}
 use Rattle.fl_lines.specs.Commands.{EndName, Command, cores, link, disp, export, bind, call, show, write, turn, ack, register, deregister, reply, mwrite, forward, mack}
 use Rattle.fl_lines.specs.Grammar.{silent, heading, command, unread}
-use Rattle.fl_lines.specs.Items.{Item, a_line, a_block, open_block}
+use Rattle.fl_lines.specs.Items.{Item, a_line, a_block, open_block, is_too_long}
 use Rattle.fl_lines.specs.Names.{Names}
 use Rattle.fl_lines.specs.Asked.{Asked, Asks, CallAsks, asks_call, refuses}
 use Rattle.fl_lines.proofs.AskedLemmas.{one_asked_is}
 use Rattle.fl_lines.proofs.ItemLemmas.{some_items_is, one_items_is}
 use Rattle.fl_text.proofs.Firsts.{some_text, one_text}
-use Rattle.fl_transcript.specs.Transcript.{Script, beginning, Effect, line, effect_of, block_effect, Does, AllDo, Runs, text_of, is_too_long, Transcript}
+use Rattle.fl_lines.specs.Answers.{line}
+use Rattle.fl_transcript.specs.Transcript.{Script, beginning, Effect, effect_of, block_effect, Does, AllDo, Runs, text_of, Transcript}
 use Rattle.fl_transcript.proofs.CallTexts.{CallAt, call_at}
 
 -- ---- what a command asks

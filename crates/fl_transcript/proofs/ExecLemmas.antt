@@ -7,7 +7,7 @@ use Rattle.std.proofs.lemmas.List.{take-append-drop}
 use Rattle.std.proofs.lemmas.List.Concat.{flat_map-append}
 use Rattle.std.proofs.lemmas.Bool.Decides.{nat_tests}
 use Rattle.std.specs.Io.KnownBytes.{Appends, Keeps, Consumes, IsAtEnd}
-use Rattle.fl_lines.specs.Items.{Item, ItemsOf}
+use Rattle.fl_lines.specs.Items.{Item, ItemsOf, is_too_long}
 use Rattle.fl_transcript.specs.declared.running.ExecFault.{ExecFault}
 use Rattle.fl_transcript.specs.declared.running.ExecFault.TheVariants.{Memory, Read, Write}
 use Rattle.fl_transcript.specs.declared.script.Script.{Script as RustScript}
@@ -16,8 +16,9 @@ use Rattle.fl_transcript.specs.Shown.{IsAt}
 use Rattle.fl_transcript.specs.Counting.{CountsOne, CountsUpTo}
 use Rattle.fl_transcript.specs.Reading.{ReadsWhole, CanBeUnread, GivesSome, GivesScript, GivesUntil, StopsWith, GoesOn}
 use Rattle.fl_base.specs.Prefix.{IsPrefix}
+use Rattle.fl_lines.specs.Answers.{line}
 use Rattle.fl_transcript.specs.CutShort.{IsProperPrefix, SomeAnswers, PartOfAnswers, LeavesWritten}
-use Rattle.fl_transcript.specs.Transcript.{Script, Effect, Does, AllDo, Runs, text_of, Transcript, is_too_long, beginning, line}
+use Rattle.fl_transcript.specs.Transcript.{Script, Effect, Does, AllDo, Runs, text_of, Transcript, beginning}
 use Rattle.fl_transcript.proofs.Doing.{some_effect, some_run, one_run, one_transcript}
 use Rattle.fl_transcript.proofs.Firsts.{HasItem, has_item}
 

@@ -4,10 +4,10 @@ use Rattle.std.specs.Prelude.{nat_lt, is_some, IsSome}
 use Rattle.std.specs.Str.{bytes_eq}
 use Rattle.std.proofs.lemmas.Option.{slice_get-map}
 use Rattle.fl_base.specs.declared.identity.EndId.{EndId}
+use Rattle.fl_base.specs.Given.{given}
 use Rattle.fl_interface.specs.Interface.{TheMessage}
 use Rattle.fl_value.specs.Value.{Datum}
 use Rattle.fl_value.specs.declared.value.PlanNo.{PlanNo}
-use Rattle.fl_queues.specs.Given.{given}
 use Rattle.fl_queues.specs.Calls.{Planned}
 use Rattle.fl_queues.specs.Events.{DispatcherId, Event, add_interface, set_cores, add_link, add_dispatcher, monitor_write, monitor_acknowledge}
 use Rattle.fl_queues.specs.Events as event

@@ -8,7 +8,7 @@ use Rattle.fl_queues.specs.Step.{step}
 use Rattle.fl_lines.specs.declared.event.Event.{Event as RustEvent}
 use Rattle.fl_lines.specs.declared.fault.LineFault.{LineFault}
 use Rattle.fl_lines.specs.declared.fault.LineFault.TheVariants.{Memory}
-use Rattle.fl_lines.specs.Answers.{answer_text}
+use Rattle.fl_lines.specs.Answers.{answer_text, line}
 use Rattle.fl_lines.specs.declared.answer.Answer.{Answer as RustAnswer}
 use Rattle.fl_lines.specs.Events.{event_of, answer_of}
 use Rattle.fl_lines.specs.Faults.{number_of}
@@ -22,7 +22,7 @@ use Rattle.fl_lines.specs.Told.{names_of}
 use Rattle.fl_transcript.specs.declared.script.Script.{Script as RustScript}
 use Rattle.fl_transcript.specs.Shown.{IsAt, Answered, Answers, AnswersBy, AnswersEvent}
 use Rattle.fl_transcript.specs.Steps.{Steps}
-use Rattle.fl_transcript.specs.Transcript.{Script, line, Does, effect_of, writes_refusal}
+use Rattle.fl_transcript.specs.Transcript.{Script, Does, effect_of, writes_refusal}
 
 same_names : (n : Names) (a : Answer) → names_after n n a ≡ n
 same_names n a = by (is_done a)

@@ -4,10 +4,12 @@ use Rattle.std.specs.List.{range_with_len}
 use Rattle.std.proofs.lemmas.List.{map-append}
 use Rattle.std.proofs.lemmas.Bool.Decides.{nat_tests}
 use Rattle.fl_base.specs.declared.identity.Side.TheVariants.{Client, Server}
+use Rattle.fl_base.specs.Given.{given}
+use Rattle.fl_base.specs.Numbered.{most_cores, most_bindings}
 use Rattle.fl_interface.specs.Interface.{TheInterface}
 use Rattle.fl_value.specs.declared.value.PlanNo.{PlanNo}
 use Rattle.fl_hop.specs.Numbers.{next_own}
-use Rattle.fl_queues.specs.Given.{given, changed_at}
+use Rattle.fl_queues.specs.Given.{changed_at}
 use Rattle.fl_queues.specs.Events.{DispatcherId, Kind, by_queues, by_ring, by_route, Answer, done, refused}
 use Rattle.fl_queues.specs.Calls.{Planned}
 use Rattle.fl_queues.specs.Rings.{Opening, fresh_ring}
@@ -15,8 +17,8 @@ use Rattle.fl_queues.specs.Ends.{Queue, fresh_queue}
 use Rattle.fl_queues.specs.Waits.{fresh_dispatcher}
 use Rattle.fl_queues.specs.Monitors.{fresh_core, link_to, can_say, opens, Core}
 use Rattle.fl_queues.specs.State.{Back, local, over_ring, over_route, undecided, Route, State, Outcome, answers, core_of, dispatcher_of, change_core, seats}
-use Rattle.fl_queues.specs.Making.{adds_interface, has_interface, most_interfaces, sets_cores, most_cores, is_core, is_ring_size, adds_dispatcher, count_dispatchers, most_dispatchers, with_dispatcher}
-use Rattle.fl_queues.specs.Binding.{Wanted, end_id, with_new_binding, binds_both, has_both_places, has_places_for, binds_by_queues, binds_by_ring, is_route, arrival_queue, with_circuit_begun, opens_on, binds_by_route, binds_by, binds, most_bindings, place_of_service}
+use Rattle.fl_queues.specs.Making.{adds_interface, has_interface, most_interfaces, sets_cores, is_core, is_ring_size, adds_dispatcher, count_dispatchers, most_dispatchers, with_dispatcher}
+use Rattle.fl_queues.specs.Binding.{Wanted, end_id, with_new_binding, binds_both, has_both_places, has_places_for, binds_by_queues, binds_by_ring, is_route, arrival_queue, with_circuit_begun, opens_on, binds_by_route, binds_by, binds, place_of_service}
 use Rattle.fl_queues.specs.Step.{settles_by}
 use Rattle.fl_laws.proofs.Cases.{either, by_given}
 use Rattle.fl_laws.proofs.Views.{map_changed}

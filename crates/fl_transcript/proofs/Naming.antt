@@ -9,7 +9,7 @@ use Rattle.fl_base.specs.declared.identity.EndId.{EndId}
 use Rattle.fl_interface.specs.Interface.{TheInterface}
 use Rattle.fl_value.specs.Value.{Datum}
 use Rattle.fl_value.specs.declared.value.PlanNo.{PlanNo}
-use Rattle.fl_queues.specs.Given.{given, changed_at}
+use Rattle.fl_queues.specs.Given.{changed_at}
 use Rattle.fl_queues.specs.Events.{DispatcherId, Event, Kind, Answer, add_interface, set_cores, add_link, add_dispatcher, monitor_write, monitor_acknowledge}
 use Rattle.fl_queues.specs.Events as event
 use Rattle.fl_queues.specs.Waits.{Dispatcher}
@@ -32,6 +32,7 @@ use Rattle.fl_queues.specs.Laws.{RunsAreSound}
 use Rattle.fl_queues.specs.SoundPlaces.{ServicesStand}
 use Rattle.std.specs.Prelude.{nat_lt}
 use Rattle.std.proofs.lemmas.Option.{slice_get_within}
+use Rattle.fl_base.specs.Given.{given}
 use Rattle.fl_transcript.proofs.Asking.{begun, all_run}
 use Rattle.fl_transcript.proofs.Once.{differ_push, not_among}
 use Rattle.fl_transcript.proofs.Views

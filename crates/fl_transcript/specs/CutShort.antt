@@ -2,9 +2,10 @@
 use Rattle.std.specs.Prelude.{◌≡◌, ℕ, List, [], ◌∷◌, ◌++◌}
 use Rattle.std.specs.Bool.{MatchBool}
 use Rattle.fl_base.specs.Prefix.{IsPrefix}
+use Rattle.fl_lines.specs.Items.{is_too_long}
 use Rattle.fl_transcript.specs.declared.running.ExecFault.{ExecFault}
 use Rattle.fl_transcript.specs.declared.running.ExecFault.TheVariants.{Memory, Read, Write}
-use Rattle.fl_transcript.specs.Transcript.{Script, beginning, Effect, Runs, text_of, is_too_long, Transcript}
+use Rattle.fl_transcript.specs.Transcript.{Script, beginning, Effect, Runs, text_of, Transcript}
 
 -- the second list begins with the first, and is longer
 abbrev pub IsProperPrefix : List ℕ → List ℕ → Type 0

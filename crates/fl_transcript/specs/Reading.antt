@@ -2,10 +2,11 @@
 use Rattle.std.specs.Prelude.{◌≡◌, ◌<◌, ◌≤◌, ℕ, List, ◌++◌, length, true, ⊤, Option, Result, Ok, Err}
 use Rattle.std.specs.Bool.{MatchBool}
 use Rattle.std.specs.Io.KnownBytes.{Consumes, IsAtEnd}
+use Rattle.fl_lines.specs.Items.{is_too_long}
 use Rattle.fl_transcript.specs.declared.running.ExecFault.{ExecFault}
 use Rattle.fl_transcript.specs.declared.running.ExecFault.TheVariants.{Memory, Read, Write}
 use Rattle.fl_transcript.specs.CutShort.{SomeAnswers, PartOfAnswers}
-use Rattle.fl_transcript.specs.Transcript.{Script, Effect, Runs, is_too_long}
+use Rattle.fl_transcript.specs.Transcript.{Script, Effect, Runs}
 
 -- the status with which a program ends that met the fault
 abbrev pub status_of : ExecFault → ℕ

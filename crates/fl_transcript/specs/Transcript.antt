@@ -1,5 +1,5 @@
 -- The transcript of a script: what the queue machine answers from its start, item by item.
-use Rattle.std.specs.Prelude.{◌≡◌, ℕ, nat_lt, Bool, List, [], ◌∷◌, ◌++◌, length, codes}
+use Rattle.std.specs.Prelude.{◌≡◌, ℕ, List, [], ◌∷◌, ◌++◌, codes}
 use Rattle.std.specs.Bool.{MatchBool}
 use Rattle.std.specs.List.{flat_map}
 use Rattle.fl_value.specs.declared.value.PlanNo.{PlanNo}
@@ -8,10 +8,10 @@ use Rattle.fl_queues.specs.State.{State, Outcome, start}
 use Rattle.fl_queues.specs.Step.{step}
 use Rattle.fl_queues.specs.Runs.{Exchange}
 use Rattle.fl_lines.specs.Grammar.{silent, heading, command, unread}
-use Rattle.fl_lines.specs.Items.{Item, a_line, a_block, open_block, ItemsOf}
+use Rattle.fl_lines.specs.Items.{Item, a_line, a_block, open_block, ItemsOf, is_too_long}
 use Rattle.fl_lines.specs.Names.{Names, no_names}
 use Rattle.fl_lines.specs.Asked.{Asked, refuses, asks, names_after, Asks, asks_interface}
-use Rattle.fl_lines.specs.Answers.{answer_text, fault_text}
+use Rattle.fl_lines.specs.Answers.{answer_text, fault_text, line}
 use Rattle.fl_text.specs.Text.{TextOutcome, stands_for, text_fault, TextMeans}
 
 -- where a script is: the names that it has given, and the machine's state
@@ -27,9 +27,6 @@ pub record Effect : Type 0 where
   pub text : List ℕ
   pub asked : List Exchange
   pub after : Script
-
-abbrev pub line : List ℕ → List ℕ
-line text = text ++ 10 ∷ []
 
 -- ---- an item
 
@@ -95,10 +92,6 @@ text_of effects = flat_map Effect.text effects
 
 abbrev pub asked_in : List Effect → List Exchange
 asked_in effects = flat_map Effect.asked effects
-
--- a script of more than 1,048,576 bytes is refused whole
-abbrev pub is_too_long : List ℕ → Bool
-is_too_long bytes = nat_lt 1048576 (length bytes)
 
 abbrev pub Transcript : List ℕ → List ℕ → Type 0
 Transcript bytes out = MatchBool (is_too_long bytes) (out ≡ line (codes "refused E91"))

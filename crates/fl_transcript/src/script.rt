@@ -3,7 +3,7 @@
 ghost use Rattle.std.specs.Prelude.{◌≡◌, ◌∷◌, ◌++◌, [], Err, IfOk, OnOk, OnErr};
 ghost use Rattle.fl_interface.specs.Interface.{interface_of};
 ghost use Rattle.fl_lines.specs.declared.fault.LineFault.TheVariants.{Memory};
-ghost use Rattle.fl_lines.specs.Answers.{answer_text};
+ghost use Rattle.fl_lines.specs.Answers.{answer_text, line};
 ghost use Rattle.fl_lines.specs.Asked.{asks};
 ghost use Rattle.fl_lines.specs.Events.{event_of, answer_of};
 ghost use Rattle.fl_lines.specs.Faults.{number_of};
@@ -13,7 +13,7 @@ ghost use Rattle.fl_lines.specs.Told.{names_of, named, IsNew};
 ghost use Rattle.fl_lines.specs.Views.{command_of, part_of};
 ghost use Rattle.fl_lines.specs.Reading.{command_by, line_with};
 ghost use Rattle.fl_transcript.specs.Shown.{IsAt, Answers, AnswersBy, AnswersTold, AnswersEvent};
-ghost use Rattle.fl_transcript.specs.Transcript.{beginning, line, writes_only, effect_of, writes_refusal};
+ghost use Rattle.fl_transcript.specs.Transcript.{beginning, writes_only, effect_of, writes_refusal};
 ghost use Rattle.fl_transcript.specs.Transcript.{block_effect, Does};
 ghost use Rattle.fl_text.specs.Text.{stands_for, text_fault};
 

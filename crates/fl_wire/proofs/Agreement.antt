@@ -14,13 +14,14 @@ use Rattle.fl_interface.specs.Sizes.{scalar_size, align_of, greatest_align}
 use Rattle.fl_value.specs.Value.{Datum, number, string, elements, fields, Data, nothing_more, also}
 use Rattle.fl_value.specs.Fits.{has_type, have_types, all_have_type, count_of, is_argument, are_arguments, is_scalar_value, is_enumerator, least_above, how_many_below, is_text_byte}
 use Rattle.fl_value.specs.Plan.{is_dynamic, rank_of, fixed_rank, of_rank, of_ranks}
-use Rattle.fl_layout.specs.Leaves.{kind, Leaf, gap, whole, single, bits_of, value_onto, fields_onto, elements_onto, bytes_onto, Argument, argument_onto, arguments_onto, start_onto}
+use Rattle.fl_layout.specs.Leaves.{Leaf, gap, whole, single, bits_of, value_onto, fields_onto, elements_onto, bytes_onto, argument_onto, arguments_onto, start_onto}
 use Rattle.fl_layout.specs.Places.{size, place}
 use Rattle.fl_wire.specs.Payload.{payload_at}
 use Rattle.fl_value.specs.declared.value.PlanNo.{PlanNo}
 use Rattle.fl_value.specs.declared.value.PlanNo.TheVariants.{One, Two}
 use Rattle.fl_wire.specs.Standing.{Over, firsts, fitting}
 use Rattle.fl_interface.specs.Counts.{words_fit, all_words_fit, argument_words_fit}
+use Rattle.fl_value.specs.Tape.{Argument, kind}
 use Rattle.fl_wire.proofs.Bytes.{size_le_place, below_place, at_place}
 use Rattle.fl_wire.proofs.Arguments.{IsAlign, type_align, by_align, scalar_align}
 

@@ -12,7 +12,8 @@ use Rattle.fl_value.specs.Value.{Datum, number, string, elements, fields, TheCal
 use Rattle.fl_value.specs.Fits.{is_argument, are_arguments, fit_message, least_above, how_many_below}
 use Rattle.fl_value.specs.Plan.{of_ranks}
 use Rattle.fl_value.specs.declared.value.PlanNo.{PlanNo}
-use Rattle.fl_layout.specs.Leaves.{leaves, Argument, kind, arguments_onto, argument_types, types_of, is_number_type}
+use Rattle.fl_value.specs.Tape.{Argument, kind, types_of}
+use Rattle.fl_layout.specs.Leaves.{leaves, arguments_onto, argument_types, is_number_type}
 use Rattle.fl_wire.specs.Widths.{number_width, number_of, fits_width, IsWordSized}
 pub use Rattle.fl_interface.specs.Sizes.{IsAlign}
 pub use Rattle.fl_interface.proofs.Aligned.{scalar_align, type_align, types_align, by_align}

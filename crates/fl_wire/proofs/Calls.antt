@@ -11,7 +11,8 @@ use Rattle.fl_value.specs.Value.{Datum, string, elements}
 use Rattle.fl_value.specs.Fits.{is_argument, are_arguments, count_of}
 use Rattle.fl_value.specs.Plan.{is_dynamic, rank_of, of_rank, of_ranks}
 use Rattle.fl_value.specs.declared.value.PlanNo.{PlanNo}
-use Rattle.fl_layout.specs.Leaves.{kind, Leaf, Argument, gap, whole, bytes_onto, elements_onto, argument_onto, arguments_onto, start_onto}
+use Rattle.fl_value.specs.Tape.{Argument, kind}
+use Rattle.fl_layout.specs.Leaves.{Leaf, gap, whole, bytes_onto, elements_onto, argument_onto, arguments_onto, start_onto}
 use Rattle.fl_layout.specs.Places.{size, place}
 use Rattle.fl_wire.specs.Alive.{argument_has_values}
 use Rattle.fl_wire.specs.Covered.{holds, is_length}

@@ -15,12 +15,13 @@ use Rattle.fl_value.specs.Fits.{count_of, has_type, all_have_type, is_argument, 
 use Rattle.fl_value.specs.Plan.{arranged, is_dynamic, rank_of, of_rank, of_ranks, never_falls}
 use Rattle.fl_value.specs.declared.value.PlanNo.{PlanNo}
 use Rattle.fl_value.specs.declared.value.PlanNo.TheVariants.{Two}
-use Rattle.fl_layout.specs.Leaves.{kind, Leaf, gap, whole, single, bits_of, is_number_type, value_onto, elements_onto, Argument, bytes_onto, argument_onto, arguments_onto, start_onto}
+use Rattle.fl_layout.specs.Leaves.{Leaf, gap, whole, single, bits_of, is_number_type, value_onto, elements_onto, bytes_onto, argument_onto, arguments_onto, start_onto}
 use Rattle.fl_layout.specs.Places.{size}
 use Rattle.fl_wire.specs.Payload.{payload_bytes}
 use Rattle.fl_wire.specs.Widths.{number_width, number_of, is_number_within, numbers_onto, IsWordSized}
 use Rattle.fl_value.proofs.Ranked.{is_last}
 use Rattle.fl_value.proofs.Kept.{kept_arguments}
+use Rattle.fl_value.specs.Tape.{Argument, kind}
 use Rattle.fl_wire.proofs.Arguments.{number_fits}
 use Rattle.fl_wire.proofs.Scalars.{rises, rises_end}
 use Rattle.fl_wire.proofs.Bytes.{length_payload, payload_more, size_le_place}

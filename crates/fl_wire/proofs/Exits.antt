@@ -15,10 +15,11 @@ use Rattle.fl_value.specs.Value.{Datum, TheCall}
 use Rattle.fl_value.specs.Fits.{fits_of, fit_message, are_arguments}
 use Rattle.fl_value.specs.Plan.{arranged, of_ranks}
 use Rattle.fl_value.specs.declared.value.PlanNo.{PlanNo}
-use Rattle.fl_layout.specs.Leaves.{Leaf, leaves, Argument, kind, argument_types, types_of}
+use Rattle.fl_layout.specs.Leaves.{Leaf, leaves, argument_types}
 use Rattle.fl_layout.specs.Places.{size, count, count_for}
 use Rattle.fl_wire.specs.Alive.{has_values, all_have_values, argument_has_values}
 use Rattle.fl_interface.specs.Counts.{interface_words_fit}
+use Rattle.fl_value.specs.Tape.{Argument, kind, types_of}
 use Rattle.fl_wire.specs.Payload.{frags_of}
 use Rattle.fl_wire.specs.Standing.{byte_in, words_in}
 use Rattle.fl_wire.specs.Covered.{is_covered, is_length}

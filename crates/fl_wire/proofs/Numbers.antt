@@ -8,8 +8,8 @@ use Rattle.std.proofs.lemmas.Bool.{cases_lt, ne_eqb}
 use Rattle.fl_interface.specs.Interface.{text}
 use Rattle.fl_value.specs.Value.{string}
 use Rattle.fl_value.specs.declared.value.PlanNo.{PlanNo}
-use Rattle.fl_layout.specs.Leaves.{kind, Argument}
 use Rattle.fl_value.specs.Plan.{rank_of, of_rank}
+use Rattle.fl_value.specs.Tape.{Argument, kind}
 
 -- the number whose low bytes are given
 abbrev pub from_low : ℕ → (ℕ → ℕ) → ℕ

@@ -7,10 +7,11 @@ use Rattle.fl_interface.specs.Interface.{TheArgType, TheInterface}
 use Rattle.fl_value.specs.Value.{Datum, TheCall}
 use Rattle.fl_value.specs.Fits.{fits_of, are_arguments}
 use Rattle.fl_value.specs.declared.value.PlanNo.{PlanNo}
-use Rattle.fl_layout.specs.Leaves.{kind, Leaf, leaves, argument_types, arguments_onto}
+use Rattle.fl_layout.specs.Leaves.{Leaf, leaves, argument_types, arguments_onto}
 use Rattle.fl_layout.specs.Places.{size, count}
 use Rattle.fl_wire.specs.Payload.{frags_of}
 use Rattle.fl_value.specs.Plan.{of_ranks}
+use Rattle.fl_value.specs.Tape.{kind}
 use Rattle.fl_wire.specs.Shapes.{Agrees, Shape, Wrong, Stops, StopsAt, ReadAt, calls_of}
 use Rattle.fl_wire.specs.declared.leaf.Stop.{Stop}
 use Rattle.fl_wire.specs.declared.leaf.Stop.TheVariants.{Short, Padding, Value, Length, Memory}

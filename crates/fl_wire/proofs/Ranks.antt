@@ -7,7 +7,8 @@ use Rattle.fl_interface.specs.Interface.{TheArgType, text}
 use Rattle.fl_value.specs.Value.{Datum}
 use Rattle.fl_value.specs.Plan.{rank_of, of_rank, of_ranks}
 use Rattle.fl_value.specs.declared.value.PlanNo.{PlanNo}
-use Rattle.fl_layout.specs.Leaves.{Argument, kind, arguments_onto}
+use Rattle.fl_value.specs.Tape.{Argument, kind}
+use Rattle.fl_layout.specs.Leaves.{arguments_onto}
 use Rattle.fl_wire.specs.Covered.{is_length}
 use Rattle.fl_wire.specs.Shapes.{calls_of, ReadAt}
 use Rattle.fl_wire.proofs.Steps.{Come, come_done}

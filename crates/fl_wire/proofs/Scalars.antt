@@ -15,7 +15,8 @@ use Rattle.fl_value.specs.Plan.{is_dynamic, rank_of, rising, never_falls, of_ran
 use Rattle.fl_value.specs.declared.value.PlanNo.{PlanNo}
 use Rattle.fl_value.specs.declared.value.PlanNo.TheVariants.{One, Two}
 use Rattle.fl_value.proofs.Kept.{kept_arguments}
-use Rattle.fl_layout.specs.Leaves.{kind, Leaf, gap, Argument, argument_onto, arguments_onto, start_onto}
+use Rattle.fl_value.specs.Tape.{Argument, kind}
+use Rattle.fl_layout.specs.Leaves.{Leaf, gap, argument_onto, arguments_onto, start_onto}
 use Rattle.fl_layout.specs.Places.{place}
 use Rattle.fl_wire.specs.Alive.{argument_has_values}
 use Rattle.fl_wire.specs.Covered.{holds, is_length}

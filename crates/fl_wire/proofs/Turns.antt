@@ -13,7 +13,8 @@ use Rattle.fl_value.specs.Fits.{has_type, have_types, all_have_type, is_argument
 use Rattle.fl_value.specs.Plan.{is_dynamic, rank_of, of_rank, never_falls}
 use Rattle.fl_value.specs.declared.value.PlanNo.{PlanNo}
 use Rattle.fl_value.specs.declared.value.PlanNo.TheVariants.{Two}
-use Rattle.fl_layout.specs.Leaves.{kind, Leaf, value_onto, fields_onto, Argument, argument_onto, arguments_onto, start_onto}
+use Rattle.fl_value.specs.Tape.{Argument, kind}
+use Rattle.fl_layout.specs.Leaves.{Leaf, value_onto, fields_onto, argument_onto, arguments_onto, start_onto}
 use Rattle.fl_wire.proofs.Encoding.{rank_taken, rank_passed}
 use Rattle.fl_wire.proofs.Scalars.{rises, rises_on}
 

@@ -10,7 +10,8 @@ use Rattle.fl_value.specs.Value.{Datum}
 use Rattle.fl_value.specs.Fits.{is_argument}
 use Rattle.fl_value.specs.Plan.{is_dynamic, of_ranks}
 use Rattle.fl_value.specs.declared.value.PlanNo.{PlanNo}
-use Rattle.fl_layout.specs.Leaves.{kind, Leaf, Argument, argument_onto, arguments_onto, start_onto}
+use Rattle.fl_value.specs.Tape.{Argument, kind}
+use Rattle.fl_layout.specs.Leaves.{Leaf, argument_onto, arguments_onto, start_onto}
 use Rattle.fl_layout.specs.Places.{size, count_for}
 use Rattle.fl_wire.specs.Payload.{payload_at}
 use Rattle.fl_wire.specs.Standing.{FirstNonzero, byte_in, fitting}

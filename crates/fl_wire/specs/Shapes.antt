@@ -8,7 +8,8 @@ use Rattle.fl_value.specs.Value.{Datum, Data}
 use Rattle.fl_value.specs.Fits.{has_type, have_types, all_have_type, count_of, is_text_byte, is_argument, are_arguments}
 use Rattle.fl_value.specs.Plan.{is_dynamic, of_ranks}
 use Rattle.fl_value.specs.declared.value.PlanNo.{PlanNo}
-use Rattle.fl_layout.specs.Leaves.{kind, Leaf, gap, whole, single, value_onto}
+use Rattle.fl_value.specs.Tape.{kind}
+use Rattle.fl_layout.specs.Leaves.{Leaf, gap, whole, single, value_onto}
 use Rattle.fl_layout.specs.Leaves.{fields_onto, elements_onto, bytes_onto, argument_onto, start_onto, arguments_onto}
 use Rattle.fl_layout.specs.Places.{size, place}
 use Rattle.fl_wire.specs.Payload.{payload_at}

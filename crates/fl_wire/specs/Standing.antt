@@ -6,7 +6,8 @@ use Rattle.std.specs.Int.{byte_at}
 use Rattle.fl_base.specs.declared.fragment.Frag.{Frag}
 use Rattle.fl_interface.specs.Interface.{scalar, TheArgType, fixed}
 use Rattle.fl_value.specs.Fits.{is_argument, is_signed, scalar_bits}
-use Rattle.fl_layout.specs.Leaves.{Leaf, Argument, bits_of}
+use Rattle.fl_value.specs.Tape.{Argument}
+use Rattle.fl_layout.specs.Leaves.{Leaf, bits_of}
 use Rattle.fl_wire.specs.Payload.{payload_at}
 use Rattle.fl_wire.specs.Widths.{number_width, number_of}
 

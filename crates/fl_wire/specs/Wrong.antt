@@ -9,7 +9,8 @@ use Rattle.fl_value.specs.Value.{TheCall}
 use Rattle.fl_value.specs.Fits.{fits_of}
 use Rattle.fl_value.specs.Plan.{arranged}
 use Rattle.fl_value.specs.declared.value.PlanNo.{PlanNo}
-use Rattle.fl_layout.specs.Leaves.{leaves, kind, argument_types}
+use Rattle.fl_value.specs.Tape.{kind}
+use Rattle.fl_layout.specs.Leaves.{leaves, argument_types}
 use Rattle.fl_wire.specs.Reading.{Reads, IsWrong}
 use Rattle.fl_wire.specs.Covered.{is_covered, is_length}
 use Rattle.fl_wire.specs.Shapes.{Agrees}

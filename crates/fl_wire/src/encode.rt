@@ -8,10 +8,11 @@ ghost use Rattle.fl_interface.specs.Sizes.{round_up, align_of, greatest_align};
 ghost use Rattle.fl_value.specs.Value.{datum_of, data_from, call_of};
 ghost use Rattle.fl_value.specs.Fits.{count_of, fits_of, has_type, have_types, all_have_type, are_arguments, is_argument, is_text_byte};
 ghost use Rattle.fl_value.specs.Plan.{arranged, is_dynamic, of_rank, of_ranks};
-ghost use Rattle.fl_layout.specs.Leaves.{Leaf, gap, whole, bits_of, kind, value_onto};
+ghost use Rattle.fl_layout.specs.Leaves.{Leaf, gap, whole, bits_of, value_onto};
 ghost use Rattle.fl_layout.specs.Leaves.{fields_onto, elements_onto, bytes_onto, argument_onto, arguments_onto, start_onto};
 ghost use Rattle.fl_wire.specs.Payload.{payload_bytes, payload_of};
 ghost use Rattle.fl_interface.specs.Sizes.{IsAlign};
+ghost use Rattle.fl_value.specs.Tape.{kind};
 ghost use Rattle.fl_wire.specs.Widths.{fits_width, is_number_within, numbers_onto};
 
 use crate::types::{arguments_of, ends_fixed, is_dynamic};

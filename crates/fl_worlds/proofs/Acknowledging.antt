@@ -2,6 +2,7 @@
 use Rattle.std.proofs.Common.{◌≡◌, refl, sym, ◌∙◌, ap, subst, ℕ, not, true, false, if◌then◌else◌, slice_get, slice_set, Option, Some, None, Result, Ok, Err, ◌⊎◌, inl, inr}
 use Rattle.std.specs.Prelude.{IsSome, IsNone, is_some}
 use Rattle.fl_base.specs.declared.identity.EndId.{EndId}
+use Rattle.fl_base.specs.Given.{given}
 use Rattle.fl_hop.proofs.Lists.{set_here}
 use Rattle.fl_link.specs.Looks.{Look, told, kept, no_room}
 use Rattle.fl_ring.specs.Duo.{TheDuo, DuoTakes}
@@ -19,7 +20,7 @@ use Rattle.fl_node.specs.declared.wire.Wire.{Wire}
 use Rattle.fl_node.specs.declared.wire.Wire.TheVariants.{Queues, Ring as OverRing, Circuit}
 use Rattle.fl_node.specs.View.{TheCore, kind_of, inlet_by}
 use Rattle.fl_node.specs.Sound.{IsCore}
-use Rattle.fl_queues.specs.Given.{given, changed_at}
+use Rattle.fl_queues.specs.Given.{changed_at}
 use Rattle.fl_queues.specs.Events.{Answer, done, nothing, full, refused}
 use Rattle.fl_queues.specs.Rings.{Ring, RingEnd, RingSide, Room, no_room as none_free, spent as used_up, room, owes, puts, makes_sure, for_acknowledgement, acknowledges}
 use Rattle.fl_queues.specs.Ends.{Queue, is_bound}

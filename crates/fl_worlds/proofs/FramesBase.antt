@@ -4,6 +4,7 @@ use Rattle.fl_base.specs.declared.identity.Side.{Side}
 use Rattle.fl_base.specs.declared.identity.Side.TheVariants.{Client, Server}
 use Rattle.fl_base.specs.declared.identity.EndId.{EndId}
 use Rattle.fl_base.specs.Ends.{other, peer}
+use Rattle.fl_base.specs.Given.{given}
 use Rattle.fl_link.specs.Queue.{TheQueue}
 use Rattle.fl_ring.specs.Duo.{TheDuo}
 use Rattle.fl_core.specs.View.{TheSeat}
@@ -12,7 +13,6 @@ use Rattle.fl_node.specs.declared.wire.Wire.TheVariants.{Queues, Ring as OverSid
 use Rattle.fl_node.specs.declared.wire.Lane.{Lane}
 use Rattle.fl_node.specs.declared.wire.Port.{Port}
 use Rattle.fl_node.specs.View.{TheCore, place_in, place_of, side_of_link}
-use Rattle.fl_queues.specs.Given.{given}
 use Rattle.fl_queues.specs.Calls.{Planned}
 use Rattle.fl_queues.specs.Rings.{Ring, RingEnd}
 use Rattle.fl_queues.specs.Ends.{Seat, End, Direction}

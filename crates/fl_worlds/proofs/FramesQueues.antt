@@ -5,6 +5,7 @@ use Rattle.fl_base.specs.declared.identity.Side.TheVariants.{Client, Server}
 use Rattle.fl_base.specs.declared.identity.EndId.{EndId}
 use Rattle.fl_base.specs.declared.identity.LinkId.{LinkId}
 use Rattle.fl_base.specs.Ends.{other}
+use Rattle.fl_base.specs.Given.{given}
 use Rattle.fl_hop.proofs.Lists.{set_cases, set_here}
 use Rattle.fl_link.specs.Queue.{TheQueue}
 use Rattle.fl_node.specs.declared.wire.Wire.{Wire}
@@ -12,7 +13,7 @@ use Rattle.fl_node.specs.declared.wire.Wire.TheVariants.{Queues, Ring as OverSid
 use Rattle.fl_node.specs.declared.wire.Port.{Port}
 use Rattle.fl_node.specs.View.{TheCore, with_arrivals, arrivals_by}
 use Rattle.fl_node.specs.Sound.{IsCore}
-use Rattle.fl_queues.specs.Given.{given, changed_at}
+use Rattle.fl_queues.specs.Given.{changed_at}
 use Rattle.fl_queues.specs.Calls.{Planned}
 use Rattle.fl_queues.specs.Ends.{Queue, Seat, End}
 use Rattle.fl_queues.specs.State.{Binding, State, end_in, with_end_in, in_queue}

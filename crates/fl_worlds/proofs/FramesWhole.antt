@@ -5,13 +5,13 @@ use Rattle.fl_base.specs.declared.identity.Side.{Side}
 use Rattle.fl_base.specs.declared.identity.EndId.{EndId}
 use Rattle.fl_base.specs.Ends.{other}
 use Rattle.fl_base.specs.Prefix.{IsPrefix}
+use Rattle.fl_base.specs.Given.{given}
 use Rattle.fl_hop.proofs.Entering.{same_or}
 use Rattle.fl_hop.proofs.Lists.{set_cases, set_here, set_there}
 use Rattle.fl_ring.specs.Duo.{TheDuo}
 use Rattle.fl_core.specs.View.{TheDispatcher}
 use Rattle.fl_node.specs.declared.wire.Port.{Port}
 use Rattle.fl_node.specs.View.{TheCore}
-use Rattle.fl_queues.specs.Given.{given}
 use Rattle.fl_queues.specs.Calls.{Planned}
 use Rattle.fl_queues.specs.Ends.{Seat, End}
 use Rattle.fl_queues.specs.Waits.{Dispatcher}

@@ -2,10 +2,10 @@
 use Rattle.std.proofs.Common.{◌≡◌, refl, sym, ◌∙◌, ap, subst, ℕ, ◌+◌, ◌-◌, ◌==◌, nat_le, not, Bool, true, false, if◌then◌else◌, List, length, slice_get, Option, Some, None, arith}
 use Rattle.std.specs.Prelude.{is_some, bytes_eq}
 use Rattle.std.proofs.lemmas.Bool.{eqb-true}
+use Rattle.fl_base.specs.Given.{given}
 use Rattle.fl_hop.proofs.Lists.{at_within}
 use Rattle.fl_compile.specs.declared.program.Program.{Program}
 use Rattle.fl_nameserv.specs.Registrations.{TheRegistration, by_name}
-use Rattle.fl_queues.specs.Given.{given}
 use Rattle.fl_queues.specs.Events.{DispatcherId, Kind, by_queues, by_ring, by_route, Answer, refused}
 use Rattle.fl_queues.specs.Calls.{Planned}
 use Rattle.fl_queues.specs.Monitors.{Service, service_of}

@@ -6,19 +6,19 @@ use Rattle.fl_base.specs.declared.identity.EndId.{EndId}
 use Rattle.fl_base.specs.declared.identity.LinkId.{LinkId}
 use Rattle.fl_base.specs.declared.identity.Side.{Side}
 use Rattle.fl_base.specs.declared.identity.Side.TheVariants.{Client, Server}
+use Rattle.fl_base.specs.Given.{given as monitor_given, given}
 use Rattle.fl_hop.proofs.Lists.{set_here, push_keeps, push_cases, at_within}
 use Rattle.fl_compile.specs.declared.program.Program.{Program}
 use Rattle.fl_endpoint.specs.View.{fresh}
 use Rattle.fl_core.specs.View.{TheDispatcher, TheSeat, TheBoard, with_new_end}
 use Rattle.fl_core.specs.declared.kind.Kind.TheVariants.{Queue as QueueKind}
-use Rattle.fl_monitor.specs.Routing.{given as monitor_given}
 use Rattle.fl_node.specs.View.{TheCore, new_arrivals, side_of_link, with_port, with_circuit_port}
 use Rattle.fl_node.specs.Making.{asked, Begins}
 use Rattle.fl_node.specs.declared.wire.Wire.{Wire}
 use Rattle.fl_node.specs.declared.wire.Wire.TheVariants.{Queues, Circuit}
 use Rattle.fl_node.specs.declared.wire.Lane.{Lane}
 use Rattle.fl_node.specs.declared.wire.Port.{Port}
-use Rattle.fl_queues.specs.Given.{given, changed_at}
+use Rattle.fl_queues.specs.Given.{changed_at}
 use Rattle.fl_queues.specs.Events.{DispatcherId}
 use Rattle.fl_queues.specs.Calls.{Planned}
 use Rattle.fl_queues.specs.Rings.{Opening, open_circuit, RingSide, first_side, second_side}

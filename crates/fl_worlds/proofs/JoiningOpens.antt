@@ -2,6 +2,8 @@
 use Rattle.std.proofs.Common.{◌≡◌, refl, sym, ◌∙◌, ap, subst, ℕ, ◌+◌, ◌<◌, inl, inr, nat_le, not, Bool, true, false, if◌then◌else◌, List, length, map, slice_get, slice_index, Option, Some, None, arith}
 use Rattle.std.specs.Prelude.{Result, Ok, Err}
 use Rattle.fl_base.specs.declared.identity.LinkId.{LinkId}
+use Rattle.fl_base.specs.Given.{given}
+use Rattle.fl_base.specs.Numbered.{core_id}
 use Rattle.fl_compile.specs.declared.program.Program.{Program}
 use Rattle.fl_hop.specs.declared.fault.HopFault.TheVariants.{NoLink, UsedUp as NoNumber, Astray as IsHere}
 use Rattle.fl_hop.specs.Table.{TheCircuits, stands}
@@ -16,7 +18,6 @@ use Rattle.fl_node.specs.View.{TheCore}
 use Rattle.fl_node.specs.Making.{asked, Asks}
 use Rattle.fl_node.specs.declared.fault.OpenFault.{OpenFault}
 use Rattle.fl_node.specs.declared.fault.OpenFault.TheVariants as fault
-use Rattle.fl_queues.specs.Given.{given}
 use Rattle.fl_queues.specs.Events.{DispatcherId, Answer, done, refused}
 use Rattle.fl_queues.specs.Calls.{Planned}
 use Rattle.fl_queues.specs.Monitors.{Core, Service, service_of, link_to, can_say}
@@ -27,7 +28,6 @@ use Rattle.fl_shows.proofs.Boxes.{same_room}
 use Rattle.fl_shows.proofs.Tests.{lt_true, le_true, le_false}
 use Rattle.fl_worlds.specs.View.{If, TheWorld, IsWhole}
 use Rattle.fl_worlds.specs.Lending.{Refuses}
-use Rattle.fl_worlds.specs.Making.{core_id}
 use Rattle.fl_worlds.specs.Binding.{Request, IsCopy, opening_for, AsksBy, by_cores, OpensOn, OpensBy, OpensFrom, may_be_route, BindsByRoute}
 use Rattle.fl_worlds.specs.Picture.{CoreShows, IsPicture, Shows}
 use Rattle.fl_worlds.specs.Laws.{Agrees}

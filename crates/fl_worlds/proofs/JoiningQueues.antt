@@ -3,6 +3,7 @@ use Rattle.std.proofs.Common.{◌≡◌, refl, sym, ◌∙◌, ap, subst, ℕ, s
 use Rattle.fl_base.specs.declared.identity.EndId.{EndId}
 use Rattle.fl_base.specs.declared.identity.Side.{Side}
 use Rattle.fl_base.specs.declared.identity.Side.TheVariants.{Client, Server}
+use Rattle.fl_base.specs.Given.{given}
 use Rattle.fl_hop.proofs.Lists.{set_here, push_keeps, push_cases}
 use Rattle.fl_lists.specs.declared.place.Place.TheVariants.{Idle}
 use Rattle.fl_link.specs.Queue.{TheQueue, QueueTakes}
@@ -14,7 +15,7 @@ use Rattle.fl_node.specs.View.{TheCore}
 use Rattle.fl_node.specs.declared.wire.Wire.{Wire}
 use Rattle.fl_node.specs.declared.wire.Wire.TheVariants.{Queues}
 use Rattle.fl_node.specs.declared.wire.Port.{Port}
-use Rattle.fl_queues.specs.Given.{given, changed_at}
+use Rattle.fl_queues.specs.Given.{changed_at}
 use Rattle.fl_queues.specs.Events.{DispatcherId}
 use Rattle.fl_queues.specs.Calls.{Planned}
 use Rattle.fl_queues.specs.Ends.{Queue, fresh_queue, Seat, End}

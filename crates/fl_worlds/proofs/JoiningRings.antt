@@ -3,6 +3,7 @@ use Rattle.std.proofs.Common.{◌≡◌, ◌≢◌, refl, sym, ◌∙◌, ap, su
 use Rattle.fl_base.specs.declared.identity.EndId.{EndId}
 use Rattle.fl_base.specs.declared.identity.Side.{Side}
 use Rattle.fl_base.specs.declared.identity.Side.TheVariants.{Client, Server}
+use Rattle.fl_base.specs.Given.{given}
 use Rattle.fl_hop.proofs.Lists.{set_here, set_there, push_keeps, push_cases, within}
 use Rattle.fl_lists.specs.declared.place.Place.TheVariants.{Polled}
 use Rattle.fl_ring.specs.Duo.{TheDuo}
@@ -15,7 +16,7 @@ use Rattle.fl_node.specs.View.{TheCore, client_of, server_of}
 use Rattle.fl_node.specs.declared.wire.Wire.{Wire}
 use Rattle.fl_node.specs.declared.wire.Wire.TheVariants.{Queues, Ring as OverRing}
 use Rattle.fl_node.specs.declared.wire.Port.{Port}
-use Rattle.fl_queues.specs.Given.{given, changed_at}
+use Rattle.fl_queues.specs.Given.{changed_at}
 use Rattle.fl_queues.specs.Events.{DispatcherId}
 use Rattle.fl_queues.specs.Calls.{Planned}
 use Rattle.fl_queues.specs.Rings.{Ring, first_side, second_side, fresh_ring}

@@ -4,12 +4,14 @@ use Rattle.std.specs.List.{list_any, list_all, position_or_len}
 use Rattle.std.proofs.lemmas.Bool.{eq-eqb}
 use Rattle.std.proofs.lemmas.Bool.Decides.{nat_tests}
 use Rattle.fl_base.specs.declared.identity.CoreId.{CoreId}
+use Rattle.fl_base.specs.Given.{given as monitor_given}
+use Rattle.fl_base.specs.Numbered.{core_id}
 use Rattle.fl_hop.specs.declared.links.LinkState.{LinkState}
 use Rattle.fl_hop.specs.declared.entry.Hop.{Hop}
 use Rattle.fl_hop.specs.Table.{TheCircuits, is_of, stands, slot, link_of}
 use Rattle.fl_hop.proofs.Counting.{none_there}
 use Rattle.fl_hop.proofs.Lists.{within, at_within}
-use Rattle.fl_monitor.specs.Routing.{given as monitor_given, is_core as is_core_id, all_differ as all_cores_differ, is_route as is_monitor_route}
+use Rattle.fl_monitor.specs.Routing.{is_core as is_core_id, all_differ as all_cores_differ, is_route as is_monitor_route}
 use Rattle.fl_monitor.specs.Monitors.{first_link}
 use Rattle.fl_queues.specs.Monitors.{Core, link_to}
 use Rattle.fl_queues.specs.State.{State, core_of}
@@ -21,7 +23,6 @@ use Rattle.fl_laws.proofs.OpeningsMoves.{names_to}
 use Rattle.fl_laws.proofs.Small.{both_are}
 use Rattle.fl_laws.proofs.TableSteps.{there_stands}
 use Rattle.fl_worlds.specs.View.{TheWorld}
-use Rattle.fl_worlds.specs.Making.{core_id}
 use Rattle.fl_worlds.specs.Binding.{may_be_route}
 use Rattle.fl_worlds.proofs.MakingBase.{any_map, length_map}
 

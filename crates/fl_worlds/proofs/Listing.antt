@@ -3,6 +3,7 @@ use Rattle.std.proofs.Common.{◌≡◌, refl, sym, ◌∙◌, ap, subst, ℕ, n
 use Rattle.std.specs.Prelude.{IsSome, is_some}
 use Rattle.fl_base.specs.declared.identity.EndId.{EndId}
 use Rattle.fl_base.specs.declared.identity.Side.{Side}
+use Rattle.fl_base.specs.Given.{given}
 use Rattle.fl_lists.specs.ThreeLists.{ThreeLists, unlinked}
 use Rattle.fl_waitset.specs.Waiting.{is_registered}
 use Rattle.fl_core.specs.declared.fault.BoardFault.{BoardFault}
@@ -11,7 +12,6 @@ use Rattle.fl_core.specs.View.{TheDispatcher, TheSeat, TheBoard, with_lists}
 use Rattle.fl_core.specs.Events.{ChangesLists, Deregisters}
 use Rattle.fl_node.specs.View.{TheCore, with_board}
 use Rattle.fl_node.specs.Ends.{OnBoard}
-use Rattle.fl_queues.specs.Given.{given}
 use Rattle.fl_queues.specs.Events.{Answer, done, refused}
 use Rattle.fl_queues.specs.Ends.{End, is_bound}
 use Rattle.fl_queues.specs.Waits.{Dispatcher, deregisters}

@@ -2,7 +2,7 @@
 use Rattle.std.proofs.Common.{◌≡◌, refl, sym, ◌∙◌, ap, subst, ℕ, zero, suc, Bool, true, false, if◌then◌else◌, ◌||◌, List, [], ◌∷◌, ◌++◌, length, map, slice_get, Option, Some, None}
 use Rattle.std.specs.Prelude.{is_some}
 use Rattle.std.specs.List.{list_any}
-use Rattle.fl_queues.specs.Given.{given}
+use Rattle.fl_base.specs.Given.{given}
 use Rattle.fl_queues.specs.Events.{Answer, refused}
 use Rattle.fl_queues.specs.State.{State, Outcome, answers}
 use Rattle.fl_worlds.specs.View.{Given, If, TheWorld}

@@ -3,6 +3,7 @@ use Rattle.std.proofs.Common.{◌≡◌, refl, sym, ◌∙◌, ap, subst, ℕ, �
 use Rattle.fl_base.specs.declared.identity.EndId.{EndId}
 use Rattle.fl_base.specs.declared.identity.Side.{Side}
 use Rattle.fl_base.specs.Ends.{peer}
+use Rattle.fl_base.specs.Given.{given}
 use Rattle.fl_hop.proofs.Entering.{same_or}
 use Rattle.fl_hop.proofs.Lists.{set_cases, set_here, set_there, within}
 use Rattle.fl_link.specs.Queue.{TheQueue}
@@ -12,7 +13,6 @@ use Rattle.fl_node.specs.View.{TheCore, place_of, side_of_link}
 use Rattle.fl_node.specs.declared.wire.Wire.{Wire}
 use Rattle.fl_node.specs.declared.wire.Wire.TheVariants.{Queues, Ring as OverRing, Circuit}
 use Rattle.fl_node.specs.declared.wire.Port.{Port}
-use Rattle.fl_queues.specs.Given.{given}
 use Rattle.fl_queues.specs.Calls.{Planned}
 use Rattle.fl_queues.specs.Rings.{Ring, RingEnd, fresh_ring}
 use Rattle.fl_queues.specs.Ends.{End, Seat}

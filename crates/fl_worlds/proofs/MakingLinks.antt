@@ -3,6 +3,8 @@ use Rattle.std.proofs.Common.{◌≡◌, ◌≢◌, refl, sym, ◌∙◌, ap, su
 use Rattle.std.specs.Prelude.{is_some}
 use Rattle.std.proofs.lemmas.Bool.{eq-eqb}
 use Rattle.fl_base.specs.declared.identity.EndId.{EndId}
+use Rattle.fl_base.specs.Given.{given}
+use Rattle.fl_base.specs.Numbered.{core_id}
 use Rattle.fl_hop.specs.Table.{TheCircuits, link_of}
 use Rattle.fl_hop.proofs.Lists.{push_cases, set_there, within, at_within}
 use Rattle.fl_ring.specs.Duo.{TheDuo, MayHaveSlots}
@@ -10,7 +12,7 @@ use Rattle.fl_node.specs.View.{TheCore, side_of_link}
 use Rattle.fl_node.specs.Making.{linked}
 use Rattle.fl_node.specs.declared.wire.Wire.{Wire}
 use Rattle.fl_node.specs.declared.wire.Lane.{Lane}
-use Rattle.fl_queues.specs.Given.{given, changed_at}
+use Rattle.fl_queues.specs.Given.{changed_at}
 use Rattle.fl_queues.specs.Events.{Answer, done, refused}
 use Rattle.fl_queues.specs.Rings.{Ring, RingEnd, RingSide, first_side, second_side, fresh_ring}
 use Rattle.fl_queues.specs.Monitors.{Core, link_to}
@@ -23,7 +25,7 @@ use Rattle.fl_laws.proofs.Places.{ring_of, Linked, IsEven, joins, join_stays, jo
 use Rattle.fl_laws.proofs.PlacesStep.{length_push, plan_of, link_plan, link_planned, to_linked}
 use Rattle.fl_worlds.specs.View.{TheWorld, number_in}
 use Rattle.fl_worlds.specs.Lending.{Refuses}
-use Rattle.fl_worlds.specs.Making.{is_core as is_world_core, has_link as has_world_link, core_id, new_duo, IsLinked}
+use Rattle.fl_worlds.specs.Making.{is_core as is_world_core, has_link as has_world_link, new_duo, IsLinked}
 use Rattle.fl_worlds.specs.Picture.{lane_of, CoreShows, IsPicture, Shows}
 use Rattle.fl_worlds.specs.Laws.{Agrees, LinksAgree}
 use Rattle.fl_worlds.proofs.MakingBase.{refuses, by_if, map_push}

@@ -2,10 +2,10 @@
 use Rattle.std.proofs.Common.{◌≡◌, refl, sym, ◌∙◌, ap, subst, ℕ, suc, ◌+◌, ◌-◌, ◌||◌, inl, nat_le, nat_lt, not, Bool, true, false, if◌then◌else◌, List, [], ◌∷◌, ◌++◌, length, slice_get, Option, Some, None, arith}
 use Rattle.std.specs.Prelude.{is_some, find, bytes_eq}
 use Rattle.std.specs.List.{list_any}
+use Rattle.fl_base.specs.Given.{given}
 use Rattle.fl_hop.proofs.Lists.{push_keeps, within, at_within}
 use Rattle.fl_nameserv.specs.Registrations.{TheRegistration, has_name, by_name, with_registered}
 use Rattle.fl_node.specs.View.{TheCore}
-use Rattle.fl_queues.specs.Given.{given}
 use Rattle.fl_queues.specs.Events.{DispatcherId, Answer, done}
 use Rattle.fl_queues.specs.Monitors.{Core, Service, service_of}
 use Rattle.fl_queues.specs.State.{State, Outcome, answers, dispatcher_of}

@@ -3,10 +3,10 @@ use Rattle.std.proofs.Common.{◌≡◌, refl, sym, ◌∙◌, ap, ℕ, ◌≤�
 use Rattle.std.proofs.lemmas.List.{append-nil}
 use Rattle.fl_base.specs.declared.identity.EndId.{EndId}
 use Rattle.fl_base.specs.declared.identity.Side.TheVariants.{Client}
+use Rattle.fl_base.specs.Given.{given}
 use Rattle.fl_ring.specs.Duo.{TheDuo}
 use Rattle.fl_link.specs.Queue.{TheQueue}
 use Rattle.fl_node.specs.declared.wire.Wire.{Wire}
-use Rattle.fl_queues.specs.Given.{given}
 use Rattle.fl_queues.specs.Calls.{Planned}
 use Rattle.fl_queues.specs.Rings.{Ring, RingEnd}
 use Rattle.fl_queues.specs.Ends.{End}

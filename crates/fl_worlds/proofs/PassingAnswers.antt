@@ -1,11 +1,11 @@
 -- An answer that stands first on a link is never astray: its entry stands, at a number that the core opened, and waits for it.
 use Rattle.std.proofs.Common.{◌≡◌, refl, sym, ◌∙◌, ap, subst, ℕ, zero, suc, ◌+◌, ◌<◌, ◌≤◌, false, List, length, slice_get, Option, Some, None, arith}
+use Rattle.fl_base.specs.Given.{given}
 use Rattle.fl_hop.specs.declared.links.LinkState.{LinkState}
 use Rattle.fl_hop.specs.declared.entry.Hop.{Hop}
 use Rattle.fl_hop.specs.Numbers.{IsAmong, OpenedHere}
 use Rattle.fl_hop.specs.Openings.{IsWaiting}
 use Rattle.fl_hop.specs.Table.{TheCircuits, hop_at}
-use Rattle.fl_queues.specs.Given.{given}
 use Rattle.fl_queues.specs.Rings.{Said, open_circuit, circuit_opened, circuit_refused, says, RingLabel}
 use Rattle.fl_queues.specs.Monitors.{Core, Link, link_to}
 use Rattle.fl_queues.specs.State.{Verdict, undecided, granted, denied, Route, State, core_of, first_on}

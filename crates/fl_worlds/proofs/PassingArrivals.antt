@@ -9,6 +9,7 @@ use Rattle.fl_base.specs.declared.identity.Side.{Side}
 use Rattle.fl_base.specs.declared.identity.Side.TheVariants.{Client, Server}
 use Rattle.fl_base.specs.Ends.{other, peer}
 use Rattle.fl_base.specs.Control.{bare, with_circuit}
+use Rattle.fl_base.specs.Given.{given as given_here, given}
 use Rattle.fl_lists.specs.ThreeLists.{ThreeLists}
 use Rattle.fl_waitset.specs.Waiting.{triggered}
 use Rattle.fl_hop.specs.declared.entry.Way.{Way}
@@ -23,7 +24,6 @@ use Rattle.fl_ring.specs.Duo.{TheDuo}
 use Rattle.fl_ring.specs.Side.{SideTakes}
 use Rattle.fl_ring.specs.declared.duo_side.DuoSide.{DuoSide}
 use Rattle.fl_core.specs.View.{TheBoard, TheDispatcher, TheSeat, with_lists}
-use Rattle.fl_monitor.specs.Routing.{given as given_here}
 use Rattle.fl_node.specs.declared.wire.Wire.{Wire}
 use Rattle.fl_node.specs.declared.wire.Wire.TheVariants.{Queues, Ring as OverRing, Circuit}
 use Rattle.fl_node.specs.declared.wire.Port.{Port}
@@ -33,7 +33,7 @@ use Rattle.fl_node.specs.declared.fault.LinkFault.TheVariants as fault
 use Rattle.fl_node.specs.View.{TheCore, place_of, arrivals_by, arrivals_of, arriving, arriving_at, with_board, with_arrivals}
 use Rattle.fl_node.specs.Ends.{at_side, Triggers, TriggersIf}
 use Rattle.fl_node.specs.Links.{Arrives, inbound, ArrivesAt, reached}
-use Rattle.fl_queues.specs.Given.{given, changed_at}
+use Rattle.fl_queues.specs.Given.{changed_at}
 use Rattle.fl_queues.specs.Events.{DispatcherId, Answer, nothing, full, forwarded}
 use Rattle.fl_queues.specs.Calls.{Planned}
 use Rattle.fl_queues.specs.Rings.{Label, next_of, RingLabel, Ring, first_for, looks, takes, there_is_room, Room}

@@ -2,6 +2,8 @@
 use Rattle.std.proofs.Common.{◌≡◌, refl, sym, ◌∙◌, ap, subst, ℕ, ◌+◌, ◌==◌, ◌&&◌, not, Bool, true, false, List, map, position, slice_get, Option, Some, None}
 use Rattle.std.proofs.lemmas.Bool.{eq-eqb}
 use Rattle.fl_base.specs.declared.identity.CoreId.{CoreId}
+use Rattle.fl_base.specs.Given.{given as given_here, given}
+use Rattle.fl_base.specs.Numbered.{core_id, link_id, circuit_id}
 use Rattle.fl_nameserv.specs.Registrations.{TheRegistration, by_iref}
 use Rattle.fl_hop.specs.Openings.{is_next}
 use Rattle.fl_hop.specs.Numbers.{next_due}
@@ -9,18 +11,16 @@ use Rattle.fl_hop.specs.Table.{TheCircuits, stands}
 use Rattle.fl_monitor.specs.declared.opening.Opening.{Opening as Asked}
 use Rattle.fl_monitor.specs.Fates.{Known, fate as known_fate, comes_along, is_offered_elsewhere, is_for_another, is_in_place}
 use Rattle.fl_monitor.specs.Hearing.{IsAstray, heard_by, opened_at, refused_at}
-use Rattle.fl_monitor.specs.Routing.{given as given_here, is_core, next_on as next_named}
+use Rattle.fl_monitor.specs.Routing.{is_core, next_on as next_named}
 use Rattle.fl_node.specs.Hearing.{has_end}
-use Rattle.fl_queues.specs.Given.{given}
 use Rattle.fl_queues.specs.Rings.{Opening, Said, open_circuit, circuit_opened, circuit_refused}
 use Rattle.fl_queues.specs.Monitors.{Link, Service, service_of, next_on}
 use Rattle.fl_queues.specs.State.{State}
 use Rattle.fl_queues.specs.SoundRoutes.{RouteLeads}
-use Rattle.fl_shows.specs.Fragments.{core_id, circuit_id, service_id}
+use Rattle.fl_shows.specs.Fragments.{service_id}
 use Rattle.fl_shows.specs.CoreLaws.{registration_of}
 use Rattle.fl_worlds.specs.View.{TheWorld}
 use Rattle.fl_worlds.specs.Picture.{Shows}
-use Rattle.fl_worlds.specs.Linking.{link_id}
 use Rattle.fl_worlds.proofs.PassingAnswers.{waiting_for_it}
 use Rattle.fl_worlds.proofs.PassingHeard.{HearFrames, known}
 use Rattle.fl_worlds.proofs.PassingHears.{Hearer, NothingAstray}

@@ -1,11 +1,11 @@
 -- What a core keeps of its dispatchers and links whatever message it hears.
 use Rattle.std.proofs.Common.{◌≡◌, refl, sym, ◌∙◌, ap, ℕ, Bool, true, false, if◌then◌else◌, List, map, Option, Some, None}
+use Rattle.fl_base.specs.Given.{given}
 use Rattle.fl_hop.specs.declared.entry.Way.{Way}
 use Rattle.fl_hop.specs.declared.entry.Way.TheVariants.{Link as to_link, End as to_end}
 use Rattle.fl_hop.specs.declared.entry.Hop.{Hop}
 use Rattle.fl_hop.specs.Numbers.{count_taking}
 use Rattle.fl_hop.specs.Table.{TheCircuits, hop_at}
-use Rattle.fl_queues.specs.Given.{given}
 use Rattle.fl_queues.specs.Rings.{Opening, Said, open_circuit, circuit_opened, circuit_refused}
 use Rattle.fl_queues.specs.Monitors.{Core, Link, Service, link_to, can_say, says_more, with_said, with_circuits, saying, Heard, no_outbox, astray, Hearing, Fate, goes_on, ends_at, fails, fate, hears_opening, hears_opened, hears_refused, hears}
 use Rattle.fl_laws.proofs.Cases.{either, by_given}

@@ -3,10 +3,10 @@ use Rattle.std.proofs.Common.{◌≡◌, ◌≢◌, refl, sym, ◌∙◌, ap, su
 use Rattle.fl_base.specs.declared.fragment.Frag.{Frag}
 use Rattle.fl_base.specs.declared.identity.EndId.{EndId}
 use Rattle.fl_base.specs.Control.{bare, circuit_of, with_circuit}
+use Rattle.fl_base.specs.Given.{given}
 use Rattle.fl_hop.specs.declared.entry.Hop.{Hop}
 use Rattle.fl_hop.specs.Table.{hop_at}
 use Rattle.fl_monitor.specs.Intermon.{HasWidths}
-use Rattle.fl_queues.specs.Given.{given}
 use Rattle.fl_queues.specs.Events.{nothing}
 use Rattle.fl_queues.specs.Rings.{Said, Label, next_of, says, acknowledges, RingLabel, Ring, RingSide, first_for}
 use Rattle.fl_queues.specs.Monitors.{Core, Link}

@@ -5,6 +5,7 @@ use Rattle.fl_base.specs.declared.identity.EndId.{EndId}
 use Rattle.fl_base.specs.declared.identity.LinkId.{LinkId}
 use Rattle.fl_base.specs.declared.identity.Circuit.{Circuit}
 use Rattle.fl_base.specs.Control.{bare, circuit_of, with_circuit, is_ack_only}
+use Rattle.fl_base.specs.Given.{given}
 use Rattle.fl_hop.specs.declared.entry.Way.{Way}
 use Rattle.fl_hop.specs.declared.entry.Way.TheVariants.{Link as to_link, End as to_end}
 use Rattle.fl_hop.specs.declared.entry.Hop.{Hop}
@@ -23,7 +24,7 @@ use Rattle.fl_node.specs.declared.wire.Lane.{Lane}
 use Rattle.fl_node.specs.View.{TheCore, side_of_link}
 use Rattle.fl_node.specs.Links.{LooksAhead, inbound}
 use Rattle.fl_node.specs.Ends.{at_side}
-use Rattle.fl_queues.specs.Given.{given, changed_at}
+use Rattle.fl_queues.specs.Given.{changed_at}
 use Rattle.fl_queues.specs.Events.{Answer, done, nothing, refused}
 use Rattle.fl_queues.specs.Rings.{Label, next_of, says, acknowledges, RingLabel, Ring, RingSide, first_for, looks, takes}
 use Rattle.fl_queues.specs.Monitors.{Core, Link}

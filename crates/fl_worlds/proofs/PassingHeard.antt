@@ -26,7 +26,7 @@ use Rattle.fl_node.specs.declared.fault.LinkFault.{LinkFault}
 use Rattle.fl_node.specs.declared.fault.LinkFault.TheVariants as fault
 use Rattle.fl_node.specs.Hearing.{Offers, offer_for, known_for, MakesServer, BindsIf, offering, Follows, HearsAll, HearsMessage, HearsFrag, TakesHeard}
 use Rattle.fl_node.specs.View.{TheCore, with_monitor, arriving_at}
-use Rattle.fl_queues.specs.Given.{given, changed_at}
+use Rattle.fl_queues.specs.Given.{changed_at}
 use Rattle.fl_queues.specs.Events.{Answer, done, full, opened, opening_refused}
 use Rattle.fl_queues.specs.Rings.{Said, says, RingLabel, Ring, RingSide, first_for, looks, takes}
 use Rattle.fl_queues.specs.Monitors.{Core, Link, Hearing, hears}
@@ -39,6 +39,8 @@ use Rattle.fl_base.specs.declared.identity.Side.TheVariants.{Server}
 use Rattle.fl_node.specs.View.{server_of}
 use Rattle.fl_node.specs.Sound.{IsCore}
 use Rattle.std.specs.List.{push}
+use Rattle.fl_base.specs.Given.{given}
+use Rattle.fl_base.specs.Numbered.{link_id}
 use Rattle.fl_queues.specs.State.{place_in, Route, State, Outcome, answers, core_of, first_on, number_between, change_core, change_ring, change_route}
 use Rattle.fl_queues.specs.Forwarding.{LinkEnd, link_end, forwards_said, after_hearing, follows, takes_said, with_number, denies, passes_word}
 use Rattle.fl_shows.specs.Fragments.{Streams, said_frag, message_of}
@@ -49,7 +51,7 @@ use Rattle.fl_shows.specs.Rings.{RingShows}
 use Rattle.fl_shows.proofs.Hearing.{hear_agrees}
 use Rattle.fl_worlds.specs.View.{TheWorld, with_core, with_ring}
 use Rattle.fl_worlds.specs.Picture.{Carries, IsPicture, Shows}
-use Rattle.fl_worlds.specs.Linking.{incoming, HearsWith, HearsFirst, IsHeard, ThenRules, offers_in, link_id}
+use Rattle.fl_worlds.specs.Linking.{incoming, HearsWith, HearsFirst, IsHeard, ThenRules, offers_in}
 use Rattle.fl_worlds.specs.Laws.{Agrees}
 use Rattle.fl_worlds.specs.Hearing.{IsMessage}
 use Rattle.fl_worlds.proofs.Frames.{RingFrame, MonitorFrame, RouteFrame, RouteStays}

@@ -1,6 +1,7 @@
 -- The law of hearing from its four parts: what a core knows when it hears, that nothing is astray, an end that is opened, a server's end that is made.
 use Rattle.std.proofs.Common.{◌≡◌, refl, sym, ◌∙◌, ap, subst, ℕ, slice_get, Option, Some, None}
 use Rattle.fl_base.specs.declared.fragment.Frag.{Frag}
+use Rattle.fl_base.specs.Numbered.{link_id}
 use Rattle.fl_ring.specs.Duo.{TheDuo}
 use Rattle.fl_ring.specs.declared.duo_side.DuoSide.{DuoSide}
 use Rattle.fl_monitor.specs.Hearing.{IsAstray}
@@ -15,7 +16,7 @@ use Rattle.fl_shows.specs.Cores.{MonitorShows}
 use Rattle.fl_shows.specs.CoreLaws.{MayBeHeard}
 use Rattle.fl_worlds.specs.View.{TheWorld, with_ring}
 use Rattle.fl_worlds.specs.Picture.{IsPicture, Shows}
-use Rattle.fl_worlds.specs.Linking.{HearsFirst, link_id}
+use Rattle.fl_worlds.specs.Linking.{HearsFirst}
 use Rattle.fl_worlds.specs.Laws.{Agrees}
 use Rattle.fl_worlds.specs.Hearing.{IsMessage, lane_of_end, looked, with_look, HearsAgrees}
 use Rattle.fl_worlds.proofs.PassingHeard.{HearFrames, known, EndOpens, ServerIsMade, heard_agrees}

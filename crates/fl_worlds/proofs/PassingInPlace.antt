@@ -8,16 +8,17 @@ use Rattle.std.proofs.lemmas.Option.{slice_get-map, slice_get_within}
 use Rattle.fl_base.specs.declared.identity.CoreId.{CoreId}
 use Rattle.fl_base.specs.declared.identity.EndId.{EndId}
 use Rattle.fl_base.specs.declared.identity.Side.TheVariants.{Client, Server}
+use Rattle.fl_base.specs.Given.{given as given_here, given}
+use Rattle.fl_base.specs.Numbered.{core_id}
 use Rattle.fl_hop.specs.declared.links.LinkState.{LinkState}
 use Rattle.fl_hop.specs.declared.entry.Hop.{Hop}
 use Rattle.fl_hop.specs.Numbers.{number, next_due}
 use Rattle.fl_hop.specs.Openings.{is_next}
 use Rattle.fl_hop.specs.Table.{TheCircuits, hop_at, is_of, stands, slot}
-use Rattle.fl_monitor.specs.Routing.{given as given_here, is_core, comes_after, is_named_behind, is_on_route}
+use Rattle.fl_monitor.specs.Routing.{is_core, comes_after, is_named_behind, is_on_route}
 use Rattle.fl_monitor.specs.Fates.{comes_along}
 use Rattle.fl_node.specs.View.{TheCore, place_of, client_of, server_of}
 use Rattle.fl_node.specs.Hearing.{has_end}
-use Rattle.fl_queues.specs.Given.{given}
 use Rattle.fl_queues.specs.Rings.{Opening, Said, open_circuit, says, RingLabel, Ring, read_by, first_for}
 use Rattle.fl_queues.specs.Ends.{Seat, End}
 use Rattle.fl_queues.specs.Monitors.{Core, Link, link_to}
@@ -37,7 +38,6 @@ use Rattle.fl_laws.proofs.ListingStep.{end_at as end_with}
 use Rattle.fl_laws.proofs.Routed.{same_route as same_route_of}
 use Rattle.fl_laws.proofs.TableSteps.{there_stands}
 use Rattle.fl_laws.proofs.Ways.{Once, once_of, got_within, got_index}
-use Rattle.fl_shows.specs.Fragments.{core_id}
 use Rattle.fl_shows.proofs.Tests.{by_test, lt_true}
 use Rattle.fl_worlds.specs.View.{TheWorld}
 use Rattle.fl_worlds.specs.Picture.{Shows, SitsAt}

@@ -5,15 +5,14 @@ use Rattle.std.proofs.lemmas.Bool.{eq-eqb}
 use Rattle.std.proofs.lemmas.List.{length-map}
 use Rattle.std.proofs.lemmas.Option.{slice_get_within}
 use Rattle.fl_base.specs.declared.identity.EndId.{EndId}
+use Rattle.fl_base.specs.Given.{given as given_here, given}
 use Rattle.fl_hop.specs.declared.links.LinkState.{LinkState}
 use Rattle.fl_nameserv.specs.Registrations.{TheRegistration, by_iref}
 use Rattle.fl_compile.specs.declared.program.Program.{Program}
 use Rattle.fl_core.specs.View.{TheDispatcher}
-use Rattle.fl_monitor.specs.Routing.{given as given_here}
 use Rattle.fl_node.specs.declared.hearing.Offered.{Offered}
 use Rattle.fl_node.specs.Hearing.{Offers, has_place, may_offer, offer_of, offer_for}
 use Rattle.fl_node.specs.View.{TheCore}
-use Rattle.fl_queues.specs.Given.{given}
 use Rattle.fl_queues.specs.Calls.{Planned}
 use Rattle.fl_queues.specs.Rings.{Opening, Said, open_circuit, circuit_opened, circuit_refused, says}
 use Rattle.fl_queues.specs.Waits.{Dispatcher, has_places}

@@ -1,12 +1,11 @@
 -- A core's end of a link to a neighbour: what the machine finds of it, a world that shows the state finds.
 use Rattle.std.proofs.Common.{◌≡◌, refl, sym, ◌∙◌, ap, subst, ℕ, zero, suc, ◌+◌, ◌*◌, ◌/◌, ◌%◌, ◌<◌, ◌≤◌, ◌==◌, nat_lt, Bool, true, false, if◌then◌else◌, List, [], ◌∷◌, length, map, slice_get, Option, Some, None, arith}
 use Rattle.std.proofs.lemmas.Option.{slice_get_within}
+use Rattle.fl_base.specs.Given.{given as given_here, given}
 use Rattle.fl_hop.specs.Table.{TheCircuits, link_of}
 use Rattle.fl_ring.specs.declared.one_duo.Which.{Which}
-use Rattle.fl_monitor.specs.Routing.{given as given_here}
 use Rattle.fl_node.specs.declared.wire.Lane.{Lane as NodeLane}
 use Rattle.fl_node.specs.View.{TheCore, side_of_link}
-use Rattle.fl_queues.specs.Given.{given}
 use Rattle.fl_queues.specs.Rings.{RingSide, first_side, second_side, RingEnd}
 use Rattle.fl_queues.specs.Monitors.{Link, Core, link_to}
 use Rattle.fl_queues.specs.State.{State, core_of, link_between}

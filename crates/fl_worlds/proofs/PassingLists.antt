@@ -1,6 +1,7 @@
 -- Lists changed at a place or two, and machines' look-ups that are known to find something.
 use Rattle.std.proofs.Common.{◌≡◌, ◌≢◌, refl, sym, ◌∙◌, ap, subst, ℕ, zero, suc, List, [], ◌∷◌, slice_get, slice_set, Option, Some, None}
-use Rattle.fl_queues.specs.Given.{given, changed_at}
+use Rattle.fl_base.specs.Given.{given}
+use Rattle.fl_queues.specs.Given.{changed_at}
 use Rattle.fl_laws.proofs.Views.{changed_later}
 
 -- ---- one element set

@@ -5,6 +5,7 @@ use Rattle.fl_base.specs.declared.identity.EndId.{EndId}
 use Rattle.fl_base.specs.declared.identity.LinkId.{LinkId}
 use Rattle.fl_base.specs.declared.identity.Circuit.{Circuit}
 use Rattle.fl_base.specs.Control.{bare, with_circuit}
+use Rattle.fl_base.specs.Given.{given}
 use Rattle.fl_hop.specs.declared.entry.Way.{Way}
 use Rattle.fl_hop.specs.declared.entry.Way.TheVariants.{Link as to_link}
 use Rattle.fl_hop.specs.declared.forward.Outcome.{Outcome as Moving}
@@ -14,7 +15,7 @@ use Rattle.fl_link.specs.Looks.{Look, placed, no_room, spent, found}
 use Rattle.fl_ring.specs.Duo.{TheDuo, DuoPuts}
 use Rattle.fl_ring.specs.Side.{SidePuts, SideTakes}
 use Rattle.fl_ring.specs.declared.duo_side.DuoSide.{DuoSide}
-use Rattle.fl_queues.specs.Given.{given, changed_at}
+use Rattle.fl_queues.specs.Given.{changed_at}
 use Rattle.fl_queues.specs.Events.{Answer, nothing, full, forwarded}
 use Rattle.fl_queues.specs.Rings.{Label, next_of, RingLabel, Ring, RingSide, RingEnd, first_for, looks, makes_sure, puts, takes, Room, room, there_is_room, for_data}
 use Rattle.fl_queues.specs.Rings.{no_room as none_free, spent as used_up}

@@ -6,6 +6,7 @@ use Rattle.fl_base.specs.declared.identity.EndId.{EndId}
 use Rattle.fl_base.specs.declared.identity.Circuit.{Circuit}
 use Rattle.fl_base.specs.declared.identity.Side.TheVariants.{Client}
 use Rattle.fl_base.specs.Ends.{other}
+use Rattle.fl_base.specs.Given.{given}
 use Rattle.fl_value.specs.Value.{TheCall}
 use Rattle.fl_wire.specs.Payload.{frags_on}
 use Rattle.fl_lists.specs.declared.place.Place.TheVariants.{Idle, Polled, Pending}
@@ -16,7 +17,6 @@ use Rattle.fl_hop.specs.declared.entry.Way.TheVariants.{Link as to_link, End as 
 use Rattle.fl_hop.specs.declared.entry.Hop.{Hop}
 use Rattle.fl_hop.specs.Table.{TheCircuits, hop_at}
 use Rattle.fl_endpoint.specs.View.{TheEnd, TheOutgoing, bound, bound_by}
-use Rattle.fl_queues.specs.Given.{given}
 use Rattle.fl_queues.specs.Calls.{Planned, total, last_count, stream}
 use Rattle.fl_queues.specs.Rings.{Opening, Said, open_circuit, circuit_opened, circuit_refused, says, RingLabel}
 use Rattle.fl_queues.specs.Ends.{Direction, Seat, End, written_of}

@@ -4,6 +4,7 @@ use Rattle.std.specs.Prelude.{is_some, IsSome}
 use Rattle.fl_base.specs.declared.identity.EndId.{EndId}
 use Rattle.fl_base.specs.declared.identity.Circuit.{Circuit}
 use Rattle.fl_base.specs.declared.identity.Side.TheVariants.{Client}
+use Rattle.fl_base.specs.Given.{given as given_here, given}
 use Rattle.fl_waitset.specs.Waiting.{is_registered}
 use Rattle.fl_link.specs.Queue.{TheQueue, QueueTakes}
 use Rattle.fl_ring.specs.Duo.{TheDuo}
@@ -12,7 +13,6 @@ use Rattle.fl_core.specs.View.{TheBoard, TheSeat, with_end}
 use Rattle.fl_core.specs.declared.kind.Kind.{Kind}
 use Rattle.fl_core.specs.Turns.{over}
 use Rattle.fl_monitor.specs.Monitors.{TheMonitor}
-use Rattle.fl_monitor.specs.Routing.{given as given_here}
 use Rattle.fl_node.specs.declared.answer.MonitorAnswer.TheVariants as told
 use Rattle.fl_node.specs.declared.wire.Wire.{Wire}
 use Rattle.fl_node.specs.declared.wire.Port.{Port}
@@ -21,7 +21,7 @@ use Rattle.fl_node.specs.Hearing.{Binds, BindsIf}
 use Rattle.fl_node.specs.Ends.{RegistersAt}
 use Rattle.fl_node.specs.Sound.{IsCore, kinds_seated, kinds_wired}
 use Rattle.fl_node.specs.View.{TheCore, place_of, with_board, with_monitor, arrivals_by, arrivals_of, arriving, arriving_at}
-use Rattle.fl_queues.specs.Given.{given, changed_at}
+use Rattle.fl_queues.specs.Given.{changed_at}
 use Rattle.fl_queues.specs.Calls.{Planned}
 use Rattle.fl_queues.specs.Rings.{Said, RingSide}
 use Rattle.fl_queues.specs.Ends.{Seat, End}

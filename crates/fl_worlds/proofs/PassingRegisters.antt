@@ -4,6 +4,7 @@ use Rattle.std.specs.Prelude.{is_some, IsSome}
 use Rattle.std.proofs.lemmas.List.{length-map}
 use Rattle.fl_base.specs.declared.fragment.Frag.{Frag}
 use Rattle.fl_base.specs.declared.identity.EndId.{EndId}
+use Rattle.fl_base.specs.Given.{given}
 use Rattle.fl_lists.specs.declared.place.Place.{Place}
 use Rattle.fl_lists.specs.declared.place.Place.TheVariants.{Idle, Polled, Pending}
 use Rattle.fl_lists.specs.ThreeLists.{ThreeLists, pushed}
@@ -22,7 +23,6 @@ use Rattle.fl_node.specs.declared.wire.Port.{Port}
 use Rattle.fl_node.specs.View.{TheCore, kind_of, with_board}
 use Rattle.fl_node.specs.Sound.{kinds_seated, kinds_wired}
 use Rattle.fl_node.specs.Ends.{RegistersAt}
-use Rattle.fl_queues.specs.Given.{given}
 use Rattle.fl_queues.specs.Rings.{Label}
 use Rattle.fl_queues.specs.Ends.{Queue, Seat, End}
 use Rattle.fl_queues.specs.Waits.{Dispatcher, waits_in, registers}

@@ -3,13 +3,13 @@ use Rattle.std.proofs.Common.{◌≡◌, ◌≢◌, ◌⊎◌, inl, inr, refl, s
 use Rattle.fl_base.specs.declared.fragment.Frag.{Frag}
 use Rattle.fl_base.specs.declared.identity.EndId.{EndId}
 use Rattle.fl_base.specs.declared.identity.Side.TheVariants.{Client, Server}
+use Rattle.fl_base.specs.Given.{given}
 use Rattle.fl_link.specs.Looks.{Look}
 use Rattle.fl_ring.specs.Duo.{TheDuo, DuoPuts, DuoTakes}
 use Rattle.fl_ring.specs.Side.{SidePuts, SideTakes}
 use Rattle.fl_ring.specs.declared.duo_side.DuoSide.{DuoSide}
 use Rattle.fl_ring.specs.declared.one_duo.Which.{Which}
 use Rattle.fl_node.specs.View.{TheCore}
-use Rattle.fl_queues.specs.Given.{given}
 use Rattle.fl_queues.specs.Rings.{RingLabel, Half, Ring, RingSide, first_side, second_side, RingEnd, first_for, written_by, read_by, with_halves, knows, looks}
 use Rattle.fl_queues.specs.Monitors.{Link}
 use Rattle.fl_queues.specs.State.{Back, local, over_ring, over_route, Route, Binding, State, link_between, place_in, number_between, own_ring}

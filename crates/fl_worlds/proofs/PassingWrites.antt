@@ -2,6 +2,7 @@
 use Rattle.std.proofs.Common.{◌≡◌, ◌≢◌, ◌⊎◌, inl, inr, refl, sym, ◌∙◌, ap, subst, ℕ, not, Bool, true, false, if◌then◌else◌, List, [], ◌∷◌, map, slice_get, slice_set, Option, Some, None}
 use Rattle.fl_base.specs.declared.fragment.Frag.{Frag}
 use Rattle.fl_base.specs.Control.{bare}
+use Rattle.fl_base.specs.Given.{given}
 use Rattle.fl_link.specs.Looks.{Look, placed, no_room, spent, told, kept}
 use Rattle.fl_ring.specs.Duo.{TheDuo}
 use Rattle.fl_ring.specs.Side.{SidePuts, SideTakes}
@@ -14,7 +15,7 @@ use Rattle.fl_node.specs.declared.answer.MonitorWrite.TheVariants as write
 use Rattle.fl_node.specs.View.{TheCore, with_monitor}
 use Rattle.fl_node.specs.Links.{MonitorWrites, Acknowledges}
 use Rattle.fl_node.specs.Ends.{at_side}
-use Rattle.fl_queues.specs.Given.{given, changed_at}
+use Rattle.fl_queues.specs.Given.{changed_at}
 use Rattle.fl_queues.specs.Events.{Answer, done, nothing, full, written, refused}
 use Rattle.fl_queues.specs.Rings.{Said, says, acknowledges, Ring, RingSide, RingEnd, makes_sure, puts, owes, Room, room, there_is_room, for_data, for_acknowledgement}
 use Rattle.fl_queues.specs.Rings.{no_room as none_free, spent as used_up}

@@ -4,6 +4,7 @@ use Rattle.fl_base.specs.declared.fragment.Frag.{Frag}
 use Rattle.fl_base.specs.declared.identity.EndId.{EndId}
 use Rattle.fl_base.specs.Control.{stamped}
 use Rattle.fl_base.specs.Ends.{other}
+use Rattle.fl_base.specs.Given.{given}
 use Rattle.fl_link.specs.Cursor.{epoch_at}
 use Rattle.fl_link.specs.Queue.{TheQueue, next_epoch_of}
 use Rattle.fl_ring.specs.Duo.{TheDuo, side_of as duo_side, got}
@@ -17,7 +18,6 @@ use Rattle.fl_node.specs.declared.wire.Outlet.{Outlet}
 use Rattle.fl_node.specs.declared.wire.Outlet.TheVariants as outlet
 use Rattle.fl_node.specs.declared.wire.Port.{Port}
 use Rattle.fl_node.specs.View.{TheCore, outlet_of, outlet_by as outlet_on}
-use Rattle.fl_queues.specs.Given.{given}
 use Rattle.fl_queues.specs.Events.{Answer, nothing, words, refused}
 use Rattle.fl_queues.specs.Calls.{Planned}
 use Rattle.fl_queues.specs.Rings.{RingEnd, read_by}

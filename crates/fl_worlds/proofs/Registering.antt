@@ -3,6 +3,7 @@ use Rattle.std.proofs.Common.{◌≡◌, ◌≢◌, refl, sym, ◌∙◌, ap, su
 use Rattle.std.proofs.lemmas.List.{length-map}
 use Rattle.fl_base.specs.declared.fragment.Frag.{Frag}
 use Rattle.fl_base.specs.declared.identity.EndId.{EndId}
+use Rattle.fl_base.specs.Given.{given}
 use Rattle.fl_lists.specs.declared.place.Place.{Place}
 use Rattle.fl_lists.specs.declared.place.Place.TheVariants.{Idle, Polled, Pending}
 use Rattle.fl_lists.specs.ThreeLists.{ThreeLists, pushed}
@@ -26,7 +27,6 @@ use Rattle.fl_node.specs.declared.wire.Port.{Port}
 use Rattle.fl_node.specs.View.{TheCore, with_board, kind_of, inlet_of, inlet_by, arrivals_of, arrivals_by}
 use Rattle.fl_node.specs.Ends.{OnBoard, RegistersAt}
 use Rattle.fl_node.specs.Sound.{IsCore}
-use Rattle.fl_queues.specs.Given.{given}
 use Rattle.fl_queues.specs.Events.{Answer, done, refused}
 use Rattle.fl_queues.specs.Ends.{Queue, End, is_bound}
 use Rattle.fl_queues.specs.Waits.{waits_in, registers}

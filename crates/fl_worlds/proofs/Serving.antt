@@ -6,6 +6,8 @@ use Rattle.fl_base.specs.declared.identity.EndId.{EndId}
 use Rattle.fl_base.specs.declared.identity.LinkId.{LinkId}
 use Rattle.fl_base.specs.declared.identity.Circuit.{Circuit as Number}
 use Rattle.fl_base.specs.declared.identity.Side.TheVariants.{Client, Server}
+use Rattle.fl_base.specs.Given.{given as given_here, given}
+use Rattle.fl_base.specs.Numbered.{link_id}
 use Rattle.fl_value.specs.Value.{TheCall}
 use Rattle.fl_wire.specs.Payload.{frags_on}
 use Rattle.fl_lists.specs.ThreeLists.{ThreeLists}
@@ -25,9 +27,7 @@ use Rattle.fl_node.specs.Ends.{RegistersAt}
 use Rattle.fl_node.specs.Hearing.{offer_for, IsCopyFor}
 use Rattle.fl_node.specs.Sound.{IsCore}
 use Rattle.fl_node.specs.View.{TheCore, new_arrivals, place_of, side_of_link, server_of, with_monitor}
-use Rattle.fl_monitor.specs.Routing.{given as given_here}
 use Rattle.fl_node.specs.declared.wire.Lane.{Lane}
-use Rattle.fl_queues.specs.Given.{given}
 use Rattle.fl_queues.specs.Events.{DispatcherId}
 use Rattle.fl_queues.specs.Calls.{Planned, total, last_count, whole_in, stream}
 use Rattle.fl_queues.specs.Rings.{Opening, Said}
@@ -48,7 +48,7 @@ use Rattle.fl_shows.proofs.Tests.{lt_false}
 use Rattle.fl_worlds.specs.declared.binding.Binding.{Binding as TheBinding}
 use Rattle.fl_worlds.specs.View.{TheWorld, unmade, made, nowhere, spot_at, spot_of, with_core, with_ring, with_binding, keeping, side_number, side_at}
 use Rattle.fl_worlds.specs.Picture.{lane_of, IsUnmade, BindingShows, IsSilent, IsPicture, Shows}
-use Rattle.fl_worlds.specs.Linking.{HasRules, TakesRules, BringsRules, ThenRules, link_id, offers_in}
+use Rattle.fl_worlds.specs.Linking.{HasRules, TakesRules, BringsRules, ThenRules, offers_in}
 use Rattle.fl_worlds.specs.Hearing.{IsMessage}
 use Rattle.fl_worlds.proofs.Frames.{Stands, Awaits, UnmadeFrame, ListsFrame, CoreStays}
 use Rattle.fl_worlds.proofs.MakingBase.{map_at, at_map}

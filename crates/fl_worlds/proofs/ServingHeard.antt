@@ -1,5 +1,6 @@
 -- Which message makes a server's end, and where its binding's route ends.
 use Rattle.std.proofs.Common.{◌≡◌, refl, sym, ◌∙◌, ap, subst, ℕ, ◌+◌, ◌-◌, ◌≤◌, Bool, true, false, if◌then◌else◌, List, length, reverse, slice_get, Option, Some, None, arith}
+use Rattle.fl_base.specs.Given.{given as given_here}
 use Rattle.fl_hop.specs.declared.entry.Way.{Way}
 use Rattle.fl_hop.specs.declared.entry.Way.TheVariants.{Link as to_link, End as to_end}
 use Rattle.fl_hop.specs.declared.entry.Hop.{Hop}
@@ -8,7 +9,6 @@ use Rattle.fl_hop.specs.Table.{TheCircuits, hop_at}
 use Rattle.fl_compile.specs.declared.program.Program.{Program}
 use Rattle.fl_ring.specs.Duo.{TheDuo}
 use Rattle.fl_nameserv.specs.Registrations.{TheRegistration, by_iref}
-use Rattle.fl_monitor.specs.Routing.{given as given_here}
 use Rattle.fl_node.specs.View.{TheCore}
 use Rattle.fl_node.specs.declared.hearing.Offered.{Offered}
 use Rattle.fl_node.specs.Hearing.{Offers, may_offer, offer_of, IsCopyFor}

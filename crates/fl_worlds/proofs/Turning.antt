@@ -4,6 +4,7 @@ use Rattle.std.specs.Prelude.{Ok, IsNone}
 use Rattle.fl_base.specs.declared.identity.Side.{Side}
 use Rattle.fl_base.specs.declared.identity.EndId.{EndId}
 use Rattle.fl_base.specs.declared.identity.LinkId.{LinkId}
+use Rattle.fl_base.specs.Given.{given}
 use Rattle.fl_hop.proofs.Lists.{at_within, within, set_here, set_same}
 use Rattle.fl_lists.specs.declared.place.Place.TheVariants.{Polled, Pending}
 use Rattle.fl_lists.specs.ThreeLists.{ThreeLists}
@@ -26,7 +27,6 @@ use Rattle.fl_node.specs.declared.wire.Port.{Port}
 use Rattle.fl_node.specs.declared.wire.Inlet.{Inlet}
 use Rattle.fl_node.specs.Sound.{IsCore}
 use Rattle.fl_node.specs.View.{TheCore, place_of, kind_of, inlet_by, inlet_of, arrivals_of, arrivals_by, with_board, with_arrivals}
-use Rattle.fl_queues.specs.Given.{given}
 use Rattle.fl_queues.specs.Events.{DispatcherId, Answer, nothing, refused}
 use Rattle.fl_queues.specs.Rings.{RingEnd}
 use Rattle.fl_queues.specs.Ends.{Queue, without_first, Seat, End}

@@ -4,6 +4,7 @@ use Rattle.std.specs.Prelude.{Result, Ok, Err}
 use Rattle.std.specs.List.{list_any}
 use Rattle.std.proofs.lemmas.Bool.{eq-eqb}
 use Rattle.fl_base.specs.declared.identity.EndId.{EndId}
+use Rattle.fl_base.specs.Given.{given}
 use Rattle.fl_lists.specs.declared.place.Place.{Place}
 use Rattle.fl_lists.specs.declared.place.Place.TheVariants.{Polled, Pending}
 use Rattle.fl_lists.specs.ThreeLists.{ThreeLists, is_in, list_at}
@@ -17,7 +18,6 @@ use Rattle.fl_core.specs.Turns.{Turns, LooksAt, moment, over}
 use Rattle.fl_node.specs.declared.wire.Port.{Port}
 use Rattle.fl_node.specs.Sound.{IsCore}
 use Rattle.fl_node.specs.View.{TheCore, kind_of, with_board}
-use Rattle.fl_queues.specs.Given.{given}
 use Rattle.fl_queues.specs.Calls.{Planned}
 use Rattle.fl_queues.specs.Events.{DispatcherId, nothing, full, quiet, refused}
 use Rattle.fl_queues.specs.Rings.{Label, next_of, RingLabel, RingEnd, looks, takes}

@@ -3,6 +3,7 @@ use Rattle.std.proofs.Common.{◌≡◌, refl, sym, ◌∙◌, ap, subst, ℕ, z
 use Rattle.fl_base.specs.declared.identity.EndId.{EndId}
 use Rattle.fl_base.specs.Ends.{other, peer}
 use Rattle.fl_base.specs.Prefix.{IsPrefix}
+use Rattle.fl_base.specs.Given.{given}
 use Rattle.fl_hop.proofs.Lists.{set_here}
 use Rattle.fl_lists.specs.declared.place.Place.{Place}
 use Rattle.fl_lists.specs.ThreeLists.{ThreeLists}
@@ -14,7 +15,7 @@ use Rattle.fl_endpoint.specs.View.{TheEnd, number_or_0}
 use Rattle.fl_core.specs.View.{TheDispatcher, TheSeat, TheBoard, with_end, with_lists}
 use Rattle.fl_core.specs.Turns.{put_off}
 use Rattle.fl_node.specs.View.{TheCore, place_of, with_board}
-use Rattle.fl_queues.specs.Given.{given, changed_at}
+use Rattle.fl_queues.specs.Given.{changed_at}
 use Rattle.fl_queues.specs.Calls.{Planned, total, last_count, stream}
 use Rattle.fl_queues.specs.Events.{DispatcherId}
 use Rattle.fl_queues.specs.Ends.{Direction, last_station, is_busy, accepts, accepts_or_waits, takes_one, Taken, whole, a_part, replies, rule_at, End, is_bound}

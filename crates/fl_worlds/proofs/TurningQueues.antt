@@ -4,6 +4,7 @@ use Rattle.std.specs.Prelude.{Result, Ok, Err}
 use Rattle.fl_base.specs.declared.fragment.Frag.{Frag}
 use Rattle.fl_base.specs.declared.identity.EndId.{EndId}
 use Rattle.fl_base.specs.Ends.{other, peer}
+use Rattle.fl_base.specs.Given.{given}
 use Rattle.fl_lists.specs.declared.place.Place.{Place}
 use Rattle.fl_lists.specs.declared.place.Place.TheVariants.{Idle, Polled, Pending}
 use Rattle.fl_lists.specs.ThreeLists.{ThreeLists}
@@ -23,7 +24,6 @@ use Rattle.fl_core.specs.declared.answer.TurnAnswer.TheVariants.{Handle, Part, R
 use Rattle.fl_core.specs.View.{TheBoard, with_end, with_lists}
 use Rattle.fl_core.specs.Turns.{WaitsIn, Gives, moment, put_off}
 use Rattle.fl_node.specs.View.{TheCore, with_board}
-use Rattle.fl_queues.specs.Given.{given}
 use Rattle.fl_queues.specs.Calls.{Planned}
 use Rattle.fl_queues.specs.Events.{DispatcherId, Answer, full}
 use Rattle.fl_queues.specs.Rings.{Label, next_of}

@@ -6,6 +6,7 @@ use Rattle.fl_base.specs.declared.identity.Side.{Side}
 use Rattle.fl_base.specs.declared.identity.Side.TheVariants.{Client, Server}
 use Rattle.fl_base.specs.declared.identity.EndId.{EndId}
 use Rattle.fl_base.specs.Ends.{other, peer}
+use Rattle.fl_base.specs.Given.{given}
 use Rattle.fl_hop.proofs.Lists.{set_same}
 use Rattle.fl_lists.specs.declared.place.Place.{Place}
 use Rattle.fl_lists.specs.declared.place.Place.TheVariants.{Idle, Polled, Pending}
@@ -28,7 +29,6 @@ use Rattle.fl_core.specs.declared.answer.TurnAnswer.TheVariants.{Handle, Part, R
 use Rattle.fl_core.specs.View.{TheBoard, with_lists}
 use Rattle.fl_core.specs.Turns.{WaitsIn, Gives, Examines, lent, moment, put_off}
 use Rattle.fl_node.specs.View.{with_board}
-use Rattle.fl_queues.specs.Given.{given}
 use Rattle.fl_queues.specs.Events.{DispatcherId, Answer, full, ready, quiet}
 use Rattle.fl_queues.specs.Rings.{Label, next_of, says, acknowledges, RingLabel, Half, Ring, RingSide, first_side, second_side, RingEnd, written_by, read_by, with_halves, first_for, knows, looks, takes}
 use Rattle.fl_queues.specs.Ends.{takes_one, Taken, whole, a_part, comes_to, replies, holds_back}

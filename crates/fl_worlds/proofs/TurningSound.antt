@@ -9,6 +9,7 @@ use Rattle.fl_base.specs.declared.identity.Side.TheVariants.{Client, Server}
 use Rattle.fl_base.specs.declared.identity.EndId.{EndId}
 use Rattle.fl_base.specs.Control.{bare}
 use Rattle.fl_base.specs.Ends.{other, peer}
+use Rattle.fl_base.specs.Given.{given}
 use Rattle.fl_interface.specs.Limits.{is_within_limits}
 use Rattle.fl_interface.proofs.SameTypes.{same_arguments_are}
 use Rattle.fl_hop.proofs.Lists.{at_within}
@@ -18,7 +19,6 @@ use Rattle.fl_wire.specs.Reading.{IsPart}
 use Rattle.fl_endpoint.specs.View.{TheEnd, TheOutgoing, number_or_0, frags_from, nothing_to_send, rule_in}
 use Rattle.fl_endpoint.specs.Accounts.{AreRules, Sends}
 use Rattle.fl_endpoint.specs.Accounts.{Sound as EndIsSound}
-use Rattle.fl_queues.specs.Given.{given}
 use Rattle.fl_queues.specs.Calls.{Planned, fragments, total, last_count, stream}
 use Rattle.fl_queues.specs.Ends.{Direction, written_of, taken_of, is_busy, handled, End, is_bound, rule_at}
 use Rattle.fl_queues.specs.State.{Verdict, undecided, granted, denied, Route, Back, local, over_ring, over_route, Binding, State, binding_of, interface_of, end_in, number_between, place_in}

@@ -3,6 +3,7 @@ use Rattle.std.proofs.Common.{◌≡◌, inl, inr, refl, sym, ◌∙◌, ap, sub
 use Rattle.std.specs.Prelude.{Result, Ok, Err}
 use Rattle.fl_base.specs.declared.identity.Side.{Side}
 use Rattle.fl_base.specs.declared.identity.EndId.{EndId}
+use Rattle.fl_base.specs.Given.{given}
 use Rattle.fl_endpoint.specs.declared.fault.EndFault.{EndFault}
 use Rattle.fl_endpoint.specs.declared.answer.WriteAnswer.{WriteAnswer}
 use Rattle.fl_endpoint.specs.declared.answer.WriteAnswer.TheVariants.{Written, Full, Nothing}
@@ -13,7 +14,6 @@ use Rattle.fl_node.specs.declared.wire.Outlet.{Outlet}
 use Rattle.fl_node.specs.declared.wire.Outlet.TheVariants as outlet
 use Rattle.fl_node.specs.View.{TheCore, outlet_by as outlet_for, outlet_of, joined_by as joined_for}
 use Rattle.fl_node.specs.Ends.{woken_by}
-use Rattle.fl_queues.specs.Given.{given}
 use Rattle.fl_queues.specs.Events.{Answer, refused}
 use Rattle.fl_queues.specs.Rings.{RingSide, first_side, second_side, RingEnd}
 use Rattle.fl_queues.specs.Ends.{End, is_bound}

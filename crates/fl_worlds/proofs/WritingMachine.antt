@@ -4,8 +4,8 @@ use Rattle.fl_base.specs.declared.identity.Side.{Side}
 use Rattle.fl_base.specs.declared.identity.EndId.{EndId}
 use Rattle.fl_base.specs.Ends.{peer}
 use Rattle.fl_base.specs.Prefix.{IsPrefix}
+use Rattle.fl_base.specs.Given.{given}
 use Rattle.fl_value.specs.Value.{TheCall}
-use Rattle.fl_queues.specs.Given.{given}
 use Rattle.fl_queues.specs.Calls.{Planned, total}
 use Rattle.fl_queues.specs.Events.{nothing, refused}
 use Rattle.fl_queues.specs.Rings.{Label, Ring, RingEnd, Room, there_is_room, no_room, spent, room, makes_sure, puts, for_data}

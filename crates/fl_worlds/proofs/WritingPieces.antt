@@ -4,6 +4,7 @@ use Rattle.fl_base.specs.declared.identity.Side.{Side}
 use Rattle.fl_base.specs.declared.identity.Side.TheVariants.{Client, Server}
 use Rattle.fl_base.specs.declared.identity.EndId.{EndId}
 use Rattle.fl_base.specs.Prefix.{IsPrefix}
+use Rattle.fl_base.specs.Given.{given}
 use Rattle.fl_hop.proofs.Entering.{same_or}
 use Rattle.fl_hop.proofs.Lists.{set_cases, set_here, set_there, set_same}
 use Rattle.fl_link.specs.Queue.{TheQueue}
@@ -11,7 +12,7 @@ use Rattle.fl_ring.specs.Duo.{TheDuo}
 use Rattle.fl_endpoint.specs.View.{TheEnd}
 use Rattle.fl_core.specs.View.{TheDispatcher, TheSeat, TheBoard, with_end}
 use Rattle.fl_node.specs.View.{TheCore, place_of}
-use Rattle.fl_queues.specs.Given.{given, changed_at}
+use Rattle.fl_queues.specs.Given.{changed_at}
 use Rattle.fl_queues.specs.Calls.{Planned}
 use Rattle.fl_queues.specs.Ends.{Queue, Seat, End}
 use Rattle.fl_queues.specs.Waits.{Dispatcher}

@@ -5,6 +5,7 @@ use Rattle.fl_base.specs.declared.fragment.Frag.{Frag}
 use Rattle.fl_base.specs.declared.identity.EndId.{EndId}
 use Rattle.fl_base.specs.Control.{bare}
 use Rattle.fl_base.specs.Ends.{other, peer}
+use Rattle.fl_base.specs.Given.{given}
 use Rattle.fl_hop.proofs.Lists.{set_here}
 use Rattle.fl_waitset.specs.Waiting.{triggered}
 use Rattle.fl_lists.specs.ThreeLists.{ThreeLists}
@@ -22,7 +23,6 @@ use Rattle.fl_node.specs.declared.wire.Wire.TheVariants.{Queues}
 use Rattle.fl_node.specs.declared.wire.Port.{Port}
 use Rattle.fl_node.specs.View.{TheCore, place_of, with_board, joined_by as joined_for, joined_to}
 use Rattle.fl_node.specs.Ends.{at_side, WritesAt, TriggersIf, Triggers}
-use Rattle.fl_queues.specs.Given.{given}
 use Rattle.fl_queues.specs.Calls.{Planned}
 use Rattle.fl_queues.specs.Events.{Answer, DispatcherId, nothing, full, written, refused}
 use Rattle.fl_queues.specs.Rings.{Label, next_of, Room, there_is_room}

@@ -7,6 +7,8 @@ use Rattle.fl_base.specs.declared.identity.CoreId.{CoreId}
 use Rattle.fl_base.specs.declared.identity.EndId.{EndId}
 use Rattle.fl_base.specs.declared.identity.IRef.{IRef}
 use Rattle.fl_base.specs.declared.identity.LinkId.{LinkId}
+use Rattle.fl_base.specs.Given.{given}
+use Rattle.fl_base.specs.Numbered.{core_id}
 use Rattle.fl_compile.specs.declared.program.Program.{Program}
 use Rattle.fl_compile.specs.Programs.{program_of}
 use Rattle.fl_link.specs.Queue.{TheQueue, QueueTakes}
@@ -33,13 +35,12 @@ use Rattle.fl_node.specs.Faults.{open_number}
 use Rattle.fl_node.specs.View.{TheCore, place_of, client_of, server_of}
 use Rattle.fl_node.specs.Ends.{OnBoard, RegistersAt}
 use Rattle.fl_node.specs.Making.{AddsPort, asked, Asks}
-use Rattle.fl_queues.specs.Given.{given}
 use Rattle.fl_queues.specs.Events.{DispatcherId, Kind, by_queues, by_ring, by_route, Answer, done}
 use Rattle.fl_queues.specs.Binding.{same_dispatcher, all_differ}
 use Rattle.fl_worlds.specs.declared.binding.Binding.{Binding}
 use Rattle.fl_worlds.specs.View.{Given, If, TheWorld, has_dispatcher, which_at, IsWhole, with_core}
 use Rattle.fl_worlds.specs.Lending.{Refuses, DoesNothing, IsLent}
-use Rattle.fl_worlds.specs.Making.{is_core, core_id, new_duo}
+use Rattle.fl_worlds.specs.Making.{is_core, new_duo}
 
 -- what is asked for, once its names are known: the client's dispatcher, the interface and its program, the service's dispatcher and interface reference
 pub record Request : Type 0 where

@@ -2,12 +2,13 @@
 -- state.
 use Rattle.std.specs.Prelude.{ℕ, ◌≡◌, ◌≤◌, List}
 use Rattle.fl_base.specs.declared.identity.EndId.{EndId}
+use Rattle.fl_base.specs.Numbered.{most_cores}
 use Rattle.fl_interface.specs.Interface.{TheInterface}
 use Rattle.fl_value.specs.Value.{TheCall}
 use Rattle.fl_value.specs.declared.value.PlanNo.{PlanNo}
 use Rattle.fl_queues.specs.Events.{DispatcherId, Kind, Event, Answer}
 use Rattle.fl_queues.specs.State.{State, Outcome}
-use Rattle.fl_queues.specs.Making.{most_cores, adds_interface, sets_cores, adds_link, adds_dispatcher, exports}
+use Rattle.fl_queues.specs.Making.{adds_interface, sets_cores, adds_link, adds_dispatcher, exports}
 use Rattle.fl_queues.specs.Binding.{binds}
 use Rattle.fl_queues.specs.Sending.{calls, shows, writes_fragment}
 use Rattle.fl_queues.specs.Taking.{turns, acknowledges_end, registers_channel, deregisters_channel, sets_rule}

@@ -7,6 +7,8 @@ use Rattle.fl_base.specs.declared.identity.Side.{Side}
 use Rattle.fl_base.specs.declared.identity.Side.TheVariants.{Client, Server}
 use Rattle.fl_base.specs.declared.identity.Circuit.{Circuit}
 use Rattle.fl_base.specs.Control.{bare, with_circuit}
+use Rattle.fl_base.specs.Given.{given}
+use Rattle.fl_base.specs.Numbered.{link_id}
 use Rattle.fl_hop.specs.Table.{link_of}
 use Rattle.fl_hop.specs.declared.forward.Outcome.{Outcome}
 use Rattle.fl_hop.specs.declared.forward.Outcome.TheVariants as outcome
@@ -32,7 +34,6 @@ use Rattle.fl_node.specs.View.{TheCore, side_of_link}
 use Rattle.fl_node.specs.Ends.{at_side, OnBoard}
 use Rattle.fl_node.specs.Hearing.{Offers, HearsFrag, TakesHeard}
 use Rattle.fl_node.specs.Links.{MonitorWrites, LooksAhead, Inbound, inbound, ArrivesAt, Acknowledges}
-use Rattle.fl_queues.specs.Given.{given}
 use Rattle.fl_queues.specs.Events.{Answer, done, nothing, full, written, forwarded, opened, opening_refused, refused}
 use Rattle.fl_worlds.specs.declared.binding.Binding.{Binding}
 use Rattle.fl_worlds.specs.View.{Given, TheWorld, ring_at, IsWhole, Spot, made, spot_of, with_core, with_ring, with_binding}
@@ -146,9 +147,6 @@ ThenRules r w w2 = w2 ≡ w
 
 abbrev pub offers_in : TheWorld → Offers
 offers_in w = record { names = w.names; programs = w.programs }
-
-abbrev pub link_id : ℕ → LinkId
-link_id l = record { 0 = l }
 
 -- a core hears what stands first on a link
 pub record HearsFirst (core : ℕ) (at : LinkEnd) (frag : Frag) (w : TheWorld) (a : Answer) (w2 : TheWorld) : Type 0 where

@@ -3,7 +3,8 @@ use Rattle.std.specs.Prelude.{ℕ, ◌≡◌, ◌⊎◌, ◌+◌, ◌*◌, ◌==
 use Rattle.std.specs.Prelude.{not, Bool, true, false, List, [], ◌∷◌, ◌++◌, length, map}
 use Rattle.std.specs.Prelude.{slice_get, slice_set, Some, is_some, bytes_eq}
 use Rattle.std.specs.List.{list_any, range_with_len}
-use Rattle.fl_base.specs.declared.identity.CoreId.{CoreId}
+use Rattle.fl_base.specs.Given.{given}
+use Rattle.fl_base.specs.Numbered.{core_id}
 use Rattle.fl_interface.specs.Interface.{TheInterface}
 use Rattle.fl_interface.specs.Limits.{is_within_limits}
 use Rattle.fl_compile.specs.declared.program.Program.{Program}
@@ -16,7 +17,6 @@ use Rattle.fl_nameserv.specs.Registrations.{by_name, with_registered}
 use Rattle.fl_core.specs.View.{with_dispatcher}
 use Rattle.fl_node.specs.View.{TheCore, fresh_core, with_board}
 use Rattle.fl_node.specs.Making.{linked}
-use Rattle.fl_queues.specs.Given.{given}
 use Rattle.fl_queues.specs.Events.{DispatcherId, Answer, done}
 use Rattle.fl_queues.specs.Calls.{Planned}
 use Rattle.fl_shows.specs.Ends.{planned_of}
@@ -61,9 +61,6 @@ is_core n w = nat_lt n (length w.cores)
 
 abbrev pub has_link : ℕ → ℕ → TheWorld → Bool
 has_link a b w = given (slice_get w.cores a) false λ k. is_some (link_of k.monitor.circuits b)
-
-abbrev pub core_id : ℕ → CoreId
-core_id n = record { 0 = n }
 
 abbrev pub new_duo : ℕ → TheDuo
 new_duo size = record { size = size; one = new_half; two = new_half }

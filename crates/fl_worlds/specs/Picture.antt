@@ -3,6 +3,7 @@
 use Rattle.std.specs.Prelude.{ℕ, ◌≡◌, ◌-◌, ◌⊎◌, false, List, [], length, map, slice_get, slice_index, Option, Some, None}
 use Rattle.fl_base.specs.declared.identity.EndId.{EndId}
 use Rattle.fl_base.specs.Ends.{other, peer}
+use Rattle.fl_base.specs.Given.{given}
 use Rattle.fl_link.specs.Queue.{TheQueue}
 use Rattle.fl_ring.specs.Duo.{TheDuo}
 use Rattle.fl_endpoint.specs.View.{TheEnd}
@@ -12,7 +13,6 @@ use Rattle.fl_node.specs.declared.wire.Wire.{Wire}
 use Rattle.fl_node.specs.declared.wire.Wire.TheVariants.{Queues, Ring as OverRing, Circuit}
 use Rattle.fl_node.specs.declared.wire.Lane.{Lane}
 use Rattle.fl_node.specs.declared.wire.Port.{Port}
-use Rattle.fl_queues.specs.Given.{given}
 use Rattle.fl_queues.specs.Calls.{Planned}
 use Rattle.fl_queues.specs.Rings.{Ring, RingEnd}
 use Rattle.fl_queues.specs.Ends.{Queue, Direction, Seat, End}
@@ -73,6 +73,16 @@ abbrev pub wire_of : TheCore → EndId → Option Wire
 wire_of c e =
     given (place_of c e) None λ place.
     given (slice_get c.ports place) None λ p. Some p.wire
+
+-- the core names a side of a ring: as that of a link, or as that of an end
+abbrev pub NamesSide : TheCore → ℕ → Type 0
+NamesSide c side = ((l : ℕ) × (side_of_link c.lanes l ≡ Some side)) ⊎ ((e : EndId) × (wire_of c e ≡ Some (OverRing side)))
+
+-- and a queue: as that which an end puts to, or as that which an end takes from
+abbrev pub NamesQueue : TheCore → ℕ → Type 0
+NamesQueue c queue =
+    ((e : EndId) × (from : ℕ) × (wire_of c e ≡ Some (Queues queue from)))
+    ⊎ ((e : EndId) × (out : ℕ) × (wire_of c e ≡ Some (Queues out queue)))
 
 abbrev pub IsWire : TheWorld → TheCore → State → EndId → Binding → Wire → Type 0
 -- by queues an end takes from its own, and puts to that from which the other end takes

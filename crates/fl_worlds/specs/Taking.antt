@@ -2,6 +2,7 @@
 -- deregisters its channel, or gets a reply rule.
 use Rattle.std.specs.Prelude.{ℕ, ◌≡◌, ◌⊎◌, not, slice_get, Option, Some, None, IsSome, Result, Ok, Err}
 use Rattle.fl_base.specs.declared.identity.EndId.{EndId}
+use Rattle.fl_base.specs.Given.{given}
 use Rattle.fl_value.specs.Value.{call_of}
 use Rattle.fl_link.specs.Looks.{Look}
 use Rattle.fl_link.specs.Queue.{QueueTakes}
@@ -27,7 +28,6 @@ use Rattle.fl_node.specs.declared.wire.Inlet.TheVariants as inlet
 use Rattle.fl_node.specs.View.{TheCore, place_of, inlet_of}
 use Rattle.fl_node.specs.Ends.{OnBoard, OverArrivals, RegistersAt}
 use Rattle.fl_queues.specs.Events.{DispatcherId, Answer, done, nothing, full, handle, part, ready, quiet, refused}
-use Rattle.fl_queues.specs.Given.{given}
 use Rattle.fl_worlds.specs.View.{Given, If, TheWorld, has_dispatcher, ring_at, Spot, nowhere, unmade, made, spot_of}
 use Rattle.fl_worlds.specs.Lending.{AnswerAt, answer_at, Refuses, DoesNothing, AtCore, OverQueue, OverSide, AtUnmade, KeepsNone, IsStray}
 

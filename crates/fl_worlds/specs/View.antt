@@ -4,6 +4,7 @@ use Rattle.std.specs.Prelude.{false, if◌then◌else◌, List, length, slice_ge
 use Rattle.fl_base.specs.declared.identity.Side.{Side}
 use Rattle.fl_base.specs.declared.identity.Side.TheVariants.{Client, Server}
 use Rattle.fl_base.specs.declared.identity.EndId.{EndId}
+use Rattle.fl_base.specs.Given.{given}
 use Rattle.fl_compile.specs.declared.program.Program.{Program}
 use Rattle.fl_link.specs.Queue.{TheQueue}
 use Rattle.fl_ring.specs.Duo.{TheDuo}
@@ -14,7 +15,6 @@ use Rattle.fl_core.specs.Sound.{IsBoard}
 use Rattle.fl_monitor.specs.Monitors.{HasOutboxes}
 use Rattle.fl_node.specs.View.{TheCore, place_of}
 use Rattle.fl_node.specs.Sound.{IsCore}
-use Rattle.fl_queues.specs.Given.{given}
 use Rattle.fl_queues.specs.Events.{DispatcherId}
 use Rattle.fl_queues.specs.Rings.{RingSide, first_side, second_side, RingEnd}
 use Rattle.fl_shows.specs.Rings.{which_of}

@@ -3,9 +3,8 @@ use lib.Seq.{take_all}
 use Rattle.std.specs.List.{flat_map}
 use Rattle.fl_value.specs.Value.{TheCall, call_of}
 use Rattle.fl_queues.specs.Events.{handle}
-use Rattle.fl_lines.specs.Answers.{answer_text}
+use Rattle.fl_lines.specs.Answers.{answer_text, line}
 use Rattle.fl_lines.specs.Told.{names_of}
-use Rattle.fl_jobs.specs.Printed.{line}
 use Rattle.fl_jobs.proofs.Lists.{one_text_more}
 use Rattle.fl_jobs.proofs.printing.put_calls.Goals as goal
 

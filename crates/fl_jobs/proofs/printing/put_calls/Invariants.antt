@@ -2,9 +2,8 @@ use Rattle.std.proofs.Common.{◌≡◌, ◌++◌, map, take}
 use Rattle.std.specs.List.{flat_map}
 use Rattle.fl_value.specs.Value.{call_of}
 use Rattle.fl_queues.specs.Events.{handle}
-use Rattle.fl_lines.specs.Answers.{answer_text}
+use Rattle.fl_lines.specs.Answers.{answer_text, line}
 use Rattle.fl_lines.specs.Told.{names_of}
-use Rattle.fl_jobs.specs.Printed.{line}
 use Rattle.fl_jobs.proofs.printing.put_calls.Given as goal
 
 abbrev pub invariant-loop-call : goal.invariant-loop-call

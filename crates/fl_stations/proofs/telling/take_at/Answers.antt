@@ -1,10 +1,11 @@
 use Rattle.std.proofs.Common.{◌≡◌, ◌+◌, ◌∙◌, ℕ, map, slice_get, List, [], sym, ap, subst}
+use Rattle.fl_base.specs.Given.{given}
 use Rattle.fl_value.specs.Value.{TheCall, call_of}
-use Rattle.fl_queues.specs.Given.{given}
 use Rattle.fl_node.specs.View.{slot_of}
 use Rattle.fl_dockets.specs.declared.docket.Bound.{Bound}
 use Rattle.fl_dockets.specs.State.{joined_of}
-use Rattle.fl_stations.specs.Tells.{core_at, handled_by}
+use Rattle.fl_dockets.specs.Joined.{core_at}
+use Rattle.fl_stations.specs.Tells.{handled_by}
 use Rattle.fl_stations.specs.Stations.{outcome_of}
 use Rattle.fl_stations.specs.Taking.{KeepsFrom}
 use Rattle.fl_stations.proofs.Taking.{keeps_all, handled_nowhere, handled_there, keeps_set}

@@ -1,9 +1,9 @@
 use Rattle.std.proofs.Common.{◌≡◌, Result, Vec, Global, List, length, subst, refl, IfOk}
+use Rattle.std.specs.List.{AllZip}
 use Rattle.fl_jobs.specs.Reports.{report_of}
 use Rattle.fl_work.specs.declared.job.Job.{Job}
 use Rattle.fl_dockets.specs.State.{joined_of}
 use Rattle.fl_stations.specs.declared.station.Done.{Done}
-use Rattle.fl_stations.specs.Runs.{Each2}
 use Rattle.fl_stations.specs.declared.stop.Stop.{Stop}
 use Rattle.fl_stations.specs.Stations.{StationRan}
 use Rattle.fl_threads.proofs.Together.{rest_joined}
@@ -12,9 +12,9 @@ use Rattle.fl_threads.proofs.run.run_joined.Goals as goal
 
 pub report_on-requires : goal.report_on-requires
 report_on-requires g c =
-    let ran : Each2 (StationRan c.args.joined.jobs.items c.args.limit) c.in_ok-wired.wired.stations.items c.in_ok-done.done.items =
-    subst (λ (jobs : List Job). Each2 (StationRan jobs c.args.limit) c.in_ok-wired.wired.stations.items c.in_ok-done.done.items) c.deref-2.ensures.value
-    (subst (λ (r : Result (Vec Done Global) Stop). IfOk r (λ all. Each2 (StationRan c.deref-2.result.now c.args.limit) c.in_ok-wired.wired.stations.items all.items))
+    let ran : AllZip (StationRan c.args.joined.jobs.items c.args.limit) c.in_ok-wired.wired.stations.items c.in_ok-done.done.items =
+    subst (λ (jobs : List Job). AllZip (StationRan jobs c.args.limit) c.in_ok-wired.wired.stations.items c.in_ok-done.done.items) c.deref-2.ensures.value
+    (subst (λ (r : Result (Vec Done Global) Stop). IfOk r (λ all. AllZip (StationRan c.deref-2.result.now c.args.limit) c.in_ok-wired.wired.stations.items all.items))
     c.in_ok-done.was c.run_each-ran.ensures.each) in
     record {
       few = c.requires.bindings.few;
@@ -30,9 +30,9 @@ report_on-requires g c =
 
 pub returns : goal.returns
 returns g c =
-    let ran : Each2 (StationRan c.args.joined.jobs.items c.args.limit) c.in_ok-wired.wired.stations.items c.in_ok-done.done.items =
-    subst (λ (jobs : List Job). Each2 (StationRan jobs c.args.limit) c.in_ok-wired.wired.stations.items c.in_ok-done.done.items) c.deref-2.ensures.value
-    (subst (λ (r : Result (Vec Done Global) Stop). IfOk r (λ all. Each2 (StationRan c.deref-2.result.now c.args.limit) c.in_ok-wired.wired.stations.items all.items))
+    let ran : AllZip (StationRan c.args.joined.jobs.items c.args.limit) c.in_ok-wired.wired.stations.items c.in_ok-done.done.items =
+    subst (λ (jobs : List Job). AllZip (StationRan jobs c.args.limit) c.in_ok-wired.wired.stations.items c.in_ok-done.done.items) c.deref-2.ensures.value
+    (subst (λ (r : Result (Vec Done Global) Stop). IfOk r (λ all. AllZip (StationRan c.deref-2.result.now c.args.limit) c.in_ok-wired.wired.stations.items all.items))
     c.in_ok-done.was c.run_each-ran.ensures.each) in
     record {
       ran = cores_ran c.args.parts (joined_of c.args.joined) c.args.limit c.in_ok-wired.wired.stations.items c.in_ok-done.done.items

@@ -7,7 +7,8 @@ use Rattle.fl_value.specs.Value.{datum_of, call_of}
 use Rattle.fl_value.specs.declared.value.Value.{Value}
 use Rattle.fl_value.specs.Fits.{are_arguments}
 use Rattle.fl_value.specs.Plan.{arranged}
-use Rattle.fl_layout.specs.Leaves.{Leaf, kind, arguments_onto, argument_types}
+use Rattle.fl_value.specs.Tape.{kind}
+use Rattle.fl_layout.specs.Leaves.{Leaf, arguments_onto, argument_types}
 use Rattle.fl_wire.specs.Payload.{payload_bytes}
 use Rattle.fl_wire.proofs.Arguments.{arguments_fit}
 use Rattle.fl_wire.proofs.encode.payload_into.Goals as goal

@@ -5,9 +5,10 @@ use Rattle.fl_interface.specs.Interface.{arg_type_of}
 use Rattle.fl_value.specs.Value.{datum_of}
 use Rattle.fl_value.specs.Plan.{arranged, of_rank}
 use Rattle.fl_value.specs.declared.value.PlanNo.{PlanNo}
-use Rattle.fl_layout.specs.Leaves.{Argument, kind, arguments_onto}
+use Rattle.fl_layout.specs.Leaves.{arguments_onto}
 use Rattle.fl_wire.specs.Payload.{payload_bytes}
 use Rattle.fl_value.proofs.Ranked.{one_rank}
+use Rattle.fl_value.specs.Tape.{Argument, kind}
 use Rattle.fl_wire.proofs.encode.put_arguments.Goals as goal
 
 pub returns-in-One : goal.returns-in-One

@@ -4,9 +4,10 @@ use Rattle.std.proofs.lemmas.Result.{on_ok_weaker}
 use Rattle.fl_interface.specs.Interface.{arg_type_of}
 use Rattle.fl_value.specs.Value.{datum_of}
 use Rattle.fl_value.specs.declared.value.PlanNo.TheVariants.{Two}
-use Rattle.fl_layout.specs.Leaves.{Argument, kind, arguments_onto}
+use Rattle.fl_layout.specs.Leaves.{arguments_onto}
 use Rattle.fl_wire.specs.Payload.{payload_bytes}
 use Rattle.fl_value.proofs.Ranked.{arranged_ranks}
+use Rattle.fl_value.specs.Tape.{Argument, kind}
 use Rattle.fl_wire.proofs.encode.put_arranged.Goals as goal
 
 pub returns : goal.returns

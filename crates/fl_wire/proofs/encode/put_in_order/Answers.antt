@@ -5,7 +5,7 @@ use Rattle.fl_interface.specs.Interface.{arg_type_of}
 use Rattle.fl_value.specs.Value.{datum_of}
 use Rattle.fl_value.specs.declared.value.PlanNo.TheVariants.{Two}
 use Rattle.fl_wire.specs.Payload.{payload_bytes}
-use Rattle.fl_layout.specs.Leaves.{Argument, arguments_onto}
+use Rattle.fl_layout.specs.Leaves.{arguments_onto}
 use Rattle.fl_wire.proofs.Encoding.{as_declared, none_left}
 use Rattle.fl_wire.proofs.Scalars.{rises}
 use Rattle.fl_wire.proofs.Arguments.{zip_done}
@@ -13,6 +13,7 @@ use Rattle.fl_wire.proofs.Turns.{turn_fits, turn_left, turn_written, turn_rises}
 use denote.Ref.{Bor}
 use Rattle.fl_interface.specs.declared.interface.ArgType.{ArgType}
 use Rattle.fl_value.specs.declared.value.Value.{Value}
+use Rattle.fl_value.specs.Tape.{Argument}
 use Rattle.fl_wire.proofs.encode.put_in_order.Goals as goal
 
 pub returns : goal.returns

@@ -4,7 +4,8 @@ use Rattle.fl_interface.specs.Interface.{arg_type_of}
 use Rattle.fl_value.specs.Value.{datum_of}
 use Rattle.fl_value.specs.Plan.{of_ranks}
 use Rattle.fl_value.specs.declared.value.PlanNo.TheVariants.{Two}
-use Rattle.fl_layout.specs.Leaves.{kind, arguments_onto}
+use Rattle.fl_value.specs.Tape.{kind}
+use Rattle.fl_layout.specs.Leaves.{arguments_onto}
 use Rattle.fl_wire.specs.Payload.{payload_bytes}
 use Rattle.fl_wire.proofs.Encoding.{rank_then_rest}
 use Rattle.fl_wire.proofs.encode.put_ranks.Goals as goal

@@ -1,9 +1,9 @@
 use Rattle.std.proofs.Common.{◌≡◌, Option, List, ap, sym, ◌∙◌}
 use Rattle.std.specs.Prelude.{slice_get}
 use Rattle.fl_interface.specs.Interface.{TheMessage, interface_of}
+use Rattle.fl_value.specs.Tape.{types_of}
 use Rattle.fl_layout.specs.declared.arrange.MessagePlan.{MessagePlan}
 use Rattle.fl_layout.specs.declared.extent.Placed.{Placed}
-use Rattle.fl_layout.specs.Leaves.{types_of}
 use Rattle.fl_layout.specs.Extents.{placed_of, extent_among, unit_of}
 use Rattle.fl_layout.specs.Layouts.{argument_size}
 use Rattle.fl_layout.proofs.Found.{found, missing}

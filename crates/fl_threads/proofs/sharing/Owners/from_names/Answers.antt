@@ -1,5 +1,5 @@
 use Rattle.std.proofs.Common.{◌*◌, arith}
-use Rattle.fl_threads.specs.Shares.{NamesSide, NamesQueue}
+use Rattle.fl_worlds.specs.Picture.{NamesQueue, NamesSide}
 use Rattle.fl_threads.proofs.Owning.{one_core_more, all_cores, core_at}
 use Rattle.fl_threads.proofs.sharing.Owners.from_names.Goals as goal
 

@@ -1,5 +1,5 @@
 use Rattle.std.proofs.Common.{◌*◌}
-use Rattle.fl_threads.specs.Shares.{NamesSide, NamesQueue}
+use Rattle.fl_worlds.specs.Picture.{NamesQueue, NamesSide}
 use Rattle.fl_threads.proofs.Owning.{SoFar}
 use Rattle.fl_threads.proofs.sharing.Owners.from_names.Given as goal
 
