@@ -2,7 +2,7 @@
 use Rattle.std.proofs.Common.{◌≡◌, refl, sym, ◌∙◌, ap, subst, ℕ, zero, suc, nat_lt, Bool, true, false, if◌then◌else◌, List, [], ◌∷◌, ◌++◌, length}
 use Rattle.std.proofs.Common.{map, slice_get, slice_set, Option, Some, None}
 use Rattle.fl_base.specs.declared.identity.EndId.{EndId}
-use Rattle.fl_base.specs.Given.{given as given_at, given}
+use Rattle.fl_base.specs.Given.{given}
 use Rattle.fl_base.specs.Numbered.{most_bindings}
 use Rattle.fl_value.specs.declared.value.Call.{Call}
 use Rattle.fl_value.specs.Value.{call_of}
@@ -68,8 +68,8 @@ past {X} xs n h = by (slice_get xs n) refl
 
 abbrev job_in : List Job → Option TheDesk → Option Job
 job_in jobs o =
-    given_at o None λ desk.
-    given_at (slice_get desk.jobs desk.done) None λ place.
+    given o None λ desk.
+    given (slice_get desk.jobs desk.done) None λ place.
     slice_get jobs place
 
 abbrev shown_in : List Job → Option Desk → Option Job
@@ -78,24 +78,20 @@ shown_in jobs o =
     given (slice_get d.jobs d.done) None λ place.
     slice_get jobs place
 
-two_given : {X Y : Type 0} (o : Option X) (f : X → Option Y) → given_at o None f ≡ given o None f
-two_given None f = refl
-two_given (Some x) f = refl
-
 pub same_job : {S : Type 0} (jobs : List Job) (r : TheRun S) (a : Alone) (e : EndId) → a.desks ≡ map desk_of r.desks → nat_lt e.binding most_bindings ≡ true
     → job_there jobs r e ≡ next_job jobs a e
 same_job {S} jobs r a e shown few = by (nat_lt (slot_of e) (length r.desks)) refl
   where
     there : (b : Bool) → nat_lt (slot_of e) (length r.desks) ≡ b
-        → job_there jobs r e ≡ given_at (if b then Some (slot_of e) else None) None λ n. job_in jobs (slice_get r.desks n)
-    there b q = ap (λ o. given_at o None λ n. job_in jobs (slice_get r.desks n)) (desk_is r.desks e b few q)
+        → job_there jobs r e ≡ given (if b then Some (slot_of e) else None) None λ n. job_in jobs (slice_get r.desks n)
+    there b q = ap (λ o. given o None λ n. job_in jobs (slice_get r.desks n)) (desk_is r.desks e b few q)
 
     by : (b : Bool) → nat_lt (slot_of e) (length r.desks) ≡ b → job_there jobs r e ≡ next_job jobs a e
     by true q =
         let d = at_within r.desks (slot_of e) (true_lt (slot_of e) (length r.desks) q) in
         let here : slice_get a.desks (slot_of e) ≡ Some (desk_of d.0) = ap (λ ds. slice_get ds (slot_of e)) shown
         ∙ get_some desk_of r.desks (slot_of e) d.0 d.1 in
-        there true q ∙ ap (job_in jobs) d.1 ∙ two_given (slice_get d.0.jobs d.0.done) (slice_get jobs) ∙ sym (ap (shown_in jobs) here)
+        there true q ∙ ap (job_in jobs) d.1 ∙ sym (ap (shown_in jobs) here)
     by false q =
         let none : slice_get a.desks (slot_of e) ≡ None = ap (λ ds. slice_get ds (slot_of e)) shown
         ∙ get_none desk_of r.desks (slot_of e) (past r.desks (slot_of e) q) in

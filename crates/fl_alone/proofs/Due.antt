@@ -2,7 +2,7 @@
 use Rattle.std.proofs.Common.{◌≡◌, refl, sym, ◌∙◌, ap, subst, ℕ, zero, suc, Bool, true, false, if◌then◌else◌, List, [], ◌∷◌, length, map, slice_get}
 use Rattle.std.proofs.Common.{Option, Some, None}
 use Rattle.fl_base.specs.declared.identity.EndId.{EndId}
-use Rattle.fl_base.specs.Given.{given as given_at, given}
+use Rattle.fl_base.specs.Given.{given}
 use Rattle.fl_lists.specs.ThreeLists.{ThreeLists}
 use Rattle.fl_waitset.specs.Waiting.{next_pick, first_of}
 use Rattle.fl_core.specs.View.{TheDispatcher, due_in, end_picked, due as due_on}
@@ -129,15 +129,15 @@ same_before (Some (job.Call e c)) = refl
 no_turn : {S : Type 0} (ways : Ways S) (jobs : List Job) (s t : TheRun S) (d : ℕ) → due_on s.core.board d ≡ None → TakesTurn ways jobs d s t → t ≡ s
 no_turn {S} ways jobs s t d none u =
     subst (λ o. TurnsAt ways jobs d o s t)
-    (ap (λ o. given_at o None λ e. given_at (inlet_of s.core e) None λ from. if lends_in s from then Some
+    (ap (λ o. given o None λ e. given (inlet_of s.core e) None λ from. if lends_in s from then Some
     (record { end = e; inlet = from }) else None) none) u
 
 due_lent : {S : Type 0} (s : TheRun S) (d : ℕ) (name : EndId) (place : ℕ) (k : Wired s name place) → due_on s.core.board d ≡ Some place
     → lent_due s d ≡ Some (record { end = place; inlet = inlet.Queue k.from })
 due_lent s d name place k q =
-    ap (λ (o : Option ℕ). given_at o None λ n. given_at (inlet_of s.core n) None λ from. if lends_in s from then Some
+    ap (λ (o : Option ℕ). given o None λ n. given (inlet_of s.core n) None λ from. if lends_in s from then Some
     (record { end = n; inlet = from }) else None) q
-    ∙ ap (λ (o : Option Inlet). given_at o None λ from. if lends_in s from then Some (record { end = place; inlet = from }) else None) k.inlet_is
+    ∙ ap (λ (o : Option Inlet). given o None λ from. if lends_in s from then Some (record { end = place; inlet = from }) else None) k.inlet_is
     ∙ ap (λ b. if b then Some (record { end = place; inlet = inlet.Queue k.from }) else None) k.from_there
 
 turn_here : {S : Type 0} (ways : Ways S) (law : StepsAgree) (w : TheWorld) (jobs : List Job) (s t : TheRun S) (a : Alone) (d : ℕ) (name : EndId) (place : ℕ)

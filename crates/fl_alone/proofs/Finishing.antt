@@ -4,7 +4,7 @@ use Rattle.std.proofs.Common.{length, map, slice_get, Option, Some, None, is_som
 use Rattle.fl_base.specs.declared.fragment.Frag.{Frag}
 use Rattle.fl_base.specs.declared.identity.EndId.{EndId}
 use Rattle.fl_base.specs.Ends.{other}
-use Rattle.fl_base.specs.Given.{given as given_at, given}
+use Rattle.fl_base.specs.Given.{given}
 use Rattle.fl_base.specs.Numbered.{most_bindings}
 use Rattle.fl_value.specs.Value.{call_of}
 use Rattle.fl_hop.proofs.Lists.{at_within, within}
@@ -58,8 +58,8 @@ rests_here w r a e place x at =
     = ap (λ (o : Option Binding). given o true λ b. given (interface_of a.state b) true λ i. is_bound (end_in e.side b) && not (is_busy i
     (end_in e.side b).out)) h.binding_is
     ∙ ap (λ (o : Option Planned). given o true λ i. is_bound (end_in e.side h.binding) && not (is_busy i (end_in e.side h.binding).out)) h.interface_is in
-    ap (λ o. given_at o true λ n. given_at (slice_get r.core.board.seats n) true λ (s : TheSeat). is_still_end s.end) at
-    ∙ ap (λ o. given_at o true λ (s : TheSeat). is_still_end s.end) seat
+    ap (λ o. given o true λ n. given (slice_get r.core.board.seats n) true λ (s : TheSeat). is_still_end s.end) at
+    ∙ ap (λ o. given o true λ (s : TheSeat). is_still_end s.end) seat
     ∙ still_same h.interface (end_in e.side h.binding) (end_in (other e.side) h.binding).out h.at.end h.shows
     ∙ sym found
 
@@ -69,7 +69,7 @@ rests w r a e x = by (place_of r.core e) refl
   where
     by : (o : Option ℕ) → place_of r.core e ≡ o → is_at_rest r.core e ≡ (if is_there a.state e then is_still a.state e else true)
     by None q =
-        ap (λ o. given_at o true λ n. given_at (slice_get r.core.board.seats n) true λ (s : TheSeat). is_still_end s.end) q
+        ap (λ o. given o true λ n. given (slice_get r.core.board.seats n) true λ (s : TheSeat). is_still_end s.end) q
         ∙ sym (ap (λ b. if b then is_still a.state e else true) (end_away w r a e x q))
     by (Some place) q = rests_here w r a e place x q ∙ sym (ap (λ b. if b then is_still a.state e else true) (end_there w r a e place x q))
 
@@ -87,15 +87,15 @@ clear : {S : Type 0} (w : TheWorld) (r : TheRun S) (a : Alone) (e : EndId) → S
 clear w r a e x few = by (nat_lt (slot_of e) (length r.desks)) refl
   where
     there : (b : Bool) → nat_lt (slot_of e) (length r.desks) ≡ b
-        → is_desk_clear r e ≡ given_at (if b then Some (slot_of e) else None) true λ n. given_at (slice_get r.desks n) true is_clear_desk
-    there b q = ap (λ o. given_at o true λ n. given_at (slice_get r.desks n) true is_clear_desk) (desk_is r.desks e b few q)
+        → is_desk_clear r e ≡ given (if b then Some (slot_of e) else None) true λ n. given (slice_get r.desks n) true is_clear_desk
+    there b q = ap (λ o. given o true λ n. given (slice_get r.desks n) true is_clear_desk) (desk_is r.desks e b few q)
 
     by : (b : Bool) → nat_lt (slot_of e) (length r.desks) ≡ b → is_desk_clear r e ≡ is_clear (desk_at a e)
     by true q =
         let d = at_within r.desks (slot_of e) (true_lt (slot_of e) (length r.desks) q) in
         let here : slice_get a.desks (slot_of e) ≡ Some (desk_of d.0) = ap (λ ds. slice_get ds (slot_of e)) x.desks
         ∙ get_some desk_of r.desks (slot_of e) d.0 d.1 in
-        there true q ∙ ap (λ o. given_at o true is_clear_desk) d.1 ∙ clear_same d.0 ∙ sym (ap is_clear here)
+        there true q ∙ ap (λ o. given o true is_clear_desk) d.1 ∙ clear_same d.0 ∙ sym (ap is_clear here)
     by false q =
         let none : slice_get a.desks (slot_of e) ≡ None = ap (λ ds. slice_get ds (slot_of e)) x.desks
         ∙ get_none desk_of r.desks (slot_of e) (past r.desks (slot_of e) q) in
@@ -119,9 +119,9 @@ all_same w r a ends words (suc n) x few silent =
   where
     by : (o : Option EndId) → slice_get ends n ≡ o → is_done r ends words n ≡ given (slice_get ends n) true (is_done_at a)
     by None q =
-        ap (λ o. given_at o true λ name. given_at (slice_get words n) true λ word. done_at r name word) q ∙ sym (ap (λ o. given o true (is_done_at a)) q)
+        ap (λ o. given o true λ name. given (slice_get words n) true λ word. done_at r name word) q ∙ sym (ap (λ o. given o true (is_done_at a)) q)
     by (Some e) q =
-        ap (λ o. given_at o true λ name. given_at (slice_get words n) true λ word. done_at r name word) q
-        ∙ ap (λ o. given_at o true λ word. done_at r e word) (silent n (within ends n e q))
+        ap (λ o. given o true λ name. given (slice_get words n) true λ word. done_at r name word) q
+        ∙ ap (λ o. given o true λ word. done_at r e word) (silent n (within ends n e q))
         ∙ done_same w r a e x (few n e q)
         ∙ sym (ap (λ o. given o true (is_done_at a)) q)

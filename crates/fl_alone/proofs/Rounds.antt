@@ -2,7 +2,7 @@
 use Rattle.std.proofs.Common.{◌≡◌, sym, ◌∙◌, ap, subst, ℕ, zero, suc, nat_lt, Bool, true, false, if◌then◌else◌, List, [], length, Option, Some, None, arith}
 use Rattle.fl_base.specs.declared.identity.EndId.{EndId}
 use Rattle.fl_base.specs.declared.identity.LinkId.{LinkId}
-use Rattle.fl_base.specs.Given.{given as given_at, given}
+use Rattle.fl_base.specs.Given.{given}
 use Rattle.fl_node.specs.declared.wire.Inlet.{Inlet}
 use Rattle.fl_node.specs.View.{place_of, side_of_link, inlet_of}
 use Rattle.fl_shows.proofs.Tests.{lt_false}
@@ -27,7 +27,7 @@ still_swept {X} R s still (suc n) t (m, before, step) =
     still n t (subst (λ (r : X). R n r t) one step)
 
 no_lane : {S : Type 0} (s : TheRun S) (l : LinkId) → s.core.lanes ≡ [] → lent_lane s l ≡ None
-no_lane s l none = ap (λ ls. given_at (side_of_link ls l.0) None λ n. if nat_lt n (length s.rings) then Some n else None) none
+no_lane s l none = ap (λ ls. given (side_of_link ls l.0) None λ n. if nat_lt n (length s.rings) then Some n else None) none
 
 forwards_nothing : {S : Type 0} (ways : Ways S) (links : List LinkId) (s : TheRun S) → s.core.lanes ≡ [] → (n : ℕ) (t : TheRun S)
     → At links (Forwards ways) n s t → t ≡ s
@@ -52,19 +52,19 @@ acks_nothing {S} ways ends s none n t (name, is, u) = by (place_of s.core name) 
     over e n false q v = v
     over e n true q v = absurd (cc)
 
-    by_side : (e : ℕ) (o : Option ℕ) → AcksFrom ways name (given_at o None λ m. if nat_lt m (length s.rings) then Some
+    by_side : (e : ℕ) (o : Option ℕ) → AcksFrom ways name (given o None λ m. if nat_lt m (length s.rings) then Some
         (record { end = e; side = m }) else None) s t → t ≡ s
     by_side e None v = v
     by_side e (Some m) v = over e m (nat_lt m (length s.rings)) (ap (λ (rs : List S). nat_lt m (length rs)) none ∙ none_below m) v
 
     by_inlet : (e : ℕ) (o : Option Inlet)
-        → AcksFrom ways name (given_at o None λ from. given_at (side_in from) None λ m. if nat_lt m (length s.rings) then Some
+        → AcksFrom ways name (given o None λ from. given (side_in from) None λ m. if nat_lt m (length s.rings) then Some
         (record { end = e; side = m }) else None) s t
         → t ≡ s
     by_inlet e None v = v
     by_inlet e (Some from) v = by_side e (side_in from) v
 
-    by : (o : Option ℕ) → AcksFrom ways name (given_at o None λ e. given_at (inlet_of s.core e) None λ from. given_at (side_in from) None λ m.
+    by : (o : Option ℕ) → AcksFrom ways name (given o None λ e. given (inlet_of s.core e) None λ from. given (side_in from) None λ m.
         if nat_lt m (length s.rings) then Some (record { end = e; side = m }) else None) s t → t ≡ s
     by None v = v
     by (Some e) v = by_inlet e (inlet_of s.core e) v

@@ -4,7 +4,7 @@ use Rattle.std.proofs.Common.{length, slice_get, Option, Some, None, is_some}
 use Rattle.std.specs.Prelude.{Result, Err}
 use Rattle.fl_base.specs.declared.fragment.Frag.{Frag}
 use Rattle.fl_base.specs.declared.identity.EndId.{EndId}
-use Rattle.fl_base.specs.Given.{given as given_at, given}
+use Rattle.fl_base.specs.Given.{given}
 use Rattle.fl_base.specs.Numbered.{most_bindings}
 use Rattle.fl_value.specs.Value.{call_of}
 use Rattle.fl_endpoint.specs.declared.fault.EndFault.{EndFault}
@@ -153,7 +153,7 @@ serves_away {S} ways w jobs s t a name x away (m, before, after) =
     by (lent_post s name) (no_post s away) there
   where
     no_post : (r : TheRun S) → place_of r.core name ≡ None → lent_post r name ≡ None
-    no_post r q = ap (λ o. given_at o None λ n. given_at (outlet_of r.core n) None λ out. if lends_out r out then Some
+    no_post r q = ap (λ o. given o None λ n. given (outlet_of r.core n) None λ out. if lends_out r out then Some
         (record { end = n; outlet = out }) else None) q
 
     by : (o : _) → o ≡ None → WritesFrom ways name o s t → t ≡ s

@@ -1,7 +1,7 @@
 -- Where the ends of one core by itself stand: each is joined by queues, which are the core's.
 use Rattle.std.proofs.Common.{◌≡◌, refl, sym, ◌∙◌, ap, subst, ℕ, true, nat_lt, if◌then◌else◌, List, [], length, slice_get, Option, Some, None}
 use Rattle.fl_base.specs.declared.identity.EndId.{EndId}
-use Rattle.fl_base.specs.Given.{given as given_at, given}
+use Rattle.fl_base.specs.Given.{given}
 use Rattle.fl_hop.proofs.Lists.{within}
 use Rattle.fl_node.specs.declared.wire.Wire.{Wire}
 use Rattle.fl_node.specs.declared.wire.Wire.TheVariants.{Queues, Ring as OverRing, Circuit}
@@ -106,8 +106,8 @@ wired w r a e place x q =
     record {
       out = k.out;
       from = k.from;
-      outlet_is = ap (λ (o : Option Port). given_at o None λ p. outlet_by r.core.lanes p.wire) port ∙ ap (outlet_by r.core.lanes) k.wire;
-      inlet_is = ap (λ (o : Option Port). given_at o None λ p. Some (inlet_by p.wire)) port ∙ ap (λ v. Some (inlet_by v)) k.wire;
+      outlet_is = ap (λ (o : Option Port). given o None λ p. outlet_by r.core.lanes p.wire) port ∙ ap (outlet_by r.core.lanes) k.wire;
+      inlet_is = ap (λ (o : Option Port). given o None λ p. Some (inlet_by p.wire)) port ∙ ap (λ v. Some (inlet_by v)) k.wire;
       out_there = lt_true k.out (length r.queues) (within r.queues k.out other.there other.there_is);
       from_there = lt_true k.from (length r.queues) (within r.queues k.from is.1.there is.1.there_is);
     }
@@ -115,7 +115,7 @@ wired w r a e place x q =
 pub post_lent : {S : Type 0} (r : TheRun S) (e : EndId) (place : ℕ) (k : Wired r e place) → place_of r.core e ≡ Some place
     → lent_post r e ≡ Some (record { end = place; outlet = outlet.Queue k.out })
 post_lent r e place k q =
-    ap (λ (o : Option ℕ). given_at o None λ n. given_at (outlet_of r.core n) None λ out. if lends_out r out then Some
+    ap (λ (o : Option ℕ). given o None λ n. given (outlet_of r.core n) None λ out. if lends_out r out then Some
     (record { end = n; outlet = out }) else None) q
-    ∙ ap (λ (o : Option Outlet). given_at o None λ out. if lends_out r out then Some (record { end = place; outlet = out }) else None) k.outlet_is
+    ∙ ap (λ (o : Option Outlet). given o None λ out. if lends_out r out then Some (record { end = place; outlet = out }) else None) k.outlet_is
     ∙ ap (λ b. if b then Some (record { end = place; outlet = outlet.Queue k.out }) else None) k.out_there

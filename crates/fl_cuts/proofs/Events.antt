@@ -5,7 +5,7 @@ use Rattle.std.specs.List.{AllZip}
 use Rattle.fl_base.specs.declared.identity.EndId.{EndId}
 use Rattle.fl_base.specs.declared.identity.MsgNo.{MsgNo}
 use Rattle.fl_base.specs.Ends.{peer}
-use Rattle.fl_base.specs.Given.{given as given_at, given}
+use Rattle.fl_base.specs.Given.{given}
 use Rattle.fl_lists.specs.declared.place.Place.{Place}
 use Rattle.fl_lists.specs.declared.place.Place.TheVariants as place
 use Rattle.fl_lists.specs.ThreeLists.{ThreeLists}
@@ -171,7 +171,7 @@ not_joined k e n h = by_port (slice_get k.ports e) h where
   by_wire p (OverRing side) q = refl
   by_wire p (Circuit link arrivals) q = refl
 
-  by_port : (o : Option Port) → (given_at o None λ p. outlet_by k.lanes p.wire) ≡ Some (outlet.Side n) → (given_at o None λ p. joined_by k p.name p.wire) ≡ None
+  by_port : (o : Option Port) → (given o None λ p. outlet_by k.lanes p.wire) ≡ Some (outlet.Side n) → (given o None λ p. joined_by k p.name p.wire) ≡ None
   by_port None q = refl
   by_port (Some p) q = by_wire p p.wire q
 
@@ -184,10 +184,10 @@ woken_none k e (Err fault) h = refl
 -- one that puts to a queue wakes the other end of its binding
 joined_so : (k : TheCore) (e n : ℕ) (p : Port) → slice_get k.ports e ≡ Some p → outlet_of k e ≡ Some (outlet.Queue n) → joined_to k e ≡ place_of k (peer p.name)
 joined_so k e n p at h =
-    ap (λ (o : Option Port). given_at o None λ q. joined_by k q.name q.wire) at
-    ∙ by_wire p.wire (sym (ap (λ (o : Option Port). given_at o None λ q. outlet_by k.lanes q.wire) at) ∙ h)
+    ap (λ (o : Option Port). given o None λ q. joined_by k q.name q.wire) at
+    ∙ by_wire p.wire (sym (ap (λ (o : Option Port). given o None λ q. outlet_by k.lanes q.wire) at) ∙ h)
   where
-    by_lane : (o : Option ℕ) → (given_at o None λ side. Some (outlet.Side side)) ≡ Some (outlet.Queue n) → ⊥
+    by_lane : (o : Option ℕ) → (given o None λ side. Some (outlet.Side side)) ≡ Some (outlet.Queue n) → ⊥
     by_lane None q = absurd (cc)
     by_lane (Some side) q = absurd (cc)
 
@@ -223,7 +223,7 @@ kind_from k e seat from expected core at h by = by_port (slice_get k.ports e) re
   same : (x y : Inlet) → Some x ≡ Some y → x ≡ y
   same x y q = cc
 
-  by_port : (o : Option Port) → slice_get k.ports e ≡ o → (given_at o None λ p. Some (inlet_by p.wire)) ≡ Some from → seat.kind ≡ expected
+  by_port : (o : Option Port) → slice_get k.ports e ≡ o → (given o None λ p. Some (inlet_by p.wire)) ≡ Some from → seat.kind ≡ expected
   by_port None q r = absurd (cc)
   by_port (Some p) q r = kind_at k.board.seats k.ports e seat p core.kinds at q ∙ by p.wire (same (inlet_by p.wire) from r)
 
@@ -245,7 +245,7 @@ uses_out k e n h =
     let p = port_out k e (outlet.Queue n) (slice_get k.ports e) refl h in
     record { place = e; port = p.0; port_is = p.1; uses = by p.0.wire p.2 }
   where
-    over_link : {P : Type 0} (o : Option ℕ) → (given_at o None λ side. Some (outlet.Side side)) ≡ Some (outlet.Queue n) → P
+    over_link : {P : Type 0} (o : Option ℕ) → (given o None λ side. Some (outlet.Side side)) ≡ Some (outlet.Queue n) → P
     over_link None q = absurd (cc)
     over_link (Some side) q = absurd (cc)
 

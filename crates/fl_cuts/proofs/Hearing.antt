@@ -11,7 +11,7 @@ use Rattle.fl_base.specs.declared.identity.EndId.{EndId}
 use Rattle.fl_base.specs.declared.identity.LinkId.{LinkId}
 use Rattle.fl_base.specs.declared.identity.Circuit.{Circuit}
 use Rattle.fl_base.specs.Control.{bare}
-use Rattle.fl_base.specs.Given.{given as given_at, given}
+use Rattle.fl_base.specs.Given.{given}
 use Rattle.fl_lists.specs.declared.place.Place.{Place}
 use Rattle.fl_lists.specs.declared.place.Place.TheVariants as place
 use Rattle.fl_lists.specs.ThreeLists.{ThreeLists, list_at, is_in, pushed}
@@ -293,7 +293,7 @@ offer_fits services o k (OpenCircuit c binding service path) names x e = by (ser
   by : (s : Option Service) → service_of services service.0 ≡ s → (y : Service) × (service_of services service.0 ≡ Some y) × (y.interface ≡ x.interface)
   by None q =
       let none : offer_of o k service.0 ≡ None
-      = ap (λ (r : Option TheRegistration). given_at r None λ z. if may_offer o k z then Some (let w : Offered = record {
+      = ap (λ (r : Option TheRegistration). given r None λ z. if may_offer o k z then Some (let w : Offered = record {
         dispatcher = z.service.dispatcher;
         interface = z.service.interface;
       } in w) else None) (agree.none service.0 q) in
@@ -303,7 +303,7 @@ offer_fits services o k (OpenCircuit c binding service path) names x e = by (ser
     y,
     q,
     by_test y (may_offer o k (registration_of service.0 y))
-        (sym (ap (λ (r : Option TheRegistration). given_at r None λ z. if may_offer o k z then Some (let w : Offered = record {
+        (sym (ap (λ (r : Option TheRegistration). given r None λ z. if may_offer o k z then Some (let w : Offered = record {
           dispatcher = z.service.dispatcher;
           interface = z.service.interface;
         } in w) else None) (agree.found service.0 y q)) ∙ e),
@@ -511,14 +511,14 @@ none_arrives a s name h none at =
     let place : place_of s.core name ≡ Some at.place = sym (ap (λ (places : List (Option ℕ)). place_in places name) h.places) ∙ at.place_is in
     let port : slice_get s.core.ports at.place ≡ Some at.end.port = port_of a.ends s.core.ports at.place at.end h.ports at.end_is in
     by (arrivals_by at.end.port.wire) refl
-    (sym (ap (λ (o : Option ℕ). given_at o None λ (f : ℕ). given_at (given_at (slice_get s.core.ports f) None λ (p : Port). arrivals_by p.wire) None λ (b : ℕ). Some (arriving f b))
-    place ∙ ap (λ (o : Option Port). given_at (given_at o None λ (p : Port). arrivals_by p.wire) None λ (b : ℕ). Some (arriving at.place b)) port) ∙ none)
+    (sym (ap (λ (o : Option ℕ). given o None λ (f : ℕ). given (given (slice_get s.core.ports f) None λ (p : Port). arrivals_by p.wire) None λ (b : ℕ). Some (arriving f b))
+    place ∙ ap (λ (o : Option Port). given (given o None λ (p : Port). arrivals_by p.wire) None λ (b : ℕ). Some (arriving at.place b)) port) ∙ none)
   where
-    by : (o : Option ℕ) → arrivals_by at.end.port.wire ≡ o → (given_at (arrivals_by at.end.port.wire) None λ (b : ℕ). Some (arriving at.place b)) ≡ None
+    by : (o : Option ℕ) → arrivals_by at.end.port.wire ≡ o → (given (arrivals_by at.end.port.wire) None λ (b : ℕ). Some (arriving at.place b)) ≡ None
         → arrivals_by at.end.port.wire ≡ None
     by None p q = p
     by (Some b) p q =
-        let clash : Some (arriving at.place b) ≡ None = sym (ap (λ (o : Option ℕ). given_at o None λ (d : ℕ). Some (arriving at.place d)) p) ∙ q in absurd (cc)
+        let clash : Some (arriving at.place b) ≡ None = sym (ap (λ (o : Option ℕ). given o None λ (d : ℕ). Some (arriving at.place d)) p) ∙ q in absurd (cc)
 
 record BoundIf (name : EndId) (c : ℕ) (a : Cut) (t : TheRun TheSide) : Type 0 where
   pub after : Cut

@@ -7,7 +7,7 @@ use Rattle.fl_base.specs.declared.identity.EndId.{EndId}
 use Rattle.fl_base.specs.declared.identity.LinkId.{LinkId}
 use Rattle.fl_base.specs.declared.identity.Circuit.{Circuit as Number}
 use Rattle.fl_base.specs.Control.{bare, circuit_of, with_circuit}
-use Rattle.fl_base.specs.Given.{given as given_at, given}
+use Rattle.fl_base.specs.Given.{given}
 use Rattle.fl_link.specs.Looks.{Look, placed, no_room, spent, saw, found, missed, told, kept}
 use Rattle.fl_link.specs.Queue.{TheQueue, QueueTakes}
 use Rattle.fl_ring.specs.SharedSides.{TheSide, SharedPuts, SharedTakes}
@@ -281,7 +281,7 @@ outbox_at (y ∷ links) (x ∷ outboxes) (suc l) frags h e =
 linked : (k : Core) (m : TheMonitor) (l : ℕ) (f : Frag) (rest : List Frag) → MonitorShows k m → waiting_for m.outboxes l ≡ f ∷ rest
     → (x : Link) × (slice_get k.links l ≡ Some x)
 linked k m l f rest h e = by (slice_get m.outboxes l) refl e where
-  by : (o : Option (List Frag)) → slice_get m.outboxes l ≡ o → (given_at o [] λ outbox. outbox) ≡ f ∷ rest → (x : Link) × (slice_get k.links l ≡ Some x)
+  by : (o : Option (List Frag)) → slice_get m.outboxes l ≡ o → (given o [] λ outbox. outbox) ≡ f ∷ rest → (x : Link) × (slice_get k.links l ≡ Some x)
   by None q r = absurd (cc)
   by (Some frags) q r = let x = outbox_at k.links m.outboxes l frags h.outboxes q in (x.link, x.there)
 
@@ -419,7 +419,7 @@ pub record Arriving_ (k : TheCore) (name : EndId) (e a : ℕ) : Type 0 where
 
 pub arrives_at : (k : TheCore) (name : EndId) (e a : ℕ) → arriving_at k name ≡ Some (arriving e a) → Arriving_ k name e a
 arrives_at k name e a h = by (place_of k name) refl h where
-  by_queue : (f : ℕ) (o : Option ℕ) → place_of k name ≡ Some f → arrivals_of k f ≡ o → (given_at o None λ b. Some (arriving f b)) ≡ Some (arriving e a)
+  by_queue : (f : ℕ) (o : Option ℕ) → place_of k name ≡ Some f → arrivals_of k f ≡ o → (given o None λ b. Some (arriving f b)) ≡ Some (arriving e a)
       → Arriving_ k name e a
   by_queue f None p q r = absurd (cc)
   by_queue f (Some b) p q r =
@@ -428,7 +428,7 @@ arrives_at k name e a h = by (place_of k name) refl h where
       let queues : b ≡ a = ap (λ (x : Arriving). x.queue) same in
       record { place = p ∙ ap Some ends; number = ap (arrivals_of k) (sym ends) ∙ q ∙ ap Some queues }
 
-  by : (o : Option ℕ) → place_of k name ≡ o → (given_at o None λ f. given_at (arrivals_of k f) None λ b. Some (arriving f b)) ≡ Some (arriving e a)
+  by : (o : Option ℕ) → place_of k name ≡ o → (given o None λ f. given (arrivals_of k f) None λ b. Some (arriving f b)) ≡ Some (arriving e a)
       → Arriving_ k name e a
   by None p r = absurd (cc)
   by (Some f) p r = by_queue f (arrivals_of k f) p refl r
@@ -445,7 +445,7 @@ seat_there (s ∷ seats) (x ∷ ports) (suc e) p h q =
 
 pub port_at : (k : TheCore) (e a : ℕ) → arrivals_of k e ≡ Some a → (p : Port) × (slice_get k.ports e ≡ Some p) × (arrivals_by p.wire ≡ Some a)
 port_at k e a h = by (slice_get k.ports e) refl h where
-  by : (o : Option Port) → slice_get k.ports e ≡ o → (given_at o None λ p. arrivals_by p.wire) ≡ Some a
+  by : (o : Option Port) → slice_get k.ports e ≡ o → (given o None λ p. arrivals_by p.wire) ≡ Some a
       → (p : Port) × (slice_get k.ports e ≡ Some p) × (arrivals_by p.wire ≡ Some a)
   by None q r = absurd (cc)
   by (Some p) q r = (p, q, r)

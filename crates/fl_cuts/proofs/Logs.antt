@@ -4,7 +4,7 @@ use Rattle.std.specs.Prelude.{Ok, Err}
 use Rattle.fl_base.specs.declared.fragment.Frag.{Frag}
 use Rattle.fl_base.specs.declared.identity.EndId.{EndId}
 use Rattle.fl_base.specs.declared.identity.LinkId.{LinkId}
-use Rattle.fl_base.specs.Given.{given as given_at}
+use Rattle.fl_base.specs.Given.{given}
 use Rattle.fl_link.specs.Looks.{Look}
 use Rattle.fl_ring.specs.SharedSides.{TheSide}
 use Rattle.fl_monitor.specs.Monitors.{can_say}
@@ -43,7 +43,7 @@ use Rattle.fl_cuts.proofs.Links.{looks_follow, passes_follow, stays_full, stays_
 no_lane : {P : Type 0} (s : TheRun TheSide) (l : LinkId) (n : ℕ) → HasNoLinks s.core → lent_lane s l ≡ Some n → P
 no_lane s l n h q =
     let none : lent_lane s l ≡ None
-    = ap (λ (lanes : List Lane). given_at (side_of_link lanes l.0) None λ m. if nat_lt m (length s.rings) then Some m else None) h.lanes in
+    = ap (λ (lanes : List Lane). given (side_of_link lanes l.0) None λ m. if nat_lt m (length s.rings) then Some m else None) h.lanes in
     let clash : None ≡ Some n = sym none ∙ q in
     absurd (cc)
 
@@ -69,13 +69,13 @@ no_arrivals {P} k e h core q = by_port (slice_get k.ports e) refl q where
       let less = w.0 in
       absurd (omega (arith, long, less))
 
-  by_port : (o : Option Port) → slice_get k.ports e ≡ o → (given_at o None λ p. Some (inlet_by p.wire)) ≡ Some inlet.Arrivals → P
+  by_port : (o : Option Port) → slice_get k.ports e ≡ o → (given o None λ p. Some (inlet_by p.wire)) ≡ Some inlet.Arrivals → P
   by_port None r x = absurd (cc)
   by_port (Some p) r x = by_wire p p.wire (core.wired e p r) (some_is (inlet_by p.wire) inlet.Arrivals x)
 
 -- where an end that acknowledges takes from, by its berth
 berth_by : {B : Type 0} (b : B) (make : ℕ → ℕ → B) (side : B → ℕ) → ((e m : ℕ) → side (make e m) ≡ m) → (s : TheRun TheSide) (o : Option Inlet) (f : ℕ)
-    → (given_at o None λ from. given_at (side_in from) None λ n. if nat_lt n (length s.rings) then Some (make f n) else None) ≡ Some b
+    → (given o None λ from. given (side_in from) None λ n. if nat_lt n (length s.rings) then Some (make f n) else None) ≡ Some b
     → o ≡ Some (inlet.Side (side b))
 berth_by b make side law s None f is = absurd (cc)
 berth_by b make side law s (Some (inlet.Queue n)) f is = absurd (cc)
@@ -89,12 +89,12 @@ berth_by {B} b make side law s (Some (inlet.Side n)) f is = by (nat_lt n (length
 
 acks_at : {B : Type 0} (b : B) (make : ℕ → ℕ → B) (side : B → ℕ) → ((e m : ℕ) → side (make e m) ≡ m) → (s : TheRun TheSide) (name : EndId) (f n : ℕ)
     → place_of s.core name ≡ Some f
-    → (given_at (place_of s.core name) None λ e. given_at (inlet_of s.core e) None λ from. given_at (side_in from) None λ m.
+    → (given (place_of s.core name) None λ e. given (inlet_of s.core e) None λ from. given (side_in from) None λ m.
     if nat_lt m (length s.rings) then Some (make e m) else None) ≡ Some b
     → side b ≡ n → inlet_of s.core f ≡ Some (inlet.Side n)
 acks_at b make side law s name f n at is same =
     berth_by b make side law s (inlet_of s.core f) f
-    (sym (ap (λ (o : Option ℕ). given_at o None λ (e : ℕ). given_at (inlet_of s.core e) None λ (x : Inlet). given_at (side_in x) None λ (m : ℕ).
+    (sym (ap (λ (o : Option ℕ). given o None λ (e : ℕ). given (inlet_of s.core e) None λ (x : Inlet). given (side_in x) None λ (m : ℕ).
     if nat_lt m (length s.rings) then Some (make e m) else None) at) ∙ is)
     ∙ ap (λ (m : ℕ). Some (inlet.Side m)) same
 
@@ -105,7 +105,7 @@ lane_of s l n h = by (side_of_link s.core.lanes l.0) h where
   by_test m true q = q
   by_test m false q = absurd (cc)
 
-  by : (o : Option ℕ) → (given_at o None λ m. if nat_lt m (length s.rings) then Some m else None) ≡ Some n → o ≡ Some n
+  by : (o : Option ℕ) → (given o None λ m. if nat_lt m (length s.rings) then Some m else None) ≡ Some n → o ≡ Some n
   by None q = absurd (cc)
   by (Some m) q = by_test m (nat_lt m (length s.rings)) q
 

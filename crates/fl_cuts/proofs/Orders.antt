@@ -12,7 +12,7 @@ use Rattle.fl_base.specs.declared.identity.CoreId.{CoreId}
 use Rattle.fl_base.specs.declared.identity.EndId.{EndId}
 use Rattle.fl_base.specs.declared.identity.LinkId.{LinkId}
 use Rattle.fl_base.specs.declared.identity.Circuit.{Circuit}
-use Rattle.fl_base.specs.Given.{given as given_at, given}
+use Rattle.fl_base.specs.Given.{given}
 use Rattle.fl_base.specs.Numbered.{core_id}
 use Rattle.fl_core.specs.View.{TheDispatcher}
 use Rattle.fl_hop.proofs.Answering.{numbers_apart}
@@ -76,11 +76,11 @@ position_named (c ∷ cores) core i = ap (λ (o : Option ℕ). cond (c == core) 
 
 next_is : (cores : List ℕ) (core : ℕ) → next_named (map core_id cores) core ≡ option_map core_id (next_on cores core)
 next_is cores core =
-    ap (λ (o : Option ℕ). given_at o None λ place. slice_get (map core_id cores) (place + 1))
+    ap (λ (o : Option ℕ). given o None λ place. slice_get (map core_id cores) (place + 1))
     (position_from-zero (is_core core) (map core_id cores) ∙ position_named cores core 0 ∙ sym (position_from-zero (λ (c : ℕ). c == core) cores))
     ∙ by_place (position (λ (c : ℕ). c == core) cores)
   where
-    by_place : (o : Option ℕ) → (given_at o None λ place. slice_get (map core_id cores) (place + 1))
+    by_place : (o : Option ℕ) → (given o None λ place. slice_get (map core_id cores) (place + 1))
         ≡ option_map core_id (given o None λ j. slice_get cores (j + 1))
     by_place None = refl
     by_place (Some j) = slice_get-map core_id cores (j + 1)
@@ -144,8 +144,8 @@ place_at services a s l c o h names serves placed x last found =
     (not (is_for_another s.offers.names t o)) placed in
     let own : (x.dispatcher.core == t.core) ≡ true
     = not_not (x.dispatcher.core == t.core)
-    (sym (ap (λ (r : Option TheRegistration). not (given_at r false λ y. not (y.service.core.0 == t.core))) registered)
-    ∙ sym (ap (λ (n : Option CoreId). not (given_at n (is_offered_elsewhere s.offers.names t.core o.service.0) λ next. false)) none) ∙ tests.1) in
+    (sym (ap (λ (r : Option TheRegistration). not (given r false λ y. not (y.service.core.0 == t.core))) registered)
+    ∙ sym (ap (λ (n : Option CoreId). not (given n (is_offered_elsewhere s.offers.names t.core o.service.0) λ next. false)) none) ∙ tests.1) in
     let here : x.dispatcher.core ≡ a.core.circuits.core
     = same_number x.dispatcher.core t.core own ∙ ap (λ (u : TheCircuits). u.core) h.monitor.circuits in
     let is = serves (o.service.0 - 1) x (listed services o.service.0 x found) here in
@@ -157,7 +157,7 @@ place_at services a s l c o h names serves placed x last found =
     let d = there (ShowsWaits s.core.ports) a.core.dispatchers s.core.board.dispatchers x.dispatcher.place w.0 h.waits w.1 in
     let many = place_left d.0 w.0 s.core.ports d.2 in
     let board : has_place s.core.board x.dispatcher.place ≡ nat_lt (length w.0.ends) 1024
-    = ap (λ (r : Option TheDispatcher). given_at r false λ y. nat_lt (length y.ends) 1024) w.1 in
+    = ap (λ (r : Option TheDispatcher). given r false λ y. nat_lt (length y.ends) 1024) w.1 in
     let fits : nat_lt x.interface (length s.offers.programs) ≡ true = lt_true x.interface (length s.offers.programs) (omega (arith, program_there, lent)) in
     let offered : Offered = record { dispatcher = x.dispatcher.place; interface = x.interface } in
     let offers : is_some (if may_offer s.offers s.core (registration_of o.service.0 x) then Some offered else None) ≡ has_places 1 d.0
@@ -166,7 +166,7 @@ place_at services a s l c o h names serves placed x last found =
     ∙ board ∙ one_more (length w.0.ends) ∙ ap (λ (n : ℕ). nat_le (n + 1) 1024) (sym many) in (
       d.0,
       d.1,
-      ap (λ (r : Option TheRegistration). is_some (given_at r None λ y. if may_offer s.offers s.core y
+      ap (λ (r : Option TheRegistration). is_some (given r None λ y. if may_offer s.offers s.core y
           then Some (let z : Offered = record { dispatcher = y.service.dispatcher; interface = y.service.interface } in z) else None)) registered ∙ offers,
     )
 
@@ -238,12 +238,12 @@ first_of_two false b h = absurd (cc)
 along : (t : TheCircuits) (l : ℕ) (path : List CoreId) → comes_along t l path ≡ true → Along t l path
 along t l path h = by_link (slice_get t.links l) refl h where
   by_place : (link : LinkState) → slice_get t.links l ≡ Some link → (o : Option ℕ) → position (is_core t.core) path ≡ o
-      → (given_at o false λ place. comes_after path place link.neighbour.0 && not (is_named_behind path place t.core)) ≡ true → Along t l path
+      → (given o false λ place. comes_after path place link.neighbour.0 && not (is_named_behind path place t.core)) ≡ true → Along t l path
   by_place link p None q r = absurd (cc)
   by_place link p (Some place) q r =
       record { link = link; link_is = p; place = place; place_is = q; after = first_of_two (comes_after path place link.neighbour.0) (not (is_named_behind path place t.core)) r }
 
-  by_link : (o : Option LinkState) → slice_get t.links l ≡ o → (given_at o false λ link. is_on_route path link.neighbour.0 t.core) ≡ true → Along t l path
+  by_link : (o : Option LinkState) → slice_get t.links l ≡ o → (given o false λ link. is_on_route path link.neighbour.0 t.core) ≡ true → Along t l path
   by_link None p r = absurd (cc)
   by_link (Some link) p r = by_place link p (position (is_core t.core) path) refl r
 
@@ -256,11 +256,11 @@ record Before (path : List CoreId) (place neighbour : ℕ) : Type 0 where
 
 before : (path : List CoreId) (place neighbour : ℕ) → comes_after path place neighbour ≡ true → Before path place neighbour
 before path place neighbour h = by (nat_lt 0 place) refl h where
-  by_core : nat_lt 0 place ≡ true → (o : Option CoreId) → slice_get path (place - 1) ≡ o → (given_at o false (is_core neighbour)) ≡ true → Before path place neighbour
+  by_core : nat_lt 0 place ≡ true → (o : Option CoreId) → slice_get path (place - 1) ≡ o → (given o false (is_core neighbour)) ≡ true → Before path place neighbour
   by_core p None q r = absurd (cc)
   by_core p (Some c) q r = record { some = true_lt 0 place p; core = c; core_is = q; same = same_number c.0 neighbour r }
 
-  by : (b : Bool) → nat_lt 0 place ≡ b → (if b then given_at (slice_get path (place - 1)) false (is_core neighbour) else false) ≡ true → Before path place neighbour
+  by : (b : Bool) → nat_lt 0 place ≡ b → (if b then given (slice_get path (place - 1)) false (is_core neighbour) else false) ≡ true → Before path place neighbour
   by true p r = by_core p (slice_get path (place - 1)) refl r
   by false p r = absurd (cc)
 
@@ -274,7 +274,7 @@ names_twice a s l c o h leads back =
     let next : next_named o.path t.core ≡ Some (core_id back.next)
     = ap (λ (u : TheCircuits). next_named o.path u.core) h.monitor.circuits ∙ next_of o.path a.core.circuits.core ∙ ap (option_map core_id) back.next_is in
     let behind : slice_get o.path (here.place + 1) ≡ Some (core_id back.next)
-    = sym (ap (λ (x : Option ℕ). given_at x None λ place. slice_get o.path (place + 1)) here.place_is) ∙ next in
+    = sym (ap (λ (x : Option ℕ). given x None λ place. slice_get o.path (place + 1)) here.place_is) ∙ next in
     let linked : position (λ (x : LinkState). x.neighbour.0 == back.next) t.links ≡ Some l
     = ap (λ (u : TheCircuits). position (λ (x : LinkState). x.neighbour.0 == back.next) u.links) h.monitor.circuits ∙ back.back in
     let test = (position-Some (λ (x : LinkState). x.neighbour.0 == back.next) t.links l here.link linked).1 in

@@ -8,7 +8,7 @@ use Rattle.fl_base.specs.declared.identity.Side.{Side}
 use Rattle.fl_base.specs.declared.identity.Side.TheVariants.{Client, Server}
 use Rattle.fl_base.specs.Ends.{peer}
 use Rattle.fl_base.specs.Prefix.{IsPrefix}
-use Rattle.fl_base.specs.Given.{given, given as given_at}
+use Rattle.fl_base.specs.Given.{given}
 use Rattle.fl_value.specs.declared.value.Call.{Call}
 use Rattle.fl_value.specs.Value.{TheCall, call_of}
 use Rattle.fl_hop.proofs.Lists.{at_within}
@@ -106,7 +106,7 @@ module _ (logged : TurnsAreLogged shared_ways) (tell : DesksTellHandled shared_w
     none_handled : handled_of c.finish e ≡ []
     none_handled =
         let before : handled_of c.begin.run e ≡ [] =
-        ap (λ (o : Option ℕ). given_at o [] (λ (n : ℕ). in_desk (slice_get c.begin.run.desks n))) place_of_desk.1 ∙ ap in_desk place_of_desk.2 ∙ desk.none_handled in
+        ap (λ (o : Option ℕ). given o [] (λ (n : ℕ). in_desk (slice_get c.begin.run.desks n))) place_of_desk.1 ∙ ap in_desk place_of_desk.2 ∙ desk.none_handled in
         tell j.jobs c.begin.run c.finish whole.0 e has_desk whole.1
         ∙ ap (λ (calls : List Call). calls ++ handled_at e whole.0) before ∙ nothing.0
 

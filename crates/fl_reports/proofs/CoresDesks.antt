@@ -5,7 +5,7 @@ use Rattle.std.proofs.lemmas.Option.{slice_get_within, same_Some}
 use Rattle.fl_base.specs.declared.identity.EndId.{EndId}
 use Rattle.fl_base.specs.declared.identity.Side.{Side}
 use Rattle.fl_base.specs.declared.identity.Side.TheVariants.{Client, Server}
-use Rattle.fl_base.specs.Given.{given, given as given_at}
+use Rattle.fl_base.specs.Given.{given}
 use Rattle.fl_value.specs.declared.value.Call.{Call}
 use Rattle.fl_value.specs.Value.{TheCall, call_of}
 use Rattle.fl_node.specs.View.{slot_of, client_of, server_of}
@@ -93,36 +93,36 @@ placed_at true true n m is = same_Some n m is
 placed_at true false n m is = absurd (cc)
 placed_at false b n m is = absurd (cc)
 
-found_by : (desks : List TheDesk) (e : EndId) (d : TheDesk) (o : Option ℕ) → desk_place desks e ≡ o → given_at o None (λ n. slice_get desks n) ≡ Some d → slice_get desks (slot_of e) ≡ Some d
+found_by : (desks : List TheDesk) (e : EndId) (d : TheDesk) (o : Option ℕ) → desk_place desks e ≡ o → given o None (λ n. slice_get desks n) ≡ Some d → slice_get desks (slot_of e) ≡ Some d
 found_by desks e d None place is = absurd (cc)
 found_by desks e d (Some n) place is =
     let same : slot_of e ≡ n = placed_at (nat_lt e.binding 1024) (nat_lt (slot_of e) (length desks)) (slot_of e) n place in
     subst (λ (i : ℕ). slice_get desks i ≡ Some d) (sym same) is
 
-pub desk_found : (desks : List TheDesk) (e : EndId) (d : TheDesk) → given_at (desk_place desks e) None (λ n. slice_get desks n) ≡ Some d → slice_get desks (slot_of e) ≡ Some d
+pub desk_found : (desks : List TheDesk) (e : EndId) (d : TheDesk) → given (desk_place desks e) None (λ n. slice_get desks n) ≡ Some d → slice_get desks (slot_of e) ≡ Some d
 desk_found desks e d is = found_by desks e d (desk_place desks e) refl is
 
 pub desk_there : (desks : List TheDesk) (e : EndId) (d : TheDesk) → e.binding < 1024 → slice_get desks (slot_of e) ≡ Some d
-    → given_at (desk_place desks e) None (λ n. slice_get desks n) ≡ Some d
-desk_there desks e d few at = ap (λ (o : Option ℕ). given_at o None (λ n. slice_get desks n)) (place_is desks e d few at) ∙ at
+    → given (desk_place desks e) None (λ n. slice_get desks n) ≡ Some d
+desk_there desks e d few at = ap (λ (o : Option ℕ). given o None (λ n. slice_get desks n)) (place_is desks e d few at) ∙ at
 
 -- and where none is found none stands there
 missing_by : (desks : List TheDesk) (e : EndId) (o : Option TheDesk) → slice_get desks (slot_of e) ≡ o → e.binding < 1024
-    → given_at (desk_place desks e) None (λ n. slice_get desks n) ≡ None → slice_get desks (slot_of e) ≡ None
+    → given (desk_place desks e) None (λ n. slice_get desks n) ≡ None → slice_get desks (slot_of e) ≡ None
 missing_by desks e None at few none = at
 missing_by desks e (Some d) at few none = absurd (let clash : Some d ≡ None = sym (desk_there desks e d few at) ∙ none in cc)
 
-pub desk_missing : (desks : List TheDesk) (e : EndId) → e.binding < 1024 → given_at (desk_place desks e) None (λ n. slice_get desks n) ≡ None → slice_get desks (slot_of e) ≡ None
+pub desk_missing : (desks : List TheDesk) (e : EndId) → e.binding < 1024 → given (desk_place desks e) None (λ n. slice_get desks n) ≡ None → slice_get desks (slot_of e) ≡ None
 desk_missing desks e few none = missing_by desks e (slice_get desks (slot_of e)) refl few none
 
 -- ---- in the end
 
 module _ (desks : List TheDesk) (e : EndId) where
   abbrev handled_here : Option ℕ → List Call
-  handled_here o = given_at o [] (λ n. in_desk (slice_get desks n))
+  handled_here o = given o [] (λ n. in_desk (slice_get desks n))
 
   abbrev refused_here : Option ℕ → ℕ
-  refused_here o = given_at o 0 (λ n. given_at (slice_get desks n) 0 (λ (d : TheDesk). d.refused))
+  refused_here o = given o 0 (λ n. given (slice_get desks n) 0 (λ (d : TheDesk). d.refused))
 
   none_handled : slice_get desks (slot_of e) ≡ None → (a b : Bool) → handled_here (placed a b (slot_of e)) ≡ []
   none_handled none false b = refl
@@ -132,7 +132,7 @@ module _ (desks : List TheDesk) (e : EndId) where
   none_refused : slice_get desks (slot_of e) ≡ None → (a b : Bool) → refused_here (placed a b (slot_of e)) ≡ 0
   none_refused none false b = refl
   none_refused none true false = refl
-  none_refused none true true = ap (λ (o : Option TheDesk). given_at o 0 (λ (d : TheDesk). d.refused)) none
+  none_refused none true true = ap (λ (o : Option TheDesk). given o 0 (λ (d : TheDesk). d.refused)) none
 
   handled_by_desk : e.binding < 1024 → (o : Option TheDesk) → slice_get desks (slot_of e) ≡ o → given o [] handled_by ≡ map call_of (handled_here (desk_place desks e))
   handled_by_desk few None at = sym (ap (map call_of) (none_handled at (nat_lt e.binding 1024) (nat_lt (slot_of e) (length desks))))
@@ -148,7 +148,7 @@ module _ (desks : List TheDesk) (e : EndId) where
   refused_by_desk : e.binding < 1024 → (o : Option TheDesk) → slice_get desks (slot_of e) ≡ o → given o None refusal_in ≡ refusal_by (refused_here (desk_place desks e))
   refused_by_desk few None at = sym (ap refusal_by (none_refused at (nat_lt e.binding 1024) (nat_lt (slot_of e) (length desks))))
   refused_by_desk few (Some d) at =
-      sym (ap refusal_by (ap refused_here (place_is desks e d few at) ∙ ap (λ (o : Option TheDesk). given_at o 0 (λ (x : TheDesk). x.refused)) at))
+      sym (ap refusal_by (ap refused_here (place_is desks e d few at) ∙ ap (λ (o : Option TheDesk). given o 0 (λ (x : TheDesk). x.refused)) at))
 
   pub refused_is : e.binding < 1024 → given (slice_get desks (slot_of e)) None refusal_in ≡ refusal_by (refused_here (desk_place desks e))
   refused_is few = refused_by_desk few (slice_get desks (slot_of e)) refl

@@ -7,9 +7,8 @@ use Rattle.fl_base.specs.declared.identity.Side.{Side}
 use Rattle.fl_base.specs.declared.identity.Side.TheVariants.{Client, Server}
 use Rattle.fl_base.specs.Given.{given}
 use Rattle.fl_node.specs.View.{client_of, server_of}
-use Rattle.fl_running.specs.declared.word.Word.{Word}
 use Rattle.fl_running.specs.declared.word.Word.TheVariants.{Silent, Tells, Hears}
-use Rattle.fl_running.specs.Words.{word_by, word_by as first_word}
+use Rattle.fl_running.specs.Words.{word_by}
 use Rattle.fl_dockets.specs.declared.docket.Bound.{Bound}
 use Rattle.fl_dockets.specs.Joined.{core_of, core_at}
 use Rattle.fl_endings.specs.Begins.{word_at, word_of}
@@ -21,10 +20,6 @@ same_number m n is = grind (arith, nat_tests, is)
 
 number_is : (m n : ℕ) → m ≡ n → (m == n) ≡ true
 number_is m n is = grind (arith, nat_tests, is)
-
-same_word : (make : ℕ → Word) (o : Option ℕ) → first_word make o ≡ word_by make o
-same_word make None = refl
-same_word make (Some job) = refl
 
 pub end_by : (e : EndId) (n : ℕ) (s : Side) → e.binding ≡ n → e.side ≡ s → e ≡ record { binding = n; side = s }
 end_by e n s binding side =
@@ -41,31 +36,31 @@ pub record Found (core n : ℕ) (bindings : List Bound) (k : ℕ) (e : EndId) : 
   pub word : slice_get (words_of core bindings) k ≡ Some (word_at e.side bound)
 
 at_client : (core n : ℕ) (b : Bound) (bindings : List Bound) (k : ℕ) (e : EndId) → (b.client == core) ≡ true → e ≡ client_of n
-    → slice_get (words_of core (b ∷ bindings)) k ≡ Some (first_word Tells b.opened) → Found core n (b ∷ bindings) k e
+    → slice_get (words_of core (b ∷ bindings)) k ≡ Some (word_by Tells b.opened) → Found core n (b ∷ bindings) k e
 at_client core n b bindings k e own is word = record {
   place = 0;
   binding = (let same = ap (λ (x : EndId). x.binding) is in omega (arith, same));
   bound = b;
   bound_is = refl;
   core_is = ap (λ (x : EndId). core_of x.side b) is ∙ same_number b.client core own;
-  word = word ∙ ap Some (same_word Tells b.opened ∙ ap (λ (x : EndId). word_at x.side b) (sym is));
+  word = word ∙ ap Some (ap (λ (x : EndId). word_at x.side b) (sym is));
 }
 
 at_server : (core n : ℕ) (b : Bound) (bindings : List Bound) (k : ℕ) (e : EndId) → (b.server == core) ≡ true → e ≡ server_of n
-    → slice_get (words_of core (b ∷ bindings)) k ≡ Some (first_word Hears b.opened) → Found core n (b ∷ bindings) k e
+    → slice_get (words_of core (b ∷ bindings)) k ≡ Some (word_by Hears b.opened) → Found core n (b ∷ bindings) k e
 at_server core n b bindings k e own is word = record {
   place = 0;
   binding = (let same = ap (λ (x : EndId). x.binding) is in omega (arith, same));
   bound = b;
   bound_is = refl;
   core_is = ap (λ (x : EndId). core_of x.side b) is ∙ same_number b.server core own;
-  word = word ∙ ap Some (same_word Hears b.opened ∙ ap (λ (x : EndId). word_at x.side b) (sym is));
+  word = word ∙ ap Some (ap (λ (x : EndId). word_at x.side b) (sym is));
 }
 
 pub found : (core n : ℕ) (bindings : List Bound) (k : ℕ) (e : EndId) → slice_get (ends_from core n bindings) k ≡ Some e → Found core n bindings k e
 found core n [] k e at = absurd (cc)
 found core n (b ∷ bindings) k e at =
-    elim (one_of (b.client == core) (b.server == core) (client_of n) (server_of n) (ends_from core (suc n) bindings) (first_word Tells b.opened) (first_word Hears b.opened)
+    elim (one_of (b.client == core) (b.server == core) (client_of n) (server_of n) (ends_from core (suc n) bindings) (word_by Tells b.opened) (word_by Hears b.opened)
     (words_of core bindings) k e at) [
       | inl (own, is, word) ↦ at_client core n b bindings k e own is word
       | inr (inl (own, is, word)) ↦ at_server core n b bindings k e own is word

@@ -3,7 +3,7 @@ use Rattle.std.proofs.Common.{◌≡◌, refl, sym, ap, ◌∙◌, subst, ℕ, �
 use Rattle.fl_base.specs.declared.identity.EndId.{EndId}
 use Rattle.fl_base.specs.declared.identity.Side.TheVariants.{Client}
 use Rattle.std.specs.List.{flat_map, AllZip}
-use Rattle.fl_base.specs.Given.{given, given as given_at}
+use Rattle.fl_base.specs.Given.{given}
 use Rattle.fl_value.specs.declared.value.Call.{Call}
 use Rattle.fl_value.specs.Value.{call_of}
 use Rattle.fl_work.specs.Jobs.{calls_of_jobs}
@@ -67,7 +67,7 @@ module _ (p : Parts) (j : TheJoined) (places : Places) (limit : ℕ) (stations :
     desks = λ e own. record {
       desk = desk_for n j e;
       desk_is =
-          ap (λ (ds : List TheDesk). given_at (desk_place ds e) None (λ (i : ℕ). slice_get ds i)) is.desks
+          ap (λ (ds : List TheDesk). given (desk_place ds e) None (λ (i : ℕ). slice_get ds i)) is.desks
           ∙ desk_there (desks_of n j) e (desk_for n j e) (numbered e (below e n own)) (at_slot n j e (below e n own));
       jobs = own_jobs n j e own;
       due = refl;

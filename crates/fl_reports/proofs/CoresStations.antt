@@ -5,13 +5,11 @@ use Rattle.std.proofs.lemmas.List.{length-set}
 use Rattle.fl_base.specs.declared.identity.EndId.{EndId}
 use Rattle.fl_hop.proofs.Lists.{set_cases}
 use Rattle.fl_work.specs.declared.job.Job.{Job as CoreJob}
-use Rattle.fl_running.specs.declared.run.End.{End}
-use Rattle.fl_running.specs.declared.run.End.TheVariants.{Finished, Unfinished, Told}
 use Rattle.fl_node.specs.View.{TheCore, with_board}
 use Rattle.fl_worlds.specs.declared.binding.Binding.{Binding}
 use Rattle.fl_worlds.specs.View.{core_in}
 use Rattle.fl_jobs.specs.Jobs.{Job, opens, replies, calls}
-use Rattle.fl_running.specs.Ran.{is_told, is_told as is_stopped, is_unfinished, is_unfinished as is_left}
+use Rattle.fl_running.specs.Ran.{is_told, is_unfinished}
 use Rattle.fl_dockets.specs.Rules.{RuleNow, RuleOf, RulesOf}
 use Rattle.fl_endings.specs.Cores.{OneCore}
 use Rattle.fl_endings.proofs.Seats.{Keeps, keeps_same, keeps_then, keeps_end}
@@ -86,23 +84,13 @@ module _ (jobs : List CoreJob) (limit : ℕ) where
   turns_are (s ∷ stations) [] ran = absurd ran
   turns_are (s ∷ stations) (o ∷ outcomes) ran = ap (λ (ts : List ℕ). o.part.turns ∷ ts) (turns_are stations outcomes ran.1)
 
-  left_by : (e : End) → is_left e ≡ is_unfinished e
-  left_by Finished = refl
-  left_by Unfinished = refl
-  left_by Told = refl
-
-  told_by : (e : End) → is_stopped e ≡ is_told e
-  told_by Finished = refl
-  told_by Unfinished = refl
-  told_by Told = refl
-
   pub left_are : (stations : List TheStation) (outcomes : List TheOutcome) (ran : AllZip (RanTo jobs limit) stations outcomes)
       → list_any has_left outcomes ≡ list_any left_off (cores_of jobs limit stations outcomes ran)
   left_are [] [] ran = refl
   left_are [] (o ∷ outcomes) ran = absurd ran
   left_are (s ∷ stations) [] ran = absurd ran
   left_are (s ∷ stations) (o ∷ outcomes) ran =
-      ap (λ (b : Bool). b || list_any has_left outcomes) (left_by o.part.end) ∙ ap (λ (b : Bool). is_unfinished o.part.end || b) (left_are stations outcomes ran.1)
+      ap (λ (b : Bool). is_unfinished o.part.end || b) (left_are stations outcomes ran.1)
 
   pub told_are : (stations : List TheStation) (outcomes : List TheOutcome) (ran : AllZip (RanTo jobs limit) stations outcomes)
       → list_any has_stopped outcomes ≡ list_any was_told (cores_of jobs limit stations outcomes ran)
@@ -110,7 +98,7 @@ module _ (jobs : List CoreJob) (limit : ℕ) where
   told_are [] (o ∷ outcomes) ran = absurd ran
   told_are (s ∷ stations) [] ran = absurd ran
   told_are (s ∷ stations) (o ∷ outcomes) ran =
-      ap (λ (b : Bool). b || list_any has_stopped outcomes) (told_by o.part.end) ∙ ap (λ (b : Bool). is_told o.part.end || b) (told_are stations outcomes ran.1)
+      ap (λ (b : Bool). is_told o.part.end || b) (told_are stations outcomes ran.1)
 
 -- ---- rules that are set at once change boards alone
 

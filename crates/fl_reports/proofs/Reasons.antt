@@ -4,7 +4,7 @@ use Rattle.std.proofs.lemmas.List.{length-map}
 use Rattle.std.proofs.lemmas.Option.{same_Some}
 use Rattle.std.specs.List.{AllZip}
 use Rattle.fl_base.specs.declared.identity.CoreId.{CoreId}
-use Rattle.fl_base.specs.Given.{given as in_machine}
+use Rattle.fl_base.specs.Given.{given}
 use Rattle.fl_compile.specs.Programs.{program_of}
 use Rattle.fl_ring.specs.SharedSides.{TheSide}
 use Rattle.fl_nameserv.specs.declared.registration.Service.{Service as Offer}
@@ -282,7 +282,7 @@ module _ (names_agree : NamesAreShown) (fresh : SetUpsStartFresh) (tell : DesksT
       let k_there : core_of (behind c) s.service.dispatcher.core ≡ Some k = ap (core_of (behind c)) core_is ∙ k_is in
       let below : s.service.dispatcher.place < length k.dispatchers =
       some_below k.dispatchers s.service.dispatcher.place
-      (subst (λ (q : Option Core). IsSome (in_machine q None λ y. slice_get y.dispatchers s.service.dispatcher.place)) k_there stands.0) in
+      (subst (λ (q : Option Core). IsSome (given q None λ y. slice_get y.dispatchers s.service.dispatcher.place)) k_there stands.0) in
       let full : IsFull x (at_core i g.service.dispatcher) = elim (lacks_what f.moment.offers f.moment.core o.service.0 g there (at_home ∙ sym f.number) f.none) [
         | inl full ↦ elim (no_place_why f.moment.core.board f.sound.board g.service.dispatcher full) [
           | inl none ↦ absurd (dispatcher_there i two two_is f.moment f.log f.goes k k_is g.service.dispatcher (omega (arith, below, place_is)) none)

@@ -4,7 +4,7 @@ use Rattle.std.proofs.lemmas.Bool.Decides.{nat_tests}
 use Rattle.std.proofs.lemmas.List.Quantifiers.{position-Some}
 use Rattle.std.proofs.lemmas.Option.{slice_get_within, get_or_from_slice_get}
 use Rattle.fl_base.specs.declared.identity.CoreId.{CoreId}
-use Rattle.fl_base.specs.Given.{given, given as in_machine}
+use Rattle.fl_base.specs.Given.{given}
 use Rattle.fl_hop.specs.Table.{TheCircuits, link_of}
 use Rattle.fl_monitor.specs.Monitors.{TheMonitor}
 use Rattle.fl_monitor.specs.Routing.{is_core, next_on}
@@ -70,7 +70,7 @@ module _ (b : TheBeginning) (h : IsBegun b) (s : State) (shows : Shows b.world s
       ap (λ (x : TheCore). length x.board.dispatchers) m.numbers ∙ was.seats.many ∙ (shows.picture.cores.each n k was.core k_is was.core_is).count
 
   no_link_by : (n : ℕ) (c : OneCore) → slice_get b.cores n ≡ Some c → (next : ℕ) → link_of c.start.core.monitor.circuits next ≡ None
-      → (o : Option Core) → core_of s n ≡ o → in_machine o false (λ k. is_some (link_of k.circuits next)) ≡ false
+      → (o : Option Core) → core_of s n ≡ o → given o false (λ k. is_some (link_of k.circuits next)) ≡ false
   no_link_by n c c_is next none None is = refl
   no_link_by n c c_is next none (Some k) is =
       ap is_some (ap (λ (t : TheCircuits). link_of t next) (sym (starts_as n c c_is k is)) ∙ none)

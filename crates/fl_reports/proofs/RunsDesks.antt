@@ -6,7 +6,7 @@ use Rattle.std.proofs.lemmas.Option.{slice_get_past, slice_get_within}
 use Rattle.fl_base.specs.declared.identity.Side.{Side}
 use Rattle.fl_base.specs.declared.identity.Side.TheVariants.{Client, Server}
 use Rattle.fl_base.specs.declared.identity.EndId.{EndId}
-use Rattle.fl_base.specs.Given.{given, given as in_machine}
+use Rattle.fl_base.specs.Given.{given}
 use Rattle.fl_base.specs.Numbered.{most_bindings}
 use Rattle.fl_node.specs.View.{TheCore, slot_of, client_of, server_of}
 use Rattle.fl_running.specs.Desks.{TheDesk, desk_place}
@@ -69,7 +69,7 @@ module _ (core : ℕ) (j : TheJoined) where
   pub owned : (e : EndId) (b : Bound) → slice_get j.bindings e.binding ≡ Some b → core_of e.side b ≡ core → owns core j.bindings e ≡ true
   owned e b is own =
       let same : (core_of e.side b == core) ≡ true = grind (arith, nat_tests, own) in
-      ap (λ (o : Option Bound). in_machine (in_machine o None (λ x. Some (core_of e.side x))) false (λ c. c == core)) is ∙ same
+      ap (λ (o : Option Bound). given (given o None (λ x. Some (core_of e.side x))) false (λ c. c == core)) is ∙ same
 
 -- the desk of a core's own end
 pub own_desk : (common : TheCommon) (n : ℕ) (k : TheCore) (s : TheStation) → IsStation common n k s

@@ -8,7 +8,7 @@ use Rattle.fl_base.specs.declared.identity.EndId.{EndId}
 use Rattle.fl_base.specs.declared.identity.LinkId.{LinkId}
 use Rattle.fl_base.specs.declared.identity.Side.{Side}
 use Rattle.fl_base.specs.declared.identity.Side.TheVariants.{Client, Server}
-use Rattle.fl_base.specs.Given.{given, given as in_machine}
+use Rattle.fl_base.specs.Given.{given}
 use Rattle.fl_base.specs.Numbered.{most_bindings}
 use Rattle.fl_interface.specs.Interface.{TheInterface}
 use Rattle.fl_compile.specs.declared.program.Program.{Program}
@@ -99,7 +99,7 @@ module _ (place : ℕ) (j : TheJoined) (few : length j.bindings ≤ 1024) (desks
         let both : Some (desk_for place j e) ≡ Some desk = sym (desk_there e below) ∙ is in
         let same : desk_for place j e ≡ desk = cc in
         let test : owns place j.bindings e ≡ (core_of e.side x == place) =
-        ap (λ (o : Option Bound). in_machine (in_machine o None (λ y. Some (core_of e.side y))) false (λ c. c == place)) x_is in
+        ap (λ (o : Option Bound). given (given o None (λ y. Some (core_of e.side y))) false (λ c. c == place)) x_is in
         subst (λ (d : TheDesk). (d.jobs ≡ []) ⊎ HasOwn j place e d.jobs) same
         (subst (λ (b : Bool). ((desk_by b (docket_at j.dockets e)).jobs ≡ []) ⊎ HasOwn j place e (desk_by b (docket_at j.dockets e)).jobs) (sym test)
         (own_by e x (core_of e.side x == place) x_is refl))

@@ -4,7 +4,7 @@ use Rattle.std.specs.Prelude.{is_some}
 use Rattle.fl_base.specs.declared.identity.EndId.{EndId}
 use Rattle.fl_base.specs.declared.identity.Side.{Side}
 use Rattle.fl_base.specs.Ends.{peer}
-use Rattle.fl_base.specs.Given.{given as given_here, given}
+use Rattle.fl_base.specs.Given.{given}
 use Rattle.fl_hop.specs.declared.links.LinkState.{LinkState}
 use Rattle.fl_hop.specs.Table.{TheCircuits, link_of}
 use Rattle.fl_node.specs.View.{TheCore, place_of, side_of_link}
@@ -69,7 +69,7 @@ lane_link : (links : List Link) (l side : ℕ) → side_of_link (map lane_of lin
     → (link : Link) × (slice_get links l ≡ Some link) × (side ≡ side_number link.ring)
 lane_link links l side h = by (slice_get (map lane_of links) l) refl h
   where
-    by : (o : Option Lane) → slice_get (map lane_of links) l ≡ o → given_here o None (λ lane. Some lane.side) ≡ Some side
+    by : (o : Option Lane) → slice_get (map lane_of links) l ≡ o → given o None (λ lane. Some lane.side) ≡ Some side
         → (link : Link) × (slice_get links l ≡ Some link) × (side ≡ side_number link.ring)
     by None q r = absurd (cc)
     by (Some lane) q r =

@@ -3,7 +3,7 @@ use Rattle.std.proofs.Common.{◌≡◌, refl, sym, ◌∙◌, ap, subst, ℕ, z
 use Rattle.std.proofs.lemmas.Option.{same_Some}
 use Rattle.std.proofs.lemmas.List.{map_push, length-map}
 use Rattle.fl_base.specs.declared.fragment.Frag.{Frag}
-use Rattle.fl_base.specs.Given.{given as given_here, given}
+use Rattle.fl_base.specs.Given.{given}
 use Rattle.fl_base.specs.Numbered.{link_id}
 use Rattle.fl_hop.specs.Table.{TheCircuits, with_link}
 use Rattle.fl_monitor.specs.declared.message.Message.{Message}
@@ -109,7 +109,7 @@ changed_is : (links : List Link) (l : ℕ) (f : Link → Link) (link : Link) →
 changed_is links l f link q = ap (λ (o : Option Link). given o links λ x. slice_set links l (f x)) q
 
 waits_is : (outboxes : List (List Frag)) (l : ℕ) (frags : List Frag) → slice_get outboxes l ≡ Some frags → waiting_for outboxes l ≡ frags
-waits_is outboxes l frags q = ap (λ (o : Option (List Frag)). given_here o [] λ outbox. outbox) q
+waits_is outboxes l frags q = ap (λ (o : Option (List Frag)). given o [] λ outbox. outbox) q
 
 pub sends_first : MessagesAreSaid → (l : ℕ) (link : Link) (k : Core) (m : TheMonitor) → MonitorShows k m → slice_get k.links l ≡ Some link → SendsFirst l link k m
 sends_first law l link k m h q =

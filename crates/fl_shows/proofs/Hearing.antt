@@ -7,7 +7,7 @@ use Rattle.std.proofs.lemmas.Option.{slice_get-map}
 use Rattle.std.proofs.lemmas.Bool.Decides.{nat_tests}
 use Rattle.std.proofs.lemmas.Iterator.Adapters.{position_from-zero}
 use Rattle.fl_base.specs.declared.identity.Circuit.{Circuit}
-use Rattle.fl_base.specs.Given.{given as given_here, given}
+use Rattle.fl_base.specs.Given.{given}
 use Rattle.fl_base.specs.Numbered.{core_id, link_id, circuit_id}
 use Rattle.fl_hop.specs.declared.entry.Way.{Way}
 use Rattle.fl_hop.specs.declared.entry.Way.TheVariants.{Link as to_link, End as to_end}
@@ -46,11 +46,11 @@ position_named (c ∷ cores) core i = ap (λ (o : Option ℕ). cond (c == core) 
 -- the core behind this one is the same
 next_is : (cores : List ℕ) (core : ℕ) → next_named (map core_id cores) core ≡ option_map core_id (next_on cores core)
 next_is cores core =
-    ap (λ (o : Option ℕ). given_here o None λ place. slice_get (map core_id cores) (place + 1))
+    ap (λ (o : Option ℕ). given o None λ place. slice_get (map core_id cores) (place + 1))
     (position_from-zero (is_core core) (map core_id cores) ∙ position_named cores core 0 ∙ sym (position_from-zero (λ (c : ℕ). c == core) cores))
     ∙ by_place (position (λ (c : ℕ). c == core) cores)
   where
-    by_place : (o : Option ℕ) → (given_here o None λ place. slice_get (map core_id cores) (place + 1))
+    by_place : (o : Option ℕ) → (given o None λ place. slice_get (map core_id cores) (place + 1))
         ≡ option_map core_id (given o None λ j. slice_get cores (j + 1))
     by_place None = refl
     by_place (Some j) = slice_get-map core_id cores (j + 1)
@@ -271,8 +271,8 @@ hear_opened known services l c k before after heard h comes can e a =
     let is : heard ≡ opened_at (circuit_id c) comes.0.binding comes.0.way = comes.2 in
     let table : after.circuits ≡ answered k.circuits (link_id l) (circuit_id c) comes.0
     = e
-    ∙ ap (λ (t : TheCircuits). given_here (hop_at t l c) t λ x. answered t (link_id l) (circuit_id c) x) h.circuits
-    ∙ ap (λ (o : Option Hop). given_here o k.circuits λ x. answered k.circuits (link_id l) (circuit_id c) x) q in
+    ∙ ap (λ (t : TheCircuits). given (hop_at t l c) t λ x. answered t (link_id l) (circuit_id c) x) h.circuits
+    ∙ ap (λ (o : Option Hop). given o k.circuits λ x. answered k.circuits (link_id l) (circuit_id c) x) q in
     subst (λ (x : Hearing). SameHeard x.heard heard × MonitorShows x.core after) (sym (hears_opened_is services l c comes.0 k q))
     (subst (λ (x : Told). SameHeard (hears_opened l c comes.0 comes.0.way k).heard x × MonitorShows (hears_opened l c comes.0 comes.0.way k).core after) (sym is)
     (opened_ok l c comes.0 comes.0.way k before after h
@@ -301,8 +301,8 @@ hear_refused known services l c fault k before after heard h comes can e a =
     let is : heard ≡ refused_at fault comes.0.binding comes.0.way = comes.2 in
     let table : after.circuits ≡ without_entry k.circuits (to_link (link_id l) (circuit_id c)) comes.0.way
     = e
-    ∙ ap (λ (t : TheCircuits). given_here (hop_at t l c) t λ x. without_entry t (to_link (link_id l) (circuit_id c)) x.way) h.circuits
-    ∙ ap (λ (o : Option Hop). given_here o k.circuits λ x. without_entry k.circuits (to_link (link_id l) (circuit_id c)) x.way) q in
+    ∙ ap (λ (t : TheCircuits). given (hop_at t l c) t λ x. without_entry t (to_link (link_id l) (circuit_id c)) x.way) h.circuits
+    ∙ ap (λ (o : Option Hop). given o k.circuits λ x. without_entry k.circuits (to_link (link_id l) (circuit_id c)) x.way) q in
     subst (λ (x : Hearing). SameHeard x.heard heard × MonitorShows x.core after) (sym (hears_refused_is services l c fault comes.0 k q))
     (subst (λ (x : Told). SameHeard (hears_refused l c fault comes.0 comes.0.way k).heard x × MonitorShows (hears_refused l c fault comes.0 comes.0.way k).core after) (sym is)
     (refused_ok l c fault comes.0 comes.0.way k before after h

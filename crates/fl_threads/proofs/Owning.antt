@@ -3,7 +3,7 @@ use borrow.Author.Count.{below_more}
 use Rattle.std.proofs.Common.{◌≡◌, ◌⊎◌, inl, inr, ⊎_elim, refl, sym, ap, ◌∙◌, subst, arith, ℕ, zero, suc, ◌+◌, ◌<◌, ◌≤◌, List, [], ◌∷◌, ◌++◌, length, slice_get, slice_set, get_or, Option, Some, None}
 use Rattle.std.proofs.lemmas.Option.{slice_get_within, slice_get-get_or}
 use Rattle.fl_base.specs.declared.identity.EndId.{EndId}
-use Rattle.fl_base.specs.Given.{given, given as given_here}
+use Rattle.fl_base.specs.Given.{given}
 use Rattle.fl_node.specs.declared.wire.Lane.{Lane}
 use Rattle.fl_node.specs.declared.wire.Port.{Port}
 use Rattle.fl_node.specs.declared.wire.Wire.{Wire}
@@ -104,11 +104,11 @@ on_wire c name x h = by_place (place_of c name) refl h
     by_place (Some place) at h = by_port place at (slice_get c.ports place) refl h
 
 -- what a port's wire gives, where something is found at its place
-by_port : {A : Type 0} (c : TheCore) (e : ℕ) (f : Port → Option A) (a : A) → given_here (slice_get c.ports e) None f ≡ Some a
+by_port : {A : Type 0} (c : TheCore) (e : ℕ) (f : Port → Option A) (a : A) → given (slice_get c.ports e) None f ≡ Some a
     → (p : Port) × (slice_get c.ports e ≡ Some p) × (f p ≡ Some a)
 by_port {A} c e f a h = by (slice_get c.ports e) refl h
   where
-    by : (o : Option Port) → slice_get c.ports e ≡ o → given_here o None f ≡ Some a → (p : Port) × (slice_get c.ports e ≡ Some p) × (f p ≡ Some a)
+    by : (o : Option Port) → slice_get c.ports e ≡ o → given o None f ≡ Some a → (p : Port) × (slice_get c.ports e ≡ Some p) × (f p ≡ Some a)
     by None is h = absurd (cc)
     by (Some p) is h = (p, is, h)
 
@@ -122,7 +122,7 @@ queue_in (Queues out from) queue h = (out, cc)
 queue_in (Ring s) queue h = absurd (cc)
 queue_in (Circuit l a) queue h = absurd (cc)
 
-not_side : (o : Option ℕ) (queue : ℕ) → given_here o None (λ (side : ℕ). Some (outlet.Side side)) ≡ Some (outlet.Queue queue) → ⊥
+not_side : (o : Option ℕ) (queue : ℕ) → given o None (λ (side : ℕ). Some (outlet.Side side)) ≡ Some (outlet.Queue queue) → ⊥
 not_side None queue h = cc
 not_side (Some side) queue h = cc
 
@@ -132,15 +132,15 @@ queue_out lanes (Ring s) queue h = absurd (cc)
 queue_out lanes (Circuit l a) queue h = absurd (not_side (side_of_link lanes l.0) queue h)
 
 inlet_at : (c : TheCore) (e : ℕ) (p : Port) → slice_get c.ports e ≡ Some p → inlet_of c e ≡ Some (inlet_by p.wire)
-inlet_at c e p is = ap (λ (o : Option Port). given_here o None λ (q : Port). Some (inlet_by q.wire)) is
+inlet_at c e p is = ap (λ (o : Option Port). given o None λ (q : Port). Some (inlet_by q.wire)) is
 
 outlet_at : (c : TheCore) (e : ℕ) (p : Port) → slice_get c.ports e ≡ Some p → outlet_of c e ≡ outlet_by c.lanes p.wire
-outlet_at c e p is = ap (λ (o : Option Port). given_here o None λ (q : Port). outlet_by c.lanes q.wire) is
+outlet_at c e p is = ap (λ (o : Option Port). given o None λ (q : Port). outlet_by c.lanes q.wire) is
 
 link_below : (lanes : List Lane) (l side : ℕ) → side_of_link lanes l ≡ Some side → l < length lanes
 link_below lanes l side h = by (slice_get lanes l) refl h
   where
-    by : (o : Option Lane) → slice_get lanes l ≡ o → given_here o None (λ (lane : Lane). Some lane.side) ≡ Some side → l < length lanes
+    by : (o : Option Lane) → slice_get lanes l ≡ o → given o None (λ (lane : Lane). Some lane.side) ≡ Some side → l < length lanes
     by None is h = absurd (cc)
     by (Some lane) is h = slice_get_within lanes l lane is
 

@@ -6,7 +6,7 @@ use Rattle.fl_base.specs.declared.identity.EndId.{EndId}
 use Rattle.fl_base.specs.declared.identity.LinkId.{LinkId}
 use Rattle.fl_base.specs.declared.identity.Side.{Side}
 use Rattle.fl_base.specs.declared.identity.Side.TheVariants.{Client, Server}
-use Rattle.fl_base.specs.Given.{given as monitor_given, given}
+use Rattle.fl_base.specs.Given.{given}
 use Rattle.fl_hop.proofs.Lists.{set_here, push_keeps, push_cases, at_within}
 use Rattle.fl_compile.specs.declared.program.Program.{Program}
 use Rattle.fl_endpoint.specs.View.{fresh}
@@ -270,8 +270,8 @@ module _ (client : DispatcherId) (i : ℕ) (p : Program) (planned : Planned) (se
   ring_there = links n next ∙ ap ring_behind (link_is s n next k l.0 link kt first link_there)
 
   lane_there : side_of_link after.lanes l.0 ≡ Some (side_number link.ring)
-  lane_there = ap (λ (ls : List Lane). monitor_given (slice_get ls l.0) None (λ (z : Lane). Some z.side)) (lanes_are ∙ k_shows.lanes)
-      ∙ ap (λ o. monitor_given o None (λ (z : Lane). Some z.side)) (at_map lane_of k.links l.0 link link_there)
+  lane_there = ap (λ (ls : List Lane). given (slice_get ls l.0) None (λ (z : Lane). Some z.side)) (lanes_are ∙ k_shows.lanes)
+      ∙ ap (λ o. given o None (λ (z : Lane). Some z.side)) (at_map lane_of k.links l.0 link link_there)
 
   long : 1 < length cores
   long = let a = parts.some in grind (arith, nat_tests, a)

@@ -4,7 +4,7 @@ use Rattle.std.specs.List.{list_any, list_all, position_or_len}
 use Rattle.std.proofs.lemmas.Bool.{eq-eqb}
 use Rattle.std.proofs.lemmas.Bool.Decides.{nat_tests}
 use Rattle.fl_base.specs.declared.identity.CoreId.{CoreId}
-use Rattle.fl_base.specs.Given.{given as monitor_given}
+use Rattle.fl_base.specs.Given.{given}
 use Rattle.fl_base.specs.Numbered.{core_id}
 use Rattle.fl_hop.specs.declared.links.LinkState.{LinkState}
 use Rattle.fl_hop.specs.declared.entry.Hop.{Hop}
@@ -58,7 +58,7 @@ same_route (x ∷ xs) client server n m h =
     let last : slice_get path (length path - 1) ≡ Some (core_id (slice_index (x ∷ xs) (length (x ∷ xs) - 1))) =
     ap (λ c. slice_get path (c - 1)) count ∙ at_index (x ∷ xs) (length (x ∷ xs) - 1) (omega arith) in
     six _ _ _ _ _ _ _ _ _ _ _ _ (ap (nat_le 2) count) (ap (λ c. nat_le c 16) count) (ap (λ c. list_all (λ (z : CoreId). nat_lt z.0 c) path) h ∙ in_range (x ∷ xs) m) refl
-    (ap (λ o. monitor_given o false (is_core_id server)) last) (differ (x ∷ xs))
+    (ap (λ o. given o false (is_core_id server)) last) (differ (x ∷ xs))
 
 -- ---- a route of the machine is one of the world
 
@@ -122,7 +122,7 @@ module _ (cores : List ℕ) (server : ℕ) (w : TheWorld) (s : State) (k : Core)
       let parts = route_parts cores n server s h in
       let long : 1 < length cores = (let r = parts.some in grind (arith, nat_tests, r)) in
       then_is (is_monitor_route (map core_id cores) t.core server (length w.cores)) _ _ (routes_agree ∙ h)
-      ∙ ap (λ o. monitor_given o None (λ (c : CoreId). link_of t c.0)) (at_index cores 1 long)
+      ∙ ap (λ o. given o None (λ (c : CoreId). link_of t c.0)) (at_index cores 1 long)
       ∙ ap (λ (z : TheCircuits). link_of z (slice_index cores 1)) same
 
   pub first_false : is_route cores n server s ≡ false → first_link t (map core_id cores) server (length w.cores) ≡ None

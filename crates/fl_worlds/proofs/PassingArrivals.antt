@@ -9,7 +9,7 @@ use Rattle.fl_base.specs.declared.identity.Side.{Side}
 use Rattle.fl_base.specs.declared.identity.Side.TheVariants.{Client, Server}
 use Rattle.fl_base.specs.Ends.{other, peer}
 use Rattle.fl_base.specs.Control.{bare, with_circuit}
-use Rattle.fl_base.specs.Given.{given as given_here, given}
+use Rattle.fl_base.specs.Given.{given}
 use Rattle.fl_lists.specs.ThreeLists.{ThreeLists}
 use Rattle.fl_waitset.specs.Waiting.{triggered}
 use Rattle.fl_hop.specs.declared.entry.Way.{Way}
@@ -210,9 +210,9 @@ module _ (law : Pictures) (frame : RingFrame) (frame_pass : PassFrame) (frame_ar
     finds : arriving_at t.c to ≡ Some (arriving its.place arrival.place)
     finds =
         ap (λ (k : TheCore). arriving_at k to) (sym core_same)
-        ∙ ap (λ (q : Option ℕ). given_here q None λ m. given_here (arrivals_of its.core m) None λ a. Some (arriving m a)) its.place_is
-        ∙ ap (λ (q : Option Port). given_here (given_here q None λ port. arrivals_by port.wire) None λ a. Some (arriving its.place a)) its.port_is
-        ∙ ap (λ (v : Wire). given_here (arrivals_by v) None λ a. Some (arriving its.place a)) arrival.wire
+        ∙ ap (λ (q : Option ℕ). given q None λ m. given (arrivals_of its.core m) None λ a. Some (arriving m a)) its.place_is
+        ∙ ap (λ (q : Option Port). given (given q None λ port. arrivals_by port.wire) None λ a. Some (arriving its.place a)) its.port_is
+        ∙ ap (λ (v : Wire). given (arrivals_by v) None λ a. Some (arriving its.place a)) arrival.wire
 
     queue_there : slice_get t.c.arrivals arrival.place ≡ Some arrival.takes.there
     queue_there = ap (λ (k : TheCore). slice_get k.arrivals arrival.place) (sym core_same) ∙ arrival.takes.there_is

@@ -2,7 +2,7 @@
 use Rattle.std.proofs.Common.{◌≡◌, refl, sym, ◌∙◌, ap, subst, ℕ, ◌+◌, ◌==◌, ◌&&◌, not, Bool, true, false, List, map, position, slice_get, Option, Some, None}
 use Rattle.std.proofs.lemmas.Bool.{eq-eqb}
 use Rattle.fl_base.specs.declared.identity.CoreId.{CoreId}
-use Rattle.fl_base.specs.Given.{given as given_here, given}
+use Rattle.fl_base.specs.Given.{given}
 use Rattle.fl_base.specs.Numbered.{core_id, link_id, circuit_id}
 use Rattle.fl_nameserv.specs.Registrations.{TheRegistration, by_iref}
 use Rattle.fl_hop.specs.Openings.{is_next}
@@ -33,9 +33,9 @@ use Rattle.fl_worlds.proofs.PassingRings.{Pictures}
 none_behind : (cores : List ℕ) (core : ℕ) → next_named (map core_id cores) core ≡ None → next_on cores core ≡ None
 none_behind cores core h =
     by (position (λ (c : ℕ). c == core) cores)
-    (ap (λ (o : Option ℕ). given_here o None λ place. slice_get (map core_id cores) (place + 1)) (sym (named_place cores core)) ∙ h)
+    (ap (λ (o : Option ℕ). given o None λ place. slice_get (map core_id cores) (place + 1)) (sym (named_place cores core)) ∙ h)
   where
-    by : (o : Option ℕ) → (given_here o None λ place. slice_get (map core_id cores) (place + 1)) ≡ None → given o None (λ j. slice_get cores (j + 1)) ≡ None
+    by : (o : Option ℕ) → (given o None λ place. slice_get (map core_id cores) (place + 1)) ≡ None → given o None (λ j. slice_get cores (j + 1)) ≡ None
     by None q = refl
     by (Some j) q = none_named cores (j + 1) q
 
@@ -63,10 +63,10 @@ module _ (w : TheWorld) (s : State) (core neighbour l : ℕ) (link : Link) (show
   for_this = by (next_named (map core_id o.path) t.k.circuits.core) refl
     where
       by : (p : Option CoreId) → next_named (map core_id o.path) t.k.circuits.core ≡ p
-          → given_here p (is_offered_elsewhere w.names t.k.circuits.core o.service) (λ next. false) ≡ false
+          → given p (is_offered_elsewhere w.names t.k.circuits.core o.service) (λ next. false) ≡ false
       by None q =
           let none : next_on o.path t.k.circuits.core ≡ None = none_behind o.path t.k.circuits.core q in
-          ap (λ (p : Option TheRegistration). given_here p false λ r. not (r.service.core.0 == t.k.circuits.core))
+          ap (λ (p : Option TheRegistration). given p false λ r. not (r.service.core.0 == t.k.circuits.core))
           (found w s core neighbour l link shows t o h d lead.service none service_is)
           ∙ ap not (eq-eqb lead.service.dispatcher.core t.k.circuits.core (at_core w s core neighbour l link shows t o h d lead.service none service_is ∙ sym number_is))
       by (Some next) q = refl

@@ -8,7 +8,7 @@ use Rattle.std.proofs.lemmas.Option.{slice_get-map, slice_get_within}
 use Rattle.fl_base.specs.declared.identity.CoreId.{CoreId}
 use Rattle.fl_base.specs.declared.identity.EndId.{EndId}
 use Rattle.fl_base.specs.declared.identity.Side.TheVariants.{Client, Server}
-use Rattle.fl_base.specs.Given.{given as given_here, given}
+use Rattle.fl_base.specs.Given.{given}
 use Rattle.fl_base.specs.Numbered.{core_id}
 use Rattle.fl_hop.specs.declared.links.LinkState.{LinkState}
 use Rattle.fl_hop.specs.declared.entry.Hop.{Hop}
@@ -90,15 +90,15 @@ none_named (c ∷ cs) (suc i) q = none_named cs i q
 on_route : (cores : List ℕ) (n core neighbour : ℕ) → all_differ cores ≡ true → 1 ≤ n → slice_get cores n ≡ Some core → slice_get cores (n - 1) ≡ Some neighbour
     → is_on_route (map core_id cores) neighbour core ≡ true
 on_route cores n core neighbour differ some here before =
-    ap (λ (o : Option ℕ). given_here o false λ place. comes_after (map core_id cores) place neighbour && not (is_named_behind (map core_id cores) place core))
+    ap (λ (o : Option ℕ). given o false λ place. comes_after (map core_id cores) place neighbour && not (is_named_behind (map core_id cores) place core))
     (named_place cores core ∙ place_there cores n core (got_within cores n core here) (got_index cores n core here) differ)
     ∙ ap (λ (b : Bool). b && not (is_named_behind (map core_id cores) n core)) after
     ∙ ap not once
   where
     after : comes_after (map core_id cores) n neighbour ≡ true
     after =
-        ap (λ (b : Bool). if b then given_here (slice_get (map core_id cores) (n - 1)) false (is_core neighbour) else false) (lt_true 0 n (omega (arith, some)))
-        ∙ ap (λ (o : Option CoreId). given_here o false (is_core neighbour)) (named_at cores (n - 1) neighbour before)
+        ap (λ (b : Bool). if b then given (slice_get (map core_id cores) (n - 1)) false (is_core neighbour) else false) (lt_true 0 n (omega (arith, some)))
+        ∙ ap (λ (o : Option CoreId). given o false (is_core neighbour)) (named_at cores (n - 1) neighbour before)
         ∙ eq-eqb neighbour neighbour refl
 
     once : is_named_behind (map core_id cores) n core ≡ false
@@ -133,7 +133,7 @@ module _ (w : TheWorld) (s : State) (core neighbour l : ℕ) (link : Link) (show
 
   pub along : comes_along t.k.circuits l (map core_id o.path) ≡ true
   along =
-      ap (λ (p : Option LinkState). given_here p false λ u. is_on_route (map core_id o.path) u.neighbour.0 t.k.circuits.core) (counts w s core neighbour l link shows t).1
+      ap (λ (p : Option LinkState). given p false λ u. is_on_route (map core_id o.path) u.neighbour.0 t.k.circuits.core) (counts w s core neighbour l link shows t).1
       ∙ ap (λ (n : ℕ). is_on_route (map core_id o.path) n t.k.circuits.core) (named w s core neighbour l link shows t)
       ∙ ap (is_on_route (map core_id o.path) neighbour) number_is
       ∙ ap (λ (cs : List ℕ). is_on_route (map core_id cs) neighbour core) (sym h.path)

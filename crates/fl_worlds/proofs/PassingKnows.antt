@@ -5,7 +5,7 @@ use Rattle.std.proofs.lemmas.Bool.{eq-eqb}
 use Rattle.std.proofs.lemmas.List.{length-map}
 use Rattle.std.proofs.lemmas.Option.{slice_get_within}
 use Rattle.fl_base.specs.declared.identity.EndId.{EndId}
-use Rattle.fl_base.specs.Given.{given as given_here, given}
+use Rattle.fl_base.specs.Given.{given}
 use Rattle.fl_hop.specs.declared.links.LinkState.{LinkState}
 use Rattle.fl_nameserv.specs.Registrations.{TheRegistration, by_iref}
 use Rattle.fl_compile.specs.declared.program.Program.{Program}
@@ -189,7 +189,7 @@ module _ (w : TheWorld) (s : State) (core neighbour l : ℕ) (link : Link) (show
 
     place_is : has_place t.c.board x.dispatcher.place ≡ has_places 1 its.0
     place_is =
-        ap (λ (p : Option TheDispatcher). given_here p false λ z. nat_lt (length z.ends) 1024) theirs.1
+        ap (λ (p : Option TheDispatcher). given p false λ z. nat_lt (length z.ends) 1024) theirs.1
         ∙ ap (λ (n : ℕ). nat_lt n 1024) as_long ∙ one_more (length its.0.ends)
 
     number_same : (x.dispatcher.core == t.c.monitor.circuits.core) ≡ true
@@ -208,7 +208,7 @@ module _ (w : TheWorld) (s : State) (core neighbour l : ℕ) (link : Link) (show
 
     offered : is_some (offer_of offers t.c o.service) ≡ has_places 1 its.0
     offered =
-        ap (λ (p : Option TheRegistration). is_some {T = Offered} (given_here p None λ r. if may_offer offers t.c r then Some (record { dispatcher = r.service.dispatcher; interface = r.service.interface }) else None)) found
+        ap (λ (p : Option TheRegistration). is_some {T = Offered} (given p None λ r. if may_offer offers t.c r then Some (record { dispatcher = r.service.dispatcher; interface = r.service.interface }) else None)) found
         ∙ some_if (may_offer offers t.c (registration_of o.service x)) _
         ∙ middle (x.dispatcher.core == t.c.monitor.circuits.core) (has_place t.c.board x.dispatcher.place) (nat_lt x.interface (length w.programs)) number_same program_there
         ∙ place_is

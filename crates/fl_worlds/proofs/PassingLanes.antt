@@ -1,7 +1,7 @@
 -- A core's end of a link to a neighbour: what the machine finds of it, a world that shows the state finds.
 use Rattle.std.proofs.Common.{◌≡◌, refl, sym, ◌∙◌, ap, subst, ℕ, zero, suc, ◌+◌, ◌*◌, ◌/◌, ◌%◌, ◌<◌, ◌≤◌, ◌==◌, nat_lt, Bool, true, false, if◌then◌else◌, List, [], ◌∷◌, length, map, slice_get, Option, Some, None, arith}
 use Rattle.std.proofs.lemmas.Option.{slice_get_within}
-use Rattle.fl_base.specs.Given.{given as given_here, given}
+use Rattle.fl_base.specs.Given.{given}
 use Rattle.fl_hop.specs.Table.{TheCircuits, link_of}
 use Rattle.fl_ring.specs.declared.one_duo.Which.{Which}
 use Rattle.fl_node.specs.declared.wire.Lane.{Lane as NodeLane}
@@ -111,12 +111,12 @@ pub lane_side : (k : Core) (c : TheCore) (l : ℕ) (link : Link) → CoreShows k
     → side_of_link c.lanes l ≡ Some (side_number link.ring)
 lane_side k c l link h q =
     ap (λ (ls : List NodeLane). side_of_link ls l) h.lanes
-    ∙ ap (λ (o : Option NodeLane). given_here o None λ lane. Some lane.side) (mapped_get lane_of k.links l link q)
+    ∙ ap (λ (o : Option NodeLane). given o None λ lane. Some lane.side) (mapped_get lane_of k.links l link q)
 
 no_lane_side : (k : Core) (c : TheCore) (l : ℕ) → CoreShows k c → slice_get k.links l ≡ None → side_of_link c.lanes l ≡ None
 no_lane_side k c l h q =
     ap (λ (ls : List NodeLane). side_of_link ls l) h.lanes
-    ∙ ap (λ (o : Option NodeLane). given_here o None λ lane. Some lane.side) (mapped_none lane_of k.links l q)
+    ∙ ap (λ (o : Option NodeLane). given o None λ lane. Some lane.side) (mapped_none lane_of k.links l q)
 
 -- a lane by the place of the link, and by the core
 abbrev lane_by : TheCore → ℕ → Option Lane

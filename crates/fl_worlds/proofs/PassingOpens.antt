@@ -4,7 +4,7 @@ use Rattle.std.specs.Prelude.{is_some, IsSome}
 use Rattle.fl_base.specs.declared.identity.EndId.{EndId}
 use Rattle.fl_base.specs.declared.identity.Circuit.{Circuit}
 use Rattle.fl_base.specs.declared.identity.Side.TheVariants.{Client}
-use Rattle.fl_base.specs.Given.{given as given_here, given}
+use Rattle.fl_base.specs.Given.{given}
 use Rattle.fl_waitset.specs.Waiting.{is_registered}
 use Rattle.fl_link.specs.Queue.{TheQueue, QueueTakes}
 use Rattle.fl_ring.specs.Duo.{TheDuo}
@@ -77,9 +77,9 @@ stands_of w s e b i seat b_is i_is seat_is its = record {
 pub finds_of : (w : TheWorld) (s : State) (e : EndId) (b : Binding) (i : Planned) (seat : Seat) (its : IsMade w s e b i seat) (a : Arrival w its.core s e b its.port)
     → arriving_at its.core e ≡ Some (arriving its.place a.place)
 finds_of w s e b i seat its a =
-    ap (λ (q : Option ℕ). given_here q None λ m. given_here (arrivals_of its.core m) None λ x. Some (arriving m x)) its.place_is
-    ∙ ap (λ (q : Option Port). given_here (given_here q None λ port. arrivals_by port.wire) None λ x. Some (arriving its.place x)) its.port_is
-    ∙ ap (λ (v : Wire). given_here (arrivals_by v) None λ x. Some (arriving its.place x)) a.wire
+    ap (λ (q : Option ℕ). given q None λ m. given (arrivals_of its.core m) None λ x. Some (arriving m x)) its.place_is
+    ∙ ap (λ (q : Option Port). given (given q None λ port. arrivals_by port.wire) None λ x. Some (arriving its.place x)) its.port_is
+    ∙ ap (λ (v : Wire). given (arrivals_by v) None λ x. Some (arriving its.place x)) a.wire
 
 same_kinds : (xs : List TheSeat) (n : ℕ) (x y : TheSeat) → slice_get xs n ≡ Some x → y.kind ≡ x.kind → kinds_seated (slice_set xs n y) ≡ kinds_seated xs
 same_kinds [] n x y q e = refl

@@ -6,7 +6,7 @@ use Rattle.fl_base.specs.declared.identity.EndId.{EndId}
 use Rattle.fl_base.specs.declared.identity.LinkId.{LinkId}
 use Rattle.fl_base.specs.declared.identity.Circuit.{Circuit as Number}
 use Rattle.fl_base.specs.declared.identity.Side.TheVariants.{Client, Server}
-use Rattle.fl_base.specs.Given.{given as given_here, given}
+use Rattle.fl_base.specs.Given.{given}
 use Rattle.fl_base.specs.Numbered.{link_id}
 use Rattle.fl_value.specs.Value.{TheCall}
 use Rattle.fl_wire.specs.Payload.{frags_on}
@@ -222,8 +222,8 @@ module _ (frame : HearFrames) (frame_unmade : UnmadeFrame) (frame_lists : ListsF
 
   lane_there : side_of_link k0.lanes l ≡ Some (side_number link.ring)
   lane_there =
-      ap (λ (ls : List Lane). given_here (slice_get ls l) None (λ (x : Lane). Some x.side)) t.shows.lanes
-      ∙ ap (λ (q : Option Lane). given_here q None (λ (x : Lane). Some x.side)) (at_map lane_of t.k.links l link t.link_is)
+      ap (λ (ls : List Lane). given (slice_get ls l) None (λ (x : Lane). Some x.side)) t.shows.lanes
+      ∙ ap (λ (q : Option Lane). given q None (λ (x : Lane). Some x.side)) (at_map lane_of t.k.links l link t.link_is)
 
   its_dispatcher : dispatcher_of s2 d ≡ Some at.dispatcher
   its_dispatcher =

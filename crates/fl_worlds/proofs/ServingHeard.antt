@@ -1,6 +1,6 @@
 -- Which message makes a server's end, and where its binding's route ends.
 use Rattle.std.proofs.Common.{◌≡◌, refl, sym, ◌∙◌, ap, subst, ℕ, ◌+◌, ◌-◌, ◌≤◌, Bool, true, false, if◌then◌else◌, List, length, reverse, slice_get, Option, Some, None, arith}
-use Rattle.fl_base.specs.Given.{given as given_here}
+use Rattle.fl_base.specs.Given.{given}
 use Rattle.fl_hop.specs.declared.entry.Way.{Way}
 use Rattle.fl_hop.specs.declared.entry.Way.TheVariants.{Link as to_link, End as to_end}
 use Rattle.fl_hop.specs.declared.entry.Hop.{Hop}
@@ -239,7 +239,7 @@ program_is w s core neighbour n d k o c r duo program i shows a i_is h =
     let found : by_iref o.service w.names ≡ Some (registration_of o.service a.service) = (names_agree s.services w.names shows.picture.names).found o.service a.service a.service_is in
     let is : h.offered.interface ≡ a.service.interface =
     offered_interface (may_offer offers c (registration_of o.service a.service)) (registration_of o.service a.service) h.offered
-    (sym (ap (λ (p : Option TheRegistration). given_here p None λ y. if may_offer offers c y then Some (record { dispatcher = y.service.dispatcher; interface = y.service.interface }) else None) found) ∙ h.offered_is) in
+    (sym (ap (λ (p : Option TheRegistration). given p None λ y. if may_offer offers c y then Some (record { dispatcher = y.service.dispatcher; interface = y.service.interface }) else None) found) ∙ h.offered_is) in
     let (kept, kept_is) = some_too w.bindings s.bindings n a.binding shows.picture.bindings.count a.binding_is in
     let its = shows.picture.bindings.each n a.binding kept a.binding_is kept_is in
     let same : a.service.interface ≡ a.binding.interface = its.offered a.route a.service a.back (ap (service_of s.services) a.same_service ∙ a.service_is) in
