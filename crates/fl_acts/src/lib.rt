@@ -38,7 +38,7 @@ pub use lending::{ring_at, which_at};
 pub use linking::{monitor_ack_by_ring, monitor_write_by_ring};
 pub use making::{fresh_cores, has_name, let_go, link_both, renew_cores};
 pub use moving::{Passing, arrive_by_ring, hear_by_ring, look_by_ring};
-pub use places::{Lane, Spot, core_in, lane_at, spot_at};
+pub use places::{Lane, Spot, lane_at, spot_at};
 pub use sending::{call_in, call_kept, show_by_queue, show_by_ring, write_by_queue, write_by_ring};
 pub use taking::{
     Due, ack_by_ring, deregister_in, register_by_queue, register_by_ring, register_in, rule_in,

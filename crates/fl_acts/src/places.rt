@@ -2,12 +2,11 @@
 
 ghost use Rattle.std.specs.Prelude.{◌≡◌, IfSome};
 ghost use Rattle.std.specs.Option.{option_map};
-ghost use Rattle.fl_worlds.specs.View.{core_in, spot_at};
+ghost use Rattle.fl_worlds.specs.View.{spot_at};
 ghost use Rattle.fl_acts.specs.Places.{spot_from, IsThere, lane_from, lane_at, HasLink};
 
-use fl_base::{CoreId, EndId, LinkId, Side};
+use fl_base::{CoreId, EndId, LinkId};
 use fl_node::Core;
-use fl_worlds::Binding;
 
 /// Where an end is.
 #[derive(Clone, Copy)]
@@ -27,17 +26,6 @@ pub struct Lane {
     pub link: LinkId,
     /// The side, by its number.
     pub side: usize,
-}
-
-/// The core of a binding's end.
-#[inline(always)]
-pub fn core_in(side: Side, binding: &Binding) -> usize
-    ensures core { result ≡ core_in side binding.now }
-{
-    match side {
-        Side::Client => binding.client,
-        Side::Server => binding.server,
-    }
 }
 
 /// Where an end is that may be at a core.

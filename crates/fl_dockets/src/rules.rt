@@ -1,24 +1,13 @@
 //! Reply rules of ends that are there before the cores run.
 
 ghost use Rattle.std.specs.Prelude.{◌≡◌, length, slice_get, None, IsSome, IfErr, OnOk, OnErr};
-ghost use Rattle.fl_worlds.specs.View.{core_in};
 ghost use Rattle.fl_dockets.specs.Faults.{core_fault, end_fault, fault_at_once, StopsFor};
 ghost use Rattle.fl_dockets.specs.Rules.{RulesCore, RulesAt, RuleNow};
 
-use fl_base::{EndId, MsgNo, Side, faults};
+use fl_base::{EndId, MsgNo, faults};
 use fl_jobs::Stop;
 use fl_node::Core;
-use fl_worlds::Binding;
-
-// The core of a binding's end.
-fn core_in(side: Side, binding: &Binding) -> usize
-    ensures core { result ≡ core_in side binding.now }
-{
-    match side {
-        Side::Client => binding.client,
-        Side::Server => binding.server,
-    }
-}
+use fl_worlds::{Binding, core_in};
 
 // The end of a name, which is at a core, has the rule from now on.
 fn rule_core(core: &mut Core, end: EndId, message: MsgNo, answer: MsgNo) -> Result<(), Stop>

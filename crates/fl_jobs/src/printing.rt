@@ -5,7 +5,7 @@ ghost use Rattle.std.specs.List.{flat_map, range_with_len};
 ghost use Rattle.fl_base.specs.declared.identity.Side.TheVariants.{Client, Server};
 ghost use Rattle.fl_value.specs.Value.{call_of};
 ghost use Rattle.fl_queues.specs.Events.{handle, opening_refused};
-ghost use Rattle.fl_lines.specs.Answers.{answer_text, end_named, line};
+ghost use Rattle.fl_lines.specs.Answers.{answer_text, line};
 ghost use Rattle.fl_lines.specs.Tables.{table_of};
 ghost use Rattle.fl_lines.specs.Told.{names_of};
 ghost use Rattle.fl_jobs.specs.Files.{file_from};
@@ -17,7 +17,7 @@ ghost use Rattle.fl_jobs.specs.Reports.{both_of, ending_of, report_of};
 use crate::file::{CoresFile, end_by, number_at};
 use crate::report::{BothEnds, Ending, Report};
 use fl_base::{EndId, Side};
-use fl_lines::{Answer, NameTable, Names, print_answer};
+use fl_lines::{Answer, NameTable, Names, print_answer, put_end};
 use fl_value::{Call, print_call};
 use std::alloc::{AllocError, Global};
 
@@ -100,17 +100,6 @@ fn calls_at(handled: &[BothEnds], end: EndId) -> &[Call]
     match end.side {
         Side::Client => &both.client,
         Side::Server => &both.server,
-    }
-}
-
-// An end: its binding's name, and `.c` or `.s`.
-fn put_end(out: &mut Vec<u8>, names: &Names, end: EndId) -> Result<(), AllocError>
-    ensures ok { OnOk result (out.new.items ≡ out.old.items ++ end_named (names_of names.now) end) }
-{
-    out.extend_from_slice(names.bindings.get(end.binding).unwrap_or(&[]))?;
-    match end.side {
-        Side::Client => out.extend_from_slice(b".c"),
-        Side::Server => out.extend_from_slice(b".s"),
     }
 }
 

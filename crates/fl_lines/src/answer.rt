@@ -140,10 +140,13 @@ fn put_frag(out: &mut Vec<u8>, frag: &Frag) -> Result<(), AllocError>
     put_last(out, frag.control)
 }
 
-// An end: its binding's name, and `.c` or `.s`.
+/// Appends an end: its binding's name, and `.c` or `.s`.
+///
+/// # Errors
+/// Out of memory; `out` may have grown then.
 #[tactic(auto, using(crate::proofs::Kept::pieces))]
 #[inline(always)]
-fn put_end(out: &mut Vec<u8>, names: &Names, end: EndId) -> Result<(), AllocError>
+pub fn put_end(out: &mut Vec<u8>, names: &Names, end: EndId) -> Result<(), AllocError>
     ensures ok { OnOk result (out.new.items ≡ out.old.items ++ end_named (names_of names.now) end) }
     ensures grows { IsPrefix out.old.items out.new.items }
 {

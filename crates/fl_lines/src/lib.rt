@@ -31,7 +31,7 @@ mod reader;
 mod table;
 mod word;
 
-pub use answer::{Answer, print_answer, print_fault};
+pub use answer::{Answer, print_answer, print_fault, put_end};
 pub use command::{BackEnd, Command, EndName, Line, Opening, Route, Verb};
 pub use event::{Asked, DispatcherId, Event, Naming};
 pub use fault::LineFault;

@@ -139,9 +139,9 @@ pub(crate) fn comes_to(
     }
 }
 
-// The circuit that a message speaks of.
-fn circuit_in(message: &Message) -> Circuit
-    ensures { result ≡ circuit_in message.now }
+/// The circuit that a message speaks of.
+pub fn circuit_in(message: &Message) -> Circuit
+    ensures circuit { result ≡ circuit_in message.now }
 {
     match message {
         Message::OpenCircuit { circuit, .. }

@@ -44,6 +44,7 @@ mod routing;
 pub use fate::Here;
 pub use fault::MonitorFault;
 pub use heard::Heard;
+pub use hearing::circuit_in;
 pub use law::{
     epochs_say_nothing, messages_are_calls, one_fragment, one_message, one_outcome, one_reason,
     outboxes_say_messages, stands_alone,

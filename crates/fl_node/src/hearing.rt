@@ -23,7 +23,7 @@ use fl_base::{Circuit, EndId, Frag, IRef, LinkId, MAX_CHANNELS, Side};
 use fl_compile::Program;
 use fl_core::Board;
 use fl_link::TakeSide;
-use fl_monitor::{Heard, Here, Message, Monitor, MonitorFault};
+use fl_monitor::{Heard, Here, Message, Monitor, MonitorFault, circuit_in};
 use fl_nameserv::Names;
 use fl_wire::WireFault;
 use std::alloc::Global;
@@ -83,17 +83,6 @@ fn has_place(board: &Board, dispatcher: usize) -> bool
         return false;
     }
     board.ends_at(dispatcher) < MAX_CHANNELS
-}
-
-// The circuit that a message speaks of.
-fn circuit_in(message: &Message) -> Circuit
-    ensures circuit { result ≡ circuit_in message.now }
-{
-    match message {
-        Message::OpenCircuit { circuit, .. }
-        | Message::CircuitOpened { circuit }
-        | Message::CircuitRefused { circuit, .. } => *circuit,
-    }
 }
 
 // Hears a message while an end is ready for it at a dispatcher, with a copy of the program. Where the message doesn't make that end, it is taken back.

@@ -8,9 +8,10 @@ ghost use Rattle.fl_lines.specs.Events.{id_of};
 ghost use Rattle.fl_acts.specs.Places.{spot_from, IsThere, lane_from, HasLink};
 
 use crate::world::World;
-use fl_acts::{Lane, Spot, core_in, lane_at, spot_at};
+use fl_acts::{Lane, Spot, lane_at, spot_at};
 use fl_base::{CoreId, EndId};
 use fl_lines::DispatcherId;
+use fl_worlds::core_in;
 
 impl World {
     /// Where the end of a name is. Nothing is searched.

@@ -12,7 +12,7 @@ mod making;
 mod parts;
 mod steps;
 
-pub use binding::Binding;
+pub use binding::{Binding, core_in};
 pub use ends::{
     acknowledges_agree, calls_agree, deregisters_agree, previews_agree, registers_agree,
     replies_agree,
