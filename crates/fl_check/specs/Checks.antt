@@ -55,6 +55,7 @@ abbrev pub least_of : List ℕ → Option ℕ
 least_of [] = None
 least_of (n ∷ ns) = elim (least_of ns) as (λ _. Option ℕ) [ None ↦ Some n | Some m ↦ Some (min n m) ]
 
+-- the least number of the rules broken at a place, with its offset; none where no rule is broken
 abbrev pub fault_at : TextPlace → Option Fault
 fault_at p = option_map (λ n. record { number = n; at = p.at }) (least_of p.broken)
 

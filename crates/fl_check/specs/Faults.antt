@@ -8,6 +8,7 @@ use Rattle.fl_check.specs.declared.fault.CheckFault.TheVariants.{Broken, Memory}
 use Rattle.fl_check.specs.Places.{TextPlace}
 use Rattle.fl_check.specs.Checks.{Fault, first_fault}
 
+-- the number by which a broken rule is told, E10 to E21; the places of a tree have the same numbers
 abbrev pub rule_number : Rule → ℕ
 rule_number TypeNameTaken = 10
 rule_number UnknownType = 11
@@ -27,6 +28,7 @@ abbrev pub fault_number : CheckFault → ℕ
 fault_number (Broken r at) = rule_number r
 fault_number Memory = 99
 
+-- where the rule is broken; out of memory has no place in the text
 abbrev pub fault_offset : CheckFault → Option ℕ
 fault_offset (Broken r at) = Some at
 fault_offset Memory = None

@@ -29,9 +29,11 @@ scalar_named name =
     if bytes_eq name (codes "size") then Some Size else (
     if bytes_eq name (codes "errval") then Some Errval else None))))))))))))))
 
+-- the built-in type whose values have no fixed size, so that only arguments may have it (else E18)
 unfoldable pub is_string : List ℕ → Bool
 is_string name = bytes_eq name (codes "string")
 
+-- a capability: its two names are built in, but no message carries one (E14)
 unfoldable pub is_capability : List ℕ → Bool
 is_capability name = bytes_eq name (codes "cap") || bytes_eq name (codes "give_away_cap")
 
@@ -67,6 +69,7 @@ abbrev pub counted : Option TheNumber → TheType → TheType
 counted None t = t
 counted (Some count) t = array count.value t
 
+-- a field has the type that it names, or where it has a count a fixed array of that
 abbrev pub field_type : Before → TheField → TheType
 field_type b f = counted f.count (stands_for b f.type_name)
 
@@ -110,6 +113,7 @@ abbrev pub outs : List TheDirected → List TheArgument
 outs [] = []
 outs (d ∷ ds) = if_out d.direction d.argument ++ outs ds
 
+-- the names of an rpc's two messages: of `read` these are `read_call` and `read_response`
 abbrev pub call_name : TheName → List ℕ
 call_name name = name.text ++ codes "_call"
 
@@ -138,5 +142,6 @@ abbrev pub after_all : Before → List TheDeclaration → Before
 after_all b [] = b
 after_all b (d ∷ ds) = after_all (after b d) ds
 
+-- before the first declaration of a text; built-in types aren't declared
 abbrev pub nothing_declared : Before
 nothing_declared = record { types = []; messages = [] }

@@ -18,9 +18,11 @@ abbrev pub rule : ℕ → Bool → List ℕ
 rule number true = number ∷ []
 rule number false = []
 
+-- the names that declared types have taken; the built-in ones aren't among them
 abbrev pub type_names : Before → List (List ℕ)
 type_names b = map (λ (k : Named). k.name) b.types
 
+-- the names that messages have taken, both names of each rpc among them
 abbrev pub message_names : Before → List (List ℕ)
 message_names b = map (λ (m : TheMessage). m.name) b.messages
 
@@ -65,6 +67,7 @@ whole_type_place name type = record { at = name.at; broken = rule 17 (is_too_big
 unfoldable pub count_place : TheNumber → TextPlace
 count_place count = record { at = count.at; broken = rule 16 (nat_lt count.value 1 || nat_lt 1024 count.value) }
 
+-- the place of a count where one is written, else no place
 abbrev pub count_places : Option TheNumber → List TextPlace
 count_places None = []
 count_places (Some count) = count_place count ∷ []
@@ -73,6 +76,7 @@ count_places (Some count) = count_place count ∷ []
 unfoldable pub bound_place : TheNumber → TextPlace
 bound_place bound = record { at = bound.at; broken = rule 20 (nat_lt bound.value 1 || nat_lt 4096 bound.value) }
 
+-- the place of a bound where one is written, else no place
 abbrev pub bound_places : Option TheNumber → List TextPlace
 bound_places None = []
 bound_places (Some bound) = bound_place bound ∷ []
@@ -98,10 +102,12 @@ abbrev pub field_place : Before → List (List ℕ) → TheField → List TextPl
 field_place b others f =
     fixed_type_place b f.type_name ∷ (listed_place others (length others) f.name ∷ count_places f.count)
 
+-- the fields of a struct from left to right, each after the names of those before it
 abbrev pub field_places : Before → List (List ℕ) → List TheField → List TextPlace
 field_places b others [] = []
 field_places b others (f ∷ fs) = field_place b others f ++ field_places b (others ++ f.name.text ∷ []) fs
 
+-- the type of an argument; what stands behind the argument's name says which types may stand here
 abbrev pub argument_type_place : Before → TheArgument → TextPlace
 argument_type_place b a = elim a.shape as (λ _. TextPlace) [
   | plain ↦ plain_type_place b a.type_name
@@ -115,12 +121,13 @@ shape_places others plain = []
 shape_places others (bounded bound) = bound_place bound ∷ []
 shape_places others (sized len bound) = other_place others len ∷ bound_places bound
 
--- the names that an argument takes: its own, and its length's
+-- the name that an argument takes for its length, if it has one
 abbrev pub shape_names : TheShape → List (List ℕ)
 shape_names plain = []
 shape_names (bounded bound) = []
 shape_names (sized len bound) = len.text ∷ []
 
+-- an argument's own name, then its length's; each may stand once in the list of a message or rpc (E13)
 abbrev pub argument_names : TheArgument → List (List ℕ)
 argument_names a = a.name.text ∷ shape_names a.shape
 
@@ -145,11 +152,13 @@ abbrev pub argument_place : Before → List (List ℕ) → ℕ → TheArgument �
 argument_place b others arguments_before a =
     argument_type_place b a ∷ (listed_place others arguments_before a.name ∷ shape_places (others ++ a.name.text ∷ []) a.shape)
 
+-- arguments from left to right, each after the names of those before it and their number
 abbrev pub argument_places : Before → List (List ℕ) → ℕ → List TheArgument → List TextPlace
 argument_places b others arguments_before [] = []
 argument_places b others arguments_before (a ∷ args) =
     argument_place b others arguments_before a ++ argument_places b (others ++ argument_names a) (arguments_before + 1) args
 
+-- one of a declaration's messages, of which an rpc has two, has a payload that may pass 32,768 bytes
 abbrev pub some_too_long : List TheMessage → Bool
 some_too_long [] = false
 some_too_long (m ∷ ms) = is_too_long m || some_too_long ms
@@ -173,6 +182,7 @@ rpc_name_place b name = record {
       ++ rule 19 (nat_le 255 (length b.messages) || nat_lt 55 (length name.text));
 }
 
+-- an rpc's arguments without their directions: for its rules, in and out are one list
 abbrev pub arguments_of : List TheDirected → List TheArgument
 arguments_of ds = map (λ (d : TheDirected). d.argument) ds
 

@@ -2,6 +2,7 @@
 use Rattle.std.specs.Prelude.{ℕ, ◌+◌, Bool, not, List, take, nat_eq}
 use Rattle.std.specs.List.{count_by, suffix_len}
 
+-- the one byte that ends a line; a carriage return is a byte of its line
 abbrev pub is_line_feed : ℕ → Bool
 is_line_feed byte = nat_eq byte 10
 

@@ -26,19 +26,22 @@ abbrev mutual
   has_short_enums (structure ts) = have_short_enums ts
   has_short_enums (array n t) = has_short_enums t
 
+  -- each field of a struct
   pub have_short_enums : TheTypes → Bool
   have_short_enums no_more = true
   have_short_enums (field t ts) = has_short_enums t && have_short_enums ts
 
+-- an argument: a string has no enum in it, a sized array those of its elements' type
 abbrev pub argument_has_short_enums : TheArgType → Bool
 argument_has_short_enums (fixed t) = has_short_enums t
 argument_has_short_enums (text most) = true
 argument_has_short_enums (sized most t) = has_short_enums t
 
--- a message whose name is a name, and whose enums are short
+-- a message whose name is a word of at most 64 bytes, and whose enums are short
 abbrev pub is_message_spellable : TheMessage → Bool
 is_message_spellable m = is_name m.name && list_all argument_has_short_enums m.args
 
+-- an interface whose name is a word of at most 64 bytes, and each of whose messages is as above
 abbrev pub is_spellable : TheInterface → Bool
 is_spellable i = is_name i.name && list_all is_message_spellable i.messages
 

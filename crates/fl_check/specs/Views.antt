@@ -24,6 +24,7 @@ named_of k = record { name = k.0.now; type = type_of k.1.measured.fixed }
 abbrev pub declared_message : Vec ℕ × Vec ArgType → TheMessage
 declared_message m = record { name = m.0.items; args = map arg_type_of m.1.items }
 
+-- the types and messages that the checker has taken as declared so far, in order
 abbrev pub before_of : Declared → Before
 before_of d = record { types = map named_of d.types.entries; messages = map declared_message d.messages.entries }
 

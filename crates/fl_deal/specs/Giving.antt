@@ -1,5 +1,5 @@
 -- Hands, with a thing more. Only the code needs it.
-use Rattle.std.specs.Prelude.{ℕ, zero, suc, List, [], ◌∷◌, ◌++◌}
+use Rattle.std.specs.Prelude.{ℕ, zero, suc, [], ◌∷◌, ◌++◌}
 use Rattle.fl_deal.specs.Dealt.{Hands}
 
 -- with a thing behind the others in a core's hand

@@ -1,5 +1,5 @@
 -- What came of rings whose sides were in the hands of cores. Laws.
-use Rattle.std.specs.Prelude.{ℕ, ◌≡◌, List, [], ◌∷◌, length, map, slice_get, Some}
+use Rattle.std.specs.Prelude.{ℕ, ◌≡◌, List, [], ◌∷◌, map}
 use Rattle.fl_base.specs.Control.{bare}
 use Rattle.fl_base.specs.Prefix.{IsPrefix}
 use Rattle.fl_link.specs.Looks.{Look, Looks, LinkStep, puts_of, takes_of}

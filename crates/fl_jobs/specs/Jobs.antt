@@ -1,5 +1,5 @@
 -- The jobs of a cores file: what its cores are to do at their ends.
-use Rattle.std.specs.Prelude.{ℕ, ◌==◌, ◌&&◌, Bool, true, false, if◌then◌else◌, List, [], ◌∷◌, Option, Some, None, is_some}
+use Rattle.std.specs.Prelude.{ℕ, ◌==◌, ◌&&◌, Bool, false, if◌then◌else◌, List, [], ◌∷◌, Option, Some, None}
 use Rattle.std.specs.List.{flat_map, list_any}
 use Rattle.fl_base.specs.declared.identity.EndId.{EndId}
 use Rattle.fl_base.specs.Ends.{peer}

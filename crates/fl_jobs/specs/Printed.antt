@@ -1,5 +1,5 @@
 -- What is printed of a cores file: the line that is refused, or the report of its run.
-use Rattle.std.specs.Prelude.{ℕ, ◌==◌, nat_lt, Bool, true, false, if◌then◌else◌, List, [], ◌∷◌, ◌++◌, map, length, slice_get}
+use Rattle.std.specs.Prelude.{ℕ, ◌==◌, nat_lt, Bool, true, false, if◌then◌else◌, List, [], ◌∷◌, ◌++◌, map, length}
 use Rattle.std.specs.Prelude.{position, Option, codes}
 use Rattle.std.specs.List.{count_by, flat_map, range_with_len}
 use Rattle.std.specs.Fmt.{decimal}
@@ -7,10 +7,8 @@ use Rattle.fl_base.specs.declared.identity.EndId.{EndId}
 use Rattle.fl_base.specs.declared.identity.Side.{Side}
 use Rattle.fl_base.specs.declared.identity.Side.TheVariants.{Client, Server}
 use Rattle.fl_base.specs.Given.{given}
-use Rattle.fl_value.specs.Value.{TheCall}
 use Rattle.fl_queues.specs.Events.{handle, opening_refused}
 use Rattle.fl_lines.specs.Answers.{answer_text, line}
-use Rattle.fl_lines.specs.Names.{Names}
 use Rattle.fl_jobs.specs.CoresFile.{CoresFile, numbered, end_by}
 use Rattle.fl_jobs.specs.Report.{TheReport, Ending, complete, turns_out, at_end, refusal_of}
 

@@ -34,10 +34,12 @@ pub record Then {A B : Type 0} (first : List TheToken → A → Type 0) (next : 
   pub back_is : next middle back y
 
 infixl 10 ◌>>=◌
+-- a production's line `x ← phrase`: that phrase stands first, and the lines below may ask for its value
 abbrev pub ◌>>=◌ : {A B : Type 0} → (List TheToken → A → Type 0) → (A → List TheToken → B → Type 0) → List TheToken → B → Type 0
 first >>= next = Then first next
 
 infixl 10 ◌>>◌
+-- a production's line without an arrow: that phrase stands first, and nothing asks for its value
 abbrev pub ◌>>◌ : {A B : Type 0} → (List TheToken → A → Type 0) → (List TheToken → B → Type 0) → List TheToken → B → Type 0
 first >> next = Then first (λ _. next)
 
@@ -61,6 +63,7 @@ Many P tokens (x ∷ xs) = Joined (λ prefix. P prefix x) (λ back. Many P back 
 
 -- What one token is read as. No word is reserved.
 
+-- whether a token of this kind and these bytes is the word; a number, a description or a mark is none
 abbrev pub word_text : TokenKind → List ℕ → List ℕ → Bool
 word_text kinds.Word text word = bytes_eq text word
 word_text _ text word = false
@@ -80,6 +83,7 @@ same_mark Comma Comma = true
 same_mark Semicolon Semicolon = true
 same_mark _ _ = false
 
+-- whether a token of this kind is the mark; a word, a number or a description is none
 abbrev pub kind_is_mark : TokenKind → Mark → Bool
 kind_is_mark (kinds.Mark found) mark = same_mark found mark
 kind_is_mark _ mark = false
@@ -92,6 +96,7 @@ is_mark token mark = kind_is_mark token.kind mark
 abbrev pub if_so : {A : Type 0} → Bool → A → Option A
 if_so b x = if b then Some x else None
 
+-- the name that a token of this kind, with these bytes and at this place, is; only a word is one
 abbrev pub name_from : TokenKind → List ℕ → ℕ → Option TheName
 name_from kinds.Word text at = Some (record { text = text; at = at })
 name_from _ text at = None
@@ -100,17 +105,21 @@ name_from _ text at = None
 abbrev pub name_in : TheToken → Option TheName
 name_in token = name_from token.kind token.text token.at
 
+-- the number that a token of this kind and at this place is, if it is one
 abbrev pub number_from : TokenKind → ℕ → Option TheNumber
 number_from (kinds.Number value) at = Some (record { value = value; at = at })
 number_from _ at = None
 
+-- a number's value and place; any other token is no number
 abbrev pub number_in : TheToken → Option TheNumber
 number_in token = number_from token.kind token.at
 
+-- the description that a token of this kind and these bytes is, if it is one
 abbrev pub description_from : TokenKind → List ℕ → Option (List ℕ)
 description_from kinds.Description text = Some text
 description_from _ text = None
 
+-- a description's bytes, both quotes among them; any other token is none
 abbrev pub description_in : TheToken → Option (List ℕ)
 description_in token = description_from token.kind token.text
 
@@ -121,6 +130,7 @@ pub data Opening : Type 0 where
   message_word : MessageKind → Opening
   rpc_word : Opening
 
+-- which declaration a token begins; none but these six words begins one
 abbrev pub opening_in : TheToken → Option Opening
 opening_in token =
     if is_word token (codes "alias") then Some alias_word
@@ -137,12 +147,14 @@ pub data Defined : Type 0 where
   struct_word : Defined
   type_word : TheName → Defined
 
+-- what a token right behind `typedef` is; any word but those two is the old type's name
 abbrev pub defined_in : TheToken → Option Defined
 defined_in token =
     if is_word token (codes "enum") then Some enum_word
     else if is_word token (codes "struct") then Some struct_word
     else option_map type_word (name_in token)
 
+-- the half of an rpc that carries an argument, by the word before it; no other token stands there
 abbrev pub direction_in : TheToken → Option Direction
 direction_in token =
     if is_word token (codes "in") then Some directions.In
@@ -155,30 +167,38 @@ pub data Inside : Type 0 where
   bound_word : TheNumber → Inside
   length_word : TheName → Inside
 
+-- whether the type is the one whose arguments may have a number in brackets, their bound
 abbrev pub is_string : TheName → Bool
 is_string type_name = bytes_eq type_name.text (codes "string")
 
+-- a token read as this number or this name: a number is a string's bound, a word a length's name for any type
 abbrev pub inside_from : TheName → Option TheNumber → Option TheName → Option Inside
 inside_from type_name (Some bound) name = if_so (is_string type_name) (bound_word bound)
 inside_from type_name None name = option_map length_word name
 
+-- the same of a token: so `uint8 a[4]` as an argument is E7 at the 4, while `string s[n]` passes the grammar
 abbrev pub inside_in : TheName → TheToken → Option Inside
 inside_in type_name token = inside_from type_name (number_in token) (name_in token)
 
 -- The productions.
 
+-- a quoted word of the grammar, as "interface"; it has no value
 abbrev pub Word : List ℕ → List TheToken → Unit {0} → Type 0
 Word word = One (λ token. if_so (is_word token word) tt)
 
+-- a quoted mark of the grammar, as "["; it has no value
 abbrev pub TheMark : Mark → List TheToken → Unit {0} → Type 0
 TheMark mark = One (λ token. if_so (is_mark token mark) tt)
 
+-- NAME, NEW and OLD of the grammar: any word
 abbrev pub AName : List TheToken → TheName → Type 0
 AName = One name_in
 
+-- NUMBER of the grammar; whether a count or a bound is within its limits is asked later (E16, E20)
 abbrev pub ANumber : List TheToken → TheNumber → Type 0
 ANumber = One number_in
 
+-- DESCRIPTION of the grammar, kept with both quotes
 abbrev pub ADescription : List TheToken → List ℕ → Type 0
 ADescription = One description_in
 
@@ -234,6 +254,7 @@ ABracket type_name = do
 abbrev pub AShape : TheName → List TheToken → TheShape → Type 0
 AShape type_name tokens shape = Means plain tokens shape ⊎ ABracket type_name tokens shape
 
+-- OLD NAME, and behind it nothing or what stands in brackets
 abbrev pub AnArgument : List TheToken → TheArgument → Type 0
 AnArgument = do
   type_name ← AName
@@ -301,12 +322,13 @@ Production rpc_word = do
   TheMark Semicolon
   Means (rpc_of name args)
 
+-- a word that begins a declaration, and the rest of its production
 abbrev pub ADeclaration : List TheToken → TheDeclaration → Type 0
 ADeclaration = do
   opening ← One opening_in
   Production opening
 
--- "interface" NAME [STRING] "{"
+-- "interface" NAME [DESCRIPTION] "{"
 abbrev pub Head : List TheToken → Unit {0} → Type 0
 Head = do
   Word (codes "interface")
@@ -321,7 +343,7 @@ pub record HasHead (tokens : List TheToken) : Type 0 where
   pub tokens_are : tokens ≡ head ++ rest
   pub is : Head head tt
 
--- "interface" NAME [STRING] "{" decl* "}"
+-- "interface" NAME [DESCRIPTION] "{" decl* "}"
 abbrev pub Body : List TheToken → TheTree → Type 0
 Body = do
   Word (codes "interface")

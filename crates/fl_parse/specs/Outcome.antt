@@ -20,6 +20,7 @@ fault_offset (NotExpected at) = Some at
 fault_offset (AfterInterface at) = Some at
 fault_offset Memory = None
 
+-- the outcome that a fault tells: E7 or E8 and its place; that memory is refused is no outcome of the tokens
 abbrev pub fault_outcome : ParseFault → Option ParseOutcome
 fault_outcome (NotExpected at) = Some (parse_fault 7 at)
 fault_outcome (AfterInterface at) = Some (parse_fault 8 at)

@@ -23,6 +23,7 @@ pub record TheNumber : Type 0 where
   pub value : ℕ
   pub at : ℕ
 
+-- a field of a struct: its type's name, its own, and its count where it is a fixed array
 pub record TheField : Type 0 where
   pub type_name : TheName
   pub name : TheName
@@ -34,11 +35,13 @@ pub data TheShape : Type 0 where
   bounded : TheNumber → TheShape
   sized : TheName → Option TheNumber → TheShape
 
+-- an argument: its type's name, its own, and what stands behind that
 pub record TheArgument : Type 0 where
   pub type_name : TheName
   pub name : TheName
   pub shape : TheShape
 
+-- an argument of an rpc, which its call carries (in) or its response (out)
 pub record TheDirected : Type 0 where
   pub direction : Direction
   pub argument : TheArgument
@@ -52,11 +55,13 @@ pub data TheDeclaration : Type 0 where
   message_of : MessageKind → TheName → List TheArgument → TheDeclaration
   rpc_of : TheName → List TheDirected → TheDeclaration
 
+-- an interface as its text has it: its name, its description with both quotes, its declarations in order
 pub record TheTree : Type 0 where
   pub name : TheName
   pub description : Option (List ℕ)
   pub declarations : List TheDeclaration
 
+-- the parser's own tree as contracts see it, part by part: each word by its bytes, with its place
 abbrev pub name_of : Name → TheName
 name_of n = record { text = n.text.now; at = n.at }
 
@@ -85,6 +90,7 @@ declaration_of (Structure fields name) = struct_of (map field_of fields.items) (
 declaration_of (Message kind name args) = message_of kind (name_of name) (map argument_of args.items)
 declaration_of (Rpc name args) = rpc_of (name_of name) (map directed_of args.items)
 
+-- the whole tree that the parser answers
 abbrev pub tree_of : Tree → TheTree
 tree_of t = record {
   name = name_of t.name;

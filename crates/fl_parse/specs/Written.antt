@@ -42,6 +42,7 @@ declaration_aside (struct_of fields name) = struct_of (map field_aside fields) (
 declaration_aside (message_of kind name args) = message_of kind (name_aside name) (map argument_aside args)
 declaration_aside (rpc_of name args) = rpc_of (name_aside name) (map directed_aside args)
 
+-- the whole tree, with the places of its words and numbers 0; a description has no place
 abbrev pub spans_aside : TheTree → TheTree
 spans_aside tree =
     record { name = name_aside tree.name; description = tree.description; declarations = map declaration_aside tree.declarations }
@@ -54,6 +55,7 @@ a_word text = record { kind = kinds.Word; text = text; at = 0 }
 abbrev pub a_name : TheName → TheToken
 a_name name = a_word name.text
 
+-- a number's token in its fewest digits, whatever zeros stood before them in the text
 abbrev pub a_number : TheNumber → TheToken
 a_number number = record { kind = kinds.Number number.value; text = decimal number.value; at = 0 }
 
@@ -70,38 +72,47 @@ mark_text Semicolon = codes ";"
 abbrev pub a_mark : Mark → TheToken
 a_mark mark = record { kind = kinds.Mark mark; text = mark_text mark; at = 0 }
 
+-- a description's token; its bytes are those of the tree, both quotes among them
 abbrev pub a_description : List ℕ → TheToken
 a_description text = record { kind = kinds.Description; text = text; at = 0 }
 
+-- the tokens of each, with a comma between two of them and none behind the last
 abbrev pub comma_tokens : {A : Type 0} → (A → List TheToken) → List A → List TheToken
 comma_tokens tokens [] = []
 comma_tokens tokens (x ∷ xs) = tokens x ++ flat_map (λ y. a_mark Comma ∷ tokens y) xs
 
+-- "[" NUMBER "]", or nothing
 abbrev pub count_tokens : Option TheNumber → List TheToken
 count_tokens None = []
 count_tokens (Some count) = a_mark OpenBracket ∷ a_number count ∷ a_mark CloseBracket ∷ []
 
+-- OLD NAME ["[" NUMBER "]"] ";"
 abbrev pub field_tokens : TheField → List TheToken
 field_tokens field = a_name field.type_name ∷ a_name field.name ∷ (count_tokens field.count ++ a_mark Semicolon ∷ [])
 
+-- "," NUMBER, or nothing
 abbrev pub bound_tokens : Option TheNumber → List TheToken
 bound_tokens None = []
 bound_tokens (Some bound) = a_mark Comma ∷ a_number bound ∷ []
 
+-- nothing, "[" NUMBER "]" or "[" NAME ["," NUMBER] "]"
 abbrev pub shape_tokens : TheShape → List TheToken
 shape_tokens plain = []
 shape_tokens (bounded bound) = a_mark OpenBracket ∷ a_number bound ∷ a_mark CloseBracket ∷ []
 shape_tokens (sized length bound) = a_mark OpenBracket ∷ a_name length ∷ (bound_tokens bound ++ a_mark CloseBracket ∷ [])
 
+-- OLD NAME, and what stands in brackets behind it
 abbrev pub argument_tokens : TheArgument → List TheToken
 argument_tokens argument = a_name argument.type_name ∷ a_name argument.name ∷ shape_tokens argument.shape
 
+-- ("in" | "out") and an argument
 abbrev pub directed_tokens : TheDirected → List TheToken
 directed_tokens directed = a_word (direction_text directed.direction) ∷ argument_tokens directed.argument
 
 abbrev pub name_tokens : TheName → List TheToken
 name_tokens name = a_name name ∷ []
 
+-- a declaration up to its semicolon; an enum has no comma behind its last name
 abbrev pub declaration_tokens : TheDeclaration → List TheToken
 declaration_tokens (alias_of new old) = a_word (codes "alias") ∷ a_name new ∷ a_name old ∷ a_mark Semicolon ∷ []
 declaration_tokens (typedef_of old new count) =
@@ -117,16 +128,18 @@ declaration_tokens (message_of kind name args) =
 declaration_tokens (rpc_of name args) =
     a_word (codes "rpc") ∷ a_name name ∷ a_mark OpenParen ∷ (comma_tokens directed_tokens args ++ a_mark CloseParen ∷ a_mark Semicolon ∷ [])
 
+-- the description's one token, or nothing
 abbrev pub description_tokens : Option (List ℕ) → List TheToken
 description_tokens None = []
 description_tokens (Some text) = a_description text ∷ []
 
+-- a whole interface up to its closing brace, without the semicolon that may stand behind it
 abbrev pub tokens_of_tree : TheTree → List TheToken
 tokens_of_tree tree =
     a_word (codes "interface") ∷ a_name tree.name
     ∷ (description_tokens tree.description ++ a_mark OpenBrace ∷ (flat_map declaration_tokens tree.declarations ++ a_mark CloseBrace ∷ []))
 
--- What a tree of some tokens is printed as is the text of tokens that are written for it, places aside.
+-- Where tokens are written for a tree, these are too, places aside.
 abbrev pub PrintedDerives : Type 0
 PrintedDerives = (tokens : List TheToken) (tree : TheTree) → Derives tokens tree → Derives (tokens_of_tree tree) (spans_aside tree)
 

@@ -22,8 +22,8 @@ use Rattle.fl_queues.specs.Making.{is_core, is_ring_size}
 
 -- ---- a new binding
 
--- what a bind is asked for, once its names are known: the client's dispatcher, the interface by its place,
--- the service and its interface reference
+-- what a bind is asked for, once its names are known: the client's dispatcher, the interface by its place and
+-- how many messages it has, the service and its interface reference
 pub record Wanted : Type 0 where
   pub client : DispatcherId
   pub interface : ℕ
@@ -65,6 +65,8 @@ has_both_places w s =
 
 -- ---- by queues, on one core
 
+-- a queue of so many slots for each end, and both are bound at once; E73: the dispatchers are on two cores;
+-- E32: not 1 to 1,024 slots; E54: no places for both ends
 abbrev pub binds_by_queues : Wanted → ℕ → State → Outcome
 binds_by_queues w slots s =
     if not (w.client.core == w.service.dispatcher.core) then answers s (refused 73)
@@ -76,6 +78,8 @@ binds_by_queues w slots s =
 
 -- ---- by a ring, on two cores
 
+-- one ring, on whose first side the client's end is, and both are bound at once; E73: the dispatchers are on
+-- one core; E32: a ring can't have this size; E54: no places for both ends
 abbrev pub binds_by_ring : Wanted → ℕ → State → Outcome
 binds_by_ring w size s =
     if w.client.core == w.service.dispatcher.core then answers s (refused 73)
@@ -121,6 +125,7 @@ opens_on w cores k s =
     if not (can_say l k) then answers s (refused 75)
     else answers (with_circuit_begun w cores (length s.bindings) l c s) done
 
+-- E73: no such route; once it is done the opening waits in the outbox, and neither end is bound yet
 abbrev pub binds_by_route : Wanted → List ℕ → State → Outcome
 binds_by_route w cores s =
     if not (is_route cores w.client.core w.service.dispatcher.core s) then answers s (refused 73)

@@ -23,6 +23,7 @@ fresh_queue capacity = record { labels = []; capacity = capacity }
 abbrev pub has_room : Queue → Bool
 has_room q = nat_lt (length q.labels) q.capacity
 
+-- unlike a ring, a queue is never spent
 abbrev pub queue_room : Queue → Room
 queue_room q = if has_room q then there_is_room else no_room
 
@@ -45,9 +46,11 @@ pub record Direction : Type 0 where
   -- end's take
   pub passed : List ℕ
 
+-- no call yet, and no fragment past any of so many stations
 abbrev pub fresh_direction : ℕ → Direction
 fresh_direction stations = record { accepted = []; waiting = []; passed = replicate stations 0 }
 
+-- how many fragments of its calls the end has written: the write is the first station
 abbrev pub written_of : Direction → ℕ
 written_of d = slice_index d.passed 0
 
@@ -55,6 +58,7 @@ written_of d = slice_index d.passed 0
 abbrev pub last_station : Direction → ℕ
 last_station d = length d.passed - 1
 
+-- how many fragments of these calls the other end has taken
 abbrev pub taken_of : Direction → ℕ
 taken_of d = slice_index d.passed (last_station d)
 
@@ -66,6 +70,7 @@ passes station d = record d { passed = changed_at station (λ n. n + 1) d.passed
 abbrev pub is_busy : Planned → Direction → Bool
 is_busy i d = nat_lt (written_of d) (total i d.accepted)
 
+-- one more call, behind those that were accepted before
 abbrev pub accepts : TheCall → Direction → Direction
 accepts c d = record d { accepted = d.accepted ++ c ∷ [] }
 
@@ -99,6 +104,8 @@ pub record Wrote : Type 0 where
   pub direction : Direction
   pub answer : Answer
 
+-- where there is room, one fragment is written, and after the last the first waiting reply is accepted; else
+-- nothing changes, and on a spent ring the write is refused
 abbrev pub writes_by : Planned → Direction → Room → Wrote
 writes_by i d there_is_room = record { direction = goes_on i (passes 0 d); answer = progress i d }
 writes_by i d no_room = record { direction = d; answer = full }
@@ -127,6 +134,7 @@ pub record End : Type 0 where
   -- the queue that it takes from; none where it takes from a ring
   pub queue : Option Queue
 
+-- from the bind on where queues or a ring join the ends; over a route only when a monitor opens it
 abbrev pub is_bound : End → Bool
 is_bound x = is_some x.circuit
 
@@ -143,9 +151,11 @@ unbound_end messages stations queue =
 
 -- ---- reply rules
 
+-- with which message the end replies to this one, if it has a rule for it
 abbrev pub rule_at : List (Option ℕ) → ℕ → Option ℕ
 rule_at rules msg = given (slice_get rules msg) None λ rule. rule
 
+-- a later rule for the same message replaces the earlier
 abbrev pub with_rule : ℕ → ℕ → End → End
 with_rule msg answer x = record x { rules = slice_set x.rules msg (Some answer) }
 

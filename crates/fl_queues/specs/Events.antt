@@ -45,6 +45,7 @@ pub data Event : Type 0 where
   turn : DispatcherId → Event
   -- an end of a ring acknowledges what it has read
   acknowledge : EndId → Event
+  -- an end's channel comes to a list of its waitset, or leaves the one that it is in
   register : EndId → Event
   deregister : EndId → Event
   -- a reply rule: where the end handles the first message, it makes the call of the second
@@ -57,8 +58,10 @@ pub data Event : Type 0 where
   monitor_acknowledge : ℕ → ℕ → Event
 
 pub data Answer : Type 0 where
+  -- it is done, and there is no more to tell: the `ok` of scripts
   done : Answer
   accepted : Answer
+  -- there is nothing to do; what is needed has no room, or an end holds back
   nothing : Answer
   full : Answer
   -- fragment k of n was written
@@ -69,6 +72,7 @@ pub data Answer : Type 0 where
   part : EndId → Answer
   ready : EndId → Answer
   quiet : EndId → Answer
+  -- a call's fragment has left a link, for the next one or for the arrival queue of the end that takes it
   forwarded : Answer
   -- an end of a circuit is bound
   opened : EndId → Answer

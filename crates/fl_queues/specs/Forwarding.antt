@@ -30,6 +30,7 @@ pub record LinkEnd : Type 0 where
   pub link : ℕ
   pub ring : RingEnd
 
+-- none where there is no such core, or no link from it to that neighbour
 abbrev pub link_end : ℕ → ℕ → State → Option LinkEnd
 link_end core neighbour s =
     given (core_of s core) None λ k.
@@ -51,6 +52,7 @@ monitor_writes_by here m there_is_room s =
     answers (change_core here.core (without_first_said here.link) put) (written 1 1)
 monitor_writes_by here m r s = answers s full
 
+-- with an empty outbox nothing is looked at
 abbrev pub monitor_writes_on : LinkEnd → Link → State → Outcome
 monitor_writes_on here link s =
     given (slice_get link.outbox 0) (answers s nothing) λ m.
@@ -77,6 +79,7 @@ word_passes undecided = undecided
 word_passes (granted waiting) = granted (waiting - 1)
 word_passes (denied waiting fault) = denied (waiting - 1) fault
 
+-- the circuit has got its number on the next link of the route
 abbrev pub with_number : ℕ → Route → Route
 with_number c route = record route { numbers = push route.numbers c }
 
@@ -88,6 +91,7 @@ grants route = record route { verdict = granted (length route.cores - 1) }
 abbrev pub denies : ℕ → Route → Route
 denies fault route = record route { verdict = denied (length route.numbers) fault }
 
+-- the word has come to one core more
 abbrev pub passes_word : Route → Route
 passes_word route = record route { verdict = word_passes route.verdict }
 
@@ -110,10 +114,12 @@ takes_said at no_outbox s = s
 takes_said at astray s = s
 takes_said at heard s = change_ring at.ring (takes at.side) s
 
+-- the core is what hearing made of it, the message is taken or left, and the rest of the world follows
 abbrev pub after_hearing : LinkEnd → Hearing → State → Outcome
 after_hearing here h s =
     follows h.heard (takes_said here.ring h.heard (change_core here.core (λ k. h.core) s))
 
+-- the core hears it, and looks services up in the world's table of names
 abbrev pub forwards_said : LinkEnd → Said → State → Outcome
 forwards_said here m s =
     given (core_of s here.core) (answers s nothing) λ k.
@@ -141,6 +147,7 @@ goes_on_by here p on there_is_room s =
     answers (leaves_link here p (change_ring on.ring (puts on.side (label_of p)) s)) forwarded
 goes_on_by here p on r s = answers s full
 
+-- that side first looks at what came back, where it knows of too few free slots
 abbrev pub goes_on_over : LinkEnd → Passing → RingEnd → State → Outcome
 goes_on_over here p on s =
     let looked = ring_makes_sure for_data on s in
@@ -169,10 +176,12 @@ forwards_passing here p route s =
     given (hop_at k.circuits here.link c) (answers s nothing) λ hop.
     follows_entry here p k hop.way s
 
+-- ends that are joined by queues or a ring have none
 abbrev pub route_of : Back → Option Route
 route_of (over_route route) = Some route
 route_of back = None
 
+-- this core is a station on the way of the end that made the call
 abbrev pub forwards_call : LinkEnd → EndId → ℕ → State → Outcome
 forwards_call here e number s =
     given (binding_of s e) (answers s nothing) λ b.
@@ -188,6 +197,7 @@ forwards_label here (next_of e number) s = forwards_call here e number s
 forwards_label here (says m) s = forwards_said here m s
 forwards_label here acknowledges s = answers (change_ring here.ring.ring (takes here.ring.side) s) done
 
+-- E73: there is no such link; where nothing stands on it for this core, there is nothing to do
 abbrev pub forwards : ℕ → ℕ → State → Outcome
 forwards core neighbour s =
     given (link_end core neighbour s) (answers s (refused 73)) λ here.

@@ -12,6 +12,7 @@ abbrev pub KeepsNumbers : Option Route → Option Route → Type 0
 KeepsNumbers before now = (route : Route) → before ≡ Some route
     → (later : Route) × (now ≡ Some later) × ((a b n : ℕ) → number_between a b route ≡ Some n → number_between a b later ≡ Some n)
 
+-- the end's binding is still there: under its interface, with the numbers and the calls that it had before
 pub record KeepsBinding (t : State) (e : EndId) (b : Binding) : Type 0 where
   pub now : Binding
   pub there : binding_of t e ≡ Some now

@@ -33,6 +33,7 @@ use Rattle.fl_queues.specs.Sound.{Sound}
 abbrev pub StepsAreSound : Type 0
 StepsAreSound = (s : State) (v : Event) → Sound s → Sound (step s v).state
 
+-- so each state that a run from the start reaches is sound
 abbrev pub RunsAreSound : Type 0
 RunsAreSound = (vs : List Event) → Sound (reached start vs)
 
@@ -51,9 +52,11 @@ TurnsUnderstand = (s : State) (d : DispatcherId) (x : Dispatcher) → Sound s �
 
 -- ---- calls
 
+-- all calls that an end has accepted, its replies by rule among them
 abbrev pub accepted_by : State → EndId → List TheCall
 accepted_by s e = given (end_of s e) [] λ x. x.out.accepted
 
+-- its replies by rule that aren't accepted yet
 abbrev pub waiting_at : State → EndId → List TheCall
 waiting_at s e = given (end_of s e) [] λ x. x.out.waiting
 
@@ -82,6 +85,7 @@ reply_in s e c =
     given (rule_at x.rules c.msg) None λ msg.
     Some (record { msg = msg; args = c.args })
 
+-- the reply by rule that falls due at this end where an event's answer tells of a call handled there
 abbrev pub replied_in : EndId → State → Answer → List TheCall
 replied_in e s (handle f c) = if same_end e f then cons_option (reply_in s e c) [] else []
 replied_in e s answer = []
@@ -132,6 +136,7 @@ PendingHasAFragment = (vs : List Event) (e : EndId) (b : Binding) → Listed (re
 
 -- ---- rings
 
+-- of one direction: known is at most told, told at most sent, and sent at most one ring's size above known
 pub record CountsInOrder (size : ℕ) (h : Half) : Type 0 where
   pub known : h.known ≤ h.told
   pub told : h.told ≤ h.sent

@@ -41,6 +41,7 @@ has_interface name s = list_any (λ (i : Planned). bytes_eq name i.interface.nam
 abbrev pub with_interface : Planned → State → State
 with_interface i s = record s { interfaces = s.interfaces ++ i ∷ [] }
 
+-- E92: its name is taken; E94: there are 64
 abbrev pub adds_interface : TheInterface → PlanNo → State → Outcome
 adds_interface i plan s =
     if has_interface i.name s then answers s (refused 92)
@@ -49,6 +50,7 @@ adds_interface i plan s =
 
 -- ---- the number of cores
 
+-- the cores are made anew; E93: they were set, or anything but interfaces was made; E94: not 1 to 16
 abbrev pub sets_cores : ℕ → State → Outcome
 sets_cores n s =
     if not s.may_set_cores then answers s (refused 93)
@@ -76,6 +78,7 @@ with_new_link a b size s =
     change_core b (linked a n second_side) (change_core a (linked b n first_side)
     (record s { rings = s.rings ++ fresh_ring size ∷ [] }))
 
+-- E73: a core isn't there, both are one, or they are linked already; E32: a ring can't have this size
 abbrev pub adds_link : ℕ → ℕ → ℕ → State → Outcome
 adds_link a b size s =
     if not (is_core a s && is_core b s) || (a == b) || has_link a b s then answers s (refused 73)
@@ -84,12 +87,14 @@ adds_link a b size s =
 
 -- ---- a dispatcher on a core
 
+-- on all cores together
 abbrev pub count_dispatchers : State → ℕ
 count_dispatchers s = sum (map (λ (k : Core). length k.dispatchers) s.cores)
 
 abbrev pub with_dispatcher : Core → Core
 with_dispatcher k = record k { dispatchers = k.dispatchers ++ fresh_dispatcher ∷ [] }
 
+-- E94: the world has 256; E73: there is no such core
 abbrev pub adds_dispatcher : ℕ → State → Outcome
 adds_dispatcher core s =
     if nat_le most_dispatchers (count_dispatchers s) then answers s (refused 94)
@@ -98,12 +103,15 @@ adds_dispatcher core s =
 
 -- ---- a service
 
+-- no two services of a world have one name
 abbrev pub has_service : List ℕ → State → Bool
 has_service name s = list_any (λ (x : Service). bytes_eq name x.name) s.services
 
+-- at the end of the table of names, so its interface reference is how many stand there then
 abbrev pub with_service : Service → State → State
 with_service x s = record s { services = s.services ++ x ∷ [] }
 
+-- E92: the dispatcher or the interface isn't there; E71: the name is taken; E94: the world has 256
 abbrev pub exports : List ℕ → DispatcherId → ℕ → State → Outcome
 exports name d i s =
     given (dispatcher_of s d) (answers s (refused 92)) λ x.

@@ -24,6 +24,7 @@ pub record Link : Type 0 where
   pub ring : RingEnd
   pub outbox : List Said
 
+-- what a core has: dispatchers, and the table and the links of its monitor
 pub record Core : Type 0 where
   pub dispatchers : List Dispatcher
   -- where the number of each circuit on each link leads, and how many were opened and taken on each
@@ -41,6 +42,7 @@ pub record Service : Type 0 where
   pub dispatcher : DispatcherId
   pub interface : ℕ
 
+-- the service with this interface reference; 0 is no service's
 abbrev pub service_of : List Service → ℕ → Option Service
 service_of services iref = if nat_lt 0 iref then slice_get services (iref - 1) else None
 
@@ -57,9 +59,11 @@ with_circuits t k = record k { circuits = t }
 abbrev pub outbox_room : Link → Bool
 outbox_room link = nat_lt (length link.outbox) 64
 
+-- the outbox of link l has room; never where there is no such link
 abbrev pub can_say : ℕ → Core → Bool
 can_say l k = given (slice_get k.links l) false outbox_room
 
+-- the message waits behind those that are still to be said there
 abbrev pub says_more : Said → Link → Link
 says_more m link = record link { outbox = link.outbox ++ m ∷ [] }
 
@@ -95,6 +99,7 @@ passage next k =
     given (next_own k.circuits l) (fails 74) λ n.
     goes_on l n
 
+-- at the last core of its route an opening arrives; from any core before that it has to go on
 abbrev pub fate : List Service → Opening → Core → Fate
 fate services o k =
     given (next_on o.path k.circuits.core) (arrival services o.service k) λ next.
@@ -163,6 +168,7 @@ hears_refused l c fault hop (to_end e) k =
     let t = without_entry k.circuits (to_link (link_id l) (circuit_id c)) hop.way in
     record { core = with_circuits t k; heard = end_refused e fault }
 
+-- an answer for which no entry stands changes nothing at the core
 abbrev pub goes_astray : Core → Hearing
 goes_astray k = record { core = k; heard = astray }
 

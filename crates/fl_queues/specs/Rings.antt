@@ -24,6 +24,7 @@ pub data Said : Type 0 where
   -- it isn't, for the fault with the second number
   circuit_refused : ℕ → ℕ → Said
 
+-- what stands for a fragment: of a call's, only which one it is; of a monitor's, what that says
 pub data Label : Type 0 where
   -- fragment k, from 0, of all that the end's calls have
   next_of : EndId → ℕ → Label
@@ -59,6 +60,7 @@ pub record Ring : Type 0 where
   pub by_first : Half
   pub by_second : Half
 
+-- the first is the client's; on a link, that of the core that was named first
 pub data RingSide : Type 0 where
   first_side : RingSide
   second_side : RingSide
@@ -118,6 +120,7 @@ pub data Room : Type 0 where
   no_room : Room
   spent : Room
 
+-- by the slots that the side knows to be free, without a look; a spent ring has room for nothing more
 abbrev pub room : ℕ → RingSide → Ring → Room
 room need side r =
     if is_spent side r then spent else if nat_le need (free side r) then there_is_room else no_room

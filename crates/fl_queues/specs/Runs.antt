@@ -15,6 +15,7 @@ pub record Exchange : Type 0 where
   pub event : Event
   pub answer : Answer
 
+-- events asked one after another, from this state on
 abbrev pub run : State → List Event → List Exchange
 run s [] = []
 run s (v ∷ vs) = record { event = v; answer = (step s v).answer } ∷ run (step s v).state vs
@@ -36,10 +37,12 @@ same_side x y = false
 abbrev pub same_end : EndId → EndId → Bool
 same_end e f = (e.binding == f.binding) && same_side e.side f.side
 
+-- the call that an event asked of this end, if it was accepted; replies by rule are asked by no event
 abbrev pub accepted_in : EndId → Event → Answer → List TheCall
 accepted_in e (call f c) accepted = if same_end e f then c ∷ [] else []
 accepted_in e event answer = []
 
+-- the call of which an answer tells that this end handled it
 abbrev pub handled_in : EndId → Answer → List TheCall
 handled_in e (handle f c) = if same_end e f then c ∷ [] else []
 handled_in e answer = []

@@ -20,6 +20,7 @@ use Rattle.fl_queues.specs.State.{ring_side, outlet_by, delivers}
 
 -- ---- a call
 
+-- E41: no such message; E42: the arguments don't fit it; E43: the end isn't bound; E40: it is busy
 abbrev pub makes_call : EndId → TheCall → Planned → End → State → Outcome
 makes_call e c i x s =
     if nat_le (length i.interface.messages) c.msg then answers s (refused 41)
@@ -28,6 +29,7 @@ makes_call e c i x s =
     else if is_busy i x.out then answers s (refused 40)
     else answers (change_out e (accepts c) s) accepted
 
+-- E92, as in every event of an end: its binding isn't there
 abbrev pub calls : EndId → TheCall → State → Outcome
 calls e c s =
     given (binding_of s e) (answers s (refused 92)) λ b.
@@ -69,6 +71,7 @@ stamped_for (ring_side at) s f =
 abbrev pub next_fragment : Planned → End → Option Frag
 next_fragment i x = slice_get (stream (unwrap_or x.circuit 0) i x.out.accepted) (written_of x.out)
 
+-- nothing changes; the answer is `nothing` where no fragment is left to write; E43: the end isn't bound
 abbrev pub shows_next : EndId → Planned → Binding → End → State → Outcome
 shows_next e i b x s =
     if not (is_bound x) then answers s (refused 43)

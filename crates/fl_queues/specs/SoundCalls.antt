@@ -18,11 +18,12 @@ pub record DirectionFits (i : Planned) (d : Direction) : Type 0 where
   pub accepted : AllFit i d.accepted
   pub waiting : AllFit i d.waiting
 
+-- at each end of each binding, by the binding's interface
 abbrev pub CallsFit : State → Type 0
 CallsFit s = (e : EndId) (b : Binding) (i : Planned) → binding_of s e ≡ Some b → interface_of s b ≡ Some i
     → DirectionFits i (end_in e.side b).out
 
--- the message of the reply is there, and takes the arguments of the message that it replies to
+-- both messages are there, and that of the reply takes the arguments of the one that it replies to
 pub record RuleSuits (i : Planned) (msg answer : ℕ) : Type 0 where
   pub message : IsSome (slice_get i.interface.messages msg)
   pub reply : IsSome (slice_get i.interface.messages answer)

@@ -81,6 +81,7 @@ pub record IsDueNear (s : State) (key : Key) (core : Core) (hop : Hop) (route : 
   pub key_is : key ≡ near_key route j
   pub way : SaysWay core hop.way (behind hop.binding route j)
 
+-- the same at the link's far core, where the entry leads on toward the server
 pub record IsDueFar (s : State) (key : Key) (core : Core) (hop : Hop) (route : Route) (j : ℕ) : Type 0 where
   pub within : j < length route.numbers
   pub stands : j + 1 < standing route

@@ -20,12 +20,12 @@ pub record StandsBefore (s : State) (e : EndId) (b : Binding) (j : ℕ) : Type 0
       ≡ range_with_len (slice_index (end_in e.side b).out.passed (suc j))
       (slice_index (end_in e.side b).out.passed j - slice_index (end_in e.side b).out.passed (suc j))
 
+-- between any two stations of an end's direction of which one follows the other
 abbrev pub LabelsFollow : State → Type 0
 LabelsFollow s = (e : EndId) (b : Binding) (j : ℕ) → slice_get s.bindings e.binding ≡ Some b
     → suc j < length (end_in e.side b).out.passed → StandsBefore s e b j
 
--- on a link between two cores stand monitors' messages, acknowledgements, and fragments of ends whose way
--- goes over it
+-- the way of an end's fragments goes from core a to core b
 pub record GoesOver (s : State) (a b : ℕ) (e : EndId) : Type 0 where
   pub route : Route
   pub routed : Routed s e.binding route
@@ -33,6 +33,7 @@ pub record GoesOver (s : State) (a b : ℕ) (e : EndId) : Type 0 where
   pub near : slice_get (way_of e.side route) place ≡ Some a
   pub far : slice_get (way_of e.side route) (suc place) ≡ Some b
 
+-- on the link from a to b: messages, acknowledgements, and fragments of ends whose way goes over it
 abbrev pub MayStandOn : State → ℕ → ℕ → Label → Type 0
 MayStandOn s a b (next_of e k) = GoesOver s a b e
 MayStandOn s a b label = Unit {0}
@@ -43,20 +44,23 @@ MayStandFrom e (next_of f k) = f ≡ e
 MayStandFrom e (says m) = ⊥
 MayStandFrom e acknowledges = Unit {0}
 
+-- one of the fragments of this end's calls
 abbrev pub IsOf : EndId → Label → Type 0
 IsOf e label = (k : ℕ) × (label ≡ next_of e k)
 
+-- nothing else stands on a link, on a binding's ring or in a queue
 pub record LabelsKeepToTheirWays (s : State) : Type 0 where
   pub links : (a b : ℕ) (label : Label) → Contains (on_link s a b) label → MayStandOn s a b label
   pub rings : (e : EndId) (b : Binding) (n : ℕ) (label : Label) → slice_get s.bindings e.binding ≡ Some b
       → b.back ≡ over_ring n → Contains (ring_from s e n) label → MayStandFrom e label
   pub queues : (e : EndId) (label : Label) → Contains (queue_of s e) label → IsOf (peer e) label
 
--- of a circuit that isn't open, nothing was ever written
+-- before the opening has come to the last core nothing was ever written
 abbrev pub OpensBefore : Verdict → Direction → Type 0
 OpensBefore (granted i) d = Unit {0}
 OpensBefore verdict d = written_of d ≡ 0
 
+-- so it is for both of its ends, until the opening has come to the last core
 abbrev pub NothingBeforeTheOpening : State → Type 0
 NothingBeforeTheOpening s = (n : ℕ) (route : Route) (r : Routed s n route)
     → OpensBefore route.verdict r.binding.client.out × OpensBefore route.verdict r.binding.server.out

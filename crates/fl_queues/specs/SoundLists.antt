@@ -47,6 +47,7 @@ ListedAreBound s = (place : Place) (e : EndId) (b : Binding) → Listed s place 
 
 -- ---- a pending channel has a fragment
 
+-- a fragment of a call, whichever end makes that
 abbrev pub IsOfCall : Label → Type 0
 IsOfCall label = (e : EndId) × ((k : ℕ) × (label ≡ next_of e k))
 
@@ -63,6 +64,7 @@ abbrev pub PendingRingsWereLookedAt : State → Type 0
 PendingRingsWereLookedAt s = (e : EndId) (b : Binding) (at : RingEnd) → Listed s Pending e b
     → own_ring e.side b.back ≡ Some at → RingWasLooked s at
 
+-- and in a queue something stands
 abbrev pub PendingQueuesHold : State → Type 0
 PendingQueuesHold s = (e : EndId) (b : Binding) (q : Queue) → Listed s Pending e b
     → (end_in e.side b).queue ≡ Some q → q.labels ≢ []
@@ -77,10 +79,12 @@ abbrev pub RepliesWaitWhereBusy : State → Type 0
 RepliesWaitWhereBusy s = (e : EndId) (b : Binding) (i : Planned) → slice_get s.bindings e.binding ≡ Some b
     → interface_of s b ≡ Some i → (end_in e.side b).out.waiting ≢ [] → is_busy i (end_in e.side b).out ≡ true
 
+-- no queue holds more than its slots; it may be full
 abbrev pub QueuesHaveRoom : State → Type 0
 QueuesHaveRoom s = (e : EndId) (x : End) (q : Queue) → end_of s e ≡ Some x → x.queue ≡ Some q
     → length q.labels ≤ q.capacity
 
+-- no outbox holds more than 64 messages; it may be full
 abbrev pub OutboxesHaveRoom : State → Type 0
 OutboxesHaveRoom s = (n l : ℕ) (k : Core) (link : Link) → core_of s n ≡ Some k
     → slice_get k.links l ≡ Some link → length link.outbox ≤ 64

@@ -27,6 +27,7 @@ pub record IsDue (s : State) (m : Message) : Type 0 where
   pub routed : Routed s binding route
   pub due : due_message binding route ≡ Some m
 
+-- each message that is under way, on a link or in an outbox, is due
 abbrev pub MessagesAreDue : State → Type 0
 MessagesAreDue s = (a b : ℕ) (m : Said) → Contains (under_way s a b) m
     → IsDue s (record { from = a; to = b; said = m })

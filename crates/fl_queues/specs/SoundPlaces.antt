@@ -40,12 +40,13 @@ pub data Owner : Type 0 where
   core_to : ℕ → ℕ → Owner
   this_end : EndId → Owner
 
+-- this side of a ring is the owner's: its link's, or that of its binding's own ring
 abbrev pub owns : State → Owner → RingEnd → Type 0
 owns s (core_to a b) at = (link : Link) × (link_between s a b ≡ Some link) × (link.ring ≡ at)
 owns s (this_end e) at =
     (b : Binding) × (slice_get s.bindings e.binding ≡ Some b) × (own_ring e.side b.back ≡ Some at)
 
--- each side of a ring has one owner
+-- no side of a ring has two owners
 abbrev pub RingsHaveOneOwner : State → Type 0
 RingsHaveOneOwner s = (x y : Owner) (at : RingEnd) → owns s x at → owns s y at → x ≡ y
 
@@ -60,6 +61,7 @@ TakesFrom s local x = IsSome x.queue
 TakesFrom s (over_ring n) x = IsNone x.queue × IsSome (slice_get s.rings n)
 TakesFrom s (over_route route) x = IsSome x.queue
 
+-- how many stations an end's direction has: the write, each link's exit on a route, the other end's take
 abbrev pub stations : Back → ℕ
 stations local = 2
 stations (over_ring n) = 2
@@ -78,10 +80,11 @@ pub record EndStands (s : State) (e : EndId) (x : End) : Type 0 where
 abbrev pub EndsStand : State → Type 0
 EndsStand s = (e : EndId) (x : End) → end_of s e ≡ Some x → EndStands s e x
 
--- an end's channel is its dispatcher's channel for it, and no other's
+-- an end has its seat at this dispatcher, with this channel there
 abbrev pub HasSeat : State → EndId → DispatcherId → ℕ → Type 0
 HasSeat s e d c = (x : End) × (end_of s e ≡ Some x) × (x.seat ≡ Some (record { dispatcher = d; channel = c }))
 
+-- where an end is seated its dispatcher has it, and each that a dispatcher has is seated there
 pub record SeatsAgree (s : State) : Type 0 where
   pub seated : (e : EndId) (d : DispatcherId) (c : ℕ) → HasSeat s e d c
       → (y : Dispatcher) × (dispatcher_of s d ≡ Some y) × (slice_get y.ends c ≡ Some e)

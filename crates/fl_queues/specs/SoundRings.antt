@@ -17,6 +17,7 @@ pub record HalfCounts (size : ℕ) (h : Half) (others : List RingLabel) : Type 0
   pub told : h.told ≤ h.read
   pub room : h.sent ≤ h.known + size
 
+-- in both directions; what tells of one stands among the labels of the other
 pub record RingCounts (r : Ring) : Type 0 where
   pub first : HalfCounts r.size r.by_first r.by_second.waiting
   pub second : HalfCounts r.size r.by_second r.by_first.waiting

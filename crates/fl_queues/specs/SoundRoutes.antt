@@ -51,6 +51,7 @@ abbrev pub ClientBoundAfter : Route → ℕ → Binding → Type 0
 ClientBoundAfter route zero b = b.client.circuit ≡ Some (number_at route 0)
 ClientBoundAfter route (suc i) b = b.client.circuit ≡ None
 
+-- neither end is bound, and the server's isn't made
 abbrev pub NoneBound : Binding → Type 0
 NoneBound b = (b.client.circuit ≡ None) × (b.server.circuit ≡ None) × (b.server.seat ≡ None)
 
@@ -63,15 +64,18 @@ BoundBy route (granted i) b =
     ClientBoundAfter route i b × (b.server.circuit ≡ Some (number_at route (length route.numbers - 1)))
     × IsSome b.server.seat
 
+-- both ends are made and bound, off links: their fragments carry circuit 0
 abbrev pub BothBound : Binding → Type 0
 BothBound b =
     (b.client.circuit ≡ Some 0) × (b.server.circuit ≡ Some 0) × IsSome b.client.seat × IsSome b.server.seat
 
+-- both where queues or a ring join them; over a route by what has come of the opening
 abbrev pub BoundWhere : Back → Binding → Type 0
 BoundWhere local b = BothBound b
 BoundWhere (over_ring n) b = BothBound b
 BoundWhere (over_route route) b = BoundBy route route.verdict b
 
+-- in each binding those ends are bound that should be, and no other
 abbrev pub EndsAreBound : State → Type 0
 EndsAreBound s = (n : ℕ) (b : Binding) → slice_get s.bindings n ≡ Some b → BoundWhere b.back b
 

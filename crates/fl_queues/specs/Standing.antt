@@ -28,6 +28,7 @@ core_at route j = slice_index route.cores j
 abbrev pub number_at : Route → ℕ → ℕ
 number_at route j = slice_index route.numbers j
 
+-- entries stand, undecided, at the cores with a number; granted, at all; denied, at those yet to hear of it
 abbrev pub standing_by : Route → Verdict → ℕ
 standing_by route undecided = length route.numbers
 standing_by route (granted i) = length route.cores
@@ -37,6 +38,7 @@ standing_by route (denied i fault) = i
 abbrev pub standing : Route → ℕ
 standing route = standing_by route route.verdict
 
+-- who waits for the answer: undecided, the cores with a number; else those yet to hear of it
 abbrev pub asking_by : Route → Verdict → ℕ
 asking_by route undecided = length route.numbers
 asking_by route (granted i) = i
@@ -56,7 +58,7 @@ pub record Message : Type 0 where
 abbrev pub back_to : Route → ℕ → Said → Message
 back_to route i m = record { from = core_at route (suc i); to = core_at route i; said = m }
 
--- the one message that is under way for binding n: its opening, to the core behind those that have numbers;
+-- the one message that may be under way for binding n: its opening, to the core behind those that have numbers;
 -- or the answer, to the last of those that wait for it
 abbrev pub due_by : ℕ → Route → Verdict → Option Message
 due_by n route undecided =
@@ -93,6 +95,7 @@ link_state s core neighbour =
 abbrev pub unread : State → RingEnd → List RingLabel
 unread s at = given (slice_get s.rings at.ring) [] λ r. (read_by at.side r).waiting
 
+-- what each of them tells set aside
 abbrev pub labels_of : List RingLabel → List Label
 labels_of ls = map (λ (l : RingLabel). l.label) ls
 
@@ -100,6 +103,7 @@ labels_of ls = map (λ (l : RingLabel). l.label) ls
 abbrev pub on_link : State → ℕ → ℕ → List Label
 on_link s from to = given (link_between s to from) [] λ link. labels_of (unread s link.ring)
 
+-- the monitors' message, where the label stands for one
 abbrev pub said_by : Label → Option Said
 said_by (says m) = Some m
 said_by label = None
@@ -109,10 +113,12 @@ abbrev pub under_way : State → ℕ → ℕ → List Said
 under_way s from to =
     filter_map said_by (on_link s from to) ++ given (link_between s from to) [] λ link. link.outbox
 
+-- the circuit's number on the link, where the message is an opening
 abbrev pub opening_number : Said → Option ℕ
 opening_number (open_circuit o) = Some o.circuit
 opening_number m = None
 
+-- the same where it is an answer, of either kind
 abbrev pub answer_number : Said → Option ℕ
 answer_number (open_circuit o) = None
 answer_number (circuit_opened c) = Some c
@@ -120,9 +126,11 @@ answer_number (circuit_refused c fault) = Some c
 
 -- ---- at the stations of a direction
 
+-- what stands in the queue that the end takes from; nothing where it takes from a ring
 abbrev pub queue_of : State → EndId → List Label
 queue_of s e = given (end_of s e) [] λ x. given x.queue [] λ q. q.labels
 
+-- what stands on ring n, its binding's own, on the way from this end to the other
 abbrev pub ring_from : State → EndId → ℕ → List Label
 ring_from s e n = given (slice_get s.rings n) [] λ r. labels_of (written_by (side_of e.side) r).waiting
 
@@ -132,11 +140,13 @@ abbrev pub before_on : State → EndId → List ℕ → ℕ → List Label
 before_on s e way j =
     if j == length way then queue_of s (peer e) else on_link s (slice_index way (j - 1)) (slice_index way j)
 
+-- the same by how the ends are joined: off links all stands in one place, before the other end's take
 abbrev pub before_by : State → EndId → Back → ℕ → List Label
 before_by s e local j = queue_of s (peer e)
 before_by s e (over_ring n) j = ring_from s e n
 before_by s e (over_route route) j = before_on s e (way_of e.side route) j
 
+-- which fragment of this end's calls a label is, if it is one
 abbrev pub number_of : EndId → Label → Option ℕ
 number_of e (next_of f k) = if same_end e f then Some k else None
 number_of e label = None

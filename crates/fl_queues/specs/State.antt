@@ -25,7 +25,7 @@ pub data Verdict : Type 0 where
   -- for this fault
   denied : ℕ → ℕ → Verdict
 
--- how a binding's two ends are joined
+-- a binding's circuit: over which cores, to which service, and how far its opening has come
 pub record Route : Type 0 where
   -- the service, by its interface reference
   pub service : ℕ
@@ -36,12 +36,14 @@ pub record Route : Type 0 where
   pub numbers : List ℕ
   pub verdict : Verdict
 
+-- how a binding's two ends are joined: by queues on one core, by a ring, or by a circuit
 pub data Back : Type 0 where
   local : Back
   -- one of the world's rings, whose first side is the client's
   over_ring : ℕ → Back
   over_route : Route → Back
 
+-- two ends under one interface, which is known by its place among the world's
 pub record Binding : Type 0 where
   pub interface : ℕ
   pub back : Back
@@ -51,6 +53,7 @@ pub record Binding : Type 0 where
 
 -- ---- the state
 
+-- the whole world; cores, rings, interfaces and bindings are known by their places in these lists, from 0
 pub record State : Type 0 where
   -- no command but those that add interfaces was accepted yet, so the number of cores may still be set
   pub may_set_cores : Bool
@@ -83,6 +86,7 @@ answers s a = record { state = s; answer = a }
 
 -- ---- where things are
 
+-- found by place, and none where nothing stands there
 abbrev pub core_of : State → ℕ → Option Core
 core_of s core = slice_get s.cores core
 
@@ -99,6 +103,7 @@ abbrev pub end_in : Side → Binding → End
 end_in Client b = b.client
 end_in Server b = b.server
 
+-- an end is found from the bind on, so the server's of a circuit before it is made
 abbrev pub end_of : State → EndId → Option End
 end_of s e = given (binding_of s e) None λ b. Some (end_in e.side b)
 
@@ -116,6 +121,7 @@ abbrev pub way_of : Side → Route → List ℕ
 way_of Client route = route.cores
 way_of Server route = reverse route.cores
 
+-- how many cores of a way come before this one; none where it isn't on the way
 abbrev pub place_in : List ℕ → ℕ → Option ℕ
 place_in cores core = position (λ c. c == core) cores
 
@@ -151,6 +157,7 @@ first_link s way =
     given (slice_get way 1) None λ next.
     link_between s core next
 
+-- the other end's queue, the end's side of their ring, or its core's side of the first link on the way
 abbrev pub outlet_by : State → Side → Back → Option Outlet
 outlet_by s side local = Some peer_queue
 outlet_by s side (over_ring n) = Some (ring_side (record { ring = n; side = side_of side }))
@@ -168,6 +175,7 @@ first_on at s = given (slice_get s.rings at.ring) None (first_for at.side)
 
 -- ---- one thing changed
 
+-- in each of these all stays as it is where the thing to be changed isn't there
 abbrev pub change_core : ℕ → (Core → Core) → State → State
 change_core core f s = record s { cores = changed_at core f s.cores }
 
@@ -188,6 +196,7 @@ with_end_in Server f b = record b { server = f b.server }
 abbrev pub change_end : EndId → (End → End) → State → State
 change_end e f s = change_binding e.binding (with_end_in e.side f) s
 
+-- what the end sends: its calls, and how far their fragments have come
 abbrev pub change_out : EndId → (Direction → Direction) → State → State
 change_out e f s = change_end e (λ x. record x { out = f x.out }) s
 

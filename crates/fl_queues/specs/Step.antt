@@ -46,5 +46,6 @@ abbrev pub settles : Event → Outcome → Outcome
 settles (add_interface i plan) o = o
 settles event o = record { state = settles_by o.answer o.state; answer = o.answer }
 
+-- what the event does, and whether the number of cores may still be set after it
 abbrev pub step : State → Event → Outcome
 step s event = settles event (does event s)

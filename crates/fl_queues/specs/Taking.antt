@@ -37,6 +37,7 @@ pub record Chosen : Type 0 where
 abbrev pub takes_next : EndId → EndId → Taken → Planned → State → State
 takes_next e sender taken i s = change_end e (replies i taken) (change_out sender takes_one s)
 
+-- the call that became whole is handled; else more of it is to come
 abbrev pub taken_answer : EndId → Taken → Answer
 taken_answer e (whole c) = handle e c
 taken_answer e a_part = part e
@@ -67,6 +68,7 @@ gives_from_ring t i at s =
     given (first_on at s) (answers (goes_back t Polled s) nothing) λ first.
     takes_label t.end i first.label (goes_back t Polled (change_ring at.ring (takes at.side) s))
 
+-- from its queue; an end that has none takes from its binding's ring
 abbrev pub gives_by : Chosen → Planned → Option Queue → Back → State → Outcome
 gives_by t i (Some q) back s = gives_from_queue t i q s
 gives_by t i None back s =
@@ -93,6 +95,7 @@ abbrev pub finds : Chosen → RingEnd → Label → State → Outcome
 finds t at acknowledges s = answers (comes_off t Polled (change_ring at.ring (takes at.side) s)) (quiet t.end)
 finds t at label s = answers (comes_off t Pending s) (ready t.end)
 
+-- the end looks at its ring; where nothing stands there its channel stays polled, behind the others
 abbrev pub examines : Chosen → State → Outcome
 examines t s =
     given (binding_of s t.end) (answers s nothing) λ b.
@@ -105,6 +108,7 @@ examines t s =
 abbrev pub chosen : DispatcherId → ℕ → EndId → Chosen
 chosen d c e = record { dispatcher = d; channel = c; end = e }
 
+-- where no channel is pending or polled, there is nothing to do
 abbrev pub turns_by : DispatcherId → Dispatcher → Due → State → Outcome
 turns_by d x (pending c) s = given (slice_get x.ends c) (answers s nothing) λ e. gives (chosen d c e) s
 turns_by d x (polled c) s = given (slice_get x.ends c) (answers s nothing) λ e. examines (chosen d c e) s
@@ -129,6 +133,7 @@ acknowledges_on at s =
     let looked = ring_makes_sure for_acknowledgement at s in
     acknowledges_by at (ring_room for_acknowledgement at looked) looked
 
+-- E43: the end isn't bound; where no ring is its binding's own, it has nothing to acknowledge
 abbrev pub acknowledges_end : EndId → State → Outcome
 acknowledges_end e s =
     given (binding_of s e) (answers s (refused 92)) λ b.
@@ -138,12 +143,14 @@ acknowledges_end e s =
 
 -- ---- an end's channel is registered, or deregistered
 
+-- the end is seated, and its channel stands in one of its dispatcher's lists
 abbrev pub has_channel_listed : End → State → Bool
 has_channel_listed x s =
     given x.seat false λ seat.
     given (dispatcher_of s seat.dispatcher) false λ d.
     is_registered d.lists seat.channel
 
+-- it comes to the list in which it has to wait; E43: the end isn't bound; E50: it stands in a list already
 abbrev pub registers_channel : EndId → State → Outcome
 registers_channel e s =
     given (end_of s e) (answers s (refused 92)) λ x.
@@ -151,6 +158,7 @@ registers_channel e s =
     else if has_channel_listed x s then answers s (refused 50)
     else answers (registers_end e s) done
 
+-- what comes for it waits until it is registered again; E43: the end isn't bound; E51: it is in no list
 abbrev pub deregisters_channel : EndId → State → Outcome
 deregisters_channel e s =
     given (end_of s e) (answers s (refused 92)) λ x.
@@ -166,6 +174,7 @@ has_message msg i = nat_lt msg (length i.interface.messages)
 abbrev pub arguments_of : ℕ → Planned → List TheArgType
 arguments_of msg i = types_of (slice_get i.interface.messages msg)
 
+-- E41: one of the two messages isn't there; E42: they have different argument types
 abbrev pub sets_rule : EndId → ℕ → ℕ → State → Outcome
 sets_rule e msg answer s =
     given (binding_of s e) (answers s (refused 92)) λ b.

@@ -9,6 +9,7 @@ use Rattle.fl_lists.specs.ThreeLists.{ThreeLists, empty, pushed, popped, unlinke
 use Rattle.fl_waitset.specs.Waiting.{triggered}
 use Rattle.fl_queues.specs.Ends.{Queue}
 
+-- a waitset, and the ends whose channels it has: channel c is that of the end at place c
 pub record Dispatcher : Type 0 where
   -- its channels: idle, polled, pending
   pub lists : ThreeLists
@@ -40,6 +41,7 @@ waits_in (Some q) = if nat_lt 0 (length q.labels) then Pending else Idle
 abbrev pub registers : ℕ → Place → Dispatcher → Dispatcher
 registers c to d = record d { lists = pushed d.lists c to }
 
+-- the channel is in none of the lists any more
 abbrev pub deregisters : ℕ → Dispatcher → Dispatcher
 deregisters c d = record d { lists = unlinked d.lists c }
 
@@ -59,6 +61,7 @@ pub data Due : Type 0 where
   polled : ℕ → Due
   no_one : Due
 
+-- by the pending channels and the polled ones, each first to last
 abbrev pub first_due : List ℕ → List ℕ → Due
 first_due (c ∷ cs) polled_ones = pending c
 first_due [] (c ∷ cs) = polled c

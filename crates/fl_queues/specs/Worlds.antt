@@ -31,11 +31,13 @@ start_with n = record start { cores = map fresh_core (range_with_len 0 n) }
 abbrev pub Ever : (State → Type 0) → Type 0
 Ever P = (cores : ℕ) (vs : List Event) → 1 ≤ cores → cores ≤ most_cores → P (reached (start_with cores) vs)
 
+-- such a world is sound before anything is asked of it
 abbrev pub WorldsAreSound : Type 0
 WorldsAreSound = (cores : ℕ) → 1 ≤ cores → cores ≤ most_cores → Sound (start_with cores)
 
 -- ---- laws of the states of runs
 
+-- on each direction of each ring known, told and sent keep their order
 abbrev pub CountsAreInOrder : State → Type 0
 CountsAreInOrder s = (n : ℕ) (r : Ring) (side : RingSide) → slice_get s.rings n ≡ Some r
     → CountsInOrder r.size (written_by side r)
@@ -46,6 +48,7 @@ FewWaitWhereBusy s = (e : EndId) (b : Binding) (i : Planned) → binding_of s e 
     → (length (end_in e.side b).out.waiting ≤ 16)
     × ((end_in e.side b).out.waiting ≢ [] → is_busy i (end_in e.side b).out ≡ true)
 
+-- these two, and soundness, in every state that a run from a booted world reaches
 abbrev pub EverInOrder : Type 0
 EverInOrder = Ever CountsAreInOrder
 
@@ -107,6 +110,7 @@ pub record TurnGives (s : State) (d : DispatcherId) (e : EndId) (b : Binding) : 
   pub answer : IsGiven e (step s (turn d)).answer
   pub label : first_before s e b ≡ Some (next_of (peer e) (taken_of (end_in (other e.side) b).out))
 
+-- in a sound state, where the first pending channel is that of this end
 abbrev pub TurnsGiveTheNext : Type 0
 TurnsGiveTheNext = (s : State) (d : DispatcherId) (x : Dispatcher) (c : ℕ) (e : EndId) (b : Binding) → Sound s
     → dispatcher_of s d ≡ Some x → due x ≡ pending c → slice_get x.ends c ≡ Some e → binding_of s e ≡ Some b

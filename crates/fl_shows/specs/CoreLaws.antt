@@ -32,7 +32,7 @@ use Rattle.fl_shows.specs.Cores.{MonitorShows, offer_of, NamesShow}
 abbrev pub registration_of : ℕ → Service → TheRegistration
 registration_of iref x = record { name = x.name; iref = iref; service = offer_of x }
 
--- what a look-up by interface reference finds, and one by name
+-- what a look-up by interface reference finds, and one by name; and one service more is one registration more
 pub record NamesAgree (services : List Service) (names : List TheRegistration) : Type 0 where
   pub found : (iref : ℕ) (x : Service) → service_of services iref ≡ Some x → by_iref iref names ≡ Some (registration_of iref x)
   pub none : (iref : ℕ) → service_of services iref ≡ None → by_iref iref names ≡ None
@@ -41,6 +41,7 @@ pub record NamesAgree (services : List Service) (names : List TheRegistration) :
   pub unnamed : (name : List ℕ) → place_of_service name services ≡ None → by_name name names ≡ None
   pub more : (x : Service) → NamesShow (services ++ x ∷ []) (with_registered names x.name (offer_of x))
 
+-- so it is with each table that has the services in order
 abbrev pub NamesAreShown : Type 0
 NamesAreShown = (services : List Service) (names : List TheRegistration) → NamesShow services names → NamesAgree services names
 
@@ -53,6 +54,7 @@ pub record SendsFirst (l : ℕ) (link : Link) (k : Core) (m : TheMonitor) : Type
   pub none : slice_get link.outbox 0 ≡ None → slice_get (waiting_for m.outboxes l) 0 ≡ None
   pub gone : MonitorShows (without_first_said l k) (without_first l m)
 
+-- so it is with each link of a core, where the monitor is the picture of the core's
 abbrev pub OutboxesAreShown : Type 0
 OutboxesAreShown = (l : ℕ) (link : Link) (k : Core) (m : TheMonitor) → MonitorShows k m → slice_get k.links l ≡ Some link → SendsFirst l link k m
 
@@ -67,6 +69,7 @@ with_new_link neighbour ring k = record {
 abbrev pub with_empty_outbox : CoreId → TheMonitor → TheMonitor
 with_empty_outbox neighbour m = record { circuits = with_link m.circuits neighbour; outboxes = m.outboxes ++ [] ∷ [] }
 
+-- the monitor of a fresh core is its picture, and a monitor that is one stays so as a link is added
 pub record MonitorsBegin : Type 0 where
   pub fresh : (core : ℕ) → MonitorShows (fresh_core core) (fresh_monitor core)
   pub linked : (k : Core) (m : TheMonitor) (neighbour : CoreId) (ring : RingEnd) → MonitorShows k m
@@ -82,6 +85,7 @@ RoomsAgree = (k : Core) (m : TheMonitor) (l : ℕ) → MonitorShows k m → moni
 abbrev pub asked_of : Opening → Asked
 asked_of o = record { binding = o.binding; service = service_id o.service; path = map core_id o.path }
 
+-- a monitor that opened a circuit, under the opening's number, is the picture of the core that did so
 abbrev pub OpensAgree : Type 0
 OpensAgree = (l : ℕ) (o : Opening) (k : Core) (before after : TheMonitor) (c : Circuit) → MonitorShows k before → c.0 ≡ o.circuit
     → Opens (link_id l) (asked_of o) before (Ok c) after → MonitorShows (opens l c.0 o k) after
@@ -108,6 +112,7 @@ HasPlaceAt services o k here = (x : Service) → next_on o.path k.circuits.core 
 abbrev pub LeadsOn : ℕ → Opening → Core → Type 0
 LeadsOn l o k = (next m : ℕ) → next_on o.path k.circuits.core ≡ Some next → link_to next k ≡ Some m → l ≢ m
 
+-- what is asked of an opening before it is heard; of an answer nothing is
 abbrev pub MayBeHeard : List Service → ℕ → Said → Core → Here → Type 0
 MayBeHeard services l (open_circuit o) k here = HasPlaceAt services o k here × LeadsOn l o k
 MayBeHeard services l said k here = Unit {0}
@@ -126,6 +131,7 @@ delivery services l said k = record { services = services; link = l; said = said
 abbrev pub hearing_of : Delivery → Hearing
 hearing_of x = hears x.services x.link x.said x.core
 
+-- by the monitor's answer; where the message is left, or memory ran out, it shows the core as it was
 abbrev pub HearAgrees : Known → Delivery → Result Heard MonitorFault → TheMonitor → Type 0
 HearAgrees known x (Ok heard) after = SameHeard (hearing_of x).heard heard × MonitorShows (hearing_of x).core after
 HearAgrees known x (Err OutboxFull) after = ((hearing_of x).heard ≡ no_outbox) × MonitorShows x.core after
@@ -133,6 +139,7 @@ HearAgrees known x (Err Astray) after = IsAstray known x.core.circuits (link_id 
 HearAgrees known x (Err Memory) after = MonitorShows x.core after
 HearAgrees known x (Err fault) after = ⊥
 
+-- so it is with each message that may be heard, where the monitor knows the machine's services
 abbrev pub HearsAgree : Type 0
 HearsAgree = (known : Known) (x : Delivery) (before after : TheMonitor) (answer : Result Heard MonitorFault)
     → MonitorShows x.core before → NamesShow x.services known.names → MayBeHeard x.services x.link x.said x.core known.here

@@ -17,6 +17,7 @@ OutboxesShow [] [] = Unit {0}
 OutboxesShow (link ∷ links) (frags ∷ outboxes) = AreFragsOf frags (map message_of link.outbox) × OutboxesShow links outboxes
 OutboxesShow links outboxes = ⊥
 
+-- its circuits are those of the machine's core, and its outboxes hold the fragments of that core's messages
 pub record MonitorShows (k : Core) (m : TheMonitor) : Type 0 where
   pub circuits : m.circuits ≡ k.circuits
   pub outboxes : OutboxesShow k.links m.outboxes

@@ -50,6 +50,7 @@ BoundShows = (i : Planned) (x : End) (peer : Direction) (s : TheEnd) (circuit : 
 
 -- ---- a call
 
+-- the call is accepted or refused as by the machine; out of memory the end is as it was
 abbrev pub CallAgrees : EndId → TheCall → MachineEnd → Result (Unit {0}) EndFault → TheEnd → Type 0
 CallAgrees e c m (Ok done) t =
     ((z : State) → makes_call e c m.interface m.end z ≡ answers (change_out e (accepts c) z) accepted)
@@ -58,12 +59,14 @@ CallAgrees e c m (Err Memory) t = Pictured m t
 CallAgrees e c m (Err fault) t =
     ((z : State) → makes_call e c m.interface m.end z ≡ answers z (refused (fault_number fault))) × Pictured m t
 
+-- so it is with each call that an end is asked to make
 abbrev pub CallShows : Type 0
 CallShows = (e : EndId) (c : TheCall) (m : MachineEnd) (s t : TheEnd) (answer : Result (Unit {0}) EndFault)
     → Pictured m s → IsCounted m.interface m.end.out → Calls s c answer t → CallAgrees e c m answer t
 
 -- ---- the fragment that would be written next
 
+-- the machine's next fragment, in this epoch and telling this count; none where all is written
 abbrev pub NextAgrees : ℕ → ℕ → Planned → End → Result (Option Frag) EndFault → Type 0
 NextAgrees epoch told i x (Ok (Some frag)) =
     (is_bound x ≡ true) × ((f : Frag) × (next_fragment i x ≡ Some f) × (frag ≡ stamped f epoch told))
@@ -71,6 +74,7 @@ NextAgrees epoch told i x (Ok None) = (is_bound x ≡ true) × (next_fragment i 
 NextAgrees epoch told i x (Err NotBound) = is_bound x ≡ false
 NextAgrees epoch told i x (Err fault) = ⊥
 
+-- so it is with each end, whatever the epoch and the count
 abbrev pub NextShows : Type 0
 NextShows = (epoch told : ℕ) (i : Planned) (x : End) (peer : Direction) (s : TheEnd) (answer : Result (Option Frag) EndFault)
     → EndShows i x peer s → ShowsNext epoch told s answer → NextAgrees epoch told i x answer
@@ -96,6 +100,7 @@ WriteAgrees puts m p (Err Spent) t q =
 WriteAgrees puts m p (Err NotBound) t q = (is_bound m.end ≡ false) × (q ≡ p) × Pictured m t
 WriteAgrees puts m p (Err fault) t q = ⊥
 
+-- so it is with each end that writes over a side of this kind
 abbrev pub WriteShows : {P : Type 0} → (P → Look → P → Type 0) → Type 0
 WriteShows {P} puts = (m : MachineEnd) (p q : P) (s t : TheEnd) (answer : Result WriteAnswer EndFault)
     → Pictured m s → IsCounted m.interface m.end.out → 1 ≤ length m.end.out.passed
@@ -111,6 +116,7 @@ TakeAgrees i x peer (Ok (Handle call)) t =
 TakeAgrees i x peer (Err Memory) t = EndShows i x peer t
 TakeAgrees i x peer answer t = ⊥
 
+-- so it is where the end takes in the fragment next in turn, its epoch and count set aside
 abbrev pub TakeShows : Type 0
 TakeShows = (i : Planned) (x : End) (peer : Direction) (f : Frag) (s t : TheEnd) (answer : Result ReceiveAnswer EndFault)
     → EndShows i x peer s → Sound s → IsCounted i x.out → AllFit i peer.accepted → 1 ≤ length peer.passed
@@ -125,6 +131,7 @@ IsNextAt {T} takes i peer p = (f : Frag) (q : T) → takes p (saw f) q → slice
 abbrev pub TakesFragments : End → Type 0
 TakesFragments x = (is_bound x ≡ true) × (holds_back x ≡ false)
 
+-- by what is answered; nothing is taken where the end holds back, isn't bound, or is out of memory
 abbrev pub ReceiveAgrees : {T : Type 0} → (T → Look → T → Type 0) → MachineEnd → T → Result ReceiveAnswer EndFault → TheEnd → T → Type 0
 ReceiveAgrees {T} takes m p (Ok Part) t q =
     TakesFragments m.end × ((f : Frag) × (looked : T) × takes p (saw f) looked × takes looked (found f) q)
@@ -140,6 +147,7 @@ ReceiveAgrees takes m p (Err Memory) t q = TakesFragments m.end × ((f : Frag) �
 ReceiveAgrees takes m p (Err NotBound) t q = (is_bound m.end ≡ false) × (q ≡ p) × Pictured m t
 ReceiveAgrees takes m p (Err fault) t q = ⊥
 
+-- so it is over a side of this kind, where what stands first is the fragment next in turn
 abbrev pub ReceiveShows : {T : Type 0} → (T → Look → T → Type 0) → Type 0
 ReceiveShows {T} takes = (m : MachineEnd) (p q : T) (s t : TheEnd) (answer : Result ReceiveAnswer EndFault)
     → Pictured m s → Sound s → IsCounted m.interface m.end.out → length m.end.out.waiting ≤ 16
@@ -156,6 +164,7 @@ are_messages i msg reply = has_message msg i && has_message reply i
 abbrev pub have_same_arguments : Planned → ℕ → ℕ → Bool
 have_same_arguments i msg reply = same_arguments (arguments_of msg i) (arguments_of reply i)
 
+-- the rule is set, or refused for a message that isn't there or for other argument types
 abbrev pub RuleAgrees : ℕ → ℕ → MachineEnd → Result (Unit {0}) EndFault → TheEnd → Type 0
 RuleAgrees msg reply m (Ok done) t =
     (are_messages m.interface msg reply ≡ true) × (have_same_arguments m.interface msg reply ≡ true)
@@ -165,6 +174,7 @@ RuleAgrees msg reply m (Err Misfit) t =
     (are_messages m.interface msg reply ≡ true) × (have_same_arguments m.interface msg reply ≡ false) × Pictured m t
 RuleAgrees msg reply m (Err fault) t = ⊥
 
+-- so it is with each rule, whether the end is bound or not
 abbrev pub RuleShows : Type 0
 RuleShows = (msg reply : ℕ) (m : MachineEnd) (s t : TheEnd) (answer : Result (Unit {0}) EndFault)
     → Pictured m s → SetsRule s msg reply answer t → RuleAgrees msg reply m answer t
@@ -179,5 +189,6 @@ pub record PartsStay (i : Planned) (d : Direction) : Type 0 where
   pub writing : (room : Room) → parts_of i (writes i d room).direction ≡ parts_of i d
   pub passing : (station : ℕ) → station ≢ last_station d → parts_of i (passes station d) ≡ parts_of i d
 
+-- so it is where a way has two stations at least, and no more is taken than the calls have
 abbrev pub OthersStay : Type 0
 OthersStay = (i : Planned) (d : Direction) → 2 ≤ length d.passed → taken_of d ≤ total i d.accepted → PartsStay i d

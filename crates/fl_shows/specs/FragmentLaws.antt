@@ -30,6 +30,7 @@ pub record IsSaid (m : Said) : Type 0 where
   pub only : (f : Frag) (n : Message) → bare f ≡ said_frag m → Says f n → n ≡ message_of m
   pub alone : (f : Frag) → bare f ≡ said_frag m → IsAlone f (message_of m)
 
+-- so is each message whose numbers have their widths
 abbrev pub MessagesAreSaid : Type 0
 MessagesAreSaid = (m : Said) → HasWidths (message_of m) → IsSaid m
 
@@ -44,10 +45,12 @@ abbrev pub NumbersAreSmall : State → Type 0
 NumbersAreSmall s = (n : ℕ) (route : Route) (a b c : ℕ) → Routed s n route → number_between a b route ≡ Some c
     → (1 ≤ c) × (c < 2 ^ 16)
 
+-- the fragments of all calls are carried unchanged, off links and on the link between any two cores
 pub record CallsAreCarried (s : State) : Type 0 where
   pub off_links : AllCarried (calls_off_links s)
   pub between : (a b : ℕ) → AllCarried (calls_between a b s)
 
+-- so it is where calls fit, interfaces keep to their limits, and circuits' numbers are small
 abbrev pub CallsCarried : Type 0
 CallsCarried = (s : State) → CallsFit s → InterfacesKeepLimits s → NumbersAreSmall s → CallsAreCarried s
 
@@ -72,10 +75,12 @@ pub record GoesFrom (a b : ℕ) (s : State) (x : CallFragment) (route : Route) :
   pub onward : (c d n : ℕ) → number_between c d route ≡ Some n
       → slice_get (calls_between c d s x.end) x.number ≡ Some (with_circuit n x.frag)
 
+-- so goes each call's fragment on the link between any two cores
 abbrev pub GoesOn : State → Type 0
 GoesOn s = (a b : ℕ) (x : CallFragment) (binding : Binding) (route : Route) → binding_of s x.end ≡ Some binding
     → route_of binding.back ≡ Some route → slice_get (calls_between a b s x.end) x.number ≡ Some x.frag → GoesFrom a b s x route
 
+-- both are so where calls fit, interfaces keep to their limits, and circuits' numbers are small
 abbrev pub CallsGoOn : Type 0
 CallsGoOn = (s : State) → CallsFit s → InterfacesKeepLimits s → NumbersAreSmall s → OffLinks s × GoesOn s
 
@@ -97,6 +102,7 @@ pub record IsSetAside (f : Frag) : Type 0 where
   pub circuit : circuit_of (bare f).control ≡ circuit_of f.control
   pub another : (n : ℕ) → n < 2 ^ 16 → bare (with_circuit n f) ≡ with_circuit n (bare f)
 
+-- so it is with every fragment
 abbrev pub SetsAside : Type 0
 SetsAside = (f : Frag) → IsSetAside f
 
@@ -106,6 +112,7 @@ TellsKind a b s (next_of e k) f = IsOnLink a b s e f
 TellsKind a b s (says m) f = (f ≡ said_frag m) × (circuit_of f.control ≡ 0)
 TellsKind a b s acknowledges f = f ≡ acknowledgement
 
+-- so it is with each label that stands for a fragment on the link between two cores
 abbrev pub LinksTell : Type 0
 LinksTell = (s : State) → CallsFit s → InterfacesKeepLimits s → NumbersAreSmall s → (a b : ℕ) (label : Label) (f : Frag)
     → frag_of (calls_between a b s) label ≡ Some f → TellsKind a b s label f
@@ -117,5 +124,6 @@ pub record SameFragments (s t : State) : Type 0 where
   pub off_links : GoOn (calls_off_links s) (calls_off_links t)
   pub between : (a b : ℕ) → GoOn (calls_between a b s) (calls_between a b t)
 
+-- so it is wherever interfaces, accepted calls and circuits' numbers are kept
 abbrev pub LabelsStay : Type 0
 LabelsStay = (s t : State) → KeepsCalls s t → SameFragments s t

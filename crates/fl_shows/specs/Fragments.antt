@@ -34,6 +34,7 @@ message_of (circuit_refused c fault) = CircuitRefused (circuit_id c) fault
 abbrev pub monitor_frag : TheCall → Frag
 monitor_frag c = frag_on 0 c.msg (payload_of One intermon c) 0
 
+-- the fragment of what a monitor says, with epoch 0 and nothing told
 abbrev pub said_frag : Said → Frag
 said_frag m = monitor_frag (call_for (message_of m))
 

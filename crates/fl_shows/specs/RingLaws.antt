@@ -25,6 +25,7 @@ pub record IsCarried (f : Frag) : Type 0 where
   pub is_bare : bare f ≡ f
   pub no_ack : is_ack_only f ≡ false
 
+-- each fragment of each end's calls is carried so
 abbrev pub AllCarried : Streams → Type 0
 AllCarried streams = (e : EndId) (k : ℕ) (f : Frag) → slice_get (streams e) k ≡ Some f → IsCarried f
 
@@ -61,6 +62,7 @@ sure_for_data side r = makes_sure for_data side r
 abbrev pub sure_to_acknowledge : RingSide → Ring → Ring
 sure_to_acknowledge side r = makes_sure for_acknowledgement side r
 
+-- and the room that it finds then
 abbrev pub room_for_data : RingSide → Ring → Room
 room_for_data side r = room for_data side (sure_for_data side r)
 
@@ -75,9 +77,11 @@ PutAgrees streams side label r no_room t = (room_for_data side r ≡ none_free) 
 PutAgrees streams side label r spent t = (room_for_data side r ≡ used_up) × RingShows streams (sure_for_data side r) t
 PutAgrees streams side label r look t = ⊥
 
+-- the fragment that was placed, if one was, is that for which the label stands
 abbrev pub IsPutOf : Streams → Label → Look → Type 0
 IsPutOf streams label look = (f : Frag) → look ≡ placed f → frag_of streams label ≡ Some (bare f)
 
+-- so it is at either side of a ring whose counts are in order
 abbrev pub RingPuts : Type 0
 RingPuts = (streams : Streams) (side : RingSide) (label : Label) (r : Ring) (s t : TheDuo) (look : Look)
     → RingShows streams r s → RingCounts r → RingFits r → MayBeSaid label → IsPutOf streams label look
@@ -99,6 +103,7 @@ TakeAgrees streams side r no_room t =
     × RingShows streams (sure_to_acknowledge side r) t
 TakeAgrees streams side r look t = ⊥
 
+-- so it is at either side of a ring whose counts are in order, where links carry the calls' fragments
 abbrev pub RingTakes : Type 0
 RingTakes = (streams : Streams) (side : RingSide) (r : Ring) (s t : TheDuo) (look : Look)
     → RingShows streams r s → RingCounts r → RingFits r → AllCarried streams
@@ -109,6 +114,7 @@ pub record Stamps (side : RingSide) (r : Ring) (s : TheDuo) : Type 0 where
   pub epoch : epoch_next side r ≡ epoch_at s.size (side_of (which_of side) s).sent
   pub number : (read_by side r).read % 65536 ≡ got (side_of (which_of side) s) % 65536
 
+-- so it is at either side of a ring that is the picture of the machine's
 abbrev pub RingStamps : Type 0
 RingStamps = (streams : Streams) (side : RingSide) (r : Ring) (s : TheDuo) → RingShows streams r s → Stamps side r s
 
@@ -125,6 +131,7 @@ QueuePutAgrees streams label q (placed f) t = (queue_room q ≡ there_is_room) �
 QueuePutAgrees streams label q no_room t = (queue_room q ≡ none_free) × QueueShows streams q t
 QueuePutAgrees streams label q look t = ⊥
 
+-- so it is with each queue that is the picture of the machine's
 abbrev pub QueuePutShows : Type 0
 QueuePutShows = (streams : Streams) (label : Label) (q : Queue) (s t : TheQueue) (look : Look)
     → QueueShows streams q s → IsPutOf streams label look
@@ -137,10 +144,11 @@ pub record StandsFirst (streams : Streams) (q : Queue) (f : Frag) : Type 0 where
   pub kind : is_data first ≡ true
   pub frag : frag_of streams first ≡ Some f
 
--- only calls' labels come into queues
+-- labels of calls and of messages stand there, and no acknowledgement
 abbrev pub HoldsCalls : Queue → Type 0
 HoldsCalls q = (n : ℕ) (label : Label) → slice_get q.labels n ≡ Some label → is_data label ≡ true
 
+-- a look or a take, by what it came to; a queue has nothing to tell, and stays
 abbrev pub QueueTakeAgrees : Streams → Queue → Look → TheQueue → Type 0
 QueueTakeAgrees streams q (saw f) t = StandsFirst streams q f × QueueShows streams q t
 QueueTakeAgrees streams q (found f) t = StandsFirst streams q f × QueueShows streams (without_first q) t
@@ -148,6 +156,7 @@ QueueTakeAgrees streams q missed t = (slice_get q.labels 0 ≡ None) × QueueSho
 QueueTakeAgrees streams q kept t = QueueShows streams q t
 QueueTakeAgrees streams q look t = ⊥
 
+-- so it is with each queue in which no acknowledgement stands
 abbrev pub QueueTakeShows : Type 0
 QueueTakeShows = (streams : Streams) (q : Queue) (s t : TheQueue) (look : Look)
     → QueueShows streams q s → AllCarried streams → HoldsCalls q
@@ -155,6 +164,7 @@ QueueTakeShows = (streams : Streams) (q : Queue) (s t : TheQueue) (look : Look)
 
 -- ---- new rings and queues
 
+-- a new ring and a new queue are the pictures of the machine's, whatever they will carry
 pub record NewShow : Type 0 where
   pub ring : (streams : Streams) (size : ℕ) → RingShows streams (fresh_ring size) (record { size = size; one = new_half; two = new_half })
   pub queue : (streams : Streams) (capacity : ℕ)
@@ -162,9 +172,11 @@ pub record NewShow : Type 0 where
 
 -- ---- while calls are accepted
 
+-- what is a picture by the fragments of some calls is one by those of more
 pub record StillShow (streams more : Streams) : Type 0 where
   pub rings : (r : Ring) (s : TheDuo) → RingShows streams r s → RingShows more r s
   pub queues : (q : Queue) (s : TheQueue) → QueueShows streams q s → QueueShows more q s
 
+-- so it is where each label that stood for a fragment stands for it still
 abbrev pub PicturesGoOn : Type 0
 PicturesGoOn = (streams more : Streams) → GoOn streams more → StillShow streams more

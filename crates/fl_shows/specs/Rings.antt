@@ -37,6 +37,7 @@ pub record DirectionShows (streams : Streams) (h : Half) (writer reader : TheHal
   pub tells : numbers_told reader.waiting ≡ numbers_due h.waiting
   pub said : AllMayBeSaid h.waiting
 
+-- both directions, of as many slots; what the first side writes goes from side one to side two
 pub record RingShows (streams : Streams) (r : Ring) (d : TheDuo) : Type 0 where
   pub size : d.size ≡ r.size
   pub forth : DirectionShows streams r.by_first d.one d.two

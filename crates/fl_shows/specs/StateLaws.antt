@@ -16,7 +16,7 @@ use Rattle.fl_shows.specs.Fragments.{frag_of, calls_off_links, calls_between}
 use Rattle.fl_shows.specs.FragmentLaws.{NumbersAreSmall}
 use Rattle.fl_shows.specs.RingLaws.{IsFirst, StandsFirst, HoldsCalls}
 
--- an end of a binding, with the calls that it takes
+-- an end of a binding, whose interface is there
 pub record EndIn (s : State) (e : EndId) (b : Binding) (i : Planned) : Type 0 where
   pub binding : slice_get s.bindings e.binding ≡ Some b
   pub interface : interface_of s b ≡ Some i
@@ -31,6 +31,8 @@ taken_by e b = (end_in (peer e).side b).out
 abbrev pub IsInTurn : Planned → Direction → Frag → Type 0
 IsInTurn i d f = slice_get (stream 0 i d.accepted) (taken_of d) ≡ Some f
 
+-- of each end: where data stands first on its ring or in its queue, it is that fragment; its queue holds no
+-- acknowledgement, and it has taken no more of the other's fragments than there are
 pub record FirstInTurn (s : State) : Type 0 where
   pub rings : (e : EndId) (b : Binding) (i : Planned) (at : RingEnd) (r : Ring) (f : Frag) → EndIn s e b i
       → own_ring e.side b.back ≡ Some at → slice_get s.rings at.ring ≡ Some r
@@ -41,6 +43,7 @@ pub record FirstInTurn (s : State) : Type 0 where
   pub calls : (e : EndId) (b : Binding) (i : Planned) (q : Queue) → EndIn s e b i → (end_in e.side b).queue ≡ Some q → HoldsCalls q
   pub few : (e : EndId) (b : Binding) (i : Planned) → EndIn s e b i → taken_of (taken_by e b) ≤ total i (taken_by e b).accepted
 
+-- so it is in each state of which these parts of soundness hold
 abbrev pub FirstIsInTurn : Type 0
 FirstIsInTurn = (s : State) → EndsStand s → RoutesLead s → LabelsFollow s → LabelsKeepToTheirWays s → WritesAreCounted s → FirstInTurn s
 
@@ -53,6 +56,7 @@ StandsFor s e i x (over_route route) = (a b : ℕ) → slice_get (way_of e.side 
     → frag_of (calls_between a b s) (next_of e (written_of x.out)) ≡ next_fragment i x
 StandsFor s e i x back = frag_of (calls_off_links s) (next_of e (written_of x.out)) ≡ next_fragment i x
 
+-- so it is for each end that is bound, where these parts of soundness hold
 abbrev pub NextIsWritten : Type 0
 NextIsWritten = (s : State) (e : EndId) (b : Binding) (i : Planned) → RoutesLead s → NumbersGoAlongRoutes s → VerdictsFit s → EndsAreBound s
     → EndIn s e b i → is_bound (end_in e.side b) ≡ true → StandsFor s e i (end_in e.side b) b.back

@@ -1,5 +1,5 @@
 -- Which fault of a run comes of which fault below, and why there is one. The public promise rests on `IsRunFault`.
-use Rattle.std.specs.Prelude.{ℕ, List, ◌⊎◌}
+use Rattle.std.specs.Prelude.{List, ◌⊎◌}
 use Rattle.fl_jobs.specs.Jobs.{Job}
 use Rattle.fl_worlds.specs.declared.parts.Parts.{Parts}
 use Rattle.fl_dockets.specs.Whole.{NoneRefused, IsFault}

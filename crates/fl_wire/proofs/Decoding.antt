@@ -20,7 +20,8 @@ use Rattle.fl_value.specs.declared.value.PlanNo.{PlanNo}
 use Rattle.fl_layout.specs.Leaves.{leaves, is_number_type}
 use Rattle.fl_layout.specs.Places.{size, count_for, count}
 use Rattle.fl_wire.specs.Payload.{payload_of, word, frag_on, frags_of}
-use Rattle.fl_wire.specs.Standing.{words_in, HoldsPayload, raw_of, signed_half, number_back}
+use Rattle.fl_wire.specs.Standing.{words_in, raw_of, signed_half, number_back}
+use Rattle.fl_wire.specs.Shapes.{Agrees}
 use Rattle.fl_wire.proofs.Bytes.{get_made}
 use Rattle.fl_wire.proofs.Readings.{window_of, window_at, window_small, byte_of_payload, all_small, length_frags}
 
@@ -106,7 +107,7 @@ prefix_get plan i c k j frags h e small =
     ap (λ (fs : List Frag). slice_get fs j) (e ∙ prefix_frags plan i c k h) ∙ get_made (frag_on 0 c.msg (payload_of plan i c)) 0 k j small
     ∙ ap (λ (m : ℕ). Some (frag_on 0 c.msg (payload_of plan i c) m)) (omega arith)
 
-pub prefix_holds : (plan : PlanNo) (i : TheInterface) (c : TheCall) (k : ℕ) (frags : List Frag) → k ≤ count plan i c → frags ≡ take k (frags_of plan i c) → HoldsPayload frags (leaves plan i c)
+pub prefix_holds : (plan : PlanNo) (i : TheInterface) (c : TheCall) (k : ℕ) (frags : List Frag) → k ≤ count plan i c → frags ≡ take k (frags_of plan i c) → Agrees frags (leaves plan i c) (56 * length frags)
 prefix_holds plan i c k frags h e = record {
   at = λ p inside.
       let bytes = payload_of plan i c in

@@ -42,7 +42,7 @@ prefix_agrees plan i c k frags ts within are types =
     let holds = prefix_holds plan i c k frags within are in
     let same : leaves plan i c ≡ arguments_onto false (of_ranks kind plan 5 0 (zip ts c.args)) []
     = leaves_ranks plan i c ∙ ap (λ (us : List TheArgType). arguments_onto false (of_ranks kind plan 5 0 (zip us c.args)) []) (sym types) in
-    subst (λ (ls : List Leaf). Agrees frags ls (56 * length frags)) same (record { at = holds.at })
+    subst (λ (ls : List Leaf). Agrees frags ls (56 * length frags)) same holds
 
 pub prefix_size : (plan : PlanNo) (i : TheInterface) (c : TheCall) (ts : List TheArgType) → ts ≡ argument_types i c.msg → size (leaves plan i c) ≡ size ((calls_of plan ts).onto c.args [])
 prefix_size plan i c ts types =

@@ -9,7 +9,7 @@ use Rattle.fl_value.specs.declared.value.PlanNo.{PlanNo}
 use Rattle.fl_wire.specs.Reading.{Means}
 use Rattle.fl_wire.specs.Wrong.{start_fault, follow_fault}
 
--- a fragment as it is in memory: seven words of 64 bits
+-- a fragment's payload as it is in memory: seven words of 64 bits
 pub record Line (f : Frag) : Type 0 where
   pub seven : length f.words ≡ 7
   pub small : All (λ w. w < 2 ^ 64) f.words

@@ -18,6 +18,7 @@ payload_at (leaf ∷ before) p =
     then byte_at (p - place leaf before) leaf.value
     else payload_at before p
 
+-- the bytes of these leaves, from 0 to the end of the last one; none where there are no leaves
 abbrev pub payload_bytes : List Leaf → List ℕ
 payload_bytes ls = map (payload_at ls) (range_with_len 0 (size ls))
 

@@ -58,6 +58,7 @@ pub record Starts (plan : PlanNo) (i : TheInterface) (frags : List Frag) (call :
   pub short : length frags < count plan i call
   pub prefix : frags ≡ take (length frags) (frags_of plan i call)
 
+-- what may stand behind whole calls: nothing, or some of the first fragments of a fitting call, but not all
 abbrev pub IsRest : PlanNo → TheInterface → List Frag → Type 0
 IsRest plan i frags = (frags ≡ []) ⊎ ((call : TheCall) × Starts plan i frags call)
 

@@ -54,6 +54,7 @@ number_in of_length width bound = record {
   alive = 0 < bound;
 }
 
+-- numbers below a bound that are no lengths
 abbrev pub number_below : ℕ → ℕ → Shape
 number_below width bound = number_in false width bound
 

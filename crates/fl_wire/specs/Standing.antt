@@ -1,6 +1,6 @@
 -- What a reader of fragments knows: their bytes, the leaves that stand under others, and numbers by their bits.
 use Rattle.std.specs.Prelude.{◌≡◌, ◌≢◌, ℕ, ℤ, pos, ◌-ℤ◌, ◌-◌, ◌*◌, ◌/◌, ◌%◌, ◌^◌, ◌<◌, ◌≤◌, ◌&&◌}
-use Rattle.std.specs.Prelude.{nat_lt, nat_le, if◌then◌else◌, Bool, List, ◌++◌, [], map, length, slice_index, slice_get, Option, Some, None}
+use Rattle.std.specs.Prelude.{nat_lt, nat_le, if◌then◌else◌, Bool, List, ◌++◌, [], map, slice_index, slice_get, Option, Some, None}
 use Rattle.std.specs.List.{list_all}
 use Rattle.std.specs.Int.{byte_at}
 use Rattle.fl_base.specs.declared.fragment.Frag.{Frag}
@@ -8,7 +8,6 @@ use Rattle.fl_interface.specs.Interface.{scalar, TheArgType, fixed}
 use Rattle.fl_value.specs.Fits.{is_argument, is_signed, scalar_bits}
 use Rattle.fl_value.specs.Tape.{Argument}
 use Rattle.fl_layout.specs.Leaves.{Leaf, bits_of}
-use Rattle.fl_wire.specs.Payload.{payload_at}
 use Rattle.fl_wire.specs.Widths.{number_width, number_of}
 
 -- some leaves stand under others
@@ -24,6 +23,7 @@ firsts args = map (λ (a : Argument). a.0) args
 abbrev pub fitting : List Argument → Bool
 fitting args = list_all (λ (a : Argument). is_argument a.0 a.1) args
 
+-- the payload words of a fragment; none past the last fragment
 abbrev pub words_in : Option Frag → List ℕ
 words_in None = []
 words_in (Some f) = f.words
@@ -43,10 +43,6 @@ pub record FirstNonzero (frags : List Frag) (at end : ℕ) : Type 0 where
   pub before : p < end
   pub nonzero : byte_in frags p ≢ 0
   pub zeros : (q : ℕ) → at ≤ q → q < p → byte_in frags q ≡ 0
-
--- the fragments hold the first bytes of a payload
-pub record HoldsPayload (frags : List Frag) (full : List Leaf) : Type 0 where
-  pub at : (p : ℕ) → p < 56 * length frags → byte_in frags p ≡ payload_at full p
 
 -- a number argument's bits
 abbrev pub raw_of : Argument → ℕ

@@ -1,11 +1,9 @@
 -- What it comes to that a binding is made: its ends are joined by queues, by a ring, or by a circuit, of which the client's end is made first.
-use Rattle.std.specs.Prelude.{ℕ, ◌≡◌, ◌≢◌, ◌⊎◌, ◌+◌, ◌*◌, ◌==◌, ◌||◌, ◌&&◌, nat_le}
+use Rattle.std.specs.Prelude.{ℕ, ◌≡◌, ◌⊎◌, ◌+◌, ◌*◌, ◌==◌, ◌||◌, ◌&&◌, nat_le}
 use Rattle.std.specs.Prelude.{nat_lt, not, Bool, false, if◌then◌else◌, List, [], ◌∷◌, ◌++◌, length, map}
-use Rattle.std.specs.Prelude.{slice_get, slice_set, Option, Some, None, IsSome, Result, Ok, Err}
+use Rattle.std.specs.Prelude.{slice_get, Option, Some, None, IsSome, Result, Ok, Err}
 use Rattle.std.specs.List.{list_all}
-use Rattle.fl_base.specs.declared.identity.CoreId.{CoreId}
 use Rattle.fl_base.specs.declared.identity.EndId.{EndId}
-use Rattle.fl_base.specs.declared.identity.IRef.{IRef}
 use Rattle.fl_base.specs.declared.identity.LinkId.{LinkId}
 use Rattle.fl_base.specs.Given.{given}
 use Rattle.fl_base.specs.Numbered.{core_id}
@@ -17,7 +15,6 @@ use Rattle.fl_ring.specs.Side.{SideTakes}
 use Rattle.fl_ring.specs.declared.duo_side.DuoSide.{DuoSide}
 use Rattle.fl_endpoint.specs.View.{TheEnd, fresh}
 use Rattle.fl_nameserv.specs.Registrations.{TheRegistration, by_name}
-use Rattle.fl_core.specs.View.{TheBoard}
 use Rattle.fl_core.specs.declared.fault.BoardFault.{BoardFault}
 use Rattle.fl_core.specs.declared.fault.BoardFault.TheVariants as board
 use Rattle.fl_core.specs.Turns.{over}
@@ -26,9 +23,7 @@ use Rattle.fl_monitor.specs.declared.fault.MonitorFault.TheVariants as monitor
 use Rattle.fl_monitor.specs.declared.opening.Opening.{Opening}
 use Rattle.fl_monitor.specs.Faults.{fault_number as monitor_number}
 use Rattle.fl_monitor.specs.Monitors.{MayOpen, wanted}
-use Rattle.fl_node.specs.declared.wire.Wire.{Wire}
 use Rattle.fl_node.specs.declared.wire.Wire.TheVariants.{Queues, Ring}
-use Rattle.fl_node.specs.declared.wire.Port.{Port}
 use Rattle.fl_node.specs.declared.fault.OpenFault.{OpenFault}
 use Rattle.fl_node.specs.declared.fault.OpenFault.TheVariants as fault
 use Rattle.fl_node.specs.Faults.{open_number}
@@ -38,7 +33,7 @@ use Rattle.fl_node.specs.Making.{AddsPort, asked, Asks}
 use Rattle.fl_queues.specs.Events.{DispatcherId, Kind, by_queues, by_ring, by_route, Answer, done}
 use Rattle.fl_queues.specs.Binding.{same_dispatcher, all_differ}
 use Rattle.fl_worlds.specs.declared.binding.Binding.{Binding}
-use Rattle.fl_worlds.specs.View.{Given, If, TheWorld, has_dispatcher, which_at, IsWhole, with_core}
+use Rattle.fl_worlds.specs.View.{Given, If, TheWorld, has_dispatcher, IsWhole, with_core}
 use Rattle.fl_worlds.specs.Lending.{Refuses, DoesNothing, IsLent}
 use Rattle.fl_worlds.specs.Making.{is_core, new_duo}
 
@@ -68,6 +63,7 @@ has_places d n w =
     given (slice_get k.board.dispatchers d.place) false λ x.
     nat_le (length x.ends + n) 1024
 
+-- places for an end at each of the two dispatchers; where they are one, it needs two
 abbrev pub has_both_places : Request → TheWorld → Bool
 has_both_places want w =
     if same_dispatcher want.client want.server then has_places want.client 2 w
@@ -80,7 +76,7 @@ HasEndOf n core w =
 
 -- ---- by queues
 
--- two queues, the first of this number and the other of the next: that leads to the server, this to the client
+-- two queues of numbers one after another: the first leads forth to the server, the next back to the client
 pub record QueuePair : Type 0 where
   pub first : ℕ
   pub forth : TheQueue
@@ -109,9 +105,11 @@ pub record IsJoined (want : Request) (n : ℕ) (queues : QueuePair) (before afte
   pub server_answer : Result (Unit {0}) BoardFault
   pub registers_server : OnBoard client_listed (λ b c. RegistersAt QueueTakes server (over b queues.forth) server_answer (over c queues.forth)) after
 
+-- an empty queue of so many slots, each free once its fragment is taken
 abbrev pub new_queue : ℕ → TheQueue
 new_queue slots = record { items = []; untold = 0; sent = 0; capacity = slots; acked = false }
 
+-- both ends are made at the client's core, over two new queues, and the binding stands behind the others
 pub record JoinsByQueues (want : Request) (slots : ℕ) (w w2 : TheWorld) : Type 0 where
   pub core : TheCore
   pub core_is : slice_get w.cores want.client.core ≡ Some core
@@ -124,6 +122,7 @@ pub record JoinsByQueues (want : Request) (slots : ℕ) (w w2 : TheWorld) : Type
     bindings = w.bindings ++ binding_for want None ∷ [];
   }
 
+-- refused where the dispatchers aren't on one core, then for the number of slots, then for want of places
 abbrev pub BindsByQueues : Request → ℕ → TheWorld → Answer → TheWorld → Type 0
 BindsByQueues want slots w a w2 =
     If (not (want.client.core == want.server.core)) (Refuses 73 w a w2)
@@ -153,6 +152,7 @@ pub record JoinsSide (want : Request) (end : NewEnd) (m : ℕ) (ring : TheDuo) (
   pub answer : Result (Unit {0}) BoardFault
   pub registers : OnBoard added (λ b c. RegistersAt SideTakes place (over b side) answer (over c side)) after
 
+-- an end is made at each of the two cores, over a new ring, whose first side is the client's
 pub record JoinsByRing (want : Request) (size : ℕ) (w w2 : TheWorld) : Type 0 where
   pub first : TheCore
   pub first_is : slice_get w.cores want.client.core ≡ Some first
@@ -184,6 +184,7 @@ BindsByRing want size w a w2 =
 
 -- ---- by a circuit
 
+-- the opening of binding n: its service by the interface reference, and the whole route
 abbrev pub opening_for : Request → ℕ → List ℕ → Opening
 opening_for want n cores = record { binding = n; service = record { 0 = want.iref }; path = map core_id cores }
 
@@ -223,6 +224,7 @@ abbrev pub OpensBy : Result LinkId MonitorFault → RouteRequest → TheCore →
 OpensBy (Err fault) x core w a w2 = Refuses (monitor_number fault) w a w2
 OpensBy (Ok l) x core w a w2 = OpensOn x l core w a w2 ⊎ (HasEndOf (length w.bindings) x.want.client.core w × DoesNothing w a w2)
 
+-- the client's core tells on which of its links the route begins, or why on none; the rest follows that
 pub record OpensFrom (want : Request) (cores : List ℕ) (w : TheWorld) (a : Answer) (w2 : TheWorld) : Type 0 where
   pub core : TheCore
   pub core_is : slice_get w.cores want.client.core ≡ Some core
@@ -236,16 +238,19 @@ abbrev pub may_be_route : List ℕ → TheWorld → Bool
 may_be_route cores w =
     nat_le 2 (length cores) && nat_le (length cores) 16 && list_all (λ n. is_core n w) cores && all_differ cores
 
+-- what can't be a route in this world is refused before the client's core is asked
 abbrev pub BindsByRoute : Request → List ℕ → TheWorld → Answer → TheWorld → Type 0
 BindsByRoute want cores w a w2 = If (not (may_be_route cores w)) (Refuses 73 w a w2) (OpensFrom want cores w a w2)
 
 -- ---- the event
 
+-- by how the ends are to be joined
 abbrev pub BindsBy : Request → Kind → TheWorld → Answer → TheWorld → Type 0
 BindsBy want (by_queues slots) w a w2 = BindsByQueues want slots w a w2
 BindsBy want (by_ring size) w a w2 = BindsByRing want size w a w2
 BindsBy want (by_route cores) w a w2 = BindsByRoute want cores w a w2
 
+-- from the client's dispatcher, the interface, its program, and the service as the table of names has it
 abbrev pub wanted_from : DispatcherId → ℕ → Program → TheRegistration → Request
 wanted_from client i p r = record {
   client = client;

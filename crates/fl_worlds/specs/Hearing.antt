@@ -1,5 +1,5 @@
 -- A working file, on which no public promise rests by itself: the law of a message that a core hears, on which the law of forwarding stands.
-use Rattle.std.specs.Prelude.{ℕ, ◌≡◌, Some}
+use Rattle.std.specs.Prelude.{◌≡◌, Some}
 use Rattle.fl_base.specs.declared.fragment.Frag.{Frag}
 use Rattle.fl_base.specs.Control.{bare}
 use Rattle.fl_ring.specs.Duo.{TheDuo}

@@ -35,6 +35,7 @@ Agree Event event = (w w2 : TheWorld) (s : State) (a : Answer) → Shows w s →
 
 -- ---- what is made
 
+-- for any interface under any plan, and so each law below for any event of its kind
 abbrev pub InterfacesAgree : Type 0
 InterfacesAgree = (i : TheInterface) (plan : PlanNo) → Agree (AddsInterface i plan) (adds_interface i plan)
 
@@ -50,6 +51,7 @@ DispatchersAgree = (core : ℕ) → Agree (AddsDispatcher core) (adds_dispatcher
 abbrev pub ExportsAgree : Type 0
 ExportsAgree = (name : List ℕ) (d : DispatcherId) (i : ℕ) → Agree (Exports name d i) (exports name d i)
 
+-- by queues, by a ring and by a circuit
 abbrev pub BindsAgree : Type 0
 BindsAgree = (client : DispatcherId) (i : ℕ) (name : List ℕ) (kind : Kind) → Agree (Binds (named_request client i name kind)) (binds client i name kind)
 
@@ -87,6 +89,7 @@ MonitorWritesAgree = (core neighbour : ℕ) → Agree (WritesMessage core neighb
 abbrev pub MonitorAcksAgree : Type 0
 MonitorAcksAgree = (core neighbour : ℕ) → Agree (AcksLink core neighbour) (monitor_acknowledges core neighbour)
 
+-- whatever stands first on the link
 abbrev pub ForwardsAgree : Type 0
 ForwardsAgree = (core neighbour : ℕ) → Agree (Forwards core neighbour) (forwards core neighbour)
 
@@ -97,6 +100,7 @@ pub record StepAgrees (event : Event) (s : State) (a : Answer) (w : TheWorld) : 
   pub answer : (step s event).answer ≡ a
   pub shows : Shows w (step s event).state
 
+-- so it is for every event in every world that shows a state
 abbrev pub StepsAgree : Type 0
 StepsAgree = (event : Event) (w w2 : TheWorld) (s : State) (a : Answer) → Shows w s → Steps event w a w2 → StepAgrees event s a w2
 

@@ -1,6 +1,6 @@
 -- Where an event happens in a world: at a core, over a queue or a side of a ring that is lent to it, or at an end that
 -- isn't made yet. Nothing else has changed.
-use Rattle.std.specs.Prelude.{ℕ, ◌≡◌, List, slice_get, Option, Some, None}
+use Rattle.std.specs.Prelude.{ℕ, ◌≡◌, List, slice_get, Some, None}
 use Rattle.fl_link.specs.Looks.{Look}
 use Rattle.fl_link.specs.Queue.{TheQueue, front_of}
 use Rattle.fl_ring.specs.Duo.{TheDuo, side_of}

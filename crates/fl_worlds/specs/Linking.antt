@@ -1,10 +1,9 @@
 -- What it comes to, at a core's end of a link, that the core's monitor writes, that the core acknowledges, and that it forwards what stands first there.
 use Rattle.std.specs.Prelude.{ℕ, ◌≡◌, ◌≢◌, ◌⊎◌, nat_lt, slice_get, Option, Some, None, Result, Ok, Err, if◌then◌else◌}
 use Rattle.fl_base.specs.declared.fragment.Frag.{Frag}
-use Rattle.fl_base.specs.declared.identity.EndId.{EndId}
 use Rattle.fl_base.specs.declared.identity.LinkId.{LinkId}
 use Rattle.fl_base.specs.declared.identity.Side.{Side}
-use Rattle.fl_base.specs.declared.identity.Side.TheVariants.{Client, Server}
+use Rattle.fl_base.specs.declared.identity.Side.TheVariants.{Server}
 use Rattle.fl_base.specs.declared.identity.Circuit.{Circuit}
 use Rattle.fl_base.specs.Control.{bare, with_circuit}
 use Rattle.fl_base.specs.Given.{given}
@@ -44,7 +43,7 @@ pub record LinkEnd : Type 0 where
   pub link : ℕ
   pub side : ℕ
 
--- that of its link to a neighbour
+-- that of its link to a neighbour, whose number has 8 bits
 abbrev pub lane_to : TheWorld → ℕ → ℕ → Option LinkEnd
 lane_to w core neighbour =
     if nat_lt neighbour 256
@@ -56,15 +55,18 @@ lane_to w core neighbour =
 
 -- ---- the monitor writes
 
+-- fragment 1 of 1, no room for it, or nothing to say; a spent link is one without room
 abbrev pub write_answer : MonitorWrite → Answer
 write_answer write.Written = written 1 1
 write_answer write.Full = full
 write_answer write.Spent = full
 write_answer write.Nothing = nothing
 
+-- what waits first for link l is put at the core's side of its ring, which is lent, if there is room
 abbrev pub MonitorWritesWith : ℕ → Answer → TheCore → DuoSide → TheCore → DuoSide → Type 0
 MonitorWritesWith l a k p k2 q = (r : MonitorWrite) × MonitorWrites SidePuts l (at_side k p) r (at_side k2 q) × (a ≡ write_answer r)
 
+-- refused where the core has no such link; else the core and the link's ring alone may change
 abbrev pub WritesMessage : ℕ → ℕ → TheWorld → Answer → TheWorld → Type 0
 WritesMessage core neighbour w a w2 =
     Given (lane_to w core neighbour) (Refuses 73 w a w2) λ at.
@@ -72,14 +74,17 @@ WritesMessage core neighbour w a w2 =
 
 -- ---- the core acknowledges
 
+-- all that was read is told, there is too little to tell, or no slot is free to tell it
 abbrev pub ack_answer : AckAnswer → Answer
 ack_answer ack.Done = done
 ack_answer ack.Nothing = nothing
 ack_answer ack.Full = full
 
+-- the core's side of the link's ring, which is lent, tells what was read; the core stays as it was
 abbrev pub AcksLinkWith : Answer → TheCore → DuoSide → TheCore → DuoSide → Type 0
 AcksLinkWith a k p k2 q = (r : AckAnswer) × Acknowledges SideTakes p r q × (k2 ≡ k) × (a ≡ ack_answer r)
 
+-- refused where the core has no such link; else the link's ring alone may change
 abbrev pub AcksLink : ℕ → ℕ → TheWorld → Answer → TheWorld → Type 0
 AcksLink core neighbour w a w2 =
     Given (lane_to w core neighbour) (Refuses 73 w a w2) λ at.
@@ -141,10 +146,12 @@ abbrev pub BringsRules : Spot → Side → ℕ → TheWorld → TheWorld → Typ
 BringsRules (made n place) Server b w w2 = TakesRules w n place b w2 ⊎ ((HasRules w n place b → ⊥) × (w2 ≡ w))
 BringsRules spot side b w w2 = w2 ≡ w
 
+-- so it is where the message opened an end; else nothing more changes
 abbrev pub ThenRules : Result MonitorAnswer LinkFault → TheWorld → TheWorld → Type 0
 ThenRules (Ok (told.Opened e)) w w2 = BringsRules (spot_of w e) e.side e.binding w w2
 ThenRules r w w2 = w2 ≡ w
 
+-- what a core of this world may look up as it hears: the services' names, and all programs
 abbrev pub offers_in : TheWorld → Offers
 offers_in w = record { names = w.names; programs = w.programs }
 
@@ -158,6 +165,7 @@ pub record HearsFirst (core : ℕ) (at : LinkEnd) (frag : Frag) (w : TheWorld) (
 
 -- ---- a call's fragment goes on, or arrives
 
+-- it moved, or found no room and stays; a spent link has no room
 abbrev pub moved_answer : Outcome → Answer
 moved_answer outcome.Moved = forwarded
 moved_answer outcome.Full = full
@@ -173,6 +181,7 @@ pub record Move : Type 0 where
 abbrev pub move_of : ℕ → ℕ → Frag → Circuit → Move
 move_of from onto frag circuit = record { from = from; onto = onto; frag = frag; circuit = circuit }
 
+-- it is put onto the other ring under its number there, and taken from this one; without room it stays
 pub record MovesOn (x : Move) (w : TheWorld) (a : Answer) (w2 : TheWorld) : Type 0 where
   pub apart : ring_at x.from ≢ ring_at x.onto
   pub ring : TheDuo
@@ -195,13 +204,16 @@ pub record MovesOn (x : Move) (w : TheWorld) (a : Answer) (w2 : TheWorld) : Type
 abbrev pub IsNoWay : ℕ → ℕ → TheWorld → Type 0
 IsNoWay from onto w = (ring_at from ≡ ring_at onto) ⊎ (slice_get w.rings (ring_at from) ≡ None) ⊎ (slice_get w.rings (ring_at onto) ≡ None)
 
+-- what is answered of a fragment for an end of this core
 abbrev pub IsMoved : Result Outcome LinkFault → Answer → Type 0
 IsMoved (Ok outcome) a = a ≡ moved_answer outcome
 IsMoved (Err fault) a = a ≡ refused (link_number fault)
 
+-- the fragment comes from the side that is lent into the end's arrival queue, where there is room
 abbrev pub ArrivesWith : Inbound → Answer → TheCore → DuoSide → TheCore → DuoSide → Type 0
 ArrivesWith x a k p k2 q = (r : Result Outcome LinkFault) × ArrivesAt SideTakes x (at_side k p) r (at_side k2 q) × IsMoved r a
 
+-- what stands first for the core on link l, at the side that is lent, and where its circuit leads
 abbrev pub LooksWith : ℕ → Result Ahead LinkFault → TheCore → DuoSide → TheCore → DuoSide → Type 0
 LooksWith l ahead k p k2 q = LooksAhead SideTakes front_for l (at_side k p) ahead (at_side k2 q)
 
@@ -224,6 +236,7 @@ pub record ForwardsFirst (core : ℕ) (at : LinkEnd) (w : TheWorld) (a : Answer)
   pub looks : OverSide w core at.side (LooksWith at.link ahead) looked
   pub follows : ForwardsBy ahead core at looked a w2
 
+-- refused where the core has no link to this neighbour
 abbrev pub Forwards : ℕ → ℕ → TheWorld → Answer → TheWorld → Type 0
 Forwards core neighbour w a w2 =
     Given (lane_to w core neighbour) (Refuses 73 w a w2) λ at.

@@ -37,6 +37,7 @@ pub record WithProgram (i : Planned) (w : TheWorld) (a : Answer) (w2 : TheWorld)
   pub limits : is_within_limits i.interface ≡ true
   pub rest : w2 ≡ record w { programs = w.programs ++ program ∷ [] }
 
+-- refused where its name is taken, then where 64 interfaces are there
 abbrev pub AddsInterface : TheInterface → PlanNo → TheWorld → Answer → TheWorld → Type 0
 AddsInterface i plan w a w2 =
     If (has_program i.name w) (Refuses 92 w a w2)
@@ -45,9 +46,11 @@ AddsInterface i plan w a w2 =
 
 -- ---- the number of cores
 
+-- cores 0 to n - 1, without links, dispatchers and ends
 abbrev pub fresh_cores : ℕ → List TheCore
 fresh_cores n = map fresh_core (range_with_len 0 n)
 
+-- refused where the number stands already, then where it isn't 1 to 16; all cores are new
 abbrev pub SetsCores : ℕ → TheWorld → Answer → TheWorld → Type 0
 SetsCores n w a w2 =
     If (not w.may_set_cores) (Refuses 93 w a w2)
@@ -59,9 +62,11 @@ SetsCores n w a w2 =
 abbrev pub is_core : ℕ → TheWorld → Bool
 is_core n w = nat_lt n (length w.cores)
 
+-- core a has a link to core b, by its own table
 abbrev pub has_link : ℕ → ℕ → TheWorld → Bool
 has_link a b w = given (slice_get w.cores a) false λ k. is_some (link_of k.monitor.circuits b)
 
+-- a new ring: so many slots each way, and nothing was put on it
 abbrev pub new_duo : ℕ → TheDuo
 new_duo size = record { size = size; one = new_half; two = new_half }
 
@@ -80,6 +85,7 @@ pub record IsLinked (a b size : ℕ) (w w2 : TheWorld) : Type 0 where
     rings = w.rings ++ new_duo size ∷ [];
   }
 
+-- refused unless it joins two different cores that aren't linked yet, then for a size that no ring has
 abbrev pub AddsLink : ℕ → ℕ → ℕ → TheWorld → Answer → TheWorld → Type 0
 AddsLink a b size w answer w2 =
     If (not (is_core a w && is_core b w) || (a == b) || has_link a b w) (Refuses 73 w answer w2)
@@ -87,6 +93,7 @@ AddsLink a b size w answer w2 =
 
 -- ---- a dispatcher
 
+-- refused where the world has 256, at all cores together, then where there is no such core
 abbrev pub AddsDispatcher : ℕ → TheWorld → Answer → TheWorld → Type 0
 AddsDispatcher n w a w2 =
     If (nat_le 256 w.dispatchers) (Refuses 94 w a w2)
@@ -95,9 +102,11 @@ AddsDispatcher n w a w2 =
 
 -- ---- a service
 
+-- a service as it is registered: its dispatcher, and the place of its interface
 abbrev pub service : DispatcherId → ℕ → Service
 service d i = record { core = core_id d.core; dispatcher = d.place; interface = i }
 
+-- refused where dispatcher or interface isn't there, then where the name is taken, then where 256 stand
 abbrev pub Exports : List ℕ → DispatcherId → ℕ → TheWorld → Answer → TheWorld → Type 0
 Exports name d i w a w2 =
     If (not (has_dispatcher w d) || nat_le (length w.programs) i) (Refuses 92 w a w2)

@@ -18,7 +18,7 @@ use Rattle.fl_queues.specs.Rings.{Ring, RingEnd}
 use Rattle.fl_queues.specs.Ends.{Queue, Direction, Seat, End}
 use Rattle.fl_queues.specs.Waits.{Dispatcher}
 use Rattle.fl_queues.specs.Monitors.{Core, Link, Service, service_of}
-use Rattle.fl_queues.specs.State.{Back, local, over_ring, over_route, Route, Binding, State, end_in, own_ring, link_between}
+use Rattle.fl_queues.specs.State.{local, over_ring, over_route, Route, Binding, State, end_in, own_ring, link_between}
 use Rattle.fl_queues.specs.State.{outlet_by, ring_side, binding_of, interface_of, end_of}
 use Rattle.fl_queues.specs.Making.{count_dispatchers}
 use Rattle.fl_queues.specs.Binding.{arrival_queue}
@@ -47,6 +47,7 @@ pub record DispatcherShows (c : TheCore) (x : Dispatcher) (d : TheDispatcher) : 
   pub lists : d.lists ≡ x.lists
   pub ends : map (name_at c) d.ends ≡ map (λ e. Some e) x.ends
 
+-- the monitor, the links and the dispatchers of a core; of its ends `EndsShow` tells
 pub record CoreShows (k : Core) (c : TheCore) : Type 0 where
   pub monitor : MonitorShows k c.monitor
   pub lanes : c.lanes ≡ map lane_of k.links
@@ -54,6 +55,7 @@ pub record CoreShows (k : Core) (c : TheCore) : Type 0 where
   pub dispatchers : (n : ℕ) (x : Dispatcher) (d : TheDispatcher) → slice_get k.dispatchers n ≡ Some x
       → slice_get c.board.dispatchers n ≡ Some d → DispatcherShows c x d
 
+-- as many cores, and each is the picture of the one at its place
 pub record CoresShow (w : TheWorld) (s : State) : Type 0 where
   pub count : length w.cores ≡ length s.cores
   pub each : (n : ℕ) (k : Core) (c : TheCore) → slice_get s.cores n ≡ Some k → slice_get w.cores n ≡ Some c → CoreShows k c
@@ -84,6 +86,7 @@ NamesQueue c queue =
     ((e : EndId) × (from : ℕ) × (wire_of c e ≡ Some (Queues queue from)))
     ⊎ ((e : EndId) × (out : ℕ) × (wire_of c e ≡ Some (Queues out queue)))
 
+-- the wire of an end at core c joins it as its binding is joined in the machine
 abbrev pub IsWire : TheWorld → TheCore → State → EndId → Binding → Wire → Type 0
 -- by queues an end takes from its own, and puts to that from which the other end takes
 IsWire w c s e b (Queues out from) =
@@ -94,6 +97,7 @@ IsWire w c s e b (Circuit link arrivals) =
     ((m : ℕ) × (side_of_link c.lanes link.0 ≡ Some m) × (outlet_by s e.side b.back ≡ Some (ring_side (side_at m))))
     × TakesFrom c.arrivals s (end_in e.side b) arrivals
 
+-- an end with this seat: on its core's board, the picture of the machine's end, under its name, and so wired
 pub record IsMade (w : TheWorld) (s : State) (e : EndId) (b : Binding) (i : Planned) (seat : Seat) : Type 0 where
   pub core : TheCore
   pub core_is : slice_get w.cores seat.dispatcher.core ≡ Some core
@@ -140,10 +144,12 @@ pub record BindingShows (s : State) (n : ℕ) (b : Binding) (there : TheBinding)
       → x.interface ≡ b.interface
   pub unmade : (i : Planned) → interface_of s b ≡ Some i → b.server.seat ≡ None → IsUnmade i b there
 
+-- no call was accepted, and no reply waits
 pub record IsSilent (d : Direction) : Type 0 where
   pub accepted : d.accepted ≡ []
   pub waiting : d.waiting ≡ []
 
+-- as many bindings, and each is the picture of the one at its place
 pub record BindingsShow (w : TheWorld) (s : State) : Type 0 where
   pub count : length w.bindings ≡ length s.bindings
   pub each : (n : ℕ) (b : Binding) (there : TheBinding) → slice_get s.bindings n ≡ Some b → slice_get w.bindings n ≡ Some there
@@ -160,6 +166,7 @@ Carries s n streams =
     ((a : ℕ) × (b : ℕ) × (link : Link) × (link_between s a b ≡ Some link) × (link.ring.ring ≡ n) × (streams ≡ calls_between a b s))
     ⊎ ((m : ℕ) × (b : Binding) × (slice_get s.bindings m ≡ Some b) × (b.back ≡ over_ring n) × (streams ≡ calls_off_links s))
 
+-- as many rings, and each, by the fragments that it carries, is the picture of the one at its place
 pub record RingsShow (w : TheWorld) (s : State) : Type 0 where
   pub count : length w.rings ≡ length s.rings
   pub each : (n : ℕ) (r : Ring) (d : TheDuo) (streams : Streams) → slice_get s.rings n ≡ Some r → slice_get w.rings n ≡ Some d
@@ -167,6 +174,7 @@ pub record RingsShow (w : TheWorld) (s : State) : Type 0 where
 
 -- ---- the whole
 
+-- each part of the world is the picture of that part of the state, which needn't be sound
 pub record IsPicture (w : TheWorld) (s : State) : Type 0 where
   pub may_set_cores : w.may_set_cores ≡ s.may_set_cores
   pub cores : CoresShow w s

@@ -31,6 +31,7 @@ IsCalled (Ok done) a = a ≡ accepted
 IsCalled (Err Memory) a = ⊥
 IsCalled (Err fault) a = a ≡ refused (fault_number fault)
 
+-- by where the end is; one that isn't made yet is asked where its binding keeps it
 abbrev pub CallsAt : Spot → EndId → TheCall → TheWorld → Answer → TheWorld → Type 0
 CallsAt nowhere e c w a w2 = Refuses 92 w a w2
 CallsAt unmade e c w a w2 =
@@ -44,6 +45,7 @@ MakesCall e c w a w2 = CallsAt (spot_of w e) e c w a w2
 
 -- ---- the fragment that would be written next
 
+-- the fragment as it would stand, `nothing` where all is written, or the end's refusal
 abbrev pub IsShown : Result (Option Frag) EndFault → Answer → Type 0
 IsShown (Ok (Some frag)) a = a ≡ words frag
 IsShown (Ok None) a = a ≡ nothing
@@ -54,6 +56,7 @@ abbrev pub PreviewsWith : ℕ → ℕ → TheCore → ℕ → Answer → Type 0
 PreviewsWith epoch told k place a =
     (r : Result (Option Frag) EndFault) × Holds k.board place (λ s. ShowsNext epoch told s.end r) × IsShown r a
 
+-- by where the end puts: to a queue, where nothing is told, or to a side, which tells what it has taken
 abbrev pub PreviewsOver : TheWorld → TheCore → ℕ → Outlet → Answer → TheWorld → Type 0
 PreviewsOver w k place (outlet.Queue q) a w2 =
     ((t : TheQueue) × (slice_get w.queues q ≡ Some t) × PreviewsWith (next_epoch_of t) 0 k place a × (w2 ≡ w))
@@ -69,6 +72,7 @@ pub record HasOutlet (w : TheWorld) (n place : ℕ) (o : Outlet) : Type 0 where
   pub core_is : slice_get w.cores n ≡ Some core
   pub outlet_is : outlet_of core place ≡ Some o
 
+-- by where the end is; one that isn't made is refused as not bound, and nothing ever changes
 abbrev pub PreviewsAt : Spot → TheWorld → Answer → TheWorld → Type 0
 PreviewsAt nowhere w a w2 = Refuses 92 w a w2
 PreviewsAt unmade w a w2 = Refuses 43 w a w2
@@ -79,19 +83,23 @@ Previews e w a w2 = PreviewsAt (spot_of w e) w a w2
 
 -- ---- a write
 
+-- fragment k of n, no room for it, nothing to write, or the end's refusal
 abbrev pub IsWritten : Result WriteAnswer EndFault → Answer → Type 0
 IsWritten (Ok (write.Written k n)) a = a ≡ written k n
 IsWritten (Ok write.Full) a = a ≡ full
 IsWritten (Ok write.Nothing) a = a ≡ nothing
 IsWritten (Err fault) a = a ≡ refused (fault_number fault)
 
+-- the end at a place writes over what is lent, and the end joined to it by a queue is told
 abbrev pub WritesWith : {P : Type 0} → (P → Look → P → Type 0) → AnswerAt → TheCore → P → TheCore → P → Type 0
 WritesWith puts at k p k2 q = (r : Result WriteAnswer EndFault) × WritesAt puts at.place (at_side k p) r (at_side k2 q) × IsWritten r at.answer
 
+-- at core n, over the queue or the side of a ring to which the end at this place puts
 abbrev pub WritesOver : Outlet → ℕ → ℕ → TheWorld → Answer → TheWorld → Type 0
 WritesOver (outlet.Queue q) n place w a w2 = OverQueue w n q (WritesWith QueuePuts (answer_at place a)) w2 ⊎ IsStray w.queues q w a w2
 WritesOver (outlet.Side m) n place w a w2 = OverSide w n m (WritesWith SidePuts (answer_at place a)) w2 ⊎ IsStray w.rings (ring_at m) w a w2
 
+-- by where the end is; one that isn't made is refused as not bound
 abbrev pub WritesBy : Spot → TheWorld → Answer → TheWorld → Type 0
 WritesBy nowhere w a w2 = Refuses 92 w a w2
 WritesBy unmade w a w2 = Refuses 43 w a w2

@@ -1,5 +1,5 @@
 -- What an event comes to in a world, and a world before any event.
-use Rattle.std.specs.Prelude.{ℕ, ◌≡◌, false, true, [], Option}
+use Rattle.std.specs.Prelude.{ℕ, ◌≡◌, false, true, []}
 use Rattle.fl_queues.specs.Events.{Event, add_interface, set_cores, add_link, add_dispatcher, export, bind, call, show, write}
 use Rattle.fl_queues.specs.Events.{turn, acknowledge, register, deregister, reply, monitor_write, forward, monitor_acknowledge, Answer, refused}
 use Rattle.fl_worlds.specs.View.{TheWorld}
@@ -9,6 +9,7 @@ use Rattle.fl_worlds.specs.Sending.{MakesCall, Previews, WritesFragment}
 use Rattle.fl_worlds.specs.Taking.{HasTurn, Acknowledges, RegistersChannel, DeregistersChannel, SetsReply}
 use Rattle.fl_worlds.specs.Linking.{WritesMessage, AcksLink, Forwards}
 
+-- what the event itself comes to: this answer, and this world, but for whether cores may still be set
 abbrev pub Does : Event → TheWorld → Answer → TheWorld → Type 0
 Does (add_interface i plan) w a w2 = AddsInterface i plan w a w2
 Does (set_cores n) w a w2 = SetsCores n w a w2
@@ -38,6 +39,7 @@ abbrev pub settled : Event → Answer → TheWorld → TheWorld
 settled (add_interface i plan) a w = w
 settled event a w = settled_by a w
 
+-- one whole event: what it comes to itself, and then whether the number of cores may still be set
 pub record Steps (event : Event) (w : TheWorld) (a : Answer) (w2 : TheWorld) : Type 0 where
   pub made : TheWorld
   pub does : Does event w a made

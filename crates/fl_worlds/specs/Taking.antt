@@ -61,11 +61,13 @@ pub record Turn : Type 0 where
 abbrev pub as_turn : ℕ → ℕ → EndId → Answer → Turn
 as_turn n e name a = record { dispatcher = n; end = e; name = name; answer = a }
 
+-- the turn at its core, over the queue or side that is lent, where the end that is due was sound
 abbrev pub TurnsWith : {T : Type 0} → (T → Look → T → Type 0) → Turn → TheCore → T → TheCore → T → Type 0
 TurnsWith takes x k p k2 q =
     (r : TurnAnswer) × Holds k.board x.end (λ s. Sound s.end)
     × OnBoard k (λ b c. Turns takes x.dispatcher x.end (over b p) (Ok r) (over c q)) k2 × (x.answer ≡ turn_answer x.name r)
 
+-- the same over the end's own arrival queue, which its core keeps
 abbrev pub TurnsArrivals : Turn → TheCore → TheCore → Type 0
 TurnsArrivals x k k2 =
     (r : TurnAnswer) × Holds k.board x.end (λ s. Sound s.end)
@@ -82,9 +84,11 @@ TurnsOver inlet.Arrivals n x w w2 = AtCore w n (TurnsArrivals x) w2
 abbrev pub TurnsAt : DispatcherId → ℕ → TheWorld → Answer → TheWorld → Type 0
 TurnsAt d e w a w2 = (name : EndId) × (i : Inlet) × IsDue w d e name i × TurnsOver i d.core (as_turn d.place e name a) w w2
 
+-- the end that is due at a dispatcher, by its place on the core's board
 abbrev pub due_at : TheWorld → DispatcherId → Option ℕ
 due_at w d = given (slice_get w.cores d.core) None λ k. due k.board d.place
 
+-- refused where there is no such dispatcher; there is nothing to do where no end is due
 abbrev pub HasTurn : DispatcherId → TheWorld → Answer → TheWorld → Type 0
 HasTurn d w a w2 =
     If (not (has_dispatcher w d)) (Refuses 92 w a w2)
@@ -92,12 +96,14 @@ HasTurn d w a w2 =
 
 -- ---- an end acknowledges
 
+-- all is told, there is too little to tell, no slot is free to tell it, or it is refused
 abbrev pub IsAcked : Result AckAnswer BoardFault → Answer → Type 0
 IsAcked (Ok ack.Done) a = a ≡ done
 IsAcked (Ok ack.Nothing) a = a ≡ nothing
 IsAcked (Ok ack.Full) a = a ≡ full
 IsAcked (Err fault) a = a ≡ refused (board_number fault)
 
+-- the end at a place tells over its side of a ring, which alone may change
 abbrev pub AcksWith : AnswerAt → TheCore → DuoSide → TheCore → DuoSide → Type 0
 AcksWith at k p k2 q =
     (r : Result AckAnswer BoardFault) × Holds k.board at.place (λ s. Acks SideTakes s.kind s.end p r q) × (k2 ≡ k) × IsAcked r at.answer
@@ -118,6 +124,7 @@ AcksOver (inlet.Side m) k n at w w2 = OverSide w n m (AcksWith at) w2 ⊎ IsStra
 AcksOver (inlet.Queue q) k n at w w2 = Holds k.board at.place (λ s. TellsNothing s.end at.answer) × (w2 ≡ w)
 AcksOver inlet.Arrivals k n at w w2 = Holds k.board at.place (λ s. TellsNothing s.end at.answer) × (w2 ≡ w)
 
+-- by where the end is; one that isn't made is refused as not bound
 abbrev pub AcksAt : Spot → TheWorld → Answer → TheWorld → Type 0
 AcksAt nowhere w a w2 = Refuses 92 w a w2
 AcksAt unmade w a w2 = Refuses 43 w a w2
@@ -128,24 +135,29 @@ Acknowledges e w a w2 = AcksAt (spot_of w e) w a w2
 
 -- ---- a channel is registered, or deregistered
 
+-- a channel was registered or deregistered, or that was refused
 abbrev pub IsRegistered : Result (Unit {0}) BoardFault → Answer → Type 0
 IsRegistered (Ok unit) a = a ≡ done
 IsRegistered (Err fault) a = a ≡ refused (board_number fault)
 
+-- unless refused, the channel joins a list: by what stands in the queue that is lent, or polled on a ring
 abbrev pub RegistersWith : {T : Type 0} → (T → Look → T → Type 0) → AnswerAt → TheCore → T → TheCore → T → Type 0
 RegistersWith takes at k p k2 q =
     (r : Result (Unit {0}) BoardFault) × OnBoard k (λ b c. RegistersAt takes at.place (over b p) r (over c q)) k2 × IsRegistered r at.answer
 
+-- the same by what stands in the end's own arrival queue, which its core keeps
 abbrev pub RegistersArrivals : AnswerAt → TheCore → TheCore → Type 0
 RegistersArrivals at k k2 =
     (r : Result (Unit {0}) BoardFault)
     × OverArrivals k at.place (λ b p c q. RegistersAt QueueTakes at.place (over b p) r (over c q)) k2 × IsRegistered r at.answer
 
+-- at core n, by where the end at this place takes from
 abbrev pub RegistersOver : Inlet → ℕ → ℕ → TheWorld → Answer → TheWorld → Type 0
 RegistersOver (inlet.Queue q) n place w a w2 = OverQueue w n q (RegistersWith QueueTakes (answer_at place a)) w2 ⊎ IsStray w.queues q w a w2
 RegistersOver (inlet.Side m) n place w a w2 = OverSide w n m (RegistersWith SideTakes (answer_at place a)) w2 ⊎ IsStray w.rings (ring_at m) w a w2
 RegistersOver inlet.Arrivals n place w a w2 = AtCore w n (RegistersArrivals (answer_at place a)) w2
 
+-- by where the end is; one that isn't made is refused as not bound
 abbrev pub RegistersBy : Spot → TheWorld → Answer → TheWorld → Type 0
 RegistersBy nowhere w a w2 = Refuses 92 w a w2
 RegistersBy unmade w a w2 = Refuses 43 w a w2
@@ -154,6 +166,7 @@ RegistersBy (made n place) w a w2 = (i : Inlet) × HasInlet w n place i × Regis
 abbrev pub RegistersChannel : EndId → TheWorld → Answer → TheWorld → Type 0
 RegistersChannel e w a w2 = RegistersBy (spot_of w e) w a w2
 
+-- unless refused, the channel leaves its dispatcher's lists; no queue or side is lent for that
 abbrev pub DeregistersIn : AnswerAt → TheCore → TheCore → Type 0
 DeregistersIn at k k2 =
     (r : Result (Unit {0}) BoardFault)
@@ -169,6 +182,7 @@ DeregistersChannel e w a w2 = DeregistersBy (spot_of w e) w a w2
 
 -- ---- a reply rule
 
+-- the rule is set, or the end refuses it
 abbrev pub IsRuled : Result (Unit {0}) EndFault → Answer → Type 0
 IsRuled (Ok unit) a = a ≡ done
 IsRuled (Err fault) a = a ≡ refused (fault_number fault)
@@ -182,6 +196,7 @@ pub record ReplyRule : Type 0 where
 abbrev pub reply_rule : EndId → ℕ → ℕ → ReplyRule
 reply_rule e msg reply = record { end = e; message = msg; reply = reply }
 
+-- by where the end is; for one that isn't made yet the rule is set where its binding keeps it
 abbrev pub RulesAt : Spot → ReplyRule → TheWorld → Answer → TheWorld → Type 0
 RulesAt nowhere x w a w2 = Refuses 92 w a w2
 RulesAt unmade x w a w2 =

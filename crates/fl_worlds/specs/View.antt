@@ -34,6 +34,7 @@ If false Then Else = Else
 
 -- ---- a world
 
+-- cores, rings, queues, programs and bindings are known by their places; a ring is a link's or a binding's
 pub record TheWorld : Type 0 where
   -- no event but those that add interfaces was accepted yet
   pub may_set_cores : Bool
@@ -52,6 +53,7 @@ abbrev pub number_in : RingSide → ℕ
 number_in first_side = 0
 number_in second_side = 1
 
+-- ring n has the sides 2 n and 2 n + 1 of the world
 abbrev pub side_number : RingEnd → ℕ
 side_number at = 2 * at.ring + number_in at.side
 
@@ -65,6 +67,7 @@ side_in n = if n % 2 == 0 then first_side else second_side
 abbrev pub side_at : ℕ → RingEnd
 side_at n = record { ring = ring_at n; side = side_in n }
 
+-- which of the two, as the ring itself names them
 abbrev pub which_at : ℕ → Which
 which_at n = which_of (side_in n)
 
@@ -80,6 +83,7 @@ pub record IsWhole (k : TheCore) : Type 0 where
 abbrev pub has_dispatcher : TheWorld → DispatcherId → Bool
 has_dispatcher w d = given (slice_get w.cores d.core) false λ k. nat_lt d.place (length k.board.dispatchers)
 
+-- where an end is found
 pub data Spot : Type 0 where
   -- there is no such binding
   nowhere : Spot
@@ -88,21 +92,25 @@ pub data Spot : Type 0 where
   -- at this core, at this place of its board
   made : ℕ → ℕ → Spot
 
+-- the core of a binding's end, or the one at which it will be made
 abbrev pub core_in : Side → Binding → ℕ
 core_in Client b = b.client
 core_in Server b = b.server
 
+-- of an end whose core is n: where it isn't on that core's board, it isn't made yet
 abbrev pub spot_at : List TheCore → ℕ → EndId → Spot
 spot_at cores n e =
     given (slice_get cores n) unmade λ k.
     given (place_of k e) unmade λ place.
     made n place
 
+-- where the end of this name is, by what the world keeps of its binding and by its core's board
 abbrev pub spot_of : TheWorld → EndId → Spot
 spot_of w e = given (slice_get w.bindings e.binding) nowhere λ b. spot_at w.cores (core_in e.side b) e
 
 -- ---- one thing changed
 
+-- the world with another core, ring, queue or binding at a place, and all else the same
 abbrev pub with_core : TheWorld → ℕ → TheCore → TheWorld
 with_core w n k = record w { cores = slice_set w.cores n k }
 

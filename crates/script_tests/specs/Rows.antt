@@ -6,7 +6,7 @@ use Rattle.fl_base.specs.declared.fragment.Frag.{Frag}
 use Rattle.fl_interface.specs.declared.interface.Scalar.TheVariants.{Uint32}
 use Rattle.fl_interface.specs.Interface.{TheInterface, scalar, fixed, text}
 use Rattle.fl_value.specs.Value.{number, string, TheCall}
-use Rattle.fl_value.specs.declared.value.PlanNo.TheVariants.{One, Two}
+use Rattle.fl_value.specs.declared.value.PlanNo.TheVariants.{Two}
 use Rattle.fl_queues.specs.Events.{DispatcherId, by_queues, by_ring, by_route, Event, Answer}
 use Rattle.fl_queues.specs.Events.{add_interface, set_cores, add_link, add_dispatcher, export, bind, call}
 use Rattle.fl_queues.specs.Events.{show, write, turn}
