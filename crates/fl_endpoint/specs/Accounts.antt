@@ -51,6 +51,7 @@ pub record IsIdle (s : TheEnd) : Type 0 where
   pub parts : s.parts ≡ []
   pub failed : s.failed ≡ false
 
+-- what holds of an end at any time; until it is bound nothing was done with it, but for its rules
 pub record Sound (s : TheEnd) : Type 0 where
   pub within : is_within_limits (interface_in s) ≡ true
   pub words : interface_words_fit (interface_in s) ≡ true

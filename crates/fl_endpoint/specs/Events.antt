@@ -62,6 +62,7 @@ Admits s c (Err Failed) = (fits_of (interface_in s) c ≡ true) × HasFailed s
 Admits s c (Err Busy) = (fits_of (interface_in s) c ≡ true) × IsReady s × (s.outgoing.unwritten ≢ [])
 Admits s c (Err fault) = ⊥
 
+-- a call is accepted with all its fragments, or refused: then the end is as it was
 abbrev pub Calls : TheEnd → TheCall → Result (Unit {0}) EndFault → TheEnd → Type 0
 Calls s c (Ok done) t = (fits_of (interface_in s) c ≡ true) × IsReady s × (s.outgoing.unwritten ≡ []) × (t ≡ with_call s c)
 Calls s c (Err UnknownMessage) t = (slice_get (interface_in s).messages c.msg ≡ None) × (t ≡ s)
@@ -74,6 +75,8 @@ Calls s c (Err fault) t = ⊥
 
 -- ---- a fragment is written
 
+-- where a fragment is put, the answer tells how many of its call's are written then, and how many there are;
+-- by every other answer the end is as it was
 abbrev pub Writes : {P : Type 0} → (P → Look → P → Type 0) → TheEnd → P → Result WriteAnswer EndFault → TheEnd → P → Type 0
 Writes puts s p (Ok (Written number count)) t q =
     IsReady s × ((f : Frag) × (rest : List Frag) × (s.outgoing.unwritten ≡ f ∷ rest) × (count ≡ s.outgoing.count)
@@ -127,6 +130,8 @@ Takes {T} takes s p answer t q =
 abbrev pub Leaves : {T : Type 0} → (T → Look → T → Type 0) → TheEnd → T → EndFault → TheEnd → T → Type 0
 Leaves takes s p fault t q = IsOpen s × ((f : Frag) × (bare f ≡ f) × takes p (saw f) q × TakesIn s f (Err fault) t)
 
+-- a fragment is taken where a call goes on or is handled by it, or where it only acknowledges; one that is
+-- wrong, or with which memory runs out, is looked at and left
 abbrev pub Receives : {T : Type 0} → (T → Look → T → Type 0) → TheEnd → T → Result ReceiveAnswer EndFault → TheEnd → T → Type 0
 Receives takes s p (Ok (Handle call)) t q = Takes takes s p (Handle call) t q
 Receives takes s p (Ok Part) t q = Takes takes s p Part t q
@@ -145,6 +150,7 @@ Receives takes s p (Err fault) t q = ⊥
 abbrev pub SameTypes : TheInterface → ℕ → ℕ → Type 0
 SameTypes i msg reply = types_of (slice_get i.messages msg) ≡ types_of (slice_get i.messages reply)
 
+-- both messages are there and have the same argument types, or the end is as it was
 abbrev pub SetsRule : TheEnd → ℕ → ℕ → Result (Unit {0}) EndFault → TheEnd → Type 0
 SetsRule s msg reply (Ok done) t =
     IsMessage (interface_in s) msg × IsMessage (interface_in s) reply × SameTypes (interface_in s) msg reply × (t ≡ with_rule s msg reply)

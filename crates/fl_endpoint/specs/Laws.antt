@@ -24,6 +24,7 @@ use Rattle.fl_endpoint.specs.Accounts.{Account, Replies}
 abbrev pub AddUp : Type 0
 AddUp = (s t u : TheEnd) (h g : Stretch) → Account s h t → Account t g u → Account s (joined h g) u
 
+-- and so do the replies that are due, where the rules stay the same
 abbrev pub RepliesAddUp : Type 0
 RepliesAddUp = (s t u : TheEnd) (handled handled2 due due2 : List TheCall)
     → Replies s handled due t → Replies t handled2 due2 u → Replies s (handled ++ handled2) (due ++ due2) u
@@ -45,11 +46,13 @@ abbrev pub due_by : List (Option ℕ) → Result ReceiveAnswer EndFault → List
 due_by rules (Ok (Handle call)) = followed (reply_to rules (call_of call)) []
 due_by rules answer = []
 
+-- nothing is put, taken or handled; accepted is the call, unless it was refused
 pub record CallAdds (s : TheEnd) (c : TheCall) (answer : Result (Unit {0}) EndFault) (t : TheEnd) : Type 0 where
   pub sound : Sound t
   pub account : Account s (record no_event { accepted = accepted_by c answer }) t
   pub replies : Replies s [] [] t
 
+-- each call made at a sound end adds that, whatever is answered
 abbrev pub CallAccounts : Type 0
 CallAccounts = (s t : TheEnd) (c : TheCall) (answer : Result (Unit {0}) EndFault) → Sound s → Calls s c answer t → CallAdds s c answer t
 
@@ -62,6 +65,7 @@ pub record WriteAdds {P : Type 0} (puts : P → Look → P → Type 0) (s : TheE
   pub account : Account s (record no_event { accepted = accepted; put = puts_of looks }) t
   pub replies : Replies s [] [] t
 
+-- each write at a sound end adds that, whatever is answered
 abbrev pub WriteAccounts : {P : Type 0} → (P → Look → P → Type 0) → Type 0
 WriteAccounts {P} puts = (s t : TheEnd) (p q : P) (answer : Result WriteAnswer EndFault)
     → Sound s → Writes puts s p answer t q → WriteAdds puts s p t q
@@ -81,6 +85,7 @@ pub record ReceiveAdds {T : Type 0} (takes : T → Look → T → Type 0)
   pub account : Account s (happens_in_receive s.rules answer looks accepted) t
   pub replies : Replies s (handled_by answer) (due_by s.rules answer) t
 
+-- each receive at a sound end adds that, whatever is answered
 abbrev pub ReceiveAccounts : {T : Type 0} → (T → Look → T → Type 0) → Type 0
 ReceiveAccounts {T} takes = (s t : TheEnd) (p q : T) (answer : Result ReceiveAnswer EndFault)
     → Sound s → Receives takes s p answer t q → ReceiveAdds takes s p answer t q
@@ -90,12 +95,15 @@ pub record AddsNothing (s t : TheEnd) : Type 0 where
   pub sound : Sound t
   pub account : Account s no_event t
 
+-- binding a sound end to a circuit is such an event, and no reply is due by it
 abbrev pub BindAccounts : Type 0
 BindAccounts = (s : TheEnd) (circuit : ℕ) → circuit < 2 ^ 16 → Sound s → AddsNothing s (bound s circuit) × Replies s [] [] (bound s circuit)
 
+-- so is setting a reply rule, whatever is answered
 abbrev pub RuleAccounts : Type 0
 RuleAccounts = (s t : TheEnd) (msg reply : ℕ) (answer : Result (Unit {0}) EndFault) → Sound s → SetsRule s msg reply answer t → AddsNothing s t
 
+-- so is getting the rules of another sound end of the same interface
 abbrev pub ExchangeAccounts : Type 0
 ExchangeAccounts = (s t : TheEnd) → interface_in s ≡ interface_in t → Sound s → Sound t → AddsNothing s (with_rules_of s t)
 
@@ -108,6 +116,7 @@ pub record Since (h : Stretch) (t : TheEnd) : Type 0 where
   pub wait : streams_from t (replies_in h.accepted) ++ t.outgoing.waiting ≡ streams_from t h.due
   pub read : Reads (plan_in t) (interface_in t) h.took h.handled t.parts
 
+-- this is so of each end that was made with nothing done, whatever happened to it since
 abbrev pub SinceMade : Type 0
 SinceMade = (program : Program) (circuit : Option ℕ) (t : TheEnd) (h : Stretch)
     → Sound t → Account (fresh program circuit) h t → Since h t
@@ -131,6 +140,8 @@ pub record TakenOf (program : TheProgram) (calls handled : List TheCall) (parts 
   pub ahead : parts ++ more ≡ stream program 0 left
   pub short : (c : TheCall) (rest : List TheCall) → left ≡ c ∷ rest → length parts < count program.plan program.interface c
 
+-- an end that was made with nothing done, and to which these calls' fragments come in order, has handled
+-- the first of the calls
 abbrev pub HandlesInOrder : Type 0
 HandlesInOrder = (program : Program) (circuit : Option ℕ) (t : TheEnd) (h : Stretch) (calls : List TheCall) (more : List Frag)
     → Sound t → Account (fresh program circuit) h t
@@ -145,6 +156,7 @@ pub record TakesNext (s : TheEnd) (f : Frag) (left : List TheCall) (more : List 
   pub part_is : (c : TheCall) (rest : List TheCall) → IsPart (plan_in s) (interface_in s) (s.parts ++ f ∷ []) → left ≡ c ∷ rest
       → length (s.parts ++ f ∷ []) < count (plan_in s) (interface_in s) c
 
+-- this is so where what was taken, the next fragment and those behind it are these calls' fragments in order
 abbrev pub TakesInOrder : Type 0
 TakesInOrder = (s : TheEnd) (f : Frag) (more : List Frag) (left : List TheCall) → Sound s → bare f ≡ f → AllFit (interface_in s) left
     → s.parts ++ f ∷ more ≡ stream (program_of s.program) 0 left → TakesNext s f left more

@@ -3,6 +3,7 @@ use Rattle.std.specs.Prelude.{◌≡◌, ℕ, List, map, length, replicate, Opti
 use Rattle.std.specs.Option.{option_map}
 use Rattle.fl_base.specs.declared.identity.MsgNo.{MsgNo}
 
+-- one rule, and those of all messages: each by the number of the reply's message
 abbrev pub rule_of : Option MsgNo → Option ℕ
 rule_of rule = option_map (λ (m : MsgNo). m.0) rule
 

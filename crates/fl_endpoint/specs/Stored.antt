@@ -27,6 +27,7 @@ abbrev pub code_for : PlanNo → Option TheMessage → TheCode
 code_for plan None = record { column = Send; ops = [] }
 code_for plan (Some m) = compiled_code Send plan m
 
+-- that of the message of this number
 abbrev pub code_of : TheProgram → ℕ → TheCode
 code_of program msg = code_for program.plan (slice_get program.interface.messages msg)
 
@@ -38,6 +39,7 @@ payload_frags circuit msg bytes = frags_holding true msg circuit bytes
 abbrev pub tape_frags : TheProgram → ℕ → ℕ → List ℕ → List Frag
 tape_frags program circuit msg tape = payload_frags circuit msg (bytes_given (block_of (code_of program msg).ops) tape)
 
+-- those of a message of which its tape, or its payload, is kept
 abbrev pub body_frags : TheProgram → ℕ → ℕ → Body → List Frag
 body_frags program circuit msg (Tape tape) = tape_frags program circuit msg tape.items
 body_frags program circuit msg (Payload payload) = payload_frags circuit msg payload.items
@@ -56,6 +58,7 @@ abbrev pub sending_frags : Option Sending → Option (Vec ℕ) → List Frag
 sending_frags None payload = []
 sending_frags (Some s) payload = s.next ∷ frags_behind s payload
 
+-- how many fragments the call in transmission has in all; 0 where there is none
 abbrev pub count_in : Option Sending → ℕ
 count_in None = 0
 count_in (Some s) = s.count
@@ -73,6 +76,7 @@ pub record IsOwn (f : Frag) : Type 0 where
   pub bare_is : bare f ≡ f
   pub data_is : is_ack_only f ≡ false
 
+-- each of these fragments is so
 abbrev pub AreOwn : List Frag → Type 0
 AreOwn [] = Unit {0}
 AreOwn (f ∷ frags) = IsOwn f × AreOwn frags
@@ -89,6 +93,7 @@ abbrev pub IsBody : TheProgram → ℕ → Body → Type 0
 IsBody program msg (Tape tape) = IsShort program msg tape.items
 IsBody program msg (Payload payload) = Unit {0}
 
+-- what is kept of a call that waits is so, and of each of these
 abbrev pub IsQueued : TheProgram → Queued → Type 0
 IsQueued program call = IsBody program call.msg.0 call.body
 
@@ -117,6 +122,7 @@ abbrev pub IsInTransmission : Option Sending → Option (Vec ℕ) → List Queue
 IsInTransmission None payload waiting = (waiting ≡ []) × (payload ≡ None)
 IsInTransmission (Some s) payload waiting = IsSending s payload
 
+-- what an end stores of the calls that it sends; at most 16 wait
 pub record IsOutgoing (program : TheProgram) (out : Outgoing) : Type 0 where
   pub now : IsInTransmission out.sending out.payload out.waiting.items
   pub waiting : AreQueued program out.waiting.items

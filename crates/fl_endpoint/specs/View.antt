@@ -136,6 +136,7 @@ queued_behind (f ∷ rest) o frags = record { unwritten = o.unwritten; count = o
 abbrev pub queued : TheOutgoing → List Frag → TheOutgoing
 queued o frags = queued_behind o.unwritten o frags
 
+-- the same, where there is one more
 abbrev pub queued_if : TheOutgoing → Option (List Frag) → TheOutgoing
 queued_if o None = o
 queued_if o (Some frags) = queued o frags

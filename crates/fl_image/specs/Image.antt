@@ -34,6 +34,7 @@ name_image name = one (length name) ++ name
 
 -- ---- types
 
+-- the byte of a number, a bool, a char, an iref or an errval: 1 to 15
 abbrev pub scalar_code : Scalar → ℕ
 scalar_code scalars.Uint8 = 1
 scalar_code scalars.Int8 = 2
@@ -59,10 +60,12 @@ abbrev mutual
   type_image (structure ts) = one 17 ++ (one (count_of ts) ++ fields_image ts)
   type_image (array n t) = one 18 ++ (two n ++ type_image t)
 
+  -- a struct's fields, one after another
   pub fields_image : TheTypes → List ℕ
   fields_image no_more = []
   fields_image (field t ts) = type_image t ++ fields_image ts
 
+-- an argument's type; a string and a sized array have a code of their own, and then their bound
 abbrev pub argument_image : TheArgType → List ℕ
 argument_image (fixed t) = type_image t
 argument_image (text most) = one 32 ++ two most
@@ -78,6 +81,7 @@ interface_image x = name_image x.name ++ (two (length x.messages) ++ flat_map me
 
 -- ---- code
 
+-- 1 to 8 are of send code, 3 and 5 to 7 of these of both, and 17 to 24 of receive code alone
 abbrev pub op_code : Op → ℕ
 op_code (Emit n) = 1
 op_code (Pad n) = 2
@@ -96,6 +100,7 @@ op_code (ReadLength n) = 22
 op_code ReadText = 23
 op_code Done = 24
 
+-- 0 where the op has none
 abbrev pub operand_of : Op → ℕ
 operand_of (Emit n) = n
 operand_of (Pad n) = n
@@ -120,6 +125,7 @@ pub record Codes : Type 0 where
   pub send : List Op
   pub receive : List Op
 
+-- the send code, and then the receive code
 abbrev pub codes_image : Codes → List ℕ
 codes_image codes = code_image codes.send ++ code_image codes.receive
 
@@ -139,10 +145,12 @@ pub record Fields : Type 0 where
 abbrev pub magic : List ℕ
 magic = 70 ∷ 76 ∷ 78 ∷ 68 ∷ []
 
+-- the number in the version field: it tells the plan
 abbrev pub version_of : PlanNo → ℕ
 version_of One = 1
 version_of Two = 2
 
+-- the bytes of these fields: magic, version, interface, and the codes of each message in order
 abbrev pub fields_spelled : Fields → List ℕ
 fields_spelled f = magic ++ (two (version_of f.plan) ++ (interface_image f.interface ++ flat_map codes_image f.codes))
 

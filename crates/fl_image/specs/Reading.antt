@@ -24,16 +24,18 @@ use Rattle.fl_image.specs.Image.{Codes, Fields, compiled, scalar_code, op_code, 
 abbrev pub Read : Type 0 → Type 0
 Read A = Result (A × List ℕ) Refusal
 
+-- what the second reads begins where the first ended; the first fault is the answer
 infixl 10 ◌>>=◌
 abbrev pub ◌>>=◌ : {A B : Type 0} → Read A → (A × List ℕ → Read B) → Read B
 (Ok p) >>= f = f p
 (Err e) >>= f = Err e
 
--- What a function returned, seen by view, is what reading gives, unless memory ran out.
+-- reading gives the fault that a function returned, unless memory ran out
 abbrev pub Fails : {Y : Type 0} → ImageFault → Result Y Refusal → Type 0
 Fails faults.Memory read = Unit {0}
 Fails (faults.Refused e) read = read ≡ Err e
 
+-- What a function returned, seen by view, is what reading gives, unless memory ran out.
 abbrev pub Gives : {X Y : Type 0} → (X → Y) → Result X ImageFault → Result Y Refusal → Type 0
 Gives view (Ok x) read = read ≡ Ok (view x)
 Gives view (Err e) read = Fails e read
@@ -68,6 +70,7 @@ Behind (faults.Refused e) read = Unit {0}
 
 -- ---- numbers and names: a field that passes the end is none
 
+-- a number of one byte, of two, and of four, low byte first
 unfoldable pub one_at : List ℕ → Read ℕ
 one_at [] = Err EndsEarly
 one_at (b ∷ rest) = Ok (b, rest)
@@ -114,14 +117,17 @@ all_scalars =
     Uint8 ∷ Int8 ∷ BoolType ∷ Char ∷ Uint16 ∷ Int16 ∷ Uint32 ∷ Int32 ∷ Iref ∷ Uint64 ∷ Int64 ∷ Uintptr ∷ Intptr
     ∷ Size ∷ Errval ∷ []
 
+-- the one of the 15 that has this code; none has a code of 0 or above 15
 unfoldable pub scalar_with : ℕ → Option Scalar
 scalar_with code = with_code scalar_code code all_scalars
 
+-- what follows the code of an enum: its count
 unfoldable pub enumeration_at : List ℕ → Read TheType
 enumeration_at bytes = do
   count ← two_at bytes
   Ok (enumeration count.0, count.1)
 
+-- nothing follows the code of the others; a code that none has is bad
 unfoldable pub scalar_at : ℕ → List ℕ → Read TheType
 scalar_at code bytes = do
   kind ← known (scalar_with code) bytes
@@ -153,6 +159,7 @@ unfoldable pub type_at : ℕ → List ℕ → Read TheType
 type_at zero bytes = one_at bytes >>= λ code. Err BadField
 type_at (suc left) bytes = one_at bytes >>= λ code. coded_at (type_at left) code.0 code.1
 
+-- what follows the code of a string: its bound; of a sized array: its bound, and its element's type
 unfoldable pub text_at : List ℕ → Read TheArgType
 text_at bytes = do
   most ← two_at bytes
@@ -164,6 +171,7 @@ sized_at bytes = do
   element ← type_at 17 most.1
   Ok (sized most.0 element.0, element.1)
 
+-- a type from its code on
 unfoldable pub fixed_at : List ℕ → Read TheArgType
 fixed_at bytes = do
   type ← type_at 18 bytes
@@ -183,11 +191,13 @@ argument_count_at bytes = do
   count ← one_at bytes
   in_range (nat_le count.0 32) count
 
+-- the number of arguments, and each one's type
 unfoldable pub arguments_at : List ℕ → Read (List TheArgType)
 arguments_at bytes = do
   count ← argument_count_at bytes
   many_at argument_at count.0 count.1
 
+-- a name and arguments, whether or not they keep the limits
 unfoldable pub message_at : List ℕ → Read TheMessage
 message_at bytes = do
   name ← name_at bytes
@@ -210,6 +220,7 @@ message_count_at bytes = do
   count ← two_at bytes
   in_range (nat_le count.0 256) count
 
+-- the number of messages, and each of them
 unfoldable pub messages_at : List ℕ → Read (List TheMessage)
 messages_at bytes = do
   count ← message_count_at bytes
@@ -225,6 +236,7 @@ ops_of Receive n =
     ops.Align ∷ ops.Times n ∷ ops.Each ∷ ops.Back ∷ ops.Read n ∷ ops.ReadBool ∷ ops.ReadEnum n ∷ ops.ReadChar
     ∷ ops.Skip n ∷ ops.ReadLength n ∷ ops.ReadText ∷ ops.Done ∷ []
 
+-- the op of a column that has this code, with this operand where it has one
 unfoldable pub op_with : Column → ℕ → ℕ → Option Op
 op_with column code n = with_code op_code code (ops_of column n)
 
@@ -241,11 +253,13 @@ op_at column bytes = do
   with_operand ← known (op_with column code.0 operand.0) operand.1
   in_range (takes_operand operand.0 with_operand.0) with_operand
 
+-- the number of instructions, and each of them
 unfoldable pub code_at : Column → List ℕ → Read (List Op)
 code_at column bytes = do
   count ← four_at bytes
   many_at (op_at column) count.0 count.1
 
+-- a message's send code, and then its receive code
 unfoldable pub codes_at : List ℕ → Read Codes
 codes_at bytes = do
   send ← code_at Send bytes
@@ -254,11 +268,13 @@ codes_at bytes = do
 
 -- ---- whole images
 
+-- the bytes F, L, N, D, as one number
 unfoldable pub magic_at : List ℕ → Read (Unit {0})
 magic_at bytes = do
   number ← four_at bytes
   if number.0 == 1145982022 then Ok (tt, number.1) else Err OtherMagic
 
+-- the plan that the version tells: 1 or 2
 unfoldable pub plan_at : List ℕ → Read PlanNo
 plan_at bytes = do
   version ← two_at bytes
@@ -271,12 +287,14 @@ start_at bytes = do
   plan ← plan_at start.1
   name_at plan.1
 
+-- its name, and its messages
 unfoldable pub interface_at : List ℕ → Read TheInterface
 interface_at bytes = do
   name ← name_at bytes
   messages ← messages_at name.1
   Ok (record { name = name.0; messages = messages.0 }, messages.1)
 
+-- magic, version, interface, and the codes of each of its messages; bytes may be left behind them
 unfoldable pub fields_at : List ℕ → Read Fields
 fields_at bytes = do
   start ← magic_at bytes

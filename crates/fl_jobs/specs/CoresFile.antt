@@ -41,6 +41,7 @@ abbrev pub named_by : Names → Verdict Draft → Verdict Reading
 named_by names (stops fault) = stops fault
 named_by names (goes_on d) = goes_on (record { names = names; draft = d })
 
+-- it is refused for its names, or by the draft; the new names are given only where it is accepted
 abbrev pub does : Reading → Asked → Verdict Reading
 does r (refuses fault) = stops fault
 does r (asks event names) = named_by names (takes event r.draft)
@@ -50,6 +51,7 @@ abbrev pub does_block : Reading → PlanNo → TextOutcome → Verdict Reading
 does_block r plan (text_fault number offset) = stops number
 does_block r plan (stands_for i) = does r (asks_interface r.names i plan)
 
+-- E90: a command that doesn't belong here, whatever it names
 abbrev pub DoesCommand : Reading → Command → Verdict Reading → Type 0
 DoesCommand r c v = MatchBool (belongs c) ((asked : Asked) × Asks r.names c asked × (v ≡ does r asked)) (v ≡ stops 90)
 
@@ -79,12 +81,15 @@ which_opened bindings = map (λ (b : Bound). b.is_opened) bindings
 abbrev pub count_set_up : List Bool → ℕ
 count_set_up bindings = count_by not bindings
 
+-- the number of each binding, in the order of their lines
 abbrev pub numbers_of : List Bool → List ℕ
 numbers_of bindings = numbers_from 0 (count_set_up bindings) bindings
 
+-- the number of the binding at this place in the order of lines; a place without one stays as it is
 abbrev pub numbered : List ℕ → ℕ → ℕ
 numbered numbers place = unwrap_or (slice_get numbers place) place
 
+-- an end, and a job, which name a binding by its number instead of its line's place
 abbrev pub end_by : List ℕ → EndId → EndId
 end_by numbers e = record { binding = numbered numbers e.binding; side = e.side }
 
@@ -99,6 +104,7 @@ with_numbers numbers d = record d { jobs = map (job_by numbers) d.jobs }
 
 -- ---- a whole file
 
+-- what a text comes to of which no line is refused
 pub record CoresFile : Type 0 where
   -- how many cores run, and what is set up on them before
   pub cores : ℕ
@@ -109,6 +115,7 @@ pub record CoresFile : Type 0 where
   pub names : Names
   pub numbers : List ℕ
 
+-- of a reading whose jobs name their ends by the places of lines, and the numbers of these
 abbrev pub file_by : List ℕ → Reading → CoresFile
 file_by numbers r = record {
   cores = r.draft.cores;
@@ -122,9 +129,11 @@ file_by numbers r = record {
 abbrev pub file_left : List ℕ → Reading → CoresFile
 file_left numbers r = record { cores = r.draft.cores; setup = r.draft.setup; jobs = r.draft.jobs; names = r.names; numbers = numbers }
 
+-- with the numbers that its own bindings have
 abbrev pub file_of : Reading → CoresFile
 file_of r = file_by (numbers_of (which_opened r.draft.bindings)) r
 
+-- what a text comes to: a file, or its first line that is refused
 pub data Outcome : Type 0 where
   is_file : CoresFile → Outcome
   -- the line, from 1, and the fault's number
@@ -151,6 +160,7 @@ Follows (item ∷ items) line r o = (v : Verdict Reading) × Does r item v × Be
 abbrev pub ReadsFrom : Reading → ℕ → List ℕ → Outcome → Type 0
 ReadsFrom r line bytes o = (items : List Item) × ItemsOf bytes items × Follows items line r o
 
+-- what a whole text comes to; one that is too long is refused at line 1 (E91)
 abbrev pub Reads : List ℕ → Outcome → Type 0
 Reads bytes o = MatchBool (is_too_long bytes) (o ≡ refused_at 1 91) (ReadsFrom beginning 1 bytes o)
 

@@ -46,6 +46,7 @@ pub data Use : Type 0 where
   makes_calls : Use
   has_rules : Use
 
+-- a binding: what its line made it, and what the jobs at its ends are so far
 pub record Bound : Type 0 where
   -- whether it is opened while the cores run; else it is set up before
   pub is_opened : Bool
@@ -72,6 +73,7 @@ pub record Draft : Type 0 where
   pub setup : List Event
   pub jobs : List Job
 
+-- before the first line; until one says otherwise there is one core
 abbrev pub nothing_yet : Draft
 nothing_yet = record {
   settled = false;
@@ -100,6 +102,7 @@ with_job job d = record d { settled = true; jobs = d.jobs ++ job ∷ [] }
 abbrev pub has_interface : List ℕ → Draft → Bool
 has_interface name d = list_any (λ (i : Planned). bytes_eq name i.interface.name) d.interfaces
 
+-- E92: its name is taken; E94: there are 64; an interface doesn't settle the number of cores
 abbrev pub adds_interface : TheInterface → PlanNo → Draft → Verdict Draft
 adds_interface i plan d =
     if has_interface i.name d then stops 92
@@ -119,18 +122,21 @@ sets_cores n d =
 abbrev pub is_core : ℕ → Draft → Bool
 is_core core d = nat_lt core d.cores
 
+-- the link is between these two cores, whichever comes first
 abbrev pub joins : ℕ → ℕ → Joint → Bool
 joins a b j = ((j.first == a) && (j.second == b)) || ((j.first == b) && (j.second == a))
 
 abbrev pub has_link : ℕ → ℕ → Draft → Bool
 has_link a b d = list_any (joins a b) d.links
 
+-- E73: one is no core, both are one, or they have a link; E32: no ring has so many slots
 abbrev pub adds_link : ℕ → ℕ → ℕ → Draft → Verdict Draft
 adds_link a b size d =
     if not (is_core a d && is_core b d) || (a == b) || has_link a b d then stops 73
     else if not (is_ring_size size) then stops 32
     else goes_on (with_event (add_link a b size) (record d { links = d.links ++ record { first = a; second = b } ∷ [] }))
 
+-- E94: there are 256; E73: no such core
 abbrev pub adds_dispatcher : ℕ → Draft → Verdict Draft
 adds_dispatcher core d =
     if nat_le most_dispatchers (length d.dispatchers) then stops 94
@@ -144,9 +150,11 @@ is_dispatcher x d = nat_lt x.place (count_by (λ core. core == x.core) d.dispatc
 abbrev pub is_interface : ℕ → Draft → Bool
 is_interface i d = nat_lt i (length d.interfaces)
 
+-- one service more
 abbrev pub with_offer : List ℕ → Offer → Draft → Draft
 with_offer name offer d = record d { services = d.services ++ name ∷ []; offers = d.offers ++ offer ∷ [] }
 
+-- E92: no such dispatcher or interface; E71: the service is there; E94: there are 256
 abbrev pub exports : List ℕ → DispatcherId → ℕ → Draft → Verdict Draft
 exports name dispatcher i d =
     if not (is_dispatcher dispatcher d && is_interface i d) then stops 92
@@ -165,6 +173,7 @@ pub record Wanted : Type 0 where
   pub interface : ℕ
   pub service : List ℕ
 
+-- one binding more, without jobs at its ends
 abbrev pub with_binding : Bool → ℕ → Draft → Draft
 with_binding opened i d = record d {
   bindings = d.bindings ++ record { is_opened = opened; interface = i; at_client = free; at_server = free } ∷ [];
@@ -180,11 +189,13 @@ with_set_up w kind d =
 abbrev pub has_places : ℕ → DispatcherId → Draft → Bool
 has_places n x d = nat_le (count_by (same_dispatcher x) d.seats + n) most_ends
 
+-- both ends find a place, also where one dispatcher has both
 abbrev pub has_both_places : Wanted → Draft → Bool
 has_both_places w d =
     if same_dispatcher w.client w.server then has_places 2 w.client d
     else has_places 1 w.client d && has_places 1 w.server d
 
+-- `local`: E73: on two cores; E32: not 1 to 1,024 slots; E54: a dispatcher has no place left
 abbrev pub binds_by_queues : Wanted → ℕ → Draft → Verdict Draft
 binds_by_queues w slots d =
     if not (w.client.core == w.server.core) then stops 73
@@ -192,6 +203,7 @@ binds_by_queues w slots d =
     else if not (has_both_places w d) then stops 54
     else goes_on (with_set_up w (by_queues slots) d)
 
+-- `ump`: E73: on one core; E32: no ring has so many slots; E54: a dispatcher has no place left
 abbrev pub binds_by_ring : Wanted → ℕ → Draft → Verdict Draft
 binds_by_ring w size d =
     if w.client.core == w.server.core then stops 73
@@ -214,6 +226,7 @@ binds_by_route w route d =
     let wish : Wish = record { client = w.client; interface = w.interface; service = w.service; route = route } in
     goes_on (with_job (opens wish) (with_binding true w.interface d))
 
+-- by the way in which the ends are to be joined
 abbrev pub binds_by : Wanted → Kind → Draft → Verdict Draft
 binds_by w (by_queues slots) d = binds_by_queues w slots d
 binds_by w (by_ring size) d = binds_by_ring w size d
@@ -223,6 +236,8 @@ binds_by w (by_route route) d = binds_by_route w route d
 abbrev pub offer_of : List ℕ → Draft → Option Offer
 offer_of name d = given (place_of name d.services) None λ place. slice_get d.offers place
 
+-- E92: no such dispatcher or interface; E94: there are 1,024; E70: no such service;
+-- E72: the service has another interface
 abbrev pub binds : DispatcherId → ℕ → List ℕ → Kind → Draft → Verdict Draft
 binds client i name kind d =
     if not (is_dispatcher client d && is_interface i d) then stops 92
@@ -241,6 +256,7 @@ abbrev pub with_use : Side → Use → Bound → Bound
 with_use Client u b = record b { at_client = u }
 with_use Server u b = record b { at_server = u }
 
+-- what the jobs at an end are from now on
 abbrev pub change_use : EndId → Use → Draft → Draft
 change_use e u d = record d { bindings = changed_at e.binding (with_use e.side u) d.bindings }
 
@@ -274,6 +290,7 @@ fault_at e finds d =
     given (slice_get d.bindings e.binding) (Some 92) λ b.
     given (slice_get d.interfaces b.interface) (Some 92) λ i. finds b i
 
+-- one job more, where no fault is found: the end is from now on one that makes calls, or has rules
 abbrev pub makes_call : EndId → TheCall → Draft → Verdict Draft
 makes_call e c d =
     given (fault_at e (call_fault e.side c) d) (goes_on (with_job (calls e c) (change_use e makes_calls d))) stops

@@ -51,6 +51,7 @@ binding_text f r place =
     (handled_text f r (end_at place Client) ++ handled_text f r (end_at place Server))
     λ fault. line (answer_text f.names (opening_refused fault (end_at place Client)))
 
+-- the lines of the binding before whose name so many come
 abbrev pub text_at_rank : CoresFile → TheReport → ℕ → List ℕ
 text_at_rank f r rank = given (place_at_rank f.names.bindings rank) [] (binding_text f r)
 

@@ -29,6 +29,7 @@ pub record TheReport : Type 0 where
   pub turns : List ℕ
   pub ending : Ending
 
+-- the calls at one end: none where the binding isn't there
 abbrev pub at_side : Side → BothEnds → List TheCall
 at_side Client b = b.client
 at_side Server b = b.server

@@ -32,6 +32,7 @@ end_named n e = unwrap_or (slice_get n.bindings e.binding) [] ++ side_text e.sid
 abbrev pub call_at : Names → EndId → TheCall → List ℕ
 call_at n e c = printed_call (message_name n e c.msg) c.args
 
+-- an answer; a refused opening is told with its end, a refused command with its fault alone
 abbrev pub answer_text : Names → Answer → List ℕ
 answer_text n done = codes "ok"
 answer_text n accepted = codes "accepted"

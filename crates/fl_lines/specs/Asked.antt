@@ -22,6 +22,7 @@ pub data Asked : Type 0 where
   -- an event, and the names behind it where it is answered `ok`
   asks : Event → Names → Asked
 
+-- the answer that is written `ok`
 abbrev pub is_done : Answer → Bool
 is_done done = true
 is_done answer = false
@@ -30,24 +31,29 @@ is_done answer = false
 abbrev pub names_after : Names → Names → Answer → Names
 names_after old new answer = if is_done answer then new else old
 
+-- how the machine joins the ends: by queues, by a ring, or by a circuit over all cores of the route
 abbrev pub kind_of : BackEnd → Kind
 kind_of (local slots) = by_queues slots
 kind_of (ump slots) = by_ring slots
 kind_of (hop first others) = by_route (first ∷ others)
 
+-- one of these things has the name already
 abbrev pub is_taken : List ℕ → List (List ℕ) → Bool
 is_taken name names = is_some (place_of name names)
 
+-- E92: a dispatcher has the name
 abbrev pub asks_disp : Names → List ℕ → ℕ → Asked
 asks_disp n name core =
     if is_taken name n.dispatchers then refuses 92
     else asks (add_dispatcher core) (with_dispatcher n name core)
 
+-- E92: no such dispatcher or interface; whether the service's name is taken the machine finds
 abbrev pub asks_export : Names → List ℕ → List ℕ → List ℕ → Asked
 asks_export n service dispatcher interface =
     given (dispatcher_at n dispatcher) (refuses 92) λ d.
     given (place_of interface n.interfaces) (refuses 92) λ i. asks (event.export service d i) n
 
+-- E92: a binding has the name, or there is no such dispatcher or interface; the service the machine finds
 abbrev pub asks_bind : Names → List ℕ → List ℕ → List ℕ → List ℕ → Kind → Asked
 asks_bind n name client interface service kind =
     if is_taken name n.bindings then refuses 92
@@ -59,15 +65,18 @@ asks_bind n name client interface service kind =
 abbrev pub asks_end : Names → (EndId → Event) → EndName → Asked
 asks_end n f e = given (end_at n e) (refuses 92) λ x. asks (f x) n
 
+-- E92: no such dispatcher
 abbrev pub asks_turn : Names → List ℕ → Asked
 asks_turn n dispatcher = given (dispatcher_at n dispatcher) (refuses 92) λ d. asks (event.turn d) n
 
+-- E92: no such binding; E41: the end's interface hasn't both messages
 abbrev pub asks_reply : Names → EndName → List ℕ → List ℕ → Asked
 asks_reply n e message answer =
     given (end_at n e) (refuses 92) λ x.
     given (message_at n x message) (refuses 41) λ a.
     given (message_at n x answer) (refuses 41) λ b. asks (event.reply x a b) n
 
+-- E92: no such binding; E41: no such message; whether the arguments fit it the machine finds
 abbrev pub asks_call : Names → EndName → List ℕ → List Datum → Asked
 asks_call n e name args =
     given (end_at n e) (refuses 92) λ x.

@@ -19,6 +19,7 @@ pub data BackEnd : Type 0 where
   -- by a circuit over these cores: the first, and the others
   hop : ℕ → List ℕ → BackEnd
 
+-- a command as its line has it: whether its names stand for anything is found later
 pub data Command : Type 0 where
   -- the number of cores
   cores : ℕ → Command
@@ -49,6 +50,7 @@ pub data Command : Type 0 where
 
 -- ---- the pieces of lines
 
+-- one word of a line or, for a text, all that is left of it
 pub data Piece : Type 0 where
   -- this very word
   the_word : List ℕ → Piece
@@ -58,6 +60,7 @@ pub data Piece : Type 0 where
   -- all that stands behind the words, blanks within it too: the text of a call
   a_text : List ℕ → Piece
 
+-- the last pieces of a `bind` line: how the ends are to be joined
 abbrev pub back_end_row : BackEnd → List Piece
 back_end_row (local slots) = the_word (codes "local") ∷ a_number slots ∷ []
 back_end_row (ump slots) = the_word (codes "ump") ∷ a_number slots ∷ []

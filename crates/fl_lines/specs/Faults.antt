@@ -3,6 +3,7 @@ use Rattle.std.specs.Prelude.{ℕ, Option, Some, None}
 use Rattle.fl_lines.specs.declared.fault.LineFault.{LineFault}
 use Rattle.fl_lines.specs.declared.fault.LineFault.TheVariants.{Unread, NotACall, Name, NoSuchMessage, Memory}
 
+-- a line that is no command and a text that is no call have the same number
 abbrev pub number_of : LineFault → ℕ
 number_of Unread = 90
 number_of NotACall = 90

@@ -35,6 +35,7 @@ pub data Line : Type 0 where
   command : Command → Line
   unread : Line
 
+-- a line, without its end, is this; it is unread just where it is none of the others
 abbrev pub LineIs : List ℕ → Line → Type 0
 LineIs line silent = is_silent line ≡ true
 LineIs line (heading plan) = Heads line plan
@@ -44,6 +45,7 @@ LineIs line unread =
 
 -- ---- a command as it is printed
 
+-- a number is printed without zeros before it
 abbrev pub printed_piece : Piece → List ℕ
 printed_piece (the_word word) = word
 printed_piece (a_name name) = name
@@ -60,6 +62,7 @@ abbrev pub printed_row : List Piece → List ℕ
 printed_row [] = []
 printed_row (piece ∷ pieces) = printed_piece piece ++ printed_more pieces
 
+-- a command's line, with single spaces between its pieces
 abbrev pub printed_command : Command → List ℕ
 printed_command c = printed_row (row_of c)
 

@@ -32,6 +32,7 @@ is_too_long bytes = nat_lt 1048576 (length bytes)
 
 -- ---- items
 
+-- what is answered by itself, if at all: a line outside blocks, or a whole block
 pub data Item : Type 0 where
   -- a line outside blocks, which isn't the head of one
   a_line : Line → Item

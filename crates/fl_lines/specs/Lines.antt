@@ -38,6 +38,7 @@ CallTells n e text result = (result ≡ Err Memory) ⊎ ((asked : Asked) × Call
 
 -- ---- what a function returned in place of an event, as the event that is made of it
 
+-- the fault stays as it is
 abbrev pub told_as : {A : Type 0} → (A → RustEvent) → Result A LineFault → Result RustEvent LineFault
 told_as f (Ok x) = Ok (f x)
 told_as f (Err fault) = Err fault
@@ -62,6 +63,7 @@ a_forward p = rust.Forward p.0 p.1
 
 -- ---- what stands behind a line's first word: an end alone, a dispatcher alone, two cores alone
 
+-- E90: anything else stands there, which is found before any name is looked for
 abbrev pub asks_by_end : Names → (EndId → Event) → List ℕ → Asked
 asks_by_end n f rest = given (one_end rest) (refuses 90) λ e. asks_end n f e
 

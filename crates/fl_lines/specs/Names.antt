@@ -31,9 +31,11 @@ no_names = record { interfaces = []; messages = []; dispatchers = []; placed = [
 abbrev pub place_of : List ℕ → List (List ℕ) → Option ℕ
 place_of name names = position (bytes_eq name) names
 
+-- the dispatcher of this name: its core, and its place there
 abbrev pub dispatcher_at : Names → List ℕ → Option DispatcherId
 dispatcher_at n name = given (place_of name n.dispatchers) None λ place. slice_get n.placed place
 
+-- the end as the machine knows it, by its binding's place
 abbrev pub end_at : Names → EndName → Option EndId
 end_at n e = given (place_of e.binding n.bindings) None λ place. Some (record { binding = place; side = e.side })
 
@@ -58,6 +60,7 @@ with_names n name messages = record n {
   messages = n.messages ++ messages ∷ [];
 }
 
+-- the same, its messages numbered in their order
 abbrev pub with_interface : Names → TheInterface → Names
 with_interface n i = with_names n i.name (map (λ (m : TheMessage). m.name) i.messages)
 
@@ -71,6 +74,7 @@ with_dispatcher n name core = record n {
   placed = n.placed ++ record { core = core; place = count_by (is_on core) n.placed } ∷ [];
 }
 
+-- a binding's name, and the place of its interface
 abbrev pub with_binding : Names → List ℕ → ℕ → Names
 with_binding n name interface = record n {
   bindings = n.bindings ++ name ∷ [];

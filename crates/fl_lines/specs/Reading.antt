@@ -1,5 +1,6 @@
 -- How a line is read, row by row of the table: what the parts of the code tell. Of this file public contracts name `command_by`, where
--- the words behind a verb are read. That it is what the grammar says is proved; a reader of what scripts promise may skip it.
+-- the words behind a verb are read, and `one_end` and `two_numbers`, by which some lines ask. That it is what the grammar says is
+-- proved; a reader of what scripts promise may skip it.
 use Rattle.std.specs.Prelude.{ℕ, ◌-◌, if◌then◌else◌, List, length, take, drop}
 use Rattle.std.specs.Prelude.{Option, Some, None, option_map, codes}
 use Rattle.std.specs.Str.{bytes_eq}
@@ -19,9 +20,11 @@ use Rattle.fl_lines.specs.Grammar.{Line, silent, heading, command, unread}
 
 -- ---- pieces
 
+-- all but a word's last two bytes, where `.c` or `.s` may stand
 abbrev pub name_before_end : List ℕ → List ℕ
 name_before_end word = take (length word - 2) word
 
+-- the end that a word writes: a binding's name, and `.c` or `.s`
 abbrev pub end_of : List ℕ → Option EndName
 end_of word =
     if is_name (name_before_end word) then
@@ -38,6 +41,7 @@ name_then line f = if is_name (first_word line) then f (first_word line) (behind
 abbrev pub at_last : {A : Type 0} → List ℕ → A → Option A
 at_last line x = if is_none (first_word line) then Some x else None
 
+-- one number, two numbers, one end: none where anything else stands there, or more
 abbrev pub one_number : List ℕ → Option ℕ
 one_number line = given (number_of (first_word line)) None λ n. at_last (behind_word line) n
 
@@ -50,6 +54,7 @@ one_end line = given (end_of (first_word line)) None λ e. at_last (behind_word 
 
 -- ---- rows, behind the first word
 
+-- each of these is none where other words stand there
 abbrev pub link_row : List ℕ → Option Command
 link_row line =
     given (number_of (first_word line)) None λ a. given (two_numbers (behind_word line)) None λ p. Some (link a p.0 p.1)
@@ -60,10 +65,12 @@ disp_row line = name_then line λ d rest. given (one_number rest) None λ core. 
 abbrev pub export_row : List ℕ → Option Command
 export_row line = name_then line λ s rest. name_then rest λ d more. name_then more λ i last. at_last last (export s d i)
 
+-- behind `hop`: one core or more, of which only the form is looked at
 abbrev pub route_row : List ℕ → Option BackEnd
 route_row line =
     given (number_of (first_word line)) None λ first. option_map (hop first) (numbers_of (words_of (behind_word line)))
 
+-- behind the four names of a `bind` line
 abbrev pub back_end_row : List ℕ → Option BackEnd
 back_end_row line =
     if bytes_eq (first_word line) (codes "local") then given (one_number (behind_word line)) None (λ n. Some (local n))
@@ -76,6 +83,7 @@ bind_row line =
     name_then line λ p a. name_then a λ d b. name_then b λ i c. name_then c λ s last.
     given (back_end_row last) None λ back. Some (bind p d i s back)
 
+-- behind the end all is the text, which is taken as it stands: that it spells a call is no part of this
 abbrev pub call_row : List ℕ → Option Command
 call_row line = given (end_of (first_word line)) None λ e. Some (call e (without_blanks (behind_word line)))
 
@@ -103,6 +111,7 @@ making_verb_of word =
     else if bytes_eq word (codes "idl") then verb.Idl
     else verb.Unknown
 
+-- of any line; a word that is no command's, and not `idl`, is unknown
 abbrev pub verb_of : List ℕ → Verb
 verb_of word =
     if bytes_eq word (codes "call") then verb.Call
@@ -122,6 +131,7 @@ with_end f rest = given (one_end rest) None λ e. Some (f e)
 abbrev pub with_cores : (ℕ → ℕ → Command) → List ℕ → Option Command
 with_cores f rest = given (two_numbers rest) None λ p. Some (f p.0 p.1)
 
+-- the command of a verb and what stands behind it; behind `idl` and an unknown word there is none
 abbrev pub command_by : Verb → List ℕ → Option Command
 command_by verb.Cores rest = given (one_number rest) None λ n. Some (cores n)
 command_by verb.Link rest = link_row rest
@@ -154,10 +164,12 @@ heading_by rest =
     else if bytes_eq (first_word rest) (codes "1") then (if is_none (first_word (behind_word rest)) then heading One else unread)
     else unread
 
+-- the line of a verb and what stands behind it
 abbrev pub line_by : Verb → List ℕ → Line
 line_by verb.Idl rest = heading_by rest
 line_by v rest = line_with (command_by v rest)
 
+-- what a line is, without its end
 abbrev pub read_line : List ℕ → Line
 read_line line =
     if begins_comment (first_word line) then silent

@@ -9,6 +9,7 @@ use Rattle.fl_machine.specs.declared.cursor.Cursor.{Cursor}
 abbrev pub loop_of : Loop → TheLoop
 loop_of l = record { start = l.start; turns = l.turns }
 
+-- what is read where no loop is open
 abbrev pub no_loop : Loop
 no_loop = record { start = 0; turns = 0 }
 
@@ -17,6 +18,7 @@ abbrev pub loops_of : List Loop → ℕ → List TheLoop
 loops_of loops zero = []
 loops_of loops (suc depth) = loop_of (slice_index_or loops depth no_loop) ∷ loops_of loops depth
 
+-- where a run of send code stands: left of the tape are the numbers from the next on
 abbrev pub spot_of : List ℕ → Cursor → TheSpot
 spot_of tape c = record {
   place = c.place;
@@ -48,6 +50,7 @@ pub record Gives (ops : List Op) (s t : TheSpot) (byte : ℕ) : Type 0 where
 abbrev pub inner_of : Cursor → Loop
 inner_of c = slice_index_or c.loops (c.depth - 1) no_loop
 
+-- the turns that it makes after this one
 abbrev pub turns_of : Cursor → ℕ
 turns_of c = (inner_of c).turns
 

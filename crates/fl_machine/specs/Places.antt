@@ -14,6 +14,7 @@ abbrev pub frags_in : Option (List Frag) → List Frag
 frags_in None = []
 frags_in (Some frags) = frags
 
+-- what was taken of the call under way at a place: the first fragments of its room
 abbrev pub reassembly_at : Assembly → TheRoom → TheReassembly
 reassembly_at p t = reassembly_on p.program (frags_in t.frags) p.begun
 
@@ -23,6 +24,7 @@ joined [] ts = []
 joined (p ∷ ps) [] = []
 joined (p ∷ ps) (t ∷ ts) = reassembly_at p t ∷ joined ps ts
 
+-- that of every place
 abbrev pub reassemblies : Places → List TheReassembly
 reassemblies s = joined s.places.items (rooms_of s.rooms)
 
@@ -43,6 +45,7 @@ AreJoined [] (t ∷ ts) = ⊥
 AreJoined (p ∷ ps) [] = ⊥
 AreJoined (p ∷ ps) (t ∷ ts) = IsPlace p t × AreJoined ps ts
 
+-- the rooms are in order, and each place has its own
 pub record ArePlaces (s : Places) : Type 0 where
   pub rooms : IsRooms s.rooms
   pub joined : AreJoined s.places.items (rooms_of s.rooms)

@@ -68,6 +68,7 @@ abbrev pub parts_under : List Frag → Option Begun → List Frag
 parts_under room None = []
 parts_under room (Some b) = take b.fed room
 
+-- where a call is under way, all that was fed of it is in its room
 abbrev pub IsUnderWay : TheProgram → List Frag → Option Begun → Type 0
 IsUnderWay p room None = Unit {0}
 IsUnderWay p room (Some b) = (b.fed ≤ length room) × IsKeptIn p (take b.fed room) b

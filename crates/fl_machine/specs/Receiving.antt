@@ -56,6 +56,7 @@ interface_in r = (program_of r.program).interface
 abbrev pub plan_in : TheReceiving → PlanNo
 plan_in r = (program_of r.program).plan
 
+-- what an undo of the next accepted feed goes back to
 abbrev pub fed_by : TheReceiving → TheHeld
 fed_by r = record { parts = r.parts; whole = r.whole }
 
@@ -64,6 +65,7 @@ abbrev pub block_for : PlanNo → Option TheMessage → Block
 block_for plan None = finished
 block_for plan (Some m) = message_block Receive plan m
 
+-- that of the message of this number
 abbrev pub block_at : PlanNo → TheInterface → ℕ → Block
 block_at plan i msg = block_for plan (slice_get i.messages msg)
 
@@ -75,6 +77,7 @@ frags_begun msg bytes count = map (frag_of true msg 0 bytes) (range_with_len 0 c
 abbrev pub parts_of : PlanNo → TheInterface → List ℕ → Begun → List Frag
 parts_of plan i tape b = frags_begun b.msg.0 (bytes_given (block_at plan i b.msg.0) (so_far (take b.intake.count tape) b.intake)) b.fed
 
+-- the fragments of a call that is whole: they hold the bytes that the code gives for its numbers
 abbrev pub whole_of : PlanNo → TheInterface → List ℕ → Ended → List Frag
 whole_of plan i tape e = frags_holding true e.msg.0 0 (bytes_given (block_at plan i e.msg.0) (take e.count tape))
 
@@ -89,6 +92,7 @@ pub record Before : Type 0 where
   pub stand : Stand
   pub began : Bool
 
+-- what was fed, by where the run stands and its tape
 abbrev pub fed_of : PlanNo → TheInterface → List ℕ → Stand → TheHeld
 fed_of plan i tape Between = record { parts = []; whole = [] }
 fed_of plan i tape (Inside b) = record { parts = parts_of plan i tape b; whole = [] }
@@ -98,6 +102,7 @@ fed_of plan i tape (After e) = record { parts = []; whole = whole_of plan i tape
 abbrev pub tape_before : List ℕ → List ℕ → Before → List ℕ
 tape_before tape spare b = if b.began then spare else tape
 
+-- what was fed before the last accepted feed, where that isn't undone
 abbrev pub fed_before : PlanNo → TheInterface → List ℕ → List ℕ → Option Before → Option TheHeld
 fed_before plan i tape spare o = option_map (λ (b : Before). fed_of plan i (tape_before tape spare b) b.stand) o
 
@@ -116,6 +121,7 @@ stand_of Idle b = Between
 stand_of Busy b = Inside b
 stand_of (Done e) b = After e
 
+-- what stood before, by the phase then and the call that was under way in it
 abbrev pub before_of : Begun → Former → Before
 before_of b x = record { stand = stand_of x.phase b; began = x.began }
 
@@ -128,6 +134,7 @@ stored_of s = record {
   before = option_map (before_of s.last.value) s.before;
 }
 
+-- what contracts see of a run of this program that stores this
 abbrev pub receiving : Program → TheStored → TheReceiving
 receiving program s = record {
   program = program;
@@ -217,6 +224,7 @@ pub record IsEnded (plan : PlanNo) (i : TheInterface) (tape : List ℕ) (e : End
   pub within : e.count ≤ length tape
   pub tape_is : take e.count tape ≡ tape_of plan i call
 
+-- a run may stand so over this tape: inside a call of which a fragment was fed, or behind one with this tape
 abbrev pub IsStand : PlanNo → TheInterface → List ℕ → Stand → Type 0
 IsStand plan i tape Between = Unit {0}
 IsStand plan i tape (Inside b) = (0 < b.fed) × IsBegun plan i tape b
@@ -233,6 +241,7 @@ pub record IsNew (b : Begun) : Type 0 where
   pub none : b.intake.count ≡ 0
   pub stands : (ops : List Op) → IsCode Receive ops (block_of ops) → Stands ops [] b.intake []
 
+-- the call under way, as one that is whole: its message, and how many numbers were taken
 abbrev pub ended_as : Begun → Ended
 ended_as b = record { msg = b.msg; count = b.intake.count }
 

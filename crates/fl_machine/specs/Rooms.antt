@@ -14,6 +14,7 @@ pub record TheRoom : Type 0 where
 abbrev pub not_there : ℕ → TheRoom
 not_there size = record { size = size; frags = None }
 
+-- so many fragments of the block from a start on; none where the room has no start yet
 abbrev pub frags_from : List Frag → ℕ → Option ℕ → Option (List Frag)
 frags_from block size None = None
 frags_from block size (Some start) = Some (take size (drop start block))
@@ -21,6 +22,7 @@ frags_from block size (Some start) = Some (take size (drop start block))
 abbrev pub room_in : List Frag → Span → TheRoom
 room_in block s = record { size = s.size; frags = frags_from block s.size s.start }
 
+-- the room of each place
 abbrev pub rooms_of : Rooms → List TheRoom
 rooms_of t = map (room_in t.block.items) t.spans.items
 
@@ -68,6 +70,7 @@ pub record AreRooms (long capacity : ℕ) (spans : List Span) (owed : ℕ) : Typ
   pub owed_is : sum_by owed_for spans ≡ owed
   pub reserved : long + owed ≤ capacity
 
+-- the rooms lie apart in the block, which has memory for those that aren't there yet
 abbrev pub IsRooms : Rooms → Type 0
 IsRooms t = AreRooms (length t.block.items) (vec_capacity t.block) t.spans.items t.owed
 

@@ -32,6 +32,7 @@ pub record TakesCall (s : TheReceiving) (c : TheCall) (frags : List Frag) (answe
   pub program : t.program ≡ s.program
   pub only : (d : TheCall) → fits_of (interface_in s) d ≡ true → Means (plan_in s) (interface_in s) t.whole d 0 → d ≡ c
 
+-- so a run takes fragments that mean a fitting call, off links, where it is inside no call
 abbrev pub TakesFragments : Type 0
 TakesFragments = (s t : TheReceiving) (c : TheCall) (frags : List Frag) (answers : List (Result Fed WireFault))
     → interface_words_fit (interface_in s) ≡ true → s.parts ≡ [] → fits_of (interface_in s) c ≡ true

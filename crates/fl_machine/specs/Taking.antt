@@ -26,6 +26,7 @@ words_bytes words = flat_map (number_bytes 8) words
 abbrev pub so_far : List ℕ → Intake → List ℕ
 so_far taken c = taken ++ c.value ∷ []
 
+-- its numbers are those from the least on and below the bound, so the bound is one above the last
 abbrev pub field_view : Field → TheField
 field_view f = record { mark = f.mark; width = f.width; least = f.least; bound = f.last + 1; told = f.told }
 
@@ -33,6 +34,7 @@ field_view f = record { mark = f.mark; width = f.width; least = f.least; bound =
 abbrev pub rest_of : List Op → Intake → ℕ → Rest
 rest_of ops c at = rest_from ops c.place (loops_of c.loops c.depth) at
 
+-- the run stands at a place of the code, in the loops that are open there
 abbrev pub IsTaking : List Op → Intake → Type 0
 IsTaking ops c = IsStance ops c.place (loops_of c.loops c.depth)
 
@@ -112,6 +114,7 @@ pub record Passes (ops : List Op) (c d : Intake) : Type 0 where
   pub leads : (at : ℕ) → c.phase % 8 ≡ at % 8 → LeadsTo (rest_of ops c at) (rest_of ops d at)
   pub others : d ≡ record c { place = d.place; loops = d.loops; depth = d.depth }
 
+-- past one of these
 pub record PassesOne (ops : List Op) (c d : Intake) : Type 0 where
   pub passes : Passes ops c d
   pub steps : steps_left (rest_of ops c c.phase) ≡ suc (steps_left (rest_of ops d c.phase))
@@ -131,10 +134,11 @@ pub record Grows (have value low n : ℕ) (left rest : List ℕ) : Type 0 where
   pub small : low < 256 ^ (have + n)
   pub same : low % 256 ^ have ≡ value
 
--- no byte from there on, or the first that is no zero
+-- each byte from one place up to another is 0
 abbrev pub AreZeros : List ℕ → ℕ → ℕ → Type 0
 AreZeros buffer from end = (i : ℕ) → from ≤ i → i < end → slice_index buffer i ≡ 0
 
+-- of a fragment's 56 bytes from a place on, the first that isn't 0
 pub record FirstSet (buffer : List ℕ) (from : ℕ) : Type 0 where
   pub at : ℕ
   pub from_there : from ≤ at

@@ -122,9 +122,11 @@ abbrev pub AtSide : (ℕ → TheHalf → TheHalf → Look → TheHalf → TheHal
 AtSide R One s look t = R s.size s.one s.two look t.one t.two × (t.size ≡ s.size)
 AtSide R Two s look t = R s.size s.two s.one look t.two t.one × (t.size ≡ s.size)
 
+-- one put at the side of this name, by what it came to
 abbrev pub DuoPuts : Which → TheDuo → Look → TheDuo → Type 0
 DuoPuts = AtSide HalfPuts
 
+-- one look, take or tell at the side of this name, by what it came to
 abbrev pub DuoTakes : Which → TheDuo → Look → TheDuo → Type 0
 DuoTakes = AtSide HalfTakes
 

@@ -15,6 +15,7 @@ use Rattle.fl_ring.specs.declared.one_duo.Which.{Which}
 
 -- ---- a ring with one owner is a queue that counts
 
+-- over steps in a row it loses no call's fragment, makes none up, and keeps their order
 abbrev pub RingLaw : Type 0
 RingLaw = (s t : TheRing) (looks : List Look) → Looks (LinkStep RingPuts RingTakes) s looks t → QueueConserves (queue_of s) looks (queue_of t)
 
@@ -32,6 +33,7 @@ read_in (found frag) = frag ∷ []
 read_in found_ack = acknowledgement ∷ []
 read_in look = []
 
+-- the fragments that a stretch of steps wrote, and those that it took, acknowledgements among them
 abbrev pub writes_of : List Look → List Frag
 writes_of looks = flat_map wrote_in looks
 
@@ -55,10 +57,12 @@ pub record HalfConserves (s p : TheHalf) (looks : List Look) (t q : TheHalf) : T
   pub took : bare_calls s.waiting ≡ takes_of looks ++ bare_calls t.waiting
   pub elsewhere : q ≡ with_waiting p q.waiting
 
+-- of the whole ring, where the side of this name steps: its number of slots stays
 pub record DuoConserves (which : Which) (s : TheDuo) (looks : List Look) (t : TheDuo) : Type 0 where
   pub same_size : t.size ≡ s.size
   pub sides : HalfConserves (side_of which s) (across which s) looks (side_of which t) (across which t)
 
+-- steps of either kind in a row at one side do that
 abbrev pub DuoLaw : Type 0
 DuoLaw = (which : Which) (s t : TheDuo) (looks : List Look) → Looks (LinkStep (DuoPuts which) (DuoTakes which)) s looks t → DuoConserves which s looks t
 
@@ -71,6 +75,7 @@ pub record SenderConserves (s : Sender) (looks : List Look) (t : Sender) : Type 
   pub sent : map bare t.sent ≡ map bare s.sent ++ map bare (puts_of looks)
   pub put : bare_calls t.sent ≡ bare_calls s.sent ++ map bare (puts_of looks)
 
+-- puts in a row do that, whatever each of them came to
 abbrev pub SenderLaw : Type 0
 SenderLaw = (s t : Sender) (looks : List Look) → Looks SenderPuts s looks t → SenderConserves s looks t
 
@@ -81,6 +86,7 @@ pub record ReceiverConserves (s : Receiver) (looks : List Look) (t : Receiver) :
   pub read : length t.got ≡ length s.got + length (reads_of looks)
   pub took : bare_calls t.got ≡ bare_calls s.got ++ takes_of looks
 
+-- looks, takes and tells in a row do that, whatever each of them came to
 abbrev pub ReceiverLaw : Type 0
 ReceiverLaw = (s t : Receiver) (looks : List Look) → Looks ReceiverTakes s looks t → ReceiverConserves s looks t
 
@@ -95,5 +101,6 @@ pub record SideConserves (s : TheSide) (looks : List Look) (t : TheSide) : Type 
   pub read : length t.got ≡ length s.got + length (reads_of looks)
   pub took : bare_calls t.got ≡ bare_calls s.got ++ takes_of looks
 
+-- steps of either kind in a row do that, whatever each of them came to
 abbrev pub SideLaw : Type 0
 SideLaw = (s t : TheSide) (looks : List Look) → Looks (LinkStep SharedPuts SharedTakes) s looks t → SideConserves s looks t

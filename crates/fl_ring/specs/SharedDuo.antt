@@ -94,6 +94,7 @@ DuoHolds n start = Accounted (DuoFits n) (λ words p. BothRun (ways 0 (8 * n) n 
 
 -- ---- the views
 
+-- a fragment whose eight words are 0: it stands for one that passed before the start
 abbrev pub blank : Frag
 blank = record { words = replicate 7 0; control = 0 }
 
@@ -105,9 +106,11 @@ new_side n start = record {
   take = record { got = replicate start blank; part = []; last = start / n; peeked = None; misses = 0; told = start };
 }
 
+-- the first seat holds both sides
 abbrev pub duo_opening : ℕ → ℕ → DuoView
 duo_opening n start = record { size = n; holder = Both; mine = new_side n start; theirs = new_side n start }
 
+-- what is left of it for side one, and for side two, each with its own side as `mine`
 abbrev pub side_one_of : DuoView → DuoView
 side_one_of v = record { size = v.size; holder = One; mine = v.mine; theirs = v.theirs }
 
@@ -119,12 +122,15 @@ abbrev pub both_as : Holder → DuoView → DuoView → DuoView
 both_as One v w = record { size = v.size; holder = Both; mine = v.mine; theirs = w.mine }
 both_as _ v w = record { size = v.size; holder = Both; mine = w.mine; theirs = v.mine }
 
+-- two seats joined, by the side that the first of them holds
 abbrev pub duo_both_of : DuoView → DuoView → DuoView
 duo_both_of v w = both_as v.holder v w
 
+-- what the other seat is left with: it holds no side
 abbrev pub duo_nobody : DuoView
 duo_nobody = record { size = 0; holder = Nobody; mine = new_side 0 0; theirs = new_side 0 0 }
 
+-- the seat, once its own side knows this
 abbrev pub with_mine : DuoView → SideView → DuoView
 with_mine v s = record { size = v.size; holder = v.holder; mine = s; theirs = v.theirs }
 
@@ -146,12 +152,15 @@ side_put s c = record { put = with_put s.put c; take = with_told s.take (length 
 abbrev pub known_by : ℕ → SideView → ℕ → ℕ
 known_by n s c = if epoch_of c == epoch_at n (length s.take.got) then count_from s.put.known (told_of c) else s.put.known
 
+-- what it knows as a writer then: that count, and one load more
 abbrev pub counted_by : ℕ → SideView → ℕ → Writing
 counted_by n s c = record { sent = s.put.sent; part = s.put.part; known = known_by n s c; loads = s.put.loads + 1 }
 
+-- a control word of the other direction is loaded: it may tell a count, and that a fragment is there
 abbrev pub side_control : ℕ → SideView → ℕ → SideView
 side_control n s c = record { put = counted_by n s c; take = with_control n s.take c }
 
+-- a payload word is loaded: one of the first six; the seventh, of a peek; the seventh, of a take
 abbrev pub side_loaded : SideView → ℕ → SideView
 side_loaded s x = record { put = s.put; take = with_loaded s.take x }
 
@@ -201,6 +210,7 @@ IsPayloadWord word k v = (word ≡ put_word v k) × (k ≤ length v.mine.put.par
 abbrev DuoPlayer : Type 1
 DuoPlayer = Step (Unit {0}) → Me (Unit {0}) DuoView → ℕ → Me (Unit {0}) DuoView → Type 0
 
+-- a load of the first payload word not known yet of the slot that is put into next
 abbrev pub duo_finds_word : DuoPlayer
 duo_finds_word st m x m' = (m' ≡ (with_mine m.0 (side_found m.0.mine x), m.1)) × IsNextWord st.word m.0
 
@@ -240,9 +250,11 @@ DuoAgain r x = (frag : Frag) → r.peeked ≡ Some frag → loaded_frag r x ≡ 
 abbrev DuoSeventh : Step (Unit {0}) → DuoView → Type 0
 DuoSeventh st v = (st.word ≡ take_word v 6) × (length v.mine.take.part ≡ 6) × IsDue v.size v.mine.take
 
+-- a load that ends a peek: the fragment is seen, and stays
 abbrev pub duo_loads_peeked : DuoPlayer
 duo_loads_peeked st m x m' = (m' ≡ (with_mine m.0 (side_peeked m.0.mine x), m.1)) × DuoAgain m.0.mine.take x × DuoSeventh st m.0
 
+-- a load that ends a take: the fragment is got, after fewer than 2^62 others
 abbrev pub duo_loads_taken : DuoPlayer
 duo_loads_taken st m x m' = (m' ≡ (with_mine m.0 (side_got m.0.mine x), m.1))
     × DuoAgain m.0.mine.take x × (length m.0.mine.take.got < 2 ^ 62) × DuoSeventh st m.0
@@ -256,5 +268,6 @@ pub record CountsNear (n : ℕ) (w r : SideView) : Type 0 where
   pub told_got : r.take.told ≤ length r.take.got
   pub sent_near : length w.put.sent ≤ w.put.known + n
 
+-- nothing changes, and the counts of the two sides are near, both ways
 abbrev pub duo_compares : DuoPlayer
 duo_compares st m x m' = (m' ≡ m) × CountsNear m.0.size m.0.mine m.0.theirs × CountsNear m.0.size m.0.theirs m.0.mine

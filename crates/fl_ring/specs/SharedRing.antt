@@ -55,6 +55,7 @@ RingRule n = Accounted (Fits n) (λ words s. RingHolds n words s.put s.take)
 
 -- ---- the views
 
+-- what the writer knows before its first step, and the reader before its first
 abbrev pub new_writing : Writing
 new_writing = record { sent = []; part = []; known = 0; loads = 0 }
 
@@ -79,6 +80,7 @@ both_of v w = record { size = v.size; writes = true; reads = true; put = v.put; 
 abbrev pub nobody : View
 nobody = record { size = 0; writes = false; reads = false; put = new_writing; take = new_reading }
 
+-- the seat, once it knows this as the writer, or as the reader
 abbrev pub with_writing : View → Writing → View
 with_writing v w = record { size = v.size; writes = v.writes; reads = v.reads; put = w; take = v.take }
 
@@ -116,6 +118,7 @@ IsPayloadWord word k v = (word ≡ put_word v k) × (k ≤ length v.put.part) ×
 abbrev Player : Type 1
 Player = Step (Unit {0}) → Me (Unit {0}) View → ℕ → Me (Unit {0}) View → Type 0
 
+-- a load of the first payload word not known yet of the slot that is put into next
 abbrev pub finds_word : Player
 finds_word st m x m' = (m' ≡ (with_writing m.0 (with_found m.0.put x), m.1)) × IsNextWord st.word m.0
 
@@ -130,6 +133,7 @@ stores_control st m x m' = (m' ≡ (with_writing m.0 (with_put m.0.put x), m.1))
     × (st.word ≡ put_word m.0 7) × (length m.0.put.part ≡ 7) × HasSlot m.0 × (length m.0.put.sent < 2 ^ 62)
     × (epoch_of x ≡ epoch_at m.0.size (length m.0.put.sent))
 
+-- a load of the number told: no less than the writer knew, no more than it sent
 abbrev pub loads_told : Player
 loads_told st m x m' = (m' ≡ (with_writing m.0 (with_known m.0.put x), m.1))
     × (m.0.put.known ≤ x) × (x ≤ length m.0.put.sent) × (st.word ≡ told_word m.0)
@@ -154,15 +158,19 @@ Again r x = (frag : Frag) → r.peeked ≡ Some frag → loaded_frag r x ≡ fra
 abbrev Seventh : Step (Unit {0}) → View → Type 0
 Seventh st v = (st.word ≡ take_word v 6) × (length v.take.part ≡ 6) × IsDue v.size v.take
 
+-- a load that ends a peek: the fragment is seen, and stays
 abbrev pub loads_peeked : Player
 loads_peeked st m x m' = (m' ≡ (with_reading m.0 (with_peeked m.0.take x), m.1)) × Again m.0.take x × Seventh st m.0
 
+-- a load that ends a take: the fragment is got, after fewer than 2^62 others
 abbrev pub loads_taken : Player
 loads_taken st m x m' = (m' ≡ (with_reading m.0 (with_got m.0.take x), m.1)) × Again m.0.take x × (length m.0.take.got < 2 ^ 62) × Seventh st m.0
 
+-- a store of the number told: no less than was told, no more than was got
 abbrev pub stores_told : Player
 stores_told st m x m' = (m' ≡ (with_reading m.0 (with_told m.0.take x), m.1))
     × (st.word ≡ told_word m.0) × (m.0.take.told ≤ x) × (x ≤ length m.0.take.got)
 
+-- nothing changes, and what the writer knows and what the reader knows go together
 abbrev pub compares : Player
 compares st m x m' = (m' ≡ m) × WayNear m.0.size m.0.put m.0.take

@@ -15,6 +15,7 @@ use Rattle.fl_ring.specs.declared.shared.board.Writing.{Writing}
 use Rattle.fl_ring.specs.declared.shared.board.Reading.{Reading}
 use Rattle.fl_ring.specs.declared.shared.board.View.{View}
 
+-- a seat at a ring's table, with what it knows of the ring
 abbrev pub RingSeat : Type 0
 RingSeat = Seat (Unit {0}) View
 

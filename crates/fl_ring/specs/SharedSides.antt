@@ -19,6 +19,7 @@ use Rattle.fl_ring.specs.declared.shared.duo_board.DuoView.{DuoView}
 use Rattle.fl_ring.specs.SharedDuo.{IsOneSide, base_of, other_of, blank}
 use Rattle.fl_ring.specs.SharedSeats.{with_part, with_frag, with_words}
 
+-- a seat at the table of a ring of two directions, with what it knows of its side
 abbrev pub DuoSeat : Type 0
 DuoSeat = Seat (Unit {0}) DuoView
 
@@ -223,12 +224,14 @@ SharedPuts s _ t = ⊥
 abbrev pub SideMayCome : TheSide → Frag → Type 0
 SideMayCome s frag = (seen : Frag) → s.peeked ≡ Some seen → frag ≡ seen
 
+-- the side sees this fragment and leaves it, or takes it; no more is known to be taken then than it put
 abbrev pub SideSees : TheSide → Frag → TheSide → Type 0
 SideSees s frag t = SideMayCome s frag × (t ≡ side_seen s frag) × KnowsSent t
 
 abbrev pub SideGets : TheSide → Frag → TheSide → Type 0
 SideGets s frag t = SideMayCome s frag × (t ≡ side_taken s frag) × KnowsSent t
 
+-- nothing was there, and nothing was peeked
 abbrev pub SideMisses : TheSide → TheSide → Type 0
 SideMisses s t = (s.peeked ≡ None) × (t ≡ side_missed s)
 
@@ -253,6 +256,7 @@ SharedTakes s _ t = ⊥
 
 -- ---- several steps in a row
 
+-- the side that knows these payload words of the slot that it puts into next
 abbrev pub side_with_part : SideView → List ℕ → SideView
 side_with_part s words = record { put = with_part s.put words; take = s.take }
 
@@ -263,6 +267,7 @@ side_with_frag s frag = record {
   take = record { got = s.take.got; part = s.take.part; last = s.take.last; peeked = s.take.peeked; misses = s.take.misses; told = length s.take.got };
 }
 
+-- the side that has loaded these payload words of the next fragment
 abbrev pub side_with_words : SideView → List ℕ → SideView
 side_with_words s words = record { put = s.put; take = with_words s.take words }
 

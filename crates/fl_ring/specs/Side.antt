@@ -8,6 +8,7 @@ use Rattle.fl_ring.specs.declared.duo_side.DuoSide.{DuoSide}
 abbrev pub SameSide : DuoSide → DuoSide → Type 0
 SameSide s t = (t.duo.ghost_name ≡ s.duo.ghost_name) × (t.which ≡ s.which)
 
+-- one put, and one look, take or tell: each is what the ring does at that side
 abbrev pub SidePuts : DuoSide → Look → DuoSide → Type 0
 SidePuts s look t = SameSide s t × DuoPuts s.which s.duo.now look t.duo.now
 

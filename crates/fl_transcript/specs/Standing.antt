@@ -25,6 +25,7 @@ message_names i = map (λ (m : TheMessage). m.name) i.interface.messages
 
 -- ---- names
 
+-- the names are those of the machine's interfaces, dispatchers and bindings, and of no others
 pub record NamesStand (n : Names) (s : State) : Type 0 where
   -- each interface has its name, and its messages have theirs
   pub interfaces : n.interfaces ≡ map name_of s.interfaces
@@ -56,6 +57,7 @@ HasDispatcher s d = IsSome (dispatcher_of s d)
 abbrev pub HasInterface : State → ℕ → Type 0
 HasInterface s i = IsSome (slice_get s.interfaces i)
 
+-- its binding was made; the end may not be bound yet
 abbrev pub HasEnd : State → EndId → Type 0
 HasEnd s e = IsSome (binding_of s e)
 

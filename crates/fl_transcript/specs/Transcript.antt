@@ -34,6 +34,7 @@ pub record Effect : Type 0 where
 abbrev pub writes_only : Script → List ℕ → Effect
 writes_only s text = record { text = text; asked = []; after = s }
 
+-- `refused En` is written, and nothing is asked
 abbrev pub writes_refusal : Script → ℕ → Effect
 writes_refusal s fault = writes_only s (line (answer_text s.names (refused fault)))
 
@@ -45,9 +46,11 @@ writes_answer event names o = record {
   after = record { names = names; state = o.state };
 }
 
+-- the same, where the new names are given only if the answer is `ok`
 abbrev pub asks_event : Script → Event → Names → Outcome → Effect
 asks_event s event new o = writes_answer event (names_after s.names new o.answer) o
 
+-- what comes of what is asked: a refusal, or one step of the machine
 abbrev pub effect_of : Script → Asked → Effect
 effect_of s (refuses fault) = writes_refusal s fault
 effect_of s (asks event new) = asks_event s event new (step s.state event)
@@ -87,12 +90,14 @@ abbrev pub last_of : Script → List Effect → Script
 last_of s [] = s
 last_of s (effect ∷ effects) = last_of effect.after effects
 
+-- all that is written, and all that is asked, in order
 abbrev pub text_of : List Effect → List ℕ
 text_of effects = flat_map Effect.text effects
 
 abbrev pub asked_in : List Effect → List Exchange
 asked_in effects = flat_map Effect.asked effects
 
+-- all that the items of a script write; of bytes that are too many for a script `refused E91` alone
 abbrev pub Transcript : List ℕ → List ℕ → Type 0
 Transcript bytes out = MatchBool (is_too_long bytes) (out ≡ line (codes "refused E91"))
     ((effects : List Effect) × Runs beginning bytes effects × (out ≡ text_of effects))

@@ -18,5 +18,6 @@ WritesPrefix fault input before after = IfSome input (λ bytes. (prefix : List �
 abbrev pub WritesAnswers : Script → List ℕ → Option (List ℕ) → Option (List ℕ) → Type 0
 WritesAnswers s bytes before after = (effects : List Effect) × Runs s bytes effects × Appends before after (text_of effects)
 
+-- and what a fault leaves of these
 abbrev pub WritesUntil : ExecFault → Script → List ℕ → Option (List ℕ) → Option (List ℕ) → Type 0
 WritesUntil fault s bytes before after = (prefix : List ℕ) × StopsWith fault s bytes prefix × Appends before after prefix
