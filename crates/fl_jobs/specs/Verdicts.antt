@@ -15,7 +15,7 @@ Comes (Ok x) left v = v ≡ goes_on left
 Comes (Err (Refused number)) left v = v ≡ stops number
 Comes (Err Memory) left v = Unit {0}
 
--- or some verdict of which this holds
+-- this holds of the verdict that it is; nothing is told where memory ran out
 abbrev pub ComesTo : {A T : Type 0} → Result T Stop → A → (Verdict A → Type 0) → Type 0
 ComesTo (Ok x) left P = P (goes_on left)
 ComesTo (Err (Refused number)) left P = P (stops number)

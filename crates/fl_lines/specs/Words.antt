@@ -57,6 +57,6 @@ abbrev pub numbers_of : List (List ℕ) → Option (List ℕ)
 numbers_of [] = Some []
 numbers_of (word ∷ words) = given (number_of word) None λ n. option_map (λ ns. n ∷ ns) (numbers_of words)
 
--- the numbers that a text writes, if all its words are numbers
+-- the numbers that a text writes, if all its words are numbers, and else none
 abbrev pub numbers_in : List ℕ → List ℕ
 numbers_in text = unwrap_or (numbers_of (words_of text)) []
