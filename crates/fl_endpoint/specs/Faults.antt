@@ -4,7 +4,7 @@ use Rattle.fl_wire.specs.Fault.{number_of}
 use Rattle.fl_endpoint.specs.declared.fault.EndFault.{EndFault}
 use Rattle.fl_endpoint.specs.declared.fault.EndFault.TheVariants.{Spent, Busy, UnknownMessage, Misfit, NotBound, Failed, Wire, Memory}
 
--- why an end's call is refused
+-- why an end refuses what is asked of it
 abbrev pub fault_number : EndFault → ℕ
 fault_number Spent = 33
 fault_number Busy = 40

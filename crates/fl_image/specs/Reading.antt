@@ -68,7 +68,7 @@ abbrev pub Behind : {A : Type 0} → ImageFault → Read A → Type 0
 Behind {A} faults.Memory read = (x : A × List ℕ) × (read ≡ Ok x)
 Behind (faults.Refused e) read = Unit {0}
 
--- ---- numbers and names: a field that passes the end is none
+-- ---- numbers and names: where the bytes end within a field, they end early
 
 -- a number of one byte, of two, and of four, low byte first
 unfoldable pub one_at : List ℕ → Read ℕ
@@ -133,7 +133,7 @@ scalar_at code bytes = do
   kind ← known (scalar_with code) bytes
   Ok (scalar kind.0, kind.1)
 
--- so many fields, or elements, each read so
+-- a count, and so many fields, each read so; of an array the count, and the type of its elements
 unfoldable pub structure_at : (List ℕ → Read TheType) → List ℕ → Read TheType
 structure_at inner bytes = do
   count ← one_at bytes

@@ -1,4 +1,5 @@
--- The public promises rest on these: the fragments that a run gives or was fed, the laws, and the faults' numbers.
+-- The public promises rest on these: the fragments that a run gives or was fed, the laws, and the faults' numbers; and, where
+-- they say where a run stands and what is kept of a call, on `Cursors`, `Taking` and `Kept`.
 pub mod Sending
 pub mod Receiving
 pub mod Reassembling
