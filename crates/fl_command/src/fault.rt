@@ -35,10 +35,10 @@ pub enum Fault<'a> {
     #[error("{0}\n")]
     Exec(ExecFault),
     /// A line of the cores file is refused. Standard output names it.
-    #[error("{file}: nothing was run, since a line is refused; docs/FAULTS.md says of its fault what to do\n")]
+    #[error("{file}: nothing was run, since a line is refused, which standard output tells; docs/FAULTS.md says of its fault what to do\n")]
     Line { file: &'a str },
     /// A core hadn't finished when its turns were used up.
-    #[error("a core had not finished after {turns} turns; docs/CORES.md says how to choose the number\n")]
+    #[error("a core had not finished when its turns ({turns}) were used up; docs/CORES.md says how to choose the number\n")]
     TurnsOut { turns: u64 },
     /// Standard output takes no more.
     #[error("standard output could not be written: {0}\n")]

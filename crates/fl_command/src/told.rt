@@ -84,7 +84,9 @@ fn remedy(content: &[u8], number: u8) -> Option<&'static str> {
     match number {
         2 => Some("end the comment with */; comments don't nest"),
         3 => Some("end the description with a \" on the same line"),
-        4 | 5 | 6 => Some("make it shorter, or split the interface"),
+        4 => Some("a word has at most 64 bytes"),
+        5 => Some("a number is at most 1,000,000"),
+        6 => Some("split the interface"),
         7 => Some("compare with the grammar in docs/INTERFACES.md"),
         8 => Some("a file holds one interface: put another into a file of its own"),
         10 | 12 | 13 => Some("choose another name"),
@@ -93,7 +95,7 @@ fn remedy(content: &[u8], number: u8) -> Option<&'static str> {
         15 => Some("give it one member at least"),
         17 | 21 => Some("use smaller bounds, or several messages"),
         18 => Some("use an array of char, which has a fixed size"),
-        19 => Some("split the interface"),
+        19 => Some("split the interface; the name of an rpc has at most 55 bytes"),
         _ => None,
     }
 }

@@ -151,13 +151,13 @@ complete
 ";
 
 const AFTER_0: &[u8] =
-    b"a core had not finished after 0 turns; docs/CORES.md says how to choose the number\n";
+    b"a core had not finished when its turns (0) were used up; docs/CORES.md says how to choose the number\n";
 
 const AFTER_2: &[u8] =
-    b"a core had not finished after 2 turns; docs/CORES.md says how to choose the number\n";
+    b"a core had not finished when its turns (2) were used up; docs/CORES.md says how to choose the number\n";
 
 const LINE_REFUSED: &[u8] =
-    b"x: nothing was run, since a line is refused; docs/FAULTS.md says of its fault what to do\n";
+    b"x: nothing was run, since a line is refused, which standard output tells; docs/FAULTS.md says of its fault what to do\n";
 
 // Files of the name x, how many turns are counted, the status, the report, and what is said on standard error.
 const FILES: &[(&[u8], &str, u8, &[u8], &[u8])] = &[
