@@ -84,8 +84,8 @@ fn remedy(content: &[u8], number: u8) -> Option<&'static str> {
     match number {
         2 => Some("end the comment with */; comments don't nest"),
         3 => Some("end the description with a \" on the same line"),
-        4 => Some("a word has at most 64 bytes"),
-        5 => Some("a number is at most 1,000,000"),
+        4 => Some("make it shorter"),
+        5 => Some("make it smaller"),
         6 => Some("split the interface"),
         7 => Some("compare with the grammar in docs/INTERFACES.md"),
         8 => Some("a file holds one interface: put another into a file of its own"),
