@@ -1,4 +1,4 @@
--- Cores, links and circuits by their numbers, and how many there may be.
+-- Cores, links and circuits by their numbers, and how many cores and bindings there may be.
 use Rattle.std.specs.Prelude.{ℕ}
 use Rattle.fl_base.specs.declared.identity.CoreId.{CoreId}
 use Rattle.fl_base.specs.declared.identity.LinkId.{LinkId}

@@ -141,7 +141,7 @@ pub record TakenOf (program : TheProgram) (calls handled : List TheCall) (parts 
   pub short : (c : TheCall) (rest : List TheCall) → left ≡ c ∷ rest → length parts < count program.plan program.interface c
 
 -- an end that was made with nothing done, and to which these calls' fragments come in order, has handled
--- the first of the calls
+-- a prefix of the calls
 abbrev pub HandlesInOrder : Type 0
 HandlesInOrder = (program : Program) (circuit : Option ℕ) (t : TheEnd) (h : Stretch) (calls : List TheCall) (more : List Frag)
     → Sound t → Account (fresh program circuit) h t

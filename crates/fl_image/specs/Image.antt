@@ -65,7 +65,7 @@ abbrev mutual
   fields_image no_more = []
   fields_image (field t ts) = type_image t ++ fields_image ts
 
--- an argument's type; a string and a sized array have a code of their own, and then their bound
+-- an argument's type; a string and a sized array have a code of their own, and then their bound, and the array its element's type
 abbrev pub argument_image : TheArgType → List ℕ
 argument_image (fixed t) = type_image t
 argument_image (text most) = one 32 ++ two most

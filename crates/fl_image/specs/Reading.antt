@@ -127,7 +127,7 @@ enumeration_at bytes = do
   count ← two_at bytes
   Ok (enumeration count.0, count.1)
 
--- nothing follows the code of the others; a code that none has is bad
+-- one of those 15: nothing follows its code; a code that none of them has is bad
 unfoldable pub scalar_at : ℕ → List ℕ → Read TheType
 scalar_at code bytes = do
   kind ← known (scalar_with code) bytes
@@ -197,7 +197,7 @@ arguments_at bytes = do
   count ← argument_count_at bytes
   many_at argument_at count.0 count.1
 
--- a name and arguments, whether or not they keep the limits
+-- a name and arguments, each field in its own range, if it has one; whether they keep the limits isn't told yet
 unfoldable pub message_at : List ℕ → Read TheMessage
 message_at bytes = do
   name ← name_at bytes

@@ -41,7 +41,7 @@ abbrev pub named_by : Names → Verdict Draft → Verdict Reading
 named_by names (stops fault) = stops fault
 named_by names (goes_on d) = goes_on (record { names = names; draft = d })
 
--- it is refused for its names, or by the draft; the new names are given only where it is accepted
+-- it is refused for its names, for a call's text that is none, or by the draft; the new names are given only where it is accepted
 abbrev pub does : Reading → Asked → Verdict Reading
 does r (refuses fault) = stops fault
 does r (asks event names) = named_by names (takes event r.draft)

@@ -129,7 +129,7 @@ joins a b j = ((j.first == a) && (j.second == b)) || ((j.first == b) && (j.secon
 abbrev pub has_link : ℕ → ℕ → Draft → Bool
 has_link a b d = list_any (joins a b) d.links
 
--- E73: one is no core, both are one, or they have a link; E32: no ring has so many slots
+-- E73: one is no core, both are one, or they have a link; E32: the slots are no power of two from 4 to 1,024
 abbrev pub adds_link : ℕ → ℕ → ℕ → Draft → Verdict Draft
 adds_link a b size d =
     if not (is_core a d && is_core b d) || (a == b) || has_link a b d then stops 73
@@ -195,7 +195,7 @@ has_both_places w d =
     if same_dispatcher w.client w.server then has_places 2 w.client d
     else has_places 1 w.client d && has_places 1 w.server d
 
--- `local`: E73: on two cores; E32: not 1 to 1,024 slots; E54: a dispatcher has no place left
+-- `local`: E73: on two cores; E32: not 1 to 1,024 slots; E54: a dispatcher has too few places left for its ends
 abbrev pub binds_by_queues : Wanted → ℕ → Draft → Verdict Draft
 binds_by_queues w slots d =
     if not (w.client.core == w.server.core) then stops 73
@@ -203,7 +203,7 @@ binds_by_queues w slots d =
     else if not (has_both_places w d) then stops 54
     else goes_on (with_set_up w (by_queues slots) d)
 
--- `ump`: E73: on one core; E32: no ring has so many slots; E54: a dispatcher has no place left
+-- `ump`: E73: on one core; E32: the slots are no power of two from 4 to 1,024; E54: a dispatcher has no place left
 abbrev pub binds_by_ring : Wanted → ℕ → Draft → Verdict Draft
 binds_by_ring w size d =
     if w.client.core == w.server.core then stops 73

@@ -29,11 +29,12 @@ pub record TheReport : Type 0 where
   pub turns : List ℕ
   pub ending : Ending
 
--- the calls at one end: none where the binding isn't there
+-- the calls at one end of a binding
 abbrev pub at_side : Side → BothEnds → List TheCall
 at_side Client b = b.client
 at_side Server b = b.server
 
+-- the calls at an end: none where its binding isn't there
 abbrev pub at_end : List BothEnds → EndId → List TheCall
 at_end bindings e = given (slice_get bindings e.binding) [] (at_side e.side)
 

@@ -1,5 +1,5 @@
 -- How a line is read, row by row of the table: what the parts of the code tell. Of this file public contracts name `command_by`, where
--- the words behind a verb are read, and `one_end` and `two_numbers`, by which some lines ask. That it is what the grammar says is
+-- the words behind a verb are read, and `line_with`. That it is what the grammar says is
 -- proved; a reader of what scripts promise may skip it.
 use Rattle.std.specs.Prelude.{ℕ, ◌-◌, if◌then◌else◌, List, length, take, drop}
 use Rattle.std.specs.Prelude.{Option, Some, None, option_map, codes}
@@ -83,7 +83,7 @@ bind_row line =
     name_then line λ p a. name_then a λ d b. name_then b λ i c. name_then c λ s last.
     given (back_end_row last) None λ back. Some (bind p d i s back)
 
--- behind the end all is the text, which is taken as it stands: that it spells a call is no part of this
+-- behind the end, and the blanks behind that, all is the text, which is taken as it stands: that it spells a call is no part of this
 abbrev pub call_row : List ℕ → Option Command
 call_row line = given (end_of (first_word line)) None λ e. Some (call e (without_blanks (behind_word line)))
 

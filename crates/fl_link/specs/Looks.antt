@@ -13,7 +13,7 @@ use Rattle.fl_link.specs.declared.fault.PutFault.{PutFault}
 pub data Look : Type 0 where
   -- a put placed this fragment, which is one of a call
   placed : Frag → Look
-  -- a put, or a tell that had something to tell, found too few free slots; so does a tell on a spent ring
+  -- a put, or a tell that had enough to tell, found too few free slots, or such a tell found the ring spent
   no_room : Look
   -- a put found that the link has carried all fragments that it ever will
   spent : Look

@@ -9,7 +9,7 @@ use Rattle.fl_machine.specs.declared.cursor.Cursor.{Cursor}
 abbrev pub loop_of : Loop → TheLoop
 loop_of l = record { start = l.start; turns = l.turns }
 
--- what is read where no loop is open
+-- what is read past the end of the stored loops
 abbrev pub no_loop : Loop
 no_loop = record { start = 0; turns = 0 }
 

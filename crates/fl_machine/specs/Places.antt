@@ -45,7 +45,7 @@ AreJoined [] (t ∷ ts) = ⊥
 AreJoined (p ∷ ps) [] = ⊥
 AreJoined (p ∷ ps) (t ∷ ts) = IsPlace p t × AreJoined ps ts
 
--- the rooms are in order, and each place has its own
+-- the rooms lie apart, and each place has its own
 pub record ArePlaces (s : Places) : Type 0 where
   pub rooms : IsRooms s.rooms
   pub joined : AreJoined s.places.items (rooms_of s.rooms)

@@ -224,7 +224,7 @@ pub record IsEnded (plan : PlanNo) (i : TheInterface) (tape : List ℕ) (e : End
   pub within : e.count ≤ length tape
   pub tape_is : take e.count tape ≡ tape_of plan i call
 
--- a run may stand so over this tape: inside a call of which a fragment was fed, or behind one with this tape
+-- a run may stand so over this tape: outside of calls, inside one of which a fragment was fed, or behind one with this tape
 abbrev pub IsStand : PlanNo → TheInterface → List ℕ → Stand → Type 0
 IsStand plan i tape Between = Unit {0}
 IsStand plan i tape (Inside b) = (0 < b.fed) × IsBegun plan i tape b

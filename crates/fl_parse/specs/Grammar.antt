@@ -167,7 +167,7 @@ pub data Inside : Type 0 where
   bound_word : TheNumber → Inside
   length_word : TheName → Inside
 
--- whether the type is the one whose arguments may have a number in brackets, their bound
+-- whether the type is the one whose arguments may have a number alone in brackets, their bound
 abbrev pub is_string : TheName → Bool
 is_string type_name = bytes_eq type_name.text (codes "string")
 

@@ -25,7 +25,7 @@ abbrev pub LabelsFollow : State → Type 0
 LabelsFollow s = (e : EndId) (b : Binding) (j : ℕ) → slice_get s.bindings e.binding ≡ Some b
     → suc j < length (end_in e.side b).out.passed → StandsBefore s e b j
 
--- the way of an end's fragments goes from core a to core b
+-- on the way of an end's fragments core b comes right after core a
 pub record GoesOver (s : State) (a b : ℕ) (e : EndId) : Type 0 where
   pub route : Route
   pub routed : Routed s e.binding route
@@ -55,12 +55,12 @@ pub record LabelsKeepToTheirWays (s : State) : Type 0 where
       → b.back ≡ over_ring n → Contains (ring_from s e n) label → MayStandFrom e label
   pub queues : (e : EndId) (label : Label) → Contains (queue_of s e) label → IsOf (peer e) label
 
--- before the opening has come to the last core nothing was ever written
+-- nothing was ever written unless the opening was granted: not while it is under way, nor where it was refused
 abbrev pub OpensBefore : Verdict → Direction → Type 0
 OpensBefore (granted i) d = Unit {0}
 OpensBefore verdict d = written_of d ≡ 0
 
--- so it is for both of its ends, until the opening has come to the last core
+-- so it is for both ends of each binding that is joined by a circuit
 abbrev pub NothingBeforeTheOpening : State → Type 0
 NothingBeforeTheOpening s = (n : ℕ) (route : Route) (r : Routed s n route)
     → OpensBefore route.verdict r.binding.client.out × OpensBefore route.verdict r.binding.server.out

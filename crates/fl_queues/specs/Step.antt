@@ -1,6 +1,6 @@
 -- One event of the machine: the state after it, and the answer.
 --
--- Labels have no contents, so no fragment can be a wrong one: no event has a case for the faults of received
+-- Calls' labels have no contents, so no fragment can be a wrong one: no event has a case for the faults of received
 -- fragments (60 to 66, of which 64 is what failed earlier), or of circuits without an entry and messages out
 -- of place (67). In a state that no run reaches something may be missing that an event needs: each event then
 -- has some answer (`nothing`, `quiet`, `full`, `done`, or the refusal nearest to it), and at most moves a

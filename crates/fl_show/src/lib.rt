@@ -1,6 +1,6 @@
 //! What `flounder show` and `flounder compile` make of a file's content.
 //!
-//! - [`show`]: the plan table of an interface's text under plan 2, or of an image under the plan that it has; else the
+//! - [`show_content`]: the plan table of an interface's text under plan 2, or of an image under the plan that it has; else the
 //!   first fault of the text or of the image, in words for a person (`specs/Content.antt`).
 //! - [`compile_text`]: the image under plan 2 of the interface that a text stands for. Each text that is accepted has
 //!   one, which [`fl_image::read_image`] gives back ([`texts_have_images`]).

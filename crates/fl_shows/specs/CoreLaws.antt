@@ -85,7 +85,7 @@ RoomsAgree = (k : Core) (m : TheMonitor) (l : ℕ) → MonitorShows k m → moni
 abbrev pub asked_of : Opening → Asked
 asked_of o = record { binding = o.binding; service = service_id o.service; path = map core_id o.path }
 
--- a monitor that opened a circuit, under the opening's number, is the picture of the core that did so
+-- a monitor that is a core's picture is so still once both opened a circuit, under the opening's number
 abbrev pub OpensAgree : Type 0
 OpensAgree = (l : ℕ) (o : Opening) (k : Core) (before after : TheMonitor) (c : Circuit) → MonitorShows k before → c.0 ≡ o.circuit
     → Opens (link_id l) (asked_of o) before (Ok c) after → MonitorShows (opens l c.0 o k) after

@@ -74,7 +74,7 @@ WritesMessage core neighbour w a w2 =
 
 -- ---- the core acknowledges
 
--- all that was read is told, there is too little to tell, or no slot is free to tell it
+-- all that was read is told, there is too little to tell, or there is no room to tell it
 abbrev pub ack_answer : AckAnswer → Answer
 ack_answer ack.Done = done
 ack_answer ack.Nothing = nothing

@@ -85,7 +85,7 @@ pub record IsLinked (a b size : ℕ) (w w2 : TheWorld) : Type 0 where
     rings = w.rings ++ new_duo size ∷ [];
   }
 
--- refused unless it joins two different cores that aren't linked yet, then for a size that no ring has
+-- refused unless it joins two different cores that aren't linked yet, then for slots that are no power of two from 4 to 1,024
 abbrev pub AddsLink : ℕ → ℕ → ℕ → TheWorld → Answer → TheWorld → Type 0
 AddsLink a b size w answer w2 =
     If (not (is_core a w && is_core b w) || (a == b) || has_link a b w) (Refuses 73 w answer w2)

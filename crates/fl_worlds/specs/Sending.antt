@@ -90,7 +90,7 @@ IsWritten (Ok write.Full) a = a ≡ full
 IsWritten (Ok write.Nothing) a = a ≡ nothing
 IsWritten (Err fault) a = a ≡ refused (fault_number fault)
 
--- the end at a place writes over what is lent, and the end joined to it by a queue is told
+-- the end at a place writes over what is lent; a fragment that it wrote triggers the channel of the end joined to it by a queue
 abbrev pub WritesWith : {P : Type 0} → (P → Look → P → Type 0) → AnswerAt → TheCore → P → TheCore → P → Type 0
 WritesWith puts at k p k2 q = (r : Result WriteAnswer EndFault) × WritesAt puts at.place (at_side k p) r (at_side k2 q) × IsWritten r at.answer
 

@@ -96,7 +96,7 @@ HasTurn d w a w2 =
 
 -- ---- an end acknowledges
 
--- all is told, there is too little to tell, no slot is free to tell it, or it is refused
+-- all is told, there is too little to tell, there is no room to tell it, or it is refused
 abbrev pub IsAcked : Result AckAnswer BoardFault → Answer → Type 0
 IsAcked (Ok ack.Done) a = a ≡ done
 IsAcked (Ok ack.Nothing) a = a ≡ nothing
