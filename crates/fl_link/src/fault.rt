@@ -5,7 +5,7 @@ ghost use Rattle.fl_link.specs.Faults.{put_number, link_number};
 
 use thiserror::Error;
 
-/// Why nothing was put: the link is as it was.
+/// Why nothing was put. What the side may have learned all the same, as a count that was told, its relation says.
 #[derive(Clone, Copy, Debug, PartialEq, Eq, Error)]
 pub enum PutFault {
     /// Too few slots are free (E30).

@@ -60,8 +60,8 @@ pub(crate) fn sound_at<S>(run: &Running<S>, name: EndId, e: usize)
 
 impl<S: PutSide + TakeSide + Drop> Running<S> {
     /// One turn: a forward for each link, a monitor write for each link, for each end its next job where that can be done and one write, a turn for
-    /// each dispatcher, an acknowledgement for each link and each end of a ring. It takes no memory but where a call becomes whole or a circuit is asked for
-    /// or opened.
+    /// each dispatcher, an acknowledgement for each link and each end of a ring. It takes no memory but where a call is made or becomes whole, a circuit is
+    /// asked for, or a monitors' message is heard.
     ///
     /// # Errors
     /// Out of memory. The turn wasn't finished then, and the core can take no other.
