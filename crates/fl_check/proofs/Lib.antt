@@ -12,3 +12,5 @@ pub mod NameMaps
 pub mod TextInterfaces
 pub mod TextTrees
 pub mod Looks
+pub mod TextLemmas
+pub mod TextFirsts

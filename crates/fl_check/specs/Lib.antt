@@ -11,3 +11,6 @@ pub mod Views
 pub mod Outcome
 pub mod Position
 pub mod Explained
+-- The public promises rest on both: what a text means (Text), and what the code's answer stands for (Texts).
+pub mod Text
+pub mod TextOutcome

@@ -1,7 +1,7 @@
 -- A working file: what the checker keeps, as definitions see it.
 use Rattle.std.specs.Prelude.{ℕ, ◌≤◌, List, map}
 use Rattle.fl_interface.specs.Sizes.{size_of}
-use Rattle.fl_check.specs.declared.words.Names.{Names}
+use Rattle.fl_check.specs.declared.words.DistinctNames.{DistinctNames}
 use Rattle.fl_check.specs.declared.declared.KnownType.{KnownType}
 use Rattle.fl_check.specs.declared.declared.Declared.{Declared}
 use Rattle.fl_check.specs.declared.payload.Checked.{Checked}
@@ -13,7 +13,7 @@ use Rattle.fl_interface.specs.Interface.{TheArgType, fixed, text, sized, type_of
 use Rattle.fl_check.specs.Known.{Named, Before}
 
 -- the names of a list of names
-abbrev pub list_of : Names → List (List ℕ)
+abbrev pub list_of : DistinctNames → List (List ℕ)
 list_of names = map (λ name. name.now) names.set.keys
 
 -- a declared type with its name

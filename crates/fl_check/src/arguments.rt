@@ -18,7 +18,7 @@ use crate::fault::CheckFault;
 use crate::parts::{add_listed_name, add_name};
 use crate::payload::{Checked, Payload};
 use crate::types::{check_bound, check_string_type};
-use crate::words::Names;
+use crate::words::DistinctNames;
 use fl_parse::{Argument, DirectedArgument, Direction, Name, Number, Shape};
 use std::alloc::Global;
 
@@ -26,18 +26,18 @@ const USUAL_ELEMENTS: u32 = 1_024;
 
 /// The arguments of an rpc's two messages.
 #[derive(Drop)]
-pub struct Halves {
+pub struct RpcPayloads {
     pub ins: Payload,
     pub outs: Payload,
 }
 
-impl Halves {
-    pub fn new(alloc: Global) -> Halves
+impl RpcPayloads {
+    pub fn new(alloc: Global) -> RpcPayloads
         ensures ins { map arg_type_of result.ins.args.items ≡ [] }
         ensures outs { map arg_type_of result.outs.args.items ≡ [] }
         ensures len { vec_len result.ins.args + vec_len result.outs.args ≡ 0 }
     {
-        Halves {
+        RpcPayloads {
             ins: Payload::new(alloc),
             outs: Payload::new(alloc),
         }
@@ -82,7 +82,7 @@ impl<'a> Declared<'a> {
     fn check_plain_argument(
         &self,
         alloc: Global,
-        names: &mut Names<'a>,
+        names: &mut DistinctNames<'a>,
         counted_before: usize,
         kind: &Name,
         name: &Name<'a>,
@@ -106,7 +106,7 @@ impl<'a> Declared<'a> {
     fn check_sized_argument(
         &self,
         alloc: Global,
-        names: &mut Names<'a>,
+        names: &mut DistinctNames<'a>,
         counted_before: usize,
         argument: &Argument<'a>,
         length: &Name<'a>,
@@ -136,7 +136,7 @@ impl<'a> Declared<'a> {
     pub fn check_argument(
         &self,
         alloc: Global,
-        names: &mut Names<'a>,
+        names: &mut DistinctNames<'a>,
         counted_before: usize,
         argument: &Argument<'a>,
     ) -> Result<Checked, CheckFault>
@@ -171,7 +171,7 @@ impl<'a> Declared<'a> {
     fn add_argument(
         &self,
         alloc: Global,
-        names: &mut Names<'a>,
+        names: &mut DistinctNames<'a>,
         payload: &mut Payload,
         argument: &Argument<'a>,
     ) -> Result<(), CheckFault>
@@ -200,7 +200,7 @@ impl<'a> Declared<'a> {
         ensures stands { IfOk result (λ p. map arg_type_of p.args.items ≡ map (argument_type (before_of self.now)) (map argument_of args.now)) }
         ensures fault { IfErr result (λ e. Tells e (first_fault (argument_places (before_of self.now) [] 0 (map argument_of args.now)))) }
     {
-        let mut names = Names::new(alloc);
+        let mut names = DistinctNames::new(alloc);
         let mut payload = Payload::new(alloc);
         for argument in args {
             self.add_argument(alloc, &mut names, &mut payload, argument)?;
@@ -212,8 +212,8 @@ impl<'a> Declared<'a> {
     fn add_directed(
         &self,
         alloc: Global,
-        names: &mut Names<'a>,
-        halves: &mut Halves,
+        names: &mut DistinctNames<'a>,
+        halves: &mut RpcPayloads,
         directed: &DirectedArgument<'a>,
     ) -> Result<(), CheckFault>
         requires short { vec_len halves.old.ins.args + vec_len halves.old.outs.args ≤ 32 }
@@ -243,14 +243,14 @@ impl<'a> Declared<'a> {
         &self,
         alloc: Global,
         args: &[DirectedArgument<'a>],
-    ) -> Result<Halves, CheckFault>
+    ) -> Result<RpcPayloads, CheckFault>
         ensures sound { OnOk result (first_fault (argument_places (before_of self.now) [] 0 (arguments_of (map directed_of args.now))) ≡ None) }
         ensures ins { IfOk result (λ h. map arg_type_of h.ins.args.items ≡ map (argument_type (before_of self.now)) (ins (map directed_of args.now))) }
         ensures outs { IfOk result (λ h. map arg_type_of h.outs.args.items ≡ map (argument_type (before_of self.now)) (outs (map directed_of args.now))) }
         ensures fault { IfErr result (λ e. Tells e (first_fault (argument_places (before_of self.now) [] 0 (arguments_of (map directed_of args.now))))) }
     {
-        let mut names = Names::new(alloc);
-        let mut halves = Halves::new(alloc);
+        let mut names = DistinctNames::new(alloc);
+        let mut halves = RpcPayloads::new(alloc);
         for directed in args {
             self.add_directed(alloc, &mut names, &mut halves, directed)?;
         }
@@ -260,7 +260,7 @@ impl<'a> Declared<'a> {
 
 #[tactic(auto, using(crate::proofs::FirstFaults::places))]
 fn check_string_argument<'a>(
-    names: &mut Names<'a>,
+    names: &mut DistinctNames<'a>,
     counted_before: usize,
     argument: &Argument<'a>,
     bound: Number,

@@ -114,7 +114,7 @@ impl Measured {
 
 /// The fields of a struct so far: their types, where the last one ends, and their greatest measures.
 #[derive(Drop)]
-pub struct Fields {
+pub struct StructFields {
     pub types: Vec<FixedType>,
     pub end: u32,
     pub align: u32,
@@ -131,12 +131,12 @@ pub struct Fields {
     ghost few_arrays: { arrays ≤ 8 },
 }
 
-impl Fields {
-    pub fn new(alloc: Global) -> Fields
+impl StructFields {
+    pub fn new(alloc: Global) -> StructFields
         ensures none { map type_of result.types.items ≡ [] }
         ensures len { vec_len result.types ≡ 0 }
     {
-        Fields {
+        StructFields {
             types: Vec::new(alloc),
             end: 0,
             align: 1,

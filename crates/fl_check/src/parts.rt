@@ -12,16 +12,16 @@ ghost use Rattle.fl_parse.specs.Tree.{name_of, number_of, field_of};
 
 use crate::declared::Declared;
 use crate::fault::{CheckFault, Rule};
-use crate::measured::{Fields, Measured};
+use crate::measured::{Measured, StructFields};
 use crate::types::{check_count, refuse};
-use crate::words::Names;
+use crate::words::DistinctNames;
 use fl_interface::MAX_LISTED;
 use fl_parse::{Field, Name, Number};
 use std::alloc::{AllocError, Global};
 
 /// Adds a name that isn't counted: it stands once among these.
 #[tactic(auto, unfolding(crate::specs::Checks::first_fault, crate::specs::Places::other_place))]
-pub fn add_name<'a>(names: &mut Names<'a>, name: &Name<'a>) -> Result<(), CheckFault>
+pub fn add_name<'a>(names: &mut DistinctNames<'a>, name: &Name<'a>) -> Result<(), CheckFault>
     ensures sound { OnOk result (first_fault (other_place (list_of names.old) (name_of name.now) ∷ []) ≡ None) }
     ensures names { OnOk result (list_of names.new ≡ list_of names.old ++ name.now.text.now ∷ []) }
     ensures fault { IfErr result (λ e. Tells e (first_fault (other_place (list_of names.old) (name_of name.now) ∷ []))) }
@@ -35,7 +35,7 @@ pub fn add_name<'a>(names: &mut Names<'a>, name: &Name<'a>) -> Result<(), CheckF
 /// Adds a name of a list that has at most 32, after so many that count: it stands once among these.
 #[tactic(auto, unfolding(crate::specs::Checks::first_fault, crate::specs::Places::listed_place))]
 pub fn add_listed_name<'a>(
-    names: &mut Names<'a>,
+    names: &mut DistinctNames<'a>,
     counted_before: usize,
     name: &Name<'a>,
 ) -> Result<(), CheckFault>
@@ -59,7 +59,7 @@ pub fn check_members(alloc: Global, members: &[Name]) -> Result<(), CheckFault>
     ensures fault { IfErr result (λ e. Tells e (first_fault (member_places [] (map name_of members.now)))) }
     ensures some { OnErr result (0 < length members.now) }
 {
-    let mut names = Names::new(alloc);
+    let mut names = DistinctNames::new(alloc);
     for member in members {
         add_name(&mut names, member)?;
     }
@@ -96,7 +96,7 @@ impl<'a> Declared<'a> {
     pub fn check_field(
         &self,
         alloc: Global,
-        names: &mut Names<'a>,
+        names: &mut DistinctNames<'a>,
         field: &Field<'a>,
     ) -> Result<Measured, CheckFault>
         ensures sound { OnOk result (first_fault (field_place (before_of self.now) (list_of names.old) (field_of field.now)) ≡ None) }
@@ -120,8 +120,8 @@ impl<'a> Declared<'a> {
     fn add_field(
         &self,
         alloc: Global,
-        names: &mut Names<'a>,
-        laid: &mut Fields,
+        names: &mut DistinctNames<'a>,
+        laid: &mut StructFields,
         field: &Field<'a>,
     ) -> Result<(), CheckFault>
         requires same { length (list_of names.old) ≡ vec_len laid.old.types }
@@ -151,8 +151,8 @@ impl<'a> Declared<'a> {
         ensures memory { IfErr result (λ e. ComesAfter e (take 1 (field_places (before_of self.now) [] (map field_of fields.now)))) }
         ensures some { OnErr result (0 < length fields.now) }
     {
-        let mut names = Names::new(alloc);
-        let mut laid = Fields::new(alloc);
+        let mut names = DistinctNames::new(alloc);
+        let mut laid = StructFields::new(alloc);
         for field in fields {
             self.add_field(alloc, &mut names, &mut laid, field)?;
         }

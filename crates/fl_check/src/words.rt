@@ -58,17 +58,17 @@ pub fn is_built_in(name: &[u8]) -> bool
     scalar_named(name).is_some() || (is_string(name) || is_capability(name))
 }
 
-/// Names that stand before, in order, none twice.
+/// DistinctNames that stand before, in order, none twice.
 #[derive(Drop)]
-pub struct Names<'a> {
+pub struct DistinctNames<'a> {
     pub set: IndexSet<&'a [u8]>,
 }
 
-impl<'a> Names<'a> {
-    pub fn new(alloc: Global) -> Names<'a>
+impl<'a> DistinctNames<'a> {
+    pub fn new(alloc: Global) -> DistinctNames<'a>
         ensures none { list_of result ≡ [] }
     {
-        Names {
+        DistinctNames {
             set: IndexSet::new(alloc),
         }
     }

@@ -6,8 +6,8 @@ use Rattle.fl_interface.specs.Sizes.{round_up, align_of, greatest_align, size_of
 use Rattle.fl_stub.specs.declared.op.Op.{Op}
 use Rattle.fl_stub.specs.declared.op.Column.{Column}
 use Rattle.fl_stub.specs.Structure.{Block, finished, next, one, times, piece_ops, block_ops}
-use Rattle.fl_compile.specs.declared.arguments.Standing.{Standing}
-use Rattle.fl_compile.specs.declared.arguments.Standing.TheVariants.{At, AfterDynamic}
+use Rattle.fl_compile.specs.declared.arguments.ArgOffset.{ArgOffset}
+use Rattle.fl_compile.specs.declared.arguments.ArgOffset.TheVariants.{At, AfterDynamic}
 use Rattle.fl_compile.specs.Compiled.{padding, pad_op, zeros_then, type_then, fields_then, start_at, start_then, arguments_block}
 use Rattle.fl_interface.proofs.FieldSizes.{rest_is}
 
@@ -95,13 +95,13 @@ fields_written {F = F} type fs k column align at pad top old now new whole h is_
 
 -- ---- arguments
 
-start_code : (column : Column) (standing : Standing) (align : ℕ) (rest : Block)
+start_code : (column : Column) (standing : ArgOffset) (align : ℕ) (rest : Block)
     → block_ops column (start_then column standing align rest) ≡ block_ops column (start_then column standing align finished) ++ block_ops column rest
 start_code column (At at) align rest = zeros_code column (padding at align) rest
 start_code column AfterDynamic align rest = refl
 
 -- a fixed argument is written
-pub fixed_written : (column : Column) (standing : Standing) (t : TheType) (align start size : ℕ) (old begun new : List Op) (args : List TheArgType)
+pub fixed_written : (column : Column) (standing : ArgOffset) (t : TheType) (align start size : ℕ) (old begun new : List Op) (args : List TheArgType)
     → align ≡ align_of t → start ≡ start_at standing align → size ≡ size_of t
     → begun ≡ old ++ block_ops column (start_then column standing align finished) → new ≡ begun ++ block_ops column (type_then column t finished)
     → new ++ block_ops column (arguments_block column (At (start + size)) args) ≡ old ++ block_ops column (arguments_block column standing (fixed t ∷ args))

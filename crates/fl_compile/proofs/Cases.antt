@@ -1,10 +1,10 @@
 -- Where an argument may stand, by cases: for the crates above, which can't name the cases.
 use Rattle.std.proofs.Common.{ℕ}
-use Rattle.fl_compile.specs.declared.arguments.Standing.{Standing}
-use Rattle.fl_compile.specs.declared.arguments.Standing.TheVariants.{At, AfterDynamic}
+use Rattle.fl_compile.specs.declared.arguments.ArgOffset.{ArgOffset}
+use Rattle.fl_compile.specs.declared.arguments.ArgOffset.TheVariants.{At, AfterDynamic}
 
 abbrev pub Place : Type 0
-Place = Standing
+Place = ArgOffset
 
 -- so many bytes after the payload's start or after the last `Align`, and directly after a string or a sized array
 pub by_standing : (P : Place → Type 0) → ((at : ℕ) → P (At at)) → P AfterDynamic → (standing : Place) → P standing

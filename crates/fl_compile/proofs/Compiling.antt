@@ -5,14 +5,14 @@ use Rattle.std.specs.List.{list_all}
 use Rattle.std.proofs.lemmas.List.{length-map}
 use Rattle.fl_interface.specs.Interface.{TheArgType, TheMessage}
 use Rattle.fl_interface.specs.Limits.{is_argument_within, are_arguments_within, is_message_within}
-use Rattle.fl_value.specs.declared.value.PlanNo.{PlanNo}
+use Rattle.fl_value_data.specs.declared.value.PlanNo.{PlanNo}
 use Rattle.fl_interface.specs.Counts.{argument_words_fit}
 use Rattle.fl_stub.specs.declared.op.Op.{Op}
 use Rattle.fl_stub.specs.declared.op.Column.{Column}
 use Rattle.fl_stub.specs.Structure.{block_ops, last_op, IsCode, OneStructure}
 use Rattle.fl_stub.specs.Code.{TheCode, IsVerified}
 use Rattle.fl_stub.specs.Frames.{block_of}
-use Rattle.fl_compile.specs.declared.arguments.Standing.TheVariants.{At}
+use Rattle.fl_compile.specs.declared.arguments.ArgOffset.TheVariants.{At}
 use Rattle.fl_compile.specs.Compiled.{arguments_block, in_order, message_block, message_code}
 use Rattle.fl_compile.specs.Codes.{compiled_code}
 use Rattle.fl_compile.proofs.Ordering.{all_arranged, arranged_short}

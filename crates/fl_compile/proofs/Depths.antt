@@ -9,14 +9,14 @@ use Rattle.fl_interface.specs.Interface.{TheType, scalar, enumeration, structure
 use Rattle.fl_interface.specs.Sizes.{round_up, scalar_size, size_of, align_of, greatest_align, IsAlign}
 use Rattle.fl_interface.specs.Depth.{array_depth_of, deepest_array, depth_of}
 use Rattle.fl_interface.specs.Limits.{is_well_made, are_well_made, is_type_within, is_argument_within, are_arguments_within, is_message_within, are_messages_within, is_within_limits}
-use Rattle.fl_value.specs.declared.value.PlanNo.{PlanNo}
+use Rattle.fl_value_data.specs.declared.value.PlanNo.{PlanNo}
 use Rattle.fl_interface.specs.Counts.{words_fit, all_words_fit, argument_words_fit, interface_words_fit}
 use Rattle.fl_interface.proofs.Aligned.{by_align, scalar_align, type_align, types_align}
 use Rattle.fl_stub.specs.declared.op.Column.{Column}
 use Rattle.fl_stub.specs.declared.op.Column.TheVariants.{Send, Receive}
 use Rattle.fl_stub.specs.Structure.{Block, finished, next, one, is_width, is_within, is_step, block_fits, block_depth, IsCode}
-use Rattle.fl_compile.specs.declared.arguments.Standing.{Standing}
-use Rattle.fl_compile.specs.declared.arguments.Standing.TheVariants.{At, AfterDynamic}
+use Rattle.fl_compile.specs.declared.arguments.ArgOffset.{ArgOffset}
+use Rattle.fl_compile.specs.declared.arguments.ArgOffset.TheVariants.{At, AfterDynamic}
 use Rattle.fl_compile.specs.Compiled.{padding, scalar_op, enum_op, text_op, pad_op, zeros_then, type_then, fields_then, start_at, start_then, counted_then, arguments_block, in_order, message_block, message_code}
 use Rattle.fl_compile.proofs.Ordering.{all_arranged}
 
@@ -118,12 +118,12 @@ last_false false false false h = refl
 arrays_few : (t : TheType) → is_type_within t ≡ true → array_depth_of t ≤ 7
 arrays_few t h = ltb-false 7 (array_depth_of t) (last_false (ltb 4096 (size_of t)) (ltb 16 (depth_of t)) (ltb 7 (array_depth_of t)) (and_parts _ _ h).1)
 
-start_fits : (column : Column) (standing : Standing) (align : ℕ) (rest : Block) → IsAlign align → block_fits column rest ≡ true → block_fits column (start_then column standing align rest) ≡ true
+start_fits : (column : Column) (standing : ArgOffset) (align : ℕ) (rest : Block) → IsAlign align → block_fits column rest ≡ true → block_fits column (start_then column standing align rest) ≡ true
 start_fits column (At at) align rest is h = zeros_fit column (padding at align) rest (padding_small align at is) h
 start_fits Send AfterDynamic align rest is h = h
 start_fits Receive AfterDynamic align rest is h = h
 
-start_depth : (column : Column) (standing : Standing) (align : ℕ) (rest : Block) (k : ℕ) → block_depth rest ≤ k → block_depth (start_then column standing align rest) ≤ k
+start_depth : (column : Column) (standing : ArgOffset) (align : ℕ) (rest : Block) (k : ℕ) → block_depth rest ≤ k → block_depth (start_then column standing align rest) ≤ k
 start_depth column (At at) align rest k h = zeros_depth column (padding at align) rest k h
 start_depth column AfterDynamic align rest k h = omega (arith, h)
 
@@ -140,7 +140,7 @@ text_fits Receive = refl
 abbrev is_limited : TheArgType → Bool
 is_limited t = is_argument_within t && argument_words_fit t
 
-pub arguments_fit : (column : Column) (standing : Standing) (ts : List TheArgType) → list_all is_limited ts ≡ true → block_fits column (arguments_block column standing ts) ≡ true
+pub arguments_fit : (column : Column) (standing : ArgOffset) (ts : List TheArgType) → list_all is_limited ts ≡ true → block_fits column (arguments_block column standing ts) ≡ true
 arguments_fit column standing [] h = refl
 arguments_fit column standing (fixed t ∷ ts) h =
     let parts = and_parts (is_limited (fixed t)) (list_all is_limited ts) h in
@@ -161,7 +161,7 @@ arguments_fit column standing (sized most t ∷ ts) h =
     counted_fits column most (type_then column t finished) (arguments_block column AfterDynamic ts) (and_from (leb 1 most) (leb most 4096) (within.0) (few.0))
     (type_fits column t finished (and_parts _ _ (few.1)).0 (words.1) refl) (arguments_fit column AfterDynamic ts parts.1)
 
-pub arguments_depth : (column : Column) (standing : Standing) (ts : List TheArgType) → list_all is_limited ts ≡ true → block_depth (arguments_block column standing ts) ≤ 8
+pub arguments_depth : (column : Column) (standing : ArgOffset) (ts : List TheArgType) → list_all is_limited ts ≡ true → block_depth (arguments_block column standing ts) ≤ 8
 arguments_depth column standing [] h = omega arith
 arguments_depth column standing (fixed t ∷ ts) h =
     let parts = and_parts (is_limited (fixed t)) (list_all is_limited ts) h in

@@ -5,9 +5,9 @@ use Rattle.std.proofs.lemmas.Bool.{and_parts, leb-true, eqb-true, false≢true}
 use Rattle.fl_interface.specs.Interface.{TheType, scalar, enumeration, structure, array, TheTypes, no_more, field}
 use Rattle.fl_interface.specs.Sizes.{round_up, scalar_size, size_of, align_of, greatest_align, end_after, IsAlign}
 use Rattle.fl_interface.specs.Limits.{is_well_made, are_well_made, count_of as fields_in}
-use Rattle.fl_value.specs.Value.{Datum, number, string, elements, fields, Data, nothing_more, also}
-use Rattle.fl_value.specs.Fits.{has_type, have_types, all_have_type, count_of, scalar_bits}
-use Rattle.fl_value.specs.Tape.{raw_of}
+use Rattle.fl_value_data.specs.Value.{Datum, number, string, elements, fields, Data, nothing_more, also}
+use Rattle.fl_value_data.specs.Fits.{has_type, have_types, all_have_type, count_of, scalar_bits}
+use Rattle.fl_value_data.specs.Tape.{raw_of}
 use Rattle.fl_layout.specs.Leaves.{Leaf, gap, bits_of, value_onto, fields_onto, elements_onto}
 use Rattle.fl_layout.specs.Places.{size}
 use Rattle.fl_wire.specs.Payload.{payload_bytes}

@@ -4,18 +4,18 @@ use Rattle.std.specs.Prelude.{Option}
 use Rattle.std.specs.List.{zip, list_all, flat_map}
 use Rattle.fl_interface.specs.Interface.{TheArgType, TheMessage, TheInterface}
 use Rattle.fl_interface.specs.Limits.{are_arguments_within}
-use Rattle.fl_value.specs.declared.value.PlanNo.{PlanNo}
-use Rattle.fl_value.specs.Value.{Datum, TheCall}
-use Rattle.fl_value.specs.Fits.{fits_of, fit_message, are_arguments}
-use Rattle.fl_value.specs.Plan.{arranged}
-use Rattle.fl_value.specs.Tape.{Argument, kind, tape_of_argument, tape_of, types_of}
+use Rattle.fl_value_data.specs.declared.value.PlanNo.{PlanNo}
+use Rattle.fl_value_data.specs.Value.{Datum, TheCall}
+use Rattle.fl_value_data.specs.Fits.{fits_of, fit_message, are_arguments}
+use Rattle.fl_value_data.specs.Plan.{arranged}
+use Rattle.fl_value_data.specs.Tape.{Argument, kind, tape_of_argument, tape_of, types_of}
 use Rattle.fl_layout.specs.Leaves.{arguments_onto}
 use Rattle.fl_wire.specs.Payload.{payload_bytes, payload_of}
 use Rattle.fl_interface.specs.Counts.{argument_words_fit}
 use Rattle.fl_stub.specs.declared.op.Column.{Column}
 use Rattle.fl_stub.specs.declared.op.Column.TheVariants.{Send, Receive}
 use Rattle.fl_stub.specs.Meaning.{BlockTurns, moment_first, moment_last, Turns}
-use Rattle.fl_compile.specs.declared.arguments.Standing.TheVariants.{At}
+use Rattle.fl_compile.specs.declared.arguments.ArgOffset.TheVariants.{At}
 use Rattle.fl_compile.specs.Compiled.{arguments_block, in_order, message_block}
 use Rattle.fl_compile.specs.Laws.{HasMessage, Carries, SendsCalls, TakesCalls, CompilesToCode}
 use Rattle.fl_compile.proofs.Placing.{arguments_bytes, is_sound, arguments_lie, arguments_turn, arguments_come}

@@ -6,12 +6,12 @@ use Rattle.fl_interface.specs.Interface.{TheArgType}
 use Rattle.fl_interface.specs.Sizes.{round_up, IsAlign}
 use Rattle.fl_interface.specs.Limits.{is_argument_within, are_arguments_within}
 use Rattle.fl_interface.proofs.Aligned.{by_align}
-use Rattle.fl_compile.specs.declared.arguments.Standing.{Standing}
-use Rattle.fl_compile.specs.declared.arguments.Standing.TheVariants.{At, AfterDynamic}
+use Rattle.fl_compile.specs.declared.arguments.ArgOffset.{ArgOffset}
+use Rattle.fl_compile.specs.declared.arguments.ArgOffset.TheVariants.{At, AfterDynamic}
 use Rattle.fl_compile.specs.Compiled.{start_at}
 use Rattle.fl_compile.specs.Standings.{StandsBy}
 
-pub start_near : (n : ℕ) (standing : Standing) (align : ℕ) → IsAlign align → StandsBy n standing → start_at standing align ≤ n + 7
+pub start_near : (n : ℕ) (standing : ArgOffset) (align : ℕ) → IsAlign align → StandsBy n standing → start_at standing align ≤ n + 7
 start_near n (At at) align is h = by_align (λ a. round_up at a ≤ n + 7) (omega (arith, h)) (omega (arith, h)) (omega (arith, h)) (omega (arith, h)) align is
 start_near n AfterDynamic align is h = omega arith
 
@@ -26,5 +26,5 @@ rest_within t ts us e h =
     let both : (is_argument_within t && are_arguments_within ts) ≡ true = sym (ap are_arguments_within e) ∙ h in
     (and_parts _ _ both).1
 
-pub one_further : (k : ℕ) (standing : Standing) → StandsBy (4104 * k + 4104) standing → StandsBy (4104 * (k + 1)) standing
+pub one_further : (k : ℕ) (standing : ArgOffset) → StandsBy (4104 * k + 4104) standing → StandsBy (4104 * (k + 1)) standing
 one_further k standing h = let e : 4104 * k + 4104 ≡ 4104 * (k + 1) = omega arith in subst (λ (n : ℕ). StandsBy n standing) e h

@@ -5,8 +5,8 @@ use Rattle.std.proofs.lemmas.Bool.{cases_lt, ltb-true, lt-ltb, false≢true}
 use Rattle.fl_interface.specs.declared.interface.Scalar.{Scalar}
 use Rattle.fl_interface.specs.declared.interface.Scalar.TheVariants.{Uint8, Int8, Bool as BoolType, Char, Uint16, Int16, Uint32, Int32, Iref, Uint64, Int64, Uintptr, Intptr, Size, Errval}
 use Rattle.fl_interface.specs.Sizes.{scalar_size}
-use Rattle.fl_value.specs.Fits.{is_scalar_value, is_enumerator, scalar_bits, least_above, how_many_below}
-use Rattle.fl_value.specs.Tape.{raw_of}
+use Rattle.fl_value_data.specs.Fits.{is_scalar_value, is_enumerator, scalar_bits, least_above, how_many_below}
+use Rattle.fl_value_data.specs.Tape.{raw_of}
 use Rattle.fl_layout.specs.Leaves.{bits_of}
 use Rattle.fl_stub.specs.declared.op.Column.{Column}
 use Rattle.fl_stub.specs.declared.op.Column.TheVariants.{Send, Receive}

@@ -7,10 +7,10 @@ use Rattle.fl_base.specs.declared.fragment.Frag.{Frag}
 use Rattle.fl_base.specs.Control.{message_of, bare}
 use Rattle.fl_interface.specs.Interface.{TheMessage, TheInterface}
 use Rattle.fl_interface.specs.Limits.{is_within_limits}
-use Rattle.fl_value.specs.declared.value.PlanNo.{PlanNo}
-use Rattle.fl_value.specs.Value.{TheCall}
-use Rattle.fl_value.specs.Fits.{fits_of, fit_message}
-use Rattle.fl_value.specs.Tape.{tape_of}
+use Rattle.fl_value_data.specs.declared.value.PlanNo.{PlanNo}
+use Rattle.fl_value_data.specs.Value.{TheCall}
+use Rattle.fl_value_data.specs.Fits.{fits_of, fit_message}
+use Rattle.fl_value_data.specs.Tape.{tape_of}
 use Rattle.fl_layout.specs.Leaves.{leaves}
 use Rattle.fl_wire.specs.Payload.{payload_of}
 use Rattle.fl_wire.specs.Reading.{IsWrong, Reads}

@@ -7,13 +7,13 @@ use Rattle.std.proofs.lemmas.List.{map-append}
 use Rattle.fl_interface.specs.Interface.{TheArgType, fixed, text, sized}
 use Rattle.fl_interface.specs.Sizes.{align_of}
 use Rattle.fl_interface.specs.Limits.{is_argument_within, are_arguments_within}
-use Rattle.fl_value.specs.declared.value.PlanNo.{PlanNo}
-use Rattle.fl_value.specs.declared.value.PlanNo.TheVariants.{One, Two}
-use Rattle.fl_value.specs.Value.{Datum}
-use Rattle.fl_value.specs.Fits.{is_argument, are_arguments}
-use Rattle.fl_value.specs.Plan.{arranged, is_fixed_at, is_dynamic, fixed_rank, rank_of}
-use Rattle.fl_value.specs.Tape.{Argument, kind}
-use Rattle.fl_value.proofs.Ranked.{arranged_ranks}
+use Rattle.fl_value_data.specs.declared.value.PlanNo.{PlanNo}
+use Rattle.fl_value_data.specs.declared.value.PlanNo.TheVariants.{One, Two}
+use Rattle.fl_value_data.specs.Value.{Datum}
+use Rattle.fl_value_data.specs.Fits.{is_argument, are_arguments}
+use Rattle.fl_value_data.specs.Plan.{arranged, is_fixed_at, is_dynamic, fixed_rank, rank_of}
+use Rattle.fl_value_data.specs.Tape.{Argument, kind}
+use Rattle.fl_value_data.proofs.Ranked.{arranged_ranks}
 use Rattle.fl_interface.specs.Counts.{argument_words_fit}
 use Rattle.fl_interface.proofs.Aligned.{by_align, type_align}
 use Rattle.fl_compile.proofs.Placing.{is_sound}

@@ -6,10 +6,10 @@ use Rattle.std.proofs.lemmas.Bool.{and_parts, and_from, leb-true, le-leb, false�
 use Rattle.fl_interface.specs.Interface.{TheType, TheArgType, fixed, text, sized}
 use Rattle.fl_interface.specs.Sizes.{size_of, align_of}
 use Rattle.fl_interface.specs.Limits.{is_well_made, is_type_within, is_argument_within}
-use Rattle.fl_value.specs.Value.{Datum, number, string, elements, fields}
-use Rattle.fl_value.specs.Fits.{has_type, all_have_type, count_of, is_argument}
-use Rattle.fl_value.specs.Plan.{is_dynamic}
-use Rattle.fl_value.specs.Tape.{value_tape, elements_tape, argument_tape, Argument, kind, tape_of_argument}
+use Rattle.fl_value_data.specs.Value.{Datum, number, string, elements, fields}
+use Rattle.fl_value_data.specs.Fits.{has_type, all_have_type, count_of, is_argument}
+use Rattle.fl_value_data.specs.Plan.{is_dynamic}
+use Rattle.fl_value_data.specs.Tape.{value_tape, elements_tape, argument_tape, Argument, kind, tape_of_argument}
 use Rattle.fl_layout.specs.Leaves.{Leaf, gap, whole, single, elements_onto, bytes_onto, argument_onto, start_onto, arguments_onto}
 use Rattle.fl_layout.specs.Places.{size}
 use Rattle.fl_wire.specs.Payload.{payload_bytes}
@@ -19,9 +19,9 @@ use Rattle.fl_stub.specs.declared.op.Op.TheVariants.{Align}
 use Rattle.fl_stub.specs.declared.op.Column.{Column}
 use Rattle.fl_stub.specs.declared.op.Column.TheVariants.{Receive}
 use Rattle.fl_stub.specs.Structure.{Block, finished, next, one, counted}
-use Rattle.fl_stub.specs.Meaning.{Moment, number_bytes, MovesZeros, BlockTurns, moment_last}
-use Rattle.fl_compile.specs.declared.arguments.Standing.{Standing}
-use Rattle.fl_compile.specs.declared.arguments.Standing.TheVariants.{At, AfterDynamic}
+use Rattle.fl_stub.specs.Meaning.{StubMoment, number_bytes, MovesZeros, BlockTurns, moment_last}
+use Rattle.fl_compile.specs.declared.arguments.ArgOffset.{ArgOffset}
+use Rattle.fl_compile.specs.declared.arguments.ArgOffset.TheVariants.{At, AfterDynamic}
 use Rattle.fl_compile.specs.Compiled.{padding, zeros_then, type_then, start_at, start_then, arguments_block}
 use Rattle.fl_compile.proofs.Paddings.{padded, padded_multiple, no_padding, padding_same, gap_is_padding, multiple_of_8}
 use Rattle.fl_compile.proofs.Payloads.{length_payload, gap_bytes, number_written, number_length, no_gap}
@@ -143,12 +143,12 @@ arguments_lie after (a ∷ args) low h =
 -- ---- where arguments stand
 
 -- what the code knows of a place: how far it is from a multiple of 8, or that a dynamic argument ends there
-abbrev pub StandsAt : Standing → Bool → ℕ → Type 0
+abbrev pub StandsAt : ArgOffset → Bool → ℕ → Type 0
 StandsAt (At p) false at = at % 8 ≡ p % 8
 StandsAt (At p) true at = ⊥
 StandsAt AfterDynamic after at = after ≡ true
 
-abbrev pub standing_after : Standing → TheArgType → Standing
+abbrev pub standing_after : ArgOffset → TheArgType → ArgOffset
 standing_after standing (fixed t) = At (start_at standing (align_of t) + size_of t)
 standing_after standing (text most) = AfterDynamic
 standing_after standing (sized most t) = AfterDynamic
@@ -162,7 +162,7 @@ fixed_ends after at t d h =
     let zeros : List ℕ = replicate (padding at (begins_at after (fixed t))) 0 in
     omega (arith, length-append zeros (value_bytes t d), zeros_long (padding at (begins_at after (fixed t))), value_length t d h)
 
-pub stands_after : (standing : Standing) (after : Bool) (at : ℕ) (t : TheArgType) (d : Datum) → StandsAt standing after at → is_argument t d ≡ true
+pub stands_after : (standing : ArgOffset) (after : Bool) (at : ℕ) (t : TheArgType) (d : Datum) → StandsAt standing after at → is_argument t d ≡ true
     → StandsAt (standing_after standing t) (is_dynamic t) (at + length (placed_bytes after at t d))
 stands_after (At p) false at (fixed t) d s h =
     let same : padding at (align_of t) ≡ padding p (align_of t) = padding_same (align_of t) at p (type_align t) s in
@@ -175,7 +175,7 @@ stands_after standing after at (sized most t) d s h = refl
 
 -- ---- code turns tapes into bytes
 
-align_turns : (rest : Block) (at : ℕ) (t b : List ℕ) (n : Moment) → BlockTurns rest (moment (at + padding at 8) t b) n
+align_turns : (rest : Block) (at : ℕ) (t b : List ℕ) (n : StubMoment) → BlockTurns rest (moment (at + padding at 8) t b) n
     → BlockTurns (next (one Align) rest) (moment at t (replicate (padding at 8) 0 ++ b)) n
 align_turns rest at t b n h =
     let moves : MovesZeros (padding at 8) (moment at t (replicate (padding at 8) 0 ++ b)) (moment (at + padding at 8) t b) = record { tape = refl; bytes = refl; at = refl } in (
@@ -184,7 +184,7 @@ align_turns rest at t b n h =
       h,
     )
 
-start_turns : (column : Column) (standing : Standing) (after : Bool) (at : ℕ) (ty : TheType) → StandsAt standing after at → (rest : Block) (t b : List ℕ) (n : Moment)
+start_turns : (column : Column) (standing : ArgOffset) (after : Bool) (at : ℕ) (ty : TheType) → StandsAt standing after at → (rest : Block) (t b : List ℕ) (n : StubMoment)
     → BlockTurns rest (moment (at + padding at (begins_at after (fixed ty))) t b) n
     → BlockTurns (start_then column standing (align_of ty) rest) (moment at t (replicate (padding at (begins_at after (fixed ty))) 0 ++ b)) n
 start_turns column (At p) false at ty s rest t b n h =
@@ -201,8 +201,8 @@ start_turns column AfterDynamic false at ty s rest t b n h = absurd (false≢tru
 pub placed_end : (zeros : ℕ) (own : List ℕ) (at : ℕ) → at + length (replicate zeros 0 ++ own) ≡ (at + zeros) + length own
 placed_end zeros own at = let e : length (replicate zeros 0 ++ own) ≡ length (replicate {A = ℕ} zeros 0) + length own = length-append (replicate zeros 0) own in omega (arith, e, zeros_long zeros)
 
-argument_turns : (column : Column) (standing : Standing) (after : Bool) (at : ℕ) (t : TheArgType) (d : Datum) → StandsAt standing after at → is_sound (t, d) ≡ true
-    → (args : List TheArgType) (tape b : List ℕ) (n : Moment)
+argument_turns : (column : Column) (standing : ArgOffset) (after : Bool) (at : ℕ) (t : TheArgType) (d : Datum) → StandsAt standing after at → is_sound (t, d) ≡ true
+    → (args : List TheArgType) (tape b : List ℕ) (n : StubMoment)
     → BlockTurns (arguments_block column (standing_after standing t) args) (moment (at + length (placed_bytes after at t d)) tape b) n
     → BlockTurns (arguments_block column standing (t ∷ args)) (moment at (argument_tape t d ++ tape) (placed_bytes after at t d ++ b)) n
 argument_turns column standing after at (fixed t) d s h args tape b n g =
@@ -245,7 +245,7 @@ argument_turns column standing after at (sized most t) (number z) s h args tape 
 argument_turns column standing after at (sized most t) (string xs) s h args tape b n g = absurd (false≢true h)
 argument_turns column standing after at (sized most t) (fields ds) s h args tape b n g = absurd (false≢true h)
 
-pub arguments_turn : (column : Column) (standing : Standing) (after : Bool) (at : ℕ) (args : List Argument) → StandsAt standing after at → list_all is_sound args ≡ true
+pub arguments_turn : (column : Column) (standing : ArgOffset) (after : Bool) (at : ℕ) (args : List Argument) → StandsAt standing after at → list_all is_sound args ≡ true
     → BlockTurns (arguments_block column standing (map kind args)) (moment at (flat_map tape_of_argument args) (arguments_bytes after at args)) (moment_last (at + length (arguments_bytes after at args)))
 arguments_turn column standing after at [] s h = let e : at ≡ at + 0 = omega arith in ap (λ (k : ℕ). moment k [] []) e
 arguments_turn column standing after at (a ∷ args) s h =
@@ -260,12 +260,12 @@ arguments_turn column standing after at (a ∷ args) s h =
 
 -- ---- what receive code takes are arguments
 
-align_comes : (rest : Block) (m n : Moment) → BlockTurns (next (one Align) rest) m n → Leaves rest [] (replicate (padding m.at 8) 0) m n
+align_comes : (rest : Block) (m n : StubMoment) → BlockTurns (next (one Align) rest) m n → Leaves rest [] (replicate (padding m.at 8) 0) m n
 align_comes rest m n (l, moves, h) =
     let moved : MovesZeros (padding m.at 8) m l = subst (λ (k : ℕ). MovesZeros k m l) (gap_is_padding m.at) moves in
     leaves_at rest [] (replicate (padding m.at 8) 0) m l n moved.tape moved.bytes (moved.at ∙ ap (λ (k : ℕ). m.at + k) (sym (zeros_long (padding m.at 8)))) h
 
-start_comes : (standing : Standing) (after : Bool) (ty : TheType) (rest : Block) (m n : Moment) → StandsAt standing after m.at
+start_comes : (standing : ArgOffset) (after : Bool) (ty : TheType) (rest : Block) (m n : StubMoment) → StandsAt standing after m.at
     → BlockTurns (start_then Receive standing (align_of ty) rest) m n → Leaves rest [] (replicate (padding m.at (begins_at after (fixed ty))) 0) m n
 start_comes (At p) false ty rest m n s h =
     let same : padding p (align_of ty) ≡ padding m.at (align_of ty) = sym (padding_same (align_of ty) m.at p (type_align ty) s) in
@@ -274,13 +274,13 @@ start_comes (At p) true ty rest m n s h = absurd s
 start_comes AfterDynamic true ty rest m n s h = align_comes rest m n h
 start_comes AfterDynamic false ty rest m n s h = absurd (false≢true s)
 
-pub record ArgumentComes (after : Bool) (t : TheArgType) (rest : Block) (m n : Moment) : Type 0 where
+pub record ArgumentComes (after : Bool) (t : TheArgType) (rest : Block) (m n : StubMoment) : Type 0 where
   pub d : Datum
   pub typed : is_argument t d ≡ true
   pub leaves : Leaves rest (argument_tape t d) (placed_bytes after m.at t d) m n
 
 -- after zeros, a length and what it counts
-counted_leaves : (rest : Block) (count : ℕ) (tape own : List ℕ) (m m1 l e n : Moment) (zeros : List ℕ) → m.tape ≡ m1.tape → m.bytes ≡ zeros ++ m1.bytes → m1.at ≡ m.at + length zeros
+counted_leaves : (rest : Block) (count : ℕ) (tape own : List ℕ) (m m1 l e n : StubMoment) (zeros : List ℕ) → m.tape ≡ m1.tape → m.bytes ≡ zeros ++ m1.bytes → m1.at ≡ m.at + length zeros
     → m1.tape ≡ count ∷ l.tape → m1.bytes ≡ number_bytes 8 count ++ l.bytes → l.at ≡ m1.at + 8
     → l.tape ≡ tape ++ e.tape → l.bytes ≡ own ++ e.bytes → e.at ≡ l.at + length own
     → BlockTurns rest e n → Leaves rest (count ∷ tape) (zeros ++ (number_bytes 8 count ++ own)) m n
@@ -292,7 +292,7 @@ counted_leaves rest count tape own m m1 l e n zeros t1 b1 a1 t2 b2 a2 t3 b3 a3 h
     leaves_at rest (count ∷ tape) (zeros ++ (long ++ own)) m e n (t1 ∙ t2 ∙ ap (λ (xs : List ℕ). count ∷ xs) t3) bytes
     (omega (arith, a1, a2, a3, size, length-append zeros (long ++ own), length-append long own)) h
 
-argument_comes : (standing : Standing) (after : Bool) (t : TheArgType) (args : List TheArgType) (m n : Moment) → StandsAt standing after m.at → argument_words_fit t ≡ true
+argument_comes : (standing : ArgOffset) (after : Bool) (t : TheArgType) (args : List TheArgType) (m n : StubMoment) → StandsAt standing after m.at → argument_words_fit t ≡ true
     → BlockTurns (arguments_block Receive standing (t ∷ args)) m n → ArgumentComes after t (arguments_block Receive (standing_after standing t) args) m n
 argument_comes standing after (fixed t) args m n s f h =
     let rest = arguments_block Receive (standing_after standing (fixed t)) args in
@@ -331,21 +331,21 @@ argument_comes standing after (sized most t) args m n s f h =
     }
 
 -- arguments of these types, and nothing after them
-pub record ArgumentsCome (after : Bool) (ts : List TheArgType) (m : Moment) : Type 0 where
+pub record ArgumentsCome (after : Bool) (ts : List TheArgType) (m : StubMoment) : Type 0 where
   pub args : List Argument
   pub kinds : map kind args ≡ ts
   pub typed : list_all (λ (a : Argument). is_argument a.0 a.1) args ≡ true
   pub tape_is : m.tape ≡ flat_map tape_of_argument args
   pub bytes_are : m.bytes ≡ arguments_bytes after m.at args
 
-pub arguments_come : (standing : Standing) (after : Bool) (ts : List TheArgType) (m : Moment) (end : ℕ) → StandsAt standing after m.at → list_all argument_words_fit ts ≡ true
+pub arguments_come : (standing : ArgOffset) (after : Bool) (ts : List TheArgType) (m : StubMoment) (end : ℕ) → StandsAt standing after m.at → list_all argument_words_fit ts ≡ true
     → BlockTurns (arguments_block Receive standing ts) m (moment_last end) → ArgumentsCome after ts m
 arguments_come standing after [] m end s f same = record {
   args = [];
   kinds = refl;
   typed = refl;
-  tape_is = ap (λ (l : Moment). l.tape) same;
-  bytes_are = ap (λ (l : Moment). l.bytes) same;
+  tape_is = ap (λ (l : StubMoment). l.tape) same;
+  bytes_are = ap (λ (l : StubMoment). l.bytes) same;
 }
 arguments_come standing after (t ∷ ts) m end s f h =
     let few = and_parts (argument_words_fit t) (list_all argument_words_fit ts) f in

@@ -4,18 +4,18 @@ use Rattle.std.specs.Prelude.{Option}
 use Rattle.std.specs.List.{list_all, flat_map}
 use Rattle.fl_interface.specs.Interface.{TheArgType, TheMessage}
 use Rattle.fl_interface.specs.Limits.{are_arguments_within}
-use Rattle.fl_value.specs.declared.value.PlanNo.{PlanNo}
-use Rattle.fl_value.specs.Value.{Datum}
-use Rattle.fl_value.specs.Fits.{fit_message, are_arguments}
-use Rattle.fl_value.specs.Plan.{arranged}
-use Rattle.fl_value.specs.Tape.{kind, tape_of_argument, types_of}
+use Rattle.fl_value_data.specs.declared.value.PlanNo.{PlanNo}
+use Rattle.fl_value_data.specs.Value.{Datum}
+use Rattle.fl_value_data.specs.Fits.{fit_message, are_arguments}
+use Rattle.fl_value_data.specs.Plan.{arranged}
+use Rattle.fl_value_data.specs.Tape.{kind, tape_of_argument, types_of}
 use Rattle.fl_interface.specs.Counts.{argument_words_fit}
 use Rattle.fl_wire.specs.declared.fault.WireFault.TheVariants.{NotZero, OutOfType, TooLong}
-use Rattle.fl_stub.specs.declared.mark.Mark.{Mark}
-use Rattle.fl_stub.specs.declared.mark.Mark.TheVariants.{Length, Number, Zero}
+use Rattle.fl_stub.specs.declared.mark.ByteKind.{ByteKind}
+use Rattle.fl_stub.specs.declared.mark.ByteKind.TheVariants.{Length, Number, Zero}
 use Rattle.fl_stub.specs.declared.op.Column.TheVariants.{Receive}
 use Rattle.fl_stub.specs.Marks.{marks_of, mark_at}
-use Rattle.fl_compile.specs.declared.arguments.Standing.TheVariants.{At}
+use Rattle.fl_compile.specs.declared.arguments.ArgOffset.TheVariants.{At}
 use Rattle.fl_compile.specs.Compiled.{arguments_block, in_order, message_block}
 use Rattle.fl_compile.specs.Laws.{fault_of, TellsFaults}
 use Rattle.fl_compile.proofs.Ordering.{arranged_kinds, zip_kinds}
@@ -41,7 +41,7 @@ message_marks plan m ds h w f =
 message_tells : (plan : PlanNo) (m : TheMessage) (ds : List Datum) → are_arguments m.args ds ≡ true → are_arguments_within m.args ≡ true → list_all argument_words_fit m.args ≡ true → (p : ℕ)
     → stands_at false (ordered plan m.args ds) [] p ≡ mark_at (marks_of (message_block Receive plan m) (flat_map tape_of_argument (ordered plan m.args ds))) p
 message_tells plan m ds h w f p =
-    all_stand (ordered plan m.args ds) (order_sound plan m.args ds h w f) p ∙ ap (λ (ms : List Mark). mark_at ms p) (sym (message_marks plan m ds h w f))
+    all_stand (ordered plan m.args ds) (order_sound plan m.args ds h w f) p ∙ ap (λ (ms : List ByteKind). mark_at ms p) (sym (message_marks plan m ds h w f))
 
 -- by the message that a call has
 abbrev Tells : PlanNo → TheMessage → Option TheMessage → List Datum → ℕ → Type 0

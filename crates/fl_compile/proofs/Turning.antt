@@ -5,31 +5,31 @@ use Rattle.std.proofs.lemmas.List.{length-append, length-replicate}
 use Rattle.std.proofs.lemmas.Bool.{and_parts, leb-true, ltb-true, eqb-true, false≢true}
 use Rattle.fl_interface.specs.Interface.{TheType, scalar, enumeration, structure, array, TheTypes, no_more, field}
 use Rattle.fl_interface.specs.Sizes.{round_up, scalar_size, size_of, align_of, greatest_align}
-use Rattle.fl_value.specs.Value.{Datum, number, string, elements, fields, Data, nothing_more, also}
-use Rattle.fl_value.specs.Fits.{has_type, have_types, all_have_type, count_of, scalar_bits, is_text_byte}
-use Rattle.fl_value.specs.Tape.{raw_of, value_tape, fields_tape, elements_tape}
+use Rattle.fl_value_data.specs.Value.{Datum, number, string, elements, fields, Data, nothing_more, also}
+use Rattle.fl_value_data.specs.Fits.{has_type, have_types, all_have_type, count_of, scalar_bits, is_text_byte}
+use Rattle.fl_value_data.specs.Tape.{raw_of, value_tape, fields_tape, elements_tape}
 use Rattle.fl_interface.specs.Counts.{words_fit, all_words_fit}
 use Rattle.fl_stub.specs.declared.op.Op.{Op}
 use Rattle.fl_stub.specs.declared.op.Column.{Column}
 use Rattle.fl_stub.specs.declared.op.Column.TheVariants.{Send, Receive}
 use Rattle.fl_stub.specs.Structure.{Block, finished, next, one, times, counted}
-use Rattle.fl_stub.specs.Meaning.{Moment, number_bytes, Move, number as number_move, zeros as zeros_move, move_of, MovesNumber, Moves, Repeats, BlockTurns}
+use Rattle.fl_stub.specs.Meaning.{StubMoment, number_bytes, OpMove, number as number_move, zeros as zeros_move, move_of, MovesNumber, Moves, Repeats, BlockTurns}
 use Rattle.fl_compile.specs.Compiled.{padding, scalar_op, enum_op, text_op, pad_op, zeros_then, type_then, fields_then}
 use Rattle.fl_compile.proofs.Payloads.{number_length}
 use Rattle.fl_compile.proofs.Numerals.{moved_below, scalar_moves, scalar_moved, enum_moved_below, enum_moves, enum_moved}
 use Rattle.fl_compile.proofs.Encoded.{value_bytes, fields_bytes, elements_bytes}
 
 -- at a place, with that tape and those bytes left
-abbrev pub moment : ℕ → List ℕ → List ℕ → Moment
+abbrev pub moment : ℕ → List ℕ → List ℕ → StubMoment
 moment at tape bytes = record { at = at; tape = tape; bytes = bytes }
 
 -- code, given with what follows it, turns a tape into bytes before whatever follows
 pub record Goes (code : Block → Block) (tape bytes : List ℕ) : Type 0 where
-  pub before : (rest : Block) (at : ℕ) (t b : List ℕ) (n : Moment) → BlockTurns rest (moment (at + length bytes) t b) n
+  pub before : (rest : Block) (at : ℕ) (t b : List ℕ) (n : StubMoment) → BlockTurns rest (moment (at + length bytes) t b) n
       → BlockTurns (code rest) (moment at (tape ++ t) (bytes ++ b)) n
 
 -- the same at equal places, tapes and bytes
-pub same_turns : (code : Block) (n : Moment) {at at2 : ℕ} {t t2 b b2 : List ℕ} → at ≡ at2 → t ≡ t2 → b ≡ b2 → BlockTurns code (moment at t b) n → BlockTurns code (moment at2 t2 b2) n
+pub same_turns : (code : Block) (n : StubMoment) {at at2 : ℕ} {t t2 b b2 : List ℕ} → at ≡ at2 → t ≡ t2 → b ≡ b2 → BlockTurns code (moment at t b) n → BlockTurns code (moment at2 t2 b2) n
 same_turns code n {at2 = at2} {t = t} {t2 = t2} {b = b} p q r h =
     subst (λ (x : List ℕ). BlockTurns code (moment at2 t2 x) n) r (subst (λ (x : List ℕ). BlockTurns code (moment at2 x b) n) q (subst (λ (k : ℕ). BlockTurns code (moment k t b) n) p h))
 
@@ -53,7 +53,7 @@ number_goes op width least bound x is low high = record {
       let moves : Moves (number_move width least bound) (moment at (x ∷ t) (number_bytes width x ++ b)) (moment (at + length (number_bytes width x)) t b)
       = (x, record { at_least = low; below = high; tape = refl; bytes = refl; at = ap (λ (k : ℕ). at + k) (number_length 0 width x) }) in (
         moment (at + length (number_bytes width x)) t b,
-        subst (λ (m : Move). Moves m (moment at (x ∷ t) (number_bytes width x ++ b)) (moment (at + length (number_bytes width x)) t b)) (sym is) moves,
+        subst (λ (m : OpMove). Moves m (moment at (x ∷ t) (number_bytes width x ++ b)) (moment (at + length (number_bytes width x)) t b)) (sym is) moves,
         h,
       );
 }
@@ -69,7 +69,7 @@ zero_goes op count is = record {
       let long : at + length (replicate {A = ℕ} count 0) ≡ at + count = ap (λ (k : ℕ). at + k) (length-replicate {A = ℕ} count 0) in
       let moves : Moves (zeros_move count) (moment at t (replicate count 0 ++ b)) (moment (at + count) t b) = record { tape = refl; bytes = refl; at = refl } in (
         moment (at + count) t b,
-        subst (λ (m : Move). Moves m (moment at t (replicate count 0 ++ b)) (moment (at + count) t b)) (sym is) moves,
+        subst (λ (m : OpMove). Moves m (moment at t (replicate count 0 ++ b)) (moment (at + count) t b)) (sym is) moves,
         same_turns rest n long refl refl h,
       );
 }

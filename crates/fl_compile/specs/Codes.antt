@@ -1,6 +1,6 @@
 -- The two codes of each message.
 use Rattle.fl_interface.specs.Interface.{TheMessage}
-use Rattle.fl_value.specs.declared.value.PlanNo.{PlanNo}
+use Rattle.fl_value_data.specs.declared.value.PlanNo.{PlanNo}
 use Rattle.fl_stub.specs.declared.op.Column.{Column}
 use Rattle.fl_stub.specs.declared.op.Column.TheVariants.{Send, Receive}
 use Rattle.fl_stub.specs.Code.{TheCode}

@@ -5,15 +5,15 @@ use Rattle.fl_interface.specs.declared.interface.Scalar.{Scalar}
 use Rattle.fl_interface.specs.declared.interface.Scalar.TheVariants.{Bool as BoolType, Char}
 use Rattle.fl_interface.specs.Interface.{TheType, scalar, enumeration, structure, array, TheTypes, no_more, field, TheArgType, fixed, text, sized, TheMessage}
 use Rattle.fl_interface.specs.Sizes.{round_up, scalar_size, align_of, greatest_align, size_of}
-use Rattle.fl_value.specs.declared.value.PlanNo.{PlanNo}
-use Rattle.fl_value.specs.Plan.{arranged}
+use Rattle.fl_value_data.specs.declared.value.PlanNo.{PlanNo}
+use Rattle.fl_value_data.specs.Plan.{arranged}
 use Rattle.fl_stub.specs.declared.op.Op.{Op}
 use Rattle.fl_stub.specs.declared.op.Op.TheVariants.{Emit, Pad, Align, Read, ReadBool, ReadEnum, ReadChar, Skip, ReadText}
 use Rattle.fl_stub.specs.declared.op.Column.{Column}
 use Rattle.fl_stub.specs.declared.op.Column.TheVariants.{Send, Receive}
 use Rattle.fl_stub.specs.Structure.{one, times, counted, Block, finished, next, block_ops, last_op}
-use Rattle.fl_compile.specs.declared.arguments.Standing.{Standing}
-use Rattle.fl_compile.specs.declared.arguments.Standing.TheVariants.{At, AfterDynamic}
+use Rattle.fl_compile.specs.declared.arguments.ArgOffset.{ArgOffset}
+use Rattle.fl_compile.specs.declared.arguments.ArgOffset.TheVariants.{At, AfterDynamic}
 
 -- ---- instructions
 
@@ -62,12 +62,12 @@ abbrev mutual
       zeros_then column (padding at (align_of t)) (type_then column t (fields_then column align (round_up at (align_of t) + size_of t) ts rest))
 
 -- where a fixed argument begins
-abbrev pub start_at : Standing → ℕ → ℕ
+abbrev pub start_at : ArgOffset → ℕ → ℕ
 start_at (At at) align = round_up at align
 start_at AfterDynamic align = 0
 
 -- zeros up to a fixed argument's alignment, and then the rest
-abbrev pub start_then : Column → Standing → ℕ → Block → Block
+abbrev pub start_then : Column → ArgOffset → ℕ → Block → Block
 start_then column (At at) align rest = zeros_then column (padding at align) rest
 start_then column AfterDynamic align rest = next (one Align) rest
 
@@ -76,7 +76,7 @@ abbrev pub counted_then : ℕ → Block → Block → Block
 counted_then most element rest = next (one Align) (next (counted most element) rest)
 
 -- arguments one after another
-abbrev pub arguments_block : Column → Standing → List TheArgType → Block
+abbrev pub arguments_block : Column → ArgOffset → List TheArgType → Block
 arguments_block column standing [] = finished
 arguments_block column standing (fixed t ∷ args) =
     start_then column standing (align_of t) (type_then column t (arguments_block column (At (start_at standing (align_of t) + size_of t)) args))

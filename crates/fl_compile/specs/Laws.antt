@@ -4,17 +4,17 @@ use Rattle.std.specs.Prelude.{◌≡◌, ◌↔◌, ℕ, true, List, slice_get, 
 use Rattle.fl_base.specs.declared.fragment.Frag.{Frag}
 use Rattle.fl_interface.specs.Interface.{TheMessage, TheInterface}
 use Rattle.fl_interface.specs.Limits.{is_within_limits}
-use Rattle.fl_value.specs.Value.{TheCall}
-use Rattle.fl_value.specs.Fits.{fits_of}
-use Rattle.fl_value.specs.Tape.{tape_of}
-use Rattle.fl_value.specs.declared.value.PlanNo.{PlanNo}
+use Rattle.fl_value_data.specs.Value.{TheCall}
+use Rattle.fl_value_data.specs.Fits.{fits_of}
+use Rattle.fl_value_data.specs.Tape.{tape_of}
+use Rattle.fl_value_data.specs.declared.value.PlanNo.{PlanNo}
 use Rattle.fl_wire.specs.Payload.{payload_of}
 use Rattle.fl_interface.specs.Counts.{interface_words_fit}
 use Rattle.fl_wire.specs.Wrong.{fault_at, HasFault, IsWrongAt}
 use Rattle.fl_wire.specs.declared.fault.WireFault.{WireFault}
 use Rattle.fl_wire.specs.declared.fault.WireFault.TheVariants.{NotZero, OutOfType, TooLong}
-use Rattle.fl_stub.specs.declared.mark.Mark.{Mark}
-use Rattle.fl_stub.specs.declared.mark.Mark.TheVariants.{Length, Number, Zero}
+use Rattle.fl_stub.specs.declared.mark.ByteKind.{ByteKind}
+use Rattle.fl_stub.specs.declared.mark.ByteKind.TheVariants.{Length, Number, Zero}
 use Rattle.fl_stub.specs.declared.op.Column.{Column}
 use Rattle.fl_stub.specs.declared.op.Column.TheVariants.{Send, Receive}
 use Rattle.fl_stub.specs.Structure.{IsCode}
@@ -51,7 +51,7 @@ CompilesToCode = (column : Column) (plan : PlanNo) (i : TheInterface) (msg : ℕ
     → IsCode column (message_code column plan m) (message_block column plan m)
 
 -- the fault of a byte that no payload goes on with, by what stands there
-abbrev pub fault_of : Mark → WireFault
+abbrev pub fault_of : ByteKind → WireFault
 fault_of Length = TooLong
 fault_of Number = OutOfType
 fault_of Zero = NotZero

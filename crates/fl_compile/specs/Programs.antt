@@ -2,7 +2,7 @@
 use Rattle.std.specs.Prelude.{ℕ, Option, slice_get}
 use Rattle.std.specs.Option.{option_map}
 use Rattle.fl_interface.specs.Interface.{TheInterface, interface_of}
-use Rattle.fl_value.specs.declared.value.PlanNo.{PlanNo}
+use Rattle.fl_value_data.specs.declared.value.PlanNo.{PlanNo}
 use Rattle.fl_stub.specs.declared.op.Column.{Column}
 use Rattle.fl_stub.specs.Code.{TheCode}
 use Rattle.fl_compile.specs.declared.program.Program.{Program}

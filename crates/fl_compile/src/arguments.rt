@@ -16,7 +16,7 @@ use std::alloc::{AllocError, Global};
 
 /// Where the next argument of a message would stand.
 #[derive(Clone, Copy)]
-pub(crate) enum Standing {
+pub(crate) enum ArgOffset {
     /// So many bytes after the payload's start, or after the last `Align`.
     At(u32),
     /// Directly after a string or a sized array.
@@ -57,7 +57,7 @@ fn last_op(column: Column) -> Op
 fn push_start(
     ops: &mut Vec<Op>,
     column: Column,
-    standing: Standing,
+    standing: ArgOffset,
     align: u32,
 ) -> Result<u32, AllocError>
     requires some { 1 ≤ align }
@@ -67,12 +67,12 @@ fn push_start(
     ensures start { IfOk result (λ start. start ≡ start_at standing align) }
 {
     match standing {
-        Standing::At(at) => {
+        ArgOffset::At(at) => {
             let start = at.next_multiple_of(align);
             push_zeros(ops, column, start - at)?;
             Ok(start)
         }
-        Standing::AfterDynamic => {
+        ArgOffset::AfterDynamic => {
             ops.push(Op::Align)?;
             Ok(0)
         }
@@ -83,9 +83,9 @@ fn push_start(
 fn push_fixed(
     ops: &mut Vec<Op>,
     column: Column,
-    standing: Standing,
+    standing: ArgOffset,
     ty: &FixedType,
-) -> Result<Standing, AllocError>
+) -> Result<ArgOffset, AllocError>
     requires made { is_well_made (type_of ty.now) ≡ true }
     requires small { size_of (type_of ty.now) ≤ 4096 }
     requires near { StandsBy 700000 standing }
@@ -96,7 +96,7 @@ fn push_fixed(
     let start = push_start(ops, column, standing, align)?;
     push_type(ops, column, ty)?;
     let size = ty.size();
-    Ok(Standing::At(start + size))
+    Ok(ArgOffset::At(start + size))
 }
 
 /// Appends the code of a string of at most so many bytes.
@@ -135,9 +135,9 @@ fn push_sized(
 fn push_argument(
     ops: &mut Vec<Op>,
     column: Column,
-    standing: Standing,
+    standing: ArgOffset,
     argument: &ArgType,
-) -> Result<Standing, AllocError>
+) -> Result<ArgOffset, AllocError>
     requires within { is_argument_within (arg_type_of argument.now) ≡ true }
     requires near { StandsBy 700000 standing }
     ensures ops { IfOk result (λ after. Appends column standing (arg_type_of argument.now) after ops.old.items ops.new.items) }
@@ -147,11 +147,11 @@ fn push_argument(
         ArgType::Fixed(fixed) => push_fixed(ops, column, standing, fixed),
         ArgType::Text(most) => {
             push_text(ops, column, *most)?;
-            Ok(Standing::AfterDynamic)
+            Ok(ArgOffset::AfterDynamic)
         }
         ArgType::Sized(most, element) => {
             push_sized(ops, column, *most, element)?;
-            Ok(Standing::AfterDynamic)
+            Ok(ArgOffset::AfterDynamic)
         }
     }
 }
@@ -167,7 +167,7 @@ pub(crate) fn arguments_code(
     ensures code { IfOk result (λ v. v.items ≡ code_of column (types_in arguments.now)) }
 {
     let mut ops = Vec::with_capacity(alloc, arguments.len() + 1)?;
-    let mut standing = Standing::At(0);
+    let mut standing = ArgOffset::At(0);
     for argument in arguments {
         standing = push_argument(&mut ops, column, standing, argument)?;
     }

@@ -12,8 +12,8 @@ use crate::arguments::arguments_code;
 use crate::order::in_order;
 use crate::program::{Compiled, MessageCode, Program};
 use fl_interface::{Interface, Message};
-use fl_stub::{Code, Column, VerifiedCode, one_structure, verify};
-use fl_value::PlanNo;
+use fl_stub::{Code, Column, VerifiedCode, law_one_structure, verify};
+use fl_value_data::PlanNo;
 use std::alloc::{AllocError, Global};
 use std::sync::Arc;
 
@@ -30,7 +30,7 @@ fn compile_message(
 {
     let arguments = in_order(alloc, plan, &message.args)?;
     let ops = arguments_code(alloc, column, &arguments)?;
-    one_structure();
+    law_one_structure();
     match verify(Code { ops }) {
         Some(code) => Ok(code),
         None => unreachable!(),

@@ -3,31 +3,31 @@
 ghost use Rattle.fl_compile.specs.Laws.{SendsCalls, TakesCalls, CompilesToCode, TellsFaults, OneFault, OneRefusal};
 
 /// The send code of a message turns the tape of each fitting call into the call's payload.
-pub fn sends_calls()
+pub fn law_sends_calls()
     ensures sends { SendsCalls }
 {}
 
 /// The receive code of a message takes the tape of each fitting call from the call's payload, and takes nothing else.
-pub fn takes_calls()
+pub fn law_takes_calls()
     ensures takes { TakesCalls }
 {}
 
 /// The code of each message has the structure that its types tell, so that it is always verified: its operands are in
 /// range, and its loops go at most 8 deep.
-pub fn compiles_to_code()
+pub fn law_compiles_to_code()
     ensures code { CompilesToCode }
 {}
 
 /// The receive code of a message tells, at each byte of a fitting call's payload, what a byte is that no payload goes on
 /// with: a length above its bound, a number out of its type, or not zero.
-pub fn tells_faults()
+pub fn law_tells_faults()
     ensures tells { TellsFaults }
 {}
 
 /// In every interface within the limits, a fragment that can't follow those since the last whole call has one first fault, and
 /// so has a list of fragments that isn't read as calls and a rest: the fragments alone tell what a receive run refuses them
 /// by, and `fl_wire::read_frags` where memory doesn't run out.
-pub fn one_fault()
+pub fn law_one_fault()
     ensures fault { OneFault }
     ensures refusal { OneRefusal }
 {}

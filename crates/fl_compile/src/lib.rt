@@ -19,5 +19,7 @@ mod program;
 mod types;
 
 pub use compiler::compile;
-pub use law::{compiles_to_code, one_fault, sends_calls, takes_calls, tells_faults};
+pub use law::{
+    law_compiles_to_code, law_one_fault, law_sends_calls, law_takes_calls, law_tells_faults,
+};
 pub use program::Program;

@@ -2,11 +2,11 @@
 
 ghost use Rattle.std.specs.Prelude.{◌≡◌, ◌==◌, ◌++◌, map, IfOk, OnOk};
 ghost use Rattle.fl_interface.specs.Interface.{arg_type_of};
-ghost use Rattle.fl_value.specs.Plan.{arranged, of_rank, rank_of};
+ghost use Rattle.fl_value_data.specs.Plan.{arranged, of_rank, rank_of};
 ghost use Rattle.fl_compile.specs.Arguments.{types_in};
 
 use fl_interface::ArgType;
-use fl_value::{PlanNo, RANKS};
+use fl_value_data::{PlanNo, RANKS};
 use std::alloc::{AllocError, Global};
 
 /// Whether an argument has a rank.

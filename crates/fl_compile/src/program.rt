@@ -9,7 +9,7 @@ use fl_base::MsgNo;
 use fl_interface::Interface;
 use fl_layout::Plans;
 use fl_stub::VerifiedCode;
-use fl_value::PlanNo;
+use fl_value_data::PlanNo;
 use std::alloc::{AllocError, Global};
 use std::sync::Arc;
 

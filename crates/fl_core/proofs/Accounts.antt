@@ -14,15 +14,15 @@ use Rattle.fl_endpoint.specs.declared.fault.EndFault.TheVariants.{Wire, Memory}
 use Rattle.fl_endpoint.specs.declared.answer.ReceiveAnswer.TheVariants as receive
 use Rattle.fl_endpoint.specs.View.{TheEnd, bound, bound_by}
 use Rattle.fl_endpoint.specs.Events.{IsReady}
-use Rattle.fl_value.specs.Value.{TheCall}
-use Rattle.fl_endpoint.specs.Accounts.{Sound, Accepted, Stretch, Account, Replies}
+use Rattle.fl_value_data.specs.Value.{TheCall}
+use Rattle.fl_endpoint.specs.Accounts.{Sound, Accepted, EndHistory, Account, Replies}
 use Rattle.fl_endpoint.specs.Laws.{AddsNothing, BindAccounts, ReceiveAccounts}
-use Rattle.fl_core.specs.declared.kind.Kind.{Kind}
-use Rattle.fl_core.specs.declared.kind.Kind.TheVariants.{Queue, Ring}
-use Rattle.fl_core.specs.declared.answer.TurnAnswer.{TurnAnswer}
-use Rattle.fl_core.specs.declared.answer.TurnAnswer.TheVariants.{Handle, Part, Ready, Quiet, Full, Nothing, Refused}
-use Rattle.fl_core.specs.Turns.{WaitsIn, lent, moment, Gives, Examines, LooksAt}
-use Rattle.fl_core.specs.Accounts.{handled_in, due_in_turn, TurnAdds}
+use Rattle.fl_core.specs.declared.kind.ChannelKind.{ChannelKind}
+use Rattle.fl_core.specs.declared.kind.ChannelKind.TheVariants.{Queue, Ring}
+use Rattle.fl_core.specs.declared.turn_answer.TurnAnswer.{TurnAnswer}
+use Rattle.fl_core.specs.declared.turn_answer.TurnAnswer.TheVariants.{Handle, Part, Ready, Quiet, Full, Nothing, Refused}
+use Rattle.fl_core.specs.BoardTurns.{WaitsIn, lent, moment, Gives, Examines, LooksAt}
+use Rattle.fl_core.specs.BoardAccounts.{handled_in, due_in_turn, TurnAdds}
 
 -- an end that is bound stays as it is when it is bound
 bound_stays : (s : TheEnd) (circuit : ℕ) → IsSome s.circuit → bound s circuit ≡ s
@@ -41,10 +41,10 @@ record MoreLooks {T : Type 0} (takes : T → Look → T → Type 0) (m q : T) : 
   side : Looks takes m looks q
   none : (xs : List Look) → takes_of (xs ++ looks) ≡ takes_of xs
 
-abbrev happened : List Accepted → List Frag → List Frag → List TheCall → List TheCall → Stretch
+abbrev happened : List Accepted → List Frag → List Frag → List TheCall → List TheCall → EndHistory
 happened accepted put took handled due = record { accepted = accepted; put = put; took = took; handled = handled; due = due }
 
-more_looks : {T : Type 0} (takes : T → Look → T → Type 0) (kind : Kind) (m q : T) (to : Place) → WaitsIn takes kind m to q → MoreLooks takes m q
+more_looks : {T : Type 0} (takes : T → Look → T → Type 0) (kind : ChannelKind) (m q : T) (to : Place) → WaitsIn takes kind m to q → MoreLooks takes m q
 more_looks takes Ring m q place.Polled h = record { looks = []; side = sym h; none = and_more [] refl }
 more_looks takes Ring m q place.Pending h = absurd h
 more_looks takes Ring m q place.Idle h = absurd h
@@ -57,7 +57,7 @@ module _ {T : Type 0} (takes : T → Look → T → Type 0) (binds : BindAccount
   nothing : AddsNothing s s × Replies s [] [] s
   nothing = let zero_fits : 0 < 2 ^ 16 = omega arith in subst (λ (x : TheEnd). AddsNothing s x × Replies s [] [] x) (bound_stays s 0 ready.0) (binds s 0 zero_fits sound)
 
-  gave : (kind : Kind) (c : ℕ) (w v : ThreeLists) (answer : Result TurnAnswer AllocError) → Gives takes kind c (moment w s p) answer (moment v t q) → TurnAdds takes s p answer t q
+  gave : (kind : ChannelKind) (c : ℕ) (w v : ThreeLists) (answer : Result TurnAnswer AllocError) → Gives takes kind c (moment w s p) answer (moment v t q) → TurnAdds takes s p answer t q
   gave kind c w v (Ok (Handle call)) (m, r, (to, waits, e)) =
       let a = receives s t p m (Ok (receive.Handle call)) sound r in let b = more_looks takes kind m q to waits in
       record {
@@ -129,6 +129,6 @@ module _ {T : Type 0} (takes : T → Look → T → Type 0) (binds : BindAccount
   examined c w v (Ok (Refused fault)) e h = absurd h
   examined c w v (Err error) e h = absurd h
 
-  pub turn_adds : (picked : Pick) (kind : Kind) (w v : ThreeLists) (answer : Result TurnAnswer AllocError) → LooksAt takes picked kind (moment w s p) answer (moment v t q) → TurnAdds takes s p answer t q
+  pub turn_adds : (picked : Pick) (kind : ChannelKind) (w v : ThreeLists) (answer : Result TurnAnswer AllocError) → LooksAt takes picked kind (moment w s p) answer (moment v t q) → TurnAdds takes s p answer t q
   turn_adds (pick.Pending c) kind w v answer h = gave kind c.0 w v answer h
   turn_adds (pick.Polled c) kind w v answer h = examined c.0 w v answer h.1 h.0

@@ -1,7 +1,7 @@
 -- What happens to an end by itself happens to it whatever it has taken.
 use Rattle.std.proofs.Common.{◌≡◌, refl, ap, ◌∙◌, ℕ, List, Option, Some, None, Result, Ok, Err}
 use Rattle.fl_base.specs.declared.fragment.Frag.{Frag}
-use Rattle.fl_value.specs.Value.{TheCall}
+use Rattle.fl_value_data.specs.Value.{TheCall}
 use Rattle.fl_link.specs.Looks.{Look}
 use Rattle.fl_endpoint.specs.declared.fault.EndFault.{EndFault}
 use Rattle.fl_endpoint.specs.declared.fault.EndFault.TheVariants.{Spent, Busy, UnknownMessage, Misfit, NotBound, Failed, Wire, Memory}

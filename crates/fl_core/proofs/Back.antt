@@ -2,13 +2,13 @@
 use Rattle.std.proofs.Common.{◌≡◌, refl, sym, ap, ◌∙◌, ℕ, ◌<◌, ◌-◌, List, [], ◌∷◌, ◌++◌, length, take, slice_get, slice_set, slice_index_or, Some, length-append, arith}
 use Rattle.std.proofs.lemmas.Option.{slice_get_read, slice_get_within}
 use Rattle.fl_endpoint.specs.View.{TheEnd}
-use Rattle.fl_core.specs.declared.kind.Kind.{Kind}
-use Rattle.fl_core.specs.View.{TheDispatcher, TheSeat, TheBoard, with_new_end}
+use Rattle.fl_core.specs.declared.kind.ChannelKind.{ChannelKind}
+use Rattle.fl_core.specs.BoardView.{TheDispatcher, TheEndAtChannel, TheBoard, with_new_end}
 use Rattle.fl_core.proofs.Places.{one_stands, set_here, set_same, set_twice, last_parts, without_last}
 
-module _ (k : TheBoard) (n : ℕ) (d : TheDispatcher) (s : TheEnd) (kind : Kind) (dispatcher_is : slice_get k.dispatchers n ≡ Some d) (base : TheBoard) (grown : base ≡ with_new_end k n d s kind)
-    (seats : List TheSeat) (last : TheSeat) (seats_are : base.seats ≡ seats ++ last ∷ []) where
-  new_seat : TheSeat
+module _ (k : TheBoard) (n : ℕ) (d : TheDispatcher) (s : TheEnd) (kind : ChannelKind) (dispatcher_is : slice_get k.dispatchers n ≡ Some d) (base : TheBoard) (grown : base ≡ with_new_end k n d s kind)
+    (seats : List TheEndAtChannel) (last : TheEndAtChannel) (seats_are : base.seats ≡ seats ++ last ∷ []) where
+  new_seat : TheEndAtChannel
   new_seat = record { end = s; dispatcher = n; channel = length d.ends; kind = kind }
 
   after : TheDispatcher
@@ -20,7 +20,7 @@ module _ (k : TheBoard) (n : ℕ) (d : TheDispatcher) (s : TheEnd) (kind : Kind)
 
   at_n : last.dispatcher ≡ n
   unfolding new_seat
-  at_n = ap (λ (x : TheSeat). x.dispatcher) parts.1
+  at_n = ap (λ (x : TheEndAtChannel). x.dispatcher) parts.1
 
   there : slice_get base.dispatchers last.dispatcher ≡ Some after
   unfolding after
@@ -59,8 +59,8 @@ module _ (k : TheBoard) (n : ℕ) (d : TheDispatcher) (s : TheEnd) (kind : Kind)
     pub back : (let x : TheBoard = record { dispatchers = slice_set base.dispatchers last.dispatcher (record { lists = d2.lists; ends = ends }); seats = seats } in x) ≡ k
     back =
         ap (λ (x : List TheDispatcher). let y : TheBoard = record { dispatchers = x; seats = seats } in y) dispatchers_before
-        ∙ ap (λ (x : List TheSeat). let y : TheBoard = record { dispatchers = k.dispatchers; seats = x } in y) parts.0
+        ∙ ap (λ (x : List TheEndAtChannel). let y : TheBoard = record { dispatchers = k.dispatchers; seats = x } in y) parts.0
 
     -- the same, for other seats that are these
-    pub back_as : (others : List TheSeat) → others ≡ seats → (let x : TheBoard = record { dispatchers = slice_set base.dispatchers last.dispatcher (record { lists = d2.lists; ends = ends }); seats = others } in x) ≡ k
-    back_as others e = ap (λ (x : List TheSeat). let y : TheBoard = record { dispatchers = slice_set base.dispatchers last.dispatcher (record { lists = d2.lists; ends = ends }); seats = x } in y) e ∙ back
+    pub back_as : (others : List TheEndAtChannel) → others ≡ seats → (let x : TheBoard = record { dispatchers = slice_set base.dispatchers last.dispatcher (record { lists = d2.lists; ends = ends }); seats = others } in x) ≡ k
+    back_as others e = ap (λ (x : List TheEndAtChannel). let y : TheBoard = record { dispatchers = slice_set base.dispatchers last.dispatcher (record { lists = d2.lists; ends = ends }); seats = x } in y) e ∙ back

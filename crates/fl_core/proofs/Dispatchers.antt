@@ -4,8 +4,8 @@ use Rattle.std.proofs.lemmas.Option.{slice_get_read, slice_get_within}
 use Rattle.fl_waitset.specs.declared.fault.WaitFault.{WaitFault}
 use Rattle.fl_waitset.specs.declared.waitset.Pick.{Pick}
 use Rattle.fl_waitset.specs.Waiting.{next_pick}
-use Rattle.fl_core.specs.View.{TheDispatcher, TheBoard, channel_of, end_picked, due_in, due}
-use Rattle.fl_core.specs.Sound.{MayTurn, IsBoard}
+use Rattle.fl_core.specs.BoardView.{TheDispatcher, TheBoard, channel_of, end_picked, due_in, due}
+use Rattle.fl_core.specs.BoardSound.{MayTurn, IsBoard}
 use Rattle.fl_core.proofs.Picks.{list_of, pick_listed}
 
 module _ (k base : TheBoard) (same : base ≡ k) (n : ℕ) (below : n < length k.dispatchers) (d read : TheDispatcher) (value : read ≡ slice_index_or base.dispatchers n read) (view : d ≡ read) where

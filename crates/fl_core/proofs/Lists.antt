@@ -8,18 +8,18 @@ use Rattle.fl_lists.proofs.Tables.{pushed_size}
 use Rattle.fl_waitset.specs.Waiting.{triggered}
 use Rattle.fl_link.specs.Looks.{Look}
 use Rattle.fl_endpoint.specs.Events.{IsReady}
-use Rattle.fl_core.specs.View.{TheDispatcher, TheSeat, TheBoard, with_lists}
-use Rattle.fl_core.specs.Sound.{IsSeated, MayWaitIn, MayTurn, IsDispatcher, IsBoard}
-use Rattle.fl_core.specs.declared.fault.BoardFault.{BoardFault}
-use Rattle.fl_core.specs.declared.fault.BoardFault.TheVariants.{NotBound, Registered, NotRegistered, TooManyEnds, Failed, Memory}
-use Rattle.fl_core.specs.Turns.{lent}
-use Rattle.fl_core.specs.Events.{ChangesLists, Joins, Registers}
+use Rattle.fl_core.specs.BoardView.{TheDispatcher, TheEndAtChannel, TheBoard, with_lists}
+use Rattle.fl_core.specs.BoardSound.{IsSeated, MayWaitIn, MayTurn, IsDispatcher, IsBoard}
+use Rattle.fl_core.specs.declared.board_fault.BoardFault.{BoardFault}
+use Rattle.fl_core.specs.declared.board_fault.BoardFault.TheVariants.{NotBound, Registered, NotRegistered, TooManyEnds, Failed, Memory}
+use Rattle.fl_core.specs.BoardTurns.{lent}
+use Rattle.fl_core.specs.BoardEvents.{ChangesLists, Joins, Registers}
 use Rattle.fl_core.proofs.Places.{one_stands, set_same}
 use Rattle.fl_core.proofs.Registered.{Listed, pushed_each, unlinked_each, triggered_each, triggered_size}
 use Rattle.fl_core.proofs.Turning.{pending_fits, waits_fits}
-use Rattle.fl_core.proofs.Kept.{lists_kept}
+use Rattle.fl_core.proofs.BoardKept.{lists_kept}
 
-module _ (k base : TheBoard) (same : base ≡ k) (e : ℕ) (s : TheSeat) (here : slice_get base.seats e ≡ Some s) (sound : IsBoard base) where
+module _ (k base : TheBoard) (same : base ≡ k) (e : ℕ) (s : TheEndAtChannel) (here : slice_get base.seats e ≡ Some s) (sound : IsBoard base) where
   seated : IsSeated base.dispatchers e s
   seated = sound.seats e s here
 
@@ -27,7 +27,7 @@ module _ (k base : TheBoard) (same : base ≡ k) (e : ℕ) (s : TheSeat) (here :
   dispatcher_below = slice_get_within base.dispatchers s.dispatcher seated.dispatcher seated.dispatcher_is
 
   -- an event that changes nothing
-  pub unchanged : (Event : TheSeat → ThreeLists → ThreeLists → Type 0) → ((w : ThreeLists) → Event s w w) → ChangesLists k e Event k
+  pub unchanged : (Event : TheEndAtChannel → ThreeLists → ThreeLists → Type 0) → ((w : ThreeLists) → Event s w w) → ChangesLists k e Event k
   unchanged Event event =
       let at : slice_get k.dispatchers s.dispatcher ≡ Some seated.dispatcher = subst (λ (x : TheBoard). slice_get x.dispatchers s.dispatcher ≡ Some seated.dispatcher) same seated.dispatcher_is in
       record {
@@ -55,7 +55,7 @@ module _ (k base : TheBoard) (same : base ≡ k) (e : ℕ) (s : TheSeat) (here :
     pub channel_below : s.channel < d.lists.size
     channel_below = let within = slice_get_within d.ends s.channel e leads_back in omega (arith, within, known.few, known.size)
 
-    pub lists_event : (Event : TheSeat → ThreeLists → ThreeLists → Type 0) (w : ThreeLists) → Event s d.lists w → ChangesLists k e Event (with_lists base s.dispatcher d w)
+    pub lists_event : (Event : TheEndAtChannel → ThreeLists → ThreeLists → Type 0) (w : ThreeLists) → Event s d.lists w → ChangesLists k e Event (with_lists base s.dispatcher d w)
     lists_event Event w event = record {
       seat = s;
       seat_is = subst (λ (x : TheBoard). slice_get x.seats e ≡ Some s) same here;
@@ -103,7 +103,7 @@ module _ (k base : TheBoard) (same : base ≡ k) (e : ℕ) (s : TheSeat) (here :
     kept_joined takes p q v (Err Memory) ready h apart = absurd h
 
 -- an end that is ready registers as its channel joins
-pub joins_registers : {T : Type 0} (takes : T → Look → T → Type 0) (s : TheSeat) (w v : ThreeLists) (p q : T) (r : Result (Unit {0}) BoardFault) → IsReady s.end → Joins takes s.kind s.channel (lent w p) r (lent v q) → Registers takes s (lent w p) r (lent v q)
+pub joins_registers : {T : Type 0} (takes : T → Look → T → Type 0) (s : TheEndAtChannel) (w v : ThreeLists) (p q : T) (r : Result (Unit {0}) BoardFault) → IsReady s.end → Joins takes s.kind s.channel (lent w p) r (lent v q) → Registers takes s (lent w p) r (lent v q)
 joins_registers takes s w v p q (Ok done) ready h = (ready, h)
 joins_registers takes s w v p q (Err Registered) ready h = (ready, h)
 joins_registers takes s w v p q (Err NotBound) ready h = absurd h

@@ -1,122 +1,72 @@
--- A turn of the end whose channel is pending, by what the end answered.
-use Rattle.std.proofs.Common.{◌≡◌, refl, sym, ◌∙◌, subst, ℕ, true, List, Option, None, IsSome, Result, Ok, Err, slice_get}
-use Rattle.std.proofs.lemmas.Bool.{false≢true}
-use Rattle.std.specs.declared.alloc.AllocError.{AllocError}
-use Rattle.fl_base.specs.declared.identity.ChanId.{ChanId}
-use Rattle.fl_lists.specs.ThreeLists.{ThreeLists}
-use Rattle.fl_waitset.specs.declared.waitset.Pick.{Pick}
-use Rattle.fl_waitset.specs.declared.waitset.Pick.TheVariants as pick
+-- A look at what stands first on a link: k is the core before, and base the same by its fields.
+use Rattle.std.proofs.Common.{◌≡◌, refl, sym, ap, ◌∙◌, subst, Bool, true, false, ℕ, ◌<◌, List, length, slice_get, slice_index_or, Option, Some, None, Result, Ok, Err, arith}
+use Rattle.std.proofs.lemmas.Option.{slice_get_read}
+use Rattle.fl_base.specs.declared.fragment.Frag.{Frag}
+use Rattle.fl_base.specs.declared.identity.LinkId.{LinkId}
+use Rattle.fl_base.specs.declared.identity.Circuit.{Circuit}
+use Rattle.fl_base.specs.Given.{given}
 use Rattle.fl_link.specs.Looks.{Look}
-use Rattle.fl_machine.specs.Reassembling.{TheReassembly}
-use Rattle.fl_endpoint.specs.declared.fault.EndFault.{EndFault}
-use Rattle.fl_endpoint.specs.declared.fault.EndFault.TheVariants.{Spent, Busy, UnknownMessage, Misfit, NotBound, Failed, Wire, Memory}
-use Rattle.fl_endpoint.specs.declared.answer.ReceiveAnswer.{ReceiveAnswer}
-use Rattle.fl_endpoint.specs.declared.answer.ReceiveAnswer.TheVariants as receive
-use Rattle.fl_endpoint.specs.View.{TheEnd, with_parts}
-use Rattle.fl_endpoint.specs.Events.{IsReady, Receives}
-use Rattle.fl_endpoint.specs.Lent.{IsPlaceOf, receipt, ReceivesAt}
-use Rattle.fl_core.specs.declared.kind.Kind.{Kind}
-use Rattle.fl_core.specs.declared.answer.TurnAnswer.{TurnAnswer}
-use Rattle.fl_core.specs.declared.answer.TurnAnswer.TheVariants.{Handle, Part, Quiet, Full, Nothing}
-use Rattle.fl_core.specs.Turns.{lent, moment, Gives, Examines, LooksAt}
-use Rattle.fl_core.specs.Inside.{Settles, MayCome, Refuses, end_turn, LooksAtPlace}
-use Rattle.fl_core.proofs.Places.{set_same}
-use Rattle.fl_core.proofs.Together.{standing}
+use Rattle.fl_hop.specs.Table.{TheCircuits}
+use Rattle.fl_hop.specs.declared.entry.HopTarget.TheVariants.{Link}
+use Rattle.fl_hop.specs.declared.forward.HopFront.{HopFront}
+use Rattle.fl_hop.specs.declared.forward.HopFront.TheVariants as first
+use Rattle.fl_hop.specs.declared.fault.HopFault.{HopFault}
+use Rattle.fl_hop.specs.declared.fault.HopFault.TheVariants as hop
+use Rattle.fl_hop.specs.Forward.{Finds}
+use Rattle.fl_core.specs.declared.wiring.LinkSide.{LinkSide}
+use Rattle.fl_core.specs.declared.fault.LinkReceiveFault.{LinkReceiveFault}
+use Rattle.fl_core.specs.View.{TheCore, with_failed}
+use Rattle.fl_core.specs.Ends.{at_side}
+use Rattle.fl_core.specs.Links.{IsLinkSide, Seen, GoesOver, LooksAhead, link_of, going}
+use Rattle.fl_core.specs.Inside.{FailsFor}
 
--- what a turn answers for what the end answered
-abbrev pub answer_of : ReceiveAnswer → TurnAnswer
-answer_of (receive.Handle call) = Handle call
-answer_of receive.Part = Part
-answer_of receive.Quiet = Quiet
-answer_of receive.Empty = Nothing
-answer_of receive.HeldBack = Full
+-- the link side at a place that was read
+link_side_at : (k base : TheCore) → base ≡ k → (i l : ℕ) → i ≡ l → l < length k.link_sides → (link_side : LinkSide) → link_side ≡ slice_index_or base.link_sides i link_side → slice_get k.link_sides l ≡ Some link_side
+link_side_at k base same i l place within link_side read =
+    slice_get_read k.link_sides (length k.link_sides) l link_side refl within
+    (read ∙ ap (λ (n : ℕ). slice_index_or base.link_sides n link_side) place ∙ ap (λ (x : TheCore). slice_index_or x.link_sides l link_side) same)
 
--- no end that is ready is unbound or has failed
-not_unbound : {A : Type 0} (s : TheEnd) → IsReady s → s.circuit ≡ None → A
-not_unbound s ready e = let none : Option ℕ = None in let p : IsSome none = subst IsSome e ready.0 in absurd (cc)
+pub is_link_side : (k base : TheCore) → base ≡ k → (i l : ℕ) → i ≡ l → l < length k.link_sides → (link_side : LinkSide) → link_side ≡ slice_index_or base.link_sides i link_side → (failed : Bool) → link_side.failed ≡ failed → IsLinkSide k l failed
+is_link_side k base same i l place within link_side read failed is = record { link_side = link_side; link_side_is = link_side_at k base same i l place within link_side read; failed_is = is }
 
-not_failed : {A : Type 0} (s : TheEnd) → IsReady s → s.failed ≡ true → A
-not_failed s ready e = absurd (false≢true (sym ready.1 ∙ e))
+module _ {T : Type 0} (takes : T → Look → T → Type 0) (front : T → Look) (k base : TheCore) (same : base ≡ k) (l : ℕ) (link_side : IsLinkSide k l false) (table : TheCircuits)
+    (table_is : table ≡ base.monitor.circuits) (p q : T) where
+  pub seen : (found : Result HopFront HopFault) → Finds takes front (record { table = table; link = l }) found (record { before = p; after = q }) → Seen takes front (link_of k l) found p q
+  seen found h = record {
+    link_side = link_side;
+    finds = subst (λ (t : TheCircuits). Finds takes front (record { table = t; link = l }) found (record { before = p; after = q })) (table_is ∙ ap (λ (x : TheCore). x.monitor.circuits) same) h;
+  }
 
-module _ {T : Type 0} (takes : T → Look → T → Type 0) (kind : Kind) (c : ℕ) (w v : ThreeLists) (s t : TheEnd) (p m q : T) where
-  gives : (answer : ReceiveAnswer) → Receives takes s p (Ok answer) t m → Settles takes kind c (lent w m) answer (lent v q) → Gives takes kind c (moment w s p) (Ok (answer_of answer)) (moment v t q)
-  gives (receive.Handle call) r h = (m, r, h)
-  gives receive.Part r h = (m, r, h)
-  gives receive.Quiet r h = (m, r, h)
-  gives receive.Empty r h = (m, r, h)
-  gives receive.HeldBack r h = (subst (λ (x : T). Receives takes s p (Ok receive.HeldBack) t x) (sym h.1) r, h.0)
+  -- the answer is one that was found, by the parts of its pattern
+  found_so : (answer : Result HopFront HopFault) (field first : HopFront) → answer ≡ Ok field → field ≡ first → Finds takes front (record { table = table; link = l }) answer (record { before = p; after = q })
+      → Finds takes front (record { table = table; link = l }) (Ok first) (record { before = p; after = q })
+  found_so answer field first is same h =
+      subst (λ (r : Result HopFront HopFault). Finds takes front (record { table = table; link = l }) r (record { before = p; after = q })) (is ∙ ap (λ (x : HopFront). let r : Result HopFront HopFault = Ok x in r) same) h
 
-  gives_none : IsReady s → (fault : EndFault) (answer : Result TurnAnswer AllocError) → Receives takes s p (Err fault) t q → Refuses c w fault answer v → Gives takes kind c (moment w s p) answer (moment v t q)
-  gives_none ready (Wire fault) answer r h = subst (λ (a : Result TurnAnswer AllocError). Gives takes kind c (moment w s p) a (moment v t q)) (sym h.0) (r, h.1)
-  gives_none ready Memory answer r h = subst (λ (a : Result TurnAnswer AllocError). Gives takes kind c (moment w s p) a (moment v t q)) (sym h.0) (r, h.1)
-  gives_none ready NotBound answer r h = not_unbound s ready r.0
-  gives_none ready Failed answer r h = not_failed s ready r.0.1
-  gives_none ready Spent answer r h = absurd r
-  gives_none ready Busy answer r h = absurd r
-  gives_none ready UnknownMessage answer r h = absurd r
-  gives_none ready Misfit answer r h = absurd r
+  pub seen_first : (answer : Result HopFront HopFault) (field first : HopFront) → answer ≡ Ok field → field ≡ first → Finds takes front (record { table = table; link = l }) answer (record { before = p; after = q })
+      → Seen takes front (link_of k l) (Ok first) p q
+  seen_first answer field first is same h = seen (Ok first) (found_so answer field first is same h)
 
-  comes : IsReady s → (fault : EndFault) → Receives takes s p (Err fault) t q → MayCome fault
-  comes ready (Wire fault) r = tt
-  comes ready Memory r = tt
-  comes ready NotBound r = not_unbound s ready r.0
-  comes ready Failed r = not_failed s ready r.0.1
-  comes ready Spent r = absurd r
-  comes ready Busy r = absurd r
-  comes ready UnknownMessage r = absurd r
-  comes ready Misfit r = absurd r
+  pub goes_over : (answer : Result HopFront HopFault) (field : HopFront) (frag : Frag) (next : LinkId) (circuit : Circuit) → answer ≡ Ok field → field ≡ first.Goes frag (Link next circuit)
+      → Finds takes front (record { table = table; link = l }) answer (record { before = p; after = q }) → length base.link_sides ≡ length base.monitor.circuits.links
+      → (i : ℕ) (on : LinkSide) → i ≡ next.0 → on ≡ slice_index_or base.link_sides i on → GoesOver takes front (link_of k l) (going frag on.side circuit) p q
+  goes_over answer field frag next circuit is same_field h long i on place read =
+      let found = found_so answer field (first.Goes frag (Link next circuit)) is same_field h in
+      let below = found.5.0 in
+      let links = ap (λ (t : TheCircuits). length t.links) table_is in
+      let link_sides = ap (λ (x : TheCore). length x.link_sides) same in
+      let within : next.0 < length k.link_sides = omega (arith, below, links, long, link_sides) in
+      record {
+        link = next;
+        seen = seen (Ok (first.Goes frag (Link next circuit))) found;
+        side_is = ap (λ (x : Option LinkSide). given x None λ (link_side : LinkSide). Some link_side.side) (link_side_at k base same i next.0 place within on read);
+      }
 
-module _ {T : Type 0} (takes : T → Look → T → Type 0) (kind : Kind) (w v : ThreeLists) (s t : TheEnd) (p m q : T) (calls : List TheReassembly) (place : ℕ) (after : List TheReassembly) (ready : IsReady s) where
-  module _ (c : ChanId) (picked : Pick) (picked_is : picked ≡ pick.Pending c) where
-    -- what is so of each turn of this channel is so of what was picked
-    as_picked : (answer : Result TurnAnswer AllocError) (r u : TheEnd) → Gives takes kind c.0 (moment w r p) answer (moment v u q) → LooksAt takes picked kind (moment w r p) answer (moment v u q)
-    as_picked answer r u h = subst (λ (x : Pick). LooksAt takes x kind (moment w r p) answer (moment v u q)) (sym picked_is) h
-
-    pub looks_pending : (answer : ReceiveAnswer) → ReceivesAt takes (receipt s p (Ok answer) t m) calls place after → Settles takes kind c.0 (lent w m) answer (lent v q)
-        → LooksAtPlace takes (end_turn picked kind (moment w s p) (Ok (answer_of answer)) (moment v t q)) calls place after
-    looks_pending answer h settles = record {
-      was = h.was;
-      was_there = h.was_there;
-      is = h.is;
-      event = (
-        h.event.program,
-        as_picked (Ok (answer_of answer)) (with_parts s h.was.parts) (with_parts t h.is.parts)
-            (gives takes kind c.0 w v (with_parts s h.was.parts) (with_parts t h.is.parts) p m q answer h.event.receives settles),
-      );
-      after_is = h.after_is;
-    }
-
-    -- the same, where the answer is known
-    pub looks_as : (x answer : ReceiveAnswer) → x ≡ answer → ReceivesAt takes (receipt s p (Ok x) t m) calls place after → Settles takes kind c.0 (lent w m) x (lent v q)
-        → LooksAtPlace takes (end_turn picked kind (moment w s p) (Ok (answer_of answer)) (moment v t q)) calls place after
-    looks_as x answer e h settles = subst (λ (a : ReceiveAnswer). LooksAtPlace takes (end_turn picked kind (moment w s p) (Ok (answer_of a)) (moment v t q)) calls place after) e (looks_pending x h settles)
-
-    pub looks_refused : (fault : EndFault) (answer : Result TurnAnswer AllocError) → ReceivesAt takes (receipt s p (Err fault) t q) calls place after → Refuses c.0 w fault answer v
-        → LooksAtPlace takes (end_turn picked kind (moment w s p) answer (moment v t q)) calls place after
-    looks_refused fault answer h refuses = record {
-      was = h.was;
-      was_there = h.was_there;
-      is = h.is;
-      event = (
-        h.event.program,
-        as_picked answer (with_parts s h.was.parts) (with_parts t h.is.parts)
-            (gives_none takes kind c.0 w v (with_parts s h.was.parts) (with_parts t h.is.parts) p q q ready fault answer h.event.receives refuses),
-      );
-      after_is = h.after_is;
-    }
-
-  pub may_come : (fault : EndFault) → ReceivesAt takes (receipt s p (Err fault) t q) calls place after → MayCome fault
-  may_come fault h = comes takes kind 0 w v (with_parts s h.was.parts) (with_parts t h.is.parts) p q q ready fault h.event.receives
-
--- a channel that is polled: the end takes nothing
-pub looks_polled : {T : Type 0} (takes : T → Look → T → Type 0) (kind : Kind) (c : ChanId) (picked : Pick) (w v : ThreeLists) (s : TheEnd) (p q : T) (answer : Result TurnAnswer AllocError) (calls : List TheReassembly) (place : ℕ)
-    → picked ≡ pick.Polled c → IsPlaceOf s calls place → Examines takes c.0 (lent w p) answer (lent v q) → LooksAtPlace takes (end_turn picked kind (moment w s p) answer (moment v s q)) calls place calls
-looks_polled takes kind c picked w v s p q answer calls place picked_is known h =
-    let (r, there) = standing s (slice_get calls place) known in
-    record {
-      was = r;
-      was_there = there;
-      is = r;
-      event = (refl, subst (λ (x : Pick). LooksAt takes x kind (moment w (with_parts s r.parts) p) answer (moment v (with_parts s r.parts) q)) (sym picked_is) (h, refl));
-      after_is = sym (set_same calls place r there);
-    }
+  pub failed_so : (f : HopFault) (g : LinkReceiveFault) (k2 : TheCore) → Finds takes front (record { table = table; link = l }) (Err f) (record { before = p; after = q }) → FailsFor f g → k2 ≡ with_failed k l
+      → LooksAhead takes front l (at_side k p) (Err g) (at_side k2 q)
+  failed_so hop.Marked g k2 h is after = subst (λ (x : LinkReceiveFault). LooksAhead takes front l (at_side k p) (Err x) (at_side k2 q)) (sym is) (seen (Err hop.Marked) h, after)
+  failed_so hop.Misrouted g k2 h is after = subst (λ (x : LinkReceiveFault). LooksAhead takes front l (at_side k p) (Err x) (at_side k2 q)) (sym is) (seen (Err hop.Misrouted) h, after)
+  failed_so hop.NoLink g k2 h is after = absurd h
+  failed_so hop.UsedUp g k2 h is after = absurd h
+  failed_so hop.Limit g k2 h is after = absurd h
+  failed_so hop.Memory g k2 h is after = absurd h

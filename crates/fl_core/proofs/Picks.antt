@@ -13,7 +13,7 @@ use Rattle.fl_waitset.specs.declared.fault.WaitFault.TheVariants.{Registered, No
 use Rattle.fl_waitset.specs.declared.waitset.Pick.{Pick}
 use Rattle.fl_waitset.specs.declared.waitset.Pick.TheVariants.{Pending, Polled}
 use Rattle.fl_waitset.specs.Waiting.{is_registered, register_answer, registered_answer, trigger_answer, first_of, next_pick}
-use Rattle.fl_core.specs.View.{channel_of}
+use Rattle.fl_core.specs.BoardView.{channel_of}
 use Rattle.fl_core.proofs.Registered.{registered_in, moved_on}
 
 pending_front : (xs ys : List ℕ) (c : ChanId) → first_of xs ys ≡ Ok (Pending c) → slice_get xs 0 ≡ Some c.0

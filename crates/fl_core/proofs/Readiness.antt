@@ -1,6 +1,6 @@
 -- An end that is ready stays so, but where it is given a fragment that can't follow.
 use Rattle.std.proofs.Common.{◌≡◌, refl, sym, subst, ℕ, true, false, Option, Some, None, IsSome, Result, Ok, Err}
-use Rattle.fl_value.specs.Value.{TheCall}
+use Rattle.fl_value_data.specs.Value.{TheCall}
 use Rattle.fl_link.specs.Looks.{Look}
 use Rattle.fl_endpoint.specs.declared.fault.EndFault.{EndFault}
 use Rattle.fl_endpoint.specs.declared.fault.EndFault.TheVariants.{Spent, Busy, UnknownMessage, Misfit, NotBound, Failed, Wire, Memory}

@@ -14,21 +14,21 @@ use Rattle.fl_endpoint.specs.declared.answer.ReceiveAnswer.{ReceiveAnswer}
 use Rattle.fl_endpoint.specs.declared.answer.ReceiveAnswer.TheVariants as receive
 use Rattle.fl_endpoint.specs.View.{TheEnd}
 use Rattle.fl_endpoint.specs.Events.{IsReady}
-use Rattle.fl_core.specs.declared.kind.Kind.{Kind}
-use Rattle.fl_core.specs.declared.kind.Kind.TheVariants.{Queue, Ring}
-use Rattle.fl_core.specs.declared.answer.TurnAnswer.{TurnAnswer}
-use Rattle.fl_core.specs.declared.answer.TurnAnswer.TheVariants.{Handle, Part, Ready, Quiet, Full, Nothing, Refused}
-use Rattle.fl_core.specs.View.{TheDispatcher, TheSeat, TheBoard, channel_of, with_lists, with_end}
-use Rattle.fl_core.specs.Turns.{WaitsIn, put_off, lent, moment, TakesOne, Gives, Examines, LooksAt}
-use Rattle.fl_core.specs.Sound.{MayWaitIn, MayTurn, IsDispatcher, IsBoard}
+use Rattle.fl_core.specs.declared.kind.ChannelKind.{ChannelKind}
+use Rattle.fl_core.specs.declared.kind.ChannelKind.TheVariants.{Queue, Ring}
+use Rattle.fl_core.specs.declared.turn_answer.TurnAnswer.{TurnAnswer}
+use Rattle.fl_core.specs.declared.turn_answer.TurnAnswer.TheVariants.{Handle, Part, Ready, Quiet, Full, Nothing, Refused}
+use Rattle.fl_core.specs.BoardView.{TheDispatcher, TheEndAtChannel, TheBoard, channel_of, with_lists, with_end}
+use Rattle.fl_core.specs.BoardTurns.{WaitsIn, put_off, lent, moment, TakesOne, Gives, Examines, LooksAt}
+use Rattle.fl_core.specs.BoardSound.{MayWaitIn, MayTurn, IsDispatcher, IsBoard}
 use Rattle.fl_core.proofs.Readiness.{receives_ready, memory_ready}
 use Rattle.fl_core.proofs.Registered.{Listed, pushed_each, unlinked_each, left_all}
 use Rattle.fl_core.proofs.Picks.{list_of, first_pending, first_polled, pick_listed}
 use Rattle.fl_core.proofs.Places.{one_stands, set_here}
-use Rattle.fl_core.proofs.Kept.{end_kept, lists_kept}
+use Rattle.fl_core.proofs.BoardKept.{end_kept, lists_kept}
 
 -- a channel waits in a list of its kind
-pub waits_fits : {T : Type 0} (takes : T → Look → T → Type 0) (kind : Kind) (p q : T) (to : Place) → WaitsIn takes kind p to q → MayWaitIn kind to
+pub waits_fits : {T : Type 0} (takes : T → Look → T → Type 0) (kind : ChannelKind) (p q : T) (to : Place) → WaitsIn takes kind p to q → MayWaitIn kind to
 waits_fits takes Ring p q place.Polled h = tt
 waits_fits takes Ring p q place.Pending h = absurd h
 waits_fits takes Ring p q place.Idle h = absurd h
@@ -36,12 +36,12 @@ waits_fits takes Queue p q place.Pending h = tt
 waits_fits takes Queue p q place.Idle h = tt
 waits_fits takes Queue p q place.Polled h = absurd h
 
-pub pending_fits : (kind : Kind) → MayWaitIn kind place.Pending
+pub pending_fits : (kind : ChannelKind) → MayWaitIn kind place.Pending
 pending_fits Ring = tt
 pending_fits Queue = tt
 
 -- what a turn makes of the lists w and the end s: the channel stays or moves on, and the end stays ready; or the channel leaves
-data Outcome (kind : Kind) (c : ℕ) (w : ThreeLists) (s : TheEnd) (v : ThreeLists) (t : TheEnd) : Type 0 where
+data Outcome (kind : ChannelKind) (c : ℕ) (w : ThreeLists) (s : TheEnd) (v : ThreeLists) (t : TheEnd) : Type 0 where
   stays : v ≡ w → (IsReady s → IsReady t) → Outcome kind c w s v t
   moves : (to : Place) → MayWaitIn kind to → v ≡ pushed (unlinked w c) c to → (IsReady s → IsReady t) → Outcome kind c w s v t
   leaves : v ≡ unlinked w c → Outcome kind c w s v t
@@ -50,7 +50,7 @@ data Outcome (kind : Kind) (c : ℕ) (w : ThreeLists) (s : TheEnd) (v : ThreeLis
 off_is : (w v : ThreeLists) (from : Place) (c : ℕ) (to : Place) → IsApart w → slice_get (list_at w from) 0 ≡ Some c → v ≡ put_off w from c to → v ≡ pushed (unlinked w c) c to
 off_is w v from c to apart first e = e ∙ ap (λ (x : ThreeLists). pushed x c to) (sym (pop_is w from c apart first))
 
-module _ {T : Type 0} (takes : T → Look → T → Type 0) (kind : Kind) (w v : ThreeLists) (s t : TheEnd) (p q : T) (apart : IsApart w) where
+module _ {T : Type 0} (takes : T → Look → T → Type 0) (kind : ChannelKind) (w v : ThreeLists) (s t : TheEnd) (p q : T) (apart : IsApart w) where
   took_one : (c : ℕ) (answer : ReceiveAnswer) → slice_get (list_at w place.Pending) 0 ≡ Some c → TakesOne takes kind c (moment w s p) answer (moment v t q) → Outcome kind c w s v t
   took_one c answer first (m, received, (to, waits, e)) = moves to (waits_fits takes kind m q to waits) (off_is w v place.Pending c to apart first e) (receives_ready takes s t p m answer received)
 
@@ -83,7 +83,7 @@ module _ {T : Type 0} (takes : T → Look → T → Type 0) (kind : Kind) (w v :
 
 module _ (k : TheBoard) (sound : IsBoard k) (n : ℕ) (d : TheDispatcher) (dispatcher_is : slice_get k.dispatchers n ≡ Some d)
     (picked : Pick) (picked_is : next_pick d.lists ≡ Ok picked) (e : ℕ) (end_is : slice_get d.ends (channel_of picked) ≡ Some e)
-    (s : TheSeat) (seat_is : slice_get k.seats e ≡ Some s) where
+    (s : TheEndAtChannel) (seat_is : slice_get k.seats e ≡ Some s) where
   known : IsDispatcher k.seats n d
   known = sound.dispatchers n d dispatcher_is
 
@@ -98,10 +98,10 @@ module _ (k : TheBoard) (sound : IsBoard k) (n : ℕ) (d : TheDispatcher) (dispa
 
   -- the end that is due is ready, and its list is of its kind
   pub ready_due : IsReady s.end
-  ready_due = subst (λ (x : TheSeat). IsReady x.end) is_s m.ready
+  ready_due = subst (λ (x : TheEndAtChannel). IsReady x.end) is_s m.ready
 
   fits_due : MayWaitIn s.kind (list_of picked)
-  fits_due = subst (λ (x : TheSeat). MayWaitIn x.kind (list_of picked)) is_s m.waits
+  fits_due = subst (λ (x : TheEndAtChannel). MayWaitIn x.kind (list_of picked)) is_s m.waits
 
   -- its channel may wait in any list of its kind
   may_wait : (to : Place) → MayWaitIn s.kind to → MayTurn k.seats d.ends to (channel_of picked)
@@ -129,8 +129,8 @@ module _ (k : TheBoard) (sound : IsBoard k) (n : ℕ) (d : TheDispatcher) (dispa
       | leaves same ↦
           let h = known.ends (channel_of picked) e end_is in
           let is_h : h.seat ≡ s = cc (h.seat_is, seat_is) in
-          let at_n : s.dispatcher ≡ n = ap (λ (y : TheSeat). y.dispatcher) (sym is_h) ∙ h.dispatcher_is in
-          let at_c : s.channel ≡ channel_of picked = ap (λ (y : TheSeat). y.channel) (sym is_h) ∙ h.channel_is in
+          let at_n : s.dispatcher ≡ n = ap (λ (y : TheEndAtChannel). y.dispatcher) (sym is_h) ∙ h.dispatcher_is in
+          let at_c : s.channel ≡ channel_of picked = ap (λ (y : TheEndAtChannel). y.channel) (sym is_h) ∙ h.channel_is in
           let there : slice_get (slice_set k.dispatchers n after) s.dispatcher ≡ Some after = ap (slice_get (slice_set k.dispatchers n after)) at_n ∙ set_here k.dispatchers n d after dispatcher_is in
           let is_x : x ≡ after = one_stands (slice_set k.dispatchers n after) s.dispatcher x after at there in
           let gone : is_in s.channel (list_at x.lists list) ≡ false =

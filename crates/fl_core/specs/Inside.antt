@@ -1,122 +1,95 @@
--- A working file, on which no public promise rests by itself: what a board stores, and the parts of a turn, by what the end
--- answered.
-use Rattle.std.specs.Prelude.{◌≡◌, ◌<◌, ◌≤◌, ℕ, List, [], ◌∷◌, Result, Ok, Err}
-use Rattle.std.specs.Allocator.{alloc_error}
-use Rattle.std.specs.declared.alloc.AllocError.{AllocError}
-use Rattle.fl_lists.specs.declared.place.Place.TheVariants as place
-use Rattle.fl_lists.specs.ThreeLists.{ThreeLists, unlinked}
-use Rattle.fl_link.specs.Looks.{Look, no_room, told, kept}
-use Rattle.fl_endpoint.specs.declared.fault.EndFault.{EndFault}
-use Rattle.fl_endpoint.specs.declared.fault.EndFault.TheVariants.{Spent, Busy, UnknownMessage, Misfit, NotBound, Failed, Wire, Memory}
-use Rattle.fl_endpoint.specs.declared.answer.ReceiveAnswer.{ReceiveAnswer}
-use Rattle.fl_endpoint.specs.declared.answer.ReceiveAnswer.TheVariants as receive
-use Rattle.fl_core.specs.declared.kind.Kind.{Kind}
-use Rattle.fl_core.specs.declared.answer.TurnAnswer.{TurnAnswer}
-use Rattle.fl_core.specs.declared.answer.TurnAnswer.TheVariants.{Refused}
-use Rattle.fl_core.specs.declared.answer.AckAnswer.{AckAnswer}
-use Rattle.fl_core.specs.declared.answer.AckAnswer.TheVariants as ack
-use Rattle.fl_core.specs.declared.fault.BoardFault.{BoardFault}
-use Rattle.fl_core.specs.declared.fault.BoardFault.TheVariants as board
-use Rattle.fl_waitset.specs.declared.waitset.Pick.{Pick}
-use Rattle.fl_base.specs.declared.fragment.Frag.{Frag}
-use Rattle.fl_machine.specs.Reassembling.{TheReassembly, ChangesPlace}
-use Rattle.fl_compile.specs.Programs.{program_of}
-use Rattle.fl_endpoint.specs.View.{TheEnd, with_parts}
-use Rattle.fl_endpoint.specs.Accounts.{Sound}
-use Rattle.fl_core.specs.View.{TheDispatcher, TheSeat, TheBoard}
-use Rattle.fl_core.specs.Sound.{IsBoard}
-use Rattle.fl_core.specs.Turns.{GoesOn, put_off, Lent, Moment, moment, LooksAt}
+-- A working file, on which no public promise rests by itself.
+use Rattle.std.specs.Prelude.{◌≡◌, ℕ, List, Option, Some, None, Result, Ok, Err}
+use Rattle.fl_base.specs.declared.identity.LinkId.{LinkId}
+use Rattle.fl_base.specs.declared.identity.Circuit.{Circuit}
+use Rattle.fl_compile.specs.declared.program.Program.{Program}
+use Rattle.fl_compile.specs.Programs.{TheProgram, program_of}
+use Rattle.fl_endpoint.specs.View.{fresh}
+use Rattle.fl_core.specs.declared.kind.ChannelKind.TheVariants.{Queue}
+use Rattle.fl_core.specs.BoardView.{TheBoard}
+use Rattle.fl_core.specs.BoardEvents.{Adds}
+use Rattle.fl_hop.specs.Table.{TheCircuits}
+use Rattle.fl_monitor.specs.declared.message.MonitorMessage.{MonitorMessage}
+use Rattle.fl_monitor.specs.declared.heard.MessageOutcome.{MessageOutcome}
+use Rattle.fl_monitor.specs.declared.heard.MessageOutcome.TheVariants as heard
+use Rattle.fl_monitor.specs.declared.fault.MonitorFault.{MonitorFault}
+use Rattle.fl_monitor.specs.declared.fault.MonitorFault.TheVariants.{Memory, Misrouted as OutOfPlace, OutboxFull}
+use Rattle.fl_monitor.specs.Fates.{Known}
+use Rattle.fl_monitor.specs.Hearing.{ComesTo}
+use Rattle.fl_monitor.specs.Monitors.{TheMonitor, Hears}
+use Rattle.fl_core.specs.declared.wiring.LinkSide.{LinkSide}
+use Rattle.fl_core.specs.declared.answer.MonitorAnswer.{MonitorAnswer}
+use Rattle.fl_core.specs.declared.answer.MonitorAnswer.TheVariants.{Full}
+use Rattle.fl_core.specs.View.{failed_at}
+use Rattle.fl_core.specs.declared.hearing.MadeServer.{MadeServer}
+use Rattle.fl_core.specs.declared.hearing.JoinedServer.{JoinedServer}
+use Rattle.fl_hop.specs.declared.fault.HopFault.{HopFault}
+use Rattle.fl_hop.specs.declared.fault.HopFault.TheVariants as hop
+use Rattle.fl_core.specs.declared.fault.LinkReceiveFault.{LinkReceiveFault}
+use Rattle.fl_core.specs.declared.fault.LinkReceiveFault.TheVariants.{Marked, Misrouted, Memory as NoMemory}
 
--- ---- what a board stores: its seats, each with an end by itself, and for each seat a place, with what was taken there
+-- why a look fails, and what is answered then
+abbrev pub FailsFor : HopFault → LinkReceiveFault → Type 0
+FailsFor hop.Marked fault = fault ≡ Marked
+FailsFor hop.Misrouted fault = fault ≡ Misrouted
+FailsFor other fault = Unit {0}
 
--- a seat, with these fragments taken by its end
-abbrev pub seat_with : TheSeat → List Frag → TheSeat
-seat_with s parts = record { end = with_parts s.end parts; dispatcher = s.dispatcher; channel = s.channel; kind = s.kind }
+-- ---- the parts of hearing a message
 
--- each seat, with what was taken at its place
-abbrev pub seats_of : List TheSeat → List TheReassembly → List TheSeat
-seats_of [] calls = []
-seats_of (s ∷ seats) [] = []
-seats_of (s ∷ seats) (r ∷ calls) = seat_with s r.parts ∷ seats_of seats calls
+-- the server's end that a message makes, if it makes one
+abbrev pub server_in : MessageOutcome → Option MadeServer
+server_in (heard.ServerMade binding dispatcher c) = Some (record { binding = binding; dispatcher = dispatcher; circuit = c })
+server_in (heard.OpeningWentOn binding n c) = None
+server_in (heard.OpeningFailed binding reason) = None
+server_in (heard.AnswerWentOn binding n c) = None
+server_in (heard.EndOpened e c) = None
+server_in (heard.EndRefused e reason) = None
 
--- a place is of an end's program, and the end is sound with what was taken there
-pub record Belongs (r : TheReassembly) (s : TheEnd) : Type 0 where
-  pub program : program_of r.program ≡ program_of s.program
-  pub sound : Sound (with_parts s r.parts)
+-- wherever the message makes a server's end, it is at this dispatcher and on this circuit
+abbrev pub LeadsTo : Known → TheCircuits → LinkId → MonitorMessage → ℕ → Circuit → Type 0
+LeadsTo k t l m dispatcher c = (h : MessageOutcome) (made : MadeServer) → ComesTo k t l m h → server_in h ≡ Some made → (made.dispatcher ≡ dispatcher) × (made.circuit ≡ c)
 
--- there is a place for each seat, and it belongs to the seat's end
-abbrev pub GoTogether : List TheSeat → List TheReassembly → Type 0
-GoTogether [] [] = Unit {0}
-GoTogether [] (r ∷ calls) = ⊥
-GoTogether (s ∷ seats) [] = ⊥
-GoTogether (s ∷ seats) (r ∷ calls) = Belongs r s.end × GoTogether seats calls
+-- the board with the end that was made, which has a copy of the program; or as it was
+abbrev pub EndFor : TheProgram → ℕ → Option MadeServer → TheBoard → TheBoard → Type 0
+EndFor source place None b b2 = b2 ≡ b
+EndFor source place (Some made) b b2 =
+    (program : Program) × (program_of program ≡ source) × Adds b made.dispatcher (fresh program (Some made.circuit.0)) Queue (Ok place) b2
 
-abbrev pub board_of : List TheDispatcher → List TheSeat → List TheReassembly → TheBoard
-board_of dispatchers seats calls = record { dispatchers = dispatchers; seats = seats_of seats calls }
+-- a message for which an end is ready: what is known, the link that it came over, itself, and the end's program
+pub record ForMessage : Type 0 where
+  pub known : Known
+  pub link : LinkId
+  pub message : MonitorMessage
+  pub program : TheProgram
 
-pub record IsStored (dispatchers : List TheDispatcher) (seats : List TheSeat) (calls : List TheReassembly) : Type 0 where
-  pub board : IsBoard (board_of dispatchers seats calls)
-  pub together : GoTogether seats calls
+abbrev pub for_message : Known → LinkId → MonitorMessage → TheProgram → ForMessage
+for_message known l m program = record { known = known; link = l; message = m; program = program }
 
--- ---- the parts of a turn
+-- the parts of a core by which it hears: its board and its monitor
+pub record CoreParts : Type 0 where
+  pub board : TheBoard
+  pub monitor : TheMonitor
 
--- the turn of the end that is due: what was picked, how its dispatcher's lists, the end and the side were, what is answered, and
--- how they are then
-pub record EndTurn (T : Type 0) : Type 0 where
-  pub picked : Pick
-  pub kind : Kind
-  pub before : Moment T
-  pub answer : Result TurnAnswer AllocError
-  pub after : Moment T
+abbrev pub core_parts : TheBoard → TheMonitor → CoreParts
+core_parts b n = record { board = b; monitor = n }
 
-abbrev pub end_turn : {T : Type 0} → Pick → Kind → Moment T → Result TurnAnswer AllocError → Moment T → EndTurn T
-end_turn picked kind a answer b = record { picked = picked; kind = kind; before = a; answer = answer; after = b }
+-- the message is heard while the end is ready
+abbrev pub HearsWith : ForMessage → CoreParts → Result JoinedServer MonitorFault → CoreParts → Type 0
+HearsWith x a (Ok j) b =
+    Hears x.known x.link x.message a.monitor (Ok j.heard) b.monitor × EndFor x.program j.place (server_in j.heard) a.board b.board
+HearsWith x a (Err Memory) b = (b.board ≡ a.board) × (b.monitor ≡ a.monitor)
+HearsWith x a (Err fault) b =
+    Hears x.known x.link x.message a.monitor (Err fault) a.monitor × (b.board ≡ a.board) × (b.monitor ≡ a.monitor)
 
--- a moment, where what was taken at the end's place stands beside the end
-abbrev pub moment_with : {T : Type 0} → Moment T → List Frag → Moment T
-moment_with a parts = moment a.lists (with_parts a.end parts) a.side
+-- why a message wasn't heard, and what is answered then; what comes there has failed where the message was out of place
+abbrev pub Unheard : LinkId → MonitorFault → List LinkSide → Result MonitorAnswer LinkReceiveFault → List LinkSide → Type 0
+Unheard l OutOfPlace link_sides answer lanes2 = (answer ≡ Err Misrouted) × (lanes2 ≡ failed_at link_sides l.0)
+Unheard l OutboxFull link_sides answer lanes2 = (answer ≡ Ok Full) × (lanes2 ≡ link_sides)
+Unheard l fault link_sides answer lanes2 = (answer ≡ Err NoMemory) × (lanes2 ≡ link_sides)
 
--- so the turn is
-abbrev pub LooksWith : {T : Type 0} → (T → Look → T → Type 0) → EndTurn T → TheReassembly → TheReassembly → Type 0
-LooksWith takes x was is =
-    (is.program ≡ was.program)
-    × LooksAt takes x.picked x.kind (moment_with x.before was.parts) x.answer (moment_with x.after is.parts)
-
--- of all places, the end's alone has changed
-abbrev pub LooksAtPlace : {T : Type 0} → (T → Look → T → Type 0) → EndTurn T → List TheReassembly → ℕ → List TheReassembly → Type 0
-LooksAtPlace takes x before place after = ChangesPlace before place (LooksWith takes x) after
-
--- what an end answered says where its channel goes
-abbrev pub Settles : {T : Type 0} → (T → Look → T → Type 0) → Kind → ℕ → Lent T → ReceiveAnswer → Lent T → Type 0
-Settles takes kind c a (receive.Handle call) b = GoesOn takes kind c a b
-Settles takes kind c a receive.Part b = GoesOn takes kind c a b
-Settles takes kind c a receive.Quiet b = GoesOn takes kind c a b
-Settles takes kind c a receive.Empty b = GoesOn takes kind c a b
-Settles takes kind c a receive.HeldBack b = (b.lists ≡ put_off a.lists place.Pending c place.Pending) × (b.side ≡ a.side)
-
--- the faults that an end answers that is bound and never failed
-abbrev pub MayCome : EndFault → Type 0
-MayCome (Wire fault) = Unit {0}
-MayCome Memory = Unit {0}
-MayCome Spent = ⊥
-MayCome Busy = ⊥
-MayCome UnknownMessage = ⊥
-MayCome Misfit = ⊥
-MayCome NotBound = ⊥
-MayCome Failed = ⊥
-
-abbrev pub Refuses : ℕ → ThreeLists → EndFault → Result TurnAnswer AllocError → ThreeLists → Type 0
-Refuses c w (Wire fault) answer v = (answer ≡ Ok (Refused fault)) × (v ≡ unlinked w c)
-Refuses c w fault answer v = (answer ≡ Err alloc_error) × (v ≡ w)
-
--- what a ring's side tells
-abbrev pub Tells : {T : Type 0} → (T → Look → T → Type 0) → T → AckAnswer → T → Type 0
-Tells takes p ack.Done q = takes p told q
-Tells takes p ack.Nothing q = takes p kept q
-Tells takes p ack.Full q = takes p no_room q
-
--- why a dispatcher with so many ends gets no other
-abbrev pub HasNoRoom : ℕ → BoardFault → Type 0
-HasNoRoom ends board.TooManyEnds = 1024 ≤ ends
-HasNoRoom ends board.Memory = ends < 1024
-HasNoRoom ends fault = ⊥
+-- the faults that a message that is heard may have
+abbrev pub MayRefuse : MonitorFault → Type 0
+MayRefuse OutOfPlace = Unit {0}
+MayRefuse OutboxFull = Unit {0}
+MayRefuse Memory = Unit {0}
+MayRefuse fault = ⊥

@@ -1,50 +1,41 @@
--- What is known of a board at any time.
-use Rattle.std.specs.Prelude.{◌≡◌, ◌≤◌, ℕ, true, List, length, slice_get, Some}
-use Rattle.fl_lists.specs.declared.place.Place.{Place}
-use Rattle.fl_lists.specs.declared.place.Place.TheVariants.{Idle, Polled}
-use Rattle.fl_lists.specs.ThreeLists.{list_at, is_in, IsApart}
-use Rattle.fl_endpoint.specs.Events.{IsReady}
-use Rattle.fl_core.specs.declared.kind.Kind.{Kind}
-use Rattle.fl_core.specs.declared.kind.Kind.TheVariants.{Queue, Ring}
-use Rattle.fl_core.specs.View.{TheDispatcher, TheSeat, TheBoard}
+-- What is known of a core at any time.
+use Rattle.std.specs.Prelude.{ℕ, ◌≡◌, ◌<◌, List, length, map, slice_get, Some}
+use Rattle.fl_base.specs.declared.identity.EndId.{EndId}
+use Rattle.fl_core.specs.BoardView.{TheEndAtChannel}
+use Rattle.fl_core.specs.declared.kind.ChannelKind.{ChannelKind}
+use Rattle.fl_core.specs.declared.wiring.EndWiring.{EndWiring}
+use Rattle.fl_core.specs.declared.wiring.EndWiring.TheVariants.{Queues, Ring, Circuit}
+use Rattle.fl_core.specs.declared.wiring.WiredEnd.{WiredEnd}
+use Rattle.fl_core.specs.View.{TheCore, kind_of, arrivals_by, place_of}
 
--- the end at place e has a channel at one of these dispatchers, and that channel leads back to it
-pub record IsSeated (dispatchers : List TheDispatcher) (e : ℕ) (s : TheSeat) : Type 0 where
-  pub dispatcher : TheDispatcher
-  pub dispatcher_is : slice_get dispatchers s.dispatcher ≡ Some dispatcher
-  pub leads_back : slice_get dispatcher.ends s.channel ≡ Some e
+-- how fragments come to each end, by the board, and by its wiring
+abbrev pub kinds_seated : List TheEndAtChannel → List ChannelKind
+kinds_seated seats = map (λ (s : TheEndAtChannel). s.kind) seats
 
--- the end at place e has channel c at dispatcher n
-pub record HasChannel (seats : List TheSeat) (n c e : ℕ) : Type 0 where
-  pub seat : TheSeat
-  pub seat_is : slice_get seats e ≡ Some seat
-  pub dispatcher_is : seat.dispatcher ≡ n
-  pub channel_is : seat.channel ≡ c
+abbrev pub kinds_wired : List WiredEnd → List ChannelKind
+kinds_wired wired_ends = map (λ (p : WiredEnd). kind_of p.wiring) wired_ends
 
--- a ring's channel is never idle, and a queue's is never polled
-abbrev pub MayWaitIn : Kind → Place → Type 0
-MayWaitIn Ring Idle = ⊥
-MayWaitIn Queue Polled = ⊥
-MayWaitIn kind place = Unit {0}
+-- a circuit's link and arrival queue are there
+abbrev pub IsWired : TheCore → EndWiring → Type 0
+IsWired k (Queues out from) = Unit {0}
+IsWired k (Ring side) = Unit {0}
+IsWired k (Circuit link arrivals) = (link.0 < length k.link_sides) × (arrivals < length k.arrivals)
 
--- channel c, in this list, is that of an end which is bound and never failed
-pub record MayTurn (seats : List TheSeat) (ends : List ℕ) (list : Place) (c : ℕ) : Type 0 where
-  pub place : ℕ
-  pub place_is : slice_get ends c ≡ Some place
-  pub seat : TheSeat
-  pub seat_is : slice_get seats place ≡ Some seat
-  pub ready : IsReady seat.end
-  pub waits : MayWaitIn seat.kind list
+-- the end of this name is at place e
+pub record IsPlaced (wired_ends : List WiredEnd) (name : EndId) (e : ℕ) : Type 0 where
+  pub wired_end : WiredEnd
+  pub wired_end_is : slice_get wired_ends e ≡ Some wired_end
+  pub name_is : wired_end.name ≡ name
 
-pub record IsDispatcher (seats : List TheSeat) (n : ℕ) (d : TheDispatcher) : Type 0 where
-  pub size : d.lists.size ≡ 1024
-  pub few : length d.ends ≤ 1024
-  -- no channel is in two of the lists, or twice in one
-  pub apart : IsApart d.lists
-  pub ends : (c e : ℕ) → slice_get d.ends c ≡ Some e → HasChannel seats n c e
-  pub registered : (list : Place) (c : ℕ) → is_in c (list_at d.lists list) ≡ true → MayTurn seats d.ends list c
-
--- each end is where its dispatcher's channel leads; a channel is registered only where its end is bound and never failed
-pub record IsBoard (b : TheBoard) : Type 0 where
-  pub seats : (e : ℕ) (s : TheSeat) → slice_get b.seats e ≡ Some s → IsSeated b.dispatchers e s
-  pub dispatchers : (n : ℕ) (d : TheDispatcher) → slice_get b.dispatchers n ≡ Some d → IsDispatcher b.seats n d
+pub record IsCore (k : TheCore) : Type 0 where
+  -- each end has its wiring, and the board knows how fragments come to it
+  pub kinds : kinds_seated k.board.seats ≡ kinds_wired k.wired_ends
+  pub link_sides : length k.link_sides ≡ length k.monitor.circuits.links
+  pub slots : length k.places ≡ 2048
+  -- each end is found by its name, and nothing else is
+  pub named : (e : ℕ) (p : WiredEnd) → slice_get k.wired_ends e ≡ Some p → place_of k p.name ≡ Some e
+  pub placed : (name : EndId) (e : ℕ) → place_of k name ≡ Some e → IsPlaced k.wired_ends name e
+  pub wired : (e : ℕ) (p : WiredEnd) → slice_get k.wired_ends e ≡ Some p → IsWired k p.wiring
+  -- no two ends have one arrival queue
+  pub apart : (e f a : ℕ) (p q : WiredEnd) → slice_get k.wired_ends e ≡ Some p → slice_get k.wired_ends f ≡ Some q
+      → arrivals_by p.wiring ≡ Some a → arrivals_by q.wiring ≡ Some a → e ≡ f

@@ -1,34 +1,44 @@
-//! What a turn and an acknowledgement come to.
+//! What events on links come to.
 
-use fl_value::Call;
-use fl_wire::WireFault;
+use fl_base::{Circuit, EndId, Frag};
 
-/// What a turn came to, at the end that was due.
-#[derive(Debug, Drop)]
-pub enum TurnAnswer {
-    /// The fragment taken was the last of this call, which is handled.
-    Handle(Call),
-    /// The fragment taken goes on with a call.
-    Part,
-    /// A fragment of a call stands on the ring that was looked at: the channel is pending now.
-    Ready,
-    /// No fragment of a call stood there. One that only acknowledged was taken, if it stood there.
-    Quiet,
-    /// 16 replies wait at the end, and no fragment was looked at.
+/// What a write of the core's monitor came to.
+#[derive(Clone, Copy)]
+pub enum MonitorWrite {
+    /// The message that was next is on the link.
+    Written,
+    /// The link has no room, and the message waits.
     Full,
-    /// Nothing stood on the channel that was pending.
+    /// The link is spent, and the message waits. To the layers above that is a link with no room.
+    Spent,
+    /// No message waits.
     Nothing,
-    /// The fragment can't follow those before it and stays: the end has failed for good.
-    Refused(WireFault),
 }
 
-/// What an acknowledgement came to.
-#[derive(Clone, Copy, Debug, PartialEq, Eq)]
-pub enum AckAnswer {
-    /// All that was taken is told now.
-    Done,
-    /// There was too little to tell, or the end has a queue, which tells nothing.
+/// What stands first on a link, and what it needs.
+#[derive(Clone, Copy)]
+pub enum LinkFront {
+    /// Nothing.
     Nothing,
-    /// Too few slots are free to tell it.
+    /// A fragment that only acknowledged, and was taken.
+    Acknowledged,
+    /// A monitors' message, for [`Core::hear`](crate::Core::hear).
+    Message(Frag),
+    /// A fragment that goes on over a link: to this side of a ring, under this circuit's number there ([`fl_hop::move_on`]).
+    Onward(Frag, usize, Circuit),
+    /// A fragment for an end at this core, for [`Core::arrive`](crate::Core::arrive).
+    Arrival(Frag, EndId),
+}
+
+/// What hearing a monitors' message came to.
+#[derive(Clone, Copy)]
+pub enum MonitorAnswer {
+    /// The outbox that is needed is full, and the message is left.
     Full,
+    /// It was passed on, or answered.
+    Done,
+    /// This end is bound and registered.
+    Opened(EndId),
+    /// The circuit of this client's end is refused, for the fault of this number.
+    OpeningRefused(EndId, u32),
 }

@@ -1,7 +1,7 @@
 //! A dispatcher.
 
 ghost use Rattle.std.specs.Prelude.{◌≡◌, IfOk};
-ghost use Rattle.fl_core.specs.View.{new_dispatcher};
+ghost use Rattle.fl_core.specs.BoardView.{new_dispatcher};
 
 use fl_base::MAX_CHANNELS;
 use fl_waitset::Waitset;
@@ -16,7 +16,7 @@ pub(crate) struct Dispatcher {
 }
 
 impl Model for Dispatcher {
-    ghost use Rattle.fl_core.specs.View.{TheDispatcher};
+    ghost use Rattle.fl_core.specs.BoardView.{TheDispatcher};
 
     ghost Value = { TheDispatcher };
 

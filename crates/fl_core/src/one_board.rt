@@ -2,28 +2,28 @@
 
 ghost use Rattle.std.specs.Prelude.{◌≡◌, ◌<◌, ℕ, [], length, slice_get, Some, IfOk, IfErr, OnOk, OnErr, vec_len};
 ghost use Rattle.std.specs.Vec.{vec_capacity};
-ghost use Rattle.fl_value.specs.Value.{call_of};
+ghost use Rattle.fl_value_data.specs.Value.{call_of};
 ghost use Rattle.fl_endpoint.specs.View.{TheEnd, with_parts, interface_in, bound};
 ghost use Rattle.fl_endpoint.specs.Accounts.{Sound};
 ghost use Rattle.fl_endpoint.specs.Events.{Calls, Writes, ShowsNext, SetsRule, Exchanges};
-ghost use Rattle.fl_core.specs.Sound.{IsBoard};
-ghost use Rattle.fl_core.specs.View.{TheDispatcher, TheBoard, with_dispatcher, with_new_end};
-ghost use Rattle.fl_core.specs.declared.kind.Kind.{Kind};
-ghost use Rattle.fl_core.specs.Events.{ChangesEnd, Holds, Adds, IsGrown};
-ghost use Rattle.fl_core.specs.Inside.{HasNoRoom};
+ghost use Rattle.fl_core.specs.BoardSound.{IsBoard};
+ghost use Rattle.fl_core.specs.BoardView.{TheDispatcher, TheBoard, with_dispatcher, with_new_end};
+ghost use Rattle.fl_core.specs.declared.kind.ChannelKind.{ChannelKind};
+ghost use Rattle.fl_core.specs.BoardEvents.{ChangesEnd, Holds, Adds, IsGrown};
+ghost use Rattle.fl_core.specs.BoardInside.{HasNoRoom};
 
+use crate::board_fault::BoardFault;
 use crate::dispatcher::Dispatcher;
-use crate::fault::BoardFault;
-use crate::kind::Kind;
-use crate::seat::Seat;
+use crate::kind::ChannelKind;
+use crate::seat::EndAtChannel;
 use fl_base::{ChanId, Circuit, Frag, MAX_CHANNELS, MsgNo};
 use fl_endpoint::{
-    End, EndFault, WriteAnswer, bind_accounts, call_accounts, exchange_accounts, rule_accounts,
-    write_accounts,
+    End, EndFault, WriteAnswer, law_bind_accounts, law_call_accounts, law_exchange_accounts,
+    law_rule_accounts, law_write_accounts,
 };
 use fl_link::PutSide;
 use fl_machine::Reassemblies;
-use fl_value::Call;
+use fl_value_data::Call;
 use std::alloc::{AllocError, Global};
 use std::marker::Model;
 
@@ -36,7 +36,7 @@ use std::marker::Model;
 pub struct Board {
     alloc: Global,
     pub(crate) dispatchers: Vec<Dispatcher>,
-    pub(crate) seats: Vec<Seat>,
+    pub(crate) seats: Vec<EndAtChannel>,
     // for each seat, at its place, what was taken of the call that comes to its end
     pub(crate) calls: Reassemblies,
     // memory that calls write their numbers to
@@ -46,8 +46,8 @@ pub struct Board {
 impl Model for Board {
     ghost use Rattle.std.specs.Coded.{codes};
     ghost use Rattle.fl_compile.specs.contracts.program.Program.{the_row};
-    ghost use Rattle.fl_core.specs.View.{TheBoard};
-    ghost use Rattle.fl_core.specs.Inside.{board_of, IsStored};
+    ghost use Rattle.fl_core.specs.BoardView.{TheBoard};
+    ghost use Rattle.fl_core.specs.BoardInside.{board_of, IsStored};
 
     ghost Value = { TheBoard };
 
@@ -59,7 +59,7 @@ impl Model for Board {
 }
 
 // Room for one end more at a dispatcher with these ends, and on the board.
-fn make_room(ends: &mut Vec<usize>, seats: &mut Vec<Seat>) -> Result<(), BoardFault>
+fn make_room(ends: &mut Vec<usize>, seats: &mut Vec<EndAtChannel>) -> Result<(), BoardFault>
     ensures ends { ends.new.items ≡ ends.old.items }
     ensures seats { seats.new.items ≡ seats.old.items }
     ensures room { OnOk result (vec_len ends.old < 1024) }
@@ -145,7 +145,12 @@ impl Board {
     ///
     /// # Errors
     /// The dispatcher has 1,024 ends (E54, see [`Board::ends_at`]); out of memory (E99). The board is as it was then.
-    pub fn add_end(&mut self, dispatcher: usize, end: End, kind: Kind) -> Result<usize, BoardFault>
+    pub fn add_end(
+        &mut self,
+        dispatcher: usize,
+        end: End,
+        kind: ChannelKind,
+    ) -> Result<usize, BoardFault>
         requires { dispatcher < length self.old.dispatchers }
         ensures adds { Adds self.old dispatcher end kind result self.new }
     {
@@ -160,7 +165,7 @@ impl Board {
                 };
                 let channel = ChanId(at.ends.len() as u16);
                 at.ends.push_reserved(place);
-                self.seats.push_reserved(Seat {
+                self.seats.push_reserved(EndAtChannel {
                     end,
                     dispatcher,
                     channel,
@@ -175,7 +180,7 @@ impl Board {
     /// caller that adds two ends leaves the board as it was where there is no memory for the second.
     pub fn take_back(&mut self)
         requires { IsGrown self.old }
-        ensures before { (b : TheBoard) (n : ℕ) (d : TheDispatcher) (s : TheEnd) (kind : Kind) → slice_get b.dispatchers n ≡ Some d
+        ensures before { (b : TheBoard) (n : ℕ) (d : TheDispatcher) (s : TheEnd) (kind : ChannelKind) → slice_get b.dispatchers n ≡ Some d
             → self.old ≡ with_new_end b n d s kind → self.new ≡ b }
     {
         let Some(seat) = self.seats.pop() else {
@@ -212,7 +217,7 @@ impl Board {
     {
         // It has 16 bits, which the proof knows once it is read.
         let _number = circuit.0;
-        bind_accounts();
+        law_bind_accounts();
         let seat = &mut self.seats[e];
         seat.end.bind(circuit);
     }
@@ -226,7 +231,7 @@ impl Board {
         ensures sets { ChangesEnd self.old e (λ s t. SetsRule s msg.0 reply.0 result t) self.new }
         ensures kept { OnErr result (self.new ≡ self.old) }
     {
-        rule_accounts();
+        law_rule_accounts();
         let seat = &mut self.seats[e];
         seat.end.reply_rule(msg, reply)
     }
@@ -239,7 +244,7 @@ impl Board {
         ensures exchanges { ChangesEnd self.old e (λ s t. Exchanges s other.old t other.new) self.new }
     {
         other.sound();
-        exchange_accounts();
+        law_exchange_accounts();
         let seat = &mut self.seats[e];
         seat.end.exchange_rules(other);
     }
@@ -254,7 +259,7 @@ impl Board {
         ensures calls { ChangesEnd self.old e (λ s t. Calls s (call_of call.now) result t) self.new }
         ensures kept { OnErr result (self.new ≡ self.old) }
     {
-        call_accounts();
+        law_call_accounts();
         let seat = &mut self.seats[e];
         seat.end.call(call, &mut self.spare)
     }
@@ -283,7 +288,7 @@ impl Board {
         ensures writes { ChangesEnd self.old e (λ s t. Writes P.puts s out.old result t out.new) self.new }
         ensures kept { OnErr result (self.new ≡ self.old) }
     {
-        write_accounts::<P>();
+        law_write_accounts::<P>();
         let seat = &mut self.seats[e];
         seat.end.write(out)
     }

@@ -2,14 +2,14 @@
 
 ghost use Rattle.std.specs.Prelude.{◌≡◌, ◌<◌, length, OnErr};
 ghost use Rattle.fl_waitset.specs.Waiting.{triggered};
-ghost use Rattle.fl_core.specs.Events.{ChangesLists, Holds, Registers, Deregisters, Acks};
-ghost use Rattle.fl_core.specs.Inside.{Tells};
-ghost use Rattle.fl_core.specs.Turns.{lent};
+ghost use Rattle.fl_core.specs.BoardEvents.{ChangesLists, Holds, Registers, Deregisters, Acks};
+ghost use Rattle.fl_core.specs.BoardInside.{Tells};
+ghost use Rattle.fl_core.specs.BoardTurns.{lent};
 
-use crate::answer::AckAnswer;
-use crate::fault::BoardFault;
-use crate::kind::Kind;
+use crate::board_fault::BoardFault;
+use crate::kind::ChannelKind;
 use crate::one_board::Board;
+use crate::turn_answer::AckAnswer;
 use crate::waiting::join;
 use fl_link::{TakeSide, Told};
 
@@ -82,8 +82,8 @@ impl Board {
             return Err(BoardFault::NotBound);
         }
         match seat.kind {
-            Kind::Queue => Ok(AckAnswer::Nothing),
-            Kind::Ring => Ok(tell(from)),
+            ChannelKind::Queue => Ok(AckAnswer::Nothing),
+            ChannelKind::Ring => Ok(tell(from)),
         }
     }
 }

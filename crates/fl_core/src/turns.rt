@@ -1,12 +1,12 @@
 //! Turns of dispatchers.
 
 ghost use Rattle.std.specs.Prelude.{◌≡◌, ◌<◌, length, Some, IfSome, OnErr};
-ghost use Rattle.fl_core.specs.View.{due, channel_of};
-ghost use Rattle.fl_core.specs.Turns.{Turns, over};
+ghost use Rattle.fl_core.specs.BoardView.{due, channel_of};
+ghost use Rattle.fl_core.specs.BoardTurns.{Turns, over};
 
-use crate::answer::TurnAnswer;
-use crate::law::turn_accounts;
+use crate::law::law_turn_accounts;
 use crate::one_board::Board;
+use crate::turn_answer::TurnAnswer;
 use crate::waiting::look_at;
 use fl_base::ChanId;
 use fl_link::TakeSide;
@@ -71,7 +71,7 @@ impl Board {
             unreachable!();
         };
         let seat = &mut self.seats[e];
-        turn_accounts::<T>();
+        law_turn_accounts::<T>();
         look_at(
             &mut at.waitset,
             pick,

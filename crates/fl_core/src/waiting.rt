@@ -6,13 +6,13 @@ ghost use Rattle.fl_endpoint.specs.Events.{IsReady};
 ghost use Rattle.fl_lists.specs.declared.place.Place.{Place};
 ghost use Rattle.fl_lists.specs.ThreeLists.{list_at};
 ghost use Rattle.fl_endpoint.specs.Lent.{IsPlaceOf};
-ghost use Rattle.fl_core.specs.Turns.{WaitsIn, put_off, lent, moment, Examines};
-ghost use Rattle.fl_core.specs.Events.{Joins};
-ghost use Rattle.fl_core.specs.Inside.{Settles, MayCome, Refuses, end_turn, LooksAtPlace};
+ghost use Rattle.fl_core.specs.BoardTurns.{WaitsIn, put_off, lent, moment, Examines};
+ghost use Rattle.fl_core.specs.BoardEvents.{Joins};
+ghost use Rattle.fl_core.specs.BoardInside.{Settles, MayCome, Refuses, end_turn, LooksAtPlace};
 
-use crate::answer::TurnAnswer;
-use crate::fault::BoardFault;
-use crate::kind::Kind;
+use crate::board_fault::BoardFault;
+use crate::kind::ChannelKind;
+use crate::turn_answer::TurnAnswer;
 use fl_base::ChanId;
 use fl_endpoint::{End, EndFault, ReceiveAnswer};
 use fl_link::{Sight, TakeSide};
@@ -22,12 +22,12 @@ use std::alloc::AllocError;
 
 // Where a channel of this kind waits, by a look at its side.
 #[inline]
-fn place_for<T: TakeSide>(kind: Kind, from: &mut T) -> Place
+fn place_for<T: TakeSide>(kind: ChannelKind, from: &mut T) -> Place
     ensures waits { WaitsIn T.takes kind from.old result from.new }
 {
     match kind {
-        Kind::Ring => Place::Polled,
-        Kind::Queue => match from.peek() {
+        ChannelKind::Ring => Place::Polled,
+        ChannelKind::Queue => match from.peek() {
             Sight::Data(_) | Sight::Acknowledgement => Place::Pending,
             Sight::Empty => Place::Idle,
         },
@@ -39,7 +39,7 @@ fn place_for<T: TakeSide>(kind: Kind, from: &mut T) -> Place
 pub(crate) fn join<T: TakeSide>(
     waitset: &mut Waitset,
     c: ChanId,
-    kind: Kind,
+    kind: ChannelKind,
     from: &mut T,
 ) -> Result<(), BoardFault>
     requires { c.0 < waitset.old.size }
@@ -69,7 +69,7 @@ fn put_off(waitset: &mut Waitset, c: ChanId, to: Place)
 fn settle<T: TakeSide>(
     waitset: &mut Waitset,
     c: ChanId,
-    kind: Kind,
+    kind: ChannelKind,
     answer: &ReceiveAnswer,
     from: &mut T,
 )
@@ -146,7 +146,7 @@ pub(crate) fn look_at<T: TakeSide>(
     waitset: &mut Waitset,
     pick: Pick,
     end: &mut End,
-    kind: Kind,
+    kind: ChannelKind,
     from: &mut T,
     calls: &mut Reassemblies,
     place: usize,

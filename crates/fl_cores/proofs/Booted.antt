@@ -4,21 +4,21 @@ use Rattle.std.proofs.lemmas.Bool.{and_parts}
 use Rattle.std.proofs.lemmas.List.{length-map, take-map}
 use Rattle.std.specs.List.{list_all, position, position_or_len}
 use Rattle.std.proofs.lemmas.Bool.Decides.{nat_tests}
-use Rattle.fl_lines.specs.declared.event.Event.{Event as RustEvent}
-use Rattle.fl_lines.specs.Events.{event_of}
-use Rattle.fl_queues.specs.Events.{Event}
-use Rattle.fl_worlds.specs.View.{TheWorld}
-use Rattle.fl_worlds.specs.declared.parts.Parts.{Parts}
-use Rattle.fl_system.specs.declared.booting.BootFault.{BootFault}
-use Rattle.fl_system.specs.declared.booting.BootFault.TheVariants as boot
-use Rattle.fl_worlds.specs.Apart.{is_making, AreParts}
-use Rattle.fl_system.specs.Booting.{TheConfig, config_by, Stands, AcceptsAll, IsFaultOf}
-use Rattle.fl_jobs.specs.Jobs.{Job as TheJob}
-use Rattle.fl_threads.specs.Faults.{IsRunFault}
+use Rattle.fl_script_lines.specs.declared.event.Event.{Event as RustEvent}
+use Rattle.fl_script_lines.specs.Events.{event_of}
+use Rattle.fl_model.specs.Events.{Event}
+use Rattle.fl_world_refines.specs.View.{TheWorld}
+use Rattle.fl_world_refines.specs.declared.parts.Parts.{Parts}
+use Rattle.fl_world.specs.declared.booting.BootFault.{BootFault}
+use Rattle.fl_world.specs.declared.booting.BootFault.TheVariants as boot
+use Rattle.fl_world_refines.specs.Apart.{is_making, AreParts}
+use Rattle.fl_world.specs.Booting.{TheConfig, config_by, Stands, AcceptsAll, IsFaultOf}
+use Rattle.fl_cores_file.specs.Jobs.{Job as TheJob}
+use Rattle.fl_cores_parts.specs.Faults.{IsRunFault}
 use Rattle.fl_cores.specs.declared.fault.CoresFault.{CoresFault}
 use Rattle.fl_cores.specs.declared.fault.CoresFault.TheVariants as fault
-use Rattle.fl_threads.specs.declared.fault.RunFault.{RunFault}
-use Rattle.fl_threads.specs.declared.fault.RunFault.TheVariants as run
+use Rattle.fl_cores_parts.specs.declared.fault.RunFault.{RunFault}
+use Rattle.fl_cores_parts.specs.declared.fault.RunFault.TheVariants as run
 use Rattle.fl_cores.specs.Faults.{by_boot, by_run}
 use Rattle.fl_cores.specs.Promised.{is_other, asks_other, cores_by, IsAccepted, Made, front_of, IsRefusedAt, IsFault, IsLater}
 
@@ -63,7 +63,7 @@ pub accepted : (c : TheConfig) (w : TheWorld) → position is_other c.setup ≡ 
 accepted c w making stands = record { cores = stands.0; making = making; passed = stands.1.passed }
 
 pub cores_are : (c : TheConfig) (w : TheWorld) (p : Parts) → Stands c w → AreParts w p → length p.cores.items ≡ cores_by c
-cores_are c w p stands parts = ap length parts.cores ∙ stands.1.shown.picture.cores.count
+cores_are c w p stands parts = ap length parts.cores ∙ stands.1.shown.showing.cores.count
 
 -- ---- none does
 

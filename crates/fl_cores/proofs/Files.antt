@@ -9,23 +9,23 @@ use Rattle.std.proofs.lemmas.Bool.Decides.{nat_tests}
 use Rattle.std.proofs.lemmas.List.Folds.{list_all-append}
 use Rattle.fl_base.specs.Given.{given}
 use Rattle.fl_base.specs.Numbered.{most_cores, most_bindings}
-use Rattle.fl_text.specs.Text.{TextOutcome, stands_for, text_fault}
-use Rattle.fl_queues.specs.Events.{DispatcherId, Kind, by_queues, by_ring, by_route, Event, add_interface, set_cores, add_link, add_dispatcher}
-use Rattle.fl_queues.specs.Events as event
-use Rattle.fl_queues.specs.Making.{most_interfaces, most_dispatchers, most_services, is_ring_size}
-use Rattle.fl_lines.specs.Asked.{Asked, refuses, asks, Asks, asks_interface, is_taken}
-use Rattle.fl_lines.specs.Commands.{Command}
-use Rattle.fl_lines.specs.Grammar.{silent, heading, command, unread}
-use Rattle.fl_lines.specs.Items.{Item, a_line, a_block, open_block, is_too_long}
-use Rattle.fl_lines.specs.Names.{Names}
-use Rattle.fl_worlds.specs.Apart.{is_making}
-use Rattle.fl_system.specs.Booting.{has_bad_cores}
-use Rattle.fl_jobs.specs.Verdicts.{Verdict, stops, goes_on}
-use Rattle.fl_jobs.specs.Draft.{Draft, Wanted, has_interface, is_core, has_link, is_dispatcher, is_interface, has_both_places, is_route, offer_of}
-use Rattle.fl_jobs.specs.Draft.{sets_cores, adds_link, adds_dispatcher, exports, binds_by_queues, binds_by_ring, binds_by_route, binds_by, binds}
-use Rattle.fl_jobs.specs.Draft.{call_fault, rule_fault, fault_at, takes}
-use Rattle.fl_jobs.specs.CoresFile.{Reading, CoresFile, Outcome, is_file, refused_at, beginning, belongs, named_by, does, does_block, DoesCommand, Does}
-use Rattle.fl_jobs.specs.CoresFile.{lines_in, Behind, Follows, ReadsFrom, Reads}
+use Rattle.fl_check.specs.Text.{TextOutcome, stands_for, text_fault}
+use Rattle.fl_model.specs.Events.{DispatcherId, Kind, by_queues, by_ring, by_route, Event, add_interface, set_cores, add_link, add_dispatcher}
+use Rattle.fl_model.specs.Events as event
+use Rattle.fl_model.specs.Making.{most_interfaces, most_dispatchers, most_services, is_ring_size}
+use Rattle.fl_script_lines.specs.Asked.{Asked, refuses, asks, Asks, asks_interface, is_taken}
+use Rattle.fl_script_lines.specs.Commands.{Command}
+use Rattle.fl_script_lines.specs.Grammar.{silent, heading, command, unread}
+use Rattle.fl_script_lines.specs.Items.{Item, a_line, a_block, open_block, is_too_long}
+use Rattle.fl_script_lines.specs.Names.{Names}
+use Rattle.fl_world_refines.specs.Apart.{is_making}
+use Rattle.fl_world.specs.Booting.{has_bad_cores}
+use Rattle.fl_cores_file.specs.Verdicts.{LineVerdict, stops, goes_on}
+use Rattle.fl_cores_file.specs.Draft.{Draft, TheDraftRequest, has_interface, is_core, has_link, is_dispatcher, is_interface, has_both_places, is_route, offer_of}
+use Rattle.fl_cores_file.specs.Draft.{sets_cores, adds_link, adds_dispatcher, exports, binds_by_queues, binds_by_ring, binds_by_route, binds_by, binds}
+use Rattle.fl_cores_file.specs.Draft.{call_fault, rule_fault, fault_at, takes}
+use Rattle.fl_cores_file.specs.CoresFile.{Reading, CoresFile, FileOutcome, is_file, refused_at, beginning, belongs, named_by, does, does_block, DoesCommand, Does}
+use Rattle.fl_cores_file.specs.CoresFile.{lines_in, Behind, Follows, ReadsFrom, Reads}
 use Rattle.fl_cores.specs.Promised.{is_other, config_in}
 use Rattle.fl_cores.proofs.Booted.{none_other}
 
@@ -49,7 +49,7 @@ abbrev IsFit : Draft → Type 0
 IsFit d = MayStand d.cores d.setup
 
 -- and so it is of a draft, where things go on
-abbrev Stays : Verdict Draft → Type 0
+abbrev Stays : LineVerdict Draft → Type 0
 Stays (stops fault) = Unit {0}
 Stays (goes_on d) = IsFit d
 
@@ -80,22 +80,22 @@ export_stays name x i d h =
     (λ q. either Stays (is_taken name d.services) _ _ (λ r. tt)
     (λ r. either Stays (nat_le most_services (length d.offers)) _ _ (λ s. tt) (λ s. with_one (event.export name x i) d refl h)))
 
-queues_stay : (w : Wanted) (slots : ℕ) (d : Draft) → IsFit d → Stays (binds_by_queues w slots d)
+queues_stay : (w : TheDraftRequest) (slots : ℕ) (d : Draft) → IsFit d → Stays (binds_by_queues w slots d)
 queues_stay w slots d h =
     either Stays (not (w.client.core == w.server.core)) _ _ (λ q. tt)
     (λ q. either Stays (nat_lt slots 1 || nat_lt 1024 slots) _ _ (λ r. tt)
     (λ r. either Stays (not (has_both_places w d)) _ _ (λ s. tt) (λ s. with_one (event.bind w.client w.interface w.service (by_queues slots)) d refl h)))
 
-ring_stays : (w : Wanted) (size : ℕ) (d : Draft) → IsFit d → Stays (binds_by_ring w size d)
+ring_stays : (w : TheDraftRequest) (size : ℕ) (d : Draft) → IsFit d → Stays (binds_by_ring w size d)
 ring_stays w size d h =
     either Stays (w.client.core == w.server.core) _ _ (λ q. tt)
     (λ q. either Stays (not (is_ring_size size)) _ _ (λ r. tt)
     (λ r. either Stays (not (has_both_places w d)) _ _ (λ s. tt) (λ s. with_one (event.bind w.client w.interface w.service (by_ring size)) d refl h)))
 
-route_stays : (w : Wanted) (route : List ℕ) (d : Draft) → IsFit d → Stays (binds_by_route w route d)
+route_stays : (w : TheDraftRequest) (route : List ℕ) (d : Draft) → IsFit d → Stays (binds_by_route w route d)
 route_stays w route d h = either Stays (not (is_route w route d)) _ _ (λ q. tt) (λ q. h)
 
-kind_stays : (w : Wanted) (kind : Kind) (d : Draft) → IsFit d → Stays (binds_by w kind d)
+kind_stays : (w : TheDraftRequest) (kind : Kind) (d : Draft) → IsFit d → Stays (binds_by w kind d)
 kind_stays w (by_queues slots) d h = queues_stay w slots d h
 kind_stays w (by_ring size) d h = ring_stays w size d h
 kind_stays w (by_route route) d h = route_stays w route d h
@@ -124,11 +124,11 @@ event_stays v d h = tt
 -- ---- an item
 
 -- so it is of a reading, where it goes on
-abbrev StaysRead : Verdict Reading → Type 0
+abbrev StaysRead : LineVerdict Reading → Type 0
 StaysRead (stops fault) = Unit {0}
 StaysRead (goes_on r) = IsFit r.draft
 
-named_stays : (names : Names) (v : Verdict Draft) → Stays v → StaysRead (named_by names v)
+named_stays : (names : Names) (v : LineVerdict Draft) → Stays v → StaysRead (named_by names v)
 named_stays names (stops fault) h = tt
 named_stays names (goes_on d) h = h
 
@@ -136,13 +136,13 @@ asked_stays : (r : Reading) (asked : Asked) → IsFit r.draft → StaysRead (doe
 asked_stays r (refuses fault) h = tt
 asked_stays r (asks v names) h = named_stays names (takes v r.draft) (event_stays v r.draft h)
 
-command_stays : (r : Reading) (c : Command) (v : Verdict Reading) → IsFit r.draft → DoesCommand r c v → StaysRead v
+command_stays : (r : Reading) (c : Command) (v : LineVerdict Reading) → IsFit r.draft → DoesCommand r c v → StaysRead v
 command_stays r c v h = by (belongs c) where
   by : (t : Bool) → MatchBool t ((asked : Asked) × Asks r.names c asked × (v ≡ does r asked)) (v ≡ stops 90) → StaysRead v
   by true (asked, a, is) = subst StaysRead (sym is) (asked_stays r asked h)
   by false is = subst StaysRead (sym is) tt
 
-item_stays : (r : Reading) (item : Item) (v : Verdict Reading) → IsFit r.draft → Does r item v → StaysRead v
+item_stays : (r : Reading) (item : Item) (v : LineVerdict Reading) → IsFit r.draft → Does r item v → StaysRead v
 item_stays r (a_line silent) v h is = subst StaysRead (sym is) h
 item_stays r (a_line (command c)) v h is = command_stays r c v h is
 item_stays r (a_line unread) v h is = subst StaysRead (sym is) tt
@@ -156,16 +156,16 @@ item_stays r (a_block plan text) v h (outcome, means, is) = subst StaysRead (sym
 -- ---- a file
 
 -- so it is of a file, where a text comes to one
-abbrev HasFit : Outcome → Type 0
+abbrev HasFit : FileOutcome → Type 0
 HasFit (is_file file) = MayStand file.cores file.setup
 HasFit (refused_at line number) = Unit {0}
 
-behind_fits : (line : ℕ) (v : Verdict Reading) (further : Reading → Outcome → Type 0) (o : Outcome) → StaysRead v
-    → ((r : Reading) (a : Outcome) → IsFit r.draft → further r a → HasFit a) → Behind line v further o → HasFit o
+behind_fits : (line : ℕ) (v : LineVerdict Reading) (further : Reading → FileOutcome → Type 0) (o : FileOutcome) → StaysRead v
+    → ((r : Reading) (a : FileOutcome) → IsFit r.draft → further r a → HasFit a) → Behind line v further o → HasFit o
 behind_fits line (stops fault) further o h more is = subst HasFit (sym is) tt
 behind_fits line (goes_on r) further o h more is = more r o h is
 
-items_fit : (items : List Item) (line : ℕ) (r : Reading) (o : Outcome) → IsFit r.draft → Follows items line r o → HasFit o
+items_fit : (items : List Item) (line : ℕ) (r : Reading) (o : FileOutcome) → IsFit r.draft → Follows items line r o → HasFit o
 items_fit [] line r o h is = subst HasFit (sym is) h
 items_fit (item ∷ items) line r o h (v, does_it, is) =
     behind_fits line v (Follows items (line + lines_in item)) o (item_stays r item v h does_it)

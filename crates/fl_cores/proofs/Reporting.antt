@@ -1,11 +1,11 @@
 -- A run of what a set-up makes is a report.
 use Rattle.std.proofs.Common.{◌≡◌, subst, ℕ, List, length, Result, Ok, Err, IfOk}
-use Rattle.fl_jobs.specs.Jobs.{Job as TheJob}
-use Rattle.fl_jobs.specs.declared.report.Report.{Report}
-use Rattle.fl_jobs.specs.Reports.{report_of}
-use Rattle.fl_worlds.specs.declared.parts.Parts.{Parts}
-use Rattle.fl_system.specs.Booting.{TheConfig}
-use Rattle.fl_threads.specs.Ran.{Keeps, RanFrom}
+use Rattle.fl_cores_file.specs.Jobs.{Job as TheJob}
+use Rattle.fl_cores_file.specs.declared.report.Report.{Report}
+use Rattle.fl_cores_file.specs.Reports.{report_of}
+use Rattle.fl_world_refines.specs.declared.parts.Parts.{Parts}
+use Rattle.fl_world.specs.Booting.{TheConfig}
+use Rattle.fl_cores_parts.specs.Ran.{Keeps, RanFrom}
 use Rattle.fl_cores.specs.declared.fault.CoresFault.{CoresFault}
 use Rattle.fl_cores.specs.Promised.{IsAccepted, Made, Reports, cores_by}
 

@@ -2,10 +2,10 @@
 use Rattle.std.proofs.Common.{◌≡◌, sym, subst, ℕ, false, List, None, inl, inr, Result, Ok, Err, IfErr}
 use Rattle.std.specs.List.{position}
 use Rattle.std.specs.Result.{IsErrAnd}
-use Rattle.fl_system.specs.Booting.{TheConfig, has_bad_cores}
-use Rattle.fl_jobs.specs.Jobs.{Job}
-use Rattle.fl_jobs.specs.CoresFile.{CoresFile, Reads, is_file}
-use Rattle.fl_jobs.specs.Report.{TheReport}
+use Rattle.fl_world.specs.Booting.{TheConfig, has_bad_cores}
+use Rattle.fl_cores_file.specs.Jobs.{Job}
+use Rattle.fl_cores_file.specs.CoresFile.{CoresFile, Reads, is_file}
+use Rattle.fl_cores_file.specs.Report.{TheReport}
 use Rattle.fl_cores.specs.declared.fault.CoresFault.{CoresFault}
 use Rattle.fl_cores.specs.declared.fault.CoresFault.TheVariants as fault
 use Rattle.fl_cores.specs.Promised.{is_other, Reports, IsFault, IsFaultOfText, config_in}

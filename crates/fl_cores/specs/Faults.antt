@@ -1,9 +1,9 @@
 -- Which fault of a run comes of which fault below, and the faults' numbers.
 use Rattle.std.specs.Prelude.{ℕ}
-use Rattle.fl_system.specs.declared.booting.BootFault.{BootFault}
-use Rattle.fl_system.specs.declared.booting.BootFault.TheVariants as boot
-use Rattle.fl_threads.specs.declared.fault.RunFault.{RunFault}
-use Rattle.fl_threads.specs.declared.fault.RunFault.TheVariants as run
+use Rattle.fl_world.specs.declared.booting.BootFault.{BootFault}
+use Rattle.fl_world.specs.declared.booting.BootFault.TheVariants as boot
+use Rattle.fl_cores_parts.specs.declared.fault.RunFault.{RunFault}
+use Rattle.fl_cores_parts.specs.declared.fault.RunFault.TheVariants as run
 use Rattle.fl_cores.specs.declared.fault.CoresFault.{CoresFault}
 use Rattle.fl_cores.specs.declared.fault.CoresFault.TheVariants.{Setup, Job, Memory, Thread}
 

@@ -1,23 +1,23 @@
 -- What is promised of a run of cores, beside what its report will be shown to say of calls.
 use Rattle.std.specs.Prelude.{ℕ, ◌≡◌, ◌⊎◌, ◌+◌, Bool, true, false, not, List, ◌++◌, length, take, Option, Some, None, position}
 use Rattle.std.specs.List.{list_all}
-use Rattle.fl_queues.specs.Events.{Event}
-use Rattle.fl_lines.specs.declared.event.Event.{Event as RustEvent}
-use Rattle.fl_lines.specs.Events.{event_of}
-use Rattle.fl_queues.specs.Runs.{answers_to, reached}
-use Rattle.fl_queues.specs.Worlds.{start_with}
-use Rattle.fl_worlds.specs.View.{TheWorld}
-use Rattle.fl_jobs.specs.Jobs.{Job}
-use Rattle.fl_jobs.specs.CoresFile.{CoresFile, Outcome, Reads, is_file, refused_at}
-use Rattle.fl_jobs.specs.Report.{TheReport, Ending, complete, turns_out}
-use Rattle.fl_threads.specs.declared.fault.RunFault.TheVariants as run
-use Rattle.fl_threads.specs.Faults.{IsRunFault}
-use Rattle.fl_threads.specs.Ran.{Keeps, RanFrom}
-use Rattle.fl_jobs.specs.Printed.{refusal_text, report_text}
-use Rattle.fl_system.specs.declared.booting.BootFault.TheVariants as boot
-use Rattle.fl_worlds.specs.declared.parts.Parts.{Parts}
-use Rattle.fl_worlds.specs.Apart.{is_making, AreParts}
-use Rattle.fl_system.specs.Booting.{TheConfig, has_bad_cores, passes, Stands, AcceptsAll, IsFaultOf}
+use Rattle.fl_model.specs.Events.{Event}
+use Rattle.fl_script_lines.specs.declared.event.Event.{Event as RustEvent}
+use Rattle.fl_script_lines.specs.Events.{event_of}
+use Rattle.fl_model.specs.Runs.{answers_to, reached}
+use Rattle.fl_model.specs.Worlds.{start_with}
+use Rattle.fl_world_refines.specs.View.{TheWorld}
+use Rattle.fl_cores_file.specs.Jobs.{Job}
+use Rattle.fl_cores_file.specs.CoresFile.{CoresFile, FileOutcome, Reads, is_file, refused_at}
+use Rattle.fl_cores_file.specs.Report.{TheReport, Ending, complete, turns_out}
+use Rattle.fl_cores_parts.specs.declared.fault.RunFault.TheVariants as run
+use Rattle.fl_cores_parts.specs.Faults.{IsRunFault}
+use Rattle.fl_cores_parts.specs.Ran.{Keeps, RanFrom}
+use Rattle.fl_cores_file.specs.Printed.{refusal_text, report_text}
+use Rattle.fl_world.specs.declared.booting.BootFault.TheVariants as boot
+use Rattle.fl_world_refines.specs.declared.parts.Parts.{Parts}
+use Rattle.fl_world_refines.specs.Apart.{is_making, AreParts}
+use Rattle.fl_world.specs.Booting.{TheConfig, has_bad_cores, passes, Stands, AcceptsAll, IsFaultOf}
 use Rattle.fl_cores.specs.declared.fault.CoresFault.{CoresFault}
 use Rattle.fl_cores.specs.declared.fault.CoresFault.TheVariants as fault
 use Rattle.fl_cores.specs.declared.text.CoresEnd.{CoresEnd}
@@ -133,13 +133,13 @@ pub record AppendsRefusal (line number : ℕ) (e : CoresEnd) (before after : Lis
   pub ending : e ≡ end.Refused
   pub rest : after ≡ before ++ refusal_text line number
 
-abbrev pub AppendsFor : Outcome → ℕ → CoresEnd → List ℕ → List ℕ → Type 0
+abbrev pub AppendsFor : FileOutcome → ℕ → CoresEnd → List ℕ → List ℕ → Type 0
 AppendsFor (is_file file) limit e before after = AppendsReport file limit e before after
 AppendsFor (refused_at line number) limit e before after = AppendsRefusal line number e before after
 
 -- whatever a text comes to
 pub record Appends (text : List ℕ) (limit : ℕ) (e : CoresEnd) (before after : List ℕ) : Type 0 where
-  pub outcome : Outcome
+  pub outcome : FileOutcome
   pub reads : Reads text outcome
   pub appends : AppendsFor outcome limit e before after
 

@@ -4,8 +4,8 @@ ghost use Rattle.std.specs.Prelude.{◌≡◌};
 ghost use Rattle.fl_cores.specs.declared.fault.CoresFault.TheVariants.{Memory as OutOfMemory};
 ghost use Rattle.fl_cores.specs.Faults.{by_boot, by_run, number_of};
 
-use fl_system::BootFault;
-use fl_threads::RunFault;
+use fl_cores_parts::RunFault;
+use fl_world::BootFault;
 use std::alloc::{AllocError, AllocFailed};
 use thiserror::Error;
 

@@ -1,23 +1,23 @@
 //! A run of cores, from their set-up to the report.
 
 ghost use Rattle.std.specs.Prelude.{◌≡◌, ◌≤◌, Some, None, List, map, position, length, IfOk, IfErr};
-ghost use Rattle.fl_lines.specs.Events.{event_of};
-ghost use Rattle.fl_jobs.specs.Reports.{report_of};
-ghost use Rattle.fl_worlds.specs.Apart.{is_making};
-ghost use Rattle.fl_system.specs.Booting.{config_of, IsFaultOf};
-ghost use Rattle.fl_jobs.specs.Jobs.{Job as TheJob};
-ghost use Rattle.fl_jobs.specs.Views.{job_of};
+ghost use Rattle.fl_script_lines.specs.Events.{event_of};
+ghost use Rattle.fl_cores_file.specs.Reports.{report_of};
+ghost use Rattle.fl_world_refines.specs.Apart.{is_making};
+ghost use Rattle.fl_world.specs.Booting.{config_of, IsFaultOf};
+ghost use Rattle.fl_cores_file.specs.Jobs.{Job as TheJob};
+ghost use Rattle.fl_cores_file.specs.Views.{job_of};
 ghost use Rattle.fl_cores.specs.Promised.{is_other, asks_other, cores_by, IsAccepted, Made, Reports, IsFault, IsLater};
-ghost use Rattle.fl_threads.specs.Ran.{Keeps, RanFrom};
+ghost use Rattle.fl_cores_parts.specs.Ran.{Keeps, RanFrom};
 
 use crate::fault::CoresFault;
 use fl_base::faults;
-use fl_jobs::{Job, Report};
-use fl_lines::{BackEnd, Event};
-use fl_running::Gate;
-use fl_system::{BootFault, Config, World};
-use fl_threads::run_parts;
-use fl_worlds::Parts;
+use fl_core_run::Gate;
+use fl_cores_file::{Job, Report};
+use fl_cores_parts::run_parts;
+use fl_script_lines::{BackEnd, Event};
+use fl_world::{BootFault, Config, World};
+use fl_world_refines::Parts;
 use std::alloc::Global;
 use std::sync::Wait;
 use std::thread::Threads;
@@ -40,13 +40,13 @@ fn is_making(event: &Event<'_>) -> bool
         | Event::Show(_)
         | Event::Write(_)
         | Event::Turn(_)
-        | Event::Acknowledge(_)
+        | Event::Ack(_)
         | Event::Register(_)
         | Event::Deregister(_)
         | Event::Reply { .. }
         | Event::MonitorWrite { .. }
         | Event::Forward { .. }
-        | Event::MonitorAcknowledge { .. } => false,
+        | Event::MonitorAck { .. } => false,
     }
 }
 
@@ -123,14 +123,10 @@ fn refuse_other(alloc: Global, config: &Config<'_>, place: usize) -> CoresFault
     }
 }
 
-/// Runs cores on threads of their own, each with its jobs, until each has finished or counted so many turns.
-///
-/// # Errors
-/// [`CoresFault`]: a number of cores outside 1 to 16 (94, at place 0); else the first event of the set-up that
-/// is refused, by the world or since no set-up has it (93); else the first job that is refused; or out of
-/// memory, or of threads. Every thread was joined then.
+// Runs cores on threads of their own, each with its jobs, until each has finished or counted so many turns; the fault is the first event of the set-up
+// that is refused, else the first job, else memory or a thread.
 #[tactic(auto, using(crate::proofs::Booted::not_booted, crate::proofs::Booted::late_fault))]
-pub fn run_cores<R: Threads + Wait + Sync, G: Gate + Sync>(
+pub(crate) fn run_jobs<R: Threads + Wait + Sync, G: Gate + Sync>(
     rt: &R,
     alloc: Global,
     config: &Config<'_>,

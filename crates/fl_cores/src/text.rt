@@ -1,14 +1,14 @@
 //! A cores file run.
 
 ghost use Rattle.std.specs.Prelude.{◌≡◌, ◌≤◌, IfOk, IfErr, OnErr};
-ghost use Rattle.fl_jobs.specs.Files.{file_from};
+ghost use Rattle.fl_cores_file.specs.Files.{file_from};
 ghost use Rattle.fl_cores.specs.Promised.{config_in, Appends, AppendsReport, IsFault, IsFaultOfText};
 
 use crate::fault::CoresFault;
-use crate::run::run_cores;
-use fl_jobs::{CoresFile, CoresText, Ending, print_refusal, print_report, read_cores_text};
-use fl_running::Gate;
-use fl_system::Config;
+use crate::run::run_jobs;
+use fl_core_run::Gate;
+use fl_cores_file::{CoresFile, CoresText, Ending, print_refusal, print_report, read_cores_text};
+use fl_world::Config;
 use std::alloc::Global;
 use std::sync::Wait;
 use std::thread::Threads;
@@ -50,7 +50,7 @@ fn run_file<R: Threads + Wait + Sync, G: Gate + Sync>(
         cores: cores as u8,
         setup,
     };
-    let report = run_cores(rt, alloc, &config, jobs, limit, gate)?;
+    let report = run_jobs(rt, alloc, &config, jobs, limit, gate)?;
     let file = CoresFile {
         cores,
         setup: config.setup,
@@ -65,13 +65,8 @@ fn run_file<R: Threads + Wait + Sync, G: Gate + Sync>(
     }
 }
 
-/// Runs a cores file and appends what is told of that: its report, or the line that is refused.
-///
-/// # Errors
-/// Out of memory, whatever the text is; else the text is a cores file, and the fault is one of its set-up and jobs, as
-/// [`run_cores`] tells them: a thread doesn't start, or a part is refused. (No clause rules out a refused set-up or job
-/// of an accepted file; no such file is known.) Nothing is appended then.
-pub fn run_cores_text<R: Threads + Wait + Sync, G: Gate + Sync>(
+// Runs a cores file and appends what is told of that: its report, or the line that is refused.
+pub(crate) fn run_text<R: Threads + Wait + Sync, G: Gate + Sync>(
     rt: &R,
     alloc: Global,
     text: &[u8],

@@ -6,13 +6,13 @@ use Rattle.std.proofs.lemmas.List.{map-append}
 use Rattle.std.proofs.lemmas.List.Elements.{All-nil, All-cons, All-append}
 use Rattle.std.proofs.lemmas.Grind.{flat_map-append}
 use Rattle.fl_base.specs.declared.fragment.Frag.{Frag}
-use Rattle.fl_value.specs.Value.{TheCall}
+use Rattle.fl_value_data.specs.Value.{TheCall}
 use Rattle.fl_wire.specs.Payload.{frags_on}
 use Rattle.fl_wire.specs.Reading.{AllFit}
 use Rattle.fl_compile.specs.declared.program.Program.{Program}
 use Rattle.fl_compile.specs.Programs.{TheProgram, program_of}
 use Rattle.fl_endpoint.specs.View.{TheEnd, TheOutgoing, number_or_0, interface_in, plan_in, frags_from, bound_by, bound, reply_to, queued, with_call, with_written, with_part}
-use Rattle.fl_endpoint.specs.Accounts.{Accepted, asked, by_rule, calls_in, replies_in, stream, streams, Stretch, no_event, joined, Account, Replies, followed, replies_by, Sound}
+use Rattle.fl_endpoint.specs.Accounts.{Accepted, asked, by_rule, calls_in, replies_in, stream, streams, EndHistory, no_event, joined, Account, Replies, followed, replies_by, Sound}
 use Rattle.fl_endpoint.proofs.Sendings.{QueuedOne, WroteOne}
 use Rattle.fl_endpoint.proofs.Sounds.{Fits, queued_call, idle_end, emptied}
 
@@ -45,7 +45,7 @@ none_before (Some c) u keeps e = let k : u ≡ Some c = keeps c refl in absurd c
 no_more : {A : Type 0} (xs ys : List A) → xs ≡ [] → ys ≡ [] → xs ++ ys ≡ []
 no_more xs ys a b = ap (λ (l : List _). l ++ ys) a ∙ b
 
-pub chain : (s t u : TheEnd) (h g : Stretch) → Account s h t → Account t g u → Account s (joined h g) u
+pub chain : (s t u : TheEnd) (h g : EndHistory) → Account s h t → Account t g u → Account s (joined h g) u
 chain s t u h g a b =
     let k = number_or_0 u.circuit in
     let p = program_of u.program in
@@ -99,7 +99,7 @@ chain_replies s t u handled handled2 due due2 a b = record {
       ∙ sym (replies_by_more s.rules handled handled2);
 }
 
-abbrev pub happened : List Accepted → List Frag → List Frag → List TheCall → List TheCall → Stretch
+abbrev pub happened : List Accepted → List Frag → List Frag → List TheCall → List TheCall → EndHistory
 happened accepted put took handled due = record { accepted = accepted; put = put; took = took; handled = handled; due = due }
 
 -- ---- an event that adds nothing

@@ -7,29 +7,29 @@ use Rattle.std.proofs.lemmas.Result.{on_ok_weaker}
 use Rattle.std.proofs.lemmas.List.{length-map, map-append}
 use Rattle.fl_base.specs.declared.fragment.Frag.{Frag}
 use Rattle.fl_interface.specs.Interface.{TheMessage, TheInterface}
-use Rattle.fl_value.specs.Value.{TheCall}
-use Rattle.fl_value.specs.Tape.{types_of}
+use Rattle.fl_value_data.specs.Value.{TheCall}
+use Rattle.fl_value_data.specs.Tape.{types_of}
 use Rattle.fl_wire.specs.Payload.{frags_on}
 use Rattle.fl_compile.specs.Programs.{TheProgram}
 use Rattle.fl_endpoint.specs.View.{TheEnd, TheOutgoing, interface_in, number_or_0, queued, queued_if, wrote, reply_to, rule_at, holds_back, with_call, with_written, with_handled}
 use Rattle.fl_endpoint.specs.Accounts.{IsRule, Sound}
 use Rattle.fl_endpoint.specs.Rules.{rules_of}
-use Rattle.fl_endpoint.specs.declared.outgoing.Queued.{Queued}
-use Rattle.fl_endpoint.specs.declared.outgoing.Sending.{Sending}
+use Rattle.fl_endpoint.specs.declared.outgoing.QueuedCall.{QueuedCall}
+use Rattle.fl_endpoint.specs.declared.outgoing.SendingCall.{SendingCall}
 use Rattle.fl_endpoint.specs.declared.outgoing.Outgoing.{Outgoing}
-use Rattle.fl_endpoint.specs.declared.rules.Rules.{Rules}
-use Rattle.fl_endpoint.specs.declared.parts.Parts.TheInside.{Inside}
+use Rattle.fl_endpoint.specs.declared.rules.ReplyRules.{ReplyRules}
+use Rattle.fl_endpoint.specs.declared.parts.EndParts.TheInside.{Inside}
 use Rattle.fl_endpoint.specs.Stored.{queued_frags, sending_frags, count_in, outgoing_of, IsOwn, IsQueued, AreQueued, Queues, QueuesReply, IsInTransmission, IsOutgoing}
 use Rattle.fl_endpoint.specs.Inside.{circuit_of, program_in, end_of, IsEnd}
 use Rattle.fl_endpoint.proofs.Sounds.{has_room, sound_exchanged}
 
 -- ---- the calls that are to be sent
 
-pub still_now : (o : Option Sending) (payload : Option (Vec ℕ)) (xs ys : List Queued) → true ≡ is_some o → IsInTransmission o payload xs → IsInTransmission o payload ys
+pub still_now : (o : Option SendingCall) (payload : Option (Vec ℕ)) (xs ys : List QueuedCall) → true ≡ is_some o → IsInTransmission o payload xs → IsInTransmission o payload ys
 still_now None payload xs ys e h = absurd cc
 still_now (Some s) payload xs ys e h = h
 
-pub queued_more : (p : TheProgram) (xs : List Queued) (x : Queued) → AreQueued p xs → IsQueued p x → AreQueued p (xs ++ x ∷ [])
+pub queued_more : (p : TheProgram) (xs : List QueuedCall) (x : QueuedCall) → AreQueued p xs → IsQueued p x → AreQueued p (xs ++ x ∷ [])
 queued_more p [] x h q = (q, tt)
 queued_more p (y ∷ ys) x h q = (h.0, queued_more p ys x h.1 q)
 
@@ -38,53 +38,53 @@ length_more [] x = refl
 length_more (y ∷ ys) x = let h = length_more ys x in omega (arith, h)
 
 -- with a reply, where there is one
-pub accepted_one : (p : TheProgram) (circuit : ℕ) (o after : TheOutgoing) (reply : Option Queued) (call : Queued) → reply ≡ Some call
+pub accepted_one : (p : TheProgram) (circuit : ℕ) (o after : TheOutgoing) (reply : Option QueuedCall) (call : QueuedCall) → reply ≡ Some call
     → after ≡ queued o (queued_frags p circuit call) → after ≡ queued_if o (option_map (queued_frags p circuit) reply)
 accepted_one p circuit o after None call e h = absurd cc
-accepted_one p circuit o after (Some x) call e h = let same : call ≡ x = cc in h ∙ ap (λ (y : Queued). queued o (queued_frags p circuit y)) same
+accepted_one p circuit o after (Some x) call e h = let same : call ≡ x = cc in h ∙ ap (λ (y : QueuedCall). queued o (queued_frags p circuit y)) same
 
-pub accepted_on_ok : {E : Type 0} (r : Result (Unit {0}) E) (p : TheProgram) (circuit : ℕ) (o after : TheOutgoing) (reply : Option Queued) (call : Queued) → reply ≡ Some call
+pub accepted_on_ok : {E : Type 0} (r : Result (Unit {0}) E) (p : TheProgram) (circuit : ℕ) (o after : TheOutgoing) (reply : Option QueuedCall) (call : QueuedCall) → reply ≡ Some call
     → OnOk r (after ≡ queued o (queued_frags p circuit call)) → OnOk r (after ≡ queued_if o (option_map (queued_frags p circuit) reply))
 accepted_on_ok r p circuit o after reply call e h = on_ok_weaker r (accepted_one p circuit o after reply call e) h
 
-pub accepted_none : (p : TheProgram) (circuit : ℕ) (o : TheOutgoing) (reply : Option Queued) → reply ≡ None → o ≡ queued_if o (option_map (queued_frags p circuit) reply)
+pub accepted_none : (p : TheProgram) (circuit : ℕ) (o : TheOutgoing) (reply : Option QueuedCall) → reply ≡ None → o ≡ queued_if o (option_map (queued_frags p circuit) reply)
 accepted_none p circuit o None e = refl
 accepted_none p circuit o (Some x) e = absurd cc
 
 -- one that waits more, or none more
-pub waits_more : (p : TheProgram) (before after : Outgoing) (call : Queued) → true ≡ is_some before.sending → IsOutgoing p before → IsQueued p call
+pub waits_more : (p : TheProgram) (before after : Outgoing) (call : QueuedCall) → true ≡ is_some before.sending → IsOutgoing p before → IsQueued p call
     → length before.waiting.items < 16 → after.sending ≡ before.sending → after.payload ≡ before.payload → after.waiting.items ≡ before.waiting.items ++ call ∷ [] → IsOutgoing p after
 waits_more p before after call busy is q few sending payload items =
     let long = ap length items ∙ length_more before.waiting.items call in
     record {
-      now = subst (λ (o : Option Sending). IsInTransmission o after.payload after.waiting.items) (sym sending)
+      now = subst (λ (o : Option SendingCall). IsInTransmission o after.payload after.waiting.items) (sym sending)
           (subst (λ (x : Option (Vec ℕ)). IsInTransmission before.sending x after.waiting.items) (sym payload)
           (still_now before.sending before.payload before.waiting.items after.waiting.items busy is.now));
-      waiting = subst (λ (xs : List Queued). AreQueued p xs) (sym items) (queued_more p before.waiting.items call is.waiting q);
+      waiting = subst (λ (xs : List QueuedCall). AreQueued p xs) (sym items) (queued_more p before.waiting.items call is.waiting q);
       few = omega (arith, long, few);
     }
 
 pub waits_as : (p : TheProgram) (before after : Outgoing) → IsOutgoing p before → after.sending ≡ before.sending → after.payload ≡ before.payload
     → after.waiting.items ≡ before.waiting.items → IsOutgoing p after
 waits_as p before after is sending payload items = record {
-  now = subst (λ (o : Option Sending). IsInTransmission o after.payload after.waiting.items) (sym sending)
+  now = subst (λ (o : Option SendingCall). IsInTransmission o after.payload after.waiting.items) (sym sending)
       (subst (λ (x : Option (Vec ℕ)). IsInTransmission before.sending x after.waiting.items) (sym payload)
-      (subst (λ (xs : List Queued). IsInTransmission before.sending before.payload xs) (sym items) is.now));
-  waiting = subst (λ (xs : List Queued). AreQueued p xs) (sym items) is.waiting;
-  few = subst (λ (xs : List Queued). length xs ≤ 16) (sym items) is.few;
+      (subst (λ (xs : List QueuedCall). IsInTransmission before.sending before.payload xs) (sym items) is.now));
+  waiting = subst (λ (xs : List QueuedCall). AreQueued p xs) (sym items) is.waiting;
+  few = subst (λ (xs : List QueuedCall). length xs ≤ 16) (sym items) is.few;
 }
 
-pub no_sending : (o : Option Sending) → false ≡ is_some o → o ≡ None
+pub no_sending : (o : Option SendingCall) → false ≡ is_some o → o ≡ None
 no_sending None e = refl
 no_sending (Some s) e = absurd cc
 
 -- behind the call in transmission
-pub queued_waits : (p : TheProgram) (circuit : ℕ) (before : Outgoing) (items : List Queued) (call : Queued) → true ≡ is_some before.sending → items ≡ before.waiting.items ++ call ∷ []
+pub queued_waits : (p : TheProgram) (circuit : ℕ) (before : Outgoing) (items : List QueuedCall) (call : QueuedCall) → true ≡ is_some before.sending → items ≡ before.waiting.items ++ call ∷ []
     → ◌≡◌ {A = TheOutgoing} (record { unwritten = sending_frags before.sending before.payload; count = count_in before.sending; waiting = map (queued_frags p circuit) items })
     (queued (outgoing_of p circuit before) (queued_frags p circuit call))
 queued_waits p circuit before items call busy e = by before.sending busy
   where
-    by : (o : Option Sending) → true ≡ is_some o
+    by : (o : Option SendingCall) → true ≡ is_some o
         → ◌≡◌ {A = TheOutgoing} (record { unwritten = sending_frags o before.payload; count = count_in o; waiting = map (queued_frags p circuit) items })
         (queued (record { unwritten = sending_frags o before.payload; count = count_in o; waiting = map (queued_frags p circuit) before.waiting.items }) (queued_frags p circuit call))
     by None busy = absurd cc
@@ -106,7 +106,7 @@ end_with_outgoing e out circuit o bound is =
     ap (λ (x : TheOutgoing). record (end_of e) { outgoing = x })
     (ap (λ (n : ℕ). outgoing_of (program_in e) n out) (number_is (circuit_of e.circuit) circuit bound) ∙ is)
 
-pub queued_end : (e : Inside) (out : Outgoing) (call : Queued) (c : TheCall) (circuit : ℕ) → circuit_of e.circuit ≡ Some circuit → Queues (program_in e) c call
+pub queued_end : (e : Inside) (out : Outgoing) (call : QueuedCall) (c : TheCall) (circuit : ℕ) → circuit_of e.circuit ≡ Some circuit → Queues (program_in e) c call
     → outgoing_of (program_in e) circuit out ≡ queued (outgoing_of (program_in e) circuit e.outgoing) (queued_frags (program_in e) circuit call)
     → end_of (end_with e out) ≡ with_call (end_of e) c
 queued_end e out call c circuit bound queues is =
@@ -139,14 +139,14 @@ kept_is_end e out outgoing view sound = record {
 -- ---- calls handled
 
 -- the reply is queued where there is one
-pub accepted_as : (p : TheProgram) (circuit : ℕ) (o : TheOutgoing) (c : Option TheCall) (reply : Option Queued) → QueuesReply p c reply
+pub accepted_as : (p : TheProgram) (circuit : ℕ) (o : TheOutgoing) (c : Option TheCall) (reply : Option QueuedCall) → QueuesReply p c reply
     → queued_if o (option_map (queued_frags p circuit) reply) ≡ queued_if o (option_map (frags_on circuit p.plan p.interface) c)
 accepted_as p circuit o None None q = refl
 accepted_as p circuit o (Some c) (Some reply) q = ap (queued o) (q.frags circuit)
 accepted_as p circuit o None (Some reply) q = absurd q
 accepted_as p circuit o (Some c) None q = absurd q
 
-pub handled_end : (e : Inside) (out : Outgoing) (c : TheCall) (reply : Option Queued) (circuit : ℕ) → circuit_of e.circuit ≡ Some circuit
+pub handled_end : (e : Inside) (out : Outgoing) (c : TheCall) (reply : Option QueuedCall) (circuit : ℕ) → circuit_of e.circuit ≡ Some circuit
     → QueuesReply (program_in e) (reply_to (rules_of e.rules.replies.items) c) reply
     → outgoing_of (program_in e) circuit out ≡ queued_if (outgoing_of (program_in e) circuit e.outgoing) (option_map (queued_frags (program_in e) circuit) reply)
     → end_of (end_with e out) ≡ with_handled (end_of e) c
@@ -168,23 +168,23 @@ handled_is_end e out c outgoing view sound = record {
 
 -- ---- whether a call is in transmission
 
-pub busy_sending : (o : Option Sending) (payload : Option (Vec ℕ)) (f : Frag) (rest : List Frag) → sending_frags o payload ≡ f ∷ rest → IsSome o
+pub busy_sending : (o : Option SendingCall) (payload : Option (Vec ℕ)) (f : Frag) (rest : List Frag) → sending_frags o payload ≡ f ∷ rest → IsSome o
 busy_sending None payload f rest e = absurd cc
 busy_sending (Some s) payload f rest e = refl
 
 -- none where nothing is to be written
-pub none_sending : (o : Option Sending) (payload : Option (Vec ℕ)) → sending_frags o payload ≡ [] → o ≡ None
+pub none_sending : (o : Option SendingCall) (payload : Option (Vec ℕ)) → sending_frags o payload ≡ [] → o ≡ None
 none_sending None payload e = refl
 none_sending (Some s) payload e = absurd cc
 
 -- the next fragment, if there is one, is carried unchanged
-pub next_own : (o : Option Sending) (payload : Option (Vec ℕ)) (xs : List Queued) → IsInTransmission o payload xs → IfSome (slice_get (sending_frags o payload) 0) IsOwn
+pub next_own : (o : Option SendingCall) (payload : Option (Vec ℕ)) (xs : List QueuedCall) → IsInTransmission o payload xs → IfSome (slice_get (sending_frags o payload) 0) IsOwn
 next_own None payload xs is = search rules
 next_own (Some s) payload xs is = is.own.0
 
 -- there is room for the reply to a call
-pub room_for : (p : TheProgram) (circuit : ℕ) (e : Inside) (c : TheCall) (reply : Option Queued) → QueuesReply p (reply_to (rules_of e.rules.replies.items) c) reply
-    → holds_back (end_of e) ≡ false → Sound (end_of e) → IfSome reply (λ (call : Queued). length e.outgoing.waiting.items < 16)
+pub room_for : (p : TheProgram) (circuit : ℕ) (e : Inside) (c : TheCall) (reply : Option QueuedCall) → QueuesReply p (reply_to (rules_of e.rules.replies.items) c) reply
+    → holds_back (end_of e) ≡ false → Sound (end_of e) → IfSome reply (λ (call : QueuedCall). length e.outgoing.waiting.items < 16)
 room_for p circuit e c None q held sound = search rules
 room_for p circuit e c (Some call) q held sound = room_by (rule_at (rules_of e.rules.replies.items) c.msg) refl q
   where
@@ -198,15 +198,15 @@ room_for p circuit e c (Some call) q held sound = room_by (rule_at (rules_of e.r
 
 -- ---- reply rules
 
-abbrev pub with_rules : Inside → Rules → Inside
+abbrev pub with_rules : Inside → ReplyRules → Inside
 with_rules e rules = record { alloc = e.alloc; program = e.program; rules = rules; circuit = e.circuit; outgoing = e.outgoing; failed = e.failed }
 
 -- an end with one rule more
-pub ruled_view : (e : Inside) (after : Rules) (msg reply : ℕ) → rules_of after.replies.items ≡ slice_set (rules_of e.rules.replies.items) msg (Some reply)
+pub ruled_view : (e : Inside) (after : ReplyRules) (msg reply : ℕ) → rules_of after.replies.items ≡ slice_set (rules_of e.rules.replies.items) msg (Some reply)
     → end_of (with_rules e after) ≡ record (end_of e) { rules = slice_set (end_of e).rules msg (Some reply) }
 ruled_view e after msg reply is = ap (λ (x : List (Option ℕ)). record (end_of e) { rules = x }) is
 
-pub ruled_is_end : (e : Inside) (after : Rules) (msg reply : ℕ) → IsEnd e → rules_of after.replies.items ≡ slice_set (rules_of e.rules.replies.items) msg (Some reply)
+pub ruled_is_end : (e : Inside) (after : ReplyRules) (msg reply : ℕ) → IsEnd e → rules_of after.replies.items ≡ slice_set (rules_of e.rules.replies.items) msg (Some reply)
     → Sound (record (end_of e) { rules = slice_set (end_of e).rules msg (Some reply) }) → IsEnd (with_rules e after)
 ruled_is_end e after msg reply old is sound = record {
   outgoing = old.outgoing;

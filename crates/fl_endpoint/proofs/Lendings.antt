@@ -4,9 +4,9 @@ use Rattle.std.specs.Prelude.{slice_get, slice_set, IsSomeAnd}
 use Rattle.std.proofs.lemmas.Option.{slice_get_within}
 use Rattle.fl_base.specs.declared.fragment.Frag.{Frag}
 use Rattle.fl_base.specs.Control.{bare}
-use Rattle.fl_value.specs.declared.value.Call.{Call}
-use Rattle.fl_value.specs.Value.{TheCall, call_of}
-use Rattle.fl_value.specs.Fits.{fits_of}
+use Rattle.fl_value_data.specs.declared.value.Call.{Call}
+use Rattle.fl_value_data.specs.Value.{TheCall, call_of}
+use Rattle.fl_value_data.specs.Fits.{fits_of}
 use Rattle.fl_wire.specs.Reading.{IsPart, Means, OneReading}
 use Rattle.fl_wire.specs.declared.fault.WireFault.{WireFault}
 use Rattle.fl_wire.specs.Words.{interface_words_fit}

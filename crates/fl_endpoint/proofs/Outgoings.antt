@@ -11,10 +11,10 @@ use Rattle.fl_base.specs.declared.fragment.Frag.{Frag}
 use Rattle.fl_base.specs.Control.{control_word, body}
 use Rattle.fl_interface.specs.Interface.{TheMessage, TheInterface}
 use Rattle.fl_interface.specs.Limits.{is_within_limits}
-use Rattle.fl_value.specs.Value.{TheCall}
-use Rattle.fl_value.specs.Fits.{fits_of, fit_message}
-use Rattle.fl_value.specs.Tape.{tape_of}
-use Rattle.fl_value.specs.declared.value.PlanNo.{PlanNo}
+use Rattle.fl_value_data.specs.Value.{TheCall}
+use Rattle.fl_value_data.specs.Fits.{fits_of, fit_message}
+use Rattle.fl_value_data.specs.Tape.{tape_of}
+use Rattle.fl_value_data.specs.declared.value.PlanNo.{PlanNo}
 use Rattle.fl_layout.specs.Leaves.{leaves}
 use Rattle.fl_layout.specs.Places.{size, count, count_for}
 use Rattle.fl_wire.specs.Payload.{payload_at, payload_of, frag_on, frags_on}
@@ -27,10 +27,10 @@ use Rattle.fl_compile.specs.Codes.{compiled_code}
 use Rattle.fl_compile.specs.Programs.{TheProgram}
 use Rattle.fl_machine.specs.Sending.{frags_holding}
 use Rattle.fl_machine.specs.Laws.{SendsFragments}
-use Rattle.fl_endpoint.specs.declared.outgoing.Body.{Body}
-use Rattle.fl_endpoint.specs.declared.outgoing.Body.TheVariants.{Tape, Payload}
-use Rattle.fl_endpoint.specs.declared.outgoing.Queued.{Queued}
-use Rattle.fl_endpoint.specs.declared.outgoing.Sending.{Sending}
+use Rattle.fl_endpoint.specs.declared.outgoing.CallBody.{CallBody}
+use Rattle.fl_endpoint.specs.declared.outgoing.CallBody.TheVariants.{Tape, Payload}
+use Rattle.fl_endpoint.specs.declared.outgoing.QueuedCall.{QueuedCall}
+use Rattle.fl_endpoint.specs.declared.outgoing.SendingCall.{SendingCall}
 use Rattle.fl_endpoint.specs.View.{are_some}
 use Rattle.fl_endpoint.specs.Stored.{code_for, payload_frags, tape_frags, body_frags, IsOwn, AreOwn, IsBody, IsSending, Queues}
 
@@ -88,7 +88,7 @@ from_first_on msg circuit bytes first is =
     ap (λ (f : Frag). f ∷ drop 1 (payload_frags circuit msg bytes)) is ∙ from_one_on msg circuit bytes 0 (some_for (length bytes))
 
 -- those behind the next one, where there are any
-pub from_next_on : (s : Sending) (payload : Vec ℕ) (next : Frag) → IsSending s (Some payload) → (s.written + 1 ≡ s.count → ⊥)
+pub from_next_on : (s : SendingCall) (payload : Vec ℕ) (next : Frag) → IsSending s (Some payload) → (s.written + 1 ≡ s.count → ⊥)
     → next ≡ frag_on s.circuit.0 s.msg.0 payload.items (s.written + 1)
     → next ∷ drop (s.written + 1 + 1) (payload_frags s.circuit.0 s.msg.0 payload.items) ≡ drop (s.written + 1) (payload_frags s.circuit.0 s.msg.0 payload.items)
 from_next_on s payload next sending more is =
@@ -139,15 +139,15 @@ pub known_call : (i : TheInterface) (o : Option TheMessage) (c : TheCall) → o 
 known_call i None c there fits = absurd (false≢true (subst (λ (o : Option TheMessage). fit_message o c.args ≡ true) (sym there) fits))
 known_call i (Some m) c there fits = search rules
 
-queues_body : (p : TheProgram) (c : TheCall) (call : Queued) (body : Body) → call.msg.0 ≡ c.msg → call.body ≡ body → IsBody p c.msg body
+queues_body : (p : TheProgram) (c : TheCall) (call : QueuedCall) (body : CallBody) → call.msg.0 ≡ c.msg → call.body ≡ body → IsBody p c.msg body
     → ((circuit : ℕ) → body_frags p circuit c.msg body ≡ frags_on circuit p.plan p.interface c) → Queues p c call
 queues_body p c call body msg is of_body frags = record {
-  is = subst (λ (n : ℕ). IsBody p n call.body) (sym msg) (subst (λ (b : Body). IsBody p c.msg b) (sym is) of_body);
+  is = subst (λ (n : ℕ). IsBody p n call.body) (sym msg) (subst (λ (b : CallBody). IsBody p c.msg b) (sym is) of_body);
   frags = λ circuit. ap (λ (n : ℕ). body_frags p circuit n call.body) msg ∙ ap (body_frags p circuit c.msg) is ∙ frags circuit;
 }
 
 -- a fitting call of one fragment as it is queued, by its tape
-pub queues_tape : (p : TheProgram) (c : TheCall) (tape : Vec ℕ) (call : Queued) → SendsFragments → is_within_limits p.interface ≡ true → interface_words_fit p.interface ≡ true
+pub queues_tape : (p : TheProgram) (c : TheCall) (tape : Vec ℕ) (call : QueuedCall) → SendsFragments → is_within_limits p.interface ≡ true → interface_words_fit p.interface ≡ true
     → fits_of p.interface c ≡ true → count p.plan p.interface c ≡ 1 → call.msg.0 ≡ c.msg → call.body ≡ Tape tape → tape.items ≡ tape_of p.plan p.interface c
     → Queues p c call
 queues_tape p c tape call law within words fits one msg body tape_is =
@@ -162,7 +162,7 @@ queues_tape p c tape call law within words fits one msg body tape_is =
     queues_body p c call (Tape tape) msg body is frags
 
 -- one by its payload
-pub queues_payload : (p : TheProgram) (c : TheCall) (payload : Vec ℕ) (call : Queued) → call.msg.0 ≡ c.msg → call.body ≡ Payload payload
+pub queues_payload : (p : TheProgram) (c : TheCall) (payload : Vec ℕ) (call : QueuedCall) → call.msg.0 ≡ c.msg → call.body ≡ Payload payload
     → payload.items ≡ payload_of p.plan p.interface c → Queues p c call
 queues_payload p c payload call msg body payload_is =
     let long : length (payload_of p.plan p.interface c) ≡ size (leaves p.plan p.interface c)

@@ -1,6 +1,6 @@
 -- Each event leaves the program of its end.
 use Rattle.std.proofs.Common.{◌≡◌, refl, ap, ℕ, Option, Some, None, Result, Ok, Err}
-use Rattle.fl_value.specs.Value.{TheCall}
+use Rattle.fl_value_data.specs.Value.{TheCall}
 use Rattle.fl_link.specs.Looks.{Look}
 use Rattle.fl_endpoint.specs.declared.fault.EndFault.{EndFault}
 use Rattle.fl_endpoint.specs.declared.fault.EndFault.TheVariants.{Spent, Busy, UnknownMessage, Misfit, NotBound, Failed, Wire, Memory}

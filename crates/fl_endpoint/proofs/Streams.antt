@@ -9,8 +9,8 @@ use Rattle.fl_base.specs.declared.fragment.Frag.{Frag}
 use Rattle.fl_base.specs.Control.{control_word, circuit_of, body, bare, with_circuit}
 use Rattle.fl_interface.specs.Interface.{TheMessage, TheInterface}
 use Rattle.fl_interface.specs.Limits.{is_within_limits}
-use Rattle.fl_value.specs.Value.{Datum, TheCall}
-use Rattle.fl_value.specs.Fits.{fits_of, fit_message}
+use Rattle.fl_value_data.specs.Value.{Datum, TheCall}
+use Rattle.fl_value_data.specs.Fits.{fits_of, fit_message}
 use Rattle.fl_layout.specs.Places.{count}
 use Rattle.fl_wire.specs.Payload.{payload_of, frag_on, frags_on}
 use Rattle.fl_wire.specs.Reading.{AllFit}

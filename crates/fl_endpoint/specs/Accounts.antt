@@ -4,7 +4,7 @@ use Rattle.std.specs.List.{flat_map}
 use Rattle.fl_base.specs.declared.fragment.Frag.{Frag}
 use Rattle.fl_interface.specs.Interface.{TheInterface}
 use Rattle.fl_interface.specs.Limits.{is_within_limits}
-use Rattle.fl_value.specs.Value.{TheCall}
+use Rattle.fl_value_data.specs.Value.{TheCall}
 use Rattle.fl_wire.specs.Payload.{frags_on}
 use Rattle.fl_wire.specs.Reading.{IsPart, AllFit}
 use Rattle.fl_wire.specs.Words.{interface_words_fit}
@@ -100,7 +100,7 @@ abbrev pub streams_from : TheEnd → List TheCall → List (List Frag)
 streams_from s calls = streams (program_of s.program) (number_or_0 s.circuit) calls
 
 -- what happened at an end over a stretch of time, each in order
-pub record Stretch : Type 0 where
+pub record EndHistory : Type 0 where
   -- the calls that it accepted
   pub accepted : List Accepted
   -- the fragments that it put, and those that it took
@@ -111,11 +111,11 @@ pub record Stretch : Type 0 where
   pub due : List TheCall
 
 -- nothing happened
-abbrev pub no_event : Stretch
+abbrev pub no_event : EndHistory
 no_event = record { accepted = []; put = []; took = []; handled = []; due = [] }
 
 -- one stretch, and then another
-abbrev pub joined : Stretch → Stretch → Stretch
+abbrev pub joined : EndHistory → EndHistory → EndHistory
 joined h g = record {
   accepted = h.accepted ++ g.accepted;
   put = h.put ++ g.put;
@@ -125,7 +125,7 @@ joined h g = record {
 }
 
 -- by what happened the end went from s to t
-pub record Account (s : TheEnd) (h : Stretch) (t : TheEnd) : Type 0 where
+pub record Account (s : TheEnd) (h : EndHistory) (t : TheEnd) : Type 0 where
   pub program : t.program ≡ s.program
   pub failed : s.failed ≡ true → t.failed ≡ true
   -- it was bound once at most, and before that nothing was accepted or due

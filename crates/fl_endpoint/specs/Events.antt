@@ -4,9 +4,9 @@ use Rattle.std.specs.Prelude.{◌≡◌, ◌≢◌, ℕ, ◌+◌, true, false, L
 use Rattle.fl_base.specs.declared.fragment.Frag.{Frag}
 use Rattle.fl_base.specs.declared.identity.Circuit.{Circuit}
 use Rattle.fl_interface.specs.Interface.{TheInterface}
-use Rattle.fl_value.specs.Value.{TheCall, call_of}
-use Rattle.fl_value.specs.Fits.{fits_of}
-use Rattle.fl_value.specs.Tape.{types_of}
+use Rattle.fl_value_data.specs.Value.{TheCall, call_of}
+use Rattle.fl_value_data.specs.Fits.{fits_of}
+use Rattle.fl_value_data.specs.Tape.{types_of}
 use Rattle.fl_wire.specs.Payload.{frags_of}
 use Rattle.fl_wire.specs.Reading.{IsPart}
 use Rattle.fl_machine.specs.Receiving.{IsRefused}

@@ -2,7 +2,7 @@
 use Rattle.std.specs.Prelude.{◌≡◌, ℕ, ◌^◌, ◌<◌, true, List, [], ◌∷◌, ◌++◌, map, length, Option, Result, Ok, Err}
 use Rattle.fl_base.specs.declared.fragment.Frag.{Frag}
 use Rattle.fl_interface.specs.Limits.{is_within_limits}
-use Rattle.fl_value.specs.Value.{TheCall, call_of}
+use Rattle.fl_value_data.specs.Value.{TheCall, call_of}
 use Rattle.fl_layout.specs.Places.{count}
 use Rattle.fl_wire.specs.Reading.{AllFit, IsPart, Reads}
 use Rattle.fl_wire.specs.declared.fault.WireFault.{WireFault}
@@ -17,12 +17,12 @@ use Rattle.fl_endpoint.specs.declared.answer.ReceiveAnswer.{ReceiveAnswer}
 use Rattle.fl_endpoint.specs.declared.answer.ReceiveAnswer.TheVariants.{Handle}
 use Rattle.fl_endpoint.specs.View.{TheEnd, fresh, interface_in, plan_in, bound, reply_to, with_rules_of}
 use Rattle.fl_endpoint.specs.Events.{AreCall, Calls, Writes, Receives, SetsRule}
-use Rattle.fl_endpoint.specs.Accounts.{Sound, Accepted, asked, calls_in, replies_in, followed, stream, stream_from, streams_from, Stretch, no_event, joined}
+use Rattle.fl_endpoint.specs.Accounts.{Sound, Accepted, asked, calls_in, replies_in, followed, stream, stream_from, streams_from, EndHistory, no_event, joined}
 use Rattle.fl_endpoint.specs.Accounts.{Account, Replies}
 
 -- accounts add up
 abbrev pub AddUp : Type 0
-AddUp = (s t u : TheEnd) (h g : Stretch) → Account s h t → Account t g u → Account s (joined h g) u
+AddUp = (s t u : TheEnd) (h g : EndHistory) → Account s h t → Account t g u → Account s (joined h g) u
 
 -- and so do the replies that are due, where the rules stay the same
 abbrev pub RepliesAddUp : Type 0
@@ -71,7 +71,7 @@ WriteAccounts {P} puts = (s t : TheEnd) (p q : P) (answer : Result WriteAnswer E
     → Sound s → Writes puts s p answer t q → WriteAdds puts s p t q
 
 -- what happens in a receive that is answered so: the fragments taken, the call handled and the reply due, and what is accepted
-abbrev pub happens_in_receive : List (Option ℕ) → Result ReceiveAnswer EndFault → List Look → List Accepted → Stretch
+abbrev pub happens_in_receive : List (Option ℕ) → Result ReceiveAnswer EndFault → List Look → List Accepted → EndHistory
 happens_in_receive rules answer looks accepted =
     record { accepted = accepted; put = []; took = takes_of looks; handled = handled_by answer; due = due_by rules answer }
 
@@ -111,14 +111,14 @@ ExchangeAccounts = (s t : TheEnd) → interface_in s ≡ interface_in t → Soun
 
 -- what it put is a prefix of its accepted calls' fragments, and the rest is what is still to be written; the replies accepted are a
 -- prefix of those due, and the others wait; what it took reads as its handled calls and a rest
-pub record Since (h : Stretch) (t : TheEnd) : Type 0 where
+pub record Since (h : EndHistory) (t : TheEnd) : Type 0 where
   pub sent : h.put ++ t.outgoing.unwritten ≡ stream_from t (calls_in h.accepted)
   pub wait : streams_from t (replies_in h.accepted) ++ t.outgoing.waiting ≡ streams_from t h.due
   pub read : Reads (plan_in t) (interface_in t) h.took h.handled t.parts
 
 -- this is so of each end that was made with nothing done, whatever happened to it since
 abbrev pub SinceMade : Type 0
-SinceMade = (program : Program) (circuit : Option ℕ) (t : TheEnd) (h : Stretch)
+SinceMade = (program : Program) (circuit : Option ℕ) (t : TheEnd) (h : EndHistory)
     → Sound t → Account (fresh program circuit) h t → Since h t
 
 -- ---- circuits
@@ -143,7 +143,7 @@ pub record TakenOf (program : TheProgram) (calls handled : List TheCall) (parts 
 -- an end that was made with nothing done, and to which these calls' fragments come in order, has handled
 -- a prefix of the calls
 abbrev pub HandlesInOrder : Type 0
-HandlesInOrder = (program : Program) (circuit : Option ℕ) (t : TheEnd) (h : Stretch) (calls : List TheCall) (more : List Frag)
+HandlesInOrder = (program : Program) (circuit : Option ℕ) (t : TheEnd) (h : EndHistory) (calls : List TheCall) (more : List Frag)
     → Sound t → Account (fresh program circuit) h t
     → AllFit (interface_in t) calls → h.took ++ more ≡ stream (program_of t.program) 0 calls
     → TakenOf (program_of t.program) calls h.handled t.parts more

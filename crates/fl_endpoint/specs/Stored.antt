@@ -5,8 +5,8 @@ use Rattle.std.specs.Global.{Vec}
 use Rattle.fl_base.specs.declared.fragment.Frag.{Frag}
 use Rattle.fl_base.specs.Control.{is_ack_only, bare}
 use Rattle.fl_interface.specs.Interface.{TheMessage}
-use Rattle.fl_value.specs.Value.{TheCall}
-use Rattle.fl_value.specs.declared.value.PlanNo.{PlanNo}
+use Rattle.fl_value_data.specs.Value.{TheCall}
+use Rattle.fl_value_data.specs.declared.value.PlanNo.{PlanNo}
 use Rattle.fl_wire.specs.Payload.{frags_on}
 use Rattle.fl_stub.specs.declared.op.Column.TheVariants.{Send}
 use Rattle.fl_stub.specs.Code.{TheCode}
@@ -16,10 +16,10 @@ use Rattle.fl_compile.specs.Codes.{compiled_code}
 use Rattle.fl_compile.specs.Programs.{TheProgram}
 use Rattle.fl_machine.specs.Sending.{frags_holding}
 use Rattle.fl_endpoint.specs.View.{TheOutgoing}
-use Rattle.fl_endpoint.specs.declared.outgoing.Body.{Body}
-use Rattle.fl_endpoint.specs.declared.outgoing.Body.TheVariants.{Tape, Payload}
-use Rattle.fl_endpoint.specs.declared.outgoing.Queued.{Queued}
-use Rattle.fl_endpoint.specs.declared.outgoing.Sending.{Sending}
+use Rattle.fl_endpoint.specs.declared.outgoing.CallBody.{CallBody}
+use Rattle.fl_endpoint.specs.declared.outgoing.CallBody.TheVariants.{Tape, Payload}
+use Rattle.fl_endpoint.specs.declared.outgoing.QueuedCall.{QueuedCall}
+use Rattle.fl_endpoint.specs.declared.outgoing.SendingCall.{SendingCall}
 use Rattle.fl_endpoint.specs.declared.outgoing.Outgoing.{Outgoing}
 
 -- the send code of a message; none where there is no such message
@@ -40,26 +40,26 @@ abbrev pub tape_frags : TheProgram → ℕ → ℕ → List ℕ → List Frag
 tape_frags program circuit msg tape = payload_frags circuit msg (bytes_given (block_of (code_of program msg).ops) tape)
 
 -- those of a message of which its tape, or its payload, is kept
-abbrev pub body_frags : TheProgram → ℕ → ℕ → Body → List Frag
+abbrev pub body_frags : TheProgram → ℕ → ℕ → CallBody → List Frag
 body_frags program circuit msg (Tape tape) = tape_frags program circuit msg tape.items
 body_frags program circuit msg (Payload payload) = payload_frags circuit msg payload.items
 
 -- those of a call that is to be sent
-abbrev pub queued_frags : TheProgram → ℕ → Queued → List Frag
+abbrev pub queued_frags : TheProgram → ℕ → QueuedCall → List Frag
 queued_frags program circuit call = body_frags program circuit call.msg.0 call.body
 
 -- those behind the next of the call in transmission; none where no payload is kept
-abbrev pub frags_behind : Sending → Option (Vec ℕ) → List Frag
+abbrev pub frags_behind : SendingCall → Option (Vec ℕ) → List Frag
 frags_behind s None = []
 frags_behind s (Some payload) = drop (s.written + 1) (payload_frags s.circuit.0 s.msg.0 payload.items)
 
 -- those of the call in transmission that are to be written
-abbrev pub sending_frags : Option Sending → Option (Vec ℕ) → List Frag
+abbrev pub sending_frags : Option SendingCall → Option (Vec ℕ) → List Frag
 sending_frags None payload = []
 sending_frags (Some s) payload = s.next ∷ frags_behind s payload
 
 -- how many fragments the call in transmission has in all; 0 where there is none
-abbrev pub count_in : Option Sending → ℕ
+abbrev pub count_in : Option SendingCall → ℕ
 count_in None = 0
 count_in (Some s) = s.count
 
@@ -89,36 +89,36 @@ pub record IsShort (program : TheProgram) (msg : ℕ) (tape : List ℕ) : Type 0
   pub one : (circuit : ℕ) → length (tape_frags program circuit msg tape) ≡ 1
 
 -- a tape is kept of a call of one fragment alone
-abbrev pub IsBody : TheProgram → ℕ → Body → Type 0
+abbrev pub IsBody : TheProgram → ℕ → CallBody → Type 0
 IsBody program msg (Tape tape) = IsShort program msg tape.items
 IsBody program msg (Payload payload) = Unit {0}
 
 -- what is kept of a call that waits is so, and of each of these
-abbrev pub IsQueued : TheProgram → Queued → Type 0
+abbrev pub IsQueued : TheProgram → QueuedCall → Type 0
 IsQueued program call = IsBody program call.msg.0 call.body
 
-abbrev pub AreQueued : TheProgram → List Queued → Type 0
+abbrev pub AreQueued : TheProgram → List QueuedCall → Type 0
 AreQueued program [] = Unit {0}
 AreQueued program (call ∷ calls) = IsQueued program call × AreQueued program calls
 
 -- the call, as it is queued
-pub record Queues (program : TheProgram) (c : TheCall) (call : Queued) : Type 0 where
+pub record Queues (program : TheProgram) (c : TheCall) (call : QueuedCall) : Type 0 where
   pub is : IsQueued program call
   pub frags : (circuit : ℕ) → queued_frags program circuit call ≡ frags_on circuit program.plan program.interface c
 
 -- the reply, as it is queued, where there is one
-abbrev pub QueuesReply : TheProgram → Option TheCall → Option Queued → Type 0
+abbrev pub QueuesReply : TheProgram → Option TheCall → Option QueuedCall → Type 0
 QueuesReply program (Some c) (Some call) = Queues program c call
 QueuesReply program None None = Unit {0}
 QueuesReply program reply call = ⊥
 
 -- it is so many fragments with those that are written, and each of them is a call's
-pub record IsSending (s : Sending) (payload : Option (Vec ℕ)) : Type 0 where
+pub record IsSending (s : SendingCall) (payload : Option (Vec ℕ)) : Type 0 where
   pub own : AreOwn (sending_frags (Some s) payload)
   pub counted : s.written + length (sending_frags (Some s) payload) ≡ s.count
 
 -- nothing waits, and no payload is kept, where nothing is in transmission
-abbrev pub IsInTransmission : Option Sending → Option (Vec ℕ) → List Queued → Type 0
+abbrev pub IsInTransmission : Option SendingCall → Option (Vec ℕ) → List QueuedCall → Type 0
 IsInTransmission None payload waiting = (waiting ≡ []) × (payload ≡ None)
 IsInTransmission (Some s) payload waiting = IsSending s payload
 

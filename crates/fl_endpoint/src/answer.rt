@@ -1,6 +1,6 @@
 //! What a write and a receive come to.
 
-use fl_value::Call;
+use fl_value_data::Call;
 
 /// What a write came to.
 #[derive(Clone, Copy, Debug, PartialEq, Eq)]

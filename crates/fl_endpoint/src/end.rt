@@ -1,7 +1,7 @@
 //! An end of a binding.
 
 ghost use Rattle.std.specs.Prelude.{◌≡◌, [], length, Some, None, IfOk, OnOk, OnErr};
-ghost use Rattle.fl_value.specs.Value.{call_of};
+ghost use Rattle.fl_value_data.specs.Value.{call_of};
 ghost use Rattle.fl_endpoint.specs.Accounts.{Sound};
 ghost use Rattle.fl_endpoint.specs.Lent.{IsPlaceOf, AddsPlace, receipt, ReceivesAt};
 ghost use Rattle.fl_endpoint.specs.Rules.{rule_of};
@@ -11,12 +11,12 @@ ghost use Rattle.fl_endpoint.specs.Events.{Calls, Writes, ShowsNext, SetsRule, E
 
 use crate::answer::{ReceiveAnswer, WriteAnswer};
 use crate::fault::EndFault;
-use crate::parts::Parts;
+use crate::parts::EndParts;
 use fl_base::{Circuit, Frag, MsgNo};
 use fl_compile::Program;
 use fl_link::{PutSide, TakeSide};
 use fl_machine::Reassemblies;
-use fl_value::Call;
+use fl_value_data::Call;
 use std::alloc::{AllocError, Global};
 use std::marker::Model;
 
@@ -29,7 +29,7 @@ use std::marker::Model;
 /// It is a box, so that what holds many ends stays small: their parts lie beside the memory that each of them takes.
 #[derive(Drop)]
 pub struct End {
-    parts: Box<Parts>,
+    parts: Box<EndParts>,
 }
 
 impl Model for End {
@@ -54,7 +54,7 @@ impl End {
         ensures made { IfOk result (λ e. e ≡ fresh program (Some circuit.0)) }
         ensures sound { IfOk result (λ e. Sound e) }
     {
-        let parts = Parts::new(alloc, program, circuit)?;
+        let parts = EndParts::new(alloc, program, circuit)?;
         let parts = Box::new(alloc, parts)?;
         Ok(End { parts })
     }
@@ -68,7 +68,7 @@ impl End {
         ensures made { IfOk result (λ e. e ≡ fresh program None) }
         ensures sound { IfOk result (λ e. Sound e) }
     {
-        let parts = Parts::unbound(alloc, program)?;
+        let parts = EndParts::unbound(alloc, program)?;
         let parts = Box::new(alloc, parts)?;
         Ok(End { parts })
     }

@@ -2,8 +2,8 @@
 
 ghost use Rattle.std.specs.Prelude.{◌≡◌, true, IfOk};
 ghost use Rattle.fl_interface.specs.Interface.{interface_of};
-ghost use Rattle.fl_value.specs.Value.{call_of};
-ghost use Rattle.fl_value.specs.Fits.{fits_of};
+ghost use Rattle.fl_value_data.specs.Value.{call_of};
+ghost use Rattle.fl_value_data.specs.Fits.{fits_of};
 ghost use Rattle.fl_compile.specs.Programs.{program_of};
 ghost use Rattle.fl_machine.specs.Receiving.{HoldsParts};
 ghost use Rattle.fl_endpoint.specs.View.{reply_to};
@@ -11,12 +11,12 @@ ghost use Rattle.fl_endpoint.specs.Rules.{rules_of};
 ghost use Rattle.fl_endpoint.specs.Accounts.{AreRules};
 ghost use Rattle.fl_endpoint.specs.Stored.{QueuesReply};
 
-use crate::outgoing::Queued;
-use crate::rules::Rules;
+use crate::outgoing::QueuedCall;
+use crate::rules::ReplyRules;
 use fl_base::MsgNo;
 use fl_compile::Program;
 use fl_layout::{Plans, fragment_count};
-use fl_value::Call;
+use fl_value_data::Call;
 use std::alloc::{AllocError, Global};
 
 // How many fragments the longest call has.
@@ -34,9 +34,9 @@ pub(crate) fn most_fragments(plans: &Plans) -> usize
 pub(crate) fn reply_by_rule(
     alloc: Global,
     program: &Program,
-    rules: &Rules,
+    rules: &ReplyRules,
     call: &mut Call,
-) -> Result<Option<Queued>, AllocError>
+) -> Result<Option<QueuedCall>, AllocError>
     requires rules { AreRules (program_of program.now).interface (rules_of rules.now.replies.items) }
     requires fits { fits_of (program_of program.now).interface (call_of call.old) ≡ true }
     ensures same { call_of call.new ≡ call_of call.old }
@@ -48,7 +48,7 @@ pub(crate) fn reply_by_rule(
         return Ok(None);
     };
     call.msg = reply;
-    let queued = Queued::of(alloc, &mut Vec::new(alloc), program, call);
+    let queued = QueuedCall::of(alloc, &mut Vec::new(alloc), program, call);
     call.msg = msg;
     match queued {
         Ok(queued) => Ok(Some(queued)),

@@ -33,7 +33,7 @@ pub use answer::{ReceiveAnswer, WriteAnswer};
 pub use end::End;
 pub use fault::EndFault;
 pub use law::{
-    accounts_add_up, bind_accounts, call_accounts, exchange_accounts, handles_in_order,
-    on_another_circuit, receive_accounts, replies_add_up, rule_accounts, since_made,
-    takes_in_order, write_accounts,
+    law_accounts_add_up, law_bind_accounts, law_call_accounts, law_exchange_accounts,
+    law_handles_in_order, law_on_another_circuit, law_receive_accounts, law_replies_add_up,
+    law_rule_accounts, law_since_made, law_takes_in_order, law_write_accounts,
 };

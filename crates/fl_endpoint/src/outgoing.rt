@@ -3,8 +3,8 @@
 ghost use Rattle.std.specs.Prelude.{◌≡◌, ◌+◌, ◌<◌, ◌≤◌, ◌∷◌, [], ℕ, List, true, false, length, map, slice_get, Some, None, IsSome, IfOk, IfSome, OnOk, OnErr};
 ghost use Rattle.std.specs.Option.{option_map};
 ghost use Rattle.fl_base.specs.declared.fragment.Frag.{Frag};
-ghost use Rattle.fl_value.specs.Value.{call_of};
-ghost use Rattle.fl_value.specs.Fits.{fits_of};
+ghost use Rattle.fl_value_data.specs.Value.{call_of};
+ghost use Rattle.fl_value_data.specs.Fits.{fits_of};
 ghost use Rattle.fl_layout.specs.Places.{count};
 ghost use Rattle.fl_compile.specs.Programs.{TheProgram, program_of};
 ghost use Rattle.fl_endpoint.specs.View.{nothing_to_send, is_busy, queued, queued_if, goes_on, wrote};
@@ -15,8 +15,8 @@ ghost use Rattle.fl_endpoint.specs.Stored.{IsShort, IsQueued, AreQueued, Queues,
 use fl_base::{Circuit, Frag, MsgNo, control};
 use fl_compile::Program;
 use fl_layout::fragment_count;
-use fl_machine::{first_frag, sends_fragments};
-use fl_value::{Call, flatten_into};
+use fl_machine::{first_frag, law_sends_fragments};
+use fl_value_data::{Call, flatten_into};
 use fl_wire::{fragment, payload_into};
 use std::alloc::{AllocError, Global};
 use std::collections::VecDeque;
@@ -27,7 +27,7 @@ pub(crate) const MOST_WAITING: usize = 16;
 
 /// What is kept of a call that is to be sent.
 #[derive(Drop)]
-pub(crate) enum Body {
+pub(crate) enum CallBody {
     /// Of a call of one fragment its tape: its message's send code makes the fragment.
     Tape(Vec<u64>),
     /// Of a longer call its payload.
@@ -36,14 +36,14 @@ pub(crate) enum Body {
 
 /// A call that is to be sent.
 #[derive(Drop)]
-pub(crate) struct Queued {
-    body: Body,
+pub(crate) struct QueuedCall {
+    body: CallBody,
     msg: MsgNo,
 }
 
 /// The call in transmission: the fragment that is written next, and how many of the call's fragments were written.
 #[derive(Clone, Copy)]
-pub(crate) struct Sending {
+pub(crate) struct SendingCall {
     next: Frag,
     written: usize,
     count: usize,
@@ -54,11 +54,11 @@ pub(crate) struct Sending {
 /// The calls that an end is to send.
 #[derive(Drop)]
 pub(crate) struct Outgoing {
-    sending: Option<Sending>,
+    sending: Option<SendingCall>,
     // The payload of the call in transmission, from which the fragments behind the next are made; none of a call of one
     // fragment.
     payload: Option<Vec<u8>>,
-    waiting: VecDeque<Queued>,
+    waiting: VecDeque<QueuedCall>,
 }
 
 // Fragment `k` of a message with these payload bytes, on a circuit.
@@ -72,19 +72,19 @@ fn fragment_on(payload: &[u8], msg: MsgNo, circuit: Circuit, k: usize) -> Frag
     }
 }
 
-impl Queued {
+impl QueuedCall {
     // A fitting call of one fragment as it is queued: its tape, in memory that was used before.
     #[inline(always)]
-    fn of_tape(tape: Vec<u64>, program: &Program, call: &Call) -> Result<Queued, AllocError>
+    fn of_tape(tape: Vec<u64>, program: &Program, call: &Call) -> Result<QueuedCall, AllocError>
         requires fits { fits_of (program_of program.now).interface (call_of call.now) ≡ true }
         requires one { count (program_of program.now).plan (program_of program.now).interface (call_of call.now) ≡ 1 }
         ensures queues { IfOk result (λ queued. Queues (program_of program.now) (call_of call.now) queued) }
     {
-        sends_fragments();
+        law_sends_fragments();
         let mut tape = tape;
         flatten_into(&mut tape, call, program.interface(), program.plan())?;
-        Ok(Queued {
-            body: Body::Tape(tape),
+        Ok(QueuedCall {
+            body: CallBody::Tape(tape),
             msg: call.msg,
         })
     }
@@ -96,14 +96,14 @@ impl Queued {
         program: &Program,
         call: &Call,
         room: usize,
-    ) -> Result<Queued, AllocError>
+    ) -> Result<QueuedCall, AllocError>
         requires { fits_of (program_of program.now).interface (call_of call.now) ≡ true }
         ensures queues { IfOk result (λ queued. Queues (program_of program.now) (call_of call.now) queued) }
     {
         let mut payload = Vec::with_capacity(alloc, room)?;
         payload_into(&mut payload, program.interface(), program.plan(), call)?;
-        Ok(Queued {
-            body: Body::Payload(payload),
+        Ok(QueuedCall {
+            body: CallBody::Payload(payload),
             msg: call.msg,
         })
     }
@@ -115,20 +115,20 @@ impl Queued {
         spare: &mut Vec<u64>,
         program: &Program,
         call: &Call,
-    ) -> Result<Queued, AllocError>
+    ) -> Result<QueuedCall, AllocError>
         requires { fits_of (program_of program.now).interface (call_of call.now) ≡ true }
         ensures queues { IfOk result (λ queued. Queues (program_of program.now) (call_of call.now) queued) }
     {
         let size = program.plans().size_of(call);
         if fragment_count(size) == 1 {
             let tape = mem::replace(spare, Vec::new(alloc));
-            return Queued::of_tape(tape, program, call);
+            return QueuedCall::of_tape(tape, program, call);
         }
-        Queued::of_payload(alloc, program, call, size)
+        QueuedCall::of_payload(alloc, program, call, size)
     }
 }
 
-impl Sending {
+impl SendingCall {
     // As `advance`. Out of line, so that a call of one fragment has nothing of it.
     #[inline(never)]
     fn advance_in(&mut self, payload: &mut Option<Vec<u8>>) -> bool
@@ -213,7 +213,7 @@ impl Outgoing {
     fn start_one(&mut self, program: &Program, circuit: Circuit, msg: MsgNo, tape: &[u64])
         requires short { IsShort (program_of program.now) msg.0 tape.now }
         requires idle { self.old.payload ≡ None }
-        ensures now { (waiting : List Queued) → IsInTransmission self.new.sending self.new.payload waiting }
+        ensures now { (waiting : List QueuedCall) → IsInTransmission self.new.sending self.new.payload waiting }
         ensures frags { sending_frags self.new.sending self.new.payload ≡ tape_frags (program_of program.now) circuit.0 msg.0 tape.now }
         ensures count { count_in self.new.sending ≡ length (tape_frags (program_of program.now) circuit.0 msg.0 tape.now) }
         ensures waiting { self.new.waiting ≡ self.old.waiting }
@@ -224,7 +224,7 @@ impl Outgoing {
             unreachable!();
         };
         let next = first_frag(code, msg, circuit, tape);
-        self.sending = Some(Sending {
+        self.sending = Some(SendingCall {
             next,
             written: 0,
             count: 1,
@@ -236,14 +236,14 @@ impl Outgoing {
     // Puts a call with this payload in transmission. Out of line, so that a call of one fragment has nothing of it.
     #[inline(never)]
     fn start_payload(&mut self, circuit: Circuit, msg: MsgNo, payload: Vec<u8>)
-        ensures now { (waiting : List Queued) → IsInTransmission self.new.sending self.new.payload waiting }
+        ensures now { (waiting : List QueuedCall) → IsInTransmission self.new.sending self.new.payload waiting }
         ensures frags { sending_frags self.new.sending self.new.payload ≡ payload_frags circuit.0 msg.0 payload.items }
         ensures count { count_in self.new.sending ≡ length (payload_frags circuit.0 msg.0 payload.items) }
         ensures waiting { self.new.waiting ≡ self.old.waiting }
     {
         // Both have 16 bits, which the proof knows once they are read.
         let (_msg, _circuit) = (msg.0, circuit.0);
-        self.sending = Some(Sending {
+        self.sending = Some(SendingCall {
             next: fragment_on(&payload, msg, circuit, 0),
             written: 0,
             count: fragment_count(payload.len()),
@@ -255,21 +255,21 @@ impl Outgoing {
 
     // Puts a call in transmission, of which nothing is written. A call of one fragment gives back its tape.
     #[inline(always)]
-    fn start(&mut self, program: &Program, circuit: Circuit, call: Queued) -> Option<Vec<u64>>
+    fn start(&mut self, program: &Program, circuit: Circuit, call: QueuedCall) -> Option<Vec<u64>>
         requires queued { IsQueued (program_of program.now) call }
         requires idle { self.old.payload ≡ None }
-        ensures now { (waiting : List Queued) → IsInTransmission self.new.sending self.new.payload waiting }
+        ensures now { (waiting : List QueuedCall) → IsInTransmission self.new.sending self.new.payload waiting }
         ensures frags { sending_frags self.new.sending self.new.payload ≡ queued_frags (program_of program.now) circuit.0 call }
         ensures count { count_in self.new.sending ≡ length (queued_frags (program_of program.now) circuit.0 call) }
         ensures waiting { self.new.waiting ≡ self.old.waiting }
     {
-        let Queued { body, msg } = call;
+        let QueuedCall { body, msg } = call;
         match body {
-            Body::Tape(tape) => {
+            CallBody::Tape(tape) => {
                 self.start_one(program, circuit, msg, &tape);
                 Some(tape)
             }
-            Body::Payload(payload) => {
+            CallBody::Payload(payload) => {
                 self.start_payload(circuit, msg, payload);
                 None
             }
@@ -282,7 +282,7 @@ impl Outgoing {
         &mut self,
         program: &Program,
         circuit: Circuit,
-        call: Queued,
+        call: QueuedCall,
     ) -> Option<Vec<u64>>
         requires outgoing { IsOutgoing (program_of program.now) self.old }
         requires call { IsQueued (program_of program.now) call }
@@ -295,7 +295,12 @@ impl Outgoing {
     }
 
     // One call more to be sent. Takes memory where it has to wait; what is to be sent is as it was where that is refused.
-    fn queue(&mut self, program: &Program, circuit: Circuit, call: Queued) -> Result<(), AllocError>
+    fn queue(
+        &mut self,
+        program: &Program,
+        circuit: Circuit,
+        call: QueuedCall,
+    ) -> Result<(), AllocError>
         requires outgoing { IsOutgoing (program_of program.now) self.old }
         requires call { IsQueued (program_of program.now) call }
         requires few { length self.old.waiting.items < 16 }
@@ -320,7 +325,7 @@ impl Outgoing {
         &mut self,
         program: &Program,
         circuit: Circuit,
-        reply: Option<Queued>,
+        reply: Option<QueuedCall>,
     ) -> Result<(), AllocError>
         requires outgoing { IsOutgoing (program_of program.now) self.old }
         requires call { IfSome reply (λ call. IsQueued (program_of program.now) call) }

@@ -1,8 +1,8 @@
 //! The parts of an end, and what it does.
 
 ghost use Rattle.std.specs.Prelude.{◌≡◌, ℕ, [], true, false, length, slice_get, Some, None, IfOk, OnOk, OnErr, IfSome};
-ghost use Rattle.fl_value.specs.Value.{call_of};
-ghost use Rattle.fl_value.specs.Fits.{fits_of};
+ghost use Rattle.fl_value_data.specs.Value.{call_of};
+ghost use Rattle.fl_value_data.specs.Fits.{fits_of};
 ghost use Rattle.fl_base.specs.Control.{bare};
 ghost use Rattle.fl_endpoint.specs.Accounts.{Sound};
 ghost use Rattle.fl_endpoint.specs.Rules.{rule_of};
@@ -15,31 +15,31 @@ ghost use Rattle.fl_endpoint.specs.Events.{Readies, Admits, Calls, Writes, Shows
 use crate::answer::{ReceiveAnswer, WriteAnswer};
 use crate::fault::EndFault;
 use crate::incoming::{most_fragments, reply_by_rule};
-use crate::outgoing::{MOST_WAITING, Outgoing, Queued};
-use crate::rules::{Rules, message};
+use crate::outgoing::{MOST_WAITING, Outgoing, QueuedCall};
+use crate::rules::{ReplyRules, message};
 use fl_base::{Circuit, Frag, MsgNo};
 use fl_compile::Program;
 use fl_interface::same_args;
 use fl_link::{PutFault, PutSide, Sight, TakeSide};
 use fl_machine::{Reassemblies, TakeFault, Taken};
-use fl_value::{Call, fits};
-use fl_wire::one_reading;
+use fl_value_data::{Call, fits};
+use fl_wire::law_one_reading;
 use std::alloc::{AllocError, Global};
 use std::marker::Model;
 use std::mem;
 
 // All of an end; its functions are those of `End`, which holds it in a box.
 #[derive(Drop)]
-pub(crate) struct Parts {
+pub(crate) struct EndParts {
     alloc: Global,
     program: Program,
-    rules: Rules,
+    rules: ReplyRules,
     circuit: Option<Circuit>,
     outgoing: Outgoing,
     failed: bool,
 }
 
-impl Model for Parts {
+impl Model for EndParts {
     ghost use Rattle.std.specs.Coded.{codes};
     ghost use Rattle.fl_compile.specs.contracts.program.Program.{the_row};
     ghost use Rattle.fl_endpoint.specs.View.{TheEnd};
@@ -54,29 +54,29 @@ impl Model for Parts {
     ghost invariant = { IsEnd };
 }
 
-impl Parts {
+impl EndParts {
     pub(crate) fn new(
         alloc: Global,
         program: Program,
         circuit: Circuit,
-    ) -> Result<Parts, AllocError>
+    ) -> Result<EndParts, AllocError>
         ensures made { IfOk result (λ e. e ≡ fresh program (Some circuit.0)) }
         ensures sound { IfOk result (λ e. Sound e) }
     {
         // It has 16 bits, which the proof knows once it is read.
         let _number = circuit.0;
-        let mut end = Parts::unbound(alloc, program)?;
+        let mut end = EndParts::unbound(alloc, program)?;
         end.bind(circuit);
         Ok(end)
     }
 
-    pub(crate) fn unbound(alloc: Global, program: Program) -> Result<Parts, AllocError>
+    pub(crate) fn unbound(alloc: Global, program: Program) -> Result<EndParts, AllocError>
         ensures made { IfOk result (λ e. e ≡ fresh program None) }
         ensures sound { IfOk result (λ e. Sound e) }
     {
-        let rules = Rules::new(alloc, program.interface().messages.len())?;
+        let rules = ReplyRules::new(alloc, program.interface().messages.len())?;
         let outgoing = Outgoing::new(alloc);
-        Ok(Parts {
+        Ok(EndParts {
             alloc,
             program,
             rules,
@@ -166,7 +166,7 @@ impl Parts {
         Ok(())
     }
 
-    pub(crate) fn exchange_rules(&mut self, other: &mut Parts)
+    pub(crate) fn exchange_rules(&mut self, other: &mut EndParts)
         requires interface { interface_in self.old ≡ interface_in other.old }
         ensures exchanges { Exchanges self.old other.old self.new other.new }
     {
@@ -220,7 +220,7 @@ impl Parts {
             Ok(circuit) => circuit,
             Err(fault) => return Err(fault),
         };
-        let Ok(queued) = Queued::of(self.alloc, spare, &self.program, call) else {
+        let Ok(queued) = QueuedCall::of(self.alloc, spare, &self.program, call) else {
             return Err(EndFault::Memory);
         };
         if let Some(tape) = self.outgoing.begin(&self.program, circuit, queued) {
@@ -327,7 +327,7 @@ impl Parts {
     {
         // What is known of the end is known once it is read.
         let _circuit = self.circuit;
-        one_reading();
+        law_one_reading();
         match calls.take(place, frag) {
             Err(TakeFault::Memory) => Err(EndFault::Memory),
             Err(TakeFault::Wire(fault)) => {

@@ -19,20 +19,20 @@ pub(crate) fn message(interface: &Interface, msg: MsgNo) -> Option<&Message>
 
 /// For each message the message of the reply to it, where there is a rule.
 #[derive(Drop)]
-pub(crate) struct Rules {
+pub(crate) struct ReplyRules {
     replies: Vec<Option<MsgNo>>,
     // Whether a rule was ever set. Until then the rules, which lie in memory that is seldom read, are left alone.
     some: bool,
     ghost none: { some ≡ false → AreNone replies.items },
 }
 
-impl Rules {
+impl ReplyRules {
     // No rule for any of so many messages.
-    pub(crate) fn new(alloc: Global, messages: usize) -> Result<Rules, AllocError>
+    pub(crate) fn new(alloc: Global, messages: usize) -> Result<ReplyRules, AllocError>
         ensures none { IfOk result (λ rules. rules_of rules.replies.items ≡ replicate messages None) }
     {
         let replies = vec![in alloc; None; messages]?;
-        Ok(Rules {
+        Ok(ReplyRules {
             replies,
             some: false,
         })

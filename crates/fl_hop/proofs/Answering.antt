@@ -9,8 +9,8 @@ use Rattle.fl_hop.proofs.Numbering.{number_apart, small}
 use Rattle.fl_hop.proofs.Sounds.{toward_client, toward_server}
 use Rattle.fl_base.specs.declared.identity.LinkId.{LinkId}
 use Rattle.fl_base.specs.declared.identity.Circuit.{Circuit}
-use Rattle.fl_hop.specs.declared.entry.Way.{Way}
-use Rattle.fl_hop.specs.declared.entry.Way.TheVariants.{Link, End}
+use Rattle.fl_hop.specs.declared.entry.HopTarget.{HopTarget}
+use Rattle.fl_hop.specs.declared.entry.HopTarget.TheVariants.{Link, End}
 use Rattle.fl_hop.specs.declared.entry.Hop.{Hop}
 use Rattle.fl_hop.specs.declared.entry.Entry.{Entry}
 use Rattle.fl_hop.specs.declared.entry.Cell.{Cell}
@@ -19,7 +19,7 @@ use Rattle.fl_hop.specs.declared.links.LinkState.{LinkState}
 use Rattle.fl_hop.specs.Table.{TheCircuits, slot, hop_at, put_at, leading, with_entry}
 use Rattle.fl_hop.specs.Joined.{IsClientWay, IsServerWay, Sound}
 use Rattle.fl_hop.specs.Later.{Later, unanswered}
-use Rattle.fl_hop.specs.Slots.{table_of, shown, from_client, from_server, cell_of, IsPlaced, Sits, Found, IsOver, Kept}
+use Rattle.fl_hop.specs.Slots.{table_of, shown, from_client, from_server, cell_of, IsPlaced, Sits, Found, IsOver, SlotsKept}
 use Rattle.fl_hop.proofs.Lists.{map_same, set_same, index_found}
 use Rattle.fl_hop.proofs.Cells.{hop_is, slot_once, placed_at, cell_found, cell_there, AtClient, AtServer, side}
 use Rattle.fl_hop.proofs.Entering.{IsSlot, placed_slot, came, stays}
@@ -51,7 +51,7 @@ two_changed f g (z ∷ zs) (suc i) (suc j) x y two at there same =
 abbrev pub answered_entry : Entry → Entry
 answered_entry e = record { binding = e.binding; client = e.client; server = e.server; answered = true }
 
-module _ (core : ℕ) (links : List LinkState) (cells : List Cell) (s : Slab Entry) (k : Kept core links cells s) (key : ℕ) (e : Entry) (kept : get s key ≡ Some e) (s2 : Slab Entry) (u : Updates s s2 key (Some (answered_entry e))) where
+module _ (core : ℕ) (links : List LinkState) (cells : List Cell) (s : Slab Entry) (k : SlotsKept core links cells s) (key : ℕ) (e : Entry) (kept : get s key ≡ Some e) (s2 : Slab Entry) (u : Updates s s2 key (Some (answered_entry e))) where
   same_entry : (j : ℕ) (f : Entry) → get s j ≡ Some f → j ≡ key → f ≡ e
   same_entry j f at same =
       let g : ℕ → Option Entry = λ i. get s i in
@@ -86,7 +86,7 @@ module _ (core : ℕ) (links : List LinkState) (cells : List Cell) (s : Slab Ent
         | inr (other, before) ↦ all j f before
       ]
 
-  pub kept_answered : Kept core links cells s2
+  pub kept_answered : SlotsKept core links cells s2
   kept_answered = record {
     few = k.few;
     whole = k.whole;
@@ -155,7 +155,7 @@ module _ (core : ℕ) (links : List LinkState) (cells : List Cell) (s : Slab Ent
   shown_server : shown s2 (ServerSide key) ≡ leading e.binding true e.client
   shown_server = ap (option_map from_server) u.changed
 
-  hops_step : (a b : Way) → a ≡ e.client → b ≡ e.server → IsOver a b → Sits cells a (ClientSide key) → Sits cells b (ServerSide key)
+  hops_step : (a b : HopTarget) → a ≡ e.client → b ≡ e.server → IsOver a b → Sits cells a (ClientSide key) → Sits cells b (ServerSide key)
       → map (shown s2) cells ≡ put_at b (shown s2 (ServerSide key)) (put_at a (shown s2 (ClientSide key)) (map (shown s) cells))
   hops_step (Link l c) (Link m d) x y over p q =
       two_changed (shown s2) (shown s) cells (slot l.0 c.0) (slot m.0 d.0) (ClientSide key) (ServerSide key)
@@ -178,7 +178,7 @@ module _ (core : ℕ) (links : List LinkState) (cells : List Cell) (s : Slab Ent
       ∙ ap (λ p. put (leading e.binding true e.client) p) shown_client
 
 -- the entry's server's side stands at a number
-pub at_server : (core : ℕ) (links : List LinkState) (cells : List Cell) (s : Slab Entry) → Kept core links cells s → (l n key : ℕ) (e : Entry) (slice : List Cell) (x : Cell) → slice ≡ cells → x ≡ cell_of slice l n → x ≡ ServerSide key → get s key ≡ Some e → AtServer cells s l n (from_server e)
+pub at_server : (core : ℕ) (links : List LinkState) (cells : List Cell) (s : Slab Entry) → SlotsKept core links cells s → (l n key : ℕ) (e : Entry) (slice : List Cell) (x : Cell) → slice ≡ cells → x ≡ cell_of slice l n → x ≡ ServerSide key → get s key ≡ Some e → AtServer cells s l n (from_server e)
 at_server core links cells s k l n key e slice x all here is got =
     let cell = ap (λ v. cell_of v l n) (sym all) ∙ sym here ∙ is in
     let (fits, at) = cell_found cells l n (ServerSide key) cell (λ h. cc) in
@@ -197,7 +197,7 @@ shows core links cells s l n hop x =
     ∙ ap f (sym x.is)
 
 -- a number that both cores gave can't be
-never_both : (core : ℕ) (links : List LinkState) (cells : List Cell) (s : Slab Entry) → Kept core links cells s → (l n : ℕ) → IsOpened core links l n → IsTaken core links l n → ⊥
+never_both : (core : ℕ) (links : List LinkState) (cells : List Cell) (s : Slab Entry) → SlotsKept core links cells s → (l n : ℕ) → IsOpened core links l n → IsTaken core links l n → ⊥
 never_both core links cells s k l n a b =
     let some : Some a.link ≡ Some b.link = sym a.there ∙ b.there in
     let same : a.link ≡ b.link = cc in
@@ -206,19 +206,19 @@ never_both core links cells s k l n a b =
     let f : LinkState → ℕ = λ y. number y.neighbour.0 core j in
     number_apart core a.link.neighbour.0 i j (λ e. k.apart l a.link a.there (sym e)) (sym is ∙ too ∙ ap f (sym same))
 
-waits_step : (core : ℕ) (links : List LinkState) (cells : List Cell) (s : Slab Entry) → Kept core links cells s → (l n : ℕ) (hop : Hop) (slice : List Cell) (x : Cell) → slice ≡ cells → x ≡ cell_of slice l n → ((key : ℕ) → x ≡ ServerSide key → ⊥) → IsOpened core links l n → AtClient cells s l n hop ⊎ AtServer cells s l n hop → ⊥
+waits_step : (core : ℕ) (links : List LinkState) (cells : List Cell) (s : Slab Entry) → SlotsKept core links cells s → (l n : ℕ) (hop : Hop) (slice : List Cell) (x : Cell) → slice ≡ cells → x ≡ cell_of slice l n → ((key : ℕ) → x ≡ ServerSide key → ⊥) → IsOpened core links l n → AtClient cells s l n hop ⊎ AtServer cells s l n hop → ⊥
 waits_step core links cells s k l n hop slice x all here none opened (inl y) = never_both core links cells s k l n opened (toward_server core links cells s k l n hop y).0
 waits_step core links cells s k l n hop slice x all here none opened (inr y) =
     none y.key (here ∙ ap (λ v. cell_of v l n) all ∙ cell_there cells l n (ServerSide y.key) y.small y.cell)
 
 -- where no server's side stands, no opening of this core's own waits
-pub waits_not : (core : ℕ) (links : List LinkState) (cells : List Cell) (s : Slab Entry) → Kept core links cells s → (t : TheCircuits) → table_of core links cells s ≡ t → (l n : ℕ) (hop : Hop) (slice : List Cell) (x : Cell) → slice ≡ cells → x ≡ cell_of slice l n → ((key : ℕ) → x ≡ ServerSide key → ⊥) → IsWaiting t l n hop → ⊥
+pub waits_not : (core : ℕ) (links : List LinkState) (cells : List Cell) (s : Slab Entry) → SlotsKept core links cells s → (t : TheCircuits) → table_of core links cells s ≡ t → (l n : ℕ) (hop : Hop) (slice : List Cell) (x : Cell) → slice ≡ cells → x ≡ cell_of slice l n → ((key : ℕ) → x ≡ ServerSide key → ⊥) → IsWaiting t l n hop → ⊥
 waits_not core links cells s k t is l n hop slice x all here none w =
     let v = subst (λ y. IsWaiting y l n hop) (sym is) w in
     waits_step core links cells s k l n hop slice x all here none v.here (side core links cells s k l n hop v.there)
 
 -- and where one stands that isn't answered, one waits
-pub waits : (core : ℕ) (links : List LinkState) (cells : List Cell) (s : Slab Entry) → Kept core links cells s → (t : TheCircuits) → table_of core links cells s ≡ t → (l n : ℕ) (hop : Hop) → AtServer cells s l n hop → hop.answered ≡ false → IsWaiting t l n hop
+pub waits : (core : ℕ) (links : List LinkState) (cells : List Cell) (s : Slab Entry) → SlotsKept core links cells s → (t : TheCircuits) → table_of core links cells s ≡ t → (l n : ℕ) (hop : Hop) → AtServer cells s l n hop → hop.answered ≡ false → IsWaiting t l n hop
 waits core links cells s k t is l n hop x h =
     subst (λ y. IsWaiting y l n hop) is
     (record { here = (toward_client core links cells s k l n hop x).0; there = shows core links cells s l n hop x; unanswered = h })
@@ -234,14 +234,14 @@ has_key s key e got = subst (λ (o : Option Entry). IsSome o) (sym got) refl
 pub answered_updates : (s : Slab Entry) (key : ℕ) (e : Entry) → get s key ≡ Some e → Updates s (with_value s key (answered_entry e)) key (Some (answered_entry e))
 answered_updates s key e got = Updates-with_value s key (answered_entry e) (has_key s key e got)
 
-pub server_way : (core : ℕ) (links : List LinkState) (cells : List Cell) (s : Slab Entry) → Kept core links cells s → (l : LinkId) (c : Circuit) (key : ℕ) (e : Entry) (slice : List Cell) (x : Cell) → slice ≡ cells → x ≡ cell_of slice l.0 c.0 → x ≡ ServerSide key → get s key ≡ Some e → e.server ≡ Link l c
+pub server_way : (core : ℕ) (links : List LinkState) (cells : List Cell) (s : Slab Entry) → SlotsKept core links cells s → (l : LinkId) (c : Circuit) (key : ℕ) (e : Entry) (slice : List Cell) (x : Cell) → slice ≡ cells → x ≡ cell_of slice l.0 c.0 → x ≡ ServerSide key → get s key ≡ Some e → e.server ≡ Link l c
 server_way core links cells s k l c key e slice x all here is got =
     let cell = ap (λ v. cell_of v l.0 c.0) (sym all) ∙ sym here ∙ is in
     let (fits, at) = cell_found cells l.0 c.0 (ServerSide key) cell (λ h. cc) in
     let f = k.server (slot l.0 c.0) key at in
     let some : Some f.entry ≡ Some e = sym f.kept ∙ got in
     let same : f.entry ≡ e = cc in
-    let w : Entry → Way = λ y. y.server in
+    let w : Entry → HopTarget = λ y. y.server in
     ap w (sym same) ∙ placed_at f.entry.server l c f.placed fits
 
 none_or : (o : Option Hop) → ((hop : Hop) → o ≡ Some hop → ⊥) → o ≡ None

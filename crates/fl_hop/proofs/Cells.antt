@@ -4,15 +4,15 @@ use Rattle.std.proofs.lemmas.Bool.Decides.{nat_tests}
 use Rattle.slab.specs.Slab.{Slab, get}
 use Rattle.fl_base.specs.declared.identity.LinkId.{LinkId}
 use Rattle.fl_base.specs.declared.identity.Circuit.{Circuit}
-use Rattle.fl_hop.specs.declared.entry.Way.{Way}
-use Rattle.fl_hop.specs.declared.entry.Way.TheVariants.{Link, End}
+use Rattle.fl_hop.specs.declared.entry.HopTarget.{HopTarget}
+use Rattle.fl_hop.specs.declared.entry.HopTarget.TheVariants.{Link, End}
 use Rattle.fl_hop.specs.declared.entry.Hop.{Hop}
 use Rattle.fl_hop.specs.declared.entry.Entry.{Entry}
 use Rattle.fl_hop.specs.declared.entry.Cell.{Cell}
 use Rattle.fl_hop.specs.declared.entry.Cell.TheVariants.{Free, ClientSide, ServerSide}
 use Rattle.fl_hop.specs.declared.links.LinkState.{LinkState}
 use Rattle.fl_hop.specs.Table.{TheCircuits, slot, hop_at}
-use Rattle.fl_hop.specs.Slots.{table_of, shown, from_client, from_server, cell_of, IsPlaced, Kept}
+use Rattle.fl_hop.specs.Slots.{table_of, shown, from_client, from_server, cell_of, IsPlaced, SlotsKept}
 use Rattle.fl_hop.proofs.Lists.{index_map, index_found, index_there}
 
 -- a number's place tells it
@@ -26,11 +26,11 @@ pub same_circuit : (a b : Circuit) → a.0 ≡ b.0 → a ≡ b
 same_circuit a b e = let f : ℕ → Circuit = λ x. record { 0 = x } in ap f e
 
 -- a way that stands at a number's place is that number's
-pub placed_at : (way : Way) (l : LinkId) (c : Circuit) → IsPlaced way (slot l.0 c.0) → c.0 ≤ 2046 → way ≡ Link l c
+pub placed_at : (way : HopTarget) (l : LinkId) (c : Circuit) → IsPlaced way (slot l.0 c.0) → c.0 ≤ 2046 → way ≡ Link l c
 placed_at (Link m d) l c at small =
     let (a, b) = slot_once l.0 c.0 m.0 d.0 at.place small at.small in
-    let f : LinkId → Way = λ x. Link x d in
-    let g : Circuit → Way = λ x. Link l x in
+    let f : LinkId → HopTarget = λ x. Link x d in
+    let g : Circuit → HopTarget = λ x. Link l x in
     ap f (same_link m l (sym a)) ∙ ap g (same_circuit d c (sym b))
 placed_at (End e) l c at small = absurd at
 
@@ -101,7 +101,7 @@ map_some : {X Y : Type 0} (f : X → Y) (o : Option X) (x : X) (y : Y) → o ≡
 map_some f None x y e h = cc
 map_some f (Some z) x y e h = let same : x ≡ z = cc in let there : y ≡ f z = cc in there ∙ ap f (sym same)
 
-side_of : (core : ℕ) (links : List LinkState) (cells : List Cell) (s : Slab Entry) → Kept core links cells s → (l n : ℕ) (hop : Hop) (x : Cell) → cell_of cells l n ≡ x → shown s x ≡ Some hop → AtClient cells s l n hop ⊎ AtServer cells s l n hop
+side_of : (core : ℕ) (links : List LinkState) (cells : List Cell) (s : Slab Entry) → SlotsKept core links cells s → (l n : ℕ) (hop : Hop) (x : Cell) → cell_of cells l n ≡ x → shown s x ≡ Some hop → AtClient cells s l n hop ⊎ AtServer cells s l n hop
 side_of core links cells s k l n hop Free e h = absurd (cc)
 side_of core links cells s k l n hop (ClientSide key) e h =
     let (small, at) = cell_found cells l n (ClientSide key) e (λ q. cc) in
@@ -112,6 +112,6 @@ side_of core links cells s k l n hop (ServerSide key) e h =
     let f = k.server (slot l n) key at in
     inr (record { key = key; entry = f.entry; kept = f.kept; small = small; cell = at; placed = f.placed; is = map_some from_server (get s key) f.entry hop f.kept h })
 
-pub side : (core : ℕ) (links : List LinkState) (cells : List Cell) (s : Slab Entry) → Kept core links cells s → (l n : ℕ) (hop : Hop) → hop_at (table_of core links cells s) l n ≡ Some hop → AtClient cells s l n hop ⊎ AtServer cells s l n hop
+pub side : (core : ℕ) (links : List LinkState) (cells : List Cell) (s : Slab Entry) → SlotsKept core links cells s → (l n : ℕ) (hop : Hop) → hop_at (table_of core links cells s) l n ≡ Some hop → AtClient cells s l n hop ⊎ AtServer cells s l n hop
 side core links cells s k l n hop e =
     side_of core links cells s k l n hop (cell_of cells l n) refl (sym (hop_is core links cells s l n) ∙ e)

@@ -10,8 +10,8 @@ use Rattle.fl_hop.specs.Table.{TheCircuits, slot, link_of, link_fault, with_link
 use Rattle.fl_hop.specs.declared.entry.Hop.{Hop}
 use Rattle.slab.specs.Slab.{Slab}
 use Rattle.fl_base.specs.declared.identity.CoreId.{CoreId}
-use Rattle.fl_hop.specs.declared.entry.Way.{Way}
-use Rattle.fl_hop.specs.declared.entry.Way.TheVariants.{Link, End}
+use Rattle.fl_hop.specs.declared.entry.HopTarget.{HopTarget}
+use Rattle.fl_hop.specs.declared.entry.HopTarget.TheVariants.{Link, End}
 use Rattle.fl_hop.specs.declared.entry.Entry.{Entry}
 use Rattle.fl_hop.specs.declared.entry.Cell.{Cell}
 use Rattle.fl_hop.specs.declared.entry.Cell.TheVariants.{Free, ClientSide, ServerSide}
@@ -20,7 +20,7 @@ use Rattle.fl_hop.specs.declared.fault.HopFault.TheVariants.{NoLink, Limit}
 use Rattle.fl_hop.specs.declared.links.LinkState.{LinkState}
 use Rattle.fl_hop.specs.Numbers.{number, with_opening, with_taking, changed, count_opening, count_taking, next_here, next_there, IsOpened, IsTaken, IsGiven}
 use Rattle.fl_hop.specs.Joined.{IsClientWay, IsServerWay}
-use Rattle.fl_hop.specs.Slots.{table_of, shown, Sits, Kept}
+use Rattle.fl_hop.specs.Slots.{table_of, shown, Sits, SlotsKept}
 use Rattle.fl_hop.proofs.Lists.{set_cases, set_here, set_there, push_keeps, push_cases, fill_cases, within}
 use Rattle.fl_hop.proofs.Numbering.{number_once, number_apart}
 use Rattle.fl_hop.proofs.Cells.{is_less, less_is, cond_true, cond_false}
@@ -44,11 +44,11 @@ module _ (core : ℕ) (links more : List LinkState) (g : Grown links more) where
       let f : CoreId → ℕ = λ c. number c.0 core k in
       record { link = b; there = there; among = (k, omega (arith, less, taken), is ∙ ap f (sym same)) }
 
-  pub client_stays : (binding : ℕ) (way : Way) → IsClientWay core links binding way → IsClientWay core more binding way
+  pub client_stays : (binding : ℕ) (way : HopTarget) → IsClientWay core links binding way → IsClientWay core more binding way
   client_stays binding (Link l c) w = taken_stays l.0 c.0 w
   client_stays binding (End e) w = w
 
-  pub server_stays : (binding : ℕ) (way : Way) → IsServerWay core links binding way → IsServerWay core more binding way
+  pub server_stays : (binding : ℕ) (way : HopTarget) → IsServerWay core links binding way → IsServerWay core more binding way
   server_stays binding (Link l c) w = opened_stays l.0 c.0 w
   server_stays binding (End e) w = w
 
@@ -84,7 +84,7 @@ stood links l a b there same m x at =
     ]
 
 -- a table with one link's counts changed
-pub kept_counts : (core : ℕ) (links : List LinkState) (cells : List Cell) (s : Slab Entry) → Kept core links cells s → (l : ℕ) (a b : LinkState) → slice_get links l ≡ Some a → b.neighbour ≡ a.neighbour → a.opened ≤ b.opened → a.taken ≤ b.taken → (b.opened ≤ 1023) × (b.taken ≤ 1023) → Kept core (slice_set links l b) cells s
+pub kept_counts : (core : ℕ) (links : List LinkState) (cells : List Cell) (s : Slab Entry) → SlotsKept core links cells s → (l : ℕ) (a b : LinkState) → slice_get links l ≡ Some a → b.neighbour ≡ a.neighbour → a.opened ≤ b.opened → a.taken ≤ b.taken → (b.opened ≤ 1023) × (b.taken ≤ 1023) → SlotsKept core (slice_set links l b) cells s
 kept_counts core links cells s k l a b there same opened taken most =
     let g = grown_set links l a b there same opened taken in
     let number_of : CoreId → ℕ = λ c. c.0 in
@@ -191,7 +191,7 @@ never_due core links apart l n x (inl o) =
     let f : LinkState → ℕ = λ a. number core a.neighbour.0 i in
     number_apart x.link.neighbour.0 core x.link.taken i (apart l x.link x.there) (x.is ∙ is ∙ ap f (sym same))
 
-module _ (core : ℕ) (links : List LinkState) (cells : List Cell) (s : Slab Entry) (k : Kept core links cells s) (l n : ℕ) where
+module _ (core : ℕ) (links : List LinkState) (cells : List Cell) (s : Slab Entry) (k : SlotsKept core links cells s) (l n : ℕ) where
   pub grown_opening : Next core links l n → Grown links (count_opening links l)
   grown_opening x =
       subst (Grown links) (sym (counted_opening core links l n x)) (grown_set links l x.link (with_opening x.link) x.there refl (omega arith) (omega arith))
@@ -200,18 +200,18 @@ module _ (core : ℕ) (links : List LinkState) (cells : List Cell) (s : Slab Ent
   grown_taking x =
       subst (Grown links) (sym (counted_taking core links l n x)) (grown_set links l x.link (with_taking x.link) x.there refl (omega arith) (omega arith))
 
-  pub kept_opening : Next core links l n → Kept core (count_opening links l) cells s
+  pub kept_opening : Next core links l n → SlotsKept core (count_opening links l) cells s
   kept_opening x =
       let most = k.counts l x.link x.there in
       let few = x.few in
-      subst (λ v. Kept core v cells s) (sym (counted_opening core links l n x))
+      subst (λ v. SlotsKept core v cells s) (sym (counted_opening core links l n x))
       (kept_counts core links cells s k l x.link (with_opening x.link) x.there refl (omega arith) (omega arith) (omega arith, most.1))
 
-  pub kept_taking : Due core links l n → Kept core (count_taking links l) cells s
+  pub kept_taking : Due core links l n → SlotsKept core (count_taking links l) cells s
   kept_taking x =
       let most = k.counts l x.link x.there in
       let few = x.few in
-      subst (λ v. Kept core v cells s) (sym (counted_taking core links l n x))
+      subst (λ v. SlotsKept core v cells s) (sym (counted_taking core links l n x))
       (kept_counts core links cells s k l x.link (with_taking x.link) x.there refl (omega arith) (omega arith) (most.0, omega arith))
 
   -- the next number was given by nobody
@@ -281,13 +281,13 @@ mapped_none f o e = ap (option_map f) e
 pub unlike_core : (a b : ℕ) → (a == b) ≡ false → a ≡ b → ⊥
 unlike_core a b e is = grind (arith, nat_tests, e, is)
 
-sits_on : (way : Way) (x : Cell) (cells more : List Cell) → Sits cells way x → Sits (cells ++ more) way x
+sits_on : (way : HopTarget) (x : Cell) (cells more : List Cell) → Sits cells way x → Sits (cells ++ more) way x
 sits_on (Link l c) x cells more h = (h.0, push_keeps cells more (slot l.0 c.0) x h.1)
 sits_on (End e) x cells more h = tt
 
 -- a table with one more link
-pub kept_link : (core : ℕ) (links : List LinkState) (cells : List Cell) (s : Slab Entry) → Kept core links cells s → (to : CoreId) → to.0 ≢ core → length links < 15 → position (λ (a : LinkState). a.neighbour.0 == to.0) links ≡ None
-    → Kept core (links ++ record { neighbour = to; opened = 0; taken = 0 } ∷ []) (cells ++ replicate 2047 Free) s
+pub kept_link : (core : ℕ) (links : List LinkState) (cells : List Cell) (s : Slab Entry) → SlotsKept core links cells s → (to : CoreId) → to.0 ≢ core → length links < 15 → position (λ (a : LinkState). a.neighbour.0 == to.0) links ≡ None
+    → SlotsKept core (links ++ record { neighbour = to; opened = 0; taken = 0 } ∷ []) (cells ++ replicate 2047 Free) s
 kept_link core links cells s k to other few none =
     let x : LinkState = record { neighbour = to; opened = 0; taken = 0 } in
     let g = grown_push links x in

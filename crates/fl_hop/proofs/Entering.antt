@@ -4,8 +4,8 @@ use Rattle.std.proofs.lemmas.List.{map-set}
 use Rattle.slab.specs.Slab.{Slab, get, Updates}
 use Rattle.fl_base.specs.declared.identity.LinkId.{LinkId}
 use Rattle.fl_base.specs.declared.identity.Circuit.{Circuit}
-use Rattle.fl_hop.specs.declared.entry.Way.{Way}
-use Rattle.fl_hop.specs.declared.entry.Way.TheVariants.{Link, End}
+use Rattle.fl_hop.specs.declared.entry.HopTarget.{HopTarget}
+use Rattle.fl_hop.specs.declared.entry.HopTarget.TheVariants.{Link, End}
 use Rattle.fl_hop.specs.declared.entry.Hop.{Hop}
 use Rattle.fl_hop.specs.declared.entry.Entry.{Entry}
 use Rattle.fl_hop.specs.declared.entry.Cell.{Cell}
@@ -14,48 +14,48 @@ use Rattle.fl_hop.specs.declared.links.LinkState.{LinkState}
 use Rattle.fl_hop.specs.Table.{TheCircuits, slot, put_at, with_entry}
 use Rattle.fl_hop.specs.Numbers.{IsGiven}
 use Rattle.fl_hop.specs.Joined.{IsClientWay, IsServerWay}
-use Rattle.fl_hop.specs.Slots.{table_of, shown, from_client, from_server, with_cell, IsPlaced, Sits, Found, IsOver, Kept, Entered}
+use Rattle.fl_hop.specs.Slots.{table_of, shown, from_client, from_server, with_cell, IsPlaced, Sits, Found, IsOver, SlotsKept, Entered}
 use Rattle.fl_hop.proofs.Lists.{set_cases, set_here, set_there, map_same, at_within}
 use Rattle.fl_hop.proofs.Cells.{slot_once, same_link, same_circuit}
 
 -- a way's own place
-abbrev pub IsSlot : Way → ℕ → Type 0
+abbrev pub IsSlot : HopTarget → ℕ → Type 0
 IsSlot (Link l c) i = i ≡ slot l.0 c.0
 IsSlot (End e) i = ⊥
 
-pub put_cases : (way : Way) (x : Cell) (cells : List Cell) (i : ℕ) (y : Cell) → slice_get (with_cell way x cells) i ≡ Some y → (IsSlot way i × (y ≡ x)) ⊎ ((IsSlot way i → ⊥) × (slice_get cells i ≡ Some y))
+pub put_cases : (way : HopTarget) (x : Cell) (cells : List Cell) (i : ℕ) (y : Cell) → slice_get (with_cell way x cells) i ≡ Some y → (IsSlot way i × (y ≡ x)) ⊎ ((IsSlot way i → ⊥) × (slice_get cells i ≡ Some y))
 put_cases (Link l c) x cells i y e = set_cases cells (slot l.0 c.0) x i y e
 put_cases (End f) x cells i y e = inr ((λ h. h), e)
 
-put_there : (way : Way) (x : Cell) (cells : List Cell) (i : ℕ) (y : Cell) → slice_get cells i ≡ Some y → (IsSlot way i → ⊥) → slice_get (with_cell way x cells) i ≡ Some y
+put_there : (way : HopTarget) (x : Cell) (cells : List Cell) (i : ℕ) (y : Cell) → slice_get cells i ≡ Some y → (IsSlot way i → ⊥) → slice_get (with_cell way x cells) i ≡ Some y
 put_there (Link l c) x cells i y e n = set_there cells (slot l.0 c.0) x i y e n
 put_there (End f) x cells i y e n = e
 
-pub put_length : (way : Way) (x : Cell) (cells : List Cell) → length (with_cell way x cells) ≡ length cells
+pub put_length : (way : HopTarget) (x : Cell) (cells : List Cell) → length (with_cell way x cells) ≡ length cells
 put_length (Link l c) x cells = length-set cells (slot l.0 c.0) x
 put_length (End f) x cells = refl
 
 -- what a way's own number has after a write there
-put_sits : (way : Way) (x y : Cell) (cells : List Cell) → Sits cells way y → Sits (with_cell way x cells) way x
+put_sits : (way : HopTarget) (x y : Cell) (cells : List Cell) → Sits cells way y → Sits (with_cell way x cells) way x
 put_sits (Link l c) x y cells h = (h.0, set_here cells (slot l.0 c.0) y x h.1)
 put_sits (End f) x y cells h = tt
 
 -- and what another's has
-pub sits_stays : (way other : Way) (x y : Cell) (cells : List Cell) → Sits cells way y → ((i : ℕ) → IsSlot way i → IsSlot other i → ⊥) → Sits (with_cell other x cells) way y
+pub sits_stays : (way other : HopTarget) (x y : Cell) (cells : List Cell) → Sits cells way y → ((i : ℕ) → IsSlot way i → IsSlot other i → ⊥) → Sits (with_cell other x cells) way y
 sits_stays (Link l c) other x y cells h n = (h.0, put_there other x cells (slot l.0 c.0) y h.1 (n (slot l.0 c.0) refl))
 sits_stays (End f) other x y cells h n = tt
 
 -- a way that stands at a place has it for its own
-pub placed_slot : (way : Way) (i : ℕ) → IsPlaced way i → IsSlot way i
+pub placed_slot : (way : HopTarget) (i : ℕ) → IsPlaced way i → IsSlot way i
 placed_slot (Link l c) i p = p.place
 placed_slot (End e) i p = p
 
-slot_placed : (way : Way) (x : Cell) (cells : List Cell) (i : ℕ) → Sits cells way x → IsSlot way i → IsPlaced way i
+slot_placed : (way : HopTarget) (x : Cell) (cells : List Cell) (i : ℕ) → Sits cells way x → IsSlot way i → IsPlaced way i
 slot_placed (Link l c) x cells i h e = record { place = e; small = h.0 }
 slot_placed (End f) x cells i h e = e
 
 -- what a way's own place has
-sits_at : (way : Way) (x y : Cell) (cells : List Cell) (i : ℕ) → Sits cells way x → IsSlot way i → slice_get cells i ≡ Some y → y ≡ x
+sits_at : (way : HopTarget) (x y : Cell) (cells : List Cell) (i : ℕ) → Sits cells way x → IsSlot way i → slice_get cells i ≡ Some y → y ≡ x
 sits_at (Link l c) x y cells i h e at =
     let f : ℕ → Option Cell = λ k. slice_get cells k in
     let some : Some y ≡ Some x = sym at ∙ ap f e ∙ h.1 in
@@ -63,18 +63,18 @@ sits_at (Link l c) x y cells i h e at =
 sits_at (End f) x y cells i h e at = absurd e
 
 -- two ways over two links have no place in common
-over_apart : (a b : Way) (x y : Cell) (cells : List Cell) → IsOver a b → Sits cells a x → Sits cells b y → (i : ℕ) → IsSlot a i → IsSlot b i → ⊥
+over_apart : (a b : HopTarget) (x y : Cell) (cells : List Cell) → IsOver a b → Sits cells a x → Sits cells b y → (i : ℕ) → IsSlot a i → IsSlot b i → ⊥
 over_apart (Link l c) (Link m d) x y cells over p q i e f = over (slot_once l.0 c.0 m.0 d.0 (sym e ∙ f) p.0 q.0).0
 over_apart (Link l c) (End g) x y cells over p q i e f = f
 over_apart (End g) b x y cells over p q i e f = e
 
 -- what a way's own number has, if anything
-module _ (core : ℕ) (links : List LinkState) (cells : List Cell) (s : Slab Entry) (k : Kept core links cells s) where
-  given_at : (way : Way) (l : LinkId) (c : Circuit) → IsPlaced way (slot l.0 c.0) → c.0 ≤ 2046 → way ≡ Link l c
+module _ (core : ℕ) (links : List LinkState) (cells : List Cell) (s : Slab Entry) (k : SlotsKept core links cells s) where
+  given_at : (way : HopTarget) (l : LinkId) (c : Circuit) → IsPlaced way (slot l.0 c.0) → c.0 ≤ 2046 → way ≡ Link l c
   given_at (Link m d) l c at small =
       let (a, b) = slot_once l.0 c.0 m.0 d.0 at.place small at.small in
-      let f : LinkId → Way = λ x. Link x d in
-      let g : Circuit → Way = λ x. Link l x in
+      let f : LinkId → HopTarget = λ x. Link x d in
+      let g : Circuit → HopTarget = λ x. Link l x in
       ap f (same_link m l (sym a)) ∙ ap g (same_circuit d c (sym b))
   given_at (End e) l c at small = absurd at
 
@@ -130,17 +130,17 @@ unlike_vacant s key j f none at = λ e.
     cc
 
 -- two ways with unlike cells have no place in common
-pub clash : (a b : Way) (x y : Cell) (cells : List Cell) → Sits cells a x → Sits cells b y → x ≢ y → (i : ℕ) → IsSlot a i → IsSlot b i → ⊥
+pub clash : (a b : HopTarget) (x y : Cell) (cells : List Cell) → Sits cells a x → Sits cells b y → x ≢ y → (i : ℕ) → IsSlot a i → IsSlot b i → ⊥
 clash (Link l c) b x y cells p q n i e f =
     let g : ℕ → Option Cell = λ k. slice_get cells k in
     n (sits_at b y x cells i q f (ap g e ∙ p.1))
 clash (End h) b x y cells p q n i e f = e
 
-pub map_put : (f : Cell → Option Hop) (way : Way) (x : Cell) (cells : List Cell) → map f (with_cell way x cells) ≡ put_at way (f x) (map f cells)
+pub map_put : (f : Cell → Option Hop) (way : HopTarget) (x : Cell) (cells : List Cell) → map f (with_cell way x cells) ≡ put_at way (f x) (map f cells)
 map_put f (Link l c) x cells = map-set f cells (slot l.0 c.0) x
 map_put f (End e) x cells = refl
 
-module _ (core : ℕ) (links : List LinkState) (cells : List Cell) (s : Slab Entry) (k : Kept core links cells s) (e : Entry) (cells2 : List Cell) (s2 : Slab Entry) (n : Entered e cells s cells2 s2)
+module _ (core : ℕ) (links : List LinkState) (cells : List Cell) (s : Slab Entry) (k : SlotsKept core links cells s) (e : Entry) (cells2 : List Cell) (s2 : Slab Entry) (n : Entered e cells s cells2 s2)
     (p : Sits cells e.client Free) (q : Sits cells e.server Free) (over : IsOver e.client e.server) where
   between : List Cell
   between = with_cell e.client (ClientSide n.key) cells
@@ -195,7 +195,7 @@ module _ (core : ℕ) (links : List LinkState) (cells : List Cell) (s : Slab Ent
       put_sits e.server (ServerSide n.key) Free (with_cell e.client (ClientSide n.key) cells)
       (sits_stays e.server e.client (ClientSide n.key) Free cells q (λ i a b. over_apart e.client e.server Free Free cells over p q i b a))
 
-  old_stays : (way : Way) (x : Cell) → x ≢ Free → Sits cells way x → Sits final way x
+  old_stays : (way : HopTarget) (x : Cell) → x ≢ Free → Sits cells way x → Sits final way x
   unfolding final
   old_stays way x used sits =
       sits_stays way e.server (ServerSide n.key) x (with_cell e.client (ClientSide n.key) cells)
@@ -240,10 +240,10 @@ module _ (core : ℕ) (links : List LinkState) (cells : List Cell) (s : Slab Ent
             ]
       ]
 
-  pub kept_entered : IsClientWay core links e.binding e.client → IsServerWay core links e.binding e.server → ((j : ℕ) (f : Entry) → get s j ≡ Some f → f.binding ≢ e.binding) → Kept core links cells2 s2
+  pub kept_entered : IsClientWay core links e.binding e.client → IsServerWay core links e.binding e.server → ((j : ℕ) (f : Entry) → get s j ≡ Some f → f.binding ≢ e.binding) → SlotsKept core links cells2 s2
   unfolding final
   kept_entered client server fresh =
-      subst (λ v. Kept core links v s2) (sym n.placed)
+      subst (λ v. SlotsKept core links v s2) (sym n.placed)
       (record {
         few = k.few;
         whole = length_final ∙ k.whole;

@@ -5,10 +5,10 @@ use Rattle.std.proofs.lemmas.Bool.Decides.{nat_tests}
 use Rattle.fl_base.specs.declared.identity.LinkId.{LinkId}
 use Rattle.fl_base.specs.declared.identity.Circuit.{Circuit}
 use Rattle.fl_base.specs.declared.identity.Side.TheVariants.{Client, Server}
-use Rattle.fl_hop.specs.declared.entry.Way.TheVariants.{Link, End}
+use Rattle.fl_hop.specs.declared.entry.HopTarget.TheVariants.{Link, End}
 use Rattle.fl_hop.specs.declared.entry.Hop.{Hop}
 use Rattle.fl_hop.specs.declared.fault.HopFault.{HopFault}
-use Rattle.fl_hop.specs.declared.fault.HopFault.TheVariants.{Astray, NoLink}
+use Rattle.fl_hop.specs.declared.fault.HopFault.TheVariants.{Misrouted, NoLink}
 use Rattle.fl_hop.specs.Table.{TheCircuits, slot, hop_at, stands, with_hops, leading}
 use Rattle.fl_hop.specs.Numbers.{next_own, next_due, after_opening, after_taking}
 use Rattle.fl_hop.specs.Joined.{Sound, Leads}
@@ -61,7 +61,7 @@ opened_leads t l c binding sound next =
       there = put_here (after_opening t l.0) t.hops l.0 c.0 (leading binding false (End (record { binding = binding; side = Client }))) f.few f.there;
     }
 
-arrive_none : (a b : Bool) → (if a then (if b then Some Astray else None) else Some Astray) ≡ None → a ≡ true
+arrive_none : (a b : Bool) → (if a then (if b then Some Misrouted else None) else Some Misrouted) ≡ None → a ≡ true
 arrive_none true b e = refl
 arrive_none false b e = absurd (cc)
 
@@ -73,7 +73,7 @@ arrived_leads t l c binding sound none =
       there = put_here (after_taking t l.0) t.hops l.0 c.0 (leading binding false (End (record { binding = binding; side = Server }))) f.few f.there;
     }
 
-pass_none : (a b same : Bool) (rest : Option HopFault) → (if a then (if b then Some Astray else if same then Some NoLink else rest) else Some Astray) ≡ None → (a ≡ true) × (same ≡ false)
+pass_none : (a b same : Bool) (rest : Option HopFault) → (if a then (if b then Some Misrouted else if same then Some NoLink else rest) else Some Misrouted) ≡ None → (a ≡ true) × (same ≡ false)
 pass_none true true same rest e = absurd (cc)
 pass_none true false true rest e = absurd (cc)
 pass_none true false false rest e = (refl, refl)

@@ -4,8 +4,8 @@ use Rattle.std.proofs.lemmas.List.{get_or-set_other}
 use Rattle.std.proofs.lemmas.Bool.{cases_eq}
 use Rattle.std.proofs.lemmas.Bool.Decides.{nat_tests}
 use Rattle.slab.specs.Slab.{Slab}
-use Rattle.fl_hop.specs.declared.entry.Way.{Way}
-use Rattle.fl_hop.specs.declared.entry.Way.TheVariants.{Link, End}
+use Rattle.fl_hop.specs.declared.entry.HopTarget.{HopTarget}
+use Rattle.fl_hop.specs.declared.entry.HopTarget.TheVariants.{Link, End}
 use Rattle.fl_hop.specs.declared.entry.Hop.{Hop}
 use Rattle.fl_hop.specs.declared.entry.Cell.{Cell}
 use Rattle.fl_hop.specs.declared.entry.Entry.{Entry}
@@ -14,7 +14,7 @@ use Rattle.fl_hop.specs.Table.{TheCircuits, slot, hop_at, stands, put_at, with_h
 use Rattle.fl_hop.specs.Numbers.{IsGiven, next_due, next_own}
 use Rattle.fl_hop.specs.Openings.{is_next}
 use Rattle.fl_hop.specs.Later.{Later, unanswered}
-use Rattle.fl_hop.specs.Slots.{table_of, Kept}
+use Rattle.fl_hop.specs.Slots.{table_of, SlotsKept}
 use Rattle.fl_hop.proofs.Lists.{within}
 use Rattle.fl_hop.proofs.Cells.{slot_once}
 use Rattle.fl_hop.proofs.Sounds.{in_range}
@@ -29,7 +29,7 @@ next_test None n e = cc
 next_test (Some m) n e = let same : m ≡ n = grind (arith, nat_tests, e) in let f : ℕ → Option ℕ = λ x. Some x in ap f same
 
 -- a way's number, if it has one, is a link's and was given by nobody
-abbrev pub IsNew : ℕ → List LinkState → Way → Type 0
+abbrev pub IsNew : ℕ → List LinkState → HopTarget → Type 0
 IsNew core links (Link l c) = (c.0 ≤ 2046) × (IsGiven core links l.0 c.0 → ⊥) × (l.0 < length links)
 IsNew core links (End e) = Unit {0}
 
@@ -52,7 +52,7 @@ later_links core links more cells s g = record {
 }
 
 -- a number other than a way's own keeps what it says
-pub put_other : (t : TheCircuits) (way : Way) (o : Option Hop) (l n : ℕ) → (IsSlot way (slot l n) → ⊥) → hop_at (with_hops t (put_at way o t.hops)) l n ≡ hop_at t l n
+pub put_other : (t : TheCircuits) (way : HopTarget) (o : Option Hop) (l n : ℕ) → (IsSlot way (slot l n) → ⊥) → hop_at (with_hops t (put_at way o t.hops)) l n ≡ hop_at t l n
 put_other t (Link m d) o l n away =
     let f : Option Hop → Option Hop = λ x. cond (nat_lt n 2047) x None in
     ap f (get_or-set_other t.hops (slot m.0 d.0) (slot l n) o None away)
@@ -70,7 +70,7 @@ cond_none true o e = e
 cond_none false o e = refl
 
 -- a number that is emptied, or another
-pub put_none : (t : TheCircuits) (way : Way) (l n : ℕ) → (hop_at (with_hops t (put_at way None t.hops)) l n ≡ hop_at t l n) ⊎ (hop_at (with_hops t (put_at way None t.hops)) l n ≡ None)
+pub put_none : (t : TheCircuits) (way : HopTarget) (l n : ℕ) → (hop_at (with_hops t (put_at way None t.hops)) l n ≡ hop_at t l n) ⊎ (hop_at (with_hops t (put_at way None t.hops)) l n ≡ None)
 put_none t (Link m d) l n =
     elim (cases_eq (slot l n) (slot m.0 d.0)) [
       | inl same ↦ inr (cond_none (nat_lt n 2047) (slice_index_or (slice_set t.hops (slot m.0 d.0) None) (slot l n) None) (none_here t.hops (slot m.0 d.0) (slot l n) same))
@@ -79,7 +79,7 @@ put_none t (Link m d) l n =
 put_none t (End e) l n = inl refl
 
 -- a table without an entry
-pub later_without : (t : TheCircuits) (a b : Way) → Later t (without_entry t a b)
+pub later_without : (t : TheCircuits) (a b : HopTarget) → Later t (without_entry t a b)
 later_without t a b = record {
   core = refl;
   here = λ l n o. o;
@@ -97,7 +97,7 @@ later_without t a b = record {
 }
 
 -- a number of a link that wasn't given is no number that was
-new_slot : (core : ℕ) (links : List LinkState) (cells : List Cell) (s : Slab Entry) → Kept core links cells s → (way : Way) → IsNew core links way → (l n : ℕ) → IsGiven core links l n → IsSlot way (slot l n) → ⊥
+new_slot : (core : ℕ) (links : List LinkState) (cells : List Cell) (s : Slab Entry) → SlotsKept core links cells s → (way : HopTarget) → IsNew core links way → (l n : ℕ) → IsGiven core links l n → IsSlot way (slot l n) → ⊥
 new_slot core links cells s k (Link m d) new l n given e =
     let r = in_range core links cells s k l n given in
     let (a, b) = slot_once l n m.0 d.0 e r.2 new.0 in
@@ -105,7 +105,7 @@ new_slot core links cells s k (Link m d) new l n given e =
 new_slot core links cells s k (End f) new l n given e = e
 
 -- links that grew, and an entry at numbers that weren't given
-pub later_with : (core : ℕ) (links more : List LinkState) (cells : List Cell) (s : Slab Entry) → Kept core links cells s → Grown links more → (binding : ℕ) (answered : Bool) (a b : Way) → IsNew core links a → IsNew core links b → Later (table_of core links cells s) (with_entry (table_of core more cells s) binding answered a b)
+pub later_with : (core : ℕ) (links more : List LinkState) (cells : List Cell) (s : Slab Entry) → SlotsKept core links cells s → Grown links more → (binding : ℕ) (answered : Bool) (a b : HopTarget) → IsNew core links a → IsNew core links b → Later (table_of core links cells s) (with_entry (table_of core more cells s) binding answered a b)
 later_with core links more cells s k g binding answered a b x y = record {
   core = refl;
   here = opened_stays core links more g;
@@ -118,13 +118,13 @@ later_with core links more cells s k g binding answered a b x y = record {
 }
 
 -- the number that is due, and this core's next, are new
-pub due_fresh : (core : ℕ) (links : List LinkState) (cells : List Cell) (s : Slab Entry) → Kept core links cells s → (l : LinkId) (c : Circuit) → Due core links l.0 c.0 → IsNew core links (Link l c)
+pub due_fresh : (core : ℕ) (links : List LinkState) (cells : List Cell) (s : Slab Entry) → SlotsKept core links cells s → (l : LinkId) (c : Circuit) → Due core links l.0 c.0 → IsNew core links (Link l c)
 due_fresh core links cells s k l c d =
     let few = d.few in
     let p = small d.link.neighbour.0 core (d.link.taken + 1) c.0 (omega arith) (d.link.taken, omega arith, sym d.is) in
     (p.1, due_new core links cells s k l.0 c.0 d, within links l.0 d.link d.there)
 
-pub next_fresh : (core : ℕ) (links : List LinkState) (cells : List Cell) (s : Slab Entry) → Kept core links cells s → (l : LinkId) (c : Circuit) → Next core links l.0 c.0 → IsNew core links (Link l c)
+pub next_fresh : (core : ℕ) (links : List LinkState) (cells : List Cell) (s : Slab Entry) → SlotsKept core links cells s → (l : LinkId) (c : Circuit) → Next core links l.0 c.0 → IsNew core links (Link l c)
 next_fresh core links cells s k l c d =
     let few = d.few in
     let p = small core d.link.neighbour.0 (d.link.opened + 1) c.0 (omega arith) (d.link.opened, omega arith, sym d.is) in

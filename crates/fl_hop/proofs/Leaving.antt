@@ -3,15 +3,15 @@ use Rattle.std.proofs.Common.{◌≡◌, ◌≢◌, refl, sym, ap, subst, ◌∙
 use Rattle.slab.specs.Slab.{Slab, get, Updates}
 use Rattle.fl_base.specs.declared.identity.LinkId.{LinkId}
 use Rattle.fl_base.specs.declared.identity.Circuit.{Circuit}
-use Rattle.fl_hop.specs.declared.entry.Way.{Way}
-use Rattle.fl_hop.specs.declared.entry.Way.TheVariants.{Link}
+use Rattle.fl_hop.specs.declared.entry.HopTarget.{HopTarget}
+use Rattle.fl_hop.specs.declared.entry.HopTarget.TheVariants.{Link}
 use Rattle.fl_hop.specs.declared.entry.Hop.{Hop}
 use Rattle.fl_hop.specs.declared.entry.Entry.{Entry}
 use Rattle.fl_hop.specs.declared.entry.Cell.{Cell}
 use Rattle.fl_hop.specs.declared.entry.Cell.TheVariants.{Free, ClientSide, ServerSide}
 use Rattle.fl_hop.specs.declared.links.LinkState.{LinkState}
 use Rattle.fl_hop.specs.Table.{TheCircuits, slot, put_at, without_entry}
-use Rattle.fl_hop.specs.Slots.{table_of, shown, from_client, from_server, cell_of, with_cell, Sits, Kept}
+use Rattle.fl_hop.specs.Slots.{table_of, shown, from_client, from_server, cell_of, with_cell, Sits, SlotsKept}
 use Rattle.fl_hop.proofs.Lists.{map_same}
 use Rattle.fl_hop.proofs.Cells.{cell_found, placed_at}
 use Rattle.fl_hop.proofs.Entering.{IsSlot, put_cases, put_length, sits_stays, placed_slot, clash, map_put, same_or, stays}
@@ -21,7 +21,7 @@ abbrev pub HasKey : Cell → ℕ → Type 0
 HasKey x key = (x ≡ ClientSide key) ⊎ (x ≡ ServerSide key)
 
 -- the entry with this key, and two ways that are its sides
-pub record Sides (cells : List Cell) (s : Slab Entry) (key : ℕ) (e : Entry) (a b : Way) : Type 0 where
+pub record Sides (cells : List Cell) (s : Slab Entry) (key : ℕ) (e : Entry) (a b : HopTarget) : Type 0 where
   pub kept : get s key ≡ Some e
   pub ways : ((a ≡ e.client) × (b ≡ e.server)) ⊎ ((a ≡ e.server) × (b ≡ e.client))
 
@@ -43,20 +43,20 @@ server_unlike x key j (inl e) n = λ h.
     let same : ServerSide j ≡ ClientSide key = h ∙ e in
     cc
 
-module _ (core : ℕ) (links : List LinkState) (cells : List Cell) (s : Slab Entry) (k : Kept core links cells s) (key : ℕ) (e : Entry) (a b : Way) (n : Sides cells s key e a b) where
+module _ (core : ℕ) (links : List LinkState) (cells : List Cell) (s : Slab Entry) (k : SlotsKept core links cells s) (key : ℕ) (e : Entry) (a b : HopTarget) (n : Sides cells s key e a b) where
   final : List Cell
   final = with_cell b Free (with_cell a Free cells)
 
   -- a place of the entry's is one of the two
-  own : (way : Way) (i : ℕ) → (way ≡ e.client) ⊎ (way ≡ e.server) → IsSlot way i → (IsSlot a i) ⊎ (IsSlot b i)
+  own : (way : HopTarget) (i : ℕ) → (way ≡ e.client) ⊎ (way ≡ e.server) → IsSlot way i → (IsSlot a i) ⊎ (IsSlot b i)
   own way i (inl c) at =
-      let P : Way → Type 0 = λ w. IsSlot w i in
+      let P : HopTarget → Type 0 = λ w. IsSlot w i in
       elim n.ways [
         | inl (x, y) ↦ inl (subst P (c ∙ sym x) at)
         | inr (x, y) ↦ inr (subst P (c ∙ sym y) at)
       ]
   own way i (inr c) at =
-      let P : Way → Type 0 = λ w. IsSlot w i in
+      let P : HopTarget → Type 0 = λ w. IsSlot w i in
       elim n.ways [
         | inl (x, y) ↦ inr (subst P (c ∙ sym y) at)
         | inr (x, y) ↦ inl (subst P (c ∙ sym x) at)
@@ -95,7 +95,7 @@ module _ (core : ℕ) (links : List LinkState) (cells : List Cell) (s : Slab Ent
                 before,
                 (λ same.
                     let f = k.client i j before in
-                    let w : Entry → Way = λ x. x.client in
+                    let w : Entry → HopTarget = λ x. x.client in
                     let is = ap w (same_entry j f.entry f.kept same) in
                     elim (own f.entry.client i (inl is) (placed_slot f.entry.client i f.placed)) [
                       | inl x ↦ not_a x
@@ -117,7 +117,7 @@ module _ (core : ℕ) (links : List LinkState) (cells : List Cell) (s : Slab Ent
                 before,
                 (λ same.
                     let f = k.server i j before in
-                    let w : Entry → Way = λ x. x.server in
+                    let w : Entry → HopTarget = λ x. x.server in
                     let is = ap w (same_entry j f.entry f.kept same) in
                     elim (own f.entry.server i (inr is) (placed_slot f.entry.server i f.placed)) [
                       | inl x ↦ not_a x
@@ -127,7 +127,7 @@ module _ (core : ℕ) (links : List LinkState) (cells : List Cell) (s : Slab Ent
             ]
       ]
 
-  other_stays : (way : Way) (x : Cell) → ((y : Cell) → HasKey y key → x ≢ y) → Sits cells way x → Sits final way x
+  other_stays : (way : HopTarget) (x : Cell) → ((y : Cell) → HasKey y key → x ≢ y) → Sits cells way x → Sits final way x
   unfolding final
   other_stays way x other sits =
       let (y, has, at) = a_has in
@@ -152,7 +152,7 @@ module _ (core : ℕ) (links : List LinkState) (cells : List Cell) (s : Slab Ent
           | inr other ↦ (sym (u.others j other) ∙ at, other)
         ]
 
-    pub kept_left : Kept core links (with_cell b Free (with_cell a Free cells)) s2
+    pub kept_left : SlotsKept core links (with_cell b Free (with_cell a Free cells)) s2
     unfolding final
     kept_left = record {
       few = k.few;
@@ -201,22 +201,22 @@ module _ (core : ℕ) (links : List LinkState) (cells : List Cell) (s : Slab Ent
         ∙ ap (λ h. t (put h)) (map_put (shown s) a Free cells)
 
 -- the entry that stands at a number by its client's side, and by its server's
-pub stands_client : (core : ℕ) (links : List LinkState) (cells : List Cell) (s : Slab Entry) → Kept core links cells s → (l : LinkId) (c : Circuit) (key : ℕ) (e : Entry) (slice : List Cell) (x : Cell) (o : Option Entry) → slice ≡ cells → x ≡ cell_of slice l.0 c.0 → x ≡ ClientSide key → o ≡ get s key → o ≡ Some e → Sides cells s key e (Link l c) e.server
+pub stands_client : (core : ℕ) (links : List LinkState) (cells : List Cell) (s : Slab Entry) → SlotsKept core links cells s → (l : LinkId) (c : Circuit) (key : ℕ) (e : Entry) (slice : List Cell) (x : Cell) (o : Option Entry) → slice ≡ cells → x ≡ cell_of slice l.0 c.0 → x ≡ ClientSide key → o ≡ get s key → o ≡ Some e → Sides cells s key e (Link l c) e.server
 stands_client core links cells s k l c key e slice x o all here is got some =
     let cell = ap (λ v. cell_of v l.0 c.0) (sym all) ∙ sym here ∙ is in
     let (small, at) = cell_found cells l.0 c.0 (ClientSide key) cell (λ h. cc) in
     let f = k.client (slot l.0 c.0) key at in
     let there : Some f.entry ≡ Some e = sym f.kept ∙ sym got ∙ some in
     let same : f.entry ≡ e = cc in
-    let w : Entry → Way = λ y. y.client in
+    let w : Entry → HopTarget = λ y. y.client in
     record { kept = sym got ∙ some; ways = inl (sym (placed_at f.entry.client l c f.placed small) ∙ ap w same, refl) }
 
-pub stands_server : (core : ℕ) (links : List LinkState) (cells : List Cell) (s : Slab Entry) → Kept core links cells s → (l : LinkId) (c : Circuit) (key : ℕ) (e : Entry) (slice : List Cell) (x : Cell) (o : Option Entry) → slice ≡ cells → x ≡ cell_of slice l.0 c.0 → x ≡ ServerSide key → o ≡ get s key → o ≡ Some e → Sides cells s key e (Link l c) e.client
+pub stands_server : (core : ℕ) (links : List LinkState) (cells : List Cell) (s : Slab Entry) → SlotsKept core links cells s → (l : LinkId) (c : Circuit) (key : ℕ) (e : Entry) (slice : List Cell) (x : Cell) (o : Option Entry) → slice ≡ cells → x ≡ cell_of slice l.0 c.0 → x ≡ ServerSide key → o ≡ get s key → o ≡ Some e → Sides cells s key e (Link l c) e.client
 stands_server core links cells s k l c key e slice x o all here is got some =
     let cell = ap (λ v. cell_of v l.0 c.0) (sym all) ∙ sym here ∙ is in
     let (small, at) = cell_found cells l.0 c.0 (ServerSide key) cell (λ h. cc) in
     let f = k.server (slot l.0 c.0) key at in
     let there : Some f.entry ≡ Some e = sym f.kept ∙ sym got ∙ some in
     let same : f.entry ≡ e = cc in
-    let w : Entry → Way = λ y. y.server in
+    let w : Entry → HopTarget = λ y. y.server in
     record { kept = sym got ∙ some; ways = inr (sym (placed_at f.entry.server l c f.placed small) ∙ ap w same, refl) }

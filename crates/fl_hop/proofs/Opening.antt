@@ -6,8 +6,8 @@ use Rattle.std.proofs.lemmas.Bool.Decides.{nat_tests}
 use Rattle.slab.specs.Slab.{Slab, get}
 use Rattle.fl_base.specs.declared.identity.LinkId.{LinkId}
 use Rattle.fl_base.specs.declared.identity.Circuit.{Circuit}
-use Rattle.fl_hop.specs.declared.entry.Way.{Way}
-use Rattle.fl_hop.specs.declared.entry.Way.TheVariants.{Link, End}
+use Rattle.fl_hop.specs.declared.entry.HopTarget.{HopTarget}
+use Rattle.fl_hop.specs.declared.entry.HopTarget.TheVariants.{Link, End}
 use Rattle.fl_hop.specs.declared.entry.Hop.{Hop}
 use Rattle.fl_hop.specs.declared.entry.Entry.{Entry}
 use Rattle.fl_hop.specs.declared.entry.Cell.{Cell}
@@ -16,7 +16,7 @@ use Rattle.fl_hop.specs.declared.links.LinkState.{LinkState}
 use Rattle.fl_hop.specs.Table.{slot, is_of, stands, with_entry}
 use Rattle.fl_hop.specs.Joined.{IsClientWay, IsServerWay}
 use Rattle.fl_hop.specs.Later.{Later}
-use Rattle.fl_hop.specs.Slots.{table_of, shown, from_client, from_server, IsOver, Sits, Kept, Entered}
+use Rattle.fl_hop.specs.Slots.{table_of, shown, from_client, from_server, IsOver, Sits, SlotsKept, Entered}
 use Rattle.fl_hop.proofs.Entering.{free, kept_entered, view_entered}
 use Rattle.fl_hop.proofs.Counting.{Grown}
 use Rattle.fl_hop.proofs.Laters.{IsNew, later_with}
@@ -40,7 +40,7 @@ pub record Seen (cells : List Cell) (s : Slab Entry) (e : Entry) : Type 0 where
   pub there : slice_get (map (shown s) cells) place ≡ Some (Some hop)
   pub binding : hop.binding ≡ e.binding
 
-seen_client : (core : ℕ) (links : List LinkState) (cells : List Cell) (s : Slab Entry) → Kept core links cells s → (key : ℕ) (e : Entry) → get s key ≡ Some e → (l : LinkId) (c : Circuit) → e.client ≡ Link l c → Seen cells s e
+seen_client : (core : ℕ) (links : List LinkState) (cells : List Cell) (s : Slab Entry) → SlotsKept core links cells s → (key : ℕ) (e : Entry) → get s key ≡ Some e → (l : LinkId) (c : Circuit) → e.client ≡ Link l c → Seen cells s e
 seen_client core links cells s k key e at l c way =
     let sits = subst (λ w. Sits cells w (ClientSide key)) way (k.client_back key e at) in
     let some : Option Hop → Option (Option Hop) = λ o. Some o in
@@ -51,7 +51,7 @@ seen_client core links cells s k key e at l c way =
       binding = refl;
     }
 
-seen_server : (core : ℕ) (links : List LinkState) (cells : List Cell) (s : Slab Entry) → Kept core links cells s → (key : ℕ) (e : Entry) → get s key ≡ Some e → (l : LinkId) (c : Circuit) → e.server ≡ Link l c → Seen cells s e
+seen_server : (core : ℕ) (links : List LinkState) (cells : List Cell) (s : Slab Entry) → SlotsKept core links cells s → (key : ℕ) (e : Entry) → get s key ≡ Some e → (l : LinkId) (c : Circuit) → e.server ≡ Link l c → Seen cells s e
 seen_server core links cells s k key e at l c way =
     let sits = subst (λ w. Sits cells w (ServerSide key)) way (k.server_back key e at) in
     let some : Option Hop → Option (Option Hop) = λ o. Some o in
@@ -62,16 +62,16 @@ seen_server core links cells s k key e at l c way =
       binding = refl;
     }
 
-seen_step : (core : ℕ) (links : List LinkState) (cells : List Cell) (s : Slab Entry) → Kept core links cells s → (key : ℕ) (e : Entry) → get s key ≡ Some e → (a b : Way) → e.client ≡ a → e.server ≡ b → IsOver a b → Seen cells s e
+seen_step : (core : ℕ) (links : List LinkState) (cells : List Cell) (s : Slab Entry) → SlotsKept core links cells s → (key : ℕ) (e : Entry) → get s key ≡ Some e → (a b : HopTarget) → e.client ≡ a → e.server ≡ b → IsOver a b → Seen cells s e
 seen_step core links cells s k key e at (Link l c) b x y over = seen_client core links cells s k key e at l c x
 seen_step core links cells s k key e at (End f) (Link l c) x y over = seen_server core links cells s k key e at l c y
 seen_step core links cells s k key e at (End f) (End g) x y over = absurd over
 
-pub seen : (core : ℕ) (links : List LinkState) (cells : List Cell) (s : Slab Entry) → Kept core links cells s → (key : ℕ) (e : Entry) → get s key ≡ Some e → Seen cells s e
+pub seen : (core : ℕ) (links : List LinkState) (cells : List Cell) (s : Slab Entry) → SlotsKept core links cells s → (key : ℕ) (e : Entry) → get s key ≡ Some e → Seen cells s e
 seen core links cells s k key e at = seen_step core links cells s k key e at e.client e.server refl refl (k.over key e at)
 
 -- where no entry is of a binding, none in the slab is
-pub fresh : (core : ℕ) (links : List LinkState) (cells : List Cell) (s : Slab Entry) → Kept core links cells s → (binding : ℕ) → stands (table_of core links cells s) binding ≡ false → (key : ℕ) (e : Entry) → get s key ≡ Some e → e.binding ≢ binding
+pub fresh : (core : ℕ) (links : List LinkState) (cells : List Cell) (s : Slab Entry) → SlotsKept core links cells s → (binding : ℕ) → stands (table_of core links cells s) binding ≡ false → (key : ℕ) (e : Entry) → get s key ≡ Some e → e.binding ≢ binding
 fresh core links cells s k binding none key e at = λ same.
     let x = seen core links cells s k key e at in
     let no : is_of binding (Some x.hop) ≡ false = fails (is_of binding) (map (shown s) cells) x.place (Some x.hop) none x.there in
@@ -79,18 +79,18 @@ fresh core links cells s k binding none key e at = λ same.
     grind (arith, nat_tests, no, b, same)
 
 -- a new number is free
-new_free : (core : ℕ) (links : List LinkState) (cells : List Cell) (s : Slab Entry) → Kept core links cells s → (way : Way) → IsNew core links way → Sits cells way Free
+new_free : (core : ℕ) (links : List LinkState) (cells : List Cell) (s : Slab Entry) → SlotsKept core links cells s → (way : HopTarget) → IsNew core links way → Sits cells way Free
 new_free core links cells s k (Link l c) new = free core links cells s k l c new.2 new.0 new.1
 new_free core links cells s k (End e) new = tt
 
 -- what comes of one entry at new numbers
 pub record Opened (core : ℕ) (links more : List LinkState) (cells : List Cell) (s : Slab Entry) (e : Entry) (cells2 : List Cell) (s2 : Slab Entry) : Type 0 where
-  pub kept : Kept core more cells2 s2
+  pub kept : SlotsKept core more cells2 s2
   pub view : table_of core more cells2 s2 ≡ with_entry (table_of core more cells s) e.binding e.answered e.client e.server
   pub later : Later (table_of core links cells s) (table_of core more cells2 s2)
 
 pub opened_so : (core : ℕ) (links more : List LinkState) (cells : List Cell) (s : Slab Entry) (e : Entry) (cells2 : List Cell) (s2 : Slab Entry)
-    → Kept core links cells s → Kept core more cells s → Grown links more → Entered e cells s cells2 s2
+    → SlotsKept core links cells s → SlotsKept core more cells s → Grown links more → Entered e cells s cells2 s2
     → IsNew core links e.client → IsNew core links e.server → IsOver e.client e.server
     → IsClientWay core more e.binding e.client → IsServerWay core more e.binding e.server
     → stands (table_of core links cells s) e.binding ≡ false
@@ -106,10 +106,10 @@ opened_so core links more cells s e cells2 s2 k k2 g n x y over client server no
     }
 
 -- nothing but the slab's room changed
-pub same_slots : (core : ℕ) (links : List LinkState) (cells cells2 : List Cell) (s s2 : Slab Entry) → Kept core links cells s → cells2 ≡ cells → s2 ≡ record s { capacity = s2.capacity } → Kept core links cells2 s2 × (table_of core links cells2 s2 ≡ table_of core links cells s)
+pub same_slots : (core : ℕ) (links : List LinkState) (cells cells2 : List Cell) (s s2 : Slab Entry) → SlotsKept core links cells s → cells2 ≡ cells → s2 ≡ record s { capacity = s2.capacity } → SlotsKept core links cells2 s2 × (table_of core links cells2 s2 ≡ table_of core links cells s)
 same_slots core links cells cells2 s s2 k a b =
     let other : Slab Entry = record s { capacity = s2.capacity } in
-    let P : List Cell → Slab Entry → Type 0 = λ c v. Kept core links c v × (table_of core links c v ≡ table_of core links cells s) in
+    let P : List Cell → Slab Entry → Type 0 = λ c v. SlotsKept core links c v × (table_of core links c v ≡ table_of core links cells s) in
     let here : P cells other = (
       record {
         few = k.few;

@@ -7,7 +7,7 @@ use Rattle.fl_hop.specs.declared.entry.Cell.{Cell}
 use Rattle.fl_hop.specs.declared.entry.Entry.{Entry}
 use Rattle.fl_hop.specs.declared.links.LinkState.{LinkState}
 use Rattle.fl_hop.specs.declared.fault.HopFault.{HopFault}
-use Rattle.fl_hop.specs.declared.fault.HopFault.TheVariants.{Astray, NoLink, UsedUp}
+use Rattle.fl_hop.specs.declared.fault.HopFault.TheVariants.{Misrouted, NoLink, UsedUp}
 use Rattle.fl_hop.specs.Table.{TheCircuits, stands}
 use Rattle.fl_hop.specs.Numbers.{next_own, next_due}
 use Rattle.fl_hop.specs.Openings.{is_next, if_used_up, open_fault, pass_fault}
@@ -44,20 +44,20 @@ if_told n c e = ap (λ m. if_used_up m) e
 pub open_nowhere : (t : TheCircuits) (l binding : ℕ) → length t.links ≤ l → open_fault t l binding ≡ Some NoLink
 open_nowhere t l binding past =
     let none : nat_lt l (length t.links) ≡ false = grind (arith, nat_tests, past) in
-    let there : Option HopFault = if stands t binding then Some Astray else if_used_up (next_own t l) in
+    let there : Option HopFault = if stands t binding then Some Misrouted else if_used_up (next_own t l) in
     cond_false (nat_lt l (length t.links)) there (Some NoLink) none
 
-pub open_stands : (t : TheCircuits) (l binding : ℕ) (b : Bool) → l < length t.links → b ≡ stands t binding → b ≡ true → open_fault t l binding ≡ Some Astray
+pub open_stands : (t : TheCircuits) (l binding : ℕ) (b : Bool) → l < length t.links → b ≡ stands t binding → b ≡ true → open_fault t l binding ≡ Some Misrouted
 open_stands t l binding b less e is =
     let last : Option HopFault = if_used_up (next_own t l) in
-    let there : Option HopFault = if stands t binding then Some Astray else last in
-    cond_true (nat_lt l (length t.links)) there (Some NoLink) (less_is l (length t.links) less) ∙ cond_true (stands t binding) (Some Astray) last (sym e ∙ is)
+    let there : Option HopFault = if stands t binding then Some Misrouted else last in
+    cond_true (nat_lt l (length t.links)) there (Some NoLink) (less_is l (length t.links) less) ∙ cond_true (stands t binding) (Some Misrouted) last (sym e ∙ is)
 
 pub open_due : (t : TheCircuits) (l binding : ℕ) (b : Bool) → l < length t.links → b ≡ stands t binding → b ≡ false → open_fault t l binding ≡ if_used_up (next_own t l)
 open_due t l binding b less e is =
     let last : Option HopFault = if_used_up (next_own t l) in
-    let there : Option HopFault = if stands t binding then Some Astray else last in
-    cond_true (nat_lt l (length t.links)) there (Some NoLink) (less_is l (length t.links) less) ∙ cond_false (stands t binding) (Some Astray) last (sym e ∙ is)
+    let there : Option HopFault = if stands t binding then Some Misrouted else last in
+    cond_true (nat_lt l (length t.links)) there (Some NoLink) (less_is l (length t.links) less) ∙ cond_false (stands t binding) (Some Misrouted) last (sym e ∙ is)
 
 -- ---- the neighbour's, passed on
 
@@ -67,8 +67,8 @@ pass_due t l c m binding a b d next e is other less =
     let last : Option HopFault = if_used_up (next_own t m) in
     let there : Option HopFault = if nat_lt m (length t.links) then last else Some NoLink in
     let over : Option HopFault = if l == m then Some NoLink else there in
-    let due : Option HopFault = if stands t binding then Some Astray else over in
-    cond_true (is_next (next_due t l) c) due (Some Astray) (sym d ∙ next)
-    ∙ cond_false (stands t binding) (Some Astray) over (sym e ∙ is)
+    let due : Option HopFault = if stands t binding then Some Misrouted else over in
+    cond_true (is_next (next_due t l) c) due (Some Misrouted) (sym d ∙ next)
+    ∙ cond_false (stands t binding) (Some Misrouted) over (sym e ∙ is)
     ∙ cond_false (l == m) (Some NoLink) there apart
     ∙ cond_true (nat_lt m (length t.links)) last (Some NoLink) (less_is m (length t.links) less)

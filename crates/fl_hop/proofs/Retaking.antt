@@ -3,8 +3,8 @@ use Rattle.std.proofs.Common.{◌≡◌, refl, sym, ap, subst, ◌∙◌, ℕ, �
 use Rattle.std.proofs.lemmas.List.{length-map, length-replicate, length-take-le}
 use Rattle.slab.specs.Slab.{Slab}
 use Rattle.fl_base.specs.declared.identity.CoreId.{CoreId}
-use Rattle.fl_hop.specs.declared.entry.Way.{Way}
-use Rattle.fl_hop.specs.declared.entry.Way.TheVariants.{Link, End}
+use Rattle.fl_hop.specs.declared.entry.HopTarget.{HopTarget}
+use Rattle.fl_hop.specs.declared.entry.HopTarget.TheVariants.{Link, End}
 use Rattle.fl_hop.specs.declared.entry.Hop.{Hop}
 use Rattle.fl_hop.specs.declared.entry.Entry.{Entry}
 use Rattle.fl_hop.specs.declared.entry.Cell.{Cell}
@@ -13,16 +13,16 @@ use Rattle.fl_hop.specs.declared.links.LinkState.{LinkState}
 use Rattle.fl_hop.specs.Table.{TheCircuits, slot, with_link}
 use Rattle.fl_hop.specs.Numbers.{IsOpened, IsTaken}
 use Rattle.fl_hop.specs.Joined.{IsClientWay, IsServerWay}
-use Rattle.fl_hop.specs.Slots.{table_of, shown, Sits, Kept}
+use Rattle.fl_hop.specs.Slots.{table_of, shown, Sits, SlotsKept}
 use Rattle.fl_hop.proofs.Lists.{push_cases, push_keeps, within, pop_front, take_within, take_there, take_map, take_front}
 
 -- a way over one of the first so many links, or to an end
-abbrev IsBelow : ℕ → Way → Type 0
+abbrev IsBelow : ℕ → HopTarget → Type 0
 IsBelow n (Link l c) = l.0 < n
 IsBelow n (End e) = Unit {0}
 
 -- so its cell is one of theirs
-sits_below : (cells : List Cell) (n : ℕ) (way : Way) (x : Cell) → IsBelow n way → Sits cells way x → Sits (take (2047 * n) cells) way x
+sits_below : (cells : List Cell) (n : ℕ) (way : HopTarget) (x : Cell) → IsBelow n way → Sits cells way x → Sits (take (2047 * n) cells) way x
 sits_below cells n (Link l c) x below h = (h.0, take_there cells (2047 * n) (slot l.0 c.0) x (omega (arith, below, h.0)) h.1)
 sits_below cells n (End e) x below h = tt
 
@@ -42,28 +42,28 @@ module _ (core : ℕ) (links : List LinkState) (last : LinkState) (opened : last
         | inr (at, is) ↦ let few = h.among.1 in let none : h.link.taken ≡ 0 = ap (λ (a : LinkState). a.taken) is ∙ taken in absurd (omega (arith, few, none))
       ]
 
-  client_before : (binding : ℕ) (way : Way) → IsClientWay core (links ++ last ∷ []) binding way → IsClientWay core links binding way
+  client_before : (binding : ℕ) (way : HopTarget) → IsClientWay core (links ++ last ∷ []) binding way → IsClientWay core links binding way
   client_before binding (Link l c) h = taken_before l.0 c.0 h
   client_before binding (End e) h = h
 
-  server_before : (binding : ℕ) (way : Way) → IsServerWay core (links ++ last ∷ []) binding way → IsServerWay core links binding way
+  server_before : (binding : ℕ) (way : HopTarget) → IsServerWay core (links ++ last ∷ []) binding way → IsServerWay core links binding way
   server_before binding (Link l c) h = opened_before l.0 c.0 h
   server_before binding (End e) h = h
 
-client_below : (core : ℕ) (links : List LinkState) (binding : ℕ) (way : Way) → IsClientWay core links binding way → IsBelow (length links) way
+client_below : (core : ℕ) (links : List LinkState) (binding : ℕ) (way : HopTarget) → IsClientWay core links binding way → IsBelow (length links) way
 client_below core links binding (Link l c) h = within links l.0 h.link h.there
 client_below core links binding (End e) h = tt
 
-server_below : (core : ℕ) (links : List LinkState) (binding : ℕ) (way : Way) → IsServerWay core links binding way → IsBelow (length links) way
+server_below : (core : ℕ) (links : List LinkState) (binding : ℕ) (way : HopTarget) → IsServerWay core links binding way → IsBelow (length links) way
 server_below core links binding (Link l c) h = within links l.0 h.link h.there
 server_below core links binding (End e) h = tt
 
-module _ (core : ℕ) (links : List LinkState) (last : LinkState) (cells : List Cell) (s : Slab Entry) (k : Kept core (links ++ last ∷ []) cells s)
+module _ (core : ℕ) (links : List LinkState) (last : LinkState) (cells : List Cell) (s : Slab Entry) (k : SlotsKept core (links ++ last ∷ []) cells s)
     (opened : last.opened ≡ 0) (taken : last.taken ≡ 0) where
   enough : 2047 * length links ≤ length cells
   enough = let whole = k.whole in omega (arith, whole, length-append links (last ∷ []))
 
-  pub kept_before : Kept core links (take (2047 * length links) cells) s
+  pub kept_before : SlotsKept core links (take (2047 * length links) cells) s
   kept_before = record {
     few = let few = k.few in omega (arith, few, length-append links (last ∷ []));
     whole = length-take-le (2047 * length links) cells enough;
@@ -84,7 +84,7 @@ module _ (core : ℕ) (links : List LinkState) (last : LinkState) (cells : List 
   }
 
 -- the table with one link more, by its parts; that link and its cells are taken away
-module _ (core : ℕ) (links : List LinkState) (cells : List Cell) (s : Slab Entry) (k : Kept core links cells s) (t : TheCircuits) (to : CoreId) (grown : table_of core links cells s ≡ with_link t to)
+module _ (core : ℕ) (links : List LinkState) (cells : List Cell) (s : Slab Entry) (k : SlotsKept core links cells s) (t : TheCircuits) (to : CoreId) (grown : table_of core links cells s ≡ with_link t to)
     (front : List LinkState) (many count : ℕ) (many_is : many ≡ length links) (front_is : front ≡ take (many - 1) links) (count_is : count ≡ length front) where
   new_link : LinkState
   new_link = record { neighbour = to; opened = 0; taken = 0 }
@@ -102,12 +102,12 @@ module _ (core : ℕ) (links : List LinkState) (cells : List Cell) (s : Slab Ent
   cells_before : take (2047 * length t.links) cells ≡ take (2047 * count) cells
   cells_before = ap (λ (n : ℕ). take (2047 * n) cells) (sym count_before)
 
-  pub left_kept : Kept core front (take (2047 * count) cells) s
+  pub left_kept : SlotsKept core front (take (2047 * count) cells) s
   unfolding new_link
   left_kept =
-      let whole : Kept core (t.links ++ new_link ∷ []) cells s = subst (λ (x : List LinkState). Kept core x cells s) links_are k in
-      subst (λ (x : List LinkState). Kept core x (take (2047 * count) cells) s) (sym links_before)
-      (subst (λ (x : List Cell). Kept core t.links x s) cells_before (kept_before core t.links new_link cells s whole refl refl))
+      let whole : SlotsKept core (t.links ++ new_link ∷ []) cells s = subst (λ (x : List LinkState). SlotsKept core x cells s) links_are k in
+      subst (λ (x : List LinkState). SlotsKept core x (take (2047 * count) cells) s) (sym links_before)
+      (subst (λ (x : List Cell). SlotsKept core t.links x s) cells_before (kept_before core t.links new_link cells s whole refl refl))
 
   hops_before : map (shown s) (take (2047 * count) cells) ≡ t.hops
   hops_before =

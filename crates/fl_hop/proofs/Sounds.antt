@@ -4,8 +4,8 @@ use Rattle.std.proofs.lemmas.List.{length-map}
 use Rattle.slab.specs.Slab.{Slab, get}
 use Rattle.fl_base.specs.declared.identity.LinkId.{LinkId}
 use Rattle.fl_base.specs.declared.identity.Circuit.{Circuit}
-use Rattle.fl_hop.specs.declared.entry.Way.{Way}
-use Rattle.fl_hop.specs.declared.entry.Way.TheVariants.{Link, End}
+use Rattle.fl_hop.specs.declared.entry.HopTarget.{HopTarget}
+use Rattle.fl_hop.specs.declared.entry.HopTarget.TheVariants.{Link, End}
 use Rattle.fl_hop.specs.declared.entry.Hop.{Hop}
 use Rattle.fl_hop.specs.declared.entry.Entry.{Entry}
 use Rattle.fl_hop.specs.declared.entry.Cell.{Cell}
@@ -17,7 +17,7 @@ use Rattle.fl_hop.specs.Forward.{IsOther}
 use Rattle.fl_hop.proofs.Numbering.{small}
 use Rattle.fl_hop.proofs.Lists.{within}
 use Rattle.fl_hop.specs.Joined.{IsClientWay, IsServerWay, Leads, Sound}
-use Rattle.fl_hop.specs.Slots.{table_of, shown, from_client, from_server, IsPlaced, IsOver, Sits, Kept}
+use Rattle.fl_hop.specs.Slots.{table_of, shown, from_client, from_server, IsPlaced, IsOver, Sits, SlotsKept}
 use Rattle.fl_hop.proofs.Cells.{placed_at, cell_there, hop_is, AtClient, AtServer, side}
 
 same_place : (l m : LinkId) (c d : Circuit) → Link l c ≡ Link m d → (l ≡ m) × (c ≡ d)
@@ -26,21 +26,21 @@ same_place l m c d e =
     let b : c ≡ d = cc in
     (a, b)
 
-module _ (core : ℕ) (links : List LinkState) (cells : List Cell) (s : Slab Entry) (k : Kept core links cells s) where
+module _ (core : ℕ) (links : List LinkState) (cells : List Cell) (s : Slab Entry) (k : SlotsKept core links cells s) where
   -- the way that stands at a number is that number's
-  taken_there : (binding : ℕ) (way : Way) (l n : ℕ) → IsPlaced way (slot l n) → n ≤ 2046 → IsClientWay core links binding way → IsTaken core links l n
+  taken_there : (binding : ℕ) (way : HopTarget) (l n : ℕ) → IsPlaced way (slot l n) → n ≤ 2046 → IsClientWay core links binding way → IsTaken core links l n
   taken_there binding way l n at small given =
       let link : LinkId = record { 0 = l } in
       let circuit : Circuit = record { 0 = n } in
       subst (IsClientWay core links binding) (placed_at way link circuit at small) given
 
-  opened_there : (binding : ℕ) (way : Way) (l n : ℕ) → IsPlaced way (slot l n) → n ≤ 2046 → IsServerWay core links binding way → IsOpened core links l n
+  opened_there : (binding : ℕ) (way : HopTarget) (l n : ℕ) → IsPlaced way (slot l n) → n ≤ 2046 → IsServerWay core links binding way → IsOpened core links l n
   opened_there binding way l n at small given =
       let link : LinkId = record { 0 = l } in
       let circuit : Circuit = record { 0 = n } in
       subst (IsServerWay core links binding) (placed_at way link circuit at small) given
 
-  way_of : Hop → Way
+  way_of : Hop → HopTarget
   way_of hop = hop.way
 
   pub toward_client : (l n : ℕ) (hop : Hop) → AtServer cells s l n hop → IsOpened core links l n × IsClientWay core links hop.binding hop.way
@@ -70,14 +70,14 @@ module _ (core : ℕ) (links : List LinkState) (cells : List Cell) (s : Slab Ent
       ∙ ap (shown s) (cell_there cells m.0 d.0 (ClientSide key) sits.0 sits.1)
       ∙ ap (option_map from_client) kept
 
-  made : Bool → ℕ → Way → Option Hop
+  made : Bool → ℕ → HopTarget → Option Hop
   made a b w = Some (record { binding = b; way = w; answered = a })
 
   back_from_server : (l m : LinkId) (c d : Circuit) (b : ℕ) (hop : Hop) → hop.way ≡ Link m d → hop.binding ≡ b → AtClient cells s l.0 c.0 hop → Leads (table_of core links cells s) m.0 d.0 b (Link l c)
   back_from_server l m c d b hop way binding x =
-      let f : Hop → Way = λ h. h.way in
+      let f : Hop → HopTarget = λ h. h.way in
       let g : Hop → ℕ = λ h. h.binding in
-      let j : Entry → ℕ → Way → Option Hop = λ e n w. leading n e.answered w in
+      let j : Entry → ℕ → HopTarget → Option Hop = λ e n w. leading n e.answered w in
       record {
         answered = x.entry.answered;
         there =
@@ -88,9 +88,9 @@ module _ (core : ℕ) (links : List LinkState) (cells : List Cell) (s : Slab Ent
 
   back_from_client : (l m : LinkId) (c d : Circuit) (b : ℕ) (hop : Hop) → hop.way ≡ Link m d → hop.binding ≡ b → AtServer cells s l.0 c.0 hop → Leads (table_of core links cells s) m.0 d.0 b (Link l c)
   back_from_client l m c d b hop way binding x =
-      let f : Hop → Way = λ h. h.way in
+      let f : Hop → HopTarget = λ h. h.way in
       let g : Hop → ℕ = λ h. h.binding in
-      let j : Entry → ℕ → Way → Option Hop = λ e n w. leading n e.answered w in
+      let j : Entry → ℕ → HopTarget → Option Hop = λ e n w. leading n e.answered w in
       record {
         answered = x.entry.answered;
         there =
@@ -100,15 +100,15 @@ module _ (core : ℕ) (links : List LinkState) (cells : List Cell) (s : Slab Ent
       }
 
   -- an entry's two sides are over two links
-  over_ways : (a b : Way) (l : ℕ) (n : ℕ) (m : LinkId) (d : Circuit) → IsOver a b → IsPlaced a (slot l n) → n ≤ 2046 → b ≡ Link m d → l ≢ m.0
+  over_ways : (a b : HopTarget) (l : ℕ) (n : ℕ) (m : LinkId) (d : Circuit) → IsOver a b → IsPlaced a (slot l n) → n ≤ 2046 → b ≡ Link m d → l ≢ m.0
   over_ways (Link x y) b l n m d over at small is =
       let link : LinkId = record { 0 = l } in
       let circuit : Circuit = record { 0 = n } in
-      let f : Way → Type 0 = λ w. IsOver w (Link m d) in
+      let f : HopTarget → Type 0 = λ w. IsOver w (Link m d) in
       subst f (placed_at (Link x y) link circuit at small) (subst (IsOver (Link x y)) is over)
   over_ways (End e) b l n m d over at small is = absurd at
 
-  turned : (a b : Way) → IsOver a b → IsOver b a
+  turned : (a b : HopTarget) → IsOver a b → IsOver b a
   turned (Link l c) (Link m d) o = λ e. o (sym e)
   turned (Link l c) (End e) o = tt
   turned (End e) (Link l c) o = tt
@@ -116,7 +116,7 @@ module _ (core : ℕ) (links : List LinkState) (cells : List Cell) (s : Slab Ent
 
   over_step : (l n : ℕ) (m : LinkId) (d : Circuit) (hop : Hop) → hop.way ≡ Link m d → AtClient cells s l n hop ⊎ AtServer cells s l n hop → l ≢ m.0
   over_step l n m d hop way x =
-      let f : Hop → Way = λ h. h.way in
+      let f : Hop → HopTarget = λ h. h.way in
       elim x [
         | inl y ↦ over_ways y.entry.client y.entry.server l n m d (k.over y.key y.entry y.kept) y.placed y.small (ap f (sym y.is) ∙ way)
         | inr y ↦ over_ways y.entry.server y.entry.client l n m d (turned y.entry.client y.entry.server (k.over y.key y.entry y.kept)) y.placed y.small (ap f (sym y.is) ∙ way)
@@ -134,29 +134,29 @@ module _ (core : ℕ) (links : List LinkState) (cells : List Cell) (s : Slab Ent
   one_step l m c d x y same (inl p) (inl q) =
       let g : Hop → ℕ = λ h. h.binding in
       let e = same_entry p.key q.key p.entry q.entry p.kept q.kept (ap g (sym p.is) ∙ same ∙ ap g q.is) in
-      let client : Entry → Way = λ e. e.client in
+      let client : Entry → HopTarget = λ e. e.client in
       let way = sym (placed_at p.entry.client l c p.placed p.small) ∙ ap client e ∙ placed_at q.entry.client m d q.placed q.small in
       inl (same_place l m c d way)
   one_step l m c d x y same (inl p) (inr q) =
       let g : Hop → ℕ = λ h. h.binding in
-      let w : Hop → Way = λ h. h.way in
+      let w : Hop → HopTarget = λ h. h.way in
       let e = same_entry p.key q.key p.entry q.entry p.kept q.kept (ap g (sym p.is) ∙ same ∙ ap g q.is) in
-      let server : Entry → Way = λ e. e.server in
+      let server : Entry → HopTarget = λ e. e.server in
       inr (ap w p.is ∙ ap server e ∙ placed_at q.entry.server m d q.placed q.small)
   one_step l m c d x y same (inr p) (inl q) =
       let g : Hop → ℕ = λ h. h.binding in
-      let w : Hop → Way = λ h. h.way in
+      let w : Hop → HopTarget = λ h. h.way in
       let e = same_entry p.key q.key p.entry q.entry p.kept q.kept (ap g (sym p.is) ∙ same ∙ ap g q.is) in
-      let client : Entry → Way = λ e. e.client in
+      let client : Entry → HopTarget = λ e. e.client in
       inr (ap w p.is ∙ ap client e ∙ placed_at q.entry.client m d q.placed q.small)
   one_step l m c d x y same (inr p) (inr q) =
       let g : Hop → ℕ = λ h. h.binding in
       let e = same_entry p.key q.key p.entry q.entry p.kept q.kept (ap g (sym p.is) ∙ same ∙ ap g q.is) in
-      let server : Entry → Way = λ e. e.server in
+      let server : Entry → HopTarget = λ e. e.server in
       let way = sym (placed_at p.entry.server l c p.placed p.small) ∙ ap server e ∙ placed_at q.entry.server m d q.placed q.small in
       inl (same_place l m c d way)
 
-  hop_made : ℕ → Way → Bool → Hop
+  hop_made : ℕ → HopTarget → Bool → Hop
   hop_made b w a = record { binding = b; way = w; answered = a }
 
   toward_step : (l n : ℕ) (hop : Hop) → AtClient cells s l n hop ⊎ AtServer cells s l n hop → (IsOpened core links l n × IsClientWay core links hop.binding hop.way) ⊎ (IsTaken core links l n × IsServerWay core links hop.binding hop.way)
@@ -190,7 +190,7 @@ module _ (core : ℕ) (links : List LinkState) (cells : List Cell) (s : Slab Ent
       let p = small o.link.neighbour.0 core o.link.taken n most.1 o.among in
       (within links l o.link o.there, p.0, p.1)
 
-  other_step : (l n : ℕ) (hop : Hop) (way : Way) → hop.way ≡ way → AtClient cells s l n hop ⊎ AtServer cells s l n hop → IsOther (table_of core links cells s) l way
+  other_step : (l n : ℕ) (hop : Hop) (way : HopTarget) → hop.way ≡ way → AtClient cells s l n hop ⊎ AtServer cells s l n hop → IsOther (table_of core links cells s) l way
   other_step l n hop (End e) same x = tt
   other_step l n hop (Link m d) same (inl x) =
       let given = subst (IsServerWay core links hop.binding) same (toward_server l n hop x).1 in

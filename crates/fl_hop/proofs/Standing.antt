@@ -11,7 +11,7 @@ use Rattle.fl_hop.specs.declared.entry.Cell.{Cell}
 use Rattle.fl_hop.specs.declared.entry.Cell.TheVariants.{Free, ClientSide, ServerSide}
 use Rattle.fl_hop.specs.declared.links.LinkState.{LinkState}
 use Rattle.fl_hop.specs.Table.{is_of, stands}
-use Rattle.fl_hop.specs.Slots.{table_of, shown, from_client, from_server, Kept}
+use Rattle.fl_hop.specs.Slots.{table_of, shown, from_client, from_server, SlotsKept}
 use Rattle.fl_hop.proofs.Lists.{within}
 use Rattle.fl_hop.proofs.Opening.{seen, fails}
 
@@ -43,7 +43,7 @@ same_if false false f g = refl
 abbrev of_binding : ℕ → ℕ × Entry → Bool
 of_binding binding e = e.1.binding == binding
 
-module _ (core : ℕ) (links : List LinkState) (cells : List Cell) (s : Slab Entry) (k : Kept core links cells s) (binding : ℕ) where
+module _ (core : ℕ) (links : List LinkState) (cells : List Cell) (s : Slab Entry) (k : SlotsKept core links cells s) (binding : ℕ) where
   kept_shown : list_any (of_binding binding) (entries s) ≡ true → stands (table_of core links cells s) binding ≡ true
   kept_shown h =
       let (i, e, at, passes) = any_there (of_binding binding) (entries s) h in

@@ -1,12 +1,12 @@
 -- What a table keeps while calls change it: numbers stay given, and where an entry stood at a number no other ever stands.
 use Rattle.std.specs.Prelude.{ℕ, ◌≡◌, ◌⊎◌, false, Option, None, option_map}
-use Rattle.fl_hop.specs.declared.entry.Way.{Way}
+use Rattle.fl_hop.specs.declared.entry.HopTarget.{HopTarget}
 use Rattle.fl_hop.specs.declared.entry.Hop.{Hop}
 use Rattle.fl_hop.specs.Table.{TheCircuits, hop_at}
 use Rattle.fl_hop.specs.Numbers.{OpenedHere, OpenedThere, Given}
 
 -- which way number n of link l leads
-abbrev pub way_at : TheCircuits → ℕ → ℕ → Option Way
+abbrev pub way_at : TheCircuits → ℕ → ℕ → Option HopTarget
 way_at t l n = option_map (λ (hop : Hop). hop.way) (hop_at t l n)
 
 -- an entry, whether it was answered set aside

@@ -4,9 +4,9 @@ use Rattle.std.specs.Prelude.{ℕ, ◌≡◌, ◌⊎◌, ◌==◌, Bool, true, f
 use Rattle.fl_base.specs.declared.identity.LinkId.{LinkId}
 use Rattle.fl_base.specs.declared.identity.Circuit.{Circuit}
 use Rattle.fl_base.specs.declared.identity.Side.TheVariants.{Client, Server}
-use Rattle.fl_hop.specs.declared.entry.Way.TheVariants.{Link, End}
+use Rattle.fl_hop.specs.declared.entry.HopTarget.TheVariants.{Link, End}
 use Rattle.fl_hop.specs.declared.fault.HopFault.{HopFault}
-use Rattle.fl_hop.specs.declared.fault.HopFault.TheVariants.{Astray, NoLink, UsedUp, Memory}
+use Rattle.fl_hop.specs.declared.fault.HopFault.TheVariants.{Misrouted, NoLink, UsedUp, Memory}
 use Rattle.fl_hop.specs.Table.{TheCircuits, hop_at, stands, with_entry}
 use Rattle.fl_hop.specs.declared.entry.Hop.{Hop}
 use Rattle.fl_hop.specs.Numbers.{OpenedHere, next_own, next_due, after_opening, after_taking}
@@ -24,7 +24,7 @@ if_used_up (Some next) = None
 -- why no circuit is opened on link l for a binding's client, out of memory aside
 abbrev pub open_fault : TheCircuits → ℕ → ℕ → Option HopFault
 open_fault t l binding =
-    if nat_lt l (length t.links) then (if stands t binding then Some Astray else if_used_up (next_own t l)) else Some NoLink
+    if nat_lt l (length t.links) then (if stands t binding then Some Misrouted else if_used_up (next_own t l)) else Some NoLink
 
 -- the table with a circuit opened on link l, joined with the binding's client
 abbrev pub opened : TheCircuits → LinkId → Circuit → ℕ → TheCircuits
@@ -35,11 +35,11 @@ opened t l c binding =
 abbrev pub pass_fault : TheCircuits → ℕ → ℕ → ℕ → ℕ → Option HopFault
 pass_fault t l c m binding =
     if is_next (next_due t l) c then
-    (if stands t binding then Some Astray
+    (if stands t binding then Some Misrouted
     else if l == m then Some NoLink
     else if nat_lt m (length t.links) then if_used_up (next_own t m)
     else Some NoLink)
-    else Some Astray
+    else Some Misrouted
 
 -- the table with the neighbour's opening c on link l taken, and joined with one that this core opens on link m
 abbrev pub passed_on : TheCircuits → LinkId → Circuit → LinkId → Circuit → ℕ → TheCircuits
@@ -48,7 +48,7 @@ passed_on t l c m d binding = with_entry (after_opening (after_taking t l.0) m.0
 -- why the neighbour's opening c on link l doesn't arrive here, out of memory aside
 abbrev pub arrive_fault : TheCircuits → ℕ → ℕ → ℕ → Option HopFault
 arrive_fault t l c binding =
-    if is_next (next_due t l) c then (if stands t binding then Some Astray else None) else Some Astray
+    if is_next (next_due t l) c then (if stands t binding then Some Misrouted else None) else Some Misrouted
 
 -- the table with the neighbour's opening c on link l taken, and joined with the binding's server
 abbrev pub arrived : TheCircuits → LinkId → Circuit → ℕ → TheCircuits
@@ -57,7 +57,7 @@ arrived t l c binding =
 
 -- why the neighbour's opening c on link l isn't counted as refused
 abbrev pub refuse_fault : TheCircuits → ℕ → ℕ → Option HopFault
-refuse_fault t l c = if is_next (next_due t l) c then None else Some Astray
+refuse_fault t l c = if is_next (next_due t l) c then None else Some Misrouted
 
 -- number n of link l is an opening of this core's own whose answer hasn't come, and its entry says this
 pub record IsWaiting (t : TheCircuits) (l n : ℕ) (hop : Hop) : Type 0 where

@@ -4,8 +4,8 @@ use Rattle.std.specs.Prelude.{List, length, map, slice_get, slice_set, slice_ind
 use Rattle.slab.specs.Slab.{Slab, get, Updates}
 use Rattle.fl_base.specs.declared.identity.LinkId.{LinkId}
 use Rattle.fl_base.specs.declared.identity.Circuit.{Circuit}
-use Rattle.fl_hop.specs.declared.entry.Way.{Way}
-use Rattle.fl_hop.specs.declared.entry.Way.TheVariants.{Link, End}
+use Rattle.fl_hop.specs.declared.entry.HopTarget.{HopTarget}
+use Rattle.fl_hop.specs.declared.entry.HopTarget.TheVariants.{Link, End}
 use Rattle.fl_hop.specs.declared.entry.Hop.{Hop}
 use Rattle.fl_hop.specs.declared.entry.Entry.{Entry}
 use Rattle.fl_hop.specs.declared.entry.Cell.{Cell}
@@ -36,7 +36,7 @@ abbrev pub cell_of : List Cell → ℕ → ℕ → Cell
 cell_of cells l n = if nat_lt n numbers then slice_index_or cells (slot l n) Free else Free
 
 -- the cells with this at a way's own number; a way to an end has none
-abbrev pub with_cell : Way → Cell → List Cell → List Cell
+abbrev pub with_cell : HopTarget → Cell → List Cell → List Cell
 with_cell (Link l c) cell cells = slice_set cells (slot l.0 c.0) cell
 with_cell (End e) cell cells = cells
 
@@ -46,30 +46,30 @@ pub record IsAt (l : LinkId) (c : Circuit) (i : ℕ) : Type 0 where
   pub small : c.0 ≤ 2046
 
 -- the way is a number of a link, at this place
-abbrev pub IsPlaced : Way → ℕ → Type 0
+abbrev pub IsPlaced : HopTarget → ℕ → Type 0
 IsPlaced (Link l c) i = IsAt l c i
 IsPlaced (End e) i = ⊥
 
 -- this stands at a way's own number; a way to an end has none
-abbrev pub Sits : List Cell → Way → Cell → Type 0
+abbrev pub Sits : List Cell → HopTarget → Cell → Type 0
 Sits cells (Link l c) cell = (c.0 ≤ 2046) × (slice_get cells (slot l.0 c.0) ≡ Some cell)
 Sits cells (End e) cell = Unit {0}
 
 -- the entry with this key, one of whose sides stands at a place
-pub record Found (side : Entry → Way) (s : Slab Entry) (i key : ℕ) : Type 0 where
+pub record Found (side : Entry → HopTarget) (s : Slab Entry) (i key : ℕ) : Type 0 where
   pub entry : Entry
   pub kept : get s key ≡ Some entry
   pub placed : IsPlaced (side entry) i
 
 -- two ways are over two links, or one of them is
-abbrev pub IsOver : Way → Way → Type 0
+abbrev pub IsOver : HopTarget → HopTarget → Type 0
 IsOver (Link l c) (Link m d) = l.0 ≢ m.0
 IsOver (Link l c) (End e) = Unit {0}
 IsOver (End e) (Link l c) = Unit {0}
 IsOver (End e) (End f) = ⊥
 
 -- how the parts of a table fit together
-pub record Kept (core : ℕ) (links : List LinkState) (cells : List Cell) (s : Slab Entry) : Type 0 where
+pub record SlotsKept (core : ℕ) (links : List LinkState) (cells : List Cell) (s : Slab Entry) : Type 0 where
   pub few : length links ≤ most_links
   pub whole : length cells ≡ numbers * length links
   pub apart : (l : ℕ) (a : LinkState) → slice_get links l ≡ Some a → a.neighbour.0 ≢ core

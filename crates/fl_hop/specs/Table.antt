@@ -3,8 +3,8 @@ use Rattle.std.specs.Prelude.{ℕ, ◌≡◌, ◌+◌, ◌*◌, ◌==◌, nat_lt
 use Rattle.std.specs.Prelude.{List, [], ◌∷◌, ◌++◌, length, replicate, position, slice_set, slice_index_or}
 use Rattle.std.specs.List.{list_any}
 use Rattle.fl_base.specs.declared.identity.CoreId.{CoreId}
-use Rattle.fl_hop.specs.declared.entry.Way.{Way}
-use Rattle.fl_hop.specs.declared.entry.Way.TheVariants.{Link, End}
+use Rattle.fl_hop.specs.declared.entry.HopTarget.{HopTarget}
+use Rattle.fl_hop.specs.declared.entry.HopTarget.TheVariants.{Link, End}
 use Rattle.fl_hop.specs.declared.entry.Hop.{Hop}
 use Rattle.fl_hop.specs.declared.links.LinkState.{LinkState}
 use Rattle.fl_hop.specs.declared.fault.HopFault.{HopFault}
@@ -57,20 +57,20 @@ abbrev pub with_hops : TheCircuits → List (Option Hop) → TheCircuits
 with_hops t hops = record { core = t.core; links = t.links; hops = hops }
 
 -- the entries with this at a way's own number; a way to an end has none
-abbrev pub put_at : Way → Option Hop → List (Option Hop) → List (Option Hop)
+abbrev pub put_at : HopTarget → Option Hop → List (Option Hop) → List (Option Hop)
 put_at (Link l c) hop hops = slice_set hops (slot l.0 c.0) hop
 put_at (End e) hop hops = hops
 
 -- what an entry says of where it leads
-abbrev pub leading : ℕ → Bool → Way → Option Hop
+abbrev pub leading : ℕ → Bool → HopTarget → Option Hop
 leading binding answered way = Some (record { binding = binding; way = way; answered = answered })
 
 -- the table with an entry that joins two ways: each leads to the other
-abbrev pub with_entry : TheCircuits → ℕ → Bool → Way → Way → TheCircuits
+abbrev pub with_entry : TheCircuits → ℕ → Bool → HopTarget → HopTarget → TheCircuits
 with_entry t binding answered a b = with_hops t (put_at b (leading binding answered a) (put_at a (leading binding answered b) t.hops))
 
 -- the table without the entry that joins two ways
-abbrev pub without_entry : TheCircuits → Way → Way → TheCircuits
+abbrev pub without_entry : TheCircuits → HopTarget → HopTarget → TheCircuits
 without_entry t a b = with_hops t (put_at b None (put_at a None t.hops))
 
 -- the link to a core, if there is one

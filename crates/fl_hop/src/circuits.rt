@@ -12,7 +12,7 @@ ghost use Rattle.fl_hop.specs.Openings.{IsRefusal};
 ghost use Rattle.fl_hop.specs.Later.{Later, way_at};
 ghost use Rattle.fl_hop.specs.Forward.{IsOther};
 
-use crate::entry::{Cell, Entry, Hop, Way, add_cells, cell_at, is_kept};
+use crate::entry::{Cell, Entry, Hop, HopTarget, add_cells, cell_at, is_kept};
 use crate::fault::HopFault;
 use crate::links::{LinkState, place_of};
 use crate::numbers::{MAX_LINKS, NUMBERS, is_among, next_number};
@@ -34,13 +34,13 @@ pub struct Circuits {
 
 impl Model for Circuits {
     ghost use Rattle.fl_hop.specs.Table.{TheCircuits};
-    ghost use Rattle.fl_hop.specs.Slots.{table_of, Kept};
+    ghost use Rattle.fl_hop.specs.Slots.{table_of, SlotsKept};
 
     ghost Value = { TheCircuits };
 
     ghost view = { λ c. table_of c.core.0 c.links.items c.cells.items c.entries };
 
-    ghost invariant = { λ c. Kept c.core.0 c.links.items c.cells.items c.entries };
+    ghost invariant = { λ c. SlotsKept c.core.0 c.links.items c.cells.items c.entries };
 }
 
 impl Circuits {
@@ -186,7 +186,7 @@ impl Circuits {
 
     /// Where a number of a link leads, if an entry stands there. Nothing is searched.
     #[inline]
-    pub fn route_of(&self, link: LinkId, circuit: Circuit) -> Option<Way>
+    pub fn route_of(&self, link: LinkId, circuit: Circuit) -> Option<HopTarget>
         ensures route { result ≡ way_at self.now link.0 circuit.0 }
         ensures other { IfSome result (IsOther self.now link.0) }
     {

@@ -14,7 +14,7 @@ use std::alloc::AllocError;
 
 /// Where an entry leads.
 #[derive(Clone, Copy, Debug, PartialEq, Eq)]
-pub enum Way {
+pub enum HopTarget {
     /// On, over a link of this core, under a number there.
     Link(LinkId, Circuit),
     /// To an end at this core.
@@ -27,7 +27,7 @@ pub struct Hop {
     /// The binding whose circuit this is.
     pub binding: usize,
     /// The entry's other side.
-    pub way: Way,
+    pub way: HopTarget,
     /// Whether the opening was answered here, by [`Circuits::answer`](crate::Circuits::answer).
     pub answered: bool,
 }
@@ -36,8 +36,8 @@ pub struct Hop {
 #[derive(Clone, Copy)]
 pub(crate) struct Entry {
     pub(crate) binding: usize,
-    pub(crate) client: Way,
-    pub(crate) server: Way,
+    pub(crate) client: HopTarget,
+    pub(crate) server: HopTarget,
     pub(crate) answered: bool,
 }
 
@@ -89,10 +89,10 @@ pub(crate) fn cell_at(cells: &[Cell], link: LinkId, circuit: Circuit) -> Cell
 }
 
 // Puts a cell at a way's own number; a way to an end has none.
-pub(crate) fn put_cell(cells: &mut Vec<Cell>, way: Way, cell: Cell)
+pub(crate) fn put_cell(cells: &mut Vec<Cell>, way: HopTarget, cell: Cell)
     ensures { cells.new.items ≡ with_cell way cell cells.old.items }
 {
-    if let Way::Link(link, circuit) = way {
+    if let HopTarget::Link(link, circuit) = way {
         let place = NUMBERS * usize::from(link.0) + usize::from(circuit.0);
         if place < cells.len() {
             cells[place] = cell;
@@ -101,7 +101,7 @@ pub(crate) fn put_cell(cells: &mut Vec<Cell>, way: Way, cell: Cell)
 }
 
 // Empties the numbers of two ways.
-pub(crate) fn clear(cells: &mut Vec<Cell>, way: Way, other: Way)
+pub(crate) fn clear(cells: &mut Vec<Cell>, way: HopTarget, other: HopTarget)
     ensures { cells.new.items ≡ with_cell other Free (with_cell way Free cells.old.items) }
 {
     put_cell(cells, way, Cell::Free);

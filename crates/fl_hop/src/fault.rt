@@ -15,7 +15,7 @@ pub enum HopFault {
     /// its circuit is set aside (E63).
     Marked,
     /// A fragment's circuit has no entry, or an opening's number isn't the neighbour's next there (E67).
-    Astray,
+    Misrouted,
     /// A link can't go to the core itself, nor a second one to the same core (E73).
     NoLink,
     /// This core has opened 1,023 circuits on the link, and opens no more there (E74).
@@ -33,7 +33,7 @@ impl HopFault {
     {
         match self {
             HopFault::Marked => 63,
-            HopFault::Astray => 67,
+            HopFault::Misrouted => 67,
             HopFault::NoLink => 73,
             HopFault::UsedUp => 74,
             HopFault::Limit => 94,
@@ -48,7 +48,7 @@ impl fmt::Display for HopFault {
             HopFault::Marked => {
                 "a fragment of a circuit has the form of one that only acknowledges"
             },
-            HopFault::Astray => "a circuit without an entry, or out of turn",
+            HopFault::Misrouted => "a circuit without an entry, or out of turn",
             HopFault::NoLink => "no such link",
             HopFault::UsedUp => "all circuits of the link are used up",
             HopFault::Limit => "too many links of one core",

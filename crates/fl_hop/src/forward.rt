@@ -7,14 +7,14 @@ ghost use Rattle.fl_hop.specs.OfCircuit.{as_carried};
 ghost use Rattle.fl_hop.specs.Forward.{Finds, put_label, Leaves, Forwards, Crosses};
 
 use crate::circuits::Circuits;
-use crate::entry::Way;
+use crate::entry::HopTarget;
 use crate::fault::HopFault;
 use fl_base::{Circuit, EndId, Frag, LinkId};
 use fl_link::{PutFault, PutSide, Sight, TakeSide};
 
 /// What stands first on a link.
 #[derive(Clone, Copy, Debug, PartialEq, Eq)]
-pub enum First {
+pub enum HopFront {
     /// Nothing.
     Nothing,
     /// A fragment that only acknowledged, and was taken.
@@ -22,12 +22,12 @@ pub enum First {
     /// A fragment of the monitors' own messages, which stays.
     Monitor(Frag),
     /// A fragment of a circuit, which stays, and where its entry leads.
-    Goes(Frag, Way),
+    Goes(Frag, HopTarget),
 }
 
 /// What became of a fragment that was to pass on.
 #[derive(Clone, Copy, Debug, PartialEq, Eq)]
-pub enum Outcome {
+pub enum ForwardOutcome {
     /// It was taken, and stands on the way out now.
     Moved,
     /// The way out has no room, and the fragment stays.
@@ -49,7 +49,7 @@ pub enum Forwarded {
     /// queue.
     Arrives(Frag, EndId),
     /// A fragment was to pass on to another link.
-    Onward(Outcome),
+    Onward(ForwardOutcome),
 }
 
 /// Passes on a fragment that was seen to stand first: puts it on the way out with this circuit, and takes it where that
@@ -60,7 +60,7 @@ pub fn move_on<T: TakeSide, P: PutSide>(
     to: &mut P,
     frag: &Frag,
     circuit: Circuit,
-) -> Outcome
+) -> ForwardOutcome
     requires seen { T.front from.old ≡ saw (bare frag.now) }
     requires call { is_ack_only (with_circuit circuit.0 frag.now) ≡ false }
     ensures put { P.puts to.old (put_label result (bare (with_circuit circuit.0 frag.now))) to.new }
@@ -68,11 +68,11 @@ pub fn move_on<T: TakeSide, P: PutSide>(
 {
     let frag = frag.with_circuit(circuit);
     match to.put(&frag) {
-        Err(PutFault::Full) => Outcome::Full,
-        Err(PutFault::Spent) => Outcome::Spent,
+        Err(PutFault::Full) => ForwardOutcome::Full,
+        Err(PutFault::Spent) => ForwardOutcome::Spent,
         Ok(()) => {
             let _ = from.take();
-            Outcome::Moved
+            ForwardOutcome::Moved
         }
     }
 }
@@ -85,7 +85,7 @@ fn cross<S: TakeSide + PutSide>(
     to: usize,
     frag: &Frag,
     circuit: Circuit,
-) -> Outcome
+) -> ForwardOutcome
     requires from { from < length sides.old }
     requires to { to < length sides.old }
     requires two { from ≢ to }
@@ -97,11 +97,11 @@ fn cross<S: TakeSide + PutSide>(
 {
     let frag = frag.with_circuit(circuit);
     match sides[to].put(&frag) {
-        Err(PutFault::Full) => Outcome::Full,
-        Err(PutFault::Spent) => Outcome::Spent,
+        Err(PutFault::Full) => ForwardOutcome::Full,
+        Err(PutFault::Spent) => ForwardOutcome::Spent,
         Ok(()) => {
             let _ = sides[from].take();
-            Outcome::Moved
+            ForwardOutcome::Moved
         }
     }
 }
@@ -109,7 +109,7 @@ fn cross<S: TakeSide + PutSide>(
 /// Delivers a fragment that was seen to stand first to an end's arrival queue, where it has circuit 0. Where the queue has
 /// no room nothing is taken, and nothing is put.
 #[inline]
-pub fn deliver<T: TakeSide, P: PutSide>(from: &mut T, queue: &mut P, frag: &Frag) -> Outcome
+pub fn deliver<T: TakeSide, P: PutSide>(from: &mut T, queue: &mut P, frag: &Frag) -> ForwardOutcome
     requires seen { T.front from.old ≡ saw (bare frag.now) }
     requires call { is_ack_only (with_circuit 0 frag.now) ≡ false }
     ensures put { P.puts queue.old (put_label result (as_carried frag.now)) queue.new }
@@ -127,31 +127,34 @@ impl Circuits {
     /// fragment would be one that only acknowledges, which no fragment of a call is (E63). The fragment stays then. The
     /// caller calls no more for a direction that has failed.
     #[inline]
-    pub fn look<T: TakeSide>(&self, link: LinkId, from: &mut T) -> Result<First, HopFault>
+    pub fn look<T: TakeSide>(&self, link: LinkId, from: &mut T) -> Result<HopFront, HopFault>
         ensures finds { Finds T.takes T.front
             (record { table = self.now; link = link.0 }) result
             (record { before = from.old; after = from.new }) }
     {
         let frag = match from.peek() {
-            Sight::Empty => return Ok(First::Nothing),
+            Sight::Empty => return Ok(HopFront::Nothing),
             Sight::Acknowledgement => {
                 let _ = from.take();
-                return Ok(First::Acknowledged);
+                return Ok(HopFront::Acknowledged);
             }
             Sight::Data(frag) => frag,
         };
         let circuit = frag.circuit();
         if circuit.0 == 0 {
-            return Ok(First::Monitor(frag));
+            return Ok(HopFront::Monitor(frag));
         }
         match self.route_of(link, circuit) {
-            None => Err(HopFault::Astray),
-            Some(Way::Link(next, number)) => Ok(First::Goes(frag, Way::Link(next, number))),
-            Some(Way::End(end)) => {
+            None => Err(HopFault::Misrouted),
+            Some(HopTarget::Link(next, number)) => Ok(HopFront::Goes(
+                frag,
+                HopTarget::Link(next, number),
+            )),
+            Some(HopTarget::End(end)) => {
                 if frag.with_circuit(Circuit(0)).is_ack_only() {
                     return Err(HopFault::Marked);
                 }
-                Ok(First::Goes(frag, Way::End(end)))
+                Ok(HopFront::Goes(frag, HopTarget::End(end)))
             }
         }
     }
@@ -176,11 +179,11 @@ impl Circuits {
             return Err(HopFault::NoLink);
         }
         match self.look(link, &mut sides[place])? {
-            First::Nothing => Ok(Forwarded::Nothing),
-            First::Acknowledged => Ok(Forwarded::Acknowledged),
-            First::Monitor(frag) => Ok(Forwarded::Monitor(frag)),
-            First::Goes(frag, Way::End(end)) => Ok(Forwarded::Arrives(frag, end)),
-            First::Goes(frag, Way::Link(next, circuit)) => {
+            HopFront::Nothing => Ok(Forwarded::Nothing),
+            HopFront::Acknowledged => Ok(Forwarded::Acknowledged),
+            HopFront::Monitor(frag) => Ok(Forwarded::Monitor(frag)),
+            HopFront::Goes(frag, HopTarget::End(end)) => Ok(Forwarded::Arrives(frag, end)),
+            HopFront::Goes(frag, HopTarget::Link(next, circuit)) => {
                 let outcome = cross(sides, place, usize::from(next.0), &frag, circuit);
                 Ok(Forwarded::Onward(outcome))
             }

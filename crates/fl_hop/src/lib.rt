@@ -33,12 +33,13 @@ mod numbers;
 mod openings;
 
 pub use circuits::Circuits;
-pub use entry::{Hop, Way};
+pub use entry::{Hop, HopTarget};
 pub use fault::HopFault;
-pub use forward::{First, Forwarded, Outcome, deliver, move_on};
+pub use forward::{ForwardOutcome, Forwarded, HopFront, deliver, move_on};
 pub use law::{
-    along, carried_in, carried_on, circuits_join, forward_adds, later_on, links_suffice,
-    never_shared, numbers_apart, openings_lead, own_alone, passage_adds, stretches_join,
+    law_along, law_carried_in, law_carried_on, law_circuits_join, law_forward_adds, law_later_on,
+    law_links_suffice, law_numbers_apart, law_openings_lead, law_own_alone, law_passage_adds,
+    law_stretches_join, never_shared,
 };
 pub use links::LinkState;
 pub use numbers::{MAX_LINKS, MAX_OPENINGS};

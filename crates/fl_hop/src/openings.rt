@@ -1,7 +1,7 @@
 //! How entries come and go: each of the three ways in which a circuit is opened at a core, and its removal.
 
 ghost use Rattle.std.specs.Prelude.{◌≡◌, None, Some, IfOk, IfErr, OnOk, OnErr, IfSome, OnSome, IfNone};
-ghost use Rattle.fl_hop.specs.declared.entry.Way.{Way};
+ghost use Rattle.fl_hop.specs.declared.entry.HopTarget.{HopTarget};
 ghost use Rattle.fl_hop.specs.declared.entry.Hop.{Hop};
 ghost use Rattle.fl_hop.specs.Table.{hop_at, without_entry};
 ghost use Rattle.fl_hop.specs.Numbers.{next_own, next_due, after_taking};
@@ -10,7 +10,7 @@ ghost use Rattle.fl_hop.specs.Openings.{arrive_fault, arrived, refuse_fault, is_
 ghost use Rattle.fl_hop.specs.Later.{Later};
 
 use crate::circuits::Circuits;
-use crate::entry::{Cell, Entry, Hop, Way, cell_at, clear, enter};
+use crate::entry::{Cell, Entry, Hop, HopTarget, cell_at, clear, enter};
 use crate::fault::HopFault;
 use crate::links::{count_opening, count_taking};
 use fl_base::{Circuit, EndId, LinkId, Side};
@@ -34,18 +34,18 @@ impl Circuits {
             return Err(HopFault::NoLink);
         }
         if self.stands(binding) {
-            return Err(HopFault::Astray);
+            return Err(HopFault::Misrouted);
         }
         let Some(circuit) = self.next(link) else {
             return Err(HopFault::UsedUp);
         };
         let entry = Entry {
             binding,
-            client: Way::End(EndId {
+            client: HopTarget::End(EndId {
                 binding,
                 side: Side::Client,
             }),
-            server: Way::Link(link, circuit),
+            server: HopTarget::Link(link, circuit),
             answered: false,
         };
         let Ok(()) = enter(&mut self.cells, &mut self.entries, entry) else {
@@ -77,7 +77,7 @@ impl Circuits {
         ensures kept { OnErr result (self.new ≡ self.old) }
     {
         if !self.is_next(link, circuit) || self.stands(binding) {
-            return Err(HopFault::Astray);
+            return Err(HopFault::Misrouted);
         }
         if link.0 == onward.0 || usize::from(onward.0) >= self.links.len() {
             return Err(HopFault::NoLink);
@@ -87,8 +87,8 @@ impl Circuits {
         };
         let entry = Entry {
             binding,
-            client: Way::Link(link, circuit),
-            server: Way::Link(onward, next),
+            client: HopTarget::Link(link, circuit),
+            server: HopTarget::Link(onward, next),
             answered: false,
         };
         let Ok(()) = enter(&mut self.cells, &mut self.entries, entry) else {
@@ -113,12 +113,12 @@ impl Circuits {
         ensures kept { OnErr result (self.new ≡ self.old) }
     {
         if !self.is_next(link, circuit) || self.stands(binding) {
-            return Err(HopFault::Astray);
+            return Err(HopFault::Misrouted);
         }
         let entry = Entry {
             binding,
-            client: Way::Link(link, circuit),
-            server: Way::End(EndId {
+            client: HopTarget::Link(link, circuit),
+            server: HopTarget::End(EndId {
                 binding,
                 side: Side::Server,
             }),
@@ -144,7 +144,7 @@ impl Circuits {
         ensures kept { OnErr result (self.new ≡ self.old) }
     {
         if !self.is_next(link, circuit) {
-            return Err(HopFault::Astray);
+            return Err(HopFault::Misrouted);
         }
         count_taking(&mut self.links, link);
         Ok(())
@@ -160,19 +160,19 @@ impl Circuits {
         ensures waited { IfOk result (IsWaiting self.old link.0 circuit.0) }
         ensures answered { IfOk result (λ hop. self.new ≡ answered self.old link circuit hop) }
         ensures later { OnOk result (Later self.old self.new) }
-        ensures astray { OnErr result ((hop : Hop) → IsWaiting self.old link.0 circuit.0 hop → ⊥) }
-        ensures refused { IfErr result (λ fault. fault ≡ HopFault.Astray) }
+        ensures misrouted { OnErr result ((hop : Hop) → IsWaiting self.old link.0 circuit.0 hop → ⊥) }
+        ensures refused { IfErr result (λ fault. fault ≡ HopFault.Misrouted) }
         ensures kept { OnErr result (self.new ≡ self.old) }
     {
         let Cell::ServerSide(key) = cell_at(self.cells.as_slice(), link, circuit) else {
-            return Err(HopFault::Astray);
+            return Err(HopFault::Misrouted);
         };
         let Some(entry) = self.entries.get_mut(key) else {
-            return Err(HopFault::Astray);
+            return Err(HopFault::Misrouted);
         };
         let hop = entry.from_server();
         if hop.answered {
-            return Err(HopFault::Astray);
+            return Err(HopFault::Misrouted);
         }
         entry.answered = true;
         Ok(hop)
@@ -192,7 +192,7 @@ impl Circuits {
     /// none, and then nothing changes. Its numbers aren't given again.
     pub fn remove(&mut self, link: LinkId, circuit: Circuit) -> Option<Hop>
         ensures hop { result ≡ hop_at self.old link.0 circuit.0 }
-        ensures removed { IfSome result (λ hop. self.new ≡ without_entry self.old (Way.Link link circuit) hop.way) }
+        ensures removed { IfSome result (λ hop. self.new ≡ without_entry self.old (HopTarget.Link link circuit) hop.way) }
         ensures later { OnSome result (Later self.old self.new) }
         ensures none { IfNone result (self.new ≡ self.old) }
     {
@@ -202,14 +202,22 @@ impl Circuits {
                 let Some(entry) = self.entries.try_remove(key) else {
                     return None;
                 };
-                clear(&mut self.cells, Way::Link(link, circuit), entry.server);
+                clear(
+                    &mut self.cells,
+                    HopTarget::Link(link, circuit),
+                    entry.server,
+                );
                 Some(entry.from_client())
             }
             Cell::ServerSide(key) => {
                 let Some(entry) = self.entries.try_remove(key) else {
                     return None;
                 };
-                clear(&mut self.cells, Way::Link(link, circuit), entry.client);
+                clear(
+                    &mut self.cells,
+                    HopTarget::Link(link, circuit),
+                    entry.client,
+                );
                 Some(entry.from_server())
             }
         }

@@ -3,14 +3,14 @@ use Rattle.std.proofs.Common.{◌≡◌, ℕ, true, List, inr, Result, Ok, Err, 
 use Rattle.std.proofs.lemmas.Bool.{and_parts}
 use Rattle.fl_interface.specs.Interface.{TheInterface, interface_of}
 use Rattle.fl_interface.specs.Limits.{is_within_limits}
-use Rattle.fl_value.specs.declared.value.PlanNo.{PlanNo}
+use Rattle.fl_value_data.specs.declared.value.PlanNo.{PlanNo}
 use Rattle.fl_compile.specs.declared.program.Program.{Program}
 use Rattle.fl_compile.specs.Programs.{TheProgram, program_of}
-use Rattle.fl_image.specs.declared.fault.Refusal.{Refusal}
-use Rattle.fl_image.specs.declared.fault.Refusal.TheVariants.{OtherCode}
+use Rattle.fl_image.specs.declared.fault.BadImage.{BadImage}
+use Rattle.fl_image.specs.declared.fault.BadImage.TheVariants.{OtherCode}
 use Rattle.fl_image.specs.declared.fault.ImageFault.{ImageFault}
 use Rattle.fl_image.specs.declared.fault.ImageFault.TheVariants.{Refused, Memory}
-use Rattle.fl_image.specs.declared.reader.Found.{Found}
+use Rattle.fl_image.specs.declared.reader.ImageFields.{ImageFields}
 use Rattle.fl_image.specs.Image.{Fields, compiled, is_writable, has_image, image_of, fields_spelled}
 use Rattle.fl_image.specs.Reading.{Fails, all_of, FirstFault}
 use Rattle.fl_image.specs.Views.{found_view}
@@ -21,27 +21,27 @@ use Rattle.fl_image.proofs.Fitting.{read_has_image}
 use Rattle.fl_image.proofs.Arranged.{compiled_has}
 
 -- a program compiled from the fields that were read
-pub record Fitting (f : Found) (p : Program) : Type 0 where
+pub record Fitting (f : ImageFields) (p : Program) : Type 0 where
   pub interface : (program_of p).interface ≡ interface_of f.interface
   pub plan : (program_of p).plan ≡ f.plan
 
 same_image : (p q : PlanNo) (x y : TheInterface) → p ≡ q → x ≡ y → image_of p x ≡ image_of q y
 same_image p q x y e f = ap (λ (r : PlanNo). image_of r x) e ∙ ap (image_of q) f
 
-pub is_found : (bytes : List ℕ) (f : Found) (p : Program) → IsBytes bytes → all_of bytes ≡ Ok (found_view f) → Fitting f p → bytes ≡ image_of (program_of p).plan (program_of p).interface
+pub is_found : (bytes : List ℕ) (f : ImageFields) (p : Program) → IsBytes bytes → all_of bytes ≡ Ok (found_view f) → Fitting f p → bytes ≡ image_of (program_of p).plan (program_of p).interface
     → (has_image (program_of p).interface ≡ true) × (bytes ≡ image_of (program_of p).plan (program_of p).interface)
 is_found bytes f p h e fit same =
     let x : has_image (interface_of f.interface) ≡ true = read_has_image (interface_of f.interface) (all_takes bytes (found_view f) h e).1.interface in
     (ap has_image fit.interface ∙ x, same)
 
 -- so it can be written again
-pub is_found_writable : (bytes : List ℕ) (f : Found) (p : Program) → IsBytes bytes → all_of bytes ≡ Ok (found_view f) → Fitting f p → is_writable (program_of p).interface ≡ true
+pub is_found_writable : (bytes : List ℕ) (f : ImageFields) (p : Program) → IsBytes bytes → all_of bytes ≡ Ok (found_view f) → Fitting f p → is_writable (program_of p).interface ≡ true
 is_found_writable bytes f p h e fit =
     let x = interface_of f.interface in
     let has : has_image x ≡ true = read_has_image x (all_takes bytes (found_view f) h e).1.interface in
     ap is_writable fit.interface ∙ (and_parts (is_within_limits x) (is_writable x) has).1
 
-pub is_other : (bytes : List ℕ) (f : Found) (p : Program) → IsBytes bytes → all_of bytes ≡ Ok (found_view f) → Fitting f p → (bytes ≡ image_of (program_of p).plan (program_of p).interface → ⊥)
+pub is_other : (bytes : List ℕ) (f : ImageFields) (p : Program) → IsBytes bytes → all_of bytes ≡ Ok (found_view f) → Fitting f p → (bytes ≡ image_of (program_of p).plan (program_of p).interface → ⊥)
     → FirstFault bytes OtherCode
 is_other bytes f p h e fit other =
     let image : image_of f.plan (interface_of f.interface) ≡ image_of (program_of p).plan (program_of p).interface =
@@ -50,13 +50,13 @@ is_other bytes f p h e fit other =
 
 -- ---- what is spelled is read
 
-abbrev ok_fields : Fields → Result Fields Refusal
+abbrev ok_fields : Fields → Result Fields BadImage
 ok_fields f = Ok f
 
 same_fields : (f g : Fields) → ok_fields f ≡ ok_fields g → f ≡ g
 same_fields f g e = cc
 
-ok_no_err : (f : Fields) (r : Refusal) → ok_fields f ≡ Err r → ⊥
+ok_no_err : (f : Fields) (r : BadImage) → ok_fields f ≡ Err r → ⊥
 ok_no_err f r e = absurd cc
 
 pub is_read : (plan : PlanNo) (x : TheInterface) (bytes : List ℕ) → has_image x ≡ true → bytes ≡ image_of plan x → all_of bytes ≡ Ok (compiled plan x)
@@ -67,7 +67,7 @@ pub record Same (plan : PlanNo) (x : TheInterface) (p : Program) : Type 0 where
   pub interface : (program_of p).interface ≡ x
   pub plan_is : (program_of p).plan ≡ plan
 
-are_same : (plan : PlanNo) (x : TheInterface) (bytes : List ℕ) (f : Found) (p : Program) → has_image x ≡ true → bytes ≡ image_of plan x → all_of bytes ≡ Ok (found_view f) → Fitting f p → Same plan x p
+are_same : (plan : PlanNo) (x : TheInterface) (bytes : List ℕ) (f : ImageFields) (p : Program) → has_image x ≡ true → bytes ≡ image_of plan x → all_of bytes ≡ Ok (found_view f) → Fitting f p → Same plan x p
 are_same plan x bytes f p h e g fit =
     let same = same_fields (found_view f) (compiled plan x) (sym g ∙ is_read plan x bytes h e) in
     record {
@@ -75,7 +75,7 @@ are_same plan x bytes f p h e g fit =
       plan_is = fit.plan ∙ ap (λ (k : Fields). k.plan) same;
     }
 
-pub only_program : (plan : PlanNo) (x : TheInterface) (bytes : List ℕ) (f : Found) (p : Program) → has_image x ≡ true → bytes ≡ image_of plan x → all_of bytes ≡ Ok (found_view f) → Fitting f p
+pub only_program : (plan : PlanNo) (x : TheInterface) (bytes : List ℕ) (f : ImageFields) (p : Program) → has_image x ≡ true → bytes ≡ image_of plan x → all_of bytes ≡ Ok (found_view f) → Fitting f p
     → program_of p ≡ record { interface = x; plan = plan }
 only_program plan x bytes f p h e g fit =
     let s = are_same plan x bytes f p h e g fit in
@@ -84,7 +84,7 @@ only_program plan x bytes f p h e g fit =
     let first : start ≡ middle = ap (λ (i : TheInterface). record { interface = i; plan = (program_of p).plan }) s.interface in
     first ∙ ap (λ (q : PlanNo). record { interface = x; plan = q }) s.plan_is
 
-pub no_other : (plan : PlanNo) (x : TheInterface) (bytes : List ℕ) (f : Found) (p : Program) → has_image x ≡ true → bytes ≡ image_of plan x → all_of bytes ≡ Ok (found_view f) → Fitting f p
+pub no_other : (plan : PlanNo) (x : TheInterface) (bytes : List ℕ) (f : ImageFields) (p : Program) → has_image x ≡ true → bytes ≡ image_of plan x → all_of bytes ≡ Ok (found_view f) → Fitting f p
     → (bytes ≡ image_of (program_of p).plan (program_of p).interface → ⊥) → ⊥
 no_other plan x bytes f p h e g fit other =
     let s = are_same plan x bytes f p h e g fit in

@@ -7,9 +7,9 @@ use Rattle.fl_interface.specs.Interface.{TheType, TheArgType, fixed, text, sized
 use Rattle.fl_interface.specs.Sizes.{size_of, align_of}
 use Rattle.fl_interface.specs.Limits.{is_type_within, is_argument_within, are_arguments_within, is_message_within, are_messages_within, are_distinct, is_within_limits}
 use Rattle.fl_interface.specs.Limits.{is_too_long}
-use Rattle.fl_value.specs.declared.value.PlanNo.{PlanNo}
-use Rattle.fl_value.specs.declared.value.PlanNo.TheVariants.{One, Two}
-use Rattle.fl_value.specs.Plan.{is_fixed_at, is_dynamic, arranged}
+use Rattle.fl_value_data.specs.declared.value.PlanNo.{PlanNo}
+use Rattle.fl_value_data.specs.declared.value.PlanNo.TheVariants.{One, Two}
+use Rattle.fl_value_data.specs.Plan.{is_fixed_at, is_dynamic, arranged}
 use Rattle.fl_stub.specs.declared.op.Column.{Column}
 use Rattle.fl_stub.specs.declared.op.Column.TheVariants.{Send, Receive}
 use Rattle.fl_stub.specs.Structure.{one, Block, finished, next, is_within, last_op, block_ops}

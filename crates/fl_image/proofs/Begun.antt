@@ -2,7 +2,7 @@
 use Rattle.std.proofs.Common.{◌≡◌, ℕ, List, ◌++◌, length, inl, Ok, refl, ap, ◌∙◌, append_assoc}
 use Rattle.std.specs.List.{flat_map}
 use Rattle.fl_interface.specs.Interface.{TheInterface}
-use Rattle.fl_value.specs.declared.value.PlanNo.{PlanNo}
+use Rattle.fl_value_data.specs.declared.value.PlanNo.{PlanNo}
 use Rattle.fl_image.specs.declared.fault.ImageFault.{ImageFault}
 use Rattle.fl_image.specs.declared.fault.ImageFault.TheVariants as faults
 use Rattle.fl_image.specs.Image.{two, name_image, message_image, codes_image, magic, version_of, Fields}

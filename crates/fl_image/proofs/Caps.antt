@@ -8,8 +8,8 @@ use Rattle.fl_interface.specs.Depth.{depth_of, deepest, array_depth_of, deepest_
 use Rattle.fl_interface.specs.Payload.{greatest_end}
 use Rattle.fl_interface.proofs.Aligned.{align_one, align_eight, align_small, greater_align, type_align, types_align, round_least}
 use Rattle.fl_image.specs.Limits.{Near, Measures, SoFar, Reaches}
-use Rattle.fl_image.specs.declared.limits.Measured.{Measured}
-use Rattle.fl_image.specs.declared.limits.Extent.{Extent}
+use Rattle.fl_image.specs.declared.limits.TypeMeasures.{TypeMeasures}
+use Rattle.fl_image.specs.declared.limits.ArgsEnd.{ArgsEnd}
 
 -- ---- near
 
@@ -62,7 +62,7 @@ near_greatest_end (sized bound t ∷ args) due a x d h =
 
 -- ---- types
 
-pub measures_array : (count : ℕ) (element m : Measured) (t : TheType) → Measures element t
+pub measures_array : (count : ℕ) (element m : TypeMeasures) (t : TheType) → Measures element t
     → m.size ≡ min (count * element.size) 65536 → m.align ≡ element.align → m.depth ≡ min (element.depth + 1) 65536 → m.arrays ≡ min (element.arrays + 1) 65536
     → Measures m (array count t)
 measures_array count element m t h size align depth arrays = record {
@@ -84,7 +84,7 @@ near_moved next before x left all (inl e) h = subst (λ (n : ℕ). Near n all) (
 near_moved next before x left all (inr p) (inl e) = inr (omega (arith, p.0), omega (arith, p.1, e))
 near_moved next before x left all (inr p) (inr q) = inr (omega (arith, p.0), q.1)
 
-pub one_more : (before next m : Measured) (end : ℕ) (t : TheType) (left all : TheTypes) → Measures next t → SoFar before (field t left) all
+pub one_more : (before next m : TypeMeasures) (end : ℕ) (t : TheType) (left all : TheTypes) → Measures next t → SoFar before (field t left) all
     → end ≡ round_up before.size next.align → m.size ≡ min (end + next.size) 65536 → m.align ≡ max next.align before.align → m.depth ≡ max next.depth before.depth → m.arrays ≡ max next.arrays before.arrays
     → SoFar m left all
 one_more before next m end t left all h f at size align depth arrays =
@@ -107,7 +107,7 @@ one_more before next m end t left all h f at size align depth arrays =
     }
 
 -- no field so far
-pub at_first : (m : Measured) (all : TheTypes) → m.size ≡ 0 → m.align ≡ 1 → m.depth ≡ 0 → m.arrays ≡ 0 → SoFar m all all
+pub at_first : (m : TypeMeasures) (all : TheTypes) → m.size ≡ 0 → m.align ≡ 1 → m.depth ≡ 0 → m.arrays ≡ 0 → SoFar m all all
 at_first m all size align depth arrays =
     let some = align_small (greatest_align all) (types_align all) in
     record {
@@ -123,7 +123,7 @@ at_first m all size align depth arrays =
 
 -- ---- payloads
 
-pub reaches_fixed : (before after : Extent) (m : Measured) (top at end : ℕ) (t : TheType) (left : List TheArgType) (total : ℕ) → Measures m t → Reaches before (fixed t ∷ left) total
+pub reaches_fixed : (before after : ArgsEnd) (m : TypeMeasures) (top at end : ℕ) (t : TheType) (left : List TheArgType) (total : ℕ) → Measures m t → Reaches before (fixed t ∷ left) total
     → top ≡ max before.due m.align → at ≡ round_up before.end top → end ≡ at + m.size → after.end ≡ min end 65536 → after.due ≡ 1
     → Reaches after left total
 reaches_fixed before after m top at end t left total h r top_is at_is end_is capped_is due =
@@ -139,7 +139,7 @@ reaches_fixed before after m top at end t left total h r top_is at_is end_is cap
       aligned = inl due;
     }
 
-pub reaches_counted : (before after : Extent) (size real : ℕ) (left : List TheArgType) (total : ℕ) → Near size real → IsAlign before.due → Near (greatest_end (round_up before.end 8 + (8 + real)) 8 left) total
+pub reaches_counted : (before after : ArgsEnd) (size real : ℕ) (left : List TheArgType) (total : ℕ) → Near size real → IsAlign before.due → Near (greatest_end (round_up before.end 8 + (8 + real)) 8 left) total
     → after.end ≡ min (round_up before.end 8 + (8 + size)) 65536 → after.due ≡ 8
     → Reaches after left total
 reaches_counted before after size real left total h d r capped_is due =
@@ -152,5 +152,5 @@ reaches_counted before after size real left total h d r capped_is due =
       aligned = subst IsAlign (sym due) align_eight;
     }
 
-pub near_counted : (count size : ℕ) (m : Measured) (t : TheType) → Measures m t → size ≡ min (count * m.size) 65536 → Near size (count * size_of t)
+pub near_counted : (count size : ℕ) (m : TypeMeasures) (t : TheType) → Measures m t → size ≡ min (count * m.size) 65536 → Near size (count * size_of t)
 near_counted count size m t h e = subst (λ (n : ℕ). Near n (count * size_of t)) (sym e) (near_then (min (count * m.size) 65536) (count * m.size) (count * size_of t) (capped (count * m.size)) (near_times count m.size (size_of t) h.size))

@@ -1,7 +1,7 @@
 -- A type, where so many may stand in one another.
 use Rattle.std.proofs.Common.{◌≡◌, ℕ, zero, suc, ◌-◌, ◌<◌, List, Ok, Err, ap, ◌∙◌, arith}
 use Rattle.fl_interface.specs.Interface.{TheType}
-use Rattle.fl_image.specs.declared.fault.Refusal.TheVariants.{BadField}
+use Rattle.fl_image.specs.declared.fault.BadImage.TheVariants.{BadField}
 use Rattle.fl_image.specs.declared.fault.ImageFault.{ImageFault}
 use Rattle.fl_image.specs.declared.fault.ImageFault.TheVariants as faults
 use Rattle.fl_image.specs.Reading.{◌>>=◌, Read, Fails, one_at, coded_at, type_at}

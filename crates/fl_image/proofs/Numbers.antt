@@ -4,7 +4,7 @@ use Rattle.std.specs.Cmp.{first_so, second_so}
 use Rattle.std.proofs.lemmas.Bool.{ltb-false, le-ltb, leb-true}
 use Rattle.std.proofs.lemmas.List.{take_at, drop_at, take-append-drop, length-append, length-take, get_or-drop}
 use Rattle.fl_stub.specs.Structure.{is_within}
-use Rattle.fl_image.specs.declared.fault.Refusal.TheVariants.{EndsEarly}
+use Rattle.fl_image.specs.declared.fault.BadImage.TheVariants.{EndsEarly}
 use Rattle.fl_image.specs.Image.{one, two, four, name_image, is_word, is_name}
 use Rattle.fl_image.specs.Reading.{◌>>=◌, in_range, one_at, two_at, four_at, len_at, word_at, name_at}
 use Rattle.fl_image.proofs.ReadBack.{IsBytes, Law, Takes, follow, mapped, ranged, ok_is}

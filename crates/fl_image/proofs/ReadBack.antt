@@ -2,7 +2,7 @@
 use Rattle.std.proofs.Common.{◌≡◌, ℕ, zero, suc, ◌<◌, Bool, true, false, List, [], ◌∷◌, ◌++◌, length, get_or, Result, Ok, Err, refl, sym, ap, subst, ◌∙◌, append_assoc}
 use Rattle.std.specs.List.{flat_map}
 use Rattle.std.proofs.lemmas.List.{append-nil}
-use Rattle.fl_image.specs.declared.fault.Refusal.{Refusal}
+use Rattle.fl_image.specs.declared.fault.BadImage.{BadImage}
 use Rattle.fl_image.specs.Reading.{◌>>=◌, Read, in_range, more_at, many_at}
 
 abbrev pub IsBytes : List ℕ → Type 0
@@ -13,7 +13,7 @@ pub bind_ok : {A B : Type 0} (r : Read A) (f : A × List ℕ → Read B) (y : B 
 bind_ok (Ok x) f y e = (x, refl, e)
 bind_ok (Err d) f y e = absurd cc
 
-abbrev done : {A : Type 0} → A → Result A Refusal
+abbrev done : {A : Type 0} → A → Result A BadImage
 done x = Ok x
 
 pub ok_is : {A : Type 0} (x y : A) → done x ≡ done y → x ≡ y

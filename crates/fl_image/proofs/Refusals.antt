@@ -3,9 +3,9 @@ use Rattle.std.proofs.Common.{◌≡◌, inl, inr, ⊎_elim, ℕ, ◌+◌, ◌<�
 use Rattle.std.proofs.lemmas.Bool.{ne_eqb}
 use Rattle.std.proofs.lemmas.List.{append-nil}
 use Rattle.fl_interface.specs.Interface.{TheInterface}
-use Rattle.fl_value.specs.declared.value.PlanNo.{PlanNo}
-use Rattle.fl_image.specs.declared.fault.Refusal.{Refusal}
-use Rattle.fl_image.specs.declared.fault.Refusal.TheVariants.{EndsEarly, BytesLeftOver}
+use Rattle.fl_value_data.specs.declared.value.PlanNo.{PlanNo}
+use Rattle.fl_image.specs.declared.fault.BadImage.{BadImage}
+use Rattle.fl_image.specs.declared.fault.BadImage.TheVariants.{EndsEarly, BytesLeftOver}
 use Rattle.fl_image.specs.Image.{Fields, compiled, has_image, image_of}
 use Rattle.fl_image.specs.Reading.{Read, fields_at, all_of, FirstFault}
 use Rattle.fl_image.specs.Laws.{IsProperPrefix, IsOfField}
@@ -15,8 +15,8 @@ use Rattle.fl_image.proofs.WholeLaws.{fields_law}
 use Rattle.fl_image.proofs.Arranged.{compiled_has}
 use Rattle.fl_image.proofs.Steady.{Keeps, fields_steady}
 
-abbrev whole : Read Fields → Result Fields Refusal
-whole r = elim r as (λ _. Result Fields Refusal) [
+abbrev whole : Read Fields → Result Fields BadImage
+whole r = elim r as (λ _. Result Fields BadImage) [
   | Err e ↦ Err e
   | Ok p ↦ cond (eqb (length p.1) 0) (Ok p.0) (Err BytesLeftOver)
 ]
@@ -24,20 +24,20 @@ whole r = elim r as (λ _. Result Fields Refusal) [
 abbrev gave : Fields → List ℕ → Read Fields
 gave f rest = Ok (f, rest)
 
-abbrev ok_fields : Fields → Result Fields Refusal
+abbrev ok_fields : Fields → Result Fields BadImage
 ok_fields f = Ok f
 
-abbrev refused : Refusal → Result Fields Refusal
+abbrev refused : BadImage → Result Fields BadImage
 refused e = Err e
 
-not_field : (e fault : Refusal) → (IsOfField e → ⊥) → IsOfField fault → refused e ≡ refused fault → ⊥
+not_field : (e fault : BadImage) → (IsOfField e → ⊥) → IsOfField fault → refused e ≡ refused fault → ⊥
 not_field e fault other is h =
     let same : fault ≡ e = cc in
     other (subst IsOfField same is)
 
 -- ---- whatever follows
 
-stays : (more : List ℕ) (r later : Read Fields) (fault : Refusal) → Keeps more r later → IsOfField fault → whole r ≡ Err fault → whole later ≡ Err fault
+stays : (more : List ℕ) (r later : Read Fields) (fault : BadImage) → Keeps more r later → IsOfField fault → whole r ≡ Err fault → whole later ≡ Err fault
 stays more (Err e) later fault (inl k) is h = absurd (not_field e fault (λ of. subst IsOfField k of) is h)
 stays more (Err e) later fault (inr k) is h = ap whole k ∙ h
 stays more (Ok p) later fault k is h =
@@ -46,7 +46,7 @@ stays more (Ok p) later fault k is h =
     (λ (q : (eqb (length p.1) 0 ≡ false) × (refused BytesLeftOver ≡ Err fault)). absurd (not_field BytesLeftOver fault (λ of. of) is q.1))
     (picked (eqb (length p.1) 0) (ok_fields p.0) (refused BytesLeftOver) (Err fault) h)
 
-pub field_faults_stay : (bytes more : List ℕ) (fault : Refusal) → IsOfField fault → FirstFault bytes fault → FirstFault (bytes ++ more) fault
+pub field_faults_stay : (bytes more : List ℕ) (fault : BadImage) → IsOfField fault → FirstFault bytes fault → FirstFault (bytes ++ more) fault
 unfolding all_of
 field_faults_stay bytes more fault is (inl h) = inl (stays more (fields_at bytes) (fields_at (bytes ++ more)) fault (fields_steady bytes more) is h)
 field_faults_stay bytes more fault is (inr h) = absurd (subst IsOfField h.0 is)

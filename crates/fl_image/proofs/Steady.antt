@@ -4,12 +4,12 @@ use Rattle.std.specs.Prelude.{nat_le, nat_lt}
 use Rattle.std.proofs.lemmas.Bool.{ltb-false}
 use Rattle.std.proofs.lemmas.List.{take-append-le, drop-append-le}
 use Rattle.fl_interface.specs.Interface.{TheType, scalar, enumeration, structure, array, fixed, text, sized, TheMessage, TheInterface, fields_from}
-use Rattle.fl_value.specs.declared.value.PlanNo.{PlanNo}
-use Rattle.fl_value.specs.declared.value.PlanNo.TheVariants.{One, Two}
+use Rattle.fl_value_data.specs.declared.value.PlanNo.{PlanNo}
+use Rattle.fl_value_data.specs.declared.value.PlanNo.TheVariants.{One, Two}
 use Rattle.fl_stub.specs.declared.op.Column.{Column}
 use Rattle.fl_stub.specs.declared.op.Column.TheVariants.{Send, Receive}
 use Rattle.fl_stub.specs.Structure.{is_within}
-use Rattle.fl_image.specs.declared.fault.Refusal.TheVariants.{OtherMagic, OtherVersion, EndsEarly, BadField}
+use Rattle.fl_image.specs.declared.fault.BadImage.TheVariants.{OtherMagic, OtherVersion, EndsEarly, BadField}
 use Rattle.fl_image.specs.Image.{Codes, Fields, is_word}
 use Rattle.fl_image.specs.Reading.{Read, ◌>>=◌, in_range, known, more_at, many_at, one_at, two_at, four_at, word_at, len_at, name_at, scalar_with, enumeration_at, scalar_at, structure_at, array_at, coded_at, type_at, text_at, sized_at, fixed_at, argument_at, argument_count_at, arguments_at, message_at, is_next, message_after, message_count_at, messages_at, op_with, takes_operand, op_at, code_at, codes_at, magic_at, plan_at, interface_at, fields_at}
 

@@ -6,7 +6,7 @@ use Rattle.fl_interface.specs.declared.interface.Scalar.{Scalar}
 use Rattle.fl_interface.specs.declared.interface.Scalar.TheVariants.{Uint8, Int8, Bool as BoolType, Char, Uint16, Int16, Uint32, Int32, Iref, Uint64, Int64, Uintptr, Intptr, Size, Errval}
 use Rattle.fl_interface.specs.Interface.{TheType, scalar, enumeration, structure, array, fields_from}
 use Rattle.fl_interface.specs.Limits.{count_of}
-use Rattle.fl_image.specs.declared.fault.Refusal.TheVariants.{BadField}
+use Rattle.fl_image.specs.declared.fault.BadImage.TheVariants.{BadField}
 use Rattle.fl_image.specs.Image.{one, two, scalar_code, type_image, fields_image}
 use Rattle.fl_image.specs.Reading.{◌>>=◌, Read, known, many_at, one_at, two_at, with_code, all_scalars, scalar_with, scalar_at, enumeration_at, structure_at, array_at, coded_at, type_at}
 use Rattle.fl_image.proofs.ReadBack.{IsBytes, Law, Takes, follow, mapped, many, IsList, AllAfter, bind_ok, first_is, rest_is}

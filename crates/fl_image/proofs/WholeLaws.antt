@@ -4,10 +4,10 @@ use Rattle.std.specs.List.{flat_map}
 use Rattle.std.proofs.lemmas.Bool.{eqb-true}
 use Rattle.std.proofs.lemmas.List.{append-nil, nil_from_length}
 use Rattle.fl_interface.specs.Interface.{TheInterface}
-use Rattle.fl_value.specs.declared.value.PlanNo.{PlanNo}
-use Rattle.fl_value.specs.declared.value.PlanNo.TheVariants.{One, Two}
-use Rattle.fl_image.specs.declared.fault.Refusal.{Refusal}
-use Rattle.fl_image.specs.declared.fault.Refusal.TheVariants.{OtherMagic, OtherVersion, BytesLeftOver}
+use Rattle.fl_value_data.specs.declared.value.PlanNo.{PlanNo}
+use Rattle.fl_value_data.specs.declared.value.PlanNo.TheVariants.{One, Two}
+use Rattle.fl_image.specs.declared.fault.BadImage.{BadImage}
+use Rattle.fl_image.specs.declared.fault.BadImage.TheVariants.{OtherMagic, OtherVersion, BytesLeftOver}
 use Rattle.fl_image.specs.Image.{two, four, Fields, codes_image, magic, version_of, interface_image, fields_spelled}
 use Rattle.fl_image.specs.Reading.{◌>>=◌, Read, many_at, four_at, two_at, interface_at, codes_at, magic_at, plan_at, fields_at, all_of}
 use Rattle.fl_image.proofs.ReadBack.{IsBytes, Law, Takes, follow, mapped, many, IsList, bind_ok, first_is, rest_is}
@@ -125,13 +125,13 @@ fields_law = follow magic_at (λ (u : Nothing). magic) (λ u. Nothing) (λ u byt
 
 -- ---- all of the bytes
 
-abbrev whole : Read Fields → Result Fields Refusal
-whole r = elim r as (λ _. Result Fields Refusal) [
+abbrev whole : Read Fields → Result Fields BadImage
+whole r = elim r as (λ _. Result Fields BadImage) [
   | Err e ↦ Err e
   | Ok p ↦ cond (eqb (length p.1) 0) (Ok p.0) (Err BytesLeftOver)
 ]
 
-abbrev ok_fields : Fields → Result Fields Refusal
+abbrev ok_fields : Fields → Result Fields BadImage
 ok_fields f = Ok f
 
 same_fields : (f g : Fields) → ok_fields f ≡ ok_fields g → f ≡ g

@@ -8,8 +8,8 @@ use Rattle.fl_interface.specs.Interface.{text, sized, TheMessage, TheInterface}
 use Rattle.fl_interface.specs.Limits.{count_of, is_within_limits}
 pub use Rattle.fl_lex.specs.Words.{is_word, is_name}
 pub use Rattle.fl_check.specs.Texts.{has_short_enums, have_short_enums, argument_has_short_enums, is_message_spellable, is_spellable}
-use Rattle.fl_value.specs.declared.value.PlanNo.{PlanNo}
-use Rattle.fl_value.specs.declared.value.PlanNo.TheVariants.{One, Two}
+use Rattle.fl_value_data.specs.declared.value.PlanNo.{PlanNo}
+use Rattle.fl_value_data.specs.declared.value.PlanNo.TheVariants.{One, Two}
 use Rattle.fl_stub.specs.declared.op.Op.{Op}
 use Rattle.fl_stub.specs.declared.op.Op.TheVariants.{Emit, Pad, Align, Length, Times, Each, Back, End, Read, ReadBool, ReadEnum}
 use Rattle.fl_stub.specs.declared.op.Op.TheVariants.{ReadChar, Skip, ReadLength, ReadText, Done}

@@ -2,9 +2,9 @@
 use Rattle.std.specs.Prelude.{◌≡◌, ◌<◌, ℕ, true, List, ◌++◌, length}
 use Rattle.fl_base.specs.Prefix.{IsPrefix}
 use Rattle.fl_interface.specs.Interface.{TheInterface}
-use Rattle.fl_value.specs.declared.value.PlanNo.{PlanNo}
-use Rattle.fl_image.specs.declared.fault.Refusal.{Refusal}
-use Rattle.fl_image.specs.declared.fault.Refusal.TheVariants.{OtherMagic, OtherVersion, EndsEarly, BadField, OtherCode, BytesLeftOver}
+use Rattle.fl_value_data.specs.declared.value.PlanNo.{PlanNo}
+use Rattle.fl_image.specs.declared.fault.BadImage.{BadImage}
+use Rattle.fl_image.specs.declared.fault.BadImage.TheVariants.{OtherMagic, OtherVersion, EndsEarly, BadField, OtherCode, BytesLeftOver}
 use Rattle.fl_image.specs.Image.{has_image, image_of}
 use Rattle.fl_image.specs.Reading.{FirstFault}
 
@@ -29,7 +29,7 @@ LongerImagesHaveMore = (plan : PlanNo) (x : TheInterface) (more : List ℕ) → 
     → FirstFault (image_of plan x ++ more) BytesLeftOver
 
 -- faults of a field that stands there: another magic, another version, a field out of its range
-abbrev pub IsOfField : Refusal → Type 0
+abbrev pub IsOfField : BadImage → Type 0
 IsOfField OtherMagic = Unit {0}
 IsOfField OtherVersion = Unit {0}
 IsOfField EndsEarly = ⊥
@@ -39,4 +39,4 @@ IsOfField BytesLeftOver = ⊥
 
 -- A fault of a field stays the first one, whatever follows the bytes.
 abbrev pub FieldFaultsStay : Type 0
-FieldFaultsStay = (bytes more : List ℕ) (fault : Refusal) → IsOfField fault → FirstFault bytes fault → FirstFault (bytes ++ more) fault
+FieldFaultsStay = (bytes more : List ℕ) (fault : BadImage) → IsOfField fault → FirstFault bytes fault → FirstFault (bytes ++ more) fault

@@ -1,18 +1,18 @@
 -- What reading an image answers, as contracts see it.
 use Rattle.std.specs.Prelude.{◌≡◌, ◌++◌, ℕ, true, List, Result, Ok, Err}
 use Rattle.fl_interface.specs.Interface.{TheInterface}
-use Rattle.fl_value.specs.declared.value.PlanNo.{PlanNo}
+use Rattle.fl_value_data.specs.declared.value.PlanNo.{PlanNo}
 use Rattle.fl_compile.specs.declared.program.Program.{Program}
 use Rattle.fl_compile.specs.Programs.{program_of}
-use Rattle.fl_image.specs.declared.fault.Refusal.{Refusal}
-use Rattle.fl_image.specs.declared.fault.Refusal.TheVariants.{OtherMagic, OtherVersion, EndsEarly, BadField, OtherCode, BytesLeftOver}
+use Rattle.fl_image.specs.declared.fault.BadImage.{BadImage}
+use Rattle.fl_image.specs.declared.fault.BadImage.TheVariants.{OtherMagic, OtherVersion, EndsEarly, BadField, OtherCode, BytesLeftOver}
 use Rattle.fl_image.specs.declared.fault.ImageFault.{ImageFault}
 use Rattle.fl_image.specs.declared.fault.ImageFault.TheVariants.{Refused, Memory}
 use Rattle.fl_image.specs.Image.{two, name_image, magic, version_of, is_name}
 use Rattle.fl_image.specs.Reading.{FirstFault}
 
 -- the number of a fault; out of memory is E99
-abbrev pub refusal_number : Refusal → ℕ
+abbrev pub refusal_number : BadImage → ℕ
 refusal_number OtherMagic = 80
 refusal_number OtherVersion = 81
 refusal_number EndsEarly = 82

@@ -7,22 +7,22 @@ use Rattle.fl_interface.specs.declared.interface.Scalar.TheVariants.{Int32, Iref
 use Rattle.fl_interface.specs.Interface.{TheType, scalar, enumeration, structure, array, TheArgType, fixed, text, sized, TheMessage, TheInterface, fields_from}
 use Rattle.fl_interface.specs.Limits.{is_among}
 use Rattle.fl_interface.specs.Limits.{is_message_within}
-use Rattle.fl_value.specs.declared.value.PlanNo.{PlanNo}
-use Rattle.fl_value.specs.declared.value.PlanNo.TheVariants.{One, Two}
+use Rattle.fl_value_data.specs.declared.value.PlanNo.{PlanNo}
+use Rattle.fl_value_data.specs.declared.value.PlanNo.TheVariants.{One, Two}
 use Rattle.fl_stub.specs.declared.op.Op.{Op}
 use Rattle.fl_stub.specs.declared.op.Op.TheVariants as ops
 use Rattle.fl_stub.specs.declared.op.Column.{Column}
 use Rattle.fl_stub.specs.declared.op.Column.TheVariants.{Send, Receive}
 use Rattle.fl_stub.specs.Structure.{is_within, is_operand_within}
-use Rattle.fl_image.specs.declared.fault.Refusal.{Refusal}
-use Rattle.fl_image.specs.declared.fault.Refusal.TheVariants.{OtherMagic, OtherVersion, EndsEarly, BadField, OtherCode, BytesLeftOver}
+use Rattle.fl_image.specs.declared.fault.BadImage.{BadImage}
+use Rattle.fl_image.specs.declared.fault.BadImage.TheVariants.{OtherMagic, OtherVersion, EndsEarly, BadField, OtherCode, BytesLeftOver}
 use Rattle.fl_image.specs.declared.fault.ImageFault.{ImageFault}
 use Rattle.fl_image.specs.declared.fault.ImageFault.TheVariants as faults
 use Rattle.fl_image.specs.Image.{Codes, Fields, compiled, scalar_code, op_code, operand_of, is_word}
 
 -- a value and the bytes behind it, or the first fault
 abbrev pub Read : Type 0 → Type 0
-Read A = Result (A × List ℕ) Refusal
+Read A = Result (A × List ℕ) BadImage
 
 -- what the second reads begins where the first ended; the first fault is the answer
 infixl 10 ◌>>=◌
@@ -31,12 +31,12 @@ abbrev pub ◌>>=◌ : {A B : Type 0} → Read A → (A × List ℕ → Read B) 
 (Err e) >>= f = Err e
 
 -- reading gives the fault that a function returned, unless memory ran out
-abbrev pub Fails : {Y : Type 0} → ImageFault → Result Y Refusal → Type 0
+abbrev pub Fails : {Y : Type 0} → ImageFault → Result Y BadImage → Type 0
 Fails faults.Memory read = Unit {0}
 Fails (faults.Refused e) read = read ≡ Err e
 
 -- What a function returned, seen by view, is what reading gives, unless memory ran out.
-abbrev pub Gives : {X Y : Type 0} → (X → Y) → Result X ImageFault → Result Y Refusal → Type 0
+abbrev pub Gives : {X Y : Type 0} → (X → Y) → Result X ImageFault → Result Y BadImage → Type 0
 Gives view (Ok x) read = read ≡ Ok (view x)
 Gives view (Err e) read = Fails e read
 
@@ -304,8 +304,8 @@ fields_at bytes = do
   Ok (record { plan = plan.0; interface = interface.0; codes = codes.0 }, codes.1)
 
 -- all of the bytes
-unfoldable pub all_of : List ℕ → Result Fields Refusal
-all_of bytes = elim (fields_at bytes) as (λ _. Result Fields Refusal) [
+unfoldable pub all_of : List ℕ → Result Fields BadImage
+all_of bytes = elim (fields_at bytes) as (λ _. Result Fields BadImage) [
   | Err e ↦ Err e
   | Ok p ↦ if length p.1 == 0 then Ok p.0 else Err BytesLeftOver
 ]
@@ -315,5 +315,5 @@ abbrev pub IsCompiled : Fields → Type 0
 IsCompiled f = f ≡ compiled f.plan f.interface
 
 -- The first fault: one of reading, or at the end code that isn't the compiler's.
-abbrev pub FirstFault : List ℕ → Refusal → Type 0
+abbrev pub FirstFault : List ℕ → BadImage → Type 0
 FirstFault bytes fault = (all_of bytes ≡ Err fault) ⊎ ((fault ≡ OtherCode) × (f : Fields) × (all_of bytes ≡ Ok f) × (IsCompiled f → ⊥))

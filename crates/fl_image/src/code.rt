@@ -5,7 +5,7 @@ ghost use Rattle.fl_image.specs.Image.{operand_of};
 ghost use Rattle.fl_image.specs.Reading.{Gives, op_with, op_at, code_at, codes_at, many_at};
 ghost use Rattle.fl_image.specs.Views.{codes_view};
 
-use crate::fault::{ImageFault, Refusal};
+use crate::fault::{BadImage, ImageFault};
 use crate::number::{four, one, two};
 use fl_stub::{Column, Op};
 use std::alloc::Global;
@@ -76,14 +76,14 @@ fn op(column: Column, bytes: &[u8]) -> Result<(Op, &[u8]), ImageFault>
 {
     let (code, rest) = one(bytes)?;
     let Some(_op) = op_with(column, code, 0) else {
-        return Err(ImageFault::Refused(Refusal::BadField));
+        return Err(ImageFault::Refused(BadImage::BadField));
     };
     let (operand, rest) = two(rest)?;
     let Some(op) = op_with(column, code, operand) else {
-        return Err(ImageFault::Refused(Refusal::BadField));
+        return Err(ImageFault::Refused(BadImage::BadField));
     };
     if !(op.is_in_range() && operand_of(op) == operand) {
-        return Err(ImageFault::Refused(Refusal::BadField));
+        return Err(ImageFault::Refused(BadImage::BadField));
     }
     Ok((op, rest))
 }

@@ -9,7 +9,7 @@ use thiserror::Error;
 
 /// What is wrong with the bytes: the first fault from front to back.
 #[derive(Clone, Copy, Debug, PartialEq, Eq, Drop, Error)]
-pub enum Refusal {
+pub enum BadImage {
     /// The first four bytes aren't `FLND`: fault 80.
     #[error("not an image: it doesn't begin with FLND")]
     OtherMagic,
@@ -35,24 +35,24 @@ pub enum Refusal {
 pub enum ImageFault {
     /// The bytes are no image.
     #[error("{0}")]
-    Refused(Refusal),
+    Refused(BadImage),
     /// Memory ran out: fault 99.
     #[error("out of memory")]
     Memory,
 }
 
-impl Refusal {
+impl BadImage {
     /// The fault's number, as answers show it.
     pub fn number(self) -> u8
         ensures number { result ≡ refusal_number self }
     {
         match self {
-            Refusal::OtherMagic => 80,
-            Refusal::OtherVersion => 81,
-            Refusal::EndsEarly => 82,
-            Refusal::BadField => 83,
-            Refusal::OtherCode => 84,
-            Refusal::BytesLeftOver => 85,
+            BadImage::OtherMagic => 80,
+            BadImage::OtherVersion => 81,
+            BadImage::EndsEarly => 82,
+            BadImage::BadField => 83,
+            BadImage::OtherCode => 84,
+            BadImage::BytesLeftOver => 85,
         }
     }
 }

@@ -3,7 +3,7 @@
 //! Contract for the layers above: [`write_image`] gives the image of a program (`specs/Image.antt`) whose interface an image
 //! can spell ([`is_writable`]), and [`read_image`] gives a program exactly where the bytes are the image of an interface under
 //! a plan, or else the first fault from front to back (`specs/Reading.antt`). No two interfaces have one image
-//! ([`one_image`]), and what is refused of an image that was cut or has bytes behind it is known (`specs/Laws.antt`).
+//! ([`law_one_image`]), and what is refused of an image that was cut or has bytes behind it is known (`specs/Laws.antt`).
 //!
 //! - `writer.rt`: [`write_image`]
 //! - `reader.rt`: [`read_image`]
@@ -25,8 +25,10 @@ mod types;
 mod writable;
 mod writer;
 
-pub use fault::{ImageFault, Refusal};
-pub use law::{cut_images_end_early, field_faults_stay, longer_images_have_more, one_image};
+pub use fault::{BadImage, ImageFault};
+pub use law::{
+    law_cut_images_end_early, law_field_faults_stay, law_longer_images_have_more, law_one_image,
+};
 pub use reader::read_image;
 pub use writable::is_writable;
 pub use writer::write_image;

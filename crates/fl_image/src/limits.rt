@@ -22,7 +22,7 @@ const CAP: u32 = 65536;
 /// The size and alignment of a type in bytes, how deep structs and arrays nest in it, and how many arrays stand
 /// on one path through it.
 #[derive(Clone, Copy)]
-pub(crate) struct Measured {
+pub(crate) struct TypeMeasures {
     pub size: u32,
     pub align: u32,
     pub depth: u32,
@@ -31,16 +31,16 @@ pub(crate) struct Measured {
 
 /// Where the arguments so far may end, and the alignment that is due there.
 #[derive(Clone, Copy)]
-pub(crate) struct Extent {
+pub(crate) struct ArgsEnd {
     pub end: u32,
     pub due: u32,
 }
 
-fn of_scalar(kind: Scalar) -> Measured
+fn of_scalar(kind: Scalar) -> TypeMeasures
     ensures measures { Measures result (scalar kind) }
 {
     let bytes = kind.size();
-    Measured {
+    TypeMeasures {
         size: bytes,
         align: bytes,
         depth: 0,
@@ -48,10 +48,10 @@ fn of_scalar(kind: Scalar) -> Measured
     }
 }
 
-fn of_enum(count: u32) -> Measured
+fn of_enum(count: u32) -> TypeMeasures
     ensures measures { Measures result (enumeration count) }
 {
-    Measured {
+    TypeMeasures {
         size: ENUM_SIZE,
         align: ENUM_SIZE,
         depth: 0,
@@ -67,12 +67,12 @@ fn times(count: u32, size: u32) -> u32
 }
 
 /// The array of so many of these.
-fn of_array(count: u32, element: Measured) -> Measured
+fn of_array(count: u32, element: TypeMeasures) -> TypeMeasures
     requires small { element.depth ≤ 65536 }
     requires few { element.arrays ≤ 65536 }
     ensures measures { (t : TheType) → Measures element t → Measures result (array count t) }
 {
-    Measured {
+    TypeMeasures {
         size: times(count, element.size),
         align: element.align,
         depth: (element.depth + 1).min(CAP),
@@ -81,14 +81,14 @@ fn of_array(count: u32, element: Measured) -> Measured
 }
 
 /// A struct with one more field behind those so far.
-fn with_field(so_far: Measured, next: Measured) -> Measured
+fn with_field(so_far: TypeMeasures, next: TypeMeasures) -> TypeMeasures
     requires align { IsAlign next.align }
     requires small { so_far.size ≤ 65536 }
     requires small_next { next.size ≤ 65536 }
     ensures so_far { (t : TheType) (left all : TheTypes) → Measures next t → SoFar so_far (field t left) all → SoFar result left all }
 {
     let end = so_far.size.next_multiple_of(next.align) + next.size;
-    Measured {
+    TypeMeasures {
         size: end.min(CAP),
         align: next.align.max(so_far.align),
         depth: next.depth.max(so_far.depth),
@@ -97,13 +97,13 @@ fn with_field(so_far: Measured, next: Measured) -> Measured
 }
 
 /// The struct of the fields so far.
-fn of_fields(so_far: Measured) -> Measured
+fn of_fields(so_far: TypeMeasures) -> TypeMeasures
     requires align { IsAlign so_far.align }
     requires small { so_far.size ≤ 65536 }
     requires shallow { so_far.depth ≤ 65536 }
     ensures measures { (all : TheTypes) → SoFar so_far no_more all → Measures result (structure all) }
 {
-    Measured {
+    TypeMeasures {
         size: so_far.size.next_multiple_of(so_far.align).min(CAP),
         align: so_far.align,
         depth: (so_far.depth + 1).min(CAP),
@@ -113,7 +113,7 @@ fn of_fields(so_far: Measured) -> Measured
 
 /// The measures of a type.
 #[cycle(measures)]
-fn measure(fixed: &FixedType) -> Measured
+fn measure(fixed: &FixedType) -> TypeMeasures
     ensures measures { Measures result (type_of fixed.now) }
 {
     match fixed {
@@ -126,7 +126,7 @@ fn measure(fixed: &FixedType) -> Measured
 
 /// The measures of an array of so many elements of a type.
 #[cycle(measures)]
-fn measure_array(count: u32, element: &FixedType) -> Measured
+fn measure_array(count: u32, element: &FixedType) -> TypeMeasures
     ensures measures { Measures result (array count (type_of element.now)) }
 {
     of_array(count, measure(element))
@@ -134,10 +134,10 @@ fn measure_array(count: u32, element: &FixedType) -> Measured
 
 /// The measures of the struct of these fields.
 #[cycle(measures)]
-fn measure_fields(fields: &[FixedType]) -> Measured
+fn measure_fields(fields: &[FixedType]) -> TypeMeasures
     ensures measures { Measures result (structure (fields_from (map type_of fields.now))) }
 {
-    let mut so_far = Measured {
+    let mut so_far = TypeMeasures {
         size: 0,
         align: 1,
         depth: 0,
@@ -227,7 +227,7 @@ fn are_arguments_within(arguments: &[ArgType]) -> bool
 }
 
 /// Behind a fixed argument.
-fn behind_fixed(before: Extent, measured: Measured) -> Extent
+fn behind_fixed(before: ArgsEnd, measured: TypeMeasures) -> ArgsEnd
     requires due { IsAlign before.due }
     requires align { IsAlign measured.align }
     requires small { before.end ≤ 65536 }
@@ -236,28 +236,28 @@ fn behind_fixed(before: Extent, measured: Measured) -> Extent
         → Reaches before (fixed t ∷ left) total → Reaches result left total }
 {
     let end = before.end.next_multiple_of(before.due.max(measured.align)) + measured.size;
-    Extent {
+    ArgsEnd {
         end: end.min(CAP),
         due: 1,
     }
 }
 
 /// Behind a string or a sized array that takes so many bytes behind its length.
-fn behind_counted(before: Extent, size: u32) -> Extent
+fn behind_counted(before: ArgsEnd, size: u32) -> ArgsEnd
     requires small { before.end ≤ 65536 }
     requires size { size ≤ 65536 }
     ensures end { result.end ≡ min (round_up before.end 8 + (8 + size)) 65536 }
     ensures due { result.due ≡ 8 }
 {
     let end = before.end.next_multiple_of(8) + (8 + size);
-    Extent {
+    ArgsEnd {
         end: end.min(CAP),
         due: 8,
     }
 }
 
 /// Behind an argument.
-fn behind(before: Extent, argument: &ArgType) -> Extent
+fn behind(before: ArgsEnd, argument: &ArgType) -> ArgsEnd
     requires due { IsAlign before.due }
     requires small { before.end ≤ 65536 }
     ensures reaches { (left : List TheArgType) (total : ℕ) → Reaches before (arg_type_of argument.now ∷ left) total → Reaches result left total }
@@ -276,7 +276,7 @@ fn behind(before: Extent, argument: &ArgType) -> Extent
 fn is_too_long(arguments: &[ArgType]) -> bool
     ensures exact { result ≡ nat_lt 32768 (greatest_payload (map arg_type_of arguments.now)) }
 {
-    let mut extent = Extent { end: 0, due: 1 };
+    let mut extent = ArgsEnd { end: 0, due: 1 };
     for argument in arguments {
         extent = behind(extent, argument);
     }

@@ -4,7 +4,7 @@ ghost use Rattle.std.specs.Prelude.{◌≡◌, [], map, IfErr};
 ghost use Rattle.fl_interface.specs.Interface.{message_of, interface_of};
 ghost use Rattle.fl_image.specs.Reading.{Gives, Behind, more_at, name_at, message_at, is_next, message_after, message_count_at, messages_at, interface_at};
 
-use crate::fault::{ImageFault, Refusal};
+use crate::fault::{BadImage, ImageFault};
 use crate::limits::{is_message_within, is_taken};
 use crate::number::{name, two};
 use crate::types::arguments;
@@ -39,7 +39,7 @@ fn message_after<'a>(
 {
     let (message, rest) = message(alloc, bytes)?;
     if !is_next(before, &message) {
-        return Err(ImageFault::Refused(Refusal::BadField));
+        return Err(ImageFault::Refused(BadImage::BadField));
     }
     Ok((message, rest))
 }
@@ -51,7 +51,7 @@ fn message_count(bytes: &[u8]) -> Result<(u32, &[u8]), ImageFault>
 {
     let (count, rest) = two(bytes)?;
     if count as usize > MAX_MESSAGES {
-        return Err(ImageFault::Refused(Refusal::BadField));
+        return Err(ImageFault::Refused(BadImage::BadField));
     }
     Ok((count, rest))
 }

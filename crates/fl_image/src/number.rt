@@ -4,7 +4,7 @@ ghost use Rattle.std.specs.Prelude.{◌≡◌, ◌<◌, IfOk, IfErr};
 ghost use Rattle.std.specs.List.{list_all};
 ghost use Rattle.fl_image.specs.Reading.{Gives, IsOfBytes, Behind, one_at, two_at, four_at, len_at, word_at, name_at};
 
-use crate::fault::{ImageFault, Refusal};
+use crate::fault::{BadImage, ImageFault};
 use fl_interface::Word;
 use fl_lex::{MAX_WORD, is_word};
 use std::alloc::Global;
@@ -17,7 +17,7 @@ pub(crate) fn one(bytes: &[u8]) -> Result<(u8, &[u8]), ImageFault>
 {
     match bytes {
         [first, rest @ ..] => Ok((*first, rest)),
-        [] => Err(ImageFault::Refused(Refusal::EndsEarly)),
+        [] => Err(ImageFault::Refused(BadImage::EndsEarly)),
     }
 }
 
@@ -51,11 +51,11 @@ fn word(alloc: Global, len: usize, bytes: &[u8]) -> Result<(Word, &[u8]), ImageF
     ensures memory { IfErr result (λ e. Behind e (word_at len bytes.now)) }
 {
     if bytes.len() < len {
-        return Err(ImageFault::Refused(Refusal::EndsEarly));
+        return Err(ImageFault::Refused(BadImage::EndsEarly));
     }
     let (start, rest) = bytes.split_at(len);
     if !is_word(start) {
-        return Err(ImageFault::Refused(Refusal::BadField));
+        return Err(ImageFault::Refused(BadImage::BadField));
     }
     let bytes = Vec::from_slice(alloc, start)?;
     Ok((Word { bytes }, rest))
@@ -69,7 +69,7 @@ fn len(bytes: &[u8]) -> Result<(u8, &[u8]), ImageFault>
 {
     let (len, rest) = one(bytes)?;
     if !(1 <= len && usize::from(len) <= MAX_WORD) {
-        return Err(ImageFault::Refused(Refusal::BadField));
+        return Err(ImageFault::Refused(BadImage::BadField));
     }
     Ok((len, rest))
 }

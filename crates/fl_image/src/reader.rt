@@ -3,7 +3,7 @@
 ghost use Rattle.std.specs.Prelude.{◌≡◌, true, IfOk, IfErr};
 ghost use Rattle.std.specs.Bool.{Decides};
 ghost use Rattle.fl_interface.specs.Interface.{TheInterface, interface_of};
-ghost use Rattle.fl_value.specs.declared.value.PlanNo.{PlanNo as the_plan};
+ghost use Rattle.fl_value_data.specs.declared.value.PlanNo.{PlanNo as the_plan};
 ghost use Rattle.fl_compile.specs.Programs.{program_of};
 ghost use Rattle.fl_image.specs.Image.{has_image, image_of};
 ghost use Rattle.fl_image.specs.Reading.{Gives, IsOfBytes, Behind, magic_at, plan_at, start_at, fields_at, all_of};
@@ -11,18 +11,18 @@ ghost use Rattle.fl_image.specs.Views.{found_view};
 ghost use Rattle.fl_image.specs.Outcome.{Reads, Answers};
 
 use crate::code::{MessageOps, all_ops};
-use crate::fault::{ImageFault, Refusal};
+use crate::fault::{BadImage, ImageFault};
 use crate::messages::interface;
 use crate::number::{four, two};
 use crate::writer::write_image;
 use fl_compile::{Program, compile};
 use fl_interface::Interface;
-use fl_value::PlanNo;
+use fl_value_data::PlanNo;
 use std::alloc::Global;
 
 /// What the fields of an image say.
 #[derive(Drop)]
-pub(crate) struct Found {
+pub(crate) struct ImageFields {
     pub plan: PlanNo,
     pub interface: Interface,
     pub codes: Vec<MessageOps>,
@@ -36,7 +36,7 @@ fn magic(bytes: &[u8]) -> Result<&[u8], ImageFault>
 {
     let (number, rest) = four(bytes)?;
     if number != 0x444e_4c46 {
-        return Err(ImageFault::Refused(Refusal::OtherMagic));
+        return Err(ImageFault::Refused(BadImage::OtherMagic));
     }
     Ok(rest)
 }
@@ -51,13 +51,13 @@ fn plan(bytes: &[u8]) -> Result<(PlanNo, &[u8]), ImageFault>
     match version {
         1 => Ok((PlanNo::One, rest)),
         2 => Ok((PlanNo::Two, rest)),
-        _ => Err(ImageFault::Refused(Refusal::OtherVersion)),
+        _ => Err(ImageFault::Refused(BadImage::OtherVersion)),
     }
 }
 
 /// What the fields say.
 #[tactic(auto, unfolding(crate::specs::Reading::fields_at))]
-fn fields(alloc: Global, bytes: &[u8]) -> Result<(Found, &[u8]), ImageFault>
+fn fields(alloc: Global, bytes: &[u8]) -> Result<(ImageFields, &[u8]), ImageFault>
     ensures reads { Gives (λ x. (found_view x.0, x.1.now)) result (fields_at bytes.now) }
     ensures memory { IfErr result (λ e. Behind e (start_at bytes.now)) }
 {
@@ -65,7 +65,7 @@ fn fields(alloc: Global, bytes: &[u8]) -> Result<(Found, &[u8]), ImageFault>
     let (plan, rest) = plan(rest)?;
     let (interface, rest) = interface(alloc, rest)?;
     let (codes, rest) = all_ops(alloc, interface.messages.len(), rest)?;
-    let found = Found {
+    let found = ImageFields {
         plan,
         interface,
         codes,
@@ -75,13 +75,13 @@ fn fields(alloc: Global, bytes: &[u8]) -> Result<(Found, &[u8]), ImageFault>
 
 /// What the fields say, where no bytes are left over.
 #[tactic(auto, unfolding(crate::specs::Reading::all_of))]
-fn all(alloc: Global, bytes: &[u8]) -> Result<Found, ImageFault>
+fn all(alloc: Global, bytes: &[u8]) -> Result<ImageFields, ImageFault>
     ensures reads { Gives found_view result (all_of bytes.now) }
     ensures memory { IfErr result (λ e. Behind e (start_at bytes.now)) }
 {
     let (found, rest) = fields(alloc, bytes)?;
     if !rest.is_empty() {
-        return Err(ImageFault::Refused(Refusal::BytesLeftOver));
+        return Err(ImageFault::Refused(BadImage::BytesLeftOver));
     }
     Ok(found)
 }
@@ -108,7 +108,7 @@ pub fn read_image(alloc: Global, bytes: &[u8]) -> Result<Program, ImageFault>
     let program = compile(alloc, &found.interface, found.plan)?;
     let image = write_image(alloc, &program)?;
     if !same_bytes(&image, bytes) {
-        return Err(ImageFault::Refused(Refusal::OtherCode));
+        return Err(ImageFault::Refused(BadImage::OtherCode));
     }
     Ok(program)
 }

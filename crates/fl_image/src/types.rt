@@ -6,7 +6,7 @@ ghost use Rattle.fl_image.specs.Reading.{Gives, scalar_with, scalar_at, enumerat
 ghost use Rattle.fl_image.specs.Reading.{type_at, many_at, text_at, sized_at, fixed_at, argument_at, argument_count_at};
 ghost use Rattle.fl_image.specs.Reading.{arguments_at};
 
-use crate::fault::{ImageFault, Refusal};
+use crate::fault::{BadImage, ImageFault};
 use crate::number::{one, two};
 use fl_interface::{ArgType, FixedType, MAX_LISTED, Scalar};
 use std::alloc::{AllocError, Global};
@@ -66,7 +66,7 @@ fn scalar(code: u8, bytes: &[u8]) -> Result<(FixedType, &[u8]), ImageFault>
     ensures reads { Gives (λ x. (type_of x.0, x.1.now)) result (scalar_at code bytes.now) }
 {
     let Some(kind) = scalar_with(code) else {
-        return Err(ImageFault::Refused(Refusal::BadField));
+        return Err(ImageFault::Refused(BadImage::BadField));
     };
     Ok((of_scalar(kind), bytes))
 }
@@ -87,7 +87,7 @@ fn fixed_type(alloc: Global, left: u32, bytes: &[u8]) -> Result<(FixedType, &[u8
 {
     let (code, rest) = one(bytes)?;
     if left == 0 {
-        return Err(ImageFault::Refused(Refusal::BadField));
+        return Err(ImageFault::Refused(BadImage::BadField));
     }
     coded_type(alloc, left - 1, code, rest)
 }
@@ -186,7 +186,7 @@ fn argument(alloc: Global, bytes: &[u8]) -> Result<(ArgType, &[u8]), ImageFault>
     ensures reads { Gives (λ x. (arg_type_of x.0, x.1.now)) result (argument_at bytes.now) }
 {
     match bytes {
-        [] => Err(ImageFault::Refused(Refusal::EndsEarly)),
+        [] => Err(ImageFault::Refused(BadImage::EndsEarly)),
         [32, rest @ ..] => text(rest),
         [33, rest @ ..] => sized_type(alloc, rest),
         [_, ..] => type_alone(alloc, bytes),
@@ -218,7 +218,7 @@ fn argument_count(bytes: &[u8]) -> Result<(u8, &[u8]), ImageFault>
 {
     let (count, rest) = one(bytes)?;
     if usize::from(count) > MAX_LISTED {
-        return Err(ImageFault::Refused(Refusal::BadField));
+        return Err(ImageFault::Refused(BadImage::BadField));
     }
     Ok((count, rest))
 }

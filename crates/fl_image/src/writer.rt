@@ -16,7 +16,7 @@ use fl_base::MsgNo;
 use fl_compile::Program;
 use fl_interface::{ArgType, FixedType, Interface, Message, Scalar, Word};
 use fl_stub::Op;
-use fl_value::PlanNo;
+use fl_value_data::PlanNo;
 use std::alloc::{AllocError, Global};
 
 /// A number in one byte.

@@ -7,10 +7,10 @@ use Rattle.fl_interface.specs.Interface.{TheType, TheArgType, fixed, text, sized
 use Rattle.fl_interface.specs.Sizes.{size_of}
 use Rattle.fl_interface.specs.Limits.{is_type_within, is_argument_within, are_arguments_within, is_message_within}
 use Rattle.fl_interface.proofs.Aligned.{some_align}
-use Rattle.fl_value.specs.declared.value.PlanNo.{PlanNo}
-use Rattle.fl_value.specs.declared.value.PlanNo.TheVariants.{One, Two}
-use Rattle.fl_value.specs.Plan.{arranged, is_fixed_at, is_dynamic, rank_of, of_rank}
-use Rattle.fl_layout.specs.declared.extent.Placed.{Placed}
+use Rattle.fl_value_data.specs.declared.value.PlanNo.{PlanNo}
+use Rattle.fl_value_data.specs.declared.value.PlanNo.TheVariants.{One, Two}
+use Rattle.fl_value_data.specs.Plan.{arranged, is_fixed_at, is_dynamic, rank_of, of_rank}
+use Rattle.fl_layout.specs.declared.extent.PlacedArg.{PlacedArg}
 use Rattle.fl_layout.specs.Extents.{extent_of, numbered, placing, typed, placed_of, is_varying, is_within, are_within}
 use Rattle.fl_layout.proofs.Order.{all_arranged}
 use Rattle.fl_layout.proofs.Measures.{numbers_small}
@@ -25,7 +25,7 @@ varying_kind (text most) = refl
 varying_kind (sized most t) = refl
 
 -- what a plan keeps of the arguments of a rank, if the first of these has a number
-abbrev pub left_of_rank : PlanNo → ℕ → ℕ → List TheArgType → List Placed
+abbrev pub left_of_rank : PlanNo → ℕ → ℕ → List TheArgType → List PlacedArg
 left_of_rank plan rank k types = map placing (of_rank typed plan rank (zip (range_with_len k (length types)) types))
 
 pub rank_taken : (plan : PlanNo) (rank k : ℕ) (t : TheArgType) (ts : List TheArgType) → rank_of plan t ≡ rank → left_of_rank plan rank k (t ∷ ts) ≡ placing (k, t) ∷ left_of_rank plan rank (k + 1) ts

@@ -9,10 +9,10 @@ use Rattle.fl_interface.specs.Sizes.{size_of, align_of, round_up, IsAlign}
 use Rattle.fl_interface.specs.Payload.{greatest_end, greatest_payload}
 use Rattle.fl_interface.specs.Limits.{is_too_long}
 use Rattle.fl_interface.specs.Limits.{are_arguments_within, is_message_within, is_within_limits}
-use Rattle.fl_value.specs.declared.value.PlanNo.{PlanNo}
-use Rattle.fl_value.specs.declared.value.PlanNo.TheVariants.{One, Two}
-use Rattle.fl_value.specs.Value.{TheCall}
-use Rattle.fl_value.specs.Plan.{arranged, is_fixed_at, is_dynamic}
+use Rattle.fl_value_data.specs.declared.value.PlanNo.{PlanNo}
+use Rattle.fl_value_data.specs.declared.value.PlanNo.TheVariants.{One, Two}
+use Rattle.fl_value_data.specs.Value.{TheCall}
+use Rattle.fl_value_data.specs.Plan.{arranged, is_fixed_at, is_dynamic}
 use Rattle.fl_layout.specs.declared.extent.Fill.TheVariants.{Full}
 use Rattle.fl_layout.specs.Extents.{Filled, extent_of, numbered, placing, end_of_all, count_by, filled_up}
 use Rattle.fl_layout.specs.Layouts.{payload_length, IsCallOf}

@@ -6,11 +6,11 @@ use Rattle.std.specs.List.{list_all, zip}
 use Rattle.fl_interface.specs.Interface.{TheArgType, fixed, text, sized}
 use Rattle.fl_interface.specs.Sizes.{size_of, align_of, IsAlign}
 use Rattle.fl_interface.specs.Limits.{is_argument_within, are_arguments_within}
-use Rattle.fl_value.specs.Value.{Datum, number, string, elements, fields}
-use Rattle.fl_value.specs.Fits.{is_argument, are_arguments, count_of}
+use Rattle.fl_value_data.specs.Value.{Datum, number, string, elements, fields}
+use Rattle.fl_value_data.specs.Fits.{is_argument, are_arguments, count_of}
 use Rattle.fl_layout.specs.Extents.{Filled, most_of, count_at, extent_of, end_of, due_after, end_of_all}
 use Rattle.fl_interface.proofs.Aligned.{align_one, align_eight, greater_align, round_rises, type_align}
-use Rattle.fl_value.specs.Tape.{Argument}
+use Rattle.fl_value_data.specs.Tape.{Argument}
 use Rattle.fl_layout.proofs.Ends.{is_good}
 
 -- with the one count an argument never ends after it ends with the other

@@ -5,14 +5,14 @@ use Rattle.std.specs.List.{list_all}
 use Rattle.fl_interface.specs.Interface.{TheArgType, fixed, text, sized}
 use Rattle.fl_interface.specs.Sizes.{size_of, align_of, round_up, IsAlign}
 use Rattle.fl_interface.specs.Limits.{is_well_made, is_argument_within}
-use Rattle.fl_value.specs.Value.{Datum, number, string, elements, fields}
-use Rattle.fl_value.specs.Fits.{is_argument, count_of}
-use Rattle.fl_value.specs.Plan.{is_dynamic}
+use Rattle.fl_value_data.specs.Value.{Datum, number, string, elements, fields}
+use Rattle.fl_value_data.specs.Fits.{is_argument, count_of}
+use Rattle.fl_value_data.specs.Plan.{is_dynamic}
 use Rattle.fl_layout.specs.Leaves.{Leaf, whole, single, bytes_onto, start_onto, argument_onto, arguments_onto}
 use Rattle.fl_layout.specs.Places.{size}
 use Rattle.fl_layout.specs.Extents.{Filled, count_at, extent_of, end_of, due_after, end_of_all}
 use Rattle.fl_interface.proofs.Aligned.{IsMultiple, align_eight, align_small, rounded, round_multiple, multiple_add, multiple_of_less, type_align}
-use Rattle.fl_value.specs.Tape.{Argument}
+use Rattle.fl_value_data.specs.Tape.{Argument}
 use Rattle.fl_layout.proofs.Sizes.{value_size, elements_size}
 
 abbrev pub filled : Argument → Filled

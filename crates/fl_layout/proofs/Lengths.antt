@@ -7,17 +7,17 @@ use Rattle.std.proofs.lemmas.List.{length-replicate}
 use Rattle.std.specs.List.{list_all, zip}
 use Rattle.fl_interface.specs.Interface.{TheArgType, fixed, text, sized, TheMessage, TheInterface}
 use Rattle.fl_interface.specs.Limits.{is_argument_within, are_arguments_within, is_message_within, are_messages_within, is_within_limits}
-use Rattle.fl_value.specs.declared.value.PlanNo.{PlanNo}
-use Rattle.fl_value.specs.Value.{Datum, number, TheCall}
-use Rattle.fl_value.specs.Fits.{is_argument, are_arguments, fit_message}
-use Rattle.fl_value.specs.Plan.{arranged}
-use Rattle.fl_layout.specs.declared.extent.Placed.{Placed}
+use Rattle.fl_value_data.specs.declared.value.PlanNo.{PlanNo}
+use Rattle.fl_value_data.specs.Value.{Datum, number, TheCall}
+use Rattle.fl_value_data.specs.Fits.{is_argument, are_arguments, fit_message}
+use Rattle.fl_value_data.specs.Plan.{arranged}
+use Rattle.fl_layout.specs.declared.extent.PlacedArg.{PlacedArg}
 use Rattle.fl_layout.specs.declared.extent.Fill.{Fill}
 use Rattle.fl_layout.specs.declared.extent.Fill.TheVariants.{Empty, Full}
 use Rattle.fl_layout.specs.Extents.{Filled, extent_of, numbered, placing, placed_of, end_of_all, numbers_in_all, count_at, count_by, filled_up, filled_by}
 use Rattle.fl_layout.specs.Layouts.{payload_length, tape_length, IsCallOf, IsLeast, IsGreatest}
 use Rattle.fl_interface.proofs.Aligned.{align_one}
-use Rattle.fl_value.specs.Tape.{Argument, kind}
+use Rattle.fl_value_data.specs.Tape.{Argument, kind}
 use Rattle.fl_layout.proofs.Ends.{filled, is_good, arguments_end}
 use Rattle.fl_layout.proofs.Order.{arranged_map, all_arranged, zip_numbered}
 use Rattle.fl_layout.proofs.Witness.{shortest, longest, shortest_is, longest_is, are_of, count_many, some_value}
@@ -69,7 +69,7 @@ abbrev pub pair_with : (TheArgType → Datum) → TheArgType → Argument
 pair_with value t = (t, value t)
 
 -- the values beside their types, in the plan's order, are the placed arguments with the values of their numbers
-pub by_number : (plan : PlanNo) (m : TheMessage) (ds : List Datum) (f : Argument → Filled) (g : Placed → Filled) → length m.args ≡ length ds
+pub by_number : (plan : PlanNo) (m : TheMessage) (ds : List Datum) (f : Argument → Filled) (g : PlacedArg → Filled) → length m.args ≡ length ds
     → ((a : ℕ × TheArgType) → f (value_of ds a) ≡ g (placing a))
     → map f (laid plan m ds) ≡ map g (placed_of plan m)
 by_number plan m ds f g e same =

@@ -5,11 +5,11 @@ use Rattle.std.specs.List.{list_all}
 use Rattle.std.proofs.lemmas.Bool.{and_parts, and_from, leb-true, le-leb, false≢true}
 use Rattle.fl_interface.specs.Interface.{TheArgType, fixed, text, sized, TheMessage}
 use Rattle.fl_interface.specs.Limits.{is_argument_within, are_arguments_within}
-use Rattle.fl_value.specs.declared.value.PlanNo.{PlanNo}
-use Rattle.fl_value.specs.Value.{Datum, number, string, elements, fields}
-use Rattle.fl_value.specs.Fits.{is_argument, are_arguments}
-use Rattle.fl_value.specs.Tape.{Argument}
-use Rattle.fl_layout.specs.declared.extent.Placed.{Placed}
+use Rattle.fl_value_data.specs.declared.value.PlanNo.{PlanNo}
+use Rattle.fl_value_data.specs.Value.{Datum, number, string, elements, fields}
+use Rattle.fl_value_data.specs.Fits.{is_argument, are_arguments}
+use Rattle.fl_value_data.specs.Tape.{Argument}
+use Rattle.fl_layout.specs.declared.extent.PlacedArg.{PlacedArg}
 use Rattle.fl_layout.specs.Extents.{Filled, placed_of, filled_by, is_short}
 use Rattle.fl_layout.proofs.Ends.{filled, is_good}
 use Rattle.fl_layout.proofs.Lengths.{laid, laid_good, length_by}
@@ -37,7 +37,7 @@ all_few (y ∷ ys) h =
     let this = and_parts (is_argument_within y.0) (is_argument y.0 y.1) good.0 in
     and_from (few (filled y)) (list_all few (map filled ys)) (argument_few y.0 y.1 this.0 this.1) (all_few ys good.1)
 
-of_map : (ds : List Datum) (ps : List Placed) → list_all few (map (filled_by ds) ps) ≡ true → list_all (is_short ds) ps ≡ true
+of_map : (ds : List Datum) (ps : List PlacedArg) → list_all few (map (filled_by ds) ps) ≡ true → list_all (is_short ds) ps ≡ true
 of_map ds [] h = refl
 of_map ds (p ∷ ps) h =
     let parts = and_parts (few (filled_by ds p)) (list_all few (map (filled_by ds) ps)) h in

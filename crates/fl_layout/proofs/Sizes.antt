@@ -4,8 +4,8 @@ use Rattle.std.proofs.lemmas.Bool.{and_parts, leb-true, eqb-true, false≢true}
 use Rattle.fl_interface.specs.Interface.{TheType, scalar, enumeration, structure, array, TheTypes, no_more, field}
 use Rattle.fl_interface.specs.Sizes.{size_of, align_of, greatest_align, end_after, round_up, IsAlign}
 use Rattle.fl_interface.specs.Limits.{is_well_made, are_well_made}
-use Rattle.fl_value.specs.Value.{Datum, number, string, elements, fields, Data, nothing_more, also}
-use Rattle.fl_value.specs.Fits.{has_type, have_types, all_have_type, count_of}
+use Rattle.fl_value_data.specs.Value.{Datum, number, string, elements, fields, Data, nothing_more, also}
+use Rattle.fl_value_data.specs.Fits.{has_type, have_types, all_have_type, count_of}
 use Rattle.fl_layout.specs.Leaves.{Leaf, gap, value_onto, fields_onto, elements_onto}
 use Rattle.fl_layout.specs.Places.{size}
 use Rattle.fl_interface.proofs.Aligned.{IsMultiple, rounded, round_multiple, round_after, multiple_add, multiple_of_less, type_align, types_align, size_multiple}

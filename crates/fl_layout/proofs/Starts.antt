@@ -9,19 +9,19 @@ use Rattle.std.proofs.lemmas.List.{length-append, append_assoc}
 use Rattle.fl_interface.specs.Interface.{TheArgType, fixed, text, sized, TheMessage, TheInterface}
 use Rattle.fl_interface.specs.Sizes.{align_of, round_up}
 use Rattle.fl_interface.specs.Limits.{are_arguments_within, is_within_limits}
-use Rattle.fl_value.specs.declared.value.PlanNo.{PlanNo}
-use Rattle.fl_value.specs.declared.value.PlanNo.TheVariants.{One, Two}
-use Rattle.fl_value.specs.Value.{Datum, number, TheCall}
-use Rattle.fl_value.specs.Fits.{are_arguments}
-use Rattle.fl_value.specs.Plan.{arranged, is_fixed_at, is_dynamic}
+use Rattle.fl_value_data.specs.declared.value.PlanNo.{PlanNo}
+use Rattle.fl_value_data.specs.declared.value.PlanNo.TheVariants.{One, Two}
+use Rattle.fl_value_data.specs.Value.{Datum, number, TheCall}
+use Rattle.fl_value_data.specs.Fits.{are_arguments}
+use Rattle.fl_value_data.specs.Plan.{arranged, is_fixed_at, is_dynamic}
 use Rattle.fl_layout.specs.declared.extent.Extent.{Extent}
-use Rattle.fl_layout.specs.declared.extent.Placed.{Placed}
+use Rattle.fl_layout.specs.declared.extent.PlacedArg.{PlacedArg}
 use Rattle.fl_layout.specs.Leaves.{argument_types, start_onto, arguments_onto}
 use Rattle.fl_layout.specs.Places.{size}
 use Rattle.fl_layout.specs.Extents.{extent_of, count_at, numbered, placing, placed_of, start_of, end_of, end_of_all, due_after, is_varying, extent_among, start_among, unit_of}
 use Rattle.fl_layout.specs.Layouts.{until, standing_before, start_align, start_align_at, ends_dynamic, end_of_arguments, argument_place, argument_size, has_one_place, IsPlace}
 use Rattle.fl_interface.proofs.Aligned.{align_small, type_align}
-use Rattle.fl_value.specs.Tape.{Argument, kind, types_of}
+use Rattle.fl_value_data.specs.Tape.{Argument, kind, types_of}
 use Rattle.fl_layout.proofs.Ends.{filled, is_good, arguments_end}
 use Rattle.fl_layout.proofs.Order.{arranged_map, numbered_are}
 use Rattle.fl_layout.proofs.Arranging.{filter_ext, varying_kind}
@@ -97,7 +97,7 @@ standing_look {A = A} default type plan xs ts j long same =
     ∙ until_look default xs j (order plan ts)
 
 -- what a plan keeps, by numbers
-abbrev pub placed_at : List TheArgType → ℕ → Placed
+abbrev pub placed_at : List TheArgType → ℕ → PlacedArg
 placed_at ts k = placing (look none ts k)
 
 pub placed_look : (plan : PlanNo) (m : TheMessage) → placed_of plan m ≡ map (placed_at m.args) (order plan m.args)

@@ -3,9 +3,9 @@ use Rattle.std.proofs.Common.{◌≡◌, ℕ, ◌+◌, true, false, Bool, if◌t
 use Rattle.std.specs.Prelude.{◌==◌}
 use Rattle.fl_interface.specs.Interface.{TheArgType, fixed, text, sized}
 use Rattle.fl_interface.specs.Sizes.{align_of}
-use Rattle.fl_value.specs.declared.value.PlanNo.{PlanNo}
-use Rattle.fl_value.specs.declared.value.PlanNo.TheVariants.{One, Two}
-use Rattle.fl_value.specs.Plan.{arranged, is_fixed_at, is_dynamic}
+use Rattle.fl_value_data.specs.declared.value.PlanNo.{PlanNo}
+use Rattle.fl_value_data.specs.declared.value.PlanNo.TheVariants.{One, Two}
+use Rattle.fl_value_data.specs.Plan.{arranged, is_fixed_at, is_dynamic}
 use Rattle.fl_interface.proofs.Aligned.{by_align, type_align}
 
 abbrev pub total : {A : Type 0} → (A → ℕ) → List A → ℕ

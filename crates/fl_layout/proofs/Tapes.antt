@@ -5,9 +5,9 @@ use Rattle.std.proofs.lemmas.List.{length-append}
 use Rattle.std.specs.List.{list_all, flat_map}
 use Rattle.fl_interface.specs.Interface.{TheType, scalar, enumeration, structure, array, TheTypes, no_more, field, TheArgType, fixed, text, sized}
 use Rattle.fl_interface.specs.Limits.{is_argument_within}
-use Rattle.fl_value.specs.Value.{Datum, number, string, elements, fields, Data, nothing_more, also}
-use Rattle.fl_value.specs.Fits.{has_type, have_types, all_have_type, is_argument, count_of}
-use Rattle.fl_value.specs.Tape.{value_tape, fields_tape, elements_tape, argument_tape, tape_of_argument, Argument}
+use Rattle.fl_value_data.specs.Value.{Datum, number, string, elements, fields, Data, nothing_more, also}
+use Rattle.fl_value_data.specs.Fits.{has_type, have_types, all_have_type, is_argument, count_of}
+use Rattle.fl_value_data.specs.Tape.{value_tape, fields_tape, elements_tape, argument_tape, tape_of_argument, Argument}
 use Rattle.fl_layout.specs.Extents.{most_of, count_at, numbers_of, numbers_of_all, extent_of, numbers_in, numbers_in_all}
 use Rattle.fl_layout.proofs.Ends.{filled, is_good}
 use Rattle.fl_layout.proofs.Bounds.{with_count, times_rises}

@@ -2,7 +2,7 @@
 use Rattle.std.proofs.Common.{◌<◌, ◌∙◌, sym, subst, arith}
 use Rattle.std.proofs.lemmas.Bool.{ltb-true, lt-ltb}
 use Rattle.fl_interface.specs.Payload.{greatest_payload}
-use Rattle.fl_value.specs.declared.value.PlanNo.TheVariants.{One}
+use Rattle.fl_value_data.specs.declared.value.PlanNo.TheVariants.{One}
 use Rattle.fl_layout.specs.Layouts.{payload_length, IsGreatest}
 use Rattle.fl_layout.specs.Limit.{GreatestIsOfPlanOne, TooLongHasLongCall}
 use Rattle.fl_layout.proofs.Lengths.{greatest_of}

@@ -7,8 +7,8 @@ use Rattle.fl_interface.specs.declared.interface.Scalar.{Scalar}
 use Rattle.fl_interface.specs.declared.interface.Scalar.TheVariants.{Uint8, Int8, Bool as BoolType, Char, Uint16, Int16, Uint32, Int32, Iref, Uint64, Int64, Uintptr, Intptr, Size, Errval}
 use Rattle.fl_interface.specs.Interface.{TheType, scalar, enumeration, structure, array, TheTypes, no_more, field, TheArgType, fixed, text, sized}
 use Rattle.fl_interface.specs.Limits.{is_well_made, are_well_made, is_argument_within, are_arguments_within}
-use Rattle.fl_value.specs.Value.{Datum, number, string, elements, fields, Data, nothing_more, also}
-use Rattle.fl_value.specs.Fits.{has_type, have_types, all_have_type, is_scalar_value, is_argument, are_arguments, is_text_byte, count_of}
+use Rattle.fl_value_data.specs.Value.{Datum, number, string, elements, fields, Data, nothing_more, also}
+use Rattle.fl_value_data.specs.Fits.{has_type, have_types, all_have_type, is_scalar_value, is_argument, are_arguments, is_text_byte, count_of}
 
 abbrev pub so_many : ℕ → Datum → Data
 so_many zero d = nothing_more

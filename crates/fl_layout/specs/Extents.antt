@@ -4,13 +4,13 @@ use Rattle.std.specs.Prelude.{if◌then◌else◌, Option, Some, None, List, [],
 use Rattle.std.specs.List.{zip, range_with_len, list_all}
 use Rattle.fl_interface.specs.Interface.{TheType, scalar, enumeration, structure, array, TheTypes, no_more, field, TheArgType, fixed, text, sized, TheMessage}
 use Rattle.fl_interface.specs.Sizes.{size_of, align_of, round_up}
-use Rattle.fl_value.specs.declared.value.PlanNo.{PlanNo}
-use Rattle.fl_value.specs.Plan.{arranged, of_rank}
-use Rattle.fl_value.specs.Value.{Datum, number, string, elements, fields}
-use Rattle.fl_value.specs.Fits.{count_of}
+use Rattle.fl_value_data.specs.declared.value.PlanNo.{PlanNo}
+use Rattle.fl_value_data.specs.Plan.{arranged, of_rank}
+use Rattle.fl_value_data.specs.Value.{Datum, number, string, elements, fields}
+use Rattle.fl_value_data.specs.Fits.{count_of}
 use Rattle.fl_layout.specs.declared.extent.Extent.{Extent}
 use Rattle.fl_layout.specs.declared.extent.Extent.TheVariants.{Fixed, Text, Sized}
-use Rattle.fl_layout.specs.declared.extent.Placed.{Placed}
+use Rattle.fl_layout.specs.declared.extent.PlacedArg.{PlacedArg}
 use Rattle.fl_layout.specs.declared.extent.Fill.{Fill}
 use Rattle.fl_layout.specs.declared.extent.Fill.TheVariants.{Empty, Full}
 
@@ -36,7 +36,7 @@ abbrev pub numbered : {A : Type 0} → List A → List (ℕ × A)
 numbered xs = zip (range_with_len 0 (length xs)) xs
 
 -- an argument with its number
-abbrev pub placing : ℕ × TheArgType → Placed
+abbrev pub placing : ℕ × TheArgType → PlacedArg
 placing a = record { argument = a.0; extent = extent_of a.1 }
 
 -- arguments with their numbers, as a plan keeps them
@@ -44,11 +44,11 @@ abbrev pub typed : ℕ × TheArgType → TheArgType
 typed a = a.1
 
 -- what a plan keeps of a message: each argument's number and extent, in the plan's order
-abbrev pub placed_of : PlanNo → TheMessage → List Placed
+abbrev pub placed_of : PlanNo → TheMessage → List PlacedArg
 placed_of plan m = map placing (arranged typed plan (numbered m.args))
 
 -- what it keeps of the arguments of a rank, as declared
-abbrev pub placed_of_rank : PlanNo → ℕ → List TheArgType → List Placed
+abbrev pub placed_of_rank : PlanNo → ℕ → List TheArgType → List PlacedArg
 placed_of_rank plan rank types = map placing (of_rank typed plan rank (numbered types))
 
 -- where an argument with so many bytes or elements ends, if what stands before it ends at a place after which
@@ -111,10 +111,10 @@ abbrev pub count_by : Fill → Extent → ℕ
 count_by Empty extent = 0
 count_by Full extent = most_of extent
 
-abbrev pub filled_up : Fill → Placed → Filled
+abbrev pub filled_up : Fill → PlacedArg → Filled
 filled_up fill p = (p.extent, count_by fill p.extent)
 
-abbrev pub filled_by : List Datum → Placed → Filled
+abbrev pub filled_by : List Datum → PlacedArg → Filled
 filled_by ds p = (p.extent, count_at p.extent (get_or ds p.argument (number (pos 0))))
 
 -- sizes, alignments and counts as the limits have them
@@ -123,11 +123,11 @@ is_within (Fixed size align numbers) = nat_le size 4096 && (nat_le 1 align && (n
 is_within (Text most) = nat_le most 4096
 is_within (Sized most stride numbers) = nat_le most 4096 && (nat_le stride 4096 && nat_le numbers 4096)
 
-abbrev pub are_within : List Placed → Bool
-are_within ps = list_all (λ (p : Placed). is_within p.extent) ps
+abbrev pub are_within : List PlacedArg → Bool
+are_within ps = list_all (λ (p : PlacedArg). is_within p.extent) ps
 
 -- a value has no more bytes or elements than it may
-abbrev pub is_short : List Datum → Placed → Bool
+abbrev pub is_short : List Datum → PlacedArg → Bool
 is_short ds p = nat_le (count_at p.extent (get_or ds p.argument (number (pos 0)))) 4096
 
 -- that of a string or a sized array
@@ -135,20 +135,20 @@ abbrev pub is_varying : Extent → Bool
 is_varying (Fixed size align numbers) = false
 is_varying extent = true
 
-abbrev pub are_fixed : List Placed → Bool
-are_fixed ps = list_all (λ (p : Placed). not (is_varying p.extent)) ps
+abbrev pub are_fixed : List PlacedArg → Bool
+are_fixed ps = list_all (λ (p : PlacedArg). not (is_varying p.extent)) ps
 
 -- so many bytes has each payload, where no argument varies
-abbrev pub IsFixedLength : List Placed → ℕ → Type 0
+abbrev pub IsFixedLength : List PlacedArg → ℕ → Type 0
 IsFixedLength ps n = (are_fixed ps ≡ true) × (n ≡ end_of_all 0 1 (map (filled_up Empty) ps))
 
 -- the extent of argument j
-abbrev pub extent_among : ℕ → List Placed → Option Extent
+abbrev pub extent_among : ℕ → List PlacedArg → Option Extent
 extent_among j [] = None
 extent_among j (p ∷ ps) = if p.argument == j then Some p.extent else extent_among j ps
 
 -- where argument j begins, if no string or sized array stands before it
-abbrev pub start_among : ℕ → ℕ → ℕ → List Placed → Option ℕ
+abbrev pub start_among : ℕ → ℕ → ℕ → List PlacedArg → Option ℕ
 start_among j at due [] = None
 start_among j at due (p ∷ ps) =
     if p.argument == j then Some (start_of at due p.extent)

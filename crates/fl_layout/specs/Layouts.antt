@@ -4,11 +4,11 @@ use Rattle.std.specs.Prelude.{nat_lt, List, [], ◌∷◌, map, length, slice_ge
 use Rattle.std.specs.List.{zip, list_any}
 use Rattle.fl_interface.specs.Interface.{TheArgType, fixed, text, sized, TheInterface}
 use Rattle.fl_interface.specs.Sizes.{align_of, size_of, round_up}
-use Rattle.fl_value.specs.declared.value.PlanNo.{PlanNo}
-use Rattle.fl_value.specs.Value.{TheCall}
-use Rattle.fl_value.specs.Fits.{fits_of}
-use Rattle.fl_value.specs.Plan.{arranged, is_dynamic}
-use Rattle.fl_value.specs.Tape.{tape_of, Argument, kind}
+use Rattle.fl_value_data.specs.declared.value.PlanNo.{PlanNo}
+use Rattle.fl_value_data.specs.Value.{TheCall}
+use Rattle.fl_value_data.specs.Fits.{fits_of}
+use Rattle.fl_value_data.specs.Plan.{arranged, is_dynamic}
+use Rattle.fl_value_data.specs.Tape.{tape_of, Argument, kind}
 use Rattle.fl_layout.specs.Leaves.{leaves, start_onto, arguments_onto, argument_types}
 use Rattle.fl_layout.specs.Places.{size}
 use Rattle.fl_layout.specs.Extents.{numbered}

@@ -5,11 +5,11 @@ use Rattle.std.specs.List.{zip}
 use Rattle.fl_interface.specs.Interface.{TheType, scalar, enumeration, structure, array, TheTypes, field}
 use Rattle.fl_interface.specs.Interface.{TheArgType, fixed, text, sized, TheInterface}
 use Rattle.fl_interface.specs.Sizes.{scalar_size, greatest_align}
-use Rattle.fl_value.specs.Value.{Datum, number, string, elements, fields, Data, nothing_more, also, TheCall}
-use Rattle.fl_value.specs.Fits.{count_of}
-use Rattle.fl_value.specs.Plan.{arranged, is_dynamic}
-use Rattle.fl_value.specs.declared.value.PlanNo.{PlanNo}
-use Rattle.fl_value.specs.Tape.{Argument, kind, types_of}
+use Rattle.fl_value_data.specs.Value.{Datum, number, string, elements, fields, Data, nothing_more, also, TheCall}
+use Rattle.fl_value_data.specs.Fits.{count_of}
+use Rattle.fl_value_data.specs.Plan.{arranged, is_dynamic}
+use Rattle.fl_value_data.specs.declared.value.PlanNo.{PlanNo}
+use Rattle.fl_value_data.specs.Tape.{Argument, kind, types_of}
 
 -- so many bytes of a number, at the next multiple of an alignment
 pub record Leaf : Type 0 where

@@ -5,8 +5,8 @@ use Rattle.fl_interface.specs.Interface.{TheMessage, TheInterface}
 use Rattle.fl_interface.specs.Payload.{greatest_payload}
 use Rattle.fl_interface.specs.Limits.{is_too_long}
 use Rattle.fl_interface.specs.Limits.{are_arguments_within}
-use Rattle.fl_value.specs.declared.value.PlanNo.TheVariants.{One}
-use Rattle.fl_value.specs.Value.{TheCall}
+use Rattle.fl_value_data.specs.declared.value.PlanNo.TheVariants.{One}
+use Rattle.fl_value_data.specs.Value.{TheCall}
 use Rattle.fl_layout.specs.Layouts.{payload_length, IsCallOf, IsGreatest}
 
 -- a message of an interface, accepted or refused, whose arguments' types are such as may be declared

@@ -2,8 +2,8 @@
 use Rattle.std.specs.Prelude.{ℕ, ◌+◌, ◌/◌, max, List, [], ◌∷◌}
 use Rattle.fl_interface.specs.Interface.{TheInterface}
 use Rattle.fl_interface.specs.Sizes.{round_up}
-use Rattle.fl_value.specs.Value.{TheCall}
-use Rattle.fl_value.specs.declared.value.PlanNo.{PlanNo}
+use Rattle.fl_value_data.specs.Value.{TheCall}
+use Rattle.fl_value_data.specs.declared.value.PlanNo.{PlanNo}
 use Rattle.fl_layout.specs.Leaves.{Leaf, leaves}
 
 -- how many bytes some leaves take, each at the next multiple of its alignment

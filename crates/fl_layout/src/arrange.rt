@@ -4,23 +4,23 @@ ghost use Rattle.std.specs.Prelude.{◌≡◌, ◌≤◌, ◌++◌, ◌^◌, ℕ
 ghost use Rattle.std.specs.List.{list_all};
 ghost use Rattle.fl_interface.specs.Interface.{arg_type_of, message_of};
 ghost use Rattle.fl_interface.specs.Limits.{are_arguments_within, is_message_within};
-ghost use Rattle.fl_value.specs.Plan.{rank_of, by_ranks};
-ghost use Rattle.fl_value.specs.Value.{datum_of};
+ghost use Rattle.fl_value_data.specs.Plan.{rank_of, by_ranks};
+ghost use Rattle.fl_value_data.specs.Value.{datum_of};
 ghost use Rattle.fl_layout.specs.declared.extent.Fill.TheVariants.{Full};
 ghost use Rattle.fl_layout.specs.Extents.{placing, typed, numbered, placed_of, placed_of_rank, are_within};
 ghost use Rattle.fl_layout.specs.Extents.{end_of_all, filled_by, filled_up, is_short, IsFixedLength};
 
-use crate::extent::{Fill, Placed};
+use crate::extent::{Fill, PlacedArg};
 use crate::filling::{fixed_length, length_with, limit};
 use crate::measure::extent;
 use fl_interface::{ArgType, Message};
-use fl_value::{PlanNo, RANKS, Value};
+use fl_value_data::{PlanNo, RANKS, Value};
 use std::alloc::{AllocError, Global};
 
 /// What a plan keeps of a message: its arguments in the plan's order, and what would be found from them at each call.
 #[derive(Debug, Drop)]
 pub(crate) struct MessagePlan {
-    pub placed: Vec<Placed>,
+    pub placed: Vec<PlacedArg>,
     // The bytes of each call's payload, where no argument varies.
     fixed: Option<usize>,
     // The most bytes that a payload has.
@@ -59,7 +59,7 @@ fn place_rank(
     arguments: &[ArgType],
     plan: PlanNo,
     rank: u8,
-    order: &mut Vec<Placed>,
+    order: &mut Vec<PlacedArg>,
 ) -> Result<(), AllocError>
     requires within { are_arguments_within (map arg_type_of arguments.now) ≡ true }
     requires few { length arguments.now ≤ 32 }
@@ -69,7 +69,7 @@ fn place_rank(
         if plan.rank_of(argument) != rank {
             continue;
         }
-        order.push(Placed {
+        order.push(PlacedArg {
             argument: index as u32,
             extent: extent(argument),
         })?;
@@ -82,7 +82,7 @@ fn place_by_ranks(
     alloc: Global,
     arguments: &[ArgType],
     plan: PlanNo,
-) -> Result<Vec<Placed>, AllocError>
+) -> Result<Vec<PlacedArg>, AllocError>
     requires within { are_arguments_within (map arg_type_of arguments.now) ≡ true }
     requires few { length arguments.now ≤ 32 }
     ensures placed { IfOk result (λ v. v.items ≡ map placing (by_ranks typed plan (numbered (map arg_type_of arguments.now)))) }

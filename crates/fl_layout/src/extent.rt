@@ -49,7 +49,7 @@ impl Extent {
 
 /// An argument, by its number among those of its message, and its extent.
 #[derive(Clone, Copy, Debug)]
-pub(crate) struct Placed {
+pub(crate) struct PlacedArg {
     pub argument: u32,
     pub extent: Extent,
 }

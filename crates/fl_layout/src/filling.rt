@@ -4,23 +4,23 @@ ghost use Rattle.std.specs.Prelude.{◌≡◌, pos, ◌<◌, ◌≤◌, ◌+◌,
 ghost use Rattle.std.specs.List.{list_all};
 ghost use Rattle.fl_interface.specs.Sizes.{round_up};
 ghost use Rattle.fl_layout.specs.declared.extent.Fill.TheVariants.{Full};
-ghost use Rattle.fl_value.specs.Value.{number, datum_of};
+ghost use Rattle.fl_value_data.specs.Value.{number, datum_of};
 ghost use Rattle.fl_layout.specs.Extents.{start_of, end_of, end_of_all, due_after, count_by, count_in, count_at, filled_up, filled_by};
 ghost use Rattle.fl_layout.specs.Extents.{numbers_in, numbers_in_all, most_of, is_within, are_within, is_short, extent_among, start_among};
 ghost use Rattle.fl_layout.specs.Extents.{IsFixedLength};
 
-use crate::extent::{Extent, Fill, Placed};
+use crate::extent::{Extent, Fill, PlacedArg};
 use fl_interface::next_multiple;
-use fl_value::Value;
+use fl_value_data::Value;
 
 // Where an argument ends, and the alignment that is due after it.
 #[derive(Clone, Copy)]
-struct End {
+struct FilledEnd {
     at: usize,
     due: usize,
 }
 
-impl End {
+impl FilledEnd {
     // Where an argument begins that follows.
     fn start(self, extent: Extent) -> usize
         requires within { is_within extent ≡ true }
@@ -36,7 +36,7 @@ impl End {
     }
 
     // Where it ends, with so many bytes or elements.
-    fn after(self, extent: Extent, count: usize) -> End
+    fn after(self, extent: Extent, count: usize) -> FilledEnd
         requires within { is_within extent ≡ true }
         requires count { count ≤ 4096 }
         requires some { 0 < self.due }
@@ -49,15 +49,15 @@ impl End {
         ensures few_due { result.due ≤ 8 }
     {
         match extent {
-            Extent::Fixed { size, align, .. } => End {
+            Extent::Fixed { size, align, .. } => FilledEnd {
                 at: next_multiple(self.at, self.due.max(align as usize)) + size as usize,
                 due: 1,
             },
-            Extent::Text { .. } => End {
+            Extent::Text { .. } => FilledEnd {
                 at: self.at.next_multiple_of(8) + (8 + count),
                 due: 8,
             },
-            Extent::Sized { stride, .. } => End {
+            Extent::Sized { stride, .. } => FilledEnd {
                 at: self.at.next_multiple_of(8) + (8 + count * stride as usize),
                 due: 8,
             },
@@ -83,13 +83,13 @@ impl Fill {
 }
 
 /// Where the last of some arguments ends that are all filled alike.
-pub(crate) fn limit(placed: &[Placed], fill: Fill) -> usize
+pub(crate) fn limit(placed: &[PlacedArg], fill: Fill) -> usize
     requires few { length placed.now ≤ 160 }
     requires within { are_within placed.now ≡ true }
     ensures exact { result ≡ end_of_all 0 1 (map (filled_up fill) placed.now) }
     ensures small { result ≤ 2 ^ 40 }
 {
-    let mut end = End { at: 0, due: 1 };
+    let mut end = FilledEnd { at: 0, due: 1 };
     for each in placed {
         end = end.after(each.extent, fill.count(each.extent));
     }
@@ -108,7 +108,7 @@ fn count(value: &Value) -> usize
 }
 
 // How many bytes or elements an argument has, of a call with these values.
-fn count_among(values: &[Value], placed: Placed) -> usize
+fn count_among(values: &[Value], placed: PlacedArg) -> usize
     ensures exact { result ≡ count_at placed.extent (get_or (map datum_of values.now) placed.argument (number (pos 0))) }
 {
     if !placed.extent.is_varying() {
@@ -121,12 +121,12 @@ fn count_among(values: &[Value], placed: Placed) -> usize
 }
 
 /// Where the last of some arguments ends in each call; none where one is a string or a sized array.
-pub(crate) fn fixed_length(placed: &[Placed]) -> Option<usize>
+pub(crate) fn fixed_length(placed: &[PlacedArg]) -> Option<usize>
     requires few { length placed.now ≤ 160 }
     requires within { are_within placed.now ≡ true }
     ensures exact { (n : ℕ) → result ≡ Some n → IsFixedLength placed.now n }
 {
-    let mut end = End { at: 0, due: 1 };
+    let mut end = FilledEnd { at: 0, due: 1 };
     for argument in placed {
         if argument.extent.is_varying() {
             return None;
@@ -137,13 +137,13 @@ pub(crate) fn fixed_length(placed: &[Placed]) -> Option<usize>
 }
 
 /// Where the last of some arguments ends in a call with these values.
-pub(crate) fn length_with(placed: &[Placed], values: &[Value]) -> usize
+pub(crate) fn length_with(placed: &[PlacedArg], values: &[Value]) -> usize
     requires few { length placed.now ≤ 160 }
     requires within { are_within placed.now ≡ true }
     requires short { list_all (is_short (map datum_of values.now)) placed.now ≡ true }
     ensures exact { result ≡ end_of_all 0 1 (map (filled_by (map datum_of values.now)) placed.now) }
 {
-    let mut end = End { at: 0, due: 1 };
+    let mut end = FilledEnd { at: 0, due: 1 };
     for each in placed {
         end = end.after(each.extent, count_among(values, *each));
     }
@@ -151,7 +151,7 @@ pub(crate) fn length_with(placed: &[Placed], values: &[Value]) -> usize
 }
 
 /// The extent of an argument by its number.
-pub(crate) fn extent_among(placed: &[Placed], argument: usize) -> Option<Extent>
+pub(crate) fn extent_among(placed: &[PlacedArg], argument: usize) -> Option<Extent>
     ensures exact { result ≡ extent_among argument placed.now }
 {
     for each in placed {
@@ -163,12 +163,12 @@ pub(crate) fn extent_among(placed: &[Placed], argument: usize) -> Option<Extent>
 }
 
 /// Where an argument begins, by its number; none where a string or a sized array stands before it.
-pub(crate) fn start_among(placed: &[Placed], argument: usize) -> Option<usize>
+pub(crate) fn start_among(placed: &[PlacedArg], argument: usize) -> Option<usize>
     requires few { length placed.now ≤ 160 }
     requires within { are_within placed.now ≡ true }
     ensures exact { result ≡ start_among argument 0 1 placed.now }
 {
-    let mut end = End { at: 0, due: 1 };
+    let mut end = FilledEnd { at: 0, due: 1 };
     for each in placed {
         if each.argument as usize == argument {
             return Some(end.start(each.extent));
@@ -195,7 +195,7 @@ fn most_numbers(extent: Extent) -> usize
 }
 
 /// How many numbers a tape of some arguments has at most.
-pub(crate) fn tape_limit(placed: &[Placed]) -> usize
+pub(crate) fn tape_limit(placed: &[PlacedArg]) -> usize
     requires few { length placed.now ≤ 160 }
     requires within { are_within placed.now ≡ true }
     ensures exact { result ≡ numbers_in_all (map (filled_up Full) placed.now) }

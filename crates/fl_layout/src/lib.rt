@@ -21,5 +21,5 @@ mod law;
 mod measure;
 mod plans;
 
-pub use law::limit_is_of_plan_one;
+pub use law::law_limit_is_of_plan_one;
 pub use plans::{Plans, fragment_count, plan};

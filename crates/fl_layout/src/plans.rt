@@ -3,8 +3,8 @@
 ghost use Rattle.std.specs.Prelude.{◌≡◌, ◌<◌, ◌≤◌, map, length, true, IfOk, slice_get};
 ghost use Rattle.std.specs.Option.{option_map};
 ghost use Rattle.fl_interface.specs.Interface.{interface_of, message_of};
-ghost use Rattle.fl_value.specs.Value.{call_of};
-ghost use Rattle.fl_value.specs.Fits.{fits_of};
+ghost use Rattle.fl_value_data.specs.Value.{call_of};
+ghost use Rattle.fl_value_data.specs.Fits.{fits_of};
 ghost use Rattle.fl_layout.specs.Places.{count, count_for};
 ghost use Rattle.fl_layout.specs.Leaves.{argument_types};
 ghost use Rattle.fl_layout.specs.Extents.{placed_of};
@@ -15,7 +15,7 @@ use crate::extent::Fill;
 use crate::filling::{extent_among, limit, start_among, tape_limit};
 use fl_base::{FRAG_BYTES, MsgNo};
 use fl_interface::Interface;
-use fl_value::{Call, PlanNo};
+use fl_value_data::{Call, PlanNo};
 use std::alloc::{AllocError, Global};
 
 /// How many fragments a payload of so many bytes takes: one for each 56 bytes or part of them, and one for none.

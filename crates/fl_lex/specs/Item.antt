@@ -3,7 +3,7 @@ use Rattle.std.specs.Prelude.{◌≡◌, ℕ, ◌<◌, ◌≤◌, List, [], ◌�
 use Rattle.fl_lex.specs.Spelling.{class_of, Item, gap, token, Begins}
 use Rattle.fl_lex.specs.Outcome.{KindFits, Stands, no_token, open_comment, open_description, long_word, large_number}
 use Rattle.fl_lex.specs.declared.token.TokenKind.{TokenKind}
-use Rattle.fl_lex.specs.declared.item.Piece.{Piece}
+use Rattle.fl_lex.specs.declared.item.LexItem.{LexItem}
 use Rattle.fl_lex.specs.declared.class.ByteClass.{ByteClass}
 use Rattle.fl_lex.specs.declared.fault.LexFault.{LexFault}
 use Rattle.fl_lex.specs.declared.fault.LexFault.TheVariants as faults
@@ -41,6 +41,6 @@ FlawAt faults.LongText at text = ⊥
 FlawAt faults.Memory at text = ⊥
 
 -- what reading the beginning of a text, which lies at this offset, answers
-abbrev pub Finds : List ℕ → ℕ → Result Piece LexFault → Type 0
+abbrev pub Finds : List ℕ → ℕ → Result LexItem LexFault → Type 0
 Finds text at (Ok piece) = Cuts text (item_of piece.kind) piece.length
 Finds text at (Err fault) = FlawAt fault at text

@@ -17,13 +17,13 @@ const MAX_NUMBER: u32 = 1_000_000;
 
 /// What a text begins with: which token it is, where it isn't a gap, and how many bytes.
 #[derive(Clone, Copy)]
-pub(crate) struct Piece {
+pub(crate) struct LexItem {
     pub(crate) kind: Option<TokenKind>,
     pub(crate) length: usize,
 }
 
 /// What a text that isn't empty begins with; `at` is where it lies.
-pub(crate) fn read_item(rest: &[u8], at: usize) -> Result<Piece, LexFault>
+pub(crate) fn read_item(rest: &[u8], at: usize) -> Result<LexItem, LexFault>
     requires { 0 < length rest.now }
     ensures found { Finds rest.now at result }
 {
@@ -32,11 +32,11 @@ pub(crate) fn read_item(rest: &[u8], at: usize) -> Result<Piece, LexFault>
         ByteClass::Digit => read_number(rest, at),
         ByteClass::Quote => read_description(rest, at),
         ByteClass::Slash => read_comment(rest, at),
-        ByteClass::Blank => Ok(Piece {
+        ByteClass::Blank => Ok(LexItem {
             kind: None,
             length: 1,
         }),
-        ByteClass::Mark(mark) => Ok(Piece {
+        ByteClass::Mark(mark) => Ok(LexItem {
             kind: Some(TokenKind::Mark(mark)),
             length: 1,
         }),
@@ -44,7 +44,7 @@ pub(crate) fn read_item(rest: &[u8], at: usize) -> Result<Piece, LexFault>
     }
 }
 
-fn read_word(rest: &[u8], at: usize) -> Result<Piece, LexFault>
+fn read_word(rest: &[u8], at: usize) -> Result<LexItem, LexFault>
     requires { FirstIs Letter rest.now }
     ensures found { Finds rest.now at result }
 {
@@ -52,19 +52,19 @@ fn read_word(rest: &[u8], at: usize) -> Result<Piece, LexFault>
     if length > MAX_WORD {
         return Err(LexFault::LongWord(at));
     }
-    Ok(Piece {
+    Ok(LexItem {
         kind: Some(TokenKind::Word),
         length,
     })
 }
 
-fn read_number(rest: &[u8], at: usize) -> Result<Piece, LexFault>
+fn read_number(rest: &[u8], at: usize) -> Result<LexItem, LexFault>
     requires { FirstIs Digit rest.now }
     ensures found { Finds rest.now at result }
 {
     let length = count_digits(rest);
     match value_of(&rest[..length]) {
-        Some(value) => Ok(Piece {
+        Some(value) => Ok(LexItem {
             kind: Some(TokenKind::Number(value)),
             length,
         }),
@@ -72,14 +72,14 @@ fn read_number(rest: &[u8], at: usize) -> Result<Piece, LexFault>
     }
 }
 
-fn read_description(rest: &[u8], at: usize) -> Result<Piece, LexFault>
+fn read_description(rest: &[u8], at: usize) -> Result<LexItem, LexFault>
     requires { FirstIs Quote rest.now }
     ensures found { Finds rest.now at result }
 {
     let more = after(rest, 1);
     let inside = described_len(more);
     if inside < more.len() && more[inside] == b'"' {
-        return Ok(Piece {
+        return Ok(LexItem {
             kind: Some(TokenKind::Description),
             length: inside + 2,
         });
@@ -87,17 +87,17 @@ fn read_description(rest: &[u8], at: usize) -> Result<Piece, LexFault>
     Err(LexFault::OpenDescription(at))
 }
 
-fn read_comment(rest: &[u8], at: usize) -> Result<Piece, LexFault>
+fn read_comment(rest: &[u8], at: usize) -> Result<LexItem, LexFault>
     requires { FirstIs Slash rest.now }
     ensures found { Finds rest.now at result }
 {
     match rest.get(1) {
-        Some(b'/') => Ok(Piece {
+        Some(b'/') => Ok(LexItem {
             kind: None,
             length: line_len(after(rest, 2)) + 2,
         }),
         Some(b'*') => match comment_len(after(rest, 2)) {
-            Some(inside) => Ok(Piece {
+            Some(inside) => Ok(LexItem {
                 kind: None,
                 length: inside + 4,
             }),

@@ -23,7 +23,7 @@ mod word;
 
 pub use class::ByteClass;
 pub use fault::LexFault;
-pub use law::{joined_tokens, one_outcome, some_outcome};
+pub use law::{law_joined_tokens, law_one_outcome, law_some_outcome};
 pub use lexer::{MAX_TEXT, lex};
 pub use token::{Mark, Token, TokenKind, Tokens};
 pub use word::{

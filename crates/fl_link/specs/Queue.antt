@@ -11,7 +11,7 @@ pub record TheQueue : Type 0 where
   -- the fragments that stand in it, the first put first
   pub items : List Frag
   -- how many were taken and not told; always 0 where a take frees the slot
-  pub untold : ℕ
+  pub unacknowledged : ℕ
   -- how many were ever put; always 0 where a take frees the slot, since such a queue doesn't count
   pub sent : ℕ
   pub capacity : ℕ
@@ -20,7 +20,7 @@ pub record TheQueue : Type 0 where
 
 -- slots in use
 abbrev pub used : TheQueue → ℕ
-used s = length s.items + s.untold
+used s = length s.items + s.unacknowledged
 
 -- there is room for one more fragment
 abbrev pub HasRoom : TheQueue → Type 0
@@ -46,7 +46,7 @@ next_epoch_of s = if s.acked then epoch_at s.capacity s.sent else 1
 abbrev pub with_put : TheQueue → Frag → TheQueue
 with_put s frag = record {
   items = s.items ++ stamped frag (next_epoch_of s) 0 ∷ [];
-  untold = s.untold;
+  unacknowledged = s.unacknowledged;
   sent = (if s.acked then s.sent + 1 else s.sent);
   capacity = s.capacity;
   acked = s.acked;
@@ -56,7 +56,7 @@ with_put s frag = record {
 abbrev pub with_taken : TheQueue → List Frag → TheQueue
 with_taken s rest = record {
   items = rest;
-  untold = (if s.acked then s.untold + 1 else s.untold);
+  unacknowledged = (if s.acked then s.unacknowledged + 1 else s.unacknowledged);
   sent = s.sent;
   capacity = s.capacity;
   acked = s.acked;
@@ -64,7 +64,7 @@ with_taken s rest = record {
 
 -- the queue with all that was taken told
 abbrev pub with_told : TheQueue → TheQueue
-with_told s = record { items = s.items; untold = 0; sent = s.sent; capacity = s.capacity; acked = s.acked }
+with_told s = record { items = s.items; unacknowledged = 0; sent = s.sent; capacity = s.capacity; acked = s.acked }
 
 -- the label of a look at this fragment
 abbrev pub look_at : Frag → Look

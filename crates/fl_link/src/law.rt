@@ -7,7 +7,7 @@ use crate::sides::{PutSide, TakeSide};
 
 /// Looks at a side, and then more looks at it, are one list of looks; and looks of one kind, puts or takes, are looks of a
 /// side that does both.
-pub fn looks_join<L: PutSide + TakeSide>()
+pub fn law_looks_join<L: PutSide + TakeSide>()
     ensures puts { LooksJoin L.puts }
     ensures takes { LooksJoin L.takes }
     ensures either { LooksJoin (LinkStep L.puts L.takes) }
@@ -16,13 +16,13 @@ pub fn looks_join<L: PutSide + TakeSide>()
 {}
 
 /// What was placed, and what was found, in looks and then more looks.
-pub fn filters_join()
+pub fn law_filters_join()
     ensures puts { PutsJoin }
     ensures takes { TakesJoin }
 {}
 
 /// The fragments of calls in a list and then another, in a prefix, and with what links write set aside.
-pub fn calls_alone()
+pub fn law_calls_alone()
     ensures joins { CallsJoin }
     ensures bare { CallsBare }
     ensures again { CallsAgain }
@@ -30,6 +30,6 @@ pub fn calls_alone()
 {}
 
 /// What stood in a queue and what was put is what was taken and what stands there; its capacity and kind stay.
-pub fn queue_conserves()
+pub fn law_queue_conserves()
     ensures conserves { QueueLaw }
 {}

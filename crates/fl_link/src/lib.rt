@@ -25,7 +25,7 @@ mod sides;
 
 pub use cursor::{Cursor, SPENT};
 pub use fault::{LinkFault, PutFault};
-pub use law::{calls_alone, filters_join, looks_join, queue_conserves};
+pub use law::{law_calls_alone, law_filters_join, law_looks_join, law_queue_conserves};
 pub use passing::{Passed, pass};
 pub use queue::QueueLink;
 pub use sides::{Link, PutSide, Sight, TakeSide, Told};

@@ -25,7 +25,7 @@ pub struct QueueLink {
     items: VecDeque<Frag>,
     capacity: usize,
     acked: bool,
-    untold: usize,
+    unacknowledged: usize,
     next: Cursor,
 }
 
@@ -36,11 +36,11 @@ impl Model for QueueLink {
 
     ghost Value = { TheQueue };
 
-    ghost view = { λ q. record { items = q.items.items; untold = q.untold; sent = q.next.index; capacity = q.capacity; acked = q.acked } };
+    ghost view = { λ q. record { items = q.items.items; unacknowledged = q.unacknowledged; sent = q.next.index; capacity = q.capacity; acked = q.acked } };
 
     ghost invariant = { λ q. (q.capacity ≤ deque_capacity q.items) × (q.next.size ≡ q.capacity)
-        × (0 < q.capacity) × (q.capacity ≤ 1024) × (length q.items.items + q.untold ≤ q.capacity)
-        × (q.next.index ≤ 2 ^ 62) × (q.acked ≡ false → (q.next.index ≡ 0) × (q.untold ≡ 0)) };
+        × (0 < q.capacity) × (q.capacity ≤ 1024) × (length q.items.items + q.unacknowledged ≤ q.capacity)
+        × (q.next.index ≤ 2 ^ 62) × (q.acked ≡ false → (q.next.index ≡ 0) × (q.unacknowledged ≡ 0)) };
 }
 
 impl QueueLink {
@@ -49,7 +49,7 @@ impl QueueLink {
     /// # Errors
     /// `size` isn't such a number (E32); else out of memory (E99).
     pub fn local(alloc: Global, size: usize) -> Result<QueueLink, LinkFault>
-        ensures made { IfOk result (λ q. q ≡ record { items = []; untold = 0; sent = 0; capacity = size; acked = false }) }
+        ensures made { IfOk result (λ q. q ≡ record { items = []; unacknowledged = 0; sent = 0; capacity = size; acked = false }) }
         ensures sized { OnOk result (MayHave false size) }
         ensures bad_size { (result ≡ Err LinkFault.BadSize) ↔ (¬ MayHave false size) }
     {
@@ -64,8 +64,8 @@ impl QueueLink {
     ///
     /// # Errors
     /// `size` isn't such a number (E32); else out of memory (E99).
-    pub fn with_acks(alloc: Global, size: usize) -> Result<QueueLink, LinkFault>
-        ensures made { IfOk result (λ q. q ≡ record { items = []; untold = 0; sent = 0; capacity = size; acked = true }) }
+    pub fn acked(alloc: Global, size: usize) -> Result<QueueLink, LinkFault>
+        ensures made { IfOk result (λ q. q ≡ record { items = []; unacknowledged = 0; sent = 0; capacity = size; acked = true }) }
         ensures sized { OnOk result (MayHave true size) }
         ensures bad_size { (result ≡ Err LinkFault.BadSize) ↔ (¬ MayHave true size) }
     {
@@ -78,7 +78,7 @@ impl QueueLink {
     fn make(alloc: Global, size: usize, acked: bool) -> Result<QueueLink, LinkFault>
         requires some { 0 < size }
         requires few { size ≤ 1024 }
-        ensures made { IfOk result (λ q. q ≡ record { items = []; untold = 0; sent = 0; capacity = size; acked = acked }) }
+        ensures made { IfOk result (λ q. q ≡ record { items = []; unacknowledged = 0; sent = 0; capacity = size; acked = acked }) }
         ensures refused { result ≢ Err LinkFault.BadSize }
     {
         let Ok(items) = VecDeque::with_capacity(alloc, size) else {
@@ -88,7 +88,7 @@ impl QueueLink {
             items,
             capacity: size,
             acked,
-            untold: 0,
+            unacknowledged: 0,
             next: Cursor::new(size),
         })
     }
@@ -98,7 +98,7 @@ impl QueueLink {
     pub fn room(&self) -> bool
         ensures room { result ≡ has_room self.now }
     {
-        self.next.index() < SPENT && self.items.len() + self.untold < self.capacity
+        self.next.index() < SPENT && self.items.len() + self.unacknowledged < self.capacity
     }
 
     /// Puts the fragment last, with the epoch due and telling nothing.
@@ -115,7 +115,7 @@ impl QueueLink {
         if self.next.index() == SPENT {
             return Err(PutFault::Spent);
         }
-        if self.items.len() + self.untold == self.capacity {
+        if self.items.len() + self.unacknowledged == self.capacity {
             return Err(PutFault::Full);
         }
         let stamped = frag.stamp(self.next.epoch(), 0);
@@ -164,7 +164,7 @@ impl QueueLink {
         let sight = sight_of(first);
         let _ = self.items.pop_front();
         if self.acked {
-            self.untold += 1;
+            self.unacknowledged += 1;
         }
         sight
     }
@@ -178,7 +178,7 @@ impl QueueLink {
         if !self.acked {
             return Told::Nothing;
         }
-        self.untold = 0;
+        self.unacknowledged = 0;
         Told::Written
     }
 }

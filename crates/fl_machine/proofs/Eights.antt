@@ -4,33 +4,33 @@ use Rattle.std.proofs.lemmas.List.{drop_more, length-set, length-map, length-app
 use Rattle.fl_stub.specs.declared.op.Op.{Op}
 use Rattle.fl_stub.specs.Meaning.{number_bytes}
 use Rattle.fl_stub.specs.Given.{first_of_tape, rest_of_tape}
-use Rattle.fl_stub.specs.Spots.{IsSpot, bytes_from}
+use Rattle.fl_stub.specs.Locations.{IsLocation, bytes_from}
 use Rattle.fl_machine.specs.declared.cursor.Loop.{Loop}
-use Rattle.fl_machine.specs.declared.cursor.Cursor.{Cursor}
-use Rattle.fl_machine.specs.Cursors.{no_loop, spot_of, inner_of, turns_of, low_byte, IsRun}
+use Rattle.fl_machine.specs.declared.cursor.SendCursor.{SendCursor}
+use Rattle.fl_machine.specs.Cursors.{no_loop, location_of, inner_of, turns_of, low_byte, IsRun}
 use Rattle.fl_machine.specs.Filling.{Holds}
 use Rattle.fl_machine.proofs.Turns.{after_turn, turned_at, depth_small}
 use Rattle.fl_machine.proofs.Pours.{holds_more}
 
 -- a turn, and so many
-abbrev pub byte_turn : List ℕ → Cursor → Cursor
+abbrev pub byte_turn : List ℕ → SendCursor → SendCursor
 byte_turn tape c = after_turn (record c { next = c.next + 1 }) (low_byte (get_or tape c.next 0))
 
-abbrev pub byte_turns : ℕ → List ℕ → Cursor → Cursor
+abbrev pub byte_turns : ℕ → List ℕ → SendCursor → SendCursor
 byte_turns zero tape c = c
 byte_turns (suc n) tape c = byte_turns n tape (byte_turn tape c)
 
 -- the turns from one cursor to another, and the bytes of the first and of n numbers more
-pub record TurnedOn (ops : List Op) (tape : List ℕ) (old new : Cursor) (n : ℕ) : Type 0 where
+pub record TurnedOn (ops : List Op) (tape : List ℕ) (old new : SendCursor) (n : ℕ) : Type 0 where
   pub width : new.width ≡ 1
   pub run : IsRun ops new
   pub turns : turns_of old ≡ turns_of new + suc n
-  pub spot : IsSpot ops (spot_of tape new)
-  pub bytes : bytes_from ops (spot_of tape old) ≡ map low_byte (old.value ∷ take n (drop old.next tape)) ++ bytes_from ops (spot_of tape new)
+  pub location : IsLocation ops (location_of tape new)
+  pub bytes : bytes_from ops (location_of tape old) ≡ map low_byte (old.value ∷ take n (drop old.next tape)) ++ bytes_from ops (location_of tape new)
 
-turned_one : (ops : List Op) (tape : List ℕ) (c : Cursor) → IsSpot ops (spot_of tape c) → IsRun ops c → c.width ≡ 1 → 0 < turns_of c → c.next < length tape → length c.loops ≡ 8
+turned_one : (ops : List Op) (tape : List ℕ) (c : SendCursor) → IsLocation ops (location_of tape c) → IsRun ops c → c.width ≡ 1 → 0 < turns_of c → c.next < length tape → length c.loops ≡ 8
     → TurnedOn ops tape c (byte_turn tape c) 0
-turned_one ops tape c spot run one more there long =
+turned_one ops tape c location run one more there long =
     let x = get_or tape c.next 0 in
     let cut : drop c.next tape ≡ x ∷ drop (c.next + 1) tape = drop_more tape c.next 0 there in
     let left : drop (c.next + 1) tape ≡ rest_of_tape (drop c.next tape) = sym (ap rest_of_tape cut) in
@@ -38,43 +38,43 @@ turned_one ops tape c spot run one more there long =
     let twice : x % 256 % 256 ≡ x % 256 = omega arith in
     let same : number_bytes 1 (low_byte x) ≡ number_bytes 1 (first_of_tape (drop c.next tape)) = ap (λ (b : ℕ). b ∷ []) twice ∙ ap (number_bytes 1) (sym first) in
     let small : low_byte x < 256 ^ 1 = omega arith in
-    let t = turned_at ops tape c (c.next + 1) (low_byte x) spot run more long left
+    let t = turned_at ops tape c (c.next + 1) (low_byte x) location run more long left
     (subst (λ (w : ℕ). number_bytes w (low_byte x) ≡ number_bytes w (first_of_tape (drop c.next tape))) (sym one) same)
     (subst (λ (w : ℕ). low_byte x < 256 ^ w) (sym one) small) in
     record {
       width = t.width ∙ one;
       run = t.run;
       turns = t.turns;
-      spot = t.goes.spot;
-      bytes = t.goes.bytes ∙ ap (λ (w : ℕ). number_bytes w c.value ++ bytes_from ops (spot_of tape (byte_turn tape c))) one;
+      location = t.goes.location;
+      bytes = t.goes.bytes ∙ ap (λ (w : ℕ). number_bytes w c.value ++ bytes_from ops (location_of tape (byte_turn tape c))) one;
     }
 
-pub turned_on : (n : ℕ) (ops : List Op) (tape : List ℕ) (c : Cursor) → IsSpot ops (spot_of tape c) → IsRun ops c → c.width ≡ 1 → n < turns_of c → c.next + n < length tape → length c.loops ≡ 8
+pub turned_on : (n : ℕ) (ops : List Op) (tape : List ℕ) (c : SendCursor) → IsLocation ops (location_of tape c) → IsRun ops c → c.width ≡ 1 → n < turns_of c → c.next + n < length tape → length c.loops ≡ 8
     → TurnedOn ops tape c (byte_turns (suc n) tape c) n
-turned_on zero ops tape c spot run one more there long = turned_one ops tape c spot run one more (omega (arith, there)) long
-turned_on (suc n) ops tape c spot run one more there long =
+turned_on zero ops tape c location run one more there long = turned_one ops tape c location run one more (omega (arith, there)) long
+turned_on (suc n) ops tape c location run one more there long =
     let x = get_or tape c.next 0 in
     let d = byte_turn tape c in
-    let t = turned_one ops tape c spot run one (omega (arith, more)) (omega (arith, there)) long in
+    let t = turned_one ops tape c location run one (omega (arith, more)) (omega (arith, there)) long in
     let turns = t.turns in
     let inner : Loop = record { start = (inner_of c).start; turns = turns_of c - 1 } in
     let longer : length d.loops ≡ 8 = length-set c.loops (c.depth - 1) inner ∙ long in
-    let u = turned_on n ops tape d t.spot t.run t.width (omega (arith, more, turns)) (omega (arith, there)) longer in
+    let u = turned_on n ops tape d t.location t.run t.width (omega (arith, more, turns)) (omega (arith, there)) longer in
     let after = u.turns in
     let twice : x % 256 % 256 ≡ x % 256 = omega arith in
     let cut : drop c.next tape ≡ x ∷ drop (c.next + 1) tape = drop_more tape c.next 0 (omega (arith, there)) in
-    let rest = bytes_from ops (spot_of tape (byte_turns (suc n) tape d)) in
+    let rest = bytes_from ops (location_of tape (byte_turns (suc n) tape d)) in
     record {
       width = u.width;
       run = u.run;
       turns = omega (arith, turns, after);
-      spot = u.spot;
+      location = u.location;
       bytes = t.bytes ∙ ap (λ (bs : List ℕ). low_byte c.value ∷ bs) (u.bytes ∙ ap (λ (b : ℕ). b ∷ (map low_byte (take n (drop (c.next + 1) tape)) ++ rest)) twice)
           ∙ ap (λ (left : List ℕ). low_byte c.value ∷ (map low_byte (take (suc n) left) ++ rest)) (sym cut);
     }
 
 -- the cursor behind so many turns
-abbrev pub far_on : ℕ → List ℕ → Cursor → Cursor
+abbrev pub far_on : ℕ → List ℕ → SendCursor → SendCursor
 far_on n tape c = record c {
   loops = slice_set c.loops (c.depth - 1) (record { start = (inner_of c).start; turns = turns_of c - suc n });
   next = c.next + suc n;
@@ -88,7 +88,7 @@ set_again [] at a b = refl
 set_again (x ∷ xs) zero a b = refl
 set_again (x ∷ xs) (suc at) a b = ap (λ (ys : List Loop). x ∷ ys) (set_again xs at a b)
 
-pub far : (n : ℕ) (tape : List ℕ) (c : Cursor) → c.width ≡ 1 → 0 < c.depth → c.depth ≤ 8 → length c.loops ≡ 8 → n < turns_of c → byte_turns (suc n) tape c ≡ far_on n tape c
+pub far : (n : ℕ) (tape : List ℕ) (c : SendCursor) → c.width ≡ 1 → 0 < c.depth → c.depth ≤ 8 → length c.loops ≡ 8 → n < turns_of c → byte_turns (suc n) tape c ≡ far_on n tape c
 far zero tape c one deep few long more =
     let phase : (c.phase % 8 + c.width) % 8 ≡ (c.phase % 8 + 1) % 8 = ap (λ (w : ℕ). (c.phase % 8 + w) % 8) one in
     let at : c.next ≡ c.next + 0 = omega arith in
@@ -116,7 +116,7 @@ far (suc n) tape c one deep few long more =
     on ∙ (λ i. record c { loops = loops i; next = next i; phase = phase i; value = low_byte (get_or tape (at i) 0) })
 
 -- the cursor behind so many turns, the last of whose numbers is the tape's number so far on
-abbrev pub passed_on : ℕ → ℕ → List ℕ → Cursor → Cursor
+abbrev pub passed_on : ℕ → ℕ → List ℕ → SendCursor → SendCursor
 passed_on many n tape c = record c {
   loops = slice_set c.loops (c.depth - 1) (record { start = (inner_of c).start; turns = turns_of c - many });
   next = c.next + many;
@@ -124,13 +124,13 @@ passed_on many n tape c = record c {
   value = low_byte (get_or tape (c.next + n) 0);
 }
 
-pub bytes_on : (n many : ℕ) (ops : List Op) (tape : List ℕ) (c : Cursor) → many ≡ suc n → IsSpot ops (spot_of tape c) → IsRun ops c → c.width ≡ 1 → many ≤ turns_of c → c.next + many ≤ length tape → length c.loops ≡ 8
+pub bytes_on : (n many : ℕ) (ops : List Op) (tape : List ℕ) (c : SendCursor) → many ≡ suc n → IsLocation ops (location_of tape c) → IsRun ops c → c.width ≡ 1 → many ≤ turns_of c → c.next + many ≤ length tape → length c.loops ≡ 8
     → TurnedOn ops tape c (passed_on many n tape c) n
-bytes_on n many ops tape c is spot run one more there long =
-    let few = depth_small ops tape c spot in
-    let t = turned_on n ops tape c spot run one (omega (arith, more, is)) (omega (arith, there, is)) long in
+bytes_on n many ops tape c is location run one more there long =
+    let few = depth_small ops tape c location in
+    let t = turned_on n ops tape c location run one (omega (arith, more, is)) (omega (arith, there, is)) long in
     subst (λ (m : ℕ). TurnedOn ops tape c (passed_on m n tape c) n) (sym is)
-    (subst (λ (d : Cursor). TurnedOn ops tape c d n) (far n tape c one run.deep few long (omega (arith, more, is))) t)
+    (subst (λ (d : SendCursor). TurnedOn ops tape c d n) (far n tape c one run.deep few long (omega (arith, more, is))) t)
 
 -- their bytes in a fragment, one after another
 pub bytes_put : (buffer put numbers : List ℕ) (at first from index byte : ℕ) → length buffer ≡ 56 → length put ≡ at → at + 1 + index < 56 → from + index < length numbers → byte ≡ low_byte (get_or numbers (from + index) 0)

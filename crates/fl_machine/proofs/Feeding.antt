@@ -9,12 +9,12 @@ use Rattle.fl_base.specs.declared.fragment.Frag.{Frag}
 use Rattle.fl_base.specs.Control.{control_word, message_of, body, bare}
 use Rattle.fl_interface.specs.Interface.{TheMessage, TheInterface}
 use Rattle.fl_interface.specs.Limits.{is_within_limits}
-use Rattle.fl_value.specs.declared.value.PlanNo.{PlanNo}
-use Rattle.fl_value.specs.Value.{Datum, TheCall}
-use Rattle.fl_value.specs.Taken.{HasTape}
+use Rattle.fl_value_data.specs.declared.value.PlanNo.{PlanNo}
+use Rattle.fl_value_data.specs.Value.{Datum, TheCall}
+use Rattle.fl_value_data.specs.Taken.{HasTape}
 use Rattle.std.proofs.lemmas.List.{append-nil}
-use Rattle.fl_value.specs.Fits.{fits_of, fit_message}
-use Rattle.fl_value.specs.Tape.{tape_of}
+use Rattle.fl_value_data.specs.Fits.{fits_of, fit_message}
+use Rattle.fl_value_data.specs.Tape.{tape_of}
 use Rattle.fl_layout.specs.Leaves.{leaves}
 use Rattle.fl_layout.specs.Places.{size, count_for, count}
 use Rattle.fl_layout.proofs.BothPlans.{length_small}
@@ -31,7 +31,7 @@ use Rattle.fl_wire.proofs.Frames.{start_known}
 use Rattle.fl_wire.proofs.Unread.{IsUnderWay, fault_is_wrong, reads_right, one_fits}
 use Rattle.fl_stub.specs.declared.op.Op.{Op}
 use Rattle.fl_stub.specs.declared.op.Column.TheVariants.{Receive}
-use Rattle.fl_stub.specs.declared.mark.Mark.{Mark}
+use Rattle.fl_stub.specs.declared.mark.ByteKind.{ByteKind}
 use Rattle.fl_stub.specs.Code.{TheCode}
 use Rattle.fl_stub.specs.Structure.{Block, IsCode}
 use Rattle.fl_stub.specs.Frames.{block_of}
@@ -47,8 +47,8 @@ use Rattle.fl_compile.specs.Laws.{HasMessage, Carries, TellsFaults, fault_of}
 use Rattle.fl_compile.proofs.Lawful.{takes_calls, compiles_to_code}
 use Rattle.fl_machine.specs.declared.intake.Fed.{Fed}
 use Rattle.fl_machine.specs.declared.intake.Fed.TheVariants.{Part, Whole}
-use Rattle.fl_machine.specs.declared.recv.Begun.{Begun}
-use Rattle.fl_machine.specs.declared.recv.Ended.{Ended}
+use Rattle.fl_machine.specs.declared.recv.PartialCall.{PartialCall}
+use Rattle.fl_machine.specs.declared.recv.TapedCall.{TapedCall}
 use Rattle.fl_machine.specs.Sending.{frag_of, frags_holding}
 use Rattle.fl_machine.specs.Taking.{Stands, words_bytes, so_far, HasRoom}
 use Rattle.fl_machine.specs.Receiving.{block_for, block_at, frags_begun, parts_of, whole_of, TheHeld, TheReceiving, plan_in, interface_in, Feeds, AddsPart, AddsLast, IsRefused, HoldsTapes, HasPlaces, IsBegun, IsEnded}
@@ -135,7 +135,7 @@ ends plan i msg m parts f bytes more tape k has grown long begins is =
     }
 
 -- the first wrong byte
-pub wrong_byte : (plan : PlanNo) (i : TheInterface) (msg : ℕ) (m : TheMessage) (parts : List Frag) (f : Frag) (bytes more : List ℕ) (k : ℕ) (mark : Mark) → TellsFaults → HasMessage i msg m
+pub wrong_byte : (plan : PlanNo) (i : TheInterface) (msg : ℕ) (m : TheMessage) (parts : List Frag) (f : Frag) (bytes more : List ℕ) (k : ℕ) (mark : ByteKind) → TellsFaults → HasMessage i msg m
     → Grown msg parts f bytes more k → LeavesPayloads (receive plan m) more mark → WrongByte plan i msg (parts ++ f ∷ []) (fault_of mark)
 wrong_byte plan i msg m parts f bytes more k mark tells has grown l =
     let (c, carries) = call_of_turns plan i msg m l.tape l.full has l.goes.turns in
@@ -178,7 +178,7 @@ pub room_for : (i : TheInterface) → is_within_limits i ≡ true → length i.m
 room_for i within = omega (arith, leb-true (length i.messages) 256 (and_parts _ _ within).0)
 
 -- the fragments shown are those of the bytes fed
-pub shown : (plan : PlanNo) (i : TheInterface) (tape : List ℕ) (b : Begun) (x : IsBegun plan i tape b) → HasMessage i b.msg.0 x.message
+pub shown : (plan : PlanNo) (i : TheInterface) (tape : List ℕ) (b : PartialCall) (x : IsBegun plan i tape b) → HasMessage i b.msg.0 x.message
     → parts_of plan i tape b ≡ frags_begun b.msg.0 x.bytes b.fed
 shown plan i tape b x has =
     let numbers = so_far (take b.intake.count tape) b.intake in
@@ -188,7 +188,7 @@ shown plan i tape b x has =
     ∙ sym (same_begun (length x.bytes) b.msg.0 x.bytes (bytes_given (block_of (message_code Receive plan x.message)) numbers) b.fed x.stands.shows (omega (arith, x.long)))
 
 -- and those of a whole call are the call's
-pub whole_shown : (plan : PlanNo) (i : TheInterface) (tape : List ℕ) (e : Ended) (m : TheMessage) (x : IsEnded plan i tape e) → HasMessage i e.msg.0 m
+pub whole_shown : (plan : PlanNo) (i : TheInterface) (tape : List ℕ) (e : TapedCall) (m : TheMessage) (x : IsEnded plan i tape e) → HasMessage i e.msg.0 m
     → whole_of plan i tape e ≡ frags_of plan i x.call
 whole_shown plan i tape e m x has =
     let c = x.call in
@@ -202,7 +202,7 @@ whole_shown plan i tape e m x has =
 -- ---- taking a fragment
 
 -- what is known where a fragment's words are taken
-pub record Taking (plan : PlanNo) (i : TheInterface) (tape : List ℕ) (b : Begun) (f : Frag) (ops : List Op) : Type 0 where
+pub record Taking (plan : PlanNo) (i : TheInterface) (tape : List ℕ) (b : PartialCall) (f : Frag) (ops : List Op) : Type 0 where
   pub message : TheMessage
   pub has : HasMessage i b.msg.0 message
   pub ops_are : ops ≡ message_code Receive plan message
@@ -219,7 +219,7 @@ code_is code plan m o known h =
     let same : code ≡ compiled_code Receive plan m = cc in
     ap (λ (c : TheCode). c.ops) same
 
-pub taking : (plan : PlanNo) (i : TheInterface) (tape : List ℕ) (b : Begun) (f : Frag) (code : TheCode) (ops : List Op) → is_within_limits i ≡ true → interface_words_fit i ≡ true → Line f
+pub taking : (plan : PlanNo) (i : TheInterface) (tape : List ℕ) (b : PartialCall) (f : Frag) (code : TheCode) (ops : List Op) → is_within_limits i ≡ true → interface_words_fit i ≡ true → Line f
     → (x : IsBegun plan i tape b) → body f.control ≡ control_word (eqb b.fed 0) b.msg.0 0
     → Some code ≡ option_map (compiled_code Receive plan) (slice_get i.messages b.msg.0) → ops ≡ code.ops → Taking plan i tape b f ops
 taking plan i tape b f code ops within words line x control exact lent =
@@ -239,20 +239,20 @@ taking plan i tape b f code ops within words line x control exact lent =
       grown = subst (λ (fs : List Frag). Grown b.msg.0 fs f x.bytes (x.bytes ++ words_bytes f.words) b.fed) (sym parts) (grows b.msg.0 f x.bytes b.fed fits line x.long x.small control);
     }
 
-pub has_room : (plan : PlanNo) (i : TheInterface) (tape : List ℕ) (b : Begun) (f : Frag) (ops : List Op) (capacity : ℕ) → Taking plan i tape b f ops → HoldsTapes plan i capacity
+pub has_room : (plan : PlanNo) (i : TheInterface) (tape : List ℕ) (b : PartialCall) (f : Frag) (ops : List Op) (capacity : ℕ) → Taking plan i tape b f ops → HoldsTapes plan i capacity
     → (t full : List ℕ) → Turns (block_of ops) t full → length t ≤ capacity
 has_room plan i tape b f ops capacity x room t full turns =
     let blocks = one_block plan i b.msg.0 x.message ops x.has x.ops_are in
     let (c, carries) = call_of_turns plan i b.msg.0 x.message t full x.has (subst (λ (k : Block). Turns k t full) blocks turns) in
     omega (arith, room c carries.fits, ap length carries.tape_is)
 
-pub has_places : (p : TheProgram) (tape : List ℕ) (b : Begun) (f : Frag) (ops : List Op) (places : ℕ) → Taking p.plan p.interface tape b f ops → HasPlaces p b.intake.count places
+pub has_places : (p : TheProgram) (tape : List ℕ) (b : PartialCall) (f : Frag) (ops : List Op) (places : ℕ) → Taking p.plan p.interface tape b f ops → HasPlaces p b.intake.count places
     → HasRoom ops b.intake.count 56 places
 has_places p tape b f ops places x (inl fits) = inl (has_room p.plan p.interface tape b f ops places x fits)
 has_places p tape b f ops places x (inr room) = inr room
 
 -- a call has few fragments
-pub few_fed : (plan : PlanNo) (i : TheInterface) (tape : List ℕ) (b : Begun) (f : Frag) (ops : List Op) → Taking plan i tape b f ops → b.fed + 1 < 2 ^ 64
+pub few_fed : (plan : PlanNo) (i : TheInterface) (tape : List ℕ) (b : PartialCall) (f : Frag) (ops : List Op) → Taking plan i tape b f ops → b.fed + 1 < 2 ^ 64
 few_fed plan i tape b f ops x = ⊎_elim
     (λ (some : 0 < b.fed).
     let begins = x.begins some in
@@ -264,7 +264,7 @@ few_fed plan i tape b f ops x = ⊎_elim
     (cases_lt 0 b.fed)
 
 -- the call goes on
-pub goes_on : (plan : PlanNo) (i : TheInterface) (tape : List ℕ) (b : Begun) (f : Frag) (ops : List Op) (tape2 : List ℕ) (b2 : Begun) (x : Taking plan i tape b f ops) → b2.msg.0 ≡ b.msg.0 → b2.fed ≡ b.fed + 1
+pub goes_on : (plan : PlanNo) (i : TheInterface) (tape : List ℕ) (b : PartialCall) (f : Frag) (ops : List Op) (tape2 : List ℕ) (b2 : PartialCall) (x : Taking plan i tape b f ops) → b2.msg.0 ≡ b.msg.0 → b2.fed ≡ b.fed + 1
     → b2.intake.count ≤ length tape2 → Stands ops (take b2.intake.count tape2) b2.intake (x.bytes ++ words_bytes f.words) → BeginsPayload (block_of ops) (x.bytes ++ words_bytes f.words)
     → IsBegun plan i tape2 b2
 goes_on plan i tape b f ops tape2 b2 x own fed within stands begins =
@@ -281,7 +281,7 @@ goes_on plan i tape b f ops tape2 b2 x own fed within stands begins =
       begins = λ some. subst (λ (k : Block). BeginsPayload k more) blocks begins;
     }
 
-pub adds_part : (plan : PlanNo) (i : TheInterface) (tape : List ℕ) (b : Begun) (f : Frag) (ops : List Op) (tape2 : List ℕ) (b2 : Begun) (x : Taking plan i tape b f ops) → b2.msg.0 ≡ b.msg.0 → b2.fed ≡ b.fed + 1
+pub adds_part : (plan : PlanNo) (i : TheInterface) (tape : List ℕ) (b : PartialCall) (f : Frag) (ops : List Op) (tape2 : List ℕ) (b2 : PartialCall) (x : Taking plan i tape b f ops) → b2.msg.0 ≡ b.msg.0 → b2.fed ≡ b.fed + 1
     → b2.intake.count ≤ length tape2 → Stands ops (take b2.intake.count tape2) b2.intake (x.bytes ++ words_bytes f.words) → BeginsPayload (block_of ops) (x.bytes ++ words_bytes f.words)
     → AddsPart plan i (parts_of plan i tape b) f (let t : TheHeld = record { parts = parts_of plan i tape2 b2; whole = [] } in t)
 unfolding goes_on
@@ -298,7 +298,7 @@ adds_part plan i tape b f ops tape2 b2 x own fed within stands begins =
     }
 
 -- the call is whole
-pub is_whole : (plan : PlanNo) (i : TheInterface) (tape : List ℕ) (b : Begun) (f : Frag) (ops : List Op) (tape2 : List ℕ) (e : Ended) (x : Taking plan i tape b f ops) → e.msg.0 ≡ b.msg.0
+pub is_whole : (plan : PlanNo) (i : TheInterface) (tape : List ℕ) (b : PartialCall) (f : Frag) (ops : List Op) (tape2 : List ℕ) (e : TapedCall) (x : Taking plan i tape b f ops) → e.msg.0 ≡ b.msg.0
     → IsPayload (block_of ops) (x.bytes ++ words_bytes f.words) (take e.count tape2) → Ends plan i e.msg.0 (parts_of plan i tape b ++ f ∷ []) (take e.count tape2)
 is_whole plan i tape b f ops tape2 e x own is =
     let blocks = one_block plan i b.msg.0 x.message ops x.has x.ops_are in
@@ -307,10 +307,10 @@ is_whole plan i tape b f ops tape2 e x own is =
     (ends plan i b.msg.0 x.message (parts_of plan i tape b) f x.bytes more (take e.count tape2) b.fed x.has x.grown x.long x.begins
     (subst (λ (k : Block). IsPayload k more (take e.count tape2)) blocks is))
 
-pub ended : (plan : PlanNo) (i : TheInterface) (all : List Frag) (tape2 : List ℕ) (e : Ended) → e.count ≤ length tape2 → Ends plan i e.msg.0 all (take e.count tape2) → IsEnded plan i tape2 e
+pub ended : (plan : PlanNo) (i : TheInterface) (all : List Frag) (tape2 : List ℕ) (e : TapedCall) → e.count ≤ length tape2 → Ends plan i e.msg.0 all (take e.count tape2) → IsEnded plan i tape2 e
 ended plan i all tape2 e within x = record { call = x.call; message = x.message; fits = x.fits; within = within; tape_is = x.tape_is }
 
-pub adds_last : (plan : PlanNo) (i : TheInterface) (tape : List ℕ) (b : Begun) (f : Frag) (ops : List Op) (tape2 : List ℕ) (e : Ended) (x : Taking plan i tape b f ops) → e.msg.0 ≡ b.msg.0 → e.count ≤ length tape2
+pub adds_last : (plan : PlanNo) (i : TheInterface) (tape : List ℕ) (b : PartialCall) (f : Frag) (ops : List Op) (tape2 : List ℕ) (e : TapedCall) (x : Taking plan i tape b f ops) → e.msg.0 ≡ b.msg.0 → e.count ≤ length tape2
     → IsPayload (block_of ops) (x.bytes ++ words_bytes f.words) (take e.count tape2)
     → AddsLast plan i (parts_of plan i tape b) f (let t : TheHeld = record { parts = []; whole = whole_of plan i tape2 e } in t)
 unfolding ended is_whole
@@ -326,7 +326,7 @@ adds_last plan i tape b f ops tape2 e x own within is =
     }
 
 -- the fragment has a wrong byte
-pub has_fault : (plan : PlanNo) (i : TheInterface) (tape : List ℕ) (b : Begun) (f : Frag) (ops : List Op) (mark : Mark) (fault : WireFault) → TellsFaults → (x : Taking plan i tape b f ops)
+pub has_fault : (plan : PlanNo) (i : TheInterface) (tape : List ℕ) (b : PartialCall) (f : Frag) (ops : List Op) (mark : ByteKind) (fault : WireFault) → TellsFaults → (x : Taking plan i tape b f ops)
     → header_fault i (parts_of plan i tape b) f ≡ None → message_of f.control ≡ b.msg.0 → fault ≡ fault_of mark
     → LeavesPayloads (block_of ops) (x.bytes ++ words_bytes f.words) mark → HasFault plan i (parts_of plan i tape b) f fault
 has_fault plan i tape b f ops mark fault tells x header own is l =
@@ -339,7 +339,7 @@ has_fault plan i tape b f ops mark fault tells x header own is l =
 -- ---- control words
 
 -- a call that is to begin
-pub none_begun : (plan : PlanNo) (i : TheInterface) (tape : List ℕ) (b : Begun) (f : Frag) → is_within_limits i ≡ true → interface_words_fit i ≡ true → start_fault i f ≡ None → b.msg.0 ≡ message_of f.control → b.fed ≡ 0
+pub none_begun : (plan : PlanNo) (i : TheInterface) (tape : List ℕ) (b : PartialCall) (f : Frag) → is_within_limits i ≡ true → interface_words_fit i ≡ true → start_fault i f ≡ None → b.msg.0 ≡ message_of f.control → b.fed ≡ 0
     → b.intake.count ≡ 0 → ((ops : List Op) → IsCode Receive ops (block_of ops) → Stands ops [] b.intake []) → IsBegun plan i tape b
 none_begun plan i tape b f within words none own fed nothing_taken stands =
     let nothing : TheMessage = record { name = []; args = [] } in
@@ -365,7 +365,7 @@ pub refused : (plan : PlanNo) (i : TheInterface) (parts : List Frag) (f : Frag) 
 refused plan i parts f fault within words part first = record { first = first; wrong = fault_is_wrong plan i parts f fault words (room_for i within) part first }
 
 -- the parts of a call under way are part of a call, and the next one's control word follows theirs
-pub under_way : (plan : PlanNo) (i : TheInterface) (tape : List ℕ) (b : Begun) → is_within_limits i ≡ true → interface_words_fit i ≡ true → 0 < b.fed → (x : IsBegun plan i tape b)
+pub under_way : (plan : PlanNo) (i : TheInterface) (tape : List ℕ) (b : PartialCall) → is_within_limits i ≡ true → interface_words_fit i ≡ true → 0 < b.fed → (x : IsBegun plan i tape b)
     → IsUnderWay plan i (parts_of plan i tape b)
 under_way plan i tape b within words some x =
     let has = has_message i b.msg.0 x.message within words x.known in
@@ -380,7 +380,7 @@ first_names i msg bytes (suc n) f some small =
     let is : message_of (control_word true msg 0) ≡ msg = omega (arith, small) in
     ap (λ (k : ℕ). follow_fault k f) is
 
-pub header_is : (plan : PlanNo) (i : TheInterface) (tape : List ℕ) (b : Begun) (f : Frag) → is_within_limits i ≡ true → interface_words_fit i ≡ true → 0 < b.fed → (x : IsBegun plan i tape b)
+pub header_is : (plan : PlanNo) (i : TheInterface) (tape : List ℕ) (b : PartialCall) (f : Frag) → is_within_limits i ≡ true → interface_words_fit i ≡ true → 0 < b.fed → (x : IsBegun plan i tape b)
     → header_fault i (parts_of plan i tape b) f ≡ follow_fault b.msg.0 f
 header_is plan i tape b f within words some x =
     let has = has_message i b.msg.0 x.message within words x.known in
@@ -415,7 +415,7 @@ fits_message : (o : Option TheMessage) (ds : List Datum) → fit_message o ds �
 fits_message None ds h = absurd (false≢true h)
 fits_message (Some m) ds h = (m, refl)
 
-pub means_whole : (plan : PlanNo) (i : TheInterface) (tape : List ℕ) (e : Ended) (c : TheCall) → is_within_limits i ≡ true → interface_words_fit i ≡ true → IsEnded plan i tape e
+pub means_whole : (plan : PlanNo) (i : TheInterface) (tape : List ℕ) (e : TapedCall) (c : TheCall) → is_within_limits i ≡ true → interface_words_fit i ≡ true → IsEnded plan i tape e
     → HasTape plan i e.msg.0 (take e.count tape) c → Means plan i (whole_of plan i tape e) c 0
 means_whole plan i tape e c within words x h =
     let (m, named) = fits_message (slice_get i.messages c.msg) c.args h.fits in

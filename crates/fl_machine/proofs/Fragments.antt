@@ -7,15 +7,15 @@ use Rattle.std.proofs.lemmas.List.{get_or-drop, length-drop, append-nil}
 use Rattle.std.proofs.lemmas.Bool.{ne_eqb, eqb-false}
 use Rattle.fl_stub.specs.declared.op.Op.{Op}
 use Rattle.fl_stub.specs.Meaning.{number_bytes}
-use Rattle.fl_stub.specs.Spots.{TheSpot, IsPlace, IsSpot, bytes_from, spot_given}
+use Rattle.fl_stub.specs.Locations.{TheEndLocation, IsPlace, IsLocation, bytes_from, location_given}
 use Rattle.fl_stub.specs.declared.op.Column.{Column}
 use Rattle.fl_stub.specs.declared.op.Column.TheVariants.{Send}
 use Rattle.fl_stub.specs.Structure.{IsCode}
 use Rattle.fl_stub.specs.Frames.{block_of}
 use Rattle.fl_stub.specs.Given.{bytes_given}
 use Rattle.fl_stub.proofs.Steps.{first_place}
-use Rattle.fl_machine.specs.declared.cursor.Cursor.{Cursor}
-use Rattle.fl_machine.specs.Cursors.{spot_of}
+use Rattle.fl_machine.specs.declared.cursor.SendCursor.{SendCursor}
+use Rattle.fl_machine.specs.Cursors.{location_of}
 use Rattle.fl_base.specs.declared.fragment.Frag.{Frag}
 use Rattle.fl_base.specs.Control.{control_word}
 use Rattle.fl_wire.specs.Payload.{word}
@@ -104,52 +104,52 @@ tail_frags bytes left begins msg circuit e some =
     ap (λ (x : List ℕ). frags_holding false msg circuit x) e ∙ ap (λ (fs : List Frag). drop 1 fs) (sym (next_frag begins msg circuit bytes some))
 
 -- with bytes of a number to be given, there are bytes
-pub busy : (ops : List Op) (s : TheSpot) → (s.width == 0) ≡ false → 0 < length (bytes_from ops s)
+pub busy : (ops : List Op) (s : TheEndLocation) → (s.width == 0) ≡ false → 0 < length (bytes_from ops s)
 busy ops s e =
     let more : s.width ≡ suc (s.width - 1) = omega (arith, eqb-false s.width 0 e) in
-    let long : length (bytes_from ops s) ≡ length (number_bytes (suc (s.width - 1)) s.value ++ (spot_given ops s).bytes)
-    = ap (λ (w : ℕ). length (number_bytes w s.value ++ (spot_given ops s).bytes)) more in
+    let long : length (bytes_from ops s) ≡ length (number_bytes (suc (s.width - 1)) s.value ++ (location_given ops s).bytes)
+    = ap (λ (w : ℕ). length (number_bytes w s.value ++ (location_given ops s).bytes)) more in
     omega (arith, long)
 
 -- a run's cursor gives the first of the fragments, and leaves the others
 
-pub sent : (ops lent : List Op) (tape lent_tape : List ℕ) (cursor : Cursor) (begins : Bool) (msg circuit : ℕ) (buffer : List ℕ) (frag : Frag) → lent ≡ ops → lent_tape ≡ tape
-    → ((i : ℕ) → i < 56 → slice_index buffer i ≡ slice_index (bytes_from lent (spot_of lent_tape cursor)) i)
+pub sent : (ops lent : List Op) (tape lent_tape : List ℕ) (cursor : SendCursor) (begins : Bool) (msg circuit : ℕ) (buffer : List ℕ) (frag : Frag) → lent ≡ ops → lent_tape ≡ tape
+    → ((i : ℕ) → i < 56 → slice_index buffer i ≡ slice_index (bytes_from lent (location_of lent_tape cursor)) i)
     → frag ≡ record { words = map (word buffer) (range_with_len 0 7); control = control_word begins msg circuit }
-    → (begins ≡ true) ⊎ (0 < length (bytes_from ops (spot_of tape cursor)))
-    → Some frag ≡ slice_get (frags_holding begins msg circuit (bytes_from ops (spot_of tape cursor))) 0
+    → (begins ≡ true) ⊎ (0 < length (bytes_from ops (location_of tape cursor)))
+    → Some frag ≡ slice_get (frags_holding begins msg circuit (bytes_from ops (location_of tape cursor))) 0
 sent ops lent tape lent_tape cursor begins msg circuit buffer frag e f same is some =
-    let bytes : bytes_from lent (spot_of lent_tape cursor) ≡ bytes_from ops (spot_of tape cursor)
-    = ap (λ (x : List Op). bytes_from x (spot_of lent_tape cursor)) e ∙ ap (λ (x : List ℕ). bytes_from ops (spot_of x cursor)) f in
+    let bytes : bytes_from lent (location_of lent_tape cursor) ≡ bytes_from ops (location_of tape cursor)
+    = ap (λ (x : List Op). bytes_from x (location_of lent_tape cursor)) e ∙ ap (λ (x : List ℕ). bytes_from ops (location_of x cursor)) f in
     ap Some is
-    ∙ head_frag buffer (bytes_from ops (spot_of tape cursor)) begins msg circuit (λ i small. same i small ∙ ap (λ (x : List ℕ). slice_index x i) bytes) some
+    ∙ head_frag buffer (bytes_from ops (location_of tape cursor)) begins msg circuit (λ i small. same i small ∙ ap (λ (x : List ℕ). slice_index x i) bytes) some
 
-pub sent_rest : (ops lent : List Op) (tape lent_tape : List ℕ) (old new : Cursor) (begins : Bool) (msg circuit : ℕ) → lent ≡ ops → lent_tape ≡ tape
-    → bytes_from lent (spot_of lent_tape new) ≡ drop 56 (bytes_from lent (spot_of lent_tape old))
-    → (begins ≡ true) ⊎ (0 < length (bytes_from ops (spot_of tape old)))
-    → frags_holding false msg circuit (bytes_from ops (spot_of tape new)) ≡ drop 1 (frags_holding begins msg circuit (bytes_from ops (spot_of tape old)))
+pub sent_rest : (ops lent : List Op) (tape lent_tape : List ℕ) (old new : SendCursor) (begins : Bool) (msg circuit : ℕ) → lent ≡ ops → lent_tape ≡ tape
+    → bytes_from lent (location_of lent_tape new) ≡ drop 56 (bytes_from lent (location_of lent_tape old))
+    → (begins ≡ true) ⊎ (0 < length (bytes_from ops (location_of tape old)))
+    → frags_holding false msg circuit (bytes_from ops (location_of tape new)) ≡ drop 1 (frags_holding begins msg circuit (bytes_from ops (location_of tape old)))
 sent_rest ops lent tape lent_tape old new begins msg circuit e f rest some =
-    let same : (c : Cursor) → bytes_from lent (spot_of lent_tape c) ≡ bytes_from ops (spot_of tape c)
-    = λ c. ap (λ (x : List Op). bytes_from x (spot_of lent_tape c)) e ∙ ap (λ (x : List ℕ). bytes_from ops (spot_of x c)) f in
-    tail_frags (bytes_from ops (spot_of tape old)) (bytes_from ops (spot_of tape new)) begins msg circuit (sym (same new) ∙ rest ∙ ap (drop 56) (same old)) some
+    let same : (c : SendCursor) → bytes_from lent (location_of lent_tape c) ≡ bytes_from ops (location_of tape c)
+    = λ c. ap (λ (x : List Op). bytes_from x (location_of lent_tape c)) e ∙ ap (λ (x : List ℕ). bytes_from ops (location_of x c)) f in
+    tail_frags (bytes_from ops (location_of tape old)) (bytes_from ops (location_of tape new)) begins msg circuit (sym (same new) ∙ rest ∙ ap (drop 56) (same old)) some
 
 -- at the first instruction
 
-abbrev pub first_spot : List ℕ → TheSpot
-first_spot tape = record { place = 0; loops = []; tape = tape; at = 0; value = 0; width = 0 }
+abbrev pub first_location : List ℕ → TheEndLocation
+first_location tape = record { place = 0; loops = []; tape = tape; at = 0; value = 0; width = 0 }
 
-pub first_is_spot : (column : Column) (ops lent : List Op) (tape : List ℕ) (c : Cursor) → column ≡ Send → lent ≡ ops → IsCode column ops (block_of ops) → spot_of tape c ≡ first_spot tape → IsSpot lent (spot_of tape c)
-first_is_spot column ops lent tape c sends e code is =
+pub first_is_location : (column : Column) (ops lent : List Op) (tape : List ℕ) (c : SendCursor) → column ≡ Send → lent ≡ ops → IsCode column ops (block_of ops) → location_of tape c ≡ first_location tape → IsLocation lent (location_of tape c)
+first_is_location column ops lent tape c sends e code is =
     let here : IsPlace lent 0 0 = subst (λ (x : List Op). IsPlace x 0 0) (sym e) (first_place ops (block_of ops) (subst (λ (k : Column). IsCode k ops (block_of ops)) sends code)) in
-    let spot : IsSpot lent (first_spot tape) = record { depth = lit≤ tt; place = here; loops = tt; width = lit≤ tt; value = lit< tt } in
-    subst (λ (s : TheSpot). IsSpot lent s) (sym is) spot
+    let location : IsLocation lent (first_location tape) = record { depth = lit≤ tt; place = here; loops = tt; width = lit≤ tt; value = lit< tt } in
+    subst (λ (s : TheEndLocation). IsLocation lent s) (sym is) location
 
-pub starts : (ops lent : List Op) (tape lent_tape : List ℕ) (first after : Cursor) (msg circuit : ℕ) → lent ≡ ops → lent_tape ≡ tape → spot_of tape first ≡ first_spot tape
-    → bytes_from lent (spot_of lent_tape first) ≡ bytes_from lent (spot_of lent_tape after)
-    → frags_holding true msg circuit (bytes_from ops (spot_of tape after)) ≡ frags_holding true msg circuit (bytes_given (block_of ops) tape)
+pub starts : (ops lent : List Op) (tape lent_tape : List ℕ) (first after : SendCursor) (msg circuit : ℕ) → lent ≡ ops → lent_tape ≡ tape → location_of tape first ≡ first_location tape
+    → bytes_from lent (location_of lent_tape first) ≡ bytes_from lent (location_of lent_tape after)
+    → frags_holding true msg circuit (bytes_from ops (location_of tape after)) ≡ frags_holding true msg circuit (bytes_given (block_of ops) tape)
 starts ops lent tape lent_tape first after msg circuit e f is same =
-    let lends : (c : Cursor) → bytes_from lent (spot_of lent_tape c) ≡ bytes_from ops (spot_of tape c)
-    = λ c. ap (λ (x : List Op). bytes_from x (spot_of lent_tape c)) e ∙ ap (λ (x : List ℕ). bytes_from ops (spot_of x c)) f in
-    let whole : bytes_from ops (spot_of tape first) ≡ bytes_given (block_of ops) tape
+    let lends : (c : SendCursor) → bytes_from lent (location_of lent_tape c) ≡ bytes_from ops (location_of tape c)
+    = λ c. ap (λ (x : List Op). bytes_from x (location_of lent_tape c)) e ∙ ap (λ (x : List ℕ). bytes_from ops (location_of x c)) f in
+    let whole : bytes_from ops (location_of tape first) ≡ bytes_given (block_of ops) tape
     = ap (bytes_from ops) is ∙ append-nil (bytes_given (block_of ops) tape) in
     ap (frags_holding true msg circuit) (sym (lends after) ∙ sym same ∙ lends first ∙ whole)

@@ -9,7 +9,7 @@ use Rattle.std.proofs.lemmas.Option.{none-some, same_Some, get_or_from_slice_get
 use Rattle.fl_base.specs.declared.fragment.Frag.{Frag}
 use Rattle.fl_compile.specs.declared.program.Program.{Program}
 use Rattle.fl_compile.specs.Programs.{TheProgram, program_of}
-use Rattle.fl_machine.specs.declared.recv.Begun.{Begun}
+use Rattle.fl_machine.specs.declared.recv.PartialCall.{PartialCall}
 use Rattle.fl_machine.specs.declared.rooms.Rooms.{Rooms}
 use Rattle.fl_machine.specs.declared.reassembly.Assembly.{Assembly}
 use Rattle.fl_machine.specs.declared.reassembly.Taken.{Taken}
@@ -103,7 +103,7 @@ pub new_place : (program : Program) (capacity : ℕ) → HoldsParts (program_of 
 new_place program capacity holds = record { holds = holds; stands = refl }
 
 -- a call under way has its room
-pub inside_there : (ps : List Assembly) (ts : List TheRoom) (k : ℕ) (p : Assembly) (b : Begun) → AreJoined ps ts → slice_get ps k ≡ Some p → p.begun ≡ Some b → IsThere ts k
+pub inside_there : (ps : List Assembly) (ts : List TheRoom) (k : ℕ) (p : Assembly) (b : PartialCall) → AreJoined ps ts → slice_get ps k ≡ Some p → p.begun ≡ Some b → IsThere ts k
 inside_there ps ts k p b h at some =
     let f = found ps ts k p h at in
     let frags = by_frags f.room.frags f.place.stands in
@@ -126,10 +126,10 @@ opened ps ts us k p h at none o =
     let was : f.room ≡ o.was = same_Some f.room o.was (sym f.there ∙ o.was_there) in
     let place : IsPlace p now = record {
       holds = subst (λ (t : TheRoom). HoldsParts (program_of p.program).plan (program_of p.program).interface t.size) was f.place.holds;
-      stands = subst (λ (x : Option Begun). IsUnderWay (program_of p.program) o.frags x) (sym none) tt;
+      stands = subst (λ (x : Option PartialCall). IsUnderWay (program_of p.program) o.frags x) (sym none) tt;
     } in
     let shown : reassembly_at p now ≡ reassembly_at p f.room
-    = ap (λ (x : Option Begun). reassembly_on p.program o.frags x) none ∙ sym (ap (λ (x : Option Begun). reassembly_on p.program (frags_in f.room.frags) x) none) in
+    = ap (λ (x : Option PartialCall). reassembly_on p.program o.frags x) none ∙ sym (ap (λ (x : Option PartialCall). reassembly_on p.program (frags_in f.room.frags) x) none) in
     let there : slice_get (set ts k now) k ≡ Some now = get_set ts k now f.room f.there in
     record {
       are = subst (λ (xs : List TheRoom). AreJoined ps xs) (sym o.after_is) (subst (λ (xs : List Assembly). AreJoined xs (set ts k now)) (set_there ps k p at) (are_set ps ts k p now h place));
@@ -149,7 +149,7 @@ pub not_changed : (ps : List Assembly) (ts : List TheRoom) (k : ℕ) (p : Assemb
 not_changed ps ts k p Event h at none event =
     let f = found ps ts k p h at in
     let was : slice_get (joined ps ts) k ≡ Some (new_reassembly p.program)
-    = f.shown ∙ ap (λ (x : Option Begun). Some (reassembly_on p.program (frags_in f.room.frags) x)) none in
+    = f.shown ∙ ap (λ (x : Option PartialCall). Some (reassembly_on p.program (frags_in f.room.frags) x)) none in
     record {
       was = new_reassembly p.program;
       was_there = was;
@@ -169,10 +169,10 @@ finished ps ts k p q h at program none =
     let rooms : set ts k f.room ≡ ts = set_there ts k f.room f.there in
     let place : IsPlace q f.room = record {
       holds = subst (λ (x : Program). HoldsParts (program_of x).plan (program_of x).interface f.room.size) (sym program) f.place.holds;
-      stands = subst (λ (x : Option Begun). StandsOn (program_of q.program) f.room.frags x) (sym none) (by_frags (program_of q.program) f.room.frags);
+      stands = subst (λ (x : Option PartialCall). StandsOn (program_of q.program) f.room.frags x) (sym none) (by_frags (program_of q.program) f.room.frags);
     } in
     let is : reassembly_at q f.room ≡ without_parts (reassembly_at p f.room)
-    = ap (λ (x : Option Begun). reassembly_on q.program (frags_in f.room.frags) x) none ∙ ap new_reassembly program in
+    = ap (λ (x : Option PartialCall). reassembly_on q.program (frags_in f.room.frags) x) none ∙ ap new_reassembly program in
     record {
       are = subst (λ (xs : List TheRoom). AreJoined (set ps k q) xs) rooms (are_set ps ts k q f.room h place);
       changes = record {

@@ -7,7 +7,7 @@ use Rattle.std.proofs.lemmas.List.Sums.{sum_by_push, sum_by-set, get_or-le-sum_b
 use Rattle.std.proofs.lemmas.Option.{none-some, same_Some, slice_get_within, get_or_from_slice_get, slice_get-map}
 use Rattle.std.proofs.lemmas.Slice.{drop-append-drop}
 use Rattle.fl_base.specs.declared.fragment.Frag.{Frag}
-use Rattle.fl_machine.specs.declared.rooms.Span.{Span}
+use Rattle.fl_machine.specs.declared.rooms.RoomRange.{RoomRange}
 use Rattle.fl_machine.specs.Rooms.{IsOpened, frags_from, room_in, owed_from, owed_for, IsWithin, AreApart, AreLaid, AreRooms}
 
 -- ---- lists
@@ -105,7 +105,7 @@ written_behind block start frags size at h behind =
 -- ---- rooms
 
 -- a room's fragments are as they were in a block that became longer
-room_longer : (block more : List Frag) (s : Span) → IsWithin (length block) s → room_in (block ++ more) s ≡ room_in block s
+room_longer : (block more : List Frag) (s : RoomRange) → IsWithin (length block) s → room_in (block ++ more) s ≡ room_in block s
 room_longer block more s within = ap (λ (o : Option (List Frag)). record { size = s.size; frags = o }) (by_start s.start within)
   where
     by_start : (o : Option ℕ) → ((start : ℕ) → o ≡ Some start → start + s.size ≤ length block) → frags_from (block ++ more) s.size o ≡ frags_from block s.size o
@@ -113,7 +113,7 @@ room_longer block more s within = ap (λ (o : Option (List Frag)). record { size
     by_start (Some start) h = ap Some (longer block more s.size start (h start refl))
 
 -- and where another room's are written
-room_written : (block : List Frag) (start : ℕ) (frags : List Frag) (s u : Span) → s.start ≡ Some start → s.size ≡ length frags → start + length frags ≤ length block
+room_written : (block : List Frag) (start : ℕ) (frags : List Frag) (s u : RoomRange) → s.start ≡ Some start → s.size ≡ length frags → start + length frags ≤ length block
     → AreApart s u → room_in (written block start frags) u ≡ room_in block u
 room_written block start frags s u at size h apart = ap (λ (o : Option (List Frag)). record { size = u.size; frags = o }) (by_start u.start (λ other e. apart start other at e))
   where
@@ -125,47 +125,47 @@ room_written block start frags s u at size h apart = ap (λ (o : Option (List Fr
         (apart other refl))
 
 -- one more that isn't there yet
-laid_pushed : (long : ℕ) (ss : List Span) (x : Span) → AreLaid long ss → x.start ≡ None → AreLaid long (ss ++ x ∷ [])
+laid_pushed : (long : ℕ) (ss : List RoomRange) (x : RoomRange) → AreLaid long ss → x.start ≡ None → AreLaid long (ss ++ x ∷ [])
 laid_pushed long ss x laid none = record {
   within = λ k s e start at. ⊎_elim
       (λ (old : slice_get ss k ≡ Some s). laid.within k s old start at)
-      (λ (new : x ≡ s). absurd (none-some start (sym none ∙ ap (λ (u : Span). u.start) new ∙ at)))
+      (λ (new : x ≡ s). absurd (none-some start (sym none ∙ ap (λ (u : RoomRange). u.start) new ∙ at)))
       (get_pushed ss x k s e);
   apart = λ j k s u e d n a b p q. ⊎_elim
       (λ (first : slice_get ss j ≡ Some s). ⊎_elim
       (λ (second : slice_get ss k ≡ Some u). laid.apart j k s u first second n a b p q)
-      (λ (new : x ≡ u). absurd (none-some b (sym none ∙ ap (λ (u : Span). u.start) new ∙ q)))
+      (λ (new : x ≡ u). absurd (none-some b (sym none ∙ ap (λ (u : RoomRange). u.start) new ∙ q)))
       (get_pushed ss x k u d))
-      (λ (new : x ≡ s). absurd (none-some a (sym none ∙ ap (λ (u : Span). u.start) new ∙ p)))
+      (λ (new : x ≡ s). absurd (none-some a (sym none ∙ ap (λ (u : RoomRange). u.start) new ∙ p)))
       (get_pushed ss x j s e);
 }
 
 -- without the last
-laid_before : (long : ℕ) (ss more : List Span) → AreLaid long (ss ++ more) → AreLaid long ss
+laid_before : (long : ℕ) (ss more : List RoomRange) → AreLaid long (ss ++ more) → AreLaid long ss
 laid_before long ss more laid = record {
   within = λ k s e. laid.within k s (get_before ss more k s e);
   apart = λ j k s u e d. laid.apart j k s u (get_before ss more j s e) (get_before ss more k u d);
 }
 
 -- one of them is laid behind all others
-laid_opened : (long more : ℕ) (ss : List Span) (k : ℕ) (x : Span) → AreLaid long ss → x.start ≡ Some long → long + x.size ≤ more → AreLaid more (set ss k x)
+laid_opened : (long more : ℕ) (ss : List RoomRange) (k : ℕ) (x : RoomRange) → AreLaid long ss → x.start ≡ Some long → long + x.size ≤ more → AreLaid more (set ss k x)
 laid_opened long more ss k x laid at end = record {
   within = λ i s e start p. ⊎_elim
       (λ (old : (k ≢ i) × (slice_get ss i ≡ Some s)). omega (arith, laid.within i s old.1 start p, end))
       (λ (new : (k ≡ i) × (x ≡ s)).
-      let here : long ≡ start = same_Some long start (sym at ∙ ap (λ (u : Span). u.start) new.1 ∙ p) in
-      let size : x.size ≡ s.size = ap (λ (u : Span). u.size) new.1 in omega (arith, here, size, end))
+      let here : long ≡ start = same_Some long start (sym at ∙ ap (λ (u : RoomRange). u.start) new.1 ∙ p) in
+      let size : x.size ≡ s.size = ap (λ (u : RoomRange). u.size) new.1 in omega (arith, here, size, end))
       (get_changed ss k x i s e);
   apart = λ i j s u e d n a b p q. ⊎_elim
       (λ (first : (k ≢ i) × (slice_get ss i ≡ Some s)). ⊎_elim
       (λ (second : (k ≢ j) × (slice_get ss j ≡ Some u)). laid.apart i j s u first.1 second.1 n a b p q)
       (λ (new : (k ≡ j) × (x ≡ u)).
-      let here : long ≡ b = same_Some long b (sym at ∙ ap (λ (u : Span). u.start) new.1 ∙ q) in
+      let here : long ≡ b = same_Some long b (sym at ∙ ap (λ (u : RoomRange). u.start) new.1 ∙ q) in
       inl (omega (arith, here, laid.within i s first.1 a p)))
       (get_changed ss k x j u d))
       (λ (new : (k ≡ i) × (x ≡ s)). ⊎_elim
       (λ (second : (k ≢ j) × (slice_get ss j ≡ Some u)).
-      let here : long ≡ a = same_Some long a (sym at ∙ ap (λ (u : Span). u.start) new.1 ∙ p) in
+      let here : long ≡ a = same_Some long a (sym at ∙ ap (λ (u : RoomRange). u.start) new.1 ∙ p) in
       inr (omega (arith, here, laid.within j u second.1 b q)))
       (λ (again : (k ≡ j) × (x ≡ u)). absurd (n (sym new.0 ∙ again.0)))
       (get_changed ss k x j u d))
@@ -174,20 +174,20 @@ laid_opened long more ss k x laid at end = record {
 
 -- ---- what the functions do
 
-pub are_added : (long capacity more : ℕ) (ss : List Span) (owed size : ℕ) → AreRooms long capacity ss owed → long + (owed + size) ≤ more
+pub are_added : (long capacity more : ℕ) (ss : List RoomRange) (owed size : ℕ) → AreRooms long capacity ss owed → long + (owed + size) ≤ more
     → AreRooms long more (ss ++ record { size = size; start = None } ∷ []) (owed + size)
 are_added long capacity more ss owed size t room =
-    let x : Span = record { size = size; start = None } in
+    let x : RoomRange = record { size = size; start = None } in
     record {
       laid = laid_pushed long ss x t.laid refl;
       owed_is = sum_by_push owed_for ss x ∙ ap (λ (n : ℕ). n + size) t.owed_is;
       reserved = room;
     }
 
-pub are_opened : (long capacity more : ℕ) (ss : List Span) (owed k : ℕ) (s : Span) → AreRooms long capacity ss owed → slice_get ss k ≡ Some s → s.start ≡ None → capacity ≤ more
+pub are_opened : (long capacity more : ℕ) (ss : List RoomRange) (owed k : ℕ) (s : RoomRange) → AreRooms long capacity ss owed → slice_get ss k ≡ Some s → s.start ≡ None → capacity ≤ more
     → AreRooms (long + s.size) more (set ss k (record { size = s.size; start = Some long })) (owed - s.size)
 are_opened long capacity more ss owed k s t at none grown =
-    let x : Span = record { size = s.size; start = Some long } in
+    let x : RoomRange = record { size = s.size; start = Some long } in
     let inside : k < length ss = slice_get_within ss k s at in
     let own : owed_for s ≡ s.size = ap (owed_from s.size) none in
     let read : owed_for (get_or ss k s) ≡ owed_for s = ap owed_for (get_or_from_slice_get ss k s s at) in
@@ -199,7 +199,7 @@ are_opened long capacity more ss owed k s t at none grown =
       reserved = omega (arith, less, t.reserved, grown);
     }
 
-pub are_before : (long capacity : ℕ) (ss : List Span) (s : Span) (owed : ℕ) → AreRooms long capacity (ss ++ s ∷ []) owed → AreRooms long capacity ss (owed - owed_for s)
+pub are_before : (long capacity : ℕ) (ss : List RoomRange) (s : RoomRange) (owed : ℕ) → AreRooms long capacity (ss ++ s ∷ []) owed → AreRooms long capacity ss (owed - owed_for s)
 are_before long capacity ss s owed t =
     let sum : sum_by owed_for (ss ++ s ∷ []) ≡ sum_by owed_for ss + owed_for s = sum_by_push owed_for ss s in
     record {
@@ -208,10 +208,10 @@ are_before long capacity ss s owed t =
       reserved = omega (arith, t.reserved);
     }
 
-pub is_opened : (block more : List Frag) (capacity : ℕ) (ss : List Span) (owed k : ℕ) (s : Span) → AreRooms (length block) capacity ss owed → slice_get ss k ≡ Some s → length more ≡ s.size
+pub is_opened : (block more : List Frag) (capacity : ℕ) (ss : List RoomRange) (owed k : ℕ) (s : RoomRange) → AreRooms (length block) capacity ss owed → slice_get ss k ≡ Some s → length more ≡ s.size
     → IsOpened (map (room_in block) ss) k (map (room_in (block ++ more)) (set ss k (record { size = s.size; start = Some (length block) })))
 is_opened block more capacity ss owed k s t at long =
-    let x : Span = record { size = s.size; start = Some (length block) } in
+    let x : RoomRange = record { size = s.size; start = Some (length block) } in
     record {
       was = room_in block s;
       was_there = slice_get-map (room_in block) ss k ∙ ap (option_map (room_in block)) at;
@@ -220,7 +220,7 @@ is_opened block more capacity ss owed k s t at long =
       after_is = map_changed (room_in block) (room_in (block ++ more)) ss k x (λ j u e n. room_longer block more u (t.laid.within j u e));
     }
 
-pub is_open : (block : List Frag) (capacity : ℕ) (ss : List Span) (owed k : ℕ) (s : Span) (start : ℕ) → AreRooms (length block) capacity ss owed → slice_get ss k ≡ Some s → s.start ≡ Some start
+pub is_open : (block : List Frag) (capacity : ℕ) (ss : List RoomRange) (owed k : ℕ) (s : RoomRange) (start : ℕ) → AreRooms (length block) capacity ss owed → slice_get ss k ≡ Some s → s.start ≡ Some start
     → IsOpened (map (room_in block) ss) k (map (room_in block) ss)
 is_open block capacity ss owed k s start t at some =
     let inside : start + s.size ≤ length block = t.laid.within k s at start some in
@@ -234,7 +234,7 @@ is_open block capacity ss owed k s start t at some =
     }
 
 -- fragments are written where a room lies
-pub is_written : (block : List Frag) (capacity : ℕ) (ss : List Span) (owed k : ℕ) (s : Span) (start : ℕ) (frags : List Frag) → AreRooms (length block) capacity ss owed
+pub is_written : (block : List Frag) (capacity : ℕ) (ss : List RoomRange) (owed k : ℕ) (s : RoomRange) (start : ℕ) (frags : List Frag) → AreRooms (length block) capacity ss owed
     → slice_get ss k ≡ Some s → s.start ≡ Some start → length frags ≡ s.size
     → map (room_in (written block start frags)) ss ≡ set (map (room_in block) ss) k (record { size = s.size; frags = Some frags })
 is_written block capacity ss owed k s start frags t at some long =
@@ -247,7 +247,7 @@ is_written block capacity ss owed k s start frags t at some long =
     ∙ ap (λ (n : ℕ). Some (take n (drop start (written block start frags)))) (sym long)
     ∙ ap Some (written_here block start frags room))
 
-pub are_same : {long many capacity owed left : ℕ} {ss us : List Span} → AreRooms long capacity ss owed → many ≡ long → us ≡ ss → left ≡ owed → AreRooms many capacity us left
+pub are_same : {long many capacity owed left : ℕ} {ss us : List RoomRange} → AreRooms long capacity ss owed → many ≡ long → us ≡ ss → left ≡ owed → AreRooms many capacity us left
 are_same {long} {many} {capacity} {owed} {left} {ss} {us} t p q r =
     subst (λ (n : ℕ). AreRooms n capacity us left) (sym p)
-    (subst (λ (xs : List Span). AreRooms long capacity xs left) (sym q) (subst (λ (n : ℕ). AreRooms long capacity ss n) (sym r) t))
+    (subst (λ (xs : List RoomRange). AreRooms long capacity xs left) (sym q) (subst (λ (n : ℕ). AreRooms long capacity ss n) (sym r) t))

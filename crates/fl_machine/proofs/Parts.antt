@@ -7,8 +7,8 @@ use Rattle.fl_base.specs.declared.fragment.Frag.{Frag}
 use Rattle.fl_base.specs.Control.{bare}
 use Rattle.fl_interface.specs.Interface.{TheMessage}
 use Rattle.fl_interface.specs.Limits.{is_within_limits}
-use Rattle.fl_value.specs.Value.{Datum, TheCall}
-use Rattle.fl_value.specs.Fits.{fit_message}
+use Rattle.fl_value_data.specs.Value.{Datum, TheCall}
+use Rattle.fl_value_data.specs.Fits.{fit_message}
 use Rattle.fl_layout.specs.Places.{count}
 use Rattle.fl_wire.specs.Payload.{frags_of}
 use Rattle.fl_wire.specs.Reading.{ReadsBack}
@@ -16,7 +16,7 @@ use Rattle.fl_wire.proofs.Readings.{count_positive, length_frags}
 use Rattle.fl_compile.specs.Programs.{TheProgram}
 use Rattle.fl_machine.specs.declared.intake.Fed.{Fed}
 use Rattle.fl_machine.specs.declared.intake.Fed.TheVariants.{Part}
-use Rattle.fl_machine.specs.declared.recv.Begun.{Begun}
+use Rattle.fl_machine.specs.declared.recv.PartialCall.{PartialCall}
 use Rattle.fl_machine.specs.Receiving.{HoldsParts, StandsIn, AddsUpTo, stand_after}
 use Rattle.fl_machine.specs.Kept.{counting, IsKeptIn, IsPartIn, EndsCallIn, HasFrags}
 use Rattle.fl_machine.specs.Reassembling.{IsUnderWay, GoesOnFrom, parts_under}
@@ -24,7 +24,7 @@ use Rattle.fl_machine.proofs.Feeding.{few_messages}
 use Rattle.fl_machine.proofs.Looking.{forgotten, kept_length}
 
 -- a room has place for one part more, and for a call's last fragment
-pub part_fits : (p : TheProgram) (parts : List Frag) (f : Frag) (d : Begun) (n : ℕ) → HoldsParts p.plan p.interface n → IsPartIn p (parts ++ f ∷ []) → IsKeptIn p (parts ++ bare f ∷ []) d → d.fed ≤ n
+pub part_fits : (p : TheProgram) (parts : List Frag) (f : Frag) (d : PartialCall) (n : ℕ) → HoldsParts p.plan p.interface n → IsPartIn p (parts ++ f ∷ []) → IsKeptIn p (parts ++ bare f ∷ []) d → d.fed ≤ n
 part_fits p parts f d n holds part k =
     let short = part.short in
     omega (arith, short, holds part.call part.fits, length-append parts (f ∷ []), length-append parts (bare f ∷ []), kept_length p.plan p.interface (parts ++ bare f ∷ []) d k)
@@ -34,11 +34,11 @@ last_fits p parts f n holds e =
     omega (arith, holds e.call e.fits, ap length e.frags_are, length_frags p.plan p.interface e.call, length-append parts (bare f ∷ []))
 
 -- one part more
-pub record StoredPart (p : TheProgram) (room parts : List Frag) (f : Frag) (d : Begun) : Type 0 where
+pub record StoredPart (p : TheProgram) (room parts : List Frag) (f : Frag) (d : PartialCall) : Type 0 where
   pub under_way : IsUnderWay p room (Some d)
   pub parts_are : parts_under room (Some d) ≡ parts ++ bare f ∷ []
 
-pub stored_part : (p : TheProgram) (room : List Frag) (o : Option Begun) (f g : Frag) (d : Begun) (n : ℕ) → IsUnderWay p room o → IsKeptIn p (parts_under room o ++ bare f ∷ []) d
+pub stored_part : (p : TheProgram) (room : List Frag) (o : Option PartialCall) (f g : Frag) (d : PartialCall) (n : ℕ) → IsUnderWay p room o → IsKeptIn p (parts_under room o ++ bare f ∷ []) d
     → n + 1 ≡ d.fed → d.fed ≤ length room → g ≡ bare f → StoredPart p (slice_set room n g) (parts_under room o) f d
 stored_part p room o f g d n under k next within is =
     let parts = parts_under room o in
@@ -52,16 +52,16 @@ stored_part p room o f g d n under k next within is =
       parts_are = shown;
     }
   where
-    by_under : (x : Option Begun) → IsUnderWay p room x → length (parts_under room x) ≡ n → take n room ≡ parts_under room x
+    by_under : (x : Option PartialCall) → IsUnderWay p room x → length (parts_under room x) ≡ n → take n room ≡ parts_under room x
     by_under None u e = ap (λ (m : ℕ). take m room) (sym e)
     by_under (Some b) u e = ap (λ (m : ℕ). take m room) (sym e ∙ length-take-le b.fed room u.0)
 
 -- the call's last fragment, which stays in the room behind the parts
-pub record StoredLast (p : TheProgram) (room after : List Frag) (b : Begun) : Type 0 where
+pub record StoredLast (p : TheProgram) (room after : List Frag) (b : PartialCall) : Type 0 where
   pub under_way : IsUnderWay p after (Some b)
   pub parts_are : parts_under after (Some b) ≡ parts_under room (Some b)
 
-pub stored_last : (p : TheProgram) (room : List Frag) (g : Frag) (b : Begun) (n : ℕ) → IsUnderWay p room (Some b) → n ≡ b.fed → StoredLast p room (slice_set room n g) b
+pub stored_last : (p : TheProgram) (room : List Frag) (g : Frag) (b : PartialCall) (n : ℕ) → IsUnderWay p room (Some b) → n ≡ b.fed → StoredLast p room (slice_set room n g) b
 stored_last p room g b n under is =
     let same : take b.fed (slice_set room n g) ≡ take b.fed room = take-set-le b.fed room n g (omega (arith, is)) in
     record {
@@ -70,7 +70,7 @@ stored_last p room g b n under is =
     }
 
 -- all fragments of the call
-pub whole_frags : (p : TheProgram) (room : List Frag) (f g : Frag) (b : Begun) (n : ℕ) → n ≡ b.fed → g ≡ bare f → b.fed < length room → (e : EndsCallIn p (parts_under room (Some b)) f)
+pub whole_frags : (p : TheProgram) (room : List Frag) (f g : Frag) (b : PartialCall) (n : ℕ) → n ≡ b.fed → g ≡ bare f → b.fed < length room → (e : EndsCallIn p (parts_under room (Some b)) f)
     → HasFrags p e.call (take (n + 1) (slice_set room n g))
 whole_frags p room f g b n at is within e = record {
   fits = e.fits;
@@ -96,11 +96,11 @@ read_whole p frags found c within reads has =
 
 -- ---- the first fragment of a call that goes on
 
-pub first_part : (p : TheProgram) (tape : List ℕ) (room : List Frag) (o : Option Begun) (f : Frag) (b d : Begun) (fed : Fed) → o ≡ None → fed ≡ Part
+pub first_part : (p : TheProgram) (tape : List ℕ) (room : List Frag) (o : Option PartialCall) (f : Frag) (b d : PartialCall) (fed : Fed) → o ≡ None → fed ≡ Part
     → StandsIn p tape (stand_after b fed) → AddsUpTo p [] f tape (stand_after b fed) → d ≡ counting 0 b → GoesOnFrom p room o f d
 first_part p tape room o f b d fed none part stands adds forgets =
     let s = subst (λ (x : Fed). StandsIn p tape (stand_after b x)) part stands in
     let a = subst (λ (x : Fed). AddsUpTo p [] f tape (stand_after b x)) part adds in
     let k = forgotten p.plan p.interface tape b s.0 s.1 in
-    let kept : IsKeptIn p (bare f ∷ []) d = subst (λ (x : Begun). IsKeptIn p (bare f ∷ []) x) (sym forgets) (subst (λ (fs : List Frag). IsKeptIn p fs (counting 0 b)) a.parts_are k) in
-    subst (λ (x : Option Begun). GoesOnFrom p room x f d) (sym none) (record { under_way = tt; part = a.part; kept = kept })
+    let kept : IsKeptIn p (bare f ∷ []) d = subst (λ (x : PartialCall). IsKeptIn p (bare f ∷ []) x) (sym forgets) (subst (λ (fs : List Frag). IsKeptIn p fs (counting 0 b)) a.parts_are k) in
+    subst (λ (x : Option PartialCall). GoesOnFrom p room x f d) (sym none) (record { under_way = tt; part = a.part; kept = kept })

@@ -8,7 +8,7 @@ use Rattle.std.proofs.Math.Seq.{drop-append_seam}
 use Rattle.std.proofs.lemmas.Bool.{cases_lt}
 use Rattle.fl_stub.specs.declared.op.Op.{Op}
 use Rattle.fl_stub.specs.Meaning.{number_bytes}
-use Rattle.fl_stub.specs.Spots.{TheSpot, IsSpot, bytes_from, spot_given}
+use Rattle.fl_stub.specs.Locations.{TheEndLocation, IsLocation, bytes_from, location_given}
 use Rattle.fl_machine.specs.Cursors.{Gives}
 use Rattle.fl_machine.specs.Filling.{Holds, Puts, PutsRun}
 
@@ -30,20 +30,20 @@ bytes_from_next i (suc k) n = ap (λ (b : ℕ). b ∷ bytes_low_first (suc (suc 
 pub first_byte : (width value : ℕ) → number_bytes (suc width) value ≡ value % 256 ∷ number_bytes width (value / 256)
 first_byte width value = ap (λ (x : List ℕ). value % 256 ∷ x) (bytes_from_next 0 width value)
 
-pub gives_byte : (ops : List Op) (s : TheSpot) (width : ℕ) → IsSpot ops s → s.width ≡ suc width → Gives ops s (record s { value = s.value / 256; width = width }) (s.value % 256)
-gives_byte ops s width spot e =
+pub gives_byte : (ops : List Op) (s : TheEndLocation) (width : ℕ) → IsLocation ops s → s.width ≡ suc width → Gives ops s (record s { value = s.value / 256; width = width }) (s.value % 256)
+gives_byte ops s width location e =
     let more : 256 ^ suc width ≡ 256 ^ width * 256 = pow-suc 256 width in
-    let high : s.value < 256 ^ suc width = subst (λ (k : ℕ). s.value < 256 ^ k) e spot.value in
-    let wide = spot.width in
+    let high : s.value < 256 ^ suc width = subst (λ (k : ℕ). s.value < 256 ^ k) e location.value in
+    let wide = location.width in
     record {
-      spot = record {
-        depth = spot.depth;
-        place = spot.place;
-        loops = spot.loops;
+      location = record {
+        depth = location.depth;
+        place = location.place;
+        loops = location.loops;
         width = omega (arith, wide, e);
         value = div_below s.value 256 (256 ^ width) (omega arith) (omega (arith, high, more));
       };
-      bytes = ap (λ (k : ℕ). number_bytes k s.value ++ (spot_given ops s).bytes) e ∙ ap (λ (x : List ℕ). x ++ (spot_given ops s).bytes) (first_byte width s.value);
+      bytes = ap (λ (k : ℕ). number_bytes k s.value ++ (location_given ops s).bytes) e ∙ ap (λ (x : List ℕ). x ++ (location_given ops s).bytes) (first_byte width s.value);
     }
 
 pub holds_more : (buffer put : List ℕ) (at byte : ℕ) → length buffer ≡ 56 → length put ≡ at → at < 56 → Holds buffer put → Holds (slice_set buffer at byte) (put ++ byte ∷ [])
@@ -92,8 +92,8 @@ pub holds_none : Holds (replicate 56 0) []
 holds_none = record { each = λ i small. get_or-replicate 56 i 0 0 small ∙ sym (get_or_past {X = ℕ} [] i 0 (omega arith)) }
 
 -- all bytes of a number given
-pub gives_all : (ops : List Op) (s : TheSpot) → IsSpot ops s → IsSpot ops (record s { value = 0; width = 0 })
-gives_all ops s spot = record { depth = spot.depth; place = spot.place; loops = spot.loops; width = omega arith; value = lit< tt }
+pub gives_all : (ops : List Op) (s : TheEndLocation) → IsLocation ops s → IsLocation ops (record s { value = 0; width = 0 })
+gives_all ops s location = record { depth = location.depth; place = location.place; loops = location.loops; width = omega arith; value = lit< tt }
 
 length_bytes : (i k n : ℕ) → length (bytes_low_first i k n) ≡ k
 length_bytes i zero n = refl
@@ -168,28 +168,28 @@ pub length_put : (put : List ℕ) (at width value : ℕ) → length put ≡ at �
 length_put put at width value end = length-append put (number_bytes width value) ∙ omega (arith, end, length_bytes 0 width value)
 
 -- all of a number's bytes put
-pub puts_number : (ops : List Op) (s t : TheSpot) (buffer put : List ℕ) (at : ℕ) → IsSpot ops s → length buffer ≡ 56 → length put ≡ at → at + 8 ≤ 56 → s.width ≢ 0 → Holds buffer put
-    → IsSpot ops t → bytes_from ops s ≡ number_bytes s.width s.value ++ bytes_from ops t
+pub puts_number : (ops : List Op) (s t : TheEndLocation) (buffer put : List ℕ) (at : ℕ) → IsLocation ops s → length buffer ≡ 56 → length put ≡ at → at + 8 ≤ 56 → s.width ≢ 0 → Holds buffer put
+    → IsLocation ops t → bytes_from ops s ≡ number_bytes s.width s.value ++ bytes_from ops t
     → Puts ops s t put (over_eight buffer at s.value) (at + s.width)
-puts_number ops s t buffer put at spot long end room busy h there bytes =
-    let wide = spot.width in
+puts_number ops s t buffer put at location long end room busy h there bytes =
+    let wide = location.width in
     record {
       more = number_bytes s.width s.value;
-      spot = there;
+      location = there;
       bytes = bytes;
-      holds = holds_number buffer put at s.width s.value long end room spot.width spot.value h;
+      holds = holds_number buffer put at s.width s.value long end room location.width location.value h;
       long = length_put put at s.width s.value end;
       longer = omega (arith, end, busy);
       within = omega (arith, room, wide);
     }
 
 -- one of them put
-pub puts_byte : (ops : List Op) (s t : TheSpot) (buffer put : List ℕ) (at byte : ℕ) → length buffer ≡ 56 → length put ≡ at → at < 56 → Holds buffer put → Gives ops s t byte
+pub puts_byte : (ops : List Op) (s t : TheEndLocation) (buffer put : List ℕ) (at byte : ℕ) → length buffer ≡ 56 → length put ≡ at → at < 56 → Holds buffer put → Gives ops s t byte
     → Puts ops s t put (slice_set buffer at byte) (at + 1)
 puts_byte ops s t buffer put at byte long end inside h g =
     record {
       more = byte ∷ [];
-      spot = g.spot;
+      location = g.location;
       bytes = g.bytes;
       holds = holds_more buffer put at byte long end inside h;
       long = length-append put (byte ∷ []) ∙ omega (arith, end);
@@ -199,7 +199,7 @@ puts_byte ops s t buffer put at byte long end inside h g =
 
 -- runs
 
-pub puts_none : (ops : List Op) (s : TheSpot) (put buffer : List ℕ) (at : ℕ) → length put ≡ at → Holds buffer put → PutsRun ops s s put buffer at
+pub puts_none : (ops : List Op) (s : TheEndLocation) (put buffer : List ℕ) (at : ℕ) → length put ≡ at → Holds buffer put → PutsRun ops s s put buffer at
 puts_none ops s put buffer at long h = record {
   more = [];
   bytes = refl;
@@ -208,7 +208,7 @@ puts_none ops s put buffer at long h = record {
 }
 
 -- a number in so many bytes put behind those of a run
-pub puts_more : (ops : List Op) (s t u : TheSpot) (put buffer after : List ℕ) (at value width : ℕ) → PutsRun ops s t put buffer at → length buffer ≡ 56 → at + 8 ≤ 56
+pub puts_more : (ops : List Op) (s t u : TheEndLocation) (put buffer after : List ℕ) (at value width : ℕ) → PutsRun ops s t put buffer at → length buffer ≡ 56 → at + 8 ≤ 56
     → width ≤ 8 → value < 256 ^ width → bytes_from ops t ≡ number_bytes width value ++ bytes_from ops u → after ≡ over_eight buffer at value
     → PutsRun ops s u put after (at + width)
 puts_more ops s t u put buffer after at value width p long room few small bytes e =
@@ -222,22 +222,22 @@ puts_more ops s t u put buffer after at value width p long room few small bytes 
       long = ap length joined ∙ length_put (put ++ p.more) at width value p.long;
     }
 
-pub puts_turn : (ops : List Op) (s t u : TheSpot) (put buffer after : List ℕ) (at value width : ℕ) → PutsRun ops s t put buffer at → length buffer ≡ 56 → at + 8 ≤ 56
-    → t.width ≡ width → t.value ≡ value → IsSpot ops t → bytes_from ops t ≡ number_bytes t.width t.value ++ bytes_from ops u → after ≡ over_eight buffer at value
+pub puts_turn : (ops : List Op) (s t u : TheEndLocation) (put buffer after : List ℕ) (at value width : ℕ) → PutsRun ops s t put buffer at → length buffer ≡ 56 → at + 8 ≤ 56
+    → t.width ≡ width → t.value ≡ value → IsLocation ops t → bytes_from ops t ≡ number_bytes t.width t.value ++ bytes_from ops u → after ≡ over_eight buffer at value
     → PutsRun ops s u put after (at + width)
-puts_turn ops s t u put buffer after at value width p long room wide is spot bytes e =
+puts_turn ops s t u put buffer after at value width p long room wide is location bytes e =
     subst (λ (w : ℕ). PutsRun ops s u put after (at + w)) wide
-    (puts_more ops s t u put buffer after at t.value t.width p long room spot.width spot.value bytes (e ∙ ap (over_eight buffer at) (sym is)))
+    (puts_more ops s t u put buffer after at t.value t.width p long room location.width location.value bytes (e ∙ ap (over_eight buffer at) (sym is)))
 
 -- a run and then a number
-pub puts_after : (ops : List Op) (s t u : TheSpot) (put buffer after : List ℕ) (at end : ℕ) → (p : PutsRun ops s t put buffer at) → Puts ops t u (put ++ p.more) after end → Puts ops s u put after end
+pub puts_after : (ops : List Op) (s t u : TheEndLocation) (put buffer after : List ℕ) (at end : ℕ) → (p : PutsRun ops s t put buffer at) → Puts ops t u (put ++ p.more) after end → Puts ops s u put after end
 puts_after ops s t u put buffer after at end p q =
     let joined : put ++ (p.more ++ q.more) ≡ (put ++ p.more) ++ q.more = sym (append_assoc put p.more q.more) in
     let a = p.long in
     let b = q.longer in
     record {
       more = p.more ++ q.more;
-      spot = q.spot;
+      location = q.location;
       bytes = p.bytes ∙ ap (λ (x : List ℕ). p.more ++ x) q.bytes ∙ sym (append_assoc p.more q.more (bytes_from ops u));
       holds = subst (λ (x : List ℕ). Holds after x) (sym joined) q.holds;
       long = ap length joined ∙ q.long;
@@ -246,10 +246,10 @@ puts_after ops s t u put buffer after at end p q =
     }
 
 -- a run alone, which put something
-pub puts_alone : (ops : List Op) (s t : TheSpot) (put buffer : List ℕ) (end : ℕ) → PutsRun ops s t put buffer end → IsSpot ops t → length put < end → end ≤ 56 → Puts ops s t put buffer end
-puts_alone ops s t put buffer end p spot longer within = record {
+pub puts_alone : (ops : List Op) (s t : TheEndLocation) (put buffer : List ℕ) (end : ℕ) → PutsRun ops s t put buffer end → IsLocation ops t → length put < end → end ≤ 56 → Puts ops s t put buffer end
+puts_alone ops s t put buffer end p location longer within = record {
   more = p.more;
-  spot = spot;
+  location = location;
   bytes = p.bytes;
   holds = p.holds;
   long = p.long;

@@ -5,8 +5,8 @@ use Rattle.fl_stub.specs.declared.op.Op.{Op}
 use Rattle.fl_stub.specs.Meaning.{number_bytes}
 use Rattle.fl_stub.specs.Rests.{told}
 use Rattle.fl_machine.specs.declared.cursor.Loop.{Loop}
-use Rattle.fl_machine.specs.declared.intake.Field.{Field}
-use Rattle.fl_machine.specs.declared.intake.Intake.{Intake}
+use Rattle.fl_machine.specs.declared.intake.ByteField.{ByteField}
+use Rattle.fl_machine.specs.declared.intake.RecvCursor.{RecvCursor}
 use Rattle.fl_machine.specs.Cursors.{no_loop}
 use Rattle.fl_machine.specs.Taking.{IsFed, HasField, Grows, IsRunOf, AreWithin, inner_loop, after_bytes, run_at}
 use Rattle.fl_machine.proofs.Intakes.{here_of, Turned, turned_inner, run_again, run_field, run_turn, first_left, behind_more}
@@ -41,14 +41,14 @@ copied_more tape first buffer count from many x room inside is put =
     ∙ ap (λ (bytes : List ℕ). take count first ++ bytes) (sym (bytes_more buffer from many x inside is))
 
 -- a turn, and so many
-abbrev pub span_turn : Intake → Field → Intake
+abbrev pub span_turn : RecvCursor → ByteField → RecvCursor
 span_turn c f = record c {
   loops = slice_set c.loops (c.depth - 1) (record { start = (inner_loop c).start; turns = (inner_loop c).turns - 1 });
   count = c.count + 1;
   phase = (c.phase % 8 + f.width) % 8;
 }
 
-abbrev pub span_turns : ℕ → Intake → Field → Intake
+abbrev pub span_turns : ℕ → RecvCursor → ByteField → RecvCursor
 span_turns zero c f = c
 span_turns (suc n) c f = span_turns n (span_turn c f) f
 
@@ -66,10 +66,10 @@ grown_byte have value x rest idle small byte =
     }
 
 -- the bytes of a run of numbers go from what is left to what was taken
-pub record Spanned (ops : List Op) (taken : List ℕ) (c d : Intake) (bytes rest : List ℕ) : Type 0 where
+pub record Spanned (ops : List Op) (taken : List ℕ) (c d : RecvCursor) (bytes rest : List ℕ) : Type 0 where
   pub fed : (all : List ℕ) → IsFed ops taken c all (bytes ++ rest) → IsFed ops (taken ++ bytes) d all rest
 
-pub spanned : (bytes : List ℕ) (ops : List Op) (taken : List ℕ) (c : Intake) (f : Field) (rest : List ℕ) → HasField ops c f → IsRunOf ops c f → f.width ≡ 1 → length bytes ≤ (inner_loop c).turns
+pub spanned : (bytes : List ℕ) (ops : List Op) (taken : List ℕ) (c : RecvCursor) (f : ByteField) (rest : List ℕ) → HasField ops c f → IsRunOf ops c f → f.width ≡ 1 → length bytes ≤ (inner_loop c).turns
     → c.depth ≤ 8 → length c.loops ≡ 8 → AreWithin f.least f.last bytes → Spanned ops taken c (span_turns (length bytes) c f) bytes rest
 spanned [] ops taken c f rest field run one many few long right =
     record { fed = λ all fed. subst (λ (t : List ℕ). IsFed ops t c all rest) (sym (append-nil taken)) fed }
@@ -93,7 +93,7 @@ spanned (x ∷ bytes) ops taken c f rest field run one many few long right =
           (on.fed all (run_turn ops taken (taken ++ x ∷ []) c d all (x ∷ (bytes ++ rest)) (bytes ++ rest) f x 1 fed field run more few long (grown_byte c.have c.value x (bytes ++ rest) run.idle small right.0) whole right.2 right.1 put t));
     }
 
-pub span_far : (n : ℕ) (c : Intake) (f : Field) → f.width ≡ 1 → 0 < c.depth → c.depth ≤ 8 → length c.loops ≡ 8 → n < (inner_loop c).turns → span_turns (suc n) c f ≡ after_bytes c (suc n)
+pub span_far : (n : ℕ) (c : RecvCursor) (f : ByteField) → f.width ≡ 1 → 0 < c.depth → c.depth ≤ 8 → length c.loops ≡ 8 → n < (inner_loop c).turns → span_turns (suc n) c f ≡ after_bytes c (suc n)
 span_far zero c f one deep few long more =
     let phase : (c.phase % 8 + f.width) % 8 ≡ (c.phase % 8 + 1) % 8 = ap (λ (w : ℕ). (c.phase % 8 + w) % 8) one in
     λ i. record (span_turn c f) { phase = phase i }
@@ -114,7 +114,7 @@ span_far (suc n) c f one deep few long more =
     on ∙ (λ i. record c { loops = loops i; count = count i; phase = phase i })
 
 -- the bytes of a fragment from a place on, put on the tape
-pub span : (ops : List Op) (before tape tape2 buffer all : List ℕ) (c d : Intake) (f : Field) (used many : ℕ) → HasField ops c f → IsRunOf ops c f → f.width ≡ 1 → many ≢ 0 → many ≤ (inner_loop c).turns
+pub span : (ops : List Op) (before tape tape2 buffer all : List ℕ) (c d : RecvCursor) (f : ByteField) (used many : ℕ) → HasField ops c f → IsRunOf ops c f → f.width ≡ 1 → many ≢ 0 → many ≤ (inner_loop c).turns
     → c.depth ≤ 8 → length c.loops ≡ 8 → used + many ≤ 56 → length buffer ≡ 64 → AreWithin f.least f.last (take many (drop used buffer)) → d ≡ after_bytes c many
     → take (c.count + many) tape2 ≡ take c.count tape ++ take many (drop used buffer)
     → IsFed ops (before ++ take c.count tape) c all (drop used (take 56 buffer)) → IsFed ops (before ++ take d.count tape2) d all (drop (used + many) (take 56 buffer))
@@ -127,21 +127,21 @@ span ops before tape tape2 buffer all c d f used many field run one some few dee
     let s = spanned bytes ops (before ++ take c.count tape) c f rest field run one (omega (arith, few, bytes_long)) deep long right in
     let last : span_turns (length bytes) c f ≡ d
     = ap (λ (k : ℕ). span_turns k c f) (bytes_long ∙ one_more) ∙ span_far (many - 1) c f one run.deep deep long (omega (arith, few, some)) ∙ ap (after_bytes c) (sym one_more) ∙ sym is in
-    let numbers : (before ++ take c.count tape) ++ bytes ≡ before ++ take d.count tape2 = sym (behind_more before (take c.count tape) (take d.count tape2) bytes (ap (λ (x : Intake). take x.count tape2) is ∙ put)) in
+    let numbers : (before ++ take c.count tape) ++ bytes ≡ before ++ take d.count tape2 = sym (behind_more before (take c.count tape) (take d.count tape2) bytes (ap (λ (x : RecvCursor). take x.count tape2) is ∙ put)) in
     subst (λ (t : List ℕ). IsFed ops t d all rest) numbers
-    (subst (λ (x : Intake). IsFed ops ((before ++ take c.count tape) ++ bytes) x all rest) last
+    (subst (λ (x : RecvCursor). IsFed ops ((before ++ take c.count tape) ++ bytes) x all rest) last
     (s.fed all (subst (λ (left : List ℕ). IsFed ops (before ++ take c.count tape) c all left) (first_left buffer used many inside) fed)))
 
 -- a loop over one number, turn by turn
-pub run_inner : (c : Intake) (left count phase : ℕ) → 0 < c.depth → c.depth ≤ 8 → length c.loops ≡ 8 → inner_loop (run_at c left count phase) ≡ record { start = (inner_loop c).start; turns = left }
+pub run_inner : (c : RecvCursor) (left count phase : ℕ) → 0 < c.depth → c.depth ≤ 8 → length c.loops ≡ 8 → inner_loop (run_at c left count phase) ≡ record { start = (inner_loop c).start; turns = left }
 run_inner c left count phase deep few long =
     let inner : Loop = record { start = (inner_loop c).start; turns = left } in
     get_or-set_same c.loops (c.depth - 1) inner no_loop (omega (arith, deep, few, long))
 
-pub run_first : (c : Intake) → c ≡ run_at c (inner_loop c).turns c.count c.phase
+pub run_first : (c : RecvCursor) → c ≡ run_at c (inner_loop c).turns c.count c.phase
 run_first c = sym (ap (λ (x : List Loop). record c { loops = x }) (set-get_or c.loops (c.depth - 1) no_loop))
 
-pub run_turned : (c : Intake) (left count phase : ℕ) (f : Field) → 0 < c.depth → c.depth ≤ 8 → length c.loops ≡ 8
+pub run_turned : (c : RecvCursor) (left count phase : ℕ) (f : ByteField) → 0 < c.depth → c.depth ≤ 8 → length c.loops ≡ 8
     → Turned (run_at c left count phase) (run_at c (left - 1) (count + 1) ((phase % 8 + f.width) % 8)) f
 run_turned c left count phase f deep few long =
     let last = c.depth - 1 in
@@ -154,5 +154,5 @@ run_turned c left count phase f deep few long =
           ∙ ap (λ (l : Loop). slice_set (slice_set c.loops last before) last (record { start = l.start; turns = l.turns - 1 })) (sym is);
     }
 
-pub run_long : (c : Intake) (left count phase : ℕ) → length c.loops ≡ 8 → length (run_at c left count phase).loops ≡ 8
+pub run_long : (c : RecvCursor) (left count phase : ℕ) → length c.loops ≡ 8 → length (run_at c left count phase).loops ≡ 8
 run_long c left count phase long = length-set c.loops (c.depth - 1) (record { start = (inner_loop c).start; turns = left }) ∙ long

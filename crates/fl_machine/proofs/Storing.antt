@@ -7,12 +7,12 @@ use Rattle.fl_stub.specs.Given.{bytes_given}
 use Rattle.fl_machine.specs.Sending.{frags_holding}
 use Rattle.fl_base.specs.declared.fragment.Frag.{Frag}
 use Rattle.fl_interface.specs.Interface.{TheInterface}
-use Rattle.fl_value.specs.declared.value.PlanNo.{PlanNo}
+use Rattle.fl_value_data.specs.declared.value.PlanNo.{PlanNo}
 use Rattle.fl_stub.specs.declared.op.Column.TheVariants.{Receive}
 use Rattle.fl_compile.specs.declared.program.Program.{Program}
 use Rattle.fl_compile.specs.Programs.{TheProgram, program_of}
 use Rattle.fl_compile.specs.Compiled.{message_code}
-use Rattle.fl_machine.specs.declared.recv.Begun.{Begun}
+use Rattle.fl_machine.specs.declared.recv.PartialCall.{PartialCall}
 use Rattle.fl_machine.specs.Receiving.{Stand, Between, Inside, After, Before}
 use Rattle.fl_machine.specs.Taking.{Stands, so_far}
 use Rattle.fl_machine.specs.declared.intake.Fed.{Fed}
@@ -136,7 +136,7 @@ fed_before_same plan i n tape tape2 spare (Some b) same (stands, few) = ap Some 
         let less : numbers_in b.stand ≤ n = subst (λ (v : Bool). CountsNow v (numbers_in b.stand) n) e few in
         rw e (fed_same plan i n tape tape2 b.stand same less)
 
-pub stored_same : (plan : PlanNo) (i : TheInterface) (s : TheStored) (b : Begun) (tape2 : List ℕ) → s.stand ≡ Inside b → Same b.intake.count s.tape tape2 → IsStored plan i s → IsStored plan i (with_tape tape2 s)
+pub stored_same : (plan : PlanNo) (i : TheInterface) (s : TheStored) (b : PartialCall) (tape2 : List ℕ) → s.stand ≡ Inside b → Same b.intake.count s.tape tape2 → IsStored plan i s → IsStored plan i (with_tape tape2 s)
 stored_same plan i s b tape2 inside same x =
     let counts : numbers_in s.stand ≡ b.intake.count = ap numbers_in inside in
     let own : Same (numbers_in s.stand) s.tape tape2 = subst (λ (n : ℕ). Same n s.tape tape2) (sym counts) same in
@@ -149,7 +149,7 @@ stored_same plan i s b tape2 inside same x =
       before = before_same plan i (numbers_in s.stand) s.tape tape2 s.spare s.before own x.before;
     }
 
-pub receiving_same : (program : Program) (s : TheStored) (b : Begun) (tape2 : List ℕ) → s.stand ≡ Inside b → Same b.intake.count s.tape tape2
+pub receiving_same : (program : Program) (s : TheStored) (b : PartialCall) (tape2 : List ℕ) → s.stand ≡ Inside b → Same b.intake.count s.tape tape2
     → IsStored (program_of program).plan (program_of program).interface s → receiving program (with_tape tape2 s) ≡ receiving program s
 receiving_same program s b tape2 inside same x =
     let plan = (program_of program).plan in
@@ -192,7 +192,7 @@ gone_over plan i n count s tape spare tape2 fresh counts x first (long, past) on
     of_two m a b h k (inl e) = two_more plan i a m (omega (arith, e)) h
     of_two m a b h k (inr e) = two_more plan i b m (omega (arith, e)) k
 
-pub within_tape : (plan : PlanNo) (i : TheInterface) (s : TheStored) (b : Begun) → s.stand ≡ Inside b → IsStored plan i s → b.intake.count ≤ length s.tape
+pub within_tape : (plan : PlanNo) (i : TheInterface) (s : TheStored) (b : PartialCall) → s.stand ≡ Inside b → IsStored plan i s → b.intake.count ≤ length s.tape
 within_tape plan i s b inside x =
     let (some, begun) = subst (λ (t : Stand). IsStand plan i s.tape t) inside x.stand in
     begun.within
@@ -222,7 +222,7 @@ fed_before_moved plan i n tape tape2 spare spare2 (Some b) many same (stands, fe
         let less : numbers_in b.stand ≤ n = subst (λ (v : Bool). CountsNow v (numbers_in b.stand) n) e few in
         rw e (fed_same plan i n tape tape2 b.stand same less)
 
-pub moved_stored : (plan : PlanNo) (i : TheInterface) (s : TheStored) (b : Begun) (tape2 spare2 fresh2 : List ℕ) → s.stand ≡ Inside b → 56 < b.intake.count
+pub moved_stored : (plan : PlanNo) (i : TheInterface) (s : TheStored) (b : PartialCall) (tape2 spare2 fresh2 : List ℕ) → s.stand ≡ Inside b → 56 < b.intake.count
     → Moved plan i b.intake.count s tape2 spare2 fresh2 → IsStored plan i s → IsStored plan i (with_tapes tape2 spare2 fresh2 s)
 moved_stored plan i s b tape2 spare2 fresh2 inside many m x =
     let counts : numbers_in s.stand ≡ b.intake.count = ap numbers_in inside in
@@ -237,7 +237,7 @@ moved_stored plan i s b tape2 spare2 fresh2 inside many m x =
       before = before_moved plan i (numbers_in s.stand) s.tape tape2 s.spare spare2 s.before (omega (arith, counts, many)) own x.before;
     }
 
-pub moved_receiving : (program : Program) (s : TheStored) (b : Begun) (tape2 spare2 fresh2 : List ℕ) → s.stand ≡ Inside b → 56 < b.intake.count
+pub moved_receiving : (program : Program) (s : TheStored) (b : PartialCall) (tape2 spare2 fresh2 : List ℕ) → s.stand ≡ Inside b → 56 < b.intake.count
     → Moved (program_of program).plan (program_of program).interface b.intake.count s tape2 spare2 fresh2 → IsStored (program_of program).plan (program_of program).interface s
     → receiving program (with_tapes tape2 spare2 fresh2 s) ≡ receiving program s
 moved_receiving program s b tape2 spare2 fresh2 inside many m x =
@@ -275,7 +275,7 @@ held_again plan i tape Between = refl
 held_again plan i tape (Inside b) = refl
 held_again plan i tape (After e) = refl
 
-pub begun_feeds : (program : Program) (s : TheStored) (tape : List ℕ) (b : Begun) (f : Frag) (fed : Fed) → (receiving program s).parts ≡ []
+pub begun_feeds : (program : Program) (s : TheStored) (tape : List ℕ) (b : PartialCall) (f : Frag) (fed : Fed) → (receiving program s).parts ≡ []
     → Adds (program_of program).plan (program_of program).interface [] f (fed_of (program_of program).plan (program_of program).interface tape (stand_after b fed)) (stand_after b fed)
     → Feeds (receiving program s) f (Ok fed) (receiving program (begun_on s tape (stand_after b fed)))
 begun_feeds program s tape b f Part outside adds =
@@ -307,7 +307,7 @@ begun_as s tape tape2 spare fresh stand stand2 from e f g h k = λ n. record {
 abbrev pub gone_on : TheStored → List ℕ → Stand → TheStored
 gone_on s tape stand = record { tape = tape; spare = s.spare; fresh = s.fresh; stand = stand; before = Some (record { stand = s.stand; began = false }) }
 
-pub gone_on_stored : (plan : PlanNo) (i : TheInterface) (s : TheStored) (b : Begun) (tape : List ℕ) (stand : Stand) → s.stand ≡ Inside b → Same b.intake.count s.tape tape → IsStored plan i s
+pub gone_on_stored : (plan : PlanNo) (i : TheInterface) (s : TheStored) (b : PartialCall) (tape : List ℕ) (stand : Stand) → s.stand ≡ Inside b → Same b.intake.count s.tape tape → IsStored plan i s
     → b.intake.count ≤ numbers_in stand → IsStand plan i tape stand → IsStored plan i (gone_on s tape stand)
 gone_on_stored plan i s b tape stand inside same x more stands =
     let counts : numbers_in s.stand ≡ b.intake.count = ap numbers_in inside in

@@ -6,7 +6,7 @@ use Rattle.fl_base.specs.Control.{control_word, message_of, body}
 use Rattle.fl_interface.specs.Interface.{TheInterface}
 use Rattle.fl_interface.specs.Limits.{is_within_limits}
 use Rattle.fl_interface.specs.Counts.{interface_words_fit}
-use Rattle.fl_value.specs.declared.value.PlanNo.{PlanNo}
+use Rattle.fl_value_data.specs.declared.value.PlanNo.{PlanNo}
 use Rattle.fl_wire.specs.Headers.{Line}
 use Rattle.fl_wire.specs.Wrong.{start_fault}
 use Rattle.fl_wire.proofs.Frames.{start_control}
@@ -16,18 +16,18 @@ use Rattle.fl_compile.specs.Codes.{compiled_code}
 use Rattle.fl_stub.specs.declared.op.Op.{Op}
 use Rattle.fl_stub.specs.declared.op.Op.TheVariants.{Emit, Pad, Align, Length as LengthOp, Times, Each, Back, End, Read, ReadBool, ReadEnum, ReadChar, Skip, ReadLength, ReadText, Done}
 use Rattle.fl_stub.specs.declared.op.Column.TheVariants.{Receive}
-use Rattle.fl_stub.specs.declared.mark.Mark.TheVariants.{Length}
+use Rattle.fl_stub.specs.declared.mark.ByteKind.TheVariants.{Length}
 use Rattle.fl_stub.specs.Structure.{IsCode}
 use Rattle.fl_stub.specs.Frames.{block_of}
 use Rattle.fl_stub.specs.Rests.{TheField, rest_all, is_taken, taken_field, is_silent, told}
 use Rattle.fl_stub.proofs.Stances.{first_stance, first_reach}
-use Rattle.fl_machine.specs.declared.intake.Field.{Field}
-use Rattle.fl_machine.specs.declared.intake.Intake.{Intake}
+use Rattle.fl_machine.specs.declared.intake.ByteField.{ByteField}
+use Rattle.fl_machine.specs.declared.intake.RecvCursor.{RecvCursor}
 use Rattle.fl_stub.specs.Meaning.{number_bytes}
 use Rattle.fl_machine.specs.Taking.{field_view, IsTaking, IsAtField, Stands, IsFed, HasField, Passes, Grows, words_bytes}
 use Rattle.fl_machine.specs.Straight.{is_straight, straight_intake, straight_behind, HasNumber}
-use Rattle.fl_machine.specs.declared.recv.Begun.{Begun}
-use Rattle.fl_machine.specs.declared.recv.Ended.{Ended}
+use Rattle.fl_machine.specs.declared.recv.PartialCall.{PartialCall}
+use Rattle.fl_machine.specs.declared.recv.TapedCall.{TapedCall}
 use Rattle.fl_machine.specs.Receiving.{parts_of, whole_of, TheHeld, AddsLast, IsEnded}
 use Rattle.fl_machine.proofs.Feeding.{taking, none_begun, is_whole, ended, adds_last}
 use Rattle.fl_machine.proofs.Intakes.{takes_here, has_field, here_of, over_step, passes_none, whole_here}
@@ -109,37 +109,37 @@ straight_new ops code = record {
 
 -- ---- one instruction
 
-straight_quiet : (ops : List Op) (c : Intake) (op : Op) → slice_get ops c.place ≡ Some op → is_straight op ≡ true → IsAtField ops c
+straight_quiet : (ops : List Op) (c : RecvCursor) (op : Op) → slice_get ops c.place ≡ Some op → is_straight op ≡ true → IsAtField ops c
 straight_quiet ops c op there straight other found =
     let both : Some op ≡ Some other = sym there ∙ found in
     let same : op ≡ other = cc in
     subst (λ (o : Op). is_silent o c.phase ≡ false) same (straight_loud op c.phase straight)
 
-pub straight_takes : (ops : List Op) (c : Intake) (op : Op) → slice_get ops c.place ≡ Some op → is_straight op ≡ true → IsTaking ops c → is_taken op ≡ true
+pub straight_takes : (ops : List Op) (c : RecvCursor) (op : Op) → slice_get ops c.place ≡ Some op → is_straight op ≡ true → IsTaking ops c → is_taken op ≡ true
 straight_takes ops c op there straight s = (takes_here ops c op there s (straight_quiet ops c op there straight) (straight_more op straight)).taken
 
-straight_field : (ops : List Op) (c : Intake) (op : Op) (f : Field) → slice_get ops c.place ≡ Some op → is_straight op ≡ true → IsTaking ops c
+straight_field : (ops : List Op) (c : RecvCursor) (op : Op) (f : ByteField) → slice_get ops c.place ≡ Some op → is_straight op ≡ true → IsTaking ops c
     → ((at : ℕ) → 0 % 8 ≡ at % 8 → field_view f ≡ taken_field op at) → HasField ops c f
 straight_field ops c op f there straight s view =
     has_field ops c op f there s (straight_quiet ops c op there straight) (straight_more op straight) (λ at same. view 0 refl ∙ straight_same op at straight)
 
-pub straight_narrow : (ops : List Op) (taken : List ℕ) (c : Intake) (all left : List ℕ) (op : Op) (f : Field) → slice_get ops c.place ≡ Some op → is_straight op ≡ true → IsFed ops taken c all left
+pub straight_narrow : (ops : List Op) (taken : List ℕ) (c : RecvCursor) (all left : List ℕ) (op : Op) (f : ByteField) → slice_get ops c.place ≡ Some op → is_straight op ≡ true → IsFed ops taken c all left
     → ((at : ℕ) → 0 % 8 ≡ at % 8 → field_view f ≡ taken_field op at) → f.width ≤ 8
 straight_narrow ops taken c all left op f there straight fed view =
     (here_of ops taken c all left f fed (straight_field ops c op f there straight fed.at.stance view)).reach.sound.0.width
 
 -- past a straight instruction, from wherever a run stands that has got no byte of a number
-straight_over : (ops : List Op) (taken taken2 all buffer : List ℕ) (c : Intake) (count2 used : ℕ) (op : Op) (f : Field) (x : ℕ)
+straight_over : (ops : List Op) (taken taken2 all buffer : List ℕ) (c : RecvCursor) (count2 used : ℕ) (op : Op) (f : ByteField) (x : ℕ)
     → IsFed ops taken c all (drop used (take 56 buffer)) → c.have ≡ 0 → c.value ≡ 0 → slice_get ops c.place ≡ Some op → is_straight op ≡ true
     → ((at : ℕ) → 0 % 8 ≡ at % 8 → field_view f ≡ taken_field op at) → HasNumber f buffer used x → taken2 ≡ taken ++ told f.told x
     → IsFed ops taken2 (record c { place = c.place + 1; count = count2; phase = (c.phase % 8 + f.width) % 8; value = 0; have = 0 }) all (drop (used + f.width) (take 56 buffer))
 straight_over ops taken taken2 all buffer c count2 used op f x fed idle none there straight view number put =
-    let c1 : Intake = record c { count = count2 } in
+    let c1 : RecvCursor = record c { count = count2 } in
     let stance : IsTaking ops c = fed.at.stance in
     let field = straight_field ops c op f there straight stance view in
     let field1 : HasField ops c1 f = record { op = field.op; there = field.there; taken = field.taken; view = field.view; wide = field.wide } in
     let mark : f.mark ≢ Length = λ m. straight_mark op straight (sym (ap TheField.mark (view 0 refl)) ∙ m) in
-    let c2 : Intake = record c1 { place = c.place + 1; phase = (c1.phase % 8 + f.width) % 8; value = 0; have = 0 } in
+    let c2 : RecvCursor = record c1 { place = c.place + 1; phase = (c1.phase % 8 + f.width) % 8; value = 0; have = 0 } in
     let over = over_step ops c1 f x field1 stance mark in
     let grown : Grows c.have c.value x (f.width) (drop used (take 56 buffer)) (drop (used + f.width) (take 56 buffer))
     = subst (λ (h : ℕ). Grows h c.value x f.width (drop used (take 56 buffer)) (drop (used + f.width) (take 56 buffer))) (sym idle)
@@ -147,12 +147,12 @@ straight_over ops taken taken2 all buffer c count2 used op f x fed idle none the
     whole_here ops taken taken2 c c1 c2 c2 all (drop used (take 56 buffer)) (drop (used + f.width) (take 56 buffer)) f x f.width
     fed field grown (omega (arith, idle)) number.last number.least refl put over (passes_none ops c2 over.stance)
 
-pub straight_step : (ops : List Op) (taken taken2 all buffer : List ℕ) (place count count2 used : ℕ) (op : Op) (f : Field) (x : ℕ)
+pub straight_step : (ops : List Op) (taken taken2 all buffer : List ℕ) (place count count2 used : ℕ) (op : Op) (f : ByteField) (x : ℕ)
     → IsFed ops taken (straight_intake place count used) all (drop used (take 56 buffer)) → slice_get ops place ≡ Some op → is_straight op ≡ true
     → ((at : ℕ) → 0 % 8 ≡ at % 8 → field_view f ≡ taken_field op at) → HasNumber f buffer used x → taken2 ≡ taken ++ told f.told x
     → IsFed ops taken2 (straight_intake (place + 1) count2 (used + f.width)) all (drop (used + f.width) (take 56 buffer))
 straight_step ops taken taken2 all buffer place count count2 used op f x fed there straight view number put =
-    let c : Intake = straight_intake place count used in
+    let c : RecvCursor = straight_intake place count used in
     let made = straight_over ops taken taken2 all buffer c count2 used op f x fed refl refl there straight view number put in
     let phase : (used % 8 % 8 + f.width) % 8 ≡ (used + f.width) % 8 = omega arith in
     subst (λ (p : ℕ). IsFed ops taken2 (record (straight_intake (place + 1) count2 0) { phase = p }) all (drop (used + f.width) (take 56 buffer))) phase made
@@ -160,7 +160,7 @@ straight_step ops taken taken2 all buffer place count count2 used op f x fed the
 -- ---- where a fragment begins
 
 -- a run that has got no byte of a number
-pub straight_begin : (ops : List Op) (taken : List ℕ) (c : Intake) (phase : ℕ) (all left : List ℕ) → IsFed ops taken c all left → c.have ≡ 0 → phase % 8 ≡ c.phase % 8
+pub straight_begin : (ops : List Op) (taken : List ℕ) (c : RecvCursor) (phase : ℕ) (all left : List ℕ) → IsFed ops taken c all left → c.have ≡ 0 → phase % 8 ≡ c.phase % 8
     → IsFed ops taken (straight_behind c c.place c.count phase) all left
 straight_begin ops taken c phase all left fed idle same =
     let a = fed.at in
@@ -178,7 +178,7 @@ straight_begin ops taken c phase all left fed idle same =
       joined = fed.joined;
     }
 
-pub straight_on : (ops : List Op) (taken taken2 all buffer : List ℕ) (c : Intake) (place count count2 used phase : ℕ) (op : Op) (f : Field) (x : ℕ)
+pub straight_on : (ops : List Op) (taken taken2 all buffer : List ℕ) (c : RecvCursor) (place count count2 used phase : ℕ) (op : Op) (f : ByteField) (x : ℕ)
     → IsFed ops taken (straight_behind c place count phase) all (drop used (take 56 buffer)) → slice_get ops place ≡ Some op → is_straight op ≡ true
     → ((at : ℕ) → 0 % 8 ≡ at % 8 → field_view f ≡ taken_field op at) → HasNumber f buffer used x → taken2 ≡ taken ++ told f.told x
     → IsFed ops taken2 (straight_behind c (place + 1) count2 ((phase % 8 + (used + f.width - used)) % 8)) all (drop (used + f.width) (take 56 buffer))
@@ -191,22 +191,22 @@ straight_on ops taken taken2 all buffer c place count count2 used phase op f x f
 pub phase_further : (phase from used end : ℕ) → from ≤ used → used ≤ end → ((phase % 8 + (used - from)) % 8 % 8 + (end - used)) % 8 ≡ (phase % 8 + (end - from)) % 8
 phase_further phase from used end first second = omega (arith, first, second)
 
-pub straight_wide : (ops : List Op) (taken : List ℕ) (c : Intake) (all left : List ℕ) (op : Op) (f : Field) → slice_get ops c.place ≡ Some op → is_straight op ≡ true → IsFed ops taken c all left
+pub straight_wide : (ops : List Op) (taken : List ℕ) (c : RecvCursor) (all left : List ℕ) (op : Op) (f : ByteField) → slice_get ops c.place ≡ Some op → is_straight op ≡ true → IsFed ops taken c all left
     → ((at : ℕ) → 0 % 8 ≡ at % 8 → field_view f ≡ taken_field op at) → 0 < f.width
 straight_wide ops taken c all left op f there straight fed view = (straight_field ops c op f there straight fed.at.stance view).wide
 
 -- on to the next instruction that takes bytes
-pub straight_settled : (ops : List Op) (taken : List ℕ) (c d : Intake) (all left : List ℕ) → IsFed ops taken c all left → c.have ≡ 0 → c.value ≡ 0 → Passes ops c d → IsFed ops taken d all left
+pub straight_settled : (ops : List Op) (taken : List ℕ) (c d : RecvCursor) (all left : List ℕ) → IsFed ops taken c all left → c.have ≡ 0 → c.value ≡ 0 → Passes ops c d → IsFed ops taken d all left
 straight_settled ops taken c d all left fed idle none p =
     let a = fed.at in
-    let have : d.have ≡ c.have = ap Intake.have p.others in
-    let value : d.value ≡ c.value = ap Intake.value p.others in
+    let have : d.have ≡ c.have = ap RecvCursor.have p.others in
+    let value : d.value ≡ c.value = ap RecvCursor.value p.others in
     record {
       prefix = fed.prefix;
       at = record {
         done = a.done;
         stance = p.stance;
-        phase = ap (λ (x : Intake). x.phase % 8) p.others ∙ a.phase;
+        phase = ap (λ (x : RecvCursor). x.phase % 8) p.others ∙ a.phase;
         reach = p.leads (length a.done) a.phase (rest_all (block_of ops)) taken a.done a.reach;
         waiting = inl (have ∙ idle, value ∙ none);
         bytes_are = a.bytes_are ∙ (λ i. a.done ++ number_bytes (sym have i) (sym value i));
@@ -221,12 +221,12 @@ no_bytes : (bytes : List ℕ) → length bytes ≡ 0 → bytes ≡ []
 no_bytes [] e = refl
 no_bytes (x ∷ bytes) e = absurd (omega (arith, e))
 
-pub straight_ends : (plan : PlanNo) (i : TheInterface) (f : Frag) (code : TheCode) (ops : List Op) (tape : List ℕ) (e : Ended) → is_within_limits i ≡ true → interface_words_fit i ≡ true → Line f
+pub straight_ends : (plan : PlanNo) (i : TheInterface) (f : Frag) (code : TheCode) (ops : List Op) (tape : List ℕ) (e : TapedCall) → is_within_limits i ≡ true → interface_words_fit i ≡ true → Line f
     → start_fault i f ≡ None → e.msg.0 ≡ message_of f.control → Some code ≡ option_map (compiled_code Receive plan) (slice_get i.messages e.msg.0) → ops ≡ code.ops
     → e.count ≤ length tape → IsPayload (block_of ops) (words_bytes f.words) (take e.count tape)
     → IsEnded plan i tape e × AddsLast plan i [] f (let t : TheHeld = record { parts = []; whole = whole_of plan i tape e } in t)
 straight_ends plan i f code ops tape e within words line none own exact lent few whole =
-    let b : Begun = record { msg = e.msg; fed = 0; intake = straight_intake 0 0 0 } in
+    let b : PartialCall = record { msg = e.msg; fed = 0; intake = straight_intake 0 0 0 } in
     let begun = none_begun plan i [] b f within words none own refl refl straight_new in
     let control : body f.control ≡ control_word true e.msg.0 0 = start_control i f none ∙ ap (λ (m : ℕ). control_word true m 0) (sym own) in
     let x = taking plan i [] b f code ops within words line begun control exact lent in

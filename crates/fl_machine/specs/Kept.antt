@@ -3,23 +3,23 @@ use Rattle.std.specs.Prelude.{◌≡◌, ℕ, ◌<◌, true, List, [], ◌∷◌
 use Rattle.fl_base.specs.declared.fragment.Frag.{Frag}
 use Rattle.fl_base.specs.Control.{bare}
 use Rattle.fl_interface.specs.Interface.{TheInterface}
-use Rattle.fl_value.specs.declared.value.PlanNo.{PlanNo}
-use Rattle.fl_value.specs.Value.{TheCall}
-use Rattle.fl_value.specs.Fits.{fits_of}
+use Rattle.fl_value_data.specs.declared.value.PlanNo.{PlanNo}
+use Rattle.fl_value_data.specs.Value.{TheCall}
+use Rattle.fl_value_data.specs.Fits.{fits_of}
 use Rattle.fl_wire.specs.Payload.{frags_of}
 use Rattle.fl_wire.specs.Reading.{Means, IsPart}
 use Rattle.fl_wire.specs.declared.fault.WireFault.{WireFault}
 use Rattle.fl_compile.specs.Programs.{TheProgram}
 use Rattle.fl_machine.specs.Receiving.{IsBegun, parts_of, HasFaultIn, IsRefusedIn}
-use Rattle.fl_machine.specs.declared.recv.Begun.{Begun}
+use Rattle.fl_machine.specs.declared.recv.PartialCall.{PartialCall}
 
 -- a call as if so many numbers had been counted
-abbrev pub counting : ℕ → Begun → Begun
+abbrev pub counting : ℕ → PartialCall → PartialCall
 counting count b = record { msg = b.msg; fed = b.fed; intake = record b.intake { count = count } }
 
 -- these are the fragments of a call under way, and no number of it is counted: with the numbers that were taken from them on a tape
 -- it would stand behind them
-pub record IsKept (plan : PlanNo) (i : TheInterface) (parts : List Frag) (b : Begun) : Type 0 where
+pub record IsKept (plan : PlanNo) (i : TheInterface) (parts : List Frag) (b : PartialCall) : Type 0 where
   pub some : 0 < b.fed
   pub none : b.intake.count ≡ 0
   pub taken : List ℕ
@@ -35,7 +35,7 @@ pub record EndsCall (plan : PlanNo) (i : TheInterface) (parts : List Frag) (f : 
 
 -- ---- the same, of a program
 
-abbrev pub IsKeptIn : TheProgram → List Frag → Begun → Type 0
+abbrev pub IsKeptIn : TheProgram → List Frag → PartialCall → Type 0
 IsKeptIn p parts b = IsKept p.plan p.interface parts b
 
 abbrev pub IsPartIn : TheProgram → List Frag → Type 0
@@ -50,16 +50,16 @@ pub record HasFrags (p : TheProgram) (c : TheCall) (frags : List Frag) : Type 0 
   pub frags_are : frags ≡ frags_of p.plan p.interface c
 
 -- what a fragment comes to behind the parts of a call, whichever they are: the call goes on
-abbrev pub GoesOn : TheProgram → Begun → Frag → Begun → Type 0
+abbrev pub GoesOn : TheProgram → PartialCall → Frag → PartialCall → Type 0
 GoesOn p b f d = (parts : List Frag) → IsKeptIn p parts b → IsPartIn p (parts ++ f ∷ []) × IsKeptIn p (parts ++ bare f ∷ []) d
 
 -- it is whole
-abbrev pub Ends : TheProgram → Begun → Frag → Type 0
+abbrev pub Ends : TheProgram → PartialCall → Frag → Type 0
 Ends p b f = (parts : List Frag) → IsKeptIn p parts b → EndsCallIn p parts f
 
 -- the fragment is at fault, or can't follow
-abbrev pub IsFaulty : TheProgram → Begun → Frag → WireFault → Type 0
+abbrev pub IsFaulty : TheProgram → PartialCall → Frag → WireFault → Type 0
 IsFaulty p b f fault = (parts : List Frag) → IsKeptIn p parts b → HasFaultIn p parts f fault
 
-abbrev pub Refuses : TheProgram → Begun → Frag → WireFault → Type 0
+abbrev pub Refuses : TheProgram → PartialCall → Frag → WireFault → Type 0
 Refuses p b f fault = (parts : List Frag) → IsKeptIn p parts b → IsRefusedIn p parts f fault

@@ -5,9 +5,9 @@ use Rattle.fl_compile.specs.Programs.{TheProgram, program_of}
 use Rattle.fl_machine.specs.Receiving.{HoldsParts}
 use Rattle.fl_machine.specs.Reassembling.{TheReassembly, IsUnderWay, reassembly_on}
 use Rattle.fl_machine.specs.Rooms.{TheRoom, IsRooms, rooms_of}
-use Rattle.fl_machine.specs.declared.recv.Begun.{Begun}
+use Rattle.fl_machine.specs.declared.recv.PartialCall.{PartialCall}
 use Rattle.fl_machine.specs.declared.reassembly.Assembly.{Assembly}
-use Rattle.fl_machine.specs.declared.reassemblies.Places.{Places}
+use Rattle.fl_machine.specs.declared.reassemblies.ReassemblyPlaces.{ReassemblyPlaces}
 
 -- the fragments of a room; none where it isn't there
 abbrev pub frags_in : Option (List Frag) → List Frag
@@ -25,11 +25,11 @@ joined (p ∷ ps) [] = []
 joined (p ∷ ps) (t ∷ ts) = reassembly_at p t ∷ joined ps ts
 
 -- that of every place
-abbrev pub reassemblies : Places → List TheReassembly
+abbrev pub reassemblies : ReassemblyPlaces → List TheReassembly
 reassemblies s = joined s.places.items (rooms_of s.rooms)
 
 -- the fragments of a call under way are in its room, which is there then
-abbrev pub StandsOn : TheProgram → Option (List Frag) → Option Begun → Type 0
+abbrev pub StandsOn : TheProgram → Option (List Frag) → Option PartialCall → Type 0
 StandsOn p None begun = begun ≡ None
 StandsOn p (Some room) begun = IsUnderWay p room begun
 
@@ -46,19 +46,19 @@ AreJoined (p ∷ ps) [] = ⊥
 AreJoined (p ∷ ps) (t ∷ ts) = IsPlace p t × AreJoined ps ts
 
 -- the rooms lie apart, and each place has its own
-pub record ArePlaces (s : Places) : Type 0 where
+pub record ArePlaces (s : ReassemblyPlaces) : Type 0 where
   pub rooms : IsRooms s.rooms
   pub joined : AreJoined s.places.items (rooms_of s.rooms)
 
 -- no call is under way at a place
-pub record IsBetween (s : Places) (place : ℕ) : Type 0 where
+pub record IsBetween (s : ReassemblyPlaces) (place : ℕ) : Type 0 where
   pub at : Assembly
   pub at_there : slice_get s.places.items place ≡ Some at
   pub none : at.begun ≡ None
 
 -- a call is under way there
-pub record IsInside (s : Places) (place : ℕ) : Type 0 where
+pub record IsInside (s : ReassemblyPlaces) (place : ℕ) : Type 0 where
   pub at : Assembly
   pub at_there : slice_get s.places.items place ≡ Some at
-  pub begun : Begun
+  pub begun : PartialCall
   pub under_way : at.begun ≡ Some begun

@@ -4,15 +4,15 @@ use Rattle.std.specs.Prelude.{◌≡◌, ℕ, ◌≤◌, true, List, [], ◌∷�
 use Rattle.fl_base.specs.declared.fragment.Frag.{Frag}
 use Rattle.fl_base.specs.Control.{bare}
 use Rattle.fl_interface.specs.Interface.{TheInterface}
-use Rattle.fl_value.specs.declared.value.PlanNo.{PlanNo}
-use Rattle.fl_value.specs.Value.{TheCall, call_of}
-use Rattle.fl_value.specs.Fits.{fits_of}
+use Rattle.fl_value_data.specs.declared.value.PlanNo.{PlanNo}
+use Rattle.fl_value_data.specs.Value.{TheCall, call_of}
+use Rattle.fl_value_data.specs.Fits.{fits_of}
 use Rattle.fl_wire.specs.Reading.{Means, IsPart}
 use Rattle.fl_compile.specs.declared.program.Program.{Program}
 use Rattle.fl_compile.specs.Programs.{TheProgram, program_of}
 use Rattle.fl_machine.specs.Receiving.{IsRefused}
 use Rattle.fl_machine.specs.Kept.{IsKeptIn, IsPartIn}
-use Rattle.fl_machine.specs.declared.recv.Begun.{Begun}
+use Rattle.fl_machine.specs.declared.recv.PartialCall.{PartialCall}
 use Rattle.fl_machine.specs.declared.reassembly.Taken.{Taken}
 use Rattle.fl_machine.specs.declared.reassembly.Taken.TheVariants.{Part, Whole}
 use Rattle.fl_machine.specs.declared.reassembly.TakeFault.{TakeFault}
@@ -64,21 +64,21 @@ pub record ChangesPlace (before : List TheReassembly) (place : ℕ) (Event : The
 -- ---- what is stored
 
 -- the fragments of a call under way are the first of its room
-abbrev pub parts_under : List Frag → Option Begun → List Frag
+abbrev pub parts_under : List Frag → Option PartialCall → List Frag
 parts_under room None = []
 parts_under room (Some b) = take b.fed room
 
 -- where a call is under way, all that was fed of it is in its room
-abbrev pub IsUnderWay : TheProgram → List Frag → Option Begun → Type 0
+abbrev pub IsUnderWay : TheProgram → List Frag → Option PartialCall → Type 0
 IsUnderWay p room None = Unit {0}
 IsUnderWay p room (Some b) = (b.fed ≤ length room) × IsKeptIn p (take b.fed room) b
 
 -- a program, and the fragments of a call under way that lie in a room
-abbrev pub reassembly_on : Program → List Frag → Option Begun → TheReassembly
+abbrev pub reassembly_on : Program → List Frag → Option PartialCall → TheReassembly
 reassembly_on program room begun = record { program = program; parts = parts_under room begun }
 
 -- with a fragment behind the parts of a call, if one is under way, the call goes on
-pub record GoesOnFrom (p : TheProgram) (room : List Frag) (o : Option Begun) (f : Frag) (next : Begun)
+pub record GoesOnFrom (p : TheProgram) (room : List Frag) (o : Option PartialCall) (f : Frag) (next : PartialCall)
     : Type 0 where
   pub under_way : IsUnderWay p room o
   pub part : IsPartIn p (parts_under room o ++ f ∷ [])

@@ -6,10 +6,10 @@ use Rattle.std.specs.List.{range_with_len}
 use Rattle.fl_base.specs.declared.fragment.Frag.{Frag}
 use Rattle.fl_base.specs.Control.{bare}
 use Rattle.fl_interface.specs.Interface.{TheMessage, TheInterface}
-use Rattle.fl_value.specs.declared.value.PlanNo.{PlanNo}
-use Rattle.fl_value.specs.Value.{TheCall}
-use Rattle.fl_value.specs.Fits.{fits_of}
-use Rattle.fl_value.specs.Tape.{tape_of}
+use Rattle.fl_value_data.specs.declared.value.PlanNo.{PlanNo}
+use Rattle.fl_value_data.specs.Value.{TheCall}
+use Rattle.fl_value_data.specs.Fits.{fits_of}
+use Rattle.fl_value_data.specs.Tape.{tape_of}
 use Rattle.fl_layout.specs.Layouts.{tape_length}
 use Rattle.fl_layout.specs.Places.{count}
 use Rattle.fl_wire.specs.Reading.{Means, IsPart, IsWrong}
@@ -26,12 +26,12 @@ use Rattle.fl_compile.specs.declared.program.Program.{Program}
 use Rattle.fl_compile.specs.Programs.{TheProgram, program_of}
 use Rattle.fl_machine.specs.Sending.{frag_of, frags_holding}
 use Rattle.fl_machine.specs.Taking.{Stands, so_far}
-use Rattle.fl_machine.specs.declared.recv.Begun.{Begun}
-use Rattle.fl_machine.specs.declared.recv.Ended.{Ended}
+use Rattle.fl_machine.specs.declared.recv.PartialCall.{PartialCall}
+use Rattle.fl_machine.specs.declared.recv.TapedCall.{TapedCall}
 use Rattle.fl_machine.specs.declared.recv.Phase.{Phase}
 use Rattle.fl_machine.specs.declared.recv.Phase.TheVariants.{Idle, Busy, Done}
-use Rattle.fl_machine.specs.declared.recv.Former.{Former}
-use Rattle.fl_machine.specs.declared.recv.Stored.{Stored}
+use Rattle.fl_machine.specs.declared.recv.BeforeFeed.{BeforeFeed}
+use Rattle.fl_machine.specs.declared.recv.RecvState.{RecvState}
 use Rattle.fl_machine.specs.declared.intake.Fed.{Fed}
 use Rattle.fl_machine.specs.declared.intake.Fed.TheVariants.{Part, Whole}
 
@@ -74,18 +74,18 @@ abbrev pub frags_begun : ℕ → List ℕ → ℕ → List Frag
 frags_begun msg bytes count = map (frag_of true msg 0 bytes) (range_with_len 0 count)
 
 -- what the code gives back for the numbers taken so far begins with the bytes fed
-abbrev pub parts_of : PlanNo → TheInterface → List ℕ → Begun → List Frag
+abbrev pub parts_of : PlanNo → TheInterface → List ℕ → PartialCall → List Frag
 parts_of plan i tape b = frags_begun b.msg.0 (bytes_given (block_at plan i b.msg.0) (so_far (take b.intake.count tape) b.intake)) b.fed
 
 -- the fragments of a call that is whole: they hold the bytes that the code gives for its numbers
-abbrev pub whole_of : PlanNo → TheInterface → List ℕ → Ended → List Frag
+abbrev pub whole_of : PlanNo → TheInterface → List ℕ → TapedCall → List Frag
 whole_of plan i tape e = frags_holding true e.msg.0 0 (bytes_given (block_at plan i e.msg.0) (take e.count tape))
 
 -- where a run stands: outside of a call that was fed, inside one, or behind one
 pub data Stand : Type 0 where
   Between : Stand
-  Inside : Begun → Stand
-  After : Ended → Stand
+  Inside : PartialCall → Stand
+  After : TapedCall → Stand
 
 -- where it stood before the last accepted feed, and whether that feed began a call
 pub record Before : Type 0 where
@@ -116,16 +116,16 @@ pub record TheStored : Type 0 where
   pub before : Option Before
 
 -- the phase, with the call that is under way in it
-abbrev pub stand_of : Phase → Begun → Stand
+abbrev pub stand_of : Phase → PartialCall → Stand
 stand_of Idle b = Between
 stand_of Busy b = Inside b
 stand_of (Done e) b = After e
 
 -- what stood before, by the phase then and the call that was under way in it
-abbrev pub before_of : Begun → Former → Before
+abbrev pub before_of : PartialCall → BeforeFeed → Before
 before_of b x = record { stand = stand_of x.phase b; began = x.began }
 
-abbrev pub stored_of : Stored → TheStored
+abbrev pub stored_of : RecvState → TheStored
 stored_of s = record {
   tape = s.tape.items;
   spare = s.spare.items;
@@ -206,7 +206,7 @@ abbrev pub LongestHolds : PlanNo → TheInterface → ℕ → ℕ → ℕ → Ty
 LongestHolds plan i a b c = (n : ℕ) → a ≤ n → b ≤ n → c ≤ n → HoldsTapes plan i n
 
 -- a call of which so many fragments were fed, or which is to begin
-pub record IsBegun (plan : PlanNo) (i : TheInterface) (tape : List ℕ) (b : Begun) : Type 0 where
+pub record IsBegun (plan : PlanNo) (i : TheInterface) (tape : List ℕ) (b : PartialCall) : Type 0 where
   pub message : TheMessage
   pub known : slice_get i.messages b.msg.0 ≡ Some message
   pub bytes : List ℕ
@@ -217,7 +217,7 @@ pub record IsBegun (plan : PlanNo) (i : TheInterface) (tape : List ℕ) (b : Beg
   pub begins : 0 < b.fed → BeginsPayload (message_block Receive plan message) bytes
 
 -- a call whose tape this is
-pub record IsEnded (plan : PlanNo) (i : TheInterface) (tape : List ℕ) (e : Ended) : Type 0 where
+pub record IsEnded (plan : PlanNo) (i : TheInterface) (tape : List ℕ) (e : TapedCall) : Type 0 where
   pub call : TheCall
   pub message : call.msg ≡ e.msg.0
   pub fits : fits_of i call ≡ true
@@ -237,16 +237,16 @@ Adds plan i parts f t (Inside b) = AddsPart plan i parts f t
 Adds plan i parts f t (After e) = AddsLast plan i parts f t
 
 -- a call of which nothing was taken, under each code
-pub record IsNew (b : Begun) : Type 0 where
+pub record IsNew (b : PartialCall) : Type 0 where
   pub none : b.intake.count ≡ 0
   pub stands : (ops : List Op) → IsCode Receive ops (block_of ops) → Stands ops [] b.intake []
 
 -- the call under way, as one that is whole: its message, and how many numbers were taken
-abbrev pub ended_as : Begun → Ended
+abbrev pub ended_as : PartialCall → TapedCall
 ended_as b = record { msg = b.msg; count = b.intake.count }
 
 -- where a run stands behind the last fragment of a call, by what that came to
-abbrev pub stand_after : Begun → Fed → Stand
+abbrev pub stand_after : PartialCall → Fed → Stand
 stand_after b Part = Inside b
 stand_after b Whole = After (ended_as b)
 
@@ -278,7 +278,7 @@ pub record IsStored (plan : PlanNo) (i : TheInterface) (s : TheStored) : Type 0 
 
 -- ---- the same, of a program
 
-abbrev pub parts_in : TheProgram → List ℕ → Begun → List Frag
+abbrev pub parts_in : TheProgram → List ℕ → PartialCall → List Frag
 parts_in p tape b = parts_of p.plan p.interface tape b
 
 abbrev pub StandsIn : TheProgram → List ℕ → Stand → Type 0
@@ -289,7 +289,7 @@ abbrev pub AddsUpTo : TheProgram → List Frag → Frag → List ℕ → Stand �
 AddsUpTo p parts f tape stand = Adds p.plan p.interface parts f (fed_of p.plan p.interface tape stand) stand
 
 -- the fragments of a whole tape mean the call
-abbrev pub MeansWhole : TheProgram → List ℕ → Ended → TheCall → Type 0
+abbrev pub MeansWhole : TheProgram → List ℕ → TapedCall → TheCall → Type 0
 MeansWhole p tape e c = Means p.plan p.interface (whole_of p.plan p.interface tape e) c 0
 
 abbrev pub HasFaultIn : TheProgram → List Frag → Frag → WireFault → Type 0

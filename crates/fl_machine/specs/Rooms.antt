@@ -3,7 +3,7 @@ use Rattle.std.specs.Prelude.{◌≡◌, ◌≢◌, ℕ, ◌+◌, ◌≤◌, ◌
 use Rattle.std.specs.List.{sum_by}
 use Rattle.std.specs.Vec.{vec_capacity}
 use Rattle.fl_base.specs.declared.fragment.Frag.{Frag}
-use Rattle.fl_machine.specs.declared.rooms.Span.{Span}
+use Rattle.fl_machine.specs.declared.rooms.RoomRange.{RoomRange}
 use Rattle.fl_machine.specs.declared.rooms.Rooms.{Rooms}
 
 -- how many fragments a room holds, and those in it, once it is there
@@ -19,7 +19,7 @@ abbrev pub frags_from : List Frag → ℕ → Option ℕ → Option (List Frag)
 frags_from block size None = None
 frags_from block size (Some start) = Some (take size (drop start block))
 
-abbrev pub room_in : List Frag → Span → TheRoom
+abbrev pub room_in : List Frag → RoomRange → TheRoom
 room_in block s = record { size = s.size; frags = frags_from block s.size s.start }
 
 -- the room of each place
@@ -48,24 +48,24 @@ abbrev pub owed_from : ℕ → Option ℕ → ℕ
 owed_from size None = size
 owed_from size (Some start) = 0
 
-abbrev pub owed_for : Span → ℕ
+abbrev pub owed_for : RoomRange → ℕ
 owed_for s = owed_from s.size s.start
 
 -- where a room is there, it ends within so many fragments
-abbrev pub IsWithin : ℕ → Span → Type 0
+abbrev pub IsWithin : ℕ → RoomRange → Type 0
 IsWithin long s = (start : ℕ) → s.start ≡ Some start → start + s.size ≤ long
 
 -- where both are there, one ends before the other begins
-abbrev pub AreApart : Span → Span → Type 0
+abbrev pub AreApart : RoomRange → RoomRange → Type 0
 AreApart s u = (start other : ℕ) → s.start ≡ Some start → u.start ≡ Some other → (start + s.size ≤ other) ⊎ (other + u.size ≤ start)
 
 -- rooms within so many fragments, which don't overlap
-pub record AreLaid (long : ℕ) (spans : List Span) : Type 0 where
-  pub within : (k : ℕ) (s : Span) → slice_get spans k ≡ Some s → IsWithin long s
-  pub apart : (j k : ℕ) (s u : Span) → slice_get spans j ≡ Some s → slice_get spans k ≡ Some u → j ≢ k → AreApart s u
+pub record AreLaid (long : ℕ) (spans : List RoomRange) : Type 0 where
+  pub within : (k : ℕ) (s : RoomRange) → slice_get spans k ≡ Some s → IsWithin long s
+  pub apart : (j k : ℕ) (s u : RoomRange) → slice_get spans j ≡ Some s → slice_get spans k ≡ Some u → j ≢ k → AreApart s u
 
 -- those that are there lie among so many fragments, and there is memory for the others behind these
-pub record AreRooms (long capacity : ℕ) (spans : List Span) (owed : ℕ) : Type 0 where
+pub record AreRooms (long capacity : ℕ) (spans : List RoomRange) (owed : ℕ) : Type 0 where
   pub laid : AreLaid long spans
   pub owed_is : sum_by owed_for spans ≡ owed
   pub reserved : long + owed ≤ capacity
@@ -76,7 +76,7 @@ IsRooms t = AreRooms (length t.block.items) (vec_capacity t.block) t.spans.items
 
 -- the room at a place is there, and its fragments are those of the block from one place up to another
 pub record LiesAt (t : Rooms) (place : ℕ) (start end : ℕ) : Type 0 where
-  pub span : Span
+  pub span : RoomRange
   pub span_there : slice_get t.spans.items place ≡ Some span
   pub start_is : span.start ≡ Some start
   pub end_is : end ≡ start + span.size

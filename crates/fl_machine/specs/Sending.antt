@@ -5,7 +5,7 @@ use Rattle.fl_base.specs.declared.fragment.Frag.{Frag}
 use Rattle.fl_base.specs.Control.{control_word}
 use Rattle.fl_stub.specs.Code.{TheCode}
 use Rattle.fl_stub.specs.declared.op.Column.TheVariants.{Send}
-use Rattle.fl_stub.specs.Spots.{TheSpot, bytes_from, IsSpot, IsSettled}
+use Rattle.fl_stub.specs.Locations.{TheEndLocation, bytes_from, IsLocation, IsSettled}
 use Rattle.fl_layout.specs.Places.{frags_filled, count_for}
 use Rattle.fl_wire.specs.Payload.{word}
 
@@ -25,19 +25,19 @@ abbrev pub frags_holding : Bool → ℕ → ℕ → List ℕ → List Frag
 frags_holding begins msg circuit bytes =
     map (frag_of begins msg circuit bytes) (range_with_len 0 (frags_for begins (length bytes)))
 
--- what contracts see of a send run: its call's message and circuit, whether no fragment was given yet, and its spot
+-- what contracts see of a send run: its call's message and circuit, whether no fragment was given yet, and its location
 pub record TheSending : Type 0 where
   pub msg : ℕ
   pub circuit : ℕ
   pub begins : Bool
-  pub spot : TheSpot
+  pub location : TheEndLocation
 
 -- the fragments that are still to be given
 abbrev pub frags_left : TheCode → TheSending → List Frag
-frags_left code run = frags_holding run.begins run.msg run.circuit (bytes_from code.ops run.spot)
+frags_left code run = frags_holding run.begins run.msg run.circuit (bytes_from code.ops run.location)
 
 -- the run was started with this code
 pub record RunsOn (code : TheCode) (run : TheSending) : Type 0 where
   pub column : code.column ≡ Send
-  pub spot : IsSpot code.ops run.spot
-  pub settled : IsSettled code.ops run.spot
+  pub location : IsLocation code.ops run.location
+  pub settled : IsSettled code.ops run.location

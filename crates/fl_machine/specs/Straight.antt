@@ -2,10 +2,10 @@
 use Rattle.std.specs.Prelude.{drop, ℕ, ◌+◌, ◌%◌, ◌≤◌, Bool, true, false, List, []}
 use Rattle.fl_stub.specs.declared.op.Op.{Op}
 use Rattle.fl_stub.specs.declared.op.Op.TheVariants.{Read, ReadBool, ReadEnum, ReadChar, ReadText, Skip}
-use Rattle.fl_stub.specs.Spots.{TheSpot}
-use Rattle.fl_machine.specs.declared.cursor.Cursor.{Cursor}
-use Rattle.fl_machine.specs.declared.intake.Field.{Field}
-use Rattle.fl_machine.specs.declared.intake.Intake.{Intake}
+use Rattle.fl_stub.specs.Locations.{TheEndLocation}
+use Rattle.fl_machine.specs.declared.cursor.SendCursor.{SendCursor}
+use Rattle.fl_machine.specs.declared.intake.ByteField.{ByteField}
+use Rattle.fl_machine.specs.declared.intake.RecvCursor.{RecvCursor}
 use Rattle.fl_machine.specs.Taking.{Grows, bytes_left}
 
 -- an instruction that takes bytes wherever it stands, and one number or zeros by them
@@ -19,25 +19,25 @@ is_straight (Skip zeros) = true
 is_straight op = false
 
 -- where a run stands that has met no loop, at so many bytes of a call's first fragment
-abbrev pub straight_intake : ℕ → ℕ → ℕ → Intake
+abbrev pub straight_intake : ℕ → ℕ → ℕ → RecvCursor
 straight_intake place count used = record { place = place; loops = []; depth = 0; count = count; phase = used % 8; value = 0; have = 0 }
 
 -- where a run stands behind straight instructions from where it stood: at this place, with so many numbers, at this place in the payload
-abbrev pub straight_behind : Intake → ℕ → ℕ → ℕ → Intake
+abbrev pub straight_behind : RecvCursor → ℕ → ℕ → ℕ → RecvCursor
 straight_behind c place count phase = record c { place = place; count = count; phase = phase; value = 0; have = 0 }
 
 -- the bytes of a field from a place on are this number, which is right
-pub record HasNumber (f : Field) (buffer : List ℕ) (used number : ℕ) : Type 0 where
+pub record HasNumber (f : ByteField) (buffer : List ℕ) (used number : ℕ) : Type 0 where
   pub inside : used + f.width ≤ 56
   pub grows : Grows 0 0 number f.width (bytes_left buffer used) (bytes_left buffer (used + f.width))
   pub least : f.least ≤ number
   pub last : number ≤ f.last
 
 -- where a run of send code stands that has given so many numbers of a tape, in so many bytes, and nothing else
-abbrev pub straight_spot : List ℕ → ℕ → ℕ → TheSpot
-straight_spot tape count filled = record { place = count; loops = []; tape = drop count tape; at = filled % 8; value = 0; width = 0 }
+abbrev pub straight_location : List ℕ → ℕ → ℕ → TheEndLocation
+straight_location tape count filled = record { place = count; loops = []; tape = drop count tape; at = filled % 8; value = 0; width = 0 }
 
 -- where a run of send code stands further on in the same loops: before this instruction, this number of the tape, at this place in
 -- the payload, with so many bytes of a number to be given
-abbrev pub cursor_on : Cursor → ℕ → ℕ → ℕ → ℕ → ℕ → Cursor
+abbrev pub cursor_on : SendCursor → ℕ → ℕ → ℕ → ℕ → ℕ → SendCursor
 cursor_on c place next phase value width = record c { place = place; next = next; phase = phase; value = value; width = width }

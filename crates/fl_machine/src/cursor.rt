@@ -9,8 +9,8 @@ ghost use Rattle.fl_stub.specs.Rests.{IsPlaceIn};
 ghost use Rattle.fl_stub.specs.Meaning.{number_bytes, gap_to_8};
 ghost use Rattle.fl_stub.specs.Given.{first_of_tape, rest_of_tape};
 ghost use Rattle.fl_stub.specs.Frames.{frames_of};
-ghost use Rattle.fl_stub.specs.Spots.{TheSpot, TheLoop, IsSpot, IsSettled, StepsTo, bytes_from, outer};
-ghost use Rattle.fl_machine.specs.Cursors.{spot_of, loops_of, inside_after as inside_after_of, turns_of, low_byte as low_byte_of, Gives, IsRun};
+ghost use Rattle.fl_stub.specs.Locations.{TheEndLocation, TheLoop, IsLocation, IsSettled, StepsTo, bytes_from, outer};
+ghost use Rattle.fl_machine.specs.Cursors.{location_of, loops_of, inside_after as inside_after_of, turns_of, low_byte as low_byte_of, Gives, IsRun};
 
 use fl_stub::Op;
 
@@ -23,7 +23,7 @@ pub struct Loop {
 
 /// Where a run of send code stands.
 #[derive(Clone, Copy)]
-pub struct Cursor {
+pub struct SendCursor {
     // The next instruction.
     pub(crate) place: usize,
     // The open loops, the innermost last, and how many.
@@ -101,13 +101,13 @@ pub(crate) fn is_op(ops: &[Op], place: usize, op: Op) -> bool
     }
 }
 
-impl Cursor {
+impl SendCursor {
     /// At the first instruction.
     #[inline(always)]
-    pub(crate) fn new() -> Cursor
-        ensures { (tape : List ℕ) → spot_of tape result ≡ record { place = 0; loops = []; tape = tape; at = 0; value = 0; width = 0 } }
+    pub(crate) fn new() -> SendCursor
+        ensures { (tape : List ℕ) → location_of tape result ≡ record { place = 0; loops = []; tape = tape; at = 0; value = 0; width = 0 } }
     {
-        Cursor {
+        SendCursor {
             place: 0,
             loops: [Loop { start: 0, turns: 0 }; 8],
             depth: 0,
@@ -122,7 +122,7 @@ impl Cursor {
     #[inline(always)]
     fn take_number(&mut self, tape: &[u64]) -> u64
         ensures number { result ≡ first_of_tape (drop self.old.next tape.now) }
-        ensures spot { spot_of tape.now self.new ≡ record (spot_of tape.now self.old) { tape = rest_of_tape (drop self.old.next tape.now) } }
+        ensures location { location_of tape.now self.new ≡ record (location_of tape.now self.old) { tape = rest_of_tape (drop self.old.next tape.now) } }
         ensures rest { self.new ≡ record self.old { next = self.new.next } }
         ensures fits { result < 2 ^ 64 }
     {
@@ -138,8 +138,8 @@ impl Cursor {
     fn give(&mut self, value: u64, width: u32)
         requires room { self.old.place + 1 < 2 ^ 64 }
         requires width { width ≤ 8 }
-        ensures spot { (tape : List ℕ) → spot_of tape self.new
-            ≡ record (spot_of tape self.old) { place = self.old.place + 1; at = (self.old.phase + width) % 8; value = value; width = width } }
+        ensures location { (tape : List ℕ) → location_of tape self.new
+            ≡ record (location_of tape self.old) { place = self.old.place + 1; at = (self.old.phase + width) % 8; value = value; width = width } }
     {
         self.place += 1;
         self.phase = (self.phase % 8 + width) % 8;
@@ -151,8 +151,8 @@ impl Cursor {
     #[inline(always)]
     fn enter(&mut self, start: usize, turns: u64)
         requires { self.old.depth < 8 }
-        ensures { (tape : List ℕ) → spot_of tape self.new
-            ≡ record (spot_of tape self.old) { place = start; loops = (record { start = start; turns = turns }) ∷ loops_of self.old.loops self.old.depth } }
+        ensures { (tape : List ℕ) → location_of tape self.new
+            ≡ record (location_of tape self.old) { place = start; loops = (record { start = start; turns = turns }) ∷ loops_of self.old.loops self.old.depth } }
     {
         self.loops[self.depth] = Loop { start, turns };
         self.depth += 1;
@@ -162,9 +162,9 @@ impl Cursor {
     #[inline(always)]
     fn emit(&mut self, ops: &[Op], tape: &[u64], width: u32)
         requires op { slice_get ops.now self.old.place ≡ Some (emit_op width) }
-        requires spot { IsSpot ops.now (spot_of tape.now self.old) }
+        requires location { IsLocation ops.now (location_of tape.now self.old) }
         requires idle { self.old.width ≡ 0 }
-        ensures { StepsTo ops.now (spot_of tape.now self.old) (spot_of tape.now self.new) }
+        ensures { StepsTo ops.now (location_of tape.now self.old) (location_of tape.now self.new) }
     {
         let number = self.take_number(tape);
         self.give(low_bytes(number, width), width);
@@ -173,9 +173,9 @@ impl Cursor {
     #[inline(always)]
     fn pad(&mut self, ops: &[Op], tape: &[u64], zeros: u32)
         requires op { slice_get ops.now self.old.place ≡ Some (pad_op zeros) }
-        requires spot { IsSpot ops.now (spot_of tape.now self.old) }
+        requires location { IsLocation ops.now (location_of tape.now self.old) }
         requires idle { self.old.width ≡ 0 }
-        ensures { StepsTo ops.now (spot_of tape.now self.old) (spot_of tape.now self.new) }
+        ensures { StepsTo ops.now (location_of tape.now self.old) (location_of tape.now self.new) }
     {
         self.give(0, zeros);
     }
@@ -183,9 +183,9 @@ impl Cursor {
     #[inline(always)]
     fn align(&mut self, ops: &[Op], tape: &[u64])
         requires op { slice_get ops.now self.old.place ≡ Some Op.Align }
-        requires spot { IsSpot ops.now (spot_of tape.now self.old) }
+        requires location { IsLocation ops.now (location_of tape.now self.old) }
         requires idle { self.old.width ≡ 0 }
-        ensures { StepsTo ops.now (spot_of tape.now self.old) (spot_of tape.now self.new) }
+        ensures { StepsTo ops.now (location_of tape.now self.old) (location_of tape.now self.new) }
     {
         self.give(0, (8 - self.phase % 8) % 8);
     }
@@ -193,17 +193,17 @@ impl Cursor {
     #[inline(always)]
     fn repeat(&mut self, ops: &[Op], tape: &[u64], turns: u32)
         requires op { slice_get ops.now self.old.place ≡ Some (times_op turns) }
-        requires spot { IsSpot ops.now (spot_of tape.now self.old) }
-        ensures { StepsTo ops.now (spot_of tape.now self.old) (spot_of tape.now self.new) }
+        requires location { IsLocation ops.now (location_of tape.now self.old) }
+        ensures { StepsTo ops.now (location_of tape.now self.old) (location_of tape.now self.new) }
     {
         self.enter(self.place + 1, u64::from(turns) - 1);
     }
 
     fn count(&mut self, ops: &[Op], tape: &[u64], most: u32)
         requires op { slice_get ops.now self.old.place ≡ Some (length_op most) }
-        requires spot { IsSpot ops.now (spot_of tape.now self.old) }
+        requires location { IsLocation ops.now (location_of tape.now self.old) }
         requires idle { self.old.width ≡ 0 }
-        ensures { StepsTo ops.now (spot_of tape.now self.old) (spot_of tape.now self.new) }
+        ensures { StepsTo ops.now (location_of tape.now self.old) (location_of tape.now self.new) }
     {
         let turns = self.take_number(tape);
         self.value = turns;
@@ -219,8 +219,8 @@ impl Cursor {
     #[inline(always)]
     fn turn(&mut self, ops: &[Op], tape: &[u64])
         requires op { slice_get ops.now self.old.place ≡ Some back_op }
-        requires spot { IsSpot ops.now (spot_of tape.now self.old) }
-        ensures { StepsTo ops.now (spot_of tape.now self.old) (spot_of tape.now self.new) }
+        requires location { IsLocation ops.now (location_of tape.now self.old) }
+        ensures { StepsTo ops.now (location_of tape.now self.old) (location_of tape.now self.new) }
     {
         let last = self.depth - 1;
         let inner = self.loops[last];
@@ -235,11 +235,11 @@ impl Cursor {
     // One instruction; false at the end of the code.
     #[inline(always)]
     fn advance(&mut self, ops: &[Op], tape: &[u64]) -> bool
-        requires spot { IsSpot ops.now (spot_of tape.now self.old) }
+        requires location { IsLocation ops.now (location_of tape.now self.old) }
         requires idle { self.old.width ≡ 0 }
-        ensures goes { IsTrue result → StepsTo ops.now (spot_of tape.now self.old) (spot_of tape.now self.new) }
+        ensures goes { IsTrue result → StepsTo ops.now (location_of tape.now self.old) (location_of tape.now self.new) }
         ensures stays { result ≡ false → self.new ≡ self.old }
-        ensures ended { result ≡ false → bytes_from ops.now (spot_of tape.now self.old) ≡ [] }
+        ensures ended { result ≡ false → bytes_from ops.now (location_of tape.now self.old) ≡ [] }
     {
         let Some(op) = ops.get(self.place) else {
             return false;
@@ -267,12 +267,12 @@ impl Cursor {
     /// A number's bytes: the number, and how many of its bytes.
     #[inline(always)]
     pub(crate) fn take_bytes(&mut self, ops: &[Op], tape: &[u64]) -> (u64, usize)
-        requires { IsSpot ops.now (spot_of tape.now self.old) }
+        requires { IsLocation ops.now (location_of tape.now self.old) }
         ensures number { result.0 ≡ self.old.value }
         ensures width { result.1 ≡ self.old.width }
-        ensures spot { IsSpot ops.now (spot_of tape.now self.new) }
-        ensures bytes { bytes_from ops.now (spot_of tape.now self.old)
-            ≡ number_bytes self.old.width self.old.value ++ bytes_from ops.now (spot_of tape.now self.new) }
+        ensures location { IsLocation ops.now (location_of tape.now self.new) }
+        ensures bytes { bytes_from ops.now (location_of tape.now self.old)
+            ≡ number_bytes self.old.width self.old.value ++ bytes_from ops.now (location_of tape.now self.new) }
     {
         let taken = (self.value, self.width as usize);
         self.value = 0;
@@ -314,16 +314,16 @@ impl Cursor {
 
     /// A number's bytes, and on to the number of the loop's next turn.
     pub(crate) fn take_turn(&mut self, ops: &[Op], tape: &[u64]) -> u64
-        requires spot { IsSpot ops.now (spot_of tape.now self.old) }
+        requires location { IsLocation ops.now (location_of tape.now self.old) }
         requires run { IsRun ops.now self.old }
         requires more { 0 < turns_of self.old }
         ensures number { result ≡ self.old.value }
         ensures width { self.new.width ≡ self.old.width }
         ensures run { IsRun ops.now self.new }
         ensures turns { turns_of self.old ≡ turns_of self.new + 1 }
-        ensures spot { IsSpot ops.now (spot_of tape.now self.new) }
-        ensures bytes { bytes_from ops.now (spot_of tape.now self.old)
-            ≡ number_bytes self.old.width self.old.value ++ bytes_from ops.now (spot_of tape.now self.new) }
+        ensures location { IsLocation ops.now (location_of tape.now self.new) }
+        ensures bytes { bytes_from ops.now (location_of tape.now self.old)
+            ≡ number_bytes self.old.width self.old.value ++ bytes_from ops.now (location_of tape.now self.new) }
     {
         let taken = self.value;
         let number = self.take_number(tape);
@@ -370,7 +370,7 @@ impl Cursor {
     /// by `take_turn` so often.
     #[inline(always)]
     pub(crate) fn pass_bytes(&mut self, ops: &[Op], tape: &[u64], others: usize)
-        requires spot { IsSpot ops.now (spot_of tape.now self.old) }
+        requires location { IsLocation ops.now (location_of tape.now self.old) }
         requires run { IsRun ops.now self.old }
         requires one { self.old.width ≡ 1 }
         requires few { others < 56 }
@@ -378,9 +378,9 @@ impl Cursor {
         requires there { self.old.next + (others + 1) ≤ length tape.now }
         ensures width { self.new.width ≡ 1 }
         ensures run { IsRun ops.now self.new }
-        ensures spot { IsSpot ops.now (spot_of tape.now self.new) }
-        ensures bytes { bytes_from ops.now (spot_of tape.now self.old)
-            ≡ map low_byte_of (self.old.value ∷ take others (drop self.old.next tape.now)) ++ bytes_from ops.now (spot_of tape.now self.new) }
+        ensures location { IsLocation ops.now (location_of tape.now self.new) }
+        ensures bytes { bytes_from ops.now (location_of tape.now self.old)
+            ≡ map low_byte_of (self.old.value ∷ take others (drop self.old.next tape.now)) ++ bytes_from ops.now (location_of tape.now self.new) }
     {
         let many = others + 1;
         self.value = tape[self.next + others] % 256;
@@ -391,9 +391,9 @@ impl Cursor {
 
     /// The next of a number's bytes.
     pub(crate) fn next_byte(&mut self, ops: &[Op], tape: &[u64]) -> u8
-        requires spot { IsSpot ops.now (spot_of tape.now self.old) }
+        requires location { IsLocation ops.now (location_of tape.now self.old) }
         requires busy { self.old.width ≢ 0 }
-        ensures { Gives ops.now (spot_of tape.now self.old) (spot_of tape.now self.new) result }
+        ensures { Gives ops.now (location_of tape.now self.old) (location_of tape.now self.new) result }
     {
         let byte = self.value % 256;
         self.value /= 256;
@@ -404,10 +404,10 @@ impl Cursor {
     /// On to the next bytes, or to the end of the code.
     #[inline(always)]
     pub(crate) fn settle(&mut self, ops: &[Op], tape: &[u64])
-        requires { IsSpot ops.now (spot_of tape.now self.old) }
-        ensures spot { IsSpot ops.now (spot_of tape.now self.new) }
-        ensures settled { IsSettled ops.now (spot_of tape.now self.new) }
-        ensures bytes { bytes_from ops.now (spot_of tape.now self.old) ≡ bytes_from ops.now (spot_of tape.now self.new) }
+        requires { IsLocation ops.now (location_of tape.now self.old) }
+        ensures location { IsLocation ops.now (location_of tape.now self.new) }
+        ensures settled { IsSettled ops.now (location_of tape.now self.new) }
+        ensures bytes { bytes_from ops.now (location_of tape.now self.old) ≡ bytes_from ops.now (location_of tape.now self.new) }
     {
         while self.width == 0 {
             if !self.advance(ops, tape) {

@@ -4,7 +4,7 @@ ghost use Rattle.std.specs.Prelude.{◌≡◌, ◌≢◌, ◌+◌, ◌-◌, ◌*
 ghost use Rattle.std.specs.Prelude.{take, drop, length, slice_get, slice_set, Some, IfOk, IfErr, IfSome, IfNone, IsTrue};
 ghost use Rattle.fl_stub.specs.declared.op.Column.TheVariants.{Receive as receive};
 ghost use Rattle.fl_stub.specs.declared.op.Op.TheVariants.{Times as times_op, Back as back_op, Done as done_op};
-ghost use Rattle.fl_stub.specs.declared.mark.Mark.TheVariants.{Length as length_mark, Zero as zero_mark};
+ghost use Rattle.fl_stub.specs.declared.mark.ByteKind.TheVariants.{Length as length_mark, Zero as zero_mark};
 ghost use Rattle.fl_stub.specs.Structure.{IsCode, is_width};
 ghost use Rattle.fl_stub.specs.Frames.{block_of};
 ghost use Rattle.fl_stub.specs.Meaning.{number_bytes, gap_to_8};
@@ -17,7 +17,7 @@ ghost use Rattle.fl_machine.specs.Taking.{Passes, PassesOne, StepsOver, Grows, A
 ghost use Rattle.fl_machine.specs.Taking.{after_bytes, words_bytes, field_view, rest_of, HasRoom};
 
 use crate::cursor::{Loop, behind, is_op};
-use fl_stub::{Mark, Op};
+use fl_stub::{ByteKind, Op};
 
 /// What taking a fragment came to.
 #[derive(Clone, Copy, Debug, PartialEq, Eq)]
@@ -30,8 +30,8 @@ pub enum Fed {
 
 /// Bytes that are one number, or zeros.
 #[derive(Clone, Copy)]
-pub(crate) struct Field {
-    mark: Mark,
+pub(crate) struct ByteField {
+    mark: ByteKind,
     // How many bytes.
     pub(crate) width: u32,
     // The least number and the greatest; 0 and 0 for zeros.
@@ -43,7 +43,7 @@ pub(crate) struct Field {
 
 /// Where a run of receive code stands.
 #[derive(Clone, Copy)]
-pub struct Intake {
+pub struct RecvCursor {
     // The next instruction.
     pub(crate) place: usize,
     // The open loops, the innermost last, and how many.
@@ -152,7 +152,7 @@ fn past_zeros(buffer: &[u8; 64], used: usize) -> usize
 }
 
 // Whether all bytes from a place up to the last of a fragment are zeros.
-pub(crate) fn end_of(buffer: &[u8; 64], used: usize) -> Result<Fed, Mark>
+pub(crate) fn end_of(buffer: &[u8; 64], used: usize) -> Result<Fed, ByteKind>
     requires { used ≤ 56 }
     ensures whole { IfOk result (λ fed. (fed ≡ whole) × AreZeros buffer.now used 56) }
     ensures wrong { IfErr result (λ mark. (mark ≡ zero_mark) × FirstSet buffer.now used) }
@@ -160,7 +160,7 @@ pub(crate) fn end_of(buffer: &[u8; 64], used: usize) -> Result<Fed, Mark>
     let mut at = past_zeros(buffer, used);
     while at < 56 {
         if buffer[at] != 0 {
-            return Err(Mark::Zero);
+            return Err(ByteKind::Zero);
         }
         at += 1;
     }
@@ -207,7 +207,7 @@ fn put_bytes(tape: &mut [u64], count: usize, buffer: &[u8; 64], from: usize, man
 fn copy_span(
     tape: &mut [u64],
     count: usize,
-    field: Field,
+    field: ByteField,
     buffer: &[u8; 64],
     from: usize,
     most: usize,
@@ -234,7 +234,7 @@ fn copy_span(
 fn copy_bytes(
     tape: &mut [u64],
     count: usize,
-    field: Field,
+    field: ByteField,
     buffer: &[u8; 64],
     from: usize,
     most: usize,
@@ -254,11 +254,11 @@ fn copy_bytes(
 }
 
 #[inline(always)]
-fn is_length(mark: Mark) -> bool
+fn is_length(mark: ByteKind) -> bool
     ensures yes { IsTrue result → mark ≡ length_mark }
     ensures no { result ≡ false → mark ≢ length_mark }
 {
-    matches!(mark, Mark::Length)
+    matches!(mark, ByteKind::Length)
 }
 
 #[inline(always)]
@@ -293,13 +293,13 @@ pub(crate) fn greatest(width: u32) -> u64
     }
 }
 
-impl Field {
+impl ByteField {
     #[inline(always)]
-    pub(crate) fn number(width: u32, least: u64, last: u64) -> Field
-        ensures { result ≡ record { mark = Mark.Number; width = width; least = least; last = last; told = true } }
+    pub(crate) fn number(width: u32, least: u64, last: u64) -> ByteField
+        ensures { result ≡ record { mark = ByteKind.Number; width = width; least = least; last = last; told = true } }
     {
-        Field {
-            mark: Mark::Number,
+        ByteField {
+            mark: ByteKind::Number,
             width,
             least,
             last,
@@ -308,11 +308,11 @@ impl Field {
     }
 
     #[inline(always)]
-    pub(crate) fn zeros(width: u32) -> Field
+    pub(crate) fn zeros(width: u32) -> ByteField
         ensures { field_view result ≡ zeros_field width }
     {
-        Field {
-            mark: Mark::Zero,
+        ByteField {
+            mark: ByteKind::Zero,
             width,
             least: 0,
             last: 0,
@@ -322,37 +322,37 @@ impl Field {
 
     // What an instruction takes, at a place modulo 8.
     #[inline(always)]
-    pub(crate) fn of(op: Op, phase: u32) -> Field
+    pub(crate) fn of(op: Op, phase: u32) -> ByteField
         requires { is_taken op ≡ true }
         ensures { (at : ℕ) → phase % 8 ≡ at % 8 → field_view result ≡ taken_field op at }
     {
         match op {
-            Op::Read(width) => Field::number(width, 0, greatest(width)),
-            Op::ReadBool => Field::number(1, 0, 1),
-            Op::ReadEnum(count) => Field::number(4, 0, u64::from(count) - 1),
-            Op::ReadChar => Field::number(1, 0, 255),
-            Op::ReadText => Field::number(1, 1, 255),
-            Op::ReadLength(most) => Field {
-                mark: Mark::Length,
+            Op::Read(width) => ByteField::number(width, 0, greatest(width)),
+            Op::ReadBool => ByteField::number(1, 0, 1),
+            Op::ReadEnum(count) => ByteField::number(4, 0, u64::from(count) - 1),
+            Op::ReadChar => ByteField::number(1, 0, 255),
+            Op::ReadText => ByteField::number(1, 1, 255),
+            Op::ReadLength(most) => ByteField {
+                mark: ByteKind::Length,
                 width: 8,
                 least: 0,
                 last: u64::from(most),
                 told: true,
             },
-            Op::Skip(zeros) => Field::zeros(zeros),
-            _ => Field::zeros((8 - phase % 8) % 8),
+            Op::Skip(zeros) => ByteField::zeros(zeros),
+            _ => ByteField::zeros((8 - phase % 8) % 8),
         }
     }
 }
 
-impl Intake {
+impl RecvCursor {
     /// At the first instruction.
     #[inline(always)]
-    pub(crate) fn new() -> Intake
+    pub(crate) fn new() -> RecvCursor
         ensures stands { (ops : List Op) → IsCode receive ops (block_of ops) → Stands ops [] result [] }
         ensures none { result.count ≡ 0 }
     {
-        Intake {
+        RecvCursor {
             place: 0,
             loops: [Loop { start: 0, turns: 0 }; 8],
             depth: 0,
@@ -459,7 +459,7 @@ impl Intake {
 
     // What the next instruction takes; `None` at the end of the code.
     #[inline(always)]
-    fn field(&self, ops: &[Op]) -> Option<Field>
+    fn field(&self, ops: &[Op]) -> Option<ByteField>
         requires stance { IsTaking ops.now self.now }
         requires settled { IsAtField ops.now self.now }
         ensures some { IfSome result (λ field. HasField ops.now self.now field) }
@@ -471,12 +471,12 @@ impl Intake {
         if is_last(op) {
             return None;
         }
-        Some(Field::of(op, self.phase))
+        Some(ByteField::of(op, self.phase))
     }
 
     // The number that a field's bytes are up to now, with those that are there, and how many these are.
     #[inline(always)]
-    fn grow(&self, field: Field, buffer: &[u8; 64], used: usize) -> (u64, usize)
+    fn grow(&self, field: ByteField, buffer: &[u8; 64], used: usize) -> (u64, usize)
         requires less { self.now.have < field.width }
         requires narrow { field.width ≤ 8 }
         requires small { self.now.value < 256 ^ self.now.have }
@@ -495,7 +495,7 @@ impl Intake {
 
     // Puts a field's number on the tape.
     #[inline(always)]
-    fn tell(&mut self, tape: &mut [u64], field: Field, number: u64)
+    fn tell(&mut self, tape: &mut [u64], field: ByteField, number: u64)
         requires { field.told ≡ true → self.old.count < length tape.old }
         ensures others { self.new ≡ record self.old { count = self.new.count } }
         ensures tape { take self.new.count tape.new ≡ take self.old.count tape.old ++ told field.told number }
@@ -513,7 +513,7 @@ impl Intake {
 
     // Past an instruction that has got its bytes.
     #[inline(always)]
-    fn step_over(&mut self, ops: &[Op], field: Field, number: u64)
+    fn step_over(&mut self, ops: &[Op], field: ByteField, number: u64)
         requires stance { IsTaking ops.now self.old }
         requires field { HasField ops.now self.old field }
         requires narrow { field.width ≤ 8 }
@@ -536,7 +536,7 @@ impl Intake {
 
     // Whether the innermost loop is over this number alone, and none of its bytes was taken.
     #[inline(always)]
-    fn is_run(&self, ops: &[Op], field: Field) -> bool
+    fn is_run(&self, ops: &[Op], field: ByteField) -> bool
         requires stance { IsTaking ops.now self.now }
         requires field { HasField ops.now self.now field }
         ensures { IsTrue result → IsRunOf ops.now self.now field }
@@ -592,7 +592,7 @@ impl Intake {
         &mut self,
         ops: &[Op],
         tape: &mut [u64],
-        field: Field,
+        field: ByteField,
         buffer: &[u8; 64],
         used: usize,
     ) -> usize
@@ -629,7 +629,7 @@ impl Intake {
         &mut self,
         ops: &[Op],
         tape: &mut [u64],
-        field: Field,
+        field: ByteField,
         buffer: &[u8; 64],
         used: usize,
     ) -> usize
@@ -662,10 +662,10 @@ impl Intake {
         &mut self,
         ops: &[Op],
         tape: &mut [u64],
-        field: Field,
+        field: ByteField,
         buffer: &[u8; 64],
         used: usize,
-    ) -> Result<usize, Mark>
+    ) -> Result<usize, ByteKind>
         requires room { used < 56 }
         requires settled { IsAtField ops.now self.old }
         requires field { HasField ops.now self.old field }
@@ -707,10 +707,10 @@ impl Intake {
         &mut self,
         ops: &[Op],
         tape: &mut [u64],
-        field: Field,
+        field: ByteField,
         buffer: &[u8; 64],
         used: usize,
-    ) -> Result<usize, Mark>
+    ) -> Result<usize, ByteKind>
         requires room { used < 56 }
         requires settled { IsAtField ops.now self.old }
         requires field { HasField ops.now self.old field }
@@ -754,7 +754,7 @@ impl Intake {
         ops: &[Op],
         tape: &mut [u64],
         words: &[u64; 7],
-    ) -> Result<Fed, Mark>
+    ) -> Result<Fed, ByteKind>
         requires code { IsCode receive ops.now (block_of ops.now) }
         requires stands { (before bytes : List ℕ) × Stands ops.now (before ++ take self.old.count tape.old) self.old bytes }
         requires count { self.old.count ≤ length tape.old }

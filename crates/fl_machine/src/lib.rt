@@ -27,9 +27,9 @@ mod rooms;
 mod send;
 mod straight;
 
-pub use cursor::{Cursor, Loop};
-pub use intake::{Fed, Intake};
-pub use law::{sends_fragments, sets_circuits, takes_fragments};
+pub use cursor::{Loop, SendCursor};
+pub use intake::{Fed, RecvCursor};
+pub use law::{law_sends_fragments, law_sets_circuits, law_takes_fragments};
 pub use reassemblies::Reassemblies;
 pub use reassembly::{TakeFault, Taken};
 pub use recv::RecvRun;

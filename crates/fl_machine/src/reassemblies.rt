@@ -17,7 +17,7 @@ use std::marker::Model;
 
 // What is stored at all places. A place's room is there once a call came that wants one: most calls of one fragment don't.
 #[derive(Drop)]
-pub(crate) struct Places {
+pub(crate) struct ReassemblyPlaces {
     alloc: Global,
     places: Vec<Assembly>,
     rooms: Rooms,
@@ -29,7 +29,7 @@ pub(crate) struct Places {
 /// fragments so far.
 #[derive(Drop)]
 pub struct Reassemblies {
-    stored: Places,
+    stored: ReassemblyPlaces,
 }
 
 impl Model for Reassemblies {
@@ -48,7 +48,7 @@ impl Model for Reassemblies {
     ghost invariant = { AreReassemblies };
 }
 
-impl Places {
+impl ReassemblyPlaces {
     // One place more.
     fn add(&mut self, program: Program, capacity: usize) -> Result<(), AllocError>
         requires are { ArePlaces self.old }
@@ -172,7 +172,7 @@ impl Reassemblies {
         ensures none { result ≡ [] }
     {
         Reassemblies {
-            stored: Places {
+            stored: ReassemblyPlaces {
                 alloc,
                 places: Vec::new(alloc),
                 rooms: Rooms::new(alloc),

@@ -1,21 +1,21 @@
 //! A program's calls that are put together again from their fragments, one after another.
 
 ghost use Rattle.std.specs.Prelude.{◌≡◌, ◌<◌, ◌≤◌, [], length, Option, IsSome, Some, None, IfOk};
-ghost use Rattle.fl_value.specs.Value.{TheCall, call_of};
+ghost use Rattle.fl_value_data.specs.Value.{TheCall, call_of};
 ghost use Rattle.fl_compile.specs.Programs.{program_of};
 ghost use Rattle.fl_machine.specs.Faults.{take_number};
 ghost use Rattle.fl_machine.specs.Receiving.{HoldsParts, StandsIn, AddsUpTo};
 ghost use Rattle.fl_machine.specs.Kept.{EndsCallIn, HasFrags};
-ghost use Rattle.fl_machine.specs.declared.recv.Begun.{Begun};
+ghost use Rattle.fl_machine.specs.declared.recv.PartialCall.{PartialCall};
 ghost use Rattle.fl_machine.specs.Receiving.{After as after};
 ghost use Rattle.fl_machine.specs.Reassembling.{Takes, IsUnderWay, GoesOnFrom};
 ghost use Rattle.fl_machine.specs.Reassembling.{new_reassembly, parts_under, reassembly_on};
 
 use crate::intake::Fed;
-use crate::recv::{Begun, Ended, begin, look_on, whole};
+use crate::recv::{PartialCall, TapedCall, begin, look_on, whole};
 use fl_base::Frag;
 use fl_compile::Program;
-use fl_value::Call;
+use fl_value_data::Call;
 use fl_wire::{WireFault, read_call_frags};
 use std::alloc::{AllocError, Global};
 
@@ -53,7 +53,7 @@ impl TakeFault {
 #[derive(Drop)]
 pub(crate) struct Assembly {
     pub(crate) program: Program,
-    pub(crate) begun: Option<Begun>,
+    pub(crate) begun: Option<PartialCall>,
 }
 
 // Whether the call that a fragment begins has no more arguments than a fragment has words.
@@ -70,7 +70,7 @@ pub(crate) fn has_few_args(program: &Program, frag: &Frag) -> bool {
 pub(crate) fn tell(
     alloc: Global,
     program: &Program,
-    ended: Ended,
+    ended: TapedCall,
     tape: &[u64],
     frag: &Frag,
 ) -> Result<Taken, TakeFault>
@@ -89,16 +89,16 @@ pub(crate) fn tell(
 #[inline(always)]
 fn keep(
     program: &Program,
-    begun: &Begun,
+    begun: &PartialCall,
     room: &mut [Frag],
     frag: &Frag,
 ) -> Result<Taken, TakeFault>
-    requires goes_on { (o : Option Begun)
+    requires goes_on { (o : Option PartialCall)
         × GoesOnFrom (program_of program.now) room.old o frag.now begun.now }
     requires some { 0 < begun.now.fed }
     requires inside { begun.now.fed ≤ length room.old }
     ensures under_way { IsUnderWay (program_of program.now) room.new (Some begun.now) }
-    ensures takes { (o : Option Begun) → GoesOnFrom (program_of program.now) room.old o frag.now begun.now
+    ensures takes { (o : Option PartialCall) → GoesOnFrom (program_of program.now) room.old o frag.now begun.now
         → Takes (reassembly_on program.now room.old o) frag.now result
         (reassembly_on program.now room.new (Some begun.now)) }
 {
@@ -126,7 +126,7 @@ fn read(alloc: Global, program: &Program, frags: &[Frag]) -> Result<Call, AllocE
 fn take_last(
     alloc: Global,
     program: &Program,
-    begun: &Begun,
+    begun: &PartialCall,
     room: &mut [Frag],
     frag: &Frag,
 ) -> Result<Taken, TakeFault>
@@ -151,7 +151,7 @@ fn take_last(
 fn take_begun(
     alloc: Global,
     program: &Program,
-    under: &mut Option<Begun>,
+    under: &mut Option<PartialCall>,
     numbers: &mut [u64; 56],
     room: &mut [Frag],
     frag: &Frag,
@@ -162,7 +162,7 @@ fn take_begun(
     ensures takes { Takes (reassembly_on program.now room.old under.old) frag.now result (reassembly_on program.now room.new under.new) }
 {
     let _plan = program.plan();
-    let mut begun = Begun::new();
+    let mut begun = PartialCall::new();
     match begin(program, &mut begun, numbers, frag) {
         Ok(Fed::Part) => {
             begun.forget();
@@ -180,7 +180,7 @@ fn take_begun(
 fn take_under(
     alloc: Global,
     program: &Program,
-    begun: &mut Begun,
+    begun: &mut PartialCall,
     numbers: &mut [u64; 56],
     room: &mut [Frag],
     frag: &Frag,
@@ -212,7 +212,7 @@ fn take_under(
 fn take_next(
     alloc: Global,
     program: &Program,
-    under: &mut Option<Begun>,
+    under: &mut Option<PartialCall>,
     numbers: &mut [u64; 56],
     room: &mut [Frag],
     frag: &Frag,

@@ -2,8 +2,8 @@
 
 ghost use Rattle.std.specs.Prelude.{◌≡◌, ◌≢◌, ◌==◌, ◌⊎◌, ◌+◌, ◌≤◌, ◌++◌, ◌∷◌, [], true, take, length, List, None, IfOk, IfErr, IfSome};
 ghost use Rattle.fl_base.specs.Control.{message_of, control_word, body};
-ghost use Rattle.fl_value.specs.Value.{call_of};
-ghost use Rattle.fl_value.specs.Fits.{fits_of};
+ghost use Rattle.fl_value_data.specs.Value.{call_of};
+ghost use Rattle.fl_value_data.specs.Fits.{fits_of};
 ghost use Rattle.fl_wire.specs.Reading.{Means, IsWrong};
 ghost use Rattle.fl_wire.specs.Wrong.{header_fault};
 ghost use Rattle.fl_compile.specs.Laws.{fault_of as fault_of_mark};
@@ -15,12 +15,12 @@ ghost use Rattle.fl_machine.specs.Receiving.{IsNew, ended_as, stand_after, stand
 ghost use Rattle.fl_machine.specs.Kept.{counting, IsKeptIn, GoesOn, Ends, IsFaulty, Refuses};
 ghost use Rattle.fl_machine.specs.Receiving.{Inside as inside, After as after};
 
-use crate::intake::{Fed, Intake};
+use crate::intake::{Fed, RecvCursor};
 use crate::straight::take_straight;
 use fl_base::{FRAG_BYTES, Frag, MsgNo};
-use fl_compile::{Program, tells_faults};
-use fl_stub::Mark;
-use fl_value::{Call, unflatten};
+use fl_compile::{Program, law_tells_faults};
+use fl_stub::ByteKind;
+use fl_value_data::{Call, unflatten};
 use fl_wire::{WireFault, follow_fault, is_line, start_fault};
 use std::alloc::{AllocError, Global};
 use std::marker::Model;
@@ -28,15 +28,15 @@ use std::mem;
 
 /// A call of which so many fragments were fed, or which is to begin.
 #[derive(Clone, Copy)]
-pub(crate) struct Begun {
+pub(crate) struct PartialCall {
     msg: MsgNo,
     fed: usize,
-    pub(crate) intake: Intake,
+    pub(crate) intake: RecvCursor,
 }
 
 /// A call that is whole: its tape is the first so many numbers.
 #[derive(Clone, Copy)]
-pub(crate) struct Ended {
+pub(crate) struct TapedCall {
     msg: MsgNo,
     count: usize,
 }
@@ -49,12 +49,12 @@ pub(crate) enum Phase {
     /// A call under way.
     Busy,
     /// A whole call.
-    Done(Ended),
+    Done(TapedCall),
 }
 
 /// What stood before the last accepted feed.
 #[derive(Clone, Copy)]
-pub(crate) struct Former {
+pub(crate) struct BeforeFeed {
     phase: Phase,
     // Whether that feed began a call: then the numbers of before are on the spare tape.
     began: bool,
@@ -62,7 +62,7 @@ pub(crate) struct Former {
 
 // What a run stores beside its program.
 #[derive(Drop)]
-pub(crate) struct Stored {
+pub(crate) struct RecvState {
     // The numbers taken; those of before, where the last feed began a call; and a tape to begin the next call on, so that
     // a refused fragment harms neither. One of the three has room for each call's numbers, and the others for those of two
     // fragments, which are enough: a call that goes on behind its second goes on on the longest, where nothing is of use then.
@@ -73,17 +73,17 @@ pub(crate) struct Stored {
     // The call under way, where one is; that of before the last accepted feed; and a place to go on at, so that a refused
     // fragment harms neither. Each lies where it is, and their places are swapped: a call has eight loops, which are dear to
     // move about.
-    now: Box<Begun>,
-    last: Box<Begun>,
-    next: Box<Begun>,
-    before: Option<Former>,
+    now: Box<PartialCall>,
+    last: Box<PartialCall>,
+    next: Box<PartialCall>,
+    before: Option<BeforeFeed>,
 }
 
 /// A run of receive code of a program: fragments are fed to it, which it takes as calls.
 #[derive(Drop)]
 pub struct RecvRun {
     program: Program,
-    stored: Stored,
+    stored: RecvState,
 }
 
 impl Model for RecvRun {
@@ -104,17 +104,17 @@ impl Model for RecvRun {
 
 // The fault of a byte that can't stand where another stands.
 #[inline(always)]
-fn fault_of(mark: Mark) -> WireFault
+fn fault_of(mark: ByteKind) -> WireFault
     ensures fault { result ≡ fault_of_mark mark }
 {
     match mark {
-        Mark::Length => WireFault::TooLong,
-        Mark::Number => WireFault::OutOfType,
-        Mark::Zero => WireFault::NotZero,
+        ByteKind::Length => WireFault::TooLong,
+        ByteKind::Number => WireFault::OutOfType,
+        ByteKind::Zero => WireFault::NotZero,
     }
 }
 
-impl Begun {
+impl PartialCall {
     // How many fragments were fed.
     #[inline(always)]
     pub(crate) fn fed(&self) -> usize
@@ -133,13 +133,13 @@ impl Begun {
 
     // A call that is to begin.
     #[inline(always)]
-    pub(crate) fn new() -> Begun
+    pub(crate) fn new() -> PartialCall
         ensures new { IsNew result }
     {
-        Begun {
+        PartialCall {
             msg: MsgNo(0),
             fed: 0,
-            intake: Intake::new(),
+            intake: RecvCursor::new(),
         }
     }
 
@@ -155,10 +155,10 @@ impl Begun {
 
     // The call as one that is whole.
     #[inline(always)]
-    pub(crate) fn to_ended(&self) -> Ended
+    pub(crate) fn to_ended(&self) -> TapedCall
         ensures ended { result ≡ ended_as self.now }
     {
-        Ended {
+        TapedCall {
             msg: self.msg,
             count: self.intake.count(),
         }
@@ -192,7 +192,7 @@ impl Begun {
         ensures kept { take self.old.intake.count tape.new ≡ take self.old.intake.count tape.old }
         ensures long { length tape.new ≡ length tape.old }
     {
-        tells_faults();
+        law_tells_faults();
         is_line(frag);
         let Some(code) = program.receive_code(self.msg) else {
             unreachable!();
@@ -224,7 +224,7 @@ impl Begun {
         ensures whole { IfOk result (λ fed. fed ≡ Fed.Whole → Ends (program_of program.now) self.old frag.now) }
         ensures wrong { IfErr result (λ fault. IsFaulty (program_of program.now) self.old frag.now fault) }
     {
-        tells_faults();
+        law_tells_faults();
         is_line(frag);
         let Some(code) = program.receive_code(self.msg) else {
             unreachable!();
@@ -245,7 +245,7 @@ impl Begun {
 #[inline(always)]
 pub(crate) fn begin(
     program: &Program,
-    begun: &mut Begun,
+    begun: &mut PartialCall,
     tape: &mut [u64],
     frag: &Frag,
 ) -> Result<Fed, WireFault>
@@ -269,7 +269,11 @@ pub(crate) fn begin(
 // Takes a fragment where a call is to begin, if it is all of a call, which code without loops takes: the call's numbers are then
 // the first of the places.
 #[inline(always)]
-pub(crate) fn begin_straight(program: &Program, places: &mut [u64; 8], frag: &Frag) -> Option<Ended>
+pub(crate) fn begin_straight(
+    program: &Program,
+    places: &mut [u64; 8],
+    frag: &Frag,
+) -> Option<TapedCall>
     ensures stands { IfSome result (λ ended. StandsIn (program_of program.now) places.new (after ended)) }
     ensures adds { IfSome result (λ ended. AddsUpTo (program_of program.now) [] frag.now places.new (after ended)) }
 {
@@ -285,14 +289,14 @@ pub(crate) fn begin_straight(program: &Program, places: &mut [u64; 8], frag: &Fr
     let Some(count) = take_straight(code.ops(), places, &frag.words) else {
         return None;
     };
-    Some(Ended { msg, count })
+    Some(TapedCall { msg, count })
 }
 
 // Takes a fragment inside a call.
 #[inline(always)]
 pub(crate) fn go_on(
     program: &Program,
-    begun: &mut Begun,
+    begun: &mut PartialCall,
     tape: &mut [u64],
     frag: &Frag,
 ) -> Result<Fed, WireFault>
@@ -317,7 +321,7 @@ pub(crate) fn go_on(
 #[inline(always)]
 pub(crate) fn look_on(
     program: &Program,
-    begun: &mut Begun,
+    begun: &mut PartialCall,
     numbers: &mut [u64; 56],
     frag: &Frag,
 ) -> Result<Fed, WireFault>
@@ -339,7 +343,7 @@ pub(crate) fn look_on(
 pub(crate) fn whole(
     alloc: Global,
     program: &Program,
-    ended: Ended,
+    ended: TapedCall,
     tape: &[u64],
 ) -> Result<Call, AllocError>
     requires ended { StandsIn (program_of program.now) tape.now (after ended) }
@@ -377,7 +381,7 @@ fn go_over(tape: &mut Vec<u64>, other: &mut Vec<u64>, count: usize)
     mem::swap(tape, other);
 }
 
-impl Stored {
+impl RecvState {
     // Takes a fragment where a call is to begin, on the fresh tape.
     fn feed_first(&mut self, program: &Program, frag: &Frag) -> Result<Fed, WireFault>
         requires stored { IsStored (program_of program.now).plan (program_of program.now).interface (stored_of self.old) }
@@ -393,7 +397,7 @@ impl Stored {
                 mem::swap(&mut self.tape, &mut self.fresh);
                 mem::swap(&mut self.last, &mut self.next);
                 mem::swap(&mut self.now, &mut self.last);
-                self.before = Some(Former {
+                self.before = Some(BeforeFeed {
                     phase: self.phase,
                     began: true,
                 });
@@ -436,7 +440,7 @@ impl Stored {
             Ok(fed) => {
                 mem::swap(&mut self.last, &mut self.next);
                 mem::swap(&mut self.now, &mut self.last);
-                self.before = Some(Former {
+                self.before = Some(BeforeFeed {
                     phase: self.phase,
                     began: false,
                 });
@@ -504,14 +508,14 @@ impl RecvRun {
         let fresh = vec![in alloc; 0; capacity]?;
         Ok(RecvRun {
             program,
-            stored: Stored {
+            stored: RecvState {
                 tape,
                 spare,
                 fresh,
                 phase: Phase::Idle,
-                now: Box::new(alloc, Begun::new())?,
-                last: Box::new(alloc, Begun::new())?,
-                next: Box::new(alloc, Begun::new())?,
+                now: Box::new(alloc, PartialCall::new())?,
+                last: Box::new(alloc, PartialCall::new())?,
+                next: Box::new(alloc, PartialCall::new())?,
                 before: None,
             },
         })

@@ -8,7 +8,7 @@ use std::alloc::{AllocError, Global};
 
 // Where a room lies: how many fragments it holds, and where in the block it begins, once it is there.
 #[derive(Clone, Copy)]
-pub(crate) struct Span {
+pub(crate) struct RoomRange {
     size: usize,
     start: Option<usize>,
 }
@@ -18,7 +18,7 @@ pub(crate) struct Span {
 pub(crate) struct Rooms {
     // The rooms that are there, in the order in which they were opened.
     pub(crate) block: Vec<Frag>,
-    spans: Vec<Span>,
+    spans: Vec<RoomRange>,
     // So many fragments hold the rooms that aren't there yet: there is memory for them behind those of the block.
     owed: usize,
 }
@@ -47,7 +47,7 @@ impl Rooms {
             return Err(AllocError);
         };
         self.block.reserve(owed)?;
-        let Ok(()) = self.spans.push(Span { size, start: None }) else {
+        let Ok(()) = self.spans.push(RoomRange { size, start: None }) else {
             return Err(AllocError);
         };
         self.owed = owed;
@@ -90,7 +90,7 @@ impl Rooms {
             unreachable!();
         };
         self.owed -= span.size;
-        self.spans[place] = Span {
+        self.spans[place] = RoomRange {
             size: span.size,
             start: Some(start),
         };

@@ -8,14 +8,14 @@ ghost use Rattle.fl_stub.specs.declared.op.Column.TheVariants.{Send as send};
 ghost use Rattle.fl_stub.specs.Frames.{block_of};
 ghost use Rattle.fl_stub.specs.Meaning.{Turns, number_bytes};
 ghost use Rattle.fl_stub.specs.Given.{bytes_given};
-ghost use Rattle.fl_stub.specs.Spots.{IsSpot, IsSettled, bytes_from};
-ghost use Rattle.fl_machine.specs.Cursors.{spot_of, low_byte as low_byte_of, IsRun};
+ghost use Rattle.fl_stub.specs.Locations.{IsLocation, IsSettled, bytes_from};
+ghost use Rattle.fl_machine.specs.Cursors.{location_of, low_byte as low_byte_of, IsRun};
 ghost use Rattle.fl_machine.specs.Filling.{Holds, Puts, PutsRun};
-ghost use Rattle.fl_machine.specs.Straight.{straight_spot};
+ghost use Rattle.fl_machine.specs.Straight.{straight_location};
 ghost use Rattle.fl_wire.specs.Payload.{word as word_of};
 ghost use Rattle.fl_machine.specs.Sending.{frags_holding, frags_left, RunsOn};
 
-use crate::cursor::{Cursor, low_byte, low_bytes};
+use crate::cursor::{SendCursor, low_byte, low_bytes};
 use crate::intake::op_at;
 use fl_base::{Circuit, Frag, MsgNo, control};
 use fl_stub::{Op, VerifiedCode};
@@ -29,16 +29,16 @@ pub struct SendRun {
     circuit: Circuit,
     tape: Vec<u64>,
     begins: bool,
-    cursor: Cursor,
+    cursor: SendCursor,
 }
 
 impl Model for SendRun {
     ghost use Rattle.fl_machine.specs.Sending.{TheSending};
-    ghost use Rattle.fl_machine.specs.Cursors.{spot_of};
+    ghost use Rattle.fl_machine.specs.Cursors.{location_of};
 
     ghost Value = { TheSending };
 
-    ghost view = { λ r. record { msg = r.msg.0; circuit = r.circuit.0; begins = r.begins; spot = spot_of r.tape.items r.cursor } };
+    ghost view = { λ r. record { msg = r.msg.0; circuit = r.circuit.0; begins = r.begins; location = location_of r.tape.items r.cursor } };
 }
 
 // Eight bytes of a fragment as a word.
@@ -100,15 +100,15 @@ fn put_number(buffer: &mut [u8; 56], at: usize, number: u64)
 fn put_last(
     buffer: &mut [u8; 56],
     at: usize,
-    cursor: &mut Cursor,
+    cursor: &mut SendCursor,
     ops: &[Op],
     tape: &[u64],
 ) -> usize
     requires place { at < 56 }
-    requires spot { IsSpot ops.now (spot_of tape.now cursor.old) }
+    requires location { IsLocation ops.now (location_of tape.now cursor.old) }
     requires busy { cursor.old.width ≢ 0 }
     ensures { (put : List ℕ) → length put ≡ at → Holds buffer.old put
-        → Puts ops.now (spot_of tape.now cursor.old) (spot_of tape.now cursor.new) put buffer.new result }
+        → Puts ops.now (location_of tape.now cursor.old) (location_of tape.now cursor.new) put buffer.new result }
 {
     if at > 48 {
         buffer[at] = cursor.next_byte(ops, tape);
@@ -147,19 +147,19 @@ fn put_bytes(
 fn put_span(
     buffer: &mut [u8; 56],
     at: usize,
-    cursor: &mut Cursor,
+    cursor: &mut SendCursor,
     ops: &[Op],
     tape: &[u64],
 ) -> usize
     requires place { at < 56 }
-    requires spot { IsSpot ops.now (spot_of tape.now cursor.old) }
+    requires location { IsLocation ops.now (location_of tape.now cursor.old) }
     requires run { IsRun ops.now cursor.old }
     ensures place { result ≤ 56 }
-    ensures spot { IsSpot ops.now (spot_of tape.now cursor.new) }
+    ensures location { IsLocation ops.now (location_of tape.now cursor.new) }
     ensures run { IsRun ops.now cursor.new }
     ensures width { cursor.new.width ≡ cursor.old.width }
     ensures puts { (put : List ℕ) → length put ≡ at → Holds buffer.old put
-        → PutsRun ops.now (spot_of tape.now cursor.old) (spot_of tape.now cursor.new) put buffer.new result }
+        → PutsRun ops.now (location_of tape.now cursor.old) (location_of tape.now cursor.new) put buffer.new result }
 {
     if cursor.width() != 1 {
         return at;
@@ -175,14 +175,20 @@ fn put_span(
 
 // The numbers of a loop over one number, as long as eight bytes are free, of one byte as long as any is; the place behind them.
 #[inline(always)]
-fn put_run(buffer: &mut [u8; 56], at: usize, cursor: &mut Cursor, ops: &[Op], tape: &[u64]) -> usize
+fn put_run(
+    buffer: &mut [u8; 56],
+    at: usize,
+    cursor: &mut SendCursor,
+    ops: &[Op],
+    tape: &[u64],
+) -> usize
     requires place { at < 56 }
-    requires spot { IsSpot ops.now (spot_of tape.now cursor.old) }
+    requires location { IsLocation ops.now (location_of tape.now cursor.old) }
     ensures place { result ≤ 56 }
-    ensures spot { IsSpot ops.now (spot_of tape.now cursor.new) }
+    ensures location { IsLocation ops.now (location_of tape.now cursor.new) }
     ensures width { cursor.new.width ≡ cursor.old.width }
     ensures puts { (put : List ℕ) → length put ≡ at → Holds buffer.old put
-        → PutsRun ops.now (spot_of tape.now cursor.old) (spot_of tape.now cursor.new) put buffer.new result }
+        → PutsRun ops.now (location_of tape.now cursor.old) (location_of tape.now cursor.new) put buffer.new result }
 {
     if !cursor.is_run(ops) {
         return at;
@@ -201,15 +207,15 @@ fn put_run(buffer: &mut [u8; 56], at: usize, cursor: &mut Cursor, ops: &[Op], ta
 fn put_next(
     buffer: &mut [u8; 56],
     at: usize,
-    cursor: &mut Cursor,
+    cursor: &mut SendCursor,
     ops: &[Op],
     tape: &[u64],
 ) -> usize
     requires place { at < 56 }
-    requires spot { IsSpot ops.now (spot_of tape.now cursor.old) }
+    requires location { IsLocation ops.now (location_of tape.now cursor.old) }
     requires busy { cursor.old.width ≢ 0 }
     ensures { (put : List ℕ) → length put ≡ at → Holds buffer.old put
-        → Puts ops.now (spot_of tape.now cursor.old) (spot_of tape.now cursor.new) put buffer.new result }
+        → Puts ops.now (location_of tape.now cursor.old) (location_of tape.now cursor.new) put buffer.new result }
 {
     let at = put_run(buffer, at, cursor, ops, tape);
     if at == 56 {
@@ -244,14 +250,14 @@ fn number_at(
 
 // The numbers that a fragment begins with, outside loops, as long as each is followed by another; the place behind them.
 #[inline(always)]
-fn put_numbers(buffer: &mut [u8; 56], cursor: &mut Cursor, ops: &[Op], tape: &[u64]) -> usize
-    requires spot { IsSpot ops.now (spot_of tape.now cursor.old) }
-    requires settled { IsSettled ops.now (spot_of tape.now cursor.old) }
+fn put_numbers(buffer: &mut [u8; 56], cursor: &mut SendCursor, ops: &[Op], tape: &[u64]) -> usize
+    requires location { IsLocation ops.now (location_of tape.now cursor.old) }
+    requires settled { IsSettled ops.now (location_of tape.now cursor.old) }
     requires none { Holds buffer.old [] }
     ensures place { result ≤ 56 }
-    ensures spot { IsSpot ops.now (spot_of tape.now cursor.new) }
-    ensures settled { IsSettled ops.now (spot_of tape.now cursor.new) }
-    ensures puts { PutsRun ops.now (spot_of tape.now cursor.old) (spot_of tape.now cursor.new) [] buffer.new result }
+    ensures location { IsLocation ops.now (location_of tape.now cursor.new) }
+    ensures settled { IsSettled ops.now (location_of tape.now cursor.new) }
+    ensures puts { PutsRun ops.now (location_of tape.now cursor.old) (location_of tape.now cursor.new) [] buffer.new result }
 {
     if cursor.is_idle() || cursor.depth != 0 {
         return 0;
@@ -281,13 +287,13 @@ fn put_numbers(buffer: &mut [u8; 56], cursor: &mut Cursor, ops: &[Op], tape: &[u
 
 // The next 56 bytes, zeros after their end.
 #[inline(always)]
-fn fill(cursor: &mut Cursor, ops: &[Op], tape: &[u64]) -> [u8; 56]
-    requires spot { IsSpot ops.now (spot_of tape.now cursor.old) }
-    requires settled { IsSettled ops.now (spot_of tape.now cursor.old) }
-    ensures spot { IsSpot ops.now (spot_of tape.now cursor.new) }
-    ensures settled { IsSettled ops.now (spot_of tape.now cursor.new) }
-    ensures bytes { (i : ℕ) → i < 56 → slice_index result i ≡ slice_index (bytes_from ops.now (spot_of tape.now cursor.old)) i }
-    ensures left { bytes_from ops.now (spot_of tape.now cursor.new) ≡ drop 56 (bytes_from ops.now (spot_of tape.now cursor.old)) }
+fn fill(cursor: &mut SendCursor, ops: &[Op], tape: &[u64]) -> [u8; 56]
+    requires location { IsLocation ops.now (location_of tape.now cursor.old) }
+    requires settled { IsSettled ops.now (location_of tape.now cursor.old) }
+    ensures location { IsLocation ops.now (location_of tape.now cursor.new) }
+    ensures settled { IsSettled ops.now (location_of tape.now cursor.new) }
+    ensures bytes { (i : ℕ) → i < 56 → slice_index result i ≡ slice_index (bytes_from ops.now (location_of tape.now cursor.old)) i }
+    ensures left { bytes_from ops.now (location_of tape.now cursor.new) ≡ drop 56 (bytes_from ops.now (location_of tape.now cursor.old)) }
 {
     let mut buffer = [0; 56];
     let mut filled = put_numbers(&mut buffer, cursor, ops, tape);
@@ -305,7 +311,7 @@ fn run_first(code: &VerifiedCode, msg: MsgNo, circuit: Circuit, tape: &[u64]) ->
     ensures { Some result ≡ slice_get (frags_holding true msg.0 circuit.0 (bytes_given (block_of code.now.ops) tape.now)) 0 }
 {
     let ops = code.ops();
-    let mut cursor = Cursor::new();
+    let mut cursor = SendCursor::new();
     cursor.settle(ops, tape);
     let buffer = fill(&mut cursor, ops, tape);
     frag_with(&buffer, true, msg, circuit)
@@ -315,8 +321,8 @@ fn run_first(code: &VerifiedCode, msg: MsgNo, circuit: Circuit, tape: &[u64]) ->
 // than a fragment's.
 #[inline(always)]
 fn straight_bytes(ops: &[Op], tape: &[u64]) -> Option<[u8; 56]>
-    requires spot { IsSpot ops.now (straight_spot tape.now 0 0) }
-    ensures bytes { IfSome result (λ buffer. (i : ℕ) → i < 56 → slice_index buffer i ≡ slice_index (bytes_from ops.now (straight_spot tape.now 0 0)) i) }
+    requires location { IsLocation ops.now (straight_location tape.now 0 0) }
+    ensures bytes { IfSome result (λ buffer. (i : ℕ) → i < 56 → slice_index buffer i ≡ slice_index (bytes_from ops.now (straight_location tape.now 0 0)) i) }
 {
     let mut buffer = [0; 56];
     let mut count = 0;
@@ -363,7 +369,7 @@ impl SendRun {
         ensures meant { (bytes : List ℕ) → Turns (block_of code.now.ops) tape.items bytes
             → frags_left code.now result ≡ frags_holding true msg.0 circuit.0 bytes }
     {
-        let cursor = Cursor::new();
+        let cursor = SendCursor::new();
         // Settled where it lies, so that the loops aren't copied.
         let mut run = SendRun {
             msg,

@@ -14,8 +14,10 @@ ghost use Rattle.fl_machine.specs.Taking.{HasField, HasRoom, IsRunOf, run_at};
 ghost use Rattle.fl_machine.specs.Straight.{is_straight as is_straight_op, straight_behind, HasNumber};
 
 use crate::cursor::is_op;
-use crate::intake::{Field, Intake, end_of, greatest, is_last, low_part, op_at, spread, word_at};
-use fl_stub::{Mark, Op};
+use crate::intake::{
+    ByteField, RecvCursor, end_of, greatest, is_last, low_part, op_at, spread, word_at,
+};
+use fl_stub::{ByteKind, Op};
 
 // Whether an instruction takes bytes wherever it stands, and one number or zeros by them.
 #[inline(always)]
@@ -31,7 +33,7 @@ fn is_straight(op: Op) -> bool
 
 // A field's number by its bytes from a place on, if all are there and it is right.
 #[inline(always)]
-fn number_at(field: Field, buffer: &[u8; 64], used: usize) -> Option<u64>
+fn number_at(field: ByteField, buffer: &[u8; 64], used: usize) -> Option<u64>
     requires inside { used ≤ 56 }
     requires narrow { field.width ≤ 8 }
     ensures { IfSome result (λ number. HasNumber field buffer.now used number) }
@@ -49,7 +51,7 @@ fn number_at(field: Field, buffer: &[u8; 64], used: usize) -> Option<u64>
 
 // Puts a field's number behind so many, if it is one of the call's; how many they are then, if there is room.
 #[inline(always)]
-fn put(places: &mut [u64; 8], count: usize, field: Field, number: u64) -> Option<usize>
+fn put(places: &mut [u64; 8], count: usize, field: ByteField, number: u64) -> Option<usize>
     requires few { count ≤ 8 }
     ensures few { IfSome result (λ more. more ≤ 8) }
     ensures tape { IfSome result
@@ -93,7 +95,7 @@ pub(crate) fn take_straight(ops: &[Op], places: &mut [u64; 8], words: &[u64; 7])
         if !is_straight(op) {
             return None;
         }
-        let field = Field::of(op, 0);
+        let field = ByteField::of(op, 0);
         let Some(number) = number_at(field, &buffer, used) else {
             return None;
         };
@@ -110,10 +112,10 @@ pub(crate) fn take_straight(ops: &[Op], places: &mut [u64; 8], words: &[u64; 7])
 // What a straight instruction takes, and its number by the bytes from a place on, if all are there and it is
 // right: a number of eight bytes, which may be any, is told before the others.
 #[inline(always)]
-fn straight_number(op: Op, buffer: &[u8; 64], used: usize) -> Option<(Field, u64)>
+fn straight_number(op: Op, buffer: &[u8; 64], used: usize) -> Option<(ByteField, u64)>
     requires inside { used ≤ 56 }
     requires taken { is_straight_op op ≡ true → is_taken op ≡ true }
-    requires narrow { (f : Field) → is_straight_op op ≡ true
+    requires narrow { (f : ByteField) → is_straight_op op ≡ true
         → ((at : ℕ) → 0 % 8 ≡ at % 8 → field_view f ≡ taken_field op at) → f.width ≤ 8 }
     ensures straight { IfSome result (λ r. is_straight_op op ≡ true) }
     ensures field { IfSome result (λ r. (at : ℕ) → 0 % 8 ≡ at % 8 → field_view r.0 ≡ taken_field op at) }
@@ -123,25 +125,25 @@ fn straight_number(op: Op, buffer: &[u8; 64], used: usize) -> Option<(Field, u64
         if used > 48 {
             return None;
         }
-        return Some((Field::number(8, 0, u64::MAX), word_at(buffer, used)));
+        return Some((ByteField::number(8, 0, u64::MAX), word_at(buffer, used)));
     }
     if let Op::Read(width) = op {
         if width as usize > 56 - used {
             return None;
         }
         let number = low_part(word_at(buffer, used), width as usize);
-        return Some((Field::number(width, 0, greatest(width)), number));
+        return Some((ByteField::number(width, 0, greatest(width)), number));
     }
     if let Op::Skip(zeros) = op {
         if zeros as usize > 56 - used || low_part(word_at(buffer, used), zeros as usize) != 0 {
             return None;
         }
-        return Some((Field::zeros(zeros), 0));
+        return Some((ByteField::zeros(zeros), 0));
     }
     if !is_straight(op) {
         return None;
     }
-    let field = Field::of(op, 0);
+    let field = ByteField::of(op, 0);
     let Some(number) = number_at(field, buffer, used) else {
         return None;
     };
@@ -151,7 +153,7 @@ fn straight_number(op: Op, buffer: &[u8; 64], used: usize) -> Option<(Field, u64
 // Puts a field's number on a tape behind so many, if it is one of the call's; how many they are then, if
 // there is room.
 #[inline(always)]
-fn put_on(tape: &mut [u64], count: usize, field: Field, number: u64) -> Option<usize>
+fn put_on(tape: &mut [u64], count: usize, field: ByteField, number: u64) -> Option<usize>
     requires count { count ≤ length tape.old }
     ensures tape { IfSome result
         (λ more. take more tape.new ≡ take count tape.old ++ told field.told number) }
@@ -173,7 +175,7 @@ fn put_on(tape: &mut [u64], count: usize, field: Field, number: u64) -> Option<u
 // The next number of a loop over one number, if its turn isn't the last, all its bytes are there, and it is
 // right.
 #[inline(always)]
-fn turn_number(field: Field, buffer: &[u8; 64], used: usize, left: u64) -> Option<u64>
+fn turn_number(field: ByteField, buffer: &[u8; 64], used: usize, left: u64) -> Option<u64>
     requires inside { used ≤ 56 }
     requires narrow { field.width ≤ 8 }
     ensures more { IfSome result (λ number. 0 < left) }
@@ -194,7 +196,7 @@ fn put_at(tape: &mut [u64], count: usize, number: u64)
     tape[count] = number;
 }
 
-impl Intake {
+impl RecvCursor {
     // Where a loop over one number is left: with so many turns after this one, behind so many numbers, at
     // this place in the payload.
     #[inline(always)]
@@ -215,7 +217,7 @@ impl Intake {
         &mut self,
         ops: &[Op],
         tape: &mut [u64],
-        field: Field,
+        field: ByteField,
         buffer: &[u8; 64],
         used: usize,
     ) -> usize
@@ -357,10 +359,10 @@ impl Intake {
         &mut self,
         ops: &[Op],
         tape: &mut [u64],
-        field: Field,
+        field: ByteField,
         buffer: &[u8; 64],
         used: usize,
-    ) -> Result<usize, Mark>
+    ) -> Result<usize, ByteKind>
         requires room { used < 56 }
         requires settled { IsAtField ops.now self.old }
         requires field { HasField ops.now self.old field }

@@ -5,10 +5,10 @@ use Rattle.std.proofs.lemmas.Bool.{ltb-true, lt-ltb}
 use Rattle.fl_base.specs.declared.identity.CoreId.{CoreId}
 use Rattle.fl_interface.specs.declared.interface.Scalar.TheVariants.{Uint8, Uint16, Uint32, Iref}
 use Rattle.fl_interface.specs.Interface.{scalar, fixed, sized, TheArgType}
-use Rattle.fl_value.specs.Value.{Datum, data_from, TheCall}
-use Rattle.fl_value.specs.Fits.{is_argument, are_arguments, fits_of}
-use Rattle.fl_monitor.specs.declared.message.Message.{Message}
-use Rattle.fl_monitor.specs.declared.message.Message.TheVariants.{OpenCircuit, CircuitOpened, CircuitRefused}
+use Rattle.fl_value_data.specs.Value.{Datum, data_from, TheCall}
+use Rattle.fl_value_data.specs.Fits.{is_argument, are_arguments, fits_of}
+use Rattle.fl_monitor.specs.declared.message.MonitorMessage.{MonitorMessage}
+use Rattle.fl_monitor.specs.declared.message.MonitorMessage.TheVariants.{OpenCircuit, CircuitOpened, CircuitRefused}
 use Rattle.fl_monitor.specs.Routes.{FitsPath}
 use Rattle.fl_monitor.specs.Intermon.{intermon, natural, route, call_for, HasWidths}
 use Rattle.fl_monitor.specs.Parts.{numbers}
@@ -17,7 +17,7 @@ use Rattle.fl_monitor.proofs.Values.{false_true, first_half, second_half, has_16
 
 -- ---- a message's call fits where its numbers have their widths
 
-pub widths_fit : (m : Message) → HasWidths m → fits_of intermon (call_for m) ≡ true
+pub widths_fit : (m : MonitorMessage) → HasWidths m → fits_of intermon (call_for m) ≡ true
 widths_fit (OpenCircuit circuit binding service path) w =
     rw (lt-ltb circuit.0 65536 w.0, lt-ltb binding 4294967296 w.1, lt-ltb service.0 4294967296 w.2, route_fits path w.3) refl
 widths_fit (CircuitOpened circuit) w = rw (lt-ltb circuit.0 65536 w) refl
@@ -116,7 +116,7 @@ refusing_of args h =
     let reason_is = reason.is in
     record { circuit = circuit.n; reason = reason.n; is = cc; widths = (circuit.small, reason.small) }
 
-pub fit_widths : (m : Message) → fits_of intermon (call_for m) ≡ true → HasWidths m
+pub fit_widths : (m : MonitorMessage) → fits_of intermon (call_for m) ≡ true → HasWidths m
 fit_widths (OpenCircuit circuit binding service path) h =
     let r = second_half (nat_lt circuit.0 65536) _ h in
     let s = second_half (nat_lt binding 4294967296) _ r in
@@ -133,7 +133,7 @@ fits_by_widths m = (widths_fit m, fit_widths m)
 -- ---- each call that fits is that of a message, and of no other
 
 abbrev IsMessage : ℕ → List Datum → Type 0
-IsMessage msg args = (m : Message) × HasWidths m × (call_for m ≡ record { msg = msg; args = args })
+IsMessage msg args = (m : MonitorMessage) × HasWidths m × (call_for m ≡ record { msg = msg; args = args })
 
 message_of_call : (msg : ℕ) (args : List Datum) → fits_of intermon (record { msg = msg; args = args }) ≡ true → IsMessage msg args
 message_of_call zero args h =

@@ -2,7 +2,7 @@
 use Rattle.std.proofs.Common.{◌≡◌, ◌∙◌, sym, ap}
 use Rattle.std.specs.Prelude.{Option, Some}
 use Rattle.fl_hop.specs.declared.entry.Hop.{Hop}
-use Rattle.fl_monitor.specs.declared.message.Message.TheVariants.{OpenCircuit, CircuitOpened, CircuitRefused}
+use Rattle.fl_monitor.specs.declared.message.MonitorMessage.TheVariants.{OpenCircuit, CircuitOpened, CircuitRefused}
 use Rattle.fl_monitor.specs.Hearing.{opened_at, refused_at, OneOutcome}
 
 same_hop : (x : Option Hop) (a b : Hop) → x ≡ Some a → x ≡ Some b → a ≡ b

@@ -4,8 +4,8 @@ use Rattle.std.specs.Prelude.{slice_get, slice_index_or, is_some, option_map}
 use Rattle.std.proofs.lemmas.List.{length-map}
 use Rattle.std.proofs.lemmas.Option.{slice_get-map, slice_get_read, slice_get_within}
 use Rattle.fl_base.specs.declared.identity.CoreId.{CoreId}
-use Rattle.fl_value.specs.Value.{Datum, TheCall}
-use Rattle.fl_value.specs.Fits.{fits_of}
+use Rattle.fl_value_data.specs.Value.{Datum, TheCall}
+use Rattle.fl_value_data.specs.Fits.{fits_of}
 use Rattle.fl_monitor.specs.Routes.{FitsPath}
 use Rattle.fl_monitor.specs.Intermon.{intermon, natural, route}
 use Rattle.fl_monitor.specs.Parts.{IsBelow, IsRouteValue, StandsAt}

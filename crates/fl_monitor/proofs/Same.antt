@@ -4,7 +4,7 @@ use Rattle.std.specs.Prelude.{◌==◌, nat_lt, slice_get, slice_index}
 use Rattle.std.specs.Int.{byte_at}
 use Rattle.fl_base.specs.declared.fragment.Frag.{Frag}
 use Rattle.fl_base.specs.Control.{message_of, circuit_of, bare}
-use Rattle.fl_value.specs.declared.value.PlanNo.TheVariants.{One}
+use Rattle.fl_value_data.specs.declared.value.PlanNo.TheVariants.{One}
 use Rattle.fl_layout.specs.Leaves.{Leaf, leaves}
 use Rattle.fl_wire.specs.Reading.{IsWrong}
 use Rattle.fl_wire.specs.Standing.{words_in, byte_in}

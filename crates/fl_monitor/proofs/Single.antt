@@ -7,15 +7,15 @@ use Rattle.fl_base.specs.declared.fragment.Frag.{Frag}
 use Rattle.fl_base.specs.Control.{is_ack_only, bare}
 use Rattle.fl_interface.specs.declared.interface.Scalar.TheVariants.{Uint8}
 use Rattle.fl_interface.specs.Interface.{scalar}
-use Rattle.fl_value.specs.Value.{data_from, TheCall}
-use Rattle.fl_value.specs.Fits.{count_of}
-use Rattle.fl_value.specs.declared.value.PlanNo.TheVariants.{One}
+use Rattle.fl_value_data.specs.Value.{data_from, TheCall}
+use Rattle.fl_value_data.specs.Fits.{count_of}
+use Rattle.fl_value_data.specs.declared.value.PlanNo.TheVariants.{One}
 use Rattle.fl_layout.specs.Leaves.{Leaf, whole, elements_onto, leaves}
 use Rattle.fl_layout.specs.Places.{size, count, count_for}
 use Rattle.fl_wire.specs.Payload.{payload_of, frag_on, frags_of}
 use Rattle.fl_wire.proofs.Readings.{two_begin}
-use Rattle.fl_monitor.specs.declared.message.Message.{Message}
-use Rattle.fl_monitor.specs.declared.message.Message.TheVariants.{OpenCircuit, CircuitOpened, CircuitRefused}
+use Rattle.fl_monitor.specs.declared.message.MonitorMessage.{MonitorMessage}
+use Rattle.fl_monitor.specs.declared.message.MonitorMessage.TheVariants.{OpenCircuit, CircuitOpened, CircuitRefused}
 use Rattle.fl_monitor.specs.Intermon.{intermon, call_for, HasWidths}
 use Rattle.fl_monitor.specs.Parts.{numbers}
 use Rattle.fl_monitor.specs.Saying.{Says, EachTakesOneFragment, NoneIsPart, SaysNoOther, SaysWhatIsWritten, SaysTheSame, SaysAlone}
@@ -29,7 +29,7 @@ numbers_size (core ∷ cores) before = numbers_size cores (whole 1 core.0 ∷ be
 one_for : (bytes : ℕ) → bytes ≤ 56 → count_for bytes ≡ 1
 one_for bytes few = omega (arith, few)
 
-pub one_each : (m : Message) → HasWidths m → count One intermon (call_for m) ≡ 1
+pub one_each : (m : MonitorMessage) → HasWidths m → count One intermon (call_for m) ≡ 1
 one_each (OpenCircuit circuit binding service path) w =
     let bytes : size (leaves One intermon (call_for (OpenCircuit circuit binding service path))) ≡ 24 + length path
     = numbers_size path (whole 8 (count_of (data_from (numbers path))) ∷ whole 4 service.0 ∷ whole 4 binding ∷ whole 2 circuit.0 ∷ []) in
@@ -46,10 +46,10 @@ pub none_is_part : NoneIsPart
 none_is_part f frags part = absurd (omega (arith, part.short, one_fragment part.call part.fits))
 
 -- a message's one fragment
-pub frag_for : Message → Frag
+pub frag_for : MonitorMessage → Frag
 frag_for m = frag_on 0 (call_for m).msg (payload_of One intermon (call_for m)) 0
 
-pub frags_are : (m : Message) → HasWidths m → frags_of One intermon (call_for m) ≡ frag_for m ∷ []
+pub frags_are : (m : MonitorMessage) → HasWidths m → frags_of One intermon (call_for m) ≡ frag_for m ∷ []
 unfolding frag_for
 frags_are m w = ap (λ (n : ℕ). map (frag_on 0 (call_for m).msg (payload_of One intermon (call_for m))) (range_with_len 0 n)) (one_each m w)
 
@@ -57,10 +57,10 @@ first_in : (x y : Frag) (xs ys : List Frag) → x ∷ xs ≡ y ∷ ys → x ≡ 
 first_in x y xs ys e = cc
 
 -- what a saying fragment is, epoch and count told aside
-pub says_bare : (f : Frag) (m : Message) → Says f m → bare f ≡ frag_for m
+pub says_bare : (f : Frag) (m : MonitorMessage) → Says f m → bare f ≡ frag_for m
 says_bare f m s = first_in (bare f) (frag_for m) [] [] (s.means ∙ frags_are m s.widths)
 
-same_call : (m n : Message) → HasWidths m → HasWidths n → frag_for m ≡ frag_for n → call_for m ≡ call_for n
+same_call : (m n : MonitorMessage) → HasWidths m → HasWidths n → frag_for m ≡ frag_for n → call_for m ≡ call_for n
 same_call m n v w e =
     two_begin One intermon (call_for m) (call_for n) [] [] refl (widths_fit m v) (widths_fit n w)
     (ap (λ (fs : List Frag). fs ++ []) (frags_are m v ∙ ap (λ (f : Frag). f ∷ []) e ∙ sym (frags_are n w)))
@@ -71,12 +71,12 @@ says_no_other f m n s t = one_message m n (same_call m n s.widths t.widths (sym 
 pub says_the_same : SaysTheSame
 says_the_same f g m same s = record { widths = s.widths; means = ap (λ (h : Frag). h ∷ []) same ∙ s.means }
 
-msg_small : (m : Message) → (call_for m).msg < 3
+msg_small : (m : MonitorMessage) → (call_for m).msg < 3
 msg_small (OpenCircuit circuit binding service path) = omega arith
 msg_small (CircuitOpened circuit) = omega arith
 msg_small (CircuitRefused circuit reason) = omega arith
 
-pub bare_frag : (m : Message) → bare (frag_for m) ≡ frag_for m
+pub bare_frag : (m : MonitorMessage) → bare (frag_for m) ≡ frag_for m
 unfolding frag_for
 bare_frag m =
     let small = msg_small m in
@@ -89,7 +89,7 @@ says_what_is_written f m w e =
     record { widths = w; means = ap (λ (h : Frag). h ∷ []) (ap bare is ∙ bare_frag m) ∙ sym (frags_are m w) }
 
 -- a control word with the bits of a message's
-control_bits : (m : Message) (f : Frag) → bare f ≡ frag_for m → f.control / 2 % 2 ^ 47 ≡ 1 + 32768 * (call_for m).msg
+control_bits : (m : MonitorMessage) (f : Frag) → bare f ≡ frag_for m → f.control / 2 % 2 ^ 47 ≡ 1 + 32768 * (call_for m).msg
 unfolding frag_for
 control_bits m f is =
     let control : 2 * (f.control / 2 % 2 ^ 47) ≡ 2 + 65536 * (call_for m).msg + 2 ^ 32 * 0 = ap (λ (h : Frag). h.control) is in

@@ -6,10 +6,10 @@ use Rattle.fl_hop.specs.declared.entry.Hop.{Hop}
 use Rattle.fl_hop.specs.declared.links.LinkState.{LinkState}
 use Rattle.fl_hop.specs.Table.{TheCircuits, hop_at}
 use Rattle.fl_hop.specs.Numbers.{changed, with_opening, with_taking, count_taking}
-use Rattle.fl_monitor.specs.declared.heard.Heard.{Heard}
-use Rattle.fl_monitor.specs.declared.heard.Heard.TheVariants.{OpeningWentOn, ServerMade, OpeningFailed, AnswerWentOn, EndOpened, EndRefused}
-use Rattle.fl_monitor.specs.declared.message.Message.{Message}
-use Rattle.fl_monitor.specs.declared.message.Message.TheVariants.{OpenCircuit, CircuitOpened, CircuitRefused}
+use Rattle.fl_monitor.specs.declared.heard.MessageOutcome.{MessageOutcome}
+use Rattle.fl_monitor.specs.declared.heard.MessageOutcome.TheVariants.{OpeningWentOn, ServerMade, OpeningFailed, AnswerWentOn, EndOpened, EndRefused}
+use Rattle.fl_monitor.specs.declared.message.MonitorMessage.{MonitorMessage}
+use Rattle.fl_monitor.specs.declared.message.MonitorMessage.TheVariants.{OpenCircuit, CircuitOpened, CircuitRefused}
 use Rattle.fl_monitor.specs.Hearing.{after_opening, after_answer, after_refusal, table_after}
 
 changed_length : (f : LinkState → LinkState) (links : List LinkState) (l : ℕ) (a : Option LinkState) → length (changed f links l a) ≡ length links
@@ -19,7 +19,7 @@ changed_length f links l (Some a) = length-set links l (f a)
 taken_length : (t : TheCircuits) (l : LinkId) → length (count_taking t.links l.0) ≡ length t.links
 taken_length t l = changed_length with_taking t.links l.0 (slice_get t.links l.0)
 
-opening_length : (t : TheCircuits) (l : LinkId) (c : Circuit) (binding : ℕ) (heard : Heard) → length (after_opening t l c binding heard).links ≡ length t.links
+opening_length : (t : TheCircuits) (l : LinkId) (c : Circuit) (binding : ℕ) (heard : MessageOutcome) → length (after_opening t l c binding heard).links ≡ length t.links
 opening_length t l c binding (OpeningWentOn b m n) =
     changed_length with_opening (count_taking t.links l.0) m.0 (slice_get (count_taking t.links l.0) m.0) ∙ taken_length t l
 opening_length t l c binding (ServerMade b dispatcher d) = taken_length t l
@@ -36,7 +36,7 @@ refusal_length : (t : TheCircuits) (l : LinkId) (c : Circuit) (hop : Option Hop)
 refusal_length t l c None is = rw is refl
 refusal_length t l c (Some hop) is = rw is refl
 
-pub table_length : (t : TheCircuits) (l : LinkId) (m : Message) (heard : Heard) → length (table_after t l m heard).links ≡ length t.links
+pub table_length : (t : TheCircuits) (l : LinkId) (m : MonitorMessage) (heard : MessageOutcome) → length (table_after t l m heard).links ≡ length t.links
 table_length t l (OpenCircuit c binding service path) heard = opening_length t l c binding heard
 table_length t l (CircuitOpened c) heard = answer_length t l c (hop_at t l.0 c.0) refl
 table_length t l (CircuitRefused c reason) heard = refusal_length t l c (hop_at t l.0 c.0) refl

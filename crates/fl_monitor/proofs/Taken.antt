@@ -3,10 +3,10 @@ use Rattle.std.proofs.Common.{◌≡◌, ◌⊎◌, ◌^◌, ◌*◌, ◌/◌, �
 use Rattle.fl_base.specs.declared.fragment.Frag.{Frag}
 use Rattle.fl_base.specs.Control.{bare}
 use Rattle.fl_interface.specs.Interface.{TheInterface}
-use Rattle.fl_value.specs.Value.{TheCall}
-use Rattle.fl_value.specs.Fits.{fits_of}
-use Rattle.fl_value.specs.declared.value.PlanNo.{PlanNo}
-use Rattle.fl_value.specs.declared.value.PlanNo.TheVariants.{One}
+use Rattle.fl_value_data.specs.Value.{TheCall}
+use Rattle.fl_value_data.specs.Fits.{fits_of}
+use Rattle.fl_value_data.specs.declared.value.PlanNo.{PlanNo}
+use Rattle.fl_value_data.specs.declared.value.PlanNo.TheVariants.{One}
 use Rattle.fl_wire.specs.Payload.{frags_on}
 use Rattle.fl_wire.specs.Reading.{Means, IsWrong}
 use Rattle.fl_wire.specs.Wrong.{HasFault, WrongByte}
@@ -17,7 +17,7 @@ use Rattle.fl_compile.proofs.OneFault.{one_fault}
 use Rattle.fl_machine.specs.Receiving.{TheHeld, AddsPart, AddsLast, IsRefused}
 use Rattle.fl_machine.specs.declared.intake.Fed.{Fed}
 use Rattle.fl_machine.specs.declared.intake.Fed.TheVariants.{Part, Whole}
-use Rattle.fl_monitor.specs.declared.message.Message.{Message}
+use Rattle.fl_monitor.specs.declared.message.MonitorMessage.{MonitorMessage}
 use Rattle.fl_monitor.specs.Intermon.{intermon, call_for}
 use Rattle.fl_monitor.specs.Saying.{Says, SaysSome, Refuses, RefusedForOne}
 use Rattle.fl_monitor.proofs.Calls.{widths_fit, fit_widths, each_call}
@@ -52,7 +52,7 @@ bare_twice f =
     λ k. record { words = f.words; control = same k }
 
 -- the message whose call the run then gives
-pub says_call : (f : Frag) (t : TheHeld) (plan : PlanNo) (i : TheInterface) (c : TheCall) (m : Message) → plan ≡ One → i ≡ intermon
+pub says_call : (f : Frag) (t : TheHeld) (plan : PlanNo) (i : TheInterface) (c : TheCall) (m : MonitorMessage) → plan ≡ One → i ≡ intermon
     → AddsLast One intermon [] f t → fits_of i c ≡ true → Means plan i t.whole c 0 → call_for m ≡ c → Says f m
 says_call f t plan i c m plan_is i_is last fits means is =
     let fits_it : fits_of intermon (call_for m) ≡ true = ap (fits_of intermon) is ∙ subst (λ (j : TheInterface). fits_of j c ≡ true) i_is fits in
@@ -65,7 +65,7 @@ says_call f t plan i c m plan_is i_is last fits means is =
 
 -- ---- a refused fragment says nothing
 
-pub not_wrong : (f : Frag) (m : Message) → Says f m → IsWrong One intermon (f ∷ []) → ⊥
+pub not_wrong : (f : Frag) (m : MonitorMessage) → Says f m → IsWrong One intermon (f ∷ []) → ⊥
 not_wrong f m s wrong = wrong (call_for m ∷ []) [] (one_fits intermon (call_for m) (widths_fit m s.widths)) (ap (λ (fs : List Frag). fs ++ []) (sym s.means))
 
 no_memory_first : (a b c : Bool) → (if not a then Some NotZero else (if not b then Some NotFirst else (if c then None else Some UnknownMessage))) ≡ Some Memory → ⊥
@@ -95,7 +95,7 @@ refused_by f Memory r = absurd (no_memory f r.first)
 pub refused : (f : Frag) (plan : PlanNo) (i : TheInterface) (parts : List Frag) (fault : WireFault) → plan ≡ One → i ≡ intermon → parts ≡ [] → IsRefused plan i parts f fault → Refuses f fault
 refused f plan i parts fault plan_is i_is parts_is r = refused_by f fault (carry (λ p j fs. IsRefused p j fs f fault) plan i parts plan_is i_is parts_is r)
 
-pub says_none : (f : Frag) (m : Message) (plan : PlanNo) (i : TheInterface) (parts : List Frag) (fault : WireFault) → plan ≡ One → i ≡ intermon → parts ≡ [] → IsRefused plan i parts f fault → Says f m → ⊥
+pub says_none : (f : Frag) (m : MonitorMessage) (plan : PlanNo) (i : TheInterface) (parts : List Frag) (fault : WireFault) → plan ≡ One → i ≡ intermon → parts ≡ [] → IsRefused plan i parts f fault → Says f m → ⊥
 says_none f m plan i parts fault plan_is i_is parts_is r s =
     not_wrong f m s (IsRefused.wrong (carry (λ p j fs. IsRefused p j fs f fault) plan i parts plan_is i_is parts_is r))
 

@@ -4,13 +4,13 @@ use Rattle.std.proofs.lemmas.List.{append-nil, length-map}
 use Rattle.fl_base.specs.declared.identity.CoreId.{CoreId}
 use Rattle.fl_interface.specs.declared.interface.Scalar.TheVariants.{Uint8}
 use Rattle.fl_interface.specs.Interface.{scalar}
-use Rattle.fl_value.specs.Value.{data_from}
-use Rattle.fl_value.specs.Tape.{elements_tape, tape_of}
-use Rattle.fl_value.specs.declared.value.PlanNo.TheVariants.{One}
+use Rattle.fl_value_data.specs.Value.{data_from}
+use Rattle.fl_value_data.specs.Tape.{elements_tape, tape_of}
+use Rattle.fl_value_data.specs.declared.value.PlanNo.TheVariants.{One}
 use Rattle.fl_layout.specs.Layouts.{tape_length}
 use Rattle.fl_machine.specs.Receiving.{HoldsTapes}
-use Rattle.fl_monitor.specs.declared.message.Message.{Message}
-use Rattle.fl_monitor.specs.declared.message.Message.TheVariants.{OpenCircuit, CircuitOpened, CircuitRefused}
+use Rattle.fl_monitor.specs.declared.message.MonitorMessage.{MonitorMessage}
+use Rattle.fl_monitor.specs.declared.message.MonitorMessage.TheVariants.{OpenCircuit, CircuitOpened, CircuitRefused}
 use Rattle.fl_monitor.specs.Intermon.{intermon, call_for, tape_for, HasWidths}
 use Rattle.fl_monitor.specs.Parts.{numbers}
 use Rattle.fl_monitor.proofs.Values.{count_numbers, first_small, rest_small}
@@ -23,7 +23,7 @@ numbers_tape (core ∷ cores) small =
     let rest = numbers_tape cores (rest_small core cores small) in
     λ i. here i ∷ rest i
 
-pub tape_is : (m : Message) → HasWidths m → tape_of One intermon (call_for m) ≡ tape_for m
+pub tape_is : (m : MonitorMessage) → HasWidths m → tape_of One intermon (call_for m) ≡ tape_for m
 tape_is (OpenCircuit circuit binding service path) w =
     let c : circuit.0 % 65536 ≡ circuit.0 = omega (arith, w.0) in
     let b : binding % 4294967296 ≡ binding = omega (arith, w.1) in
@@ -40,7 +40,7 @@ tape_is (CircuitRefused circuit reason) w =
     let r : reason % 4294967296 ≡ reason = omega (arith, w.1) in
     λ i. c i ∷ r i ∷ []
 
-short : (m : Message) → HasWidths m → length (tape_for m) ≤ 20
+short : (m : MonitorMessage) → HasWidths m → length (tape_for m) ≤ 20
 short (OpenCircuit circuit binding service path) w = omega (arith, length-map path (λ (core : CoreId). core.0), w.3.few)
 short (CircuitOpened circuit) w = omega arith
 short (CircuitRefused circuit reason) w = omega arith

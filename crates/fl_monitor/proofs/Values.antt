@@ -6,8 +6,8 @@ use Rattle.std.proofs.lemmas.Bool.{ltb-true, lt-ltb, leb-true, le-leb}
 use Rattle.fl_base.specs.declared.identity.CoreId.{CoreId}
 use Rattle.fl_interface.specs.declared.interface.Scalar.TheVariants.{Uint8, Uint16, Uint32, Iref}
 use Rattle.fl_interface.specs.Interface.{scalar, sized}
-use Rattle.fl_value.specs.Value.{Datum, number, string, elements, fields, Data, nothing_more, also, data_from}
-use Rattle.fl_value.specs.Fits.{has_type, all_have_type, count_of, is_argument}
+use Rattle.fl_value_data.specs.Value.{Datum, number, string, elements, fields, Data, nothing_more, also, data_from}
+use Rattle.fl_value_data.specs.Fits.{has_type, all_have_type, count_of, is_argument}
 use Rattle.fl_monitor.specs.Routes.{FitsPath}
 use Rattle.fl_monitor.specs.Paths.{filler}
 use Rattle.fl_monitor.specs.Intermon.{natural, route}

@@ -8,39 +8,39 @@ use Rattle.fl_hop.specs.Numbers.{next_own, next_due}
 use Rattle.fl_hop.specs.Openings.{is_next}
 use Rattle.fl_nameserv.specs.Registrations.{TheRegistration, by_iref}
 use Rattle.fl_monitor.specs.declared.opening.Opening.{Opening}
-use Rattle.fl_monitor.specs.declared.fate.Here.{Here}
-use Rattle.fl_monitor.specs.declared.fate.Fate.{Fate}
-use Rattle.fl_monitor.specs.declared.fate.Fate.TheVariants.{GoesOn, EndsAt, Fails}
+use Rattle.fl_monitor.specs.declared.decision.OpeningFacts.{OpeningFacts}
+use Rattle.fl_monitor.specs.declared.decision.OpeningDecision.{OpeningDecision}
+use Rattle.fl_monitor.specs.declared.decision.OpeningDecision.TheVariants.{GoesOn, EndsAt, Fails}
 use Rattle.fl_monitor.specs.Routing.{next_on, is_on_route}
 
 -- what a core knows beside its circuits: the services, whether an end of the binding is made here, and whether the service's
 -- dispatcher has a place for one more
 pub record Known : Type 0 where
   pub names : List TheRegistration
-  pub here : Here
+  pub here : OpeningFacts
 
 -- ---- what an opening comes to
 
 -- at the last core: there must be such a service, and a place at its dispatcher
-abbrev pub arrival : Known → ℕ → Fate
+abbrev pub arrival : Known → ℕ → OpeningDecision
 arrival k iref =
     given (by_iref iref k.names) (Fails 70) λ r.
     if k.here.has_place then EndsAt r.service.dispatcher else Fails 54
 
 -- over link m: there must be a number left
-abbrev pub onward : TheCircuits → ℕ → Fate
+abbrev pub onward : TheCircuits → ℕ → OpeningDecision
 onward t m = given (next_own t m) (Fails 74) λ n. GoesOn (link_id m) (circuit_id n)
 
 -- elsewhere: there must be a link to the next core, and not the one on which the opening came
-abbrev pub passage : TheCircuits → ℕ → ℕ → Fate
+abbrev pub passage : TheCircuits → ℕ → ℕ → OpeningDecision
 passage t l next = given (link_of t next) (Fails 73) λ m. if l == m then Fails 73 else onward t m
 
 -- an opening that came on link l
-abbrev pub fate : Known → TheCircuits → ℕ → Opening → Fate
+abbrev pub fate : Known → TheCircuits → ℕ → Opening → OpeningDecision
 fate k t l o = given (next_on o.path t.core) (arrival k o.service.0) λ next. passage t l next.0
 
 -- where it goes on it has the link's next number
-abbrev pub HasNext : TheCircuits → Fate → Type 0
+abbrev pub HasNext : TheCircuits → OpeningDecision → Type 0
 HasNext t (GoesOn m n) = next_own t m.0 ≡ Some n.0
 HasNext t fate = Unit {0}
 

@@ -1,10 +1,10 @@
 -- The numbers of the faults.
 use Rattle.std.specs.Prelude.{ℕ}
 use Rattle.fl_monitor.specs.declared.fault.MonitorFault.{MonitorFault}
-use Rattle.fl_monitor.specs.declared.fault.MonitorFault.TheVariants.{Astray, Differs, NoRoute, UsedUp, OutboxFull, PlansDiffer, Memory}
+use Rattle.fl_monitor.specs.declared.fault.MonitorFault.TheVariants.{Misrouted, Differs, NoRoute, UsedUp, OutboxFull, PlansDiffer, Memory}
 
 abbrev pub fault_number : MonitorFault → ℕ
-fault_number Astray = 67
+fault_number Misrouted = 67
 fault_number Differs = 72
 fault_number NoRoute = 73
 fault_number UsedUp = 74

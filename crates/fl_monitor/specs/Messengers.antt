@@ -1,6 +1,6 @@
 -- A working file, on which no public promise rests by itself: what a messenger keeps.
 use Rattle.std.specs.Prelude.{◌≡◌, []}
-use Rattle.fl_value.specs.declared.value.PlanNo.TheVariants.{One}
+use Rattle.fl_value_data.specs.declared.value.PlanNo.TheVariants.{One}
 use Rattle.fl_machine.specs.Receiving.{interface_in, plan_in}
 use Rattle.fl_monitor.specs.declared.messenger.Messenger.TheInside.{Inside}
 use Rattle.fl_monitor.specs.Intermon.{intermon}

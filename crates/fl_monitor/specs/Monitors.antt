@@ -6,23 +6,23 @@ use Rattle.fl_base.specs.declared.identity.CoreId.{CoreId}
 use Rattle.fl_base.specs.declared.identity.LinkId.{LinkId}
 use Rattle.fl_base.specs.declared.identity.Circuit.{Circuit}
 use Rattle.fl_base.specs.Given.{given}
-use Rattle.fl_hop.specs.declared.fault.HopFault.TheVariants.{NoLink, UsedUp as NoNumber, Astray as IsHere}
+use Rattle.fl_hop.specs.declared.fault.HopFault.TheVariants.{NoLink, UsedUp as NoNumber, Misrouted as IsHere}
 use Rattle.fl_hop.specs.Table.{TheCircuits, link_of, with_link}
 use Rattle.fl_hop.specs.Numbers.{next_own}
 use Rattle.fl_hop.specs.Openings.{open_fault, opened}
 use Rattle.fl_compile.specs.declared.program.Program.{Program}
 use Rattle.fl_compile.specs.Programs.{TheProgram, program_of}
-use Rattle.fl_monitor.specs.declared.message.Message.{Message}
-use Rattle.fl_monitor.specs.declared.message.Message.TheVariants.{OpenCircuit}
+use Rattle.fl_monitor.specs.declared.message.MonitorMessage.{MonitorMessage}
+use Rattle.fl_monitor.specs.declared.message.MonitorMessage.TheVariants.{OpenCircuit}
 use Rattle.fl_monitor.specs.declared.opening.Opening.{Opening}
-use Rattle.fl_monitor.specs.declared.heard.Heard.{Heard}
+use Rattle.fl_monitor.specs.declared.heard.MessageOutcome.{MessageOutcome}
 use Rattle.fl_monitor.specs.declared.fault.MonitorFault.{MonitorFault}
-use Rattle.fl_monitor.specs.declared.fault.MonitorFault.TheVariants.{Astray, Differs, NoRoute, UsedUp, OutboxFull, PlansDiffer, Memory}
+use Rattle.fl_monitor.specs.declared.fault.MonitorFault.TheVariants.{Misrouted, Differs, NoRoute, UsedUp, OutboxFull, PlansDiffer, Memory}
 use Rattle.fl_monitor.specs.Outboxes.{IsFragOf}
 use Rattle.fl_monitor.specs.Routing.{is_route}
 use Rattle.fl_monitor.specs.Fates.{Known}
-use Rattle.fl_monitor.specs.declared.hearing.Saying.{Saying}
-use Rattle.fl_monitor.specs.Hearing.{ComesTo, IsAstray, says, table_after}
+use Rattle.fl_monitor.specs.declared.hearing.LinkMessage.{LinkMessage}
+use Rattle.fl_monitor.specs.Hearing.{ComesTo, IsMisrouted, says, table_after}
 
 pub record TheMonitor : Type 0 where
   pub circuits : TheCircuits
@@ -59,7 +59,7 @@ abbrev pub can_say : List (List Frag) → ℕ → Bool
 can_say outboxes l = given (slice_get outboxes l) false has_room
 
 -- the message's fragment has come last into the outbox of its link
-pub record Said (s : Saying) (before after : List (List Frag)) : Type 0 where
+pub record IsQueuedMessage (s : LinkMessage) (before after : List (List Frag)) : Type 0 where
   pub outbox : List Frag
   pub there : slice_get before s.link.0 ≡ Some outbox
   pub frag : Frag
@@ -67,41 +67,41 @@ pub record Said (s : Saying) (before after : List (List Frag)) : Type 0 where
   pub more : after ≡ slice_set before s.link.0 (outbox ++ frag ∷ [])
 
 -- the same, where there is something to say
-abbrev pub AllSaid : Option Saying → List (List Frag) → List (List Frag) → Type 0
+abbrev pub AllSaid : Option LinkMessage → List (List Frag) → List (List Frag) → Type 0
 AllSaid None before after = after ≡ before
-AllSaid (Some s) before after = Said s before after
+AllSaid (Some s) before after = IsQueuedMessage s before after
 
 -- the outbox that is needed has room; where none is needed it has
-abbrev pub may_say : Option Saying → List (List Frag) → Bool
+abbrev pub may_say : Option LinkMessage → List (List Frag) → Bool
 may_say None outboxes = true
 may_say (Some s) outboxes = can_say outboxes s.link.0
 
 -- ---- a message is heard
 
 -- on link l, by the answer
-abbrev pub Hears : Known → LinkId → Message → TheMonitor → Result Heard MonitorFault → TheMonitor → Type 0
+abbrev pub Hears : Known → LinkId → MonitorMessage → TheMonitor → Result MessageOutcome MonitorFault → TheMonitor → Type 0
 Hears k l m before (Ok heard) after =
     ComesTo k before.circuits l m heard × (may_say (says l m heard) before.outboxes ≡ true)
     × (after.circuits ≡ table_after before.circuits l m heard)
     × AllSaid (says l m heard) before.outboxes after.outboxes
-Hears k l m before (Err Astray) after = IsAstray k before.circuits l m × (after ≡ before)
+Hears k l m before (Err Misrouted) after = IsMisrouted k before.circuits l m × (after ≡ before)
 Hears k l m before (Err OutboxFull) after =
-    (heard : Heard) × ComesTo k before.circuits l m heard × (may_say (says l m heard) before.outboxes ≡ false) × (after ≡ before)
+    (heard : MessageOutcome) × ComesTo k before.circuits l m heard × (may_say (says l m heard) before.outboxes ≡ false) × (after ≡ before)
 Hears k l m before (Err Memory) after =
-    (heard : Heard) × ComesTo k before.circuits l m heard × (may_say (says l m heard) before.outboxes ≡ true) × (after ≡ before)
+    (heard : MessageOutcome) × ComesTo k before.circuits l m heard × (may_say (says l m heard) before.outboxes ≡ true) × (after ≡ before)
 Hears k l m before (Err fault) after = ⊥
 
 -- ---- a circuit is asked for
 
 -- the client's program and the one that the service was exported with; the service's core; the route; how many cores there are
-pub record Wanted : Type 0 where
+pub record CircuitPrograms : Type 0 where
   pub client : TheProgram
   pub offered : TheProgram
   pub server : ℕ
   pub path : List CoreId
   pub cores : ℕ
 
-abbrev pub wanted : Program → Program → CoreId → List CoreId → ℕ → Wanted
+abbrev pub wanted : Program → Program → CoreId → List CoreId → ℕ → CircuitPrograms
 wanted client offered server path cores =
     record { client = program_of client; offered = program_of offered; server = server.0; path = path; cores = cores }
 
@@ -111,7 +111,7 @@ first_link t path server cores =
     if is_route path t.core server cores then given (slice_get path 1) None (λ (c : CoreId). link_of t c.0) else None
 
 -- whether a circuit may be asked for, and on which link
-abbrev pub MayOpen : Wanted → TheCircuits → Result LinkId MonitorFault → Type 0
+abbrev pub MayOpen : CircuitPrograms → TheCircuits → Result LinkId MonitorFault → Type 0
 MayOpen w t (Err Differs) = w.client.interface ≢ w.offered.interface
 MayOpen w t (Err PlansDiffer) = (w.client.interface ≡ w.offered.interface) × (w.client.plan ≢ w.offered.plan)
 MayOpen w t (Err NoRoute) = (w.client ≡ w.offered) × (first_link t w.path w.server w.cores ≡ None)
@@ -119,13 +119,13 @@ MayOpen w t (Err fault) = ⊥
 MayOpen w t (Ok link) = (w.client ≡ w.offered) × (first_link t w.path w.server w.cores ≡ Some link.0)
 
 -- the message that asks for a circuit under number c
-abbrev pub asks : Circuit → Opening → Message
+abbrev pub asks : Circuit → Opening → MonitorMessage
 asks c o = OpenCircuit c o.binding o.service o.path
 
 -- why no circuit is opened on link l for a binding: there is no such link, an entry of the binding stands here, or no number is left
 abbrev pub RefusesOpening : TheCircuits → ℕ → ℕ → MonitorFault → Type 0
 RefusesOpening t l binding NoRoute = open_fault t l binding ≡ Some NoLink
-RefusesOpening t l binding Astray = open_fault t l binding ≡ Some IsHere
+RefusesOpening t l binding Misrouted = open_fault t l binding ≡ Some IsHere
 RefusesOpening t l binding UsedUp = open_fault t l binding ≡ Some NoNumber
 RefusesOpening t l binding fault = ⊥
 
@@ -135,7 +135,7 @@ Opens l o before (Ok c) after =
     (open_fault before.circuits l.0 o.binding ≡ None) × (can_say before.outboxes l.0 ≡ true)
     × (next_own before.circuits l.0 ≡ Some c.0)
     × (after.circuits ≡ opened before.circuits l c o.binding)
-    × Said (record { link = l; message = asks c o }) before.outboxes after.outboxes
+    × IsQueuedMessage (record { link = l; message = asks c o }) before.outboxes after.outboxes
 Opens l o before (Err OutboxFull) after =
     (open_fault before.circuits l.0 o.binding ≡ None) × (can_say before.outboxes l.0 ≡ false) × (after ≡ before)
 Opens l o before (Err Memory) after =

@@ -1,7 +1,7 @@
 -- A working file, on which no public promise rests by itself: the parts of the monitors' calls: numbers and routes among their arguments.
 use Rattle.std.specs.Prelude.{◌≡◌, ◌<◌, ℕ, List, map, slice_get, Some}
 use Rattle.fl_base.specs.declared.identity.CoreId.{CoreId}
-use Rattle.fl_value.specs.Value.{Datum}
+use Rattle.fl_value_data.specs.Value.{Datum}
 use Rattle.fl_monitor.specs.Routes.{FitsPath}
 use Rattle.fl_monitor.specs.Intermon.{natural, route}
 

@@ -1,15 +1,15 @@
 //! A message from its call.
 
 ghost use Rattle.std.specs.Prelude.{◌≡◌, ◌^◌, ◌∷◌, [], true, map, slice_get, Some};
-ghost use Rattle.fl_value.specs.Value.{call_of, datum_of};
-ghost use Rattle.fl_value.specs.Fits.{fits_of};
+ghost use Rattle.fl_value_data.specs.Value.{call_of, datum_of};
+ghost use Rattle.fl_value_data.specs.Fits.{fits_of};
 ghost use Rattle.fl_monitor.specs.Intermon.{intermon, natural, route as route_value, call_for};
 ghost use Rattle.fl_monitor.specs.Parts.{numbers, IsBelow, IsRouteValue, AreRoute, StandsAt};
 
-use crate::message::Message;
+use crate::message::MonitorMessage;
 use crate::path::{MAX_ROUTE, Path};
 use fl_base::{Circuit, CoreId, IRef};
-use fl_value::{Call, Value};
+use fl_value_data::{Call, Value};
 
 // The number that a value is.
 fn number(value: &Value) -> u32
@@ -79,14 +79,14 @@ fn route_at(args: &[Value], place: usize) -> Path
 }
 
 /// The message whose call this is.
-pub(crate) fn message_for(call: &Call) -> Message
+pub(crate) fn message_for(call: &Call) -> MonitorMessage
     requires fits { fits_of intermon (call_of call.now) ≡ true }
     ensures call { call_for result ≡ call_of call.now }
 {
     let args = &call.args;
     let number = call.msg.0;
     if number == 0 {
-        return Message::OpenCircuit {
+        return MonitorMessage::OpenCircuit {
             circuit: circuit(args),
             binding: number_at(args, 1),
             service: IRef(number_at(args, 2)),
@@ -94,11 +94,11 @@ pub(crate) fn message_for(call: &Call) -> Message
         };
     }
     if number == 1 {
-        return Message::CircuitOpened {
+        return MonitorMessage::CircuitOpened {
             circuit: circuit(args),
         };
     }
-    Message::CircuitRefused {
+    MonitorMessage::CircuitRefused {
         circuit: circuit(args),
         reason: number_at(args, 1),
     }

@@ -14,7 +14,7 @@ use thiserror::Error;
 pub enum MonitorFault {
     /// A message that no monitor in its right place says: an opening out of turn, for a binding that is here already, or on
     /// a route that doesn't lead here; an answer that nobody waits for (E67).
-    Astray,
+    Misrouted,
     /// The service is of another interface than the client (E72).
     Differs,
     /// The route is none, or there is no link to its second core (E73).
@@ -35,7 +35,7 @@ impl MonitorFault {
         ensures number { result ≡ fault_number self }
     {
         match self {
-            MonitorFault::Astray => 67,
+            MonitorFault::Misrouted => 67,
             MonitorFault::Differs => faults::OTHER_INTERFACE,
             MonitorFault::NoRoute => faults::NO_SUCH_ROUTE,
             MonitorFault::UsedUp => faults::NUMBERS_USED_UP,
@@ -49,7 +49,7 @@ impl MonitorFault {
 impl fmt::Display for MonitorFault {
     fn fmt<W: fmt::Write>(&self, f: &mut fmt::Formatter<W>) -> fmt::Result {
         f.write_str(match self {
-            MonitorFault::Astray => "a monitor's message out of place",
+            MonitorFault::Misrouted => "a monitor's message out of place",
             MonitorFault::Differs => "the service is of another interface",
             MonitorFault::NoRoute => "no such route",
             MonitorFault::UsedUp => "all circuits of the link are used up",

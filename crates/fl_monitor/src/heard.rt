@@ -4,7 +4,7 @@ use fl_base::{Circuit, EndId, LinkId};
 
 /// What a monitor's message came to at the core that heard it, and what is left for the core to do.
 #[derive(Clone, Copy, Debug, PartialEq, Eq)]
-pub enum Heard {
+pub enum MessageOutcome {
     /// The opening goes on over a link, under a number there.
     OpeningWentOn {
         binding: usize,

@@ -3,77 +3,77 @@
 ghost use Rattle.std.specs.Prelude.{◌≡◌, Some, IfSome, IfNone, OnOk, OnErr};
 ghost use Rattle.fl_base.specs.Given.{given};
 ghost use Rattle.fl_hop.specs.declared.entry.Hop.{Hop};
-ghost use Rattle.fl_hop.specs.declared.entry.Way.{Way};
+ghost use Rattle.fl_hop.specs.declared.entry.HopTarget.{HopTarget};
 ghost use Rattle.fl_hop.specs.Table.{TheCircuits, hop_at, without_entry};
 ghost use Rattle.fl_hop.specs.Numbers.{next_own};
 ghost use Rattle.fl_hop.specs.Openings.{IsWaiting, passed_on, answered};
 ghost use Rattle.fl_hop.specs.Later.{Later};
 ghost use Rattle.fl_monitor.specs.Fates.{HasNext};
-ghost use Rattle.fl_monitor.specs.Hearing.{heard_by, opened_at, refused_at, ComesTo, IsAstray, GoesOnNext, circuit_in, with_circuit, says};
+ghost use Rattle.fl_monitor.specs.Hearing.{heard_by, opened_at, refused_at, ComesTo, IsMisrouted, GoesOnNext, circuit_in, with_circuit, says};
 ghost use Rattle.fl_monitor.specs.Hearing.{after_opening, after_answer, after_refusal, table_after};
 
-use crate::fate::{Fate, Here, find_fate, is_in_place};
-use crate::heard::Heard;
-use crate::message::Message;
+use crate::decision::{OpeningDecision, OpeningFacts, find_fate, is_in_place};
+use crate::heard::MessageOutcome;
+use crate::message::MonitorMessage;
 use crate::opening::Opening;
 use fl_base::{Circuit, LinkId};
-use fl_hop::{Circuits, Hop, HopFault, Way};
+use fl_hop::{Circuits, Hop, HopFault, HopTarget};
 use fl_nameserv::Names;
 
 /// What is to be said, and on which link.
 #[derive(Clone, Copy)]
-pub(crate) struct Saying {
+pub(crate) struct LinkMessage {
     pub(crate) link: LinkId,
-    pub(crate) message: Message,
+    pub(crate) message: MonitorMessage,
 }
 
 // What an opening comes to, by its fate.
-fn heard_by(binding: usize, circuit: Circuit, fate: Fate) -> Heard
+fn heard_by(binding: usize, circuit: Circuit, fate: OpeningDecision) -> MessageOutcome
     ensures heard { result ≡ heard_by binding circuit fate }
     ensures next { (t : TheCircuits) → HasNext t fate → GoesOnNext t result }
 {
     match fate {
-        Fate::GoesOn(link, next) => Heard::OpeningWentOn {
+        OpeningDecision::GoesOn(link, next) => MessageOutcome::OpeningWentOn {
             binding,
             link,
             circuit: next,
         },
-        Fate::EndsAt(dispatcher) => Heard::ServerMade {
+        OpeningDecision::EndsAt(dispatcher) => MessageOutcome::ServerMade {
             binding,
             dispatcher,
             circuit,
         },
-        Fate::Fails(reason) => Heard::OpeningFailed { binding, reason },
+        OpeningDecision::Fails(reason) => MessageOutcome::OpeningFailed { binding, reason },
     }
 }
 
 // What the answer that a circuit is open comes to.
-fn opened_at(circuit: Circuit, binding: usize, way: Way) -> Heard
+fn opened_at(circuit: Circuit, binding: usize, way: HopTarget) -> MessageOutcome
     ensures next { (t : TheCircuits) → GoesOnNext t result }
     ensures heard { result ≡ opened_at circuit binding way }
 {
     match way {
-        Way::Link(link, next) => Heard::AnswerWentOn {
+        HopTarget::Link(link, next) => MessageOutcome::AnswerWentOn {
             binding,
             link,
             circuit: next,
         },
-        Way::End(end) => Heard::EndOpened { end, circuit },
+        HopTarget::End(end) => MessageOutcome::EndOpened { end, circuit },
     }
 }
 
 // What the answer that a circuit is refused comes to.
-fn refused_at(reason: u32, binding: usize, way: Way) -> Heard
+fn refused_at(reason: u32, binding: usize, way: HopTarget) -> MessageOutcome
     ensures next { (t : TheCircuits) → GoesOnNext t result }
     ensures heard { result ≡ refused_at reason binding way }
 {
     match way {
-        Way::Link(link, next) => Heard::AnswerWentOn {
+        HopTarget::Link(link, next) => MessageOutcome::AnswerWentOn {
             binding,
             link,
             circuit: next,
         },
-        Way::End(end) => Heard::EndRefused { end, reason },
+        HopTarget::End(end) => MessageOutcome::EndRefused { end, reason },
     }
 }
 
@@ -98,16 +98,16 @@ fn waiting(circuits: &Circuits, link: LinkId, circuit: Circuit) -> Option<Hop>
 pub(crate) fn comes_to(
     circuits: &Circuits,
     names: &Names,
-    here: Here,
+    here: OpeningFacts,
     link: LinkId,
-    message: &Message,
-) -> Option<Heard>
+    message: &MonitorMessage,
+) -> Option<MessageOutcome>
     ensures comes { IfSome result (ComesTo (record { names = names.now; here = here }) circuits.now link message.now) }
-    ensures astray { IfNone result (IsAstray (record { names = names.now; here = here }) circuits.now link message.now) }
+    ensures misrouted { IfNone result (IsMisrouted (record { names = names.now; here = here }) circuits.now link message.now) }
     ensures next { IfSome result (GoesOnNext circuits.now) }
 {
     match message {
-        Message::OpenCircuit {
+        MonitorMessage::OpenCircuit {
             circuit,
             binding,
             service,
@@ -124,13 +124,13 @@ pub(crate) fn comes_to(
             let fate = find_fate(circuits, names, here, link, &opening);
             Some(heard_by(*binding as usize, *circuit, fate))
         }
-        Message::CircuitOpened { circuit } => {
+        MonitorMessage::CircuitOpened { circuit } => {
             let Some(hop) = waiting(circuits, link, *circuit) else {
                 return None;
             };
             Some(opened_at(*circuit, hop.binding, hop.way))
         }
-        Message::CircuitRefused { circuit, reason } => {
+        MonitorMessage::CircuitRefused { circuit, reason } => {
             let Some(hop) = waiting(circuits, link, *circuit) else {
                 return None;
             };
@@ -140,34 +140,34 @@ pub(crate) fn comes_to(
 }
 
 /// The circuit that a message speaks of.
-pub fn circuit_in(message: &Message) -> Circuit
+pub fn circuit_in(message: &MonitorMessage) -> Circuit
     ensures circuit { result ≡ circuit_in message.now }
 {
     match message {
-        Message::OpenCircuit { circuit, .. }
-        | Message::CircuitOpened { circuit }
-        | Message::CircuitRefused { circuit, .. } => *circuit,
+        MonitorMessage::OpenCircuit { circuit, .. }
+        | MonitorMessage::CircuitOpened { circuit }
+        | MonitorMessage::CircuitRefused { circuit, .. } => *circuit,
     }
 }
 
 // The same message of another circuit.
-fn with_circuit(circuit: Circuit, message: &Message) -> Message
+fn with_circuit(circuit: Circuit, message: &MonitorMessage) -> MonitorMessage
     ensures { result ≡ with_circuit circuit message.now }
 {
     match message {
-        Message::OpenCircuit {
+        MonitorMessage::OpenCircuit {
             binding,
             service,
             path,
             ..
-        } => Message::OpenCircuit {
+        } => MonitorMessage::OpenCircuit {
             circuit,
             binding: *binding,
             service: *service,
             path: *path,
         },
-        Message::CircuitOpened { .. } => Message::CircuitOpened { circuit },
-        Message::CircuitRefused { reason, .. } => Message::CircuitRefused {
+        MonitorMessage::CircuitOpened { .. } => MonitorMessage::CircuitOpened { circuit },
+        MonitorMessage::CircuitRefused { reason, .. } => MonitorMessage::CircuitRefused {
             circuit,
             reason: *reason,
         },
@@ -175,35 +175,39 @@ fn with_circuit(circuit: Circuit, message: &Message) -> Message
 }
 
 /// What is to be said on a message that was heard on a link.
-pub(crate) fn says(link: LinkId, message: &Message, heard: Heard) -> Option<Saying>
+pub(crate) fn says(
+    link: LinkId,
+    message: &MonitorMessage,
+    heard: MessageOutcome,
+) -> Option<LinkMessage>
     ensures says { result ≡ says link message.now heard }
 {
     match heard {
-        Heard::OpeningWentOn {
+        MessageOutcome::OpeningWentOn {
             link: next,
             circuit,
             ..
         }
-        | Heard::AnswerWentOn {
+        | MessageOutcome::AnswerWentOn {
             link: next,
             circuit,
             ..
-        } => Some(Saying {
+        } => Some(LinkMessage {
             link: next,
             message: with_circuit(circuit, message),
         }),
-        Heard::ServerMade { circuit, .. } => Some(Saying {
+        MessageOutcome::ServerMade { circuit, .. } => Some(LinkMessage {
             link,
-            message: Message::CircuitOpened { circuit },
+            message: MonitorMessage::CircuitOpened { circuit },
         }),
-        Heard::OpeningFailed { reason, .. } => Some(Saying {
+        MessageOutcome::OpeningFailed { reason, .. } => Some(LinkMessage {
             link,
-            message: Message::CircuitRefused {
+            message: MonitorMessage::CircuitRefused {
                 circuit: circuit_in(message),
                 reason,
             },
         }),
-        Heard::EndOpened { .. } | Heard::EndRefused { .. } => None,
+        MessageOutcome::EndOpened { .. } | MessageOutcome::EndRefused { .. } => None,
     }
 }
 
@@ -231,7 +235,7 @@ fn take_opening(
     link: LinkId,
     circuit: Circuit,
     binding: usize,
-    heard: Heard,
+    heard: MessageOutcome,
 ) -> Result<(), HopFault>
     requires next { GoesOnNext circuits.old heard }
     ensures taken { OnOk result (circuits.new ≡ after_opening circuits.old link circuit binding heard) }
@@ -239,16 +243,16 @@ fn take_opening(
     ensures kept { OnErr result (circuits.new ≡ circuits.old) }
 {
     match heard {
-        Heard::OpeningWentOn {
+        MessageOutcome::OpeningWentOn {
             link: next,
             circuit: number,
             ..
         } => take_onward(circuits, link, circuit, binding, next, number),
-        Heard::ServerMade { .. } => circuits.arrive(link, circuit, binding),
-        Heard::OpeningFailed { .. }
-        | Heard::AnswerWentOn { .. }
-        | Heard::EndOpened { .. }
-        | Heard::EndRefused { .. } => circuits.refuse(link, circuit),
+        MessageOutcome::ServerMade { .. } => circuits.arrive(link, circuit, binding),
+        MessageOutcome::OpeningFailed { .. }
+        | MessageOutcome::AnswerWentOn { .. }
+        | MessageOutcome::EndOpened { .. }
+        | MessageOutcome::EndRefused { .. } => circuits.refuse(link, circuit),
     }
 }
 
@@ -269,7 +273,7 @@ fn remove(circuits: &mut Circuits, link: LinkId, circuit: Circuit) -> Result<(),
     ensures kept { OnErr result (circuits.new ≡ circuits.old) }
 {
     let Some(_) = circuits.remove(link, circuit) else {
-        return Err(HopFault::Astray);
+        return Err(HopFault::Misrouted);
     };
     Ok(())
 }
@@ -282,8 +286,8 @@ fn remove(circuits: &mut Circuits, link: LinkId, circuit: Circuit) -> Result<(),
 pub(crate) fn change(
     circuits: &mut Circuits,
     link: LinkId,
-    message: &Message,
-    heard: Heard,
+    message: &MonitorMessage,
+    heard: MessageOutcome,
 ) -> Result<(), HopFault>
     requires next { GoesOnNext circuits.old heard }
     ensures changed { OnOk result (circuits.new ≡ table_after circuits.old link message.now heard) }
@@ -291,12 +295,12 @@ pub(crate) fn change(
     ensures kept { OnErr result (circuits.new ≡ circuits.old) }
 {
     match message {
-        Message::OpenCircuit {
+        MonitorMessage::OpenCircuit {
             circuit,
             binding,
             ..
         } => take_opening(circuits, link, *circuit, *binding as usize, heard),
-        Message::CircuitOpened { circuit } => note_answer(circuits, link, *circuit),
-        Message::CircuitRefused { circuit, .. } => remove(circuits, link, *circuit),
+        MonitorMessage::CircuitOpened { circuit } => note_answer(circuits, link, *circuit),
+        MonitorMessage::CircuitRefused { circuit, .. } => remove(circuits, link, *circuit),
     }
 }

@@ -21,13 +21,13 @@
 //! - `outbox.rt`: what a monitor is to send over one link
 //! - `monitor.rt`: `Monitor`
 //! - `opening.rt`, `routing.rt`: what is asked for, and routes at a core
-//! - `fate.rt`, `hearing.rt`, `heard.rt`: what a message comes to, what is said then, and what becomes of the table
+//! - `decision.rt`, `hearing.rt`, `heard.rt`: what a message comes to, what is said then, and what becomes of the table
 //! - `fault.rt`: why a call is refused
 //! - `law.rt`: messages, calls and fragments stand for one another
 #![tactic(auto)]
 
 mod call;
-mod fate;
+mod decision;
 mod fault;
 mod heard;
 mod hearing;
@@ -41,15 +41,15 @@ mod outbox;
 mod path;
 mod routing;
 
-pub use fate::Here;
+pub use decision::OpeningFacts;
 pub use fault::MonitorFault;
-pub use heard::Heard;
+pub use heard::MessageOutcome;
 pub use hearing::circuit_in;
 pub use law::{
-    epochs_say_nothing, messages_are_calls, one_fragment, one_message, one_outcome, one_reason,
-    outboxes_say_messages, stands_alone,
+    law_epochs_say_nothing, law_messages_are_calls, law_one_fragment, law_one_message,
+    law_one_outcome, law_one_reason, law_outboxes_say_messages, law_stands_alone,
 };
-pub use message::Message;
+pub use message::MonitorMessage;
 pub use messenger::Messenger;
 pub use monitor::Monitor;
 pub use opening::Opening;

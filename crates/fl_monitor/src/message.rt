@@ -13,7 +13,7 @@ use std::alloc::{AllocError, Global};
 /// Each message speaks of a circuit by its number on the link on which the message travels. That number means the same in
 /// both directions of the link.
 #[derive(Clone, Copy, Debug, PartialEq, Eq)]
-pub enum Message {
+pub enum MonitorMessage {
     /// Asks for a circuit, on behalf of a binding, along a route to a service. A monitor that can make its part of it passes
     /// the message on to the next core of the route, under a new number.
     OpenCircuit {
@@ -65,15 +65,15 @@ fn opening_tape(
     Ok(tape)
 }
 
-impl Message {
+impl MonitorMessage {
     /// The message's number in the monitors' interface.
     pub(crate) fn number(&self) -> MsgNo
         ensures number { result.0 ≡ (call_for self.now).msg }
     {
         match self {
-            Message::OpenCircuit { .. } => MsgNo(0),
-            Message::CircuitOpened { .. } => MsgNo(1),
-            Message::CircuitRefused { .. } => MsgNo(2),
+            MonitorMessage::OpenCircuit { .. } => MsgNo(0),
+            MonitorMessage::CircuitOpened { .. } => MsgNo(1),
+            MonitorMessage::CircuitRefused { .. } => MsgNo(2),
         }
     }
 
@@ -86,14 +86,14 @@ impl Message {
         ensures widths { OnOk result (HasWidths self.now) }
     {
         match self {
-            Message::OpenCircuit {
+            MonitorMessage::OpenCircuit {
                 circuit,
                 binding,
                 service,
                 path,
             } => { opening_tape(alloc, *circuit, *binding, *service, path.cores()) }
-            Message::CircuitOpened { circuit } => Ok(vec![in alloc; u64::from(circuit.0)]?),
-            Message::CircuitRefused { circuit, reason } => {
+            MonitorMessage::CircuitOpened { circuit } => Ok(vec![in alloc; u64::from(circuit.0)]?),
+            MonitorMessage::CircuitRefused { circuit, reason } => {
                 Ok(vec![in alloc; u64::from(circuit.0), u64::from(*reason)]?)
             }
         }

@@ -3,20 +3,20 @@
 ghost use Rattle.std.specs.Prelude.{◌≡◌, false, IfOk, IfErr};
 ghost use Rattle.fl_base.specs.Control.{is_ack_only};
 ghost use Rattle.fl_interface.specs.Interface.{interface_of};
-ghost use Rattle.fl_monitor.specs.declared.message.Message.{Message as MonitorsMessage};
+ghost use Rattle.fl_monitor.specs.declared.message.MonitorMessage.{Message as MonitorsMessage};
 ghost use Rattle.fl_monitor.specs.Intermon.{intermon};
 ghost use Rattle.fl_monitor.specs.Outboxes.{IsFragOf};
 ghost use Rattle.fl_monitor.specs.Saying.{Says, Refuses, GivesUnlessMemory};
 
 use crate::call::message_for;
 use crate::interface::interface;
-use crate::message::Message;
+use crate::message::MonitorMessage;
 use crate::path::MAX_ROUTE;
 use fl_base::{Circuit, Frag};
 use fl_compile::compile;
 use fl_interface::Interface;
-use fl_machine::{RecvRun, SendRun, sends_fragments};
-use fl_value::PlanNo;
+use fl_machine::{RecvRun, SendRun, law_sends_fragments};
+use fl_value_data::PlanNo;
 use fl_wire::WireFault;
 use std::alloc::{AllocError, Global};
 use std::marker::Model;
@@ -67,12 +67,12 @@ impl Messenger {
     ///
     /// # Errors
     /// Out of memory (E99), for the message's tape.
-    pub fn frag(&self, message: &Message) -> Result<Frag, AllocError>
+    pub fn frag(&self, message: &MonitorMessage) -> Result<Frag, AllocError>
         ensures frag { IfOk result (λ f. IsFragOf f message.now) }
         ensures says { IfOk result (λ f. Says f message.now) }
         ensures data { IfOk result (λ f. is_ack_only f ≡ false) }
     {
-        sends_fragments();
+        law_sends_fragments();
         let tape = message.tape(self.alloc)?;
         let number = message.number();
         let Some(code) = self.run.program().send_code(number) else {
@@ -92,7 +92,7 @@ impl Messenger {
     /// first fragment (E60), a number that no message has (E62); else of its first byte at fault, in the length of a route
     /// over 16 (E66), or one that isn't 0 where nothing stands (E63). Out of memory (E99), which is met only over a
     /// fragment that says a message. The fragment can be read again then.
-    pub fn read(&mut self, frag: &Frag) -> Result<Message, WireFault>
+    pub fn read(&mut self, frag: &Frag) -> Result<MonitorMessage, WireFault>
         ensures says { IfOk result (λ m. Says frag.now m) }
         ensures refused { IfErr result (λ fault. Refuses frag.now fault) }
         ensures back { (m : MonitorsMessage) → Says frag.now m → GivesUnlessMemory m result }

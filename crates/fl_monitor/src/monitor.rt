@@ -10,14 +10,14 @@ ghost use Rattle.fl_base.specs.declared.identity.LinkId.{LinkId};
 ghost use Rattle.fl_base.specs.declared.identity.CoreId.{CoreId};
 ghost use Rattle.fl_base.specs.Control.{bare, is_ack_only};
 ghost use Rattle.fl_monitor.specs.Outboxes.{IsFragOf};
-ghost use Rattle.fl_monitor.specs.Monitors.{TheMonitor, fresh_monitor, HasOutboxes, with_new_link, IsLinked, can_say, Said, Hears, wanted, first_link, MayOpen};
+ghost use Rattle.fl_monitor.specs.Monitors.{TheMonitor, fresh_monitor, HasOutboxes, with_new_link, IsLinked, can_say, IsQueuedMessage, Hears, wanted, first_link, MayOpen};
 ghost use Rattle.fl_monitor.specs.Monitors.{asks, RefusesOpening, Opens, waiting_for, without_first};
 
-use crate::fate::Here;
+use crate::decision::OpeningFacts;
 use crate::fault::MonitorFault;
-use crate::heard::Heard;
-use crate::hearing::{Saying, change, comes_to, says};
-use crate::message::Message;
+use crate::heard::MessageOutcome;
+use crate::hearing::{LinkMessage, change, comes_to, says};
+use crate::message::MonitorMessage;
 use crate::messenger::Messenger;
 use crate::opening::Opening;
 use crate::outbox::Outbox;
@@ -61,10 +61,10 @@ fn can_say(outboxes: &[Outbox], link: LinkId) -> bool
 }
 
 // Puts a message's fragment last into a link's outbox, which has room.
-fn put(outboxes: &mut Vec<Outbox>, saying: &Saying, frag: &Frag)
+fn put(outboxes: &mut Vec<Outbox>, saying: &LinkMessage, frag: &Frag)
     requires room { can_say outboxes.old.items saying.now.link.0 ≡ true }
     requires frag { IsFragOf frag.now saying.now.message }
-    ensures said { Said saying.now outboxes.old.items outboxes.new.items }
+    ensures said { IsQueuedMessage saying.now outboxes.old.items outboxes.new.items }
     ensures count { length outboxes.new.items ≡ length outboxes.old.items }
 {
     let Some(outbox) = outboxes.get_mut(usize::from(saying.link.0)) else {
@@ -192,7 +192,7 @@ impl Monitor {
         if !can_say(&self.outboxes, link) {
             return Err(MonitorFault::OutboxFull);
         }
-        let saying = Saying {
+        let saying = LinkMessage {
             link,
             message: asks(circuit, opening),
         };
@@ -214,15 +214,15 @@ impl Monitor {
     pub fn on_message(
         &mut self,
         names: &Names,
-        here: Here,
+        here: OpeningFacts,
         link: LinkId,
-        message: &Message,
-    ) -> Result<Heard, MonitorFault>
+        message: &MonitorMessage,
+    ) -> Result<MessageOutcome, MonitorFault>
         ensures hears { Hears (record { names = names.now; here = here }) link message.now self.old result self.new }
         ensures later { OnOk result (Later self.old.circuits self.new.circuits) }
     {
         let Some(heard) = comes_to(&self.circuits, names, here, link, message) else {
-            return Err(MonitorFault::Astray);
+            return Err(MonitorFault::Misrouted);
         };
         match says(link, message, heard) {
             Some(saying) => {
@@ -245,7 +245,7 @@ impl Monitor {
         }
     }
 
-    /// The fragment that is sent next over a link; `None` where nothing waits there. A link carries it as it is.
+    /// The fragment that is sent next over a link; `None` where nothing waits there. A link carries it is.
     pub fn next_out(&self, link: LinkId) -> Option<Frag>
         ensures next { result ≡ slice_get (waiting_for self.now.outboxes link.0) 0 }
         ensures data { IfSome result (λ f. is_ack_only f ≡ false) }
@@ -306,7 +306,7 @@ fn next_for(circuits: &Circuits, link: LinkId, binding: usize) -> Result<Circuit
         return Err(MonitorFault::NoRoute);
     }
     if circuits.stands(binding) {
-        return Err(MonitorFault::Astray);
+        return Err(MonitorFault::Misrouted);
     }
     match circuits.next(link) {
         Some(circuit) => Ok(circuit),
@@ -315,10 +315,10 @@ fn next_for(circuits: &Circuits, link: LinkId, binding: usize) -> Result<Circuit
 }
 
 // The message that asks for a circuit.
-fn asks(circuit: Circuit, opening: &Opening) -> Message
+fn asks(circuit: Circuit, opening: &Opening) -> MonitorMessage
     ensures asks { result ≡ asks circuit opening.now }
 {
-    Message::OpenCircuit {
+    MonitorMessage::OpenCircuit {
         circuit,
         binding: opening.binding,
         service: opening.service,

@@ -105,7 +105,7 @@ impl Outbox {
         }
     }
 
-    /// The fragment that is sent next; none where nothing waits. A link carries it as it is.
+    /// The fragment that is sent next; none where nothing waits. A link carries it is.
     pub fn next_out(&self) -> Option<Frag>
         ensures next { result ≡ slice_get self.now 0 }
         ensures data { IfSome result (λ f. is_ack_only f ≡ false) }

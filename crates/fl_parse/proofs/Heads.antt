@@ -3,11 +3,11 @@ use Rattle.std.proofs.Common.{◌≡◌, ℕ, List, ◌++◌, Option, Ok, Err, R
 use Rattle.fl_lex.specs.declared.token.Mark.TheVariants.{OpenBrace}
 use Rattle.fl_lex.specs.declared.token.TokenKind.TheVariants as kinds
 use Rattle.fl_lex.specs.Token.{TheToken}
-use Rattle.fl_parse.specs.declared.stop.Stop.{Stop}
-use Rattle.fl_parse.specs.declared.stop.Stop.TheVariants as stops
+use Rattle.fl_parse.specs.declared.stop.ParseStop.{ParseStop}
+use Rattle.fl_parse.specs.declared.stop.ParseStop.TheVariants as stops
 use Rattle.fl_parse.specs.declared.fault.ParseFault.TheVariants as faults
 use Rattle.fl_parse.specs.Tree.{TheName}
-use Rattle.fl_parse.specs.Grammar as Grammar
+use Rattle.fl_parse.specs.Grammar
 use Rattle.fl_parse.specs.Grammar.{Word, AName, Optional, ADescription, TheMark, HasHead, name_in, if_so}
 use Rattle.fl_parse.specs.Parts.{stop_fault}
 use Rattle.fl_parse.specs.Reading.{Read, one_at, word_at, mark_at, description_at}
@@ -61,11 +61,11 @@ has_head tokens a b c d name description w n s m =
     }
 
 -- what holds where memory is wanted
-pub on_memory : {X P : Type 0} (r : Result X Stop) → P → IfErr r (λ stop. stop ≡ stops.Memory → P)
+pub on_memory : {X P : Type 0} (r : Result X ParseStop) → P → IfErr r (λ stop. stop ≡ stops.Memory → P)
 on_memory (Ok x) p = tt
 on_memory (Err e) p = λ _. p
 
 -- the fault that a stop comes to is out of memory where the stop is
-pub memory_stop : (e : Stop) (end : ℕ) → stop_fault e end ≡ faults.Memory → e ≡ stops.Memory
+pub memory_stop : (e : ParseStop) (end : ℕ) → stop_fault e end ≡ faults.Memory → e ≡ stops.Memory
 memory_stop stops.Memory end q = refl
 memory_stop (stops.Unexpected rest) end q = absurd cc

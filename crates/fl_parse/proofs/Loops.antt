@@ -3,8 +3,8 @@ use Rattle.std.proofs.Common.{◌≡◌, ℕ, zero, suc, ◌≤◌, ◌<◌, Boo
 use Rattle.std.proofs.lemmas.List.{append-nil}
 use Rattle.fl_lex.specs.declared.token.Mark.TheVariants.{CloseBrace, Comma}
 use Rattle.fl_lex.specs.Token.{TheToken, token_of}
-use Rattle.fl_parse.specs.declared.stop.Stop.{Stop}
-use Rattle.fl_parse.specs.declared.stop.Stop.TheVariants as stops
+use Rattle.fl_parse.specs.declared.stop.ParseStop.{ParseStop}
+use Rattle.fl_parse.specs.declared.stop.ParseStop.TheVariants as stops
 use Rattle.fl_parse.specs.Tree.{TheName}
 use Rattle.fl_parse.specs.Grammar.{is_mark, name_in}
 use Rattle.fl_parse.specs.Reading.{Read, ◌>>=◌, begins, one_at, mark_at, Fails, many_at, behind_comma, separated_at, members_at}
@@ -71,7 +71,7 @@ many_goes ends p whole xs x (t ∷ rest) after (suc k) short e one less j =
     }
 
 -- Where the next item stops, the whole stops.
-pub left_stops : {A : Type 0} {L : List TheToken → A → Type 0} {F : List TheToken → Type 0} (ends : TheToken → Bool) {p : List TheToken → Read A} {whole : Read (List A)} {xs : List A} {rest : List TheToken} (e : Stop)
+pub left_stops : {A : Type 0} {L : List TheToken → A → Type 0} {F : List TheToken → Type 0} (ends : TheToken → Bool) {p : List TheToken → Read A} {whole : Read (List A)} {xs : List A} {rest : List TheToken} (e : ParseStop)
     → Reads L F p → Left (many_at ends p) whole xs rest → begins ends rest ≡ false → Fails e (p rest) → Fails e whole
 left_stops ends {p = p} {whole = whole} {xs = xs} {rest = rest} stops.Memory reads left more stopped = tt
 left_stops ends {p = p} {whole = whole} {xs = xs} {rest = rest} (stops.Unexpected at) reads left more stopped =
@@ -94,7 +94,7 @@ separated_by ends p tokens test e =
 pub separated_none : {A : Type 0} (ends : TheToken → Bool) (p : List TheToken → Read A) (tokens : List TheToken) → begins ends tokens ≡ true → separated_at ends p tokens ≡ Ok ([], tokens)
 separated_none ends p tokens e = separated_by ends p tokens true e
 
-pub separated_stops : {A : Type 0} (ends : TheToken → Bool) (p : List TheToken → Read A) (tokens : List TheToken) (e : Stop) → begins ends tokens ≡ false → Fails e (p tokens) → Fails e (separated_at ends p tokens)
+pub separated_stops : {A : Type 0} (ends : TheToken → Bool) (p : List TheToken → Read A) (tokens : List TheToken) (e : ParseStop) → begins ends tokens ≡ false → Fails e (p tokens) → Fails e (separated_at ends p tokens)
 separated_stops ends p tokens stops.Memory more stopped = tt
 separated_stops ends p tokens (stops.Unexpected at) more stopped =
     separated_by ends p tokens false more ∙ ap (λ o. o >>= λ q. many_at ends (behind_comma p) (length q.1) q.1 >>= λ r. Ok (q.0 ∷ r.0, r.1)) stopped
@@ -114,14 +114,14 @@ separated_begun ends p tokens x rest more first =
           ∙ sym (separated_by ends p tokens false more);
     }
 
-pub comma_stops : {A : Type 0} (p : List TheToken → Read A) (tokens : List TheToken) (e : Stop) → Fails e (mark_at Comma tokens) → Fails e (behind_comma p tokens)
+pub comma_stops : {A : Type 0} (p : List TheToken → Read A) (tokens : List TheToken) (e : ParseStop) → Fails e (mark_at Comma tokens) → Fails e (behind_comma p tokens)
 comma_stops p tokens stops.Memory stopped = tt
 comma_stops p tokens (stops.Unexpected at) stopped = ap (λ o. o >>= λ comma. p comma.1) stopped
 
 pub behind_comma_is : {A : Type 0} (p : List TheToken → Read A) (tokens after : List TheToken) → mark_at Comma tokens ≡ Ok (tt, after) → behind_comma p tokens ≡ p after
 behind_comma_is p tokens after comma = ap (λ o. o >>= λ comma. p comma.1) comma
 
-pub behind_comma_stops : {A : Type 0} (p : List TheToken → Read A) (tokens after : List TheToken) (e : Stop) → mark_at Comma tokens ≡ Ok (tt, after) → Fails e (p after) → Fails e (behind_comma p tokens)
+pub behind_comma_stops : {A : Type 0} (p : List TheToken → Read A) (tokens after : List TheToken) (e : ParseStop) → mark_at Comma tokens ≡ Ok (tt, after) → Fails e (p after) → Fails e (behind_comma p tokens)
 behind_comma_stops p tokens after stops.Memory comma stopped = tt
 behind_comma_stops p tokens after (stops.Unexpected at) comma stopped = behind_comma_is p tokens after comma ∙ stopped
 

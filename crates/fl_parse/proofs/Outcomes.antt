@@ -4,8 +4,8 @@ use Rattle.std.proofs.lemmas.List.{append-nil}
 use Rattle.fl_lex.specs.declared.token.Mark.TheVariants.{Semicolon}
 use Rattle.fl_lex.specs.declared.token.Token.{Token}
 use Rattle.fl_lex.specs.Token.{TheToken, TheTokens, token_of}
-use Rattle.fl_parse.specs.declared.stop.Stop.{Stop}
-use Rattle.fl_parse.specs.declared.stop.Stop.TheVariants as stops
+use Rattle.fl_parse.specs.declared.stop.ParseStop.{ParseStop}
+use Rattle.fl_parse.specs.declared.stop.ParseStop.TheVariants as stops
 use Rattle.fl_parse.specs.Tree.{TheTree}
 use Rattle.fl_parse.specs.Grammar.{Optional, TheMark, Body, Derives, Begins, NumberAfter, FaultAtToken, ParseOutcome, parsed, parse_fault, Parses, is_mark, if_so}
 use Rattle.fl_parse.specs.Outcome.{fault_outcome, SomeOutcome}
@@ -291,6 +291,6 @@ some_rest tokens tree rest [] d e some after = absurd (omega arith)
 some_rest tokens tree rest (x ∷ xs) d e some after =
     is_after tokens tree rest (token_of x) (map token_of xs) (body_read tokens rest tree e) (sym after)
 
-pub stopped_body : (tokens : TheTokens) (stop : Stop) → Fails stop (body_at tokens.tokens) → IfSome (fault_outcome (stop_fault stop tokens.end)) (λ found. Parses tokens found)
+pub stopped_body : (tokens : TheTokens) (stop : ParseStop) → Fails stop (body_at tokens.tokens) → IfSome (fault_outcome (stop_fault stop tokens.end)) (λ found. Parses tokens found)
 stopped_body tokens stops.Memory e = tt
 stopped_body tokens (stops.Unexpected rest) e = is_stopped tokens (map token_of rest.now) (body_stopped tokens.tokens (map token_of rest.now) e)

@@ -1,14 +1,14 @@
 -- A working file: what the parser reads single tokens as, as contracts see it.
-use Rattle.fl_parse.specs.declared.parts.Inside as insides
-use Rattle.fl_parse.specs.declared.parts.Inside.TheVariants as inside_variants
-use Rattle.fl_parse.specs.declared.parser.Opening as openings
-use Rattle.fl_parse.specs.declared.parser.Opening.TheVariants as opening_variants
-use Rattle.fl_parse.specs.declared.parser.Defined as defineds
-use Rattle.fl_parse.specs.declared.parser.Defined.TheVariants as defined_variants
+use Rattle.fl_parse.specs.declared.parts.BracketStart as insides
+use Rattle.fl_parse.specs.declared.parts.BracketStart.TheVariants as inside_variants
+use Rattle.fl_parse.specs.declared.parser.DeclarationWord as openings
+use Rattle.fl_parse.specs.declared.parser.DeclarationWord.TheVariants as opening_variants
+use Rattle.fl_parse.specs.declared.parser.TypedefWord as defineds
+use Rattle.fl_parse.specs.declared.parser.TypedefWord.TheVariants as defined_variants
 use Rattle.std.specs.Prelude.{ℕ, map}
 use Rattle.fl_lex.specs.Token.{token_of}
-use Rattle.fl_parse.specs.declared.stop.Stop.{Stop}
-use Rattle.fl_parse.specs.declared.stop.Stop.TheVariants as stops
+use Rattle.fl_parse.specs.declared.stop.ParseStop.{ParseStop}
+use Rattle.fl_parse.specs.declared.stop.ParseStop.TheVariants as stops
 use Rattle.fl_parse.specs.declared.fault.ParseFault.{ParseFault}
 use Rattle.fl_parse.specs.declared.fault.ParseFault.TheVariants as faults
 use Rattle.fl_parse.specs.Reading.{place_of}
@@ -35,6 +35,6 @@ defined_of defined_variants.Structure = struct_word
 defined_of (defined_variants.Type name) = type_word (name_of name)
 
 -- the fault that a stop comes to, in a text that ends at end
-abbrev pub stop_fault : Stop → ℕ → ParseFault
+abbrev pub stop_fault : ParseStop → ℕ → ParseFault
 stop_fault stops.Memory end = faults.Memory
 stop_fault (stops.Unexpected rest) end = faults.NotExpected (place_of (map token_of rest.now) end)

@@ -5,8 +5,8 @@ use Rattle.fl_lex.specs.declared.token.Mark.{Mark}
 use Rattle.fl_lex.specs.declared.token.Mark.TheVariants.{OpenBrace, CloseBrace, OpenParen, CloseParen, OpenBracket, CloseBracket, Comma, Semicolon}
 use Rattle.fl_lex.specs.Token.{TheToken, token_of}
 use Rattle.fl_parse.specs.declared.tree.MessageKind.{MessageKind}
-use Rattle.fl_parse.specs.declared.stop.Stop.{Stop}
-use Rattle.fl_parse.specs.declared.stop.Stop.TheVariants as stops
+use Rattle.fl_parse.specs.declared.stop.ParseStop.{ParseStop}
+use Rattle.fl_parse.specs.declared.stop.ParseStop.TheVariants as stops
 use Rattle.fl_parse.specs.Tree.{TheName, TheNumber, TheField, TheShape, plain, bounded, sized, TheArgument, TheDirected, TheDeclaration, alias_of}
 use Rattle.fl_parse.specs.Tree.{typedef_of, enum_of, struct_of, message_of, rpc_of, TheTree}
 use Rattle.fl_parse.specs.Grammar.{is_word, is_mark, if_so, name_in, number_in, description_in, Opening, opening_in, alias_word, typedef_word}
@@ -24,17 +24,17 @@ abbrev pub ◌>>=◌ : {A B : Type 0} → Read A → (A × List TheToken → Rea
 (Err rest) >>= f = Err rest
 
 -- a stop stands at the token at which reading stops; of one for memory nothing is said
-abbrev pub Fails : {Y : Type 0} → Stop → Read Y → Type 0
+abbrev pub Fails : {Y : Type 0} → ParseStop → Read Y → Type 0
 Fails stops.Memory read = Unit {0}
 Fails (stops.Unexpected rest) read = read ≡ Err (map token_of rest.now)
 
 -- a token stands where it cannot, or the text ends early
-abbrev pub IsUnexpected : Stop → Type 0
+abbrev pub IsUnexpected : ParseStop → Type 0
 IsUnexpected stops.Memory = ⊥
 IsUnexpected (stops.Unexpected rest) = Unit {0}
 
 -- What a function returned, seen by view, is what reading gives, unless memory ran out.
-abbrev pub Gives : {X Y : Type 0} → (X → Y × List TheToken) → Result X Stop → Read Y → Type 0
+abbrev pub Gives : {X Y : Type 0} → (X → Y × List TheToken) → Result X ParseStop → Read Y → Type 0
 Gives view (Ok x) read = read ≡ Ok (view x)
 Gives view (Err e) read = Fails e read
 

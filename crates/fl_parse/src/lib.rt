@@ -11,7 +11,7 @@ mod stop;
 mod tree;
 
 pub use fault::ParseFault;
-pub use law::{one_outcome, printed_tokens, round_trip, some_outcome};
+pub use law::{law_one_outcome, law_printed_tokens, law_round_trip, law_some_outcome};
 pub use parser::parse;
 pub use printer::print;
 pub use tree::{

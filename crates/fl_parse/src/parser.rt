@@ -5,7 +5,7 @@ ghost use Rattle.fl_lex.specs.Token.{token_of, tokens_of};
 ghost use Rattle.fl_parse.specs.Tree.{name_of, declaration_of, tree_of};
 ghost use Rattle.fl_parse.specs.Grammar.{opening_in, defined_in, HasHead, Parses};
 ghost use Rattle.fl_parse.specs.Outcome.{outcome_of};
-ghost use Rattle.fl_parse.specs.declared.stop.Stop.TheVariants.{Memory};
+ghost use Rattle.fl_parse.specs.declared.stop.ParseStop.TheVariants.{Memory};
 ghost use Rattle.fl_parse.specs.declared.fault.ParseFault.TheVariants.{Memory as NoMemory};
 ghost use Rattle.fl_parse.specs.Parts.{opening_of, defined_of, stop_fault};
 ghost use Rattle.fl_parse.specs.Reading.{Gives, IsUnexpected, one_at, word_at, alias_at, enumeration_at, structure_at, renaming_at, definition_at, typedef_at};
@@ -15,14 +15,14 @@ ghost use Rattle.fl_parse.specs.Reading.{behind_semicolon};
 use crate::fault::ParseFault;
 use crate::parts::{arguments, count, directed_arguments, fields, members};
 use crate::reading::{begins_with, is, mark, name, spells};
-use crate::stop::Stop;
+use crate::stop::ParseStop;
 use crate::tree::{Declaration, MessageKind, Name, Tree};
 use fl_lex::{Mark, Token, TokenKind, Tokens};
 use std::alloc::Global;
 
 /// The word that begins a declaration.
 #[derive(Clone, Copy)]
-pub enum Opening {
+pub enum DeclarationWord {
     Alias,
     Typedef,
     Message(MessageKind),
@@ -31,60 +31,62 @@ pub enum Opening {
 
 /// What stands behind `typedef`.
 #[derive(Clone, Copy)]
-pub enum Defined<'a> {
+pub enum TypedefWord<'a> {
     Enumeration,
     Structure,
     Type(Name<'a>),
 }
 
 /// Takes the word that begins a declaration.
-fn take_opening<'t, 'a>(tokens: &'t [Token<'a>]) -> Result<(Opening, &'t [Token<'a>]), Stop<'t, 'a>>
+fn take_opening<'t, 'a>(
+    tokens: &'t [Token<'a>],
+) -> Result<(DeclarationWord, &'t [Token<'a>]), ParseStop<'t, 'a>>
     ensures reads { Gives (λ x. (opening_of x.0, map token_of x.1.now)) result (one_at opening_in (map token_of tokens.now)) }
 {
     let [first, rest @ ..] = tokens else {
-        return Err(Stop::Unexpected(tokens));
+        return Err(ParseStop::Unexpected(tokens));
     };
     if spells(first, b"alias") {
-        Ok((Opening::Alias, rest))
+        Ok((DeclarationWord::Alias, rest))
     } else if spells(first, b"typedef") {
-        Ok((Opening::Typedef, rest))
+        Ok((DeclarationWord::Typedef, rest))
     } else if spells(first, b"message") {
-        Ok((Opening::Message(MessageKind::Message), rest))
+        Ok((DeclarationWord::Message(MessageKind::Message), rest))
     } else if spells(first, b"call") {
-        Ok((Opening::Message(MessageKind::Call), rest))
+        Ok((DeclarationWord::Message(MessageKind::Call), rest))
     } else if spells(first, b"response") {
-        Ok((Opening::Message(MessageKind::Response), rest))
+        Ok((DeclarationWord::Message(MessageKind::Response), rest))
     } else if spells(first, b"rpc") {
-        Ok((Opening::Rpc, rest))
+        Ok((DeclarationWord::Rpc, rest))
     } else {
-        Err(Stop::Unexpected(tokens))
+        Err(ParseStop::Unexpected(tokens))
     }
 }
 
 /// Takes the word behind `typedef`, where `enum` and `struct` are no type's name.
 fn take_defined<'t, 'a>(
     tokens: &'t [Token<'a>],
-) -> Result<(Defined<'a>, &'t [Token<'a>]), Stop<'t, 'a>>
+) -> Result<(TypedefWord<'a>, &'t [Token<'a>]), ParseStop<'t, 'a>>
     ensures reads { Gives (λ x. (defined_of x.0, map token_of x.1.now)) result (one_at defined_in (map token_of tokens.now)) }
 {
     let [first, rest @ ..] = tokens else {
-        return Err(Stop::Unexpected(tokens));
+        return Err(ParseStop::Unexpected(tokens));
     };
     if spells(first, b"enum") {
-        return Ok((Defined::Enumeration, rest));
+        return Ok((TypedefWord::Enumeration, rest));
     }
     if spells(first, b"struct") {
-        return Ok((Defined::Structure, rest));
+        return Ok((TypedefWord::Structure, rest));
     }
     match first.kind {
         TokenKind::Word => Ok((
-            Defined::Type(Name {
+            TypedefWord::Type(Name {
                 text: first.text,
                 at: first.at,
             }),
             rest,
         )),
-        _ => Err(Stop::Unexpected(tokens)),
+        _ => Err(ParseStop::Unexpected(tokens)),
     }
 }
 
@@ -92,7 +94,7 @@ fn take_defined<'t, 'a>(
 #[tactic(auto, unfolding(crate::specs::Reading::alias_at))]
 fn alias<'t, 'a>(
     tokens: &'t [Token<'a>],
-) -> Result<(Declaration<'a>, &'t [Token<'a>]), Stop<'t, 'a>>
+) -> Result<(Declaration<'a>, &'t [Token<'a>]), ParseStop<'t, 'a>>
     ensures reads { Gives (λ x. (declaration_of x.0, map token_of x.1.now)) result (alias_at (map token_of tokens.now)) }
 {
     let (new, rest) = name(tokens)?;
@@ -106,7 +108,7 @@ fn alias<'t, 'a>(
 fn enumeration<'t, 'a>(
     alloc: Global,
     tokens: &'t [Token<'a>],
-) -> Result<(Declaration<'a>, &'t [Token<'a>]), Stop<'t, 'a>>
+) -> Result<(Declaration<'a>, &'t [Token<'a>]), ParseStop<'t, 'a>>
     ensures reads { Gives (λ x. (declaration_of x.0, map token_of x.1.now)) result (enumeration_at (map token_of tokens.now)) }
 {
     let rest = mark(tokens, Mark::OpenBrace)?;
@@ -128,7 +130,7 @@ fn enumeration<'t, 'a>(
 fn structure<'t, 'a>(
     alloc: Global,
     tokens: &'t [Token<'a>],
-) -> Result<(Declaration<'a>, &'t [Token<'a>]), Stop<'t, 'a>>
+) -> Result<(Declaration<'a>, &'t [Token<'a>]), ParseStop<'t, 'a>>
     ensures reads { Gives (λ x. (declaration_of x.0, map token_of x.1.now)) result (structure_at (map token_of tokens.now)) }
 {
     let rest = mark(tokens, Mark::OpenBrace)?;
@@ -150,7 +152,7 @@ fn structure<'t, 'a>(
 fn renaming<'t, 'a>(
     old: Name<'a>,
     tokens: &'t [Token<'a>],
-) -> Result<(Declaration<'a>, &'t [Token<'a>]), Stop<'t, 'a>>
+) -> Result<(Declaration<'a>, &'t [Token<'a>]), ParseStop<'t, 'a>>
     ensures reads { Gives (λ x. (declaration_of x.0, map token_of x.1.now)) result
         (renaming_at (name_of old.entry) (map token_of tokens.now)) }
 {
@@ -172,13 +174,13 @@ fn renaming<'t, 'a>(
 fn typedef<'t, 'a>(
     alloc: Global,
     tokens: &'t [Token<'a>],
-) -> Result<(Declaration<'a>, &'t [Token<'a>]), Stop<'t, 'a>>
+) -> Result<(Declaration<'a>, &'t [Token<'a>]), ParseStop<'t, 'a>>
     ensures reads { Gives (λ x. (declaration_of x.0, map token_of x.1.now)) result (typedef_at (map token_of tokens.now)) }
 {
     match take_defined(tokens)? {
-        (Defined::Enumeration, rest) => enumeration(alloc, rest),
-        (Defined::Structure, rest) => structure(alloc, rest),
-        (Defined::Type(old), rest) => renaming(old, rest),
+        (TypedefWord::Enumeration, rest) => enumeration(alloc, rest),
+        (TypedefWord::Structure, rest) => structure(alloc, rest),
+        (TypedefWord::Type(old), rest) => renaming(old, rest),
     }
 }
 
@@ -188,7 +190,7 @@ fn message<'t, 'a>(
     alloc: Global,
     kind: MessageKind,
     tokens: &'t [Token<'a>],
-) -> Result<(Declaration<'a>, &'t [Token<'a>]), Stop<'t, 'a>>
+) -> Result<(Declaration<'a>, &'t [Token<'a>]), ParseStop<'t, 'a>>
     ensures reads { Gives (λ x. (declaration_of x.0, map token_of x.1.now)) result
         (message_at kind (map token_of tokens.now)) }
 {
@@ -212,7 +214,7 @@ fn message<'t, 'a>(
 fn rpc<'t, 'a>(
     alloc: Global,
     tokens: &'t [Token<'a>],
-) -> Result<(Declaration<'a>, &'t [Token<'a>]), Stop<'t, 'a>>
+) -> Result<(Declaration<'a>, &'t [Token<'a>]), ParseStop<'t, 'a>>
     ensures reads { Gives (λ x. (declaration_of x.0, map token_of x.1.now)) result (rpc_at (map token_of tokens.now)) }
 {
     let (rpc_name, rest) = name(tokens)?;
@@ -234,14 +236,14 @@ fn rpc<'t, 'a>(
 fn declaration<'t, 'a>(
     alloc: Global,
     tokens: &'t [Token<'a>],
-) -> Result<(Declaration<'a>, &'t [Token<'a>]), Stop<'t, 'a>>
+) -> Result<(Declaration<'a>, &'t [Token<'a>]), ParseStop<'t, 'a>>
     ensures reads { Gives (λ x. (declaration_of x.0, map token_of x.1.now)) result (declaration_at (map token_of tokens.now)) }
 {
     match take_opening(tokens)? {
-        (Opening::Alias, rest) => alias(rest),
-        (Opening::Typedef, rest) => typedef(alloc, rest),
-        (Opening::Message(kind), rest) => message(alloc, kind, rest),
-        (Opening::Rpc, rest) => rpc(alloc, rest),
+        (DeclarationWord::Alias, rest) => alias(rest),
+        (DeclarationWord::Typedef, rest) => typedef(alloc, rest),
+        (DeclarationWord::Message(kind), rest) => message(alloc, kind, rest),
+        (DeclarationWord::Rpc, rest) => rpc(alloc, rest),
     }
 }
 
@@ -249,7 +251,7 @@ fn declaration<'t, 'a>(
 fn declarations<'t, 'a>(
     alloc: Global,
     tokens: &'t [Token<'a>],
-) -> Result<(Vec<Declaration<'a>>, &'t [Token<'a>]), Stop<'t, 'a>>
+) -> Result<(Vec<Declaration<'a>>, &'t [Token<'a>]), ParseStop<'t, 'a>>
     ensures reads { Gives (λ x. (map declaration_of x.0.items, map token_of x.1.now)) result
         (declarations_at (map token_of tokens.now)) }
 {
@@ -264,13 +266,16 @@ fn declarations<'t, 'a>(
 }
 
 /// Takes this word.
-fn word<'t, 'a>(tokens: &'t [Token<'a>], wanted: &[u8]) -> Result<&'t [Token<'a>], Stop<'t, 'a>>
+fn word<'t, 'a>(
+    tokens: &'t [Token<'a>],
+    wanted: &[u8],
+) -> Result<&'t [Token<'a>], ParseStop<'t, 'a>>
     ensures reads { Gives (λ x. (tt, map token_of x.now)) result (word_at wanted.now (map token_of tokens.now)) }
     ensures refusal { IfErr result IsUnexpected }
 {
     match tokens {
         [first, rest @ ..] if spells(first, wanted) => Ok(rest),
-        _ => Err(Stop::Unexpected(tokens)),
+        _ => Err(ParseStop::Unexpected(tokens)),
     }
 }
 
@@ -293,7 +298,7 @@ fn description<'t, 'a>(tokens: &'t [Token<'a>]) -> (Option<&'a [u8]>, &'t [Token
 fn body<'t, 'a>(
     alloc: Global,
     tokens: &'t [Token<'a>],
-) -> Result<(Tree<'a>, &'t [Token<'a>]), Stop<'t, 'a>>
+) -> Result<(Tree<'a>, &'t [Token<'a>]), ParseStop<'t, 'a>>
     ensures reads { Gives (λ x. (tree_of x.0, map token_of x.1.now)) result (body_at (map token_of tokens.now)) }
     ensures memory { IfErr result (λ stop. stop ≡ Memory → HasHead (map token_of tokens.now)) }
 {
@@ -324,13 +329,13 @@ fn skip_semicolon<'t, 'a>(tokens: &'t [Token<'a>]) -> &'t [Token<'a>]
 }
 
 /// The fault of a part that was not read, in a text that ends at `end`.
-fn fault_of(stop: Stop, end: usize) -> ParseFault
+fn fault_of(stop: ParseStop, end: usize) -> ParseFault
     ensures fault { result ≡ stop_fault stop.entry end }
 {
     match stop {
-        Stop::Memory => ParseFault::Memory,
-        Stop::Unexpected([first, ..]) => ParseFault::NotExpected(first.at),
-        Stop::Unexpected([]) => ParseFault::NotExpected(end),
+        ParseStop::Memory => ParseFault::Memory,
+        ParseStop::Unexpected([first, ..]) => ParseFault::NotExpected(first.at),
+        ParseStop::Unexpected([]) => ParseFault::NotExpected(end),
     }
 }
 

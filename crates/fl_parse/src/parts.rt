@@ -10,7 +10,7 @@ ghost use Rattle.fl_parse.specs.Reading.{Fails, directed_at, arguments_at, all_d
 ghost use Rattle.fl_parse.specs.Taken.{Took};
 
 use crate::reading::{begins_with, mark, name, number, spells};
-use crate::stop::Stop;
+use crate::stop::ParseStop;
 use crate::tree::{Argument, DirectedArgument, Direction, Field, Name, Number, Shape};
 use fl_lex::{Mark, Token, TokenKind};
 use std::alloc::Global;
@@ -19,7 +19,7 @@ use std::alloc::Global;
 #[tactic(auto, unfolding(crate::specs::Reading::count_at))]
 pub fn count<'t, 'a>(
     tokens: &'t [Token<'a>],
-) -> Result<(Option<Number>, &'t [Token<'a>]), Stop<'t, 'a>>
+) -> Result<(Option<Number>, &'t [Token<'a>]), ParseStop<'t, 'a>>
     ensures reads { Gives (λ x. (option_map number_of x.0, map token_of x.1.now)) result
         (optional_at (λ token. is_mark token Mark.OpenBracket) count_at (map token_of tokens.now)) }
 {
@@ -34,7 +34,7 @@ pub fn count<'t, 'a>(
 
 /// Takes `OLD NAME;` or `OLD NAME[COUNT];`.
 #[tactic(auto, unfolding(crate::specs::Reading::field_at))]
-fn field<'t, 'a>(tokens: &'t [Token<'a>]) -> Result<(Field<'a>, &'t [Token<'a>]), Stop<'t, 'a>>
+fn field<'t, 'a>(tokens: &'t [Token<'a>]) -> Result<(Field<'a>, &'t [Token<'a>]), ParseStop<'t, 'a>>
     ensures reads { Gives (λ x. (field_of x.0, map token_of x.1.now)) result (field_at (map token_of tokens.now)) }
 {
     let (type_name, rest) = name(tokens)?;
@@ -53,7 +53,9 @@ fn field<'t, 'a>(tokens: &'t [Token<'a>]) -> Result<(Field<'a>, &'t [Token<'a>])
 
 /// Takes `, NUMBER`, which may be missing.
 #[tactic(auto, unfolding(crate::specs::Reading::bound_at))]
-fn bound<'t, 'a>(tokens: &'t [Token<'a>]) -> Result<(Option<Number>, &'t [Token<'a>]), Stop<'t, 'a>>
+fn bound<'t, 'a>(
+    tokens: &'t [Token<'a>],
+) -> Result<(Option<Number>, &'t [Token<'a>]), ParseStop<'t, 'a>>
     ensures reads { Gives (λ x. (option_map number_of x.0, map token_of x.1.now)) result
         (optional_at (λ token. is_mark token Mark.Comma) bound_at (map token_of tokens.now)) }
 {
@@ -67,7 +69,7 @@ fn bound<'t, 'a>(tokens: &'t [Token<'a>]) -> Result<(Option<Number>, &'t [Token<
 
 /// What stands first between an argument's brackets.
 #[derive(Clone, Copy)]
-pub enum Inside<'a> {
+pub enum BracketStart<'a> {
     Bound(Number),
     Length(Name<'a>),
 }
@@ -76,17 +78,17 @@ pub enum Inside<'a> {
 fn first_inside<'t, 'a>(
     type_name: Name<'a>,
     tokens: &'t [Token<'a>],
-) -> Result<(Inside<'a>, &'t [Token<'a>]), Stop<'t, 'a>>
+) -> Result<(BracketStart<'a>, &'t [Token<'a>]), ParseStop<'t, 'a>>
     ensures reads { Gives (λ x. (inside_of x.0, map token_of x.1.now)) result
         (one_at (inside_in (name_of type_name.entry)) (map token_of tokens.now)) }
 {
     let [first, rest @ ..] = tokens else {
-        return Err(Stop::Unexpected(tokens));
+        return Err(ParseStop::Unexpected(tokens));
     };
     match first.kind {
         TokenKind::Number(value) if type_name.text == b"string".as_slice() => {
             Ok((
-                Inside::Bound(Number {
+                BracketStart::Bound(Number {
                     value,
                     at: first.at,
                 }),
@@ -94,13 +96,13 @@ fn first_inside<'t, 'a>(
             ))
         }
         TokenKind::Word => Ok((
-            Inside::Length(Name {
+            BracketStart::Length(Name {
                 text: first.text,
                 at: first.at,
             }),
             rest,
         )),
-        _ => Err(Stop::Unexpected(tokens)),
+        _ => Err(ParseStop::Unexpected(tokens)),
     }
 }
 
@@ -110,7 +112,7 @@ fn first_inside<'t, 'a>(
 fn shape<'t, 'a>(
     type_name: Name<'a>,
     tokens: &'t [Token<'a>],
-) -> Result<(Shape<'a>, &'t [Token<'a>]), Stop<'t, 'a>>
+) -> Result<(Shape<'a>, &'t [Token<'a>]), ParseStop<'t, 'a>>
     ensures reads { Gives (λ x. (shape_of x.0, map token_of x.1.now)) result
         (shape_at (name_of type_name.entry) (map token_of tokens.now)) }
 {
@@ -119,11 +121,11 @@ fn shape<'t, 'a>(
     }
     let rest = mark(tokens, Mark::OpenBracket)?;
     match first_inside(type_name, rest)? {
-        (Inside::Bound(value), rest) => {
+        (BracketStart::Bound(value), rest) => {
             let rest = mark(rest, Mark::CloseBracket)?;
             Ok((Shape::Bounded(value), rest))
         }
-        (Inside::Length(length), rest) => {
+        (BracketStart::Length(length), rest) => {
             let (most, rest) = bound(rest)?;
             let rest = mark(rest, Mark::CloseBracket)?;
             Ok((
@@ -141,7 +143,7 @@ fn shape<'t, 'a>(
 #[tactic(auto, unfolding(crate::specs::Reading::argument_at))]
 fn argument<'t, 'a>(
     tokens: &'t [Token<'a>],
-) -> Result<(Argument<'a>, &'t [Token<'a>]), Stop<'t, 'a>>
+) -> Result<(Argument<'a>, &'t [Token<'a>]), ParseStop<'t, 'a>>
     ensures reads { Gives (λ x. (argument_of x.0, map token_of x.1.now)) result (argument_at (map token_of tokens.now)) }
 {
     let (type_name, rest) = name(tokens)?;
@@ -158,13 +160,15 @@ fn argument<'t, 'a>(
 }
 
 /// Takes `in` or `out`.
-fn direction<'t, 'a>(tokens: &'t [Token<'a>]) -> Result<(Direction, &'t [Token<'a>]), Stop<'t, 'a>>
+fn direction<'t, 'a>(
+    tokens: &'t [Token<'a>],
+) -> Result<(Direction, &'t [Token<'a>]), ParseStop<'t, 'a>>
     ensures reads { Gives (λ x. (x.0, map token_of x.1.now)) result (one_at direction_in (map token_of tokens.now)) }
 {
     match tokens {
         [first, rest @ ..] if spells(first, b"in") => Ok((Direction::In, rest)),
         [first, rest @ ..] if spells(first, b"out") => Ok((Direction::Out, rest)),
-        _ => Err(Stop::Unexpected(tokens)),
+        _ => Err(ParseStop::Unexpected(tokens)),
     }
 }
 
@@ -172,7 +176,7 @@ fn direction<'t, 'a>(tokens: &'t [Token<'a>]) -> Result<(Direction, &'t [Token<'
 #[tactic(auto, unfolding(crate::specs::Reading::directed_at))]
 fn directed_argument<'t, 'a>(
     tokens: &'t [Token<'a>],
-) -> Result<(DirectedArgument<'a>, &'t [Token<'a>]), Stop<'t, 'a>>
+) -> Result<(DirectedArgument<'a>, &'t [Token<'a>]), ParseStop<'t, 'a>>
     ensures reads { Gives (λ x. (directed_of x.0, map token_of x.1.now)) result (directed_at (map token_of tokens.now)) }
 {
     let (way, rest) = direction(tokens)?;
@@ -190,7 +194,7 @@ fn directed_argument<'t, 'a>(
 pub fn members<'t, 'a>(
     alloc: Global,
     tokens: &'t [Token<'a>],
-) -> Result<(Vec<Name<'a>>, &'t [Token<'a>]), Stop<'t, 'a>>
+) -> Result<(Vec<Name<'a>>, &'t [Token<'a>]), ParseStop<'t, 'a>>
     ensures reads { Gives (λ x. (map name_of x.0.items, map token_of x.1.now)) result
         (all_members_at (map token_of tokens.now)) }
 {
@@ -211,7 +215,7 @@ pub fn members<'t, 'a>(
 pub fn fields<'t, 'a>(
     alloc: Global,
     tokens: &'t [Token<'a>],
-) -> Result<(Vec<Field<'a>>, &'t [Token<'a>]), Stop<'t, 'a>>
+) -> Result<(Vec<Field<'a>>, &'t [Token<'a>]), ParseStop<'t, 'a>>
     ensures reads { Gives (λ x. (map field_of x.0.items, map token_of x.1.now)) result
         (fields_at (map token_of tokens.now)) }
 {
@@ -229,7 +233,7 @@ pub fn fields<'t, 'a>(
 fn next_argument<'t, 'a>(
     arguments: &mut Vec<Argument<'a>>,
     tokens: &'t [Token<'a>],
-) -> Result<&'t [Token<'a>], Stop<'t, 'a>>
+) -> Result<&'t [Token<'a>], ParseStop<'t, 'a>>
     ensures takes { IfOk result (λ rest. Took (argument_at (map token_of tokens.now)) (map argument_of arguments.old.items)
         (map argument_of arguments.new.items) (map token_of rest.now)) }
     ensures refusal { IfErr result (λ stop. Fails stop (argument_at (map token_of tokens.now))) }
@@ -243,7 +247,7 @@ fn next_argument<'t, 'a>(
 pub fn arguments<'t, 'a>(
     alloc: Global,
     tokens: &'t [Token<'a>],
-) -> Result<(Vec<Argument<'a>>, &'t [Token<'a>]), Stop<'t, 'a>>
+) -> Result<(Vec<Argument<'a>>, &'t [Token<'a>]), ParseStop<'t, 'a>>
     ensures reads { Gives (λ x. (map argument_of x.0.items, map token_of x.1.now)) result
         (arguments_at (map token_of tokens.now)) }
 {
@@ -263,7 +267,7 @@ pub fn arguments<'t, 'a>(
 fn next_directed<'t, 'a>(
     arguments: &mut Vec<DirectedArgument<'a>>,
     tokens: &'t [Token<'a>],
-) -> Result<&'t [Token<'a>], Stop<'t, 'a>>
+) -> Result<&'t [Token<'a>], ParseStop<'t, 'a>>
     ensures takes { IfOk result (λ rest. Took (directed_at (map token_of tokens.now)) (map directed_of arguments.old.items)
         (map directed_of arguments.new.items) (map token_of rest.now)) }
     ensures refusal { IfErr result (λ stop. Fails stop (directed_at (map token_of tokens.now))) }
@@ -277,7 +281,7 @@ fn next_directed<'t, 'a>(
 pub fn directed_arguments<'t, 'a>(
     alloc: Global,
     tokens: &'t [Token<'a>],
-) -> Result<(Vec<DirectedArgument<'a>>, &'t [Token<'a>]), Stop<'t, 'a>>
+) -> Result<(Vec<DirectedArgument<'a>>, &'t [Token<'a>]), ParseStop<'t, 'a>>
     ensures reads { Gives (λ x. (map directed_of x.0.items, map token_of x.1.now)) result
         (all_directed_at (map token_of tokens.now)) }
 {

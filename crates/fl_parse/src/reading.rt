@@ -6,7 +6,7 @@ ghost use Rattle.fl_parse.specs.Tree.{name_of, number_of};
 ghost use Rattle.fl_parse.specs.Grammar.{is_word, is_mark, name_in, number_in};
 ghost use Rattle.fl_parse.specs.Reading.{Gives, IsUnexpected, begins, mark_at, one_at};
 
-use crate::stop::Stop;
+use crate::stop::ParseStop;
 use crate::tree::{Name, Number};
 use fl_lex::{Mark, Token, TokenKind};
 
@@ -35,23 +35,28 @@ pub fn begins_with(tokens: &[Token], mark: Mark) -> bool
 }
 
 /// Takes this mark.
-pub fn mark<'t, 'a>(tokens: &'t [Token<'a>], mark: Mark) -> Result<&'t [Token<'a>], Stop<'t, 'a>>
+pub fn mark<'t, 'a>(
+    tokens: &'t [Token<'a>],
+    mark: Mark,
+) -> Result<&'t [Token<'a>], ParseStop<'t, 'a>>
     ensures reads { Gives (λ x. (tt, map token_of x.now)) result (mark_at mark (map token_of tokens.now)) }
     ensures refusal { IfErr result IsUnexpected }
 {
     match tokens {
         [first, rest @ ..] if is(first, mark) => Ok(rest),
-        _ => Err(Stop::Unexpected(tokens)),
+        _ => Err(ParseStop::Unexpected(tokens)),
     }
 }
 
 /// Takes a word as a name.
-pub fn name<'t, 'a>(tokens: &'t [Token<'a>]) -> Result<(Name<'a>, &'t [Token<'a>]), Stop<'t, 'a>>
+pub fn name<'t, 'a>(
+    tokens: &'t [Token<'a>],
+) -> Result<(Name<'a>, &'t [Token<'a>]), ParseStop<'t, 'a>>
     ensures reads { Gives (λ x. (name_of x.0, map token_of x.1.now)) result (one_at name_in (map token_of tokens.now)) }
     ensures refusal { IfErr result IsUnexpected }
 {
     let [first, rest @ ..] = tokens else {
-        return Err(Stop::Unexpected(tokens));
+        return Err(ParseStop::Unexpected(tokens));
     };
     match first.kind {
         TokenKind::Word => Ok((
@@ -61,16 +66,18 @@ pub fn name<'t, 'a>(tokens: &'t [Token<'a>]) -> Result<(Name<'a>, &'t [Token<'a>
             },
             rest,
         )),
-        _ => Err(Stop::Unexpected(tokens)),
+        _ => Err(ParseStop::Unexpected(tokens)),
     }
 }
 
 /// Takes a number.
-pub fn number<'t, 'a>(tokens: &'t [Token<'a>]) -> Result<(Number, &'t [Token<'a>]), Stop<'t, 'a>>
+pub fn number<'t, 'a>(
+    tokens: &'t [Token<'a>],
+) -> Result<(Number, &'t [Token<'a>]), ParseStop<'t, 'a>>
     ensures reads { Gives (λ x. (number_of x.0, map token_of x.1.now)) result (one_at number_in (map token_of tokens.now)) }
 {
     let [first, rest @ ..] = tokens else {
-        return Err(Stop::Unexpected(tokens));
+        return Err(ParseStop::Unexpected(tokens));
     };
     match first.kind {
         TokenKind::Number(value) => Ok((
@@ -80,6 +87,6 @@ pub fn number<'t, 'a>(tokens: &'t [Token<'a>]) -> Result<(Number, &'t [Token<'a>
             },
             rest,
         )),
-        _ => Err(Stop::Unexpected(tokens)),
+        _ => Err(ParseStop::Unexpected(tokens)),
     }
 }

@@ -18,8 +18,8 @@ use Rattle.fl_ring.specs.Duo.{TheHalf, TheDuo, HalfPuts, HalfTakes, DuoPuts, Duo
 use Rattle.fl_ring.specs.SharedSeats.{Sender, Receiver, SenderPuts, ReceiverTakes}
 use Rattle.fl_ring.specs.SharedSides.{TheSide, SharedPuts, SharedTakes, Looked, free_of, side_written, side_seen, side_taken, side_missed, side_counted, MayStand, KnowsSent}
 use Rattle.fl_ring.specs.Laws.{wrote_in, read_in, writes_of, reads_of, HalfConserves, DuoConserves, SenderConserves, ReceiverConserves, SideConserves}
-use Rattle.fl_ring.specs.declared.one_duo.Which.{Which}
-use Rattle.fl_ring.specs.declared.one_duo.Which.TheVariants.{One, Two}
+use Rattle.fl_ring.specs.declared.one_duo.WhichSide.{WhichSide}
+use Rattle.fl_ring.specs.declared.one_duo.WhichSide.TheVariants.{One, Two}
 
 -- ---- a ring with one owner
 
@@ -171,19 +171,19 @@ half_join s p t q u v xs ys a b = record {
   elsewhere = b.elsewhere ∙ ap (λ (h : TheHalf). with_waiting h v.waiting) a.elsewhere;
 }
 
-duo_step : (which : Which) (s t : TheDuo) (look : Look) → LinkStep (DuoPuts which) (DuoTakes which) s look t → DuoConserves which s (look ∷ []) t
+duo_step : (which : WhichSide) (s t : TheDuo) (look : Look) → LinkStep (DuoPuts which) (DuoTakes which) s look t → DuoConserves which s (look ∷ []) t
 duo_step One s t look (inl put) = record { same_size = put.1; sides = half_put s.size s.one s.two t.one t.two look put.0 }
 duo_step One s t look (inr took) = record { same_size = took.1; sides = half_take s.size s.one s.two t.one t.two look took.0 }
 duo_step Two s t look (inl put) = record { same_size = put.1; sides = half_put s.size s.two s.one t.two t.one look put.0 }
 duo_step Two s t look (inr took) = record { same_size = took.1; sides = half_take s.size s.two s.one t.two t.one look took.0 }
 
-duo_join : (which : Which) (s t u : TheDuo) (xs ys : List Look) → DuoConserves which s xs t → DuoConserves which t ys u → DuoConserves which s (xs ++ ys) u
+duo_join : (which : WhichSide) (s t u : TheDuo) (xs ys : List Look) → DuoConserves which s xs t → DuoConserves which t ys u → DuoConserves which s (xs ++ ys) u
 duo_join which s t u xs ys a b = record {
   same_size = b.same_size ∙ a.same_size;
   sides = half_join (side_of which s) (across which s) (side_of which t) (across which t) (side_of which u) (across which u) xs ys a.sides b.sides;
 }
 
-pub duo_conserves : (which : Which) (s t : TheDuo) (looks : List Look) → Looks (LinkStep (DuoPuts which) (DuoTakes which)) s looks t → DuoConserves which s looks t
+pub duo_conserves : (which : WhichSide) (s t : TheDuo) (looks : List Look) → Looks (LinkStep (DuoPuts which) (DuoTakes which)) s looks t → DuoConserves which s looks t
 duo_conserves which = over_looks (LinkStep (DuoPuts which) (DuoTakes which)) (DuoConserves which)
     (λ s. record { same_size = refl; sides = half_none (side_of which s) (across which s) }) (duo_step which) (duo_join which)
 

@@ -7,7 +7,7 @@ use Rattle.fl_ring.specs.Way.{slot, frag_of, standing, WritesSlot}
 use Rattle.fl_ring.specs.Counts.{count_from, known_after, last_count}
 use Rattle.fl_ring.specs.Duo.{TheHalf, with_written, with_arrived, with_taken, looked, MayForget}
 use Rattle.fl_ring.specs.Halves.{Direction, InStep, half_of}
-use Rattle.fl_ring.specs.declared.halves.Half.{Half}
+use Rattle.fl_ring.specs.declared.halves.DuoHalf.{DuoHalf}
 use Rattle.fl_ring.proofs.Places.{slot_within}
 use Rattle.fl_ring.proofs.Ways.{standing_more, keeps_standing, same_standing, kept_apart, length-standing, gains, tells, elsewhere}
 use Rattle.fl_ring.proofs.RingSteps.{standing_first, standing_none}
@@ -20,7 +20,7 @@ swapped : (x y z : ℕ) → ((x ≡ 0) × (y ≡ z)) ⊎ ((x ≡ z) × (y ≡ 0)
 swapped x y z (inl (e, d)) = inr (d, e)
 swapped x y z (inr (e, d)) = inl (d, e)
 
-pub turned : (n : ℕ) (ws : List ℕ) (a b : Half) → InStep n ws a b → InStep n ws b a
+pub turned : (n : ℕ) (ws : List ℕ) (a b : DuoHalf) → InStep n ws a b → InStep n ws b a
 turned n ws a b s = record {
   few = s.few;
   wide = s.wide;
@@ -31,11 +31,11 @@ turned n ws a b s = record {
 
 -- ---- a count becomes known
 
-with_count : Half → ℕ → Half
+with_count : DuoHalf → ℕ → DuoHalf
 with_count a k = record a { known = k }
 
 -- where the count is that of a look at the first fragment
-pub known_steps : (n : ℕ) (ws : List ℕ) (a b : Half) (k : ℕ) → InStep n ws a b → k ≡ known_after a.known (half_of n ws a b).waiting → InStep n ws (record a { known = k }) b
+pub known_steps : (n : ℕ) (ws : List ℕ) (a b : DuoHalf) (k : ℕ) → InStep n ws a b → k ≡ known_after a.known (half_of n ws a b).waiting → InStep n ws (record a { known = k }) b
 known_steps n ws a b k s e = record {
   few = s.few;
   wide = s.wide;
@@ -67,7 +67,7 @@ known_steps n ws a b k s e = record {
 }
 
 -- back to a count that was known before
-pub forget_steps : (n : ℕ) (ws : List ℕ) (a b : Half) (k : ℕ) → InStep n ws a b → MayForget n (half_of n ws a b) k → InStep n ws (record a { known = k }) b
+pub forget_steps : (n : ℕ) (ws : List ℕ) (a b : DuoHalf) (k : ℕ) → InStep n ws a b → MayForget n (half_of n ws a b) k → InStep n ws (record a { known = k }) b
 forget_steps n ws a b k s before = record {
   few = s.few;
   wide = s.wide;
@@ -101,7 +101,7 @@ forget_steps n ws a b k s before = record {
 -- ---- the first fragment is taken
 
 -- its count is known already
-pub take_steps : (n : ℕ) (ws : List ℕ) (a b : Half) (p : TheCursor) → InStep n ws a b → a.take.index < b.put.index → a.known ≡ known_after a.known (half_of n ws a b).waiting
+pub take_steps : (n : ℕ) (ws : List ℕ) (a b : DuoHalf) (p : TheCursor) → InStep n ws a b → a.take.index < b.put.index → a.known ≡ known_after a.known (half_of n ws a b).waiting
     → p ≡ record { index = a.take.index + 1; size = a.take.size } → InStep n ws (record a { take = p }) b
 take_steps n ws a b p s lt looked_at e = record {
   few = s.few;
@@ -158,12 +158,12 @@ ways_apart n x y i j p (inl (e, d)) = inr (omega (arith, slot_within x n i p))
 ways_apart n x y i j p (inr (e, d)) = inl (omega (arith, slot_within y n j p))
 
 -- the other way's slots stay
-pub other_stays : (n : ℕ) (ws ws' : List ℕ) (a b : Half) (f : Frag) → InStep n ws a b → WritesSlot (slot a.base n a.put.index) f ws ws'
+pub other_stays : (n : ℕ) (ws ws' : List ℕ) (a b : DuoHalf) (f : Frag) → InStep n ws a b → WritesSlot (slot a.base n a.put.index) f ws ws'
     → (j : ℕ) → frag_of b.base n ws' j ≡ frag_of b.base n ws j
 other_stays n ws ws' a b f s w j = kept_apart (slot a.base n a.put.index) (slot b.base n j) f ws ws' w (ways_apart n a.base b.base a.put.index j s.there.marked.some s.apart)
 
 -- what is known was told
-pub known_told : (n : ℕ) (ws : List ℕ) (w r : Half) → Direction n ws w r → w.known ≤ r.told
+pub known_told : (n : ℕ) (ws : List ℕ) (w r : DuoHalf) → Direction n ws w r → w.known ≤ r.told
 known_told n ws w r d = omega (arith, d.counts, last_rises w.known (standing r.base n ws w.take.index (r.put.index - w.take.index)))
 
 -- the next index of a cursor
@@ -171,11 +171,11 @@ abbrev pub next_of : TheCursor → TheCursor
 next_of p = record { index = p.index + 1; size = p.size }
 
 -- the side that wrote: its next index, and all that it has taken told
-abbrev pub wrote : Half → Half
+abbrev pub wrote : DuoHalf → DuoHalf
 wrote a = record { base = a.base; other = a.other; put = next_of a.put; take = a.take; known = a.known; told = a.take.index }
 
 -- what waits for the other side then
-pub arrives : (n : ℕ) (ws ws' : List ℕ) (a b : Half) (f : Frag) → InStep n ws a b → a.put.index + 1 ≤ a.known + n → WritesSlot (slot a.base n a.put.index) f ws ws'
+pub arrives : (n : ℕ) (ws ws' : List ℕ) (a b : DuoHalf) (f : Frag) → InStep n ws a b → a.put.index + 1 ≤ a.known + n → WritesSlot (slot a.base n a.put.index) f ws ws'
     → standing a.base n ws' b.take.index (a.put.index + 1 - b.take.index) ≡ standing a.base n ws b.take.index (a.put.index - b.take.index) ++ f ∷ []
 arrives n ws ws' a b f s room w =
     let sent : ℕ = a.put.index in
@@ -189,7 +189,7 @@ arrives n ws ws' a b f s room w =
     ∙ ap (λ (xs : List Frag). xs ++ frag_of a.base n ws' sent ∷ []) (keeps_standing a.base n ws ws' sent taken (sent - taken) f w (omega arith) near)
     ∙ ap (λ (g : Frag). standing a.base n ws taken (sent - taken) ++ g ∷ []) w.holds
 
-pub write_steps : (n : ℕ) (ws ws' : List ℕ) (a b : Half) (f : Frag) → InStep n ws a b → a.put.index < 2 ^ 62 → a.put.index + 1 ≤ a.known + n
+pub write_steps : (n : ℕ) (ws ws' : List ℕ) (a b : DuoHalf) (f : Frag) → InStep n ws a b → a.put.index < 2 ^ 62 → a.put.index + 1 ≤ a.known + n
     → WritesSlot (slot a.base n a.put.index) f ws ws' → epoch_of f.control ≡ epoch_at n a.put.index → told_of f.control ≡ a.take.index % 65536
     → InStep n ws' (wrote a) b
 write_steps n ws ws' a b f s unspent room w turn number = record {
@@ -240,11 +240,11 @@ same_half : (sent known told sent' known' told' : ℕ) (read read' waiting waiti
 same_half sent known told sent' known' told' read read' waiting waiting' e f g h i = cc
 
 -- the number taken
-pub got_is : (n : ℕ) (ws : List ℕ) (a b : Half) → InStep n ws a b → a.told + length (half_of n ws a b).read ≡ a.take.index
+pub got_is : (n : ℕ) (ws : List ℕ) (a b : DuoHalf) → InStep n ws a b → a.told + length (half_of n ws a b).read ≡ a.take.index
 got_is n ws a b s = omega (arith, length-standing b.base n ws a.told (a.take.index - a.told), s.back.told_taken)
 
 -- the side that wrote
-pub written_half : (n : ℕ) (ws ws' : List ℕ) (a b : Half) (f : Frag) → InStep n ws a b → WritesSlot (slot a.base n a.put.index) f ws ws'
+pub written_half : (n : ℕ) (ws ws' : List ℕ) (a b : DuoHalf) (f : Frag) → InStep n ws a b → WritesSlot (slot a.base n a.put.index) f ws ws'
     → half_of n ws' (wrote a) b ≡ with_written (half_of n ws a b)
 written_half n ws ws' a b f s w =
     same_half (a.put.index + 1) a.known a.take.index (a.put.index + 1) a.known (a.told + length (half_of n ws a b).read)
@@ -254,7 +254,7 @@ written_half n ws ws' a b f s w =
     (same_standing b.base n ws ws' (b.put.index - a.take.index) a.take.index (λ j _ _. other_stays n ws ws' a b f s w j))
 
 -- and the other
-pub arrived_half : (n : ℕ) (ws ws' : List ℕ) (a b : Half) (f : Frag) → InStep n ws a b → a.put.index + 1 ≤ a.known + n → WritesSlot (slot a.base n a.put.index) f ws ws'
+pub arrived_half : (n : ℕ) (ws ws' : List ℕ) (a b : DuoHalf) (f : Frag) → InStep n ws a b → a.put.index + 1 ≤ a.known + n → WritesSlot (slot a.base n a.put.index) f ws ws'
     → half_of n ws' b (wrote a) ≡ with_arrived (half_of n ws b a) f
 arrived_half n ws ws' a b f s room w =
     let near : a.put.index < b.told + n = omega (arith, known_told n ws a b s.there) in
@@ -268,13 +268,13 @@ same_front : (f g : Frag) (xs ys : List Frag) → f ∷ xs ≡ g ∷ ys → (f �
 same_front f g xs ys e = (cc, cc)
 
 -- where a fragment waits, one is put that isn't taken
-pub waits : (n : ℕ) (ws : List ℕ) (a b : Half) (first : Frag) (rest : List Frag) → (half_of n ws a b).waiting ≡ first ∷ rest → a.take.index < b.put.index
+pub waits : (n : ℕ) (ws : List ℕ) (a b : DuoHalf) (first : Frag) (rest : List Frag) → (half_of n ws a b).waiting ≡ first ∷ rest → a.take.index < b.put.index
 waits n ws a b first rest e =
     let count : length (half_of n ws a b).waiting ≡ b.put.index - a.take.index = length-standing b.base n ws a.take.index (b.put.index - a.take.index) in
     omega (arith, ap length e)
 
 -- the side that took
-pub taken_half : (n : ℕ) (ws : List ℕ) (a b : Half) (first : Frag) (rest : List Frag) → InStep n ws a b → (half_of n ws a b).waiting ≡ first ∷ rest
+pub taken_half : (n : ℕ) (ws : List ℕ) (a b : DuoHalf) (first : Frag) (rest : List Frag) → InStep n ws a b → (half_of n ws a b).waiting ≡ first ∷ rest
     → a.known ≡ known_after a.known (half_of n ws a b).waiting
     → half_of n ws (record a { take = next_of a.take }) b ≡ with_taken (half_of n ws a b) first rest
 taken_half n ws a b first rest s stands looked_at =

@@ -4,12 +4,12 @@ use Rattle.fl_ring.specs.Way.{standing, WayStands}
 use Rattle.fl_ring.specs.Counts.{LastTells}
 use Rattle.fl_ring.specs.Duo.{CountsAreNear, DuoStands, got}
 use Rattle.fl_ring.specs.Halves.{Direction, InStep, half_of, duo_of}
-use Rattle.fl_ring.specs.declared.halves.Half.{Half}
+use Rattle.fl_ring.specs.declared.halves.DuoHalf.{DuoHalf}
 use Rattle.fl_ring.proofs.Ways.{length-standing}
 use Rattle.fl_ring.proofs.RingSteps.{way_stands}
 use Rattle.fl_ring.proofs.DuoSteps.{known_told}
 
-pub counts_near : (n : ℕ) (ws : List ℕ) (a b : Half) → InStep n ws a b → CountsAreNear n (half_of n ws a b) (half_of n ws b a)
+pub counts_near : (n : ℕ) (ws : List ℕ) (a b : DuoHalf) → InStep n ws a b → CountsAreNear n (half_of n ws a b) (half_of n ws b a)
 counts_near n ws a b s = record {
   few = s.few;
   known_told = known_told n ws a b s.there;
@@ -22,10 +22,10 @@ second : (n x y : ℕ) → 0 < n → ((x ≡ 0) × (y ≡ 8 * n)) ⊎ ((x ≡ 8 
 second n x y p (inl (e, d)) first = d
 second n x y p (inr (e, d)) first = absurd (omega arith)
 
-way_of : (n : ℕ) (ws : List ℕ) (w r : Half) → Direction n ws w r → WayStands w.base n ws r.told (standing w.base n ws r.told (r.take.index - r.told) ++ standing w.base n ws r.take.index (w.put.index - r.take.index))
+way_of : (n : ℕ) (ws : List ℕ) (w r : DuoHalf) → Direction n ws w r → WayStands w.base n ws r.told (standing w.base n ws r.told (r.take.index - r.told) ++ standing w.base n ws r.take.index (w.put.index - r.take.index))
 way_of n ws w r d = way_stands w.base n ws r.told r.take.index w.put.index d.marked d.told_taken d.taken_sent
 
-pub duo_stands : (n : ℕ) (ws : List ℕ) (a b : Half) → a.base ≡ 0 → InStep n ws a b → DuoStands ws (duo_of n ws a b)
+pub duo_stands : (n : ℕ) (ws : List ℕ) (a b : DuoHalf) → a.base ≡ 0 → InStep n ws a b → DuoStands ws (duo_of n ws a b)
 duo_stands n ws a b first s =
     let d = duo_of n ws a b in
     let after : b.base ≡ 8 * n = second n a.base b.base s.there.marked.some s.apart first in
@@ -37,7 +37,7 @@ duo_stands n ws a b first s =
       two_tells = subst (λ (x : ℕ). LastTells x n 0 ws b.put.index b.told) after s.back.last;
     }
 
-pub got_of : (n : ℕ) (ws : List ℕ) (a b : Half) → InStep n ws a b → a.take.index % 65536 ≡ got (half_of n ws a b) % 65536
+pub got_of : (n : ℕ) (ws : List ℕ) (a b : DuoHalf) → InStep n ws a b → a.take.index % 65536 ≡ got (half_of n ws a b) % 65536
 got_of n ws a b s =
     let same : a.take.index ≡ got (half_of n ws a b) = omega (arith, s.back.told_taken, length-standing b.base n ws a.told (a.take.index - a.told)) in
     ap (λ (x : ℕ). x % 65536) same

@@ -7,18 +7,18 @@ use Rattle.fl_link.proofs.Carried.{epoch-stamped, told-stamped}
 use Rattle.fl_ring.specs.Way.{slot, WritesSlot}
 use Rattle.fl_ring.specs.Duo.{TheHalf, with_written, with_arrived, written, got}
 use Rattle.fl_ring.specs.Halves.{InStep, half_of}
-use Rattle.fl_ring.specs.declared.halves.Half.{Half}
+use Rattle.fl_ring.specs.declared.halves.DuoHalf.{DuoHalf}
 use Rattle.fl_ring.proofs.Places.{epoch_bit}
 use Rattle.fl_ring.proofs.RingSteps.{slot_at}
 use Rattle.fl_ring.proofs.DuoSteps.{wrote, write_steps, written_half, arrived_half, got_is}
 
 -- what a write leaves: the sides in step, the writer's view and the other's
-pub record Wrote (n : ℕ) (ws ws' : List ℕ) (a b a' : Half) (frag : Frag) : Type 0 where
+pub record Wrote (n : ℕ) (ws ws' : List ℕ) (a b a' : DuoHalf) (frag : Frag) : Type 0 where
   pub steps : InStep n ws' a' b
   pub writer : half_of n ws' a' b ≡ with_written (half_of n ws a b)
   pub other : half_of n ws' b a' ≡ with_arrived (half_of n ws b a) (written n (half_of n ws a b) frag)
 
-pub write_done : (n : ℕ) (ws ws' : List ℕ) (a b a' : Half) (frag : Frag) (place e m : ℕ) → InStep n ws a b → a.put.index < 2 ^ 62 → a.put.index + 1 ≤ a.known + n
+pub write_done : (n : ℕ) (ws ws' : List ℕ) (a b a' : DuoHalf) (frag : Frag) (place e m : ℕ) → InStep n ws a b → a.put.index < 2 ^ 62 → a.put.index + 1 ≤ a.known + n
     → WritesSlot (a.base + 8 * place) (stamped frag e m) ws ws' → place ≡ a.put.index % a.put.size → e ≡ epoch_at a.put.size a.put.index → m ≡ a.take.index % 65536
     → a' ≡ wrote a → Wrote n ws ws' a b a' frag
 write_done n ws ws' a b a' frag place e m s unspent room w at turn number done =
@@ -36,4 +36,4 @@ write_done n ws ws' a b a' frag place e m s unspent room w at turn number done =
       writer = written_half n ws ws' a b f s here;
       other = arrived_half n ws ws' a b f s room here;
     } in
-    subst (λ (x : Half). Wrote n ws ws' a b x frag) (sym done) all
+    subst (λ (x : DuoHalf). Wrote n ws ws' a b x frag) (sym done) all

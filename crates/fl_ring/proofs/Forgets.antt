@@ -4,8 +4,8 @@ use Rattle.fl_link.specs.Looks.{Look, placed, no_room, spent, saw, saw_ack, foun
 use Rattle.fl_link.proofs.Conserved.{over_looks}
 use Rattle.fl_ring.specs.Counts.{known_after}
 use Rattle.fl_ring.specs.Duo.{TheHalf, TheDuo, HalfPuts, HalfTakes, DuoLooks, CountsAreNear, MayForget, only_looks, side_of, across, knowing, looked, counts_by, free, with_known}
-use Rattle.fl_ring.specs.declared.one_duo.Which.{Which}
-use Rattle.fl_ring.specs.declared.one_duo.Which.TheVariants.{One, Two}
+use Rattle.fl_ring.specs.declared.one_duo.WhichSide.{WhichSide}
+use Rattle.fl_ring.specs.declared.one_duo.WhichSide.TheVariants.{One, Two}
 use Rattle.fl_ring.proofs.Numbers.{after_rises}
 
 -- a side that has only looked knows more at most, and no more where nothing waits
@@ -58,7 +58,7 @@ half_take n s p t q no_room only (much, d, inl (last, e)) = record { count = s.k
 half_take n s p t q no_room only (much, d, inr (unspent, room, e)) = record { count = counts_by n 1 s; knows = by_count n 1 s; mine = e; theirs = d }
 
 -- the ring then
-record DuoLooked (which : Which) (s t : TheDuo) : Type 0 where
+record DuoLooked (which : WhichSide) (s t : TheDuo) : Type 0 where
   count : ℕ
   knows : Knows (side_of which s) count
   same : t ≡ knowing which s count
@@ -75,7 +75,7 @@ at_one s t size h = record { count = h.count; knows = h.knows; same = same_duo t
 at_two : (s t : TheDuo) → t.size ≡ s.size → HalfLooked s.two s.one t.two t.one → DuoLooked Two s t
 at_two s t size h = record { count = h.count; knows = h.knows; same = same_duo t.size s.size t.one s.one t.two (with_known s.two h.count) size h.theirs h.mine }
 
-duo_step : (which : Which) (s t : TheDuo) (look : Look) → DuoLooks which s look t → DuoLooked which s t
+duo_step : (which : WhichSide) (s t : TheDuo) (look : Look) → DuoLooks which s look t → DuoLooked which s t
 duo_step One s t look (only, inl put) = at_one s t put.1 (half_put s.size s.one s.two t.one t.two look only put.0)
 duo_step One s t look (only, inr took) = at_one s t took.1 (half_take s.size s.one s.two t.one t.two look only took.0)
 duo_step Two s t look (only, inl put) = at_two s t put.1 (half_put s.size s.two s.one t.two t.one look only put.0)
@@ -85,7 +85,7 @@ duo_step Two s t look (only, inr took) = at_two s t took.1 (half_take s.size s.t
 knows_on : (s : TheHalf) (k l : ℕ) → Knows s k → Knows (with_known s k) l → Knows s l
 knows_on s k l a b = record { rises = omega (arith, a.rises, b.rises); none_waits = λ none. a.none_waits none ∙ b.none_waits none }
 
-duo_join : (which : Which) (s t u : TheDuo) → DuoLooked which s t → DuoLooked which t u → DuoLooked which s u
+duo_join : (which : WhichSide) (s t u : TheDuo) → DuoLooked which s t → DuoLooked which t u → DuoLooked which s u
 duo_join One s t u a b = record {
   count = b.count;
   knows = knows_on s.one a.count b.count a.knows (subst (λ (d : TheDuo). Knows d.one b.count) a.same b.knows);
@@ -97,14 +97,14 @@ duo_join Two s t u a b = record {
   same = b.same ∙ ap (λ (d : TheDuo). knowing Two d b.count) a.same;
 }
 
-duo_none : (which : Which) (s : TheDuo) → DuoLooked which s s
+duo_none : (which : WhichSide) (s : TheDuo) → DuoLooked which s s
 duo_none One s = record { count = s.one.known; knows = no_more s.one; same = refl }
 duo_none Two s = record { count = s.two.known; knows = no_more s.two; same = refl }
 
-after_looks : (which : Which) (s t : TheDuo) (looks : List Look) → Looks (DuoLooks which) s looks t → DuoLooked which s t
+after_looks : (which : WhichSide) (s t : TheDuo) (looks : List Look) → Looks (DuoLooks which) s looks t → DuoLooked which s t
 after_looks which = over_looks (DuoLooks which) (λ s looks t. DuoLooked which s t) (duo_none which) (duo_step which) (λ s t u xs ys a b. duo_join which s t u a b)
 
-forgotten : (which : Which) (s t : TheDuo) → CountsAreNear s.size (side_of which s) (across which s) → DuoLooked which s t
+forgotten : (which : WhichSide) (s t : TheDuo) → CountsAreNear s.size (side_of which s) (across which s) → DuoLooked which s t
     → MayForget t.size (side_of which t) (side_of which s).known × (knowing which t (side_of which s).known ≡ s)
 forgotten One s t near h =
     let may : MayForget s.size (with_known s.one h.count) s.one.known = record { before = h.knows.rises; sent_near = near.sent_near; none_waits = h.knows.none_waits } in
@@ -113,6 +113,6 @@ forgotten Two s t near h =
     let may : MayForget s.size (with_known s.two h.count) s.two.known = record { before = h.knows.rises; sent_near = near.sent_near; none_waits = h.knows.none_waits } in
     (subst (λ (d : TheDuo). MayForget d.size d.two s.two.known) (sym h.same) may, ap (λ (d : TheDuo). knowing Two d s.two.known) h.same)
 
-pub forgets_looks : (which : Which) (s t : TheDuo) (looks : List Look) → CountsAreNear s.size (side_of which s) (across which s) → Looks (DuoLooks which) s looks t
+pub forgets_looks : (which : WhichSide) (s t : TheDuo) (looks : List Look) → CountsAreNear s.size (side_of which s) (across which s) → Looks (DuoLooks which) s looks t
     → MayForget t.size (side_of which t) (side_of which s).known × (knowing which t (side_of which s).known ≡ s)
 forgets_looks which s t looks near h = forgotten which s t near (after_looks which s t looks h)

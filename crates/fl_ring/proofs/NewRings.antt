@@ -6,7 +6,7 @@ use Rattle.fl_ring.specs.Way.{Marked, standing}
 use Rattle.fl_ring.specs.Ring.{TheRing, IsRing, ring_of}
 use Rattle.fl_ring.specs.Duo.{new_half}
 use Rattle.fl_ring.specs.Halves.{Direction, InStep, duo_of}
-use Rattle.fl_ring.specs.declared.halves.Half.{Half}
+use Rattle.fl_ring.specs.declared.halves.DuoHalf.{DuoHalf}
 use Rattle.fl_ring.proofs.SharedMakes.{all_zero, new_marked}
 
 word : (k i : ℕ) (ws : List ℕ) → ws ≡ replicate k 0 → get_or ws i 0 ≡ 0
@@ -43,7 +43,7 @@ new_ring_shows n ws put take zeros puts takes =
 -- ---- of two directions
 
 -- a side of a new one
-abbrev fresh : ℕ → ℕ → ℕ → Half
+abbrev fresh : ℕ → ℕ → ℕ → DuoHalf
 fresh base other n = record { base = base; other = other; put = record { index = 0; size = n }; take = record { index = 0; size = n }; known = 0; told = 0 }
 
 fresh_way : (b c n : ℕ) (ws : List ℕ) → 0 < n → b + 8 * n ≤ length ws → ((i : ℕ) → get_or ws i 0 ≡ 0) → Direction n ws (fresh b c n) (fresh c b n)
@@ -60,7 +60,7 @@ fresh_way b c n ws some wide zeros = record {
   last = record { since = omega arith; none_put = λ e. refl; last_put = λ i from last. absurd (omega arith) };
 }
 
-pub new_duo : (n : ℕ) (ws : List ℕ) (one two : Half) → 0 < n → n ≤ 1024 → ws ≡ replicate (16 * n) 0 → one ≡ fresh 0 (8 * n) n → two ≡ fresh (8 * n) 0 n
+pub new_duo : (n : ℕ) (ws : List ℕ) (one two : DuoHalf) → 0 < n → n ≤ 1024 → ws ≡ replicate (16 * n) 0 → one ≡ fresh 0 (8 * n) n → two ≡ fresh (8 * n) 0 n
     → (one.base ≡ 0) × InStep one.put.size ws one two
 new_duo n ws one two some few zeros ones twos =
     let wide : length ws ≡ 16 * n = long (16 * n) ws zeros in
@@ -72,8 +72,8 @@ new_duo n ws one two some few zeros ones twos =
       there = fresh_way 0 (8 * n) n ws some (omega (arith, wide)) at;
       back = fresh_way (8 * n) 0 n ws some (omega (arith, wide)) at;
     } in
-    subst (λ (x : Half). (x.base ≡ 0) × InStep x.put.size ws x two) (sym ones)
-    (subst (λ (y : Half). (let zero : ℕ = 0 in zero ≡ 0) × InStep n ws (fresh 0 (8 * n) n) y) (sym twos) (refl, steps))
+    subst (λ (x : DuoHalf). (x.base ≡ 0) × InStep x.put.size ws x two) (sym ones)
+    (subst (λ (y : DuoHalf). (let zero : ℕ = 0 in zero ≡ 0) × InStep n ws (fresh 0 (8 * n) n) y) (sym twos) (refl, steps))
 
-pub new_duo_shows : (n : ℕ) (ws : List ℕ) (one two : Half) → one ≡ fresh 0 (8 * n) n → two ≡ fresh (8 * n) 0 n → duo_of one.put.size ws one two ≡ record { size = n; one = new_half; two = new_half }
-new_duo_shows n ws one two ones twos = ap (λ (x : Half). duo_of x.put.size ws x two) ones ∙ ap (λ (y : Half). duo_of n ws (fresh 0 (8 * n) n) y) twos
+pub new_duo_shows : (n : ℕ) (ws : List ℕ) (one two : DuoHalf) → one ≡ fresh 0 (8 * n) n → two ≡ fresh (8 * n) 0 n → duo_of one.put.size ws one two ≡ record { size = n; one = new_half; two = new_half }
+new_duo_shows n ws one two ones twos = ap (λ (x : DuoHalf). duo_of x.put.size ws x two) ones ∙ ap (λ (y : DuoHalf). duo_of n ws (fresh 0 (8 * n) n) y) twos

@@ -111,7 +111,7 @@ pub epoch_is : (ws : List ℕ) (n sent taken : ℕ) → IsRing ws n sent taken �
 epoch_is ws n sent taken r = ap (epoch_at n) (sym (sent_is ws n sent taken r))
 
 same_queue : (xs ys : List Frag) (u v a b n : ℕ) → xs ≡ ys → u ≡ v → a ≡ b
-    → (let q : TheQueue = record { items = xs; untold = u; sent = a; capacity = n; acked = true } in q) ≡ record { items = ys; untold = v; sent = b; capacity = n; acked = true }
+    → (let q : TheQueue = record { items = xs; unacknowledged = u; sent = a; capacity = n; acked = true } in q) ≡ record { items = ys; unacknowledged = v; sent = b; capacity = n; acked = true }
 same_queue xs ys u v a b n e f g = cc
 
 told_stays : (ws ws' : List ℕ) (n sent taken : ℕ) (f : Frag) → IsRing ws n sent taken → WritesSlot (slot 0 n sent) f ws ws' → get_or ws' (8 * n) 0 ≡ get_or ws (8 * n) 0

@@ -9,8 +9,8 @@ use Rattle.atomic_table.proofs.Lists.{at_set, set_else}
 use Rattle.fl_base.specs.declared.fragment.Frag.{Frag}
 use Rattle.fl_base.specs.Control.{epoch_of}
 use Rattle.fl_link.specs.Cursor.{epoch_at}
-use Rattle.fl_ring.specs.declared.shared.duo_board.Holder.{Holder}
-use Rattle.fl_ring.specs.declared.shared.duo_board.Holder.TheVariants.{One, Two, Both, Nobody}
+use Rattle.fl_ring.specs.declared.shared.duo_board.SeatHolder.{SeatHolder}
+use Rattle.fl_ring.specs.declared.shared.duo_board.SeatHolder.TheVariants.{One, Two, Both, Nobody}
 use Rattle.fl_ring.specs.declared.shared.duo_board.DuoView.{DuoView}
 use Rattle.fl_ring.specs.Way.{slot, epoch_in, Marked}
 use Rattle.fl_ring.specs.Counts.{LastTells}
@@ -21,31 +21,31 @@ use Rattle.fl_ring.proofs.Places.{slots_apart, slot_within, epoch_bit}
 use Rattle.fl_ring.proofs.SharedWays.{front_within}
 use Rattle.fl_ring.proofs.SharedMakes.{at_end}
 
-one_two : (let h : Holder = One in h) ≡ Two → ⊥
+one_two : (let h : SeatHolder = One in h) ≡ Two → ⊥
 one_two e = cc
 
-one_both : (let h : Holder = One in h) ≡ Both → ⊥
+one_both : (let h : SeatHolder = One in h) ≡ Both → ⊥
 one_both e = cc
 
-two_one : (let h : Holder = Two in h) ≡ One → ⊥
+two_one : (let h : SeatHolder = Two in h) ≡ One → ⊥
 two_one e = cc
 
-two_both : (let h : Holder = Two in h) ≡ Both → ⊥
+two_both : (let h : SeatHolder = Two in h) ≡ Both → ⊥
 two_both e = cc
 
-both_one : (let h : Holder = Both in h) ≡ One → ⊥
+both_one : (let h : SeatHolder = Both in h) ≡ One → ⊥
 both_one e = cc
 
-both_two : (let h : Holder = Both in h) ≡ Two → ⊥
+both_two : (let h : SeatHolder = Both in h) ≡ Two → ⊥
 both_two e = cc
 
-nobody_one : (let h : Holder = Nobody in h) ≡ One → ⊥
+nobody_one : (let h : SeatHolder = Nobody in h) ≡ One → ⊥
 nobody_one e = cc
 
-nobody_two : (let h : Holder = Nobody in h) ≡ Two → ⊥
+nobody_two : (let h : SeatHolder = Nobody in h) ≡ Two → ⊥
 nobody_two e = cc
 
-nobody_both : (let h : Holder = Nobody in h) ≡ Both → ⊥
+nobody_both : (let h : SeatHolder = Nobody in h) ≡ Both → ⊥
 nobody_both e = cc
 
 -- ---- cut in two
@@ -93,11 +93,11 @@ module _ (n start id other : ℕ) (v w : DuoView) (s : State (Unit {0}) DuoView)
   away_from : (j : ℕ) (u : DuoView) → ((j ≡ rule.account.first) → ⊥) → ((j ≡ rule.account.second) → ⊥) → DuoFits n rule.account j u → DuoFits n joined j u
   away_from j u not_one not_two f = ((λ e. absurd (not_one (f.0 e).0)), (λ e. absurd (not_two (f.1 e).0)), (λ e. absurd (not_one (f.2 e).0)))
 
-  in_hand : (b : DuoView) → DuoFits n joined id b → (rule.account.first ≡ id) ⊎ (rule.account.first ≡ other) → (rule.account.second ≡ id) ⊎ (rule.account.second ≡ other)
+  in_holding : (b : DuoView) → DuoFits n joined id b → (rule.account.first ≡ id) ⊎ (rule.account.first ≡ other) → (rule.account.second ≡ id) ⊎ (rule.account.second ≡ other)
       → (j : ℕ) (u : DuoView) → ((j ≡ other) × (duo_nobody ≡ u)) ⊎ ((j ≢ other) × (((j ≡ id) × (b ≡ u)) ⊎ ((j ≢ id) × (get_elem? s.views j ≡ some u)))) → DuoFits n joined j u
-  in_hand b whole one two j u (inl (e, d)) = subst (λ (x : DuoView). DuoFits n joined j x) d ((λ no. absurd (nobody_one no)), (λ no. absurd (nobody_two no)), (λ no. absurd (nobody_both no)))
-  in_hand b whole one two j u (inr (far, inl (e, d))) = subst (λ (x : ℕ). DuoFits n joined x u) (sym e) (subst (λ (x : DuoView). DuoFits n joined id x) d whole)
-  in_hand b whole one two j u (inr (far, inr (ne, here))) = away_from j u (λ e. neither rule.account.first one e) (λ e. neither rule.account.second two e) (rule.seats j u here)
+  in_holding b whole one two j u (inl (e, d)) = subst (λ (x : DuoView). DuoFits n joined j x) d ((λ no. absurd (nobody_one no)), (λ no. absurd (nobody_two no)), (λ no. absurd (nobody_both no)))
+  in_holding b whole one two j u (inr (far, inl (e, d))) = subst (λ (x : ℕ). DuoFits n joined x u) (sym e) (subst (λ (x : DuoView). DuoFits n joined id x) d whole)
+  in_holding b whole one two j u (inr (far, inr (ne, here))) = away_from j u (λ e. neither rule.account.first one e) (λ e. neither rule.account.second two e) (rule.seats j u here)
     where
       neither : (k : ℕ) → (k ≡ id) ⊎ (k ≡ other) → j ≡ k → ⊥
       neither k (inl d) e = ne (e ∙ d)
@@ -127,35 +127,35 @@ duo_joins n start id other v w side across s rule at apart there = record {
     cases (inl e) (inr d) j u h =
         let f = mine.0 e in
         let g = theirs.1 d in
-        let whole : duo_both_of v w ≡ (let b : DuoView = record { size = v.size; holder = Both; mine = v.mine; theirs = w.mine } in b) = ap (λ (x : Holder). duo_both_of (record { size = v.size; holder = x; mine = v.mine; theirs = v.theirs }) w) e in
+        let whole : duo_both_of v w ≡ (let b : DuoView = record { size = v.size; holder = Both; mine = v.mine; theirs = w.mine } in b) = ap (λ (x : SeatHolder). duo_both_of (record { size = v.size; holder = x; mine = v.mine; theirs = v.theirs }) w) e in
         let P : DuoView → Type 0 = λ x. DuoFits n (joined n start id other v w s rule mine theirs) id x in
-        in_hand n start id other v w s rule mine theirs (duo_both_of v w)
+        in_holding n start id other v w s rule mine theirs (duo_both_of v w)
         (subst P (sym whole) ((λ no. absurd (both_one no)), (λ no. absurd (both_two no)), (λ _. (refl, refl, f.1, g.1, f.2)))) (inl (sym f.0)) (inr (sym g.0)) j u h
     cases (inr e) (inl d) j u h =
         let f = mine.1 e in
         let g = theirs.0 d in
-        let whole : duo_both_of v w ≡ (let b : DuoView = record { size = v.size; holder = Both; mine = w.mine; theirs = v.mine } in b) = ap (λ (x : Holder). duo_both_of (record { size = v.size; holder = x; mine = v.mine; theirs = v.theirs }) w) e in
+        let whole : duo_both_of v w ≡ (let b : DuoView = record { size = v.size; holder = Both; mine = w.mine; theirs = v.mine } in b) = ap (λ (x : SeatHolder). duo_both_of (record { size = v.size; holder = x; mine = v.mine; theirs = v.theirs }) w) e in
         let P : DuoView → Type 0 = λ x. DuoFits n (joined n start id other v w s rule mine theirs) id x in
-        in_hand n start id other v w s rule mine theirs (duo_both_of v w)
+        in_holding n start id other v w s rule mine theirs (duo_both_of v w)
         (subst P (sym whole) ((λ no. absurd (both_one no)), (λ no. absurd (both_two no)), (λ _. (refl, refl, g.1, f.1, f.2)))) (inr (sym g.0)) (inl (sym f.0)) j u h
 
 -- what the joined seat compares, by either side
 pub near_sides : (n : ℕ) (v w : DuoView) → IsOneSide v.holder → CountsNear n (duo_both_of v w).mine (duo_both_of v w).theirs → CountsNear n (duo_both_of v w).theirs (duo_both_of v w).mine
     → CountsNear n v.mine w.mine × CountsNear n w.mine v.mine
 near_sides n v w (inl e) there back =
-    let whole : duo_both_of v w ≡ (let b : DuoView = record { size = v.size; holder = Both; mine = v.mine; theirs = w.mine } in b) = ap (λ (x : Holder). duo_both_of (record { size = v.size; holder = x; mine = v.mine; theirs = v.theirs }) w) e in
+    let whole : duo_both_of v w ≡ (let b : DuoView = record { size = v.size; holder = Both; mine = v.mine; theirs = w.mine } in b) = ap (λ (x : SeatHolder). duo_both_of (record { size = v.size; holder = x; mine = v.mine; theirs = v.theirs }) w) e in
     (subst (λ (x : DuoView). CountsNear n x.mine x.theirs) whole there, subst (λ (x : DuoView). CountsNear n x.theirs x.mine) whole back)
 near_sides n v w (inr e) there back =
-    let whole : duo_both_of v w ≡ (let b : DuoView = record { size = v.size; holder = Both; mine = w.mine; theirs = v.mine } in b) = ap (λ (x : Holder). duo_both_of (record { size = v.size; holder = x; mine = v.mine; theirs = v.theirs }) w) e in
+    let whole : duo_both_of v w ≡ (let b : DuoView = record { size = v.size; holder = Both; mine = w.mine; theirs = v.mine } in b) = ap (λ (x : SeatHolder). duo_both_of (record { size = v.size; holder = x; mine = v.mine; theirs = v.theirs }) w) e in
     (subst (λ (x : DuoView). CountsNear n x.theirs x.mine) whole back, subst (λ (x : DuoView). CountsNear n x.mine x.theirs) whole there)
 
 pub both_size : (v w : DuoView) → IsOneSide v.holder → (duo_both_of v w).size ≡ v.size
-both_size v w (inl e) = ap (λ (x : Holder). (duo_both_of (record { size = v.size; holder = x; mine = v.mine; theirs = v.theirs }) w).size) e
-both_size v w (inr e) = ap (λ (x : Holder). (duo_both_of (record { size = v.size; holder = x; mine = v.mine; theirs = v.theirs }) w).size) e
+both_size v w (inl e) = ap (λ (x : SeatHolder). (duo_both_of (record { size = v.size; holder = x; mine = v.mine; theirs = v.theirs }) w).size) e
+both_size v w (inr e) = ap (λ (x : SeatHolder). (duo_both_of (record { size = v.size; holder = x; mine = v.mine; theirs = v.theirs }) w).size) e
 
 pub both_holder : (v w : DuoView) → IsOneSide v.holder → (duo_both_of v w).holder ≡ Both
-both_holder v w (inl e) = ap (λ (x : Holder). (duo_both_of (record { size = v.size; holder = x; mine = v.mine; theirs = v.theirs }) w).holder) e
-both_holder v w (inr e) = ap (λ (x : Holder). (duo_both_of (record { size = v.size; holder = x; mine = v.mine; theirs = v.theirs }) w).holder) e
+both_holder v w (inl e) = ap (λ (x : SeatHolder). (duo_both_of (record { size = v.size; holder = x; mine = v.mine; theirs = v.theirs }) w).holder) e
+both_holder v w (inr e) = ap (λ (x : SeatHolder). (duo_both_of (record { size = v.size; holder = x; mine = v.mine; theirs = v.theirs }) w).holder) e
 
 -- ---- a new ring
 

@@ -5,8 +5,8 @@ use Rattle.atomic_table.specs.Table.{Me, step, Allows}
 use Rattle.fl_base.specs.Control.{epoch_of, told_of}
 use Rattle.fl_link.specs.Cursor.{epoch_at}
 use Rattle.fl_ring.specs.declared.shared.duo_board.SideView.{SideView}
-use Rattle.fl_ring.specs.declared.shared.duo_board.Holder.{Holder}
-use Rattle.fl_ring.specs.declared.shared.duo_board.Holder.TheVariants.{One, Two, Both}
+use Rattle.fl_ring.specs.declared.shared.duo_board.SeatHolder.{SeatHolder}
+use Rattle.fl_ring.specs.declared.shared.duo_board.SeatHolder.TheVariants.{One, Two, Both}
 use Rattle.fl_ring.specs.declared.shared.duo_board.DuoView.{DuoView}
 use Rattle.fl_ring.specs.Way.{slot}
 use Rattle.fl_ring.specs.SharedWay.{IsDue}
@@ -23,23 +23,23 @@ Seated = Me (Unit {0}) DuoView
 abbrev Held : ℕ → ℕ → List ℕ → Pairing → Type 0
 Held n start ws p = BothRun (ways 0 (8 * n) n start) ws p.one p.two
 
-one_not_two : (h : Holder) → h ≡ One → h ≡ Two → ⊥
+one_not_two : (h : SeatHolder) → h ≡ One → h ≡ Two → ⊥
 one_not_two h e d = cc
 
-one_not_both : (h : Holder) → h ≡ One → h ≡ Both → ⊥
+one_not_both : (h : SeatHolder) → h ≡ One → h ≡ Both → ⊥
 one_not_both h e d = cc
 
-two_not_both : (h : Holder) → h ≡ Two → h ≡ Both → ⊥
+two_not_both : (h : SeatHolder) → h ≡ Two → h ≡ Both → ⊥
 two_not_both h e d = cc
 
 -- a word of a slot is a word of the table
-pub duo_word_in : (h : Holder) (n i k words : ℕ) → IsOneSide h → 0 < n → k < 8 → words ≡ 16 * n → slot (base_of h n) n i + k < words
-duo_word_in h n i k words (inl e) some small wide = let b : base_of h n ≡ 0 = ap (λ (x : Holder). base_of x n) e in omega (arith, slot_within (base_of h n) n i some)
-duo_word_in h n i k words (inr e) some small wide = let b : base_of h n ≡ 8 * n = ap (λ (x : Holder). base_of x n) e in omega (arith, slot_within (base_of h n) n i some)
+pub duo_word_in : (h : SeatHolder) (n i k words : ℕ) → IsOneSide h → 0 < n → k < 8 → words ≡ 16 * n → slot (base_of h n) n i + k < words
+duo_word_in h n i k words (inl e) some small wide = let b : base_of h n ≡ 0 = ap (λ (x : SeatHolder). base_of x n) e in omega (arith, slot_within (base_of h n) n i some)
+duo_word_in h n i k words (inr e) some small wide = let b : base_of h n ≡ 8 * n = ap (λ (x : SeatHolder). base_of x n) e in omega (arith, slot_within (base_of h n) n i some)
 
-pub duo_other_in : (h : Holder) (n i k words : ℕ) → IsOneSide h → 0 < n → k < 8 → words ≡ 16 * n → slot (other_of h n) n i + k < words
-duo_other_in h n i k words (inl e) some small wide = let b : other_of h n ≡ 8 * n = ap (λ (x : Holder). other_of x n) e in omega (arith, slot_within (other_of h n) n i some)
-duo_other_in h n i k words (inr e) some small wide = let b : other_of h n ≡ 0 = ap (λ (x : Holder). other_of x n) e in omega (arith, slot_within (other_of h n) n i some)
+pub duo_other_in : (h : SeatHolder) (n i k words : ℕ) → IsOneSide h → 0 < n → k < 8 → words ≡ 16 * n → slot (other_of h n) n i + k < words
+duo_other_in h n i k words (inl e) some small wide = let b : other_of h n ≡ 8 * n = ap (λ (x : SeatHolder). other_of x n) e in omega (arith, slot_within (other_of h n) n i some)
+duo_other_in h n i k words (inr e) some small wide = let b : other_of h n ≡ 0 = ap (λ (x : SeatHolder). other_of x n) e in omega (arith, slot_within (other_of h n) n i some)
 
 -- ---- who moves
 
@@ -58,8 +58,8 @@ one_moves : (start id : ℕ) (ws ws' : List ℕ) (p : Pairing) (v : DuoView) (Th
     → Moves (DuoFits v.size) (Held v.size start) p id ws' Then
 one_moves start id ws ws' p v Then e fits held go =
     let n : ℕ = v.size in
-    let b : base_of v.holder n ≡ 0 = ap (λ (h : Holder). base_of h n) e in
-    let c : other_of v.holder n ≡ 8 * n = ap (λ (h : Holder). other_of h n) e in
+    let b : base_of v.holder n ≡ 0 = ap (λ (h : SeatHolder). base_of h n) e in
+    let c : other_of v.holder n ≡ 8 * n = ap (λ (h : SeatHolder). other_of h n) e in
     let mine : (id ≡ p.first) × (v.mine ≡ p.one) × (v.size ≡ n) = fits.0 e in
     let before : BothRun (ways (base_of v.holder n) (other_of v.holder n) n start) ws v.mine p.two =
     subst (λ (s : SideView). BothRun (ways (base_of v.holder n) (other_of v.holder n) n start) ws s p.two) (sym mine.1)
@@ -78,8 +78,8 @@ two_moves : (start id : ℕ) (ws ws' : List ℕ) (p : Pairing) (v : DuoView) (Th
     → Moves (DuoFits v.size) (Held v.size start) p id ws' Then
 two_moves start id ws ws' p v Then e fits held go =
     let n : ℕ = v.size in
-    let b : base_of v.holder n ≡ 8 * n = ap (λ (h : Holder). base_of h n) e in
-    let c : other_of v.holder n ≡ 0 = ap (λ (h : Holder). other_of h n) e in
+    let b : base_of v.holder n ≡ 8 * n = ap (λ (h : SeatHolder). base_of h n) e in
+    let c : other_of v.holder n ≡ 0 = ap (λ (h : SeatHolder). other_of h n) e in
     let mine : (id ≡ p.second) × (v.mine ≡ p.two) × (v.size ≡ n) = fits.1 e in
     let across : BothRun (ways (8 * n) 0 n start) ws p.two p.one = turned 0 (8 * n) n start ws p.one p.two held in
     let before : BothRun (ways (base_of v.holder n) (other_of v.holder n) n start) ws v.mine p.one =

@@ -8,8 +8,8 @@ use Rattle.atomic_table.specs.Seated.{TableId}
 use Rattle.fl_base.specs.declared.fragment.Frag.{Frag}
 use Rattle.fl_base.specs.Control.{epoch_of}
 use Rattle.fl_link.specs.Cursor.{epoch_at}
-use Rattle.fl_ring.specs.declared.shared.board.Reading.{Reading}
-use Rattle.fl_ring.specs.declared.shared.board.View.{View}
+use Rattle.fl_ring.specs.declared.shared.board.ReaderView.{ReaderView}
+use Rattle.fl_ring.specs.declared.shared.board.RingView.{RingView}
 use Rattle.fl_ring.specs.Way.{slot}
 use Rattle.fl_ring.specs.SharedWay.{with_control, with_peeked, with_got, loaded_frag, frag_from, misses_after}
 use Rattle.fl_ring.specs.SharedRing.{RingRule, with_reading, loads_peeked, loads_taken}
@@ -17,7 +17,7 @@ use Rattle.fl_ring.specs.SharedSeats.{Receiver, with_words, Sees, Gets}
 use Rattle.fl_ring.proofs.SharedSteps.{allows_peeked, allows_taken}
 
 abbrev Seated : Type 0
-Seated = Me (Unit {0}) View
+Seated = Me (Unit {0}) RingView
 
 abbrev receiver_at : TableId → Seated → Receiver
 receiver_at t m = record { ring = t; size = m.0.size; got = m.0.take.got; peeked = m.0.take.peeked; misses = m.0.take.misses; told = m.0.take.told }
@@ -56,7 +56,7 @@ seven_words words x seven =
     sym more ∙ take_all 7 (set words 6 x) (omega (arith, length-set words 6 x))
 
 -- nothing was missed
-pub none_missed : (n c : ℕ) (r : Reading) → epoch_of c ≡ epoch_at n (length r.got) → misses_after n r c ≡ r.misses
+pub none_missed : (n c : ℕ) (r : ReaderView) → epoch_of c ≡ epoch_at n (length r.got) → misses_after n r c ≡ r.misses
 none_missed n c r due = ap (λ (b : Bool). cond b r.misses (r.misses + 1)) (eq-eqb (epoch_of c) (epoch_at n (length r.got)) due)
 
 pub sees_last : (t t' : TableId) (c x : ℕ) (m0 m1 m2 m3 : Seated) (words : List ℕ) → m1 ≡ controlled m0 c → m2 ≡ loaded m1 (take 6 words) → length words ≡ 7

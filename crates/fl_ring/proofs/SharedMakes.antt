@@ -9,7 +9,7 @@ use Rattle.atomic_table.proofs.Lists.{at_set, set_else}
 use Rattle.fl_base.specs.declared.fragment.Frag.{Frag}
 use Rattle.fl_base.specs.Control.{epoch_of}
 use Rattle.fl_link.specs.Cursor.{epoch_at}
-use Rattle.fl_ring.specs.declared.shared.board.View.{View}
+use Rattle.fl_ring.specs.declared.shared.board.RingView.{RingView}
 use Rattle.fl_ring.specs.Way.{slot, Marked}
 use Rattle.fl_ring.specs.SharedWay.{WayNear}
 use Rattle.fl_ring.specs.SharedSeats.{RingSeat, RingNear, sender_of, receiver_of}
@@ -28,7 +28,7 @@ at_end (x ∷ xs) a b (suc j) e = next (at_end xs a b j e)
 
 -- ---- cut in two
 
-pub splits : (n id : ℕ) (v : View) → v.writes ≡ true → v.reads ≡ true → Splits (RingRule n) id v (writer_of v) (reader_of v)
+pub splits : (n id : ℕ) (v : RingView) → v.writes ≡ true → v.reads ≡ true → Splits (RingRule n) id v (writer_of v) (reader_of v)
 splits n id v writes reads s rule at = record {
   account = after;
   seats = λ j u e. in_row j u (at_end (set s.views id (writer_of v)) (reader_of v) u j e);
@@ -41,22 +41,22 @@ splits n id v writes reads s rule at = record {
     after : Sides
     after = record { writer = id; reader = length (set s.views id (writer_of v)); put = rule.account.put; take = rule.account.take }
 
-    kept : (j : ℕ) (u : View) → ((j ≡ id) × (writer_of v ≡ u)) ⊎ ((j ≢ id) × (get_elem? s.views j ≡ some u)) → Fits n after j u
+    kept : (j : ℕ) (u : RingView) → ((j ≡ id) × (writer_of v ≡ u)) ⊎ ((j ≢ id) × (get_elem? s.views j ≡ some u)) → Fits n after j u
     kept j u (inl (e, d)) =
-        subst (λ (x : ℕ). Fits n after x u) (sym e) (subst (λ (x : View). Fits n after id x) d ((λ _. let f = mine.0 writes in (refl, f.1, f.2)), (λ no. absurd (false≢true no))))
+        subst (λ (x : ℕ). Fits n after x u) (sym e) (subst (λ (x : RingView). Fits n after id x) d ((λ _. let f = mine.0 writes in (refl, f.1, f.2)), (λ no. absurd (false≢true no))))
     kept j u (inr (ne, there)) =
         let theirs : Fits n rule.account j u = rule.seats j u there in
         ((λ e. absurd (ne ((theirs.0 e).0 ∙ sym (mine.0 writes).0))), (λ e. absurd (ne ((theirs.1 e).0 ∙ sym (mine.1 reads).0))))
 
-    in_row : (j : ℕ) (u : View) → (get_elem? (set s.views id (writer_of v)) j ≡ some u) ⊎ ((j ≡ length (set s.views id (writer_of v))) × (reader_of v ≡ u)) → Fits n after j u
+    in_row : (j : ℕ) (u : RingView) → (get_elem? (set s.views id (writer_of v)) j ≡ some u) ⊎ ((j ≡ length (set s.views id (writer_of v))) × (reader_of v ≡ u)) → Fits n after j u
     in_row j u (inl there) = kept j u (at_set s.views id j (writer_of v) u there)
     in_row j u (inr (e, d)) =
         subst (λ (x : ℕ). Fits n after x u) (sym e)
-        (subst (λ (x : View). Fits n after (length (set s.views id (writer_of v))) x) d ((λ no. absurd (false≢true no)), (λ _. let f = mine.1 reads in (refl, f.1, f.2))))
+        (subst (λ (x : RingView). Fits n after (length (set s.views id (writer_of v))) x) d ((λ no. absurd (false≢true no)), (λ _. let f = mine.1 reads in (refl, f.1, f.2))))
 
 -- ---- joined
 
-pub joins : (n id other : ℕ) (v w : View) → v.writes ≡ true → w.reads ≡ true → Joins (RingRule n) id v other w (both_of v w) nobody
+pub joins : (n id other : ℕ) (v w : RingView) → v.writes ≡ true → w.reads ≡ true → Joins (RingRule n) id v other w (both_of v w) nobody
 joins n id other v w writes reads s rule at apart there = record {
   account = after;
   seats = λ j u e. in_row j u (at_set (set s.views id (both_of v w)) other j nobody u e);
@@ -72,17 +72,17 @@ joins n id other v w writes reads s rule at apart there = record {
     after : Sides
     after = record { writer = id; reader = id; put = rule.account.put; take = rule.account.take }
 
-    kept : (j : ℕ) (u : View) → j ≢ other → ((j ≡ id) × (both_of v w ≡ u)) ⊎ ((j ≢ id) × (get_elem? s.views j ≡ some u)) → Fits n after j u
+    kept : (j : ℕ) (u : RingView) → j ≢ other → ((j ≡ id) × (both_of v w ≡ u)) ⊎ ((j ≢ id) × (get_elem? s.views j ≡ some u)) → Fits n after j u
     kept j u away (inl (e, d)) =
         let f = mine.0 writes in
         let g = theirs.1 reads in
-        subst (λ (x : ℕ). Fits n after x u) (sym e) (subst (λ (x : View). Fits n after id x) d ((λ _. (refl, f.1, f.2)), (λ _. (refl, g.1, f.2))))
+        subst (λ (x : ℕ). Fits n after x u) (sym e) (subst (λ (x : RingView). Fits n after id x) d ((λ _. (refl, f.1, f.2)), (λ _. (refl, g.1, f.2))))
     kept j u away (inr (ne, here)) =
         let old : Fits n rule.account j u = rule.seats j u here in
         ((λ e. absurd (ne ((old.0 e).0 ∙ sym (mine.0 writes).0))), (λ e. absurd (away ((old.1 e).0 ∙ sym (theirs.1 reads).0))))
 
-    in_row : (j : ℕ) (u : View) → ((j ≡ other) × (nobody ≡ u)) ⊎ ((j ≢ other) × (get_elem? (set s.views id (both_of v w)) j ≡ some u)) → Fits n after j u
-    in_row j u (inl (e, d)) = subst (λ (x : View). Fits n after j x) d ((λ no. absurd (false≢true no)), (λ no. absurd (false≢true no)))
+    in_row : (j : ℕ) (u : RingView) → ((j ≡ other) × (nobody ≡ u)) ⊎ ((j ≢ other) × (get_elem? (set s.views id (both_of v w)) j ≡ some u)) → Fits n after j u
+    in_row j u (inl (e, d)) = subst (λ (x : RingView). Fits n after j x) d ((λ no. absurd (false≢true no)), (λ no. absurd (false≢true no)))
     in_row j u (inr (ne, here)) = kept j u ne (at_set s.views id j (both_of v w) u here)
 
 -- ---- a new ring
@@ -139,14 +139,14 @@ opens n ws p e = record {
   holds = new_holds n ws p (ap length e ∙ length-replicate (8 * n + 8) 0) (λ i. ap (λ (xs : List ℕ). get_or xs i 0) e ∙ all_zero (8 * n + 8) i);
 }
   where
-    only : (j : ℕ) (u : View) → get_elem? (opening_view n ∷ []) j ≡ some u → Fits n (record { writer = 0; reader = 0; put = new_writing; take = new_reading }) j u
+    only : (j : ℕ) (u : RingView) → get_elem? (opening_view n ∷ []) j ≡ some u → Fits n (record { writer = 0; reader = 0; put = new_writing; take = new_reading }) j u
     only zero u at =
-        subst (λ (x : View). Fits n (record { writer = 0; reader = 0; put = new_writing; take = new_reading }) zero x) (some-injective (opening_view n) u at) ((λ _. (refl, refl, refl)), (λ _. (refl, refl, refl)))
+        subst (λ (x : RingView). Fits n (record { writer = 0; reader = 0; put = new_writing; take = new_reading }) zero x) (some-injective (opening_view n) u at) ((λ _. (refl, refl, refl)), (λ _. (refl, refl, refl)))
     only (suc j) u at = absurd (some-ne-none u (sym at))
 
 -- what the joined seat compares, as both sides see it
-pub settled_ring : (a b : RingSeat) (m : Me (Unit {0}) View) → m ≡ (both_of a.me.0 b.me.0, a.me.1) → a.me.0.size ≤ 1024 → b.me.0.size ≡ a.me.0.size
+pub settled_ring : (a b : RingSeat) (m : Me (Unit {0}) RingView) → m ≡ (both_of a.me.0 b.me.0, a.me.1) → a.me.0.size ≤ 1024 → b.me.0.size ≡ a.me.0.size
     → WayNear m.0.size m.0.put m.0.take → RingNear (sender_of a) (receiver_of b)
 settled_ring a b m e few same near =
-    let h : WayNear a.me.0.size a.me.0.put b.me.0.take = subst (λ (z : Me (Unit {0}) View). WayNear z.0.size z.0.put z.0.take) e near in
+    let h : WayNear a.me.0.size a.me.0.put b.me.0.take = subst (λ (z : Me (Unit {0}) RingView). WayNear z.0.size z.0.put z.0.take) e near in
     record { few = few; same_size = same; got_sent = h.got_sent; known_told = h.known_told; told_got = h.told_got; sent_near = h.sent_near }

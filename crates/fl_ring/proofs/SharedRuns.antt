@@ -7,7 +7,7 @@ use Rattle.atomic_table.specs.Seated.{TableId}
 use Rattle.fl_base.specs.declared.fragment.Frag.{Frag}
 use Rattle.fl_base.specs.Control.{epoch_of}
 use Rattle.fl_link.specs.Cursor.{epoch_at}
-use Rattle.fl_ring.specs.declared.shared.board.View.{View}
+use Rattle.fl_ring.specs.declared.shared.board.RingView.{RingView}
 use Rattle.fl_ring.specs.Way.{slot}
 use Rattle.fl_ring.specs.SharedWay.{IsDue, with_found, with_stored, with_put, with_loaded}
 use Rattle.fl_ring.specs.SharedRing.{RingRule, with_writing, with_reading, HasSlot, IsNextWord, IsPayloadWord, stores_word, stores_control, loads_word}
@@ -15,7 +15,7 @@ use Rattle.fl_ring.specs.SharedSeats.{RingSeat, IsSeated, with_part, with_frag, 
 use Rattle.fl_ring.proofs.SharedSteps.{allows_stored, allows_put, allows_loaded}
 
 abbrev Seated : Type 0
-Seated = Me (Unit {0}) View
+Seated = Me (Unit {0}) RingView
 
 pub taken_length : (k : ℕ) (xs : List ℕ) → length xs ≡ 7 → k < 7 → length (take k xs) ≡ k
 taken_length k xs seven lt = length-take-le k xs (omega arith)

@@ -5,9 +5,9 @@ use mathlib.Core.Option.{none}
 use Rattle.atomic_table.specs.Table.{Me, step, Allows}
 use Rattle.fl_base.specs.Control.{epoch_of}
 use Rattle.fl_link.specs.Cursor.{epoch_at}
-use Rattle.fl_ring.specs.declared.shared.board.Writing.{Writing}
-use Rattle.fl_ring.specs.declared.shared.board.Reading.{Reading}
-use Rattle.fl_ring.specs.declared.shared.board.View.{View}
+use Rattle.fl_ring.specs.declared.shared.board.WriterView.{WriterView}
+use Rattle.fl_ring.specs.declared.shared.board.ReaderView.{ReaderView}
+use Rattle.fl_ring.specs.declared.shared.board.RingView.{RingView}
 use Rattle.fl_ring.specs.Way.{slot}
 use Rattle.fl_ring.specs.SharedWay.{IsDue, WayRuns, WayNear, with_found, with_stored, with_put, with_known, with_control, with_loaded, with_peeked, with_got, with_told}
 use Rattle.fl_ring.specs.SharedRing.{Sides, Fits, RingHolds, RingRule, with_writing, with_reading, IsNextWord, IsPayloadWord, finds_word, stores_word}
@@ -17,7 +17,7 @@ use Rattle.fl_ring.proofs.SharedTables.{Moves, allows_by, allows_load}
 use Rattle.fl_ring.proofs.SharedWays.{runs_found, runs_stored, runs_put, runs_known, runs_control, peeked_there, runs_loaded, runs_peeked, runs_got, loaded_again, got_unspent, runs_told, runs_elsewhere, front_within}
 
 abbrev Seated : Type 0
-Seated = Me (Unit {0}) View
+Seated = Me (Unit {0}) RingView
 
 abbrev Held : ℕ → List ℕ → Sides → Type 0
 Held n ws s = RingHolds n ws s.put s.take
@@ -28,7 +28,7 @@ word_in n i k words some small wide = omega (arith, slot_within 0 n i some)
 
 -- ---- who moves
 
-writer_moves : (n id : ℕ) (ws : List ℕ) (s : Sides) (v : View) (w : Writing) (Then : View → Type 0) → v.writes ≡ true → Fits n s id v → RingHolds n ws w s.take → Then (with_writing v w)
+writer_moves : (n id : ℕ) (ws : List ℕ) (s : Sides) (v : RingView) (w : WriterView) (Then : RingView → Type 0) → v.writes ≡ true → Fits n s id v → RingHolds n ws w s.take → Then (with_writing v w)
     → Moves (Fits n) (Held n) s id ws Then
 writer_moves n id ws s v w Then writes fits holds tells = record {
   account = record { writer = s.writer; reader = s.reader; put = w; take = s.take };
@@ -39,7 +39,7 @@ writer_moves n id ws s v w Then writes fits holds tells = record {
   tells = tells;
 }
 
-reader_moves : (n id : ℕ) (ws : List ℕ) (s : Sides) (v : View) (r : Reading) (Then : View → Type 0) → v.reads ≡ true → Fits n s id v → RingHolds n ws s.put r → Then (with_reading v r)
+reader_moves : (n id : ℕ) (ws : List ℕ) (s : Sides) (v : RingView) (r : ReaderView) (Then : RingView → Type 0) → v.reads ≡ true → Fits n s id v → RingHolds n ws s.put r → Then (with_reading v r)
     → Moves (Fits n) (Held n) s id ws Then
 reader_moves n id ws s v r Then reads fits holds tells = record {
   account = record { writer = s.writer; reader = s.reader; put = s.put; take = r };
@@ -51,11 +51,11 @@ reader_moves n id ws s v r Then reads fits holds tells = record {
 }
 
 -- what the writer knows is so
-as_writer : (n id : ℕ) (ws : List ℕ) (s : Sides) (v : View) → v.writes ≡ true → Fits n s id v → Held n ws s → RingHolds n ws v.put s.take
-as_writer n id ws s v writes fits held = subst (λ (w : Writing). RingHolds n ws w s.take) (sym (fits.0 writes).1) held
+as_writer : (n id : ℕ) (ws : List ℕ) (s : Sides) (v : RingView) → v.writes ≡ true → Fits n s id v → Held n ws s → RingHolds n ws v.put s.take
+as_writer n id ws s v writes fits held = subst (λ (w : WriterView). RingHolds n ws w s.take) (sym (fits.0 writes).1) held
 
-as_reader : (n id : ℕ) (ws : List ℕ) (s : Sides) (v : View) → v.reads ≡ true → Fits n s id v → Held n ws s → RingHolds n ws s.put v.take
-as_reader n id ws s v reads fits held = subst (λ (r : Reading). RingHolds n ws s.put r) (sym (fits.1 reads).1) held
+as_reader : (n id : ℕ) (ws : List ℕ) (s : Sides) (v : RingView) → v.reads ≡ true → Fits n s id v → Held n ws s → RingHolds n ws s.put v.take
+as_reader n id ws s v reads fits held = subst (λ (r : ReaderView). RingHolds n ws s.put r) (sym (fits.1 reads).1) held
 
 -- ---- the words
 
@@ -66,14 +66,14 @@ told_stays n i k x ws some small =
     let ne : 8 * n ≢ slot 0 n i + k = λ e. omega arith in
     get_or-set_other ws (slot 0 n i + k) (8 * n) x 0 ne
 
-holds_found : (n x : ℕ) (ws : List ℕ) (w : Writing) (r : Reading) → RingHolds n ws w r → length w.part < 7 → x ≡ get_or ws (slot 0 n (length w.sent) + length w.part) 0 → RingHolds n ws (with_found w x) r
+holds_found : (n x : ℕ) (ws : List ℕ) (w : WriterView) (r : ReaderView) → RingHolds n ws w r → length w.part < 7 → x ≡ get_or ws (slot 0 n (length w.sent) + length w.part) 0 → RingHolds n ws (with_found w x) r
 holds_found n x ws w r h small is = record {
   wide = h.wide;
   way = runs_found 0 n ws w r r.told x h.way small is;
   told_is = h.told_is;
 }
 
-holds_stored : (n k x : ℕ) (ws : List ℕ) (w : Writing) (r : Reading) → RingHolds n ws w r → length w.sent < w.known + n → k ≤ length w.part → k < 7
+holds_stored : (n k x : ℕ) (ws : List ℕ) (w : WriterView) (r : ReaderView) → RingHolds n ws w r → length w.sent < w.known + n → k ≤ length w.part → k < 7
     → RingHolds n (set ws (slot 0 n (length w.sent) + k) x) (with_stored w k x) r
 holds_stored n k x ws w r h room few small = record {
   wide = length-set ws (slot 0 n (length w.sent) + k) x ∙ h.wide;
@@ -81,7 +81,7 @@ holds_stored n k x ws w r h room few small = record {
   told_is = told_stays n (length w.sent) k x ws h.way.holds.marked.some (omega arith) ∙ h.told_is;
 }
 
-holds_put : (n c : ℕ) (ws : List ℕ) (w : Writing) (r : Reading) → RingHolds n ws w r → length w.sent < w.known + n → length w.part ≡ 7 → length w.sent < 2 ^ 62 → epoch_of c ≡ epoch_at n (length w.sent)
+holds_put : (n c : ℕ) (ws : List ℕ) (w : WriterView) (r : ReaderView) → RingHolds n ws w r → length w.sent < w.known + n → length w.part ≡ 7 → length w.sent < 2 ^ 62 → epoch_of c ≡ epoch_at n (length w.sent)
     → RingHolds n (set ws (slot 0 n (length w.sent) + 7) c) (with_put w c) r
 holds_put n c ws w r h room seven unspent turn = record {
   wide = length-set ws (slot 0 n (length w.sent) + 7) c ∙ h.wide;
@@ -89,7 +89,7 @@ holds_put n c ws w r h room seven unspent turn = record {
   told_is = told_stays n (length w.sent) 7 c ws h.way.holds.marked.some (omega arith) ∙ h.told_is;
 }
 
-holds_told : (n t : ℕ) (ws : List ℕ) (w : Writing) (r : Reading) → RingHolds n ws w r → r.told ≤ t → t ≤ length r.got → RingHolds n (set ws (8 * n) t) w (with_told r t)
+holds_told : (n t : ℕ) (ws : List ℕ) (w : WriterView) (r : ReaderView) → RingHolds n ws w r → r.told ≤ t → t ≤ length r.got → RingHolds n (set ws (8 * n) t) w (with_told r t)
 holds_told n t ws w r h rises most = record {
   wide = length-set ws (8 * n) t ∙ h.wide;
   way =
@@ -136,7 +136,7 @@ allows_put n slots id i c me key writes at seven room unspent turn =
     (λ ws s fits held. writer_moves m id (set ws place c) s me.0 (with_put me.0.put c) (λ v. stores_control (step slots place c 0 none) me c (v, me.1)) writes fits
     (holds_put m c ws me.0.put s.take (as_writer m id ws s me.0 writes fits held) room seven unspent turn) (refl, refl, seven, room, unspent, turn))))
 
-known_holds : (n k : ℕ) (ws : List ℕ) (w : Writing) (r : Reading) → RingHolds n ws w r → k ≡ r.told → RingHolds n ws (with_known w k) r
+known_holds : (n k : ℕ) (ws : List ℕ) (w : WriterView) (r : ReaderView) → RingHolds n ws w r → k ≡ r.told → RingHolds n ws (with_known w k) r
 known_holds n k ws w r h is = record {
   wide = h.wide;
   way = runs_known 0 n ws w r r.told k h.way (omega (arith, h.way.known_told)) (omega arith);
@@ -158,7 +158,7 @@ allows_known n slots id i me key writes at =
     (refl, omega (arith, h.told_is, h.way.known_told), omega (arith, h.told_is, h.way.told_got, front_within s.take.got me.0.put.sent h.way.got_sent), refl))))
 
 -- the reader's loads leave the words, and only the way moves
-way_holds : (n : ℕ) (ws : List ℕ) (w : Writing) (r r' : Reading) → RingHolds n ws w r → r'.told ≡ r.told → WayRuns 0 n ws w r' r.told → RingHolds n ws w r'
+way_holds : (n : ℕ) (ws : List ℕ) (w : WriterView) (r r' : ReaderView) → RingHolds n ws w r → r'.told ≡ r.told → WayRuns 0 n ws w r' r.told → RingHolds n ws w r'
 way_holds n ws w r r' h same way = record {
   wide = h.wide;
   way = subst (λ (t : ℕ). WayRuns 0 n ws w r' t) (sym same) way;
@@ -174,7 +174,7 @@ allows_control n slots id i me key reads at =
     allows_load (Fits m) (Held m) slots id place me (loads_control (step slots place 0 0 none) me)
     (λ ws s fits held.
     let x : ℕ = get_or ws place 0 in
-    let r : Reading = me.0.take in
+    let r : ReaderView = me.0.take in
     let h : RingHolds m ws s.put r = as_reader m id ws s me.0 reads fits held in
     reader_moves m id ws s me.0 (with_control m r x) (λ v. loads_control (step slots place 0 0 none) me x (v, me.1)) reads fits
     (way_holds m ws s.put r (with_control m r x) h refl (runs_control 0 m ws s.put r r.told x h.way refl))
@@ -190,7 +190,7 @@ allows_loaded n slots id i me key reads at due small =
     allows_load (Fits m) (Held m) slots id place me (loads_word (step slots place 0 0 none) me)
     (λ ws s fits held.
     let x : ℕ = get_or ws place 0 in
-    let r : Reading = me.0.take in
+    let r : ReaderView = me.0.take in
     let h : RingHolds m ws s.put r = as_reader m id ws s me.0 reads fits held in
     reader_moves m id ws s me.0 (with_loaded r x) (λ v. loads_word (step slots place 0 0 none) me x (v, me.1)) reads fits
     (way_holds m ws s.put r (with_loaded r x) h refl (runs_loaded 0 m ws s.put r r.told x h.way due small refl)) (refl, refl, small, due))))
@@ -205,7 +205,7 @@ allows_peeked n slots id i me key reads at due six =
     allows_load (Fits m) (Held m) slots id place me (loads_peeked (step slots place 0 0 none) me)
     (λ ws s fits held.
     let x : ℕ = get_or ws place 0 in
-    let r : Reading = me.0.take in
+    let r : ReaderView = me.0.take in
     let h : RingHolds m ws s.put r = as_reader m id ws s me.0 reads fits held in
     reader_moves m id ws s me.0 (with_peeked r x) (λ v. loads_peeked (step slots place 0 0 none) me x (v, me.1)) reads fits
     (way_holds m ws s.put r (with_peeked r x) h refl (runs_peeked 0 m ws s.put r r.told x h.way due six refl))
@@ -221,7 +221,7 @@ allows_taken n slots id i me key reads at due six =
     allows_load (Fits m) (Held m) slots id place me (loads_taken (step slots place 0 0 none) me)
     (λ ws s fits held.
     let x : ℕ = get_or ws place 0 in
-    let r : Reading = me.0.take in
+    let r : ReaderView = me.0.take in
     let h : RingHolds m ws s.put r = as_reader m id ws s me.0 reads fits held in
     reader_moves m id ws s me.0 (with_got r x) (λ v. loads_taken (step slots place 0 0 none) me x (v, me.1)) reads fits
     (way_holds m ws s.put r (with_got r x) h refl (runs_got 0 m ws s.put r r.told x h.way due six refl))
@@ -235,7 +235,7 @@ allows_told n slots id i t me key reads at all =
     (let m : ℕ = me.0.size in
     allows_by (Fits m) (Held m) slots id (8 * m) me (λ _. t) (λ _. stores_told (step slots (8 * m) t 0 none) me t)
     (λ ws s fits held.
-    let r : Reading = me.0.take in
+    let r : ReaderView = me.0.take in
     let h : RingHolds m ws s.put r = as_reader m id ws s me.0 reads fits held in
     reader_moves m id (set ws (8 * m) t) s me.0 (with_told r t) (λ v. stores_told (step slots (8 * m) t 0 none) me t (v, me.1)) reads fits
     (holds_told m t ws s.put r h (omega (arith, all, h.way.told_got)) (omega (arith, all))) (refl, refl, omega (arith, all, h.way.told_got), omega (arith, all)))))
@@ -247,6 +247,6 @@ allows_compare n slots id i me writes reads =
     (λ ws s fits held.
     let there : WayNear n s.put s.take = record { got_sent = held.way.got_sent; known_told = held.way.known_told; told_got = held.way.told_got; sent_near = held.way.room } in
     let sized : WayNear me.0.size s.put s.take = subst (λ (k : ℕ). WayNear k s.put s.take) (sym (fits.0 writes).2) there in
-    let put : WayNear me.0.size me.0.put s.take = subst (λ (w : Writing). WayNear me.0.size w s.take) (sym (fits.0 writes).1) sized in
-    let mine : WayNear me.0.size me.0.put me.0.take = subst (λ (r : Reading). WayNear me.0.size me.0.put r) (sym (fits.1 reads).1) put in
+    let put : WayNear me.0.size me.0.put s.take = subst (λ (w : WriterView). WayNear me.0.size w s.take) (sym (fits.0 writes).1) sized in
+    let mine : WayNear me.0.size me.0.put me.0.take = subst (λ (r : ReaderView). WayNear me.0.size me.0.put r) (sym (fits.1 reads).1) put in
     record { account = s; view = me.0; mine = fits; others = λ j u ne f. f; holds = held; tells = (refl, mine) })

@@ -8,8 +8,8 @@ use Rattle.fl_base.specs.declared.fragment.Frag.{Frag}
 use Rattle.fl_base.specs.Control.{epoch_of}
 use Rattle.fl_base.specs.Prefix.{IsPrefix}
 use Rattle.fl_link.specs.Cursor.{epoch_at}
-use Rattle.fl_ring.specs.declared.shared.board.Writing.{Writing}
-use Rattle.fl_ring.specs.declared.shared.board.Reading.{Reading}
+use Rattle.fl_ring.specs.declared.shared.board.WriterView.{WriterView}
+use Rattle.fl_ring.specs.declared.shared.board.ReaderView.{ReaderView}
 use Rattle.fl_ring.specs.Way.{slot, frag_of, epoch_in, WritesSlot}
 use Rattle.fl_ring.specs.SharedWay.{IsNext, IsDue, IsLoaded, WayRuns, frag_from, loaded_frag, with_found, with_stored, with_put, with_known, with_control, with_loaded, with_peeked, with_got, with_told}
 use Rattle.fl_ring.proofs.Places.{slot_within}
@@ -42,7 +42,7 @@ next_there sent got f (rest, e) = omega (arith, ap length e, length-append (got 
 pub next_same : (sent got : List Frag) (f g : Frag) → IsNext sent got f → IsNext sent got g → f ≡ g
 next_same sent got f g x y = sym (next_stands sent got f f x) ∙ next_stands sent got g f y
 
-module _ (b n : ℕ) (ws : List ℕ) (w : Writing) (r : Reading) (told : ℕ) where
+module _ (b n : ℕ) (ws : List ℕ) (w : WriterView) (r : ReaderView) (told : ℕ) where
   -- the next fragment stands in its slot
   pub next_in_slot : WayRuns b n ws w r told → (f : Frag) → IsNext w.sent r.got f → f ≡ frag_of b n ws (length r.got)
   next_in_slot h f x = sym (next_stands w.sent r.got f f x) ∙ h.holds.stand (length r.got) f h.told_got (next_there w.sent r.got f x)

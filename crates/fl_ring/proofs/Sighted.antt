@@ -9,13 +9,13 @@ use Rattle.fl_link.specs.Looks.{Look, saw, saw_ack, missed, taken}
 use Rattle.fl_link.specs.Queue.{look_at}
 use Rattle.fl_link.specs.declared.sides.Sight.{Sight}
 use Rattle.fl_link.specs.declared.sides.Sight.TheVariants.{Data, Acknowledgement}
-use Rattle.fl_ring.specs.declared.shared.duo_board.Holder.{Holder}
-use Rattle.fl_ring.specs.declared.shared.duo_board.Opening.{Opening}
+use Rattle.fl_ring.specs.declared.shared.duo_board.SeatHolder.{SeatHolder}
+use Rattle.fl_ring.specs.declared.shared.duo_board.DuoStart.{DuoStart}
 use Rattle.fl_ring.specs.SharedDuo.{IsOneSide, base_of, other_of}
-use Rattle.fl_ring.specs.declared.shared.board.View.{View}
+use Rattle.fl_ring.specs.declared.shared.board.RingView.{RingView}
 use Rattle.fl_ring.specs.SharedRing.{with_writing}
 use Rattle.fl_ring.specs.SharedSeats.{RingSeat, IsSeated, IsWriter, Receiver, ReceiverTakes, Gets, with_frag, front_seen, sight_of}
-use Rattle.fl_ring.specs.SharedSides.{DuoSeat, IsDuoSeated, Kept, IsSide, TheSide, side_of_seat, SideGets, SharedTakes}
+use Rattle.fl_ring.specs.SharedSides.{DuoSeat, IsDuoSeated, SideFields, IsSide, TheSide, side_of_seat, SideGets, SharedTakes}
 use Rattle.fl_ring.proofs.Fronts.{got_by}
 
 looks : (b : Bool) (f : Frag) → is_ack_only f ≡ b → look_at f ≡ (if b then saw_ack else saw (bare f))
@@ -70,17 +70,17 @@ none_front o k none some e = absurd (some (sym e ∙ ap (λ x. front_seen x) non
 
 -- ---- a side that has looked or taken
 
-pub seated_on : (table : TableId) (key : Opening) (old new : DuoSeat) → IsDuoSeated table key old → new.table_id ≡ old.table_id → new.me.0.size ≡ old.me.0.size → new.me.0.holder ≡ old.me.0.holder → IsDuoSeated table key new
+pub seated_on : (table : TableId) (key : DuoStart) (old new : DuoSeat) → IsDuoSeated table key old → new.table_id ≡ old.table_id → new.me.0.size ≡ old.me.0.size → new.me.0.holder ≡ old.me.0.holder → IsDuoSeated table key new
 seated_on table key old new s same size holder = record {
   same = same ∙ s.same;
   key_is = s.key_is ∙ sym size;
   wide = s.wide ∙ ap (λ (n : ℕ). 16 * n) (sym size);
   some = subst (λ (n : ℕ). 0 < n) (sym size) s.some;
   few = subst (λ (n : ℕ). n ≤ 1024) (sym size) s.few;
-  side = subst (λ (x : Holder). IsOneSide x) (sym holder) s.side;
+  side = subst (λ (x : SeatHolder). IsOneSide x) (sym holder) s.side;
 }
 
-pub side_moves : (table : TableId) (key : Opening) (old new : DuoSeat) (k : Kept) (t : TheSide) (take : TheCursor) (known : ℕ) → IsDuoSeated table key old → IsSide old k
+pub side_moves : (table : TableId) (key : DuoStart) (old new : DuoSeat) (k : SideFields) (t : TheSide) (take : TheCursor) (known : ℕ) → IsDuoSeated table key old → IsSide old k
     → side_of_seat new ≡ t → t.ring ≡ old.table_id → t.holder ≡ old.me.0.holder → t.size ≡ old.me.0.size → t.sent ≡ old.me.0.mine.put.sent → t.told ≡ old.me.0.mine.take.told
     → length t.got ≡ take.index → take.size ≡ k.take.size → k.told ≤ take.index
     → (new.me.0.mine.put.known ≡ known) × (k.known ≤ known) × (known ≤ length old.me.0.mine.put.sent)
@@ -95,8 +95,8 @@ side_moves table key old new k t take known s h is ring holder size sent told go
     let seat_got : length new.me.0.mine.take.got ≡ take.index = ap (λ (x : TheSide). length x.got) is ∙ got in (
       seated_on table key old new s table_is sized holds,
       record {
-        base_is = h.base_is ∙ ap (λ (x : Holder). base_of x old.me.0.size) (sym holds) ∙ ap (λ (n : ℕ). base_of new.me.0.holder n) (sym sized);
-        other_is = h.other_is ∙ ap (λ (x : Holder). other_of x old.me.0.size) (sym holds) ∙ ap (λ (n : ℕ). other_of new.me.0.holder n) (sym sized);
+        base_is = h.base_is ∙ ap (λ (x : SeatHolder). base_of x old.me.0.size) (sym holds) ∙ ap (λ (n : ℕ). base_of new.me.0.holder n) (sym sized);
+        other_is = h.other_is ∙ ap (λ (x : SeatHolder). other_of x old.me.0.size) (sym holds) ∙ ap (λ (n : ℕ). other_of new.me.0.holder n) (sym sized);
         none_held = held ∙ h.none_held;
         part = part ∙ h.part;
         put_size = h.put_size ∙ sym sized;
@@ -126,7 +126,7 @@ writer_puts table key old new n index known put frag s h same me puts free unspe
     let next : put.index ≡ index + 1 = ap (λ (p : TheCursor). p.index) puts in
     let size : put.size ≡ n = ap (λ (p : TheCursor). p.size) puts in
     let longer : length (old.me.0.put.sent ++ frag ∷ []) ≡ length old.me.0.put.sent + 1 = length-append old.me.0.put.sent (frag ∷ []) in
-    subst (λ (m : Me (Unit {0}) View). IsSeated table key (record new { me = m }) × IsWriter (record new { me = m }) put.size put.index known) (sym me) (
+    subst (λ (m : Me (Unit {0}) RingView). IsSeated table key (record new { me = m }) × IsWriter (record new { me = m }) put.size put.index known) (sym me) (
       record { same = same ∙ s.same; key_is = s.key_is; wide = s.wide; some = s.some; few = s.few },
       record {
         writes = h.writes;

@@ -12,8 +12,8 @@ use Rattle.fl_link.specs.Looks.{Look, LinkStep, placed, no_room, spent, saw, saw
 use Rattle.fl_link.specs.Queue.{front_of}
 use Rattle.fl_ring.specs.Counts.{known_after, LastTells}
 use Rattle.fl_ring.specs.Way.{WayStands}
-use Rattle.fl_ring.specs.declared.one_duo.Which.{Which}
-use Rattle.fl_ring.specs.declared.one_duo.Which.TheVariants.{One, Two}
+use Rattle.fl_ring.specs.declared.one_duo.WhichSide.{WhichSide}
+use Rattle.fl_ring.specs.declared.one_duo.WhichSide.TheVariants.{One, Two}
 
 -- what contracts see of one side
 pub record TheHalf : Type 0 where
@@ -101,7 +101,7 @@ HalfPuts n s p spent t q = (s.sent ≡ 2 ^ 62) × (t ≡ s) × (q ≡ p)
 HalfPuts n s p _ t q = ⊥
 
 -- One look, take or tell at a side, by what it came to. A tell writes where at least half of the
--- slots are read and untold, and needs one free slot.
+-- slots are read and unacknowledged, and needs one free slot.
 abbrev pub HalfTakes : ℕ → TheHalf → TheHalf → Look → TheHalf → TheHalf → Type 0
 HalfTakes n s p (saw frag) t q = (front_of s.waiting ≡ saw frag) × (t ≡ with_known s (looked s)) × (q ≡ p)
 HalfTakes n s p saw_ack t q = (front_of s.waiting ≡ saw_ack) × (t ≡ with_known s (looked s)) × (q ≡ p)
@@ -118,25 +118,25 @@ HalfTakes n s p no_room t q = (n / 2 ≤ length s.read) × (q ≡ p)
 HalfTakes n s p _ t q = ⊥
 
 -- one step of a side is one of the ring
-abbrev pub AtSide : (ℕ → TheHalf → TheHalf → Look → TheHalf → TheHalf → Type 0) → Which → TheDuo → Look → TheDuo → Type 0
+abbrev pub AtSide : (ℕ → TheHalf → TheHalf → Look → TheHalf → TheHalf → Type 0) → WhichSide → TheDuo → Look → TheDuo → Type 0
 AtSide R One s look t = R s.size s.one s.two look t.one t.two × (t.size ≡ s.size)
 AtSide R Two s look t = R s.size s.two s.one look t.two t.one × (t.size ≡ s.size)
 
 -- one put at the side of this name, by what it came to
-abbrev pub DuoPuts : Which → TheDuo → Look → TheDuo → Type 0
+abbrev pub DuoPuts : WhichSide → TheDuo → Look → TheDuo → Type 0
 DuoPuts = AtSide HalfPuts
 
 -- one look, take or tell at the side of this name, by what it came to
-abbrev pub DuoTakes : Which → TheDuo → Look → TheDuo → Type 0
+abbrev pub DuoTakes : WhichSide → TheDuo → Look → TheDuo → Type 0
 DuoTakes = AtSide HalfTakes
 
 -- the side of this name
-abbrev pub side_of : Which → TheDuo → TheHalf
+abbrev pub side_of : WhichSide → TheDuo → TheHalf
 side_of One d = d.one
 side_of Two d = d.two
 
 -- the side across from it
-abbrev pub across : Which → TheDuo → TheHalf
+abbrev pub across : WhichSide → TheDuo → TheHalf
 across One d = d.two
 across Two d = d.one
 
@@ -153,7 +153,7 @@ pub record CountsAreNear (n : ℕ) (s p : TheHalf) : Type 0 where
 -- ---- what a side learned by looks, forgotten
 
 -- the ring with another count known at this side
-abbrev pub knowing : Which → TheDuo → ℕ → TheDuo
+abbrev pub knowing : WhichSide → TheDuo → ℕ → TheDuo
 knowing One d count = record { size = d.size; one = with_known d.one count; two = d.two }
 knowing Two d count = record { size = d.size; one = d.one; two = with_known d.two count }
 
@@ -173,7 +173,7 @@ only_looks told = false
 only_looks look = true
 
 -- a step that leaves the ring so
-abbrev pub DuoLooks : Which → TheDuo → Look → TheDuo → Type 0
+abbrev pub DuoLooks : WhichSide → TheDuo → Look → TheDuo → Type 0
 DuoLooks which s look t = (only_looks look ≡ true) × LinkStep (DuoPuts which) (DuoTakes which) s look t
 
 -- The words of a ring of two directions: the way of side one at word 0, that of side two after it. What

@@ -4,10 +4,10 @@ use Rattle.fl_link.specs.Looks.{Look}
 use Rattle.fl_ring.specs.Counts.{last_count, LastTells}
 use Rattle.fl_ring.specs.Way.{Marked, standing}
 use Rattle.fl_ring.specs.Duo.{TheHalf, TheDuo}
-use Rattle.fl_ring.specs.declared.halves.Half.{Half}
+use Rattle.fl_ring.specs.declared.halves.DuoHalf.{DuoHalf}
 
 -- the way from a side w that writes it to a side r that reads it
-pub record Direction (n : ℕ) (words : List ℕ) (w r : Half) : Type 0 where
+pub record Direction (n : ℕ) (words : List ℕ) (w r : DuoHalf) : Type 0 where
   pub from : r.other ≡ w.base
   pub put_size : w.put.size ≡ n
   pub take_size : r.take.size ≡ n
@@ -22,7 +22,7 @@ pub record Direction (n : ℕ) (words : List ℕ) (w r : Half) : Type 0 where
   pub last : LastTells w.base n 0 words w.put.index w.told
 
 -- two sides over one table
-pub record InStep (n : ℕ) (words : List ℕ) (a b : Half) : Type 0 where
+pub record InStep (n : ℕ) (words : List ℕ) (a b : DuoHalf) : Type 0 where
   pub few : n ≤ 1024
   pub wide : length words ≡ 16 * n
   pub apart : ((a.base ≡ 0) × (b.base ≡ 8 * n)) ⊎ ((a.base ≡ 8 * n) × (b.base ≡ 0))
@@ -30,7 +30,7 @@ pub record InStep (n : ℕ) (words : List ℕ) (a b : Half) : Type 0 where
   pub back : Direction n words b a
 
 -- what the words show of side a, where b is the other
-abbrev pub half_of : ℕ → List ℕ → Half → Half → TheHalf
+abbrev pub half_of : ℕ → List ℕ → DuoHalf → DuoHalf → TheHalf
 half_of n words a b = record {
   sent = a.put.index;
   known = a.known;
@@ -40,11 +40,11 @@ half_of n words a b = record {
 }
 
 -- and of both
-abbrev pub duo_of : ℕ → List ℕ → Half → Half → TheDuo
+abbrev pub duo_of : ℕ → List ℕ → DuoHalf → DuoHalf → TheDuo
 duo_of n words a b = record { size = n; one = half_of n words a b; two = half_of n words b a }
 
 -- Whatever the other side is: the sides stay in step, each at its place, and what the words show goes
 -- on by the relation.
-abbrev pub Goes : (ℕ → TheHalf → TheHalf → Look → TheHalf → TheHalf → Type 0) → List ℕ → Half → Look → List ℕ → Half → Type 0
-Goes R words a look words' a' = (n : ℕ) (b : Half) → InStep n words a b
+abbrev pub Goes : (ℕ → TheHalf → TheHalf → Look → TheHalf → TheHalf → Type 0) → List ℕ → DuoHalf → Look → List ℕ → DuoHalf → Type 0
+Goes R words a look words' a' = (n : ℕ) (b : DuoHalf) → InStep n words a b
     → InStep n words' a' b × (a'.base ≡ a.base) × R n (half_of n words a b) (half_of n words b a) look (half_of n words' a' b) (half_of n words' b a')

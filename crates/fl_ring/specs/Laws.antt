@@ -11,7 +11,7 @@ use Rattle.fl_ring.specs.Duo.{TheHalf, TheDuo, DuoPuts, DuoTakes, DuoLooks, Coun
 use Rattle.fl_ring.specs.Duo.{with_waiting}
 use Rattle.fl_ring.specs.SharedSeats.{Sender, Receiver, SenderPuts, ReceiverTakes}
 use Rattle.fl_ring.specs.SharedSides.{TheSide, SharedPuts, SharedTakes}
-use Rattle.fl_ring.specs.declared.one_duo.Which.{Which}
+use Rattle.fl_ring.specs.declared.one_duo.WhichSide.{WhichSide}
 
 -- ---- a ring with one owner is a queue that counts
 
@@ -44,7 +44,7 @@ reads_of looks = flat_map read_in looks
 
 -- Looks alone, forgotten, leave the ring as it was.
 abbrev pub ForgetsLooks : Type 0
-ForgetsLooks = (which : Which) (s t : TheDuo) (looks : List Look) → CountsAreNear s.size (side_of which s) (across which s)
+ForgetsLooks = (which : WhichSide) (s t : TheDuo) (looks : List Look) → CountsAreNear s.size (side_of which s) (across which s)
     → Looks (DuoLooks which) s looks t → MayForget t.size (side_of which t) (side_of which s).known × (knowing which t (side_of which s).known ≡ s)
 
 -- What steps at a side do to it, from s to t, and to the side across, from p to q: what was written waits there, what was
@@ -58,13 +58,13 @@ pub record HalfConserves (s p : TheHalf) (looks : List Look) (t q : TheHalf) : T
   pub elsewhere : q ≡ with_waiting p q.waiting
 
 -- of the whole ring, where the side of this name steps: its number of slots stays
-pub record DuoConserves (which : Which) (s : TheDuo) (looks : List Look) (t : TheDuo) : Type 0 where
+pub record DuoConserves (which : WhichSide) (s : TheDuo) (looks : List Look) (t : TheDuo) : Type 0 where
   pub same_size : t.size ≡ s.size
   pub sides : HalfConserves (side_of which s) (across which s) looks (side_of which t) (across which t)
 
 -- steps of either kind in a row at one side do that
 abbrev pub DuoLaw : Type 0
-DuoLaw = (which : Which) (s t : TheDuo) (looks : List Look) → Looks (LinkStep (DuoPuts which) (DuoTakes which)) s looks t → DuoConserves which s looks t
+DuoLaw = (which : WhichSide) (s t : TheDuo) (looks : List Look) → Looks (LinkStep (DuoPuts which) (DuoTakes which)) s looks t → DuoConserves which s looks t
 
 -- ---- sides of rings over shared words
 

@@ -17,7 +17,7 @@ pub record TheRing : Type 0 where
 
 -- the ring as a queue
 abbrev pub queue_of : TheRing → TheQueue
-queue_of r = record { items = r.items; untold = length r.read; sent = r.told + length r.read + length r.items; capacity = r.capacity; acked = true }
+queue_of r = record { items = r.items; unacknowledged = length r.read; sent = r.told + length r.read + length r.items; capacity = r.capacity; acked = true }
 
 -- what a step does to the fragments that stand in the slots from the number told on
 abbrev pub ReadsOn : TheRing → Look → TheRing → Type 0

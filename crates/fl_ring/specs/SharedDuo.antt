@@ -24,11 +24,11 @@ use Rattle.fl_base.specs.Prefix.{IsPrefix}
 use Rattle.fl_link.specs.Cursor.{epoch_at}
 use Rattle.fl_ring.specs.Counts.{count_from, last_count, LastTells}
 use Rattle.fl_ring.specs.Way.{slot}
-use Rattle.fl_ring.specs.declared.shared.board.Writing.{Writing}
-use Rattle.fl_ring.specs.declared.shared.board.Reading.{Reading}
+use Rattle.fl_ring.specs.declared.shared.board.WriterView.{WriterView}
+use Rattle.fl_ring.specs.declared.shared.board.ReaderView.{ReaderView}
 use Rattle.fl_ring.specs.declared.shared.duo_board.SideView.{SideView}
-use Rattle.fl_ring.specs.declared.shared.duo_board.Holder.{Holder}
-use Rattle.fl_ring.specs.declared.shared.duo_board.Holder.TheVariants.{One, Two, Both, Nobody}
+use Rattle.fl_ring.specs.declared.shared.duo_board.SeatHolder.{SeatHolder}
+use Rattle.fl_ring.specs.declared.shared.duo_board.SeatHolder.TheVariants.{One, Two, Both, Nobody}
 use Rattle.fl_ring.specs.declared.shared.duo_board.DuoView.{DuoView}
 use Rattle.fl_ring.specs.SharedWay.{IsDue, WayRuns, with_found, with_stored, with_put, with_control, with_loaded, with_peeked, with_got, with_told, loaded_frag}
 use Rattle.fl_ring.specs.SharedTable.{Accounted}
@@ -47,7 +47,7 @@ abbrev pub KnowsLast : ℕ → SideView → Type 0
 KnowsLast n s = IsDue n s.take → length s.take.part < 7 → count_from s.put.known (told_of s.take.last) ≡ s.put.known
 
 -- the ways of a ring of two directions
-pub record Ways : Type 0 where
+pub record DuoLayout : Type 0 where
   -- the first word of the way there, and of the way back
   pub there : ℕ
   pub back : ℕ
@@ -56,11 +56,11 @@ pub record Ways : Type 0 where
   -- how many fragments had passed each way at the start
   pub start : ℕ
 
-abbrev pub ways : ℕ → ℕ → ℕ → ℕ → Ways
+abbrev pub ways : ℕ → ℕ → ℕ → ℕ → DuoLayout
 ways there back size start = record { there = there; back = back; size = size; start = start }
 
 -- Side x writes the way there and reads the way back, and side y the other way round.
-pub record BothRun (w : Ways) (words : List ℕ) (x y : SideView) : Type 0 where
+pub record BothRun (w : DuoLayout) (words : List ℕ) (x y : SideView) : Type 0 where
   pub few : w.size ≤ 1024
   pub wide : length words ≡ 16 * w.size
   pub apart : ((w.there ≡ 0) × (w.back ≡ 8 * w.size)) ⊎ ((w.there ≡ 8 * w.size) × (w.back ≡ 0))
@@ -118,7 +118,7 @@ abbrev pub side_two_of : DuoView → DuoView
 side_two_of v = record { size = v.size; holder = Two; mine = v.theirs; theirs = v.mine }
 
 -- two seats, in whichever order their sides are
-abbrev pub both_as : Holder → DuoView → DuoView → DuoView
+abbrev pub both_as : SeatHolder → DuoView → DuoView → DuoView
 both_as One v w = record { size = v.size; holder = Both; mine = v.mine; theirs = w.mine }
 both_as _ v w = record { size = v.size; holder = Both; mine = w.mine; theirs = v.mine }
 
@@ -153,7 +153,7 @@ abbrev pub known_by : ℕ → SideView → ℕ → ℕ
 known_by n s c = if epoch_of c == epoch_at n (length s.take.got) then count_from s.put.known (told_of c) else s.put.known
 
 -- what it knows as a writer then: that count, and one load more
-abbrev pub counted_by : ℕ → SideView → ℕ → Writing
+abbrev pub counted_by : ℕ → SideView → ℕ → WriterView
 counted_by n s c = record { sent = s.put.sent; part = s.put.part; known = known_by n s c; loads = s.put.loads + 1 }
 
 -- a control word of the other direction is loaded: it may tell a count, and that a fragment is there
@@ -173,15 +173,15 @@ side_got s x = record { put = s.put; take = with_got s.take x }
 -- ---- where a side's ways begin
 
 -- the seat is one side's
-abbrev pub IsOneSide : Holder → Type 0
+abbrev pub IsOneSide : SeatHolder → Type 0
 IsOneSide h = (h ≡ One) ⊎ (h ≡ Two)
 
 -- the first word of the slots that a side writes, of n slots each way, and of those that it reads
-abbrev pub base_of : Holder → ℕ → ℕ
+abbrev pub base_of : SeatHolder → ℕ → ℕ
 base_of One n = 0
 base_of _ n = 8 * n
 
-abbrev pub other_of : Holder → ℕ → ℕ
+abbrev pub other_of : SeatHolder → ℕ → ℕ
 other_of One n = 8 * n
 other_of _ n = 0
 
@@ -226,7 +226,7 @@ duo_stores_control st m x m' = (m' ≡ (with_mine m.0 (side_put m.0.mine x), m.1
     × (epoch_of x ≡ epoch_at m.0.size (length m.0.mine.put.sent)) × (told_of x ≡ length m.0.mine.take.got % 65536)
 
 -- this is the control word of the fragment that was peeked, if one was
-abbrev pub IsPeekedControl : Reading → ℕ → Type 0
+abbrev pub IsPeekedControl : ReaderView → ℕ → Type 0
 IsPeekedControl r x = (frag : Frag) → r.peeked ≡ Some frag → frag.control ≡ x
 
 -- a fragment that was peeked is still there, and what is known was sent
@@ -243,7 +243,7 @@ duo_loads_word st m x m' = (m' ≡ (with_mine m.0 (side_loaded m.0.mine x), m.1)
     × (st.word ≡ take_word m.0 (length m.0.mine.take.part)) × (length m.0.mine.take.part < 6) × IsDue m.0.size m.0.mine.take
 
 -- a fragment that was peeked is the one loaded
-abbrev DuoAgain : Reading → ℕ → Type 0
+abbrev DuoAgain : ReaderView → ℕ → Type 0
 DuoAgain r x = (frag : Frag) → r.peeked ≡ Some frag → loaded_frag r x ≡ frag
 
 -- the seventh

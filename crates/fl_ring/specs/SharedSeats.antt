@@ -11,13 +11,13 @@ use Rattle.fl_link.specs.Looks.{Look, placed, no_room, spent, saw, saw_ack, foun
 use Rattle.fl_link.specs.Queue.{look_at}
 use Rattle.fl_link.specs.declared.sides.Sight.{Sight}
 use Rattle.fl_link.specs.declared.sides.Sight.TheVariants.{Data, Acknowledgement}
-use Rattle.fl_ring.specs.declared.shared.board.Writing.{Writing}
-use Rattle.fl_ring.specs.declared.shared.board.Reading.{Reading}
-use Rattle.fl_ring.specs.declared.shared.board.View.{View}
+use Rattle.fl_ring.specs.declared.shared.board.WriterView.{WriterView}
+use Rattle.fl_ring.specs.declared.shared.board.ReaderView.{ReaderView}
+use Rattle.fl_ring.specs.declared.shared.board.RingView.{RingView}
 
 -- a seat at a ring's table, with what it knows of the ring
 abbrev pub RingSeat : Type 0
-RingSeat = Seat (Unit {0}) View
+RingSeat = Seat (Unit {0}) RingView
 
 -- a seat at this table, which was told this many slots
 pub record IsSeated (table : TableId) (key : ℕ) (seat : RingSeat) : Type 0 where
@@ -159,15 +159,15 @@ sight_of frag = if is_ack_only frag then Acknowledgement else Data frag
 -- ---- several steps in a row
 
 -- the writer that knows these payload words of the next slot
-abbrev pub with_part : Writing → List ℕ → Writing
+abbrev pub with_part : WriterView → List ℕ → WriterView
 with_part w words = record { sent = w.sent; part = words; known = w.known; loads = w.loads }
 
 -- the writer that has put this fragment
-abbrev pub with_frag : Writing → Frag → Writing
+abbrev pub with_frag : WriterView → Frag → WriterView
 with_frag w frag = record { sent = w.sent ++ frag ∷ []; part = []; known = w.known; loads = w.loads }
 
 -- the reader that has loaded these payload words
-abbrev pub with_words : Reading → List ℕ → Reading
+abbrev pub with_words : ReaderView → List ℕ → ReaderView
 with_words r words = record { got = r.got; part = words; last = r.last; peeked = r.peeked; misses = r.misses; told = r.told }
 
 -- the sides of a new ring

@@ -13,8 +13,8 @@ use Rattle.fl_link.specs.Queue.{look_at}
 use Rattle.fl_ring.specs.Counts.{count_from}
 use Rattle.fl_ring.specs.Duo.{acknowledgement}
 use Rattle.fl_ring.specs.declared.shared.duo_board.SideView.{SideView}
-use Rattle.fl_ring.specs.declared.shared.duo_board.Holder.{Holder}
-use Rattle.fl_ring.specs.declared.shared.duo_board.Opening.{Opening}
+use Rattle.fl_ring.specs.declared.shared.duo_board.SeatHolder.{SeatHolder}
+use Rattle.fl_ring.specs.declared.shared.duo_board.DuoStart.{DuoStart}
 use Rattle.fl_ring.specs.declared.shared.duo_board.DuoView.{DuoView}
 use Rattle.fl_ring.specs.SharedDuo.{IsOneSide, base_of, other_of, blank}
 use Rattle.fl_ring.specs.SharedSeats.{with_part, with_frag, with_words}
@@ -24,7 +24,7 @@ abbrev pub DuoSeat : Type 0
 DuoSeat = Seat (Unit {0}) DuoView
 
 -- one side's seat at this table, which was told this many slots
-pub record IsDuoSeated (table : TableId) (key : Opening) (seat : DuoSeat) : Type 0 where
+pub record IsDuoSeated (table : TableId) (key : DuoStart) (seat : DuoSeat) : Type 0 where
   pub same : seat.table_id ≡ table
   pub key_is : key.size ≡ seat.me.0.size
   pub wide : table.words ≡ 16 * seat.me.0.size
@@ -33,7 +33,7 @@ pub record IsDuoSeated (table : TableId) (key : Opening) (seat : DuoSeat) : Type
   pub side : IsOneSide seat.me.0.holder
 
 -- the numbers that a side's code keeps
-pub record Kept : Type 0 where
+pub record SideFields : Type 0 where
   -- the first word of the slots that it writes, and of those that it reads
   pub base : ℕ
   pub other : ℕ
@@ -45,7 +45,7 @@ pub record Kept : Type 0 where
   pub told : ℕ
 
 -- a side's seat between two calls, with the numbers that its code keeps
-pub record IsSide (seat : DuoSeat) (kept : Kept) : Type 0 where
+pub record IsSide (seat : DuoSeat) (kept : SideFields) : Type 0 where
   pub base_is : kept.base ≡ base_of seat.me.0.holder seat.me.0.size
   pub other_is : kept.other ≡ other_of seat.me.0.holder seat.me.0.size
   pub none_held : seat.me.1 ≡ []
@@ -66,7 +66,7 @@ pub record IsSide (seat : DuoSeat) (kept : Kept) : Type 0 where
 pub record TheSide : Type 0 where
   -- which ring it is, and which side
   pub ring : TableId
-  pub holder : Holder
+  pub holder : SeatHolder
   -- slots of each direction
   pub size : ℕ
   -- the fragments that it has put, as they stand in the ring
@@ -99,7 +99,7 @@ side_of_seat s = record {
 }
 
 -- a side of a ring through which so many blank fragments have passed each way, all told
-abbrev pub started_side : TableId → Holder → ℕ → ℕ → TheSide
+abbrev pub started_side : TableId → SeatHolder → ℕ → ℕ → TheSide
 started_side ring holder n start = record {
   ring = ring;
   holder = holder;
@@ -236,8 +236,8 @@ abbrev pub SideMisses : TheSide → TheSide → Type 0
 SideMisses s t = (s.peeked ≡ None) × (t ≡ side_missed s)
 
 -- how many it has taken and not told
-abbrev pub untold_of : TheSide → ℕ
-untold_of s = length s.got - s.told
+abbrev pub unacknowledged_of : TheSide → ℕ
+unacknowledged_of s = length s.got - s.told
 
 -- One look, take or tell, by what it came to. A tell writes where at least half of the slots are
 -- taken and not told, and needs one free slot.
@@ -247,10 +247,10 @@ SharedTakes s saw_ack t = (first : Frag) × (look_at first ≡ saw_ack) × SideS
 SharedTakes s (found frag) t = (first : Frag) × (look_at first ≡ saw frag) × SideGets s first t
 SharedTakes s found_ack t = (first : Frag) × (look_at first ≡ saw_ack) × SideGets s first t
 SharedTakes s missed t = SideMisses s t
-SharedTakes s told t = (s.size / 2 ≤ untold_of s) × (length s.sent < 2 ^ 62)
+SharedTakes s told t = (s.size / 2 ≤ unacknowledged_of s) × (length s.sent < 2 ^ 62)
     × ((m : TheSide) × Looked 1 s m × (1 ≤ free_of m) × (t ≡ side_written m acknowledgement))
-SharedTakes s kept t = (untold_of s < s.size / 2) × (t ≡ s)
-SharedTakes s no_room t = (s.size / 2 ≤ untold_of s)
+SharedTakes s kept t = (unacknowledged_of s < s.size / 2) × (t ≡ s)
+SharedTakes s no_room t = (s.size / 2 ≤ unacknowledged_of s)
     × (((length s.sent ≡ 2 ^ 62) × (t ≡ s)) ⊎ ((length s.sent < 2 ^ 62) × Looked 1 s t × (free_of s < 1) × (free_of t < 1)))
 SharedTakes s _ t = ⊥
 

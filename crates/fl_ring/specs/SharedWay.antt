@@ -9,15 +9,15 @@ use Rattle.fl_base.specs.Control.{epoch_of}
 use Rattle.fl_base.specs.Prefix.{IsPrefix}
 use Rattle.fl_link.specs.Cursor.{epoch_at}
 use Rattle.fl_ring.specs.Way.{slot, WayHolds}
-use Rattle.fl_ring.specs.declared.shared.board.Writing.{Writing}
-use Rattle.fl_ring.specs.declared.shared.board.Reading.{Reading}
+use Rattle.fl_ring.specs.declared.shared.board.WriterView.{WriterView}
+use Rattle.fl_ring.specs.declared.shared.board.ReaderView.{ReaderView}
 
 -- of those sent, this fragment comes next after those got
 abbrev pub IsNext : List Frag → List Frag → Frag → Type 0
 IsNext sent got frag = IsPrefix (got ++ frag ∷ []) sent
 
 -- the control word that was loaded last has the epoch that is due
-abbrev pub IsDue : ℕ → Reading → Type 0
+abbrev pub IsDue : ℕ → ReaderView → Type 0
 IsDue n r = epoch_of r.last ≡ epoch_at n (length r.got)
 
 -- Of some fragment, the next, these are the first payload words and the control word.
@@ -28,7 +28,7 @@ pub record IsLoaded (sent got : List Frag) (part : List ℕ) (last : ℕ) : Type
   pub words : (k : ℕ) → k < length part → slice_index part k ≡ slice_index frag.words k
 
 -- What holds at every moment of the way at word b with n slots, where so many fragments are told.
-pub record WayRuns (b n : ℕ) (words : List ℕ) (w : Writing) (r : Reading) (told : ℕ) : Type 0 where
+pub record WayRuns (b n : ℕ) (words : List ℕ) (w : WriterView) (r : ReaderView) (told : ℕ) : Type 0 where
   -- every fragment sent and not told is in its slot, and the epochs say so
   pub holds : WayHolds b n words w.sent told
   -- what was told was got, and what was got is a prefix of what was sent
@@ -47,7 +47,7 @@ pub record WayRuns (b n : ℕ) (words : List ℕ) (w : Writing) (r : Reading) (t
 
 -- Both sides' knowledge in one hand, of a way of n slots: what was got is a prefix of what was sent, what the writer knows
 -- was acknowledged, what was acknowledged was got, and no more than n were sent beyond what the writer knows.
-pub record WayNear (n : ℕ) (w : Writing) (r : Reading) : Type 0 where
+pub record WayNear (n : ℕ) (w : WriterView) (r : ReaderView) : Type 0 where
   pub got_sent : IsPrefix r.got w.sent
   pub known_told : w.known ≤ r.told
   pub told_got : r.told ≤ length r.got
@@ -60,45 +60,45 @@ abbrev pub frag_from : List ℕ → ℕ → Frag
 frag_from words control = record { words = words; control = control }
 
 -- one payload word more of the next slot is found to be this
-abbrev pub with_found : Writing → ℕ → Writing
+abbrev pub with_found : WriterView → ℕ → WriterView
 with_found w x = record { sent = w.sent; part = w.part ++ x ∷ []; known = w.known; loads = w.loads }
 
 -- a number is stored at payload word k of the next slot: known are the words before it and this one
-abbrev pub with_stored : Writing → ℕ → ℕ → Writing
+abbrev pub with_stored : WriterView → ℕ → ℕ → WriterView
 with_stored w k x = record { sent = w.sent; part = take k w.part ++ x ∷ []; known = w.known; loads = w.loads }
 
 -- a control word is stored: the fragment is put
-abbrev pub with_put : Writing → ℕ → Writing
+abbrev pub with_put : WriterView → ℕ → WriterView
 with_put w c = record { sent = w.sent ++ frag_from w.part c ∷ []; part = []; known = w.known; loads = w.loads }
 
 -- so many are known to be told, after a load
-abbrev pub with_known : Writing → ℕ → Writing
+abbrev pub with_known : WriterView → ℕ → WriterView
 with_known w k = record { sent = w.sent; part = w.part; known = k; loads = w.loads + 1 }
 
 -- how often nothing was found, once this control word is loaded
-abbrev pub misses_after : ℕ → Reading → ℕ → ℕ
+abbrev pub misses_after : ℕ → ReaderView → ℕ → ℕ
 misses_after n r c = if epoch_of c == epoch_at n (length r.got) then r.misses else r.misses + 1
 
 -- a control word is loaded; where it has the other epoch nothing is there
-abbrev pub with_control : ℕ → Reading → ℕ → Reading
+abbrev pub with_control : ℕ → ReaderView → ℕ → ReaderView
 with_control n r c = record { got = r.got; part = []; last = c; peeked = r.peeked; misses = misses_after n r c; told = r.told }
 
 -- a payload word is loaded
-abbrev pub with_loaded : Reading → ℕ → Reading
+abbrev pub with_loaded : ReaderView → ℕ → ReaderView
 with_loaded r x = record { got = r.got; part = r.part ++ x ∷ []; last = r.last; peeked = r.peeked; misses = r.misses; told = r.told }
 
 -- the fragment whose last payload word this is
-abbrev pub loaded_frag : Reading → ℕ → Frag
+abbrev pub loaded_frag : ReaderView → ℕ → Frag
 loaded_frag r x = frag_from (r.part ++ x ∷ []) r.last
 
 -- the last payload word is loaded, of a peek
-abbrev pub with_peeked : Reading → ℕ → Reading
+abbrev pub with_peeked : ReaderView → ℕ → ReaderView
 with_peeked r x = record { got = r.got; part = r.part ++ x ∷ []; last = r.last; peeked = Some (loaded_frag r x); misses = r.misses; told = r.told }
 
 -- the last payload word is loaded, of a take
-abbrev pub with_got : Reading → ℕ → Reading
+abbrev pub with_got : ReaderView → ℕ → ReaderView
 with_got r x = record { got = r.got ++ loaded_frag r x ∷ []; part = r.part ++ x ∷ []; last = r.last; peeked = None; misses = r.misses; told = r.told }
 
 -- so many are told
-abbrev pub with_told : Reading → ℕ → Reading
+abbrev pub with_told : ReaderView → ℕ → ReaderView
 with_told r t = record { got = r.got; part = r.part; last = r.last; peeked = r.peeked; misses = r.misses; told = t }

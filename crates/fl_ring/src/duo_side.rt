@@ -9,7 +9,7 @@ ghost use Rattle.fl_link.specs.Queue.{front_of};
 ghost use Rattle.fl_ring.specs.Duo.{half_has_room, side_of, got};
 ghost use Rattle.fl_ring.specs.Side.{SidePuts, SideTakes};
 
-use crate::one_duo::{OneDuo, Which};
+use crate::one_duo::{OneDuo, WhichSide};
 use fl_base::Frag;
 use fl_link::{PutFault, PutSide, Sight, TakeSide, Told};
 
@@ -17,13 +17,13 @@ use fl_link::{PutFault, PutSide, Sight, TakeSide, Told};
 #[derive(Drop)]
 pub struct DuoSide<'a> {
     pub(crate) duo: &'a mut OneDuo,
-    pub(crate) which: Which,
+    pub(crate) which: WhichSide,
 }
 
 impl OneDuo {
     /// The side of this name, for as long as it is lent.
     #[inline]
-    pub fn side(&mut self, which: Which) -> DuoSide<'_>
+    pub fn side(&mut self, which: WhichSide) -> DuoSide<'_>
         ensures same { result.duo.ghost_name ≡ self.entry.ghost_name }
         ensures ring { result.duo.now ≡ self.old }
         ensures side { result.which ≡ which }

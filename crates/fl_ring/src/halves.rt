@@ -10,7 +10,7 @@ ghost use Rattle.fl_link.specs.Queue.{BeginsWith};
 ghost use Rattle.fl_ring.specs.Counts.{count_from};
 ghost use Rattle.fl_ring.specs.Duo.{HalfPuts, HalfTakes, counts_by, free, looked, with_written, with_arrived, written};
 ghost use Rattle.fl_ring.specs.Halves.{InStep, half_of, Goes};
-ghost use Rattle.fl_ring.specs.declared.halves.Half.{Half};
+ghost use Rattle.fl_ring.specs.declared.halves.DuoHalf.{DuoHalf};
 
 use crate::counts::count_from;
 use crate::slots::{look, write_slot};
@@ -20,7 +20,7 @@ use fl_link::{Cursor, PutFault, SPENT, Sight, Told};
 /// A side: where its slots begin, where it stands in them and in the other side's, and what it
 /// knows and told.
 #[derive(Drop)]
-pub struct Half {
+pub struct DuoHalf {
     // the first word of the slots that it writes, and of those that it reads
     pub(crate) base: usize,
     pub(crate) other: usize,
@@ -32,9 +32,9 @@ pub struct Half {
     pub(crate) told: u64,
 }
 
-impl Half {
+impl DuoHalf {
     /// A side that writes the slots from word `base` on and reads those from `other` on, `size` each.
-    pub(crate) fn new(base: usize, other: usize, size: usize) -> Half
+    pub(crate) fn new(base: usize, other: usize, size: usize) -> DuoHalf
         requires { 0 < size }
         ensures start { result ≡ record {
           base = base;
@@ -45,7 +45,7 @@ impl Half {
           told = 0;
         } }
     {
-        Half {
+        DuoHalf {
             base,
             other,
             put: Cursor::new(size),
@@ -59,13 +59,13 @@ impl Half {
 // Looks at the first fragment of the other side that isn't taken yet, and knows the count that it
 // tells.
 #[inline(always)]
-fn look_back(words: &[u64], mine: &mut Half) -> Option<Frag>
-    requires { (n : ℕ) × (theirs : Half) × InStep n words.now mine.old theirs }
-    ensures looks { (n : ℕ) (theirs : Half) → InStep n words.now mine.old theirs → MatchOption result
+fn look_back(words: &[u64], mine: &mut DuoHalf) -> Option<Frag>
+    requires { (n : ℕ) × (theirs : DuoHalf) × InStep n words.now mine.old theirs }
+    ensures looks { (n : ℕ) (theirs : DuoHalf) → InStep n words.now mine.old theirs → MatchOption result
         (((half_of n words.now mine.old theirs).waiting ≡ []) × (mine.new ≡ mine.old))
         (λ frag. ((rest : List Frag) × ((half_of n words.now mine.old theirs).waiting ≡ frag ∷ rest))
         × (mine.new ≡ record mine.old { known = count_from mine.old.known (told_of frag.control) })) }
-    ensures steps { (n : ℕ) (theirs : Half) → InStep n words.now mine.old theirs → InStep n words.now mine.new theirs }
+    ensures steps { (n : ℕ) (theirs : DuoHalf) → InStep n words.now mine.old theirs → InStep n words.now mine.new theirs }
 {
     let slot = mine.other + 8 * mine.take.place();
     let Some(frag) = look(words, slot, mine.take.epoch()) else {
@@ -77,8 +77,8 @@ fn look_back(words: &[u64], mine: &mut Half) -> Option<Frag>
 
 // How many slots are free, as far as this side knows.
 #[inline]
-fn known_free(mine: &Half) -> u64
-    requires { (n : ℕ) × (words : List ℕ) × (theirs : Half) × InStep n words mine.now theirs }
+fn known_free(mine: &DuoHalf) -> u64
+    requires { (n : ℕ) × (words : List ℕ) × (theirs : DuoHalf) × InStep n words mine.now theirs }
     ensures free { result ≡ free mine.now.put.size mine.now.put.index mine.now.known }
 {
     mine.put.size() as u64 + mine.known - mine.put.index()
@@ -86,8 +86,8 @@ fn known_free(mine: &Half) -> u64
 
 /// Whether a put at this side would find room, by what the side knows.
 #[inline]
-pub(crate) fn room_at(mine: &Half) -> bool
-    requires { (n : ℕ) × (words : List ℕ) × (theirs : Half) × InStep n words mine.now theirs }
+pub(crate) fn room_at(mine: &DuoHalf) -> bool
+    requires { (n : ℕ) × (words : List ℕ) × (theirs : DuoHalf) × InStep n words mine.now theirs }
     ensures room { result ≡ (nat_lt mine.now.put.index (2 ^ 62) && nat_le 2 (free mine.now.put.size mine.now.put.index mine.now.known)) }
 {
     mine.put.index() < SPENT && known_free(mine) >= 2
@@ -95,9 +95,9 @@ pub(crate) fn room_at(mine: &Half) -> bool
 
 // Whether so many slots are free. Where too few are known to be, it looks at the other side's first
 // fragment and counts again.
-fn has_free(words: &[u64], mine: &mut Half, need: u64) -> bool
-    requires { (n : ℕ) × (theirs : Half) × InStep n words.now mine.old theirs }
-    ensures free { (n : ℕ) (theirs : Half) → InStep n words.now mine.old theirs → (result ≡ nat_le need (free n mine.old.put.index mine.new.known))
+fn has_free(words: &[u64], mine: &mut DuoHalf, need: u64) -> bool
+    requires { (n : ℕ) × (theirs : DuoHalf) × InStep n words.now mine.old theirs }
+    ensures free { (n : ℕ) (theirs : DuoHalf) → InStep n words.now mine.old theirs → (result ≡ nat_le need (free n mine.old.put.index mine.new.known))
         × (mine.new ≡ record mine.old { known = counts_by n need (half_of n words.now mine.old theirs) })
         × InStep n words.now mine.new theirs }
 {
@@ -110,10 +110,10 @@ fn has_free(words: &[u64], mine: &mut Half, need: u64) -> bool
 
 // Writes a fragment into the next slot. Its control word tells all that was taken.
 #[inline]
-fn write(words: &mut Vec<u64>, mine: &mut Half, frag: &Frag)
-    requires { (n : ℕ) × (theirs : Half) × InStep n words.old.items mine.old theirs
+fn write(words: &mut Vec<u64>, mine: &mut DuoHalf, frag: &Frag)
+    requires { (n : ℕ) × (theirs : DuoHalf) × InStep n words.old.items mine.old theirs
         × (mine.old.put.index < 2 ^ 62) × (mine.old.put.index + 1 ≤ mine.old.known + n) }
-    ensures steps { (n : ℕ) (theirs : Half) → InStep n words.old.items mine.old theirs
+    ensures steps { (n : ℕ) (theirs : DuoHalf) → InStep n words.old.items mine.old theirs
         → mine.old.put.index < 2 ^ 62 → mine.old.put.index + 1 ≤ mine.old.known + n
         → InStep n words.new.items mine.new theirs
         × (half_of n words.new.items mine.new theirs ≡ with_written (half_of n words.old.items mine.old theirs))
@@ -137,8 +137,8 @@ const ACKNOWLEDGEMENT: Frag = Frag {
 
 /// Puts a fragment at this side.
 #[inline]
-pub(crate) fn put_at(words: &mut Vec<u64>, mine: &mut Half, frag: &Frag) -> Result<(), PutFault>
-    requires steps { (n : ℕ) × (theirs : Half) × InStep n words.old.items mine.old theirs }
+pub(crate) fn put_at(words: &mut Vec<u64>, mine: &mut DuoHalf, frag: &Frag) -> Result<(), PutFault>
+    requires steps { (n : ℕ) × (theirs : DuoHalf) × InStep n words.old.items mine.old theirs }
     requires data { is_ack_only frag.now ≡ false }
     ensures placed { OnOk result (Goes HalfPuts words.old.items mine.old (placed (bare frag.now)) words.new.items mine.new) }
     ensures full { result ≡ Err PutFault.Full → Goes HalfPuts words.old.items mine.old no_room words.new.items mine.new }
@@ -156,10 +156,10 @@ pub(crate) fn put_at(words: &mut Vec<u64>, mine: &mut Half, frag: &Frag) -> Resu
 
 /// Looks at the first fragment that this side may take, and leaves it.
 #[inline(always)]
-pub(crate) fn peek_at(words: &[u64], mine: &mut Half) -> Sight
-    requires { (n : ℕ) × (theirs : Half) × InStep n words.now mine.old theirs }
+pub(crate) fn peek_at(words: &[u64], mine: &mut DuoHalf) -> Sight
+    requires { (n : ℕ) × (theirs : DuoHalf) × InStep n words.now mine.old theirs }
     ensures look { Goes HalfTakes words.now mine.old (peeked result) words.now mine.new }
-    ensures whole { (n : ℕ) (theirs : Half) → InStep n words.now mine.old theirs
+    ensures whole { (n : ℕ) (theirs : DuoHalf) → InStep n words.now mine.old theirs
         → (frag : Frag) → result ≡ Sight.Data frag → BeginsWith (half_of n words.now mine.old theirs).waiting frag }
     ensures of_call { (frag : Frag) → result ≡ Sight.Data frag → is_ack_only frag ≡ false }
 {
@@ -172,10 +172,10 @@ pub(crate) fn peek_at(words: &[u64], mine: &mut Half) -> Sight
 
 /// Takes the first fragment that this side may take.
 #[inline(always)]
-pub(crate) fn take_at(words: &[u64], mine: &mut Half) -> Sight
-    requires { (n : ℕ) × (theirs : Half) × InStep n words.now mine.old theirs }
+pub(crate) fn take_at(words: &[u64], mine: &mut DuoHalf) -> Sight
+    requires { (n : ℕ) × (theirs : DuoHalf) × InStep n words.now mine.old theirs }
     ensures look { Goes HalfTakes words.now mine.old (taken result) words.now mine.new }
-    ensures whole { (n : ℕ) (theirs : Half) → InStep n words.now mine.old theirs
+    ensures whole { (n : ℕ) (theirs : DuoHalf) → InStep n words.now mine.old theirs
         → (frag : Frag) → result ≡ Sight.Data frag → BeginsWith (half_of n words.now mine.old theirs).waiting frag }
 {
     let Some(frag) = look_back(words, mine) else {
@@ -189,13 +189,13 @@ pub(crate) fn take_at(words: &[u64], mine: &mut Half) -> Sight
 }
 
 /// Tells what this side has taken, where that is at least half of the slots.
-pub(crate) fn tell_at(words: &mut Vec<u64>, mine: &mut Half) -> Result<Told, PutFault>
-    requires { (n : ℕ) × (theirs : Half) × InStep n words.old.items mine.old theirs }
+pub(crate) fn tell_at(words: &mut Vec<u64>, mine: &mut DuoHalf) -> Result<Told, PutFault>
+    requires { (n : ℕ) × (theirs : DuoHalf) × InStep n words.old.items mine.old theirs }
     ensures tell { Goes HalfTakes words.old.items mine.old (tells result) words.new.items mine.new }
     ensures never_spent { result ≢ Err PutFault.Spent }
 {
-    let untold = mine.take.index() - mine.told;
-    if untold < mine.take.size() as u64 / 2 {
+    let unacknowledged = mine.take.index() - mine.told;
+    if unacknowledged < mine.take.size() as u64 / 2 {
         return Ok(Told::Nothing);
     }
     let sent = mine.put.index();

@@ -27,10 +27,11 @@ mod slots;
 pub use counts::count_from;
 pub use duo_side::DuoSide;
 pub use fault::RingFault;
+pub use fl_link::Told;
 pub use law::{
-    duo_conserves, forgets_looks, receiver_conserves, ring_conserves, sender_conserves,
-    side_conserves,
+    law_duo_conserves, law_forgets_looks, law_receiver_conserves, law_ring_conserves,
+    law_sender_conserves, law_side_conserves,
 };
-pub use one_duo::{OneDuo, Which};
+pub use one_duo::{OneDuo, WhichSide};
 pub use one_ring::OneRing;
 pub use shared::{RingRx, RingTx, SharedSide, duo, duo_from, ring, settle, settle_duo};

@@ -11,7 +11,7 @@ ghost use Rattle.fl_ring.specs.Duo.{TheDuo, DuoPuts, DuoTakes, DuoStands, MayHav
 ghost use Rattle.fl_ring.specs.Duo.{MayForget, knowing};
 
 use crate::fault::RingFault;
-use crate::halves::{Half, peek_at, put_at, room_at, take_at, tell_at};
+use crate::halves::{DuoHalf, peek_at, put_at, room_at, take_at, tell_at};
 use fl_base::{Frag, MAX_QUEUE};
 use fl_link::{PutFault, Sight, Told};
 use std::alloc::Global;
@@ -19,7 +19,7 @@ use std::marker::Model;
 
 /// The name of a side.
 #[derive(Clone, Copy, Debug, PartialEq, Eq)]
-pub enum Which {
+pub enum WhichSide {
     /// The side whose slots come first.
     One,
     /// The side across.
@@ -31,8 +31,8 @@ pub enum Which {
 #[derive(Drop)]
 pub struct OneDuo {
     words: Vec<u64>,
-    one: Half,
-    two: Half,
+    one: DuoHalf,
+    two: DuoHalf,
 }
 
 impl Model for OneDuo {
@@ -66,8 +66,8 @@ impl OneDuo {
         };
         Ok(OneDuo {
             words,
-            one: Half::new(0, 8 * size, size),
-            two: Half::new(8 * size, 0, size),
+            one: DuoHalf::new(0, 8 * size, size),
+            two: DuoHalf::new(8 * size, 0, size),
         })
     }
 
@@ -79,21 +79,21 @@ impl OneDuo {
     /// other side's first fragment (E30): the side knows then what that fragment tells, and nothing else has
     /// changed.
     #[inline]
-    pub fn put(&mut self, which: Which, frag: &Frag) -> Result<(), PutFault>
+    pub fn put(&mut self, which: WhichSide, frag: &Frag) -> Result<(), PutFault>
         requires { is_ack_only frag.now ≡ false }
         ensures placed { OnOk result (DuoPuts which self.old (placed (bare frag.now)) self.new) }
         ensures full { result ≡ Err PutFault.Full → DuoPuts which self.old no_room self.new }
         ensures spent { result ≡ Err PutFault.Spent → DuoPuts which self.old spent self.new }
     {
         match which {
-            Which::One => put_at(&mut self.words, &mut self.one, frag),
-            Which::Two => put_at(&mut self.words, &mut self.two, frag),
+            WhichSide::One => put_at(&mut self.words, &mut self.one, frag),
+            WhichSide::Two => put_at(&mut self.words, &mut self.two, frag),
         }
     }
 
     /// What stands first for this side, which is left there. The side knows then what it tells.
     #[inline(always)]
-    pub fn peek(&mut self, which: Which) -> Sight
+    pub fn peek(&mut self, which: WhichSide) -> Sight
         ensures look { DuoTakes which self.old (peeked result) self.new }
         ensures again { (frag : Frag) → front_of (side_of which self.old).waiting ≡ saw frag → peeked result ≡ saw frag }
         ensures again_acknowledged { front_of (side_of which self.old).waiting ≡ saw_ack → peeked result ≡ saw_ack }
@@ -101,49 +101,49 @@ impl OneDuo {
         ensures of_call { (frag : Frag) → result ≡ Sight.Data frag → is_ack_only frag ≡ false }
     {
         match which {
-            Which::One => peek_at(&self.words, &mut self.one),
-            Which::Two => peek_at(&self.words, &mut self.two),
+            WhichSide::One => peek_at(&self.words, &mut self.one),
+            WhichSide::Two => peek_at(&self.words, &mut self.two),
         }
     }
 
     /// Takes what stands first for this side.
     #[inline(always)]
-    pub fn take(&mut self, which: Which) -> Sight
+    pub fn take(&mut self, which: WhichSide) -> Sight
         ensures look { DuoTakes which self.old (taken result) self.new }
         ensures whole { (frag : Frag) → result ≡ Sight.Data frag → BeginsWith (side_of which self.old).waiting frag }
     {
         match which {
-            Which::One => take_at(&self.words, &mut self.one),
-            Which::Two => take_at(&self.words, &mut self.two),
+            WhichSide::One => take_at(&self.words, &mut self.one),
+            WhichSide::Two => take_at(&self.words, &mut self.two),
         }
     }
 
     /// Forgets what this side learned by looks: `known` is what it knew before them. So a caller that looked and then is
     /// refused as out of memory leaves the ring as it was (`forgets_looks`).
-    pub fn forget(&mut self, which: Which, known: u64)
+    pub fn forget(&mut self, which: WhichSide, known: u64)
         requires before { MayForget self.old.size (side_of which self.old) known }
         ensures forgotten { self.new ≡ knowing which self.old known }
     {
         match which {
-            Which::One => self.one.known = known,
-            Which::Two => self.two.known = known,
+            WhichSide::One => self.one.known = known,
+            WhichSide::Two => self.two.known = known,
         }
     }
 
     /// Tells what this side has taken, by a fragment that only acknowledges: where at least half of the slots
-    /// are read and untold (else it answers `Nothing`, and nothing has changed).
+    /// are read and unacknowledged (else it answers `Nothing`, and nothing has changed).
     ///
     /// # Errors
     /// There is so much to tell, and the side has put 2^62 fragments, or no slot is free, also after a look
     /// at the other side's first fragment (both E30, never E33): nothing has changed but what the side knows.
     #[inline]
-    pub fn tell(&mut self, which: Which) -> Result<Told, PutFault>
+    pub fn tell(&mut self, which: WhichSide) -> Result<Told, PutFault>
         ensures tell { DuoTakes which self.old (tells result) self.new }
         ensures never_spent { result ≢ Err PutFault.Spent }
     {
         match which {
-            Which::One => tell_at(&mut self.words, &mut self.one),
-            Which::Two => tell_at(&mut self.words, &mut self.two),
+            WhichSide::One => tell_at(&mut self.words, &mut self.one),
+            WhichSide::Two => tell_at(&mut self.words, &mut self.two),
         }
     }
 
@@ -157,48 +157,48 @@ impl OneDuo {
 
     /// Whether a put at this side would find room, by what the side knows.
     #[inline]
-    pub fn room(&self, which: Which) -> bool
+    pub fn room(&self, which: WhichSide) -> bool
         ensures room { result ≡ half_has_room self.now.size (side_of which self.now) }
     {
         match which {
-            Which::One => room_at(&self.one),
-            Which::Two => room_at(&self.two),
+            WhichSide::One => room_at(&self.one),
+            WhichSide::Two => room_at(&self.two),
         }
     }
 
     /// The epoch bit of the fragment that this side puts next.
     #[inline]
-    pub fn next_epoch(&self, which: Which) -> u64
+    pub fn next_epoch(&self, which: WhichSide) -> u64
         ensures epoch { result ≡ epoch_at self.now.size (side_of which self.now).sent }
         ensures bit { result < 2 }
     {
         match which {
-            Which::One => self.one.put.epoch(),
-            Which::Two => self.two.put.epoch(),
+            WhichSide::One => self.one.put.epoch(),
+            WhichSide::Two => self.two.put.epoch(),
         }
     }
 
     /// Bits 48 to 63 of the fragment that this side puts next: how many it has taken, modulo 65,536.
     #[inline]
-    pub fn next_told(&self, which: Which) -> u16
+    pub fn next_told(&self, which: WhichSide) -> u16
         ensures told { result ≡ got (side_of which self.now) % 65536 }
     {
         match which {
-            Which::One => (self.one.take.index() % 65_536) as u16,
-            Which::Two => (self.two.take.index() % 65_536) as u16,
+            WhichSide::One => (self.one.take.index() % 65_536) as u16,
+            WhichSide::Two => (self.two.take.index() % 65_536) as u16,
         }
     }
 
     /// How many of its fragments this side knows to be taken. That number was told, and the side
     /// has put no more than its slots beyond it: so 16 bits of a count name it.
     #[inline]
-    pub fn known(&self, which: Which) -> u64
+    pub fn known(&self, which: WhichSide) -> u64
         ensures known { result ≡ (side_of which self.now).known }
         ensures near { CountsAreNear self.now.size (side_of which self.now) (across which self.now) }
     {
         match which {
-            Which::One => self.one.known,
-            Which::Two => self.two.known,
+            WhichSide::One => self.one.known,
+            WhichSide::Two => self.two.known,
         }
     }
 }

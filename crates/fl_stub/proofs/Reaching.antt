@@ -4,10 +4,10 @@ use Rattle.std.proofs.Math.Nat.{mod-lt, mod-le, mod-eq_of_lt, mod-one}
 use Rattle.std.proofs.Math.Seq.{drop-append_seam}
 use Rattle.std.proofs.lemmas.Bool.{cases_lt}
 use Rattle.std.proofs.lemmas.List.{length-append, append-nil, get_or_append_left, get_or-append_right, get_or_past, get_or-drop, get_or-replicate, length-replicate, drop-drop}
-use Rattle.fl_stub.specs.declared.mark.Mark.{Mark}
-use Rattle.fl_stub.specs.declared.mark.Mark.TheVariants.{Zero}
+use Rattle.fl_stub.specs.declared.mark.ByteKind.{ByteKind}
+use Rattle.fl_stub.specs.declared.mark.ByteKind.TheVariants.{Zero}
 use Rattle.fl_stub.specs.Structure.{Block}
-use Rattle.fl_stub.specs.Meaning.{number_bytes, Moment, moment_first, moment_last, Turns}
+use Rattle.fl_stub.specs.Meaning.{number_bytes, StubMoment, moment_first, moment_last, Turns}
 use Rattle.fl_stub.specs.Given.{bytes_given}
 use Rattle.fl_stub.specs.Marks.{marks_of, mark_at}
 use Rattle.fl_stub.specs.Streams.{Follows, GoesOn, BeginsPayload, IsPayload, LeavesPayloads}
@@ -31,7 +31,7 @@ end_field f k s e = record {
   turns = λ at.
       let long : at + f.width + length e.bytes ≡ at + length (number_bytes f.width f.least ++ e.bytes)
       = omega (arith, length-append (number_bytes f.width f.least) e.bytes, length_bytes f.width f.least) in
-      let l : Moment = record { at = at + f.width; tape = e.tape; bytes = e.bytes } in (
+      let l : StubMoment = record { at = at + f.width; tape = e.tape; bytes = e.bytes } in (
         f.least,
         l,
         record { at_least = omega arith; below = s.some; tape = refl; bytes = refl; at = refl },
@@ -54,9 +54,9 @@ pub turns_on : (b : Block) (f : TheField) (k : ℕ → Rest) (taken done : List 
 turns_on b f k taken done x reach low high =
     let e = ends (k x) (reach.sound.1 x low high) in
     let bytes : List ℕ = number_bytes f.width x ++ e.bytes in
-    let m : Moment = record { at = length done; tape = onto f.told x e.tape; bytes = bytes } in
-    let l : Moment = record { at = length done + f.width; tape = e.tape; bytes = e.bytes } in
-    let n : Moment = moment_last (length done + f.width + length e.bytes) in
+    let m : StubMoment = record { at = length done; tape = onto f.told x e.tape; bytes = bytes } in
+    let l : StubMoment = record { at = length done + f.width; tape = e.tape; bytes = e.bytes } in
+    let n : StubMoment = moment_last (length done + f.width + length e.bytes) in
     let turns : RestTurns (takes f k) m n = (x, l, record { at_least = low; below = high; tape = refl; bytes = refl; at = refl }, e.turns (length done + f.width)) in
     let long : length done + f.width + length e.bytes ≡ length (done ++ bytes)
     = omega (arith, length-append done bytes, length-append (number_bytes f.width x) e.bytes, length_bytes f.width x) in
@@ -146,14 +146,14 @@ goes_into b f k taken done all left tape full p reach is far g =
 mark_there : (b : Block) (f : TheField) (k : ℕ → Rest) (taken done tail : List ℕ) (j : ℕ) → Reaches (rest_all b) (takes f k) taken done → j < f.width
     → f.mark ≡ mark_at (marks_of b (taken ++ tail)) (length done + j)
 mark_there b f k taken done tail j reach less =
-    let marks : List Mark = rest_marks (rest_all b) (taken ++ tail) in
-    let here : List Mark = replicate f.width f.mark in
-    let more : List Mark = rest_marks (k (told_number f.told tail)) (told_rest f.told tail) in
+    let marks : List ByteKind = rest_marks (rest_all b) (taken ++ tail) in
+    let here : List ByteKind = replicate f.width f.mark in
+    let more : List ByteKind = rest_marks (k (told_number f.told tail)) (told_rest f.told tail) in
     sym (get_or-replicate f.width j f.mark Zero less)
     ∙ sym (get_or_append_left here more Zero j (omega (arith, less, length-replicate f.width f.mark)))
-    ∙ ap (λ (z : List Mark). get_or z j Zero) (sym (reach.marks tail))
+    ∙ ap (λ (z : List ByteKind). get_or z j Zero) (sym (reach.marks tail))
     ∙ get_or-drop (length done) marks j Zero
-    ∙ ap (λ (z : List Mark). get_or z (length done + j) Zero) (sym (all_marks b (taken ++ tail)))
+    ∙ ap (λ (z : List ByteKind). get_or z (length done + j) Zero) (sym (all_marks b (taken ++ tail)))
 
 -- a number's byte with which no number of the field goes on, and the first such
 pub record IsWrong (f : TheField) (low j : ℕ) : Type 0 where
@@ -267,7 +267,7 @@ begins_payload b r taken done all have value reach part is =
 
 end_turns : (b : Block) (taken done : List ℕ) → Reaches (rest_all b) no_more taken done → Turns b taken done
 end_turns b taken done reach =
-    let m : Moment = moment_last (length done) in
+    let m : StubMoment = moment_last (length done) in
     let t : RestTurns (rest_all b) (moment_first (taken ++ []) (done ++ [])) m = reach.to m m refl refl in
     turns_tree b taken done (subst (λ (x : List ℕ). RestTurns (rest_all b) (moment_first taken x) m) (append-nil done) (subst (λ (x : List ℕ). RestTurns (rest_all b) (moment_first x (done ++ [])) m) (append-nil taken) t))
 
@@ -304,14 +304,14 @@ leaves_end b r taken done all left p reach ended is inside zeros wrong =
       goes = record { turns = end_turns b taken done at; follows = subst (λ (z : List ℕ). Follows (length done + p) z done) (sym is) (end_follows done left (length done + p) p refl zeros) };
       none = λ tape2 full2 g.
           let h = goes_from b no_more taken done all left tape2 full2 (length done + p + 1) at is (omega arith) g in
-          let nothing : h.m.bytes ≡ [] = ap Moment.bytes h.turns in
+          let nothing : h.m.bytes ≡ [] = ap StubMoment.bytes h.turns in
           let same : full2 ≡ done = h.full_is ∙ ap (λ (z : List ℕ). done ++ z) nothing ∙ append-nil done in
           let there : get_or left p 0 ≡ get_or all (length done + p) 0
           = ap (λ (i : ℕ). get_or left i 0) (omega arith) ∙ sym (get_or-append_right done left (length done) (length done + p) 0 refl (omega arith)) ∙ ap (λ (z : List ℕ). get_or z (length done + p) 0) (sym is) in
           wrong (there ∙ g.follows.each (length done + p) (omega arith) ∙ ap (λ (z : List ℕ). get_or z (length done + p) 0) same ∙ get_or_past done (length done + p) 0 (omega arith));
       is =
-          let none : get_or (drop (length done) (rest_marks (rest_all b) (taken ++ []))) p Zero ≡ Zero = ap (λ (z : List Mark). get_or z p Zero) (at.marks []) ∙ get_or_past {X = Mark} [] p Zero (omega arith) in
-          sym (ap (λ (z : List Mark). get_or z (length done + p) Zero) (all_marks b taken)
+          let none : get_or (drop (length done) (rest_marks (rest_all b) (taken ++ []))) p Zero ≡ Zero = ap (λ (z : List ByteKind). get_or z p Zero) (at.marks []) ∙ get_or_past {X = ByteKind} [] p Zero (omega arith) in
+          sym (ap (λ (z : List ByteKind). get_or z (length done + p) Zero) (all_marks b taken)
           ∙ ap (λ (z : List ℕ). get_or (rest_marks (rest_all b) z) (length done + p) Zero) (sym (append-nil taken))
           ∙ sym (get_or-drop (length done) (rest_marks (rest_all b) (taken ++ [])) p Zero)
           ∙ none);
@@ -321,7 +321,7 @@ leaves_end b r taken done all left p reach ended is inside zeros wrong =
 
 pub reach_first : (b : Block) → AllSound (rest_all b) → Reaches (rest_all b) (rest_all b) [] []
 reach_first b sound = record {
-  to = λ m n e t. let start : m ≡ moment_first m.tape m.bytes = λ i. record { at = e i; tape = m.tape; bytes = m.bytes } in subst (λ (z : Moment). RestTurns (rest_all b) z n) start t;
+  to = λ m n e t. let start : m ≡ moment_first m.tape m.bytes = λ i. record { at = e i; tape = m.tape; bytes = m.bytes } in subst (λ (z : StubMoment). RestTurns (rest_all b) z n) start t;
   from = λ tape full n t f. record { m = moment_first tape full; at = refl; tape_is = refl; full_is = refl; turns = t };
   gives = λ tape. refl;
   marks = λ tape. refl;
@@ -353,10 +353,10 @@ reach_field whole f k taken done x h low high =
     let long : length (done ++ bytes) ≡ length done + f.width = long_prefix done f.width x in
     let tall = sound.high in
     let fits : x < 256 ^ f.width = omega (arith, high, tall) in
-    let none : f.told ≡ false → x ≡ 0 = λ e. let one = sound.untold e in omega (arith, one, high) in
+    let none : f.told ≡ false → x ≡ 0 = λ e. let one = sound.unacknowledged e in omega (arith, one, high) in
     record {
       to = λ m n at t.
-          let before : Moment = record { at = length done; tape = onto f.told x m.tape; bytes = bytes ++ m.bytes } in
+          let before : StubMoment = record { at = length done; tape = onto f.told x m.tape; bytes = bytes ++ m.bytes } in
           let made = h.to before n refl (x, m, record { at_least = low; below = high; tape = refl; bytes = refl; at = at ∙ long }, t) in
           subst (λ (z : List ℕ). RestTurns whole (moment_first ((taken ++ told f.told x) ++ m.tape) z) n) (sym (append_assoc done bytes m.bytes))
           (subst (λ (z : List ℕ). RestTurns whole (moment_first z (done ++ (bytes ++ m.bytes))) n) (tell f.told x taken m.tape) made);
@@ -385,7 +385,7 @@ reach_field whole f k taken done x h low high =
           ∙ sym (append_assoc done bytes (rest_bytes (k x) tape));
       marks = λ tape.
           let (one, two) = tells f.told x tape none in
-          let all : List Mark = rest_marks whole ((taken ++ told f.told x) ++ tape) in
+          let all : List ByteKind = rest_marks whole ((taken ++ told f.told x) ++ tape) in
           let after : drop (length done) all ≡ replicate f.width f.mark ++ rest_marks (k x) tape
           = ap (λ (z : List ℕ). drop (length done) (rest_marks whole z)) (sym (tell f.told x taken tape))
           ∙ h.marks (onto f.told x tape)
@@ -411,7 +411,7 @@ shows_bytes b r taken done all have value reach (inr part) is =
     let f = part.field in
     let at : Reaches (rest_all b) (takes f part.after) taken done = subst (λ (z : Rest). Reaches (rest_all b) z taken done) part.is reach in
     let tape : List ℕ = value ∷ [] in
-    let x : told_number f.told tape ≡ value = by_told f.told (λ e. let one = at.sound.0.untold e in let below = part.below in omega (arith, one, below)) in
+    let x : told_number f.told tape ≡ value = by_told f.told (λ e. let one = at.sound.0.unacknowledged e in let below = part.below in omega (arith, one, below)) in
     let more : List ℕ = rest_bytes (part.after (told_number f.told tape)) (told_rest f.told tape) in
     let given : bytes_given b (taken ++ tape) ≡ done ++ (number_bytes f.width value ++ more)
     = all_bytes b (taken ++ tape) ∙ at.gives tape ∙ ap (λ (z : ℕ). done ++ (number_bytes f.width z ++ more)) x in

@@ -7,11 +7,11 @@ use Rattle.fl_stub.specs.declared.op.Op.{Op}
 use Rattle.fl_stub.specs.declared.op.Op.TheVariants.{Emit, Pad, Align, Length, Times, Each, Back, End, Read, ReadBool, ReadEnum, ReadChar, Skip, ReadLength, ReadText, Done}
 use Rattle.fl_stub.specs.declared.op.Column.{Column}
 use Rattle.fl_stub.specs.declared.op.Column.TheVariants.{Send, Receive}
-use Rattle.fl_stub.specs.declared.walk.Standing.TheVariants.{Inside, AfterLength, Ended}
+use Rattle.fl_stub.specs.declared.walk.WalkState.TheVariants.{Inside, AfterLength, Ended}
 use Rattle.fl_stub.specs.Structure.{one, times, counted, Block, is_step, is_within}
 use Rattle.fl_stub.specs.Frames.{frames_of}
 use Rattle.fl_stub.specs.Walk.{accepts, is_send, is_receive}
-use Rattle.fl_stub.specs.Spots.{outer}
+use Rattle.fl_stub.specs.Locations.{outer}
 use Rattle.fl_stub.proofs.Stacks.{goes_on, step_frames}
 use Rattle.fl_stub.proofs.Steps.{same_outer, closes_outer, step_place_in}
 

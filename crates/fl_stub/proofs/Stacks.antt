@@ -4,7 +4,7 @@ use Rattle.fl_stub.specs.declared.op.Op.{Op}
 use Rattle.fl_stub.specs.declared.op.Op.TheVariants.{Emit, Pad, Align, Times, Each, Back, Read, ReadBool, ReadEnum, ReadChar, Skip, ReadText}
 use Rattle.fl_stub.specs.declared.op.Column.{Column}
 use Rattle.fl_stub.specs.declared.op.Column.TheVariants.{Send, Receive}
-use Rattle.fl_stub.specs.declared.walk.Standing.{Standing}
+use Rattle.fl_stub.specs.declared.walk.WalkState.{WalkState}
 use Rattle.fl_stub.specs.Structure.{Piece, one, times, counted, Block, finished, next, is_step, is_within, length_op, last_op, piece_ops, block_ops, piece_fits, block_fits, piece_depth, block_depth}
 use Rattle.fl_stub.specs.Frames.{starts_with, closes, frames_of}
 use Rattle.fl_stub.specs.Walk.{accepts, if_so}
@@ -93,11 +93,11 @@ closed column d loop prefix ops blocks fit is s =
     subst (λ (x : List Block). IsStack column d (prefix ++ ops) (closes loop x)) (sym i.blocks_are) at
 
 -- the walk goes on only where the test holds
-pub record GoesOn (column : Column) (test : Bool) (standing : Standing) (ops : List Op) : Type 0 where
+pub record GoesOn (column : Column) (test : Bool) (standing : WalkState) (ops : List Op) : Type 0 where
   pub so : test ≡ true
   pub on : accepts column (Some standing) ops ≡ true
 
-pub goes_on : (column : Column) (test : Bool) (standing : Standing) (ops : List Op) → accepts column (if_so test standing) ops ≡ true → GoesOn column test standing ops
+pub goes_on : (column : Column) (test : Bool) (standing : WalkState) (ops : List Op) → accepts column (if_so test standing) ops ≡ true → GoesOn column test standing ops
 goes_on column true standing ops h = record { so = refl; on = h }
 goes_on column false standing ops h = absurd (cc)
 

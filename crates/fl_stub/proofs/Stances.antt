@@ -7,13 +7,13 @@ use borrow.Author.Tests.{ltb-true, eqb-true, eqb-false, leb-true}
 use Rattle.fl_stub.specs.declared.op.Op.{Op}
 use Rattle.fl_stub.specs.declared.op.Column.TheVariants.{Receive}
 use Rattle.fl_stub.specs.declared.op.Op.TheVariants.{Align, Times, Each, Back, Read, ReadBool, ReadEnum, ReadChar, Skip, ReadLength, ReadText, Done}
-use Rattle.fl_stub.specs.declared.walk.Standing.TheVariants.{Inside, AfterLength, Ended}
+use Rattle.fl_stub.specs.declared.walk.WalkState.TheVariants.{Inside, AfterLength, Ended}
 use Rattle.fl_stub.specs.Structure.{one, times, counted, Block, finished, is_step, is_width, is_within, IsCode}
 use Rattle.fl_stub.specs.Frames.{starts_with, closes, frames_of, innermost, block_of}
-use Rattle.fl_stub.specs.declared.mark.Mark.TheVariants.{Length as LengthMark}
-use Rattle.fl_stub.specs.Meaning.{Move, number, zeros, zeros_to_8, move_of, gap_to_8}
+use Rattle.fl_stub.specs.declared.mark.ByteKind.TheVariants.{Length as LengthMark}
+use Rattle.fl_stub.specs.Meaning.{OpMove, number, zeros, zeros_to_8, move_of, gap_to_8}
 use Rattle.fl_stub.specs.Walk.{accepts}
-use Rattle.fl_stub.specs.Spots.{TheLoop, outer}
+use Rattle.fl_stub.specs.Locations.{TheLoop, outer}
 use Rattle.fl_stub.specs.Rests.{TheField, Rest, no_more, goes_by, takes, field_of, length_field, rest_field, rest_turns, rest_block, rest_after, rest_open, rest_from, rest_all, left_behind, taken_field, is_taken, is_silent, ReceiveLoops, IsStance, Reaches}
 use Rattle.fl_stub.proofs.Stacks.{IsOpen, goes_on, step_frames}
 use Rattle.fl_stub.proofs.Structures.{sound, accepts_code, whole_frames}
@@ -282,7 +282,7 @@ step_or_length (Skip n) h = inl (record { step = h; field = λ at. refl })
 step_or_length Align h = inl (record { step = h; field = λ at. refl })
 step_or_length op h = absurd (cc)
 
-pub no_length : (move : Move) (at : ℕ) → (field_of move at).mark ≡ LengthMark → ⊥
+pub no_length : (move : OpMove) (at : ℕ) → (field_of move at).mark ≡ LengthMark → ⊥
 no_length (number width least bound) at e = absurd (cc)
 no_length (zeros count) at e = absurd (cc)
 no_length zeros_to_8 at e = absurd (cc)

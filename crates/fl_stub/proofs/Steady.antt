@@ -3,9 +3,9 @@ use Rattle.std.proofs.Common.{◌≡◌, ℕ, zero, suc, ◌+◌, ◌-◌, ◌%�
 use Rattle.fl_stub.specs.declared.op.Op.{Op}
 use Rattle.fl_stub.specs.Structure.{Piece, one, times, counted, Block, finished, next}
 use Rattle.fl_stub.specs.Frames.{innermost, block_of}
-use Rattle.fl_stub.specs.Meaning.{Move, number, zeros, zeros_to_8, move_of, gap_to_8}
+use Rattle.fl_stub.specs.Meaning.{OpMove, number, zeros, zeros_to_8, move_of, gap_to_8}
 use Rattle.fl_stub.specs.Given.{Given, Giver, first_of_tape, nothing_given, then_given, number_given, zeros_given, move_given, turn_given, turns_given, piece_given, block_given}
-use Rattle.fl_stub.specs.Spots.{TheLoop, outer, after_given, open_given}
+use Rattle.fl_stub.specs.Locations.{TheLoop, outer, after_given, open_given}
 
 -- the same but for a multiple of 8 in the place
 pub record Alike (g h : Given) : Type 0 where
@@ -36,7 +36,7 @@ steady_zeros count at at2 tape e = record { bytes = refl; at = same_rest at at2 
 steady_number : (width : ℕ) → IsSteady (number_given width)
 steady_number width at at2 tape e = record { bytes = refl; at = same_rest at at2 width e; tape = refl; steps = refl }
 
-steady_move : (move : Move) → IsSteady (move_given move)
+steady_move : (move : OpMove) → IsSteady (move_given move)
 steady_move (number width least bound) at at2 tape e = steady_number width at at2 tape e
 steady_move (zeros count) at at2 tape e = steady_zeros count at at2 tape e
 steady_move zeros_to_8 at at2 tape e =

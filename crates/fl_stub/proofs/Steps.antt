@@ -1,4 +1,4 @@
--- One instruction of send code: what is given from the spot after it.
+-- One instruction of send code: what is given from the location after it.
 use Rattle.std.proofs.Common.{◌≡◌, ℕ, zero, suc, ◌+◌, ◌-◌, ◌%◌, ◌^◌, ◌<◌, ◌≤◌, Bool, true, false, ◌&&◌, List, [], ◌∷◌, ◌++◌, Option, Some, length, drop, refl, sym, ◌∙◌, ap, subst, arith, append_assoc, add-one}
 use Rattle.std.specs.Prelude.{nat_lt, ◌==◌}
 use Rattle.std.specs.Cmp.{first_so, second_so}
@@ -9,14 +9,14 @@ use Rattle.fl_stub.specs.declared.op.Op.{Op}
 use Rattle.fl_stub.specs.declared.op.Op.TheVariants.{Emit, Pad, Align, Length, Times, Each, Back, End}
 use Rattle.fl_stub.specs.declared.op.Column.{Column}
 use Rattle.fl_stub.specs.declared.op.Column.TheVariants.{Send}
-use Rattle.fl_stub.specs.declared.walk.Standing.{Standing}
-use Rattle.fl_stub.specs.declared.walk.Standing.TheVariants.{Inside, AfterLength, Ended}
+use Rattle.fl_stub.specs.declared.walk.WalkState.{WalkState}
+use Rattle.fl_stub.specs.declared.walk.WalkState.TheVariants.{Inside, AfterLength, Ended}
 use Rattle.fl_stub.specs.Structure.{Piece, one, times, counted, Block, finished, is_step, is_within, IsCode}
 use Rattle.fl_stub.specs.Frames.{starts_with, closes, frames_of, innermost, block_of}
 use Rattle.fl_stub.specs.Meaning.{move_of, number_bytes}
 use Rattle.fl_stub.specs.Walk.{accepts}
 use Rattle.fl_stub.specs.Given.{Given, Giver, first_of_tape, rest_of_tape, nothing_given, then_given, number_given, move_given, turn_given, turns_given, block_given}
-use Rattle.fl_stub.specs.Spots.{TheLoop, TheSpot, outer, after_given, open_given, spot_given, bytes_from, IsPlace, LoopsStand, IsSpot, StepsTo}
+use Rattle.fl_stub.specs.Locations.{TheLoop, TheEndLocation, outer, after_given, open_given, location_given, bytes_from, IsPlace, LoopsStand, IsLocation, StepsTo}
 use Rattle.fl_stub.proofs.Stacks.{IsOpen, goes_on, step_frames}
 use Rattle.fl_stub.proofs.Structures.{sound, step_goes, accepts_code}
 use Rattle.fl_stub.proofs.Steady.{Alike, steady_open}
@@ -45,7 +45,7 @@ same_outer p [] = refl
 same_outer p (b ∷ around) = refl
 
 pub step_place_in : (column : Column) (op : Op) (d : ℕ) (rest : List Op) → is_step column op ≡ true → accepts column (Some (Inside d)) (op ∷ rest) ≡ true → accepts column (Some (Inside d)) rest ≡ true
-step_place_in column op d rest so h = sym (ap (λ (s : Option Standing). accepts column s rest) (step_goes column d op so)) ∙ h
+step_place_in column op d rest so h = sym (ap (λ (s : Option WalkState). accepts column s rest) (step_goes column d op so)) ∙ h
 
 pub step_place : (op : Op) (d : ℕ) (rest : List Op) → is_step Send op ≡ true → accepts Send (Some (Inside d)) (op ∷ rest) ≡ true → accepts Send (Some (Inside d)) rest ≡ true
 step_place op d rest so h = step_place_in Send op d rest so h
@@ -54,24 +54,24 @@ no_bytes : (width value : ℕ) (more : List ℕ) → width ≡ 0 → number_byte
 no_bytes width value more e = ap (λ (w : ℕ). number_bytes w value ++ more) e
 
 -- one step, and its bytes pending
-pub moved : (ops : List Op) (s : TheSpot) (op : Op) (value width : ℕ) → drop s.place ops ≡ op ∷ drop (s.place + 1) ops → IsSpot ops s → s.width ≡ 0 → is_step Send op ≡ true
+pub moved : (ops : List Op) (s : TheEndLocation) (op : Op) (value width : ℕ) → drop s.place ops ≡ op ∷ drop (s.place + 1) ops → IsLocation ops s → s.width ≡ 0 → is_step Send op ≡ true
     → (move_given (move_of op) s.at s.tape).bytes ≡ number_bytes width value → (move_given (move_of op) s.at s.tape).steps ≡ 1 → width ≤ 8 → value < 256 ^ width
     → StepsTo ops s (record { place = s.place + 1; loops = s.loops; tape = (move_given (move_of op) s.at s.tape).tape; at = (move_given (move_of op) s.at s.tape).at % 8; value = value; width = width })
-moved ops s op value width e spot idle so bytes steps few small =
+moved ops s op value width e location idle so bytes steps few small =
     let d = length s.loops in
     let rest = drop (s.place + 1) ops in
     let g = move_given (move_of op) s.at s.tape in
-    let here : accepts Send (Some (Inside d)) (op ∷ rest) ≡ true = subst (λ (x : List Op). accepts Send (Some (Inside d)) x ≡ true) e spot.place in
+    let here : accepts Send (Some (Inside d)) (op ∷ rest) ≡ true = subst (λ (x : List Op). accepts Send (Some (Inside d)) x ≡ true) e location.place in
     let there = step_place op d rest so here in
     let frames : frames_of (drop s.place ops) ≡ starts_with (one op) (frames_of rest) = ap frames_of e ∙ step_frames Send op rest so in
-    let given : spot_given ops s ≡ then_given g (open_given ops (frames_of rest) s.loops)
-    = ap (λ (x : List Block). open_given ops x s.loops s.at s.tape) frames ∙ step_open ops op d (frames_of rest) s.loops s.at s.tape (opened ops d rest spot.depth there) in
+    let given : location_given ops s ≡ then_given g (open_given ops (frames_of rest) s.loops)
+    = ap (λ (x : List Block). open_given ops x s.loops s.at s.tape) frames ∙ step_open ops op d (frames_of rest) s.loops s.at s.tape (opened ops d rest location.depth there) in
     let alike : Alike (open_given ops (frames_of rest) s.loops g.at g.tape) (open_given ops (frames_of rest) s.loops (g.at % 8) g.tape)
     = steady_open ops (frames_of rest) s.loops g.at (g.at % 8) g.tape (omega arith) in
     let around : outer (frames_of (drop s.place ops)) ≡ outer (frames_of rest) = ap outer frames ∙ same_outer (one op) (frames_of rest) in
     record {
-      spot = record { depth = spot.depth; place = there; loops = subst (λ (x : List Block). LoopsStand ops x s.loops) around spot.loops; width = few; value = small };
-      bytes = no_bytes s.width s.value (spot_given ops s).bytes idle
+      location = record { depth = location.depth; place = there; loops = subst (λ (x : List Block). LoopsStand ops x s.loops) around location.loops; width = few; value = small };
+      bytes = no_bytes s.width s.value (location_given ops s).bytes idle
           ∙ ap (λ (x : Given). x.bytes) given
           ∙ ap (λ (x : List ℕ). x ++ (open_given ops (frames_of rest) s.loops g.at g.tape).bytes) bytes
           ∙ ap (λ (x : List ℕ). number_bytes width value ++ x) alike.bytes;
@@ -150,44 +150,44 @@ pub same_place : (d : ℕ) (rest : List Op) → accepts Send (Some (Inside (d + 
 same_place d rest h = subst (λ (k : ℕ). accepts Send (Some (Inside k)) rest ≡ true) (add-one d) h
 
 -- a loop of so many turns begins
-pub looped : (ops : List Op) (s : TheSpot) (n k : ℕ) → drop s.place ops ≡ Times n ∷ drop (s.place + 1) ops → IsSpot ops s → n ≡ suc k
+pub looped : (ops : List Op) (s : TheEndLocation) (n k : ℕ) → drop s.place ops ≡ Times n ∷ drop (s.place + 1) ops → IsLocation ops s → n ≡ suc k
     → StepsTo ops s (record s { place = s.place + 1; loops = (record { start = s.place + 1; turns = k }) ∷ s.loops })
-looped ops s n k e spot many =
+looped ops s n k e location many =
     let d = length s.loops in
     let rest = drop (s.place + 1) ops in
-    let here : accepts Send (Some (Inside d)) (Times n ∷ rest) ≡ true = subst (λ (x : List Op). accepts Send (Some (Inside d)) x ≡ true) e spot.place in
+    let here : accepts Send (Some (Inside d)) (Times n ∷ rest) ≡ true = subst (λ (x : List Op). accepts Send (Some (Inside d)) x ≡ true) e location.place in
     let g = goes_on Send (is_within 1024 n && nat_lt d 8) (Inside (d + 1)) rest here in
     let deep : d < 8 = ltb-true d 8 (second_so (is_within 1024 n) (nat_lt d 8) g.so) in
     let there = same_place d rest g.on in
     let frames : frames_of (drop s.place ops) ≡ closes (times n) (frames_of rest) = ap frames_of e in
     let around : outer (frames_of (drop s.place ops)) ≡ outer (outer (frames_of rest)) = ap outer frames ∙ closes_outer (times n) (frames_of rest) in
-    let given : spot_given ops s ≡ joined (turn_given s.at s.tape) (open_given ops (frames_of rest) ((record { start = s.place + 1; turns = k }) ∷ s.loops) s.at s.tape)
+    let given : location_given ops s ≡ joined (turn_given s.at s.tape) (open_given ops (frames_of rest) ((record { start = s.place + 1; turns = k }) ∷ s.loops) s.at s.tape)
     = ap (λ (x : List Block). open_given ops x s.loops s.at s.tape) frames
     ∙ times_open ops d n (s.place + 1) (frames_of rest) s.loops s.at s.tape (opened ops (suc d) rest (omega arith) there) refl
     ∙ ap (λ (z : ℕ). joined (turn_given s.at s.tape) (turns_left ops (outer (frames_of rest)) (s.place + 1) z s.loops s.at s.tape)) many
     ∙ ap (joined (turn_given s.at s.tape)) (turns_again ops (outer (frames_of rest)) (s.place + 1) k s.loops s.at s.tape) in
     record {
-      spot = record {
+      location = record {
         depth = omega (arith, deep);
         place = there;
-        loops = (there, refl, subst (λ (x : List Block). LoopsStand ops x s.loops) around spot.loops);
-        width = spot.width;
-        value = spot.value;
+        loops = (there, refl, subst (λ (x : List Block). LoopsStand ops x s.loops) around location.loops);
+        width = location.width;
+        value = location.value;
       };
       bytes = ap (λ (x : Given). number_bytes s.width s.value ++ x.bytes) given;
       steps = ap (λ (x : Given). x.steps) given ∙ omega arith;
     }
 
 -- the end of a turn that isn't the last
-pub again : (ops : List Op) (s : TheSpot) (l : TheLoop) (loops : List TheLoop) (k : ℕ) → drop s.place ops ≡ Back ∷ drop (s.place + 1) ops → IsSpot ops s → s.loops ≡ l ∷ loops → l.turns ≡ suc k
+pub again : (ops : List Op) (s : TheEndLocation) (l : TheLoop) (loops : List TheLoop) (k : ℕ) → drop s.place ops ≡ Back ∷ drop (s.place + 1) ops → IsLocation ops s → s.loops ≡ l ∷ loops → l.turns ≡ suc k
     → StepsTo ops s (record s { place = l.start; loops = (record { start = l.start; turns = k }) ∷ loops })
-again ops s l loops k e spot is many =
+again ops s l loops k e location is many =
     let rest = drop (s.place + 1) ops in
     let frames : frames_of (drop s.place ops) ≡ finished ∷ frames_of rest = ap frames_of e in
     let stand : LoopsStand ops (frames_of rest) (l ∷ loops)
-    = subst (λ (x : List TheLoop). LoopsStand ops (frames_of rest) x) is (subst (λ (x : List Block). LoopsStand ops (outer x) s.loops) frames spot.loops) in
+    = subst (λ (x : List TheLoop). LoopsStand ops (frames_of rest) x) is (subst (λ (x : List Block). LoopsStand ops (outer x) s.loops) frames location.loops) in
     let next : List TheLoop = (record { start = l.start; turns = k }) ∷ loops in
-    let given : spot_given ops s ≡ joined (turn_given s.at s.tape) (open_given ops (frames_of (drop l.start ops)) next s.at s.tape)
+    let given : location_given ops s ≡ joined (turn_given s.at s.tape) (open_given ops (frames_of (drop l.start ops)) next s.at s.tape)
     = ap (λ (x : List Block). open_given ops x s.loops s.at s.tape) frames
     ∙ ap (λ (x : List TheLoop). open_given ops (finished ∷ frames_of rest) x s.at s.tape) is
     ∙ nothing_then (after_given ops (frames_of rest) (l ∷ loops)) s.at s.tape
@@ -195,44 +195,44 @@ again ops s l loops k e spot is many =
     ∙ ap (joined (turn_given s.at s.tape)) (turns_again ops (frames_of rest) l.start k loops s.at s.tape)
     ∙ ap (λ (x : List Block). joined (turn_given s.at s.tape) (then_given (block_given (block_of (drop l.start ops)) s.at s.tape) (after_given ops x next))) (sym stand.1) in
     record {
-      spot = record {
-        depth = subst (λ (x : List TheLoop). length x ≤ 8) is spot.depth;
+      location = record {
+        depth = subst (λ (x : List TheLoop). length x ≤ 8) is location.depth;
         place = stand.0;
         loops = subst (λ (x : List Block). LoopsStand ops x next) (sym stand.1) (stand.0, stand.1, stand.2);
-        width = spot.width;
-        value = spot.value;
+        width = location.width;
+        value = location.value;
       };
       bytes = ap (λ (x : Given). number_bytes s.width s.value ++ x.bytes) given;
       steps = ap (λ (x : Given). x.steps) given ∙ omega arith;
     }
 
 -- the end of a loop's last turn
-pub over : (ops : List Op) (s : TheSpot) (l : TheLoop) (loops : List TheLoop) → drop s.place ops ≡ Back ∷ drop (s.place + 1) ops → IsSpot ops s → s.loops ≡ l ∷ loops → l.turns ≡ 0
+pub over : (ops : List Op) (s : TheEndLocation) (l : TheLoop) (loops : List TheLoop) → drop s.place ops ≡ Back ∷ drop (s.place + 1) ops → IsLocation ops s → s.loops ≡ l ∷ loops → l.turns ≡ 0
     → StepsTo ops s (record s { place = s.place + 1; loops = loops })
-over ops s l loops e spot is none =
+over ops s l loops e location is none =
     let d = length loops in
     let rest = drop (s.place + 1) ops in
     let frames : frames_of (drop s.place ops) ≡ finished ∷ frames_of rest = ap frames_of e in
     let stand : LoopsStand ops (frames_of rest) (l ∷ loops)
-    = subst (λ (x : List TheLoop). LoopsStand ops (frames_of rest) x) is (subst (λ (x : List Block). LoopsStand ops (outer x) s.loops) frames spot.loops) in
-    let deep : suc d ≤ 8 = subst (λ (x : List TheLoop). length x ≤ 8) is spot.depth in
+    = subst (λ (x : List TheLoop). LoopsStand ops (frames_of rest) x) is (subst (λ (x : List Block). LoopsStand ops (outer x) s.loops) frames location.loops) in
+    let deep : suc d ≤ 8 = subst (λ (x : List TheLoop). length x ≤ 8) is location.depth in
     let here : accepts Send (Some (Inside (suc d))) (Back ∷ rest) ≡ true
-    = subst (λ (x : List TheLoop). accepts Send (Some (Inside (length x))) (Back ∷ rest) ≡ true) is (subst (λ (x : List Op). accepts Send (Some (Inside (length s.loops))) x ≡ true) e spot.place) in
+    = subst (λ (x : List TheLoop). accepts Send (Some (Inside (length x))) (Back ∷ rest) ≡ true) is (subst (λ (x : List Op). accepts Send (Some (Inside (length s.loops))) x ≡ true) e location.place) in
     let g = goes_on Send (nat_lt 0 (suc d)) (Inside (suc d - 1)) rest here in
     let less : suc d - 1 ≡ d = omega arith in
-    let given : spot_given ops s ≡ joined (turn_given s.at s.tape) (open_given ops (frames_of rest) loops s.at s.tape)
+    let given : location_given ops s ≡ joined (turn_given s.at s.tape) (open_given ops (frames_of rest) loops s.at s.tape)
     = ap (λ (x : List Block). open_given ops x s.loops s.at s.tape) frames
     ∙ ap (λ (x : List TheLoop). open_given ops (finished ∷ frames_of rest) x s.at s.tape) is
     ∙ nothing_then (after_given ops (frames_of rest) (l ∷ loops)) s.at s.tape
     ∙ ap (λ (z : ℕ). joined (turn_given s.at s.tape) (turns_left ops (frames_of rest) l.start z loops s.at s.tape)) none
     ∙ ap (joined (turn_given s.at s.tape)) (turns_over ops (frames_of rest) l.start loops s.at s.tape) in
     record {
-      spot = record {
+      location = record {
         depth = omega (arith, deep);
         place = subst (λ (k : ℕ). accepts Send (Some (Inside k)) rest ≡ true) less g.on;
         loops = stand.2;
-        width = spot.width;
-        value = spot.value;
+        width = location.width;
+        value = location.value;
       };
       bytes = ap (λ (x : Given). number_bytes s.width s.value ++ x.bytes) given;
       steps = ap (λ (x : Given). x.steps) given ∙ omega arith;
@@ -252,18 +252,18 @@ at_each d (Each ∷ rest) h =
 at_each d rest h = absurd (cc)
 
 -- what stands at a length: the loop that it counts
-pub record AtLength (ops : List Op) (s : TheSpot) (most : ℕ) : Type 0 where
+pub record AtLength (ops : List Op) (s : TheEndLocation) (most : ℕ) : Type 0 where
   pub deep : length s.loops < 8
   pub body : accepts Send (Some (Inside (suc (length s.loops)))) (drop (s.place + 2) ops) ≡ true
   pub around : outer (frames_of (drop s.place ops)) ≡ outer (outer (frames_of (drop (s.place + 2) ops)))
-  pub given : spot_given ops s
+  pub given : location_given ops s
       ≡ joined (number_given 8 s.at s.tape) (turns_left ops (outer (frames_of (drop (s.place + 2) ops))) (s.place + 2) (first_of_tape s.tape) s.loops (s.at + 8) (rest_of_tape s.tape))
 
-pub at_length : (ops : List Op) (s : TheSpot) (most : ℕ) → drop s.place ops ≡ Length most ∷ drop (s.place + 1) ops → IsSpot ops s → AtLength ops s most
-at_length ops s most e spot =
+pub at_length : (ops : List Op) (s : TheEndLocation) (most : ℕ) → drop s.place ops ≡ Length most ∷ drop (s.place + 1) ops → IsLocation ops s → AtLength ops s most
+at_length ops s most e location =
     let d = length s.loops in
     let rest = drop (s.place + 1) ops in
-    let here : accepts Send (Some (Inside d)) (Length most ∷ rest) ≡ true = subst (λ (x : List Op). accepts Send (Some (Inside d)) x ≡ true) e spot.place in
+    let here : accepts Send (Some (Inside d)) (Length most ∷ rest) ≡ true = subst (λ (x : List Op). accepts Send (Some (Inside d)) x ≡ true) e location.place in
     let g = goes_on Send (is_within 4096 most) (AfterLength d) rest here in
     let next = at_each d rest g.on in
     let two : drop 1 rest ≡ drop (s.place + 2) ops = drop-drop 1 (s.place + 1) ops ∙ ap (λ (k : ℕ). drop k ops) (omega arith) in
@@ -279,21 +279,21 @@ at_length ops s most e spot =
           ∙ counted_open ops d most (s.place + 2) blocks s.loops s.at s.tape (opened ops (suc d) (drop (s.place + 2) ops) (let z = next.deep in omega (arith, z)) there) refl;
     }
 
--- what a length gives: itself in 8 bytes, and then what is given from the spot after it
-by_length : (ops : List Op) (s t : TheSpot) (blocks : List Block) → s.width ≡ 0 → t.width ≡ 8 → t.value ≡ first_of_tape s.tape → t.at ≡ s.at → t.tape ≡ rest_of_tape s.tape
+-- what a length gives: itself in 8 bytes, and then what is given from the location after it
+by_length : (ops : List Op) (s t : TheEndLocation) (blocks : List Block) → s.width ≡ 0 → t.width ≡ 8 → t.value ≡ first_of_tape s.tape → t.at ≡ s.at → t.tape ≡ rest_of_tape s.tape
     → blocks ≡ frames_of (drop t.place ops)
-    → spot_given ops s ≡ joined (number_given 8 s.at s.tape) (open_given ops blocks t.loops (s.at + 8) (rest_of_tape s.tape))
-    → (bytes_from ops s ≡ bytes_from ops t) × ((spot_given ops s).steps ≡ suc (spot_given ops t).steps)
+    → location_given ops s ≡ joined (number_given 8 s.at s.tape) (open_given ops blocks t.loops (s.at + 8) (rest_of_tape s.tape))
+    → (bytes_from ops s ≡ bytes_from ops t) × ((location_given ops s).steps ≡ suc (location_given ops t).steps)
 by_length ops s t blocks idle wide is at tape frames given =
     let later = open_given ops blocks t.loops (s.at + 8) (rest_of_tape s.tape) in
     let alike : Alike later (open_given ops blocks t.loops s.at (rest_of_tape s.tape)) = steady_open ops blocks t.loops (s.at + 8) s.at (rest_of_tape s.tape) (omega arith) in
-    let same : open_given ops blocks t.loops s.at (rest_of_tape s.tape) ≡ spot_given ops t
+    let same : open_given ops blocks t.loops s.at (rest_of_tape s.tape) ≡ location_given ops t
     = ap (λ (x : List Block). open_given ops x t.loops s.at (rest_of_tape s.tape)) frames
     ∙ ap (λ (k : ℕ). open_given ops (frames_of (drop t.place ops)) t.loops k (rest_of_tape s.tape)) (sym at)
     ∙ ap (λ (x : List ℕ). open_given ops (frames_of (drop t.place ops)) t.loops t.at x) (sym tape) in
     let number : number_bytes 8 (first_of_tape s.tape) ≡ number_bytes t.width t.value
     = ap (λ (k : ℕ). number_bytes 8 k) (sym is) ∙ ap (λ (w : ℕ). number_bytes w t.value) (sym wide) in (
-      no_bytes s.width s.value (spot_given ops s).bytes idle
+      no_bytes s.width s.value (location_given ops s).bytes idle
           ∙ ap (λ (x : Given). x.bytes) given
           ∙ ap (λ (x : List ℕ). x ++ later.bytes) number
           ∙ ap (λ (x : List ℕ). number_bytes t.width t.value ++ x) (alike.bytes ∙ ap (λ (x : Given). x.bytes) same),
@@ -303,23 +303,23 @@ by_length ops s t blocks idle wide is at tape frames given =
     )
 
 -- a length of some turns
-pub counts : (ops : List Op) (s : TheSpot) (most k : ℕ) → drop s.place ops ≡ Length most ∷ drop (s.place + 1) ops → IsSpot ops s → s.width ≡ 0
+pub counts : (ops : List Op) (s : TheEndLocation) (most k : ℕ) → drop s.place ops ≡ Length most ∷ drop (s.place + 1) ops → IsLocation ops s → s.width ≡ 0
     → first_of_tape s.tape ≡ suc k → suc k < 2 ^ 64
     → StepsTo ops s (record s { place = s.place + 2; loops = (record { start = s.place + 2; turns = k }) ∷ s.loops; tape = rest_of_tape s.tape; value = suc k; width = 8 })
-counts ops s most k e spot idle is fits =
-    let a = at_length ops s most e spot in
+counts ops s most k e location idle is fits =
+    let a = at_length ops s most e location in
     let blocks = frames_of (drop (s.place + 2) ops) in
-    let t : TheSpot = record s { place = s.place + 2; loops = (record { start = s.place + 2; turns = k }) ∷ s.loops; tape = rest_of_tape s.tape; value = suc k; width = 8 } in
-    let given : spot_given ops s ≡ joined (number_given 8 s.at s.tape) (open_given ops blocks t.loops (s.at + 8) (rest_of_tape s.tape))
+    let t : TheEndLocation = record s { place = s.place + 2; loops = (record { start = s.place + 2; turns = k }) ∷ s.loops; tape = rest_of_tape s.tape; value = suc k; width = 8 } in
+    let given : location_given ops s ≡ joined (number_given 8 s.at s.tape) (open_given ops blocks t.loops (s.at + 8) (rest_of_tape s.tape))
     = a.given
     ∙ ap (λ (z : ℕ). joined (number_given 8 s.at s.tape) (turns_left ops (outer blocks) (s.place + 2) z s.loops (s.at + 8) (rest_of_tape s.tape))) is
     ∙ ap (joined (number_given 8 s.at s.tape)) (turns_again ops (outer blocks) (s.place + 2) k s.loops (s.at + 8) (rest_of_tape s.tape)) in
     let both = by_length ops s t blocks idle refl (sym is) refl refl refl given in
     record {
-      spot = record {
+      location = record {
         depth = let z = a.deep in omega (arith, z);
         place = a.body;
-        loops = (a.body, refl, subst (λ (x : List Block). LoopsStand ops x s.loops) a.around spot.loops);
+        loops = (a.body, refl, subst (λ (x : List Block). LoopsStand ops x s.loops) a.around location.loops);
         width = omega arith;
         value = fits;
       };
@@ -328,24 +328,24 @@ counts ops s most k e spot idle is fits =
     }
 
 -- a length of no turns: the loop is passed over
-pub counts_none : (ops : List Op) (s : TheSpot) (most place : ℕ) → drop s.place ops ≡ Length most ∷ drop (s.place + 1) ops → IsSpot ops s → s.width ≡ 0
+pub counts_none : (ops : List Op) (s : TheEndLocation) (most place : ℕ) → drop s.place ops ≡ Length most ∷ drop (s.place + 1) ops → IsLocation ops s → s.width ≡ 0
     → first_of_tape s.tape ≡ 0 → IsPlace ops (length s.loops) place → frames_of (drop place ops) ≡ outer (frames_of (drop (s.place + 2) ops))
     → StepsTo ops s (record s { place = place; tape = rest_of_tape s.tape; value = 0; width = 8 })
-counts_none ops s most place e spot idle is there frames =
-    let a = at_length ops s most e spot in
+counts_none ops s most place e location idle is there frames =
+    let a = at_length ops s most e location in
     let blocks = outer (frames_of (drop (s.place + 2) ops)) in
-    let t : TheSpot = record s { place = place; tape = rest_of_tape s.tape; value = 0; width = 8 } in
-    let given : spot_given ops s ≡ joined (number_given 8 s.at s.tape) (open_given ops blocks s.loops (s.at + 8) (rest_of_tape s.tape))
+    let t : TheEndLocation = record s { place = place; tape = rest_of_tape s.tape; value = 0; width = 8 } in
+    let given : location_given ops s ≡ joined (number_given 8 s.at s.tape) (open_given ops blocks s.loops (s.at + 8) (rest_of_tape s.tape))
     = a.given
     ∙ ap (λ (z : ℕ). joined (number_given 8 s.at s.tape) (turns_left ops blocks (s.place + 2) z s.loops (s.at + 8) (rest_of_tape s.tape))) is
     ∙ ap (joined (number_given 8 s.at s.tape)) (turns_over ops blocks (s.place + 2) s.loops (s.at + 8) (rest_of_tape s.tape)) in
     let both = by_length ops s t blocks idle refl (sym is) refl refl (sym frames) given in
     let around : outer (frames_of (drop s.place ops)) ≡ outer (frames_of (drop place ops)) = a.around ∙ ap outer (sym frames) in
     record {
-      spot = record {
-        depth = spot.depth;
+      location = record {
+        depth = location.depth;
         place = there;
-        loops = subst (λ (x : List Block). LoopsStand ops x s.loops) around spot.loops;
+        loops = subst (λ (x : List Block). LoopsStand ops x s.loops) around location.loops;
         width = omega arith;
         value = lit< tt;
       };
@@ -359,28 +359,28 @@ no_loops : (loops : List TheLoop) → length loops ≡ 0 → loops ≡ []
 no_loops [] e = refl
 no_loops (l ∷ loops) e = absurd (omega (arith, e))
 
-pub at_end : (ops : List Op) (s : TheSpot) (rest : List Op) → drop s.place ops ≡ End ∷ rest → IsSpot ops s → s.width ≡ 0 → bytes_from ops s ≡ []
-at_end ops s rest e spot idle =
+pub at_end : (ops : List Op) (s : TheEndLocation) (rest : List Op) → drop s.place ops ≡ End ∷ rest → IsLocation ops s → s.width ≡ 0 → bytes_from ops s ≡ []
+at_end ops s rest e location idle =
     let d = length s.loops in
-    let here : accepts Send (Some (Inside d)) (End ∷ rest) ≡ true = subst (λ (x : List Op). accepts Send (Some (Inside d)) x ≡ true) e spot.place in
+    let here : accepts Send (Some (Inside d)) (End ∷ rest) ≡ true = subst (λ (x : List Op). accepts Send (Some (Inside d)) x ≡ true) e location.place in
     let g = goes_on Send (d == 0) Ended rest here in
     let none = no_loops s.loops (eqb-true d 0 g.so) in
-    no_bytes s.width s.value (spot_given ops s).bytes idle
+    no_bytes s.width s.value (location_given ops s).bytes idle
     ∙ ap (λ (x : List Op). (open_given ops (frames_of x) s.loops s.at s.tape).bytes) e
     ∙ ap (λ (x : List TheLoop). (open_given ops (finished ∷ []) x s.at s.tape).bytes) none
 
 -- an instruction that ends a loop is inside one
-pub at_back : (ops : List Op) (s : TheSpot) (rest : List Op) → drop s.place ops ≡ Back ∷ rest → IsSpot ops s → 0 < length s.loops
-at_back ops s rest e spot =
+pub at_back : (ops : List Op) (s : TheEndLocation) (rest : List Op) → drop s.place ops ≡ Back ∷ rest → IsLocation ops s → 0 < length s.loops
+at_back ops s rest e location =
     let d = length s.loops in
-    let here : accepts Send (Some (Inside d)) (Back ∷ rest) ≡ true = subst (λ (x : List Op). accepts Send (Some (Inside d)) x ≡ true) e spot.place in
+    let here : accepts Send (Some (Inside d)) (Back ∷ rest) ≡ true = subst (λ (x : List Op). accepts Send (Some (Inside d)) x ≡ true) e location.place in
     let g = goes_on Send (nat_lt 0 d) (Inside (d - 1)) rest here in
     ltb-true 0 d g.so
 
--- a spot is not behind the last instruction
-pub not_past : (ops : List Op) (s : TheSpot) → drop s.place ops ≡ [] → IsSpot ops s → ⊥
-not_past ops s e spot =
-    let here : accepts Send (Some (Inside (length s.loops))) [] ≡ true = subst (λ (x : List Op). accepts Send (Some (Inside (length s.loops))) x ≡ true) e spot.place in
+-- a location is not behind the last instruction
+pub not_past : (ops : List Op) (s : TheEndLocation) → drop s.place ops ≡ [] → IsLocation ops s → ⊥
+not_past ops s e location =
+    let here : accepts Send (Some (Inside (length s.loops))) [] ≡ true = subst (λ (x : List Op). accepts Send (Some (Inside (length s.loops))) x ≡ true) e location.place in
     absurd (cc)
 
 -- other instructions of send code are steps
@@ -401,14 +401,14 @@ step_at (Pad n) d rest e h = (goes_on Send (is_step Send (Pad n)) (Inside d) res
 step_at Align d rest e h = refl
 step_at op d rest e h = absurd (cc)
 
-pub at_step : (ops : List Op) (s : TheSpot) (op : Op) (rest : List Op) → drop s.place ops ≡ op ∷ rest → IsSpot ops s → is_loop_op op ≡ false → is_step Send op ≡ true
-at_step ops s op rest e spot plain = step_at op (length s.loops) rest plain (subst (λ (x : List Op). accepts Send (Some (Inside (length s.loops))) x ≡ true) e spot.place)
+pub at_step : (ops : List Op) (s : TheEndLocation) (op : Op) (rest : List Op) → drop s.place ops ≡ op ∷ rest → IsLocation ops s → is_loop_op op ≡ false → is_step Send op ≡ true
+at_step ops s op rest e location plain = step_at op (length s.loops) rest plain (subst (λ (x : List Op). accepts Send (Some (Inside (length s.loops))) x ≡ true) e location.place)
 
 -- a loop of so many turns has one, and room is left for it
-pub at_times : (ops : List Op) (s : TheSpot) (n : ℕ) (rest : List Op) → drop s.place ops ≡ Times n ∷ rest → IsSpot ops s → (1 ≤ n) × (length s.loops < 8)
-at_times ops s n rest e spot =
+pub at_times : (ops : List Op) (s : TheEndLocation) (n : ℕ) (rest : List Op) → drop s.place ops ≡ Times n ∷ rest → IsLocation ops s → (1 ≤ n) × (length s.loops < 8)
+at_times ops s n rest e location =
     let d = length s.loops in
-    let here : accepts Send (Some (Inside d)) (Times n ∷ rest) ≡ true = subst (λ (x : List Op). accepts Send (Some (Inside d)) x ≡ true) e spot.place in
+    let here : accepts Send (Some (Inside d)) (Times n ∷ rest) ≡ true = subst (λ (x : List Op). accepts Send (Some (Inside d)) x ≡ true) e location.place in
     let g = goes_on Send (is_within 1024 n && nat_lt d 8) (Inside (d + 1)) rest here in
     (leb-true 1 n (first_so (leb 1 n) (leb n 1024) (first_so (is_within 1024 n) (nat_lt d 8) g.so)), ltb-true d 8 (second_so (is_within 1024 n) (nat_lt d 8) g.so))
 

@@ -10,8 +10,8 @@ use Rattle.fl_stub.specs.declared.op.Op.{Op}
 use Rattle.fl_stub.specs.declared.op.Op.TheVariants.{Emit, Pad, Align, Length, Times, Each, Back, End, Read, ReadBool, ReadEnum, ReadChar, Skip, ReadLength, ReadText, Done}
 use Rattle.fl_stub.specs.declared.op.Column.{Column}
 use Rattle.fl_stub.specs.declared.op.Column.TheVariants.{Send, Receive}
-use Rattle.fl_stub.specs.declared.walk.Standing.{Standing}
-use Rattle.fl_stub.specs.declared.walk.Standing.TheVariants.{Inside, AfterLength, Ended}
+use Rattle.fl_stub.specs.declared.walk.WalkState.{WalkState}
+use Rattle.fl_stub.specs.declared.walk.WalkState.TheVariants.{Inside, AfterLength, Ended}
 use Rattle.fl_stub.specs.Structure.{Piece, one, times, counted, Block, finished, next, is_step, is_within, length_op, last_op, piece_ops, block_ops, piece_fits, block_fits, piece_depth, block_depth, IsCode, OneStructure}
 use Rattle.fl_stub.specs.Frames.{starts_with, closes, frames_of, innermost, block_of}
 use Rattle.fl_stub.specs.Walk.{after_inside, after_length, accepts, if_so, is_send, is_receive}
@@ -130,7 +130,7 @@ comes_out column d ops p rest =
     let through : accepts column (Some (Inside (d + 1))) (ops ++ (Back ∷ rest)) ≡ accepts column (Some (Inside (d + 1))) (Back ∷ rest) = rw add-one (p (Back ∷ rest)) in
     ap (λ (x : List Op). accepts column (Some (Inside (d + 1))) x) (append_assoc ops (Back ∷ []) rest)
     ∙ through
-    ∙ ap (λ (s : Option Standing). accepts column s rest) (back_goes column d)
+    ∙ ap (λ (s : Option WalkState). accepts column s rest) (back_goes column d)
 
 opens : (column : Column) (d n : ℕ) → is_within 1024 n ≡ true → d < 8 → after_inside column d (Times n) ≡ Some (Inside (d + 1))
 opens column d n e small = ap (λ (t : Bool). if_so t (Inside (d + 1))) (both e (lt-ltb d 8 small))
@@ -143,12 +143,12 @@ each_opens : (d : ℕ) → d < 8 → after_length d Each ≡ Some (Inside (d + 1
 each_opens d small = ap (λ (t : Bool). if_so t (Inside (d + 1))) (lt-ltb d 8 small)
 
 times_pass : (column : Column) (d n : ℕ) (body : List Op) → is_within 1024 n ≡ true → d < 8 → PassesOut column d body → Passes column d (Times n ∷ body)
-times_pass column d n body e small out rest = ap (λ (s : Option Standing). accepts column s (body ++ rest)) (opens column d n e small) ∙ out rest
+times_pass column d n body e small out rest = ap (λ (s : Option WalkState). accepts column s (body ++ rest)) (opens column d n e small) ∙ out rest
 
 counted_pass : (column : Column) (d most : ℕ) (body : List Op) → is_within 4096 most ≡ true → d < 8 → PassesOut column d body → Passes column d (length_op column most ∷ Each ∷ body)
 counted_pass column d most body e small out rest =
-    ap (λ (s : Option Standing). accepts column s (Each ∷ (body ++ rest))) (counts column d most e)
-    ∙ ap (λ (s : Option Standing). accepts column s (body ++ rest)) (each_opens d small)
+    ap (λ (s : Option WalkState). accepts column s (Each ∷ (body ++ rest))) (counts column d most e)
+    ∙ ap (λ (s : Option WalkState). accepts column s (body ++ rest)) (each_opens d small)
     ∙ out rest
 
 joined_pass : (column : Column) (d : ℕ) (xs ys : List Op) → Passes column d xs → Passes column d ys → Passes column d (xs ++ ys)
@@ -156,7 +156,7 @@ joined_pass column d xs ys p q rest = ap (λ (x : List Op). accepts column (Some
 
 mutual
   piece_passes : (column : Column) (d : ℕ) (p : Piece) → piece_fits column p ≡ true → piece_depth p + d ≤ 8 → Passes column d (piece_ops column p)
-  piece_passes column d (one op) fits deep rest = ap (λ (s : Option Standing). accepts column s rest) (step_goes column d op fits)
+  piece_passes column d (one op) fits deep rest = ap (λ (s : Option WalkState). accepts column s rest) (step_goes column d op fits)
   piece_passes column d (times n b) fits deep rest =
       let body = block_passes column (suc d) b (second_so (is_within 1024 n) (block_fits column b) fits) (omega (arith, deep)) in
       times_pass column d n (block_ops column b ++ Back ∷ []) (first_so (is_within 1024 n) (block_fits column b) fits) (omega (arith, deep)) (comes_out column d (block_ops column b) body) rest

@@ -10,17 +10,17 @@ use Rattle.fl_stub.specs.declared.op.Op.TheVariants.{Emit, Pad, Align, Read, Rea
 use Rattle.fl_stub.specs.declared.op.Column.{Column}
 use Rattle.fl_stub.specs.declared.op.Column.TheVariants.{Send, Receive}
 use Rattle.fl_stub.specs.Structure.{Piece, one, times, counted, Block, finished, next, is_width, is_within, is_step, piece_fits, block_fits}
-use Rattle.fl_stub.specs.Meaning.{Move, number, zeros, zeros_to_8, move_of, number_bytes, gap_to_8, Moment, MovesNumber, MovesZeros, Moves, Repeats, PieceTurns, BlockTurns, moment_first, moment_last, OneTaking}
+use Rattle.fl_stub.specs.Meaning.{OpMove, number, zeros, zeros_to_8, move_of, number_bytes, gap_to_8, StubMoment, MovesNumber, MovesZeros, Moves, Repeats, PieceTurns, BlockTurns, moment_first, moment_last, OneTaking}
 
 -- what two moves of the same bytes from the same place come to: the same, and the tapes before differ only if those after do
-pub record SameTape (m n m2 n2 : Moment) : Type 0 where
+pub record SameTape (m n m2 n2 : StubMoment) : Type 0 where
   pub at : n.at ≡ n2.at
   pub bytes : n.bytes ≡ n2.bytes
   pub tape : n.tape ≡ n2.tape → m.tape ≡ m2.tape
 
 -- a relation that the bytes determine
-abbrev pub IsTold : (Moment → Moment → Type 0) → Type 0
-IsTold R = (m n m2 n2 : Moment) → R m n → R m2 n2 → m.at ≡ m2.at → m.bytes ≡ m2.bytes → SameTape m n m2 n2
+abbrev pub IsTold : (StubMoment → StubMoment → Type 0) → Type 0
+IsTold R = (m n m2 n2 : StubMoment) → R m n → R m2 n2 → m.at ≡ m2.at → m.bytes ≡ m2.bytes → SameTape m n m2 n2
 
 -- the widths
 abbrev pub OneOfFour : ℕ → Type 0
@@ -69,13 +69,13 @@ splits width (inr (inr e)) = subst SplitsAt (sym e) splits_8
 tape_cons : (x y : ℕ) (s t u v : List ℕ) → x ≡ y → s ≡ x ∷ t → u ≡ y ∷ v → t ≡ v → s ≡ u
 tape_cons x y s t u v e a b c = cc
 
-told_number : (width least bound : ℕ) → OneOfFour width → bound ≤ 256 ^ width → (x y : ℕ) (m n m2 n2 : Moment)
+told_number : (width least bound : ℕ) → OneOfFour width → bound ≤ 256 ^ width → (x y : ℕ) (m n m2 n2 : StubMoment)
     → MovesNumber width least bound x m n → MovesNumber width least bound y m2 n2 → m.at ≡ m2.at → m.bytes ≡ m2.bytes → (x ≡ y) × SameTape m n m2 n2
 told_number width least bound four high x y m n m2 n2 k k2 at bytes =
     let (e, rest) = splits width four x y n.bytes n2.bytes (omega (arith, k.below, high)) (omega (arith, k2.below, high)) (sym k.bytes ∙ bytes ∙ k2.bytes) in
     (e, record { at = k.at ∙ ap (λ (z : ℕ). z + width) at ∙ sym k2.at; bytes = rest; tape = tape_cons x y m.tape n.tape m2.tape n2.tape e k.tape k2.tape })
 
-told_zeros : (count count2 : ℕ) (m n m2 n2 : Moment) → count ≡ count2 → MovesZeros count m n → MovesZeros count2 m2 n2 → m.at ≡ m2.at → m.bytes ≡ m2.bytes → SameTape m n m2 n2
+told_zeros : (count count2 : ℕ) (m n m2 n2 : StubMoment) → count ≡ count2 → MovesZeros count m n → MovesZeros count2 m2 n2 → m.at ≡ m2.at → m.bytes ≡ m2.bytes → SameTape m n m2 n2
 told_zeros count count2 m n m2 n2 same z z2 at bytes =
     let joined : replicate count 0 ++ n.bytes ≡ replicate count 0 ++ n2.bytes
     = sym z.bytes ∙ bytes ∙ z2.bytes ∙ ap (λ (k : ℕ). replicate k 0 ++ n2.bytes) (sym same) in
@@ -90,7 +90,7 @@ told_zeros count count2 m n m2 n2 same z z2 at bytes =
     after_zeros (suc k) r s e = after_zeros k r s (cc)
 
 -- a move whose bytes tell its number
-abbrev pub IsSoundMove : Move → Type 0
+abbrev pub IsSoundMove : OpMove → Type 0
 IsSoundMove (number width least bound) = OneOfFour width × (bound ≤ 256 ^ width)
 IsSoundMove (zeros count) = Unit {0}
 IsSoundMove zeros_to_8 = Unit {0}
@@ -111,22 +111,22 @@ sound_step Receive (Skip n) h = tt
 sound_step Receive ReadText h = (inl (inl refl), lit≤ tt)
 sound_step column op h = absurd (cc)
 
-told_move : (move : Move) → IsSoundMove move → IsTold (Moves move)
+told_move : (move : OpMove) → IsSoundMove move → IsTold (Moves move)
 told_move (number width least bound) (four, high) m n m2 n2 (x, k) (y, k2) at bytes = (told_number width least bound four high x y m n m2 n2 k k2 at bytes).1
 told_move (zeros count) p m n m2 n2 z z2 at bytes = told_zeros count count m n m2 n2 refl z z2 at bytes
 told_move zeros_to_8 p m n m2 n2 z z2 at bytes = told_zeros (gap_to_8 m.at) (gap_to_8 m2.at) m n m2 n2 (ap gap_to_8 at) z z2 at bytes
 
-told_nothing : (m n m2 n2 : Moment) → m ≡ n → m2 ≡ n2 → m.at ≡ m2.at → m.bytes ≡ m2.bytes → SameTape m n m2 n2
+told_nothing : (m n m2 n2 : StubMoment) → m ≡ n → m2 ≡ n2 → m.at ≡ m2.at → m.bytes ≡ m2.bytes → SameTape m n m2 n2
 told_nothing m n m2 n2 e e2 at bytes = record {
-  at = sym (ap Moment.at e) ∙ at ∙ ap Moment.at e2;
-  bytes = sym (ap Moment.bytes e) ∙ bytes ∙ ap Moment.bytes e2;
-  tape = λ t. ap Moment.tape e ∙ t ∙ sym (ap Moment.tape e2);
+  at = sym (ap StubMoment.at e) ∙ at ∙ ap StubMoment.at e2;
+  bytes = sym (ap StubMoment.bytes e) ∙ bytes ∙ ap StubMoment.bytes e2;
+  tape = λ t. ap StubMoment.tape e ∙ t ∙ sym (ap StubMoment.tape e2);
 }
 
-joined : (m l n m2 l2 n2 : Moment) → SameTape m l m2 l2 → SameTape l n l2 n2 → SameTape m n m2 n2
+joined : (m l n m2 l2 n2 : StubMoment) → SameTape m l m2 l2 → SameTape l n l2 n2 → SameTape m n m2 n2
 joined m l n m2 l2 n2 x y = record { at = y.at; bytes = y.bytes; tape = λ e. x.tape (y.tape e) }
 
-told_repeats : (R : Moment → Moment → Type 0) → IsTold R → (k : ℕ) → IsTold (Repeats R k)
+told_repeats : (R : StubMoment → StubMoment → Type 0) → IsTold R → (k : ℕ) → IsTold (Repeats R k)
 told_repeats R r zero m n m2 n2 e e2 at bytes = told_nothing m n m2 n2 e e2 at bytes
 told_repeats R r (suc k) m n m2 n2 (l, a, b) (l2, a2, b2) at bytes =
     let x = r m l m2 l2 a a2 at bytes in

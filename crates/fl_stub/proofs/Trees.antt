@@ -8,10 +8,10 @@ use borrow.Author.Tests.{leb-true}
 use Rattle.fl_stub.specs.declared.op.Op.{Op}
 use Rattle.fl_stub.specs.declared.op.Column.TheVariants.{Receive}
 use Rattle.fl_stub.specs.declared.op.Op.TheVariants.{Align, Read, ReadBool, ReadEnum, ReadChar, Skip, ReadText}
-use Rattle.fl_stub.specs.declared.mark.Mark.{Mark}
-use Rattle.fl_stub.specs.declared.mark.Mark.TheVariants.{Length}
+use Rattle.fl_stub.specs.declared.mark.ByteKind.{ByteKind}
+use Rattle.fl_stub.specs.declared.mark.ByteKind.TheVariants.{Length}
 use Rattle.fl_stub.specs.Structure.{Piece, one, times, counted, Block, finished, next, is_width, is_within, is_step, piece_fits, block_fits}
-use Rattle.fl_stub.specs.Meaning.{Move, number, zeros, zeros_to_8, move_of, number_bytes, gap_to_8, Moment, MovesZeros, Moves, Repeats, PieceTurns, BlockTurns, moment_first, moment_last, Turns}
+use Rattle.fl_stub.specs.Meaning.{OpMove, number, zeros, zeros_to_8, move_of, number_bytes, gap_to_8, StubMoment, MovesZeros, Moves, Repeats, PieceTurns, BlockTurns, moment_first, moment_last, Turns}
 use Rattle.fl_stub.specs.Given.{Giver, first_of_tape, rest_of_tape, move_given, turns_given, piece_given, block_given, bytes_given}
 use Rattle.fl_stub.specs.Marks.{Marker, move_marks, turns_marks, piece_marks, block_marks, marks_of}
 use Rattle.fl_stub.specs.Rests.{Rest, goes_by, zeros_field, field_of, length_field, rest_field, rest_turns, rest_piece, rest_block, rest_end, rest_all, RestTurns, rest_bytes, rest_marks, IsSound, AllSound}
@@ -33,7 +33,7 @@ zeros_bytes n = zeros_from 0 n
 abbrev Bytes : Giver → ((ℕ → Rest) → ℕ → Rest) → Type 0
 Bytes g f = (k : ℕ → Rest) (at : ℕ) (tape : List ℕ) → (g at tape).bytes ++ rest_bytes (k (g at tape).at) (g at tape).tape ≡ rest_bytes (f k at) tape
 
-bytes_move : (move : Move) → Bytes (move_given move) (λ k at. rest_field (field_of move at) k at)
+bytes_move : (move : OpMove) → Bytes (move_given move) (λ k at. rest_field (field_of move at) k at)
 bytes_move (number width least bound) k at tape = refl
 bytes_move (zeros count) k at tape = ap (λ (x : List ℕ). x ++ rest_bytes (k (at + count)) tape) (zeros_bytes count)
 bytes_move zeros_to_8 k at tape = ap (λ (x : List ℕ). x ++ rest_bytes (k (at + gap_to_8 at)) tape) (zeros_bytes (gap_to_8 at))
@@ -76,7 +76,7 @@ all_bytes b tape = sym (append-nil (bytes_given b tape)) ∙ bytes_block b rest_
 abbrev Marked : Giver → Marker → ((ℕ → Rest) → ℕ → Rest) → Type 0
 Marked g m f = (k : ℕ → Rest) (at : ℕ) (tape : List ℕ) → m at tape ++ rest_marks (k (g at tape).at) (g at tape).tape ≡ rest_marks (f k at) tape
 
-marked_move : (move : Move) → Marked (move_given move) (λ at tape. move_marks move at) (λ k at. rest_field (field_of move at) k at)
+marked_move : (move : OpMove) → Marked (move_given move) (λ at tape. move_marks move at) (λ k at. rest_field (field_of move at) k at)
 marked_move (number width least bound) k at tape = refl
 marked_move (zeros count) k at tape = refl
 marked_move zeros_to_8 k at tape = refl
@@ -87,7 +87,7 @@ marked_turns g m f h (suc n) k at tape =
     let first = g at tape in
     let more = turns_given g n first.at first.tape in
     append_assoc (m at tape) (turns_marks g m n first.at first.tape) (rest_marks (k more.at) more.tape)
-    ∙ ap (λ (x : List Mark). m at tape ++ x) (marked_turns g m f h n k first.at first.tape)
+    ∙ ap (λ (x : List ByteKind). m at tape ++ x) (marked_turns g m f h n k first.at first.tape)
     ∙ h (λ at. goes_by (rest_turns f n k at)) at tape
 
 mutual
@@ -98,7 +98,7 @@ mutual
       let x = first_of_tape tape in
       let more = turns_given (block_given b) x (at + 8) (rest_of_tape tape) in
       append_assoc (replicate 8 Length) (turns_marks (block_given b) (block_marks b) x (at + 8) (rest_of_tape tape)) (rest_marks (k more.at) more.tape)
-      ∙ ap (λ (z : List Mark). replicate 8 Length ++ z) (marked_turns (block_given b) (block_marks b) (rest_block b) (marked_block b) x k (at + 8) (rest_of_tape tape))
+      ∙ ap (λ (z : List ByteKind). replicate 8 Length ++ z) (marked_turns (block_given b) (block_marks b) (rest_block b) (marked_block b) x k (at + 8) (rest_of_tape tape))
 
   marked_block : (b : Block) → Marked (block_given b) (block_marks b) (rest_block b)
   marked_block finished k at tape = refl
@@ -106,7 +106,7 @@ mutual
       let first = piece_given p at tape in
       let more = block_given b first.at first.tape in
       append_assoc (piece_marks p at tape) (block_marks b first.at first.tape) (rest_marks (k more.at) more.tape)
-      ∙ ap (λ (z : List Mark). piece_marks p at tape ++ z) (marked_block b k first.at first.tape)
+      ∙ ap (λ (z : List ByteKind). piece_marks p at tape ++ z) (marked_block b k first.at first.tape)
       ∙ marked_piece p (rest_block b k) at tape
 
 pub all_marks : (b : Block) (tape : List ℕ) → marks_of b tape ≡ rest_marks (rest_all b) tape
@@ -114,16 +114,16 @@ all_marks b tape = sym (append-nil (marks_of b tape)) ∙ marked_block b rest_en
 
 -- turns
 
-abbrev Joins : (Moment → Moment → Type 0) → ((ℕ → Rest) → ℕ → Rest) → Type 0
-Joins R f = (k : ℕ → Rest) (m l n : Moment) → R m l → RestTurns (k l.at) l n → RestTurns (f k m.at) m n
+abbrev Joins : (StubMoment → StubMoment → Type 0) → ((ℕ → Rest) → ℕ → Rest) → Type 0
+Joins R f = (k : ℕ → Rest) (m l n : StubMoment) → R m l → RestTurns (k l.at) l n → RestTurns (f k m.at) m n
 
-abbrev Splits : (Moment → Moment → Type 0) → ((ℕ → Rest) → ℕ → Rest) → Type 0
-Splits R f = (k : ℕ → Rest) (m n : Moment) → RestTurns (f k m.at) m n → (l : Moment) × R m l × RestTurns (k l.at) l n
+abbrev Splits : (StubMoment → StubMoment → Type 0) → ((ℕ → Rest) → ℕ → Rest) → Type 0
+Splits R f = (k : ℕ → Rest) (m n : StubMoment) → RestTurns (f k m.at) m n → (l : StubMoment) × R m l × RestTurns (k l.at) l n
 
-at_place : (k : ℕ → Rest) (p q : ℕ) (l n : Moment) → p ≡ q → RestTurns (k p) l n → RestTurns (k q) l n
+at_place : (k : ℕ → Rest) (p q : ℕ) (l n : StubMoment) → p ≡ q → RestTurns (k p) l n → RestTurns (k q) l n
 at_place k p q l n e h = subst (λ (z : ℕ). RestTurns (k z) l n) e h
 
-joins_zeros : (count : ℕ) (k : ℕ → Rest) (m l n : Moment) → MovesZeros count m l → RestTurns (k l.at) l n → RestTurns (rest_field (zeros_field count) k m.at) m n
+joins_zeros : (count : ℕ) (k : ℕ → Rest) (m l n : StubMoment) → MovesZeros count m l → RestTurns (k l.at) l n → RestTurns (rest_field (zeros_field count) k m.at) m n
 joins_zeros count k m l n z h = (
   0,
   l,
@@ -131,7 +131,7 @@ joins_zeros count k m l n z h = (
   at_place k l.at (m.at + count) l n z.at h,
 )
 
-splits_zeros : (count : ℕ) (k : ℕ → Rest) (m n : Moment) → RestTurns (rest_field (zeros_field count) k m.at) m n → (l : Moment) × MovesZeros count m l × RestTurns (k l.at) l n
+splits_zeros : (count : ℕ) (k : ℕ → Rest) (m n : StubMoment) → RestTurns (rest_field (zeros_field count) k m.at) m n → (l : StubMoment) × MovesZeros count m l × RestTurns (k l.at) l n
 splits_zeros count k m n (x, l, f, h) =
     let b = f.below in
     let e : x ≡ 0 = omega (arith, b) in (
@@ -140,23 +140,23 @@ splits_zeros count k m n (x, l, f, h) =
       at_place k (m.at + count) l.at l n (sym f.at) h,
     )
 
-joins_move : (move : Move) → Joins (Moves move) (λ k at. rest_field (field_of move at) k at)
+joins_move : (move : OpMove) → Joins (Moves move) (λ k at. rest_field (field_of move at) k at)
 joins_move (number width least bound) k m l n (x, f) h =
     (x, l, record { at_least = f.at_least; below = f.below; tape = f.tape; bytes = f.bytes; at = f.at }, at_place k l.at (m.at + width) l n f.at h)
 joins_move (zeros count) k m l n z h = joins_zeros count k m l n z h
 joins_move zeros_to_8 k m l n z h = joins_zeros (gap_to_8 m.at) k m l n z h
 
-splits_move : (move : Move) → Splits (Moves move) (λ k at. rest_field (field_of move at) k at)
+splits_move : (move : OpMove) → Splits (Moves move) (λ k at. rest_field (field_of move at) k at)
 splits_move (number width least bound) k m n (x, l, f, h) =
     (l, (x, record { at_least = f.at_least; below = f.below; tape = f.tape; bytes = f.bytes; at = f.at }), at_place k (m.at + width) l.at l n (sym f.at) h)
 splits_move (zeros count) k m n h = splits_zeros count k m n h
 splits_move zeros_to_8 k m n h = splits_zeros (gap_to_8 m.at) k m n h
 
-joins_turns : (R : Moment → Moment → Type 0) (f : (ℕ → Rest) → ℕ → Rest) → Joins R f → (i : ℕ) → Joins (Repeats R i) (rest_turns f i)
-joins_turns R f j zero k m l n e h = subst (λ (z : Moment). RestTurns (k z.at) z n) (sym e) h
+joins_turns : (R : StubMoment → StubMoment → Type 0) (f : (ℕ → Rest) → ℕ → Rest) → Joins R f → (i : ℕ) → Joins (Repeats R i) (rest_turns f i)
+joins_turns R f j zero k m l n e h = subst (λ (z : StubMoment). RestTurns (k z.at) z n) (sym e) h
 joins_turns R f j (suc i) k m l n (a, first, more) h = j (λ at. goes_by (rest_turns f i k at)) m a n first (joins_turns R f j i k a l n more h)
 
-splits_turns : (R : Moment → Moment → Type 0) (f : (ℕ → Rest) → ℕ → Rest) → Splits R f → (i : ℕ) → Splits (Repeats R i) (rest_turns f i)
+splits_turns : (R : StubMoment → StubMoment → Type 0) (f : (ℕ → Rest) → ℕ → Rest) → Splits R f → (i : ℕ) → Splits (Repeats R i) (rest_turns f i)
 splits_turns R f s zero k m n h = (m, refl, h)
 splits_turns R f s (suc i) k m n h =
     let (a, first, left) = s (λ at. goes_by (rest_turns f i k at)) m n h in
@@ -175,7 +175,7 @@ mutual
   )
 
   joins_block : (b : Block) → Joins (BlockTurns b) (rest_block b)
-  joins_block finished k m l n e h = subst (λ (z : Moment). RestTurns (k z.at) z n) (sym e) h
+  joins_block finished k m l n e h = subst (λ (z : StubMoment). RestTurns (k z.at) z n) (sym e) h
   joins_block (next p b) k m l n (a, t, u) h = joins_piece p (rest_block b k) m a n t (joins_block b k a l n u h)
 
 mutual
@@ -199,12 +199,12 @@ tree_turns b tape full t = joins_block b rest_end (moment_first tape full) (mome
 pub turns_tree : (b : Block) (tape full : List ℕ) → RestTurns (rest_all b) (moment_first tape full) (moment_last (length full)) → Turns b tape full
 turns_tree b tape full h =
     let (l, t, e) = splits_block b rest_end (moment_first tape full) (moment_last (length full)) h in
-    subst (λ (z : Moment). BlockTurns b (moment_first tape full) z) e t
+    subst (λ (z : StubMoment). BlockTurns b (moment_first tape full) z) e t
 
 -- soundness
 
 sound_zeros : (count : ℕ) → count ≤ 8 → IsSound (zeros_field count)
-sound_zeros count few = record { width = few; high = one-le-pow count 256 (lit< tt); some = lit< tt; low = λ h. refl; untold = λ e. refl }
+sound_zeros count few = record { width = few; high = one-le-pow count 256 (lit< tt); some = lit< tt; low = λ h. refl; unacknowledged = λ e. refl }
 
 sound_width : (width : ℕ) → is_width width ≡ true → width ≤ 8
 sound_width width h = by_cases (one_of_four width h)
@@ -218,14 +218,14 @@ sound_width width h = by_cases (one_of_four width h)
 sound_step : (op : Op) (at : ℕ) → is_step Receive op ≡ true → IsSound (field_of (move_of op) at)
 sound_step (Read width) at h =
     let one : 1 ≤ 256 ^ width = one-le-pow width 256 (lit< tt) in
-    record { width = sound_width width h; high = omega arith; some = omega (arith, one); low = λ w. refl; untold = λ e. absurd (cc) }
-sound_step ReadBool at h = record { width = lit≤ tt; high = lit≤ tt; some = lit< tt; low = λ w. refl; untold = λ e. absurd (cc) }
+    record { width = sound_width width h; high = omega arith; some = omega (arith, one); low = λ w. refl; unacknowledged = λ e. absurd (cc) }
+sound_step ReadBool at h = record { width = lit≤ tt; high = lit≤ tt; some = lit< tt; low = λ w. refl; unacknowledged = λ e. absurd (cc) }
 sound_step (ReadEnum n) at h =
     let high : n ≤ 4294967296 = leb-true n 4294967296 (second_so (leb 1 n) (leb n 4294967296) h) in
     let some : 1 ≤ n = leb-true 1 n (first_so (leb 1 n) (leb n 4294967296) h) in
-    record { width = lit≤ tt; high = omega (arith, high); some = omega (arith, some); low = λ w. refl; untold = λ e. absurd (cc) }
-sound_step ReadChar at h = record { width = lit≤ tt; high = lit≤ tt; some = lit< tt; low = λ w. refl; untold = λ e. absurd (cc) }
-sound_step ReadText at h = record { width = lit≤ tt; high = lit≤ tt; some = lit< tt; low = λ w. absurd (omega (arith, w)); untold = λ e. absurd (cc) }
+    record { width = lit≤ tt; high = omega (arith, high); some = omega (arith, some); low = λ w. refl; unacknowledged = λ e. absurd (cc) }
+sound_step ReadChar at h = record { width = lit≤ tt; high = lit≤ tt; some = lit< tt; low = λ w. refl; unacknowledged = λ e. absurd (cc) }
+sound_step ReadText at h = record { width = lit≤ tt; high = lit≤ tt; some = lit< tt; low = λ w. absurd (omega (arith, w)); unacknowledged = λ e. absurd (cc) }
 sound_step (Skip n) at h = let few : n ≤ 7 = leb-true n 7 (second_so (leb 1 n) (leb n 7) h) in sound_zeros n (omega (arith, few))
 sound_step Align at h = sound_zeros (gap_to_8 at) (omega arith)
 sound_step op at h = absurd (cc)
@@ -233,7 +233,7 @@ sound_step op at h = absurd (cc)
 sound_length : (most : ℕ) → is_within 4096 most ≡ true → IsSound (length_field most)
 sound_length most h =
     let few : most ≤ 4096 = leb-true most 4096 (second_so (leb 1 most) (leb most 4096) h) in
-    record { width = lit≤ tt; high = omega (arith, few); some = omega arith; low = λ w. refl; untold = λ e. absurd (cc) }
+    record { width = lit≤ tt; high = omega (arith, few); some = omega arith; low = λ w. refl; unacknowledged = λ e. absurd (cc) }
 
 -- what keeps all fields sound
 abbrev Keeps : ((ℕ → Rest) → ℕ → Rest) → Type 0

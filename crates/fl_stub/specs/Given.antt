@@ -2,7 +2,7 @@
 -- function is total; wherever the meaning turns a tape into bytes, they agree (`Agrees`).
 use Rattle.std.specs.Prelude.{◌≡◌, ℕ, zero, suc, ◌+◌, List, [], ◌∷◌, ◌++◌, replicate}
 use Rattle.fl_stub.specs.Structure.{Piece, one, times, counted, Block, finished, next}
-use Rattle.fl_stub.specs.Meaning.{Move, number, zeros, zeros_to_8, move_of, number_bytes, gap_to_8, Moment, BlockTurns, Turns}
+use Rattle.fl_stub.specs.Meaning.{OpMove, number, zeros, zeros_to_8, move_of, number_bytes, gap_to_8, StubMoment, BlockTurns, Turns}
 
 -- bytes, the place after them and the tape that is left there, and how many instructions a machine goes through
 pub record Given : Type 0 where
@@ -42,7 +42,7 @@ number_given width at tape =
 abbrev pub zeros_given : ℕ → Giver
 zeros_given count at tape = record { bytes = replicate count 0; at = at + count; tape = tape; steps = 1 }
 
-abbrev pub move_given : Move → Giver
+abbrev pub move_given : OpMove → Giver
 move_given (number width least bound) at tape = number_given width at tape
 move_given (zeros count) at tape = zeros_given count at tape
 move_given zeros_to_8 at tape = zeros_given (gap_to_8 at) at tape
@@ -67,14 +67,14 @@ abbrev mutual
   block_given (next p b) at tape = then_given (piece_given p at tape) (block_given b)
 
 -- what is given is what the meaning moves
-pub record Agrees (g : Given) (m n : Moment) : Type 0 where
+pub record Agrees (g : Given) (m n : StubMoment) : Type 0 where
   pub bytes : m.bytes ≡ g.bytes ++ n.bytes
   pub at : g.at ≡ n.at
   pub tape : g.tape ≡ n.tape
 
 -- wherever code turns one moment into another, that is given
 abbrev pub GivesWhatTurns : Type 0
-GivesWhatTurns = (b : Block) (m n : Moment) → BlockTurns b m n → Agrees (block_given b m.at m.tape) m n
+GivesWhatTurns = (b : Block) (m n : StubMoment) → BlockTurns b m n → Agrees (block_given b m.at m.tape) m n
 
 -- all that code gives for a tape
 abbrev pub bytes_given : Block → List ℕ → List ℕ

@@ -8,5 +8,5 @@ pub mod Marks
 pub mod Streams
 -- Working files: how `verify` walks, and what machines that stand inside code know of it.
 pub mod Walk
-pub mod Spots
+pub mod Locations
 pub mod Rests

@@ -1,16 +1,16 @@
 -- What stands at each byte that code moves: part of a length, part of another number, or a zero.
 use Rattle.std.specs.Prelude.{ℕ, zero, suc, ◌+◌, List, [], ◌++◌, replicate, slice_index_or}
-use Rattle.fl_stub.specs.declared.mark.Mark.{Mark}
-use Rattle.fl_stub.specs.declared.mark.Mark.TheVariants.{Length, Number, Zero}
+use Rattle.fl_stub.specs.declared.mark.ByteKind.{ByteKind}
+use Rattle.fl_stub.specs.declared.mark.ByteKind.TheVariants.{Length, Number, Zero}
 use Rattle.fl_stub.specs.Structure.{Piece, one, times, counted, Block, finished, next}
-use Rattle.fl_stub.specs.Meaning.{Move, number, zeros, zeros_to_8, move_of, gap_to_8}
+use Rattle.fl_stub.specs.Meaning.{OpMove, number, zeros, zeros_to_8, move_of, gap_to_8}
 use Rattle.fl_stub.specs.Given.{Giver, first_of_tape, rest_of_tape, piece_given, block_given}
 
 -- the marks of something that is given from a place on, with a tape
 abbrev pub Marker : Type 0
-Marker = ℕ → List ℕ → List Mark
+Marker = ℕ → List ℕ → List ByteKind
 
-abbrev pub move_marks : Move → ℕ → List Mark
+abbrev pub move_marks : OpMove → ℕ → List ByteKind
 move_marks (number width least bound) at = replicate width Number
 move_marks (zeros count) at = replicate count Zero
 move_marks zeros_to_8 at = replicate (gap_to_8 at) Zero
@@ -32,9 +32,9 @@ abbrev mutual
   block_marks (next p b) at tape = piece_marks p at tape ++ block_marks b (piece_given p at tape).at (piece_given p at tape).tape
 
 -- the marks of all bytes that code gives for a tape
-abbrev pub marks_of : Block → List ℕ → List Mark
+abbrev pub marks_of : Block → List ℕ → List ByteKind
 marks_of b tape = block_marks b 0 tape
 
 -- what stands at a byte; zeros follow the last
-abbrev pub mark_at : List Mark → ℕ → Mark
+abbrev pub mark_at : List ByteKind → ℕ → ByteKind
 mark_at marks p = slice_index_or marks p Zero

@@ -8,7 +8,7 @@ use Rattle.fl_stub.specs.declared.op.Op.TheVariants.{Emit, Pad, Align, Read, Rea
 use Rattle.fl_stub.specs.Structure.{Piece, one, times, counted, Block, finished, next, block_fits}
 
 -- a place in the payload, the numbers of the tape that are left there, and the bytes from there on
-pub record Moment : Type 0 where
+pub record StubMoment : Type 0 where
   pub at : ℕ
   pub tape : List ℕ
   pub bytes : List ℕ
@@ -23,13 +23,13 @@ gap_to_8 at = (8 - at % 8) % 8
 
 -- what an instruction moves: a number in so many bytes, from a least one on and below a bound; so many zeros;
 -- zeros up to a multiple of 8
-pub data Move : Type 0 where
-  number : (width least bound : ℕ) → Move
-  zeros : ℕ → Move
-  zeros_to_8 : Move
+pub data OpMove : Type 0 where
+  number : (width least bound : ℕ) → OpMove
+  zeros : ℕ → OpMove
+  zeros_to_8 : OpMove
 
 -- loops and ends move nothing by themselves
-abbrev pub move_of : Op → Move
+abbrev pub move_of : Op → OpMove
 move_of (Emit width) = number width 0 (256 ^ width)
 move_of (Read width) = number width 0 (256 ^ width)
 move_of ReadBool = number 1 0 2
@@ -42,44 +42,44 @@ move_of Align = zeros_to_8
 move_of op = zeros 0
 
 -- the next number of the tape, and as many bytes
-pub record MovesNumber (width least bound x : ℕ) (m n : Moment) : Type 0 where
+pub record MovesNumber (width least bound x : ℕ) (m n : StubMoment) : Type 0 where
   pub at_least : least ≤ x
   pub below : x < bound
   pub tape : m.tape ≡ x ∷ n.tape
   pub bytes : m.bytes ≡ number_bytes width x ++ n.bytes
   pub at : n.at ≡ m.at + width
 
-pub record MovesZeros (count : ℕ) (m n : Moment) : Type 0 where
+pub record MovesZeros (count : ℕ) (m n : StubMoment) : Type 0 where
   pub tape : m.tape ≡ n.tape
   pub bytes : m.bytes ≡ replicate count 0 ++ n.bytes
   pub at : n.at ≡ m.at + count
 
-abbrev pub Moves : Move → Moment → Moment → Type 0
+abbrev pub Moves : OpMove → StubMoment → StubMoment → Type 0
 Moves (number width least bound) m n = (x : ℕ) × MovesNumber width least bound x m n
 Moves (zeros count) m n = MovesZeros count m n
 Moves zeros_to_8 m n = MovesZeros (gap_to_8 m.at) m n
 
 -- so many times, one after another
-abbrev pub Repeats : (Moment → Moment → Type 0) → ℕ → Moment → Moment → Type 0
+abbrev pub Repeats : (StubMoment → StubMoment → Type 0) → ℕ → StubMoment → StubMoment → Type 0
 Repeats R zero m n = m ≡ n
-Repeats R (suc k) m n = (l : Moment) × R m l × Repeats R k l n
+Repeats R (suc k) m n = (l : StubMoment) × R m l × Repeats R k l n
 
 abbrev mutual
-  pub PieceTurns : Piece → Moment → Moment → Type 0
+  pub PieceTurns : Piece → StubMoment → StubMoment → Type 0
   PieceTurns (one op) m n = Moves (move_of op) m n
   PieceTurns (times k b) m n = Repeats (BlockTurns b) k m n
-  PieceTurns (counted most b) m n = (x : ℕ) × (l : Moment) × MovesNumber 8 0 (most + 1) x m l × Repeats (BlockTurns b) x l n
+  PieceTurns (counted most b) m n = (x : ℕ) × (l : StubMoment) × MovesNumber 8 0 (most + 1) x m l × Repeats (BlockTurns b) x l n
 
-  pub BlockTurns : Block → Moment → Moment → Type 0
+  pub BlockTurns : Block → StubMoment → StubMoment → Type 0
   BlockTurns finished m n = m ≡ n
-  BlockTurns (next p b) m n = (l : Moment) × PieceTurns p m l × BlockTurns b l n
+  BlockTurns (next p b) m n = (l : StubMoment) × PieceTurns p m l × BlockTurns b l n
 
 -- before the first byte
-abbrev pub moment_first : List ℕ → List ℕ → Moment
+abbrev pub moment_first : List ℕ → List ℕ → StubMoment
 moment_first tape bytes = record { at = 0; tape = tape; bytes = bytes }
 
 -- after the last byte, at this place
-abbrev pub moment_last : ℕ → Moment
+abbrev pub moment_last : ℕ → StubMoment
 moment_last at = record { at = at; tape = []; bytes = [] }
 
 -- code with this structure turns the tape into the bytes (send), or the bytes into the tape (receive): all of both

@@ -6,21 +6,21 @@ use Rattle.fl_stub.specs.declared.op.Op.{Op}
 use Rattle.fl_stub.specs.declared.op.Op.TheVariants.{Align, Times, Back, ReadLength}
 use Rattle.fl_stub.specs.declared.op.Column.{Column}
 use Rattle.fl_stub.specs.declared.op.Column.TheVariants.{Receive}
-use Rattle.fl_stub.specs.declared.walk.Standing.TheVariants.{Inside}
-use Rattle.fl_stub.specs.declared.mark.Mark.{Mark}
-use Rattle.fl_stub.specs.declared.mark.Mark.TheVariants.{Length, Number, Zero}
+use Rattle.fl_stub.specs.declared.walk.WalkState.TheVariants.{Inside}
+use Rattle.fl_stub.specs.declared.mark.ByteKind.{ByteKind}
+use Rattle.fl_stub.specs.declared.mark.ByteKind.TheVariants.{Length, Number, Zero}
 use Rattle.fl_stub.specs.Structure.{Piece, one, times, counted, Block, finished, next, is_step, is_within}
 use Rattle.fl_stub.specs.Frames.{frames_of, innermost, block_of}
-use Rattle.fl_stub.specs.Meaning.{Move, number, zeros, zeros_to_8, move_of, gap_to_8, number_bytes, Moment, moment_first}
+use Rattle.fl_stub.specs.Meaning.{OpMove, number, zeros, zeros_to_8, move_of, gap_to_8, number_bytes, StubMoment, moment_first}
 use Rattle.fl_stub.specs.Given.{first_of_tape, rest_of_tape}
 use Rattle.fl_stub.specs.Walk.{accepts}
-use Rattle.fl_stub.specs.Spots.{TheLoop, outer}
+use Rattle.fl_stub.specs.Locations.{TheLoop, outer}
 use Rattle.fl_stub.specs.Streams.{Follows}
 
 -- bytes that are one number, from a least one on and below a bound, and whether it is put on the tape; zeros are a
 -- number below 1 that isn't
 pub record TheField : Type 0 where
-  pub mark : Mark
+  pub mark : ByteKind
   pub width : ℕ
   pub least : ℕ
   pub bound : ℕ
@@ -35,7 +35,7 @@ abbrev pub zeros_field : ℕ → TheField
 zeros_field count = record { mark = Zero; width = count; least = 0; bound = 1; told = false }
 
 -- what a move takes at a place
-abbrev pub field_of : Move → ℕ → TheField
+abbrev pub field_of : OpMove → ℕ → TheField
 field_of (number width least bound) at = record { mark = Number; width = width; least = least; bound = bound; told = true }
 field_of (zeros count) at = zeros_field count
 field_of zeros_to_8 at = zeros_field (gap_to_8 at)
@@ -121,7 +121,7 @@ abbrev pub told : Bool → ℕ → List ℕ
 told true x = x ∷ []
 told false x = []
 
-pub record MovesField (f : TheField) (x : ℕ) (m n : Moment) : Type 0 where
+pub record MovesField (f : TheField) (x : ℕ) (m n : StubMoment) : Type 0 where
   pub at_least : f.least ≤ x
   pub below : x < f.bound
   pub tape : m.tape ≡ onto f.told x n.tape
@@ -129,10 +129,10 @@ pub record MovesField (f : TheField) (x : ℕ) (m n : Moment) : Type 0 where
   pub at : n.at ≡ m.at + f.width
 
 -- what is left turns one moment into another
-abbrev pub RestTurns : Rest → Moment → Moment → Type 0
+abbrev pub RestTurns : Rest → StubMoment → StubMoment → Type 0
 RestTurns no_more m n = m ≡ n
 RestTurns (goes_by r) m n = RestTurns r m n
-RestTurns (takes f k) m n = (x : ℕ) × (l : Moment) × MovesField f x m l × RestTurns (k x) l n
+RestTurns (takes f k) m n = (x : ℕ) × (l : StubMoment) × MovesField f x m l × RestTurns (k x) l n
 
 -- the number that a tape tells, 0 where it lacks; and the tape behind it
 abbrev pub told_number : Bool → List ℕ → ℕ
@@ -149,7 +149,7 @@ rest_bytes no_more tape = []
 rest_bytes (goes_by r) tape = rest_bytes r tape
 rest_bytes (takes f k) tape = number_bytes f.width (told_number f.told tape) ++ rest_bytes (k (told_number f.told tape)) (told_rest f.told tape)
 
-abbrev pub rest_marks : Rest → List ℕ → List Mark
+abbrev pub rest_marks : Rest → List ℕ → List ByteKind
 rest_marks no_more tape = []
 rest_marks (goes_by r) tape = rest_marks r tape
 rest_marks (takes f k) tape = replicate f.width f.mark ++ rest_marks (k (told_number f.told tape)) (told_rest f.told tape)
@@ -160,7 +160,7 @@ pub record IsSound (f : TheField) : Type 0 where
   pub high : f.bound ≤ 256 ^ f.width
   pub some : f.least < f.bound
   pub low : 2 ≤ f.width → f.least ≡ 0
-  pub untold : f.told ≡ false → f.bound ≡ 1
+  pub unacknowledged : f.told ≡ false → f.bound ≡ 1
 
 -- all fields are so
 abbrev pub AllSound : Rest → Type 0
@@ -169,8 +169,8 @@ AllSound (goes_by r) = AllSound r
 AllSound (takes f k) = IsSound f × ((x : ℕ) → f.least ≤ x → x < f.bound → AllSound (k x))
 
 -- a payload that begins with the bytes done goes on where the rest stands
-pub record GoesFrom (r : Rest) (taken done tape full : List ℕ) (n : Moment) : Type 0 where
-  pub m : Moment
+pub record GoesFrom (r : Rest) (taken done tape full : List ℕ) (n : StubMoment) : Type 0 where
+  pub m : StubMoment
   pub at : m.at ≡ length done
   pub tape_is : tape ≡ taken ++ m.tape
   pub full_is : full ≡ done ++ m.bytes
@@ -178,8 +178,8 @@ pub record GoesFrom (r : Rest) (taken done tape full : List ℕ) (n : Moment) : 
 
 -- between the whole tree and what is left of it lie these numbers and bytes, and no others
 pub record Reaches (whole r : Rest) (taken done : List ℕ) : Type 0 where
-  pub to : (m n : Moment) → m.at ≡ length done → RestTurns r m n → RestTurns whole (moment_first (taken ++ m.tape) (done ++ m.bytes)) n
-  pub from : (tape full : List ℕ) (n : Moment) → RestTurns whole (moment_first tape full) n → Follows (length done) done full
+  pub to : (m n : StubMoment) → m.at ≡ length done → RestTurns r m n → RestTurns whole (moment_first (taken ++ m.tape) (done ++ m.bytes)) n
+  pub from : (tape full : List ℕ) (n : StubMoment) → RestTurns whole (moment_first tape full) n → Follows (length done) done full
       → GoesFrom r taken done tape full n
   pub gives : (tape : List ℕ) → rest_bytes whole (taken ++ tape) ≡ done ++ rest_bytes r tape
   pub marks : (tape : List ℕ) → drop (length done) (rest_marks whole (taken ++ tape)) ≡ rest_marks r tape

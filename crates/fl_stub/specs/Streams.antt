@@ -1,7 +1,7 @@
 -- Receive code and bytes that come bit by bit: which payloads they may be the first bytes of. Zeros follow a payload's
 -- last byte.
 use Rattle.std.specs.Prelude.{◌≡◌, ℕ, ◌+◌, ◌<◌, ◌≤◌, true, List, length, slice_index}
-use Rattle.fl_stub.specs.declared.mark.Mark.{Mark}
+use Rattle.fl_stub.specs.declared.mark.ByteKind.{ByteKind}
 use Rattle.fl_stub.specs.declared.op.Column.TheVariants.{Receive}
 use Rattle.fl_stub.specs.Structure.{Block, block_fits}
 use Rattle.fl_stub.specs.Meaning.{Turns}
@@ -30,7 +30,7 @@ pub record IsPayload (b : Block) (bytes tape : List ℕ) : Type 0 where
   pub short : length full ≤ length bytes
 
 -- a byte up to which the bytes follow a payload, and no payload with that byte; and what stands there in that payload
-pub record LeavesPayloads (b : Block) (bytes : List ℕ) (mark : Mark) : Type 0 where
+pub record LeavesPayloads (b : Block) (bytes : List ℕ) (mark : ByteKind) : Type 0 where
   pub p : ℕ
   pub inside : p < length bytes
   pub tape : List ℕ
@@ -46,5 +46,5 @@ OneMark = (b : Block) (tape tape2 full full2 : List ℕ) (p : ℕ) → block_fit
 
 -- so bytes leave the payloads of receive code at one mark
 abbrev pub OneLeaving : Type 0
-OneLeaving = (b : Block) (bytes : List ℕ) (mark mark2 : Mark) → block_fits Receive b ≡ true
+OneLeaving = (b : Block) (bytes : List ℕ) (mark mark2 : ByteKind) → block_fits Receive b ≡ true
     → LeavesPayloads b bytes mark → LeavesPayloads b bytes mark2 → mark ≡ mark2

@@ -7,7 +7,7 @@
 //!
 //! - `op.rt`: `Op`, `Column`
 //! - `code.rt`: `Code`, `VerifiedCode`, [`verify`]
-//! - `mark.rt`: `Mark`, what stands at a byte of a payload
+//! - `mark.rt`: `ByteKind`, what stands at a byte of a payload
 //! - `law.rt`: laws of the structure and the meaning
 #![tactic(auto)]
 
@@ -18,7 +18,9 @@ mod op;
 mod walk;
 
 pub use code::{Code, VerifiedCode, verify};
-pub use law::{gives_what_turns, one_mark, one_sending, one_structure, one_taking};
-pub use mark::Mark;
+pub use law::{
+    law_gives_what_turns, law_one_mark, law_one_sending, law_one_structure, law_one_taking,
+};
+pub use mark::ByteKind;
 pub use op::{Column, Op};
 pub use walk::MAX_DEPTH;

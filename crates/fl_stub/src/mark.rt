@@ -2,7 +2,7 @@
 
 /// What stands at a byte of a payload, as receive code tells it: what is wrong where no payload goes on with a byte.
 #[derive(Clone, Copy, Debug, PartialEq, Eq)]
-pub enum Mark {
+pub enum ByteKind {
     /// Part of a length.
     Length,
     /// Part of another number.

@@ -2,7 +2,7 @@
 
 ghost use Rattle.std.specs.Prelude.{◌≡◌, ◌+◌, ◌-◌, ◌&&◌, nat_lt, [], Some};
 ghost use Rattle.fl_stub.specs.declared.op.Column.TheVariants.{Send as send, Receive as receive};
-ghost use Rattle.fl_stub.specs.declared.walk.Standing.TheVariants.{Inside as inside};
+ghost use Rattle.fl_stub.specs.declared.walk.WalkState.TheVariants.{Inside as inside};
 ghost use Rattle.fl_stub.specs.Structure.{is_step as is_step_of};
 ghost use Rattle.fl_stub.specs.Walk.{after as after_of, after_inside as after_inside_of, after_length as after_length_of};
 ghost use Rattle.fl_stub.specs.Walk.{accepts as accepts_of, if_so as if_so_of, is_send, is_receive};
@@ -14,7 +14,7 @@ pub const MAX_DEPTH: u32 = 8;
 
 /// Where the walk stands.
 #[derive(Clone, Copy, Debug, PartialEq, Eq)]
-pub(crate) enum Standing {
+pub(crate) enum WalkState {
     /// Inside so many loops.
     Inside(u32),
     /// Directly after a length, inside so many loops.
@@ -71,54 +71,54 @@ fn is_step(column: Column, op: Op) -> bool
     }
 }
 
-fn if_so(test: bool, standing: Standing) -> Option<Standing>
+fn if_so(test: bool, standing: WalkState) -> Option<WalkState>
     ensures { result ≡ if_so_of test standing }
 {
     if test { Some(standing) } else { None }
 }
 
 // The loop that begins here; none goes deeper than `MAX_DEPTH`.
-fn open(in_range: bool, depth: u32) -> Option<Standing>
+fn open(in_range: bool, depth: u32) -> Option<WalkState>
     ensures { result ≡ if_so_of (in_range && nat_lt depth 8) (inside (depth + 1)) }
 {
     if in_range && depth < MAX_DEPTH {
-        Some(Standing::Inside(depth + 1))
+        Some(WalkState::Inside(depth + 1))
     } else {
         None
     }
 }
 
-fn close(depth: u32) -> Option<Standing>
+fn close(depth: u32) -> Option<WalkState>
     ensures { result ≡ if_so_of (nat_lt 0 depth) (inside (depth - 1)) }
 {
     if depth > 0 {
-        Some(Standing::Inside(depth - 1))
+        Some(WalkState::Inside(depth - 1))
     } else {
         None
     }
 }
 
-fn after_inside(column: Column, depth: u32, op: Op) -> Option<Standing>
+fn after_inside(column: Column, depth: u32, op: Op) -> Option<WalkState>
     ensures { result ≡ after_inside_of column depth op }
 {
     match op {
         Op::Times(_) => open(op.is_in_range(), depth),
         Op::Length(_) => if_so(
             column.is_send() && op.is_in_range(),
-            Standing::AfterLength(depth),
+            WalkState::AfterLength(depth),
         ),
         Op::ReadLength(_) => if_so(
             column.is_receive() && op.is_in_range(),
-            Standing::AfterLength(depth),
+            WalkState::AfterLength(depth),
         ),
         Op::Back => close(depth),
-        Op::End => if_so(column.is_send() && depth == 0, Standing::Ended),
-        Op::Done => if_so(column.is_receive() && depth == 0, Standing::Ended),
-        _ => if_so(is_step(column, op), Standing::Inside(depth)),
+        Op::End => if_so(column.is_send() && depth == 0, WalkState::Ended),
+        Op::Done => if_so(column.is_receive() && depth == 0, WalkState::Ended),
+        _ => if_so(is_step(column, op), WalkState::Inside(depth)),
     }
 }
 
-fn after_length(depth: u32, op: Op) -> Option<Standing>
+fn after_length(depth: u32, op: Op) -> Option<WalkState>
     ensures { result ≡ after_length_of depth op }
 {
     match op {
@@ -127,27 +127,27 @@ fn after_length(depth: u32, op: Op) -> Option<Standing>
     }
 }
 
-fn after(column: Column, standing: Standing, op: Op) -> Option<Standing>
+fn after(column: Column, standing: WalkState, op: Op) -> Option<WalkState>
     ensures { result ≡ after_of column standing op }
 {
     match standing {
-        Standing::Inside(depth) => after_inside(column, depth, op),
-        Standing::AfterLength(depth) => after_length(depth, op),
-        Standing::Ended => None,
+        WalkState::Inside(depth) => after_inside(column, depth, op),
+        WalkState::AfterLength(depth) => after_length(depth, op),
+        WalkState::Ended => None,
     }
 }
 
-fn has_ended(standing: Standing) -> bool
+fn has_ended(standing: WalkState) -> bool
     ensures { result ≡ accepts_of send (Some standing) [] }
 {
-    matches!(standing, Standing::Ended)
+    matches!(standing, WalkState::Ended)
 }
 
 /// Whether code of a column is walked through from its first instruction to its last.
 pub(crate) fn accepts(column: Column, ops: &[Op]) -> bool
     ensures { result ≡ accepts_of column (Some (inside 0)) ops.now }
 {
-    let mut standing = Standing::Inside(0);
+    let mut standing = WalkState::Inside(0);
     for op in ops {
         let Some(next) = after(column, standing, *op) else {
             return false;

@@ -1,4 +1,3 @@
-pub mod Counting
 pub mod Scan
 pub mod Once
 pub mod Reading
@@ -7,12 +6,4 @@ pub mod Words
 pub mod Prints
 pub mod Begun
 pub mod Round
-pub mod Tapes
-pub mod Turns
-pub mod Bits
-pub mod Ranked
-pub mod Kept
 pub mod Spans
-pub mod Untaped
-pub mod Numbers
-pub mod Each

@@ -1,7 +1,7 @@
 -- Values in one another: what is read of them so far, and that there is one reading.
 use Rattle.std.proofs.Common.{◌≡◌, ◌≤◌, ◌+◌, ℕ, ℤ, List, [], ◌∷◌, ◌++◌, map, arith, refl, ap, sym, subst, ◌∙◌, true}
-use Rattle.fl_value.specs.Value.{Datum, number, string, elements, fields, Data, nothing_more, also, datum_of, data_from}
-use Rattle.fl_value.specs.declared.value.Value.{Value}
+use Rattle.fl_value_data.specs.Value.{Datum, number, string, elements, fields, Data, nothing_more, also, datum_of, data_from}
+use Rattle.fl_value_data.specs.declared.value.Value.{Value}
 use Rattle.fl_value.specs.declared.fault.ValueFault.{ValueFault}
 use Rattle.fl_value.specs.declared.fault.ValueFault.TheVariants.{NotACall, NoSuchMessage, DoesNotFit, Memory}
 use Rattle.fl_value.specs.Fault.{Refuses}

@@ -10,7 +10,7 @@ use Rattle.std.specs.Fmt.{decimal, signed_decimal}
 use Rattle.std.specs.Char.{digit_char, digit_value}
 use Rattle.std.specs.Str.Parse.{AllDigits}
 use Rattle.std.specs.List.{flat_map, list_all}
-use Rattle.fl_value.specs.Value.{Datum, number, string, elements, fields, Data, nothing_more, also, data_from}
+use Rattle.fl_value_data.specs.Value.{Datum, number, string, elements, fields, Data, nothing_more, also, data_from}
 use Rattle.fl_value.specs.Printed.{printed_byte, printed_text, printed_value, printed_values, printed_more, printed_call, is_short, is_printable, are_printable}
 use Rattle.fl_lex.specs.Words.{is_digit, is_name}
 use Rattle.fl_value.specs.CallText.{is_literal, StopsAt, Digits, Number, unsigned, minus, TextByte, itself, quote, backslash, coded, TextBytes, TokenAt, Token, TheToken, a_number, a_text, a_mark, SpellsValue, SpellsValues, SpellsMore, SpellsCall, greatest_depth}

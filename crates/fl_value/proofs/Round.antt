@@ -13,11 +13,11 @@ use Rattle.fl_interface.specs.Limits.{is_type_within, is_argument_within, are_ar
 use Rattle.fl_interface.specs.Counts.{words_fit, all_words_fit, argument_words_fit}
 use Rattle.fl_interface.specs.Depth.{depth_of as type_depth, deepest}
 use Rattle.fl_interface.specs.Limits.{is_among}
-use Rattle.fl_value.specs.Value.{Datum, number, string, elements, fields, Data, nothing_more, also, TheCall, data_from, call_of}
-use Rattle.fl_value.specs.declared.value.Call.{Call}
+use Rattle.fl_value_data.specs.Value.{Datum, number, string, elements, fields, Data, nothing_more, also, TheCall, data_from, call_of}
+use Rattle.fl_value_data.specs.declared.value.Call.{Call}
 use Rattle.fl_value.specs.declared.fault.ValueFault.{ValueFault}
 use Rattle.fl_value.specs.declared.fault.ValueFault.TheVariants.{NotACall, NoSuchMessage, DoesNotFit, Memory}
-use Rattle.fl_value.specs.Fits.{least_above, how_many_below, is_scalar_value, is_enumerator, count_of, has_type, have_types, all_have_type, is_text_byte, is_argument, are_arguments, fit_message}
+use Rattle.fl_value_data.specs.Fits.{least_above, how_many_below, is_scalar_value, is_enumerator, count_of, has_type, have_types, all_have_type, is_text_byte, is_argument, are_arguments, fit_message}
 use Rattle.fl_value.specs.Printed.{is_short, is_printable, are_printable, printed_call, HasText}
 use Rattle.fl_value.specs.CallText.{SpellsCall, depth_of, greatest_depth}
 use Rattle.fl_value.specs.Resolve.{named_from, where_fitting, resolved_at, resolved, ComesTo, Answers, AnswersUnlessMemory}

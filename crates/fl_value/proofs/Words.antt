@@ -6,7 +6,7 @@ use Rattle.std.specs.List.{list_all, prefix_len}
 use Rattle.std.specs.Prelude.{nat_le}
 use Rattle.std.specs.Cmp.{first_so, second_so}
 use Rattle.std.proofs.lemmas.Bool.{leb-true, le-leb}
-use Rattle.fl_value.specs.Value.{Datum, Data, data_from}
+use Rattle.fl_value_data.specs.Value.{Datum, Data, data_from}
 use Rattle.fl_lex.specs.Words.{is_letter, is_word_byte, is_word, is_name}
 use Rattle.fl_lex.proofs.Classes.{both}
 use Rattle.fl_value.specs.CallText.{is_blank, StopsAt, Blanks, Token, a_mark, SpellsCall, SpellsValues, Listed, greatest_depth}

@@ -7,8 +7,8 @@ use Rattle.std.specs.List.{list_all}
 use Rattle.std.specs.Char.{digit_value}
 use Rattle.std.specs.Str.Parse.{digits_value}
 use Rattle.fl_lex.specs.Words.{is_digit, is_name}
-use Rattle.fl_value.specs.declared.value.Value.{Value}
-use Rattle.fl_value.specs.Value.{Datum, number, string, elements, fields, Data, nothing_more, also, data_from, datum_of}
+use Rattle.fl_value_data.specs.declared.value.Value.{Value}
+use Rattle.fl_value_data.specs.Value.{Datum, number, string, elements, fields, Data, nothing_more, also, data_from, datum_of}
 
 -- a space or a tab
 abbrev pub is_blank : ℕ → Bool

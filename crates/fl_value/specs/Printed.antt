@@ -9,9 +9,9 @@ use Rattle.fl_interface.specs.Limits.{is_within_limits}
 use Rattle.fl_interface.specs.Counts.{interface_words_fit}
 use Rattle.fl_lex.specs.Words.{is_name}
 use Rattle.fl_value.specs.CallText.{is_literal, SpellsCall, greatest_depth}
-use Rattle.fl_value.specs.Fits.{fits_of}
+use Rattle.fl_value_data.specs.Fits.{fits_of}
 use Rattle.fl_value.specs.Resolve.{ComesTo}
-use Rattle.fl_value.specs.Value.{TheCall, Datum, number, string, elements, fields, Data, nothing_more, also, data_from}
+use Rattle.fl_value_data.specs.Value.{TheCall, Datum, number, string, elements, fields, Data, nothing_more, also, data_from}
 
 -- a byte that is printed as it is
 abbrev pub is_shown : ℕ → Bool

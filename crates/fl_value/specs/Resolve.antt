@@ -2,11 +2,11 @@
 use Rattle.std.specs.Prelude.{◌≡◌, ℕ, ◌+◌, nat_lt, if◌then◌else◌, Option, Some, None, Result, Ok, Err, List, [], ◌∷◌}
 use Rattle.std.specs.Str.{bytes_eq}
 use Rattle.fl_interface.specs.Interface.{TheMessage, TheInterface}
-use Rattle.fl_value.specs.declared.value.Call.{Call}
+use Rattle.fl_value_data.specs.declared.value.Call.{Call}
 use Rattle.fl_value.specs.declared.fault.ValueFault.{ValueFault}
 use Rattle.fl_value.specs.declared.fault.ValueFault.TheVariants.{NotACall, NoSuchMessage, DoesNotFit, Memory}
-use Rattle.fl_value.specs.Value.{Datum, TheCall, call_of}
-use Rattle.fl_value.specs.Fits.{fits_of}
+use Rattle.fl_value_data.specs.Value.{Datum, TheCall, call_of}
+use Rattle.fl_value_data.specs.Fits.{fits_of}
 use Rattle.fl_value.specs.CallText.{SpellsCall}
 
 -- the number of the first message of this name, if the first of these messages has the number k

@@ -2,7 +2,7 @@
 
 ghost use Rattle.std.specs.Prelude.{Result, ◌≡◌, ℕ, ◌++◌, List, map, IfOk, IfErr, IfSome, IfNone, true};
 ghost use Rattle.fl_interface.specs.Interface.{interface_of, message_of};
-ghost use Rattle.fl_value.specs.Value.{Datum, TheCall, datum_of};
+ghost use Rattle.fl_value_data.specs.Value.{Datum, TheCall, datum_of};
 ghost use Rattle.fl_lex.specs.Words.{is_word_byte, is_name};
 ghost use Rattle.fl_value.specs.CallText.{StopsAt, SpellsCall};
 ghost use Rattle.fl_value.specs.declared.fault.ValueFault.{ValueFault};
@@ -10,13 +10,12 @@ ghost use Rattle.fl_value.specs.Fault.{Refuses};
 ghost use Rattle.fl_value.specs.Resolve.{named_from, resolved, Answers, AnswersUnlessMemory, ComesTo, ReadsAs};
 
 use crate::fault::ValueFault;
-use crate::fitting::fits;
 use crate::reader::read_values;
 use crate::tokens::{read_mark, skip_blanks};
-use crate::value::{Call, Value};
 use fl_base::MsgNo;
 use fl_interface::{Interface, Message, Word};
 use fl_lex::{MAX_WORD, count_word_bytes, is_letter};
+use fl_value_data::{Call, Value, fits};
 use std::alloc::Global;
 
 /// How deep arrays and structs may nest in a call's text; its parentheses don't count.

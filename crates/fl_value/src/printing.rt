@@ -4,11 +4,11 @@ ghost use Rattle.std.specs.Prelude.{◌≡◌, ◌++◌, ◌∷◌, [], ◌<◌,
 ghost use Rattle.std.specs.List.{list_all, prefix_len};
 ghost use Rattle.std.specs.Char.{digit_char};
 ghost use Rattle.std.specs.Fmt.{decimal, signed_decimal};
-ghost use Rattle.fl_value.specs.Value.{datum_of, data_from};
+ghost use Rattle.fl_value_data.specs.Value.{datum_of, data_from};
 ghost use Rattle.fl_value.specs.Printed.{is_shown, printed_byte, printed_text, printed_value, printed_values, printed_call, separator, BeginsToAppend};
 
 use crate::tokens::is_literal;
-use crate::value::Value;
+use fl_value_data::Value;
 use itoa::Buffer;
 use std::alloc::{AllocError, Global};
 

@@ -1,14 +1,14 @@
 //! Values and calls from their text.
 
 ghost use Rattle.std.specs.Prelude.{◌≡◌, ℕ, ◌+◌, ◌<◌, ◌≤◌, List, map, true, length, IfOk, IfErr, IfSome, IfNone};
-ghost use Rattle.fl_value.specs.Value.{Datum, Data, datum_of, data_from};
+ghost use Rattle.fl_value_data.specs.Value.{Datum, Data, datum_of, data_from};
 ghost use Rattle.fl_value.specs.CallText.{SpellsValue, Listed, Enclosed, NoneEnclosed, Token, a_mark, is_mark, is_close, depth_of, greatest_depth};
 ghost use Rattle.fl_value.specs.CallText.{Pushes};
 ghost use Rattle.fl_value.specs.Fault.{Refuses};
 
 use crate::fault::ValueFault;
 use crate::tokens::{read_mark, read_number, read_short, read_text};
-use crate::value::Value;
+use fl_value_data::Value;
 use std::alloc::Global;
 
 /// For how many values there is room at first.

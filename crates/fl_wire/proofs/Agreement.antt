@@ -11,33 +11,33 @@ use Rattle.fl_interface.specs.declared.interface.Scalar.{Scalar}
 use Rattle.fl_interface.specs.declared.interface.Scalar.TheVariants.{Uint8, Int8, Bool as BoolType, Char, Uint16, Int16, Uint32, Int32, Iref, Uint64, Int64, Uintptr, Intptr, Size, Errval}
 use Rattle.fl_interface.specs.Interface.{TheType, scalar, enumeration, structure, array, TheTypes, no_more, field, TheArgType, fixed, text, sized}
 use Rattle.fl_interface.specs.Sizes.{scalar_size, align_of, greatest_align}
-use Rattle.fl_value.specs.Value.{Datum, number, string, elements, fields, Data, nothing_more, also}
-use Rattle.fl_value.specs.Fits.{has_type, have_types, all_have_type, count_of, is_argument, are_arguments, is_scalar_value, is_enumerator, least_above, how_many_below, is_text_byte}
-use Rattle.fl_value.specs.Plan.{is_dynamic, rank_of, fixed_rank, of_rank, of_ranks}
+use Rattle.fl_value_data.specs.Value.{Datum, number, string, elements, fields, Data, nothing_more, also}
+use Rattle.fl_value_data.specs.Fits.{has_type, have_types, all_have_type, count_of, is_argument, are_arguments, is_scalar_value, is_enumerator, least_above, how_many_below, is_text_byte}
+use Rattle.fl_value_data.specs.Plan.{is_dynamic, rank_of, fixed_rank, of_rank, of_ranks}
 use Rattle.fl_layout.specs.Leaves.{Leaf, gap, whole, single, bits_of, value_onto, fields_onto, elements_onto, bytes_onto, argument_onto, arguments_onto, start_onto}
 use Rattle.fl_layout.specs.Places.{size, place}
 use Rattle.fl_wire.specs.Payload.{payload_at}
-use Rattle.fl_value.specs.declared.value.PlanNo.{PlanNo}
-use Rattle.fl_value.specs.declared.value.PlanNo.TheVariants.{One, Two}
-use Rattle.fl_wire.specs.Standing.{Over, firsts, fitting}
+use Rattle.fl_value_data.specs.declared.value.PlanNo.{PlanNo}
+use Rattle.fl_value_data.specs.declared.value.PlanNo.TheVariants.{One, Two}
+use Rattle.fl_wire.specs.Standing.{SplitLeaves, firsts, fitting}
 use Rattle.fl_interface.specs.Counts.{words_fit, all_words_fit, argument_words_fit}
-use Rattle.fl_value.specs.Tape.{Argument, kind}
+use Rattle.fl_value_data.specs.Tape.{Argument, kind}
 use Rattle.fl_wire.proofs.Bytes.{size_le_place, below_place, at_place}
 use Rattle.fl_wire.proofs.Arguments.{IsAlign, type_align, by_align, scalar_align}
 
 -- ---- leaves that stand under others
 
-pub over_self : (low : List Leaf) → Over low low
+pub over_self : (low : List Leaf) → SplitLeaves low low
 over_self low = record { more = []; is = refl }
 
-pub over_one : (l : Leaf) (low : List Leaf) → Over low (l ∷ low)
+pub over_one : (l : Leaf) (low : List Leaf) → SplitLeaves low (l ∷ low)
 over_one l low = record { more = l ∷ []; is = refl }
 
-pub over_over : (a b c : List Leaf) → Over a b → Over b c → Over a c
+pub over_over : (a b c : List Leaf) → SplitLeaves a b → SplitLeaves b c → SplitLeaves a c
 over_over a b c p q = record { more = q.more ++ p.more; is = q.is ∙ ap (λ (ls : List Leaf). q.more ++ ls) p.is ∙ sym (append_assoc q.more p.more a) }
 
 mutual
-  pub over_value : (t : TheType) (d : Datum) (low : List Leaf) → Over low (value_onto t d low)
+  pub over_value : (t : TheType) (d : Datum) (low : List Leaf) → SplitLeaves low (value_onto t d low)
   over_value (scalar s) (number z) low = over_one _ low
   over_value (enumeration n) (number z) low = over_one _ low
   over_value (structure ts) (fields ds) low =
@@ -45,29 +45,29 @@ mutual
   over_value (array n t) (elements ds) low = over_elements t ds low
   over_value t d low = over_self low
 
-  pub over_fields : (ts : TheTypes) (ds : Data) (low : List Leaf) → Over low (fields_onto ts ds low)
+  pub over_fields : (ts : TheTypes) (ds : Data) (low : List Leaf) → SplitLeaves low (fields_onto ts ds low)
   over_fields (field t ts) (also d ds) low = over_over _ _ _ (over_value t d low) (over_fields ts ds (value_onto t d low))
   over_fields ts ds low = over_self low
 
-  pub over_elements : (t : TheType) (ds : Data) (low : List Leaf) → Over low (elements_onto t ds low)
+  pub over_elements : (t : TheType) (ds : Data) (low : List Leaf) → SplitLeaves low (elements_onto t ds low)
   over_elements t nothing_more low = over_self low
   over_elements t (also d ds) low = over_over _ _ _ (over_value t d low) (over_elements t ds (value_onto t d low))
 
-pub over_bytes : (bs : List ℕ) (low : List Leaf) → Over low (bytes_onto bs low)
+pub over_bytes : (bs : List ℕ) (low : List Leaf) → SplitLeaves low (bytes_onto bs low)
 over_bytes [] low = over_self low
 over_bytes (b ∷ bs) low = over_over _ _ _ (over_one (single b) low) (over_bytes bs (single b ∷ low))
 
-pub over_argument : (t : TheArgType) (d : Datum) (low : List Leaf) → Over low (argument_onto t d low)
+pub over_argument : (t : TheArgType) (d : Datum) (low : List Leaf) → SplitLeaves low (argument_onto t d low)
 over_argument (fixed t) d low = over_value t d low
 over_argument (text max) (string bytes) low = over_over _ _ _ (over_one _ low) (over_bytes bytes _)
 over_argument (sized max t) (elements ds) low = over_over _ _ _ (over_one _ low) (over_elements t ds _)
 over_argument t d low = over_self low
 
-pub over_start : (f : Bool) (low : List Leaf) → Over low (start_onto f low)
+pub over_start : (f : Bool) (low : List Leaf) → SplitLeaves low (start_onto f low)
 over_start true low = over_one _ low
 over_start false low = over_self low
 
-pub over_arguments : (f : Bool) (args : List Argument) (low : List Leaf) → Over low (arguments_onto f args low)
+pub over_arguments : (f : Bool) (args : List Argument) (low : List Leaf) → SplitLeaves low (arguments_onto f args low)
 over_arguments f [] low = over_self low
 over_arguments f (a ∷ args) low =
     over_over _ _ _ (over_over _ _ _ (over_start f low) (over_argument a.0 a.1 (start_onto f low))) (over_arguments (is_dynamic a.0) args _)
@@ -88,7 +88,7 @@ pub record Agree (f g : List Leaf) : Type 0 where
   pub at : (p : ℕ) → p < size f → payload_at f p ≡ payload_at g p
 
 -- the byte of a leaf, whatever stands over it
-pub leaf_byte : (w a j : ℕ) (low f : List Leaf) → j < w → Over (whole w a ∷ low) f
+pub leaf_byte : (w a j : ℕ) (low f : List Leaf) → j < w → SplitLeaves (whole w a ∷ low) f
     → (payload_at f (place (whole w a) low + j) ≡ byte_at j a) × (place (whole w a) low + j < size f)
 leaf_byte w a j low f h over =
     let p = place (whole w a) low + j in
@@ -97,7 +97,7 @@ leaf_byte w a j low f h over =
     let longer : size (whole w a ∷ low) ≤ size f = subst (λ (ls : List Leaf). size (whole w a ∷ low) ≤ size ls) (sym over.is) (grows over.more (whole w a ∷ low)) in
     (same ∙ keeps over.more (whole w a ∷ low) p inside ∙ at_place (whole w a) low p j h refl, omega (arith, inside, longer))
 
-pub bytes_equal : (w a b : ℕ) (low f g : List Leaf) → Over (whole w a ∷ low) f → Over (whole w b ∷ low) g → Agree f g → (j : ℕ) → j < w → byte_at j a ≡ byte_at j b
+pub bytes_equal : (w a b : ℕ) (low f g : List Leaf) → SplitLeaves (whole w a ∷ low) f → SplitLeaves (whole w b ∷ low) g → Agree f g → (j : ℕ) → j < w → byte_at j a ≡ byte_at j b
 bytes_equal w a b low f g over_f over_g agree j h =
     let (left, inside) = leaf_byte w a j low f h over_f in
     let (right, also_inside) = leaf_byte w b j low g h over_g in
@@ -179,7 +179,7 @@ enum_range n (negsuc k) h = absurd (false≢true h)
 
 -- numbers of one kind whose leaves agree
 pub number_told : (w high below : ℕ) → IsAlign w → high + below ≤ 2 ^ (8 * w) → (x y : ℤ) → InRange high below x → InRange high below y → (low f g : List Leaf)
-    → Over (whole w (bits_of w x) ∷ low) f → Over (whole w (bits_of w y) ∷ low) g → Agree f g → x ≡ y
+    → SplitLeaves (whole w (bits_of w x) ∷ low) f → SplitLeaves (whole w (bits_of w y) ∷ low) g → Agree f g → x ≡ y
 number_told w high below align room x y hx hy low f g over_f over_g agree =
     bits_told w high below room x y hx hy
     (same_number w align (bits_of w x) (bits_of w y) (bits_below w high below room x hx) (bits_below w high below room y hy)
@@ -187,7 +187,7 @@ number_told w high below align room x y hx hy low f g over_f over_g agree =
 
 mutual
   value_told : (t : TheType) (x y : Datum) → words_fit t ≡ true → has_type t x ≡ true → has_type t y ≡ true → (low f g : List Leaf)
-      → Over (value_onto t x low) f → Over (value_onto t y low) g → Agree f g → x ≡ y
+      → SplitLeaves (value_onto t x low) f → SplitLeaves (value_onto t y low) g → Agree f g → x ≡ y
   value_told (scalar s) (number x) (number y) w hx hy low f g over_f over_g agree =
       ap number (number_told (scalar_size s) (least_above s) (how_many_below s) (scalar_align s) (scalar_room s) x y (scalar_range s x hx) (scalar_range s y hy) low f g over_f over_g agree)
   value_told (enumeration n) (number x) (number y) w hx hy low f g over_f over_g agree =
@@ -203,30 +203,30 @@ mutual
   value_told t x y w hx hy low f g over_f over_g agree = cc
 
   fields_told : (ts : TheTypes) (xs ys : Data) → all_words_fit ts ≡ true → have_types ts xs ≡ true → have_types ts ys ≡ true → (low f g : List Leaf)
-      → Over (fields_onto ts xs low) f → Over (fields_onto ts ys low) g → Agree f g → xs ≡ ys
+      → SplitLeaves (fields_onto ts xs low) f → SplitLeaves (fields_onto ts ys low) g → Agree f g → xs ≡ ys
   fields_told no_more nothing_more nothing_more w hx hy low f g over_f over_g agree = refl
   fields_told (field t ts) (also x xs) (also y ys) w hx hy low f g over_f over_g agree =
       let one : x ≡ y = value_told t x y (first_so _ _ w) (first_so _ _ hx) (first_so _ _ hy) low f g
       (over_over _ _ _ (over_fields ts xs (value_onto t x low)) over_f) (over_over _ _ _ (over_fields ts ys (value_onto t y low)) over_g) agree in
       let rest : xs ≡ ys = fields_told ts xs ys (second_so _ _ w) (second_so _ _ hx) (second_so _ _ hy) (value_onto t x low) f g
-      over_f (subst (λ (d : Datum). Over (fields_onto ts ys (value_onto t d low)) g) (sym one) over_g) agree in
+      over_f (subst (λ (d : Datum). SplitLeaves (fields_onto ts ys (value_onto t d low)) g) (sym one) over_g) agree in
       cc
   fields_told ts xs ys w hx hy low f g over_f over_g agree = cc
 
   elements_told : (t : TheType) (xs ys : Data) → words_fit t ≡ true → count_of xs ≡ count_of ys → all_have_type t xs ≡ true → all_have_type t ys ≡ true → (low f g : List Leaf)
-      → Over (elements_onto t xs low) f → Over (elements_onto t ys low) g → Agree f g → xs ≡ ys
+      → SplitLeaves (elements_onto t xs low) f → SplitLeaves (elements_onto t ys low) g → Agree f g → xs ≡ ys
   elements_told t nothing_more nothing_more w same hx hy low f g over_f over_g agree = refl
   elements_told t (also x xs) (also y ys) w same hx hy low f g over_f over_g agree =
       let one : x ≡ y = value_told t x y w (first_so _ _ hx) (first_so _ _ hy) low f g
       (over_over _ _ _ (over_elements t xs (value_onto t x low)) over_f) (over_over _ _ _ (over_elements t ys (value_onto t y low)) over_g) agree in
       let rest : xs ≡ ys = elements_told t xs ys w (omega (arith, same)) (second_so _ _ hx) (second_so _ _ hy) (value_onto t x low) f g
-      over_f (subst (λ (d : Datum). Over (elements_onto t ys (value_onto t d low)) g) (sym one) over_g) agree in
+      over_f (subst (λ (d : Datum). SplitLeaves (elements_onto t ys (value_onto t d low)) g) (sym one) over_g) agree in
       cc
   elements_told t nothing_more (also y ys) w same hx hy low f g over_f over_g agree = absurd (omega (arith, same))
   elements_told t (also x xs) nothing_more w same hx hy low f g over_f over_g agree = absurd (omega (arith, same))
 
 bytes_told : (xs ys : List ℕ) → length xs ≡ length ys → list_all is_text_byte xs ≡ true → list_all is_text_byte ys ≡ true → (low f g : List Leaf)
-    → Over (bytes_onto xs low) f → Over (bytes_onto ys low) g → Agree f g → xs ≡ ys
+    → SplitLeaves (bytes_onto xs low) f → SplitLeaves (bytes_onto ys low) g → Agree f g → xs ≡ ys
 bytes_told [] [] same hx hy low f g over_f over_g agree = refl
 bytes_told [] (y ∷ ys) same hx hy low f g over_f over_g agree = absurd (omega (arith, same))
 bytes_told (x ∷ xs) [] same hx hy low f g over_f over_g agree = absurd (omega (arith, same))
@@ -236,28 +236,28 @@ bytes_told (x ∷ xs) (y ∷ ys) same hx hy low f g over_f over_g agree =
     let one : x ≡ y = same_number 1 (inl refl) x y byte_x byte_y (bytes_equal 1 x y low f g
     (over_over _ _ _ (over_bytes xs (single x ∷ low)) over_f) (over_over _ _ _ (over_bytes ys (single y ∷ low)) over_g) agree) in
     let rest : xs ≡ ys = bytes_told xs ys (omega (arith, same)) (second_so _ _ hx) (second_so _ _ hy) (single x ∷ low) f g
-    over_f (subst (λ (b : ℕ). Over (bytes_onto ys (single b ∷ low)) g) (sym one) over_g) agree in
+    over_f (subst (λ (b : ℕ). SplitLeaves (bytes_onto ys (single b ∷ low)) g) (sym one) over_g) agree in
     cc
 
-length_told : (a b : ℕ) → a ≤ 2 ^ 32 → b ≤ 2 ^ 32 → (low f g : List Leaf) → Over (whole 8 a ∷ low) f → Over (whole 8 b ∷ low) g → Agree f g → a ≡ b
+length_told : (a b : ℕ) → a ≤ 2 ^ 32 → b ≤ 2 ^ 32 → (low f g : List Leaf) → SplitLeaves (whole 8 a ∷ low) f → SplitLeaves (whole 8 b ∷ low) g → Agree f g → a ≡ b
 length_told a b ha hb low f g over_f over_g agree =
     same_number 8 (inr (inr (inr refl))) a b (omega (arith, ha)) (omega (arith, hb)) (bytes_equal 8 a b low f g over_f over_g agree)
 
 argument_told : (t : TheArgType) (x y : Datum) → argument_words_fit t ≡ true → is_argument t x ≡ true → is_argument t y ≡ true → (low f g : List Leaf)
-    → Over (argument_onto t x low) f → Over (argument_onto t y low) g → Agree f g → x ≡ y
+    → SplitLeaves (argument_onto t x low) f → SplitLeaves (argument_onto t y low) g → Agree f g → x ≡ y
 argument_told (fixed t) x y w hx hy low f g over_f over_g agree = value_told t x y w hx hy low f g over_f over_g agree
 argument_told (text max) (string xs) (string ys) w hx hy low f g over_f over_g agree =
     let bound = leb-true max (2 ^ 32) w in
     let same : length xs ≡ length ys = length_told (length xs) (length ys) (omega (arith, bound, leb-true (length xs) max (first_so _ _ hx))) (omega (arith, bound, leb-true (length ys) max (first_so _ _ hy))) low f g
     (over_over _ _ _ (over_bytes xs (whole 8 (length xs) ∷ low)) over_f) (over_over _ _ _ (over_bytes ys (whole 8 (length ys) ∷ low)) over_g) agree in
     ap string (bytes_told xs ys same (second_so _ _ hx) (second_so _ _ hy) (whole 8 (length xs) ∷ low) f g
-    over_f (subst (λ (n : ℕ). Over (bytes_onto ys (whole 8 n ∷ low)) g) (sym same) over_g) agree)
+    over_f (subst (λ (n : ℕ). SplitLeaves (bytes_onto ys (whole 8 n ∷ low)) g) (sym same) over_g) agree)
 argument_told (sized max t) (elements xs) (elements ys) w hx hy low f g over_f over_g agree =
     let bound = leb-true max (2 ^ 32) (first_so _ _ w) in
     let same : count_of xs ≡ count_of ys = length_told (count_of xs) (count_of ys) (omega (arith, bound, leb-true (count_of xs) max (first_so _ _ hx))) (omega (arith, bound, leb-true (count_of ys) max (first_so _ _ hy))) low f g
     (over_over _ _ _ (over_elements t xs (whole 8 (count_of xs) ∷ low)) over_f) (over_over _ _ _ (over_elements t ys (whole 8 (count_of ys) ∷ low)) over_g) agree in
     ap elements (elements_told t xs ys (second_so _ _ w) same (second_so _ _ hx) (second_so _ _ hy) (whole 8 (count_of xs) ∷ low) f g
-    over_f (subst (λ (n : ℕ). Over (elements_onto t ys (whole 8 n ∷ low)) g) (sym same) over_g) agree)
+    over_f (subst (λ (n : ℕ). SplitLeaves (elements_onto t ys (whole 8 n ∷ low)) g) (sym same) over_g) agree)
 argument_told t x y w hx hy low f g over_f over_g agree = cc
 
 -- ---- arguments
@@ -266,20 +266,20 @@ abbrev pub words_of : List Argument → Bool
 words_of args = list_all (λ (a : Argument). argument_words_fit a.0) args
 
 pub arguments_told : (v : Bool) (xs ys : List Argument) → firsts xs ≡ firsts ys → words_of xs ≡ true → fitting xs ≡ true → fitting ys ≡ true → (low f g : List Leaf)
-    → Over (arguments_onto v xs low) f → Over (arguments_onto v ys low) g → Agree f g → xs ≡ ys
+    → SplitLeaves (arguments_onto v xs low) f → SplitLeaves (arguments_onto v ys low) g → Agree f g → xs ≡ ys
 arguments_told v [] [] same w hx hy low f g over_f over_g agree = refl
 arguments_told v [] (y ∷ ys) same w hx hy low f g over_f over_g agree = cc
 arguments_told v (x ∷ xs) [] same w hx hy low f g over_f over_g agree = cc
 arguments_told v ((t, x) ∷ xs) ((s, y) ∷ ys) same w hx hy low f g over_f over_g agree =
     let e : s ≡ t = cc in
     let tails : firsts xs ≡ firsts ys = cc in
-    let P : TheArgType → Type 0 = λ u. is_argument u y ≡ true → Over (arguments_onto (is_dynamic u) ys (argument_onto u y (start_onto v low))) g → (t, x) ∷ xs ≡ (u, y) ∷ ys in
-    subst P (sym e) (λ (fit_y : is_argument t y ≡ true) (over : Over (arguments_onto (is_dynamic t) ys (argument_onto t y (start_onto v low))) g).
+    let P : TheArgType → Type 0 = λ u. is_argument u y ≡ true → SplitLeaves (arguments_onto (is_dynamic u) ys (argument_onto u y (start_onto v low))) g → (t, x) ∷ xs ≡ (u, y) ∷ ys in
+    subst P (sym e) (λ (fit_y : is_argument t y ≡ true) (over : SplitLeaves (arguments_onto (is_dynamic t) ys (argument_onto t y (start_onto v low))) g).
     let one : x ≡ y = argument_told t x y (first_so _ _ w) (first_so _ _ hx) fit_y (start_onto v low) f g
     (over_over _ _ _ (over_arguments (is_dynamic t) xs (argument_onto t x (start_onto v low))) over_f)
     (over_over _ _ _ (over_arguments (is_dynamic t) ys (argument_onto t y (start_onto v low))) over) agree in
     let rest : xs ≡ ys = arguments_told (is_dynamic t) xs ys tails (second_so _ _ w) (second_so _ _ hx) (second_so _ _ hy) (argument_onto t x (start_onto v low)) f g
-    over_f (subst (λ (d : Datum). Over (arguments_onto (is_dynamic t) ys (argument_onto t d (start_onto v low))) g) (sym one) over) agree in
+    over_f (subst (λ (d : Datum). SplitLeaves (arguments_onto (is_dynamic t) ys (argument_onto t d (start_onto v low))) g) (sym one) over) agree in
     cc) (first_so _ _ hy) over_g
 
 -- ---- the plan's order of arguments

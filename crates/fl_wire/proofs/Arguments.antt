@@ -8,16 +8,16 @@ use Rattle.fl_interface.specs.declared.interface.Scalar.{Scalar}
 use Rattle.fl_interface.specs.declared.interface.Scalar.TheVariants.{Uint8, Int8, Bool as BoolType, Char, Uint16, Int16, Uint32, Int32, Iref, Uint64, Int64, Uintptr, Intptr, Size, Errval}
 use Rattle.fl_interface.specs.Interface.{scalar, enumeration, structure, array, TheArgType, fixed, text, sized, TheMessage, TheInterface}
 use Rattle.fl_interface.specs.Sizes.{scalar_size}
-use Rattle.fl_value.specs.Value.{Datum, number, string, elements, fields, TheCall}
-use Rattle.fl_value.specs.Fits.{is_argument, are_arguments, fit_message, least_above, how_many_below}
-use Rattle.fl_value.specs.Plan.{of_ranks}
-use Rattle.fl_value.specs.declared.value.PlanNo.{PlanNo}
-use Rattle.fl_value.specs.Tape.{Argument, kind, types_of}
+use Rattle.fl_value_data.specs.Value.{Datum, number, string, elements, fields, TheCall}
+use Rattle.fl_value_data.specs.Fits.{is_argument, are_arguments, fit_message, least_above, how_many_below}
+use Rattle.fl_value_data.specs.Plan.{of_ranks}
+use Rattle.fl_value_data.specs.declared.value.PlanNo.{PlanNo}
+use Rattle.fl_value_data.specs.Tape.{Argument, kind, types_of}
 use Rattle.fl_layout.specs.Leaves.{leaves, arguments_onto, argument_types, is_number_type}
 use Rattle.fl_wire.specs.Widths.{number_width, number_of, fits_width, IsWordSized}
 pub use Rattle.fl_interface.specs.Sizes.{IsAlign}
 pub use Rattle.fl_interface.proofs.Aligned.{scalar_align, type_align, types_align, by_align}
-pub use Rattle.fl_value.proofs.Ranked.{arranged_ranks}
+pub use Rattle.fl_value_data.proofs.Ranked.{arranged_ranks}
 
 -- ---- two lists side by side
 

@@ -7,11 +7,11 @@ use Rattle.std.proofs.lemmas.List.{drop_all, get_or-set_same, get_or-set_other, 
 use Rattle.std.proofs.lemmas.Bool.{cases_lt, false≢true}
 use Rattle.fl_base.specs.declared.fragment.Frag.{Frag}
 use Rattle.fl_interface.specs.Interface.{TheArgType, fixed, text, sized}
-use Rattle.fl_value.specs.Value.{Datum, string, elements}
-use Rattle.fl_value.specs.Fits.{is_argument, are_arguments, count_of}
-use Rattle.fl_value.specs.Plan.{is_dynamic, rank_of, of_rank, of_ranks}
-use Rattle.fl_value.specs.declared.value.PlanNo.{PlanNo}
-use Rattle.fl_value.specs.Tape.{Argument, kind}
+use Rattle.fl_value_data.specs.Value.{Datum, string, elements}
+use Rattle.fl_value_data.specs.Fits.{is_argument, are_arguments, count_of}
+use Rattle.fl_value_data.specs.Plan.{is_dynamic, rank_of, of_rank, of_ranks}
+use Rattle.fl_value_data.specs.declared.value.PlanNo.{PlanNo}
+use Rattle.fl_value_data.specs.Tape.{Argument, kind}
 use Rattle.fl_layout.specs.Leaves.{Leaf, gap, whole, bytes_onto, elements_onto, argument_onto, arguments_onto, start_onto}
 use Rattle.fl_layout.specs.Places.{size, place}
 use Rattle.fl_wire.specs.Alive.{argument_has_values}

@@ -2,8 +2,8 @@
 use Rattle.std.proofs.Common.{◌≡◌, ℕ, ◌+◌, ◌<◌, ◌≤◌, Bool, true, false, List, [], ◌∷◌, ◌++◌, refl, ap, arith, ◌&&◌, leb}
 use Rattle.std.specs.Prelude.{◌||◌}
 use Rattle.std.proofs.lemmas.Bool.{lt-ltb, le-ltb, le-leb, lt-leb}
-use Rattle.fl_value.specs.Plan.{is_dynamic}
-use Rattle.fl_value.specs.Tape.{Argument}
+use Rattle.fl_value_data.specs.Plan.{is_dynamic}
+use Rattle.fl_value_data.specs.Tape.{Argument}
 use Rattle.fl_layout.specs.Leaves.{Leaf, gap, argument_onto, start_onto}
 use Rattle.fl_layout.specs.Places.{size, place}
 use Rattle.fl_wire.specs.Covered.{holds, is_covered, is_length}

@@ -14,9 +14,9 @@ use Rattle.fl_interface.specs.declared.interface.Scalar.{Scalar}
 use Rattle.fl_interface.specs.declared.interface.Scalar.TheVariants.{Uint8, Int8, Bool as BoolType, Char, Uint16, Int16, Uint32, Int32, Iref, Uint64, Int64, Uintptr, Intptr, Size, Errval}
 use Rattle.fl_interface.specs.Interface.{scalar, enumeration, TheArgType, fixed, TheInterface}
 use Rattle.fl_interface.specs.Sizes.{scalar_size}
-use Rattle.fl_value.specs.Value.{Datum, number, TheCall}
-use Rattle.fl_value.specs.Fits.{is_argument, least_above, how_many_below, is_scalar_value}
-use Rattle.fl_value.specs.declared.value.PlanNo.{PlanNo}
+use Rattle.fl_value_data.specs.Value.{Datum, number, TheCall}
+use Rattle.fl_value_data.specs.Fits.{is_argument, least_above, how_many_below, is_scalar_value}
+use Rattle.fl_value_data.specs.declared.value.PlanNo.{PlanNo}
 use Rattle.fl_layout.specs.Leaves.{leaves, is_number_type}
 use Rattle.fl_layout.specs.Places.{size, count_for, count}
 use Rattle.fl_wire.specs.Payload.{payload_of, word, frag_on, frags_of}

@@ -9,19 +9,19 @@ use Rattle.fl_interface.specs.declared.interface.ArgType.{ArgType}
 use Rattle.fl_interface.specs.Interface.{TheType, scalar, enumeration, structure, array, TheArgType, fixed, arg_type_of}
 use Rattle.fl_interface.specs.declared.interface.Scalar.{Scalar}
 use Rattle.fl_interface.specs.Sizes.{round_up, align_of}
-use Rattle.fl_value.specs.Value.{Datum, number, string, elements, fields, data_from, datum_of}
-use Rattle.fl_value.specs.declared.value.Value.{Value}
-use Rattle.fl_value.specs.Fits.{count_of, has_type, all_have_type, is_argument, are_arguments, is_text_byte}
-use Rattle.fl_value.specs.Plan.{arranged, is_dynamic, rank_of, of_rank, of_ranks, never_falls}
-use Rattle.fl_value.specs.declared.value.PlanNo.{PlanNo}
-use Rattle.fl_value.specs.declared.value.PlanNo.TheVariants.{Two}
+use Rattle.fl_value_data.specs.Value.{Datum, number, string, elements, fields, data_from, datum_of}
+use Rattle.fl_value_data.specs.declared.value.Value.{Value}
+use Rattle.fl_value_data.specs.Fits.{count_of, has_type, all_have_type, is_argument, are_arguments, is_text_byte}
+use Rattle.fl_value_data.specs.Plan.{arranged, is_dynamic, rank_of, of_rank, of_ranks, never_falls}
+use Rattle.fl_value_data.specs.declared.value.PlanNo.{PlanNo}
+use Rattle.fl_value_data.specs.declared.value.PlanNo.TheVariants.{Two}
 use Rattle.fl_layout.specs.Leaves.{Leaf, gap, whole, single, bits_of, is_number_type, value_onto, elements_onto, bytes_onto, argument_onto, arguments_onto, start_onto}
 use Rattle.fl_layout.specs.Places.{size}
 use Rattle.fl_wire.specs.Payload.{payload_bytes}
 use Rattle.fl_wire.specs.Widths.{number_width, number_of, is_number_within, numbers_onto, IsWordSized}
-use Rattle.fl_value.proofs.Ranked.{is_last}
-use Rattle.fl_value.proofs.Kept.{kept_arguments}
-use Rattle.fl_value.specs.Tape.{Argument, kind}
+use Rattle.fl_value_data.proofs.Ranked.{is_last}
+use Rattle.fl_value_data.proofs.Kept.{kept_arguments}
+use Rattle.fl_value_data.specs.Tape.{Argument, kind}
 use Rattle.fl_wire.proofs.Arguments.{number_fits}
 use Rattle.fl_wire.proofs.Scalars.{rises, rises_end}
 use Rattle.fl_wire.proofs.Bytes.{length_payload, payload_more, size_le_place}

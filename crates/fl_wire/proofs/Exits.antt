@@ -11,25 +11,25 @@ use Rattle.fl_base.specs.declared.fragment.Frag.{Frag}
 use Rattle.fl_base.specs.Control.{message_of, bare}
 use Rattle.fl_interface.specs.Interface.{TheType, scalar, enumeration, structure, array, TheTypes, no_more, field, TheArgType, fixed, text, sized, TheMessage, TheInterface}
 use Rattle.fl_interface.specs.Limits.{is_within_limits, is_well_made, are_well_made, is_argument_within, are_arguments_within, is_message_within, are_messages_within, count_of}
-use Rattle.fl_value.specs.Value.{Datum, TheCall}
-use Rattle.fl_value.specs.Fits.{fits_of, fit_message, are_arguments}
-use Rattle.fl_value.specs.Plan.{arranged, of_ranks}
-use Rattle.fl_value.specs.declared.value.PlanNo.{PlanNo}
+use Rattle.fl_value_data.specs.Value.{Datum, TheCall}
+use Rattle.fl_value_data.specs.Fits.{fits_of, fit_message, are_arguments}
+use Rattle.fl_value_data.specs.Plan.{arranged, of_ranks}
+use Rattle.fl_value_data.specs.declared.value.PlanNo.{PlanNo}
 use Rattle.fl_layout.specs.Leaves.{Leaf, leaves, argument_types}
 use Rattle.fl_layout.specs.Places.{size, count, count_for}
 use Rattle.fl_wire.specs.Alive.{has_values, all_have_values, argument_has_values}
 use Rattle.fl_interface.specs.Counts.{interface_words_fit}
-use Rattle.fl_value.specs.Tape.{Argument, kind, types_of}
+use Rattle.fl_value_data.specs.Tape.{Argument, kind, types_of}
 use Rattle.fl_wire.specs.Payload.{frags_of}
 use Rattle.fl_wire.specs.Standing.{byte_in, words_in}
 use Rattle.fl_wire.specs.Covered.{is_covered, is_length}
 use Rattle.fl_wire.specs.Reading.{AllFit, IsPart, IsWrong, ReadsLeaving}
-use Rattle.fl_wire.specs.Shapes.{Agrees, IsWhy, Cut, calls_of}
+use Rattle.fl_wire.specs.Shapes.{Agrees, IsWhy, StreamCut, calls_of}
 use Rattle.fl_wire.specs.Whole.{leaves_of, Whole, NearCall, WrongCall, StopsWhole}
 use Rattle.fl_wire.specs.Wrong.{start_fault, follow_fault, header_fault, IsWrongAt, BeginsWell, BeginsAfterCalls, IsFirstFault}
 use Rattle.fl_wire.specs.Headers.{Line, Group, StandsFirst}
-use Rattle.fl_wire.specs.declared.leaf.Stop.{Stop}
-use Rattle.fl_wire.specs.declared.leaf.Stop.TheVariants.{Short, Padding, Value, Length, Memory}
+use Rattle.fl_wire.specs.declared.leaf.CallReadFault.{CallReadFault}
+use Rattle.fl_wire.specs.declared.leaf.CallReadFault.TheVariants.{Short, Padding, Value, Length, Memory}
 use Rattle.fl_wire.specs.declared.fault.WireFault.{WireFault}
 use Rattle.fl_wire.specs.declared.fault.WireFault.TheVariants.{NotZero, OutOfType, TooLong, Memory as NoMemory}
 use Rattle.fl_wire.proofs.Arguments.{leaves_ranks, arranged_ranks, arguments_fit}
@@ -109,7 +109,7 @@ call_leaves : (plan : PlanNo) (i : TheInterface) (msg : ℕ) (ds : List Datum) �
 call_leaves plan i msg ds = leaves_ranks plan i (make_call msg ds)
 
 -- cut short, it is part of a call
-pub part_of : (plan : PlanNo) (i : TheInterface) (msg : ℕ) (group : List Frag) → Sound i → Group i msg group → Cut (calls_of plan (argument_types i msg)) group [] → IsPart plan i group
+pub part_of : (plan : PlanNo) (i : TheInterface) (msg : ℕ) (group : List Frag) → Sound i → Group i msg group → StreamCut (calls_of plan (argument_types i msg)) group [] → IsPart plan i group
 part_of plan i msg group sound g cut =
     let near = cut.near (sound.alive msg) in
     let c = make_call msg near.one in
@@ -149,21 +149,21 @@ header_after i msg (g ∷ rest) f some names = ap (λ (m : ℕ). follow_fault m 
 
 -- cut short by a fragment whose control word has a fault
 pub cut_wrong : (plan : PlanNo) (i : TheInterface) (msg : ℕ) (frags : List Frag) (n : ℕ) (f : Frag) (fault : WireFault) → Sound i → Group i msg (take n frags)
-    → Cut (calls_of plan (argument_types i msg)) (take n frags) [] → slice_get frags n ≡ Some f → follow_fault msg f ≡ Some fault → IsWrongAt plan i frags fault
+    → StreamCut (calls_of plan (argument_types i msg)) (take n frags) [] → slice_get frags n ≡ Some f → follow_fault msg f ≡ Some fault → IsWrongAt plan i frags fault
 cut_wrong plan i msg frags n f fault sound g cut is h =
     wrong_at plan i frags n f fault sound.words sound.room is (inr (part_of plan i msg (take n frags) sound g cut)) (inl (header_after i msg (take n frags) f g.some g.names ∙ h))
 
 -- ---- a wrong byte
 
 -- the fault that a reading's stop is
-abbrev pub IsFaultOf : Stop → WireFault → Type 0
+abbrev pub IsFaultOf : CallReadFault → WireFault → Type 0
 IsFaultOf Short fault = ⊥
 IsFaultOf Padding fault = fault ≡ NotZero
 IsFaultOf Value fault = fault ≡ OutOfType
 IsFaultOf Length fault = fault ≡ TooLong
 IsFaultOf Memory fault = ⊥
 
-fault_told : (stop : Stop) (fault : WireFault) (of_length covered : Bool) → IsFaultOf stop fault → IsWhy stop of_length covered → fault ≡ cond of_length TooLong (cond covered OutOfType NotZero)
+fault_told : (stop : CallReadFault) (fault : WireFault) (of_length covered : Bool) → IsFaultOf stop fault → IsWhy stop of_length covered → fault ≡ cond of_length TooLong (cond covered OutOfType NotZero)
 fault_told Short fault of_length covered h why = absurd h
 fault_told Padding fault of_length covered h why = h ∙ sym (ap (λ (v : Bool). cond v TooLong (cond covered OutOfType NotZero)) why.0 ∙ ap (λ (v : Bool). cond v OutOfType NotZero) why.1)
 fault_told Value fault of_length covered h why = h ∙ sym (ap (λ (v : Bool). cond v TooLong (cond covered OutOfType NotZero)) why.0 ∙ ap (λ (v : Bool). cond v OutOfType NotZero) why.1)
@@ -180,7 +180,7 @@ get_prefix (suc n) (suc k) (f ∷ frags) h = get_prefix n k frags (omega (arith,
 byte_prefix : (n p : ℕ) (frags : List Frag) → p < 56 * n → byte_in (take n frags) p ≡ byte_in frags p
 byte_prefix n p frags h = ap (λ (o : Option Frag). byte_at (p % 8) (slice_index (words_in o) (p / 8 % 7))) (get_prefix n (p / 56) frags (omega (arith, h)))
 
-pub wrong_call : (plan : PlanNo) (i : TheInterface) (msg : ℕ) (frags : List Frag) (n : ℕ) (stop : Stop) (fault : WireFault) → n ≤ length frags → Sound i → Group i msg (take n frags)
+pub wrong_call : (plan : PlanNo) (i : TheInterface) (msg : ℕ) (frags : List Frag) (n : ℕ) (stop : CallReadFault) (fault : WireFault) → n ≤ length frags → Sound i → Group i msg (take n frags)
     → WrongCall stop plan (argument_types i msg) (take n frags) → IsFaultOf stop fault → IsWrongAt plan i frags fault
 wrong_call plan i msg frags n stop fault within sound g w told =
     wrong_at plan i frags k f fault sound.words sound.room is (under_way k refl) (inr (
@@ -393,11 +393,11 @@ get_after (f ∷ frags) rest k is = ap (slice_get (f ∷ frags)) one_more ∙ sy
 
 -- ---- why the reading of a group stops
 
-pub cut_told : (plan : PlanNo) (ts us : List TheArgType) (frags : List Frag) (stop : Stop) → stop ≡ Short → ts ≡ us → StopsWhole stop plan ts frags → Cut (calls_of plan us) frags []
-cut_told plan ts us frags stop e same h = subst (λ (vs : List TheArgType). StopsWhole Short plan vs frags) same (subst (λ (s : Stop). StopsWhole s plan ts frags) e h)
+pub cut_told : (plan : PlanNo) (ts us : List TheArgType) (frags : List Frag) (stop : CallReadFault) → stop ≡ Short → ts ≡ us → StopsWhole stop plan ts frags → StreamCut (calls_of plan us) frags []
+cut_told plan ts us frags stop e same h = subst (λ (vs : List TheArgType). StopsWhole Short plan vs frags) same (subst (λ (s : CallReadFault). StopsWhole s plan ts frags) e h)
 
-pub stop_told : (plan : PlanNo) (ts us : List TheArgType) (frags : List Frag) (stop other : Stop) → stop ≡ other → ts ≡ us → StopsWhole stop plan ts frags → StopsWhole other plan us frags
-stop_told plan ts us frags stop other e same h = subst (λ (vs : List TheArgType). StopsWhole other plan vs frags) same (subst (λ (s : Stop). StopsWhole s plan ts frags) e h)
+pub stop_told : (plan : PlanNo) (ts us : List TheArgType) (frags : List Frag) (stop other : CallReadFault) → stop ≡ other → ts ≡ us → StopsWhole stop plan ts frags → StopsWhole other plan us frags
+stop_told plan ts us frags stop other e same h = subst (λ (vs : List TheArgType). StopsWhole other plan vs frags) same (subst (λ (s : CallReadFault). StopsWhole s plan ts frags) e h)
 
 pub nothing_left : (frags : List Frag) → eqb (length frags) 0 ≡ true → frags ≡ []
 nothing_left [] e = refl

@@ -6,10 +6,10 @@ use Rattle.std.proofs.lemmas.List.{drop_more}
 use Rattle.std.proofs.lemmas.Nat.{from_le_bytes-to_le_bytes_8}
 use Rattle.std.proofs.lemmas.Bool.{cases_lt, ne_eqb}
 use Rattle.fl_interface.specs.Interface.{text}
-use Rattle.fl_value.specs.Value.{string}
-use Rattle.fl_value.specs.declared.value.PlanNo.{PlanNo}
-use Rattle.fl_value.specs.Plan.{rank_of, of_rank}
-use Rattle.fl_value.specs.Tape.{Argument, kind}
+use Rattle.fl_value_data.specs.Value.{string}
+use Rattle.fl_value_data.specs.declared.value.PlanNo.{PlanNo}
+use Rattle.fl_value_data.specs.Plan.{rank_of, of_rank}
+use Rattle.fl_value_data.specs.Tape.{Argument, kind}
 
 -- the number whose low bytes are given
 abbrev pub from_low : ℕ → (ℕ → ℕ) → ℕ

@@ -10,14 +10,14 @@ use Rattle.fl_interface.specs.declared.interface.Scalar.{Scalar}
 use Rattle.fl_interface.specs.declared.interface.Scalar.TheVariants.{Uint8, Int8, Bool as BoolType, Char, Uint16, Int16, Uint32, Int32, Iref, Uint64, Int64, Uintptr, Intptr, Size, Errval}
 use Rattle.fl_interface.specs.Interface.{TheType, scalar, enumeration, structure, array, TheTypes, no_more, field, fixed, text, sized, fields_from}
 use Rattle.fl_interface.specs.Sizes.{scalar_size, greatest_align}
-use Rattle.fl_value.specs.Value.{Datum, number, string, elements, fields, Data, nothing_more, also, data_from}
-use Rattle.fl_value.specs.Fits.{has_type, have_types, all_have_type, count_of, is_argument, is_scalar_value, least_above, how_many_below, is_text_byte}
+use Rattle.fl_value_data.specs.Value.{Datum, number, string, elements, fields, Data, nothing_more, also, data_from}
+use Rattle.fl_value_data.specs.Fits.{has_type, have_types, all_have_type, count_of, is_argument, is_scalar_value, least_above, how_many_below, is_text_byte}
 use Rattle.fl_layout.specs.Leaves.{Leaf, gap, whole, bits_of, fields_onto, elements_onto, bytes_onto}
 use Rattle.fl_layout.specs.Places.{size, place}
 use Rattle.fl_wire.specs.Alive.{has_values, all_have_values}
-use Rattle.fl_wire.specs.Standing.{Over, number_back}
+use Rattle.fl_wire.specs.Standing.{SplitLeaves, number_back}
 use Rattle.fl_wire.specs.Shapes.{Agrees, Shape, nothing, padding, number_below, length_below, values_of, fields_of, struct_from, elements_of, text_byte, texts_of, arguments_of, Got, ReadAt, StopsAt}
-use Rattle.fl_wire.specs.declared.leaf.Stop.{Stop}
+use Rattle.fl_wire.specs.declared.leaf.CallReadFault.{CallReadFault}
 use Rattle.fl_wire.proofs.Agreement.{over_self, over_one, over_over, over_fields, over_elements, over_bytes, InRange, scalar_range}
 use Rattle.fl_wire.proofs.Decoding.{number_told, back_from, back_low, back_high}
 pub use Rattle.fl_wire.proofs.Defaults.{both}
@@ -187,7 +187,7 @@ begins_struct ts low = record {
     split_struct ts (string b) f = absurd (false≢true f)
     split_struct ts (elements b) f = absurd (false≢true f)
 
-    over_struct : (ts : TheTypes) (ds : Data) (now : List Leaf) → Over now (gap (greatest_align ts) ∷ fields_onto ts ds now)
+    over_struct : (ts : TheTypes) (ds : Data) (now : List Leaf) → SplitLeaves now (gap (greatest_align ts) ∷ fields_onto ts ds now)
     over_struct ts ds now = over_over _ _ _ (over_fields ts ds now) (over_one (gap (greatest_align ts)) _)
 
 pub begins_end : (ts : TheTypes) (low : List Leaf) → Begins (struct_from ts) (fields_of ts) (λ c. padding (greatest_align ts)) low (λ ds u. ds)
@@ -353,7 +353,7 @@ elements_on n i t frags start at end xs all v small come later within read is =
     come_join (elements_of n t) (elements_of left t) frags start end (λ ds. put_before xs (also v ds)) (put_before all) (λ ds. put_last xs v ds ∙ ap (λ (ys : List Datum). put_before ys ds) (sym is))
     (come_read (elements_of n t) (elements_of (suc left) t) (values_of t) (λ b. elements_of left t) frags start at end (put_before xs) (λ d ds. also d ds) v come' (begins_elements left t) later within read)
 
-pub elements_stop : (n i : ℕ) (t : TheType) (frags : List Frag) (start at : ℕ) (xs : List Datum) (stop : Stop) → i < n
+pub elements_stop : (n i : ℕ) (t : TheType) (frags : List Frag) (start at : ℕ) (xs : List Datum) (stop : CallReadFault) → i < n
     → Come (elements_of n t) (elements_of (n - i) t) frags start at (put_before xs) → StopsAt stop (values_of t) frags at → StopsAt stop (elements_of n t) frags start
 elements_stop n i t frags start at xs stop small come stops =
     let left = n - (i + 1) in
@@ -389,7 +389,7 @@ fields_on type fs i f frags start at end xs all v small here come later within r
     come_join (fields_at type fs) (fields_at type rest) frags start end (λ ds. put_before xs (also v ds)) (put_before all) (λ ds. put_last xs v ds ∙ ap (λ (ys : List Datum). put_before ys ds) (sym is))
     (come_read (fields_at type fs) (fields_at type (f ∷ rest)) (values_of (type f)) (λ b. fields_at type rest) frags start at end (put_before xs) (λ d ds. also d ds) v come' (begins_fields (type f) (fields_from (map type rest))) later within read)
 
-pub fields_stop : {F : Type 0} (type : F → TheType) (fs : List F) (i : ℕ) (f : F) (frags : List Frag) (start at : ℕ) (xs : List Datum) (stop : Stop) → i < length fs → f ≡ get_or fs i f
+pub fields_stop : {F : Type 0} (type : F → TheType) (fs : List F) (i : ℕ) (f : F) (frags : List Frag) (start at : ℕ) (xs : List Datum) (stop : CallReadFault) → i < length fs → f ≡ get_or fs i f
     → Come (fields_at type fs) (fields_at type (drop i fs)) frags start at (put_before xs) → StopsAt stop (values_of (type f)) frags at → StopsAt stop (fields_at type fs) frags start
 fields_stop type fs i f frags start at xs stop small here come stops =
     let rest = drop (i + 1) fs in
@@ -424,7 +424,7 @@ texts_on n i frags start at xs all v small come within read is =
     come_join (texts_of n) (texts_of left) frags start (at + 1) (λ bs. text_before xs (v ∷ bs)) (text_before all) (λ bs. sym (ap (λ (ys : List ℕ). ys ++ bs) is ∙ append_assoc xs (v ∷ []) bs))
     (come_read (texts_of n) (texts_of (suc left)) text_byte (λ b. texts_of left) frags start at (at + 1) (text_before xs) (λ b bs. b ∷ bs) v come' (begins_texts left) (omega arith) within read)
 
-pub texts_stop : (n i : ℕ) (frags : List Frag) (start at : ℕ) (xs : List ℕ) (stop : Stop) → i < n
+pub texts_stop : (n i : ℕ) (frags : List Frag) (start at : ℕ) (xs : List ℕ) (stop : CallReadFault) → i < n
     → Come (texts_of n) (texts_of (n - i)) frags start at (text_before xs) → StopsAt stop text_byte frags at → StopsAt stop (texts_of n) frags start
 texts_stop n i frags start at xs stop small come stops =
     let left = n - (i + 1) in
@@ -459,7 +459,7 @@ pub struct_fields : (ts : TheTypes) (frags : List Frag) (at start last : ℕ) (d
 struct_fields ts frags at start last ds come later within read =
     come_read (values_of (structure ts)) (struct_from ts) (fields_of ts) (λ b. padding (greatest_align ts)) frags at start last (λ ds. fields ds) (λ ds u. ds) ds come (begins_end ts) later within read
 
-pub struct_stop : (ts : TheTypes) (frags : List Frag) (at start : ℕ) (stop : Stop) → Come (values_of (structure ts)) (struct_from ts) frags at start (λ ds. fields ds)
+pub struct_stop : (ts : TheTypes) (frags : List Frag) (at start : ℕ) (stop : CallReadFault) → Come (values_of (structure ts)) (struct_from ts) frags at start (λ ds. fields ds)
     → StopsAt stop (fields_of ts) frags start → StopsAt stop (values_of (structure ts)) frags at
 struct_stop ts frags at start stop come stops =
     come_stop (values_of (structure ts)) (struct_from ts) (fields_of ts) (λ b. padding (greatest_align ts)) frags at start (λ ds. fields ds) (λ ds u. ds) stop come (begins_end ts) stops

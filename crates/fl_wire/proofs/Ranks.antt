@@ -4,10 +4,10 @@ use Rattle.std.specs.List.{zip}
 use Rattle.std.proofs.lemmas.Bool.{ne_eqb}
 use Rattle.fl_base.specs.declared.fragment.Frag.{Frag}
 use Rattle.fl_interface.specs.Interface.{TheArgType, text}
-use Rattle.fl_value.specs.Value.{Datum}
-use Rattle.fl_value.specs.Plan.{rank_of, of_rank, of_ranks}
-use Rattle.fl_value.specs.declared.value.PlanNo.{PlanNo}
-use Rattle.fl_value.specs.Tape.{Argument, kind}
+use Rattle.fl_value_data.specs.Value.{Datum}
+use Rattle.fl_value_data.specs.Plan.{rank_of, of_rank, of_ranks}
+use Rattle.fl_value_data.specs.declared.value.PlanNo.{PlanNo}
+use Rattle.fl_value_data.specs.Tape.{Argument, kind}
 use Rattle.fl_layout.specs.Leaves.{arguments_onto}
 use Rattle.fl_wire.specs.Covered.{is_length}
 use Rattle.fl_wire.specs.Shapes.{calls_of, ReadAt}

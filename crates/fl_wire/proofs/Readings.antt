@@ -10,16 +10,16 @@ use Rattle.std.proofs.lemmas.Bool.{cases_lt}
 use Rattle.fl_base.specs.declared.fragment.Frag.{Frag}
 use Rattle.fl_base.specs.Control.{bare}
 use Rattle.fl_interface.specs.Interface.{TheInterface, TheMessage}
-use Rattle.fl_value.specs.Value.{Datum, TheCall}
-use Rattle.fl_value.specs.Fits.{fits_of, are_arguments}
-use Rattle.fl_value.specs.declared.value.PlanNo.{PlanNo}
+use Rattle.fl_value_data.specs.Value.{Datum, TheCall}
+use Rattle.fl_value_data.specs.Fits.{fits_of, are_arguments}
+use Rattle.fl_value_data.specs.declared.value.PlanNo.{PlanNo}
 use Rattle.fl_layout.specs.Leaves.{Leaf, leaves, argument_types, arguments_onto}
-use Rattle.fl_value.specs.Plan.{of_ranks}
+use Rattle.fl_value_data.specs.Plan.{of_ranks}
 use Rattle.std.specs.Cmp.{first_so, second_so}
 use Rattle.fl_layout.specs.Places.{size, place, frags_filled, count_for, count}
 use Rattle.fl_wire.specs.Payload.{payload_at, payload_bytes, payload_of, word, frag_on, frags_of}
 use Rattle.fl_interface.specs.Counts.{interface_words_fit, argument_words_fit}
-use Rattle.fl_value.specs.Tape.{kind, types_of}
+use Rattle.fl_value_data.specs.Tape.{kind, types_of}
 use Rattle.fl_wire.specs.Reading.{AllFit, IsRest, IsPart, Reads}
 use Rattle.fl_wire.proofs.Bytes.{length_payload, get_payload, past_end}
 use Rattle.fl_wire.proofs.Arguments.{leaves_ranks, arguments_fit}

@@ -9,13 +9,13 @@ use Rattle.fl_base.specs.declared.fragment.Frag.{Frag}
 use Rattle.fl_interface.specs.declared.interface.Scalar.TheVariants.{Uint64}
 use Rattle.fl_interface.specs.Interface.{TheArgType, fixed, scalar}
 use Rattle.fl_interface.specs.Sizes.{round_up}
-use Rattle.fl_value.specs.Value.{Datum, number}
-use Rattle.fl_value.specs.Fits.{is_argument, are_arguments}
-use Rattle.fl_value.specs.Plan.{is_dynamic, rank_of, rising, never_falls, of_ranks}
-use Rattle.fl_value.specs.declared.value.PlanNo.{PlanNo}
-use Rattle.fl_value.specs.declared.value.PlanNo.TheVariants.{One, Two}
-use Rattle.fl_value.proofs.Kept.{kept_arguments}
-use Rattle.fl_value.specs.Tape.{Argument, kind}
+use Rattle.fl_value_data.specs.Value.{Datum, number}
+use Rattle.fl_value_data.specs.Fits.{is_argument, are_arguments}
+use Rattle.fl_value_data.specs.Plan.{is_dynamic, rank_of, rising, never_falls, of_ranks}
+use Rattle.fl_value_data.specs.declared.value.PlanNo.{PlanNo}
+use Rattle.fl_value_data.specs.declared.value.PlanNo.TheVariants.{One, Two}
+use Rattle.fl_value_data.proofs.Kept.{kept_arguments}
+use Rattle.fl_value_data.specs.Tape.{Argument, kind}
 use Rattle.fl_layout.specs.Leaves.{Leaf, gap, argument_onto, arguments_onto, start_onto}
 use Rattle.fl_layout.specs.Places.{place}
 use Rattle.fl_wire.specs.Alive.{argument_has_values}

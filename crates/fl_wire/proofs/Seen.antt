@@ -5,10 +5,10 @@ use Rattle.fl_interface.specs.declared.interface.FixedType.{FixedType, Scalar as
 use Rattle.fl_interface.specs.declared.interface.FixedType.TheViews.{the_lemmas as type_lemmas}
 use Rattle.fl_interface.specs.declared.interface.FixedType.TheFolds.{fold_out-FixedType}
 use Rattle.fl_interface.specs.Interface.{TheType, scalar, enumeration, structure, fields_from, type_of, type_step}
-use Rattle.fl_value.specs.declared.value.Value.{Int}
-use Rattle.fl_value.specs.declared.value.Value.TheViews.{the_lemmas as value_lemmas}
-use Rattle.fl_value.specs.declared.value.Value.TheFolds.{fold_out-Value}
-use Rattle.fl_value.specs.Value.{Datum, number, datum_step, datum_of}
+use Rattle.fl_value_data.specs.declared.value.Value.{Int}
+use Rattle.fl_value_data.specs.declared.value.Value.TheViews.{the_lemmas as value_lemmas}
+use Rattle.fl_value_data.specs.declared.value.Value.TheFolds.{fold_out-Value}
+use Rattle.fl_value_data.specs.Value.{Datum, number, datum_step, datum_of}
 
 pub scalar_seen : (s : Scalar) → type_of (OfScalar s) ≡ scalar s
 scalar_seen s = search (rules, type_lemmas, fold_out-FixedType TheType type_step)

@@ -11,11 +11,11 @@ use Rattle.fl_interface.specs.Sizes.{round_up}
 use Rattle.fl_layout.specs.Leaves.{Leaf, gap, whole, single}
 use Rattle.fl_layout.specs.Places.{size, place}
 use Rattle.fl_wire.specs.Payload.{payload_at}
-use Rattle.fl_wire.specs.Standing.{Over, byte_in}
+use Rattle.fl_wire.specs.Standing.{SplitLeaves, byte_in}
 use Rattle.fl_wire.specs.Covered.{holds, is_covered}
-use Rattle.fl_wire.specs.Shapes.{Agrees, nothing, padding, number_in, number_below, text_byte, Got, IsWhy, Cut, Wrong, ReadAt}
-use Rattle.fl_wire.specs.declared.leaf.Stop.{Stop}
-use Rattle.fl_wire.specs.declared.leaf.Stop.TheVariants.{Padding, Value, Length}
+use Rattle.fl_wire.specs.Shapes.{Agrees, nothing, padding, number_in, number_below, text_byte, Got, IsWhy, StreamCut, Wrong, ReadAt}
+use Rattle.fl_wire.specs.declared.leaf.CallReadFault.{CallReadFault}
+use Rattle.fl_wire.specs.declared.leaf.CallReadFault.TheVariants.{Padding, Value, Length}
 use Rattle.fl_wire.proofs.Bytes.{size_le_place, below_place, at_place, past_end}
 use Rattle.fl_wire.proofs.Arguments.{IsAlign, by_align}
 use Rattle.fl_wire.proofs.Agreement.{leaf_byte, same_number, keeps, grows, over_self}
@@ -63,7 +63,7 @@ low_below w f align h = by_align (λ v. from_low v f < 2 ^ (8 * v))
     (omega (arith, h 0)) (omega (arith, h 0, h 1)) (omega (arith, h 0, h 1, h 2, h 3)) (omega (arith, h 0, h 1, h 2, h 3, h 4, h 5, h 6, h 7)) w align
 
 -- zeros stand up to a leaf's place
-pub zero_before : (l : Leaf) (low full : List Leaf) (p : ℕ) → Over (l ∷ low) full → size low ≤ p → p < place l low → payload_at full p ≡ 0
+pub zero_before : (l : Leaf) (low full : List Leaf) (p : ℕ) → SplitLeaves (l ∷ low) full → size low ≤ p → p < place l low → payload_at full p ≡ 0
 zero_before l low full p over after before =
     ap (λ (ls : List Leaf). payload_at ls p) over.is ∙ keeps over.more (l ∷ low) p (omega (arith, before)) ∙ below_place l low p before ∙ past_end low p after
 
@@ -118,7 +118,7 @@ zeros_agree l frags low n agree before zeros = record {
 }
 
 -- where the reading of a number stops, in its own bytes or in the zeros before them
-abbrev pub number_stop : Bool → Stop
+abbrev pub number_stop : Bool → CallReadFault
 number_stop of_length = cond of_length Length Value
 
 number_why : (of_length a b : Bool) → a ≡ true → b ≡ true → IsWhy (number_stop of_length) (of_length && a) b
@@ -157,7 +157,7 @@ past_all w at n align h =
     by_align (λ v. 56 * n < round_up at v + v → 56 * n ≤ round_up at v) (λ h. omega (arith, h)) (λ h. omega (arith, h)) (λ h. omega (arith, h)) (λ h. omega (arith, h)) w align h
 
 pub number_short : (of_length : Bool) (w bound : ℕ) → IsAlign w → (frags : List Frag) (low : List Leaf) (at : ℕ) → at ≡ size low → Agrees frags low at → 56 * length frags < round_up at w + w
-    → ((q : ℕ) → at ≤ q → q < round_up at w → byte_in frags q ≡ 0) → Cut (number_in of_length w bound) frags low
+    → ((q : ℕ) → at ≤ q → q < round_up at w → byte_in frags q ≡ 0) → StreamCut (number_in of_length w bound) frags low
 number_short of_length w bound align frags low at here agree past zeros =
     let start : round_up at w ≡ round_up (size low) w = ap (λ (n : ℕ). round_up n w) here in
     let all : 56 * length frags ≤ round_up at w = past_all w at (length frags) align past in
@@ -310,7 +310,7 @@ below_wrong of_length w bound align frags low n end above room within got = ⊎_
         (λ h. h)
         (cases_lt (from_low w f) bound)
 
-    too_small : (j e : ℕ) (full : List Leaf) → j + 1 ≤ 8 → j < w → bound ≤ from_low (j + 1) f → e < bound → Over (whole w e ∷ low) full → Agrees frags full (start + j + 1) → ⊥
+    too_small : (j e : ℕ) (full : List Leaf) → j + 1 ≤ 8 → j < w → bound ≤ from_low (j + 1) f → e < bound → SplitLeaves (whole w e ∷ low) full → Agrees frags full (start + j + 1) → ⊥
     too_small j e full few own over_bound fit over agrees =
         let least : from_low (j + 1) f ≤ e = prefix_le (j + 1) e f few (omega (arith, fit, room, width_room w align)) (λ i small.
         sym (leaf_byte w e i low full (omega (arith, small, own)) over).0 ∙ sym (agrees.at (start + i) (omega (arith, small)))) in
@@ -371,7 +371,7 @@ text_wrong frags at is inside low here agree =
       };
     }
 
-pub text_short : (frags : List Frag) (at : ℕ) → 56 * length frags ≤ at → (low : List Leaf) → at ≡ size low → Agrees frags low at → Cut text_byte frags low
+pub text_short : (frags : List Frag) (at : ℕ) → 56 * length frags ≤ at → (low : List Leaf) → at ≡ size low → Agrees frags low at → StreamCut text_byte frags low
 text_short frags at past low here agree = record {
   all = record {
     none = λ e full f over agrees.

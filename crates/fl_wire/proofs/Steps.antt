@@ -3,11 +3,11 @@ use Rattle.std.proofs.Common.{◌≡◌, ℕ, Bool, ◌+◌, ◌*◌, ◌<◌, �
 use Rattle.fl_base.specs.declared.fragment.Frag.{Frag}
 use Rattle.fl_layout.specs.Leaves.{Leaf}
 use Rattle.fl_layout.specs.Places.{size}
-use Rattle.fl_wire.specs.Standing.{Over}
+use Rattle.fl_wire.specs.Standing.{SplitLeaves}
 use Rattle.fl_wire.specs.Covered.{is_covered}
-use Rattle.fl_wire.specs.Shapes.{Agrees, Shape, Got, Halts, IsWhy, Near, Cut, Wrong, Stops, ReadAt, StopsAt}
-use Rattle.fl_wire.specs.declared.leaf.Stop.{Stop}
-use Rattle.fl_wire.specs.declared.leaf.Stop.TheVariants.{Short, Padding, Value, Length, Memory}
+use Rattle.fl_wire.specs.Shapes.{Agrees, Shape, Got, Halts, IsWhy, Near, StreamCut, Wrong, Stops, ReadAt, StopsAt}
+use Rattle.fl_wire.specs.declared.leaf.CallReadFault.{CallReadFault}
+use Rattle.fl_wire.specs.declared.leaf.CallReadFault.TheVariants.{Short, Padding, Value, Length, Memory}
 use Rattle.fl_wire.proofs.Agreement.{over_over, keeps, grows}
 use Rattle.fl_wire.proofs.Covers.{covered_under}
 
@@ -21,7 +21,7 @@ pub record Goes (x y : Shape) (frags : List Frag) (low now : List Leaf) (join : 
   pub agree : Agrees frags now (size now)
   pub fit : (e : y.what) → y.fits e → x.fits (join e)
   pub same : (e : y.what) → y.fits e → x.onto (join e) low ≡ y.onto e now
-  pub told : (d : x.what) (full : List Leaf) → x.fits d → Over (x.onto d low) full → Agrees frags full (size now) → (e : y.what) × ((d ≡ join e) × y.fits e)
+  pub told : (d : x.what) (full : List Leaf) → x.fits d → SplitLeaves (x.onto d low) full → Agrees frags full (size now) → (e : y.what) × ((d ≡ join e) × y.fits e)
   pub alive : x.alive → y.alive
   pub lengths : (e : y.what) → y.fits e → (n : ℕ) → size now ≤ n → x.lengths (join e) low n ≡ y.lengths e now n
 
@@ -39,9 +39,9 @@ goes_self x frags low room a = record {
 
 -- what stands under what is left
 pub rest_over : (x y : Shape) (frags : List Frag) (low now full : List Leaf) (join : y.what → x.what) → Goes x y frags low now join
-    → (d : x.what) (e : y.what) → d ≡ join e → y.fits e → Over (x.onto d low) full → Over (y.onto e now) full
+    → (d : x.what) (e : y.what) → d ≡ join e → y.fits e → SplitLeaves (x.onto d low) full → SplitLeaves (y.onto e now) full
 rest_over x y frags low now full join g d e is f over =
-    subst (λ (ls : List Leaf). Over ls full) (ap (λ (c : x.what). x.onto c low) is ∙ g.same e f) over
+    subst (λ (ls : List Leaf). SplitLeaves ls full) (ap (λ (c : x.what). x.onto c low) is ∙ g.same e f) over
 
 pub goes_on : (x y z : Shape) (frags : List Frag) (low now then : List Leaf) (join : y.what → x.what) (next : z.what → y.what)
     → Goes x y frags low now join → Goes y z frags now then next → Goes x z frags low then (λ e. join (next e))
@@ -81,11 +81,11 @@ goes_halt x y frags low now join n is g h halts = record {
 }
 
 -- what stands at a byte of one thing stands there of the other
-why_same : (stop : Stop) (a b : Bool) (f g : List Leaf) (n : ℕ) → a ≡ b → f ≡ g → IsWhy stop b (is_covered g n) → IsWhy stop a (is_covered f n)
+why_same : (stop : CallReadFault) (a b : Bool) (f g : List Leaf) (n : ℕ) → a ≡ b → f ≡ g → IsWhy stop b (is_covered g n) → IsWhy stop a (is_covered f n)
 why_same stop a b f g n e h why =
     subst (λ (ls : List Leaf). IsWhy stop a (is_covered ls n)) (sym h) (subst (λ (v : Bool). IsWhy stop v (is_covered g n)) (sym e) why)
 
-pub goes_near : (stop : Stop) (x y : Shape) (frags : List Frag) (low now : List Leaf) (join : y.what → x.what) (n : ℕ) → Goes x y frags low now join → size now ≤ n
+pub goes_near : (stop : CallReadFault) (x y : Shape) (frags : List Frag) (low now : List Leaf) (join : y.what → x.what) (n : ℕ) → Goes x y frags low now join → size now ≤ n
     → Near stop y frags now n → Near stop x frags low n
 goes_near stop x y frags low now join n g h near =
     let same : x.onto (join near.one) low ≡ y.onto near.one now = g.same near.one near.fit in
@@ -97,13 +97,13 @@ goes_near stop x y frags low now join n g h near =
       why = why_same stop (x.lengths (join near.one) low n) (y.lengths near.one now n) (x.onto (join near.one) low) (y.onto near.one now) n (g.lengths near.one near.fit n h) same near.why;
     }
 
-pub goes_cut : (x y : Shape) (frags : List Frag) (low now : List Leaf) (join : y.what → x.what) → Goes x y frags low now join → Cut y frags now → Cut x frags low
+pub goes_cut : (x y : Shape) (frags : List Frag) (low now : List Leaf) (join : y.what → x.what) → Goes x y frags low now join → StreamCut y frags now → StreamCut x frags low
 goes_cut x y frags low now join g h = record {
   all = goes_halt x y frags low now join (56 * length frags) (λ full. 56 * length frags < size full) g g.within h.all;
   near = λ some. goes_near Short x y frags low now join (56 * length frags) g g.within (h.near (g.alive some));
 }
 
-pub goes_wrong : (stop : Stop) (x y : Shape) (frags : List Frag) (low now : List Leaf) (join : y.what → x.what) → Goes x y frags low now join → Wrong stop y frags now → Wrong stop x frags low
+pub goes_wrong : (stop : CallReadFault) (x y : Shape) (frags : List Frag) (low now : List Leaf) (join : y.what → x.what) → Goes x y frags low now join → Wrong stop y frags now → Wrong stop x frags low
 goes_wrong stop x y frags low now join g w = record {
   p = w.p;
   after = omega (arith, g.later, w.after);
@@ -112,7 +112,7 @@ goes_wrong stop x y frags low now join g w = record {
   near = λ some. goes_near stop x y frags low now join w.p g w.after (w.near (g.alive some));
 }
 
-pub goes_stop : (x y : Shape) (frags : List Frag) (low now : List Leaf) (join : y.what → x.what) (stop : Stop) → Goes x y frags low now join → Stops stop y frags now → Stops stop x frags low
+pub goes_stop : (x y : Shape) (frags : List Frag) (low now : List Leaf) (join : y.what → x.what) (stop : CallReadFault) → Goes x y frags low now join → Stops stop y frags now → Stops stop x frags low
 goes_stop x y frags low now join Short g h = goes_cut x y frags low now join g h
 goes_stop x y frags low now join Padding g h = goes_wrong Padding x y frags low now join g h
 goes_stop x y frags low now join Value g h = goes_wrong Value x y frags low now join g h
@@ -135,7 +135,7 @@ pub record Begins (x a : Shape) (y : a.what → Shape) (low : List Leaf) (join :
   pub split : (d : x.what) → x.fits d → (b : a.what) × (a.fits b × ((e : (y b).what) × ((d ≡ join b e) × (y b).fits e)))
   pub fit : (b : a.what) (e : (y b).what) → a.fits b → (y b).fits e → x.fits (join b e)
   pub same : (b : a.what) (e : (y b).what) → a.fits b → (y b).fits e → x.onto (join b e) low ≡ (y b).onto e (a.onto b low)
-  pub over : (b : a.what) (e : (y b).what) → Over (a.onto b low) ((y b).onto e (a.onto b low))
+  pub over : (b : a.what) (e : (y b).what) → SplitLeaves (a.onto b low) ((y b).onto e (a.onto b low))
   pub alive : x.alive → a.alive
   pub more : x.alive → (b : a.what) → a.fits b → (e : (y b).what) × (y b).fits e
   pub alive_more : x.alive → (b : a.what) → a.fits b → (y b).alive
@@ -144,9 +144,9 @@ pub record Begins (x a : Shape) (y : a.what → Shape) (low : List Leaf) (join :
 
 -- the first thing of what stands under a payload stands under it
 pub first_over : (x a : Shape) (y : a.what → Shape) (low full : List Leaf) (join : (b : a.what) → (y b).what → x.what) → Begins x a y low join
-    → (d : x.what) (b : a.what) (e : (y b).what) → a.fits b → (y b).fits e → d ≡ join b e → Over (x.onto d low) full → Over (a.onto b low) full
+    → (d : x.what) (b : a.what) (e : (y b).what) → a.fits b → (y b).fits e → d ≡ join b e → SplitLeaves (x.onto d low) full → SplitLeaves (a.onto b low) full
 first_over x a y low full join begins d b e fb fe is over =
-    over_over _ _ _ (begins.over b e) (subst (λ (ls : List Leaf). Over ls full) (ap (λ (c : x.what). x.onto c low) is ∙ begins.same b e fb fe) over)
+    over_over _ _ _ (begins.over b e) (subst (λ (ls : List Leaf). SplitLeaves ls full) (ap (λ (c : x.what). x.onto c low) is ∙ begins.same b e fb fe) over)
 
 -- the first thing is read
 pub begin_got : (x a : Shape) (y : a.what → Shape) (frags : List Frag) (low : List Leaf) (join : (b : a.what) → (y b).what → x.what) (b : a.what) (end : ℕ)
@@ -174,7 +174,7 @@ begin_halt x a y frags low join n is begins halts = record {
 }
 
 -- a first thing that goes on, with something after it
-pub begin_near : (stop : Stop) (x a : Shape) (y : a.what → Shape) (frags : List Frag) (low : List Leaf) (join : (b : a.what) → (y b).what → x.what) (n : ℕ)
+pub begin_near : (stop : CallReadFault) (x a : Shape) (y : a.what → Shape) (frags : List Frag) (low : List Leaf) (join : (b : a.what) → (y b).what → x.what) (n : ℕ)
     → Begins x a y low join → x.alive → Near stop a frags low n → Near stop x frags low n
 begin_near stop x a y frags low join n begins some near =
     let b = near.one in
@@ -192,13 +192,13 @@ begin_near stop x a y frags low join n begins some near =
       why = why_same stop (x.lengths (join b e) low n) (a.lengths b low n) (x.onto (join b e) low) (under.more ++ a.onto b low) n lengths same why;
     }
 
-pub begin_cut : (x a : Shape) (y : a.what → Shape) (frags : List Frag) (low : List Leaf) (join : (b : a.what) → (y b).what → x.what) → Begins x a y low join → Cut a frags low → Cut x frags low
+pub begin_cut : (x a : Shape) (y : a.what → Shape) (frags : List Frag) (low : List Leaf) (join : (b : a.what) → (y b).what → x.what) → Begins x a y low join → StreamCut a frags low → StreamCut x frags low
 begin_cut x a y frags low join begins h = record {
   all = begin_halt x a y frags low join (56 * length frags) (λ full. 56 * length frags < size full) begins h.all;
   near = λ some. begin_near Short x a y frags low join (56 * length frags) begins some (h.near (begins.alive some));
 }
 
-pub begin_wrong : (stop : Stop) (x a : Shape) (y : a.what → Shape) (frags : List Frag) (low : List Leaf) (join : (b : a.what) → (y b).what → x.what)
+pub begin_wrong : (stop : CallReadFault) (x a : Shape) (y : a.what → Shape) (frags : List Frag) (low : List Leaf) (join : (b : a.what) → (y b).what → x.what)
     → Begins x a y low join → Wrong stop a frags low → Wrong stop x frags low
 begin_wrong stop x a y frags low join begins w = record {
   p = w.p;
@@ -208,7 +208,7 @@ begin_wrong stop x a y frags low join begins w = record {
   near = λ some. begin_near stop x a y frags low join w.p begins some (w.near (begins.alive some));
 }
 
-pub begin_stop : (x a : Shape) (y : a.what → Shape) (frags : List Frag) (low : List Leaf) (join : (b : a.what) → (y b).what → x.what) (stop : Stop)
+pub begin_stop : (x a : Shape) (y : a.what → Shape) (frags : List Frag) (low : List Leaf) (join : (b : a.what) → (y b).what → x.what) (stop : CallReadFault)
     → Begins x a y low join → Stops stop a frags low → Stops stop x frags low
 begin_stop x a y frags low join Short begins h = begin_cut x a y frags low join begins h
 begin_stop x a y frags low join Padding begins h = begin_wrong Padding x a y frags low join begins h
@@ -243,7 +243,7 @@ come_join x y frags start at join other e come = λ low here agree.
     let (now, (same, goes)) = come low here agree in
     (now, (same, goes_join x y frags low now join other e goes))
 
-pub come_stop : (x y a : Shape) (z : a.what → Shape) (frags : List Frag) (start at : ℕ) (join : y.what → x.what) (next : (b : a.what) → (z b).what → y.what) (stop : Stop)
+pub come_stop : (x y a : Shape) (z : a.what → Shape) (frags : List Frag) (start at : ℕ) (join : y.what → x.what) (next : (b : a.what) → (z b).what → y.what) (stop : CallReadFault)
     → Come x y frags start at join → ((low : List Leaf) → Begins y a z low next) → StopsAt stop a frags at → StopsAt stop x frags start
 come_stop x y a z frags start at join next stop come begins stops = λ low here agree.
     let (now, (same, goes)) = come low here agree in
@@ -256,12 +256,12 @@ come_done x y frags start at end join d come later read = λ low here agree.
     let (now, (same, goes)) = come low here agree in
     goes_got x y frags low now join d end goes (omega (arith, same, later)) (read now same (subst (λ (n : ℕ). Agrees frags now n) (sym same) goes.agree))
 
-pub first_stop : (x a : Shape) (y : a.what → Shape) (frags : List Frag) (at : ℕ) (join : (b : a.what) → (y b).what → x.what) (stop : Stop) → ((low : List Leaf) → Begins x a y low join)
+pub first_stop : (x a : Shape) (y : a.what → Shape) (frags : List Frag) (at : ℕ) (join : (b : a.what) → (y b).what → x.what) (stop : CallReadFault) → ((low : List Leaf) → Begins x a y low join)
     → StopsAt stop a frags at → StopsAt stop x frags at
 first_stop x a y frags at join stop begins stops = λ low here agree. begin_stop x a y frags low join stop (begins low) (stops low here agree)
 
 -- what is left is not read
-pub come_rest : (x y : Shape) (frags : List Frag) (start at : ℕ) (join : y.what → x.what) (stop : Stop) → Come x y frags start at join → StopsAt stop y frags at → StopsAt stop x frags start
+pub come_rest : (x y : Shape) (frags : List Frag) (start at : ℕ) (join : y.what → x.what) (stop : CallReadFault) → Come x y frags start at join → StopsAt stop y frags at → StopsAt stop x frags start
 come_rest x y frags start at join stop come stops = λ low here agree.
     let (now, (same, goes)) = come low here agree in
     goes_stop x y frags low now join stop goes (stops now same (subst (λ (n : ℕ). Agrees frags now n) (sym same) goes.agree))

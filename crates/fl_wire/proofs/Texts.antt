@@ -9,7 +9,7 @@ use Rattle.std.proofs.lemmas.List.{append-nil}
 use Rattle.std.proofs.lemmas.List.FromFn.{take-map-range_with_len}
 use Rattle.std.proofs.lemmas.Option.{slice_get-get_or}
 use Rattle.fl_base.specs.declared.fragment.Frag.{Frag}
-use Rattle.fl_value.specs.Fits.{is_text_byte}
+use Rattle.fl_value_data.specs.Fits.{is_text_byte}
 use Rattle.fl_wire.specs.Standing.{words_in, word_in, byte_in}
 use Rattle.fl_wire.specs.Shapes.{text_byte, texts_of, ReadAt}
 use Rattle.fl_wire.proofs.OneWord.{same_byte}

@@ -7,13 +7,13 @@ use Rattle.std.proofs.lemmas.List.{drop_more, length-take, length-drop}
 use Rattle.fl_interface.specs.declared.interface.ArgType.{ArgType}
 use Rattle.fl_interface.specs.declared.interface.FixedType.{FixedType}
 use Rattle.fl_interface.specs.Interface.{TheType, TheTypes, field, fields_from, type_of, TheArgType, arg_type_of}
-use Rattle.fl_value.specs.Value.{Datum, Data, also, data_from, datum_of}
-use Rattle.fl_value.specs.declared.value.Value.{Value}
-use Rattle.fl_value.specs.Fits.{has_type, have_types, all_have_type, is_argument, are_arguments}
-use Rattle.fl_value.specs.Plan.{is_dynamic, rank_of, of_rank, never_falls}
-use Rattle.fl_value.specs.declared.value.PlanNo.{PlanNo}
-use Rattle.fl_value.specs.declared.value.PlanNo.TheVariants.{Two}
-use Rattle.fl_value.specs.Tape.{Argument, kind}
+use Rattle.fl_value_data.specs.Value.{Datum, Data, also, data_from, datum_of}
+use Rattle.fl_value_data.specs.declared.value.Value.{Value}
+use Rattle.fl_value_data.specs.Fits.{has_type, have_types, all_have_type, is_argument, are_arguments}
+use Rattle.fl_value_data.specs.Plan.{is_dynamic, rank_of, of_rank, never_falls}
+use Rattle.fl_value_data.specs.declared.value.PlanNo.{PlanNo}
+use Rattle.fl_value_data.specs.declared.value.PlanNo.TheVariants.{Two}
+use Rattle.fl_value_data.specs.Tape.{Argument, kind}
 use Rattle.fl_layout.specs.Leaves.{Leaf, value_onto, fields_onto, argument_onto, arguments_onto, start_onto}
 use Rattle.fl_wire.proofs.Encoding.{rank_taken, rank_passed}
 use Rattle.fl_wire.proofs.Scalars.{rises, rises_on}

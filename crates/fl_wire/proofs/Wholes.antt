@@ -6,11 +6,11 @@ use Rattle.std.specs.Cmp.{first_so, second_so}
 use Rattle.std.proofs.lemmas.Bool.{cases_lt}
 use Rattle.fl_base.specs.declared.fragment.Frag.{Frag}
 use Rattle.fl_interface.specs.Interface.{TheArgType}
-use Rattle.fl_value.specs.Value.{Datum}
-use Rattle.fl_value.specs.Fits.{is_argument}
-use Rattle.fl_value.specs.Plan.{is_dynamic, of_ranks}
-use Rattle.fl_value.specs.declared.value.PlanNo.{PlanNo}
-use Rattle.fl_value.specs.Tape.{Argument, kind}
+use Rattle.fl_value_data.specs.Value.{Datum}
+use Rattle.fl_value_data.specs.Fits.{is_argument}
+use Rattle.fl_value_data.specs.Plan.{is_dynamic, of_ranks}
+use Rattle.fl_value_data.specs.declared.value.PlanNo.{PlanNo}
+use Rattle.fl_value_data.specs.Tape.{Argument, kind}
 use Rattle.fl_layout.specs.Leaves.{Leaf, argument_onto, arguments_onto, start_onto}
 use Rattle.fl_layout.specs.Places.{size, count_for}
 use Rattle.fl_wire.specs.Payload.{payload_at}
@@ -18,8 +18,8 @@ use Rattle.fl_wire.specs.Standing.{FirstNonzero, byte_in, fitting}
 use Rattle.fl_wire.specs.Covered.{is_length}
 use Rattle.fl_wire.specs.Shapes.{Got, Wrong, ReadAt, StopsAt, calls_of}
 use Rattle.fl_wire.specs.Whole.{leaves_of, Whole, WrongCall, StopsWhole}
-use Rattle.fl_wire.specs.declared.leaf.Stop.{Stop}
-use Rattle.fl_wire.specs.declared.leaf.Stop.TheVariants.{Short, Padding, Value, Length, Memory}
+use Rattle.fl_wire.specs.declared.leaf.CallReadFault.{CallReadFault}
+use Rattle.fl_wire.specs.declared.leaf.CallReadFault.TheVariants.{Short, Padding, Value, Length, Memory}
 use Rattle.fl_wire.proofs.Bytes.{past_end}
 use Rattle.fl_wire.proofs.Agreement.{over_self, over_arguments, grows, all_ranks, fit_zip}
 use Rattle.fl_wire.proofs.Covers.{covered_past}
@@ -49,7 +49,7 @@ whole_read plan ts frags ds end count some counts within read zeros =
       };
     }
 
-wrong_call : (stop : Stop) (plan : PlanNo) (ts : List TheArgType) (frags : List Frag) → Wrong stop (calls_of plan ts) frags [] → WrongCall stop plan ts frags
+wrong_call : (stop : CallReadFault) (plan : PlanNo) (ts : List TheArgType) (frags : List Frag) → Wrong stop (calls_of plan ts) frags [] → WrongCall stop plan ts frags
 wrong_call stop plan ts frags w = record {
   p = w.p;
   inside = w.inside;
@@ -59,7 +59,7 @@ wrong_call stop plan ts frags w = record {
       record { one = near.one; fit = near.fit; agree = near.agree; longer = omega (arith, near.longer, in_frags (size (leaves_of plan ts near.one))); why = near.why };
 }
 
-pub whole_stop : (stop : Stop) (plan : PlanNo) (ts : List TheArgType) (frags : List Frag) → StopsAt stop (calls_of plan ts) frags 0 → StopsWhole stop plan ts frags
+pub whole_stop : (stop : CallReadFault) (plan : PlanNo) (ts : List TheArgType) (frags : List Frag) → StopsAt stop (calls_of plan ts) frags 0 → StopsWhole stop plan ts frags
 whole_stop Short plan ts frags h = h [] refl (no_bytes frags)
 whole_stop Padding plan ts frags h = wrong_call Padding plan ts frags (h [] refl (no_bytes frags))
 whole_stop Value plan ts frags h = wrong_call Value plan ts frags (h [] refl (no_bytes frags))

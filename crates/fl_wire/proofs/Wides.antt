@@ -5,7 +5,7 @@ use Rattle.fl_interface.specs.declared.interface.Scalar.{Scalar}
 use Rattle.fl_interface.specs.declared.interface.Scalar.TheVariants.{Uint8, Int8, Bool as BoolType, Char, Uint16, Int16, Uint32, Int32, Iref, Uint64, Int64, Uintptr, Intptr, Size, Errval}
 use Rattle.fl_interface.specs.Interface.{TheType, scalar, fixed}
 use Rattle.fl_interface.specs.Sizes.{scalar_size}
-use Rattle.fl_value.specs.Value.{Datum, number, data_from}
+use Rattle.fl_value_data.specs.Value.{Datum, number, data_from}
 use Rattle.fl_wire.specs.Standing.{number_back}
 use Rattle.fl_wire.specs.Shapes.{values_of, elements_of, number_below, ReadAt}
 use Rattle.fl_wire.proofs.Steps.{Come, come_self}

@@ -1,7 +1,7 @@
 -- What stands at a byte of a payload: a leaf, and the length of a string or of a sized array.
 use Rattle.std.specs.Prelude.{ℕ, ◌+◌, ◌&&◌, ◌||◌, nat_lt, nat_le, Bool, false, List, [], ◌∷◌}
-use Rattle.fl_value.specs.Plan.{is_dynamic}
-use Rattle.fl_value.specs.Tape.{Argument}
+use Rattle.fl_value_data.specs.Plan.{is_dynamic}
+use Rattle.fl_value_data.specs.Tape.{Argument}
 use Rattle.fl_layout.specs.Leaves.{Leaf, gap, argument_onto, start_onto}
 use Rattle.fl_layout.specs.Places.{place}
 

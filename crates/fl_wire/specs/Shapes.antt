@@ -4,20 +4,20 @@ use Rattle.std.specs.List.{list_all, zip}
 use Rattle.fl_base.specs.declared.fragment.Frag.{Frag}
 use Rattle.fl_interface.specs.Interface.{TheType, TheTypes, TheArgType}
 use Rattle.fl_interface.specs.Sizes.{greatest_align}
-use Rattle.fl_value.specs.Value.{Datum, Data}
-use Rattle.fl_value.specs.Fits.{has_type, have_types, all_have_type, count_of, is_text_byte, is_argument, are_arguments}
-use Rattle.fl_value.specs.Plan.{is_dynamic, of_ranks}
-use Rattle.fl_value.specs.declared.value.PlanNo.{PlanNo}
-use Rattle.fl_value.specs.Tape.{kind}
+use Rattle.fl_value_data.specs.Value.{Datum, Data}
+use Rattle.fl_value_data.specs.Fits.{has_type, have_types, all_have_type, count_of, is_text_byte, is_argument, are_arguments}
+use Rattle.fl_value_data.specs.Plan.{is_dynamic, of_ranks}
+use Rattle.fl_value_data.specs.declared.value.PlanNo.{PlanNo}
+use Rattle.fl_value_data.specs.Tape.{kind}
 use Rattle.fl_layout.specs.Leaves.{Leaf, gap, whole, single, value_onto}
 use Rattle.fl_layout.specs.Leaves.{fields_onto, elements_onto, bytes_onto, argument_onto, start_onto, arguments_onto}
 use Rattle.fl_layout.specs.Places.{size, place}
 use Rattle.fl_wire.specs.Payload.{payload_at}
-use Rattle.fl_wire.specs.Standing.{Over, byte_in}
+use Rattle.fl_wire.specs.Standing.{SplitLeaves, byte_in}
 use Rattle.fl_wire.specs.Alive.{has_values, all_have_values, argument_has_values}
 use Rattle.fl_wire.specs.Covered.{holds, is_covered, is_length}
-use Rattle.fl_wire.specs.declared.leaf.Stop.{Stop}
-use Rattle.fl_wire.specs.declared.leaf.Stop.TheVariants.{Short, Padding, Value, Length, Memory}
+use Rattle.fl_wire.specs.declared.leaf.CallReadFault.{CallReadFault}
+use Rattle.fl_wire.specs.declared.leaf.CallReadFault.TheVariants.{Short, Padding, Value, Length, Memory}
 
 -- the first bytes of some fragments are those of a payload
 pub record Agrees (frags : List Frag) (full : List Leaf) (n : ℕ) : Type 0 where
@@ -125,14 +125,14 @@ pub record Got (x : Shape) (frags : List Frag) (low : List Leaf) (d : x.what) (e
   pub fit : x.fits d
   pub ends : size (x.onto d low) ≡ end
   pub agree : Agrees frags (x.onto d low) end
-  pub told : (e : x.what) (full : List Leaf) → x.fits e → Over (x.onto e low) full → Agrees frags full end → e ≡ d
+  pub told : (e : x.what) (full : List Leaf) → x.fits e → SplitLeaves (x.onto e low) full → Agrees frags full end → e ≡ d
 
 -- every payload in which a thing stands there, and whose first n bytes are the fragments', is such a one
 pub record Halts (x : Shape) (frags : List Frag) (low : List Leaf) (n : ℕ) (is : List Leaf → Type 0) : Type 0 where
-  pub none : (e : x.what) (full : List Leaf) → x.fits e → Over (x.onto e low) full → Agrees frags full n → is full
+  pub none : (e : x.what) (full : List Leaf) → x.fits e → SplitLeaves (x.onto e low) full → Agrees frags full n → is full
 
 -- why no thing has the fragments' byte: it stands in a length, in another leaf, or where nothing stands
-abbrev pub IsWhy : Stop → Bool → Bool → Type 0
+abbrev pub IsWhy : CallReadFault → Bool → Bool → Type 0
 IsWhy Short of_length covered = Unit {0}
 IsWhy Padding of_length covered = (of_length ≡ false) × (covered ≡ false)
 IsWhy Value of_length covered = (of_length ≡ false) × (covered ≡ true)
@@ -140,7 +140,7 @@ IsWhy Length of_length covered = of_length ≡ true
 IsWhy Memory of_length covered = Unit {0}
 
 -- a thing that agrees with the first n bytes and has more, and what stands at byte n of it
-pub record Near (stop : Stop) (x : Shape) (frags : List Frag) (low : List Leaf) (n : ℕ) : Type 0 where
+pub record Near (stop : CallReadFault) (x : Shape) (frags : List Frag) (low : List Leaf) (n : ℕ) : Type 0 where
   pub one : x.what
   pub fit : x.fits one
   pub agree : Agrees frags (x.onto one low) n
@@ -148,12 +148,12 @@ pub record Near (stop : Stop) (x : Shape) (frags : List Frag) (low : List Leaf) 
   pub why : IsWhy stop (x.lengths one low n) (is_covered (x.onto one low) n)
 
 -- all that agree are longer than the fragments, and one does
-pub record Cut (x : Shape) (frags : List Frag) (low : List Leaf) : Type 0 where
+pub record StreamCut (x : Shape) (frags : List Frag) (low : List Leaf) : Type 0 where
   pub all : Halts x frags low (56 * length frags) (λ full. 56 * length frags < size full)
   pub near : x.alive → Near Short x frags low (56 * length frags)
 
 -- at a byte of the fragments, none agrees any more; one does up to that byte
-pub record Wrong (stop : Stop) (x : Shape) (frags : List Frag) (low : List Leaf) : Type 0 where
+pub record Wrong (stop : CallReadFault) (x : Shape) (frags : List Frag) (low : List Leaf) : Type 0 where
   pub p : ℕ
   pub after : size low ≤ p
   pub inside : p < 56 * length frags
@@ -161,8 +161,8 @@ pub record Wrong (stop : Stop) (x : Shape) (frags : List Frag) (low : List Leaf)
   pub near : x.alive → Near stop x frags low p
 
 -- why the reading stops
-abbrev pub Stops : Stop → Shape → List Frag → List Leaf → Type 0
-Stops Short x frags low = Cut x frags low
+abbrev pub Stops : CallReadFault → Shape → List Frag → List Leaf → Type 0
+Stops Short x frags low = StreamCut x frags low
 Stops Padding x frags low = Wrong Padding x frags low
 Stops Value x frags low = Wrong Value x frags low
 Stops Length x frags low = Wrong Length x frags low
@@ -173,9 +173,9 @@ abbrev pub ReadAt : (x : Shape) → List Frag → ℕ → x.what → ℕ → Typ
 ReadAt x frags at d end = (low : List Leaf) → at ≡ size low → Agrees frags low at → Got x frags low d end
 
 -- the reading from a place on stops
-abbrev pub StopsAt : Stop → Shape → List Frag → ℕ → Type 0
+abbrev pub StopsAt : CallReadFault → Shape → List Frag → ℕ → Type 0
 StopsAt stop x frags at = (low : List Leaf) → at ≡ size low → Agrees frags low at → Stops stop x frags low
 
 -- the reading of a number of so many bytes stops, a length or another, whatever its bound is
-abbrev pub StopsNumber : Stop → ℕ → List Frag → ℕ → Type 0
+abbrev pub StopsNumber : CallReadFault → ℕ → List Frag → ℕ → Type 0
 StopsNumber stop width frags at = (of_length : Bool) (bound : ℕ) → bound ≤ 2 ^ (8 * width) → StopsAt stop (number_in of_length width bound) frags at

@@ -5,13 +5,13 @@ use Rattle.std.specs.List.{list_all}
 use Rattle.std.specs.Int.{byte_at}
 use Rattle.fl_base.specs.declared.fragment.Frag.{Frag}
 use Rattle.fl_interface.specs.Interface.{scalar, TheArgType, fixed}
-use Rattle.fl_value.specs.Fits.{is_argument, is_signed, scalar_bits}
-use Rattle.fl_value.specs.Tape.{Argument}
+use Rattle.fl_value_data.specs.Fits.{is_argument, is_signed, scalar_bits}
+use Rattle.fl_value_data.specs.Tape.{Argument}
 use Rattle.fl_layout.specs.Leaves.{Leaf, bits_of}
 use Rattle.fl_wire.specs.Widths.{number_width, number_of}
 
 -- some leaves stand under others
-pub record Over (low high : List Leaf) : Type 0 where
+pub record SplitLeaves (low high : List Leaf) : Type 0 where
   pub more : List Leaf
   pub is : high ≡ more ++ low
 

@@ -2,7 +2,7 @@
 use Rattle.std.specs.Prelude.{◌≤◌, ℕ, ℤ, pos, negsuc, ◌*◌, ◌^◌, nat_lt, Bool, false, List, [], ◌∷◌}
 use Rattle.fl_interface.specs.Interface.{scalar, enumeration, TheArgType, fixed}
 use Rattle.fl_interface.specs.Sizes.{scalar_size}
-use Rattle.fl_value.specs.Value.{Datum, number, string, elements, fields}
+use Rattle.fl_value_data.specs.Value.{Datum, number, string, elements, fields}
 use Rattle.fl_layout.specs.Leaves.{Leaf, whole, bits_of}
 
 -- the bytes of a number's type

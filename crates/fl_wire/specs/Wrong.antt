@@ -5,11 +5,11 @@ use Rattle.std.specs.List.{zip}
 use Rattle.fl_base.specs.declared.fragment.Frag.{Frag}
 use Rattle.fl_base.specs.Control.{first_of, acknowledges_of, reserved_of, message_of, circuit_of}
 use Rattle.fl_interface.specs.Interface.{TheInterface}
-use Rattle.fl_value.specs.Value.{TheCall}
-use Rattle.fl_value.specs.Fits.{fits_of}
-use Rattle.fl_value.specs.Plan.{arranged}
-use Rattle.fl_value.specs.declared.value.PlanNo.{PlanNo}
-use Rattle.fl_value.specs.Tape.{kind}
+use Rattle.fl_value_data.specs.Value.{TheCall}
+use Rattle.fl_value_data.specs.Fits.{fits_of}
+use Rattle.fl_value_data.specs.Plan.{arranged}
+use Rattle.fl_value_data.specs.declared.value.PlanNo.{PlanNo}
+use Rattle.fl_value_data.specs.Tape.{kind}
 use Rattle.fl_layout.specs.Leaves.{leaves, argument_types}
 use Rattle.fl_wire.specs.Reading.{Reads, IsWrong}
 use Rattle.fl_wire.specs.Covered.{is_covered, is_length}

@@ -2,22 +2,22 @@
 
 ghost use Rattle.std.specs.Prelude.{◌≡◌, ◌+◌, ◌*◌, ◌^◌, ◌<◌, ◌≤◌, map, length, IfOk, IfErr, IfSome};
 ghost use Rattle.fl_interface.specs.Interface.{TheArgType, arg_type_of};
-ghost use Rattle.fl_value.specs.Plan.{rank_of};
-ghost use Rattle.fl_value.specs.Value.{datum_of};
+ghost use Rattle.fl_value_data.specs.Plan.{rank_of};
+ghost use Rattle.fl_value_data.specs.Value.{datum_of};
 ghost use Rattle.fl_wire.specs.Shapes.{ReadAt, StopsAt, starts_after, next_argument, calls_of};
 ghost use Rattle.fl_wire.specs.Whole.{Whole, StopsWhole};
 
-use crate::leaf::{Stop, read_padding, read_zeros};
+use crate::leaf::{CallReadFault, read_padding, read_zeros};
 use crate::types::{ends_fixed, is_dynamic};
 use crate::value::{is_wide, read_argument, read_scalar_argument, read_wide};
 use fl_base::{FRAG_BYTES, Frag};
 use fl_interface::ArgType;
 use fl_layout::fragment_count;
-use fl_value::{PlanNo, RANKS, Value};
+use fl_value_data::{PlanNo, RANKS, Value};
 use std::alloc::{AllocError, Global};
 
 /// Where an argument may start: after a string or a sized array, past zeros up to a multiple of 8.
-fn read_start(frags: &[Frag], at: usize, after_dynamic: bool) -> Result<usize, Stop>
+fn read_start(frags: &[Frag], at: usize, after_dynamic: bool) -> Result<usize, CallReadFault>
     requires within { at ≤ 56 * length frags.now }
     ensures within { IfOk result (λ start. start ≤ 56 * length frags.now) }
     ensures later { IfOk result (λ start. at ≤ start) }
@@ -38,7 +38,7 @@ fn read_next(
     at: usize,
     after_dynamic: bool,
     ty: &ArgType,
-) -> Result<(Value, usize), Stop>
+) -> Result<(Value, usize), CallReadFault>
     requires within { at ≤ 56 * length frags.now }
     ensures within { IfOk result (λ r. r.1 ≤ 56 * length frags.now) }
     ensures later { IfOk result (λ r. at ≤ r.1) }
@@ -136,7 +136,7 @@ fn read_ranks(
     frags: &[Frag],
     plan: PlanNo,
     types: &[ArgType],
-) -> Result<(Vec<Value>, usize), Stop>
+) -> Result<(Vec<Value>, usize), CallReadFault>
     ensures within { IfOk result (λ r. r.1 ≤ 56 * length frags.now) }
     ensures read { IfOk result (λ r. ReadAt (calls_of plan (map arg_type_of types.now)) frags.now 0 (map datum_of r.0.items) r.1) }
     ensures stop { IfErr result (λ stop. StopsAt stop (calls_of plan (map arg_type_of types.now)) frags.now 0) }
@@ -164,7 +164,7 @@ pub(crate) fn read_arguments(
     frags: &[Frag],
     plan: PlanNo,
     types: &[ArgType],
-) -> Result<(Vec<Value>, usize), Stop>
+) -> Result<(Vec<Value>, usize), CallReadFault>
     ensures within { IfOk result (λ r. r.1 ≤ 56 * length frags.now) }
     ensures read { IfOk result (λ r.
         ReadAt (calls_of plan (map arg_type_of types.now)) frags.now 0 (map datum_of r.0.items) r.1) }
@@ -183,7 +183,7 @@ pub(crate) fn read_whole(
     frags: &[Frag],
     plan: PlanNo,
     types: &[ArgType],
-) -> Result<(Vec<Value>, usize), Stop>
+) -> Result<(Vec<Value>, usize), CallReadFault>
     requires some { 0 < length frags.now }
     ensures read { IfOk result (λ r. Whole plan (map arg_type_of types.now) frags.now (map datum_of r.0.items) r.1) }
     ensures stop { IfErr result (λ stop. StopsWhole stop plan (map arg_type_of types.now) frags.now) }

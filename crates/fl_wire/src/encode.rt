@@ -5,20 +5,20 @@ ghost use Rattle.std.specs.List.{zip, list_all};
 ghost use Rattle.std.specs.Int.{to_le_bytes, w64};
 ghost use Rattle.fl_interface.specs.Interface.{type_of, fields_from, arg_type_of, interface_of};
 ghost use Rattle.fl_interface.specs.Sizes.{round_up, align_of, greatest_align};
-ghost use Rattle.fl_value.specs.Value.{datum_of, data_from, call_of};
-ghost use Rattle.fl_value.specs.Fits.{count_of, fits_of, has_type, have_types, all_have_type, are_arguments, is_argument, is_text_byte};
-ghost use Rattle.fl_value.specs.Plan.{arranged, is_dynamic, of_rank, of_ranks};
+ghost use Rattle.fl_value_data.specs.Value.{datum_of, data_from, call_of};
+ghost use Rattle.fl_value_data.specs.Fits.{count_of, fits_of, has_type, have_types, all_have_type, are_arguments, is_argument, is_text_byte};
+ghost use Rattle.fl_value_data.specs.Plan.{arranged, is_dynamic, of_rank, of_ranks};
 ghost use Rattle.fl_layout.specs.Leaves.{Leaf, gap, whole, bits_of, value_onto};
 ghost use Rattle.fl_layout.specs.Leaves.{fields_onto, elements_onto, bytes_onto, argument_onto, arguments_onto, start_onto};
 ghost use Rattle.fl_wire.specs.Payload.{payload_bytes, payload_of};
 ghost use Rattle.fl_interface.specs.Sizes.{IsAlign};
-ghost use Rattle.fl_value.specs.Tape.{kind};
+ghost use Rattle.fl_value_data.specs.Tape.{kind};
 ghost use Rattle.fl_wire.specs.Widths.{fits_width, is_number_within, numbers_onto};
 
 use crate::types::{arguments_of, ends_fixed, is_dynamic};
 use fl_base::FRAG_BYTES;
 use fl_interface::{ArgType, FixedType, Interface, next_multiple};
-use fl_value::{Call, PlanNo, RANKS, Value};
+use fl_value_data::{Call, PlanNo, RANKS, Value};
 use std::alloc::{AllocError, Global};
 
 // Zeros up to the next multiple of an alignment.

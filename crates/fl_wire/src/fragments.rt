@@ -4,15 +4,15 @@ ghost use Rattle.std.specs.Prelude.{◌≡◌, ◌+◌, ◌-◌, ◌*◌, ◌/�
 ghost use Rattle.std.specs.List.{range_with_len};
 ghost use Rattle.std.specs.Int.{from_le_bytes, w64};
 ghost use Rattle.fl_interface.specs.Interface.{interface_of};
-ghost use Rattle.fl_value.specs.Value.{call_of};
-ghost use Rattle.fl_value.specs.Fits.{fits_of};
+ghost use Rattle.fl_value_data.specs.Value.{call_of};
+ghost use Rattle.fl_value_data.specs.Fits.{fits_of};
 ghost use Rattle.fl_wire.specs.Payload.{frag_on, frags_of, word};
 
 use crate::encode::payload;
 use fl_base::{Circuit, FRAG_BYTES, Frag, MsgNo, control};
 use fl_interface::Interface;
 use fl_layout::fragment_count;
-use fl_value::{Call, PlanNo};
+use fl_value_data::{Call, PlanNo};
 use std::alloc::{AllocError, Global};
 
 // What follows the first `k` fragments' bytes.

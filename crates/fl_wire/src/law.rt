@@ -8,22 +8,22 @@ ghost use Rattle.fl_wire.specs.Reading.{OneReading, NoneBeginsWithAnother, Reads
 use fl_interface::Interface;
 
 /// No list of fragments has two readings as whole calls and a rest, under either plan.
-pub fn one_reading()
+pub fn law_one_reading()
     ensures reading { OneReading }
 {}
 
 /// The fragments of a fitting call never begin with those of another.
-pub fn none_begins_with_another()
+pub fn law_none_begins_with_another()
     ensures prefix { NoneBeginsWithAnother }
 {}
 
 /// No list of fragments reads as calls and a rest in two ways, whatever its epochs and the counts told.
-pub fn reads_once()
+pub fn law_reads_once()
     ensures once { ReadsOnce }
 {}
 
-/// Every bound and every number of enumerators of an interface in memory is at most 2^32, by its invariant: so [`one_reading`],
-/// [`none_begins_with_another`] and [`reads_once`] hold of each. Takes no time.
-pub fn numbers_fit_words(interface: &Interface)
+/// Every bound and every number of enumerators of an interface in memory is at most 2^32, by its invariant: so [`law_one_reading`],
+/// [`law_none_begins_with_another`] and [`law_reads_once`] hold of each. Takes no time.
+pub fn law_numbers_fit_words(interface: &Interface)
     ensures fit { interface_words_fit (interface_of interface.now) ≡ true }
 {}

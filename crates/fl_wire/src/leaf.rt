@@ -7,7 +7,7 @@ ghost use Rattle.std.specs.Int.{from_le_bytes, w64, byte_at};
 ghost use Rattle.fl_interface.specs.Sizes.{round_up};
 ghost use Rattle.fl_wire.specs.Standing.{FirstNonzero, byte_in, word_in, words_in};
 ghost use Rattle.fl_wire.specs.Shapes.{StopsNumber, padding, number_below, ReadAt, StopsAt};
-ghost use Rattle.fl_wire.specs.declared.leaf.Stop.TheVariants.{Padding, Memory};
+ghost use Rattle.fl_wire.specs.declared.leaf.CallReadFault.TheVariants.{Padding, Memory};
 
 use fl_base::{FRAG_BYTES, Frag};
 use fl_interface::next_multiple;
@@ -15,7 +15,7 @@ use std::alloc::{AllocError, AllocFailed};
 
 /// Why the reading of a call stops before the call's end.
 #[derive(Clone, Copy, Drop)]
-pub(crate) enum Stop {
+pub(crate) enum CallReadFault {
     /// The fragments end first.
     Short,
     /// A byte isn't 0 where nothing stands.
@@ -28,19 +28,19 @@ pub(crate) enum Stop {
     Memory,
 }
 
-impl From<AllocError> for Stop {
+impl From<AllocError> for CallReadFault {
     ghost from_gives = { λ _ e. e ≡ Memory };
 
-    fn from(_error: AllocError) -> Stop {
-        Stop::Memory
+    fn from(_error: AllocError) -> CallReadFault {
+        CallReadFault::Memory
     }
 }
 
-impl<T: Drop> From<AllocFailed<T>> for Stop {
+impl<T: Drop> From<AllocFailed<T>> for CallReadFault {
     ghost from_gives = { λ _ e. e ≡ Memory };
 
-    fn from(_error: AllocFailed<T>) -> Stop {
-        Stop::Memory
+    fn from(_error: AllocFailed<T>) -> CallReadFault {
+        CallReadFault::Memory
     }
 }
 
@@ -125,13 +125,13 @@ fn past_zeros(frags: &[Frag], at: usize, end: usize) -> usize
 
 /// Past bytes that are all 0; a stop at the first that isn't.
 #[inline(always)]
-pub(crate) fn read_zeros(frags: &[Frag], at: usize, end: usize) -> Result<(), Stop>
+pub(crate) fn read_zeros(frags: &[Frag], at: usize, end: usize) -> Result<(), CallReadFault>
     ensures zeros { IfOk result (λ u. (p : ℕ) → at ≤ p → p < end → byte_in frags.now p ≡ 0) }
     ensures wrong { IfErr result (λ stop. (stop ≡ Padding) × FirstNonzero frags.now at end) }
 {
     for p in past_zeros(frags, at, end)..end {
         if byte_at(frags, p) != 0 {
-            return Err(Stop::Padding);
+            return Err(CallReadFault::Padding);
         }
     }
     Ok(())
@@ -139,7 +139,7 @@ pub(crate) fn read_zeros(frags: &[Frag], at: usize, end: usize) -> Result<(), St
 
 /// The next multiple of an alignment, past bytes that are all 0.
 #[inline(always)]
-fn skip(frags: &[Frag], at: usize, align: usize) -> Result<usize, Stop>
+fn skip(frags: &[Frag], at: usize, align: usize) -> Result<usize, CallReadFault>
     requires align { (align ≡ 1) ⊎ ((align ≡ 2) ⊎ ((align ≡ 4) ⊎ (align ≡ 8))) }
     requires within { at ≤ 56 * length frags.now }
     ensures place { IfOk result (λ place. place ≡ round_up at align) }
@@ -152,7 +152,7 @@ fn skip(frags: &[Frag], at: usize, align: usize) -> Result<usize, Stop>
 }
 
 /// Past zeros up to a multiple of an alignment.
-pub(crate) fn read_padding(frags: &[Frag], at: usize, align: usize) -> Result<usize, Stop>
+pub(crate) fn read_padding(frags: &[Frag], at: usize, align: usize) -> Result<usize, CallReadFault>
     requires align { (align ≡ 1) ⊎ ((align ≡ 2) ⊎ ((align ≡ 4) ⊎ (align ≡ 8))) }
     requires within { at ≤ 56 * length frags.now }
     ensures within { IfOk result (λ end. end ≤ 56 * length frags.now) }
@@ -166,7 +166,11 @@ pub(crate) fn read_padding(frags: &[Frag], at: usize, align: usize) -> Result<us
 
 /// The next number of so many bytes, and where it ends.
 #[inline(always)]
-pub(crate) fn read_number(frags: &[Frag], at: usize, width: usize) -> Result<(u64, usize), Stop>
+pub(crate) fn read_number(
+    frags: &[Frag],
+    at: usize,
+    width: usize,
+) -> Result<(u64, usize), CallReadFault>
     requires width { (width ≡ 1) ⊎ ((width ≡ 2) ⊎ ((width ≡ 4) ⊎ (width ≡ 8))) }
     requires within { at ≤ 56 * length frags.now }
     ensures within { IfOk result (λ r. r.1 ≤ 56 * length frags.now) }
@@ -177,7 +181,7 @@ pub(crate) fn read_number(frags: &[Frag], at: usize, width: usize) -> Result<(u6
     let place = skip(frags, at, width)?;
     let end = place + width;
     if end > frags.len() * FRAG_BYTES {
-        return Err(Stop::Short);
+        return Err(CallReadFault::Short);
     }
     Ok((number_at(frags, place, width), end))
 }

@@ -5,7 +5,7 @@
 //! stands at its place and every other byte is 0, and [`payload_into`] the same in memory that is there
 //! already; [`fragment`] is the next 56 bytes of it with a control word; [`read_frags`] gives the calls back
 //! and counts the rest, or tells the first fault; and no list of fragments has two readings
-//! ([`one_reading`]). The definitions stand in `specs/Payload.antt`, `specs/Reading.antt` and
+//! ([`law_one_reading`]). The definitions stand in `specs/Payload.antt`, `specs/Reading.antt` and
 //! `specs/Wrong.antt`, those of leaves and places in `fl_layout`; what reading a thing at a place tells, in
 //! `specs/Shapes.antt`.
 //!
@@ -38,9 +38,12 @@ mod value;
 
 pub use encode::{payload, payload_into};
 pub use fault::WireFault;
+pub use fl_base::control;
 pub use fl_layout::fragment_count;
 pub use fragments::{fragment, fragment_at};
 pub use header::{follow_fault, is_line, start_fault};
-pub use law::{none_begins_with_another, numbers_fit_words, one_reading, reads_once};
+pub use law::{
+    law_none_begins_with_another, law_numbers_fit_words, law_one_reading, law_reads_once,
+};
 pub use reader::{Reading, read_frags};
 pub use reading::read_call_frags;

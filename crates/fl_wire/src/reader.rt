@@ -3,7 +3,7 @@
 ghost use Rattle.std.specs.Prelude.{◌≡◌, ◌+◌, ◌<◌, ◌≤◌, map, length, take, slice_get, IfOk, IfErr, IfSome, Some, None};
 ghost use Rattle.fl_base.specs.declared.fragment.Frag.{Frag as TheFrag};
 ghost use Rattle.fl_interface.specs.Interface.{interface_of};
-ghost use Rattle.fl_value.specs.Value.{call_of};
+ghost use Rattle.fl_value_data.specs.Value.{call_of};
 ghost use Rattle.fl_wire.specs.Reading.{ReadsLeaving, IsPart, IsWrong};
 ghost use Rattle.fl_wire.specs.Wrong.{start_fault, follow_fault, BeginsWell, IsNextFault, IsFirstFault};
 ghost use Rattle.fl_wire.specs.Headers.{Group, StandsFirst};
@@ -13,11 +13,11 @@ ghost use Rattle.fl_wire.specs.declared.fault.WireFault.TheVariants.{Memory};
 use crate::call::read_whole;
 use crate::fault::WireFault;
 use crate::header::{following, is_line, start_fault};
-use crate::leaf::Stop;
+use crate::leaf::CallReadFault;
 use crate::types::arguments_of;
 use fl_base::{Frag, MsgNo};
 use fl_interface::Interface;
-use fl_value::{Call, PlanNo};
+use fl_value_data::{Call, PlanNo};
 use std::alloc::Global;
 
 /// What a list of fragments reads as.
@@ -82,14 +82,14 @@ fn next_call(
     let types = arguments_of(interface, msg);
     match read_whole(alloc, &frags[..prefix.count], plan, types) {
         Ok((args, many)) => Ok(Some((Call { msg, args }, many))),
-        Err(Stop::Short) => match prefix.next {
+        Err(CallReadFault::Short) => match prefix.next {
             Some(fault) => Err(fault),
             None => Ok(None),
         },
-        Err(Stop::Padding) => Err(WireFault::NotZero),
-        Err(Stop::Value) => Err(WireFault::OutOfType),
-        Err(Stop::Length) => Err(WireFault::TooLong),
-        Err(Stop::Memory) => Err(WireFault::Memory),
+        Err(CallReadFault::Padding) => Err(WireFault::NotZero),
+        Err(CallReadFault::Value) => Err(WireFault::OutOfType),
+        Err(CallReadFault::Length) => Err(WireFault::TooLong),
+        Err(CallReadFault::Memory) => Err(WireFault::Memory),
     }
 }
 

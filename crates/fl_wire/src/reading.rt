@@ -3,24 +3,24 @@
 ghost use Rattle.std.specs.Prelude.{◌≢◌, ◌<◌, IfOk, Some, None};
 ghost use Rattle.std.specs.Option.{option_map};
 ghost use Rattle.fl_interface.specs.Interface.{interface_of};
-ghost use Rattle.fl_value.specs.Value.{call_of};
+ghost use Rattle.fl_value_data.specs.Value.{call_of};
 ghost use Rattle.fl_wire.specs.Reading.{ReadsBack};
-ghost use Rattle.fl_wire.specs.declared.leaf.Stop.TheVariants.{Memory};
+ghost use Rattle.fl_wire.specs.declared.leaf.CallReadFault.TheVariants.{Memory};
 
 use crate::call::read_arguments;
-use crate::leaf::Stop;
+use crate::leaf::CallReadFault;
 use crate::types::arguments_of;
 use fl_base::Frag;
 use fl_interface::Interface;
-use fl_value::{Call, PlanNo};
+use fl_value_data::{Call, PlanNo};
 use std::alloc::{AllocError, Global};
 
 // Fails where memory was refused to the reading.
-fn had_memory(stop: Stop) -> Result<(), AllocError>
+fn had_memory(stop: CallReadFault) -> Result<(), AllocError>
     ensures had { IfOk result (λ u. stop ≢ Memory) }
 {
     match stop {
-        Stop::Memory => Err(AllocError),
+        CallReadFault::Memory => Err(AllocError),
         _ => Ok(()),
     }
 }

@@ -3,7 +3,7 @@
 ghost use Rattle.std.specs.Prelude.{◌≡◌, true, map};
 ghost use Rattle.fl_interface.specs.Interface.{arg_type_of, interface_of};
 ghost use Rattle.fl_layout.specs.Leaves.{argument_types};
-ghost use Rattle.fl_value.specs.Plan.{is_dynamic};
+ghost use Rattle.fl_value_data.specs.Plan.{is_dynamic};
 
 use fl_base::MsgNo;
 use fl_interface::{ArgType, Interface};

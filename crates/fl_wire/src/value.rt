@@ -4,18 +4,18 @@ ghost use Rattle.std.specs.Prelude.{◌≡◌, ◌+◌, ◌*◌, ◌/◌, ◌%�
 ghost use Rattle.std.specs.Prelude.{IfOk, IfErr, IfSome};
 ghost use Rattle.fl_interface.specs.Interface.{scalar, enumeration, structure, fixed, type_of, arg_type_of, fields_from};
 ghost use Rattle.fl_interface.specs.Sizes.{scalar_size, greatest_align};
-ghost use Rattle.fl_value.specs.Value.{number, string, elements, fields, datum_of, data_from};
-ghost use Rattle.fl_value.specs.Fits.{least_above, how_many_below};
-ghost use Rattle.fl_value.specs.Plan.{is_dynamic, rank_of};
+ghost use Rattle.fl_value_data.specs.Value.{number, string, elements, fields, datum_of, data_from};
+ghost use Rattle.fl_value_data.specs.Fits.{least_above, how_many_below};
+ghost use Rattle.fl_value_data.specs.Plan.{is_dynamic, rank_of};
 ghost use Rattle.fl_wire.specs.Standing.{signed_half, number_back, word_in};
 ghost use Rattle.fl_interface.specs.declared.interface.Scalar.TheVariants.{Uint64};
 ghost use Rattle.fl_wire.specs.Shapes.{ReadAt, StopsAt, values_of, fields_of, elements_of, text_byte, texts_of, length_below, arguments_of};
 
-use crate::leaf::{Stop, byte_of, read_number, read_padding, read_word, word_at};
+use crate::leaf::{CallReadFault, byte_of, read_number, read_padding, read_word, word_at};
 use crate::text::bytes_from;
 use fl_base::{FRAG_BYTES, Frag};
 use fl_interface::{ArgType, FixedType, Scalar, greatest_alignment};
-use fl_value::{PlanNo, Value, are_text_bytes};
+use fl_value_data::{PlanNo, Value, are_text_bytes};
 use std::alloc::{AllocError, Global};
 
 // Half of the numbers that a signed scalar has; 0 for scalars without a sign.
@@ -91,7 +91,7 @@ fn fields_value(values: Vec<Value>) -> Value
 
 /// The next scalar, and where it ends.
 #[inline(always)]
-fn read_scalar(frags: &[Frag], at: usize, kind: Scalar) -> Result<(Value, usize), Stop>
+fn read_scalar(frags: &[Frag], at: usize, kind: Scalar) -> Result<(Value, usize), CallReadFault>
     requires within { at ≤ 56 * length frags.now }
     ensures within { IfOk result (λ r. r.1 ≤ 56 * length frags.now) }
     ensures later { IfOk result (λ r. at ≤ r.1) }
@@ -100,7 +100,7 @@ fn read_scalar(frags: &[Frag], at: usize, kind: Scalar) -> Result<(Value, usize)
 {
     let (raw, end) = read_number(frags, at, kind.size() as usize)?;
     if raw > greatest_bits(kind) {
-        return Err(Stop::Value);
+        return Err(CallReadFault::Value);
     }
     Ok((int_value(number_from(kind, raw)), end))
 }
@@ -108,7 +108,11 @@ fn read_scalar(frags: &[Frag], at: usize, kind: Scalar) -> Result<(Value, usize)
 // As `read_scalar`, which is in line here once for each kind: the kind is told once, and not for its width, its greatest
 // number and its sign each.
 #[inline(always)]
-fn read_known_scalar(frags: &[Frag], at: usize, kind: Scalar) -> Result<(Value, usize), Stop>
+fn read_known_scalar(
+    frags: &[Frag],
+    at: usize,
+    kind: Scalar,
+) -> Result<(Value, usize), CallReadFault>
     requires within { at ≤ 56 * length frags.now }
     ensures within { IfOk result (λ r. r.1 ≤ 56 * length frags.now) }
     ensures later { IfOk result (λ r. at ≤ r.1) }
@@ -197,7 +201,7 @@ pub(crate) fn read_wide(frags: &[Frag], frag: usize, word: usize) -> Value
 }
 
 /// The next enumerator of so many, and where it ends.
-fn read_enumerator(frags: &[Frag], at: usize, count: u32) -> Result<(Value, usize), Stop>
+fn read_enumerator(frags: &[Frag], at: usize, count: u32) -> Result<(Value, usize), CallReadFault>
     requires within { at ≤ 56 * length frags.now }
     ensures within { IfOk result (λ r. r.1 ≤ 56 * length frags.now) }
     ensures later { IfOk result (λ r. at ≤ r.1) }
@@ -206,7 +210,7 @@ fn read_enumerator(frags: &[Frag], at: usize, count: u32) -> Result<(Value, usiz
 {
     let (raw, end) = read_number(frags, at, 4)?;
     if raw >= u64::from(count) {
-        return Err(Stop::Value);
+        return Err(CallReadFault::Value);
     }
     Ok((int_value(i128::from(raw)), end))
 }
@@ -254,7 +258,7 @@ fn read_each_scalar(
     at: usize,
     count: u64,
     kind: Scalar,
-) -> Result<(Vec<Value>, usize), Stop>
+) -> Result<(Vec<Value>, usize), CallReadFault>
     requires within { at ≤ 56 * length frags.now }
     ensures within { IfOk result (λ r. r.1 ≤ 56 * length frags.now) }
     ensures later { IfOk result (λ r. at ≤ r.1) }
@@ -280,7 +284,7 @@ fn read_scalars(
     at: usize,
     count: u64,
     kind: Scalar,
-) -> Result<(Vec<Value>, usize), Stop>
+) -> Result<(Vec<Value>, usize), CallReadFault>
     requires within { at ≤ 56 * length frags.now }
     ensures within { IfOk result (λ r. r.1 ≤ 56 * length frags.now) }
     ensures later { IfOk result (λ r. at ≤ r.1) }
@@ -302,7 +306,7 @@ pub(crate) fn read_value(
     frags: &[Frag],
     at: usize,
     ty: &FixedType,
-) -> Result<(Value, usize), Stop>
+) -> Result<(Value, usize), CallReadFault>
     requires within { at ≤ 56 * length frags.now }
     ensures within { IfOk result (λ r. r.1 ≤ 56 * length frags.now) }
     ensures later { IfOk result (λ r. at ≤ r.1) }
@@ -332,7 +336,7 @@ fn read_struct(
     at: usize,
     fields: &[FixedType],
     align: usize,
-) -> Result<(Value, usize), Stop>
+) -> Result<(Value, usize), CallReadFault>
     requires within { at ≤ 56 * length frags.now }
     requires aligned { align ≡ greatest_align (fields_from (map type_of fields.now)) }
     ensures within { IfOk result (λ r. r.1 ≤ 56 * length frags.now) }
@@ -353,7 +357,7 @@ fn read_fields(
     frags: &[Frag],
     at: usize,
     fields: &[FixedType],
-) -> Result<(Vec<Value>, usize), Stop>
+) -> Result<(Vec<Value>, usize), CallReadFault>
     requires within { at ≤ 56 * length frags.now }
     ensures within { IfOk result (λ r. r.1 ≤ 56 * length frags.now) }
     ensures later { IfOk result (λ r. at ≤ r.1) }
@@ -384,7 +388,7 @@ pub(crate) fn read_elements(
     at: usize,
     count: u64,
     element: &FixedType,
-) -> Result<(Vec<Value>, usize), Stop>
+) -> Result<(Vec<Value>, usize), CallReadFault>
     requires within { at ≤ 56 * length frags.now }
     ensures within { IfOk result (λ r. r.1 ≤ 56 * length frags.now) }
     ensures later { IfOk result (λ r. at ≤ r.1) }
@@ -406,7 +410,7 @@ fn read_structs(
     at: usize,
     count: u64,
     fields: &[FixedType],
-) -> Result<(Vec<Value>, usize), Stop>
+) -> Result<(Vec<Value>, usize), CallReadFault>
     requires within { at ≤ 56 * length frags.now }
     ensures within { IfOk result (λ r. r.1 ≤ 56 * length frags.now) }
     ensures later { IfOk result (λ r. at ≤ r.1) }
@@ -433,7 +437,7 @@ fn read_each(
     at: usize,
     count: u64,
     element: &FixedType,
-) -> Result<(Vec<Value>, usize), Stop>
+) -> Result<(Vec<Value>, usize), CallReadFault>
     requires within { at ≤ 56 * length frags.now }
     ensures within { IfOk result (λ r. r.1 ≤ 56 * length frags.now) }
     ensures later { IfOk result (λ r. at ≤ r.1) }
@@ -456,7 +460,7 @@ fn read_text_slowly(
     frags: &[Frag],
     at: usize,
     count: u64,
-) -> Result<(Vec<u8>, usize), Stop>
+) -> Result<(Vec<u8>, usize), CallReadFault>
     requires within { at ≤ 56 * length frags.now }
     ensures within { IfOk result (λ r. r.1 ≤ 56 * length frags.now) }
     ensures later { IfOk result (λ r. at ≤ r.1) }
@@ -476,7 +480,12 @@ fn read_text_slowly(
 }
 
 /// So many bytes of a string, and where the last one ends: word by word, where all are there and none is 0.
-fn read_text(alloc: Global, frags: &[Frag], at: usize, count: u64) -> Result<(Vec<u8>, usize), Stop>
+fn read_text(
+    alloc: Global,
+    frags: &[Frag],
+    at: usize,
+    count: u64,
+) -> Result<(Vec<u8>, usize), CallReadFault>
     requires within { at ≤ 56 * length frags.now }
     ensures within { IfOk result (λ r. r.1 ≤ 56 * length frags.now) }
     ensures later { IfOk result (λ r. at ≤ r.1) }
@@ -505,7 +514,7 @@ fn word_around(frags: &[Frag], at: usize, word: u64) -> u64
 }
 
 /// The next byte of a string, in that word.
-fn read_text_byte(frags: &[Frag], at: usize, word: u64) -> Result<u8, Stop>
+fn read_text_byte(frags: &[Frag], at: usize, word: u64) -> Result<u8, CallReadFault>
     requires within { at ≤ 56 * length frags.now }
     requires word { word ≡ word_in frags.now (at / 8) }
     ensures within { IfOk result (λ byte. at + 1 ≤ 56 * length frags.now) }
@@ -513,17 +522,17 @@ fn read_text_byte(frags: &[Frag], at: usize, word: u64) -> Result<u8, Stop>
     ensures stop { IfErr result (λ stop. StopsAt stop text_byte frags.now at) }
 {
     if at >= frags.len() * FRAG_BYTES {
-        return Err(Stop::Short);
+        return Err(CallReadFault::Short);
     }
     let byte = byte_of(word, at);
     if byte == 0 {
-        return Err(Stop::Value);
+        return Err(CallReadFault::Value);
     }
     Ok(byte)
 }
 
 /// The next length, at most so great, and where it ends.
-fn read_length(frags: &[Frag], at: usize, most: u32) -> Result<(u64, usize), Stop>
+fn read_length(frags: &[Frag], at: usize, most: u32) -> Result<(u64, usize), CallReadFault>
     requires within { at ≤ 56 * length frags.now }
     ensures within { IfOk result (λ r. r.1 ≤ 56 * length frags.now) }
     ensures later { IfOk result (λ r. at ≤ r.1) }
@@ -532,7 +541,7 @@ fn read_length(frags: &[Frag], at: usize, most: u32) -> Result<(u64, usize), Sto
 {
     let (length, end) = read_number(frags, at, 8)?;
     if length > u64::from(most) {
-        return Err(Stop::Length);
+        return Err(CallReadFault::Length);
     }
     Ok((length, end))
 }
@@ -543,7 +552,7 @@ pub(crate) fn read_argument(
     frags: &[Frag],
     at: usize,
     ty: &ArgType,
-) -> Result<(Value, usize), Stop>
+) -> Result<(Value, usize), CallReadFault>
     requires within { at ≤ 56 * length frags.now }
     ensures within { IfOk result (λ r. r.1 ≤ 56 * length frags.now) }
     ensures later { IfOk result (λ r. at ≤ r.1) }

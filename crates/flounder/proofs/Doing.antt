@@ -4,29 +4,29 @@ use Rattle.std.specs.Prelude.{MatchResult, Result, Ok, Err}
 use Rattle.std.specs.declared.io.ErrorKind.{ErrorKind}
 use Rattle.clap.specs.Words.{Text, HasKind, kind_of}
 use Rattle.clap.specs.declared.error.Error.{Error}
-use Rattle.fl_words.specs.Words.{Asked, asks_for, refusals}
-use Rattle.fl_command.specs.declared.fault.Fault.{Fault}
-use Rattle.fl_command.specs.Commands.{failed_status, Compiles, Views, Execs, Helps}
-use Rattle.fl_command.specs.Deeds.{Deed, was_read, was_not_read, Adds, Does}
-use Rattle.fl_command.specs.Parts.{EndsSo}
-use Rattle.fl_command.specs.Status.{status_of}
-use Rattle.fl_command.specs.Streams.{Output, Streams, Prints, IsUntouched, IsUnread}
-use Rattle.fl_command.proofs.Deeds.{does_none, does_one, does_weaker}
+use Rattle.flounder_args.specs.Words.{Asked, asks_for, refusals}
+use Rattle.flounder_commands.specs.declared.fault.Fault.{Fault}
+use Rattle.flounder_commands.specs.Commands.{failed_status, Compiles, Views, Execs, Helps}
+use Rattle.flounder_commands.specs.FileEffects.{FileEffect, was_read, was_not_read, Adds, Does}
+use Rattle.flounder_commands.specs.Parts.{EndsSo}
+use Rattle.flounder_commands.specs.Status.{status_of}
+use Rattle.flounder_commands.specs.Streams.{Output, Streams, Prints, IsUntouched, IsUnread}
+use Rattle.flounder_commands.proofs.FileEffects.{does_none, does_one, does_weaker}
 use Rattle.fl_cores.specs.declared.fault.CoresFault.{CoresFault}
 use Rattle.fl_cores.specs.declared.text.CoresEnd.{CoresEnd}
 use Rattle.fl_cores.specs.Promised.{IsFaultOfText}
-use Rattle.fl_reports.specs.Honesty as run
+use Rattle.fl_cores.specs.Honesty as run
 use Rattle.flounder.specs.Commands.{cores_status, end_status, IsTold, TellsCores, RunsCores, Performs, Runs}
 
 -- ---- cores
 
-pub cores_unread : (old new : Option (List Deed)) (file : List ℕ) (turns : ℕ) (o : Output) (kind : ErrorKind) (status failed : ℕ) → Adds old new (was_not_read file kind) → IsUntouched o → status ≡ failed → failed ≡ failed_status kind
+pub cores_unread : (old new : Option (List FileEffect)) (file : List ℕ) (turns : ℕ) (o : Output) (kind : ErrorKind) (status failed : ℕ) → Adds old new (was_not_read file kind) → IsUntouched o → status ≡ failed → failed ≡ failed_status kind
     → Does old new (RunsCores file turns o status)
 cores_unread old new file turns o kind status failed a same e h =
     does_one old new (was_not_read file kind) (RunsCores file turns o status) a (inr (inl (same, record { kind = kind; done = refl; ends = e ∙ h })))
 
 -- what came of the content that was read
-pub cores_done : (old new : Option (List Deed)) (file bytes content : List ℕ) (turns : ℕ) (o : Output) (status : ℕ) → Adds old new (was_read file bytes) → content ≡ bytes
+pub cores_done : (old new : Option (List FileEffect)) (file bytes content : List ℕ) (turns : ℕ) (o : Output) (status : ℕ) → Adds old new (was_read file bytes) → content ≡ bytes
     → RunsCores file turns o status (was_read file content ∷ []) → Does old new (RunsCores file turns o status)
 cores_done old new file bytes content turns o status a e h =
     does_one old new (was_read file bytes) (RunsCores file turns o status) a (subst (λ (t : List ℕ). RunsCores file turns o status (was_read file t ∷ [])) e h)
@@ -60,30 +60,30 @@ told_so (Err f) end told o p h = inl (h, p)
 
 -- ---- a whole run
 
-pub performs_exec : (old : Option (List Deed)) (io : Streams) (status : ℕ) → Execs io status → Does old old (λ deeds. (deeds ≡ []) × Execs io status)
-performs_exec old io status h = does_none old (λ deeds. (deeds ≡ []) × Execs io status) (refl, h)
+pub performs_exec : (old : Option (List FileEffect)) (io : Streams) (status : ℕ) → Execs io status → Does old old (λ effects. (effects ≡ []) × Execs io status)
+performs_exec old io status h = does_none old (λ effects. (effects ≡ []) × Execs io status) (refl, h)
 
-pub performs_show : (old new : Option (List Deed)) (io : Streams) (file : List ℕ) (status : ℕ) → IsUnread io → Does old new (Views file io.output status)
-    → Does old new (λ deeds. IsUnread io × Views file io.output status deeds)
+pub performs_show : (old new : Option (List FileEffect)) (io : Streams) (file : List ℕ) (status : ℕ) → IsUnread io → Does old new (Views file io.output status)
+    → Does old new (λ effects. IsUnread io × Views file io.output status effects)
 performs_show old new io file status u h =
-    does_weaker old new (Views file io.output status) (λ deeds. IsUnread io × Views file io.output status deeds) (λ ds p. (u, p)) h
+    does_weaker old new (Views file io.output status) (λ effects. IsUnread io × Views file io.output status effects) (λ ds p. (u, p)) h
 
-pub performs_compile : (old new : Option (List Deed)) (io : Streams) (file out : List ℕ) (status : ℕ) → IsUnread io → IsUntouched io.output → Does old new (Compiles file out status)
-    → Does old new (λ deeds. IsUnread io × IsUntouched io.output × Compiles file out status deeds)
+pub performs_compile : (old new : Option (List FileEffect)) (io : Streams) (file out : List ℕ) (status : ℕ) → IsUnread io → IsUntouched io.output → Does old new (Compiles file out status)
+    → Does old new (λ effects. IsUnread io × IsUntouched io.output × Compiles file out status effects)
 performs_compile old new io file out status u v h =
-    does_weaker old new (Compiles file out status) (λ deeds. IsUnread io × IsUntouched io.output × Compiles file out status deeds) (λ ds p. (u, v, p)) h
+    does_weaker old new (Compiles file out status) (λ effects. IsUnread io × IsUntouched io.output × Compiles file out status effects) (λ ds p. (u, v, p)) h
 
-pub performs_cores : (old new : Option (List Deed)) (io : Streams) (file : List ℕ) (turns status : ℕ) → IsUnread io → Does old new (RunsCores file turns io.output status)
-    → Does old new (λ deeds. IsUnread io × RunsCores file turns io.output status deeds)
+pub performs_cores : (old new : Option (List FileEffect)) (io : Streams) (file : List ℕ) (turns status : ℕ) → IsUnread io → Does old new (RunsCores file turns io.output status)
+    → Does old new (λ effects. IsUnread io × RunsCores file turns io.output status effects)
 performs_cores old new io file turns status u h =
-    does_weaker old new (RunsCores file turns io.output status) (λ deeds. IsUnread io × RunsCores file turns io.output status deeds) (λ ds p. (u, p)) h
+    does_weaker old new (RunsCores file turns io.output status) (λ effects. IsUnread io × RunsCores file turns io.output status effects) (λ ds p. (u, p)) h
 
-pub runs_asked : (old new : Option (List Deed)) (words : List Text) (io : Streams) (asked : Asked) (status : ℕ) → asks_for words ≡ Some asked → refusals words ≡ [] → Does old new (Performs asked io status)
+pub runs_asked : (old new : Option (List FileEffect)) (words : List Text) (io : Streams) (asked : Asked) (status : ℕ) → asks_for words ≡ Some asked → refusals words ≡ [] → Does old new (Performs asked io status)
     → Does old new (Runs words io status)
 runs_asked old new words io asked status a r h =
     does_weaker old new (Performs asked io status) (Runs words io status) (λ ds p. inl record { asked = asked; is_asked = (a, r); done = p }) h
 
-pub runs_refused : (old : Option (List Deed)) (words : List Text) (io : Streams) (error : Error) (status : ℕ) → IsUnread io → HasKind (refusals words) error → Helps (kind_of error) io.output status
+pub runs_refused : (old : Option (List FileEffect)) (words : List Text) (io : Streams) (error : Error) (status : ℕ) → IsUnread io → HasKind (refusals words) error → Helps (kind_of error) io.output status
     → Does old old (Runs words io status)
 runs_refused old words io error status u k h =
     does_none old (Runs words io status) (inr record { kind = kind_of error; is_kind = k; nothing_done = refl; nothing_read = u; told = h })

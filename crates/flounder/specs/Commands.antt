@@ -4,17 +4,17 @@ use Rattle.std.specs.Prelude.{◌≡◌, ◌⊎◌, ℕ, List, [], ◌∷◌}
 use Rattle.clap.specs.declared.error.kind.ErrorKind.{ErrorKind as UsageKind}
 use Rattle.clap.specs.declared.error.kind.ErrorKind.TheVariants.{OutOfMemory as NoMemory}
 use Rattle.clap.specs.Words.{IsAmong, Text}
-use Rattle.fl_words.specs.Words.{Asked, to_run, to_show, to_compile, to_run_cores, AskFor, refusals}
-use Rattle.fl_command.specs.Commands.{Unread, Compiles, Views, Execs, Helps}
-use Rattle.fl_command.specs.Deeds.{Deed, was_read}
-use Rattle.fl_command.specs.Parts.{IsCut}
-use Rattle.fl_command.specs.Streams.{Output, Streams, PutsPrefix, Prints, IsUntouched, IsUnread}
+use Rattle.flounder_args.specs.Words.{Asked, to_run, to_show, to_compile, to_run_cores, AskFor, refusals}
+use Rattle.flounder_commands.specs.Commands.{Unread, Compiles, Views, Execs, Helps}
+use Rattle.flounder_commands.specs.FileEffects.{FileEffect, was_read}
+use Rattle.flounder_commands.specs.Parts.{IsCut}
+use Rattle.flounder_commands.specs.Streams.{Output, Streams, PutsPrefix, Prints, IsUntouched, IsUnread}
 use Rattle.fl_cores.specs.declared.fault.CoresFault.{CoresFault}
 use Rattle.fl_cores.specs.declared.fault.CoresFault.TheVariants as fault
 use Rattle.fl_cores.specs.declared.text.CoresEnd.{CoresEnd}
 use Rattle.fl_cores.specs.declared.text.CoresEnd.TheVariants as end
 use Rattle.fl_cores.specs.Promised.{IsFaultOfText}
-use Rattle.fl_reports.specs.Honesty.{Appends}
+use Rattle.fl_cores.specs.Honesty.{Appends}
 
 -- ---- cores FILE --turns N
 
@@ -40,64 +40,64 @@ abbrev pub TellsCores : CoresEnd → List ℕ → Output → ℕ → Type 0
 TellsCores end told output status = ((status ≡ end_status end) × Prints output told) ⊎ IsCut output told status
 
 -- FILE was read and run, and what is told of that was printed
-pub record CoresRan (file : List ℕ) (turns : ℕ) (output : Output) (deeds : List Deed) (status : ℕ) : Type 0 where
+pub record CoresRan (file : List ℕ) (turns : ℕ) (output : Output) (effects : List FileEffect) (status : ℕ) : Type 0 where
   pub bytes : List ℕ
   pub end : CoresEnd
   pub told : List ℕ
   pub is_told : IsTold bytes turns end told
   pub printed : Prints output told
-  pub done : deeds ≡ was_read file bytes ∷ []
+  pub done : effects ≡ was_read file bytes ∷ []
   pub ends : status ≡ end_status end
 
 -- FILE was read and run, and a prefix of what is told of that was put; the rest couldn't be put or written out
-pub record CoresUntold (file : List ℕ) (turns : ℕ) (output : Output) (deeds : List Deed) (status : ℕ) : Type 0 where
+pub record CoresUnacknowledged (file : List ℕ) (turns : ℕ) (output : Output) (effects : List FileEffect) (status : ℕ) : Type 0 where
   pub bytes : List ℕ
   pub end : CoresEnd
   pub told : List ℕ
   pub is_told : IsTold bytes turns end told
   pub put : PutsPrefix output told
-  pub done : deeds ≡ was_read file bytes ∷ []
+  pub done : effects ≡ was_read file bytes ∷ []
   pub ends : status ≡ 4
 
 -- FILE was read, and nothing was put: its run came to no report, as memory or a thread was refused (3) or as a part of it is refused (2); but for memory
 -- it is a cores file then, whose set-up and jobs have that fault
-pub record CoresFailed (file : List ℕ) (output : Output) (deeds : List Deed) (status : ℕ) : Type 0 where
+pub record CoresFailed (file : List ℕ) (output : Output) (effects : List FileEffect) (status : ℕ) : Type 0 where
   pub bytes : List ℕ
   pub fault : CoresFault
   pub is_fault : IsFaultOfText bytes fault
   pub printed : IsUntouched output
-  pub done : deeds ≡ was_read file bytes ∷ []
+  pub done : effects ≡ was_read file bytes ∷ []
   pub ends : status ≡ cores_status fault
 
-abbrev pub RunsCores : List ℕ → ℕ → Output → ℕ → List Deed → Type 0
-RunsCores file turns output status deeds =
-    CoresRan file turns output deeds status
-    ⊎ ((IsUntouched output × Unread file deeds status)
-    ⊎ (CoresUntold file turns output deeds status ⊎ CoresFailed file output deeds status))
+abbrev pub RunsCores : List ℕ → ℕ → Output → ℕ → List FileEffect → Type 0
+RunsCores file turns output status effects =
+    CoresRan file turns output effects status
+    ⊎ ((IsUntouched output × Unread file effects status)
+    ⊎ (CoresUnacknowledged file turns output effects status ⊎ CoresFailed file output effects status))
 
 -- ---- a whole run
 
 -- each command does what it says, and touches nothing else
-abbrev pub Performs : Asked → Streams → ℕ → List Deed → Type 0
-Performs to_run io status deeds = (deeds ≡ []) × Execs io status
-Performs (to_show file) io status deeds = IsUnread io × Views file io.output status deeds
-Performs (to_compile file out) io status deeds = IsUnread io × IsUntouched io.output × Compiles file out status deeds
-Performs (to_run_cores file turns) io status deeds = IsUnread io × RunsCores file turns io.output status deeds
+abbrev pub Performs : Asked → Streams → ℕ → List FileEffect → Type 0
+Performs to_run io status effects = (effects ≡ []) × Execs io status
+Performs (to_show file) io status effects = IsUnread io × Views file io.output status effects
+Performs (to_compile file out) io status effects = IsUnread io × IsUntouched io.output × Compiles file out status effects
+Performs (to_run_cores file turns) io status effects = IsUnread io × RunsCores file turns io.output status effects
 
 -- the words ask for something, and it was done
-pub record DoesAsked (words : List Text) (io : Streams) (status : ℕ) (deeds : List Deed) : Type 0 where
+pub record DoesAsked (words : List Text) (io : Streams) (status : ℕ) (effects : List FileEffect) : Type 0 where
   pub asked : Asked
   pub is_asked : AskFor words asked
-  pub done : Performs asked io status deeds
+  pub done : Performs asked io status effects
 
 -- the words ask for nothing, or memory was refused before it was known what they ask for; nothing was read
-pub record Refuses (words : List Text) (io : Streams) (status : ℕ) (deeds : List Deed) : Type 0 where
+pub record Refuses (words : List Text) (io : Streams) (status : ℕ) (effects : List FileEffect) : Type 0 where
   pub kind : UsageKind
   pub is_kind : (kind ≡ NoMemory) ⊎ IsAmong kind (refusals words)
-  pub nothing_done : deeds ≡ []
+  pub nothing_done : effects ≡ []
   pub nothing_read : IsUnread io
   pub told : Helps kind io.output status
 
 -- a run on these words, of which the first is the program's name
-abbrev pub Runs : List Text → Streams → ℕ → List Deed → Type 0
-Runs words io status deeds = DoesAsked words io status deeds ⊎ Refuses words io status deeds
+abbrev pub Runs : List Text → Streams → ℕ → List FileEffect → Type 0
+Runs words io status effects = DoesAsked words io status effects ⊎ Refuses words io status effects

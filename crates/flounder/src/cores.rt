@@ -1,17 +1,16 @@
 //! The command `cores`.
 
 ghost use Rattle.std.specs.Prelude.{◌≡◌, ◌∷◌, [], MatchResult};
-ghost use Rattle.fl_command.specs.Deeds.{Does, was_read};
-ghost use Rattle.fl_command.specs.Parts.{EndsSo};
-ghost use Rattle.fl_command.specs.Status.{status_of};
-ghost use Rattle.fl_command.specs.Streams.{output_of};
+ghost use Rattle.flounder_commands.specs.FileEffects.{Does, was_read};
+ghost use Rattle.flounder_commands.specs.Parts.{EndsSo};
+ghost use Rattle.flounder_commands.specs.Status.{status_of};
+ghost use Rattle.flounder_commands.specs.Streams.{output_of};
 ghost use Rattle.flounder.specs.Commands.{RunsCores, TellsCores, cores_status, end_status};
 
 use fl_base::CoreId;
-use fl_command::{Fault, FileStore, fault_of_reading, finish, print};
-use fl_cores::{CoresEnd, CoresFault};
-use fl_reports::report_cores_text;
-use fl_running::Gate;
+use fl_core_run::Gate;
+use fl_cores::{CoresEnd, CoresFault, run_cores_text};
+use flounder_commands::{Fault, FileStore, fault_of_reading, finish, print};
 use std::alloc::Global;
 use std::io::{BufWriter, Write};
 use std::sync::Wait;
@@ -36,7 +35,7 @@ pub fn cores_file<T: Threads + Wait + Sync, F: FileStore, W: Write + Drop, E: Wr
     output: &mut BufWriter<W>,
     errors: &mut E,
 ) -> u8
-    ensures ran { Does (F.deeds files.old) (F.deeds files.new)
+    ensures ran { Does (F.effects files.old) (F.effects files.new)
         (RunsCores file.now turns (output_of W.contents output.old output.new) result) }
 {
     match files.read(alloc, file) {
@@ -58,7 +57,7 @@ fn cores_read<T: Threads + Wait + Sync, W: Write + Drop, E: Write>(
     ensures ran { RunsCores file.now turns (output_of W.contents output.old output.new) result (was_read file.now content.now ∷ []) }
 {
     let mut told = Vec::new(alloc);
-    match report_cores_text(rt, alloc, content, turns, &NoGate, &mut told) {
+    match run_cores_text(rt, alloc, content, turns, &NoGate, &mut told) {
         Ok(end) => finish(print_told(file, turns, end, &told, output), errors),
         Err(fault) => tell_no_report(fault, errors),
     }

@@ -3,8 +3,8 @@
 
 use crate::cores::{outcome_of, tell_no_report};
 use crate::tests::{Shelf, go, into};
-use fl_command::finish;
 use fl_cores::{CoresEnd, CoresFault};
+use flounder_commands::finish;
 use std::io;
 
 // More turns than any of these runs takes.

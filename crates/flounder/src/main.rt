@@ -8,7 +8,7 @@ mod cores;
 mod run;
 
 use crate::run::run;
-use fl_command::{Disk, Fault, finish, no_words};
+use flounder_commands::{Disk, Fault, finish, no_words};
 use std::env;
 use std::io::BufWriter;
 use std::process::ExitCode;

@@ -1,14 +1,14 @@
 //! A whole run of the program: words and what it reads in, standard output, standard error and a status out.
 
 ghost use Rattle.std.specs.Prelude.{map};
-ghost use Rattle.fl_words.specs.Words.{asked_by};
-ghost use Rattle.fl_command.specs.Deeds.{Does};
-ghost use Rattle.fl_command.specs.Streams.{streams_of};
+ghost use Rattle.flounder_args.specs.Words.{asked_by};
+ghost use Rattle.flounder_commands.specs.FileEffects.{Does};
+ghost use Rattle.flounder_commands.specs.Streams.{streams_of};
 ghost use Rattle.flounder.specs.Commands.{Performs, Runs};
 
 use crate::cores::cores_file;
-use fl_command::{FileStore, compile_file, finish, run_script, show_file, tell_usage};
-use fl_words::{Request, read_words};
+use flounder_args::{Request, read_words};
+use flounder_commands::{FileStore, compile_file, finish, run_script, show_file, tell_usage};
 use std::alloc::Global;
 use std::convert::AsStr;
 use std::io::{BufWriter, Read, Write};
@@ -29,7 +29,7 @@ pub fn run<T: Threads + Wait + Sync, S: AsStr, F: FileStore, R: Read, W: Write +
     output: &mut BufWriter<W>,
     errors: &mut E,
 ) -> u8
-    ensures runs { Does (F.deeds files.old) (F.deeds files.new)
+    ensures runs { Does (F.effects files.old) (F.effects files.new)
         (Runs (map S.text words.entry.now) (streams_of R.remaining W.contents input.old input.new output.old output.new) result) }
 {
     match read_words(alloc, words) {
@@ -48,7 +48,7 @@ pub fn perform<T: Threads + Wait + Sync, F: FileStore, R: Read, W: Write + Drop,
     output: &mut BufWriter<W>,
     errors: &mut E,
 ) -> u8
-    ensures done { Does (F.deeds files.old) (F.deeds files.new)
+    ensures done { Does (F.effects files.old) (F.effects files.new)
         (Performs (asked_by request.entry) (streams_of R.remaining W.contents input.old input.new output.old output.new) result) }
 {
     match request {

@@ -2,7 +2,7 @@
 //! by itself is tested in `program_tests` (`command`).
 
 use crate::run::run;
-use fl_command::{Fault, FileStore, finish};
+use flounder_commands::{Fault, FileStore, finish};
 use std::alloc::{AllocGlobal, Global};
 use std::io;
 use std::io::{BufWriter, Write};

@@ -6,7 +6,7 @@ use std::alloc::Global;
 use std::collections::LinkedList;
 
 /// What a side that writes a way knows. No value of it is made: its lists are lists of the proofs.
-pub struct Writing {
+pub struct WriterView {
     /// The fragments that it has put, as they stand in their slots.
     pub sent: LinkedList<Frag>,
     /// The first payload words of the next slot, as far as it knows what stands there.
@@ -18,7 +18,7 @@ pub struct Writing {
 }
 
 /// What a side that reads a way knows. No value of it is made.
-pub struct Reading {
+pub struct ReaderView {
     /// The fragments that it has taken.
     pub got: LinkedList<Frag>,
     /// The payload words of the next fragment that it has loaded.
@@ -35,21 +35,21 @@ pub struct Reading {
 
 /// What a seat knows: that of the side that writes, of the side that reads, or of both. No value of
 /// it is made.
-pub struct View {
+pub struct RingView {
     /// How many slots the ring has.
     pub size: u64,
     /// Whether this seat is the writer's.
     pub writes: bool,
     /// Whether it is the reader's.
     pub reads: bool,
-    pub put: Writing,
-    pub take: Reading,
+    pub put: WriterView,
+    pub take: ReaderView,
 }
 
 /// What holds of the table at every moment.
-pub struct Rule;
+pub struct RingTableRule;
 
-impl TableRule<(), View, usize> for Rule {
+impl TableRule<(), RingView, usize> for RingTableRule {
     ghost use Rattle.fl_ring.specs.SharedRing.{RingRule, opening_view};
 
     ghost holds = { RingRule };
@@ -57,8 +57,8 @@ impl TableRule<(), View, usize> for Rule {
     ghost first = { opening_view };
 }
 
-pub(crate) type Board = Table<(), View, usize, Rule, Global>;
+pub(crate) type RingTable = Table<(), RingView, usize, RingTableRule, Global>;
 
-pub(crate) type Top = Shared<(), View, usize, Rule>;
+pub(crate) type RingShared = Shared<(), RingView, usize, RingTableRule>;
 
-pub(crate) type RingSeat = Seat<(), View>;
+pub(crate) type RingSeat = Seat<(), RingView>;

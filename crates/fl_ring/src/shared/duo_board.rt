@@ -1,18 +1,18 @@
 //! The table that the two sides of a ring of two directions share, and what each side knows.
 
-use crate::shared::board::{Reading, Writing};
+use crate::shared::board::{ReaderView, WriterView};
 use atomic_table::{Seat, Shared, Table, TableRule};
 use std::alloc::Global;
 
 /// What a side knows: of the way that it writes, and of the way that it reads. No value of it is
 /// made.
 pub struct SideView {
-    pub put: Writing,
-    pub take: Reading,
+    pub put: WriterView,
+    pub take: ReaderView,
 }
 
 /// Whose a seat is.
-pub enum Holder {
+pub enum SeatHolder {
     /// The side that writes the first slots of the table.
     One,
     /// The side across.
@@ -27,7 +27,7 @@ pub enum Holder {
 pub struct DuoView {
     /// How many slots each direction has.
     pub size: u64,
-    pub holder: Holder,
+    pub holder: SeatHolder,
     /// What its side knows; side one, where it is both sides' seat.
     pub mine: SideView,
     /// What the other side knows, where it is both sides' seat.
@@ -36,7 +36,7 @@ pub struct DuoView {
 
 /// How a ring of two directions begins: its slots, and how many fragments have passed each way.
 #[derive(Drop)]
-pub struct Opening {
+pub struct DuoStart {
     pub(crate) size: usize,
     pub(crate) start: u64,
 }
@@ -44,7 +44,7 @@ pub struct Opening {
 /// What holds of the table at every moment.
 pub struct DuoRule;
 
-impl TableRule<(), DuoView, Opening> for DuoRule {
+impl TableRule<(), DuoView, DuoStart> for DuoRule {
     ghost use Rattle.fl_ring.specs.SharedDuo.{DuoHolds, duo_opening};
 
     ghost holds = { λ key. DuoHolds key.size key.start };
@@ -52,8 +52,8 @@ impl TableRule<(), DuoView, Opening> for DuoRule {
     ghost first = { λ key. duo_opening key.size key.start };
 }
 
-pub(crate) type DuoBoard = Table<(), DuoView, Opening, DuoRule, Global>;
+pub(crate) type DuoTable = Table<(), DuoView, DuoStart, DuoRule, Global>;
 
-pub(crate) type DuoTop = Shared<(), DuoView, Opening, DuoRule>;
+pub(crate) type DuoShared = Shared<(), DuoView, DuoStart, DuoRule>;
 
 pub(crate) type DuoSeat = Seat<(), DuoView>;

@@ -6,11 +6,11 @@ ghost use Rattle.fl_ring.specs.Way.{epoch_in};
 ghost use Rattle.fl_ring.specs.Duo.{MayHaveSlots};
 ghost use Rattle.fl_ring.specs.SharedDuo.{duo_opening};
 ghost use Rattle.fl_ring.specs.SharedSides.{started_side, SidesNear};
-ghost use Rattle.fl_ring.specs.declared.shared.duo_board.Holder.TheVariants.{One, Two};
+ghost use Rattle.fl_ring.specs.declared.shared.duo_board.SeatHolder.TheVariants.{One, Two};
 
 use crate::fault::RingFault;
-use crate::shared::duo_board::{DuoBoard, DuoSeat, Opening};
-use crate::shared::duo_plays::{Compare, Pair};
+use crate::shared::duo_board::{DuoSeat, DuoStart, DuoTable};
+use crate::shared::duo_plays::{DuoCompare, DuoPairSeats};
 use crate::shared::duo_sides::SharedSide;
 use fl_base::MAX_QUEUE;
 use fl_link::Cursor;
@@ -53,7 +53,7 @@ pub fn duo_from(
         return Err(RingFault::Memory);
     };
     mark(&mut words, size, start);
-    let Ok((table, seat)) = DuoBoard::of_words(alloc, words.as_slice(), &Opening { size, start })
+    let Ok((table, seat)) = DuoTable::of_words(alloc, words.as_slice(), &DuoStart { size, start })
     else {
         return Err(RingFault::Memory);
     };
@@ -82,7 +82,7 @@ fn mark(words: &mut Vec<u64>, size: usize, start: u64)
 // The two sides of a new table, which its first seat's view is cut in two for.
 fn sides_of(
     alloc: Global,
-    table: DuoBoard,
+    table: DuoTable,
     mut seat: DuoSeat,
     size: usize,
     start: u64,
@@ -94,7 +94,7 @@ fn sides_of(
     ensures two { IfOk result (λ sides. sides.1 ≡ started_side sides.1.ring Two size start) }
     ensures refused { result ≢ Err RingFault.BadSize }
 {
-    let across = table.shared.split_seat::<Pair>(&mut seat);
+    let across = table.shared.split_seat::<DuoPairSeats>(&mut seat);
     let Ok(table) = Arc::new(alloc, table) else {
         return Err(RingFault::Memory);
     };
@@ -151,6 +151,6 @@ pub fn settle_duo(one: SharedSide, other: SharedSide)
         known: _,
         told: _,
     } = other;
-    table.shared.join_seat::<Pair>(&mut seat, across);
-    table.shared.load::<Compare>(&mut seat, 0);
+    table.shared.join_seat::<DuoPairSeats>(&mut seat, across);
+    table.shared.load::<DuoCompare>(&mut seat, 0);
 }

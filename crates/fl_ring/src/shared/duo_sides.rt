@@ -6,9 +6,9 @@ ghost use Rattle.fl_base.specs.Control.{is_ack_only, bare};
 ghost use Rattle.fl_link.specs.Cursor.{epoch_at};
 ghost use Rattle.fl_link.specs.Looks.{placed, no_room, spent, saw, saw_ack, found, found_ack, peeked, taken, tells};
 ghost use Rattle.fl_ring.specs.SharedSeats.{front_seen};
-ghost use Rattle.fl_ring.specs.SharedSides.{SharedPuts, SharedTakes, Looked, free_of, untold_of, side_written, side_has_room};
+ghost use Rattle.fl_ring.specs.SharedSides.{SharedPuts, SharedTakes, Looked, free_of, unacknowledged_of, side_written, side_has_room};
 
-use crate::shared::duo_board::{DuoBoard, DuoSeat};
+use crate::shared::duo_board::{DuoSeat, DuoTable};
 use crate::shared::duo_steps::{load_control, peek_frag, put_frag, take_frag};
 use crate::shared::sight::sight;
 use fl_base::Frag;
@@ -20,7 +20,7 @@ use std::sync::Arc;
 /// A side of a ring of two directions over shared words. It moves to a thread of its own.
 #[derive(Drop)]
 pub struct SharedSide {
-    pub(crate) table: Arc<DuoBoard, Global>,
+    pub(crate) table: Arc<DuoTable, Global>,
     pub(crate) seat: DuoSeat,
     // the first word of the slots that it writes, and of those that it reads
     pub(crate) base: usize,
@@ -174,7 +174,7 @@ impl SharedSide {
         }
     }
 
-    /// Tells what this side has taken, where at least half of the slots are taken and untold: it writes a
+    /// Tells what this side has taken, where at least half of the slots are taken and unacknowledged: it writes a
     /// fragment that only acknowledges. Else it answers `Nothing`, and nothing has changed.
     ///
     /// # Errors
@@ -186,8 +186,8 @@ impl SharedSide {
         ensures never_spent { result ≢ Err PutFault.Spent }
         ensures ring { self.new.ring ≡ self.old.ring }
     {
-        let untold = self.take.index() - self.told;
-        if untold < self.take.size() as u64 / 2 {
+        let unacknowledged = self.take.index() - self.told;
+        if unacknowledged < self.take.size() as u64 / 2 {
             return Ok(Told::Nothing);
         }
         if self.put.index() == SPENT {

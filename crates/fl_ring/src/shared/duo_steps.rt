@@ -10,31 +10,32 @@ ghost use Rattle.fl_ring.specs.SharedDuo.{base_of, other_of, with_mine, side_fou
 ghost use Rattle.fl_ring.specs.SharedSides.{IsDuoSeated, side_with_part, side_with_frag, side_with_words, side_of_seat, SideSees, SideGets, SideMisses};
 
 use crate::counts::count_from;
-use crate::shared::duo_board::{DuoSeat, DuoTop};
+use crate::shared::duo_board::{DuoSeat, DuoShared};
 use crate::shared::duo_plays::{
-    FindWord, LoadControl, LoadPeeked, LoadTaken, LoadWord, StoreControl, StoreWord,
+    DuoFindWord, DuoLoadControl, DuoLoadPeeked, DuoLoadTaken, DuoLoadWord, DuoStoreControl,
+    DuoStoreWord,
 };
 use fl_base::{Frag, epoch_of, told_of};
 
 // Sees to it that the next payload word of the next slot is this number. A store takes the word's
 // cache line for itself, so there is none where that number stands already, as zeros often do.
 #[inline(always)]
-fn store_word(top: &DuoTop, seat: &mut DuoSeat, word: usize, number: u64)
+fn store_word(top: &DuoShared, seat: &mut DuoSeat, word: usize, number: u64)
     requires seated { IsDuoSeated top.now.table_id top.now.key seat.old }
     requires word { IsNextWord word seat.old.me.0 }
     ensures table { seat.new.table_id ≡ seat.old.table_id }
     ensures stands { seat.new.me ≡ (with_mine seat.old.me.0 (side_found seat.old.me.0.mine number), seat.old.me.1) }
 {
-    let found = top.load::<FindWord>(seat, word);
+    let found = top.load::<DuoFindWord>(seat, word);
     if found == number {
         return;
     }
-    top.store::<StoreWord>(seat, word, number);
+    top.store::<DuoStoreWord>(seat, word, number);
 }
 
 // Stores the payload words of the next fragment. Its slot begins at the word `first`.
 #[inline(always)]
-fn store_payload(top: &DuoTop, seat: &mut DuoSeat, first: usize, words: &[u64; 7])
+fn store_payload(top: &DuoShared, seat: &mut DuoSeat, first: usize, words: &[u64; 7])
     requires seated { IsDuoSeated top.now.table_id top.now.key seat.old }
     requires empty { seat.old.me.0.mine.put.part ≡ [] }
     requires room { length seat.old.me.0.mine.put.sent < seat.old.me.0.mine.put.known + seat.old.me.0.size }
@@ -50,7 +51,7 @@ fn store_payload(top: &DuoTop, seat: &mut DuoSeat, first: usize, words: &[u64; 7
 // Stores a fragment into the next slot, its payload words first and its control word last. That
 // word tells how many fragments the side has got.
 #[inline(always)]
-pub(crate) fn put_frag(top: &DuoTop, seat: &mut DuoSeat, first: usize, frag: &Frag)
+pub(crate) fn put_frag(top: &DuoShared, seat: &mut DuoSeat, first: usize, frag: &Frag)
     requires seated { IsDuoSeated top.now.table_id top.now.key seat.old }
     requires empty { seat.old.me.0.mine.put.part ≡ [] }
     requires room { length seat.old.me.0.mine.put.sent < seat.old.me.0.mine.put.known + seat.old.me.0.size }
@@ -62,13 +63,13 @@ pub(crate) fn put_frag(top: &DuoTop, seat: &mut DuoSeat, first: usize, frag: &Fr
     ensures sent { seat.new.me ≡ (with_mine seat.old.me.0 (side_with_frag seat.old.me.0.mine frag.now), seat.old.me.1) }
 {
     store_payload(top, seat, first, &frag.words);
-    top.store::<StoreControl>(seat, first + 7, frag.control);
+    top.store::<DuoStoreControl>(seat, first + 7, frag.control);
 }
 
 // Loads the control word of the other direction's next fragment. Where it has the epoch due, its
 // number becomes known; where it has the other, nothing does.
 pub(crate) fn load_control(
-    top: &DuoTop,
+    top: &DuoShared,
     seat: &mut DuoSeat,
     first: usize,
     due: u64,
@@ -87,7 +88,7 @@ pub(crate) fn load_control(
         × (seat.new.me ≡ (with_mine seat.old.me.0 (side_control seat.old.me.0.size seat.old.me.0.mine c), seat.old.me.1))
         × IsPeekedControl seat.old.me.0.mine.take c) }
 {
-    let control = top.load::<LoadControl>(seat, first + 7);
+    let control = top.load::<DuoLoadControl>(seat, first + 7);
     if epoch_of(control) != due {
         return None;
     }
@@ -96,7 +97,7 @@ pub(crate) fn load_control(
 }
 
 // Loads six payload words of the next fragment, whose control word has the epoch due.
-fn load_six(top: &DuoTop, seat: &mut DuoSeat, first: usize) -> [u64; 7]
+fn load_six(top: &DuoShared, seat: &mut DuoSeat, first: usize) -> [u64; 7]
     requires seated { IsDuoSeated top.now.table_id top.now.key seat.old }
     requires due { (seat.old.me.0.mine.take.part ≡ []) × IsDue seat.old.me.0.size seat.old.me.0.mine.take }
     requires first { first ≡ slot (other_of seat.old.me.0.holder seat.old.me.0.size) seat.old.me.0.size (length seat.old.me.0.mine.take.got) }
@@ -106,14 +107,14 @@ fn load_six(top: &DuoTop, seat: &mut DuoSeat, first: usize) -> [u64; 7]
 {
     let mut words = [0; 7];
     for k in 0..6 {
-        words[k] = top.load::<LoadWord>(seat, first + k);
+        words[k] = top.load::<DuoLoadWord>(seat, first + k);
     }
     words
 }
 
 // The other direction's next fragment, which is left in its slot.
 pub(crate) fn peek_frag(
-    top: &DuoTop,
+    top: &DuoShared,
     seat: &mut DuoSeat,
     first: usize,
     due: u64,
@@ -130,13 +131,13 @@ pub(crate) fn peek_frag(
 {
     let control = load_control(top, seat, first, due, known)?;
     let mut words = load_six(top, seat, first);
-    words[6] = top.load::<LoadPeeked>(seat, first + 6);
+    words[6] = top.load::<DuoLoadPeeked>(seat, first + 6);
     Some(Frag { words, control })
 }
 
 // The other direction's next fragment, which is taken.
 pub(crate) fn take_frag(
-    top: &DuoTop,
+    top: &DuoShared,
     seat: &mut DuoSeat,
     first: usize,
     due: u64,
@@ -153,6 +154,6 @@ pub(crate) fn take_frag(
 {
     let control = load_control(top, seat, first, due, known)?;
     let mut words = load_six(top, seat, first);
-    words[6] = top.load::<LoadTaken>(seat, first + 6);
+    words[6] = top.load::<DuoLoadTaken>(seat, first + 6);
     Some(Frag { words, control })
 }

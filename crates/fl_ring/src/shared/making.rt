@@ -6,8 +6,8 @@ ghost use Rattle.fl_link.specs.Queue.{MayHave};
 ghost use Rattle.fl_ring.specs.SharedSeats.{new_sender, new_receiver, RingNear};
 
 use crate::fault::RingFault;
-use crate::shared::board::{Board, RingSeat};
-use crate::shared::plays::{Compare, Pair};
+use crate::shared::board::{RingSeat, RingTable};
+use crate::shared::plays::{Compare, PairSeats};
 use crate::shared::rx::RingRx;
 use crate::shared::tx::RingTx;
 use fl_base::MAX_QUEUE;
@@ -31,7 +31,7 @@ pub fn ring(alloc: Global, size: usize) -> Result<(RingTx, RingRx), RingFault>
     let Ok(words) = vec![in alloc; 0; 8 * size + 8] else {
         return Err(RingFault::Memory);
     };
-    let Ok((table, seat)) = Board::of_words(alloc, words.as_slice(), &size) else {
+    let Ok((table, seat)) = RingTable::of_words(alloc, words.as_slice(), &size) else {
         return Err(RingFault::Memory);
     };
     sides_of(alloc, table, seat, size)
@@ -40,7 +40,7 @@ pub fn ring(alloc: Global, size: usize) -> Result<(RingTx, RingRx), RingFault>
 // The two sides of a new table, which its first seat's view is cut in two for.
 fn sides_of(
     alloc: Global,
-    table: Board,
+    table: RingTable,
     mut seat: RingSeat,
     size: usize,
 ) -> Result<(RingTx, RingRx), RingFault>
@@ -51,7 +51,7 @@ fn sides_of(
     ensures receiver { IfOk result (λ sides. sides.1 ≡ new_receiver sides.1.ring size) }
     ensures refused { result ≢ Err RingFault.BadSize }
 {
-    let other = table.shared.split_seat::<Pair>(&mut seat);
+    let other = table.shared.split_seat::<PairSeats>(&mut seat);
     let Ok(table) = Arc::new(alloc, table) else {
         return Err(RingFault::Memory);
     };
@@ -89,6 +89,6 @@ pub fn settle(tx: RingTx, rx: RingRx)
         seat: other,
         take: _,
     } = rx;
-    table.shared.join_seat::<Pair>(&mut seat, other);
+    table.shared.join_seat::<PairSeats>(&mut seat, other);
     table.shared.load::<Compare>(&mut seat, 0);
 }

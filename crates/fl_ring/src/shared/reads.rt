@@ -8,12 +8,12 @@ ghost use Rattle.fl_ring.specs.SharedRing.{with_reading};
 ghost use Rattle.fl_ring.specs.SharedWay.{with_control, IsDue};
 ghost use Rattle.fl_ring.specs.SharedSeats.{IsSeated, IsReader, with_words, Sees, Gets, Misses, receiver_of};
 
-use crate::shared::board::{RingSeat, Top};
+use crate::shared::board::{RingSeat, RingShared};
 use crate::shared::plays::{LoadControl, LoadPeeked, LoadTaken, LoadWord};
 use fl_base::{Frag, epoch_of};
 
 // Loads the control word of the next fragment, and gives it if it has the epoch due.
-fn load_control(top: &Top, seat: &mut RingSeat, first: usize, due: u64) -> Option<u64>
+fn load_control(top: &RingShared, seat: &mut RingSeat, first: usize, due: u64) -> Option<u64>
     requires seated { IsSeated top.now.table_id top.now.key seat.old }
     requires reads { seat.old.me.0.reads ≡ true }
     requires first { first ≡ slot 0 seat.old.me.0.size (length seat.old.me.0.take.got) }
@@ -32,7 +32,7 @@ fn load_control(top: &Top, seat: &mut RingSeat, first: usize, due: u64) -> Optio
 }
 
 // Loads six payload words of the next fragment, whose control word has the epoch due.
-fn load_six(top: &Top, seat: &mut RingSeat, first: usize) -> [u64; 7]
+fn load_six(top: &RingShared, seat: &mut RingSeat, first: usize) -> [u64; 7]
     requires seated { IsSeated top.now.table_id top.now.key seat.old }
     requires reads { (seat.old.me.0.reads ≡ true) × (seat.old.me.0.take.part ≡ []) × IsDue seat.old.me.0.size seat.old.me.0.take }
     requires first { first ≡ slot 0 seat.old.me.0.size (length seat.old.me.0.take.got) }
@@ -48,7 +48,12 @@ fn load_six(top: &Top, seat: &mut RingSeat, first: usize) -> [u64; 7]
 }
 
 // The next fragment, which is left in its slot.
-pub(crate) fn peek_frag(top: &Top, seat: &mut RingSeat, first: usize, due: u64) -> Option<Frag>
+pub(crate) fn peek_frag(
+    top: &RingShared,
+    seat: &mut RingSeat,
+    first: usize,
+    due: u64,
+) -> Option<Frag>
     requires seated { IsSeated top.now.table_id top.now.key seat.old }
     requires reads { seat.old.me.0.reads ≡ true }
     requires first { first ≡ slot 0 seat.old.me.0.size (length seat.old.me.0.take.got) }
@@ -63,7 +68,12 @@ pub(crate) fn peek_frag(top: &Top, seat: &mut RingSeat, first: usize, due: u64) 
 }
 
 // The next fragment, which is taken.
-pub(crate) fn take_frag(top: &Top, seat: &mut RingSeat, first: usize, due: u64) -> Option<Frag>
+pub(crate) fn take_frag(
+    top: &RingShared,
+    seat: &mut RingSeat,
+    first: usize,
+    due: u64,
+) -> Option<Frag>
     requires seated { IsSeated top.now.table_id top.now.key seat.old }
     requires reads { seat.old.me.0.reads ≡ true }
     requires first { first ≡ slot 0 seat.old.me.0.size (length seat.old.me.0.take.got) }

@@ -6,7 +6,7 @@ ghost use Rattle.fl_base.specs.Control.{is_ack_only};
 ghost use Rattle.fl_link.specs.Looks.{saw, saw_ack, found, found_ack, peeked, taken, tells};
 ghost use Rattle.fl_ring.specs.SharedSeats.{ReceiverTakes, front_seen, with_all_told};
 
-use crate::shared::board::{Board, RingSeat};
+use crate::shared::board::{RingSeat, RingTable};
 use crate::shared::plays::StoreTold;
 use crate::shared::reads::{peek_frag, take_frag};
 use crate::shared::sight::sight;
@@ -19,7 +19,7 @@ use std::sync::Arc;
 /// The side that takes. It moves to a thread of its own.
 #[derive(Drop)]
 pub struct RingRx {
-    pub(crate) table: Arc<Board, Global>,
+    pub(crate) table: Arc<RingTable, Global>,
     pub(crate) seat: RingSeat,
     pub(crate) take: Cursor,
 }

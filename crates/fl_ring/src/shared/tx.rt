@@ -6,7 +6,7 @@ ghost use Rattle.fl_link.specs.Cursor.{epoch_at};
 ghost use Rattle.fl_link.specs.Looks.{placed, no_room, spent};
 ghost use Rattle.fl_ring.specs.SharedSeats.{SenderGains, SenderPuts, sender_has_room};
 
-use crate::shared::board::{Board, RingSeat};
+use crate::shared::board::{RingSeat, RingTable};
 use crate::shared::writes::{has_room, put_frag};
 use fl_base::Frag;
 use fl_link::{Cursor, PutFault, PutSide, SPENT};
@@ -17,7 +17,7 @@ use std::sync::Arc;
 /// The side that puts. It moves to a thread of its own.
 #[derive(Drop)]
 pub struct RingTx {
-    pub(crate) table: Arc<Board, Global>,
+    pub(crate) table: Arc<RingTable, Global>,
     pub(crate) seat: RingSeat,
     pub(crate) put: Cursor,
     // how many of its fragments it knows to be read and told

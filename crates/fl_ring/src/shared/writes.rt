@@ -8,14 +8,14 @@ ghost use Rattle.fl_ring.specs.SharedWay.{with_found};
 ghost use Rattle.fl_ring.specs.SharedRing.{with_writing, IsNextWord};
 ghost use Rattle.fl_ring.specs.SharedSeats.{IsSeated, IsWriter, Counts, sender_of, with_part, with_frag};
 
-use crate::shared::board::{RingSeat, Top};
+use crate::shared::board::{RingSeat, RingShared};
 use crate::shared::plays::{FindWord, LoadTold, StoreControl, StoreWord};
 use fl_base::Frag;
 
 // Sees to it that the next payload word of the next slot is this number. A store takes the word's
 // cache line for itself, so there is none where that number stands already, as zeros often do.
 #[inline(always)]
-fn store_word(top: &Top, seat: &mut RingSeat, word: usize, number: u64)
+fn store_word(top: &RingShared, seat: &mut RingSeat, word: usize, number: u64)
     requires seated { IsSeated top.now.table_id top.now.key seat.old }
     requires writes { seat.old.me.0.writes ≡ true }
     requires word { IsNextWord word seat.old.me.0 }
@@ -31,7 +31,7 @@ fn store_word(top: &Top, seat: &mut RingSeat, word: usize, number: u64)
 
 // Stores the payload words of the next fragment. Its slot begins at the word `first`.
 #[inline(always)]
-fn store_payload(top: &Top, seat: &mut RingSeat, first: usize, words: &[u64; 7])
+fn store_payload(top: &RingShared, seat: &mut RingSeat, first: usize, words: &[u64; 7])
     requires seated { IsSeated top.now.table_id top.now.key seat.old }
     requires writes { (seat.old.me.0.writes ≡ true) × (seat.old.me.0.put.part ≡ []) }
     requires room { length seat.old.me.0.put.sent < seat.old.me.0.put.known + seat.old.me.0.size }
@@ -46,7 +46,7 @@ fn store_payload(top: &Top, seat: &mut RingSeat, first: usize, words: &[u64; 7])
 
 // Stores a fragment into the next slot, its payload words first and its control word last.
 #[inline(always)]
-pub(crate) fn put_frag(top: &Top, seat: &mut RingSeat, first: usize, frag: &Frag)
+pub(crate) fn put_frag(top: &RingShared, seat: &mut RingSeat, first: usize, frag: &Frag)
     requires seated { IsSeated top.now.table_id top.now.key seat.old }
     requires writes { (seat.old.me.0.writes ≡ true) × (seat.old.me.0.put.part ≡ []) }
     requires room { length seat.old.me.0.put.sent < seat.old.me.0.put.known + seat.old.me.0.size }
@@ -62,7 +62,7 @@ pub(crate) fn put_frag(top: &Top, seat: &mut RingSeat, first: usize, frag: &Frag
 
 // Whether a slot is free. The number told is loaded only where what is known leaves none.
 pub(crate) fn has_room(
-    top: &Top,
+    top: &RingShared,
     seat: &mut RingSeat,
     size: usize,
     index: u64,

@@ -2,7 +2,7 @@ use Rattle.std.proofs.Common.{◌≡◌, ◌*◌, ◌++◌, map, drop, true}
 use Rattle.fl_interface.specs.Interface.{arg_type_of}
 use Rattle.fl_interface.specs.Limits.{are_arguments_within}
 use Rattle.fl_stub.specs.Structure.{block_ops}
-use Rattle.fl_compile.specs.declared.arguments.Standing.TheVariants.{At}
+use Rattle.fl_compile.specs.declared.arguments.ArgOffset.TheVariants.{At}
 use Rattle.fl_compile.specs.Compiled.{arguments_block}
 use Rattle.fl_compile.specs.Standings.{StandsBy}
 use Rattle.fl_compile.proofs.arguments.arguments_code.Given as goal

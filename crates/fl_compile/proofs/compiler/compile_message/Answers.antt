@@ -1,7 +1,7 @@
 use Rattle.std.proofs.Common.{◌≡◌, List, map, ap, ◌∙◌, Bor}
 use Rattle.fl_interface.specs.declared.interface.ArgType.{ArgType}
 use Rattle.fl_interface.specs.Interface.{TheArgType, arg_type_of, message_of}
-use Rattle.fl_value.specs.Plan.{arranged}
+use Rattle.fl_value_data.specs.Plan.{arranged}
 use Rattle.fl_compile.specs.Compiled.{in_order, message_block, message_code}
 use Rattle.fl_compile.proofs.Compiling.{order_within, order_few, code_is, is_code, verified_is}
 use Rattle.fl_compile.proofs.compiler.compile_message.Goals as goal
@@ -40,4 +40,4 @@ returns c =
     let ops : c.in_ok-ops.ops.items ≡ message_code c.args.column c.args.plan m
     = code_is kind_of c.args.column c.args.plan m c.deref-2.result.now c.in_ok-arguments.arguments.items c.in_ok-ops.ops.items c.deref-2.ensures.value arranged_args c.in_ok-ops.ensures.code in
     let is = is_code c.args.column c.args.plan m c.in_ok-ops.ops.items ops c.requires.within c.requires.words in
-    record { code = verified_is c.args.column c.args.plan m c.in_ok-ops.ops.items c.in-Some.code c.one_structure.ensures.structure is ops c.in-Some.ensures.same c.in-Some.ensures.structure }
+    record { code = verified_is c.args.column c.args.plan m c.in_ok-ops.ops.items c.in-Some.code c.law_one_structure.ensures.structure is ops c.in-Some.ensures.same c.in-Some.ensures.structure }

@@ -1,7 +1,7 @@
 use Rattle.std.proofs.Common.{rules, ◌∙◌, ◌+◌, ◌-◌, ◌++◌, List, map, ap, sym, arith, append_assoc, append-nil}
 use Rattle.fl_interface.specs.Interface.{TheArgType, arg_type_of}
-use Rattle.fl_value.specs.Plan.{of_rank, of_ranks}
-use Rattle.fl_value.proofs.Ranked.{arranged_ranks, next_rank, last_rank}
+use Rattle.fl_value_data.specs.Plan.{of_rank, of_ranks}
+use Rattle.fl_value_data.proofs.Ranked.{arranged_ranks, next_rank, last_rank}
 use Rattle.fl_compile.specs.Arguments.{types_in}
 use Rattle.fl_compile.proofs.order.in_order.Goals as goal
 

@@ -1,6 +1,6 @@
 use Rattle.std.proofs.Common.{◌≡◌, ◌-◌, ◌++◌, map}
 use Rattle.fl_interface.specs.Interface.{TheArgType, arg_type_of}
-use Rattle.fl_value.specs.Plan.{of_ranks, by_ranks}
+use Rattle.fl_value_data.specs.Plan.{of_ranks, by_ranks}
 use Rattle.fl_compile.specs.Arguments.{types_in}
 use Rattle.fl_compile.proofs.order.in_order.Given as goal
 

@@ -1,6 +1,6 @@
 use Rattle.std.proofs.Common.{◌≡◌, ◌++◌, map, drop}
 use Rattle.fl_interface.specs.Interface.{TheArgType, arg_type_of}
-use Rattle.fl_value.specs.Plan.{of_rank}
+use Rattle.fl_value_data.specs.Plan.{of_rank}
 use Rattle.fl_compile.specs.Arguments.{types_in}
 use Rattle.fl_compile.proofs.order.push_rank.Given as goal
 

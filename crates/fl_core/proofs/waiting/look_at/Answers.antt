@@ -5,8 +5,8 @@ use Rattle.fl_waitset.specs.declared.fault.WaitFault.{WaitFault}
 use Rattle.fl_waitset.specs.Waiting.{next_pick}
 use Rattle.fl_core.proofs.Picks.{pending_ok}
 use Rattle.fl_endpoint.specs.declared.answer.ReceiveAnswer.TheVariants as receive
-use Rattle.fl_core.specs.declared.answer.TurnAnswer.TheVariants.{Ready, Quiet}
-use Rattle.fl_core.proofs.Looking.{looks_as, looks_refused, looks_polled}
+use Rattle.fl_core.specs.declared.turn_answer.TurnAnswer.TheVariants.{Ready, Quiet}
+use Rattle.fl_core.proofs.BoardLooking.{looks_as, looks_refused, looks_polled}
 use Rattle.fl_core.proofs.waiting.look_at.Goals as goal
 
 -- the first pending channel was picked

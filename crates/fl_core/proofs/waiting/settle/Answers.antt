@@ -1,8 +1,8 @@
 use Rattle.std.proofs.Common.{refl}
 use Rattle.fl_lists.specs.declared.place.Place.TheVariants as place
-use Rattle.fl_core.specs.Turns.{lent}
+use Rattle.fl_core.specs.BoardTurns.{lent}
 use Rattle.fl_core.proofs.Picks.{first_pending}
-use Rattle.fl_core.proofs.Parts.{settles_held, settles_on}
+use Rattle.fl_core.proofs.BoardParts.{settles_held, settles_on}
 use Rattle.fl_core.proofs.waiting.settle.Goals as goal
 
 pub returns-in-HeldBack-clause-settles : goal.returns-in-HeldBack-clause-settles

@@ -1,5 +1,5 @@
 use Rattle.std.proofs.lemmas.Result.{err_from_is_err_and}
-use Rattle.fl_jobs.specs.Files.{file_from}
+use Rattle.fl_cores_file.specs.Files.{file_from}
 use Rattle.fl_cores.specs.Promised.{config_in}
 use Rattle.fl_cores.proofs.Texts.{memory_behind}
 use Rattle.fl_cores.proofs.text.run_file.Goals as goal

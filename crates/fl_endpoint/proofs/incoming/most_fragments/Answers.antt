@@ -3,8 +3,8 @@ use Rattle.std.specs.Prelude.{slice_get}
 use Rattle.std.proofs.lemmas.List.{length-map}
 use Rattle.std.proofs.lemmas.Bool.{cases_lt, false≢true}
 use Rattle.fl_interface.specs.Interface.{TheMessage, message_of, interface_of}
-use Rattle.fl_value.specs.Value.{Datum}
-use Rattle.fl_value.specs.Fits.{fit_message}
+use Rattle.fl_value_data.specs.Value.{Datum}
+use Rattle.fl_value_data.specs.Fits.{fit_message}
 use Rattle.fl_layout.specs.Leaves.{leaves}
 use Rattle.fl_layout.specs.Places.{size, count_for}
 use Rattle.fl_endpoint.proofs.incoming.most_fragments.Goals as goal

@@ -1,6 +1,6 @@
 use Rattle.std.proofs.Common.{◌<◌, ◌≤◌, ℕ}
 use Rattle.fl_interface.specs.Interface.{interface_of}
-use Rattle.fl_value.specs.Value.{TheCall}
+use Rattle.fl_value_data.specs.Value.{TheCall}
 use Rattle.fl_layout.specs.Layouts.{payload_length, IsCallOf}
 use Rattle.fl_endpoint.proofs.incoming.most_fragments.Given as goal
 

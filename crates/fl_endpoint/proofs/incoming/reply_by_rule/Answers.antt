@@ -1,5 +1,5 @@
 use Rattle.std.proofs.Common.{◌≡◌, Some, sym}
-use Rattle.fl_value.specs.Value.{call_of}
+use Rattle.fl_value_data.specs.Value.{call_of}
 use Rattle.fl_compile.specs.Programs.{program_of}
 use Rattle.fl_endpoint.specs.View.{rule_at}
 use Rattle.fl_endpoint.specs.Rules.{rules_of}

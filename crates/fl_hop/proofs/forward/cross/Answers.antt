@@ -4,7 +4,7 @@ use Rattle.fl_base.specs.declared.fragment.Frag.{Frag}
 use Rattle.fl_base.specs.Control.{bare}
 use Rattle.fl_link.specs.Looks.{Look, placed}
 use Rattle.fl_link.specs.declared.fault.PutFault.{PutFault}
-use Rattle.fl_hop.specs.declared.forward.Outcome.TheVariants.{Moved, Full, Spent}
+use Rattle.fl_hop.specs.declared.forward.ForwardOutcome.TheVariants.{Moved, Full, Spent}
 use Rattle.fl_hop.proofs.Lists.{at_within, set_cases}
 use Rattle.fl_hop.proofs.Crossing.{crosses_stay, crosses_on}
 use Rattle.fl_hop.proofs.forward.cross.Goals as goal

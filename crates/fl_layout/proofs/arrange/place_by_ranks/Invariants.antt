@@ -1,6 +1,6 @@
 use Rattle.std.proofs.Common.{◌≡◌, ◌-◌, ◌++◌, map}
 use Rattle.fl_interface.specs.Interface.{arg_type_of}
-use Rattle.fl_value.specs.Plan.{of_ranks, by_ranks}
+use Rattle.fl_value_data.specs.Plan.{of_ranks, by_ranks}
 use Rattle.fl_layout.specs.Extents.{placing, typed, numbered}
 use Rattle.fl_layout.proofs.arrange.place_by_ranks.Given as goal
 

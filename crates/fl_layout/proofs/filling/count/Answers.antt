@@ -1,7 +1,7 @@
 use Rattle.std.proofs.Common.{rules, ◌≡◌, ap, sym, ◌∙◌, map}
-use Rattle.fl_value.specs.declared.value.Value.TheViews.{the_lemmas}
-use Rattle.fl_value.specs.declared.value.Value.TheFolds.{fold-roll-Value, fold_out-Value}
-use Rattle.fl_value.specs.Value.{Datum, elements, data_from, datum_step, datum_of}
+use Rattle.fl_value_data.specs.declared.value.Value.TheViews.{the_lemmas}
+use Rattle.fl_value_data.specs.declared.value.Value.TheFolds.{fold-roll-Value, fold_out-Value}
+use Rattle.fl_value_data.specs.Value.{Datum, elements, data_from, datum_step, datum_of}
 use Rattle.fl_layout.specs.Extents.{count_in}
 use Rattle.fl_layout.proofs.Counts.{count_from}
 use Rattle.fl_layout.proofs.filling.count.Goals as goal

@@ -1,6 +1,6 @@
 use Rattle.std.proofs.Common.{◌≡◌, ◌≤◌, ◌<◌, ◌*◌, drop, map, true}
 use Rattle.std.specs.List.{list_all}
-use Rattle.fl_value.specs.Value.{datum_of}
+use Rattle.fl_value_data.specs.Value.{datum_of}
 use Rattle.fl_layout.specs.Extents.{end_of_all, filled_by, are_within, is_short}
 use Rattle.fl_layout.proofs.filling.length_with.Given as goal
 

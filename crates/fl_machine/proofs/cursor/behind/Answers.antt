@@ -2,7 +2,7 @@ use Rattle.std.proofs.Common.{◌≡◌, ℕ, ◌+◌, suc, Some, drop, get_or, 
 use Rattle.std.proofs.lemmas.List.{drop_more}
 use Rattle.fl_stub.specs.declared.op.Op.TheVariants.{Emit}
 use Rattle.fl_stub.specs.Frames.{frames_of}
-use Rattle.fl_stub.specs.Spots.{outer}
+use Rattle.fl_stub.specs.Locations.{outer}
 use Rattle.fl_stub.specs.Rests.{IsPlaceIn}
 use Rattle.fl_stub.specs.declared.op.Column.{Column}
 use Rattle.fl_stub.proofs.Skips.{Behind}

@@ -1,5 +1,5 @@
 use Rattle.std.proofs.Common.{◌≤◌, ◌-◌, ℕ, suc, drop, length}
-use Rattle.fl_stub.specs.Spots.{outer}
+use Rattle.fl_stub.specs.Locations.{outer}
 use Rattle.fl_stub.specs.Rests.{IsPlaceIn}
 use Rattle.fl_stub.specs.declared.op.Column.{Column}
 use Rattle.fl_stub.specs.Frames.{frames_of}

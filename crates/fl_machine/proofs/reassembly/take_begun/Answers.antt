@@ -1,7 +1,7 @@
 use Rattle.std.proofs.Common.{inr, sym, subst, arith}
 use Rattle.std.specs.Prelude.{Option}
 use Rattle.fl_compile.specs.Programs.{program_of}
-use Rattle.fl_machine.specs.declared.recv.Begun.{Begun}
+use Rattle.fl_machine.specs.declared.recv.PartialCall.{PartialCall}
 use Rattle.fl_machine.specs.Reassembling.{Takes, IsUnderWay, reassembly_on}
 use Rattle.fl_machine.proofs.Parts.{first_part, part_fits}
 use Rattle.fl_machine.proofs.reassembly.take_begun.Goals as goal
@@ -28,8 +28,8 @@ returns-in-Ok-Part-clause-takes c =
     (first_part (program_of c.args.program.now) _ c.args.room.now c.args.under.now c.args.frag.now _ _ c.in-Ok-Part.field-0 c.requires.between c.in-Ok-Part.field-0-is c.in-Ok-Part.ensures.stands c.in-Ok-Part.ensures.adds c.forget.ensures.forgets)
 
 pub returns-in-Ok-Whole-clause-under_way : goal.returns-in-Ok-Whole-clause-under_way
-returns-in-Ok-Whole-clause-under_way c = subst (λ (o : Option Begun). IsUnderWay (program_of c.args.program.now) c.args.room.now o) (sym c.requires.between) tt
+returns-in-Ok-Whole-clause-under_way c = subst (λ (o : Option PartialCall). IsUnderWay (program_of c.args.program.now) c.args.room.now o) (sym c.requires.between) tt
 
 pub returns-in-Ok-Whole-clause-takes : goal.returns-in-Ok-Whole-clause-takes
 returns-in-Ok-Whole-clause-takes c =
-    subst (λ (o : Option Begun). Takes (reassembly_on c.args.program.now c.args.room.now o) c.args.frag.now c.tell.result (reassembly_on c.args.program.now c.args.room.now o)) (sym c.requires.between) c.tell.ensures.takes
+    subst (λ (o : Option PartialCall). Takes (reassembly_on c.args.program.now c.args.room.now o) c.args.frag.now c.tell.result (reassembly_on c.args.program.now c.args.room.now o)) (sym c.requires.between) c.tell.ensures.takes

@@ -1,6 +1,6 @@
 use Rattle.std.proofs.Common.{◌≡◌, ◌++◌, ◌∷◌, [], List, sym, ap, subst}
 use Rattle.fl_base.specs.declared.fragment.Frag.{Frag}
-use Rattle.fl_value.specs.Value.{TheCall, call_of}
+use Rattle.fl_value_data.specs.Value.{TheCall, call_of}
 use Rattle.fl_compile.specs.Programs.{program_of}
 use Rattle.fl_machine.specs.Reassembling.{TheReassembly, AreWhole, reassembly_on}
 use Rattle.std.proofs.Common.{Some}

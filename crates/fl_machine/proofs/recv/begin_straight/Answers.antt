@@ -1,7 +1,7 @@
 use Rattle.std.proofs.Common.{◌≡◌, ◌≤◌, None, length, arith, rules}
 use Rattle.fl_interface.specs.Interface.{interface_of}
 use Rattle.fl_wire.specs.Wrong.{start_fault}
-use Rattle.fl_machine.specs.declared.recv.Ended.{Ended}
+use Rattle.fl_machine.specs.declared.recv.TapedCall.{TapedCall}
 use Rattle.fl_machine.proofs.Straights.{straight_ends}
 use Rattle.fl_machine.proofs.recv.begin_straight.Goals as goal
 
@@ -9,7 +9,7 @@ pub returns-clause-stands : goal.returns-clause-stands
 returns-clause-stands c =
     let p = c.args.program.now in
     let i = interface_of p.compiled.value.plans.interface in
-    let e : Ended = record { msg = c.msg-msg.result; count = c.in-Some-take_straight.count } in
+    let e : TapedCall = record { msg = c.msg-msg.result; count = c.in-Some-take_straight.count } in
     let none : start_fault i c.args.frag.now ≡ None = search rules in
     let few = c.in-Some-take_straight.ensures.few in
     let inside : c.in-Some-take_straight.count ≤ length c.take_straight.new.places = omega (arith, few, c.take_straight.array_long) in
@@ -20,7 +20,7 @@ pub returns-clause-adds : goal.returns-clause-adds
 returns-clause-adds c =
     let p = c.args.program.now in
     let i = interface_of p.compiled.value.plans.interface in
-    let e : Ended = record { msg = c.msg-msg.result; count = c.in-Some-take_straight.count } in
+    let e : TapedCall = record { msg = c.msg-msg.result; count = c.in-Some-take_straight.count } in
     let none : start_fault i c.args.frag.now ≡ None = search rules in
     let few = c.in-Some-take_straight.ensures.few in
     let inside : c.in-Some-take_straight.count ≤ length c.take_straight.new.places = omega (arith, few, c.take_straight.array_long) in

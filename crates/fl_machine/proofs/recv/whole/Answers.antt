@@ -1,10 +1,10 @@
 use Rattle.std.proofs.Common.{take, subst}
 use Rattle.std.specs.Prelude.{Option, IfSome}
 use Rattle.fl_interface.specs.Interface.{TheInterface, interface_of}
-use Rattle.fl_value.specs.declared.value.Call.{Call}
-use Rattle.fl_value.specs.declared.value.PlanNo.{PlanNo}
-use Rattle.fl_value.specs.Value.{call_of}
-use Rattle.fl_value.specs.Taken.{HasTape}
+use Rattle.fl_value_data.specs.declared.value.Call.{Call}
+use Rattle.fl_value_data.specs.declared.value.PlanNo.{PlanNo}
+use Rattle.fl_value_data.specs.Value.{call_of}
+use Rattle.fl_value_data.specs.Taken.{HasTape}
 use Rattle.fl_machine.proofs.Feeding.{means_whole}
 use Rattle.fl_machine.proofs.recv.whole.Goals as goal
 

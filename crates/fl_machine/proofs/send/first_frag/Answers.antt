@@ -1,17 +1,17 @@
 use Rattle.std.proofs.Common.{List, true, inl, refl, ◌∙◌, ap}
 use Rattle.std.specs.Prelude.{slice_get, []}
 use Rattle.fl_base.specs.declared.fragment.Frag.{Frag}
-use Rattle.fl_machine.specs.declared.cursor.Cursor.{Cursor}
-use Rattle.fl_machine.proofs.Fragments.{first_is_spot, starts, sent}
+use Rattle.fl_machine.specs.declared.cursor.SendCursor.{SendCursor}
+use Rattle.fl_machine.proofs.Fragments.{first_is_location, starts, sent}
 use Rattle.fl_machine.proofs.send.first_frag.Goals as goal
 
-start : Cursor
+start : SendCursor
 start = record { place = 0; loops = []; depth = 0; next = 0; phase = 0; value = 0; width = 0 }
 
 pub straight_bytes-requires : goal.straight_bytes-requires
 unfolding start
 straight_bytes-requires c = record {
-  spot = first_is_spot c.args.code.now.column c.args.code.now.ops c.ops.result.now c.args.tape.now start c.requires c.ops.ensures.ops c.ops.ensures.structure refl;
+  location = first_is_location c.args.code.now.column c.args.code.now.ops c.ops.result.now c.args.tape.now start c.requires c.ops.ensures.ops c.ops.ensures.structure refl;
 }
 
 pub returns-in-Some : goal.returns-in-Some

@@ -4,7 +4,7 @@ use Rattle.fl_stub.specs.declared.op.Op.{Op}
 use Rattle.fl_stub.specs.declared.op.Op.TheVariants.{Read}
 use Rattle.fl_stub.specs.Rests.{TheField, is_taken, taken_field}
 use Rattle.fl_stub.proofs.Numbers.{pow_positive}
-use Rattle.fl_machine.specs.declared.intake.Field.{Field}
+use Rattle.fl_machine.specs.declared.intake.ByteField.{ByteField}
 use Rattle.fl_machine.specs.Straight.{is_straight as is_straight_op}
 use Rattle.fl_machine.specs.Straight.{HasNumber}
 use Rattle.fl_machine.proofs.Intakes.{run_grows}
@@ -16,7 +16,7 @@ returns-in-Read-eq8-clause-number c =
     let word = c.word_at.result in
     let inside : c.args.used + 8 ≤ 56 = omega (arith, c.if-used-gt48.false) in
     let small : word < 256 ^ 8 = omega arith in
-    subst (λ (f : Field). HasNumber f c.args.buffer.now c.args.used word) (sym c.number.ensures)
+    subst (λ (f : ByteField). HasNumber f c.args.buffer.now c.args.used word) (sym c.number.ensures)
     (record {
       inside = inside;
       grows = run_grows c.args.buffer.now c.args.used 0 0 8 word word refl (omega arith) (omega arith) inside c.word_at.ensures (sym (mod-eq_of_lt small));
@@ -39,7 +39,7 @@ returns-in-Read-clause-number c =
     let inside : c.args.used + width ≤ 56 = omega (arith, start, room) in
     let small : word % 256 ^ width < 256 ^ width = mod-lt word (pow_positive width) in
     let last = c.greatest.ensures in
-    subst (λ (f : Field). HasNumber f c.args.buffer.now c.args.used number) (sym c.number-in-Read.ensures)
+    subst (λ (f : ByteField). HasNumber f c.args.buffer.now c.args.used number) (sym c.number-in-Read.ensures)
     (record {
       inside = inside;
       grows = run_grows c.args.buffer.now c.args.used 0 0 width word number refl (omega arith) narrow inside c.word_at-in-Read.ensures c.low_part-number.ensures;

@@ -1,5 +1,5 @@
 use Rattle.std.proofs.Common.{◌∙◌, ap, refl, map}
-use Rattle.fl_value.specs.Value.{datum_of, call_of}
+use Rattle.fl_value_data.specs.Value.{datum_of, call_of}
 use Rattle.fl_monitor.proofs.Places.{opening, opened, refusing, number_there, route_there}
 use Rattle.fl_monitor.proofs.call.message_for.Goals as goal
 

@@ -1,5 +1,5 @@
 use Rattle.std.proofs.Common.{◌∙◌, ap, sym, arith, length-set}
-use Rattle.fl_value.specs.Value.{datum_of}
+use Rattle.fl_value_data.specs.Value.{datum_of}
 use Rattle.fl_monitor.proofs.Values.{one_of, few_of, next_of, same_number}
 use Rattle.fl_monitor.proofs.call.path.Goals as goal
 

@@ -1,5 +1,5 @@
 use Rattle.std.proofs.Common.{◌∙◌, ap, Some}
-use Rattle.fl_value.specs.Value.{datum_of}
+use Rattle.fl_value_data.specs.Value.{datum_of}
 use Rattle.fl_monitor.specs.Parts.{IsRouteValue}
 use Rattle.fl_monitor.proofs.Places.{looked_up, of_kind, is_there, not_none}
 use Rattle.fl_monitor.proofs.call.route_at.Goals as goal

@@ -3,7 +3,7 @@ use Rattle.fl_base.specs.declared.fragment.Frag.{Frag}
 use Rattle.fl_base.specs.Control.{told_of}
 use Rattle.fl_ring.specs.Way.{standing}
 use Rattle.fl_ring.specs.Counts.{count_from, known_after}
-use Rattle.fl_ring.specs.declared.halves.Half.{Half}
+use Rattle.fl_ring.specs.declared.halves.DuoHalf.{DuoHalf}
 use Rattle.fl_ring.proofs.DuoLooks.{look_finds}
 use Rattle.fl_ring.proofs.DuoSteps.{known_told, known_steps}
 use Rattle.fl_ring.proofs.halves.look_back.Goals as goal
@@ -26,7 +26,7 @@ returns-clause-looks c = λ n b s.
     let m = c.args.mine.now in
     let found = look_finds n c.args.words.now m b c.place.result c.epoch.result (Some c.in-Some.frag) s c.place.ensures.place c.epoch.ensures.epoch c.in-Some.ensures.look in (
       (standing b.base n c.args.words.now (m.take.index + 1) (b.put.index - (m.take.index + 1)), found.0),
-      ap (λ (k : ℕ). let h : Half = record { base = m.base; other = m.other; put = m.put; take = m.take; known = k; told = m.told } in h) (count_is c),
+      ap (λ (k : ℕ). let h : DuoHalf = record { base = m.base; other = m.other; put = m.put; take = m.take; known = k; told = m.told } in h) (count_is c),
     )
 
 pub returns-clause-steps : goal.returns-clause-steps

@@ -1,7 +1,7 @@
 use Rattle.std.proofs.Common.{ℕ, ◌≡◌, ◌<◌, ◌^◌, List, ap, subst, ◌∙◌, sym, refl, arith, true, nat_le}
 use Rattle.fl_ring.specs.Duo.{free}
 use Rattle.fl_ring.specs.Halves.{InStep}
-use Rattle.fl_ring.specs.declared.halves.Half.{Half}
+use Rattle.fl_ring.specs.declared.halves.DuoHalf.{DuoHalf}
 use Rattle.fl_ring.proofs.DuoGoes.{put_goes, too_few, room_for}
 use Rattle.fl_ring.proofs.halves.put_at.Goals as goal
 
@@ -10,12 +10,12 @@ returns-clause-placed c = λ n b s.
     let m = c.args.mine.now in
     let checked = rw c.deref.ensures.value at c.has_free.ensures.free in
     let found = checked n b s in
-    let sent : c.has_free.new.mine.put.index ≡ m.put.index = ap (λ (x : Half). x.put.index) found.1 in
+    let sent : c.has_free.new.mine.put.index ≡ m.put.index = ap (λ (x : DuoHalf). x.put.index) found.1 in
     let unspent : m.put.index < 2 ^ 62 = omega (arith, s.there.most, c.index.ensures.index) in
     let enough : nat_le 2 (free n m.put.index c.has_free.new.mine.known) ≡ true = sym found.0 ∙ c.if-not-has_free.false in
     let within = room_for 2 n m.put.index c.has_free.new.mine.known (omega arith) enough in
     let w = c.write.ensures.steps n b found.2 (omega arith) (omega arith) in
-    (w.0, c.write.ensures.place ∙ ap (λ (x : Half). x.base) found.1, put_goes n c.args.words.now.items c.write.new.words.items m c.has_free.new.mine c.write.new.mine b c.args.frag.now c.requires.data s unspent found.1 enough w.1 w.2)
+    (w.0, c.write.ensures.place ∙ ap (λ (x : DuoHalf). x.base) found.1, put_goes n c.args.words.now.items c.write.new.words.items m c.has_free.new.mine c.write.new.mine b c.args.frag.now c.requires.data s unspent found.1 enough w.1 w.2)
 
 pub returns-then-not-has_free-clause-full : goal.returns-then-not-has_free-clause-full
 returns-then-not-has_free-clause-full c = λ _ n b s.
@@ -24,7 +24,7 @@ returns-then-not-has_free-clause-full c = λ _ n b s.
     let found = checked n b s in
     let unspent : m.put.index < 2 ^ 62 = omega (arith, s.there.most, c.index.ensures.index) in
     let short = too_few n 2 c.args.words.now.items m c.has_free.new.mine b found.1 (sym found.0 ∙ c.if-not-has_free.true) in
-    (found.2, ap (λ (x : Half). x.base) found.1, (unspent, short.0, short.1, short.2))
+    (found.2, ap (λ (x : DuoHalf). x.base) found.1, (unspent, short.0, short.1, short.2))
 
 pub has_free-requires : goal.has_free-requires
 has_free-requires c =
@@ -42,6 +42,6 @@ write-requires c =
     let m = c.args.mine.now in
     let checked = rw c.deref.ensures.value at c.has_free.ensures.free in
     let found = checked n b s in
-    let sent : c.has_free.new.mine.put.index ≡ m.put.index = ap (λ (x : Half). x.put.index) found.1 in
+    let sent : c.has_free.new.mine.put.index ≡ m.put.index = ap (λ (x : DuoHalf). x.put.index) found.1 in
     let within = room_for 2 n m.put.index c.has_free.new.mine.known (omega arith) (sym found.0 ∙ c.if-not-has_free.false) in
     (n, b, found.2, omega (arith, s.there.most, c.index.ensures.index, c.if-index-eq-SPENT.false), omega arith)

@@ -1,24 +1,24 @@
 use Rattle.std.proofs.Common.{ℕ, ◌≡◌, ◌<◌, ◌≤◌, ◌/◌, ◌^◌, List, length, ap, subst, ◌∙◌, sym, refl, inl, inr, arith, true, nat_le}
 use Rattle.fl_ring.specs.Duo.{free}
 use Rattle.fl_ring.specs.Halves.{InStep, half_of}
-use Rattle.fl_ring.specs.declared.halves.Half.{Half}
-use Rattle.fl_ring.proofs.DuoGoes.{tell_goes, too_few, room_for, untold_is}
+use Rattle.fl_ring.specs.declared.halves.DuoHalf.{DuoHalf}
+use Rattle.fl_ring.proofs.DuoGoes.{tell_goes, too_few, room_for, unacknowledged_is}
 use Rattle.fl_ring.proofs.halves.tell_at.Goals as goal
 
-pub returns-then-untold-size-clause-tell : goal.returns-then-untold-size-clause-tell
-returns-then-untold-size-clause-tell c = λ n b s.
+pub returns-then-unacknowledged-size-clause-tell : goal.returns-then-unacknowledged-size-clause-tell
+returns-then-unacknowledged-size-clause-tell c = λ n b s.
     let m = c.args.mine.now in
     let size : c.size.result ≡ n = c.size.ensures.size ∙ s.back.take_size in
-    let count = untold_is n c.args.words.now.items m b s in
-    let few : length (half_of n c.args.words.now.items m b).read < n / 2 = omega (arith, count, c.index.ensures.index, c.if-untold-size.true) in
+    let count = unacknowledged_is n c.args.words.now.items m b s in
+    let few : length (half_of n c.args.words.now.items m b).read < n / 2 = omega (arith, count, c.index.ensures.index, c.if-unacknowledged-size.true) in
     (s, refl, (few, refl, refl))
 
 pub returns-then-sent-eq-SPENT-clause-tell : goal.returns-then-sent-eq-SPENT-clause-tell
 returns-then-sent-eq-SPENT-clause-tell c = λ n b s.
     let m = c.args.mine.now in
     let size : c.size.result ≡ n = c.size.ensures.size ∙ s.back.take_size in
-    let count = untold_is n c.args.words.now.items m b s in
-    let much : n / 2 ≤ length (half_of n c.args.words.now.items m b).read = omega (arith, count, c.index.ensures.index, c.if-untold-size.false) in
+    let count = unacknowledged_is n c.args.words.now.items m b s in
+    let much : n / 2 ≤ length (half_of n c.args.words.now.items m b).read = omega (arith, count, c.index.ensures.index, c.if-unacknowledged-size.false) in
     let last : m.put.index ≡ 2 ^ 62 = sym c.index-sent.ensures.index ∙ c.if-sent-eq-SPENT.true in
     (s, refl, (much, refl, inl (last, refl)))
 
@@ -28,11 +28,11 @@ returns-then-not-has_free-clause-tell c = λ n b s.
     let checked = rw c.deref.ensures.value at c.has_free.ensures.free in
     let found = checked n b s in
     let size : c.size.result ≡ n = c.size.ensures.size ∙ s.back.take_size in
-    let count = untold_is n c.args.words.now.items m b s in
-    let much : n / 2 ≤ length (half_of n c.args.words.now.items m b).read = omega (arith, count, c.index.ensures.index, c.if-untold-size.false) in
+    let count = unacknowledged_is n c.args.words.now.items m b s in
+    let much : n / 2 ≤ length (half_of n c.args.words.now.items m b).read = omega (arith, count, c.index.ensures.index, c.if-unacknowledged-size.false) in
     let unspent : m.put.index < 2 ^ 62 = omega (arith, s.there.most, c.index-sent.ensures.index) in
     let short = too_few n 1 c.args.words.now.items m c.has_free.new.mine b found.1 (sym found.0 ∙ c.if-not-has_free.true) in
-    (found.2, ap (λ (x : Half). x.base) found.1, (much, short.2, inr (unspent, short.0, short.1)))
+    (found.2, ap (λ (x : DuoHalf). x.base) found.1, (much, short.2, inr (unspent, short.0, short.1)))
 
 pub returns-clause-tell : goal.returns-clause-tell
 returns-clause-tell c = λ n b s.
@@ -40,14 +40,14 @@ returns-clause-tell c = λ n b s.
     let checked = rw c.deref.ensures.value at c.has_free.ensures.free in
     let found = checked n b s in
     let size : c.size.result ≡ n = c.size.ensures.size ∙ s.back.take_size in
-    let count = untold_is n c.args.words.now.items m b s in
-    let much : n / 2 ≤ length (half_of n c.args.words.now.items m b).read = omega (arith, count, c.index.ensures.index, c.if-untold-size.false) in
-    let sent : c.has_free.new.mine.put.index ≡ m.put.index = ap (λ (x : Half). x.put.index) found.1 in
+    let count = unacknowledged_is n c.args.words.now.items m b s in
+    let much : n / 2 ≤ length (half_of n c.args.words.now.items m b).read = omega (arith, count, c.index.ensures.index, c.if-unacknowledged-size.false) in
+    let sent : c.has_free.new.mine.put.index ≡ m.put.index = ap (λ (x : DuoHalf). x.put.index) found.1 in
     let unspent : m.put.index < 2 ^ 62 = omega (arith, s.there.most, c.index-sent.ensures.index) in
     let enough : nat_le 1 (free n m.put.index c.has_free.new.mine.known) ≡ true = sym found.0 ∙ c.if-not-has_free.false in
     let within = room_for 1 n m.put.index c.has_free.new.mine.known (omega arith) enough in
     let w = c.write.ensures.steps n b found.2 (omega arith) (omega arith) in
-    (w.0, c.write.ensures.place ∙ ap (λ (x : Half). x.base) found.1, tell_goes n c.args.words.now.items c.write.new.words.items m c.has_free.new.mine c.write.new.mine b s much unspent found.1 enough w.1 w.2)
+    (w.0, c.write.ensures.place ∙ ap (λ (x : DuoHalf). x.base) found.1, tell_goes n c.args.words.now.items c.write.new.words.items m c.has_free.new.mine c.write.new.mine b s much unspent found.1 enough w.1 w.2)
 
 pub has_free-requires : goal.has_free-requires
 has_free-requires c =
@@ -60,6 +60,6 @@ write-requires c =
     let m = c.args.mine.now in
     let checked = rw c.deref.ensures.value at c.has_free.ensures.free in
     let found = checked n b s in
-    let sent : c.has_free.new.mine.put.index ≡ m.put.index = ap (λ (x : Half). x.put.index) found.1 in
+    let sent : c.has_free.new.mine.put.index ≡ m.put.index = ap (λ (x : DuoHalf). x.put.index) found.1 in
     let within = room_for 1 n m.put.index c.has_free.new.mine.known (omega arith) (sym found.0 ∙ c.if-not-has_free.false) in
     (n, b, found.2, omega (arith, s.there.most, c.index-sent.ensures.index, c.if-sent-eq-SPENT.false), omega arith)

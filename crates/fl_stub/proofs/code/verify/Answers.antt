@@ -1,7 +1,7 @@
 use Rattle.std.proofs.Common.{◌≡◌, Bool, true, false, Some, List, subst, sym, ◌∙◌}
 use Rattle.fl_stub.specs.declared.op.Op.{Op}
 use Rattle.fl_stub.specs.declared.op.Column.{Column}
-use Rattle.fl_stub.specs.declared.walk.Standing.TheVariants.{Inside}
+use Rattle.fl_stub.specs.declared.walk.WalkState.TheVariants.{Inside}
 use Rattle.fl_stub.specs.Structure.{Block, IsCode}
 use Rattle.fl_stub.specs.Frames.{block_of}
 use Rattle.fl_stub.specs.Walk.{accepts}

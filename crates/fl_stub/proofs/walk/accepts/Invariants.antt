@@ -1,5 +1,5 @@
 use Rattle.std.proofs.Common.{◌≡◌, drop, Some}
-use Rattle.fl_stub.specs.declared.walk.Standing.TheVariants.{Inside}
+use Rattle.fl_stub.specs.declared.walk.WalkState.TheVariants.{Inside}
 use Rattle.fl_stub.specs.Walk.{accepts}
 use Rattle.fl_stub.proofs.walk.accepts.Given as goal
 

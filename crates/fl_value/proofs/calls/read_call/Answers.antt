@@ -1,7 +1,7 @@
 use Rattle.std.proofs.Common.{map}
 use Rattle.std.proofs.lemmas.Result.{err_from_is_err_and}
 use Rattle.fl_interface.specs.Interface.{interface_of}
-use Rattle.fl_value.specs.Value.{datum_of}
+use Rattle.fl_value_data.specs.Value.{datum_of}
 use Rattle.fl_value.proofs.Round.{only_resolved, only_refused}
 use Rattle.fl_value.proofs.calls.read_call.Goals as goal
 

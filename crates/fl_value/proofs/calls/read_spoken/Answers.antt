@@ -1,7 +1,7 @@
 use Rattle.std.proofs.Common.{map, length, sym, refl}
 use Rattle.std.proofs.lemmas.Bool.{eqb-false, eqb-true}
 use Rattle.std.proofs.lemmas.Result.{err_from_is_err_and}
-use Rattle.fl_value.specs.Value.{datum_of, data_from}
+use Rattle.fl_value_data.specs.Value.{datum_of, data_from}
 use Rattle.fl_value.proofs.Nested.{refuse_weaker}
 use Rattle.fl_value.proofs.Words.{no_word, no_open, no_arguments, not_ended, spelled_call}
 use Rattle.fl_value.proofs.calls.read_spoken.Goals as goal

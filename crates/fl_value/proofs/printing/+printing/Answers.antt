@@ -6,14 +6,14 @@ use mir.Syntax.{w128}
 use mir.Val.{SFits}
 use Rattle.std.proofs.lemmas.Bool.Decides.{nat_tests}
 use Rattle.std.proofs.lemmas.List.{drop_all}
-use Rattle.fl_value.specs.declared.value.Value.{Value}
-use Rattle.fl_value.specs.declared.value.Value.TheViews.{the_lemmas}
-use Rattle.fl_value.specs.declared.value.Value.TheFolds.{fold_out-Value}
-use Rattle.fl_value.specs.Value.{Datum, number, elements, fields, Data, datum_step, datum_of, data_from, nothing_more, also}
+use Rattle.fl_value_data.specs.declared.value.Value.{Value}
+use Rattle.fl_value_data.specs.declared.value.Value.TheViews.{the_lemmas}
+use Rattle.fl_value_data.specs.declared.value.Value.TheFolds.{fold_out-Value}
+use Rattle.fl_value_data.specs.Value.{Datum, number, elements, fields, Data, datum_step, datum_of, data_from, nothing_more, also}
 use Rattle.fl_value.specs.Printed.{printed_value, printed_values, separator, BeginsToAppend}
 use Rattle.fl_value.proofs.Begun.{IsLeft, one_piece_less, none_left, all_left, begun_left, begun_piece, not_begun, on_refusal}
 use Rattle.fl_value.proofs.Prints.{printed_from}
-use Rattle.fl_value.proofs.Turns.{map_dropped}
+use Rattle.fl_value_data.proofs.Turns.{map_dropped}
 use Rattle.fl_value.proofs.printing.+printing.Goals as goal
 
 -- between two marks

@@ -1,5 +1,5 @@
 use Rattle.std.proofs.Common.{map, drop}
-use Rattle.fl_value.specs.Value.{datum_of, data_from}
+use Rattle.fl_value_data.specs.Value.{datum_of, data_from}
 use Rattle.fl_value.specs.Printed.{printed_values}
 use Rattle.fl_value.proofs.Begun.{IsLeft}
 use Rattle.fl_value.proofs.Prints.{printed_from}

@@ -1,5 +1,5 @@
 use Rattle.std.proofs.Common.{◌≡◌, ◌++◌, ◌∷◌, [], ℕ, List, map, refl}
-use Rattle.fl_value.specs.Value.{datum_of, data_from}
+use Rattle.fl_value_data.specs.Value.{datum_of, data_from}
 use Rattle.fl_value.specs.Printed.{printed_values, printed_call}
 use Rattle.fl_value.proofs.Begun.{IsLeft, one_piece_less, begun_left, begun_piece, not_begun, on_refusal}
 use Rattle.fl_value.proofs.printing.print_call.Goals as goal

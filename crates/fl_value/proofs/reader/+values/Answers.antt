@@ -3,13 +3,13 @@ use Rattle.std.proofs.lemmas.Int.{to_z-of_z}
 use mir.Syntax.{w128}
 use mir.Val.{SFits}
 use Rattle.std.proofs.lemmas.Result.{err_from_is_err_and}
-use Rattle.fl_value.specs.declared.value.Value.{Value}
-use Rattle.fl_value.specs.declared.value.Value.TheVariants.{Int, Text, List as ListOf, Fields}
-use Rattle.fl_value.specs.declared.value.Value.TheViews.{the_lemmas}
-use Rattle.fl_value.specs.declared.value.Value.TheFolds.{fold_out-Value}
-use Rattle.fl_value.specs.Value.{Datum, number, string, elements, fields, datum_step, datum_of, data_from}
+use Rattle.fl_value_data.specs.declared.value.Value.{Value}
+use Rattle.fl_value_data.specs.declared.value.Value.TheVariants.{Int, Text, List as ListOf, Fields}
+use Rattle.fl_value_data.specs.declared.value.Value.TheViews.{the_lemmas}
+use Rattle.fl_value_data.specs.declared.value.Value.TheFolds.{fold_out-Value}
+use Rattle.fl_value_data.specs.Value.{Datum, number, string, elements, fields, datum_step, datum_of, data_from}
 use Rattle.fl_value.specs.CallText.{SpellsValue, SpellsValues, Listed, Token, a_number, a_text, a_mark, depth_of, greatest_depth}
-use Rattle.fl_value.proofs.Numbers.{number_back}
+use Rattle.fl_value_data.proofs.Numbers.{number_back}
 use Rattle.fl_value.proofs.Once.{token_shorter, differ}
 use Rattle.fl_value.proofs.Nested.{Commas, values_last, depth_last, commas_more, commas_end, no_value, no_mark, refuse_weaker, no_kind, not_enclosed, other_opened, not_inside}
 use Rattle.fl_value.proofs.reader.+values.Goals as goal

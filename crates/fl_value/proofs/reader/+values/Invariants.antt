@@ -1,5 +1,5 @@
 use Rattle.std.proofs.Common.{◌+◌, ◌*◌, ◌≤◌, map, length, ℕ, List}
-use Rattle.fl_value.specs.Value.{datum_of, data_from}
+use Rattle.fl_value_data.specs.Value.{datum_of, data_from}
 use Rattle.fl_value.specs.CallText.{greatest_depth, Token, a_mark}
 use Rattle.fl_value.proofs.Nested.{Commas}
 use Rattle.fl_value.proofs.reader.+values.Given as goal

@@ -1,6 +1,6 @@
 use Rattle.std.proofs.Common.{◌<◌, sym, subst, arith}
-use Rattle.fl_value.specs.Plan.{rank_of}
-use Rattle.fl_value.specs.declared.value.PlanNo.{PlanNo}
+use Rattle.fl_value_data.specs.Plan.{rank_of}
+use Rattle.fl_value_data.specs.declared.value.PlanNo.{PlanNo}
 use Rattle.fl_wire.proofs.Agreement.{rank_small}
 use Rattle.fl_wire.proofs.call.ranks_of.Goals as goal
 

@@ -1,6 +1,6 @@
 use Rattle.std.proofs.lemmas.Result.{err_from_is_err_and}
 use Rattle.fl_interface.specs.Interface.{arg_type_of}
-use Rattle.fl_value.specs.Value.{datum_of}
+use Rattle.fl_value_data.specs.Value.{datum_of}
 use Rattle.fl_wire.specs.Shapes.{starts_after, next_argument, arguments_of}
 use Rattle.fl_wire.proofs.Steps.{first_stop, come_self, come_read, come_rest, come_done}
 use Rattle.fl_wire.proofs.Calls.{begins_argument}

@@ -2,8 +2,8 @@ use Rattle.std.proofs.Common.{◌≡◌, ◌≢◌, ℕ, ◌<◌, ◌≤◌, ◌
 use Rattle.std.proofs.lemmas.List.{length-map, get_or-map, map-set, length-set}
 use Rattle.std.proofs.lemmas.Result.{err_from_is_err_and}
 use Rattle.fl_interface.specs.Interface.{text, arg_type_of}
-use Rattle.fl_value.specs.Value.{Datum, datum_of}
-use Rattle.fl_value.specs.Plan.{is_dynamic, rank_of}
+use Rattle.fl_value_data.specs.Value.{Datum, datum_of}
+use Rattle.fl_value_data.specs.Plan.{is_dynamic, rank_of}
 use Rattle.fl_wire.specs.Shapes.{Shape, next_argument, calls_of}
 use Rattle.fl_wire.proofs.Steps.{Come, come_stop, come_read}
 use Rattle.fl_wire.proofs.Calls.{FitRead, rank_at, left_in, left_from, itself, come_same, none_fit, calls_start, into_rank, past_other, past_fit, past_rank, rank_fit, begins_next, next_fit, come_fits}

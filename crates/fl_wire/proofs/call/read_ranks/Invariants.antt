@@ -1,6 +1,6 @@
 use Rattle.std.proofs.Common.{◌≡◌, ◌≤◌, ◌*◌, map, length}
 use Rattle.fl_interface.specs.Interface.{arg_type_of}
-use Rattle.fl_value.specs.Value.{datum_of}
+use Rattle.fl_value_data.specs.Value.{datum_of}
 use Rattle.fl_wire.specs.Shapes.{calls_of}
 use Rattle.fl_wire.proofs.Steps.{Come}
 use Rattle.fl_wire.proofs.Calls.{FitRead, left_in, left_from, itself}

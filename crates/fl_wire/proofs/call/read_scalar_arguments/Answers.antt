@@ -2,8 +2,8 @@ use Rattle.std.proofs.Common.{◌≡◌, ◌<◌, map, length, get_or, arith, re
 use Rattle.std.proofs.lemmas.List.{length-map, get_or-map}
 use Rattle.fl_interface.specs.declared.interface.Scalar.TheVariants.{Uint64}
 use Rattle.fl_interface.specs.Interface.{arg_type_of, fixed, scalar}
-use Rattle.fl_value.specs.Value.{datum_of}
-use Rattle.fl_value.specs.Plan.{rank_of}
+use Rattle.fl_value_data.specs.Value.{datum_of}
+use Rattle.fl_value_data.specs.Plan.{rank_of}
 use Rattle.fl_wire.proofs.Parts.{pushed}
 use Rattle.fl_wire.proofs.Scalars.{wide_rank, rises_all, up_on, wide_on, order_start, order_on, order_read}
 use Rattle.fl_wire.proofs.call.read_scalar_arguments.Goals as goal

@@ -1,8 +1,8 @@
 use Rattle.std.proofs.Common.{◌≡◌, ◌+◌, ◌<◌, ◌≤◌, ◌*◌, ◌%◌, drop, map, length, false, vec_len}
 use Rattle.std.specs.Vec.{vec_capacity}
 use Rattle.fl_interface.specs.Interface.{arg_type_of}
-use Rattle.fl_value.specs.Value.{datum_of}
-use Rattle.fl_value.specs.Plan.{never_falls}
+use Rattle.fl_value_data.specs.Value.{datum_of}
+use Rattle.fl_value_data.specs.Plan.{never_falls}
 use Rattle.fl_wire.proofs.Steps.{Come}
 use Rattle.fl_wire.proofs.Scalars.{rises, in_order, behind}
 use Rattle.fl_wire.proofs.call.read_scalar_arguments.Given as goal

@@ -7,8 +7,8 @@ use Rattle.fl_interface.specs.Interface.{TheType, fields_from, type_of}
 use Rattle.fl_interface.specs.Sizes.{greatest_align}
 use Rattle.fl_wire.proofs.Arguments.{align_along, types_align}
 use Rattle.fl_wire.proofs.Encoding.{elements_left, elements_next, scalars_within, enumerators_within, scalars_leaves, enumerators_leaves}
-use Rattle.fl_value.specs.Value.{datum_of, data_from}
-use Rattle.fl_value.specs.declared.value.Value.{Value}
+use Rattle.fl_value_data.specs.Value.{datum_of, data_from}
+use Rattle.fl_value_data.specs.declared.value.Value.{Value}
 use Rattle.fl_layout.specs.Leaves.{elements_onto}
 use Rattle.fl_wire.proofs.Turns.{element_fits, fields_left, field_written}
 use Rattle.fl_wire.specs.Payload.{payload_bytes}
@@ -18,7 +18,7 @@ use Rattle.std.proofs.lemmas.Int.{to_z-of_z}
 use Rattle.fl_interface.specs.declared.interface.Scalar.{Scalar}
 use Rattle.fl_interface.specs.Interface.{scalar}
 use Rattle.fl_interface.specs.Sizes.{align_of}
-use Rattle.fl_value.specs.Value.{Datum, number}
+use Rattle.fl_value_data.specs.Value.{Datum, number}
 use Rattle.fl_layout.specs.Leaves.{Leaf, whole, bits_of, value_onto}
 use denote.Ref.{Bor}
 use Rattle.fl_interface.specs.declared.interface.FixedType.{FixedType}

@@ -1,7 +1,7 @@
 use Rattle.std.proofs.Common.{◌≡◌, true, List, drop, map, length}
 use Rattle.fl_interface.specs.Interface.{type_of, fields_from}
-use Rattle.fl_value.specs.Value.{datum_of, data_from}
-use Rattle.fl_value.specs.Fits.{have_types, all_have_type}
+use Rattle.fl_value_data.specs.Value.{datum_of, data_from}
+use Rattle.fl_value_data.specs.Fits.{have_types, all_have_type}
 use Rattle.fl_layout.specs.Leaves.{Leaf, fields_onto, elements_onto}
 use Rattle.fl_wire.specs.Payload.{payload_bytes}
 use Rattle.fl_wire.proofs.encode.+values.Given as goal

@@ -3,11 +3,11 @@ use Rattle.std.specs.Prelude.{slice_get}
 use Rattle.std.specs.List.{zip}
 use Rattle.std.proofs.lemmas.Result.{on_ok_weaker}
 use Rattle.fl_interface.specs.Interface.{TheArgType, interface_of}
-use Rattle.fl_value.specs.Value.{datum_of, call_of}
-use Rattle.fl_value.specs.declared.value.Value.{Value}
-use Rattle.fl_value.specs.Fits.{are_arguments}
-use Rattle.fl_value.specs.Plan.{arranged}
-use Rattle.fl_value.specs.Tape.{kind}
+use Rattle.fl_value_data.specs.Value.{datum_of, call_of}
+use Rattle.fl_value_data.specs.declared.value.Value.{Value}
+use Rattle.fl_value_data.specs.Fits.{are_arguments}
+use Rattle.fl_value_data.specs.Plan.{arranged}
+use Rattle.fl_value_data.specs.Tape.{kind}
 use Rattle.fl_layout.specs.Leaves.{Leaf, arguments_onto, argument_types}
 use Rattle.fl_wire.specs.Payload.{payload_bytes}
 use Rattle.fl_wire.proofs.Arguments.{arguments_fit}

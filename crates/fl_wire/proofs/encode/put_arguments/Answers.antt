@@ -2,13 +2,13 @@ use Rattle.std.proofs.Common.{◌≡◌, ◌∙◌, ap, subst, sym, false, map, 
 use Rattle.std.specs.List.{zip}
 use Rattle.std.proofs.lemmas.Result.{on_ok_weaker}
 use Rattle.fl_interface.specs.Interface.{arg_type_of}
-use Rattle.fl_value.specs.Value.{datum_of}
-use Rattle.fl_value.specs.Plan.{arranged, of_rank}
-use Rattle.fl_value.specs.declared.value.PlanNo.{PlanNo}
+use Rattle.fl_value_data.specs.Value.{datum_of}
+use Rattle.fl_value_data.specs.Plan.{arranged, of_rank}
+use Rattle.fl_value_data.specs.declared.value.PlanNo.{PlanNo}
 use Rattle.fl_layout.specs.Leaves.{arguments_onto}
 use Rattle.fl_wire.specs.Payload.{payload_bytes}
-use Rattle.fl_value.proofs.Ranked.{one_rank}
-use Rattle.fl_value.specs.Tape.{Argument, kind}
+use Rattle.fl_value_data.proofs.Ranked.{one_rank}
+use Rattle.fl_value_data.specs.Tape.{Argument, kind}
 use Rattle.fl_wire.proofs.encode.put_arguments.Goals as goal
 
 pub returns-in-One : goal.returns-in-One

@@ -2,12 +2,12 @@ use Rattle.std.proofs.Common.{◌∙◌, ap, sym, false, map, List, []}
 use Rattle.std.specs.List.{zip}
 use Rattle.std.proofs.lemmas.Result.{on_ok_weaker}
 use Rattle.fl_interface.specs.Interface.{arg_type_of}
-use Rattle.fl_value.specs.Value.{datum_of}
-use Rattle.fl_value.specs.declared.value.PlanNo.TheVariants.{Two}
+use Rattle.fl_value_data.specs.Value.{datum_of}
+use Rattle.fl_value_data.specs.declared.value.PlanNo.TheVariants.{Two}
 use Rattle.fl_layout.specs.Leaves.{arguments_onto}
 use Rattle.fl_wire.specs.Payload.{payload_bytes}
-use Rattle.fl_value.proofs.Ranked.{arranged_ranks}
-use Rattle.fl_value.specs.Tape.{Argument, kind}
+use Rattle.fl_value_data.proofs.Ranked.{arranged_ranks}
+use Rattle.fl_value_data.specs.Tape.{Argument, kind}
 use Rattle.fl_wire.proofs.encode.put_arranged.Goals as goal
 
 pub returns : goal.returns

@@ -3,10 +3,10 @@ use mir.Syntax.{w128}
 use mir.Val.{SFits}
 use Rattle.std.proofs.lemmas.Int.{to_z-of_z}
 use Rattle.std.proofs.lemmas.List.{drop_all}
-use Rattle.fl_value.specs.Value.{Datum, number, datum_step, datum_of}
-use Rattle.fl_value.specs.declared.value.Value.{Value}
-use Rattle.fl_value.specs.declared.value.Value.TheViews.{the_lemmas}
-use Rattle.fl_value.specs.declared.value.Value.TheFolds.{fold_out-Value}
+use Rattle.fl_value_data.specs.Value.{Datum, number, datum_step, datum_of}
+use Rattle.fl_value_data.specs.declared.value.Value.{Value}
+use Rattle.fl_value_data.specs.declared.value.Value.TheViews.{the_lemmas}
+use Rattle.fl_value_data.specs.declared.value.Value.TheFolds.{fold_out-Value}
 use Rattle.fl_layout.specs.Leaves.{whole, bits_of}
 use Rattle.fl_wire.specs.Payload.{payload_bytes}
 use Rattle.fl_wire.specs.Widths.{fits_width, is_number_within, number_of, numbers_onto}

@@ -1,6 +1,6 @@
 use Rattle.std.proofs.Common.{◌≡◌, true, List, drop, map}
 use Rattle.std.specs.List.{list_all}
-use Rattle.fl_value.specs.Value.{datum_of}
+use Rattle.fl_value_data.specs.Value.{datum_of}
 use Rattle.fl_layout.specs.Leaves.{Leaf}
 use Rattle.fl_wire.specs.Payload.{payload_bytes}
 use Rattle.fl_wire.specs.Widths.{is_number_within, numbers_onto}

@@ -2,8 +2,8 @@ use Rattle.std.proofs.Common.{◌≡◌, ◌++◌, ◌∷◌, [], length, map, d
 use Rattle.std.proofs.lemmas.Slice.Zip.{zip_end, zip_turn}
 use Rattle.std.proofs.lemmas.List.{length-append}
 use Rattle.fl_interface.specs.Interface.{arg_type_of}
-use Rattle.fl_value.specs.Value.{datum_of}
-use Rattle.fl_value.specs.declared.value.PlanNo.TheVariants.{Two}
+use Rattle.fl_value_data.specs.Value.{datum_of}
+use Rattle.fl_value_data.specs.declared.value.PlanNo.TheVariants.{Two}
 use Rattle.fl_wire.specs.Payload.{payload_bytes}
 use Rattle.fl_layout.specs.Leaves.{arguments_onto}
 use Rattle.fl_wire.proofs.Encoding.{as_declared, none_left}
@@ -12,8 +12,8 @@ use Rattle.fl_wire.proofs.Arguments.{zip_done}
 use Rattle.fl_wire.proofs.Turns.{turn_fits, turn_left, turn_written, turn_rises}
 use denote.Ref.{Bor}
 use Rattle.fl_interface.specs.declared.interface.ArgType.{ArgType}
-use Rattle.fl_value.specs.declared.value.Value.{Value}
-use Rattle.fl_value.specs.Tape.{Argument}
+use Rattle.fl_value_data.specs.declared.value.Value.{Value}
+use Rattle.fl_value_data.specs.Tape.{Argument}
 use Rattle.fl_wire.proofs.encode.put_in_order.Goals as goal
 
 pub returns : goal.returns

@@ -1,10 +1,10 @@
 use Rattle.std.proofs.Common.{◌≡◌, true, false, List, drop, map, length}
 use Rattle.std.specs.List.{zip}
 use Rattle.fl_interface.specs.Interface.{arg_type_of}
-use Rattle.fl_value.specs.Value.{datum_of}
-use Rattle.fl_value.specs.Fits.{are_arguments}
-use Rattle.fl_value.specs.Plan.{never_falls}
-use Rattle.fl_value.specs.declared.value.PlanNo.TheVariants.{Two}
+use Rattle.fl_value_data.specs.Value.{datum_of}
+use Rattle.fl_value_data.specs.Fits.{are_arguments}
+use Rattle.fl_value_data.specs.Plan.{never_falls}
+use Rattle.fl_value_data.specs.declared.value.PlanNo.TheVariants.{Two}
 use Rattle.fl_layout.specs.Leaves.{Leaf, arguments_onto}
 use Rattle.fl_wire.specs.Payload.{payload_bytes}
 use Rattle.fl_wire.proofs.Scalars.{rises}

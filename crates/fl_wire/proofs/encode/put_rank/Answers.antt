@@ -2,16 +2,16 @@ use Rattle.std.proofs.Common.{◌≡◌, ◌++◌, ◌∷◌, [], length, ap, �
 use Rattle.std.proofs.lemmas.Slice.Zip.{zip_end, zip_turn}
 use Rattle.std.proofs.lemmas.List.{length-append}
 use Rattle.fl_interface.specs.Interface.{arg_type_of}
-use Rattle.fl_value.specs.Value.{datum_of}
+use Rattle.fl_value_data.specs.Value.{datum_of}
 use Rattle.fl_layout.specs.Leaves.{arguments_onto}
 use Rattle.fl_wire.specs.Payload.{payload_bytes}
-use Rattle.fl_value.specs.Plan.{of_rank}
+use Rattle.fl_value_data.specs.Plan.{of_rank}
 use Rattle.fl_wire.proofs.Arguments.{zip_done}
 use Rattle.fl_wire.proofs.Turns.{turn_fits, turn_left, turn_taken, turn_passed}
 use denote.Ref.{Bor}
 use Rattle.fl_interface.specs.declared.interface.ArgType.{ArgType}
-use Rattle.fl_value.specs.declared.value.Value.{Value}
-use Rattle.fl_value.specs.Tape.{Argument, kind}
+use Rattle.fl_value_data.specs.declared.value.Value.{Value}
+use Rattle.fl_value_data.specs.Tape.{Argument, kind}
 use Rattle.fl_wire.proofs.encode.put_rank.Goals as goal
 
 pub returns : goal.returns

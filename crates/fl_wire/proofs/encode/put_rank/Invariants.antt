@@ -1,12 +1,12 @@
 use Rattle.std.proofs.Common.{◌≡◌, true, false, List, drop, map, length}
 use Rattle.std.specs.List.{zip}
 use Rattle.fl_interface.specs.Interface.{arg_type_of}
-use Rattle.fl_value.specs.Value.{datum_of}
-use Rattle.fl_value.specs.Fits.{are_arguments}
+use Rattle.fl_value_data.specs.Value.{datum_of}
+use Rattle.fl_value_data.specs.Fits.{are_arguments}
 use Rattle.fl_layout.specs.Leaves.{Leaf, arguments_onto}
 use Rattle.fl_wire.specs.Payload.{payload_bytes}
-use Rattle.fl_value.specs.Plan.{of_rank}
-use Rattle.fl_value.specs.Tape.{kind}
+use Rattle.fl_value_data.specs.Plan.{of_rank}
+use Rattle.fl_value_data.specs.Tape.{kind}
 use Rattle.fl_wire.proofs.encode.put_rank.Given as goal
 
 -- the types and the values that are left fit, and their leaves go onto those that stand

@@ -1,6 +1,6 @@
 use Rattle.std.proofs.Common.{◌∙◌, ap, List, ℕ, Some}
 use Rattle.fl_interface.specs.Interface.{interface_of}
-use Rattle.fl_value.specs.Value.{call_of}
+use Rattle.fl_value_data.specs.Value.{call_of}
 use Rattle.fl_layout.specs.Places.{count_for}
 use Rattle.fl_wire.specs.Payload.{frag_on}
 use Rattle.fl_wire.proofs.Bytes.{frag_of_payload, no_frag_past}

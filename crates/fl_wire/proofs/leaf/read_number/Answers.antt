@@ -1,7 +1,7 @@
 use Rattle.std.proofs.Common.{ℕ, ◌+◌, arith, sym, subst, ap, ◌∙◌}
 use Rattle.std.proofs.lemmas.Result.{err_from_is_err_and}
 use Rattle.fl_wire.specs.Shapes.{Stops, number_in}
-use Rattle.fl_wire.specs.declared.leaf.Stop.{Stop}
+use Rattle.fl_wire.specs.declared.leaf.CallReadFault.{CallReadFault}
 use Rattle.fl_wire.specs.Standing.{byte_in}
 use Rattle.fl_wire.proofs.Numbers.{from_low}
 use Rattle.fl_wire.proofs.Sites.{number_got, number_padding, number_short}
@@ -11,7 +11,7 @@ pub returns-in_err-place-clause-stop : goal.returns-in_err-place-clause-stop
 returns-in_err-place-clause-stop c =
     let p = err_from_is_err_and c.from_residual.result c.from_residual.ensures.1 in
     let (is, w) = c.in_err-place.ensures.wrong in
-    rw (p.1, p.2) (λ of_length bound room low at agree. subst (λ (stop : Stop). Stops stop (number_in of_length c.args.width bound) c.args.frags.now low) (sym is)
+    rw (p.1, p.2) (λ of_length bound room low at agree. subst (λ (stop : CallReadFault). Stops stop (number_in of_length c.args.width bound) c.args.frags.now low) (sym is)
     (number_padding of_length c.args.width bound c.requires.width c.args.frags.now low c.args.at w.p at agree c.requires.within w.after w.before w.nonzero w.zeros))
 
 pub returns-then-end-frags-clause-stop : goal.returns-then-end-frags-clause-stop

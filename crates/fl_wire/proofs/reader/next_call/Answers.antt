@@ -5,11 +5,11 @@ use Rattle.std.proofs.lemmas.List.{take_all}
 use Rattle.std.proofs.lemmas.Option.{slice_get-get_or}
 use Rattle.fl_base.specs.declared.fragment.Frag.{Frag}
 use Rattle.fl_interface.specs.Interface.{TheArgType, interface_of, arg_type_of}
-use Rattle.fl_value.specs.Value.{datum_of}
+use Rattle.fl_value_data.specs.Value.{datum_of}
 use Rattle.fl_layout.specs.Leaves.{argument_types}
 use Rattle.fl_wire.specs.Reading.{IsPart}
 use Rattle.fl_wire.specs.Whole.{Whole}
-use Rattle.fl_wire.specs.declared.leaf.Stop.TheVariants.{Padding, Value, Length}
+use Rattle.fl_wire.specs.declared.leaf.CallReadFault.TheVariants.{Padding, Value, Length}
 use Rattle.fl_wire.specs.declared.fault.WireFault.TheVariants.{NotZero, OutOfType, TooLong}
 use Rattle.fl_wire.proofs.Exits.{blank, begins_well, sound_within, start_wrong, whole_of, part_of, cut_wrong, wrong_call, cut_told, stop_told}
 use Rattle.fl_wire.proofs.reader.next_call.Goals as goal

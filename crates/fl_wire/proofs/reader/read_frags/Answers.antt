@@ -2,10 +2,10 @@ use Rattle.std.proofs.Common.{◌∙◌, ℕ, refl, sym, subst, map, length, inl
 use Rattle.std.proofs.lemmas.Result.{err_from_is_err_and}
 use Rattle.std.proofs.lemmas.List.{take_rest}
 use Rattle.std.specs.Prelude.{Option, IfSome}
-use Rattle.fl_value.specs.declared.value.Call.{Call}
+use Rattle.fl_value_data.specs.declared.value.Call.{Call}
 use Rattle.fl_wire.specs.Headers.{StandsFirst}
 use Rattle.fl_interface.specs.Interface.{interface_of}
-use Rattle.fl_value.specs.Value.{call_of}
+use Rattle.fl_value_data.specs.Value.{call_of}
 use Rattle.fl_wire.proofs.Turns.{shorter}
 use Rattle.fl_wire.proofs.Parts.{pushed}
 use Rattle.fl_wire.proofs.Exits.{one_call, calls_then, all_read, leaves_right, wrong_left, nothing_left}

@@ -1,7 +1,7 @@
 use Rattle.std.proofs.Common.{◌≡◌, ◌∙◌, ap, map, Some, refl}
 use Rattle.std.proofs.lemmas.Bool.{lt-ltb, le-ltb}
 use Rattle.fl_interface.specs.Interface.{interface_of, arg_type_of}
-use Rattle.fl_value.specs.Value.{datum_of}
+use Rattle.fl_value_data.specs.Value.{datum_of}
 use Rattle.fl_layout.specs.Leaves.{argument_types}
 use Rattle.fl_layout.specs.Places.{count}
 use Rattle.fl_wire.proofs.Readings.{same_call}

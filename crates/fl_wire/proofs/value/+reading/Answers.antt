@@ -5,7 +5,7 @@ use Rattle.fl_interface.specs.declared.interface.FixedType.{FixedType}
 use Rattle.fl_interface.specs.declared.interface.FixedType.TheViews.{the_lemmas}
 use Rattle.fl_interface.specs.declared.interface.FixedType.TheFolds.{fold-roll-FixedType, fold_out-FixedType}
 use Rattle.fl_interface.specs.Sizes.{greatest_align}
-use Rattle.fl_value.specs.Value.{Datum, fields, elements, datum_of, data_from}
+use Rattle.fl_value_data.specs.Value.{Datum, fields, elements, datum_of, data_from}
 use Rattle.fl_wire.specs.Shapes.{nothing, padding, values_of, struct_from, elements_of, ReadAt, StopsAt}
 use Rattle.fl_wire.proofs.Arguments.{align_along, types_align}
 use Rattle.fl_wire.proofs.Steps.{first_stop, come_rest, come_done}

@@ -2,7 +2,7 @@ use Rattle.std.proofs.Common.{◌≡◌, ◌≤◌, ◌-◌, ◌*◌, drop, map,
 use Rattle.std.specs.Vec.{vec_capacity}
 use Rattle.fl_interface.specs.Interface.{structure, type_of, fields_from}
 use Rattle.fl_interface.specs.Sizes.{greatest_align}
-use Rattle.fl_value.specs.Value.{datum_of}
+use Rattle.fl_value_data.specs.Value.{datum_of}
 use Rattle.fl_wire.specs.Shapes.{fields_of, elements_of}
 use Rattle.fl_wire.proofs.Steps.{Come}
 use Rattle.fl_wire.proofs.Parts.{put_before}

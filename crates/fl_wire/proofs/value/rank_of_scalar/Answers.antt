@@ -2,7 +2,7 @@ use Rattle.std.proofs.Common.{◌≡◌, sym, ◌∙◌, ap}
 use Rattle.fl_interface.specs.declared.interface.Scalar.TheVariants.{Uint64}
 use Rattle.fl_interface.specs.declared.interface.Scalar.{Scalar}
 use Rattle.fl_interface.specs.Interface.{scalar, fixed}
-use Rattle.fl_value.specs.Plan.{rank_of}
+use Rattle.fl_value_data.specs.Plan.{rank_of}
 use Rattle.fl_wire.proofs.Scalars.{wide_rank}
 use Rattle.fl_wire.proofs.value.rank_of_scalar.Goals as goal
 

@@ -1,7 +1,7 @@
 use Rattle.std.proofs.Common.{◌≡◌, ◌+◌, map, ap, sym, subst, IfOk, IfErr}
 use Rattle.std.proofs.lemmas.Result.{err_from_is_err_and}
 use Rattle.fl_interface.specs.Interface.{TheArgType, fixed, text, sized, type_of, arg_type_of}
-use Rattle.fl_value.specs.Value.{Datum, string, elements, datum_of, data_from}
+use Rattle.fl_value_data.specs.Value.{Datum, string, elements, datum_of, data_from}
 use Rattle.fl_wire.specs.Shapes.{length_below, texts_of, elements_of, arguments_of, ReadAt, StopsAt}
 use Rattle.fl_wire.proofs.Steps.{first_stop, come_rest, come_done}
 use Rattle.fl_wire.proofs.Parts.{begins_text, begins_sized, text_start, sized_start}

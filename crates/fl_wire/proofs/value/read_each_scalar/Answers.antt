@@ -1,7 +1,7 @@
 use Rattle.std.proofs.Common.{map, ap, refl, arith}
 use Rattle.std.proofs.lemmas.Result.{err_from_is_err_and}
 use Rattle.fl_interface.specs.Interface.{scalar}
-use Rattle.fl_value.specs.Value.{datum_of}
+use Rattle.fl_value_data.specs.Value.{datum_of}
 use Rattle.fl_wire.proofs.Parts.{pushed, elements_on, elements_stop, elements_end}
 use Rattle.fl_wire.proofs.Wides.{elements_start}
 use Rattle.fl_wire.proofs.value.read_each_scalar.Goals as goal

@@ -1,9 +1,9 @@
 use Rattle.std.proofs.Common.{◌≡◌, inl, inr, false, refl, rules, arith, subst, sym, ◌∙◌, ap}
 use Rattle.std.proofs.lemmas.Result.{err_from_is_err_and}
 use Rattle.fl_interface.specs.Interface.{enumeration}
-use Rattle.fl_value.specs.Value.{Datum, number, datum_of}
+use Rattle.fl_value_data.specs.Value.{Datum, number, datum_of}
 use Rattle.fl_wire.specs.Shapes.{nothing, number_below, values_of, ReadAt}
-use Rattle.fl_wire.specs.declared.leaf.Stop.TheVariants.{Value}
+use Rattle.fl_wire.specs.declared.leaf.CallReadFault.TheVariants.{Value}
 use Rattle.fl_wire.proofs.Steps.{first_stop, begin_wrong}
 use Rattle.fl_wire.proofs.Sites.{below_read, below_stop}
 use Rattle.fl_wire.proofs.Parts.{enumerator_join, begins_enumerator, whole_read}

@@ -2,9 +2,9 @@ use Rattle.std.proofs.Common.{◌≡◌, ℕ, false, ◌*◌, ◌^◌, ◌≤◌
 use Rattle.std.proofs.lemmas.Result.{err_from_is_err_and}
 use Rattle.fl_interface.specs.Interface.{scalar}
 use Rattle.fl_interface.specs.Sizes.{scalar_size}
-use Rattle.fl_value.specs.Value.{Datum, number, datum_of}
+use Rattle.fl_value_data.specs.Value.{Datum, number, datum_of}
 use Rattle.fl_wire.specs.Shapes.{nothing, number_below, values_of, ReadAt, StopsAt}
-use Rattle.fl_wire.specs.declared.leaf.Stop.TheVariants.{Value}
+use Rattle.fl_wire.specs.declared.leaf.CallReadFault.TheVariants.{Value}
 use Rattle.fl_wire.proofs.Arguments.{scalar_align}
 use Rattle.fl_wire.proofs.Agreement.{scalar_room}
 use Rattle.fl_wire.proofs.Steps.{first_stop, begin_wrong}

@@ -1,6 +1,6 @@
 use Rattle.std.proofs.Common.{◌≡◌, ◌+◌, ◌*◌, ◌≤◌, true, List, ℕ, length, sym, ◌∙◌, ap, subst, arith}
 use Rattle.std.specs.List.{list_all}
-use Rattle.fl_value.specs.Fits.{is_text_byte}
+use Rattle.fl_value_data.specs.Fits.{is_text_byte}
 use Rattle.fl_wire.specs.Shapes.{texts_of, ReadAt}
 use Rattle.fl_wire.proofs.Texts.{stretch, texts_there}
 use Rattle.fl_wire.proofs.value.read_text.Goals as goal

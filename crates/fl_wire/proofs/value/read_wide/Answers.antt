@@ -1,7 +1,7 @@
 use Rattle.std.proofs.Common.{◌≡◌, ◌+◌, ◌*◌, pos, arith, rules, subst, sym}
 use Rattle.fl_interface.specs.declared.interface.Scalar.TheVariants.{Uint64}
 use Rattle.fl_interface.specs.Interface.{fixed, scalar}
-use Rattle.fl_value.specs.Value.{Datum, number, datum_of}
+use Rattle.fl_value_data.specs.Value.{Datum, number, datum_of}
 use Rattle.fl_wire.specs.Shapes.{arguments_of, ReadAt}
 use Rattle.fl_wire.proofs.Scalars.{wide_read}
 use Rattle.fl_wire.proofs.value.read_wide.Goals as goal

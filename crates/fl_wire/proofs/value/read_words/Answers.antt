@@ -1,6 +1,6 @@
 use Rattle.std.proofs.Common.{◌≡◌, ◌+◌, ◌-◌, ◌*◌, ◌/◌, ◌%◌, ◌<◌, ◌≤◌, map, arith, rules, ap, ◌∙◌}
 use Rattle.fl_interface.specs.Interface.{fixed, scalar}
-use Rattle.fl_value.specs.Value.{number, datum_of}
+use Rattle.fl_value_data.specs.Value.{number, datum_of}
 use Rattle.fl_wire.specs.Standing.{number_back}
 use Rattle.fl_wire.proofs.Parts.{pushed}
 use Rattle.fl_wire.proofs.Wides.{elements_start, words_at, words_on, words_end}

@@ -1,7 +1,7 @@
 use Rattle.std.proofs.Common.{refl, [], ◌∷◌}
-use Rattle.fl_command.specs.Deeds.{was_read}
-use Rattle.fl_command.specs.Streams.{output_of}
-use Rattle.fl_command.proofs.Deeds.{finished}
+use Rattle.flounder_commands.specs.FileEffects.{was_read}
+use Rattle.flounder_commands.specs.Streams.{output_of}
+use Rattle.flounder_commands.proofs.FileEffects.{finished}
 use Rattle.flounder.specs.Commands.{RunsCores}
 use Rattle.flounder.proofs.Doing.{all_told, cores_failed, cores_so}
 use Rattle.flounder.proofs.cores.cores_read.Goals as goal
@@ -12,8 +12,8 @@ returns-in-Ok g c =
     record {
       ran =
           finished c.print_told.result (λ status. RunsCores c.args.file.now c.args.turns o status (was_read c.args.file.now c.args.content.now ∷ [])) c.finish.result
-          (cores_so c.print_told.result c.args.file.now c.args.content.now c.report_cores_text.new.out.items c.deref.result.now c.args.turns c.in-Ok.end o c.deref.ensures.value
-          (all_told c.args.content.now c.new-told.result.items c.report_cores_text.new.out.items c.args.turns c.in-Ok.end c.in-Ok.ensures.told c.new-told.ensures.items)
+          (cores_so c.print_told.result c.args.file.now c.args.content.now c.run_cores_text.new.out.items c.deref.result.now c.args.turns c.in-Ok.end o c.deref.ensures.value
+          (all_told c.args.content.now c.new-told.result.items c.run_cores_text.new.out.items c.args.turns c.in-Ok.end c.in-Ok.ensures.told c.new-told.ensures.items)
           c.print_told.ensures.told)
           c.finish.ensures.done c.finish.ensures.fault;
     }

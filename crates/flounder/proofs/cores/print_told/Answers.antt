@@ -1,5 +1,5 @@
 use Rattle.std.proofs.Common.{inr}
-use Rattle.fl_command.specs.Streams.{output_of}
+use Rattle.flounder_commands.specs.Streams.{output_of}
 use Rattle.flounder.proofs.Doing.{told_so}
 use Rattle.flounder.proofs.cores.print_told.Goals as goal
 

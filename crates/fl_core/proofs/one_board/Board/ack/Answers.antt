@@ -1,7 +1,7 @@
 use Rattle.std.proofs.Common.{sym, ◌∙◌, arith}
 use Rattle.fl_endpoint.specs.View.{with_parts}
 use Rattle.fl_core.proofs.Readiness.{bound_from, unbound_from}
-use Rattle.fl_core.proofs.Parts.{acks_unbound, acks_queue, acks_ring}
+use Rattle.fl_core.proofs.BoardParts.{acks_unbound, acks_queue, acks_ring}
 use Rattle.fl_core.proofs.Together.{below_seats}
 use Rattle.fl_core.proofs.Seats.{here, reads_before}
 use Rattle.fl_core.proofs.one_board.Board.ack.Goals as goal

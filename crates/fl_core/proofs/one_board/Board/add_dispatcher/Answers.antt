@@ -1,8 +1,8 @@
 use Rattle.std.proofs.Common.{◌∙◌, sym, ap, subst, List, ◌++◌, ◌∷◌, []}
-use Rattle.fl_core.specs.View.{TheDispatcher}
-use Rattle.fl_core.specs.Sound.{IsBoard}
-use Rattle.fl_core.specs.Inside.{board_of}
-use Rattle.fl_core.proofs.Kept.{dispatcher_kept}
+use Rattle.fl_core.specs.BoardView.{TheDispatcher}
+use Rattle.fl_core.specs.BoardSound.{IsBoard}
+use Rattle.fl_core.specs.BoardInside.{board_of}
+use Rattle.fl_core.proofs.BoardKept.{dispatcher_kept}
 use Rattle.fl_core.proofs.one_board.Board.add_dispatcher.Goals as goal
 
 pub invariant_of-self-2 : goal.invariant_of-self-2

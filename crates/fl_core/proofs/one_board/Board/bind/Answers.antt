@@ -13,7 +13,7 @@ invariant_of-self c =
     let at = here c.args.self.now c.self.inside.dispatchers.items c.self.inside.seats.items c.self.inside.calls c.self.view_is c.self.invariant c.args.e c.requires _ _ c.index_mut-seat.ensures.value c.seat.view_is in
     let small : c.args.circuit.0 < 2 ^ 16 = search rules in
     let event = bound_with at.call.parts c.seat.inside.end c.bind.new.self c.args.circuit.0 c.bind.ensures.bound in
-    let adds = c.bind_accounts.ensures.account (with_parts c.seat.inside.end at.call.parts) c.args.circuit.0 small at.of.sound in
+    let adds = c.law_bind_accounts.ensures.account (with_parts c.seat.inside.end at.call.parts) c.args.circuit.0 small at.of.sound in
     end_event_kept c.args.self.now c.self.inside.dispatchers.items c.self.inside.seats.items c.self.inside.calls c.self.view_is c.self.invariant c.args.e c.requires _ _ c.index_mut-seat.ensures.value c.seat.view_is c.bind.new.self (ap (λ (x : TheEnd). x.program) event ∙ adds.0.account.program) (subst Sound (sym event) adds.0.sound)
     (λ ready. subst IsReady (sym c.bind.ensures.bound) (bound_ready c.seat.inside.end c.args.circuit.0 ready))
 

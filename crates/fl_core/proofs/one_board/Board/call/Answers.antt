@@ -1,5 +1,5 @@
 use Rattle.std.proofs.Common.{arith}
-use Rattle.fl_value.specs.Value.{call_of}
+use Rattle.fl_value_data.specs.Value.{call_of}
 use Rattle.fl_endpoint.specs.View.{with_parts}
 use Rattle.fl_endpoint.specs.Events.{Calls}
 use Rattle.fl_core.proofs.Asides.{calls_with}
@@ -12,7 +12,7 @@ pub invariant_of-self : goal.invariant_of-self
 invariant_of-self c =
     let at = here c.args.self.now c.self.inside.dispatchers.items c.self.inside.seats.items c.self.inside.calls c.self.view_is c.self.invariant c.args.e c.requires _ _ c.index_mut-seat.ensures.value c.seat.view_is in
     let event = calls_with at.call.parts c.seat.inside.end c.call.new.self (call_of c.args.call.now) c.call.result c.call.ensures.calls in
-    let adds = c.call_accounts.ensures.account (with_parts c.seat.inside.end at.call.parts) (with_parts c.call.new.self at.call.parts) (call_of c.args.call.now) c.call.result at.of.sound event in
+    let adds = c.law_call_accounts.ensures.account (with_parts c.seat.inside.end at.call.parts) (with_parts c.call.new.self at.call.parts) (call_of c.args.call.now) c.call.result at.of.sound event in
     end_event_kept c.args.self.now c.self.inside.dispatchers.items c.self.inside.seats.items c.self.inside.calls c.self.view_is c.self.invariant c.args.e c.requires _ _ c.index_mut-seat.ensures.value c.seat.view_is c.call.new.self adds.account.program adds.sound (calls_ready c.seat.inside.end c.call.new.self _ _ c.call.ensures.calls)
 
 pub returns-clause-calls : goal.returns-clause-calls

@@ -1,5 +1,5 @@
 use Rattle.std.proofs.Common.{sym, ◌∙◌, subst, length, ◌<◌, arith}
-use Rattle.fl_core.specs.View.{TheBoard}
+use Rattle.fl_core.specs.BoardView.{TheBoard}
 use Rattle.fl_core.proofs.Dispatchers.{due_is, channel_below, place_is, place_below}
 use Rattle.fl_core.proofs.one_board.Board.due.Goals as goal
 

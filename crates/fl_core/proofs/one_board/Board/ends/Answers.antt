@@ -1,5 +1,5 @@
 use Rattle.std.proofs.Common.{length, sym, ap, ◌∙◌}
-use Rattle.fl_core.specs.View.{TheBoard}
+use Rattle.fl_core.specs.BoardView.{TheBoard}
 use Rattle.fl_core.proofs.Together.{as_many}
 use Rattle.fl_core.proofs.one_board.Board.ends.Goals as goal
 

@@ -1,6 +1,6 @@
 use Rattle.std.proofs.Common.{refl, sym, ◌∙◌, arith}
-use Rattle.fl_core.specs.contracts.seat.Seat.{the_view}
-use Rattle.fl_core.specs.Inside.{seat_with}
+use Rattle.fl_core.specs.contracts.seat.EndAtChannel.{the_view}
+use Rattle.fl_core.specs.BoardInside.{seat_with}
 use Rattle.fl_core.proofs.Readiness.{bound_from, unbound_from}
 use Rattle.fl_core.proofs.Together.{below_seats}
 use Rattle.fl_core.proofs.Seats.{here}

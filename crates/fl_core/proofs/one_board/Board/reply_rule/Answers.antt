@@ -11,7 +11,7 @@ pub invariant_of-self : goal.invariant_of-self
 invariant_of-self c =
     let at = here c.args.self.now c.self.inside.dispatchers.items c.self.inside.seats.items c.self.inside.calls c.self.view_is c.self.invariant c.args.e c.requires _ _ c.index_mut-seat.ensures.value c.seat.view_is in
     let event = sets_with at.call.parts c.seat.inside.end c.reply_rule.new.self c.args.msg.0 c.args.reply.0 c.reply_rule.result c.reply_rule.ensures.sets in
-    let adds = c.rule_accounts.ensures.account (with_parts c.seat.inside.end at.call.parts) (with_parts c.reply_rule.new.self at.call.parts) c.args.msg.0 c.args.reply.0 c.reply_rule.result at.of.sound event in
+    let adds = c.law_rule_accounts.ensures.account (with_parts c.seat.inside.end at.call.parts) (with_parts c.reply_rule.new.self at.call.parts) c.args.msg.0 c.args.reply.0 c.reply_rule.result at.of.sound event in
     end_event_kept c.args.self.now c.self.inside.dispatchers.items c.self.inside.seats.items c.self.inside.calls c.self.view_is c.self.invariant c.args.e c.requires _ _ c.index_mut-seat.ensures.value c.seat.view_is c.reply_rule.new.self adds.account.program adds.sound (sets_ready c.seat.inside.end c.reply_rule.new.self _ _ _ c.reply_rule.ensures.sets)
 
 pub returns-clause-sets : goal.returns-clause-sets

@@ -1,7 +1,7 @@
 use Rattle.std.proofs.Common.{sym, ◌∙◌, arith}
 use Rattle.fl_core.proofs.Together.{as_many}
 use Rattle.fl_core.proofs.Dispatchers.{due_is}
-use Rattle.fl_core.proofs.Due.{due_below, ready, place_due, due_kept, due_turns, due_same}
+use Rattle.fl_core.proofs.BoardDue.{due_below, ready, place_due, due_kept, due_turns, due_same}
 use Rattle.fl_core.proofs.one_board.Board.turn.Goals as goal
 
 pub invariant_of-self : goal.invariant_of-self

@@ -11,7 +11,7 @@ pub invariant_of-self : goal.invariant_of-self
 invariant_of-self g c =
     let at = here c.args.self.now c.self.inside.dispatchers.items c.self.inside.seats.items c.self.inside.calls c.self.view_is c.self.invariant c.args.e c.requires _ _ c.index_mut-seat.ensures.value c.seat.view_is in
     let event = writes_with at.call.parts g.P.PutSide.puts c.seat.inside.end c.write.new.self c.args.out.now c.write.new.out c.write.result c.write.ensures.writes in
-    let adds = c.write_accounts.ensures.account (with_parts c.seat.inside.end at.call.parts) (with_parts c.write.new.self at.call.parts) c.args.out.now c.write.new.out c.write.result at.of.sound event in
+    let adds = c.law_write_accounts.ensures.account (with_parts c.seat.inside.end at.call.parts) (with_parts c.write.new.self at.call.parts) c.args.out.now c.write.new.out c.write.result at.of.sound event in
     end_event_kept c.args.self.now c.self.inside.dispatchers.items c.self.inside.seats.items c.self.inside.calls c.self.view_is c.self.invariant c.args.e c.requires _ _ c.index_mut-seat.ensures.value c.seat.view_is c.write.new.self adds.account.program adds.sound (writes_ready g.P.PutSide.puts c.seat.inside.end c.write.new.self _ _ _ c.write.ensures.writes)
 
 pub returns-clause-writes : goal.returns-clause-writes

@@ -1,6 +1,6 @@
 use Rattle.std.proofs.Common.{rules}
 use Rattle.fl_endpoint.specs.Events.{Calls}
-use Rattle.fl_value.specs.Value.{call_of}
+use Rattle.fl_value_data.specs.Value.{call_of}
 use Rattle.fl_endpoint.proofs.Programs.{calls_program}
 use Rattle.fl_endpoint.proofs.end.End.call.Goals as goal
 

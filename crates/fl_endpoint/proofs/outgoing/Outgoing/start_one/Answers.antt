@@ -7,7 +7,7 @@ use Rattle.fl_stub.specs.Frames.{block_of}
 use Rattle.fl_stub.specs.Given.{bytes_given}
 use Rattle.fl_compile.specs.Programs.{program_of}
 use Rattle.fl_endpoint.specs.Stored.{code_of, payload_frags, tape_frags, frags_behind, AreOwn, IsSending}
-use Rattle.fl_endpoint.specs.declared.outgoing.Sending.{Sending}
+use Rattle.fl_endpoint.specs.declared.outgoing.SendingCall.{SendingCall}
 use Rattle.fl_endpoint.proofs.Outgoings.{code_is, own_frags, only_one}
 use Rattle.fl_endpoint.proofs.outgoing.Outgoing.start_one.Goals as goal
 
@@ -26,7 +26,7 @@ pub returns-clause-now : goal.returns-clause-now
 returns-clause-now c = λ waiting.
     let p = program_of c.args.program.now in
     let bytes = bytes_given (block_of (code_of p c.args.msg.0).ops) c.args.tape.now in
-    let s : Sending = record { msg = c.args.msg; next = c.first_frag-next.result; written = 0; count = 1; circuit = c.args.circuit } in
+    let s : SendingCall = record { msg = c.args.msg; next = c.first_frag-next.result; written = 0; count = 1; circuit = c.args.circuit } in
     let long : 0 + 1 ≡ 1 = omega arith in
     subst (λ (payload : Option (Vec ℕ)). IsSending s payload) (sym c.requires.idle) (record {
       own = subst (λ (xs : List Frag). AreOwn xs) (sym (one c)) (own_frags c.args.msg.0 c.args.circuit.0 bytes (search rules) (search rules));
@@ -35,7 +35,7 @@ returns-clause-now c = λ waiting.
 
 pub returns-clause-frags : goal.returns-clause-frags
 returns-clause-frags c =
-    let s : Sending = record { msg = c.args.msg; next = c.first_frag-next.result; written = 0; count = 1; circuit = c.args.circuit } in
+    let s : SendingCall = record { msg = c.args.msg; next = c.first_frag-next.result; written = 0; count = 1; circuit = c.args.circuit } in
     ap (λ (payload : Option (Vec ℕ)). c.first_frag-next.result ∷ frags_behind s payload) c.requires.idle ∙ one c
 
 pub returns-clause-count : goal.returns-clause-count

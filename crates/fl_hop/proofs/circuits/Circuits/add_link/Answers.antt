@@ -2,7 +2,7 @@ use Rattle.std.proofs.Common.{◌≡◌, ◌==◌, sym, ap, ◌∙◌, subst, re
 use Rattle.fl_hop.specs.declared.links.LinkState.{LinkState}
 use Rattle.fl_hop.specs.Table.{link_of, link_fault, with_link}
 use Rattle.fl_hop.specs.Later.{Later}
-use Rattle.fl_hop.specs.Slots.{table_of, Kept}
+use Rattle.fl_hop.specs.Slots.{table_of, SlotsKept}
 use Rattle.fl_hop.proofs.Counting.{kept_link, no_link, may_link, map_fill}
 use Rattle.fl_hop.proofs.Limits.{later_link}
 use Rattle.fl_hop.proofs.circuits.Circuits.add_link.Goals as goal
@@ -20,8 +20,8 @@ none c =
 pub invariant_of-self-2 : goal.invariant_of-self-2
 invariant_of-self-2 c =
     let k = kept_link c.self.inside.core.0 c.self.inside.links.items c.self.inside.cells.items c.self.inside.entries c.self.invariant c.args.neighbour c.if-neighbour-self.false (omega (arith, c.if-count-ge-MAX_LINKS.false, ap length c.as_slice-count.ensures.value)) (none c) in
-    subst (λ v. Kept c.self.inside.core.0 v c.add_cells.new.cells.items c.self.inside.entries) (sym (links c))
-    (subst (λ w. Kept c.self.inside.core.0 (c.self.inside.links.items ++ record { neighbour = c.args.neighbour; opened = 0; taken = 0 } ∷ []) w c.self.inside.entries) (sym c.in-Ok-add_cells.ensures.added) k)
+    subst (λ v. SlotsKept c.self.inside.core.0 v c.add_cells.new.cells.items c.self.inside.entries) (sym (links c))
+    (subst (λ w. SlotsKept c.self.inside.core.0 (c.self.inside.links.items ++ record { neighbour = c.args.neighbour; opened = 0; taken = 0 } ∷ []) w c.self.inside.entries) (sym c.in-Ok-add_cells.ensures.added) k)
 
 added : (c : goal.After-push_reserved) → table_of c.self.inside.core.0 c.push_reserved.new.self.items c.add_cells.new.cells.items c.self.inside.entries ≡ with_link c.args.self.now c.args.neighbour
 added c =
@@ -40,7 +40,7 @@ pub add_cells-requires : goal.add_cells-requires
 add_cells-requires c = omega (arith, c.self.invariant.whole, c.if-count-ge-MAX_LINKS.false, ap length c.as_slice-count.ensures.value)
 
 pub invariant_of-self : goal.invariant_of-self
-invariant_of-self c = subst (λ v. Kept c.self.inside.core.0 v c.self.inside.cells.items c.self.inside.entries) (sym c.reserve.ensures.items) c.self.invariant
+invariant_of-self c = subst (λ v. SlotsKept c.self.inside.core.0 v c.self.inside.cells.items c.self.inside.entries) (sym c.reserve.ensures.items) c.self.invariant
 
 pub returns-in_default-clause-refused : goal.returns-in_default-clause-refused
 returns-in_default-clause-refused c =
@@ -55,8 +55,8 @@ returns-in_default-clause-kept c = ap (λ v. table_of c.self.inside.core.0 v c.s
 
 pub invariant_of-self-in_default-add_cells : goal.invariant_of-self-in_default-add_cells
 invariant_of-self-in_default-add_cells c =
-    subst (λ v. Kept c.self.inside.core.0 v c.add_cells.new.cells.items c.self.inside.entries) (sym c.reserve.ensures.items)
-    (subst (λ w. Kept c.self.inside.core.0 c.self.inside.links.items w c.self.inside.entries) (sym c.in_default-add_cells.ensures.kept) c.self.invariant)
+    subst (λ v. SlotsKept c.self.inside.core.0 v c.add_cells.new.cells.items c.self.inside.entries) (sym c.reserve.ensures.items)
+    (subst (λ w. SlotsKept c.self.inside.core.0 c.self.inside.links.items w c.self.inside.entries) (sym c.in_default-add_cells.ensures.kept) c.self.invariant)
 
 pub returns-in_default-add_cells-clause-refused : goal.returns-in_default-add_cells-clause-refused
 returns-in_default-add_cells-clause-refused c =

@@ -1,11 +1,11 @@
 use Rattle.std.proofs.Common.{refl, sym, ap, subst, ◌∙◌, false}
 use Rattle.fl_base.specs.declared.identity.Side.TheVariants.{Server}
 use Rattle.fl_hop.specs.declared.entry.Entry.{Entry}
-use Rattle.fl_hop.specs.declared.entry.Way.TheVariants.{Link, End}
+use Rattle.fl_hop.specs.declared.entry.HopTarget.TheVariants.{Link, End}
 use Rattle.fl_hop.specs.Numbers.{count_taking}
 use Rattle.fl_hop.specs.Openings.{arrived}
 use Rattle.fl_hop.specs.Later.{Later}
-use Rattle.fl_hop.specs.Slots.{table_of, Kept}
+use Rattle.fl_hop.specs.Slots.{table_of, SlotsKept}
 use Rattle.fl_hop.proofs.Lists.{within}
 use Rattle.fl_hop.proofs.Counting.{Due, due_few, kept_taking, grown_taking, taken_now}
 use Rattle.fl_hop.proofs.Laters.{due_at, due_fresh, none_stands}
@@ -48,7 +48,7 @@ pub invariant_of-self-2 : goal.invariant_of-self-2
 unfolding entry
 invariant_of-self-2 c =
     let x = so c in
-    subst (λ v. Kept c.self.inside.core.0 v c.enter.new.cells.items c.enter.new.entries) (sym c.count_taking.ensures) x.kept
+    subst (λ v. SlotsKept c.self.inside.core.0 v c.enter.new.cells.items c.enter.new.entries) (sym c.count_taking.ensures) x.kept
 
 pub returns-clause-arrived : goal.returns-clause-arrived
 unfolding entry

@@ -1,11 +1,11 @@
 use Rattle.std.proofs.Common.{◌<◌, ap, sym, subst, ◌∙◌, slice_index_or, slice_set, Result, Ok, Err, length-set}
 use Rattle.std.proofs.lemmas.Option.{slice_get-get_or}
 use Rattle.std.proofs.lemmas.Result.{err_from_is_err_and}
-use Rattle.fl_hop.specs.declared.entry.Way.{Way}
-use Rattle.fl_hop.specs.declared.entry.Way.TheVariants.{Link, End}
+use Rattle.fl_hop.specs.declared.entry.HopTarget.{HopTarget}
+use Rattle.fl_hop.specs.declared.entry.HopTarget.TheVariants.{Link, End}
 use Rattle.fl_hop.specs.declared.fault.HopFault.{HopFault}
-use Rattle.fl_hop.specs.declared.forward.First.{First}
-use Rattle.fl_hop.specs.declared.forward.First.TheVariants.{Nothing, Acknowledged, Monitor, Goes}
+use Rattle.fl_hop.specs.declared.forward.HopFront.{HopFront}
+use Rattle.fl_hop.specs.declared.forward.HopFront.TheVariants.{Nothing, Acknowledged, Monitor, Goes}
 use Rattle.fl_hop.specs.Forward.{Finds}
 use Rattle.fl_hop.proofs.Crossing.{went_on, looked_at, refused_at, first_after, incoming, change}
 use Rattle.fl_hop.proofs.circuits.Circuits.forward.Given.{Over}
@@ -29,7 +29,7 @@ returns-in_err-look g c =
 
 pub returns-in-Nothing : goal.returns-in-Nothing
 returns-in-Nothing g c =
-    let ok : First → Result First HopFault = λ f. Ok f in
+    let ok : HopFront → Result HopFront HopFault = λ f. Ok f in
     let before = slice_index_or c.args.sides.now c.from-place.result c.index-sides-place.result in
     let there = slice_get-get_or c.args.sides.now c.from-place.result c.index-sides-place.result c.if-place-sides.false in
     let finds = subst (λ r. Finds g.S.TakeSide.takes g.S.TakeSide.front (incoming c.args.self.now c.args.link.0) r (change before c.look.new.from)) (c.in_ok-look.was ∙ ap ok c.in-Nothing.is) c.look.ensures.finds in
@@ -41,7 +41,7 @@ returns-in-Nothing g c =
 
 pub returns-in-Acknowledged : goal.returns-in-Acknowledged
 returns-in-Acknowledged g c =
-    let ok : First → Result First HopFault = λ f. Ok f in
+    let ok : HopFront → Result HopFront HopFault = λ f. Ok f in
     let before = slice_index_or c.args.sides.now c.from-place.result c.index-sides-place.result in
     let there = slice_get-get_or c.args.sides.now c.from-place.result c.index-sides-place.result c.if-place-sides.false in
     let finds = subst (λ r. Finds g.S.TakeSide.takes g.S.TakeSide.front (incoming c.args.self.now c.args.link.0) r (change before c.look.new.from)) (c.in_ok-look.was ∙ ap ok c.in-Acknowledged.is) c.look.ensures.finds in
@@ -53,7 +53,7 @@ returns-in-Acknowledged g c =
 
 pub returns-in-Monitor : goal.returns-in-Monitor
 returns-in-Monitor g c =
-    let ok : First → Result First HopFault = λ f. Ok f in
+    let ok : HopFront → Result HopFront HopFault = λ f. Ok f in
     let before = slice_index_or c.args.sides.now c.from-place.result c.index-sides-place.result in
     let there = slice_get-get_or c.args.sides.now c.from-place.result c.index-sides-place.result c.if-place-sides.false in
     let finds = subst (λ r. Finds g.S.TakeSide.takes g.S.TakeSide.front (incoming c.args.self.now c.args.link.0) r (change before c.look.new.from)) (c.in_ok-look.was ∙ ap ok c.in-Monitor.is) c.look.ensures.finds in
@@ -65,8 +65,8 @@ returns-in-Monitor g c =
 
 pub returns-in-Goes-default-End : goal.returns-in-Goes-default-End
 returns-in-Goes-default-End g c =
-    let ok : First → Result First HopFault = λ f. Ok f in
-    let goes : Way → First = λ w. Goes c.in-Goes-default-End.frag w in
+    let ok : HopFront → Result HopFront HopFault = λ f. Ok f in
+    let goes : HopTarget → HopFront = λ w. Goes c.in-Goes-default-End.frag w in
     let before = slice_index_or c.args.sides.now c.from-place.result c.index-sides-place.result in
     let there = slice_get-get_or c.args.sides.now c.from-place.result c.index-sides-place.result c.if-place-sides.false in
     let finds = subst (λ r. Finds g.S.TakeSide.takes g.S.TakeSide.front (incoming c.args.self.now c.args.link.0) r (change before c.look.new.from)) (c.in_ok-look.was ∙ ap ok (c.in-Goes-default-End.is ∙ ap goes c.in-Goes-default-End.field-1-is)) c.look.ensures.finds in
@@ -81,8 +81,8 @@ finds_on : (g : Over) (c : goal.After-frag-in-Goes-default-Link-1 g)
     → Finds g.S.TakeSide.takes g.S.TakeSide.front (incoming c.args.self.now c.args.link.0) (Ok (Goes c.in-Goes-default-Link.frag (Link c.in-Goes-default-Link.next c.in-Goes-default-Link.circuit)))
     (change (slice_index_or c.args.sides.now c.from-place.result c.index-sides-place.result) c.look.new.from)
 finds_on g c =
-    let ok : First → Result First HopFault = λ f. Ok f in
-    let goes : Way → First = λ w. Goes c.in-Goes-default-Link.frag w in
+    let ok : HopFront → Result HopFront HopFault = λ f. Ok f in
+    let goes : HopTarget → HopFront = λ w. Goes c.in-Goes-default-Link.frag w in
     let before = slice_index_or c.args.sides.now c.from-place.result c.index-sides-place.result in
     subst (λ r. Finds g.S.TakeSide.takes g.S.TakeSide.front (incoming c.args.self.now c.args.link.0) r (change before c.look.new.from))
     (c.in_ok-look.was ∙ ap ok (c.in-Goes-default-Link.is ∙ ap goes c.in-Goes-default-Link.field-1-is)) c.look.ensures.finds
@@ -103,8 +103,8 @@ cross-outcome-requires-clause-call g c = (finds_on g c).4
 
 pub returns-in-Goes-default-Link : goal.returns-in-Goes-default-Link
 returns-in-Goes-default-Link g c =
-    let goes : Way → First = λ w. Goes c.in-Goes-default-Link.frag w in
-    let ok : First → Result First HopFault = λ f. Ok f in
+    let goes : HopTarget → HopFront = λ w. Goes c.in-Goes-default-Link.frag w in
+    let ok : HopFront → Result HopFront HopFault = λ f. Ok f in
     let way = c.in-Goes-default-Link.is ∙ ap goes c.in-Goes-default-Link.field-1-is in
     let before = slice_index_or c.args.sides.now c.from-place.result c.index-sides-place.result in
     let answer = c.in_ok-look.was ∙ ap ok way in

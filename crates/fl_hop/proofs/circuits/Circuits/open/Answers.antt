@@ -2,11 +2,11 @@ use Rattle.std.proofs.Common.{refl, sym, ap, subst, ◌∙◌, inl, inr, false, 
 use Rattle.fl_base.specs.declared.identity.Circuit.{Circuit}
 use Rattle.fl_base.specs.declared.identity.Side.TheVariants.{Client}
 use Rattle.fl_hop.specs.declared.entry.Entry.{Entry}
-use Rattle.fl_hop.specs.declared.entry.Way.TheVariants.{Link, End}
+use Rattle.fl_hop.specs.declared.entry.HopTarget.TheVariants.{Link, End}
 use Rattle.fl_hop.specs.Numbers.{count_opening}
 use Rattle.fl_hop.specs.Openings.{opened}
 use Rattle.fl_hop.specs.Later.{Later}
-use Rattle.fl_hop.specs.Slots.{table_of, Kept}
+use Rattle.fl_hop.specs.Slots.{table_of, SlotsKept}
 use Rattle.fl_hop.proofs.Counting.{Next, next_few, kept_opening, grown_opening, opened_now}
 use Rattle.fl_hop.proofs.Laters.{next_at, next_fresh, none_stands}
 use Rattle.fl_hop.proofs.Opening.{Opened, opened_so, same_slots}
@@ -46,7 +46,7 @@ pub invariant_of-self-2 : goal.invariant_of-self-2
 unfolding entry
 invariant_of-self-2 c =
     let x = so c in
-    subst (λ v. Kept c.self.inside.core.0 v c.enter.new.cells.items c.enter.new.entries) (sym c.count_opening.ensures) x.kept
+    subst (λ v. SlotsKept c.self.inside.core.0 v c.enter.new.cells.items c.enter.new.entries) (sym c.count_opening.ensures) x.kept
 
 pub returns-clause-opened : goal.returns-clause-opened
 unfolding entry

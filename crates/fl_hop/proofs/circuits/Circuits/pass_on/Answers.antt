@@ -1,12 +1,12 @@
 use Rattle.std.proofs.Common.{◌≡◌, refl, sym, ap, subst, ◌∙◌, inl, inr, false, List, option_map}
 use Rattle.fl_base.specs.declared.identity.Circuit.{Circuit}
 use Rattle.fl_hop.specs.declared.entry.Entry.{Entry}
-use Rattle.fl_hop.specs.declared.entry.Way.TheVariants.{Link}
+use Rattle.fl_hop.specs.declared.entry.HopTarget.TheVariants.{Link}
 use Rattle.fl_hop.specs.declared.links.LinkState.{LinkState}
 use Rattle.fl_hop.specs.Numbers.{count_opening, count_taking}
 use Rattle.fl_hop.specs.Openings.{passed_on}
 use Rattle.fl_hop.specs.Later.{Later}
-use Rattle.fl_hop.specs.Slots.{table_of, Kept}
+use Rattle.fl_hop.specs.Slots.{table_of, SlotsKept}
 use Rattle.fl_hop.proofs.Lists.{within}
 use Rattle.fl_hop.proofs.Counting.{Due, Next, due_few, next_few, kept_taking, kept_opening, grown_taking, grown_opening, grown_on, taken_now, opened_now, taken_stays, next_stays}
 use Rattle.fl_hop.proofs.Laters.{due_at, next_at, due_fresh, next_fresh, none_stands}
@@ -83,7 +83,7 @@ pub invariant_of-self-2 : goal.invariant_of-self-2
 unfolding entry
 invariant_of-self-2 c =
     let x = so c in
-    subst (λ v. Kept c.self.inside.core.0 v c.enter.new.cells.items c.enter.new.entries) (sym (counted c)) x.kept
+    subst (λ v. SlotsKept c.self.inside.core.0 v c.enter.new.cells.items c.enter.new.entries) (sym (counted c)) x.kept
 
 pub returns-clause-passed_on : goal.returns-clause-passed_on
 unfolding entry more

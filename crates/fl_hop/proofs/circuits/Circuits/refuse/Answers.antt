@@ -1,7 +1,7 @@
 use Rattle.std.proofs.Common.{sym, ap, subst, ◌∙◌}
 use Rattle.fl_hop.specs.Numbers.{after_taking}
 use Rattle.fl_hop.specs.Later.{Later}
-use Rattle.fl_hop.specs.Slots.{table_of, Kept}
+use Rattle.fl_hop.specs.Slots.{table_of, SlotsKept}
 use Rattle.fl_hop.proofs.Lists.{within}
 use Rattle.fl_hop.proofs.Counting.{Due, due_few, kept_taking, grown_taking}
 use Rattle.fl_hop.proofs.Laters.{due_at, later_links}
@@ -21,7 +21,7 @@ after c = due_at c.self.inside.core.0 c.self.inside.links.items c.self.inside.ce
 
 pub invariant_of-self : goal.invariant_of-self
 invariant_of-self c =
-    subst (λ v. Kept c.self.inside.core.0 v c.self.inside.cells.items c.self.inside.entries) (sym c.count_taking.ensures)
+    subst (λ v. SlotsKept c.self.inside.core.0 v c.self.inside.cells.items c.self.inside.entries) (sym c.count_taking.ensures)
     (kept_taking c.self.inside.core.0 c.self.inside.links.items c.self.inside.cells.items c.self.inside.entries c.self.invariant c.args.link.0 c.args.circuit.0 (after c))
 
 pub returns-clause-counted : goal.returns-clause-counted

@@ -1,5 +1,5 @@
 use Rattle.std.proofs.Common.{map}
-use Rattle.fl_value.specs.Value.{datum_of}
+use Rattle.fl_value_data.specs.Value.{datum_of}
 use Rattle.fl_layout.proofs.Fixed.{fixed_length_is}
 use Rattle.fl_layout.proofs.arrange.MessagePlan.length_with.Goals as goal
 

@@ -1,7 +1,7 @@
 use Rattle.std.proofs.Common.{List, map, ap, sym, ◌∙◌, subst}
 use Rattle.fl_interface.specs.Interface.{interface_of}
 use Rattle.fl_layout.specs.declared.arrange.MessagePlan.{MessagePlan}
-use Rattle.fl_layout.specs.declared.extent.Placed.{Placed}
+use Rattle.fl_layout.specs.declared.extent.PlacedArg.{PlacedArg}
 use Rattle.fl_layout.specs.declared.extent.Fill.TheVariants.{Empty}
 use Rattle.fl_layout.specs.Extents.{placed_of, end_of_all, filled_up}
 use Rattle.fl_layout.specs.Layouts.{payload_length, IsLeast}
@@ -15,5 +15,5 @@ returns-in-Some c =
     let i = interface_of self.interface in
     let there = found (λ (m : MessagePlan). m.placed.items) (placed_of self.plan) self.messages.items i.messages c.args.msg.0 c.in-Some.message.now self.laid (sym c.in-Some.ensures.found) in
     let law = least_is self.plan i c.args.msg.0 there.what self.interface.within there.at in
-    let same = c.limit.ensures.exact ∙ ap (λ (ps : List Placed). end_of_all 0 1 (map (filled_up Empty) ps)) (c.deref.ensures.value ∙ there.is) in
+    let same = c.limit.ensures.exact ∙ ap (λ (ps : List PlacedArg). end_of_all 0 1 (map (filled_up Empty) ps)) (c.deref.ensures.value ∙ there.is) in
     record { least = subst (IsLeast (payload_length self.plan i) i c.args.msg.0) (sym same) law }

@@ -2,9 +2,9 @@ use Rattle.std.proofs.Common.{◌≡◌, true, List, map, ap, sym, refl, ◌∙�
 use Rattle.std.specs.List.{list_all}
 use Rattle.fl_interface.specs.Interface.{interface_of}
 use Rattle.fl_layout.specs.declared.arrange.MessagePlan.{MessagePlan}
-use Rattle.fl_layout.specs.declared.extent.Placed.{Placed}
-use Rattle.fl_value.specs.declared.value.Value.{Value}
-use Rattle.fl_value.specs.Value.{datum_of, call_of}
+use Rattle.fl_layout.specs.declared.extent.PlacedArg.{PlacedArg}
+use Rattle.fl_value_data.specs.declared.value.Value.{Value}
+use Rattle.fl_value_data.specs.Value.{datum_of, call_of}
 use Rattle.fl_layout.specs.Extents.{placed_of, end_of_all, filled_by, is_short}
 use Rattle.fl_layout.proofs.Found.{found}
 use Rattle.fl_layout.proofs.Lengths.{is_sent, sent_length, length_by}
@@ -22,7 +22,7 @@ length_with-requires c =
     let short = placed_short self.plan there.what call.args sent.within sent.has in
     record {
       short = subst (λ (vs : List Value). list_all (is_short (map datum_of vs)) c.in-Some.message.now.placed.items ≡ true) (sym c.deref.ensures.value)
-          (subst (λ (ps : List Placed). list_all (is_short call.args) ps ≡ true) (sym there.is) short);
+          (subst (λ (ps : List PlacedArg). list_all (is_short call.args) ps ≡ true) (sym there.is) short);
     }
 
 pub returns-in-Some-clause-size : goal.returns-in-Some-clause-size
@@ -35,7 +35,7 @@ returns-in-Some-clause-size c =
     let law = sent_length self.plan i there.what call sent ∙ ap (end_of_all 0 1) (length_by self.plan there.what call.args sent.has) in
     c.length_with.ensures.exact
     ∙ ap (λ (vs : List Value). end_of_all 0 1 (map (filled_by (map datum_of vs)) c.in-Some.message.now.placed.items)) c.deref.ensures.value
-    ∙ ap (λ (ps : List Placed). end_of_all 0 1 (map (filled_by call.args) ps)) there.is
+    ∙ ap (λ (ps : List PlacedArg). end_of_all 0 1 (map (filled_by call.args) ps)) there.is
     ∙ sym law
 
 pub returns-in-Some-clause-small : goal.returns-in-Some-clause-small

@@ -1,7 +1,7 @@
 use Rattle.std.proofs.Common.{ℕ, List, sym, subst}
 use Rattle.std.proofs.lemmas.Result.{IfOk-weaker}
 use Rattle.fl_interface.specs.Interface.{interface_of}
-use Rattle.fl_value.specs.Value.{call_of}
+use Rattle.fl_value_data.specs.Value.{call_of}
 use Rattle.fl_wire.specs.Reading.{Means}
 use Rattle.fl_compile.specs.Programs.{program_of}
 use Rattle.fl_machine.specs.declared.recv.Phase.{Phase}

@@ -3,7 +3,7 @@ use Rattle.std.specs.Vec.{vec_capacity}
 use Rattle.std.proofs.lemmas.List.{length-map, length-append, length-replicate, take_all}
 use Rattle.std.proofs.lemmas.Option.{slice_get_read}
 use Rattle.fl_base.specs.declared.fragment.Frag.{Frag}
-use Rattle.fl_machine.specs.declared.rooms.Span.{Span}
+use Rattle.fl_machine.specs.declared.rooms.RoomRange.{RoomRange}
 use Rattle.fl_machine.specs.Rooms.{IsOpened, room_in}
 use Rattle.fl_machine.proofs.Laid.{are_opened, are_same, is_open, is_opened}
 use Rattle.fl_machine.proofs.rooms.Rooms.open.Goals as goal
@@ -36,7 +36,7 @@ returns-clause-rooms c =
     are_same
     (are_opened (length t.block.items) (vec_capacity t.block) (vec_capacity c.resize.new.self) t.spans.items t.owed c.args.place s c.requires.rooms at c.in-None.is c.in-Ok.ensures.capacity)
     (ap length e ∙ length-append t.block.items (replicate s.size empty) ∙ ap (λ (n : ℕ). length t.block.items + n) (length-replicate s.size empty))
-    (ap (λ (n : ℕ). let x : Span = record { size = s.size; start = Some n } in set t.spans.items c.args.place x) start)
+    (ap (λ (n : ℕ). let x : RoomRange = record { size = s.size; start = Some n } in set t.spans.items c.args.place x) start)
     refl
 
 pub returns-clause-opened : goal.returns-clause-opened
@@ -48,7 +48,7 @@ returns-clause-opened c =
     let start : c.len-start.result ≡ length t.block.items = c.len-start.ensures ∙ t.block.ok.0 in
     let e = grown t.block.items c.resize.new.self.items c.len-start.result s.size start (c.in-Ok.ensures.items ∙ ap (λ (n : ℕ). take (c.len-start.result + s.size) t.block.items ++ replicate (c.len-start.result + s.size - n) empty) t.block.ok.0) in
     let opened = is_opened t.block.items (replicate s.size empty) (vec_capacity t.block) t.spans.items t.owed c.args.place s c.requires.rooms at (length-replicate s.size empty) in
-    let spans : List Span = let x : Span = record { size = s.size; start = Some c.len-start.result } in set t.spans.items c.args.place x in
+    let spans : List RoomRange = let x : RoomRange = record { size = s.size; start = Some c.len-start.result } in set t.spans.items c.args.place x in
     subst (λ (block : List Frag). IsOpened (map (room_in t.block.items) t.spans.items) c.args.place (map (room_in block) spans)) (sym e)
-    (subst (λ (n : ℕ). let x : Span = record { size = s.size; start = Some n } in
+    (subst (λ (n : ℕ). let x : RoomRange = record { size = s.size; start = Some n } in
     IsOpened (map (room_in t.block.items) t.spans.items) c.args.place (map (room_in (t.block.items ++ replicate s.size empty)) (set t.spans.items c.args.place x))) (sym start) opened)

@@ -13,7 +13,7 @@ unreachable-requires-in-None c =
     let m = c.args.message.now in
     let none : None ≡ Some (frag_for m)
     = sym c.in-None.is ∙ c.peek_frag.ensures.frag
-    ∙ peeked c.sends_fragments.ensures.sends m c.in_ok-tape.ensures.widths (program_of p).interface (program_of p).plan c.number-number.result.0 c.in-Some.code.now c.in_ok-tape.tape.items (frags_left c.in-Some.code.now c.start-run.result)
+    ∙ peeked c.law_sends_fragments.ensures.sends m c.in_ok-tape.ensures.widths (program_of p).interface (program_of p).plan c.number-number.result.0 c.in-Some.code.now c.in_ok-tape.tape.items (frags_left c.in-Some.code.now c.start-run.result)
     (ap (λ (q : Program). (program_of q).interface) c.program.ensures.program ∙ c.self.invariant.interface)
     (ap (λ (q : Program). (program_of q).plan) c.program.ensures.program ∙ c.self.invariant.plan)
     c.number-number.ensures.number c.in-Some.ensures.exact c.in_ok-tape.ensures.tape c.start-run.ensures.given in
@@ -25,7 +25,7 @@ returns-clause-frag c =
     let m = c.args.message.now in
     let some : Some c.in-Some-peek_frag.frag ≡ Some (frag_for m)
     = sym c.in-Some-peek_frag.is ∙ c.peek_frag.ensures.frag
-    ∙ peeked c.sends_fragments.ensures.sends m c.in_ok-tape.ensures.widths (program_of p).interface (program_of p).plan c.number-number.result.0 c.in-Some.code.now c.in_ok-tape.tape.items (frags_left c.in-Some.code.now c.start-run.result)
+    ∙ peeked c.law_sends_fragments.ensures.sends m c.in_ok-tape.ensures.widths (program_of p).interface (program_of p).plan c.number-number.result.0 c.in-Some.code.now c.in_ok-tape.tape.items (frags_left c.in-Some.code.now c.start-run.result)
     (ap (λ (q : Program). (program_of q).interface) c.program.ensures.program ∙ c.self.invariant.interface)
     (ap (λ (q : Program). (program_of q).plan) c.program.ensures.program ∙ c.self.invariant.plan)
     c.number-number.ensures.number c.in-Some.ensures.exact c.in_ok-tape.ensures.tape c.start-run.ensures.given in

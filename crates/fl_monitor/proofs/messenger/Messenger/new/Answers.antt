@@ -1,6 +1,6 @@
 use Rattle.std.proofs.Common.{◌∙◌, sym, subst}
 use Rattle.fl_interface.specs.Interface.{TheInterface}
-use Rattle.fl_value.specs.declared.value.PlanNo.{PlanNo}
+use Rattle.fl_value_data.specs.declared.value.PlanNo.{PlanNo}
 use Rattle.fl_machine.specs.Receiving.{HoldsTapes}
 use Rattle.fl_monitor.specs.Intermon.{intermon}
 use Rattle.fl_monitor.proofs.Tapes.{holds_tapes}

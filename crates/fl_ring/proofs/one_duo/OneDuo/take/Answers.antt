@@ -3,7 +3,7 @@ use Rattle.fl_link.specs.Looks.{taken}
 use Rattle.fl_link.specs.Queue.{BeginsWith}
 use Rattle.fl_ring.specs.Duo.{TheDuo, HalfTakes, side_of}
 use Rattle.fl_ring.specs.Halves.{InStep, half_of}
-use Rattle.fl_ring.specs.declared.one_duo.Which.{Which}
+use Rattle.fl_ring.specs.declared.one_duo.WhichSide.{WhichSide}
 use Rattle.fl_ring.proofs.DuoSteps.{turned}
 use Rattle.fl_ring.proofs.DuoGoes.{one_kept, one_steps, two_steps}
 use Rattle.fl_ring.proofs.one_duo.OneDuo.take.Goals as goal
@@ -34,7 +34,7 @@ returns-in-One c =
           let s = subst (λ (ws : List ℕ). InStep n ws i.one i.two) (sym c.deref.ensures.value) c.self.invariant.1 in
           let there = subst (λ (ws : List ℕ). BeginsWith (half_of n ws i.one i.two).waiting frag) c.deref.ensures.value (c.take_at.ensures.whole n i.two s frag e) in
           let shown = subst (λ (d : TheDuo). BeginsWith d.one.waiting frag) c.self.view_is there in
-          subst (λ (w : Which). BeginsWith (side_of w c.args.self.now).waiting frag) (sym c.in-One.is) shown;
+          subst (λ (w : WhichSide). BeginsWith (side_of w c.args.self.now).waiting frag) (sym c.in-One.is) shown;
     }
 
 pub take_at-requires-in-Two : goal.take_at-requires-in-Two
@@ -63,5 +63,5 @@ returns-in-Two c =
           let s = subst (λ (ws : List ℕ). InStep n ws i.two i.one) (sym c.deref-in-Two.ensures.value) (turned n i.words.items i.one i.two c.self.invariant.1) in
           let there = subst (λ (ws : List ℕ). BeginsWith (half_of n ws i.two i.one).waiting frag) c.deref-in-Two.ensures.value (c.take_at-in-Two.ensures.whole n i.one s frag e) in
           let shown = subst (λ (d : TheDuo). BeginsWith d.two.waiting frag) c.self.view_is there in
-          subst (λ (w : Which). BeginsWith (side_of w c.args.self.now).waiting frag) (sym c.in-Two.is) shown;
+          subst (λ (w : WhichSide). BeginsWith (side_of w c.args.self.now).waiting frag) (sym c.in-Two.is) shown;
     }

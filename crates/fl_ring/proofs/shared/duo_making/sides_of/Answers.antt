@@ -1,6 +1,6 @@
 use Rattle.std.proofs.Common.{[], inl, inr, ap, sym, ◌∙◌, refl, arith}
 use Rattle.atomic_table.specs.Table.{Me}
-use Rattle.fl_ring.specs.declared.shared.duo_board.Holder.TheVariants.{One, Two}
+use Rattle.fl_ring.specs.declared.shared.duo_board.SeatHolder.TheVariants.{One, Two}
 use Rattle.fl_ring.specs.declared.shared.duo_board.DuoView.{DuoView}
 use Rattle.fl_ring.specs.SharedDuo.{side_one_of, side_two_of}
 use Rattle.fl_ring.proofs.SharedDuoSides.{fresh_side, fresh_shows}

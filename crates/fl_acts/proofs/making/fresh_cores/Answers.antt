@@ -1,5 +1,0 @@
-use Rattle.fl_acts.proofs.Makes.{one_fresh}
-use Rattle.fl_acts.proofs.making.fresh_cores.Goals as goal
-
-pub loop-core-preserved : goal.loop-core-preserved
-loop-core-preserved c = one_fresh c.loop-core.core _ _ _ c.loop-core.invariant c.in_ok-core.ensures.empty c.in_ok-push.ensures.items

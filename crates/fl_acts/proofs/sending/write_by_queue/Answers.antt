@@ -1,4 +1,0 @@
-use Rattle.fl_acts.proofs.sending.write_by_queue.Goals as goal
-
-pub returns : goal.returns
-returns c = record { writes = record { whole = c.whole.ensures.whole; still = c.whole-2.ensures.whole; event = (c.write-outcome.result, c.write-outcome.ensures.writes, c.wrote.ensures.wrote) } }

@@ -1,9 +1,0 @@
-use Rattle.fl_running.specs.Run.{ways}
-use Rattle.fl_alone.proofs.Counting.{counts_are, runs_are}
-use Rattle.fl_alone.proofs.law.runs_are_the_machines.Goals as goal
-
-pub returns : goal.returns
-returns g c = record {
-  counts = counts_are (ways g.S.PutSide.puts g.S.TakeSide.takes g.S.TakeSide.front) c.steps_agree.ensures.agree;
-  runs = runs_are (ways g.S.PutSide.puts g.S.TakeSide.takes g.S.TakeSide.front) c.steps_agree.ensures.agree;
-}

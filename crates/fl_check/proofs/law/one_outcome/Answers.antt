@@ -1,5 +1,0 @@
-use Rattle.fl_check.proofs.Firsts as firsts
-use Rattle.fl_check.proofs.law.one_outcome.Goals as goal
-
-pub returns : goal.returns
-returns c = record { unique = firsts.one_outcome }

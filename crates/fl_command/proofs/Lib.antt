@@ -1,2 +1,0 @@
-pub mod Deeds
-mod Doing

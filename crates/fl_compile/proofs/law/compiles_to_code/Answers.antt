@@ -1,5 +1,0 @@
-use Rattle.fl_compile.proofs.Lawful.{compiles_to_code}
-use Rattle.fl_compile.proofs.law.compiles_to_code.Goals as goal
-
-pub returns : goal.returns
-returns c = record { code = compiles_to_code }

@@ -1,5 +1,0 @@
-use Rattle.fl_compile.proofs.Lawful.{sends_calls}
-use Rattle.fl_compile.proofs.law.sends_calls.Goals as goal
-
-pub returns : goal.returns
-returns c = record { sends = sends_calls }

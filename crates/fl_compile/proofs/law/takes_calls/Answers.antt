@@ -1,5 +1,0 @@
-use Rattle.fl_compile.proofs.Lawful.{takes_calls}
-use Rattle.fl_compile.proofs.law.takes_calls.Goals as goal
-
-pub returns : goal.returns
-returns c = record { takes = takes_calls }

@@ -1,5 +1,0 @@
-use Rattle.fl_compile.proofs.Telling.{tells_faults}
-use Rattle.fl_compile.proofs.law.tells_faults.Goals as goal
-
-pub returns : goal.returns
-returns c = record { tells = tells_faults }

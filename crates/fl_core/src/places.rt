@@ -1,0 +1,51 @@
+//! Where ends are on the board, by their names.
+
+ghost use Rattle.std.specs.Prelude.{◌≡◌, ◌<◌, ◌≤◌, Some, None, length, slice_set};
+ghost use Rattle.fl_core.specs.View.{side_number, slot_of, place_in};
+
+use fl_base::{EndId, MAX_BINDINGS, Side};
+
+/// So many names there are.
+pub(crate) const NAMES: usize = 2 * MAX_BINDINGS;
+
+// A binding's client stands before its server.
+fn side_number(side: Side) -> usize
+    ensures number { result ≡ side_number side }
+    ensures few { result ≤ 1 }
+{
+    match side {
+        Side::Client => 0,
+        Side::Server => 1,
+    }
+}
+
+/// Where the end of a name is, if it is at this core. Nothing is searched.
+pub(crate) fn place_in(places: &[Option<usize>], name: EndId) -> Option<usize>
+    ensures place { result ≡ place_in places.now name }
+{
+    if name.binding >= MAX_BINDINGS {
+        return None;
+    }
+    match places.get(2 * name.binding + side_number(name.side)) {
+        Some(place) => *place,
+        None => None,
+    }
+}
+
+/// Notes where the end of a name is.
+pub(crate) fn put_place(places: &mut Vec<Option<usize>>, name: EndId, place: usize)
+    requires few { name.binding < 1024 }
+    requires all { length places.old.items ≡ 2048 }
+    ensures put { places.new.items ≡ slice_set places.old.items (slot_of name) (Some place) }
+{
+    places[2 * name.binding + side_number(name.side)] = Some(place);
+}
+
+/// Notes that the end of a name isn't here.
+pub(crate) fn clear_place(places: &mut Vec<Option<usize>>, name: EndId)
+    requires few { name.binding < 1024 }
+    requires all { length places.old.items ≡ 2048 }
+    ensures clear { places.new.items ≡ slice_set places.old.items (slot_of name) None }
+{
+    places[2 * name.binding + side_number(name.side)] = None;
+}

@@ -1,0 +1,51 @@
+-- A circuit that may be asked for, and what came of asking.
+use Rattle.std.proofs.Common.{◌≡◌, refl, sym, ap, ℕ, ◌<◌, ◌&&◌, Bool, true, nat_lt, length, Option, Some, None, Result, Ok, Err}
+use Rattle.std.proofs.lemmas.Bool.{and_parts, ltb-true}
+use Rattle.std.specs.Prelude.{not, is_some}
+use Rattle.fl_monitor.specs.Monitors.{can_say}
+use Rattle.fl_core.specs.Making.{Asked, Asks}
+use Rattle.fl_core.specs.View.{TheCore, place_of, client_of}
+use Rattle.fl_core.specs.declared.fault.OpenFault.{OpenFault}
+use Rattle.fl_core.specs.declared.fault.OpenFault.TheVariants.{Board, Monitor}
+use Rattle.fl_core.specs.declared.core_job.OpenRequest.{OpenRequest}
+use Rattle.fl_core_run.specs.Run.{TheRun}
+use Rattle.fl_core_run.specs.Steps.{lacks_to_open, may_ask}
+
+pub record MayAsk {S : Type 0} (s : TheRun S) (request : OpenRequest) : Type 0 where
+  pub dispatcher : request.dispatcher < length s.core.board.dispatchers
+  pub program : request.interface < length s.offers.programs
+  pub few : request.opening.binding < 1024
+  pub new : place_of s.core (client_of request.opening.binding) ≡ None
+
+none_there : (o : Option ℕ) → not (is_some o) ≡ true → o ≡ None
+none_there None is = refl
+none_there (Some e) is = absurd (cc)
+
+all_four : (a b c d e : Bool) → true ≡ ((((a && b) && c) && d) && e) → (a ≡ true) × (b ≡ true) × (c ≡ true) × (d ≡ true)
+all_four a b c d e h =
+    let four = and_parts (((a && b) && c) && d) e (sym h) in
+    let three = and_parts ((a && b) && c) d four.0 in
+    let two = and_parts (a && b) c three.0 in
+    let one = and_parts a b two.0 in
+    (one.0, one.1, two.1, three.1)
+
+pub may : {S : Type 0} (s : TheRun S) (request : OpenRequest) → true ≡ may_ask s request → MayAsk s request
+may s request h =
+    let all =
+    all_four (nat_lt request.dispatcher (length s.core.board.dispatchers)) (nat_lt request.interface (length s.offers.programs)) (nat_lt request.opening.binding 1024)
+    (not (is_some (place_of s.core (client_of request.opening.binding)))) (can_say s.core.monitor.outboxes request.link.0) h in
+    record {
+      dispatcher = ltb-true request.dispatcher (length s.core.board.dispatchers) all.0;
+      program = ltb-true request.interface (length s.offers.programs) all.1;
+      few = ltb-true request.opening.binding 1024 all.2;
+      new = none_there (place_of s.core (client_of request.opening.binding)) all.3;
+    }
+
+-- where it was refused here, the core is as it was, and where memory was refused all is
+core_left : (a : Asked) (k k2 : TheCore) (fault : OpenFault) → Asks a k (Err fault) k2 → k2 ≡ k
+core_left a k k2 (Board fault) h = h.1
+core_left a k k2 (Monitor fault) h = h.2
+
+pub asked_left : {S : Type 0} (a : Asked) (s : TheRun S) (k : TheCore) (answer : Result ℕ OpenFault) → lacks_to_open answer ≡ true → Asks a s.core answer k → record s { core = k } ≡ s
+asked_left a s k (Ok e) is h = absurd (cc)
+asked_left a s k (Err fault) is h = ap (λ (c : TheCore). record s { core = c }) (core_left a s.core k fault h)

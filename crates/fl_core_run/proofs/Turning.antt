@@ -1,0 +1,42 @@
+-- A turn over the side that its end takes from.
+use Rattle.std.proofs.Common.{◌≡◌, refl, sym, subst, ℕ, ◌<◌, true, length, slice_set, slice_index_or, Result}
+use Rattle.std.proofs.lemmas.Option.{slice_get_read}
+use Rattle.std.proofs.lemmas.Bool.{ltb-true}
+use Rattle.std.specs.declared.alloc.AllocError.{AllocError}
+use Rattle.fl_link.specs.Queue.{TheQueue, QueueTakes}
+use Rattle.fl_core.specs.declared.turn_answer.TurnAnswer.{TurnAnswer}
+use Rattle.fl_core.specs.BoardTurns.{Turns, over}
+use Rattle.fl_core.specs.declared.wiring.Inlet.{Inlet}
+use Rattle.fl_core.specs.declared.wiring.Inlet.TheVariants.{Queue, Side}
+use Rattle.fl_core.specs.View.{TheCore}
+use Rattle.fl_core.specs.Ends.{OnBoard}
+use Rattle.fl_core_run.specs.Run.{SideRelations, TheRun, lends_in}
+use Rattle.fl_core_run.specs.LogEntries.{dispatcher_turn, TurnsOver}
+
+pub over_queue : {S : Type 0} (w : SideRelations S) (d e n : ℕ) (i : Inlet) (answer : Result TurnAnswer AllocError) (s : TheRun S) (k2 : TheCore) (p q : TheQueue)
+    → i ≡ Queue n → lends_in s i ≡ true → p ≡ slice_index_or s.queues n p → OnBoard s.core (λ b c. Turns QueueTakes d e (over b p) answer (over c q)) k2
+    → TurnsOver w (dispatcher_turn d e answer) i s (record s { core = k2; queues = slice_set s.queues n q })
+over_queue {S} w d e n i answer s k2 p q is lent value turns =
+    let lends : lends_in s (Queue n) ≡ true = subst (λ (j : Inlet). lends_in s j ≡ true) is lent in
+    let below : n < length s.queues = ltb-true n (length s.queues) lends in
+    subst (λ (j : Inlet). TurnsOver w (dispatcher_turn d e answer) j s (record s { core = k2; queues = slice_set s.queues n q })) (sym is) (record {
+      before = p;
+      before_is = slice_get_read s.queues (length s.queues) n p refl below value;
+      after = q;
+      event = turns;
+      rest = refl;
+    })
+
+pub over_side : {S : Type 0} (w : SideRelations S) (d e n : ℕ) (i : Inlet) (answer : Result TurnAnswer AllocError) (s : TheRun S) (k2 : TheCore) (p q : S)
+    → i ≡ Side n → lends_in s i ≡ true → p ≡ slice_index_or s.rings n p → OnBoard s.core (λ b c. Turns w.takes d e (over b p) answer (over c q)) k2
+    → TurnsOver w (dispatcher_turn d e answer) i s (record s { core = k2; rings = slice_set s.rings n q })
+over_side {S} w d e n i answer s k2 p q is lent value turns =
+    let lends : lends_in s (Side n) ≡ true = subst (λ (j : Inlet). lends_in s j ≡ true) is lent in
+    let below : n < length s.rings = ltb-true n (length s.rings) lends in
+    subst (λ (j : Inlet). TurnsOver w (dispatcher_turn d e answer) j s (record s { core = k2; rings = slice_set s.rings n q })) (sym is) (record {
+      before = p;
+      before_is = slice_get_read s.rings (length s.rings) n p refl below value;
+      after = q;
+      event = turns;
+      rest = refl;
+    })

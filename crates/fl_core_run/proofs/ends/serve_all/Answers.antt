@@ -1,0 +1,25 @@
+use Rattle.std.proofs.Common.{refl, length}
+use Rattle.fl_base.specs.declared.identity.Side.TheVariants.{Client}
+use Rattle.fl_core_run.specs.Run.{ways, run_of}
+use Rattle.fl_core_run.specs.Steps.{Serves}
+use Rattle.fl_core_run.specs.Turn.{At}
+use Rattle.fl_core_run.specs.Stops.{LeavesJob}
+use Rattle.fl_core_run.proofs.Stopping.{on_err}
+use Rattle.fl_core_run.proofs.Rows.{for_one_more, stopped_at, up_to}
+use Rattle.fl_core_run.proofs.ends.serve_all.Goals as goal
+
+pub loop-k-init : goal.loop-k-init
+loop-k-init g c = refl
+
+pub loop-k-preserved : goal.loop-k-preserved
+loop-k-preserved g c = for_one_more c.args.ends.now c.loop-k.k _ (run_of c.args.run.now) (run_of c.loop-k.run) (run_of c.write.new.run) c.loop-k-test.true (Serves (ways g.S.PutSide.puts g.S.TakeSide.takes g.S.TakeSide.front) c.args.jobs.now)
+    c.loop-k.invariant (run_of c.try_job.new.run, c.in_ok-try_job.ensures.tries, c.write.ensures.writes)
+
+pub returns-in_err-try_job-clause-stops : goal.returns-in_err-try_job-clause-stops
+returns-in_err-try_job-clause-stops g c = on_err c.from_residual.result
+    (stopped_at c.args.ends.now c.loop-k.k (record { binding = 0; side = Client }) (run_of c.args.run.now) (run_of c.loop-k.run) (run_of c.try_job.new.run) c.loop-k-test.true (Serves (ways g.S.PutSide.puts g.S.TakeSide.takes g.S.TakeSide.front) c.args.jobs.now) LeavesJob
+    c.loop-k.invariant (record { same = c.in_err-try_job.ensures.kept }))
+
+pub returns-clause-serves : goal.returns-clause-serves
+returns-clause-serves g c = up_to (At c.args.ends.now (Serves (ways g.S.PutSide.puts g.S.TakeSide.takes g.S.TakeSide.front) c.args.jobs.now)) c.loop-k.k (length c.args.ends.now) (run_of c.args.run.now) (run_of c.loop-k.run)
+    c.loop-k.invariant c.loop-k.auto.k-end c.loop-k-test.false

@@ -1,0 +1,23 @@
+use Rattle.std.proofs.Common.{refl, sym, subst, ℕ, Option}
+use Rattle.fl_core_run.specs.Run.{ways, run_of}
+use Rattle.fl_core_run.specs.Steps.{reply_rule, RulesAt}
+use Rattle.fl_core_run.proofs.Calling.{ruled}
+use Rattle.fl_core_run.proofs.ends.try_rule.Goals as goal
+
+pub sound_at-requires : goal.sound_at-requires
+sound_at-requires g c = record { there = c.in-Some.ensures.within; place = sym c.in-Some.ensures.place }
+
+pub reply_rule-requires : goal.reply_rule-requires
+reply_rule-requires g c = c.in-Some.ensures.within
+
+pub advance-requires : goal.advance-requires
+advance-requires g c = record { left = c.requires.left }
+
+pub returns-in-None : goal.returns-in-None
+returns-in-None g c = record { rules = subst (λ (o : Option ℕ). RulesAt (ways g.S.PutSide.puts g.S.TakeSide.takes g.S.TakeSide.front) (reply_rule c.args.name c.args.msg c.args.reply) o (run_of c.args.run.now) (run_of c.args.run.now)) c.in-None.ensures.place refl }
+
+pub returns-in-Some : goal.returns-in-Some
+returns-in-Some g c = record {
+  rules = ruled (ways g.S.PutSide.puts g.S.TakeSide.takes g.S.TakeSide.front) c.args.name (run_of c.args.run.now) (run_of c.advance.new.run) c.in-Some.e c.reply_rule.new.self
+      c.reply_rule.result c.in-Some.ensures.place c.sound.ensures.sound c.sound_at.ensures.sound c.args.msg c.args.reply c.reply_rule.ensures.sets c.advance.ensures.advanced;
+}

@@ -1,0 +1,19 @@
+use Rattle.std.proofs.Common.{refl, length}
+use Rattle.fl_core_run.specs.Run.{ways, run_of}
+use Rattle.fl_core_run.specs.Steps.{Says}
+use Rattle.fl_core_run.specs.Turn.{At}
+use Rattle.fl_core_run.proofs.Rows.{for_one_more, up_to}
+use Rattle.fl_core_run.proofs.links.say_all.Goals as goal
+
+pub loop-k-init : goal.loop-k-init
+loop-k-init g c = refl
+
+pub loop-k-preserved : goal.loop-k-preserved
+loop-k-preserved g c = for_one_more c.args.links.now c.loop-k.k _ (run_of c.args.run.now) (run_of c.loop-k.run) (run_of c.say.new.run) c.loop-k-test.true (Says (ways g.S.PutSide.puts g.S.TakeSide.takes g.S.TakeSide.front))
+    c.loop-k.invariant c.say.ensures.says
+
+pub returns : goal.returns
+returns g c = record {
+  says = up_to (At c.args.links.now (Says (ways g.S.PutSide.puts g.S.TakeSide.takes g.S.TakeSide.front))) c.loop-k.k (length c.args.links.now) (run_of c.args.run.now) (run_of c.loop-k.run)
+      c.loop-k.invariant c.loop-k.auto.k-end c.loop-k-test.false;
+}

@@ -1,0 +1,12 @@
+-- The promises rest on these, in this order.
+pub mod EndProgress
+pub mod Run
+pub mod LogEntries
+pub mod Steps
+pub mod Turn
+pub mod OpeningStatus
+pub mod Finished
+pub mod Ran
+pub mod Stops
+-- This one only the proofs need.
+pub mod Inside

@@ -1,0 +1,147 @@
+//! What is done for a dispatcher: a turn.
+
+ghost use Rattle.std.specs.Prelude.{◌≡◌, ◌<◌, true, false, length, Some, Err, IfOk, IfErr, OnOk, OnErr};
+ghost use Rattle.fl_value_data.specs.declared.value.Call.{Call as TheCall};
+ghost use Rattle.fl_core.specs.BoardView.{due};
+ghost use Rattle.fl_core.specs.declared.turn_answer.TurnAnswer.TheVariants.{Handle};
+ghost use Rattle.fl_core.specs.View.{place_of, inlet_of};
+ghost use Rattle.fl_core_run.specs.Run.{ways, run_of, lends_in};
+ghost use Rattle.fl_core_run.specs.LogEntries.{dispatcher_turn, TurnsOver, turned, Does, NotesTurned};
+ghost use Rattle.fl_core_run.specs.Steps.{awaits, TakesTurn};
+ghost use Rattle.fl_core_run.specs.Turn.{Swept};
+ghost use Rattle.fl_core_run.specs.Stops.{LeavesTurn, StopsIn};
+
+use crate::end_progress::find;
+use crate::ends::next_job;
+use crate::lent::lent_due;
+use crate::running::{RunningCore, sound, sound_at};
+use fl_base::EndId;
+use fl_core::{CoreJob, Inlet, TurnAnswer};
+use fl_link::{PutSide, TakeSide};
+use std::alloc::AllocError;
+
+// A turn of a dispatcher at the end that is due, over where it takes from.
+fn turn_over<S: PutSide + TakeSide + Drop>(
+    run: &mut RunningCore<S>,
+    dispatcher: usize,
+    e: usize,
+    inlet: Inlet,
+) -> Result<TurnAnswer, AllocError>
+    requires there { dispatcher < length run.old.core.board.dispatchers }
+    requires due { due run.old.core.board dispatcher ≡ Some e }
+    requires inlet { inlet_of run.old.core e ≡ Some inlet }
+    requires lent { lends_in (run_of run.old) inlet ≡ true }
+    ensures turns { TurnsOver (ways S.puts S.takes S.front) (dispatcher_turn dispatcher e result) inlet (run_of run.old) (run_of run.new) }
+{
+    match inlet {
+        Inlet::Queue(n) => run.core.turn(dispatcher, e, &mut run.queues[n]),
+        Inlet::Side(n) => run.core.turn(dispatcher, e, &mut run.rings[n]),
+        Inlet::Arrivals => run.core.turn_arrivals(dispatcher, e),
+    }
+}
+
+// Whether a turn found a fragment that it could do something with.
+fn found_something(answer: &TurnAnswer) -> bool {
+    match answer {
+        TurnAnswer::Handle(_) | TurnAnswer::Part | TurnAnswer::Ready => true,
+        TurnAnswer::Quiet | TurnAnswer::Full | TurnAnswer::Nothing | TurnAnswer::Refused(_) => {
+            false
+        }
+    }
+}
+
+// The same, where the end has this name.
+#[tactic(auto, using(crate::proofs::Counting::turn_done))]
+fn turn_named<S: PutSide + TakeSide + Drop>(
+    run: &mut RunningCore<S>,
+    dispatcher: usize,
+    name: EndId,
+    e: usize,
+    inlet: Inlet,
+) -> Result<TurnAnswer, AllocError>
+    requires there { dispatcher < length run.old.core.board.dispatchers }
+    requires place { place_of run.old.core name ≡ Some e }
+    requires due { due run.old.core.board dispatcher ≡ Some e }
+    requires inlet { inlet_of run.old.core e ≡ Some inlet }
+    requires lent { lends_in (run_of run.old) inlet ≡ true }
+    ensures turned { IfOk result (λ answer. Does (ways S.puts S.takes S.front) (turned dispatcher name inlet answer) (run_of run.old) (run_of run.new)) }
+    ensures left { IfErr result (λ error. TurnsOver (ways S.puts S.takes S.front) (dispatcher_turn dispatcher e (Err error)) inlet
+        (run_of run.old) (run_of run.new)) }
+{
+    let answer = turn_over(run, dispatcher, e, inlet)?;
+    if found_something(&answer) {
+        run.idle = 0;
+    }
+    Ok(answer)
+}
+
+// Notes a call that was handled.
+fn note<S>(run: &mut RunningCore<S>, name: EndId, answer: TurnAnswer) -> Result<(), AllocError>
+    ensures notes { OnOk result (NotesTurned name answer (run_of run.old) (run_of run.new)) }
+    ensures left { OnErr result ((call : TheCall) × (answer ≡ Handle call) × (run_of run.new ≡ run_of run.old)) }
+{
+    match answer {
+        TurnAnswer::Handle(call) => match find(&run.progresses, name) {
+            None => Ok(()),
+            Some(place) => run.progresses[place].take(call),
+        },
+        TurnAnswer::Part
+        | TurnAnswer::Ready
+        | TurnAnswer::Quiet
+        | TurnAnswer::Full
+        | TurnAnswer::Nothing
+        | TurnAnswer::Refused(_) => Ok(()),
+    }
+}
+
+// Whether an end is still to be opened, or a reply rule still to be set there.
+fn awaits<S>(run: &RunningCore<S>, jobs: &[CoreJob], name: EndId) -> bool
+    ensures awaits { result ≡ awaits jobs.now (run_of run.now) name }
+{
+    match next_job(run, jobs, name) {
+        None => false,
+        Some(job) => match job {
+            CoreJob::Open(_) => true,
+            CoreJob::Reply { .. } => true,
+            CoreJob::Call { .. } => false,
+        },
+    }
+}
+
+// One turn of a dispatcher, at the end that is due; it waits while that end has something to wait for.
+fn turn<S: PutSide + TakeSide + Drop>(
+    run: &mut RunningCore<S>,
+    jobs: &[CoreJob],
+    dispatcher: usize,
+) -> Result<(), AllocError>
+    ensures turns { OnOk result (TakesTurn (ways S.puts S.takes S.front) jobs.now dispatcher (run_of run.old) (run_of run.new)) }
+    ensures left { OnErr result (LeavesTurn (ways S.puts S.takes S.front) jobs.now dispatcher (run_of run.old) (run_of run.new)) }
+{
+    sound(run);
+    let Some(at) = lent_due(run, dispatcher) else {
+        return Ok(());
+    };
+    let name = run.core.name(at.end);
+    sound_at(run, name, at.end);
+    if awaits(run, jobs, name) {
+        return Ok(());
+    }
+    let answer = turn_named(run, dispatcher, name, at.end, at.inlet)?;
+    note(run, name, answer)
+}
+
+/// A turn for each dispatcher.
+pub(crate) fn turn_all<S: PutSide + TakeSide + Drop>(
+    run: &mut RunningCore<S>,
+    jobs: &[CoreJob],
+    dispatchers: usize,
+) -> Result<(), AllocError>
+    ensures turns { OnOk result (Swept (TakesTurn (ways S.puts S.takes S.front) jobs.now) dispatchers (run_of run.old) (run_of run.new)) }
+    ensures stops { OnErr result (StopsIn (TakesTurn (ways S.puts S.takes S.front) jobs.now) (LeavesTurn (ways S.puts S.takes S.front) jobs.now) dispatchers
+        (run_of run.old) (run_of run.new)) }
+{
+    for dispatcher in 0..dispatchers {
+        turn(run, jobs, dispatcher)?;
+    }
+    Ok(())
+}

@@ -1,0 +1,238 @@
+//! What is done for a link: a forward, a monitor write, an acknowledgement.
+
+ghost use Rattle.std.specs.Prelude.{◌≡◌, ◌≢◌, ◌<◌, false, length, slice_get, Some, Ok, IfOk, OnOk, OnErr};
+ghost use Rattle.fl_base.specs.Control.{is_ack_only, with_circuit, bare};
+ghost use Rattle.fl_base.specs.declared.fragment.Frag.{Frag as TheFrag};
+ghost use Rattle.fl_link.specs.Looks.{saw, found};
+ghost use Rattle.fl_core_run.specs.Run.{ways, run_of};
+ghost use Rattle.fl_core_run.specs.LogEntries.{passed, arrived, heard, Does, NotesHeard};
+ghost use Rattle.fl_core_run.specs.Steps.{lacks_to_hear, HandsOut, Forwards, Says, Tells};
+ghost use Rattle.fl_core_run.specs.Turn.{ForEach};
+ghost use Rattle.fl_core_run.specs.Stops.{LeavesMessage, StopsAmong};
+ghost use Rattle.fl_core.specs.declared.answer.LinkFront.TheVariants.{Message};
+ghost use Rattle.fl_core_run.specs.Inside.{Fronts, Foresees};
+
+use crate::end_progress::find;
+use crate::lent::lent_link_side;
+use crate::running::{RunningCore, sound};
+use fl_base::{Circuit, EndId, Frag, LinkId};
+use fl_core::{LinkFront, LinkReceiveFault, MonitorAnswer};
+use fl_hop::ForwardOutcome;
+use fl_link::{PutFault, PutSide, TakeSide};
+use std::alloc::AllocError;
+
+// ---- forwards
+
+// Whether memory was refused.
+fn is_memory(answer: Result<MonitorAnswer, LinkReceiveFault>) -> bool
+    ensures memory { result ≡ lacks_to_hear answer }
+{
+    match answer {
+        Ok(_) => false,
+        Err(fault) => matches!(fault, LinkReceiveFault::Memory),
+    }
+}
+
+// Hears the monitors' message that was seen to stand first.
+fn hear<S: PutSide + TakeSide + Drop>(
+    run: &mut RunningCore<S>,
+    n: usize,
+    link: LinkId,
+    frag: &Frag,
+) -> Result<Result<MonitorAnswer, LinkReceiveFault>, AllocError>
+    requires side { n < length run.old.rings.items }
+    requires link { link.0 < length run.old.core.link_sides }
+    requires seen { (p : S) → slice_get run.old.rings.items n ≡ Some p → S.front p ≡ saw (bare frag.now) }
+    ensures heard { IfOk result (λ answer. Does (ways S.puts S.takes S.front) (heard n link frag.now answer) (run_of run.old) (run_of run.new)) }
+    ensures memory { IfOk result (λ answer. lacks_to_hear answer ≡ false) }
+    ensures kept { OnErr result (run_of run.new ≡ run_of run.old) }
+{
+    let answer = run
+        .core
+        .hear(link, &mut run.rings[n], frag, &run.names, &run.programs);
+    if is_memory(answer) {
+        return Err(AllocError);
+    }
+    if !matches!(answer, Ok(MonitorAnswer::Full)) {
+        run.idle = 0;
+    }
+    Ok(answer)
+}
+
+// Notes the word that an opening is refused.
+fn note<S>(run: &mut RunningCore<S>, answer: Result<MonitorAnswer, LinkReceiveFault>)
+    ensures notes { NotesHeard answer (run_of run.old) (run_of run.new) }
+{
+    let Ok(MonitorAnswer::OpeningRefused(end, reason)) = answer else {
+        return;
+    };
+    if let Some(place) = find(&run.progresses, end) {
+        run.progresses[place].refuse(reason);
+    }
+}
+
+// Passes on a fragment that was seen to stand first on one side, over another.
+fn cross<S: PutSide + TakeSide + Drop>(
+    run: &mut RunningCore<S>,
+    from: usize,
+    to: usize,
+    frag: &Frag,
+    circuit: Circuit,
+) -> ForwardOutcome
+    requires from { from < length run.old.rings.items }
+    requires to { to < length run.old.rings.items }
+    requires two { from ≢ to }
+    requires seen { Fronts (ways S.puts S.takes S.front) from frag.now (run_of run.old) }
+    requires call { is_ack_only (with_circuit circuit.0 frag.now) ≡ false }
+    ensures passed { Does (ways S.puts S.takes S.front) (passed from to frag.now circuit result) (run_of run.old) (run_of run.new) }
+{
+    let sent = frag.with_circuit(circuit);
+    match run.rings[to].put(&sent) {
+        Err(PutFault::Full) => ForwardOutcome::Full,
+        Err(PutFault::Spent) => ForwardOutcome::Spent,
+        Ok(()) => {
+            let _ = run.rings[from].take();
+            run.idle = 0;
+            ForwardOutcome::Moved
+        }
+    }
+}
+
+// Brings a fragment that was seen to stand first to an end.
+fn arrive<S: PutSide + TakeSide + Drop>(
+    run: &mut RunningCore<S>,
+    n: usize,
+    link: LinkId,
+    frag: &Frag,
+    end: EndId,
+) -> Result<ForwardOutcome, LinkReceiveFault>
+    requires side { n < length run.old.rings.items }
+    requires link { link.0 < length run.old.core.link_sides }
+    requires seen { (p : S) → slice_get run.old.rings.items n ≡ Some p → S.front p ≡ saw (bare frag.now) }
+    requires call { is_ack_only (with_circuit 0 frag.now) ≡ false }
+    ensures arrived { Does (ways S.puts S.takes S.front) (arrived n link frag.now end result) (run_of run.old) (run_of run.new) }
+{
+    run.core.arrive(link, &mut run.rings[n], frag, end)
+}
+
+// Deals with what a look found.
+fn hand_out<S: PutSide + TakeSide + Drop>(
+    run: &mut RunningCore<S>,
+    n: usize,
+    link: LinkId,
+    found: Result<LinkFront, LinkReceiveFault>,
+) -> Result<(), AllocError>
+    requires side { n < length run.old.rings.items }
+    requires link { link.0 < length run.old.core.link_sides }
+    requires foreseen { Foresees (ways S.puts S.takes S.front) n found (run_of run.old) }
+    ensures hands_out { OnOk result (HandsOut (ways S.puts S.takes S.front) n link found (run_of run.old) (run_of run.new)) }
+    ensures left { OnErr result ((frag : TheFrag) × (found ≡ Ok (Message frag)) × (run_of run.new ≡ run_of run.old)) }
+{
+    sound(run);
+    match found {
+        Ok(LinkFront::Nothing) | Err(_) => Ok(()),
+        Ok(LinkFront::Acknowledged) => {
+            run.idle = 0;
+            Ok(())
+        }
+        Ok(LinkFront::Message(frag)) => {
+            let answer = hear(run, n, link, &frag)?;
+            note(run, answer);
+            Ok(())
+        }
+        Ok(LinkFront::Onward(frag, to, circuit)) => {
+            if to != n && to < run.rings.len() {
+                let _ = cross(run, n, to, &frag, circuit);
+            }
+            Ok(())
+        }
+        Ok(LinkFront::Arrival(frag, end)) => {
+            let outcome = arrive(run, n, link, &frag, end);
+            if matches!(outcome, Ok(ForwardOutcome::Moved)) {
+                run.idle = 0;
+            }
+            Ok(())
+        }
+    }
+}
+
+/// One forward.
+fn forward<S: PutSide + TakeSide + Drop>(
+    run: &mut RunningCore<S>,
+    link: LinkId,
+) -> Result<(), AllocError>
+    ensures forwards { OnOk result (Forwards (ways S.puts S.takes S.front) link (run_of run.old) (run_of run.new)) }
+    ensures left { OnErr result (LeavesMessage (ways S.puts S.takes S.front) link (run_of run.old) (run_of run.new)) }
+{
+    sound(run);
+    match lent_link_side(run, link) {
+        None => Ok(()),
+        Some(n) => {
+            let found = run.core.look(link, &mut run.rings[n]);
+            hand_out(run, n, link, found)
+        }
+    }
+}
+
+/// A forward for each link.
+pub(crate) fn forward_all<S: PutSide + TakeSide + Drop>(
+    run: &mut RunningCore<S>,
+    links: &[LinkId],
+) -> Result<(), AllocError>
+    ensures forwards { OnOk result (ForEach links.now (Forwards (ways S.puts S.takes S.front)) (run_of run.old) (run_of run.new)) }
+    ensures stops { OnErr result (StopsAmong links.now (Forwards (ways S.puts S.takes S.front)) (LeavesMessage (ways S.puts S.takes S.front))
+        (run_of run.old) (run_of run.new)) }
+{
+    for k in 0..links.len() {
+        forward(run, links[k])?;
+    }
+    Ok(())
+}
+
+// ---- monitor writes
+
+// One monitor write.
+fn say<S: PutSide + TakeSide + Drop>(run: &mut RunningCore<S>, link: LinkId)
+    ensures says { Says (ways S.puts S.takes S.front) link (run_of run.old) (run_of run.new) }
+{
+    sound(run);
+    match lent_link_side(run, link) {
+        None => (),
+        Some(n) => {
+            let _ = run.core.monitor_write(link, &mut run.rings[n]);
+        }
+    }
+}
+
+/// A monitor write for each link.
+pub(crate) fn say_all<S: PutSide + TakeSide + Drop>(run: &mut RunningCore<S>, links: &[LinkId])
+    ensures says { ForEach links.now (Says (ways S.puts S.takes S.front)) (run_of run.old) (run_of run.new) }
+{
+    for k in 0..links.len() {
+        say(run, links[k]);
+    }
+}
+
+// ---- acknowledgements
+
+// One acknowledgement.
+fn tell<S: PutSide + TakeSide + Drop>(run: &mut RunningCore<S>, link: LinkId)
+    ensures tells { Tells (ways S.puts S.takes S.front) link (run_of run.old) (run_of run.new) }
+{
+    sound(run);
+    match lent_link_side(run, link) {
+        None => (),
+        Some(n) => {
+            let _ = run.core.monitor_ack(link, &mut run.rings[n]);
+        }
+    }
+}
+
+/// An acknowledgement for each link.
+pub(crate) fn tell_all<S: PutSide + TakeSide + Drop>(run: &mut RunningCore<S>, links: &[LinkId])
+    ensures tells { ForEach links.now (Tells (ways S.puts S.takes S.front)) (run_of run.old) (run_of run.new) }
+{
+    for k in 0..links.len() {
+        tell(run, links[k]);
+    }
+}

@@ -1,0 +1,80 @@
+//! A core that runs.
+
+ghost use Rattle.std.specs.Prelude.{◌≡◌, ◌<◌, length, Some, OnOk, OnErr};
+ghost use Rattle.fl_core_run.specs.Run.{ways, run_of};
+ghost use Rattle.fl_core_run.specs.LogEntries.{IsSound, IsSoundAt};
+ghost use Rattle.fl_core.specs.View.{place_of};
+ghost use Rattle.fl_core_run.specs.Turn.{OneTurn};
+ghost use Rattle.fl_core_run.specs.Stops.{PartOfTurn};
+
+use crate::dispatchers::turn_all;
+use crate::end_progress::EndProgress;
+use crate::ends::{ack_all, serve_all};
+use crate::links::{forward_all, say_all, tell_all};
+use crate::plan::TurnPlan;
+use fl_base::EndId;
+use fl_compile::Program;
+use fl_core::{Core, CoreJob};
+use fl_hop::never_shared;
+use fl_link::{PutSide, QueueLink, TakeSide};
+use fl_nameserv::Names;
+use std::alloc::{AllocError, Global};
+
+/// A core with all that its thread works on.
+#[derive(Drop)]
+pub struct RunningCore<S> {
+    pub alloc: Global,
+    pub core: Core,
+    /// Its sides of rings, by the numbers by which the core names them.
+    pub rings: Vec<S>,
+    /// Its local queues, likewise.
+    pub queues: Vec<QueueLink>,
+    /// The end's progress of each end, by name: that of the client of binding b at 2 b, that of its server at 2 b + 1.
+    pub progresses: Vec<EndProgress>,
+    /// The core's copy of the table of names.
+    pub names: Names,
+    /// The programs of the services' interfaces, by their places.
+    pub programs: Vec<Program>,
+    /// How many turns on end found nothing to do: after those the core pauses. No clause speaks of it.
+    pub idle: u32,
+}
+
+// What is known of its core at any time. It does nothing.
+pub(crate) fn sound<S>(run: &RunningCore<S>)
+    ensures sound { IsSound run.now.core }
+{
+    run.core.sound();
+    never_shared(run.core.monitor().circuits());
+}
+
+// What is known of an end at any time. It does nothing.
+#[tactic(auto, using(crate::proofs::Sounding::sound_of))]
+pub(crate) fn sound_at<S>(run: &RunningCore<S>, name: EndId, e: usize)
+    requires there { e < length run.now.core.board.seats }
+    requires place { place_of run.now.core name ≡ Some e }
+    ensures sound { IsSoundAt (run_of run.now) name }
+{
+    run.core.board().end_sound(e);
+}
+
+impl<S: PutSide + TakeSide + Drop> RunningCore<S> {
+    /// One turn: a forward for each link, a monitor write for each link, for each end its next job where that can be done and one write, a turn for
+    /// each dispatcher, an acknowledgement for each link and each end of a ring. It takes no memory but where a call is made or becomes whole, a circuit is
+    /// asked for, or a monitors' message is heard.
+    ///
+    /// # Errors
+    /// Out of memory. The turn wasn't finished then, and the core can take no other.
+    pub fn turn(&mut self, plan: &TurnPlan, jobs: &[CoreJob]) -> Result<(), AllocError>
+        ensures turn { OnOk result (OneTurn (ways S.puts S.takes S.front) plan.now jobs.now (run_of self.old) (run_of self.new)) }
+        ensures part { OnErr result (PartOfTurn (ways S.puts S.takes S.front) plan.now jobs.now (run_of self.old) (run_of self.new)) }
+    {
+        self.idle = self.idle.saturating_add(1);
+        forward_all(self, &plan.links)?;
+        say_all(self, &plan.links);
+        serve_all(self, &plan.ends, jobs)?;
+        turn_all(self, jobs, plan.dispatchers)?;
+        tell_all(self, &plan.links);
+        ack_all(self, &plan.ends);
+        Ok(())
+    }
+}

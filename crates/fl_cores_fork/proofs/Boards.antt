@@ -1,0 +1,91 @@
+-- A board may go to a thread, and so may a core.
+use denote.Struct.Declared.{shape}
+use denote.Param.Send.{IsSend, sendable, recorded_send, struct_send, view_send}
+use Rattle.std.proofs.Crossing.{crosses}
+use Rattle.fl_core.proofs.dispatcher.Dispatcher.TheSendSync as dispatcher
+use Rattle.fl_core.proofs.kind.ChannelKind.TheSendSync as kind
+use Rattle.fl_core.proofs.wiring.WiredEnd.TheSendSync as wired_end
+use Rattle.fl_core.proofs.wiring.LinkSide.TheSendSync as link_side
+use Rattle.fl_endpoint.specs.contracts.end.End
+use Rattle.fl_machine.specs.contracts.reassemblies.Reassemblies
+use Rattle.fl_base.proofs.identity.ChanId.TheSendSync as channel
+use Rattle.fl_core.specs.BoardView.{TheBoard, TheEndAtChannel}
+use Rattle.fl_core.specs.declared.seat.EndAtChannel as SeatCode
+use Rattle.fl_core.specs.contracts.seat.EndAtChannel as Seat
+use Rattle.fl_core.specs.contracts.seat.EndAtChannel.TheInside as SeatInside
+use Rattle.fl_core.specs.declared.one_board.Board as BoardCode
+use Rattle.fl_core.specs.contracts.one_board.Board
+use Rattle.fl_core.specs.contracts.one_board.Board.TheInside as BoardInside
+use Rattle.fl_link.specs.contracts.queue.QueueLink
+use Rattle.fl_monitor.specs.contracts.messenger.Messenger
+use Rattle.fl_monitor.specs.contracts.monitor.Monitor
+use Rattle.fl_core.specs.View.{TheCore}
+use Rattle.fl_core.specs.declared.one_core.Core as CoreCode
+use Rattle.fl_core.specs.contracts.one_core.Core
+use Rattle.fl_core.specs.contracts.one_core.Core.TheInside as CoreInside
+
+seat_inside : IsSend End.the_row → IsSend SeatInside.the_row
+seat_inside end = recorded_send (SeatInside.the_field).row _ _ (SeatInside.the_type).to_one
+    (struct_send (shape SeatInside.the_type) (
+      end,
+      (
+        search (sendable, crosses) depth 20,
+        (
+          search (sendable, crosses, channel.the_send) depth 20,
+          (
+            search (sendable, crosses, kind.the_send) depth 20,
+            tt,
+          ),
+        ),
+      ),
+    ))
+
+seat_sends : IsSend End.the_row → IsSend Seat.the_row
+seat_sends end = view_send SeatInside.the_row TheEndAtChannel SeatCode.the_code Seat.the_view Seat.the_invariant (seat_inside end)
+
+board_inside : IsSend End.the_row → IsSend Reassemblies.the_row → IsSend BoardInside.the_row
+board_inside end calls = recorded_send (BoardInside.the_field).row _ _ (BoardInside.the_type).to_one
+    (struct_send (shape BoardInside.the_type) (
+      search (sendable, crosses) depth 20,
+      (
+        search (sendable, crosses, dispatcher.the_send) depth 40,
+        (
+          search (sendable, crosses, seat_sends end) depth 40,
+          (calls, (search (sendable, crosses) depth 40, tt)),
+        ),
+      ),
+    ))
+
+pub board_sends : IsSend End.the_row → IsSend Reassemblies.the_row → IsSend Board.the_row
+board_sends end calls = view_send BoardInside.the_row TheBoard BoardCode.the_code Board.the_view Board.the_invariant (board_inside end calls)
+
+core_inside : IsSend Board.the_row → IsSend Monitor.the_row → IsSend Messenger.the_row → IsSend QueueLink.the_row → IsSend CoreInside.the_row
+core_inside board monitor messenger queue = recorded_send (CoreInside.the_field).row _ _ (CoreInside.the_type).to_one
+    (struct_send (shape CoreInside.the_type) (
+      search (sendable, crosses) depth 20,
+      (
+        board,
+        (
+          monitor,
+          (
+            messenger,
+            (
+              search (sendable, crosses, wired_end.the_send) depth 40,
+              (
+                search (sendable, crosses) depth 40,
+                (
+                  search (sendable, crosses, link_side.the_send) depth 40,
+                  (
+                    search (sendable, crosses, queue) depth 40,
+                    tt,
+                  ),
+                ),
+              ),
+            ),
+          ),
+        ),
+      ),
+    ))
+
+pub core_sends : IsSend Board.the_row → IsSend Monitor.the_row → IsSend Messenger.the_row → IsSend QueueLink.the_row → IsSend Core.the_row
+core_sends board monitor messenger queue = view_send CoreInside.the_row TheCore CoreCode.the_code Core.the_view Core.the_invariant (core_inside board monitor messenger queue)

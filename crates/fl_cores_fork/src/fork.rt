@@ -1,0 +1,202 @@
+//! A thread for each core.
+
+ghost use Rattle.std.specs.Prelude.{ℕ, ◌≡◌, ◌+◌, ◌<◌, ◌∷◌, ◌++◌, [], length, slice_get, Some, IfOk, IfErr, IfSome, IsOkAnd};
+ghost use Rattle.std.specs.Thread.{IsSync};
+ghost use Rattle.std.specs.List.{AllZip};
+ghost use Rattle.fl_hop.specs.Joined.{Sound as IsTable};
+ghost use Rattle.fl_endpoint.specs.Accounts.{Sound as IsEnd};
+ghost use Rattle.fl_core.specs.BoardView.{TheEndAtChannel};
+ghost use Rattle.fl_cores_fork.specs.declared.no_report.NoReport.TheVariants as stop;
+ghost use Rattle.fl_cores_fork.specs.CoreThreads.{IsReady, AllReady, CoreThreadRan};
+
+use crate::core_thread::{CoreThread, FinishedCore};
+use crate::crossing::{core_thread_sent, done_sent, law_job_shared};
+use crate::no_report::NoReport;
+use fl_core::{Core, CoreJob};
+use fl_core_run::{Gate, core_run};
+use fl_cores_table::EndSeat;
+use fl_hop::never_shared;
+use std::alloc::{AllocError, Global};
+use std::snapshot::Snapshot;
+use std::sync::Wait;
+use std::thread;
+use std::thread::{Promise, PromisedHandle, Scope, Threads};
+
+// What a core's thread hands on: what came of its core thread.
+#[derive(Drop)]
+struct RunInputs<'a> {
+    was: Snapshot<CoreThread>,
+    jobs: &'a [CoreJob],
+    limit: u64,
+}
+
+impl<'a> Promise<Result<FinishedCore, AllocError>> for RunInputs<'a> {
+    ghost kept_by = { λ p r. IfOk r (λ d. CoreThreadRan p.jobs.now p.limit p.was.value d) };
+}
+
+// What is known of the end at a place. It does nothing.
+fn sound_at(core: &Core, e: usize)
+    requires there { e < length core.now.board.seats }
+    ensures end { (seat : TheEndAtChannel) → slice_get core.now.board.seats e ≡ Some seat → IsEnd seat.end }
+{
+    core.board().end_sound(e);
+}
+
+// What is known of each end of a core, and of its circuits. It does nothing.
+fn sound(core: &Core)
+    ensures ends { (place : ℕ) (seat : TheEndAtChannel) → slice_get core.now.board.seats place ≡ Some seat → IsEnd seat.end }
+    ensures table { IsTable core.now.monitor.circuits }
+{
+    never_shared(core.monitor().circuits());
+    for e in 0..core.board().ends() {
+        sound_at(core, e);
+    }
+}
+
+// A core's whole run.
+fn run_one<R: Wait, G: Gate>(
+    rt: &R,
+    gate: &G,
+    core_thread: CoreThread,
+    jobs: &[CoreJob],
+    limit: u64,
+) -> Result<FinishedCore, AllocError>
+    requires ready { IsReady core_thread }
+    ensures ran { IfOk result (λ d. CoreThreadRan jobs.now limit core_thread d) }
+{
+    let mut core_thread = core_thread;
+    match core_run(
+        rt,
+        &mut *core_thread.running,
+        &core_thread.plan,
+        jobs,
+        limit,
+        &mut core_thread.run_seat,
+        gate,
+    ) {
+        Ok(part) => {
+            sound(&core_thread.running.core);
+            Ok(FinishedCore { core_thread, part })
+        }
+        Err(_) => Err(AllocError),
+    }
+}
+
+// A thread for a core, or none where no thread can be made.
+fn start<'s, 'e: 's, R: Threads + Wait + Sync, G: Gate + Sync>(
+    scope: &Scope<'s, &'e ()>,
+    rt: &'e R,
+    gate: &'e G,
+    core_thread: CoreThread,
+    jobs: &'e [CoreJob],
+    limit: u64,
+) -> Option<PromisedHandle<Result<FinishedCore, AllocError>, RunInputs<'e>>>
+    requires shared { IsSync R.row }
+    requires gate { IsSync G.row }
+    requires ready { IsReady core_thread }
+    ensures was { IfSome result (λ child. child.promise.was.value ≡ core_thread) }
+    ensures jobs { IfSome result (λ child. child.promise.jobs.now ≡ jobs.now) }
+    ensures limit { IfSome result (λ child. child.promise.limit ≡ limit) }
+{
+    core_thread_sent();
+    done_sent();
+    law_job_shared();
+    let promise = RunInputs {
+        was: Snapshot::of(&core_thread),
+        jobs,
+        limit,
+    };
+    let run = move || -> Result<FinishedCore, AllocError>
+        requires shared { IsSync R.row }
+        requires gate { IsSync G.row }
+        requires ready { IsReady core_thread }
+        ensures ran { IfOk result (λ d. CoreThreadRan jobs.entry.now limit core_thread d) }
+    { run_one(rt, gate, core_thread, jobs, limit) };
+    scope.spawn_with(promise, run).ok()
+}
+
+// The last core behind those that ran before it.
+fn push_last(
+    rest: Vec<FinishedCore>,
+    last: Result<FinishedCore, AllocError>,
+) -> Result<Vec<FinishedCore>, NoReport>
+    ensures pushed { IfOk result (λ all. IsOkAnd last (λ d. all.items ≡ rest.items ++ d ∷ [])) }
+    ensures memory { IfErr result (λ e. e ≡ stop.Memory) }
+{
+    let mut all = rest;
+    match last {
+        Ok(done) => match all.push(done) {
+            Ok(()) => Ok(all),
+            Err(_) => Err(NoReport::Memory),
+        },
+        Err(_) => Err(NoReport::Memory),
+    }
+}
+
+// Runs each core on a thread of this scope, the last one first, and joins them all.
+fn run_in<'s, 'e: 's, R: Threads + Wait + Sync, G: Gate + Sync>(
+    scope: &Scope<'s, &'e ()>,
+    rt: &'e R,
+    alloc: Global,
+    gate: &'e G,
+    own: EndSeat,
+    todo: Vec<CoreThread>,
+    jobs: &'e [CoreJob],
+    limit: u64,
+) -> (Result<Vec<FinishedCore>, NoReport>, EndSeat)
+    requires shared { IsSync R.row }
+    requires gate { IsSync G.row }
+    requires own { own.knows.stopped < own.knows.seats }
+    requires ready { AllReady todo.items }
+    ensures each { IfOk result.0 (λ all. AllZip (CoreThreadRan jobs.now limit) todo.items all.items) }
+    ensures own { IfOk result.0 (λ _. result.1 ≡ own) }
+    ensures told { IfErr result.0 (λ e. e ≡ stop.Thread → result.1.knows.stopped ≡ own.knows.stopped + 1) }
+{
+    let mut own = own;
+    let mut todo = todo;
+    let Some(last) = todo.pop() else {
+        return (Ok(Vec::new(alloc)), own);
+    };
+    let Some(child) = start(scope, rt, gate, last, jobs, limit) else {
+        own.stop();
+        return (Err(NoReport::Thread), own);
+    };
+    let (rest, own) = run_in(scope, rt, alloc, gate, own, todo, jobs, limit);
+    let last = child.join(rt);
+    match rest {
+        Ok(rest) => (push_last(rest, last), own),
+        Err(fault) => (Err(fault), own),
+    }
+}
+
+/// Runs each core on a thread of its own, and joins all threads. The seat is the caller's own: by it the cores are told where a thread doesn't start. It comes
+/// back in either case.
+pub fn run_each<R: Threads + Wait + Sync, G: Gate + Sync>(
+    rt: &R,
+    alloc: Global,
+    gate: &G,
+    own: EndSeat,
+    todo: Vec<CoreThread>,
+    jobs: &[CoreJob],
+    limit: u64,
+) -> (Result<Vec<FinishedCore>, NoReport>, EndSeat)
+    requires own { own.knows.stopped < own.knows.seats }
+    requires ready { AllReady todo.items }
+    ensures each { IfOk result.0 (λ all. AllZip (CoreThreadRan jobs.now limit) todo.items all.items) }
+    ensures own { IfOk result.0 (λ _. result.1 ≡ own) }
+    ensures told { IfErr result.0 (λ e. e ≡ stop.Thread → result.1.knows.stopped ≡ own.knows.stopped + 1) }
+{
+    thread::scope(
+        thread::scope_env(),
+        rt,
+        move |scope| -> (Result<Vec<FinishedCore>, NoReport>, EndSeat)
+            requires shared { IsSync R.row }
+            requires gate { IsSync G.row }
+            requires own { own.knows.stopped < own.knows.seats }
+            requires ready { AllReady todo.items }
+            ensures each { IfOk result.0 (λ all. AllZip (CoreThreadRan jobs.entry.now limit) todo.items all.items) }
+            ensures own { IfOk result.0 (λ _. result.1 ≡ own) }
+            ensures told { IfErr result.0 (λ e. e ≡ stop.Thread → result.1.knows.stopped ≡ own.knows.stopped + 1) }
+        { run_in(scope, rt, alloc, gate, own, todo, jobs, limit) },
+    )
+}

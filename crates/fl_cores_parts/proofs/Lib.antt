@@ -1,0 +1,11 @@
+pub mod EndWork
+pub mod Each
+pub mod Faults
+pub mod Together
+pub mod Handing
+pub mod Keeping
+pub mod Lists
+pub mod Owning
+pub mod Ringing
+pub mod Seats
+pub mod Wording

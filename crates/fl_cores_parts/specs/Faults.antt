@@ -1,0 +1,26 @@
+-- Which fault of a run comes of which fault below, and why there is one. The public promise rests on `IsRunFault`.
+use Rattle.std.specs.Prelude.{List, ◌⊎◌}
+use Rattle.fl_cores_file.specs.Jobs.{Job}
+use Rattle.fl_world_refines.specs.declared.parts.Parts.{Parts}
+use Rattle.fl_cores_jobs.specs.Whole.{NoneRefused, IsFault}
+use Rattle.fl_cores_jobs.specs.declared.fault.JobFault.{JobFault}
+use Rattle.fl_cores_jobs.specs.declared.fault.JobFault.TheVariants as job
+use Rattle.fl_cores_fork.specs.declared.no_report.NoReport.{NoReport}
+use Rattle.fl_cores_fork.specs.declared.no_report.NoReport.TheVariants as stop
+use Rattle.fl_cores_parts.specs.declared.fault.RunFault.{RunFault}
+use Rattle.fl_cores_parts.specs.declared.fault.RunFault.TheVariants.{Refused, Memory, Thread}
+
+abbrev pub by_job : JobFault → RunFault
+by_job (job.Refused number place) = Refused number place
+by_job job.Memory = Memory
+
+abbrev pub by_stop : NoReport → RunFault
+by_stop stop.Memory = Memory
+by_stop stop.Thread = Thread
+
+-- a job is refused only where joining refuses it: it is the first that has a fault, with its number; or, at place 0, a binding of the set-up is. Where
+-- memory is wanted in joining no job before that has a fault, and none at all where it is wanted later, or a thread
+abbrev pub IsRunFault : Parts → List Job → RunFault → Type 0
+IsRunFault p jobs (Refused number place) = IsFault p jobs (job.Refused number place)
+IsRunFault p jobs Memory = IsFault p jobs job.Memory ⊎ NoneRefused p jobs
+IsRunFault p jobs Thread = NoneRefused p jobs

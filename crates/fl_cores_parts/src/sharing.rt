@@ -1,0 +1,212 @@
+//! Whose each side of a ring and each queue is, and all of them handed out out.
+
+ghost use Rattle.std.specs.Prelude.{◌≡◌, ◌+◌, ◌*◌, ◌<◌, length, slice_get, slice_set, Some, IfOk};
+ghost use Rattle.fl_cores_parts.specs.Dealing.{IsLinkSide, TakesSide, TakesQueue, PutsQueue, Below, Owns, AreOf, HaveOwners, HandsOutRings, HandsOutQueues};
+ghost use Rattle.fl_cores_shares.specs.Shares.{HandsOut};
+ghost use Rattle.fl_world_refines.specs.ShowsState.{NamesQueue, NamesSide};
+
+use fl_base::LinkId;
+use fl_core::{Core, Inlet, Outlet};
+use fl_cores_shares::CoreShares;
+use fl_hop::{MAX_LINKS, never_shared};
+use fl_link::QueueLink;
+use fl_ring::{OneDuo, SharedSide};
+use std::alloc::{AllocError, Global};
+
+// ---- owners
+
+// The thing of this number is the core's.
+fn own(owners: &mut Vec<usize>, thing: usize, core: usize)
+    ensures own { owners.new.items ≡ slice_set owners.old.items thing core }
+{
+    if let Some(owner) = owners.get_mut(thing) {
+        *owner = core;
+    }
+}
+
+// The side of a link, if there is one, is its core's.
+fn own_link(owners: &mut Vec<usize>, k: usize, core: &Core, link: LinkId)
+    ensures owns { Owns (IsLinkSide core.now.link_sides link.0) k owners.old.items owners.new.items }
+{
+    match core.side(link) {
+        None => (),
+        Some(side) => own(owners, side, k),
+    }
+}
+
+fn own_links(owners: &mut Vec<usize>, k: usize, core: &Core)
+    ensures owns { Owns (Below (IsLinkSide core.now.link_sides) 15) k owners.old.items owners.new.items }
+{
+    for number in 0..MAX_LINKS as u16 {
+        own_link(owners, k, core, LinkId(number));
+    }
+}
+
+// The side from which an end takes, if it takes from one.
+fn own_side(owners: &mut Vec<usize>, k: usize, core: &Core, e: usize)
+    requires there { e < length core.now.board.seats }
+    ensures owns { Owns (TakesSide core.now e) k owners.old.items owners.new.items }
+{
+    match core.inlet(e) {
+        Inlet::Side(side) => own(owners, side, k),
+        Inlet::Queue(_) => (),
+        Inlet::Arrivals => (),
+    }
+}
+
+fn own_end_sides(owners: &mut Vec<usize>, k: usize, core: &Core)
+    ensures owns { Owns (Below (TakesSide core.now) (length core.now.board.seats)) k owners.old.items owners.new.items }
+{
+    for e in 0..core.board().ends() {
+        own_side(owners, k, core, e);
+    }
+}
+
+// All sides that a core names are its own.
+fn own_sides(owners: &mut Vec<usize>, k: usize, core: &Core)
+    ensures owns { Owns (NamesSide core.now) k owners.old.items owners.new.items }
+{
+    core.sound();
+    never_shared(core.monitor().circuits());
+    own_links(owners, k, core);
+    own_end_sides(owners, k, core);
+}
+
+// The queue from which an end takes, if it takes from one, and the one to which it puts.
+fn own_inlet(owners: &mut Vec<usize>, k: usize, core: &Core, e: usize)
+    requires there { e < length core.now.board.seats }
+    ensures owns { Owns (TakesQueue core.now e) k owners.old.items owners.new.items }
+{
+    match core.inlet(e) {
+        Inlet::Queue(queue) => own(owners, queue, k),
+        Inlet::Side(_) => (),
+        Inlet::Arrivals => (),
+    }
+}
+
+fn own_outlet(owners: &mut Vec<usize>, k: usize, core: &Core, e: usize)
+    requires there { e < length core.now.board.seats }
+    ensures owns { Owns (PutsQueue core.now e) k owners.old.items owners.new.items }
+{
+    match core.outlet(e) {
+        Outlet::Queue(queue) => own(owners, queue, k),
+        Outlet::Side(_) => (),
+    }
+}
+
+// All queues that a core names are its own.
+fn own_queues(owners: &mut Vec<usize>, k: usize, core: &Core)
+    ensures owns { Owns (NamesQueue core.now) k owners.old.items owners.new.items }
+{
+    core.sound();
+    for e in 0..core.board().ends() {
+        own_inlet(owners, k, core, e);
+        own_outlet(owners, k, core, e);
+    }
+}
+
+/// To which core each side of a ring goes, and each queue. What no core names goes to core 0.
+#[derive(Drop)]
+pub(crate) struct SideOwners {
+    pub(crate) sides: Vec<usize>,
+    pub(crate) queues: Vec<usize>,
+}
+
+// So many rings, whose sides all go to core 0.
+fn all_to_first(alloc: Global, rings: usize) -> Result<Vec<usize>, AllocError>
+    ensures count { IfOk result (λ v. length v.items ≡ 2 * rings) }
+    ensures of { IfOk result (λ v. AreOf 1 v.items) }
+{
+    let mut sides = Vec::new(alloc);
+    for _ in 0..rings {
+        sides.push(0)?;
+        sides.push(0)?;
+    }
+    Ok(sides)
+}
+
+impl SideOwners {
+    /// As the cores name them.
+    pub(crate) fn from_names(
+        alloc: Global,
+        rings: usize,
+        queues: usize,
+        cores: &[Core],
+    ) -> Result<SideOwners, AllocError>
+        requires some { 0 < length cores.now }
+        ensures sides { IfOk result (λ o. HaveOwners cores.now NamesSide (2 * rings) o.sides.items) }
+        ensures queues { IfOk result (λ o. HaveOwners cores.now NamesQueue queues o.queues.items) }
+    {
+        let mut sides = all_to_first(alloc, rings)?;
+        let mut all_queues = vec![in alloc; 0; queues]?;
+        for k in 0..cores.len() {
+            own_sides(&mut sides, k, &cores[k]);
+            own_queues(&mut all_queues, k, &cores[k]);
+        }
+        Ok(SideOwners {
+            sides,
+            queues: all_queues,
+        })
+    }
+}
+
+// ---- dealing
+
+// A new ring of the size of this one, whose sides go to these cores.
+fn hand_out_ring(
+    alloc: Global,
+    handed_out: CoreShares<SharedSide>,
+    ring: &OneDuo,
+    first: usize,
+    second: usize,
+) -> Result<CoreShares<SharedSide>, AllocError>
+    requires first { first < length handed_out.holdings.items }
+    requires second { second < length handed_out.holdings.items }
+    ensures hands_out { IfOk result (λ d. HandsOut ring.now.size first second handed_out d) }
+{
+    let size = ring.words().len() / 16;
+    match handed_out.hand_out(alloc, size, first, second) {
+        Ok(handed_out) => Ok(handed_out),
+        Err(_) => Err(AllocError),
+    }
+}
+
+/// New rings of the same sizes, whose sides go to their cores.
+pub(crate) fn hand_out_sides(
+    alloc: Global,
+    rings: &[OneDuo],
+    owners: &[usize],
+    cores: usize,
+) -> Result<CoreShares<SharedSide>, AllocError>
+    requires count { length owners.now ≡ 2 * length rings.now }
+    requires of { AreOf cores owners.now }
+    ensures hands_out { IfOk result (λ d. HandsOutRings rings.now owners.now cores d) }
+{
+    let mut handed_out = CoreShares::new(alloc, cores)?;
+    let mut place = 0;
+    for ring in rings {
+        handed_out = hand_out_ring(alloc, handed_out, ring, owners[place], owners[place + 1])?;
+        place += 2;
+    }
+    Ok(handed_out)
+}
+
+/// The queues go to their cores.
+pub(crate) fn hand_out_queues(
+    alloc: Global,
+    queues: Vec<QueueLink>,
+    owners: &[usize],
+    cores: usize,
+) -> Result<CoreShares<QueueLink>, AllocError>
+    requires count { length owners.now ≡ length queues.items }
+    requires of { AreOf cores owners.now }
+    ensures hands_out { IfOk result (λ d. HandsOutQueues queues.items owners.now cores d) }
+{
+    let mut handed_out = CoreShares::new(alloc, cores)?;
+    let mut place = 0;
+    for queue in queues {
+        handed_out = handed_out.give(owners[place], queue)?;
+        place += 1;
+    }
+    Ok(handed_out)
+}

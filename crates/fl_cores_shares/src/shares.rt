@@ -1,0 +1,97 @@
+//! Things handed out to cores: sides of rings, and queues.
+
+ghost use Rattle.std.specs.Prelude.{◌≡◌, ◌<◌, ◌∷◌, ◌++◌, ◌↔◌, [], length, map, replicate, IfOk, OnOk, Err};
+ghost use Rattle.fl_cores_shares.specs.Shares.{holding_at, Holds, Gives, HandsOut};
+ghost use Rattle.fl_cores_shares.specs.Giving.{given_to};
+ghost use Rattle.fl_ring.specs.Duo.{MayHaveSlots};
+
+use fl_ring::{RingFault, SharedSide, duo};
+use std::alloc::{AllocError, Global};
+
+/// Things that are handed out to cores. A thing is known by its number, from 0 in the order of dealing: the sides of ring n are number 2 n and 2 n + 1.
+#[derive(Drop)]
+pub struct CoreShares<T> {
+    /// By thing, the core that has it.
+    pub owners: Vec<usize>,
+    /// By thing, its place in its core's hand.
+    pub places: Vec<usize>,
+    /// By core its things, in the order of their numbers.
+    pub holdings: Vec<Vec<T>>,
+}
+
+// A thing goes to a core's hand, behind the others, at the place that is told.
+fn give<T: Drop>(holdings: &mut Vec<Vec<T>>, core: usize, thing: T) -> Result<usize, AllocError>
+    requires there { core < length holdings.old.items }
+    ensures given { OnOk result (map (λ holding. holding.items) holdings.new.items ≡ given_to core thing (map (λ holding. holding.items) holdings.old.items)) }
+    ensures place { IfOk result (λ place. place ≡ length (holding_at (map (λ holding. holding.items) holdings.old.items) core)) }
+{
+    let holding = &mut holdings[core];
+    let place = holding.len();
+    holding.push(thing)?;
+    Ok(place)
+}
+
+impl<T: Drop> CoreShares<T> {
+    /// Nothing is handed out yet, to so many cores.
+    ///
+    /// # Errors
+    /// Out of memory (E99).
+    pub fn new(alloc: Global, cores: usize) -> Result<CoreShares<T>, AllocError>
+        ensures cores { IfOk result (λ d. length d.holdings.items ≡ cores) }
+        ensures none { IfOk result (λ d. d.owners.items ≡ []) }
+        ensures holds { IfOk result (λ d. Holds d []) }
+    {
+        let mut holdings = Vec::new(alloc);
+        for _ in 0..cores {
+            holdings.push(Vec::new(alloc))?;
+        }
+        Ok(CoreShares {
+            owners: Vec::new(alloc),
+            places: Vec::new(alloc),
+            holdings,
+        })
+    }
+
+    /// The next thing goes to a core.
+    ///
+    /// # Errors
+    /// Out of memory (E99).
+    pub fn give(self, owner: usize, thing: T) -> Result<CoreShares<T>, AllocError>
+        requires there { owner < length self.holdings.items }
+        ensures given { IfOk result (λ d. Gives owner thing self d) }
+    {
+        let mut handed_out = self;
+        let place = give(&mut handed_out.holdings, owner, thing)?;
+        handed_out.owners.push(owner)?;
+        handed_out.places.push(place)?;
+        Ok(handed_out)
+    }
+}
+
+impl CoreShares<SharedSide> {
+    /// A new ring of `size` slots each way, whose sides go to these cores.
+    ///
+    /// # Errors
+    /// A ring may not have so many slots (E32), or out of memory (E99).
+    pub fn hand_out(
+        self,
+        alloc: Global,
+        size: usize,
+        first: usize,
+        second: usize,
+    ) -> Result<CoreShares<SharedSide>, RingFault>
+        requires first { first < length self.holdings.items }
+        requires second { second < length self.holdings.items }
+        ensures hands_out { IfOk result (λ d. HandsOut size first second self d) }
+        ensures bad_size { (result ≡ Err RingFault.BadSize) ↔ (¬ MayHaveSlots size) }
+    {
+        let (one, two) = duo(alloc, size)?;
+        let Ok(handed_out) = self.give(first, one) else {
+            return Err(RingFault::Memory);
+        };
+        let Ok(handed_out) = handed_out.give(second, two) else {
+            return Err(RingFault::Memory);
+        };
+        Ok(handed_out)
+    }
+}

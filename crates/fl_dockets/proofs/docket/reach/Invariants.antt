@@ -1,9 +1,0 @@
-use Rattle.std.proofs.Common.{ℕ, ◌≡◌, ◌-◌, length}
-use Rattle.fl_dockets.specs.Dockets.{rule_at}
-use Rattle.fl_dockets.proofs.docket.reach.Given as goal
-
-abbrev pub invariant-loop-rules : goal.invariant-loop-rules
-invariant-loop-rules l = (m : ℕ) → rule_at l.rules.items m ≡ rule_at l.initial.rules.items m
-
-abbrev pub decreases-loop-rules : goal.decreases-loop-rules
-decreases-loop-rules l = l.count - length l.rules.items

@@ -1,9 +1,0 @@
-//! What follows of what is told of jobs.
-
-ghost use Rattle.fl_dockets.specs.Whole.{OneRefusal, NoRefusal};
-
-/// Of the same parts and jobs one refusal is told and no other: of the first that has a fault; and none of a job where no job has one.
-pub fn one_refusal()
-    ensures one { OneRefusal }
-    ensures none { NoRefusal }
-{}

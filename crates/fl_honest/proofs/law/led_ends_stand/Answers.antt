@@ -1,5 +1,0 @@
-use Rattle.fl_honest.proofs.WholeOpened.{clients_stand, servers_bound}
-use Rattle.fl_honest.proofs.law.led_ends_stand.Goals as goal
-
-pub returns : goal.returns
-returns c = record { clients = clients_stand; servers = servers_bound }

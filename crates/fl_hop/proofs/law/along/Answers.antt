@@ -1,5 +1,0 @@
-use Rattle.fl_hop.proofs.Laws.{along}
-use Rattle.fl_hop.proofs.law.along.Goals as goal
-
-pub returns : goal.returns
-returns c = record { prefix = λ ins outs legs h. along legs ins outs h }

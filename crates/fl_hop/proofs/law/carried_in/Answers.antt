@@ -1,5 +1,0 @@
-use Rattle.fl_hop.proofs.Laws.{carried_in}
-use Rattle.fl_hop.proofs.law.carried_in.Goals as goal
-
-pub returns : goal.returns
-returns c = record { carried = carried_in }

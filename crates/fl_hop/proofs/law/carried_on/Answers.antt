@@ -1,5 +1,0 @@
-use Rattle.fl_hop.proofs.Laws.{carried_on}
-use Rattle.fl_hop.proofs.law.carried_on.Goals as goal
-
-pub returns : goal.returns
-returns c = record { carried = carried_on }

@@ -1,5 +1,0 @@
-use Rattle.fl_hop.proofs.Limits.{links_suffice}
-use Rattle.fl_hop.proofs.law.links_suffice.Goals as goal
-
-pub returns : goal.returns
-returns c = record { suffice = links_suffice }

@@ -1,5 +1,0 @@
-use Rattle.fl_image.proofs.Answered.{image_told}
-use Rattle.fl_image.proofs.law.one_image.Goals as goal
-
-pub returns : goal.returns
-returns c = record { unique = image_told }

@@ -1,5 +1,0 @@
-use Rattle.std.specs.Prelude.{length}
-use Rattle.fl_jobs.proofs.binding.+all_differ.Given as goal
-
-abbrev pub decreases-all_differ : goal.decreases-all_differ
-decreases-all_differ l = length l.route.now

@@ -1,8 +1,0 @@
-use Rattle.std.proofs.Common.{◌≡◌, ◌≤◌, map, take}
-use Rattle.std.specs.List.{count_by}
-use Rattle.fl_queues.specs.Binding.{same_dispatcher}
-use Rattle.fl_lines.specs.Events.{id_of}
-use Rattle.fl_jobs.proofs.binding.count_ends.Given as goal
-
-abbrev pub invariant-loop-seat : goal.invariant-loop-seat
-invariant-loop-seat l = (l.count ≡ count_by (same_dispatcher (id_of l.dispatcher)) (map id_of (take l.seat-index l.seats))) × (l.count ≤ l.seat-index)

@@ -1,5 +1,0 @@
-use Rattle.std.specs.Prelude.{length}
-use Rattle.fl_jobs.proofs.printing.+comes_before.Given as goal
-
-abbrev pub decreases-comes_before : goal.decreases-comes_before
-decreases-comes_before l = length l.one.now

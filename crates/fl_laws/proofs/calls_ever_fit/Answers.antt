@@ -1,5 +1,0 @@
-use Rattle.fl_laws.proofs.SoundSteps.{ever_fits}
-use Rattle.fl_laws.proofs.calls_ever_fit.Goals as goal
-
-pub returns : goal.returns
-returns c = record { fit = ever_fits }

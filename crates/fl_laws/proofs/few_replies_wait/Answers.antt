@@ -1,5 +1,0 @@
-use Rattle.fl_laws.proofs.RepliesStep.{few_wait}
-use Rattle.fl_laws.proofs.few_replies_wait.Goals as goal
-
-pub returns : goal.returns
-returns c = record { few = few_wait }

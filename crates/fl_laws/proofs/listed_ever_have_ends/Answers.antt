@@ -1,5 +1,0 @@
-use Rattle.fl_laws.proofs.SoundSteps.{ever_have_ends}
-use Rattle.fl_laws.proofs.listed_ever_have_ends.Goals as goal
-
-pub returns : goal.returns
-returns c = record { ends = ever_have_ends }

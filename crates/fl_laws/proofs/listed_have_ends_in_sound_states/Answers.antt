@@ -1,5 +1,0 @@
-use Rattle.fl_laws.proofs.ListingLaws.{listed_have_ends}
-use Rattle.fl_laws.proofs.listed_have_ends_in_sound_states.Goals as goal
-
-pub returns : goal.returns
-returns c = record { ends = listed_have_ends }

@@ -1,5 +1,0 @@
-use Rattle.fl_laws.proofs.SoundSteps.{numbers_given_once}
-use Rattle.fl_laws.proofs.numbers_are_given_once.Goals as goal
-
-pub returns : goal.returns
-returns c = record { once = numbers_given_once }

@@ -1,6 +1,0 @@
-use Rattle.fl_laws.proofs.SoundRuns.{sound_runs_fall}
-use Rattle.fl_laws.proofs.SoundSteps.{runs_are_sound}
-use Rattle.fl_laws.proofs.passed_falls.Goals as goal
-
-pub returns : goal.returns
-returns c = record { falls = sound_runs_fall runs_are_sound }

@@ -1,6 +1,0 @@
-use Rattle.fl_laws.proofs.ListingLaws.{pending_has_a_fragment}
-use Rattle.fl_laws.proofs.SoundSteps.{runs_are_sound}
-use Rattle.fl_laws.proofs.pending_has_a_fragment.Goals as goal
-
-pub returns : goal.returns
-returns c = record { has = pending_has_a_fragment runs_are_sound }

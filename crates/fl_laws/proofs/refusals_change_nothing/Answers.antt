@@ -1,5 +1,0 @@
-use Rattle.fl_laws.proofs.Refusals.{refusals_same}
-use Rattle.fl_laws.proofs.refusals_change_nothing.Goals as goal
-
-pub returns : goal.returns
-returns c = record { same = refusals_same }

@@ -1,5 +1,0 @@
-use Rattle.fl_laws.proofs.RingsStep.{rings_count_in_order}
-use Rattle.fl_laws.proofs.rings_count_in_order.Goals as goal
-
-pub returns : goal.returns
-returns c = record { counts = rings_count_in_order }

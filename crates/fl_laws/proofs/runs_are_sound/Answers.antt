@@ -1,5 +1,0 @@
-use Rattle.fl_laws.proofs.SoundSteps.{runs_are_sound}
-use Rattle.fl_laws.proofs.runs_are_sound.Goals as goal
-
-pub returns : goal.returns
-returns c = record { sound = runs_are_sound }

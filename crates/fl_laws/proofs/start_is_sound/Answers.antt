@@ -1,5 +1,0 @@
-use Rattle.fl_laws.proofs.Start.{start_is_sound}
-use Rattle.fl_laws.proofs.start_is_sound.Goals as goal
-
-pub returns : goal.returns
-returns c = record { sound = start_is_sound }

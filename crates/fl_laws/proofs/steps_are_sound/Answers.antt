@@ -1,5 +1,0 @@
-use Rattle.fl_laws.proofs.SoundSteps.{steps_are_sound}
-use Rattle.fl_laws.proofs.steps_are_sound.Goals as goal
-
-pub returns : goal.returns
-returns c = record { sound = steps_are_sound }

@@ -1,5 +1,0 @@
-use Rattle.fl_laws.proofs.Bare.{step_keeps_bare}
-use Rattle.fl_laws.proofs.steps_keep_bare.Goals as goal
-
-pub returns : goal.returns
-returns c = record { kept = step_keeps_bare }

@@ -1,5 +1,0 @@
-use Rattle.fl_laws.proofs.CallsKept.{step_keeps_calls}
-use Rattle.fl_laws.proofs.steps_keep_calls.Goals as goal
-
-pub returns : goal.returns
-returns c = record { kept = step_keeps_calls }

@@ -1,5 +1,0 @@
-use Rattle.fl_laws.proofs.EndsStanding.{step_keeps_ends}
-use Rattle.fl_laws.proofs.steps_keep_ends.Goals as goal
-
-pub returns : goal.returns
-returns c = record { kept = step_keeps_ends }

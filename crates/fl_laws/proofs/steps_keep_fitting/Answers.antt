@@ -1,5 +1,0 @@
-use Rattle.fl_laws.proofs.FitsStep.{step_fits}
-use Rattle.fl_laws.proofs.steps_keep_fitting.Goals as goal
-
-pub returns : goal.returns
-returns c = record { kept = step_fits }

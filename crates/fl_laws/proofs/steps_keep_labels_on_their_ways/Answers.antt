@@ -1,5 +1,0 @@
-use Rattle.fl_laws.proofs.LabelsSound.{sound_ways}
-use Rattle.fl_laws.proofs.steps_keep_labels_on_their_ways.Goals as goal
-
-pub returns : goal.returns
-returns c = record { kept = sound_ways }

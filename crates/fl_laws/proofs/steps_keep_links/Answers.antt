@@ -1,5 +1,0 @@
-use Rattle.fl_laws.proofs.PlacesStep.{step_keeps_links}
-use Rattle.fl_laws.proofs.steps_keep_links.Goals as goal
-
-pub returns : goal.returns
-returns c = record { kept = step_keeps_links }

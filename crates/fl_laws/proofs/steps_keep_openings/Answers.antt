@@ -1,5 +1,0 @@
-use Rattle.fl_laws.proofs.OpeningsLaw.{step_keeps_openings}
-use Rattle.fl_laws.proofs.steps_keep_openings.Goals as goal
-
-pub returns : goal.returns
-returns c = record { kept = step_keeps_openings }

@@ -1,5 +1,0 @@
-use Rattle.fl_laws.proofs.Outboxes.{step_keeps_outboxes}
-use Rattle.fl_laws.proofs.steps_keep_outboxes.Goals as goal
-
-pub returns : goal.returns
-returns c = record { kept = step_keeps_outboxes }

@@ -1,5 +1,0 @@
-use Rattle.fl_laws.proofs.Queues.{step_keeps_queues}
-use Rattle.fl_laws.proofs.steps_keep_queues.Goals as goal
-
-pub returns : goal.returns
-returns c = record { kept = step_keeps_queues }

@@ -1,5 +1,0 @@
-use Rattle.fl_laws.proofs.Services.{step_keeps_services}
-use Rattle.fl_laws.proofs.steps_keep_services.Goals as goal
-
-pub returns : goal.returns
-returns c = record { kept = step_keeps_services }

@@ -1,5 +1,0 @@
-use Rattle.fl_laws.proofs.SoundCalls.{counted_after}
-use Rattle.fl_laws.proofs.steps_keep_writes_counted.Goals as goal
-
-pub returns : goal.returns
-returns c = record { kept = counted_after }

@@ -1,5 +1,0 @@
-use Rattle.fl_laws.proofs.TurnsTold.{turns_give_the_next}
-use Rattle.fl_laws.proofs.turns_give_the_next_fragment.Goals as goal
-
-pub returns : goal.returns
-returns c = record { next = turns_give_the_next }

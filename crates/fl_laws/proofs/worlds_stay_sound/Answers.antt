@@ -1,5 +1,0 @@
-use Rattle.fl_laws.proofs.SoundSteps.{ever_sound}
-use Rattle.fl_laws.proofs.worlds_stay_sound.Goals as goal
-
-pub returns : goal.returns
-returns c = record { sound = ever_sound }

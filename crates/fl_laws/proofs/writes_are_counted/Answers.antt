@@ -1,5 +1,0 @@
-use Rattle.fl_laws.proofs.Counted.{writes_counted}
-use Rattle.fl_laws.proofs.writes_are_counted.Goals as goal
-
-pub returns : goal.returns
-returns c = record { counted = writes_counted }

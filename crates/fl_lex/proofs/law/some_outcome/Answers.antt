@@ -1,5 +1,0 @@
-use Rattle.fl_lex.proofs.Totals as totals
-use Rattle.fl_lex.proofs.law.some_outcome.Goals as goal
-
-pub returns : goal.returns
-returns c = record { some = totals.some_outcome }

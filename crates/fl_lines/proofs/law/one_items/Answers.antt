@@ -1,5 +1,0 @@
-use Rattle.fl_lines.proofs.ItemLemmas.{one_items_is}
-use Rattle.fl_lines.proofs.law.one_items.Goals as goal
-
-pub returns : goal.returns
-returns c = record { one = one_items_is }

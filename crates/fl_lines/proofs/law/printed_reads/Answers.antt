@@ -1,5 +1,0 @@
-use Rattle.fl_lines.proofs.PrintLemmas.{printed_is_read}
-use Rattle.fl_lines.proofs.law.printed_reads.Goals as goal
-
-pub returns : goal.returns
-returns c = record { reads = printed_is_read }

@@ -1,4 +1,0 @@
-use Rattle.fl_lines.proofs.names.Names.ask.Goals as goal
-
-pub returns-in-Call-clause-asks : goal.returns-in-Call-clause-asks
-returns-in-Call-clause-asks c = rw c.in-Call.is c.ask_text.ensures.asks

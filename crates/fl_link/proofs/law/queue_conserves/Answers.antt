@@ -1,5 +1,0 @@
-use Rattle.fl_link.proofs.Conserved.{queue_conserves}
-use Rattle.fl_link.proofs.law.queue_conserves.Goals as goal
-
-pub returns : goal.returns
-returns c = record { conserves = queue_conserves }

@@ -1,9 +1,0 @@
-use Rattle.std.proofs.Common.{◌≡◌, ◌-◌, suc, arith}
-use Rattle.fl_machine.specs.Cursors.{spot_of}
-use Rattle.fl_machine.proofs.Pours.{gives_byte}
-use Rattle.fl_machine.proofs.cursor.Cursor.next_byte.Goals as goal
-
-pub returns : goal.returns
-returns c =
-    let e : c.args.self.now.width ≡ suc (c.args.self.now.width - 1) = omega (arith, c.requires.busy) in
-    gives_byte c.args.ops.now (spot_of c.args.tape.now c.args.self.now) (c.args.self.now.width - 1) c.requires.spot e

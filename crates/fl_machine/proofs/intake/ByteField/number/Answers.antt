@@ -1,0 +1,5 @@
+use Rattle.std.proofs.Common.{refl}
+use Rattle.fl_machine.proofs.intake.ByteField.number.Goals as goal
+
+pub returns : goal.returns
+returns c = refl

@@ -1,5 +1,0 @@
-use Rattle.fl_machine.proofs.Rounds.{takes_fragments}
-use Rattle.fl_machine.proofs.law.takes_fragments.Goals as goal
-
-pub returns : goal.returns
-returns c = record { takes = takes_fragments }

@@ -1,0 +1,14 @@
+use Rattle.std.proofs.Common.{subst}
+use Rattle.fl_machine.specs.declared.reassembly.Assembly.{Assembly}
+use Rattle.fl_machine.specs.Reassembling.{Takes, new_reassembly}
+use Rattle.fl_machine.specs.Rooms.{rooms_of}
+use Rattle.fl_machine.proofs.Joined.{not_changed, same_read}
+use Rattle.fl_machine.proofs.reassemblies.ReassemblyPlaces.take_first.Goals as goal
+
+pub returns-clause-takes : goal.returns-clause-takes
+returns-clause-takes c =
+    let s = c.args.self.now in
+    let b = c.requires.between in
+    let same = same_read s.places.items c.args.place b.at c.index.result.now b.at_there c.index.ensures in
+    not_changed s.places.items (rooms_of s.rooms) c.args.place b.at (λ s t. Takes s c.args.frag.now c.tell.result t) c.requires.are.joined b.at_there b.none
+    (subst (λ (p : Assembly). Takes (new_reassembly p.program) c.args.frag.now c.tell.result (new_reassembly p.program)) same c.tell.ensures.takes)

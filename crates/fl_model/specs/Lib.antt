@@ -1,0 +1,32 @@
+-- Here is no code: public promises of the crates above rest on all of these, those of the laws (`fl_model_laws`) first. `src/lib.rt` says in
+-- which order they are read.
+pub mod Given
+pub mod Events
+pub mod Calls
+pub mod Rings
+pub mod Ends
+pub mod Waits
+pub mod Monitors
+pub mod State
+pub mod Making
+pub mod Binding
+pub mod Sending
+pub mod Taking
+pub mod Forwarding
+pub mod Step
+pub mod Runs
+pub mod Standing
+pub mod SoundPlaces
+pub mod SoundRoutes
+pub mod SoundOpenings
+pub mod SoundEntries
+pub mod SoundLabels
+pub mod SoundRings
+pub mod SoundLists
+pub mod Sound
+pub mod Laws
+pub mod Faults
+pub mod SoundCalls
+pub mod SoundLimits
+pub mod Worlds
+pub mod Keeping

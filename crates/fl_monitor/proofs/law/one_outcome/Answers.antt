@@ -1,5 +1,0 @@
-use Rattle.fl_monitor.proofs.Outcomes.{one_outcome}
-use Rattle.fl_monitor.proofs.law.one_outcome.Goals as goal
-
-pub returns : goal.returns
-returns c = record { one = one_outcome }

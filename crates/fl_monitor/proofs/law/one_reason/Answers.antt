@@ -1,5 +1,0 @@
-use Rattle.fl_monitor.proofs.Taken.{refused_for_one}
-use Rattle.fl_monitor.proofs.law.one_reason.Goals as goal
-
-pub returns : goal.returns
-returns c = record { one = refused_for_one }

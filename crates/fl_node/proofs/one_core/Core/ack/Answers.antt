@@ -1,7 +1,0 @@
-use Rattle.std.proofs.Common.{subst}
-use Rattle.fl_core.specs.Events.{Holds, Acks}
-use Rattle.fl_node.specs.View.{TheCore}
-use Rattle.fl_node.proofs.one_core.Core.ack.Goals as goal
-
-pub returns : goal.returns
-returns g c = record { acks = subst (λ (k : TheCore). Holds k.board c.args.e (λ s. Acks g.T.TakeSide.takes s.kind s.end c.args.from.now c.ack.result c.ack.new.from)) c.self.view_is c.ack.ensures.acks }

@@ -1,7 +1,0 @@
-use Rattle.std.proofs.Common.{false, ◌∙◌, ap, List, ◌++◌, ◌∷◌, []}
-use Rattle.fl_node.specs.declared.wire.Lane.{Lane}
-use Rattle.fl_node.proofs.Making.{linked_is}
-use Rattle.fl_node.proofs.one_core.Core.add_link.Goals as goal
-
-pub returns-clause-linked : goal.returns-clause-linked
-returns-clause-linked c = linked_is c.args.self.now _ c.self.view_is c.add_link.new.self c.push_reserved.new.self.items c.args.neighbour c.args.side c.in_ok-link.ensures.circuits c.in_ok-link.ensures.outboxes (c.push_reserved.ensures.items ∙ ap (λ (ls : List Lane). ls ++ record { side = c.args.side; failed = false } ∷ []) c.in_ok-reserve.ensures.items)

@@ -1,5 +1,0 @@
-use Rattle.fl_parse.proofs.Outcomes as outcomes
-use Rattle.fl_parse.proofs.law.some_outcome.Goals as goal
-
-pub returns : goal.returns
-returns c = record { some = outcomes.some_outcome }

@@ -1,5 +1,0 @@
-use Rattle.fl_ring.proofs.Conserved.{side_conserves}
-use Rattle.fl_ring.proofs.law.side_conserves.Goals as goal
-
-pub returns : goal.returns
-returns c = record { conserves = side_conserves }

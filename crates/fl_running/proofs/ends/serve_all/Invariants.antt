@@ -1,7 +1,0 @@
-use Rattle.fl_running.specs.Run.{ways, run_of}
-use Rattle.fl_running.specs.Steps.{Serves}
-use Rattle.fl_running.specs.Turn.{Swept, At}
-use Rattle.fl_running.proofs.ends.serve_all.Given as goal
-
-abbrev pub invariant-loop-k : goal.invariant-loop-k
-invariant-loop-k g l = Swept (At l.ends (Serves (ways g.S.PutSide.puts g.S.TakeSide.takes g.S.TakeSide.front) l.jobs)) l.k (run_of l.initial.run) (run_of l.run)

@@ -1,0 +1,457 @@
+//! Answers, and their texts.
+
+ghost use Rattle.std.specs.Prelude.{◌≡◌, ◌++◌, ◌<◌, OnOk, OnErr, codes, false, take};
+ghost use Rattle.std.specs.Fmt.{decimal, digit_glyph};
+ghost use Rattle.fl_base.specs.Prefix.{IsPrefix};
+ghost use Rattle.fl_value_data.specs.Value.{call_of};
+ghost use Rattle.fl_script_lines.specs.Answers.{hex, frag_text, end_named, call_at, answer_text, fault_text};
+ghost use Rattle.fl_script_lines.specs.Asked.{is_done};
+ghost use Rattle.fl_script_lines.specs.Events.{answer_of};
+ghost use Rattle.fl_script_lines.specs.Told.{names_of};
+
+use crate::names::ScriptNames;
+use fl_base::{EndId, Frag, Side};
+use fl_value::print_call;
+use fl_value_data::Call;
+use std::alloc::{AllocError, Global};
+
+/// What the machine answers to an event.
+#[derive(Drop)]
+pub enum Answer {
+    /// `ok`: it is done, and nothing else is to be told of it.
+    Done,
+    /// A call is accepted: its end promises to write all its fragments.
+    Accepted,
+    /// There was nothing to do.
+    Nothing,
+    /// What it would go to has no room; or, at a turn, the end due holds back.
+    Full,
+    /// Fragment k of n was written.
+    Written { k: usize, n: usize },
+    /// A call was handled at an end.
+    Handle { end: EndId, call: Call },
+    /// A fragment was taken that makes no call whole.
+    Part(EndId),
+    /// A call's fragment stands at a polled channel.
+    Ready(EndId),
+    /// None stands there, or one that only acknowledges and was taken.
+    Quiet(EndId),
+    /// A call's fragment went on: onto the next link, or into the arrival queue of its end.
+    Forwarded,
+    /// An end of a circuit is bound.
+    Opened(EndId),
+    /// The opening of a circuit was refused, with the fault's number: whatever the other monitor gave.
+    OpeningRefused { number: u32, end: EndId },
+    /// The fragment that would be written next.
+    Words(Frag),
+    /// The event is refused, with the fault's number.
+    Refused(u8),
+}
+
+impl Answer {
+    /// Whether it is `ok`.
+    pub fn is_done(&self) -> bool
+        ensures done { result ≡ is_done (answer_of self.now) }
+    {
+        matches!(self, Answer::Done)
+    }
+}
+
+// A number, digit by digit.
+#[tactic(auto, using(crate::proofs::Kept::pieces))]
+fn put_number(out: &mut Vec<u8>, number: usize) -> Result<(), AllocError>
+    ensures ok { OnOk result (out.new.items ≡ out.old.items ++ decimal number) }
+    ensures grows { IsPrefix out.old.items out.new.items }
+{
+    if number < 10 {
+        out.push(b'0' + number as u8)?;
+        return Ok(());
+    }
+    put_number(out, number / 10)?;
+    out.push(b'0' + (number % 10) as u8)?;
+    Ok(())
+}
+
+fn digit(value: u8) -> u8
+    requires { value < 16 }
+    ensures { result ≡ digit_glyph false value }
+{
+    let digits: &[u8; 16] = b"0123456789abcdef";
+    digits[usize::from(value)]
+}
+
+// A word's 16 digits, and a space behind them.
+fn spaced_digits(word: u64) -> [u8; 17]
+    ensures { result ≡ hex word ++ codes " " }
+{
+    let [a, b, c, d, e, f, g, h] = word.to_be_bytes();
+    [
+        digit(a / 16),
+        digit(a % 16),
+        digit(b / 16),
+        digit(b % 16),
+        digit(c / 16),
+        digit(c % 16),
+        digit(d / 16),
+        digit(d % 16),
+        digit(e / 16),
+        digit(e % 16),
+        digit(f / 16),
+        digit(f % 16),
+        digit(g / 16),
+        digit(g % 16),
+        digit(h / 16),
+        digit(h % 16),
+        b' ',
+    ]
+}
+
+// A word in hexadecimal, and a space behind it; most words of a short call's fragment are 0.
+#[tactic(auto, using(crate::proofs::Kept::pieces))]
+fn put_spaced(out: &mut Vec<u8>, word: u64) -> Result<(), AllocError>
+    ensures ok { OnOk result (out.new.items ≡ out.old.items ++ (hex word ++ codes " ")) }
+    ensures grows { IsPrefix out.old.items out.new.items }
+{
+    if word == 0 {
+        return out.extend_from_slice(b"0000000000000000 ");
+    }
+    let digits = spaced_digits(word);
+    out.extend_from_slice(digits.as_slice())
+}
+
+// A word in hexadecimal.
+#[tactic(auto, using(crate::proofs::Kept::pieces))]
+fn put_last(out: &mut Vec<u8>, word: u64) -> Result<(), AllocError>
+    ensures ok { OnOk result (out.new.items ≡ out.old.items ++ hex word) }
+    ensures grows { IsPrefix out.old.items out.new.items }
+{
+    let digits = spaced_digits(word);
+    out.extend_from_slice(&digits[..16])
+}
+
+// Eight words in hexadecimal, the control word last.
+#[tactic(auto, using(crate::proofs::Kept::pieces))]
+fn put_frag(out: &mut Vec<u8>, frag: &Frag) -> Result<(), AllocError>
+    ensures ok { OnOk result (out.new.items ≡ out.old.items ++ frag_text frag.now) }
+    ensures grows { IsPrefix out.old.items out.new.items }
+{
+    for word in frag.words {
+        put_spaced(out, word)?;
+    }
+    put_last(out, frag.control)
+}
+
+/// Appends an end: its binding's name, and `.c` or `.s`.
+///
+/// # Errors
+/// Out of memory; `out` may have grown then.
+#[tactic(auto, using(crate::proofs::Kept::pieces))]
+#[inline(always)]
+pub fn put_end(out: &mut Vec<u8>, names: &ScriptNames, end: EndId) -> Result<(), AllocError>
+    ensures ok { OnOk result (out.new.items ≡ out.old.items ++ end_named (names_of names.now) end) }
+    ensures grows { IsPrefix out.old.items out.new.items }
+{
+    out.extend_from_slice(names.bindings.get(end.binding).unwrap_or(&[]))?;
+    match end.side {
+        Side::Client => out.extend_from_slice(b".c"),
+        Side::Server => out.extend_from_slice(b".s"),
+    }
+}
+
+// The same, and a space.
+#[tactic(auto, using(crate::proofs::Kept::pieces))]
+#[inline(always)]
+fn put_spaced_end(out: &mut Vec<u8>, names: &ScriptNames, end: EndId) -> Result<(), AllocError>
+    ensures ok { OnOk result (out.new.items ≡ out.old.items ++ (end_named (names_of names.now) end ++ codes " ")) }
+    ensures grows { IsPrefix out.old.items out.new.items }
+{
+    out.extend_from_slice(names.bindings.get(end.binding).unwrap_or(&[]))?;
+    match end.side {
+        Side::Client => out.extend_from_slice(b".c "),
+        Side::Server => out.extend_from_slice(b".s "),
+    }
+}
+
+// A word, a space and an end.
+#[tactic(auto, using(crate::proofs::Kept::pieces))]
+fn put_of_end(
+    out: &mut Vec<u8>,
+    word: &[u8],
+    names: &ScriptNames,
+    end: EndId,
+) -> Result<(), AllocError>
+    ensures ok { OnOk result (out.new.items ≡ out.old.items ++ (word.now ++ end_named (names_of names.now) end)) }
+    ensures grows { IsPrefix out.old.items out.new.items }
+{
+    out.extend_from_slice(word)?;
+    put_end(out, names, end)
+}
+
+// The text of a fragment that was written, whatever its number and how many there are.
+#[tactic(auto, using(crate::proofs::Kept::pieces))]
+#[inline(never)]
+fn put_any_written(out: &mut Vec<u8>, k: usize, n: usize) -> Result<(), AllocError>
+    ensures ok { OnOk result (out.new.items ≡ out.old.items ++ (codes "written " ++ decimal k ++ codes " of " ++ decimal n)) }
+    ensures grows { IsPrefix out.old.items out.new.items }
+{
+    out.extend_from_slice(b"written ")?;
+    put_number(out, k)?;
+    out.extend_from_slice(b" of ")?;
+    put_number(out, n)
+}
+
+// The same, where a call has fewer than ten.
+#[inline(always)]
+fn few_written(k: u8, n: u8) -> [u8; 14]
+    requires first { k < 10 }
+    requires all { n < 10 }
+    ensures text { result ≡ codes "written " ++ decimal k ++ codes " of " ++ decimal n }
+{
+    let (k, n) = (b'0' + k, b'0' + n);
+    [
+        b'w', b'r', b'i', b't', b't', b'e', b'n', b' ', k, b' ', b'o', b'f', b' ', n,
+    ]
+}
+
+#[tactic(auto, using(crate::proofs::Kept::pieces))]
+fn put_refused(out: &mut Vec<u8>, number: usize) -> Result<(), AllocError>
+    ensures ok { OnOk result (out.new.items ≡ out.old.items ++ (codes "refused E" ++ decimal number)) }
+    ensures grows { IsPrefix out.old.items out.new.items }
+{
+    out.extend_from_slice(b"refused E")?;
+    put_number(out, number)
+}
+
+// A call that was handled at an end.
+#[tactic(auto, using(crate::proofs::Kept::pieces))]
+fn put_call(
+    alloc: Global,
+    out: &mut Vec<u8>,
+    names: &ScriptNames,
+    end: EndId,
+    call: &Call,
+) -> Result<(), AllocError>
+    ensures ok { OnOk result (out.new.items ≡ out.old.items ++ call_at (names_of names.now) end (call_of call.now)) }
+    ensures grows { IsPrefix out.old.items out.new.items }
+{
+    print_call(alloc, out, names.message_name(end, call.msg), &call.args)
+}
+
+// The same, behind its word and the end.
+#[tactic(auto, using(crate::proofs::Kept::pieces))]
+#[inline(always)]
+fn put_handled(
+    alloc: Global,
+    out: &mut Vec<u8>,
+    names: &ScriptNames,
+    end: EndId,
+    call: &Call,
+) -> Result<(), AllocError>
+    ensures ok { OnOk result (out.new.items ≡ out.old.items
+        ++ (codes "handle " ++ end_named (names_of names.now) end ++ codes " " ++ call_at (names_of names.now) end (call_of call.now))) }
+    ensures grows { IsPrefix out.old.items out.new.items }
+{
+    out.extend_from_slice(b"handle ")?;
+    put_spaced_end(out, names, end)?;
+    put_call(alloc, out, names, end, call)
+}
+
+// A refused opening.
+#[tactic(auto, using(crate::proofs::Kept::pieces))]
+fn put_opening_refused(
+    out: &mut Vec<u8>,
+    number: u32,
+    names: &ScriptNames,
+    end: EndId,
+) -> Result<(), AllocError>
+    ensures ok { OnOk result (out.new.items ≡ out.old.items
+        ++ (codes "refused E" ++ decimal number ++ codes " " ++ end_named (names_of names.now) end)) }
+    ensures grows { IsPrefix out.old.items out.new.items }
+{
+    put_refused(out, number as usize)?;
+    put_of_end(out, b" ", names, end)
+}
+
+// Hands on what came of an append. Where it failed, all behind so many bytes is taken back.
+#[inline(always)]
+fn all_or_none(
+    out: &mut Vec<u8>,
+    before: usize,
+    put: Result<(), AllocError>,
+) -> Result<(), AllocError>
+    ensures same { result ≡ put }
+    ensures all { OnOk put (out.new.items ≡ out.old.items) }
+    ensures none { OnErr put (out.new.items ≡ take before out.old.items) }
+{
+    if put.is_err() {
+        out.truncate(before);
+    }
+    put
+}
+
+// A text in one append.
+#[inline(always)]
+fn print_text(out: &mut Vec<u8>, text: &[u8]) -> Result<(), AllocError>
+    ensures printed { OnOk result (out.new.items ≡ out.old.items ++ text.now) }
+    ensures kept { OnErr result (out.new.items ≡ out.old.items) }
+{
+    out.extend_from_slice(text)
+}
+
+// Fragment k of n was written, whatever these are.
+#[tactic(auto, using(crate::proofs::Kept::taken_back))]
+#[inline(never)]
+fn print_any_written(out: &mut Vec<u8>, k: usize, n: usize) -> Result<(), AllocError>
+    ensures printed { OnOk result (out.new.items ≡ out.old.items ++ (codes "written " ++ decimal k ++ codes " of " ++ decimal n)) }
+    ensures kept { OnErr result (out.new.items ≡ out.old.items) }
+{
+    let before = out.as_slice().len();
+    let put = put_any_written(out, k, n);
+    all_or_none(out, before, put)
+}
+
+// Fragment k of n was written; most calls have fewer than ten.
+#[inline(always)]
+fn print_written(out: &mut Vec<u8>, k: usize, n: usize) -> Result<(), AllocError>
+    ensures printed { OnOk result (out.new.items ≡ out.old.items ++ (codes "written " ++ decimal k ++ codes " of " ++ decimal n)) }
+    ensures kept { OnErr result (out.new.items ≡ out.old.items) }
+{
+    if k < 10 && n < 10 {
+        let text = few_written(k as u8, n as u8);
+        return print_text(out, text.as_slice());
+    }
+    print_any_written(out, k, n)
+}
+
+// A call that was handled, all of it or nothing.
+#[tactic(auto, using(crate::proofs::Kept::taken_back))]
+#[inline(never)]
+fn print_handled(
+    alloc: Global,
+    out: &mut Vec<u8>,
+    names: &ScriptNames,
+    end: EndId,
+    call: &Call,
+) -> Result<(), AllocError>
+    ensures printed { OnOk result (out.new.items ≡ out.old.items
+        ++ (codes "handle " ++ end_named (names_of names.now) end ++ codes " " ++ call_at (names_of names.now) end (call_of call.now))) }
+    ensures kept { OnErr result (out.new.items ≡ out.old.items) }
+{
+    let before = out.as_slice().len();
+    let put = put_handled(alloc, out, names, end, call);
+    all_or_none(out, before, put)
+}
+
+// A word, a space and an end, all of it or nothing.
+#[tactic(auto, using(crate::proofs::Kept::taken_back))]
+#[inline(never)]
+fn print_of_end(
+    out: &mut Vec<u8>,
+    word: &[u8],
+    names: &ScriptNames,
+    end: EndId,
+) -> Result<(), AllocError>
+    ensures printed { OnOk result (out.new.items ≡ out.old.items ++ (word.now ++ end_named (names_of names.now) end)) }
+    ensures kept { OnErr result (out.new.items ≡ out.old.items) }
+{
+    let before = out.as_slice().len();
+    let put = put_of_end(out, word, names, end);
+    all_or_none(out, before, put)
+}
+
+// A refused opening, all of it or nothing.
+#[tactic(auto, using(crate::proofs::Kept::taken_back))]
+#[inline(never)]
+fn print_opening_refused(
+    out: &mut Vec<u8>,
+    number: u32,
+    names: &ScriptNames,
+    end: EndId,
+) -> Result<(), AllocError>
+    ensures printed { OnOk result (out.new.items ≡ out.old.items ++ (codes "refused E" ++ decimal number ++ codes " " ++ end_named (names_of names.now) end)) }
+    ensures kept { OnErr result (out.new.items ≡ out.old.items) }
+{
+    let before = out.as_slice().len();
+    let put = put_opening_refused(out, number, names, end);
+    all_or_none(out, before, put)
+}
+
+// Eight words, all of them or nothing.
+#[tactic(auto, using(crate::proofs::Kept::taken_back))]
+#[inline(never)]
+fn print_frag(out: &mut Vec<u8>, frag: &Frag) -> Result<(), AllocError>
+    ensures printed { OnOk result (out.new.items ≡ out.old.items ++ frag_text frag.now) }
+    ensures kept { OnErr result (out.new.items ≡ out.old.items) }
+{
+    let before = out.as_slice().len();
+    let put = put_frag(out, frag);
+    all_or_none(out, before, put)
+}
+
+// A refusal, all of it or nothing.
+#[tactic(auto, using(crate::proofs::Kept::taken_back))]
+#[inline(never)]
+fn print_refused(out: &mut Vec<u8>, number: usize) -> Result<(), AllocError>
+    ensures printed { OnOk result (out.new.items ≡ out.old.items ++ (codes "refused E" ++ decimal number)) }
+    ensures kept { OnErr result (out.new.items ≡ out.old.items) }
+{
+    let before = out.as_slice().len();
+    let put = put_refused(out, number);
+    all_or_none(out, before, put)
+}
+
+/// Appends the text of an answer, without a line feed, by the names that the script has given.
+///
+/// # Errors
+/// Out of memory; `out` is as it was then.
+pub fn print_answer(
+    alloc: Global,
+    out: &mut Vec<u8>,
+    names: &ScriptNames,
+    answer: &Answer,
+) -> Result<(), AllocError>
+    ensures printed { OnOk result (out.new.items ≡ out.old.items ++ answer_text (names_of names.now) (answer_of answer.now)) }
+    ensures kept { OnErr result (out.new.items ≡ out.old.items) }
+{
+    match answer {
+        Answer::Done => print_text(out, b"ok"),
+        Answer::Accepted => print_text(out, b"accepted"),
+        Answer::Nothing => print_text(out, b"nothing"),
+        Answer::Full => print_text(out, b"full"),
+        Answer::Written { k, n } => print_written(out, *k, *n),
+        Answer::Handle { end, call } => print_handled(alloc, out, names, *end, call),
+        Answer::Part(end) => print_of_end(out, b"part ", names, *end),
+        Answer::Ready(end) => print_of_end(out, b"ready ", names, *end),
+        Answer::Quiet(end) => print_of_end(out, b"quiet ", names, *end),
+        Answer::Forwarded => print_text(out, b"forwarded"),
+        Answer::Opened(end) => print_of_end(out, b"opened ", names, *end),
+        Answer::OpeningRefused { number, end } => print_opening_refused(out, *number, names, *end),
+        Answer::Words(frag) => print_frag(out, frag),
+        Answer::Refused(number) => print_refused(out, usize::from(*number)),
+    }
+}
+
+// A fault of an interface's text, and where it stands.
+#[tactic(auto, using(crate::proofs::Kept::pieces))]
+fn put_fault(out: &mut Vec<u8>, number: u8, offset: usize) -> Result<(), AllocError>
+    ensures ok { OnOk result (out.new.items ≡ out.old.items ++ fault_text number offset) }
+    ensures grows { IsPrefix out.old.items out.new.items }
+{
+    put_refused(out, usize::from(number))?;
+    out.extend_from_slice(b" at ")?;
+    put_number(out, offset)
+}
+
+/// Appends `refused En at OFFSET`, for a fault of an interface's text.
+///
+/// # Errors
+/// Out of memory; `out` is as it was then.
+#[tactic(auto, using(crate::proofs::Kept::taken_back))]
+pub fn print_fault(out: &mut Vec<u8>, number: u8, offset: usize) -> Result<(), AllocError>
+    ensures printed { OnOk result (out.new.items ≡ out.old.items ++ fault_text number offset) }
+    ensures kept { OnErr result (out.new.items ≡ out.old.items) }
+{
+    let before = out.as_slice().len();
+    let put = put_fault(out, number, offset);
+    all_or_none(out, before, put)
+}

@@ -1,3 +1,0 @@
--- The laws rest on these, in this order.
-pub mod Untouched
-pub mod Start

@@ -1,5 +1,0 @@
-use Rattle.fl_shows.proofs.Carried.{off_links, goes_on}
-use Rattle.fl_shows.proofs.labels.calls_go_on.Goals as goal
-
-pub returns : goal.returns
-returns c = record { goes_on = λ s fit keep small. (off_links s fit keep, goes_on c.on_another_circuit.ensures.on s fit keep small) }

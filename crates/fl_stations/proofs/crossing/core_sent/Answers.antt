@@ -1,7 +1,0 @@
-use Rattle.fl_stations.proofs.Boards.{core_sends}
-use Rattle.fl_stations.proofs.crossing.core_sent.Goals as goal
-
-pub returns : goal.returns
-returns c = record {
-  sent = core_sends c.board_sent.ensures.sent c.monitor_sent.ensures.sent c.messenger_sent.ensures.sent c.queue_sent.ensures.sent;
-}

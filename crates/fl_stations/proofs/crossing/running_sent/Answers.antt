@@ -1,8 +1,0 @@
-use Rattle.fl_stations.proofs.Sending.{running_sends}
-use Rattle.fl_stations.proofs.crossing.running_sent.Goals as goal
-
-pub returns : goal.returns
-returns c = record {
-  sent = running_sends c.core_sent.ensures.sent c.side_sent.ensures.sent c.queue_sent.ensures.sent c.desk_sent.ensures.sent c.names_sent.ensures.sent
-      c.program_sent.ensures.sent;
-}

@@ -1,7 +1,0 @@
-use Rattle.std.proofs.Common.{◌≡◌, ◌++◌, map, drop}
-use Rattle.fl_stations.specs.Stations.{outcome_of}
-use Rattle.fl_stations.specs.Tells.{turns_in}
-use Rattle.fl_stations.proofs.telling.turns_of.Given as goal
-
-abbrev pub invariant-loop-one : goal.invariant-loop-one
-invariant-loop-one l = l.turns.items ++ map turns_in (map outcome_of (drop l.one-index l.done)) ≡ map turns_in (map outcome_of l.done)

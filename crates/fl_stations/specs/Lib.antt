@@ -1,6 +1,0 @@
--- The public promises of crates above rest on Runs and Tells; Stations and Taking have what the code's own functions say, `run_each` and
--- `tell` among them.
-pub mod Runs
-pub mod Tells
-pub mod Stations
-pub mod Taking

@@ -1,5 +1,0 @@
-use Rattle.fl_stub.proofs.Agreeing.{one_mark, one_leaving}
-use Rattle.fl_stub.proofs.law.one_mark.Goals as goal
-
-pub returns : goal.returns
-returns c = record { mark = one_mark; leaving = one_leaving }

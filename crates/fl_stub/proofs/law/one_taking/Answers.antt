@@ -1,5 +1,0 @@
-use Rattle.fl_stub.proofs.Taking.{one_taking}
-use Rattle.fl_stub.proofs.law.one_taking.Goals as goal
-
-pub returns : goal.returns
-returns c = record { tape = one_taking }

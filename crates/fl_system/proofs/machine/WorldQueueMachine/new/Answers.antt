@@ -1,5 +1,0 @@
-use Rattle.fl_system.proofs.Runs.{starts}
-use Rattle.fl_system.proofs.machine.WorldQueueMachine.new.Goals as goal
-
-pub returns : goal.returns
-returns c = record { start = starts c.fresh_shows.ensures.shows c.with_cores.result c.with_cores.ensures.fresh }

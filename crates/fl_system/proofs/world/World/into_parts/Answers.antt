@@ -1,7 +1,0 @@
-use Rattle.std.proofs.Common.{sym, subst}
-use Rattle.fl_worlds.specs.View.{TheWorld}
-use Rattle.fl_worlds.specs.Apart.{AllUnused}
-use Rattle.fl_system.proofs.world.World.into_parts.Goals as goal
-
-pub returns-clause-unused : goal.returns-clause-unused
-returns-clause-unused c = subst (λ (w : TheWorld). AllUnused w.rings) (sym c.self.view_is) c.requires.unused

@@ -1,5 +1,0 @@
-use Rattle.fl_system.proofs.Makes.{few_fresh}
-use Rattle.fl_system.proofs.world.World.with_cores.Goals as goal
-
-pub invariant_of-result : goal.invariant_of-result
-invariant_of-result c = few_fresh c.args.n _ c.in_ok-cores.ensures c.requires.few

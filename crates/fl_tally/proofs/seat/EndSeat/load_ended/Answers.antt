@@ -1,8 +1,0 @@
-use Rattle.std.proofs.Common.{rules, ◌≡◌, ◌+◌, ◌<◌, length, arith}
-use Rattle.fl_tally.proofs.Steps.{allows_look}
-use Rattle.fl_tally.proofs.seat.EndSeat.load_ended.Goals as goal
-
-pub load-requires : goal.load-requires
-load-requires c =
-    let wide : c.deref.result.now.shared.table_id.words ≡ length c.deref.result.now.shared.key.owners.items + 1 = search rules in
-    (search rules, omega (arith, wide), allows_look _ _ _ _ _ (search rules))

@@ -1,8 +1,0 @@
--- The public promise rests on Ran and Faults, and these on Begins, Shares and Heard; Stations and Dealing have what the code's own functions say.
-pub mod Faults
-pub mod Begins
-pub mod Heard
-pub mod Shares
-pub mod Stations
-pub mod Dealing
-pub mod Ran

@@ -1,5 +1,0 @@
-use Rattle.fl_value.proofs.Round.{call_comes_back}
-use Rattle.fl_value.proofs.law.printed_call_read.Goals as goal
-
-pub returns : goal.returns
-returns c = record { reading = call_comes_back }

@@ -1,5 +1,0 @@
-use Rattle.fl_value.proofs.Prints.{call_reads}
-use Rattle.fl_value.proofs.law.printed_reads.Goals as goal
-
-pub returns : goal.returns
-returns c = record { reading = call_reads }

@@ -1,6 +1,0 @@
-use Rattle.fl_interface.specs.Interface.{TheArgType}
-use Rattle.fl_value.proofs.Ranked.{arranged_ranks}
-use Rattle.fl_value.proofs.law.rank_by_rank.Goals as goal
-
-pub returns : goal.returns
-returns c = record { same = arranged_ranks (λ (t : TheArgType). t) }

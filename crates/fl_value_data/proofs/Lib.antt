@@ -1,0 +1,9 @@
+pub mod Counting
+pub mod Tapes
+pub mod Turns
+pub mod Bits
+pub mod Ranked
+pub mod Kept
+pub mod Untaped
+pub mod Numbers
+pub mod Each

@@ -1,5 +1,0 @@
-use Rattle.fl_wire.proofs.Readings.{begins_with}
-use Rattle.fl_wire.proofs.law.none_begins_with_another.Goals as goal
-
-pub returns : goal.returns
-returns c = record { prefix = begins_with }

@@ -1,7 +1,0 @@
-use Rattle.std.proofs.Common.{◌∙◌, ap}
-use Rattle.fl_words.proofs.Making.{is_global}
-use Rattle.fl_words.proofs.words.turns_option.Goals as goal
-
-pub returns-clause-local : goal.returns-clause-local
-returns-clause-local c =
-    ap is_global c.help.ensures ∙ ap is_global c.value_parser.ensures.others ∙ ap is_global c.required.ensures ∙ ap is_global c.long.ensures ∙ c.new.ensures.optional.1

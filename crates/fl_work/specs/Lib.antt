@@ -1,2 +1,0 @@
--- The promises rest on this.
-pub mod Jobs

@@ -1,0 +1,15 @@
+pub mod Lifts
+pub mod Lent
+pub mod Kept
+pub mod Seen
+pub mod Added
+pub mod Made
+pub mod Makes
+pub mod Following
+pub mod Requested
+pub mod RingEnds
+pub mod Queued
+pub mod Routes
+pub mod Runs
+pub mod Unused
+pub mod Stepped

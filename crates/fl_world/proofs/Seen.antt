@@ -1,0 +1,79 @@
+-- What a look at one of a world's lists tells, as it is lent: w is the world, and base the same by its fields.
+use Rattle.std.proofs.Common.{◌≡◌, refl, sym, ap, ◌∙◌, subst, ℕ, ◌<◌, ◌≤◌, length, nat_lt, slice_get, slice_index_or, Bool, true, false, List, Option, Some, None}
+use Rattle.std.proofs.lemmas.Option.{slice_get_past}
+use Rattle.std.specs.Prelude.{IfSome}
+use Rattle.fl_base.specs.Given.{given}
+use Rattle.fl_core.specs.BoardView.{TheBoard, due, due_in}
+use Rattle.fl_core.specs.View.{TheCore}
+use Rattle.fl_model.specs.Events.{DispatcherId}
+use Rattle.fl_world_refines.specs.View.{TheWorld, has_dispatcher}
+use Rattle.fl_world_refines.specs.Taking.{due_at}
+use Rattle.fl_world_refines.specs.Binding.{has_places}
+use Rattle.fl_world_events.specs.Requests.{has_end_in, places_in}
+use Rattle.fl_world_events.proofs.Lifts.{stands}
+use Rattle.fl_world.specs.Places.{HasDue}
+use Rattle.fl_world.specs.Requests.{has_end_of}
+
+-- ---- what stands at a place
+
+pub seen : {X : Type 0} (w base : TheWorld) → base ≡ w → (list : TheWorld → List X) (xs : List X) → xs ≡ list base → (n : ℕ) (read : X)
+    → n < length xs → read ≡ slice_index_or xs n read → slice_get (list w) n ≡ Some read
+seen {X} w base same list xs lent n read below value =
+    subst (λ (x : TheWorld). slice_get (list x) n ≡ Some read) same
+    (subst (λ (ys : List X). slice_get ys n ≡ Some read) lent (stands xs n read read below value refl))
+
+pub unseen : {X : Type 0} (w base : TheWorld) → base ≡ w → (list : TheWorld → List X) (xs : List X) → xs ≡ list base → (n : ℕ) → length xs ≤ n
+    → slice_get (list w) n ≡ None
+unseen {X} w base same list xs lent n past =
+    subst (λ (x : TheWorld). slice_get (list x) n ≡ None) same
+    (subst (λ (ys : List X). slice_get ys n ≡ None) lent (slice_get_past xs n past))
+
+-- ---- an end at a core
+
+pub no_end_at : (n core : ℕ) (w : TheWorld) → slice_get w.cores core ≡ None → false ≡ has_end_of n core w
+no_end_at n core w none = sym (ap (λ (o : Option TheCore). given o false (has_end_in n)) none)
+
+pub end_at : (n core : ℕ) (w : TheWorld) (k : TheCore) → slice_get w.cores core ≡ Some k → (b : Bool) → b ≡ has_end_in n k → b ≡ has_end_of n core w
+end_at n core w k is b has = has ∙ sym (ap (λ (o : Option TheCore). given o false (has_end_in n)) is)
+
+-- ---- a dispatcher, where its core isn't there
+
+module _ (w : TheWorld) (d : DispatcherId) (none : slice_get w.cores d.core ≡ None) where
+  pub no_dispatcher_at : false ≡ has_dispatcher w d
+  no_dispatcher_at = sym (ap (λ (o : Option TheCore). given o false (λ k. nat_lt d.place (length k.board.dispatchers))) none)
+
+  pub no_places_at : (n : ℕ) → false ≡ has_places d n w
+  no_places_at n = sym (ap (λ (o : Option TheCore). given o false (λ k. places_in k.board d.place n)) none)
+
+  pub none_due : None ≡ due_at w d
+  none_due = sym (ap (λ (o : Option TheCore). given o None (λ k. due k.board d.place)) none)
+
+-- ---- and where it is
+
+module _ (w : TheWorld) (d : DispatcherId) (k : TheCore) (is : slice_get w.cores d.core ≡ Some k) where
+  pub dispatcher_at : (n : ℕ) → n ≡ length k.board.dispatchers → nat_lt d.place n ≡ has_dispatcher w d
+  dispatcher_at n all = ap (nat_lt d.place) all ∙ sym (ap (λ (o : Option TheCore). given o false (λ c. nat_lt d.place (length c.board.dispatchers))) is)
+
+  pub places_at : (n : ℕ) (board : TheBoard) → board ≡ k.board → (b : Bool) → b ≡ places_in board d.place n → b ≡ has_places d n w
+  places_at n board same b h =
+      h ∙ ap (λ (x : TheBoard). places_in x d.place n) same ∙ sym (ap (λ (o : Option TheCore). given o false (λ c. places_in c.board d.place n)) is)
+
+  due_is_at : due_at w d ≡ due k.board d.place
+  due_is_at = ap (λ (o : Option TheCore). given o None (λ c. due c.board d.place)) is
+
+  pub past_due : length k.board.dispatchers ≤ d.place → None ≡ due_at w d
+  past_due past = sym (due_is_at ∙ ap due_in (slice_get_past k.board.dispatchers d.place past))
+
+  pub due_told : (board : TheBoard) → board ≡ k.board → (o : Option ℕ) → o ≡ due board d.place → o ≡ due_at w d
+  due_told board same o h = h ∙ ap (λ (x : TheBoard). due x d.place) same ∙ sym due_is_at
+
+  pub has_due : d.place < length k.board.dispatchers → (board : TheBoard) → board ≡ k.board → (o : Option ℕ) → o ≡ due board d.place
+      → IfSome o (λ e. e < length board.seats) → IfSome o (λ e. HasDue w.cores d e)
+  has_due there board same None h within = tt
+  has_due there board same (Some e) h within = record {
+    core = k;
+    core_is = is;
+    there = there;
+    due_is = sym (h ∙ ap (λ (x : TheBoard). due x d.place) same);
+    within = subst (λ (x : TheBoard). e < length x.seats) same within;
+  }

@@ -1,0 +1,13 @@
+use Rattle.fl_value_data.specs.Value.{call_of}
+use Rattle.fl_model.specs.Events as machine
+use Rattle.fl_world.proofs.Stepped.{machine_steps, machine_kept}
+use Rattle.fl_world.proofs.machine.WorldQueueMachine.step_call.Goals as goal
+
+pub returns : goal.returns
+returns c =
+    let made = c.call-outcome.new.self in
+    record {
+      steps = machine_steps (machine.call c.args.end (call_of c.args.call.now)) c.args.self.now made c.close_by.new.self c.call-outcome.result c.law_steps_agree.ensures.agree
+          c.call-outcome.ensures.calls c.close_by.ensures.closed;
+      kept = machine_kept c.args.self.now made c.close_by.new.self c.call-outcome.result c.call-outcome.ensures.kept c.close_by.ensures.kept;
+    }

@@ -1,0 +1,11 @@
+use Rattle.std.proofs.Common.{Ok}
+use Rattle.fl_model.specs.Events as machine
+use Rattle.fl_world.proofs.Stepped.{machine_steps}
+use Rattle.fl_world.proofs.machine.WorldQueueMachine.step_show.Goals as goal
+
+pub returns : goal.returns
+returns c = record {
+  steps = machine_steps (machine.show c.args.end) c.args.self.now c.show-answer.new.self c.close.new.self (Ok c.show-answer.result) c.law_steps_agree.ensures.agree
+      c.show-answer.ensures.shows c.close.ensures.closed;
+  kept = tt;
+}

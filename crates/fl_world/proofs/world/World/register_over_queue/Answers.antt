@@ -1,0 +1,26 @@
+use Rattle.std.proofs.Common.{refl, arith, inl, inr}
+use Rattle.fl_world.proofs.Lifts.{core_read, over_queue, end_read, few_kept}
+use Rattle.fl_world_refines.specs.View.{TheWorld}
+use Rattle.fl_world.proofs.Lent.{past_end, stray, lent_queue, read_is}
+use Rattle.fl_world.proofs.world.World.register_over_queue.Goals as goal
+
+pub returns-in-Some : goal.returns-in-Some
+returns-in-Some c = record { registers = inl (over_queue c.args.self.now _ c.self.view_is c.args.n c.args.q (core_read c.args.self.now _ c.self.view_is c.args.n c.args.place c.requires.end) (omega (arith, c.in-Some.ensures.variant.0 refl, c.self.inside.queues.ok.0)) _ _ c.index_mut.ensures.value refl _ _ c.in-Some.ensures.value refl _ _ _ c.register_by_queue.ensures.registers) }
+
+pub invariant_of-self : goal.invariant_of-self
+invariant_of-self c = c.self.invariant
+
+pub index_mut-requires : goal.index_mut-requires
+index_mut-requires c = omega (arith, core_read c.args.self.now _ c.self.view_is c.args.n c.args.place c.requires.end, c.self.inside.cores.ok.0)
+
+pub invariant_of-self-in-Some : goal.invariant_of-self-in-Some
+invariant_of-self-in-Some c = few_kept c.self.inside.cores.items c.args.n c.register_by_queue.new.core c.self.invariant
+
+pub returns-in-None : goal.returns-in-None
+returns-in-None c = record { registers = inr (stray c.args.self.now _ c.self.view_is (λ (x : TheWorld). x.queues) c.args.q (omega (arith, past_end _ _ c.in-None.ensures.variant.1, c.self.inside.queues.ok.0))) }
+
+pub register_by_queue-requires-clause-place : goal.register_by_queue-requires-clause-place
+register_by_queue-requires-clause-place c = end_read c.args.self.now _ c.self.view_is c.args.n c.args.place c.requires.end c.index_mut.result.now _ c.index_mut.ensures.value refl
+
+pub register_by_queue-requires-clause-lent : goal.register_by_queue-requires-clause-lent
+register_by_queue-requires-clause-lent c = lent_queue c.index_mut.result.now c.args.place c.args.q (c.requires.inlet c.index_mut.result.now (read_is c.args.self.now _ c.self.view_is c.args.n c.args.place c.requires.end c.index_mut.result.now c.index_mut.ensures.value))

@@ -1,0 +1,37 @@
+use Rattle.std.proofs.Common.{refl, arith, inr}
+use Rattle.fl_ring.specs.Side.{SideTakes}
+use Rattle.fl_world_refines.specs.Taking.{as_turn, TurnsWith}
+use Rattle.fl_script_lines.specs.Events.{answer_of}
+use Rattle.fl_world.proofs.Lifts.{due_read, side_if_ok, few_kept, ring_put_back, on_err_both}
+use Rattle.fl_world.proofs.Lent.{due_there, due_end, due_within, lent_to_side, past_end, stray_ring}
+use Rattle.fl_world.proofs.world.World.turn_over_side.Goals as goal
+
+pub returns-in-Some-clause-turns : goal.returns-in-Some-clause-turns
+returns-in-Some-clause-turns c = side_if_ok c.args.self.now _ c.self.view_is c.args.n c.args.m _ c.ring_at.ensures.ring (due_read c.args.self.now _ c.self.view_is c.args.n c.args.at _ c.requires.due) (omega (arith, c.in-Some.ensures.variant.0 refl, c.self.inside.rings.ok.0)) _ _ c.index_mut.ensures.value refl _ _ c.in-Some.ensures.value refl (λ a. TurnsWith SideTakes (as_turn c.args.at.dispatcher c.args.at.end c.args.at.name (answer_of a))) _ _ c.turn_by_ring.result c.turn_by_ring.ensures.turns
+
+pub invariant_of-self : goal.invariant_of-self
+invariant_of-self c = c.self.invariant
+
+pub index_mut-requires : goal.index_mut-requires
+index_mut-requires c = omega (arith, due_read c.args.self.now _ c.self.view_is c.args.n c.args.at _ c.requires.due, c.self.inside.cores.ok.0)
+
+pub turn_by_ring-requires-clause-there : goal.turn_by_ring-requires-clause-there
+turn_by_ring-requires-clause-there c = due_there c.args.self.now _ c.self.view_is c.args.n c.args.at _ c.requires.due c.index_mut.result.now c.index_mut.ensures.value
+
+pub turn_by_ring-requires-clause-due : goal.turn_by_ring-requires-clause-due
+turn_by_ring-requires-clause-due c = due_end c.args.self.now _ c.self.view_is c.args.n c.args.at _ c.requires.due c.index_mut.result.now c.index_mut.ensures.value
+
+pub turn_by_ring-requires-clause-end : goal.turn_by_ring-requires-clause-end
+turn_by_ring-requires-clause-end c = due_within c.args.self.now _ c.self.view_is c.args.n c.args.at _ c.requires.due c.index_mut.result.now c.index_mut.ensures.value
+
+pub turn_by_ring-requires-clause-lent : goal.turn_by_ring-requires-clause-lent
+turn_by_ring-requires-clause-lent c = lent_to_side c.args.self.now _ c.self.view_is c.args.n c.args.at _ c.requires.due c.index_mut.result.now c.index_mut.ensures.value c.args.m refl
+
+pub invariant_of-self-in-Some : goal.invariant_of-self-in-Some
+invariant_of-self-in-Some c = few_kept c.self.inside.cores.items c.args.n c.turn_by_ring.new.core c.self.invariant
+
+pub returns-in-None-clause-turns : goal.returns-in-None-clause-turns
+returns-in-None-clause-turns c = inr (stray_ring c.args.self.now _ c.self.view_is c.args.m _ c.ring_at.ensures.ring (omega (arith, past_end _ _ c.in-None.ensures.variant.1, c.self.inside.rings.ok.0)))
+
+pub returns-in-Some-clause-kept : goal.returns-in-Some-clause-kept
+returns-in-Some-clause-kept c = on_err_both _ _ _ c.turn_by_ring.result (λ k p. ring_put_back c.args.self.now _ c.self.view_is c.args.n c.ring_at.result _ _ _ c.index_mut.ensures.value refl k _ _ _ c.in-Some.ensures.value refl p) c.turn_by_ring.ensures.kept c.turn_by_ring.ensures.left

@@ -1,0 +1,73 @@
+//! A world does what the machine does: scripts run on it.
+
+ghost use Rattle.fl_world_refines.specs.ShowsState.{Shows};
+
+use crate::world::World;
+use fl_base::EndId;
+use fl_script_exec::QueueMachine;
+use fl_script_lines::{Answer, DispatcherId, Event};
+use fl_value_data::Call;
+use fl_world_refines::{law_fresh_shows, law_steps_agree};
+use std::alloc::{AllocError, Global};
+
+impl QueueMachine for World {
+    ghost shows = { Shows };
+
+    fn new(alloc: Global) -> Result<World, AllocError> {
+        law_fresh_shows();
+        World::with_cores(alloc, 1)
+    }
+
+    fn step(&mut self, event: Event<'_>) -> Result<Answer, AllocError> {
+        self.replay(&event)
+    }
+
+    // Events that scripts repeat are done by themselves, so that none prepares what another needs.
+    #[inline(always)]
+    fn step_call(&mut self, end: EndId, call: &Call) -> Result<Answer, AllocError> {
+        law_steps_agree();
+        let outcome = self.call(end, call);
+        self.close_by(&outcome);
+        outcome
+    }
+
+    #[inline(always)]
+    fn step_write(&mut self, end: EndId) -> Result<Answer, AllocError> {
+        law_steps_agree();
+        let answer = self.write(end);
+        self.close(&answer);
+        Ok(answer)
+    }
+
+    #[inline(always)]
+    fn step_turn(&mut self, dispatcher: DispatcherId) -> Result<Answer, AllocError> {
+        law_steps_agree();
+        let outcome = self.turn(dispatcher);
+        self.close_by(&outcome);
+        outcome
+    }
+
+    #[inline(always)]
+    fn step_show(&mut self, end: EndId) -> Result<Answer, AllocError> {
+        law_steps_agree();
+        let answer = self.show(end);
+        self.close(&answer);
+        Ok(answer)
+    }
+
+    #[inline(always)]
+    fn step_ack(&mut self, end: EndId) -> Result<Answer, AllocError> {
+        law_steps_agree();
+        let answer = self.ack(end);
+        self.close(&answer);
+        Ok(answer)
+    }
+
+    #[inline(always)]
+    fn step_forward(&mut self, core: u32, neighbour: u32) -> Result<Answer, AllocError> {
+        law_steps_agree();
+        let outcome = self.forward(core, neighbour);
+        self.close_by(&outcome);
+        outcome
+    }
+}

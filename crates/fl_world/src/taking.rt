@@ -1,0 +1,230 @@
+//! Turns of dispatchers, and what ends say of themselves.
+
+ghost use Rattle.std.specs.Prelude.{◌≡◌, ◌<◌, slice_get, Some, IfOk, IfSome, OnErr};
+ghost use Rattle.fl_core.specs.BoardView.{due};
+ghost use Rattle.fl_core.specs.View.{TheCore, inlet_of};
+ghost use Rattle.fl_world_refines.specs.View.{made};
+ghost use Rattle.fl_world_refines.specs.Lending.{answer_at};
+ghost use Rattle.fl_world_refines.specs.Taking.{TurnsAt, due_at, HasTurn};
+ghost use Rattle.fl_world_refines.specs.Taking.{AcksOver, AcksAt, Acknowledges, HasInlet};
+ghost use Rattle.fl_world_refines.specs.Taking.{RegistersOver, RegistersBy, RegistersChannel};
+ghost use Rattle.fl_world_refines.specs.Taking.{DeregistersChannel, SetsReply};
+ghost use Rattle.fl_script_lines.specs.Events.{answer_of, id_of};
+ghost use Rattle.fl_world_events.specs.Places.{HasEnd};
+ghost use Rattle.fl_world.specs.Places.{HasDue, IsDueOver, TurnsFrom};
+
+use crate::world::World;
+use fl_base::{EndId, MsgNo, faults};
+use fl_core::Inlet;
+use fl_script_lines::{Answer, DispatcherId};
+use fl_world_events::{
+    DueEnd, EndLocation, ack_by_ring, deregister_in, register_by_queue, register_by_ring,
+    register_in, ring_at, rule_in, rule_kept, tell_nothing, turn_by_queue, turn_by_ring, turn_in,
+};
+use std::alloc::AllocError;
+
+// ---- turns
+
+impl World {
+    // The end that is due at a dispatcher, by its place.
+    #[inline(always)]
+    fn due(&self, d: DispatcherId) -> Option<usize>
+        ensures due { result ≡ due_at self.now (id_of d) }
+        ensures there { IfSome result (λ e. HasDue self.now.cores (id_of d) e) }
+    {
+        let Some(core) = self.cores.get(d.core as usize) else {
+            return None;
+        };
+        if d.place >= core.board().dispatchers() {
+            return None;
+        }
+        core.board().due(d.place)
+    }
+
+    /// A dispatcher has a turn.
+    ///
+    /// # Errors
+    /// Out of memory.
+    #[inline(always)]
+    pub(crate) fn turn(&mut self, d: DispatcherId) -> Result<Answer, AllocError>
+        ensures turns { IfOk result (λ a. HasTurn (id_of d) self.old (answer_of a) self.new) }
+        ensures kept { OnErr result (self.new ≡ self.old) }
+    {
+        if !self.has_dispatcher(d) {
+            return Ok(Answer::Refused(faults::WRONG_NAME));
+        }
+        match self.due(d) {
+            None => Ok(Answer::Nothing),
+            Some(e) => self.turn_at(d, e),
+        }
+    }
+
+    // The end at a place, which is due, has the turn.
+    #[inline(always)]
+    fn turn_at(&mut self, d: DispatcherId, e: usize) -> Result<Answer, AllocError>
+        requires due { HasDue self.old.cores (id_of d) e }
+        ensures turns { IfOk result (λ a. TurnsAt (id_of d) e self.old (answer_of a) self.new) }
+        ensures kept { OnErr result (self.new ≡ self.old) }
+    {
+        let n = d.core as usize;
+        let at = DueEnd {
+            dispatcher: d.place,
+            end: e,
+            name: self.cores[n].name(e),
+        };
+        match self.cores[n].inlet(e) {
+            Inlet::Queue(q) => self.turn_over_queue(n, at, q),
+            Inlet::Side(m) => self.turn_over_side(n, at, m),
+            Inlet::Arrivals => self.turn_over_arrivals(n, at),
+        }
+    }
+
+    #[inline(never)]
+    fn turn_over_queue(&mut self, n: usize, at: DueEnd, q: usize) -> Result<Answer, AllocError>
+        requires due { IsDueOver self.old.cores n at (Inlet.Queue q) }
+        ensures turns { IfOk result (λ a. TurnsFrom (Inlet.Queue q) n at self.old (answer_of a) self.new) }
+        ensures kept { OnErr result (self.new ≡ self.old) }
+    {
+        match self.queues.get_mut(q) {
+            None => Ok(Answer::Nothing),
+            Some(queue) => turn_by_queue(&mut self.cores[n], at, queue),
+        }
+    }
+
+    #[inline(never)]
+    fn turn_over_side(&mut self, n: usize, at: DueEnd, m: usize) -> Result<Answer, AllocError>
+        requires due { IsDueOver self.old.cores n at (Inlet.Side m) }
+        ensures turns { IfOk result (λ a. TurnsFrom (Inlet.Side m) n at self.old (answer_of a) self.new) }
+        ensures kept { OnErr result (self.new ≡ self.old) }
+    {
+        match self.rings.get_mut(ring_at(m)) {
+            None => Ok(Answer::Nothing),
+            Some(ring) => turn_by_ring(&mut self.cores[n], at, ring, m),
+        }
+    }
+
+    #[inline(never)]
+    fn turn_over_arrivals(&mut self, n: usize, at: DueEnd) -> Result<Answer, AllocError>
+        requires due { IsDueOver self.old.cores n at Inlet.Arrivals }
+        ensures turns { IfOk result (λ a. TurnsFrom Inlet.Arrivals n at self.old (answer_of a) self.new) }
+        ensures kept { OnErr result (self.new ≡ self.old) }
+    {
+        let core = &mut self.cores[n];
+        turn_in(core, at)
+    }
+}
+
+// ---- acknowledgements
+
+impl World {
+    /// An end tells what was taken at its ring.
+    #[inline(never)]
+    pub(crate) fn ack(&mut self, e: EndId) -> Answer
+        ensures acks { Acknowledges e self.old (answer_of result) self.new }
+    {
+        match self.location(e) {
+            EndLocation::Nowhere => Answer::Refused(faults::WRONG_NAME),
+            EndLocation::Unmade => Answer::Refused(faults::NOT_BOUND),
+            EndLocation::Made(n, place) => self.ack_made(n, place),
+        }
+    }
+
+    fn ack_made(&mut self, n: usize, place: usize) -> Answer
+        requires end { HasEnd self.old.cores n place }
+        ensures acks { AcksAt (made n place) self.old (answer_of result) self.new }
+    {
+        match self.cores[n].inlet(place) {
+            Inlet::Side(m) => self.ack_over_side(n, place, m),
+            Inlet::Queue(_) => tell_nothing(&self.cores[n], place),
+            Inlet::Arrivals => tell_nothing(&self.cores[n], place),
+        }
+    }
+
+    fn ack_over_side(&mut self, n: usize, place: usize, m: usize) -> Answer
+        requires end { HasEnd self.old.cores n place }
+        requires inlet { HasInlet self.old n place (Inlet.Side m) }
+        ensures acks { (k : TheCore) → AcksOver (Inlet.Side m) k n (answer_at place (answer_of result)) self.old self.new }
+    {
+        let Some(ring) = self.rings.get_mut(ring_at(m)) else {
+            return Answer::Nothing;
+        };
+        ack_by_ring(&self.cores[n], place, ring, m)
+    }
+}
+
+// ---- registrations
+
+impl World {
+    /// An end's channel is registered.
+    #[inline(never)]
+    pub(crate) fn register(&mut self, e: EndId) -> Answer
+        ensures registers { RegistersChannel e self.old (answer_of result) self.new }
+    {
+        match self.location(e) {
+            EndLocation::Nowhere => Answer::Refused(faults::WRONG_NAME),
+            EndLocation::Unmade => Answer::Refused(faults::NOT_BOUND),
+            EndLocation::Made(n, place) => self.register_made(n, place),
+        }
+    }
+
+    fn register_made(&mut self, n: usize, place: usize) -> Answer
+        requires end { HasEnd self.old.cores n place }
+        ensures registers { RegistersBy (made n place) self.old (answer_of result) self.new }
+    {
+        match self.cores[n].inlet(place) {
+            Inlet::Queue(q) => self.register_over_queue(n, place, q),
+            Inlet::Side(m) => self.register_over_side(n, place, m),
+            Inlet::Arrivals => register_in(&mut self.cores[n], place),
+        }
+    }
+
+    fn register_over_queue(&mut self, n: usize, place: usize, q: usize) -> Answer
+        requires end { HasEnd self.old.cores n place }
+        requires inlet { (k : TheCore) → slice_get self.old.cores n ≡ Some k → inlet_of k place ≡ Some (Inlet.Queue q) }
+        ensures registers { RegistersOver (Inlet.Queue q) n place self.old (answer_of result) self.new }
+    {
+        match self.queues.get_mut(q) {
+            None => Answer::Nothing,
+            Some(queue) => register_by_queue(&mut self.cores[n], place, queue),
+        }
+    }
+
+    fn register_over_side(&mut self, n: usize, place: usize, m: usize) -> Answer
+        requires end { HasEnd self.old.cores n place }
+        requires inlet { (k : TheCore) → slice_get self.old.cores n ≡ Some k → inlet_of k place ≡ Some (Inlet.Side m) }
+        ensures registers { RegistersOver (Inlet.Side m) n place self.old (answer_of result) self.new }
+    {
+        match self.rings.get_mut(ring_at(m)) {
+            None => Answer::Nothing,
+            Some(ring) => register_by_ring(&mut self.cores[n], place, ring, m),
+        }
+    }
+
+    /// An end's channel is deregistered.
+    #[inline(never)]
+    pub(crate) fn deregister(&mut self, e: EndId) -> Answer
+        ensures deregisters { DeregistersChannel e self.old (answer_of result) self.new }
+    {
+        match self.location(e) {
+            EndLocation::Nowhere => Answer::Refused(faults::WRONG_NAME),
+            EndLocation::Unmade => Answer::Refused(faults::NOT_BOUND),
+            EndLocation::Made(n, place) => deregister_in(&mut self.cores[n], place),
+        }
+    }
+}
+
+// ---- reply rules
+
+impl World {
+    /// An end gets a reply rule.
+    #[inline(never)]
+    pub(crate) fn reply(&mut self, e: EndId, message: MsgNo, answer: MsgNo) -> Answer
+        ensures rules { SetsReply e message.0 answer.0 self.old (answer_of result) self.new }
+    {
+        match self.location(e) {
+            EndLocation::Nowhere => Answer::Refused(faults::WRONG_NAME),
+            EndLocation::Unmade => rule_kept(&mut self.bindings[e.binding], message, answer),
+            EndLocation::Made(n, place) => rule_in(&mut self.cores[n], place, message, answer),
+        }
+    }
+}

@@ -1,0 +1,10 @@
+pub mod Lifts
+pub mod Ends
+pub mod Unturned
+pub mod Makes
+pub mod Following
+pub mod Splitting
+pub mod Requested
+pub mod RingEnds
+pub mod Queued
+pub mod Routes

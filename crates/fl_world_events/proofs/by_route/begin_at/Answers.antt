@@ -1,0 +1,12 @@
+use Rattle.std.proofs.Common.{ap, slice_index_or}
+use Rattle.fl_script_lines.specs.Events.{id_of}
+use Rattle.fl_core.specs.Making.{asked}
+use Rattle.fl_world_events.specs.Routes.{BeginsIn}
+use Rattle.fl_world_events.proofs.Routes.{core_below, at_one}
+use Rattle.fl_world_events.proofs.by_route.begin_at.Goals as goal
+
+pub returns-clause-begins : goal.returns-clause-begins
+returns-clause-begins c =
+    let first = ap (slice_index_or c.args.cores.now c.args.client.core) c.index-cores-client.is in
+    at_one c.args.cores.now c.args.client.core (core_below c.args.cores.now (id_of c.args.client) c.requires.client) _ first
+    (λ o. BeginsIn (asked c.args.client.place c.args.program c.args.link c.args.opening.now) o) c.begin.new.core c.begin.result c.begin.ensures.begins

@@ -1,0 +1,17 @@
+use Rattle.std.proofs.Common.{◌∙◌, rules}
+use Rattle.fl_world_events.proofs.linking.monitor_ack_by_ring.Goals as goal
+
+pub returns : goal.returns
+returns c = record {
+  acks = record {
+    whole = c.whole.ensures.whole;
+    still = c.whole.ensures.whole;
+    over = record {
+      side = c.side-side.result;
+      lent = record { ring = c.side-side.ensures.ring; which = c.side-side.ensures.side ∙ c.which_at.ensures.which };
+      left = c.ack_by_side.new.side;
+      event = c.ack_by_side.ensures.acks;
+      rest = search rules;
+    };
+  };
+}

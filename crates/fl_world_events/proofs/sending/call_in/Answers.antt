@@ -1,0 +1,5 @@
+use Rattle.std.proofs.lemmas.Result.{IfOk-weaker}
+use Rattle.fl_world_events.proofs.sending.call_in.Goals as goal
+
+pub returns-clause-calls : goal.returns-clause-calls
+returns-clause-calls c = IfOk-weaker c.answer_call.result _ _ (λ a is. record { whole = c.whole.ensures.whole; still = c.whole-2.ensures.whole; event = (c.call-outcome.result, c.call-outcome.ensures.calls, is) }) c.answer_call.ensures.called

@@ -1,0 +1,18 @@
+use Rattle.std.proofs.Common.{◌∙◌, rules}
+use Rattle.fl_world_events.proofs.taking.turn_over.Goals as goal
+
+pub returns-clause-turns : goal.returns-clause-turns
+returns-clause-turns c = record {
+  whole = c.whole.ensures.whole;
+  still = c.whole-2.ensures.whole;
+  over = record {
+    side = c.side-side.result;
+    lent = record { ring = c.side-side.ensures.ring; which = c.side-side.ensures.side ∙ c.which_at.ensures.which };
+    left = c.turn_by_side-answer.new.side;
+    event = c.turn_by_side-answer.ensures.turns;
+    rest = search rules;
+  };
+}
+
+pub returns-clause-kept : goal.returns-clause-kept
+returns-clause-kept c = c.turn_by_side-answer.ensures.kept

@@ -1,0 +1,197 @@
+//! What stands first on a link is looked at, and moves.
+
+ghost use Rattle.std.specs.Prelude.{◌≡◌, ◌<◌, false, length};
+ghost use Rattle.fl_base.specs.Control.{is_ack_only, with_circuit, bare};
+ghost use Rattle.fl_hop.specs.Forward.{put_label, Leaves};
+ghost use Rattle.fl_link.specs.Looks.{saw};
+ghost use Rattle.fl_link.specs.Queue.{front_of};
+ghost use Rattle.fl_ring.specs.Duo.{side_of};
+ghost use Rattle.fl_ring.specs.Side.{SameSide, SidePuts, SideTakes};
+ghost use Rattle.fl_world_refines.specs.View.{which_at};
+ghost use Rattle.fl_world_refines.specs.Lending.{front_for};
+ghost use Rattle.fl_world_refines.specs.Linking.{LooksWith, incoming, HearsWith, ArrivesWith, moved_answer};
+ghost use Rattle.fl_script_lines.specs.Events.{answer_of};
+ghost use Rattle.fl_world_events.specs.Parts.{ByRing};
+ghost use Rattle.fl_world_events.specs.Passing.{Passes};
+ghost use Rattle.fl_core.specs.Links.{inbound};
+
+use crate::lending::{which_at, whole};
+use crate::places::LinkWithSide;
+use fl_base::{Circuit, EndId, Frag};
+use fl_compile::Program;
+use fl_core::{Core, LinkFront, LinkReceiveFault, MonitorAnswer};
+use fl_hop::{ForwardOutcome, move_on};
+use fl_nameserv::Names;
+use fl_ring::{DuoSide, OneDuo};
+use fl_script_lines::Answer;
+
+// ---- a look
+
+// A core looks at what stands first on a link, over a side that is lent.
+fn look_by_side(
+    core: &mut Core,
+    at: LinkWithSide,
+    side: &mut DuoSide<'_>,
+) -> Result<LinkFront, LinkReceiveFault>
+    requires link { at.link.0 < length core.old.link_sides }
+    ensures same { SameSide side.old side.new }
+    ensures looks { LooksWith at.link.0 result core.old side.old core.new side.new }
+{
+    core.look(at.link, side)
+}
+
+/// A core looks at what stands first on a link, over the link's side of a ring.
+///
+/// # Errors
+/// As the core answers.
+pub fn look_by_ring(
+    core: &mut Core,
+    at: LinkWithSide,
+    ring: &mut OneDuo,
+) -> Result<LinkFront, LinkReceiveFault>
+    requires link { at.link.0 < length core.old.link_sides }
+    ensures looks { ByRing at.side (LooksWith at.link.0 result) core.old ring.old core.new ring.new }
+{
+    whole(core);
+    let mut side = ring.side(which_at(at.side));
+    let ahead = look_by_side(core, at, &mut side);
+    whole(core);
+    ahead
+}
+
+// ---- a message is heard
+
+// A core hears what stands first on a link, over a side that is lent.
+fn hear_by_side(
+    core: &mut Core,
+    at: LinkWithSide,
+    side: &mut DuoSide<'_>,
+    frag: &Frag,
+    names: &Names,
+    programs: &[Program],
+) -> Result<MonitorAnswer, LinkReceiveFault>
+    requires link { at.link.0 < length core.old.link_sides }
+    requires seen { front_for side.old ≡ saw (bare frag.now) }
+    ensures same { SameSide side.old side.new }
+    ensures hears { HearsWith (incoming (record { names = names.now; programs = programs.now }) at.link frag.now) result core.old side.old core.new side.new }
+{
+    core.hear(at.link, side, frag, names, programs)
+}
+
+/// A core hears what stands first on a link, over the link's side of a ring.
+///
+/// # Errors
+/// As the core answers.
+pub fn hear_by_ring(
+    core: &mut Core,
+    at: LinkWithSide,
+    ring: &mut OneDuo,
+    frag: &Frag,
+    names: &Names,
+    programs: &[Program],
+) -> Result<MonitorAnswer, LinkReceiveFault>
+    requires link { at.link.0 < length core.old.link_sides }
+    requires seen { front_of (side_of (which_at at.side) ring.old).waiting ≡ saw (bare frag.now) }
+    ensures hears { ByRing at.side (HearsWith (incoming (record { names = names.now; programs = programs.now }) at.link frag.now) result)
+        core.old ring.old core.new ring.new }
+{
+    whole(core);
+    let mut side = ring.side(which_at(at.side));
+    let answer = hear_by_side(core, at, &mut side, frag, names, programs);
+    whole(core);
+    answer
+}
+
+// ---- a fragment moves
+
+// What is answered for a fragment that was to move.
+fn answer_move(outcome: ForwardOutcome) -> Answer
+    ensures moved { answer_of result ≡ moved_answer outcome }
+{
+    match outcome {
+        ForwardOutcome::Moved => Answer::Forwarded,
+        ForwardOutcome::Full | ForwardOutcome::Spent => Answer::Full,
+    }
+}
+
+// What stands first on a link arrives for an end of the core, over a side that is lent.
+fn arrive_by_side(
+    core: &mut Core,
+    at: LinkWithSide,
+    side: &mut DuoSide<'_>,
+    frag: &Frag,
+    name: EndId,
+) -> Answer
+    requires link { at.link.0 < length core.old.link_sides }
+    requires seen { front_for side.old ≡ saw (bare frag.now) }
+    requires call { is_ack_only (with_circuit 0 frag.now) ≡ false }
+    ensures same { SameSide side.old side.new }
+    ensures arrives { ArrivesWith (inbound at.link.0 frag.now name) (answer_of result) core.old side.old core.new side.new }
+{
+    match core.arrive(at.link, side, frag, name) {
+        Ok(outcome) => answer_move(outcome),
+        Err(fault) => Answer::Refused(fault.number()),
+    }
+}
+
+/// What stands first on a link arrives for an end of the core, over the link's side of a ring.
+pub fn arrive_by_ring(
+    core: &mut Core,
+    at: LinkWithSide,
+    ring: &mut OneDuo,
+    frag: &Frag,
+    name: EndId,
+) -> Answer
+    requires link { at.link.0 < length core.old.link_sides }
+    requires seen { front_of (side_of (which_at at.side) ring.old).waiting ≡ saw (bare frag.now) }
+    requires call { is_ack_only (with_circuit 0 frag.now) ≡ false }
+    ensures arrives { ByRing at.side (ArrivesWith (inbound at.link.0 frag.now name) (answer_of result)) core.old ring.old core.new ring.new }
+{
+    whole(core);
+    let mut side = ring.side(which_at(at.side));
+    let answer = arrive_by_side(core, at, &mut side, frag, name);
+    whole(core);
+    answer
+}
+
+/// A fragment that is to move on: from one side of a ring to a side of another, with this circuit's number there.
+#[derive(Clone, Copy)]
+pub struct ForwardFrag {
+    /// The fragment, as a look at the first ring saw it.
+    pub frag: Frag,
+    /// The side on which it stands first, by its number.
+    pub from: usize,
+    /// The side onto which it goes.
+    pub onto: usize,
+    /// Its circuit's number there.
+    pub circuit: Circuit,
+}
+
+// It moves over sides that are lent.
+fn move_by_sides(
+    passing: &ForwardFrag,
+    from: &mut DuoSide<'_>,
+    onto: &mut DuoSide<'_>,
+) -> ForwardOutcome
+    requires seen { front_for from.old ≡ saw (bare passing.now.frag) }
+    requires call { is_ack_only (with_circuit passing.now.circuit.0 passing.now.frag) ≡ false }
+    ensures same_from { SameSide from.old from.new }
+    ensures same_onto { SameSide onto.old onto.new }
+    ensures put { SidePuts onto.old (put_label result (bare (with_circuit passing.now.circuit.0 passing.now.frag))) onto.new }
+    ensures left { Leaves SideTakes result (bare passing.now.frag) (record { before = from.old; after = from.new }) }
+{
+    move_on(from, onto, &passing.frag, passing.circuit)
+}
+
+// It moves over two rings. In line, as what calls it: an answer that is made out of line is moved on, and each move waits for the
+// stores of the one before.
+#[inline(always)]
+pub(crate) fn move_between(passing: &ForwardFrag, from: &mut OneDuo, onto: &mut OneDuo) -> Answer
+    requires seen { front_of (side_of (which_at passing.now.from) from.old).waiting ≡ saw (bare passing.now.frag) }
+    requires call { is_ack_only (with_circuit passing.now.circuit.0 passing.now.frag) ≡ false }
+    ensures passes { Passes passing.now (record { from = from.old; onto = onto.old }) (answer_of result) (record { from = from.new; onto = onto.new }) }
+{
+    let mut side = from.side(which_at(passing.from));
+    let mut next = onto.side(which_at(passing.onto));
+    answer_move(move_by_sides(passing, &mut side, &mut next))
+}

@@ -1,0 +1,222 @@
+-- What words ask for.
+use Rattle.std.proofs.Common.{◌≡◌, ◌∙◌, Bool, true, false, refl, ap, ap₂, arith, codes, List, [], ◌∷◌, Some}
+use Rattle.std.proofs.lemmas.Bool.{ne_eqb}
+use Rattle.std.specs.Prelude.{find, option_map, unwrap_or, if◌then◌else◌}
+use Rattle.clap.specs.Kinds.{Kinds, or_else, value_kinds}
+use Rattle.clap.specs.ValueTests.{accepts}
+use Rattle.clap.specs.Words.{Text, Shape, IsUnsignedIn, built, fault_of}
+use Rattle.clap.specs.Walk.{Held, Walk, answers_to, finished, nothing_held, option, settled, value, walk, walk_from, walked}
+use Rattle.clap.specs.Simple.{label_of, new_shape}
+use Rattle.clap.specs.Faults.{level_fault, step_fault, turn_fault, walk_fault}
+use Rattle.clap.specs.declared.builder.value_parser.ValueParser.TheVariants.{Unsigned}
+use Rattle.clap.proofs.ValueTestLemmas.{accepts-Accepts, Accepts-accepts}
+use Rattle.clap.proofs.OnLiterals.{clap_on_literals}
+use Rattle.clap.specs.declared.error.kind.ErrorKind.TheVariants.{DisplayHelp, MissingRequiredArgument, ValueValidation}
+use Rattle.flounder_args.specs.Words.{AskFor, BeginsWithoutHyphen, asks_for, compile_asked, cores_asked, missing_kinds, most_turns, number_in, program, refusals, value_of, to_run, to_show, to_compile, to_run_cores}
+use Rattle.flounder_args.proofs.Asking.{number_is}
+use Rattle.flounder_args.proofs.Levels.{fault_behind, handed, level_passed, placed, positional_turn, positional_walked, stands, three_pass, two_pass, value_turn, value_walked}
+
+pub no_word : (name : Text) → AskFor (name ∷ []) to_run
+unfolding clap_on_literals
+no_word name = (refl, refl)
+
+pub exec_word : (name : Text) → AskFor (name ∷ codes "exec" ∷ []) to_run
+unfolding clap_on_literals
+exec_word name = (refl, refl)
+
+pub help_word : (name : Text) → refusals (name ∷ codes "--help" ∷ []) ≡ DisplayHelp ∷ []
+unfolding clap_on_literals
+help_word name = refl
+
+pub exec_help : (name : Text) → refusals (name ∷ codes "exec" ∷ codes "--help" ∷ []) ≡ DisplayHelp ∷ []
+unfolding clap_on_literals
+exec_help name = refl
+
+pub show_help : (name : Text) → refusals (name ∷ codes "show" ∷ codes "--help" ∷ []) ≡ DisplayHelp ∷ []
+unfolding clap_on_literals
+show_help name = refl
+
+pub compile_help : (name : Text) → refusals (name ∷ codes "compile" ∷ codes "--help" ∷ []) ≡ DisplayHelp ∷ []
+unfolding clap_on_literals
+compile_help name = refl
+
+pub cores_help : (name : Text) → refusals (name ∷ codes "cores" ∷ codes "--help" ∷ []) ≡ DisplayHelp ∷ []
+unfolding clap_on_literals
+cores_help name = refl
+
+show_asked_for : (name file : Text) → BeginsWithoutHyphen file → asks_for (name ∷ codes "show" ∷ file ∷ []) ≡ Some (to_show file)
+unfolding clap_on_literals
+show_asked_for name [] h = refl
+show_asked_for name (b ∷ bytes) h = simp h
+
+show_taken : (name file : Text) → BeginsWithoutHyphen file → refusals (name ∷ codes "show" ∷ file ∷ []) ≡ []
+unfolding clap_on_literals
+show_taken name [] h = refl
+show_taken name (b ∷ bytes) h = simp h
+
+pub show_words : (name file : Text) → BeginsWithoutHyphen file → AskFor (name ∷ codes "show" ∷ file ∷ []) (to_show file)
+show_words name file h = (show_asked_for name file h, show_taken name file h)
+
+-- the command of that name, as it is built
+abbrev shape_in : Text → Shape
+shape_in name = unwrap_or (find (λ s. answers_to name (label_of s)) (built program).subs) (new_shape [])
+
+abbrev compile_shape : Shape
+compile_shape = shape_in (codes "compile")
+
+abbrev compile_line : Text → Text → Text → List Text
+compile_line name file out = name ∷ codes "compile" ∷ file ∷ out ∷ []
+
+-- the walk behind its first word, and behind both
+abbrev behind_file : Text → Walk
+behind_file file = placed compile_shape.rules 1 file nothing_held
+
+abbrev behind_out : Text → Text → Walk
+behind_out file out = placed compile_shape.rules 2 out (behind_file file).held
+
+compile_walks : (file out : Text) → BeginsWithoutHyphen file → BeginsWithoutHyphen out → walk compile_shape.rules [] nothing_held (file ∷ out ∷ []) ≡ behind_out file out
+compile_walks file out h k =
+    ap (λ (w : Walk). walked compile_shape.rules [] w out) (positional_walked compile_shape.rules 1 file nothing_held h)
+    ∙ positional_walked compile_shape.rules 2 out (behind_file file).held k
+
+compile_found : (name file out : Text) → asks_for (compile_line name file out) ≡ compile_asked (finished compile_shape.rules (walk compile_shape.rules [] nothing_held (file ∷ out ∷ [])).held)
+unfolding clap_on_literals
+compile_found name file out = refl
+
+compile_values : (file out : Text) → compile_asked (finished compile_shape.rules (behind_out file out).held) ≡ Some (to_compile file out)
+unfolding clap_on_literals
+compile_values file out = refl
+
+compile_asked_for : (name file out : Text) → BeginsWithoutHyphen file → BeginsWithoutHyphen out → asks_for (compile_line name file out) ≡ Some (to_compile file out)
+compile_asked_for name file out h k =
+    compile_found name file out ∙ ap (λ (w : Walk). compile_asked (finished compile_shape.rules w.held)) (compile_walks file out h k) ∙ compile_values file out
+
+compile_entered : (name file out : Text) → fault_of program (compile_line name file out) ≡ or_else (level_fault compile_shape [] nothing_held (file ∷ out ∷ []) false []) []
+unfolding clap_on_literals
+compile_entered name file out = refl
+
+second_turn : (file : Text) → step_fault compile_shape 2 (behind_file file).held value ≡ []
+unfolding clap_on_literals
+second_turn file = refl
+
+compile_ends : (file out : Text) → fault_behind compile_shape (behind_out file out).held ≡ []
+unfolding clap_on_literals
+compile_ends file out = refl
+
+compile_fault : (name file out : Text) → BeginsWithoutHyphen file → BeginsWithoutHyphen out → fault_of program (compile_line name file out) ≡ []
+compile_fault name file out h k =
+    let pass : walk_fault compile_shape [] (walk_from nothing_held) (file ∷ out ∷ []) ≡ [] =
+    two_pass compile_shape (walk_from nothing_held) (behind_file file) file out (positional_walked compile_shape.rules 1 file nothing_held h)
+    (positional_turn compile_shape 1 file nothing_held h) (positional_turn compile_shape 2 out (behind_file file).held k ∙ second_turn file) in
+    compile_entered name file out
+    ∙ ap (λ (kinds : Kinds). or_else kinds []) (level_passed compile_shape (file ∷ out ∷ []) (behind_out file out) (compile_walks file out h k) pass ∙ compile_ends file out)
+
+pub compile_words : (name file out : Text) → BeginsWithoutHyphen file → BeginsWithoutHyphen out → AskFor (name ∷ codes "compile" ∷ file ∷ out ∷ []) (to_compile file out)
+compile_words name file out h k =
+    let asked : asks_for (compile_line name file out) ≡ Some (to_compile file out) = compile_asked_for name file out h k in
+    (asked, ap₂ or_else (compile_fault name file out h k) (ap missing_kinds asked))
+
+-- ---- cores
+
+abbrev cores_line : Text → Text → Text → List Text
+cores_line name file turns = name ∷ codes "cores" ∷ file ∷ codes "--turns" ∷ turns ∷ []
+
+abbrev cores_shape : Shape
+cores_shape = shape_in (codes "cores")
+
+abbrev cores_rest : Text → Text → List Text
+cores_rest file turns = file ∷ codes "--turns" ∷ turns ∷ []
+
+-- the walk behind the file's name, where `--turns` waits for its value, and behind that
+abbrev behind_cores : Text → Walk
+behind_cores file = placed cores_shape.rules 1 file nothing_held
+
+abbrev waits_for_turns : Text → Held
+waits_for_turns file = record (settled cores_shape.rules (behind_cores file).held) { pending = Some (codes "N", []) }
+
+abbrev behind_turns : Text → Text → Walk
+behind_turns file turns = handed cores_shape.rules (codes "N") 2 turns (waits_for_turns file)
+
+turns_walked : (file : Text) → walked cores_shape.rules [] (behind_cores file) (codes "--turns") ≡ stands (waits_for_turns file) (option (codes "N")) 2
+unfolding clap_on_literals
+turns_walked file = refl
+
+turns_turn : (file : Text) → turn_fault cores_shape [] (behind_cores file) (codes "--turns") ≡ []
+unfolding clap_on_literals
+turns_turn file = refl
+
+cores_walks : (file turns : Text) → BeginsWithoutHyphen file → BeginsWithoutHyphen turns → walk cores_shape.rules [] nothing_held (cores_rest file turns) ≡ behind_turns file turns
+cores_walks file turns h k =
+    ap (λ (w : Walk). walked cores_shape.rules [] (walked cores_shape.rules [] w (codes "--turns")) turns) (positional_walked cores_shape.rules 1 file nothing_held h)
+    ∙ ap (λ (w : Walk). walked cores_shape.rules [] w turns) (turns_walked file)
+    ∙ value_walked cores_shape.rules (codes "N") 2 turns (waits_for_turns file) k
+
+cores_found : (name file turns : Text) → asks_for (cores_line name file turns) ≡ cores_asked (finished cores_shape.rules (walk cores_shape.rules [] nothing_held (cores_rest file turns)).held)
+unfolding clap_on_literals
+cores_found name file turns = refl
+
+cores_values : (file turns : Text) → cores_asked (finished cores_shape.rules (behind_turns file turns).held) ≡ option_map (to_run_cores file) (number_in turns)
+unfolding clap_on_literals
+cores_values file turns = refl
+
+cores_asked_for : (name file turns : Text) → BeginsWithoutHyphen file → BeginsWithoutHyphen turns → asks_for (cores_line name file turns) ≡ option_map (to_run_cores file) (number_in turns)
+cores_asked_for name file turns h k =
+    cores_found name file turns ∙ ap (λ (w : Walk). cores_asked (finished cores_shape.rules w.held)) (cores_walks file turns h k) ∙ cores_values file turns
+
+-- what a command's fault comes to where the turns are the last word
+abbrev with_turns : Kinds → Kinds
+with_turns fault = or_else (or_else (or_else fault []) []) []
+
+cores_entered : (name file turns : Text) → fault_of program (cores_line name file turns) ≡ or_else (level_fault cores_shape [] nothing_held (cores_rest file turns) false []) []
+unfolding clap_on_literals
+cores_entered name file turns = refl
+
+cores_ends : (file turns : Text) → or_else (fault_behind cores_shape (behind_turns file turns).held) [] ≡ with_turns (value_kinds false (Unsigned 0 most_turns) turns)
+unfolding clap_on_literals
+cores_ends file turns = refl
+
+cores_fault : (name file turns : Text) → BeginsWithoutHyphen file → BeginsWithoutHyphen turns → fault_of program (cores_line name file turns) ≡ with_turns (value_kinds false (Unsigned 0 most_turns) turns)
+cores_fault name file turns h k =
+    let two : walk_fault cores_shape [] (behind_cores file) (codes "--turns" ∷ turns ∷ []) ≡ [] =
+    two_pass cores_shape (behind_cores file) (stands (waits_for_turns file) (option (codes "N")) 2) (codes "--turns") turns
+    (turns_walked file) (turns_turn file) (value_turn cores_shape (codes "N") 2 turns (waits_for_turns file) k) in
+    let pass : walk_fault cores_shape [] (walk_from nothing_held) (cores_rest file turns) ≡ [] =
+    three_pass cores_shape (walk_from nothing_held) (behind_cores file) file (codes "--turns") turns
+    (positional_walked cores_shape.rules 1 file nothing_held h) (positional_turn cores_shape 1 file nothing_held h) two in
+    cores_entered name file turns
+    ∙ ap (λ (kinds : Kinds). or_else kinds []) (level_passed cores_shape (cores_rest file turns) (behind_turns file turns) (cores_walks file turns h k) pass)
+    ∙ cores_ends file turns
+
+abbrev faults_at : Bool → Kinds
+faults_at passed = with_turns (if passed then [] else ValueValidation ∷ [])
+
+-- a number doesn't begin with `-`
+not_minus : (ds : Text) → IsUnsignedIn 0 most_turns (45 ∷ ds) → ⊥
+not_minus ds h = omega (arith, h.0.1.0)
+
+unsigned_begins_without : (turns : Text) → IsUnsignedIn 0 most_turns turns → BeginsWithoutHyphen turns
+unsigned_begins_without [] h = tt
+unsigned_begins_without (d ∷ ds) h = ne_eqb d 45 (λ e. not_minus ds (rw e at h))
+
+pub cores_words : (name file turns : Text) → BeginsWithoutHyphen file → IsUnsignedIn 0 most_turns turns → AskFor (cores_line name file turns) (to_run_cores file (value_of turns))
+cores_words name file turns h n =
+    let asked : asks_for (cores_line name file turns) ≡ Some (to_run_cores file (value_of turns)) =
+    cores_asked_for name file turns h (unsigned_begins_without turns n) ∙ ap (option_map (to_run_cores file)) (number_is turns n.0 n.1) in
+    let passed : fault_of program (cores_line name file turns) ≡ [] =
+    cores_fault name file turns h (unsigned_begins_without turns n) ∙ ap faults_at (Accepts-accepts false (Unsigned 0 most_turns) turns n) in
+    (asked, ap₂ or_else passed (ap missing_kinds asked))
+
+pub turns_missing : (name file : Text) → BeginsWithoutHyphen file → refusals (name ∷ codes "cores" ∷ file ∷ []) ≡ MissingRequiredArgument ∷ []
+unfolding clap_on_literals
+turns_missing name [] h = refl
+turns_missing name (b ∷ bytes) h = simp h
+
+-- a test that isn't passed
+failed : (b : Bool) → (b ≡ true → ⊥) → b ≡ false
+failed true h = absurd (h refl)
+failed false h = refl
+
+pub turns_refused : (name file turns : Text) → BeginsWithoutHyphen file → BeginsWithoutHyphen turns → (IsUnsignedIn 0 most_turns turns → ⊥) → refusals (cores_line name file turns) ≡ ValueValidation ∷ []
+turns_refused name file turns h k other =
+    let fails = failed (accepts false (Unsigned 0 most_turns) turns) (λ a. other (accepts-Accepts false (Unsigned 0 most_turns) turns a)) in
+    ap (λ kinds. or_else kinds (missing_kinds (asks_for (cores_line name file turns)))) (cores_fault name file turns h k ∙ ap faults_at fails)

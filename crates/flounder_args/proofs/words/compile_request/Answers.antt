@@ -1,0 +1,15 @@
+use Rattle.std.proofs.Common.{◌∙◌, Some, None, codes, refl}
+use Rattle.clap.specs.Words.{found_of, rows_of}
+use Rattle.clap.proofs.WalkLemmas.{first_value-rows}
+use Rattle.flounder_args.proofs.Asking.{to_other}
+use Rattle.flounder_args.proofs.words.compile_request.Goals as goal
+
+pub returns-in-Some : goal.returns-in-Some
+returns-in-Some c = record {
+  asked = to_other (rows_of (found_of c.args.found.now)) (Some c.in-Some.file.now) _ (c.in-Some.ensures ∙ first_value-rows (found_of c.args.found.now) (codes "FILE")) c.compile_to_request.ensures.asked;
+}
+
+pub returns-in-None : goal.returns-in-None
+returns-in-None c = record {
+  asked = to_other (rows_of (found_of c.args.found.now)) None None (c.in-None.ensures ∙ first_value-rows (found_of c.args.found.now) (codes "FILE")) refl;
+}

@@ -1,0 +1,13 @@
+//! The words of the command line: what the program is asked for.
+//!
+//! - [`read_words`]: the request that the words make, or why they make none, as `clap` reads them (`specs/Words.antt`)
+//! - [`law_what_words_ask`]: what words ask for
+//!
+//! Files: `words.rt` the commands, their help and their values; `law.rt` the laws.
+#![tactic(auto)]
+
+mod law;
+mod words;
+
+pub use law::law_what_words_ask;
+pub use words::{Request, read_words};

@@ -1,0 +1,393 @@
+//! The words of the command line, read by `clap`.
+
+ghost use Rattle.std.specs.Prelude.{◌≡◌, false, map, option_map, IfOk, Some, codes};
+ghost use Rattle.clap.specs.Words.{FailsBy, new_app, with_rule, fault_of, first_of, found_of, rows_of, rule_of, subcommand_rows_of};
+ghost use Rattle.flounder_args.specs.Words.{exec_command, bare_program, to_compile, show_command, compile_command, program, IsCommand};
+ghost use Rattle.flounder_args.specs.Words.{required, compile_with_file, with_exec, with_compile, with_show};
+ghost use Rattle.flounder_args.specs.Words.{turns_option, cores_with_file, cores_command, cores_asked, turns_asked, to_run_cores};
+ghost use Rattle.flounder_args.specs.Words.{asked_by, show_asked, compile_asked, command_asked, asked_of, asks_for, refusals};
+
+use clap::builder::ValueParser;
+use clap::error::ErrorKind;
+use clap::{Arg, ArgMatches, Command, Error};
+use std::alloc::{AllocError, Global};
+use std::convert::AsStr;
+
+/// What the words ask for.
+#[derive(Clone, Copy, Debug)]
+pub enum Request<'a> {
+    /// Run the script on standard input.
+    Exec,
+    /// Print the plan table of the interface in this file.
+    Show { file: &'a str },
+    /// Write the image of the interface in the one file to the other.
+    Compile { file: &'a str, out: &'a str },
+    /// Run the cores file, with so many turns of a core counted at most.
+    Cores { file: &'a str, turns: u64 },
+}
+
+const EXEC: &str = "exec";
+
+const SHOW: &str = "show";
+
+const COMPILE: &str = "compile";
+
+const CORES: &str = "cores";
+
+const FILE: &str = "FILE";
+
+const OUT: &str = "OUT";
+
+const TURNS: &str = "N";
+
+const LONG_TURNS: &str = "turns";
+
+// So many turns of a core may be counted.
+const MAX_TURNS: u64 = 1_000_000_000_000;
+
+const ABOUT: &str =
+    "Runs scripts of messages between dispatchers, also with threads, compiles interfaces, and shows how they are laid out";
+
+const STATUSES: &str = "\
+Without a command, flounder does what `flounder exec` does.
+
+Status:
+  0  done, whatever a script's lines answer
+  1  the command line isn't of a form shown here
+  2  the file's content is refused: the first line on standard error is the fault alone, as `E14 at 24` of a
+     text (its number, and its place in bytes) or `E82` of an image; the lines after it say it in words; of a
+     cores file the line that is refused is told on standard output
+  3  out of memory, or of threads
+  4  a read or a write failed
+  5  a core had something left to do after its N turns
+
+The first fault is answered, in this order: the command line, reading FILE, its content, writing. FILE is read
+whole first, so OUT is touched only where FILE was accepted. docs/FAULTS.md lists all faults.";
+
+const ABOUT_EXEC: &str =
+    "Runs the script on standard input and writes its transcript to standard output";
+
+const AFTER_EXEC: &str = "\
+The transcript has one answer line for each command. A script makes interfaces, cores, links, dispatchers and
+bindings, and sends messages over them:
+
+  idl
+  interface i { message ping(uint32 v); }
+  .
+  disp d 0
+  disp e 0
+  export s e i
+  bind p d i s local 4
+  call p.c ping(7)
+  write p.c
+  turn e
+
+docs/SCRIPTS.md describes all commands and their answers. The script is read whole before its first line
+is run. A line that is refused, as `refused E90`, is an answer and no fault: the status is 0, or 3 where it
+ran out of memory and 4 where a read or a write failed.";
+
+const ABOUT_SHOW: &str =
+    "Prints how long an interface's messages are, and where their arguments stand";
+
+const AFTER_SHOW: &str = "\
+Standard output gets the plan table, with these lines; numbers count from 0, sizes are in bytes:
+
+  interface NAME plan P
+  message K NAME least L greatest G fragments F
+  arg J at O KIND
+
+L and G are the least and greatest payload of message K, F the fragments of the greatest. O is where
+argument J begins in the payload, or `-` where that depends on the strings and arrays before it. KIND is
+`fixed SIZE`, `string max M` (M bytes) or `array max M stride S` (M elements of S bytes). P is the plan by which
+calls are laid out: 2 for a text, and for an image the one that it was made for.
+
+A file that begins with the four bytes `FLND` is read as an image, every other as a text. One that is refused
+has status 2, and standard error tells its first fault. The whole file is read before anything is printed.
+docs/INTERFACES.md describes the language, docs/IMAGES.md images.";
+
+const HELP_SHOWN: &str = "An interface's text, or an image that `flounder compile` made";
+
+const ABOUT_COMPILE: &str = "Compiles an interface's text to an image";
+
+const AFTER_COMPILE: &str = "\
+The image keeps the interface, its plan (2) and the stub code of each message; docs/IMAGES.md describes its
+bytes. `flounder show OUT` prints its plan table:
+
+  flounder compile block.if block.image
+  flounder show block.image
+
+FILE is always read as a text, and read whole first; OUT is made, or replaced, only where the text is accepted.
+A text that is refused has status 2, and standard error tells its first fault, as
+
+  E14 at 24
+  block.if:1:25: messages carry no capabilities
+  found there: cap c); }
+  help: leave the argument out
+
+Where OUT can't be written the status is 4, and OUT may then hold only the beginning of the image, which is no
+image.";
+
+const HELP_TEXT: &str = "The interface's text";
+
+const HELP_OUT: &str = "The image; a file of that name is replaced";
+
+const ABOUT_CORES: &str = "Runs a cores file, with a thread for each core";
+
+const AFTER_CORES: &str = "\
+A cores file has the lines of a script that make things (idl, cores, link, disp, export, bind) and those that
+holding in work (reply, call). What they make is set up; a circuit (bind .. hop) is opened while the cores run.
+Each core runs on a thread of its own and does what is handed in at its ends, until all cores are done or it
+has taken N turns:
+
+  idl
+  interface i { message ping(uint32 v); }
+  .
+  cores 2
+  disp d 0
+  disp e 1
+  export s e i
+  bind p d i s ump 4
+  call p.c ping(7)
+
+Standard output gets, for each binding in byte order of names, the calls that its ends handled, in order, or
+why its opening was refused; and last `complete`, or `turns out` (status 5) where a core had something left to
+do. A line that is refused is told alone, as `line 9 refused E44` (status 2), and nothing runs.
+
+FILE is read whole first. docs/CORES.md describes cores files, and how to choose N.";
+
+const HELP_CORES: &str = "The cores file";
+
+const HELP_TURNS: &str =
+    "How many turns of each core are counted at most, from 0 to 1,000,000,000,000";
+
+fn exec_command<'a>(alloc: Global) -> Command<'a>
+    ensures is { IsCommand exec_command result }
+{
+    Command::new(alloc, EXEC)
+        .about(ABOUT_EXEC)
+        .after_help(AFTER_EXEC)
+}
+
+/// A command of this name that wants a file.
+fn with_file<'a>(
+    alloc: Global,
+    name: &'a str,
+    about: &'a str,
+    after: &'a str,
+    help: &'a str,
+) -> Result<Command<'a>, AllocError>
+    ensures is { IfOk result (IsCommand (with_rule (new_app name.now) (required (codes "FILE")))) }
+{
+    let file = Arg::new(alloc, FILE).required(true).help(help);
+    Command::new(alloc, name)
+        .about(about)
+        .after_help(after)
+        .arg(file)
+}
+
+fn show_command<'a>(alloc: Global) -> Result<Command<'a>, AllocError>
+    ensures is { IfOk result (IsCommand show_command) }
+{
+    with_file(alloc, SHOW, ABOUT_SHOW, AFTER_SHOW, HELP_SHOWN)
+}
+
+fn compile_with_file<'a>(alloc: Global) -> Result<Command<'a>, AllocError>
+    ensures is { IfOk result (IsCommand compile_with_file) }
+{
+    with_file(alloc, COMPILE, ABOUT_COMPILE, AFTER_COMPILE, HELP_TEXT)
+}
+
+fn out_argument<'a>(alloc: Global) -> Arg<'a>
+    ensures rule { rule_of result ≡ required (codes "OUT") }
+    ensures local { result.global ≡ false }
+{
+    Arg::new(alloc, OUT).required(true).help(HELP_OUT)
+}
+
+fn compile_command<'a>(alloc: Global) -> Result<Command<'a>, AllocError>
+    ensures is { IfOk result (IsCommand compile_command) }
+{
+    compile_with_file(alloc)?.arg(out_argument(alloc))
+}
+
+fn turns_option<'a>(alloc: Global) -> Arg<'a>
+    ensures rule { rule_of result ≡ turns_option }
+    ensures local { result.global ≡ false }
+{
+    Arg::new(alloc, TURNS)
+        .long(LONG_TURNS)
+        .required(true)
+        .value_parser(ValueParser::unsigned(0, MAX_TURNS))
+        .help(HELP_TURNS)
+}
+
+fn cores_with_file<'a>(alloc: Global) -> Result<Command<'a>, AllocError>
+    ensures is { IfOk result (IsCommand cores_with_file) }
+{
+    with_file(alloc, CORES, ABOUT_CORES, AFTER_CORES, HELP_CORES)
+}
+
+fn cores_command<'a>(alloc: Global) -> Result<Command<'a>, AllocError>
+    ensures is { IfOk result (IsCommand cores_command) }
+{
+    cores_with_file(alloc)?.arg(turns_option(alloc))
+}
+
+fn bare_program<'a>(alloc: Global) -> Command<'a>
+    ensures is { IsCommand bare_program result }
+{
+    Command::new(alloc, "flounder")
+        .about(ABOUT)
+        .after_help(STATUSES)
+        .disable_help_subcommand(true)
+}
+
+fn with_exec<'a>(alloc: Global) -> Result<Command<'a>, AllocError>
+    ensures is { IfOk result (IsCommand with_exec) }
+{
+    bare_program(alloc).subcommand(exec_command(alloc))
+}
+
+fn with_compile<'a>(alloc: Global) -> Result<Command<'a>, AllocError>
+    ensures is { IfOk result (IsCommand with_compile) }
+{
+    let program = with_exec(alloc)?;
+    program.subcommand(compile_command(alloc)?)
+}
+
+fn with_show<'a>(alloc: Global) -> Result<Command<'a>, AllocError>
+    ensures is { IfOk result (IsCommand with_show) }
+{
+    let program = with_compile(alloc)?;
+    program.subcommand(show_command(alloc)?)
+}
+
+fn command<'a>(alloc: Global) -> Result<Command<'a>, AllocError>
+    ensures is { IfOk result (IsCommand program) }
+{
+    let program = with_show(alloc)?;
+    program.subcommand(cores_command(alloc)?)
+}
+
+/// What `show` is asked for, where its file was named.
+fn show_request<'a>(found: &ArgMatches<'a>) -> Option<Request<'a>>
+    ensures asked { option_map asked_by result ≡ show_asked (rows_of (found_of found.now)) }
+{
+    match found.get_str(FILE) {
+        Some(file) => Some(Request::Show { file }),
+        None => None,
+    }
+}
+
+/// What `compile` is asked for of this file, where the other was named.
+fn compile_to_request<'a>(file: &'a str, found: &ArgMatches<'a>) -> Option<Request<'a>>
+    ensures asked { option_map asked_by result ≡ option_map (to_compile file.now) (first_of (codes "OUT") (rows_of (found_of found.now))) }
+{
+    match found.get_str(OUT) {
+        Some(out) => Some(Request::Compile { file, out }),
+        None => None,
+    }
+}
+
+/// What `compile` is asked for, where both files were named.
+fn compile_request<'a>(found: &ArgMatches<'a>) -> Option<Request<'a>>
+    ensures asked { option_map asked_by result ≡ compile_asked (rows_of (found_of found.now)) }
+{
+    match found.get_str(FILE) {
+        Some(file) => compile_to_request(file, found),
+        None => None,
+    }
+}
+
+/// How many turns `cores` is to count, where that was told.
+fn turns_of(found: &ArgMatches<'_>) -> Option<u64>
+    ensures turns { result ≡ turns_asked (rows_of (found_of found.now)) }
+{
+    found.get_one(TURNS)
+}
+
+/// What `cores` is asked for of this file, where the number of turns was told.
+fn cores_with_request<'a>(file: &'a str, found: &ArgMatches<'a>) -> Option<Request<'a>>
+    ensures asked { option_map asked_by result ≡ option_map (to_run_cores file.now) (turns_asked (rows_of (found_of found.now))) }
+{
+    match turns_of(found) {
+        Some(turns) => Some(Request::Cores { file, turns }),
+        None => None,
+    }
+}
+
+/// What `cores` is asked for, where the file was named and the number of turns told.
+fn cores_request<'a>(found: &ArgMatches<'a>) -> Option<Request<'a>>
+    ensures asked { option_map asked_by result ≡ cores_asked (rows_of (found_of found.now)) }
+{
+    match found.get_str(FILE) {
+        Some(file) => cores_with_request(file, found),
+        None => None,
+    }
+}
+
+/// What a command of that name is asked for.
+fn command_request<'a>(name: &str, found: &ArgMatches<'a>) -> Option<Request<'a>>
+    ensures asked { option_map asked_by result ≡ command_asked name.now (rows_of (found_of found.now)) }
+{
+    if name == SHOW {
+        show_request(found)
+    } else if name == COMPILE {
+        compile_request(found)
+    } else if name == CORES {
+        cores_request(found)
+    } else {
+        Some(Request::Exec)
+    }
+}
+
+/// What was asked for.
+fn request_of<'a>(matches: &ArgMatches<'a>) -> Option<Request<'a>>
+    ensures asked { option_map asked_by result ≡ asked_of (subcommand_rows_of matches.now) }
+{
+    match matches.subcommand() {
+        Some((name, found)) => command_request(name, found),
+        None => Some(Request::Exec),
+    }
+}
+
+// What the words ask for; nothing where a value of their command is missing.
+fn find_request<'a, S: AsStr>(
+    command: &mut Command<'a>,
+    words: &'a [S],
+) -> Result<Option<Request<'a>>, Error>
+    requires is { IsCommand program command.old }
+    ensures asked { IfOk result (λ asked. option_map asked_by asked ≡ asks_for (map S.text words.entry.now)) }
+    ensures refused { FailsBy (fault_of program (map S.text words.entry.now)) result }
+{
+    let matches = command.try_get_matches_from_mut(words)?;
+    Ok(request_of(&matches))
+}
+
+// What the words ask for, as the program's command reads them.
+fn request_by<'a, S: AsStr>(command: &mut Command<'a>, words: &'a [S]) -> Result<Request<'a>, Error>
+    requires is { IsCommand program command.old }
+    ensures asked { IfOk result (λ request. asks_for (map S.text words.entry.now) ≡ Some (asked_by request)) }
+    ensures refused { FailsBy (refusals (map S.text words.entry.now)) result }
+{
+    match find_request(command, words)? {
+        Some(request) => Ok(request),
+        None => Err(command.error(
+            ErrorKind::MissingRequiredArgument,
+            "a file's name or a number is missing",
+        )?),
+    }
+}
+
+/// What the words ask for; the first is the program's name.
+///
+/// # Errors
+/// An error of the kind `DisplayHelp` where help is asked for, `OutOfMemory` when out of memory, and else one
+/// that says what is wrong with the words.
+pub fn read_words<'a, S: AsStr>(alloc: Global, words: &'a [S]) -> Result<Request<'a>, Error>
+    ensures asked { IfOk result (λ request. asks_for (map S.text words.entry.now) ≡ Some (asked_by request)) }
+    ensures refused { FailsBy (refusals (map S.text words.entry.now)) result }
+{
+    let mut command = command(alloc)?;
+    request_by(&mut command, words)
+}

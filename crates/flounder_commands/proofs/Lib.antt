@@ -1,0 +1,2 @@
+pub mod FileEffects
+mod Doing

@@ -1,6 +1,0 @@
-use Rattle.std.proofs.Common.{◌≡◌}
-use Rattle.link_tests.proofs.ring.shared_rings.take_counted.Given as goal
-
--- the side stays the same ring's
-abbrev pub invariant-loop : goal.invariant-loop
-invariant-loop g l = l.rx.ring ≡ l.initial.rx.ring

@@ -1,0 +1,13 @@
+//! One core's board, over its public calls alone.
+//!
+//! - `boards.rt`: all tables
+//! - `rig.rt`: a board with its ends and their queues, driven by log entries whose answers are words
+//! - `rows.rt`: worked rows of log entries and answers
+//! - `refusals.rt`: what is refused, and limits
+//! - `faults.rt`: the numbers and words of the faults
+
+mod boards;
+mod faults;
+pub mod refusals;
+mod rig;
+mod rows;

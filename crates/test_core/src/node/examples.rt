@@ -1,0 +1,69 @@
+//! Worked examples, each on a new line of cores, and all tables of them.
+
+use crate::node::forged::{FRAGMENTS, MISROUTED, MISROUTED_BACK, is_forged, is_misrouted};
+use crate::node::line::{Line, Plan, Step, make_line};
+use crate::node::scripts::{PLAN, SCRIPTS};
+use crate::node::words::Word;
+use crate::tables::{Row, all_hold};
+use crate::words::Words;
+use fl_base::Frag;
+use std::alloc::{AllocError, Global};
+use std::test::Fail;
+
+/// A message that comes to core 1 on a link.
+pub type Said = (u16, Words);
+
+/// An example.
+pub enum Example {
+    /// A line's plan, and what its steps come to, in parts.
+    Script(Plan, &'static [&'static [(Step, Word)]]),
+    /// What is heard first, and what is out of its place then.
+    Misrouted(&'static [Said], Said),
+    /// An opening that makes an end, the control word and the first word of a fragment behind it, and what that is refused for.
+    Forged(Said, u64, u64, u8),
+}
+
+fn plan_of(example: &Example) -> Plan {
+    match example {
+        Example::Script(plan, _) => *plan,
+        Example::Misrouted(_, _) | Example::Forged(_, _, _, _) => PLAN,
+    }
+}
+
+fn is_so(line: &mut Line, example: &Example) -> Result<bool, AllocError> {
+    match example {
+        Example::Script(_, parts) => line.follows_all(parts),
+        Example::Misrouted(before, said) => Ok(is_misrouted(line, before, *said)),
+        Example::Forged(opening, control, word, fault) => {
+            let frag = Frag {
+                words: [*word, 0, 0, 0, 0, 0, 0],
+                control: *control,
+            };
+            Ok(is_forged(line, *opening, frag, *fault))
+        }
+    }
+}
+
+// A function that owns a line is dear to prove, so there is one.
+fn holds_once(alloc: Global, example: &Example) -> Result<bool, AllocError> {
+    let mut line = make_line(alloc, plan_of(example))?;
+    is_so(&mut line, example)
+}
+
+// Where memory is refused while the row's cores are made, they are made again.
+impl Row for Example {
+    fn holds(&self, alloc: Global) -> Result<bool, AllocError> {
+        match holds_once(alloc, self) {
+            Ok(holds) => Ok(holds),
+            Err(_) => holds_once(alloc, self),
+        }
+    }
+}
+
+#[test]
+fn cores(rt: HostRuntime) -> Result<(), Fail> {
+    all_hold(rt.alloc(), "scripts", SCRIPTS)?;
+    all_hold(rt.alloc(), "messages from the lower core", MISROUTED)?;
+    all_hold(rt.alloc(), "messages from the higher core", MISROUTED_BACK)?;
+    all_hold(rt.alloc(), "fragments", FRAGMENTS)
+}

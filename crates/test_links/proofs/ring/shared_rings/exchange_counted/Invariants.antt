@@ -1,0 +1,6 @@
+use Rattle.std.proofs.Common.{◌≡◌}
+use Rattle.test_links.proofs.ring.shared_rings.exchange_counted.Given as goal
+
+-- the side stays the same ring's
+abbrev pub invariant-loop : goal.invariant-loop
+invariant-loop g l = l.side.ring ≡ l.initial.side.ring

@@ -1,0 +1,344 @@
+//! Worked examples: rings over shared words, in one thread and in two.
+
+ghost use Rattle.std.specs.Prelude.{◌≡◌, ◌≤◌, ◌^◌};
+
+use crate::examples::Example;
+use crate::ring::fragments::{Step, answers, pass_on, ping, sight_of};
+use crate::rows::all_hold;
+use fl_link::{Passed, PutFault, Sight, Told};
+use fl_ring::{
+    RingFault, RingRx, RingTx, SharedSide, WhichSide, duo, duo_from, law_receiver_conserves,
+    law_sender_conserves, law_side_conserves, ring, settle, settle_duo,
+};
+use std::alloc::Global;
+use std::hint;
+use std::sync::Wait;
+use std::test::Fail;
+use std::thread::{Threads, join};
+
+// Takes a step by the side for it, and says whether it answers so.
+fn ring_answers(tx: &mut RingTx, rx: &mut RingRx, step: Step) -> bool {
+    match step {
+        Step::Put(v, answer) => tx.try_put(&ping(v)) == answer,
+        Step::Peek(v, control) => rx.try_peek() == sight_of(v, control),
+        Step::Take(v, control) => rx.try_take() == sight_of(v, control),
+        Step::TakeNothing => rx.try_take() == Sight::Empty,
+        Step::Tell(told) => {
+            rx.tell();
+            told == Ok(Told::Written)
+        }
+        Step::NextEpoch(epoch) => tx.next_epoch() == epoch,
+        Step::Known(known) => tx.known() == known,
+        _ => false,
+    }
+}
+
+const RING_OF_TWO: &[Step] = &[
+    Step::Put(5, Ok(())),
+    Step::Put(6, Ok(())),
+    Step::Put(7, Err(PutFault::Full)),
+    Step::Peek(5, 3),
+    Step::Take(5, 3),
+    Step::Put(7, Err(PutFault::Full)),
+    Step::Tell(Ok(Told::Written)),
+    Step::Put(7, Ok(())),
+    Step::Known(1),
+    Step::NextEpoch(0),
+    Step::Take(6, 3),
+    Step::Take(7, 2),
+    Step::TakeNothing,
+];
+
+fn ring_follows(tx: &mut RingTx, rx: &mut RingRx, steps: &[Step]) -> bool {
+    for step in steps {
+        if !ring_answers(tx, rx, *step) {
+            return false;
+        }
+    }
+    true
+}
+
+pub fn a_ring_of_two(alloc: Global) -> Result<bool, Fail> {
+    let (mut tx, mut rx) = ring(alloc, 2)?;
+    Ok(ring_follows(&mut tx, &mut rx, RING_OF_TWO))
+}
+
+fn sides_follow(one: &mut SharedSide, two: &mut SharedSide, rows: &[(WhichSide, Step)]) -> bool {
+    for (which, step) in rows {
+        let answers = match which {
+            WhichSide::One => answers(one, *step),
+            WhichSide::Two => answers(two, *step),
+        };
+        if !answers {
+            return false;
+        }
+    }
+    true
+}
+
+// Whose step it is, and the step.
+const DUO_OF_FOUR: &[(WhichSide, Step)] = &[
+    (WhichSide::One, Step::Put(5, Ok(()))),
+    (WhichSide::One, Step::Put(6, Ok(()))),
+    (WhichSide::One, Step::Put(7, Ok(()))),
+    (WhichSide::One, Step::Put(8, Err(PutFault::Full))),
+    (WhichSide::Two, Step::Peek(5, 3)),
+    (WhichSide::Two, Step::Take(5, 3)),
+    (WhichSide::Two, Step::Tell(Ok(Told::Nothing))),
+    (WhichSide::Two, Step::Take(6, 3)),
+    (WhichSide::Two, Step::Tell(Ok(Told::Written))),
+    (WhichSide::One, Step::Known(0)),
+    (WhichSide::One, Step::Put(8, Ok(()))),
+    (WhichSide::One, Step::Known(2)),
+    (WhichSide::One, Step::TakeAcknowledgement),
+    (WhichSide::One, Step::TakeNothing),
+    (WhichSide::One, Step::NextEpoch(0)),
+    (WhichSide::One, Step::NextTold(1)),
+];
+
+pub fn a_duo_of_four(alloc: Global) -> Result<bool, Fail> {
+    let (mut one, mut two) = duo(alloc, 4)?;
+    Ok(sides_follow(&mut one, &mut two, DUO_OF_FOUR))
+}
+
+// Whether a fragment that is put at one side is taken with this control word at the other.
+fn crosses(from: &mut SharedSide, to: &mut SharedSide, word: u64, control: u64) -> bool {
+    from.try_put(&ping(word)) == Ok(()) && to.try_take() == sight_of(word, control)
+}
+
+// Through this ring so many fragments have passed each way. Its sides are told nothing of them, so
+// that no proof writes so long a list out.
+fn began_long_ago(alloc: Global, start: u64) -> Result<(SharedSide, SharedSide), RingFault>
+    requires { start ≤ 2 ^ 62 }
+{
+    duo_from(alloc, 4, start)
+}
+
+// What is put each way, and the control word that it arrives with there and back.
+const CROSSED: &[(u64, u64, u64)] = &[
+    (0, 0xfffa_0000_0000_0003, 0xfffb_0000_0000_0003),
+    (1, 0xfffb_0000_0000_0003, 0xfffc_0000_0000_0003),
+    (2, 0xfffc_0000_0000_0002, 0xfffd_0000_0000_0002),
+    (3, 0xfffd_0000_0000_0002, 0xfffe_0000_0000_0002),
+    (4, 0xfffe_0000_0000_0002, 0xffff_0000_0000_0002),
+    (5, 0xffff_0000_0000_0002, 0x0000_0000_0000_0002),
+    (6, 0x0000_0000_0000_0003, 0x0001_0000_0000_0003),
+    (7, 0x0001_0000_0000_0003, 0x0002_0000_0000_0003),
+    (8, 0x0002_0000_0000_0003, 0x0003_0000_0000_0003),
+    (9, 0x0003_0000_0000_0003, 0x0004_0000_0000_0003),
+];
+
+fn each_crosses(one: &mut SharedSide, two: &mut SharedSide) -> bool {
+    for (word, there, back) in CROSSED {
+        if !crosses(one, two, *word, *there) || !crosses(two, one, *word, *back) {
+            return false;
+        }
+    }
+    true
+}
+
+// The numbers told turn over at 65,536, and the epochs every four fragments.
+pub fn a_duo_that_began_long_ago(alloc: Global) -> Result<bool, Fail> {
+    let (mut one, mut two) = began_long_ago(alloc, 65_530)?;
+    Ok(each_crosses(&mut one, &mut two))
+}
+
+// Whose step it is, and the step: through this ring 2^62 fragments less two have passed each way. A side puts two more, and
+// no more after them; nor can it tell what it took since.
+const DUO_AT_ITS_END: &[(WhichSide, Step)] = &[
+    (WhichSide::One, Step::NextEpoch(0)),
+    (WhichSide::One, Step::Put(5, Ok(()))),
+    (WhichSide::One, Step::Room(true)),
+    (WhichSide::One, Step::Put(6, Ok(()))),
+    (WhichSide::One, Step::Room(false)),
+    (WhichSide::One, Step::Put(7, Err(PutFault::Spent))),
+    (WhichSide::Two, Step::Put(8, Ok(()))),
+    (WhichSide::Two, Step::Put(9, Ok(()))),
+    (WhichSide::Two, Step::Put(9, Err(PutFault::Spent))),
+    (WhichSide::One, Step::Take(8, 0xfffe_0000_0000_0002)),
+    (WhichSide::One, Step::Tell(Ok(Told::Nothing))),
+    (WhichSide::One, Step::Take(9, 0xfffe_0000_0000_0002)),
+    (WhichSide::One, Step::Tell(Err(PutFault::Full))),
+    (WhichSide::One, Step::Put(7, Err(PutFault::Spent))),
+    (WhichSide::Two, Step::Take(5, 0xfffe_0000_0000_0002)),
+];
+
+pub fn a_duo_at_its_end(alloc: Global) -> Result<bool, Fail> {
+    let (mut one, mut two) = began_long_ago(alloc, (1 << 62) - 2)?;
+    Ok(sides_follow(&mut one, &mut two, DUO_AT_ITS_END))
+}
+
+// A fragment goes from a ring through a duo into the ring.
+fn goes_round(
+    tx: &mut RingTx,
+    rx: &mut RingRx,
+    one: &mut SharedSide,
+    two: &mut SharedSide,
+) -> bool {
+    ring_answers(tx, rx, Step::Put(5, Ok(())))
+        && pass_on(rx, one) == Passed::Moved
+        && pass_on(two, tx) == Passed::Moved
+        && ring_answers(tx, rx, Step::Take(5, 3))
+        && pass_on(rx, one) == Passed::Nothing
+}
+
+pub fn passes_between(alloc: Global) -> Result<bool, Fail> {
+    let (mut tx, mut rx) = ring(alloc, 2)?;
+    let (mut one, mut two) = duo(alloc, 4)?;
+    Ok(goes_round(&mut tx, &mut rx, &mut one, &mut two))
+}
+
+const EXAMPLES: &[Example] = &[
+    Example::SharedRing,
+    Example::SharedDuo,
+    Example::LongAgo,
+    Example::AtItsEnd,
+    Example::PassesBetween,
+];
+
+#[test]
+fn shared_rings(rt: HostRuntime) -> Result<(), Fail> {
+    law_sender_conserves();
+    law_receiver_conserves();
+    law_side_conserves();
+    all_hold(rt.alloc(), "examples", EXAMPLES)
+}
+
+const COUNT: u64 = 10_000;
+
+// Puts fragments whose word 0 counts from 0.
+fn put_counted<R: Wait>(rt: &R, mut tx: RingTx) -> RingTx
+    ensures { result.ring ≡ tx.ring }
+{
+    let mut next = 0;
+    for _ in rt.forever() {
+        if next >= COUNT {
+            break;
+        }
+        match tx.try_put(&ping(next)) {
+            Ok(()) => next += 1,
+            Err(_) => hint::spin_loop(),
+        }
+    }
+    tx
+}
+
+// Takes the next fragment, if it is there, and tells it; `None` where it isn't the one due.
+fn take_one(rx: &mut RingRx, next: u64) -> Option<u64>
+    ensures { rx.new.ring ≡ rx.old.ring }
+{
+    match rx.try_take() {
+        Sight::Data(frag) if frag.words[0] == next && next < COUNT => {
+            rx.tell();
+            Some(next + 1)
+        }
+        Sight::Data(_) | Sight::Acknowledgement => None,
+        Sight::Empty => Some(next),
+    }
+}
+
+// Takes as many, and says how many came in order.
+fn take_counted<R: Wait>(rt: &R, mut rx: RingRx) -> (RingRx, u64)
+    ensures { result.0.ring ≡ rx.ring }
+{
+    let mut next = 0;
+    for _ in rt.forever() {
+        if next >= COUNT {
+            break;
+        }
+        let Some(count) = take_one(&mut rx, next) else {
+            break;
+        };
+        next = count;
+        hint::spin_loop();
+    }
+    (rx, next)
+}
+
+// A thread for each side. In the end both are in one hand again.
+fn pass_counted<R: Threads + Wait + Sync>(rt: &R, tx: RingTx, rx: RingRx) -> u64
+    requires { tx.ring ≡ rx.ring }
+{
+    let (tx, (rx, count)) = join(
+        rt,
+        move || -> RingTx
+            ensures { result.ring ≡ tx.ring }
+        { put_counted(rt, tx) },
+        move || -> (RingRx, u64)
+            ensures { result.0.ring ≡ rx.ring }
+        { take_counted(rt, rx) },
+    );
+    settle(tx, rx);
+    count
+}
+
+// Puts the next fragment, if one is left to put and there is room, and counts it.
+fn put_next(side: &mut SharedSide, sent: u64) -> u64
+    ensures { side.new.ring ≡ side.old.ring }
+{
+    if sent >= COUNT {
+        return sent;
+    }
+    match side.try_put(&ping(sent)) {
+        Ok(()) => sent + 1,
+        Err(_) => sent,
+    }
+}
+
+// Takes the next fragment, if it is there, and counts it; `None` where it isn't the one due.
+fn take_next(side: &mut SharedSide, next: u64) -> Option<u64>
+    ensures { side.new.ring ≡ side.old.ring }
+{
+    match side.try_take() {
+        Sight::Data(frag) if frag.words[0] == next && next < COUNT => Some(next + 1),
+        Sight::Data(_) => None,
+        Sight::Acknowledgement | Sight::Empty => Some(next),
+    }
+}
+
+// Puts fragments whose word 0 counts from 0 and takes as many; says how many came in order.
+fn exchange_counted<R: Wait>(rt: &R, mut side: SharedSide) -> (SharedSide, u64)
+    ensures { result.0.ring ≡ side.ring }
+{
+    let mut sent = 0;
+    let mut next = 0;
+    for _ in rt.forever() {
+        if sent >= COUNT && next >= COUNT {
+            break;
+        }
+        sent = put_next(&mut side, sent);
+        let Some(count) = take_next(&mut side, next) else {
+            break;
+        };
+        next = count;
+        let _ = side.tell();
+        hint::spin_loop();
+    }
+    (side, next)
+}
+
+fn both_counted<R: Threads + Wait + Sync>(rt: &R, one: SharedSide, two: SharedSide) -> (u64, u64)
+    requires { one.ring ≡ two.ring }
+{
+    let ((one, there), (two, back)) = join(
+        rt,
+        move || -> (SharedSide, u64)
+            ensures { result.0.ring ≡ one.ring }
+        { exchange_counted(rt, one) },
+        move || -> (SharedSide, u64)
+            ensures { result.0.ring ≡ two.ring }
+        { exchange_counted(rt, two) },
+    );
+    settle_duo(one, two);
+    (there, back)
+}
+
+#[test]
+fn ten_thousand_in_order(rt: HostRuntime) -> Result<(), Fail> {
+    let (tx, rx) = ring(rt.alloc(), 2)?;
+    let passed = pass_counted(&rt, tx, rx);
+    let (one, two) = duo(rt.alloc(), 4)?;
+    let counts = (passed, both_counted(&rt, one, two));
+    assert!(rt; counts == (COUNT, (COUNT, COUNT)));
+    Ok(())
+}

@@ -1,0 +1,185 @@
+//! `compile`.
+
+use crate::command::progress::EndProgress;
+use crate::rows::{Row, all_hold};
+use flounder_commands::compile_file;
+use std::alloc::Global;
+use std::io;
+use std::test::Fail;
+
+const PING: &[u8] = b"interface i { message ping(uint32 v); }";
+
+const IMAGE: &[u8] = &[
+    0x46, 0x4c, 0x4e, 0x44, 0x02, 0x00, 0x01, 0x69, 0x01, 0x00, 0x04, 0x70, 0x69, 0x6e, 0x67, 0x01,
+    0x07, 0x02, 0x00, 0x00, 0x00, 0x01, 0x04, 0x00, 0x08, 0x00, 0x00, 0x02, 0x00, 0x00, 0x00, 0x11,
+    0x04, 0x00, 0x18, 0x00, 0x00,
+];
+
+const REFUSED: &[u8] = b"interface i { message m(cap c); }";
+
+// What `compile` makes of a file: its content, errors of reading and of writing; and the status, how often it is written, and what is
+// told: none for whatever it may be.
+struct CompileRow {
+    content: &'static [u8],
+    unread: Option<io::ErrorKind>,
+    unwritten: Option<io::ErrorKind>,
+    ends: (u8, usize),
+    told: Option<&'static [u8]>,
+}
+
+const WRITTEN: CompileRow = CompileRow {
+    content: PING,
+    unread: None,
+    unwritten: None,
+    ends: (0, 1),
+    told: Some(b""),
+};
+
+const REFUSED_TEXT: CompileRow = CompileRow {
+    content: REFUSED,
+    unread: None,
+    unwritten: None,
+    ends: (2, 0),
+    told: Some(
+        b"\
+E14 at 24
+in.if:1:25: messages carry no capabilities
+found there: cap c); }
+help: leave the argument out
+",
+    ),
+};
+
+// An image begins like a word, and its version's byte begins no token.
+const REFUSED_IMAGE: CompileRow = CompileRow {
+    content: b"FLND\x02\x00",
+    unread: None,
+    unwritten: None,
+    ends: (2, 0),
+    told: Some(
+        b"\
+E1 at 4
+in.if:1:5: no token begins with this byte
+found there: \\x02\\x00
+help: the file is an image: give the interface's text, or use show
+",
+    ),
+};
+
+const OTHER: Option<io::ErrorKind> = Some(io::ErrorKind::Other);
+
+const FULL: Option<io::ErrorKind> = Some(io::ErrorKind::OutOfMemory);
+
+// Reading the file, its content, writing. A text is compiled, and nothing else.
+const FIRST_FAULTS: &[CompileRow] = &[
+    CompileRow {
+        content: REFUSED,
+        unread: OTHER,
+        unwritten: OTHER,
+        ends: (4, 0),
+        told: None,
+    },
+    CompileRow {
+        content: REFUSED,
+        unread: FULL,
+        unwritten: OTHER,
+        ends: (3, 0),
+        told: None,
+    },
+    CompileRow {
+        content: REFUSED,
+        unread: None,
+        unwritten: OTHER,
+        ends: (2, 0),
+        told: None,
+    },
+    CompileRow {
+        content: IMAGE,
+        unread: None,
+        unwritten: OTHER,
+        ends: (2, 0),
+        told: None,
+    },
+    CompileRow {
+        content: PING,
+        unread: None,
+        unwritten: OTHER,
+        ends: (4, 1),
+        told: None,
+    },
+    CompileRow {
+        content: PING,
+        unread: None,
+        unwritten: FULL,
+        ends: (3, 1),
+        told: None,
+    },
+];
+
+fn is_told(errors: &[u8], told: Option<&[u8]>) -> bool {
+    match told {
+        Some(told) => errors == told,
+        None => !errors.is_empty(),
+    }
+}
+
+fn ends_so(alloc: Global, progress: &mut EndProgress, row: &CompileRow) -> bool {
+    let mut errors = Vec::new(alloc);
+    let status = compile_file(alloc, "in.if", "out", progress, &mut errors);
+    status == row.ends.0 && progress.writes == row.ends.1 && is_told(&errors, row.told)
+}
+
+fn is_compiled(alloc: Global, row: &CompileRow) -> bool {
+    let mut progress = EndProgress::new(alloc, row.content, row.unread, row.unwritten);
+    ends_so(alloc, &mut progress, row)
+}
+
+impl Row for CompileRow {
+    fn holds(&self, alloc: Global) -> Result<bool, Fail> {
+        Ok(is_compiled(alloc, self))
+    }
+}
+
+fn is_written(alloc: Global) -> bool {
+    let mut progress = EndProgress::new(alloc, PING, None, None);
+    ends_so(alloc, &mut progress, &WRITTEN) && progress.written() == IMAGE
+}
+
+#[test]
+fn an_image_is_written(rt: HostRuntime) {
+    assert!(rt; is_written(rt.alloc()));
+}
+
+#[test]
+fn a_text_that_is_refused_writes_nothing(rt: HostRuntime) {
+    assert!(rt; is_compiled(rt.alloc(), &REFUSED_TEXT));
+}
+
+#[test]
+fn an_image_is_not_compiled(rt: HostRuntime) {
+    assert!(rt; is_compiled(rt.alloc(), &REFUSED_IMAGE));
+}
+
+#[test]
+fn the_first_fault_of_compile_counts(rt: HostRuntime) -> Result<(), Fail> {
+    all_hold(rt.alloc(), "first faults", FIRST_FAULTS)
+}
+
+fn ends_well_or_full(alloc: Global, progress: &mut EndProgress) -> bool {
+    let mut errors = Vec::new(alloc);
+    match compile_file(alloc, "in.if", "out", progress, &mut errors) {
+        0 => progress.written() == IMAGE,
+        status => status == 3 && progress.writes == 0,
+    }
+}
+
+fn is_compiled_or_full(alloc: Global) -> bool {
+    let mut progress = EndProgress::new(alloc, PING, None, None);
+    ends_well_or_full(alloc, &mut progress)
+}
+
+// The image, or out of memory and nothing written.
+#[test]
+fn compiled_without_memory(rt: HostRuntime) {
+    assert!(rt; is_compiled_or_full(rt.alloc()));
+}

@@ -1,0 +1,170 @@
+//! An end's progress with two files, which tells what is done with them.
+
+ghost use Rattle.std.specs.Prelude.{◌≡◌, ◌++◌, ◌∷◌, [], map, option_map, IfOk, IfSome};
+ghost use Rattle.flounder_commands.specs.FileEffects.{Adds, log_entry_of};
+
+use flounder_commands::FileStore;
+use std::alloc::{AllocError, Global};
+use std::io;
+
+// A log entry, as the end's progress writes it down.
+#[derive(Drop)]
+struct Entry {
+    is_read: bool,
+    path: Vec<u8>,
+    bytes: Vec<u8>,
+    failed: Option<io::ErrorKind>,
+}
+
+fn new_entry(
+    alloc: Global,
+    is_read: bool,
+    path: &[u8],
+    bytes: &[u8],
+    failed: Option<io::ErrorKind>,
+) -> Result<Entry, AllocError>
+    ensures log_entry { IfOk result (λ e. log_entry_of e.is_read e.path.items e.bytes.items e.failed ≡ log_entry_of is_read path.now bytes.now failed) }
+{
+    let path = Vec::from_slice(alloc, path)?;
+    let bytes = Vec::from_slice(alloc, bytes)?;
+    Ok(Entry {
+        is_read,
+        path,
+        bytes,
+        failed,
+    })
+}
+
+// The log entries with one more, as far as there is memory for them.
+fn with_entry(log_entries: Vec<Entry>, entry: Entry) -> Option<Vec<Entry>>
+    ensures told { IfSome result (λ all. map (λ e. log_entry_of e.is_read e.path.items e.bytes.items e.failed) all.items
+        ≡ map (λ e. log_entry_of e.is_read e.path.items e.bytes.items e.failed) log_entries.items
+        ++ log_entry_of entry.is_read entry.path.items entry.bytes.items entry.failed ∷ []) }
+{
+    let mut log_entries = log_entries;
+    match log_entries.push(entry) {
+        Ok(()) => Some(log_entries),
+        Err(_) => None,
+    }
+}
+
+/// The file `in.if`, which may not be read; and `out`, which may not be written. It tells its log entries while it has memory to write
+/// them down.
+#[derive(Drop)]
+pub struct EndProgress {
+    content: &'static [u8],
+    unread: Option<io::ErrorKind>,
+    unwritten: Option<io::ErrorKind>,
+    image: [u8; 64],
+    len: usize,
+    pub writes: usize,
+    alloc: Global,
+    log_entries: Option<Vec<Entry>>,
+}
+
+impl EndProgress {
+    /// A file of this content, and errors of these kinds.
+    pub fn new(
+        alloc: Global,
+        content: &'static [u8],
+        unread: Option<io::ErrorKind>,
+        unwritten: Option<io::ErrorKind>,
+    ) -> EndProgress {
+        EndProgress {
+            content,
+            unread,
+            unwritten,
+            image: [0; 64],
+            len: 0,
+            writes: 0,
+            alloc,
+            log_entries: Some(Vec::new(alloc)),
+        }
+    }
+
+    fn put(&mut self, path: &str, bytes: &[u8]) -> io::Result<()>
+        ensures log_entries { self.new.log_entries ≡ self.old.log_entries }
+    {
+        self.writes = self.writes.saturating_add(1);
+        if path != "out" {
+            return Err(io::Error::from(io::ErrorKind::NotFound));
+        }
+        let n = bytes.len().min(64);
+        self.image[..n].copy_from_slice(&bytes[..n]);
+        self.len = n;
+        match self.unwritten {
+            Some(kind) => Err(io::Error::from(kind)),
+            None => Ok(()),
+        }
+    }
+
+    /// The bytes of `out`.
+    pub fn written(&self) -> &[u8] {
+        &self.image[..self.len.min(64)]
+    }
+}
+
+// What was done so far, and one log entry more.
+fn note(
+    alloc: Global,
+    log_entries: Option<Vec<Entry>>,
+    is_read: bool,
+    path: &[u8],
+    bytes: &[u8],
+    failed: Option<io::ErrorKind>,
+) -> Option<Vec<Entry>>
+    ensures told { Adds
+        (option_map (λ all. map (λ e. log_entry_of e.is_read e.path.items e.bytes.items e.failed) all.items) log_entries)
+        (option_map (λ all. map (λ e. log_entry_of e.is_read e.path.items e.bytes.items e.failed) all.items) result)
+        (log_entry_of is_read path.now bytes.now failed) }
+{
+    let log_entries = log_entries?;
+    match new_entry(alloc, is_read, path, bytes, failed) {
+        Ok(entry) => with_entry(log_entries, entry),
+        Err(_) => None,
+    }
+}
+
+impl FileStore for EndProgress {
+    ghost log_entries = { λ progress. option_map (λ all. map (λ e. log_entry_of e.is_read e.path.items e.bytes.items e.failed) all.items) progress.log_entries };
+
+    fn read(&mut self, alloc: Global, path: &str) -> io::Result<Vec<u8>> {
+        let found = match self.unread {
+            Some(kind) => Err(io::Error::from(kind)),
+            None if path == "in.if" => Vec::from_slice(alloc, self.content).map_err(
+                io::Error::from,
+            ),
+            None => Err(io::Error::from(io::ErrorKind::NotFound)),
+        };
+        let log_entries = self.log_entries.take();
+        self.log_entries = match &found {
+            Ok(bytes) => note(self.alloc, log_entries, true, path.as_bytes(), bytes, None),
+            Err(error) => note(
+                self.alloc,
+                log_entries,
+                true,
+                path.as_bytes(),
+                &[],
+                Some(error.kind()),
+            ),
+        };
+        found
+    }
+
+    fn write(&mut self, path: &str, bytes: &[u8]) -> io::Result<()> {
+        let done = self.put(path, bytes);
+        let log_entries = self.log_entries.take();
+        self.log_entries = match &done {
+            Ok(()) => note(self.alloc, log_entries, false, path.as_bytes(), bytes, None),
+            Err(error) => note(
+                self.alloc,
+                log_entries,
+                false,
+                path.as_bytes(),
+                bytes,
+                Some(error.kind()),
+            ),
+        };
+        done
+    }
+}

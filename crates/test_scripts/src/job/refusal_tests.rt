@@ -1,0 +1,233 @@
+//! Lines of cores files that are refused.
+
+use crate::rows::{Row, all_hold};
+use fl_cores_file::{CoresText, read_cores_text};
+use std::alloc::{AllocError, Global};
+use std::test::Fail;
+
+// What stands before the lines of a row.
+#[derive(Clone, Copy)]
+enum Start {
+    Nothing,
+    /// Three lines, an interface.
+    Head,
+    /// Five lines more, on one core.
+    Local,
+    /// Five lines more than the interface, on three cores with a link.
+    Cores,
+}
+
+fn lines_of(start: Start) -> &'static [u8] {
+    match start {
+        Start::Nothing => b"",
+        Start::Head => { b"idl\ninterface i { message a(uint32 v); message b(uint8 x); }\n.\n" }
+        Start::Local => {
+            b"idl\ninterface i { message a(uint32 v); message b(uint8 x); }\n.\n\
+                disp d 0\ndisp e 0\nexport s e i\nbind p d i s local 4\nreply p.s a a\n"
+        }
+        Start::Cores => {
+            b"idl\ninterface i { message a(uint32 v); message b(uint8 x); }\n.\n\
+                cores 3\nlink 0 1 4\ndisp d 0\ndisp e 2\nexport s e i\n"
+        }
+    }
+}
+
+// Lines behind those, and the first of all that is refused, with the fault; 0 and 0 where none is.
+struct Refused(Start, &'static [u8], usize, u8);
+
+// Lines behind those eight.
+const BEHIND_LOCAL: &[Refused] = &[
+    Refused(Start::Local, b"", 0, 0),
+    Refused(Start::Local, b"call p.c a(1)\n", 0, 0),
+    // an end with rules makes no calls, and only one end has rules
+    Refused(Start::Local, b"call p.s a(1)\n", 9, 44),
+    Refused(Start::Local, b"reply p.c a a\n", 9, 44),
+    Refused(Start::Local, b"reply p.s b b\n", 0, 0),
+    Refused(Start::Local, b"call p.c a(1)\nreply p.c a a\n", 10, 44),
+    // after all other refusals of the line
+    Refused(Start::Local, b"call p.s c(1)\n", 9, 41),
+    Refused(Start::Local, b"call p.s a(4294967296)\n", 9, 42),
+    Refused(Start::Local, b"reply p.c a c\n", 9, 41),
+    Refused(Start::Local, b"reply p.c a b\n", 9, 42),
+    // a command of scripts alone, whatever it names
+    Refused(Start::Local, b"turn d\n", 9, 90),
+    Refused(Start::Local, b"write q.c\n", 9, 90),
+    Refused(Start::Local, b"mack 5 6\n", 9, 90),
+    // a call's text is read before its end is looked up
+    Refused(Start::Local, b"call q.c a(1\n", 9, 90),
+    Refused(Start::Local, b"call q.c a(1)\n", 9, 92),
+    Refused(Start::Local, b"cores 2\n", 9, 93),
+    Refused(Start::Local, b"bind p d i s local 4\n", 9, 92),
+    Refused(Start::Local, b"bind q d i t local 4\n", 9, 70),
+    Refused(Start::Local, b"bind q d i s local 0\n", 9, 32),
+    Refused(Start::Local, b"bind q d i s ump 4\n", 9, 73),
+    // blank lines and comments count, and blocks all their lines
+    Refused(Start::Local, b"\n# x\n\t \nwhat\n", 12, 90),
+    Refused(
+        Start::Local,
+        b"idl\ninterface j { }\n.\nidl\ninterface i { }\n.\n",
+        12,
+        92,
+    ),
+];
+
+// Lines behind those eight.
+const BEHIND_CORES: &[Refused] = &[
+    Refused(Start::Cores, b"bind p d i s hop 0 1 2\n", 0, 0),
+    // only the first link of a route has to be there, on an earlier line
+    Refused(Start::Cores, b"bind p d i s hop 0 2\n", 9, 73),
+    Refused(Start::Cores, b"bind p d i s hop 0 2\nlink 0 2 4\n", 9, 73),
+    Refused(Start::Cores, b"link 0 2 4\nbind p d i s hop 0 2\n", 0, 0),
+    Refused(Start::Cores, b"bind p d i s hop 1 2\n", 9, 73),
+    Refused(Start::Cores, b"bind p d i s hop 0 1\n", 9, 73),
+    Refused(Start::Cores, b"bind p d i s hop 0 1 0 1 2\n", 9, 73),
+    Refused(Start::Cores, b"bind p d i s hop 0 3 2\n", 9, 73),
+    Refused(Start::Cores, b"bind p d i s hop 0\n", 9, 73),
+    Refused(Start::Cores, b"bind p d i s hop\n", 9, 90),
+    Refused(Start::Cores, b"link 1 0 4\n", 9, 73),
+    Refused(Start::Cores, b"link 1 1 4\n", 9, 73),
+    Refused(Start::Cores, b"link 1 3 4\n", 9, 73),
+    Refused(Start::Cores, b"link 1 2 5\n", 9, 32),
+    Refused(Start::Cores, b"link 1 2 2\n", 9, 32),
+    Refused(Start::Cores, b"disp f 3\n", 9, 73),
+    Refused(Start::Cores, b"disp d 1\n", 9, 92),
+    Refused(Start::Cores, b"export s d i\n", 9, 71),
+    Refused(Start::Cores, b"export t f i\n", 9, 92),
+    Refused(
+        Start::Cores,
+        b"idl\ninterface j { }\n.\nbind p d j s hop 0 1 2\n",
+        12,
+        72,
+    ),
+];
+
+// Whole texts.
+const WHOLE: &[Refused] = &[
+    Refused(Start::Nothing, b"", 0, 0),
+    Refused(Start::Nothing, b"\n# no line\n", 0, 0),
+    Refused(Start::Nothing, b"cores 0\n", 1, 94),
+    Refused(Start::Nothing, b"cores 17\n", 1, 94),
+    Refused(Start::Nothing, b"cores 2\ncores 2\n", 2, 93),
+    Refused(Start::Nothing, b"disp d 0", 0, 0),
+    // of a text's fault the offset isn't told
+    Refused(
+        Start::Nothing,
+        b"\nidl\ninterface i { message m(cap c); }\n.\n",
+        2,
+        14,
+    ),
+    // an open block is refused at its head
+    Refused(Start::Nothing, b"\nidl\ninterface i { }\n", 2, 90),
+    Refused(Start::Nothing, b"idl 2\n", 1, 90),
+];
+
+// Whether this line is refused with this fault.
+fn is_refused(alloc: Global, text: &[u8], wanted: usize, fault: u8) -> Result<bool, Fail> {
+    match read_cores_text(alloc, text)? {
+        CoresText::File(_) => Ok(wanted == 0 && fault == 0),
+        CoresText::Refused { line, number } => Ok(line == wanted && number == fault),
+    }
+}
+
+// Puts pieces behind a text.
+fn push_all(text: &mut Vec<u8>, pieces: &[&[u8]]) -> Result<(), AllocError> {
+    for piece in pieces {
+        text.extend_from_slice(piece)?;
+    }
+    Ok(())
+}
+
+impl Row for Refused {
+    fn holds(&self, alloc: Global) -> Result<bool, Fail> {
+        let mut text = Vec::new(alloc);
+        push_all(&mut text, &[lines_of(self.0), self.1])?;
+        is_refused(alloc, &text, self.2, self.3)
+    }
+}
+
+#[test]
+fn lines_on_one_core_are_refused(rt: HostRuntime) -> Result<(), Fail> {
+    all_hold(rt.alloc(), "lines on one core", BEHIND_LOCAL)
+}
+
+#[test]
+fn lines_on_three_cores_are_refused(rt: HostRuntime) -> Result<(), Fail> {
+    all_hold(rt.alloc(), "lines on three cores", BEHIND_CORES)
+}
+
+#[test]
+fn texts_are_refused(rt: HostRuntime) -> Result<(), Fail> {
+    all_hold(rt.alloc(), "texts", WHOLE)
+}
+
+// Lines behind a start, a binding so many times with its number behind its name, and the line that is refused, with the fault.
+struct Bindings {
+    start: Start,
+    first: &'static [u8],
+    times: u32,
+    binding: &'static [u8],
+    refused: (usize, u8),
+}
+
+fn push_bindings(alloc: Global, text: &mut Vec<u8>, row: &Bindings) -> Result<(), AllocError> {
+    push_all(text, &[lines_of(row.start), row.first])?;
+    for number in 0..row.times {
+        let digits = number.to_string(alloc)?;
+        push_all(text, &[b"bind p", digits.as_bytes(), row.binding])?;
+    }
+    Ok(())
+}
+
+impl Row for Bindings {
+    fn holds(&self, alloc: Global) -> Result<bool, Fail> {
+        let mut text = Vec::new(alloc);
+        push_bindings(alloc, &mut text, self)?;
+        is_refused(alloc, &text, self.refused.0, self.refused.1)
+    }
+}
+
+// A dispatcher that is bound to itself takes two places of its 1,024; circuits' ends are counted when they are opened.
+const OF_A_DISPATCHER: &[Bindings] = &[Bindings {
+    start: Start::Head,
+    first: b"disp d 0\nexport s d i\n",
+    times: 513,
+    binding: b" d i s local 1\n",
+    refused: (518, 54),
+}];
+
+// 1,024 bindings, all to be opened; one more is refused.
+const OF_A_WORLD: &[Bindings] = &[Bindings {
+    start: Start::Cores,
+    first: b"",
+    times: 1_025,
+    binding: b" d i s hop 0 1 2\n",
+    refused: (1_033, 94),
+}];
+
+#[test]
+fn a_dispatcher_has_places(rt: HostRuntime) -> Result<(), Fail> {
+    all_hold(rt.alloc(), "places", OF_A_DISPATCHER)
+}
+
+#[test]
+fn a_world_has_bindings(rt: HostRuntime) -> Result<(), Fail> {
+    all_hold(rt.alloc(), "bindings", OF_A_WORLD)
+}
+
+// So many line feeds, and the line that is refused, with the fault.
+struct Feeds(usize, usize, u8);
+
+// A text of more than 1 MiB is refused at its first line, whatever stands there.
+const FEEDS: &[Feeds] = &[Feeds(1_048_576, 0, 0), Feeds(1_048_577, 1, 91)];
+
+impl Row for Feeds {
+    fn holds(&self, alloc: Global) -> Result<bool, Fail> {
+        let text = vec![in alloc; b'\n'; self.0]?;
+        is_refused(alloc, &text, self.1, self.2)
+    }
+}
+
+#[test]
+fn a_text_is_too_long(rt: HostRuntime) -> Result<(), Fail> {
+    all_hold(rt.alloc(), "line feeds", FEEDS)
+}

@@ -1,0 +1,278 @@
+//! Readers and writers that give and take little, or fail, and memory that is refused.
+
+ghost use Rattle.std.specs.Prelude.{◌≤◌, IfSome};
+
+use crate::rows::{Row, all_hold};
+use crate::transcript::still::Still;
+use fl_script_exec::{ExecFault, ScriptReader, exec};
+use std::alloc::Global;
+use std::io;
+use std::io::{Read, Write};
+use std::test::Fail;
+
+const SCRIPT: &[u8] =
+    b"turn d\n# nothing\nidl\ninterface i { message m(cap c); }\n.\ncall p.c m(\ncall p.c m(1)\n\nturn";
+
+const TRANSCRIPT: &[u8] =
+    b"refused E92\nrefused E14 at 24\nrefused E90\nrefused E92\nrefused E90\n";
+
+// Bytes that are read by at most so many a call; one of the calls may fail.
+#[derive(Drop)]
+struct Source<'a> {
+    rest: &'a [u8],
+    step: usize,
+    calls: usize,
+    fails_at: usize,
+}
+
+impl<'a> Source<'a> {
+    fn new(rest: &'a [u8], step: usize, fails_at: usize) -> Source<'a> {
+        Source {
+            rest,
+            step,
+            calls: 0,
+            fails_at,
+        }
+    }
+}
+
+impl Read for Source<'_> {
+    fn read(&mut self, buf: &mut [u8]) -> io::Result<usize> {
+        self.calls = self.calls.saturating_add(1);
+        if self.calls == self.fails_at {
+            return Err(io::Error::from(io::ErrorKind::Other));
+        }
+        let n = self.rest.len().min(buf.len()).min(self.step);
+        buf[..n].copy_from_slice(&self.rest[..n]);
+        self.rest = &self.rest[n..];
+        Ok(n)
+    }
+}
+
+// Bytes that are read one a call, with a count of the calls.
+#[derive(Drop)]
+struct Counter<'a> {
+    rest: &'a [u8],
+    calls: Option<usize>,
+}
+
+impl ScriptReader for Counter<'_> {
+    ghost reads = { λ r. r.calls };
+
+    fn read(&mut self, buf: &mut [u8]) -> io::Result<usize> {
+        self.calls = match self.calls {
+            Some(calls) => calls.checked_add(1),
+            None => None,
+        };
+        let n = self.rest.len().min(buf.len()).min(1);
+        buf[..n].copy_from_slice(&self.rest[..n]);
+        self.rest = &self.rest[n..];
+        Ok(n)
+    }
+}
+
+// What was written, by at most so many bytes a call; one of the calls may fail, another take nothing.
+// It takes no memory.
+#[derive(Drop)]
+struct Sheet {
+    bytes: [u8; 512],
+    len: usize,
+    step: usize,
+    calls: usize,
+    fails_at: usize,
+    stalls_at: usize,
+}
+
+impl Sheet {
+    fn new(step: usize, fails_at: usize, stalls_at: usize) -> Sheet {
+        Sheet {
+            bytes: [0; 512],
+            len: 0,
+            step,
+            calls: 0,
+            fails_at,
+            stalls_at,
+        }
+    }
+
+    fn written(&self) -> &[u8] {
+        &self.bytes[..self.len.min(512)]
+    }
+}
+
+impl Write for Sheet {
+    fn write(&mut self, buf: &[u8]) -> io::Result<usize> {
+        self.calls = self.calls.saturating_add(1);
+        if self.calls == self.fails_at {
+            return Err(io::Error::from(io::ErrorKind::Other));
+        }
+        if self.calls == self.stalls_at {
+            return Ok(0);
+        }
+        let start = self.len.min(512);
+        let n = buf.len().min(self.step).min(512 - start);
+        self.bytes[start..start + n].copy_from_slice(&buf[..n]);
+        self.len = start + n;
+        Ok(n)
+    }
+
+    fn flush(&mut self) -> io::Result<()> {
+        Ok(())
+    }
+}
+
+fn run(alloc: Global, reader: &mut Source<'_>, writer: &mut Sheet) -> Result<(), ExecFault> {
+    exec::<Still, _, _>(alloc, reader, writer)
+}
+
+// How often a script is read: a count that `exec` bounds, whatever the script is.
+fn reads_of(alloc: Global, script: &[u8], writer: &mut Sheet) -> Option<usize>
+    ensures { IfSome result (λ calls. calls ≤ 1048577) }
+{
+    let mut reader = Counter {
+        rest: script,
+        calls: Some(0),
+    };
+    match exec::<Still, _, _>(alloc, &mut reader, writer) {
+        Ok(()) => reader.calls,
+        Err(_) => None,
+    }
+}
+
+// Whether it came to the fault, and what was written until then is a prefix of the transcript.
+fn has_stopped(
+    outcome: Result<(), ExecFault>,
+    fault: ExecFault,
+    status: u8,
+    writer: &Sheet,
+) -> bool {
+    outcome == Err(fault)
+        && fault.number() == status
+        && TRANSCRIPT.starts_with(writer.written())
+        && writer.written().len() < TRANSCRIPT.len()
+}
+
+// Whether all is written by steps of this size, with so many calls.
+fn is_written(alloc: Global, step: usize, calls: usize) -> bool {
+    let mut reader = Source::new(SCRIPT, step, 0);
+    let mut writer = Sheet::new(step, 0, 0);
+    run(alloc, &mut reader, &mut writer) == Ok(())
+        && writer.written() == TRANSCRIPT
+        && writer.calls == calls
+}
+
+// A byte at a time each way.
+#[test]
+fn a_byte_at_a_time(rt: HostRuntime) {
+    assert!(rt; is_written(rt.alloc(), 1, TRANSCRIPT.len()));
+}
+
+fn stops_at_read(alloc: Global, at: usize) -> bool {
+    let mut reader = Source::new(SCRIPT, 1, at);
+    let mut writer = Sheet::new(512, 0, 0);
+    let outcome = run(alloc, &mut reader, &mut writer);
+    has_stopped(outcome, ExecFault::Read, 4, &writer) && writer.calls == 0
+}
+
+fn stops_at_each_read(alloc: Global) -> bool {
+    for at in 1..SCRIPT.len() + 2 {
+        if !stops_at_read(alloc, at) {
+            return false;
+        }
+    }
+    true
+}
+
+// Each read fails in turn: nothing is written before all is read.
+#[test]
+fn a_read_fails(rt: HostRuntime) {
+    assert!(rt; stops_at_each_read(rt.alloc()));
+}
+
+// Whether this call is the last, and what went before is there.
+fn stops_at_write(alloc: Global, writer: &mut Sheet, at: usize) -> bool {
+    let mut reader = Source::new(SCRIPT, 4096, 0);
+    let outcome = run(alloc, &mut reader, writer);
+    has_stopped(outcome, ExecFault::Write, 4, writer)
+        && writer.calls == at
+        && writer.written().len() == at.saturating_sub(1)
+}
+
+// Whether each write stops it in turn, where it takes nothing or fails.
+fn stops_at_each_write(alloc: Global, stalls: bool) -> bool {
+    for at in 1..TRANSCRIPT.len() + 1 {
+        let mut writer = if stalls {
+            Sheet::new(1, 0, at)
+        } else {
+            Sheet::new(1, at, 0)
+        };
+        if !stops_at_write(alloc, &mut writer, at) {
+            return false;
+        }
+    }
+    true
+}
+
+// Each write fails in turn: it is the last, and what went before is there.
+#[test]
+fn a_write_fails(rt: HostRuntime) {
+    assert!(rt; stops_at_each_write(rt.alloc(), false));
+}
+
+// A write that takes no byte is a fault.
+#[test]
+fn a_write_takes_nothing(rt: HostRuntime) {
+    assert!(rt; stops_at_each_write(rt.alloc(), true));
+}
+
+fn is_written_or_stopped(alloc: Global) -> bool {
+    let mut reader = Source::new(SCRIPT, 16, 0);
+    let mut writer = Sheet::new(16, 0, 0);
+    match run(alloc, &mut reader, &mut writer) {
+        Ok(()) => writer.written() == TRANSCRIPT,
+        outcome => has_stopped(outcome, ExecFault::Memory, 3, &writer),
+    }
+}
+
+// With ample memory the transcript; run with each request for memory refused in turn, the fault.
+#[test]
+fn memory_is_refused(rt: HostRuntime) {
+    assert!(rt; is_written_or_stopped(rt.alloc()));
+}
+
+fn is_counted(alloc: Global) -> bool {
+    let mut writer = Sheet::new(512, 0, 0);
+    reads_of(alloc, SCRIPT, &mut writer) == Some(SCRIPT.len() + 1) && writer.written() == TRANSCRIPT
+}
+
+// A byte a call, and one call more that finds the end.
+#[test]
+fn reads_are_counted(rt: HostRuntime) {
+    assert!(rt; is_counted(rt.alloc()));
+}
+
+// So many line feeds, and what is written of them.
+struct Feeds(usize, &'static [u8]);
+
+const FEEDS: &[Feeds] = &[Feeds(1_048_576, b""), Feeds(1_048_600, b"refused E91\n")];
+
+fn has_few_reads(alloc: Global, script: &[u8], wanted: &[u8]) -> bool {
+    let mut reader = Source::new(script, 1, 0);
+    let mut writer = Sheet::new(16, 0, 0);
+    run(alloc, &mut reader, &mut writer) == Ok(())
+        && writer.written() == wanted
+        && reader.calls <= 1_048_577
+}
+
+impl Row for Feeds {
+    fn holds(&self, alloc: Global) -> Result<bool, Fail> {
+        let script = vec![in alloc; b'\n'; self.0]?;
+        Ok(has_few_reads(alloc, &script, self.1))
+    }
+}
+
+// A reader that gives one byte a call is asked at most 1,048,577 times, however long its script is.
+#[test]
+fn reads_are_few(rt: HostRuntime) -> Result<(), Fail> {
+    all_hold(rt.alloc(), "line feeds", FEEDS)
+}

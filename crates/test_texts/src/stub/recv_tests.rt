@@ -1,0 +1,425 @@
+//! What runs of receive code answer to fragments, and the calls that they take.
+
+ghost use Rattle.std.specs.Prelude.{◌≡◌};
+ghost use Rattle.fl_interface.specs.Interface.{interface_of};
+ghost use Rattle.fl_machine.specs.Receiving.{HoldsParts, HoldsTapes};
+
+use crate::interfaces::interface;
+use crate::rows::{Row, all_hold};
+use fl_base::{Frag, MsgNo};
+use fl_compile::compile;
+use fl_layout::{Plans, fragment_count};
+use fl_machine::{Fed, Reassemblies, RecvRun, TakeFault, Taken, law_takes_fragments};
+use fl_value::print_call;
+use fl_value_data::{Call, PlanNo};
+use std::alloc::{AllocError, Global};
+use std::test::Fail;
+
+const SHORT: &[u8] = b"interface i { message m(bool b, string s[2]); }";
+
+const BLOB: &[u8] = b"interface i { message blob(string s); message nop(); }";
+
+const MIXED: &[u8] = b"interface i { message m(uint8 a, string s, uint16 b); }";
+
+const PAIRS: &[u8] =
+    b"interface i { typedef struct { uint8 a; uint64 b; } t; message m(t x[n, 1024]); }";
+
+const NOTHING: &[u8] = b"interface i { typedef uint8 t; }";
+
+// The eight letters of a word of the text of 49 letters `a`, and the first fragment of its call.
+const LETTERS: u64 = 0x6161_6161_6161_6161;
+
+const FIRST: Frag = Frag {
+    words: [49, LETTERS, LETTERS, LETTERS, LETTERS, LETTERS, LETTERS],
+    control: 2,
+};
+
+// A fragment whose control word and first three words are given.
+macro_rules! frag {
+    ($control:expr; $($word:expr),*) => {
+        Frag {
+            words: [$($word,)* 0, 0, 0, 0],
+            control: $control,
+        }
+    };
+}
+
+// The last fragment of that call, and the one of `nop`.
+const LAST: Frag = Frag {
+    words: [0x61, 0, 0, 0, 0, 0, 0],
+    control: 0,
+};
+
+const NOP: Frag = Frag {
+    words: [0; 7],
+    control: 0x1_0002,
+};
+
+// The greatest tape of any call.
+fn capacity(plans: &Plans) -> usize
+    ensures enough { HoldsTapes plans.now.plan (interface_of plans.now.interface) result }
+{
+    let mut most = 0;
+    for msg in 0..256_u16 {
+        if usize::from(msg) < plans.interface.messages.len() {
+            most = plans.tape_capacity(MsgNo(msg)).max(most);
+        }
+    }
+    most
+}
+
+// How many fragments the longest call has.
+fn fragments(plans: &Plans) -> usize
+    ensures enough { HoldsParts plans.now.plan (interface_of plans.now.interface) result }
+{
+    let mut most = 0;
+    for msg in 0..256_u16 {
+        if usize::from(msg) < plans.interface.messages.len() {
+            most = plans.greatest(MsgNo(msg)).max(most);
+        }
+    }
+    fragment_count(most)
+}
+
+// A run of an interface's program; fails only where memory runs out.
+fn run(alloc: Global, text: &[u8], plan: PlanNo) -> Result<RecvRun, AllocError> {
+    let Ok(interface) = interface(alloc, text) else {
+        return Err(AllocError);
+    };
+    let program = compile(alloc, &interface, plan)?;
+    let most = capacity(program.plans());
+    RecvRun::new(alloc, program, most)
+}
+
+// What a run answers: how far the call is, or the fault's number.
+type Answer = Result<Fed, u8>;
+
+fn answer(run: &mut RecvRun, frag: &Frag) -> Answer {
+    match run.feed(frag) {
+        Ok(fed) => Ok(fed),
+        Err(fault) => Err(fault.number()),
+    }
+}
+
+// A fragment that is fed, its answer, and whether that is undone.
+type Step = (Frag, Answer, bool);
+
+// Whether a run answers so to fragments, one after another.
+fn answers(run: &mut RecvRun, steps: &[Step]) -> bool {
+    for (frag, wanted, undone) in steps {
+        if answer(run, frag) != *wanted {
+            return false;
+        }
+        if *undone {
+            run.undo();
+        }
+    }
+    true
+}
+
+fn takes_under(
+    alloc: Global,
+    text: &[u8],
+    plan: PlanNo,
+    steps: &[Step],
+) -> Result<bool, AllocError> {
+    let mut run = run(alloc, text, plan)?;
+    Ok(answers(&mut run, steps))
+}
+
+// Whether a new run answers so, under both plans.
+fn takes(alloc: Global, text: &[u8], steps: &[Step]) -> Result<bool, AllocError> {
+    Ok(
+        takes_under(alloc, text, PlanNo::One, steps)?
+            && takes_under(alloc, text, PlanNo::Two, steps)?,
+    )
+}
+
+// Each is refused inside the call, which then goes on; an epoch and a count told change nothing.
+const INSIDE: &[Step] = &[
+    (FIRST, Ok(Fed::Part), false),
+    (frag!(3; 0x61, 0, 0), Err(61), false),
+    (frag!(65_537; 0x61, 0, 0), Err(62), false),
+    (frag!(1; 0x6161, 0, 0), Err(63), false),
+    (frag!(1; 0, 0, 0), Err(65), false),
+    (
+        frag!(0xfffa_0000_0000_0001; 0x61, 0, 0),
+        Ok(Fed::Whole),
+        false,
+    ),
+    (LAST, Err(60), false),
+    (frag!(0xfffa_0000_0001_0003; 0, 0, 0), Ok(Fed::Whole), false),
+];
+
+// An undone feed leaves the run as before it, and a refused one after it too.
+const UNDONE: &[Step] = &[
+    (LAST, Err(60), true),
+    (FIRST, Ok(Fed::Part), true),
+    (LAST, Err(60), false),
+    (FIRST, Ok(Fed::Part), false),
+    (LAST, Ok(Fed::Whole), true),
+    (FIRST, Err(61), false),
+    (LAST, Ok(Fed::Whole), false),
+    (LAST, Err(60), false),
+    (NOP, Ok(Fed::Whole), true),
+    (FIRST, Ok(Fed::Part), true),
+    (LAST, Err(60), true),
+    (NOP, Ok(Fed::Whole), false),
+];
+
+// An interface's text, and what a new run of it is fed and answers under either plan.
+struct Fresh(&'static [u8], &'static [Step]);
+
+const FRESH: &[Fresh] = &[
+    Fresh(SHORT, &[(frag!(1; 0, 0, 0), Err(60), false)]),
+    Fresh(SHORT, &[(frag!(3; 2, 0, 0), Err(65), false)]),
+    Fresh(SHORT, &[(frag!(3; 1, 3, 0), Err(66), false)]),
+    Fresh(SHORT, &[(frag!(3; 257, 0, 0), Err(63), false)]),
+    Fresh(SHORT, &[(frag!(3; 1, 1, 0), Err(65), false)]),
+    Fresh(SHORT, &[(frag!(11; 0, 0, 0), Err(63), false)]),
+    Fresh(SHORT, &[(frag!(65_539; 0, 0, 0), Err(62), false)]),
+    Fresh(SHORT, &[(frag!(3; 1, 1, 0x61), Ok(Fed::Whole), false)]),
+    Fresh(BLOB, INSIDE),
+    Fresh(BLOB, UNDONE),
+    Fresh(NOTHING, &[(FIRST, Err(62), true), (LAST, Err(60), true)]),
+];
+
+impl Row for Fresh {
+    fn holds(&self, alloc: Global) -> Result<bool, Fail> {
+        Ok(takes(alloc, self.0, self.1)?)
+    }
+}
+
+#[test]
+fn fragments_fed_to_new_runs(rt: HostRuntime) -> Result<(), Fail> {
+    law_takes_fragments();
+    all_hold(rt.alloc(), "new runs", FRESH)
+}
+
+// What is answered to a fragment at a place.
+fn take(calls: &mut Reassemblies, place: usize, frag: &Frag) -> Result<Answer, AllocError> {
+    if place >= calls.len() {
+        return Ok(Err(0));
+    }
+    match calls.take(place, frag) {
+        Ok(Taken::Part) => Ok(Ok(Fed::Part)),
+        Ok(Taken::Whole(_)) => {
+            calls.finish(place);
+            Ok(Ok(Fed::Whole))
+        }
+        Err(TakeFault::Memory) => Err(AllocError),
+        Err(fault) => Ok(Err(fault.number())),
+    }
+}
+
+// One place more for calls of an interface.
+fn add(alloc: Global, calls: &mut Reassemblies, text: &[u8]) -> Result<(), AllocError> {
+    let Ok(interface) = interface(alloc, text) else {
+        return Err(AllocError);
+    };
+    let program = compile(alloc, &interface, PlanNo::One)?;
+    let most = fragments(program.plans());
+    calls.add(program, most)
+}
+
+// Three new places; the last is taken back and added again.
+fn places(alloc: Global, text: &[u8]) -> Result<Reassemblies, AllocError> {
+    let mut calls = Reassemblies::new(alloc);
+    add(alloc, &mut calls, PAIRS)?;
+    add(alloc, &mut calls, text)?;
+    add(alloc, &mut calls, PAIRS)?;
+    if calls.len() == 3 {
+        calls.take_back();
+    }
+    add(alloc, &mut calls, text)?;
+    Ok(calls)
+}
+
+// Whether two of three new places answer so to fragments, of which none is undone. Each fragment comes to both, so that their
+// calls are under way together.
+fn reassembles(alloc: Global, text: &[u8], steps: &[Step]) -> Result<bool, AllocError> {
+    let mut calls = places(alloc, text)?;
+    for (frag, wanted, _) in steps {
+        if take(&mut calls, 1, frag)? != *wanted || take(&mut calls, 2, frag)? != *wanted {
+            return Ok(false);
+        }
+    }
+    Ok(true)
+}
+
+// What two places answer to fragments of `blob` and `nop`.
+struct Together(&'static [Step]);
+
+impl Row for Together {
+    fn holds(&self, alloc: Global) -> Result<bool, Fail> {
+        Ok(reassembles(alloc, BLOB, self.0)?)
+    }
+}
+
+#[test]
+fn fragments_put_together(rt: HostRuntime) -> Result<(), Fail> {
+    assert!(rt; TakeFault::Memory.number() == 99);
+    all_hold(rt.alloc(), "fragments", &[Together(INSIDE)])
+}
+
+fn is_printed(alloc: Global, call: &Call, name: &[u8], text: &[u8]) -> Result<bool, AllocError> {
+    let mut out = Vec::new(alloc);
+    print_call(alloc, &mut out, name, &call.args)?;
+    Ok(out.as_slice() == text)
+}
+
+// Whether a fragment makes a call whole, and it has its text.
+fn makes_whole(
+    alloc: Global,
+    run: &mut RecvRun,
+    frag: &Frag,
+    whole: &Whole,
+) -> Result<bool, AllocError> {
+    match run.feed(frag) {
+        Ok(Fed::Whole) => {
+            let call = run.whole_call(alloc)?;
+            is_printed(alloc, &call, whole.name, whole.text)
+        }
+        _ => Ok(false),
+    }
+}
+
+// Whether a run goes on with all fragments but the last, and that makes this call whole.
+fn gives(alloc: Global, run: &mut RecvRun, whole: &Whole) -> Result<bool, AllocError> {
+    let [first @ .., last] = whole.frags else {
+        return Ok(false);
+    };
+    for frag in first {
+        if answer(run, frag) != Ok(Fed::Part) {
+            return Ok(false);
+        }
+    }
+    makes_whole(alloc, run, last, whole)
+}
+
+// A call's fragments, its message's name, and its text.
+struct Whole {
+    frags: &'static [Frag],
+    name: &'static [u8],
+    text: &'static [u8],
+}
+
+const BLOB_WHOLE: Whole = Whole {
+    frags: &[FIRST, LAST],
+    name: b"blob",
+    text: b"blob(\"aaaaaaaaaaaaaaaaaaaaaaaaaaaaaaaaaaaaaaaaaaaaaaaaa\")",
+};
+
+const NOP_WHOLE: Whole = Whole {
+    frags: &[NOP],
+    name: b"nop",
+    text: b"nop()",
+};
+
+const PAIRS_WHOLE: Whole = Whole {
+    frags: &[
+        Frag {
+            words: [7, 1, 0xb, 2, 0xc, 3, 0xd],
+            control: 2,
+        },
+        Frag {
+            words: [4, 0xe, 5, 0xf, 6, 0x10, 7],
+            control: 0,
+        },
+        Frag {
+            words: [0x11, 0, 0, 0, 0, 0, 0],
+            control: 0,
+        },
+    ],
+    name: b"m",
+    text: b"m([{1, 11}, {2, 12}, {3, 13}, {4, 14}, {5, 15}, {6, 16}, {7, 17}])",
+};
+
+const MIXED_ONE: Whole = Whole {
+    frags: &[Frag {
+        words: [1, 2, 0x6968, 5, 0, 0, 0],
+        control: 2,
+    }],
+    name: b"m",
+    text: b"m(1, \"hi\", 5)",
+};
+
+const MIXED_TWO: Whole = Whole {
+    frags: &[Frag {
+        words: [0x1_0005, 2, 0x6968, 0, 0, 0, 0],
+        control: 2,
+    }],
+    name: b"m",
+    text: b"m(1, \"hi\", 5)",
+};
+
+// The last are first fragments whose second letter can't be one, and one inside no call.
+const REFUSED_AFTER_WHOLE: &[Step] = &[
+    (FIRST, Ok(Fed::Part), false),
+    (LAST, Ok(Fed::Whole), false),
+    (NOP, Ok(Fed::Whole), false),
+    (frag!(2; 2, 0x61, 0), Err(65), true),
+    (frag!(2; 2, 0x61, 0), Err(65), true),
+    (LAST, Err(60), false),
+];
+
+// An interface's text, a plan, what one run is fed and answers, and the calls that it is fed then.
+struct Course(&'static [u8], PlanNo, &'static [Step], &'static [Whole]);
+
+const WHOLES: &[Course] = &[
+    Course(MIXED, PlanNo::One, &[], &[MIXED_ONE]),
+    Course(MIXED, PlanNo::Two, &[], &[MIXED_TWO]),
+    Course(PAIRS, PlanNo::One, &[], &[PAIRS_WHOLE]),
+    Course(PAIRS, PlanNo::Two, &[], &[PAIRS_WHOLE]),
+    Course(BLOB, PlanNo::One, &[], &[BLOB_WHOLE, NOP_WHOLE]),
+    Course(BLOB, PlanNo::Two, &[], &[BLOB_WHOLE, NOP_WHOLE]),
+    // a refused fragment before that changes nothing of what was undone, and a second undo nothing at all
+    Course(BLOB, PlanNo::One, REFUSED_AFTER_WHOLE, &[NOP_WHOLE]),
+    Course(BLOB, PlanNo::Two, REFUSED_AFTER_WHOLE, &[NOP_WHOLE]),
+];
+
+fn gives_all(
+    alloc: Global,
+    run: &mut RecvRun,
+    steps: &[Step],
+    wholes: &[Whole],
+) -> Result<bool, AllocError> {
+    if !answers(run, steps) {
+        return Ok(false);
+    }
+    for whole in wholes {
+        if !gives(alloc, run, whole)? {
+            return Ok(false);
+        }
+    }
+    Ok(true)
+}
+
+impl Row for Course {
+    fn holds(&self, alloc: Global) -> Result<bool, Fail> {
+        let mut run = run(alloc, self.0, self.1)?;
+        Ok(gives_all(alloc, &mut run, self.2, self.3)?)
+    }
+}
+
+#[test]
+fn calls_from_their_fragments(rt: HostRuntime) -> Result<(), Fail> {
+    all_hold(rt.alloc(), "calls", WHOLES)
+}
+
+// Feeding and undoing take no memory: where each allocation is refused in turn, either the run isn't made, or it
+// answers as ever.
+#[test]
+fn feeding_without_memory(rt: HostRuntime) {
+    if let Ok(taken) = takes(rt.alloc(), BLOB, UNDONE) {
+        assert!(rt; taken);
+    }
+}
+
+// Reassembling takes memory where a place is added and where a call is whole, and nowhere else.
+#[test]
+fn reassembling_without_memory(rt: HostRuntime) {
+    if let Ok(as_fed) = reassembles(rt.alloc(), BLOB, INSIDE) {
+        assert!(rt; as_fed);
+    }
+}
