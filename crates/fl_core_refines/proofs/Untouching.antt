@@ -10,7 +10,7 @@ use Rattle.fl_value_data.specs.declared.value.PlanNo.{PlanNo}
 use Rattle.fl_hop.specs.declared.links.LinkState.{LinkState}
 use Rattle.fl_model.specs.Given.{changed_at}
 use Rattle.fl_model.specs.Events.{DispatcherId, Kind, by_queues, by_ring, by_route, Event, add_interface, set_cores, add_link, add_dispatcher, export, bind, call, show, write}
-use Rattle.fl_model.specs.Events.{turn, acknowledge, register, deregister, reply, monitor_write, forward, monitor_acknowledge, Answer}
+use Rattle.fl_model.specs.Events.{turn, ack, register, deregister, reply, monitor_write, forward, monitor_ack, Answer}
 use Rattle.fl_model.specs.Events.{refused}
 use Rattle.fl_model.specs.Ends.{Queue, fresh_queue, unbound_end, has_rules}
 use Rattle.fl_model.specs.Waits.{Dispatcher, with_end}
@@ -171,13 +171,13 @@ does_after (call e c) s makes h = absurd (cc)
 does_after (show e) s makes h = absurd (cc)
 does_after (write e) s makes h = absurd (cc)
 does_after (turn d) s makes h = absurd (cc)
-does_after (acknowledge e) s makes h = absurd (cc)
+does_after (ack e) s makes h = absurd (cc)
 does_after (register e) s makes h = absurd (cc)
 does_after (deregister e) s makes h = absurd (cc)
 does_after (reply e msg answer) s makes h = absurd (cc)
 does_after (monitor_write core neighbour) s makes h = absurd (cc)
 does_after (forward core neighbour) s makes h = absurd (cc)
-does_after (monitor_acknowledge core neighbour) s makes h = absurd (cc)
+does_after (monitor_ack core neighbour) s makes h = absurd (cc)
 
 -- ---- one event, and many
 

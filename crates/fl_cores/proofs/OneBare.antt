@@ -13,7 +13,7 @@ use Rattle.fl_core.specs.declared.wiring.LinkSide.{LinkSide}
 use Rattle.fl_core.specs.View.{TheCore, side_of_link}
 use Rattle.fl_model.specs.Given.{changed_at}
 use Rattle.fl_model.specs.Events.{DispatcherId, Kind, by_queues, by_ring, by_route, Event, add_interface, set_cores, add_link, add_dispatcher, export, bind, call, show, write}
-use Rattle.fl_model.specs.Events.{turn, acknowledge, register, deregister, reply, monitor_write, forward, monitor_acknowledge, Answer, refused}
+use Rattle.fl_model.specs.Events.{turn, ack, register, deregister, reply, monitor_write, forward, monitor_ack, Answer, refused}
 use Rattle.fl_model.specs.Ends.{Queue, fresh_queue}
 use Rattle.fl_model.specs.Waits.{Dispatcher, with_end}
 use Rattle.fl_model.specs.Rings.{fresh_ring}
@@ -195,13 +195,13 @@ does_after (call e c) s makes leaves = absurd (cc)
 does_after (show e) s makes leaves = absurd (cc)
 does_after (write e) s makes leaves = absurd (cc)
 does_after (turn d) s makes leaves = absurd (cc)
-does_after (acknowledge e) s makes leaves = absurd (cc)
+does_after (ack e) s makes leaves = absurd (cc)
 does_after (register e) s makes leaves = absurd (cc)
 does_after (deregister e) s makes leaves = absurd (cc)
 does_after (reply e msg answer) s makes leaves = absurd (cc)
 does_after (monitor_write core neighbour) s makes leaves = absurd (cc)
 does_after (forward core neighbour) s makes leaves = absurd (cc)
-does_after (monitor_acknowledge core neighbour) s makes leaves = absurd (cc)
+does_after (monitor_ack core neighbour) s makes leaves = absurd (cc)
 
 settled_by : (s : State) (a : Answer) (t : State) → Goes s (answers t a) → Goes s (answers (settles_by a t) a)
 settled_by s (refused n) t h = h

@@ -4,16 +4,16 @@ use Rattle.std.proofs.Common.{◌≡◌, ◌⊎◌, inl, inr, ⊎_elim, refl, sy
 use Rattle.std.proofs.lemmas.Option.{slice_get_within, slice_get-get_or}
 use Rattle.fl_base.specs.declared.identity.EndId.{EndId}
 use Rattle.fl_base.specs.Given.{given}
-use Rattle.fl_core.specs.declared.wire.LinkSide.{LinkSide}
-use Rattle.fl_core.specs.declared.wire.WiredEnd.{WiredEnd}
-use Rattle.fl_core.specs.declared.wire.EndWiring.{EndWiring}
-use Rattle.fl_core.specs.declared.wire.EndWiring.TheVariants.{Queues, Ring, Circuit}
-use Rattle.fl_core.specs.declared.wire.Inlet.TheVariants as inlet
-use Rattle.fl_core.specs.declared.wire.Outlet.TheVariants as outlet
+use Rattle.fl_core.specs.declared.wiring.LinkSide.{LinkSide}
+use Rattle.fl_core.specs.declared.wiring.WiredEnd.{WiredEnd}
+use Rattle.fl_core.specs.declared.wiring.EndWiring.{EndWiring}
+use Rattle.fl_core.specs.declared.wiring.EndWiring.TheVariants.{Queues, Ring, Circuit}
+use Rattle.fl_core.specs.declared.wiring.Inlet.TheVariants as inlet
+use Rattle.fl_core.specs.declared.wiring.Outlet.TheVariants as outlet
 use Rattle.fl_core.specs.View.{TheCore, place_of, side_of_link, inlet_by, inlet_of, outlet_by, outlet_of}
 use Rattle.fl_core.specs.Sound.{IsCore}
 use Rattle.fl_core.proofs.HasWiredEnd.{placed_below}
-use Rattle.fl_world_refines.specs.ShowsState.{wire_of, NamesQueue, NamesSide}
+use Rattle.fl_world_refines.specs.ShowsState.{wiring_of, NamesQueue, NamesSide}
 use Rattle.fl_cores_parts.specs.Dealing.{IsLinkSide, TakesSide, UsesQueue, Below, Owns, AreOf, HaveOwners}
 
 -- ---- a list with one element changed
@@ -78,7 +78,7 @@ both_more P Q n k o m1 m2 o2 a p q = one_more (λ i t. P i t ⊎ Q i t) n k o m1
 
 -- ---- what a core names
 
-wire_is : (c : TheCore) (e : EndId) (place : ℕ) (p : WiredEnd) → place_of c e ≡ Some place → slice_get c.wired_ends place ≡ Some p → wire_of c e ≡ Some p.wire
+wire_is : (c : TheCore) (e : EndId) (place : ℕ) (p : WiredEnd) → place_of c e ≡ Some place → slice_get c.wired_ends place ≡ Some p → wiring_of c e ≡ Some p.wire
 wire_is c e place p at is =
     ap (λ (o : Option ℕ). given o None λ n. given (slice_get c.wired_ends n) None λ (q : WiredEnd). Some q.wire) at
     ∙ ap (λ (o : Option WiredEnd). given o None λ (q : WiredEnd). Some q.wire) is
@@ -91,7 +91,7 @@ record OnWiring (c : TheCore) (name : EndId) (x : EndWiring) : Type 0 where
   pub wired_end_is : slice_get c.wired_ends place ≡ Some wired_end
   pub wire_is : wired_end.wire ≡ x
 
-on_wire : (c : TheCore) (name : EndId) (x : EndWiring) → wire_of c name ≡ Some x → OnWiring c name x
+on_wire : (c : TheCore) (name : EndId) (x : EndWiring) → wiring_of c name ≡ Some x → OnWiring c name x
 on_wire c name x h = by_place (place_of c name) refl h
   where
     by_wired_end : (place : ℕ) → place_of c name ≡ Some place → (o : Option WiredEnd) → slice_get c.wired_ends place ≡ o → given o None (λ (q : WiredEnd). Some q.wire) ≡ Some x

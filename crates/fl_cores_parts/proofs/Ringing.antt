@@ -4,8 +4,8 @@ use Rattle.std.proofs.lemmas.List.{length-set}
 use Rattle.std.specs.List.{AllZip}
 use Rattle.fl_hop.specs.declared.forward.ForwardOutcome.TheVariants.{Moved, Full, Spent}
 use Rattle.fl_link.specs.Queue.{TheQueue}
-use Rattle.fl_core.specs.declared.wire.Outlet.TheVariants as outlet
-use Rattle.fl_core.specs.declared.wire.Inlet.TheVariants as inlet
+use Rattle.fl_core.specs.declared.wiring.Outlet.TheVariants as outlet
+use Rattle.fl_core.specs.declared.wiring.Inlet.TheVariants as inlet
 use Rattle.fl_core.specs.View.{TheCore}
 use Rattle.fl_ring.specs.Duo.{TheDuo}
 use Rattle.fl_ring.specs.SharedSides.{TheSide, SharedPuts, SharedTakes}

@@ -4,9 +4,9 @@ use Rattle.std.specs.List.{AllZip}
 use Rattle.fl_link.specs.Queue.{TheQueue}
 use Rattle.fl_ring.specs.Duo.{TheDuo}
 use Rattle.fl_ring.specs.SharedSides.{TheSide}
-use Rattle.fl_core.specs.declared.wire.LinkSide.{LinkSide}
-use Rattle.fl_core.specs.declared.wire.Inlet.TheVariants as inlet
-use Rattle.fl_core.specs.declared.wire.Outlet.TheVariants as outlet
+use Rattle.fl_core.specs.declared.wiring.LinkSide.{LinkSide}
+use Rattle.fl_core.specs.declared.wiring.Inlet.TheVariants as inlet
+use Rattle.fl_core.specs.declared.wiring.Outlet.TheVariants as outlet
 use Rattle.fl_core.specs.View.{TheCore, side_of_link, inlet_of, outlet_of}
 use Rattle.fl_core.specs.declared.core_job.CoreJob.{CoreJob}
 use Rattle.fl_world_refines.specs.declared.parts.Parts.{Parts}

@@ -44,7 +44,7 @@ pub data Event : Type 0 where
   -- one turn of a dispatcher's waitset
   turn : DispatcherId → Event
   -- an end of a ring acknowledges what it has read
-  acknowledge : EndId → Event
+  ack : EndId → Event
   -- an end's channel comes to a list of its waitset, or leaves the one that it is in
   register : EndId → Event
   deregister : EndId → Event
@@ -55,7 +55,7 @@ pub data Event : Type 0 where
   -- the first core forwards what stands first on the link from the second
   forward : ℕ → ℕ → Event
   -- the first core acknowledges what it has read on the link from the second
-  monitor_acknowledge : ℕ → ℕ → Event
+  monitor_ack : ℕ → ℕ → Event
 
 pub data Answer : Type 0 where
   -- it is done, and there is no more to tell: the `ok` of scripts

@@ -7,8 +7,8 @@
 -- channel, or looks.
 use Rattle.std.specs.Prelude.{false}
 use Rattle.fl_model.specs.Events.{Event, add_interface, set_cores, add_link, add_dispatcher, export, bind}
-use Rattle.fl_model.specs.Events.{call, show, write, turn, acknowledge, register, deregister, reply}
-use Rattle.fl_model.specs.Events.{monitor_write, forward, monitor_acknowledge, Answer, refused}
+use Rattle.fl_model.specs.Events.{call, show, write, turn, ack, register, deregister, reply}
+use Rattle.fl_model.specs.Events.{monitor_write, forward, monitor_ack, Answer, refused}
 use Rattle.fl_model.specs.State.{State, StepOutcome}
 use Rattle.fl_model.specs.Making.{adds_interface, sets_cores, adds_link, adds_dispatcher, exports}
 use Rattle.fl_model.specs.Binding.{binds}
@@ -28,13 +28,13 @@ does (call e c) s = calls e c s
 does (show e) s = shows e s
 does (write e) s = writes_fragment e s
 does (turn d) s = turns d s
-does (acknowledge e) s = acknowledges_end e s
+does (ack e) s = acknowledges_end e s
 does (register e) s = registers_channel e s
 does (deregister e) s = deregisters_channel e s
 does (reply e msg answer) s = sets_rule e msg answer s
 does (monitor_write core neighbour) s = monitor_writes core neighbour s
 does (forward core neighbour) s = forwards core neighbour s
-does (monitor_acknowledge core neighbour) s = monitor_acknowledges core neighbour s
+does (monitor_ack core neighbour) s = monitor_acknowledges core neighbour s
 
 -- after any answer but a refusal the number of cores stands
 abbrev pub settles_by : Answer → State → State

@@ -9,8 +9,8 @@ use Rattle.fl_base.specs.Numbered.{most_cores}
 use Rattle.fl_interface.specs.Interface.{TheInterface}
 use Rattle.fl_value_data.specs.declared.value.PlanNo.{PlanNo}
 use Rattle.fl_lists.specs.declared.place.Place.TheVariants.{Polled}
-use Rattle.fl_model.specs.Events.{DispatcherId, Event, add_interface, set_cores, add_link, add_dispatcher, export, bind, call, show, write, turn, acknowledge, register}
-use Rattle.fl_model.specs.Events.{deregister, reply, monitor_write, forward, monitor_acknowledge}
+use Rattle.fl_model.specs.Events.{DispatcherId, Event, add_interface, set_cores, add_link, add_dispatcher, export, bind, call, show, write, turn, ack, register}
+use Rattle.fl_model.specs.Events.{deregister, reply, monitor_write, forward, monitor_ack}
 use Rattle.fl_model.specs.Calls.{Planned}
 use Rattle.fl_model.specs.Rings.{Label, next_of, says, acknowledges, RingEnd, there_is_room, looks, takes}
 use Rattle.fl_model.specs.Ends.{End, Direction, fresh_queue, without_first}
@@ -181,13 +181,13 @@ module _ (s : State) (h : IsBare s) where
   bares (show e) = by_given Bares (binding_of s e) _ _ (λ m. h) (λ b q. absurd (no_binding e b q))
   bares (write e) = by_given Bares (binding_of s e) _ _ (λ m. h) (λ b q. absurd (no_binding e b q))
   bares (turn d) = by_given Bares (dispatcher_of s d) _ _ (λ m. h) (λ x q. absurd (no_dispatcher d x q))
-  bares (acknowledge e) = by_given Bares (binding_of s e) _ _ (λ m. h) (λ b q. absurd (no_binding e b q))
+  bares (ack e) = by_given Bares (binding_of s e) _ _ (λ m. h) (λ b q. absurd (no_binding e b q))
   bares (register e) = by_given Bares (end_of s e) _ _ (λ m. h) (λ x q. absurd (no_end e x q))
   bares (deregister e) = by_given Bares (end_of s e) _ _ (λ m. h) (λ x q. absurd (no_end e x q))
   bares (reply e msg answer) = by_given Bares (binding_of s e) _ _ (λ m. h) (λ b q. absurd (no_binding e b q))
   bares (monitor_write a b) = by_given Bares (link_end a b s) _ _ (λ m. h) (λ here q. absurd (no_link_end a b here q))
   bares (forward a b) = by_given Bares (link_end a b s) _ _ (λ m. h) (λ here q. absurd (no_link_end a b here q))
-  bares (monitor_acknowledge a b) = by_given Bares (link_between s a b) _ _ (λ m. h) (λ link q. absurd (no_link a b link q))
+  bares (monitor_ack a b) = by_given Bares (link_between s a b) _ _ (λ m. h) (λ link q. absurd (no_link a b link q))
 
   interface_bare : (i : TheInterface) (plan : PlanNo) → BareUntilCoresAreSet (step s (add_interface i plan)).state
   interface_bare i plan =

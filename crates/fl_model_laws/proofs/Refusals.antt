@@ -15,8 +15,8 @@ use Rattle.fl_value_data.specs.Fits.{fits_of}
 use Rattle.fl_value_data.specs.declared.value.PlanNo.{PlanNo}
 use Rattle.fl_model.specs.Given.{changed_at}
 use Rattle.fl_model.specs.Events.{DispatcherId, Kind, by_queues, by_ring, by_route, Event, add_interface, set_cores, add_link}
-use Rattle.fl_model.specs.Events.{add_dispatcher, export, bind, call, show, write, turn, acknowledge, register, deregister}
-use Rattle.fl_model.specs.Events.{reply, monitor_write, forward, monitor_acknowledge, Answer}
+use Rattle.fl_model.specs.Events.{add_dispatcher, export, bind, call, show, write, turn, ack, register, deregister}
+use Rattle.fl_model.specs.Events.{reply, monitor_write, forward, monitor_ack, Answer}
 use Rattle.fl_model.specs.Events.{refused}
 use Rattle.fl_model.specs.Calls.{Planned}
 use Rattle.fl_model.specs.Rings.{MonitorLabel, Label, next_of, says, acknowledges, RingEnd, RingSide, first_side, second_side, Ring, looks, Room}
@@ -401,13 +401,13 @@ does_same (call e c) s = call_same e c s
 does_same (show e) s = show_same e s
 does_same (write e) s = write_same e s
 does_same (turn d) s = turn_same d s
-does_same (acknowledge e) s = acknowledge_same e s
+does_same (ack e) s = acknowledge_same e s
 does_same (register e) s = register_same e s
 does_same (deregister e) s = deregister_same e s
 does_same (reply e msg answer) s = rule_same e msg answer s
 does_same (monitor_write core neighbour) s = monitor_same core neighbour s
 does_same (forward core neighbour) s = forward_same core neighbour s
-does_same (monitor_acknowledge core neighbour) s = monitor_acknowledge_same core neighbour s
+does_same (monitor_ack core neighbour) s = monitor_acknowledge_same core neighbour s
 
 settled_same : (s t : State) (a : Answer) → SameWhere s t a → SameWhere s (settles_by a t) a
 settled_same s t (refused m) h = h

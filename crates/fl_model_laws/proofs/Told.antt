@@ -12,8 +12,8 @@ use Rattle.fl_lists.specs.declared.place.Place.TheVariants.{Polled}
 use Rattle.fl_hop.specs.declared.entry.HopTarget.{HopTarget}
 use Rattle.fl_hop.specs.declared.entry.HopTarget.TheVariants.{Link as to_link, End as to_end}
 use Rattle.fl_model.specs.Events.{DispatcherId, Kind, by_queues, by_ring, by_route, Event, add_interface, set_cores, add_link}
-use Rattle.fl_model.specs.Events.{add_dispatcher, export, bind, call, show, write, turn, acknowledge, register, deregister}
-use Rattle.fl_model.specs.Events.{reply, monitor_write, forward, monitor_acknowledge, Answer, done}
+use Rattle.fl_model.specs.Events.{add_dispatcher, export, bind, call, show, write, turn, ack, register, deregister}
+use Rattle.fl_model.specs.Events.{reply, monitor_write, forward, monitor_ack, Answer, done}
 use Rattle.fl_model.specs.Events.{refused}
 use Rattle.fl_model.specs.Calls.{Planned}
 use Rattle.fl_model.specs.Rings.{MonitorLabel, Label, next_of, says, acknowledges, RingLabel, RingEnd, looks, Room, there_is_room}
@@ -484,13 +484,13 @@ module _ (v : Event) (S P : State → Type 0) (T : StepOutcome → Type 0) (K : 
   does_after (show e) s q h = show_after e s (K.begun s h)
   does_after (write e) s q h = write_after e s (K.begun s h)
   does_after (turn d) s q h = turn_after d s h
-  does_after (acknowledge e) s q h = acknowledge_after e s (K.begun s h)
+  does_after (ack e) s q h = acknowledge_after e s (K.begun s h)
   does_after (register e) s q h = register_after e s (K.begun s h)
   does_after (deregister e) s q h = deregister_after e s (K.begun s h)
   does_after (reply e msg answer) s q h = rule_after e msg answer s (K.begun s h)
   does_after (monitor_write core neighbour) s q h = monitor_after core neighbour s (K.begun s h)
   does_after (forward core neighbour) s q h = forward_after core neighbour s (K.begun s h)
-  does_after (monitor_acknowledge core neighbour) s q h = monitor_acknowledge_after core neighbour s (K.begun s h)
+  does_after (monitor_ack core neighbour) s q h = monitor_acknowledge_after core neighbour s (K.begun s h)
 
   settled_by : (a : Answer) (s : State) → T (answers s a) → T (answers (settles_by a s) a)
   settled_by (refused n) s h = h

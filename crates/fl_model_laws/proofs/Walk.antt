@@ -11,8 +11,8 @@ use Rattle.fl_lists.specs.declared.place.Place.TheVariants.{Polled}
 use Rattle.fl_hop.specs.declared.entry.HopTarget.{HopTarget}
 use Rattle.fl_hop.specs.declared.entry.HopTarget.TheVariants.{Link as to_link, End as to_end}
 use Rattle.fl_model.specs.Events.{DispatcherId, Kind, by_queues, by_ring, by_route, Event, add_interface, set_cores, add_link}
-use Rattle.fl_model.specs.Events.{add_dispatcher, export, bind, call, show, write, turn, acknowledge, register, deregister}
-use Rattle.fl_model.specs.Events.{reply, monitor_write, forward, monitor_acknowledge, Answer, done}
+use Rattle.fl_model.specs.Events.{add_dispatcher, export, bind, call, show, write, turn, ack, register, deregister}
+use Rattle.fl_model.specs.Events.{reply, monitor_write, forward, monitor_ack, Answer, done}
 use Rattle.fl_model.specs.Events.{refused}
 use Rattle.fl_model.specs.Calls.{Planned}
 use Rattle.fl_model.specs.Rings.{MonitorLabel, Label, next_of, says, acknowledges, RingLabel, RingEnd, looks, Room, there_is_room}
@@ -628,13 +628,13 @@ module _ (Called : EndId → TheCall → Binding → Planned → State → Type 
   does_after (show e) s h = show_after e s h
   does_after (write e) s h = write_after e s h
   does_after (turn d) s h = turn_after d s h
-  does_after (acknowledge e) s h = acknowledge_after e s h
+  does_after (ack e) s h = acknowledge_after e s h
   does_after (register e) s h = register_after e s h
   does_after (deregister e) s h = deregister_after e s h
   does_after (reply e msg answer) s h = rule_after e msg answer s h
   does_after (monitor_write core neighbour) s h = monitor_after core neighbour s h
   does_after (forward core neighbour) s h = forward_after core neighbour s h
-  does_after (monitor_acknowledge core neighbour) s h = monitor_acknowledge_after core neighbour s h
+  does_after (monitor_ack core neighbour) s h = monitor_acknowledge_after core neighbour s h
 
   settled_by : (a : Answer) (s : State) → Q s → Q (settles_by a s)
   settled_by (refused n) s h = h

@@ -13,8 +13,8 @@ use Rattle.fl_value_data.specs.Value.{TheCall}
 use Rattle.fl_value_data.specs.Fits.{fits_of}
 use Rattle.fl_value_data.specs.declared.value.PlanNo.{PlanNo}
 use Rattle.fl_model.specs.Events.{DispatcherId, Kind, by_queues, by_ring, by_route, Event, add_interface, set_cores, add_link}
-use Rattle.fl_model.specs.Events.{add_dispatcher, export, bind, call, show, write, turn, acknowledge, register, deregister}
-use Rattle.fl_model.specs.Events.{reply, monitor_write, forward, monitor_acknowledge, Answer}
+use Rattle.fl_model.specs.Events.{add_dispatcher, export, bind, call, show, write, turn, ack, register, deregister}
+use Rattle.fl_model.specs.Events.{reply, monitor_write, forward, monitor_ack, Answer}
 use Rattle.fl_model.specs.Events.{refused}
 use Rattle.fl_model.specs.Calls.{Planned}
 use Rattle.fl_model.specs.Rings.{MonitorLabel, Label, next_of, says, acknowledges, RingEnd, Room}
@@ -334,13 +334,13 @@ does_clear (call e c) s = call_clear e c s
 does_clear (show e) s = show_clear e s
 does_clear (write e) s = write_clear e s
 does_clear (turn d) s = turn_clear d s
-does_clear (acknowledge e) s = acknowledge_clear e s
+does_clear (ack e) s = acknowledge_clear e s
 does_clear (register e) s = register_clear e s
 does_clear (deregister e) s = deregister_clear e s
 does_clear (reply e msg answer) s = rule_clear e msg answer s
 does_clear (monitor_write core neighbour) s = monitor_clear core neighbour s
 does_clear (forward core neighbour) s = forward_clear core neighbour s
-does_clear (monitor_acknowledge core neighbour) s = monitor_acknowledge_clear core neighbour s
+does_clear (monitor_ack core neighbour) s = monitor_acknowledge_clear core neighbour s
 
 settled_clear : (v : Event) (o : StepOutcome) → Clear o → Clear (settles v o)
 settled_clear (add_interface i plan) o h = h

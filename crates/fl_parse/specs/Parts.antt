@@ -17,19 +17,19 @@ use Rattle.fl_parse.specs.Grammar.{Inside, bound_word, length_word, Opening, ali
 use Rattle.fl_parse.specs.Grammar.{struct_word, type_word}
 
 -- what the parser found first between an argument's brackets, in the grammar's terms
-abbrev pub inside_of : insides.Inside → Inside
+abbrev pub inside_of : insides.BracketStart → Inside
 inside_of (inside_variants.Bound value) = bound_word (number_of value)
 inside_of (inside_variants.Length length) = length_word (name_of length)
 
 -- the word with which the parser found a declaration to begin, in the grammar's terms
-abbrev pub opening_of : openings.Opening → Opening
+abbrev pub opening_of : openings.DeclarationWord → Opening
 opening_of opening_variants.Alias = alias_word
 opening_of opening_variants.Typedef = typedef_word
 opening_of (opening_variants.Message kind) = message_word kind
 opening_of opening_variants.Rpc = rpc_word
 
 -- what the parser found right behind `typedef`, in the grammar's terms
-abbrev pub defined_of : defineds.Defined → Defined
+abbrev pub defined_of : defineds.TypedefWord → Defined
 defined_of defined_variants.Enumeration = enum_word
 defined_of defined_variants.Structure = struct_word
 defined_of (defined_variants.Type name) = type_word (name_of name)

@@ -9,7 +9,7 @@ use Rattle.fl_interface.specs.Interface.{TheMessage}
 use Rattle.fl_value_data.specs.Value.{Datum}
 use Rattle.fl_value_data.specs.declared.value.PlanNo.{PlanNo}
 use Rattle.fl_model.specs.Calls.{Planned}
-use Rattle.fl_model.specs.Events.{DispatcherId, Event, add_interface, set_cores, add_link, add_dispatcher, monitor_write, monitor_acknowledge}
+use Rattle.fl_model.specs.Events.{DispatcherId, Event, add_interface, set_cores, add_link, add_dispatcher, monitor_write, monitor_ack}
 use Rattle.fl_model.specs.Events as event
 use Rattle.fl_model.specs.Runs.{Exchange}
 use Rattle.fl_model.specs.State.{Binding}
@@ -152,7 +152,7 @@ module _ (s : Script) (h : After s) where
   command_stands (write e) asked a = subst Stands (sym a) (end_stands event.write e (λ x t. t))
   command_stands (turn d) asked a =
       subst Stands (sym a) (by_given Stands (dispatcher_at s.names d) _ _ nothing (λ x q. dispatcher_found d x q))
-  command_stands (ack e) asked a = subst Stands (sym a) (end_stands event.acknowledge e (λ x t. t))
+  command_stands (ack e) asked a = subst Stands (sym a) (end_stands event.ack e (λ x t. t))
   command_stands (register e) asked a = subst Stands (sym a) (end_stands event.register e (λ x t. t))
   command_stands (deregister e) asked a = subst Stands (sym a) (end_stands event.deregister e (λ x t. t))
   command_stands (reply e message answer) asked a =

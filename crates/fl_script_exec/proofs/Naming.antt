@@ -10,7 +10,7 @@ use Rattle.fl_interface.specs.Interface.{TheInterface}
 use Rattle.fl_value_data.specs.Value.{Datum}
 use Rattle.fl_value_data.specs.declared.value.PlanNo.{PlanNo}
 use Rattle.fl_model.specs.Given.{changed_at}
-use Rattle.fl_model.specs.Events.{DispatcherId, Event, Kind, Answer, add_interface, set_cores, add_link, add_dispatcher, monitor_write, monitor_acknowledge}
+use Rattle.fl_model.specs.Events.{DispatcherId, Event, Kind, Answer, add_interface, set_cores, add_link, add_dispatcher, monitor_write, monitor_ack}
 use Rattle.fl_model.specs.Events as event
 use Rattle.fl_model.specs.Waits.{Dispatcher}
 use Rattle.fl_model.specs.Monitors.{Core, fresh_core}
@@ -362,7 +362,7 @@ command_after s (show e) asked a h = subst (Done s) (sym a) (end_after s event.s
 command_after s (write e) asked a h = subst (Done s) (sym a) (end_after s event.write e h (λ x. plain s.names s.state _ (Views.writes_stay x s.state) h))
 command_after s (turn d) asked a h =
     subst (Done s) (sym a) (by_given (Done s) (dispatcher_at s.names d) _ _ h (λ x q. plain s.names s.state _ (Views.turns_stay x s.state) h))
-command_after s (ack e) asked a h = subst (Done s) (sym a) (end_after s event.acknowledge e h (λ x. plain s.names s.state _ (Views.acknowledges_stay x s.state) h))
+command_after s (ack e) asked a h = subst (Done s) (sym a) (end_after s event.ack e h (λ x. plain s.names s.state _ (Views.acknowledges_stay x s.state) h))
 command_after s (register e) asked a h = subst (Done s) (sym a) (end_after s event.register e h (λ x. plain s.names s.state _ (Views.registers_stay x s.state) h))
 command_after s (deregister e) asked a h =
     subst (Done s) (sym a) (end_after s event.deregister e h (λ x. plain s.names s.state _ (Views.deregisters_stay x s.state) h))

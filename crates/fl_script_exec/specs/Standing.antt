@@ -4,8 +4,8 @@ use Rattle.fl_base.specs.declared.identity.EndId.{EndId}
 use Rattle.fl_interface.specs.Interface.{TheMessage}
 use Rattle.fl_model.specs.Calls.{Planned}
 use Rattle.fl_model.specs.Events.{DispatcherId, Event, add_interface, set_cores, add_link, add_dispatcher, export, bind}
-use Rattle.fl_model.specs.Events.{call, show, write, turn, acknowledge, register, deregister, reply}
-use Rattle.fl_model.specs.Events.{monitor_write, forward, monitor_acknowledge}
+use Rattle.fl_model.specs.Events.{call, show, write, turn, ack, register, deregister, reply}
+use Rattle.fl_model.specs.Events.{monitor_write, forward, monitor_ack}
 use Rattle.fl_model.specs.Runs.{Exchange}
 use Rattle.fl_model.specs.SoundPlaces.{ServicesStand}
 use Rattle.fl_model.specs.Waits.{Dispatcher}
@@ -77,13 +77,13 @@ IsOfWhatStands s (call e c) = HasMessage s e c.msg
 IsOfWhatStands s (show e) = HasEnd s e
 IsOfWhatStands s (write e) = HasEnd s e
 IsOfWhatStands s (turn d) = HasDispatcher s d
-IsOfWhatStands s (acknowledge e) = HasEnd s e
+IsOfWhatStands s (ack e) = HasEnd s e
 IsOfWhatStands s (register e) = HasEnd s e
 IsOfWhatStands s (deregister e) = HasEnd s e
 IsOfWhatStands s (reply e message answer) = HasMessage s e message × HasMessage s e answer
 IsOfWhatStands s (monitor_write core neighbour) = Unit {0}
 IsOfWhatStands s (forward core neighbour) = Unit {0}
-IsOfWhatStands s (monitor_acknowledge core neighbour) = Unit {0}
+IsOfWhatStands s (monitor_ack core neighbour) = Unit {0}
 
 -- whatever an item asks, it asks of what is there then
 abbrev pub ScriptsAskOfWhatStands : Type 0

@@ -70,7 +70,7 @@ pub trait QueueMachine {
     /// # Errors
     /// As for [`QueueMachine::step`].
     fn step_ack(&mut self, end: EndId) -> Result<Answer, AllocError>
-        ensures steps { IfOk result (λ a. Steps shows self.old self.new (machine.acknowledge end) (answer_of a)) }
+        ensures steps { IfOk result (λ a. Steps shows self.old self.new (machine.ack end) (answer_of a)) }
         ensures kept { OnErr result ((s : State) → shows self.old s → shows self.new s) };
 
     /// A core forwards what stands first on its link to a neighbour.

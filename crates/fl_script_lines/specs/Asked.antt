@@ -8,7 +8,7 @@ use Rattle.fl_value_data.specs.Value.{Datum}
 use Rattle.fl_value.specs.CallText.{SpellsCall}
 use Rattle.fl_value_data.specs.declared.value.PlanNo.{PlanNo}
 use Rattle.fl_model.specs.Events.{Kind, by_queues, by_ring, by_route, Event, add_interface, set_cores}
-use Rattle.fl_model.specs.Events.{add_link, add_dispatcher, monitor_write, monitor_acknowledge, Answer, done}
+use Rattle.fl_model.specs.Events.{add_link, add_dispatcher, monitor_write, monitor_ack, Answer, done}
 use Rattle.fl_model.specs.Events as event
 use Rattle.fl_script_lines.specs.Commands.{EndName, BackEnd, local, ump, hop, Command, cores, link, disp, export}
 use Rattle.fl_script_lines.specs.Commands.{bind, call, show, write, turn, ack, register, deregister, reply, mwrite}
@@ -99,13 +99,13 @@ Asks n (call e text) asked = CallAsks n e text asked
 Asks n (show e) asked = asked ≡ asks_end n event.show e
 Asks n (write e) asked = asked ≡ asks_end n event.write e
 Asks n (turn d) asked = asked ≡ asks_turn n d
-Asks n (ack e) asked = asked ≡ asks_end n event.acknowledge e
+Asks n (ack e) asked = asked ≡ asks_end n event.ack e
 Asks n (register e) asked = asked ≡ asks_end n event.register e
 Asks n (deregister e) asked = asked ≡ asks_end n event.deregister e
 Asks n (reply e message answer) asked = asked ≡ asks_reply n e message answer
 Asks n (mwrite core neighbour) asked = asked ≡ asks (monitor_write core neighbour) n
 Asks n (forward core neighbour) asked = asked ≡ asks (event.forward core neighbour) n
-Asks n (mack core neighbour) asked = asked ≡ asks (monitor_acknowledge core neighbour) n
+Asks n (mack core neighbour) asked = asked ≡ asks (monitor_ack core neighbour) n
 
 -- a block whose text stands for an interface asks this
 abbrev pub asks_interface : Names → TheInterface → PlanNo → Asked

@@ -2,7 +2,7 @@
 use Rattle.fl_interface.specs.Interface.{interface_of}
 use Rattle.fl_value_data.specs.Value.{call_of}
 use Rattle.fl_model.specs.Events.{DispatcherId, Event, add_interface, set_cores, add_link, add_dispatcher}
-use Rattle.fl_model.specs.Events.{monitor_write, monitor_acknowledge, Answer, done, accepted, nothing, full}
+use Rattle.fl_model.specs.Events.{monitor_write, monitor_ack, Answer, done, accepted, nothing, full}
 use Rattle.fl_model.specs.Events.{written, handle, part, ready, quiet, forwarded, opened, opening_refused}
 use Rattle.fl_model.specs.Events.{words, refused}
 use Rattle.fl_model.specs.Events as machine
@@ -28,13 +28,13 @@ event_of (event.Call e c) = machine.call e (call_of c)
 event_of (event.Show e) = machine.show e
 event_of (event.Write e) = machine.write e
 event_of (event.Turn d) = machine.turn (id_of d)
-event_of (event.Ack e) = machine.acknowledge e
+event_of (event.Ack e) = machine.ack e
 event_of (event.Register e) = machine.register e
 event_of (event.Deregister e) = machine.deregister e
 event_of (event.Reply e m n) = machine.reply e m.0 n.0
 event_of (event.MonitorWrite core neighbour) = monitor_write core neighbour
 event_of (event.Forward core neighbour) = machine.forward core neighbour
-event_of (event.MonitorAck core neighbour) = monitor_acknowledge core neighbour
+event_of (event.MonitorAck core neighbour) = monitor_ack core neighbour
 
 abbrev pub answer_of : RustAnswer → Answer
 answer_of answer.Done = done

@@ -5,7 +5,7 @@ ghost use Rattle.std.specs.List.{count_by};
 ghost use Rattle.std.specs.Prelude.{true};
 ghost use Rattle.fl_interface.specs.Limits.{are_distinct};
 ghost use Rattle.fl_interface.specs.Interface.{interface_of};
-ghost use Rattle.fl_model.specs.Events.{show, write, acknowledge, register, deregister};
+ghost use Rattle.fl_model.specs.Events.{show, write, ack, register, deregister};
 ghost use Rattle.fl_script_lines.specs.Commands.{call};
 ghost use Rattle.fl_script_lines.specs.Names.{with_names, with_dispatcher, with_binding, is_on, no_names};
 ghost use Rattle.fl_script_lines.specs.Names.{dispatcher_at, end_at};
@@ -282,7 +282,7 @@ impl ScriptNames {
     }
 
     fn ask_ack(&self, end: EndName<'_>) -> Result<NamedEvent<'static>, LineFault>
-        ensures tells { Tells (names_of self.now) result (asks_end (names_of self.now) acknowledge (end_name_of end.entry)) }
+        ensures tells { Tells (names_of self.now) result (asks_end (names_of self.now) ack (end_name_of end.entry)) }
         ensures new { IfOk result (λ a. IsNew (names_of self.now) a.naming) }
     {
         let Some(end) = self.end(end) else {

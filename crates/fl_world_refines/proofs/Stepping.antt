@@ -2,7 +2,7 @@
 use Rattle.std.proofs.Common.{refl, sym, ◌∙◌, ap, subst, Bool, false, slice_get}
 use Rattle.fl_base.specs.Ends.{other}
 use Rattle.fl_core.specs.View.{TheCore}
-use Rattle.fl_model.specs.Events.{Event, add_interface, set_cores, add_link, add_dispatcher, export, bind, call, show, write, turn, acknowledge, register, deregister, reply, monitor_write, forward, monitor_acknowledge}
+use Rattle.fl_model.specs.Events.{Event, add_interface, set_cores, add_link, add_dispatcher, export, bind, call, show, write, turn, ack, register, deregister, reply, monitor_write, forward, monitor_ack}
 use Rattle.fl_model.specs.Events.{Answer, done, accepted, nothing, full, written, handle, part, ready, quiet, forwarded, opened, opening_refused, words, refused}
 use Rattle.fl_model.specs.State.{Binding, State, StepOutcome, binding_of, end_in}
 use Rattle.fl_model.specs.Step.{does, settles_by, settles, step}
@@ -97,13 +97,13 @@ does_agree law (call e c) w v s a h d = law.calls e c w v s a h d
 does_agree law (show e) w v s a h d = law.previews e w v s a h d
 does_agree law (write e) w v s a h d = law.writes e w v s a h d
 does_agree law (turn at) w v s a h d = law.turns at w v s a h d
-does_agree law (acknowledge e) w v s a h d = law.acknowledges e w v s a h d
+does_agree law (ack e) w v s a h d = law.acknowledges e w v s a h d
 does_agree law (register e) w v s a h d = law.registers e w v s a h d
 does_agree law (deregister e) w v s a h d = law.deregisters e w v s a h d
 does_agree law (reply e msg answer) w v s a h d = law.replies e msg answer w v s a h d
 does_agree law (monitor_write core neighbour) w v s a h d = law.monitor_writes core neighbour w v s a h d
 does_agree law (forward core neighbour) w v s a h d = law.forwards core neighbour w v s a h d
-does_agree law (monitor_acknowledge core neighbour) w v s a h d = law.monitor_acks core neighbour w v s a h d
+does_agree law (monitor_ack core neighbour) w v s a h d = law.monitor_acks core neighbour w v s a h d
 
 -- the machine settles as the world does
 settled_agrees : (o : StepOutcome) (a : Answer) (v : TheWorld) → Agrees o a v → Agrees (record { state = settles_by o.answer o.state; answer = o.answer }) a (settled_by a v)
@@ -123,13 +123,13 @@ settles_agree (call e c) o a v h = settled_agrees o a v h
 settles_agree (show e) o a v h = settled_agrees o a v h
 settles_agree (write e) o a v h = settled_agrees o a v h
 settles_agree (turn at) o a v h = settled_agrees o a v h
-settles_agree (acknowledge e) o a v h = settled_agrees o a v h
+settles_agree (ack e) o a v h = settled_agrees o a v h
 settles_agree (register e) o a v h = settled_agrees o a v h
 settles_agree (deregister e) o a v h = settled_agrees o a v h
 settles_agree (reply e msg answer) o a v h = settled_agrees o a v h
 settles_agree (monitor_write core neighbour) o a v h = settled_agrees o a v h
 settles_agree (forward core neighbour) o a v h = settled_agrees o a v h
-settles_agree (monitor_acknowledge core neighbour) o a v h = settled_agrees o a v h
+settles_agree (monitor_ack core neighbour) o a v h = settled_agrees o a v h
 
 -- the whole, from the laws of all events
 pub steps_agree : EventLaws → StepsAgree

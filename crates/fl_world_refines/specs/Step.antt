@@ -1,7 +1,7 @@
 -- What an event comes to in a world, and a world before any event.
 use Rattle.std.specs.Prelude.{ℕ, ◌≡◌, false, true, []}
 use Rattle.fl_model.specs.Events.{Event, add_interface, set_cores, add_link, add_dispatcher, export, bind, call, show, write}
-use Rattle.fl_model.specs.Events.{turn, acknowledge, register, deregister, reply, monitor_write, forward, monitor_acknowledge, Answer, refused}
+use Rattle.fl_model.specs.Events.{turn, ack, register, deregister, reply, monitor_write, forward, monitor_ack, Answer, refused}
 use Rattle.fl_world_refines.specs.View.{TheWorld}
 use Rattle.fl_world_refines.specs.Making.{fresh_cores, AddsInterface, SetsCores, AddsLink, AddsDispatcher, Exports}
 use Rattle.fl_world_refines.specs.Binding.{named_request, Binds}
@@ -21,13 +21,13 @@ Does (call e c) w a w2 = MakesCall e c w a w2
 Does (show e) w a w2 = Previews e w a w2
 Does (write e) w a w2 = WritesFragment e w a w2
 Does (turn d) w a w2 = HasTurn d w a w2
-Does (acknowledge e) w a w2 = Acknowledges e w a w2
+Does (ack e) w a w2 = Acknowledges e w a w2
 Does (register e) w a w2 = RegistersChannel e w a w2
 Does (deregister e) w a w2 = DeregistersChannel e w a w2
 Does (reply e msg answer) w a w2 = SetsReply e msg answer w a w2
 Does (monitor_write core neighbour) w a w2 = WritesMessage core neighbour w a w2
 Does (forward core neighbour) w a w2 = Forwards core neighbour w a w2
-Does (monitor_acknowledge core neighbour) w a w2 = AcksLink core neighbour w a w2
+Does (monitor_ack core neighbour) w a w2 = AcksLink core neighbour w a w2
 
 -- after any answer but a refusal the number of cores stands
 abbrev pub settled_by : Answer → TheWorld → TheWorld

@@ -10,8 +10,8 @@ use Rattle.fl_value_data.specs.declared.value.PlanNo.TheVariants.{Two}
 use Rattle.fl_model.specs.Events.{DispatcherId, by_queues, by_ring, by_route, Event, Answer}
 use Rattle.fl_model.specs.Events.{add_interface, set_cores, add_link, add_dispatcher, export, bind, call}
 use Rattle.fl_model.specs.Events.{show, write, turn}
-use Rattle.fl_model.specs.Events.{acknowledge, register, deregister, reply, monitor_write, forward}
-use Rattle.fl_model.specs.Events.{monitor_acknowledge}
+use Rattle.fl_model.specs.Events.{ack, register, deregister, reply, monitor_write, forward}
+use Rattle.fl_model.specs.Events.{monitor_ack}
 use Rattle.fl_model.specs.Events.{done, accepted, nothing, full, written, handle, part, ready, quiet}
 use Rattle.fl_model.specs.Events.{forwarded, opened}
 use Rattle.fl_model.specs.Events.{opening_refused, words, refused}
@@ -176,11 +176,11 @@ ring_fills = ring_frame 4 ++ calls_from 1 3 ++
     ∷ (write (client 0) ⇒ full)
     ∷ (turn (on 1 0) ⇒ ready (server 0))
     ∷ (turn (on 1 0) ⇒ handle (server 0) (ping 1))
-    ∷ (acknowledge (server 0) ⇒ nothing)
+    ∷ (ack (server 0) ⇒ nothing)
     ∷ (write (client 0) ⇒ full)
     ∷ (turn (on 1 0) ⇒ ready (server 0))
     ∷ (turn (on 1 0) ⇒ handle (server 0) (ping 2))
-    ∷ (acknowledge (server 0) ⇒ done)
+    ∷ (ack (server 0) ⇒ done)
     ∷ (write (client 0) ⇒ written 1 1)
     ∷ (turn (on 0 0) ⇒ quiet (client 0))
     ∷ (turn (on 0 0) ⇒ quiet (client 0))
@@ -197,7 +197,7 @@ ring_call v control acknowledged =
     ∷ (write (client 0) ⇒ written 1 1)
     ∷ (turn (on 1 0) ⇒ ready (server 0))
     ∷ (turn (on 1 0) ⇒ handle (server 0) (ping v))
-    ∷ (acknowledge (server 0) ⇒ acknowledged)
+    ∷ (ack (server 0) ⇒ acknowledged)
     ∷ []
 
 -- epochs go round; a polled turn that finds an acknowledgement makes room
@@ -266,7 +266,7 @@ three_cores = route_frame ((add_link 1 2 4 ⇒ done) ∷ []) ++
     ∷ (forward 1 0 ⇒ done)
     ∷ (monitor_write 1 2 ⇒ written 1 1)
     ∷ (forward 2 1 ⇒ opened (server 0))
-    ∷ (monitor_acknowledge 2 1 ⇒ nothing)
+    ∷ (monitor_ack 2 1 ⇒ nothing)
     ∷ (monitor_write 2 1 ⇒ written 1 1)
     ∷ (forward 1 2 ⇒ done)
     ∷ (monitor_write 1 0 ⇒ written 1 1)
@@ -275,12 +275,12 @@ three_cores = route_frame ((add_link 1 2 4 ⇒ done) ∷ []) ++
     (forward 1 0 ⇒ forwarded)
     ∷ (forward 1 0 ⇒ forwarded)
     ∷ (forward 1 0 ⇒ forwarded)
-    ∷ (monitor_acknowledge 1 0 ⇒ done)
+    ∷ (monitor_ack 1 0 ⇒ done)
     ∷ calls_from 4 1 ++
     (forward 1 0 ⇒ full)
     ∷ (forward 2 1 ⇒ forwarded)
     ∷ (forward 2 1 ⇒ forwarded)
-    ∷ (monitor_acknowledge 2 1 ⇒ done)
+    ∷ (monitor_ack 2 1 ⇒ done)
     ∷ (forward 1 0 ⇒ forwarded)
     ∷ (forward 1 2 ⇒ done)
     ∷ []

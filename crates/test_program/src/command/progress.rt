@@ -1,7 +1,7 @@
 //! An end's progress with two files, which tells what is done with them.
 
 ghost use Rattle.std.specs.Prelude.{◌≡◌, ◌++◌, ◌∷◌, [], map, option_map, IfOk, IfSome};
-ghost use Rattle.flounder_commands.specs.FileEffects.{Adds, log_entry_of};
+ghost use Rattle.flounder_commands.specs.FileEffects.{Adds, effect_of};
 
 use flounder_commands::FileStore;
 use std::alloc::{AllocError, Global};
@@ -23,7 +23,7 @@ fn new_entry(
     bytes: &[u8],
     failed: Option<io::ErrorKind>,
 ) -> Result<Entry, AllocError>
-    ensures log_entry { IfOk result (λ e. log_entry_of e.is_read e.path.items e.bytes.items e.failed ≡ log_entry_of is_read path.now bytes.now failed) }
+    ensures effect { IfOk result (λ e. effect_of e.is_read e.path.items e.bytes.items e.failed ≡ effect_of is_read path.now bytes.now failed) }
 {
     let path = Vec::from_slice(alloc, path)?;
     let bytes = Vec::from_slice(alloc, bytes)?;
@@ -36,14 +36,14 @@ fn new_entry(
 }
 
 // The log entries with one more, as far as there is memory for them.
-fn with_entry(log_entries: Vec<Entry>, entry: Entry) -> Option<Vec<Entry>>
-    ensures told { IfSome result (λ all. map (λ e. log_entry_of e.is_read e.path.items e.bytes.items e.failed) all.items
-        ≡ map (λ e. log_entry_of e.is_read e.path.items e.bytes.items e.failed) log_entries.items
-        ++ log_entry_of entry.is_read entry.path.items entry.bytes.items entry.failed ∷ []) }
+fn with_entry(effects: Vec<Entry>, entry: Entry) -> Option<Vec<Entry>>
+    ensures told { IfSome result (λ all. map (λ e. effect_of e.is_read e.path.items e.bytes.items e.failed) all.items
+        ≡ map (λ e. effect_of e.is_read e.path.items e.bytes.items e.failed) effects.items
+        ++ effect_of entry.is_read entry.path.items entry.bytes.items entry.failed ∷ []) }
 {
-    let mut log_entries = log_entries;
-    match log_entries.push(entry) {
-        Ok(()) => Some(log_entries),
+    let mut effects = effects;
+    match effects.push(entry) {
+        Ok(()) => Some(effects),
         Err(_) => None,
     }
 }
@@ -59,7 +59,7 @@ pub struct EndProgress {
     len: usize,
     pub writes: usize,
     alloc: Global,
-    log_entries: Option<Vec<Entry>>,
+    effects: Option<Vec<Entry>>,
 }
 
 impl EndProgress {
@@ -78,12 +78,12 @@ impl EndProgress {
             len: 0,
             writes: 0,
             alloc,
-            log_entries: Some(Vec::new(alloc)),
+            effects: Some(Vec::new(alloc)),
         }
     }
 
     fn put(&mut self, path: &str, bytes: &[u8]) -> io::Result<()>
-        ensures log_entries { self.new.log_entries ≡ self.old.log_entries }
+        ensures effects { self.new.effects ≡ self.old.effects }
     {
         self.writes = self.writes.saturating_add(1);
         if path != "out" {
@@ -107,26 +107,26 @@ impl EndProgress {
 // What was done so far, and one log entry more.
 fn note(
     alloc: Global,
-    log_entries: Option<Vec<Entry>>,
+    effects: Option<Vec<Entry>>,
     is_read: bool,
     path: &[u8],
     bytes: &[u8],
     failed: Option<io::ErrorKind>,
 ) -> Option<Vec<Entry>>
     ensures told { Adds
-        (option_map (λ all. map (λ e. log_entry_of e.is_read e.path.items e.bytes.items e.failed) all.items) log_entries)
-        (option_map (λ all. map (λ e. log_entry_of e.is_read e.path.items e.bytes.items e.failed) all.items) result)
-        (log_entry_of is_read path.now bytes.now failed) }
+        (option_map (λ all. map (λ e. effect_of e.is_read e.path.items e.bytes.items e.failed) all.items) effects)
+        (option_map (λ all. map (λ e. effect_of e.is_read e.path.items e.bytes.items e.failed) all.items) result)
+        (effect_of is_read path.now bytes.now failed) }
 {
-    let log_entries = log_entries?;
+    let effects = effects?;
     match new_entry(alloc, is_read, path, bytes, failed) {
-        Ok(entry) => with_entry(log_entries, entry),
+        Ok(entry) => with_entry(effects, entry),
         Err(_) => None,
     }
 }
 
 impl FileStore for EndProgress {
-    ghost log_entries = { λ progress. option_map (λ all. map (λ e. log_entry_of e.is_read e.path.items e.bytes.items e.failed) all.items) progress.log_entries };
+    ghost effects = { λ progress. option_map (λ all. map (λ e. effect_of e.is_read e.path.items e.bytes.items e.failed) all.items) progress.effects };
 
     fn read(&mut self, alloc: Global, path: &str) -> io::Result<Vec<u8>> {
         let found = match self.unread {
@@ -136,12 +136,12 @@ impl FileStore for EndProgress {
             ),
             None => Err(io::Error::from(io::ErrorKind::NotFound)),
         };
-        let log_entries = self.log_entries.take();
-        self.log_entries = match &found {
-            Ok(bytes) => note(self.alloc, log_entries, true, path.as_bytes(), bytes, None),
+        let effects = self.effects.take();
+        self.effects = match &found {
+            Ok(bytes) => note(self.alloc, effects, true, path.as_bytes(), bytes, None),
             Err(error) => note(
                 self.alloc,
-                log_entries,
+                effects,
                 true,
                 path.as_bytes(),
                 &[],
@@ -153,12 +153,12 @@ impl FileStore for EndProgress {
 
     fn write(&mut self, path: &str, bytes: &[u8]) -> io::Result<()> {
         let done = self.put(path, bytes);
-        let log_entries = self.log_entries.take();
-        self.log_entries = match &done {
-            Ok(()) => note(self.alloc, log_entries, false, path.as_bytes(), bytes, None),
+        let effects = self.effects.take();
+        self.effects = match &done {
+            Ok(()) => note(self.alloc, effects, false, path.as_bytes(), bytes, None),
             Err(error) => note(
                 self.alloc,
-                log_entries,
+                effects,
                 false,
                 path.as_bytes(),
                 bytes,

@@ -9,6 +9,6 @@ use Rattle.fl_script_lines.proofs.names.ScriptNames.ack_line.Goals as goal
 pub returns : goal.returns
 returns c = record {
   tells =
-      end_tells (names_of c.args.self.now) ack event.acknowledge c.args.rest.now (told_as an_ack c.end_line.result) (λ e. refl)
-      (c.end_line.ensures.tells event.acknowledge an_ack (λ e. refl));
+      end_tells (names_of c.args.self.now) ack event.ack c.args.rest.now (told_as an_ack c.end_line.result) (λ e. refl)
+      (c.end_line.ensures.tells event.ack an_ack (λ e. refl));
 }
