@@ -21,7 +21,7 @@ pub look_at-requires-clause-place : goal.look_at-requires-clause-place
 look_at-requires-clause-place g c = place_due c.args.self.now c.self.inside.dispatchers.items c.self.inside.seats.items c.self.inside.calls c.self.view_is c.self.invariant c.args.dispatcher c.requires.there _ _ c.index_mut-at.ensures.value c.at.view_is c.in-Ok.pick (sym c.next_event.ensures.pick ∙ c.in-Ok.is) c.args.e c.requires.due _ _ c.index_mut-seat.ensures.value c.seat.view_is
 
 pub invariant_of-self-2 : goal.invariant_of-self-2
-invariant_of-self-2 g c = due_kept c.args.self.now c.self.inside.dispatchers.items c.self.inside.seats.items c.self.inside.calls c.self.view_is c.self.invariant c.args.dispatcher c.requires.there _ _ c.index_mut-at.ensures.value c.at.view_is c.in-Ok.pick (sym c.next_event.ensures.pick ∙ c.in-Ok.is) c.args.e c.requires.due _ _ c.index_mut-seat.ensures.value c.seat.view_is g.T.TakeSide.takes c.look_at.new.waitset c.look_at.new.end c.args.from.now c.look_at.new.from c.look_at.result c.look_at.new.calls c.look_at.ensures.looks c.turn_accounts.ensures.account c.look_at.ensures.waitset.apart
+invariant_of-self-2 g c = due_kept c.args.self.now c.self.inside.dispatchers.items c.self.inside.seats.items c.self.inside.calls c.self.view_is c.self.invariant c.args.dispatcher c.requires.there _ _ c.index_mut-at.ensures.value c.at.view_is c.in-Ok.pick (sym c.next_event.ensures.pick ∙ c.in-Ok.is) c.args.e c.requires.due _ _ c.index_mut-seat.ensures.value c.seat.view_is g.T.TakeSide.takes c.look_at.new.waitset c.look_at.new.end c.args.from.now c.look_at.new.from c.look_at.result c.look_at.new.calls c.look_at.ensures.looks c.law_turn_accounts.ensures.account c.look_at.ensures.waitset.apart
 
 pub returns-clause-turns : goal.returns-clause-turns
 returns-clause-turns g c = due_turns c.args.self.now c.self.inside.dispatchers.items c.self.inside.seats.items c.self.inside.calls c.self.view_is c.self.invariant c.args.dispatcher c.requires.there _ _ c.index_mut-at.ensures.value c.at.view_is c.in-Ok.pick (sym c.next_event.ensures.pick ∙ c.in-Ok.is) c.args.e c.requires.due _ _ c.index_mut-seat.ensures.value c.seat.view_is g.T.TakeSide.takes c.look_at.new.waitset c.look_at.new.end c.args.from.now c.look_at.new.from c.look_at.result c.look_at.new.calls c.look_at.ensures.looks
