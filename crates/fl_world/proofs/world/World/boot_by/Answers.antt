@@ -11,7 +11,7 @@ pub returns-in-Ok-set_up-clause-stands : goal.returns-in-Ok-set_up-clause-stands
 returns-in-Ok-set_up-clause-stands c =
     let config = config_by c.args.cores c.args.events.now in (
       good_cores config c.from-cores.result c.from-cores.ensures c.if-cores-lt1.false c.if-cores-gt-MAX_CORES.false,
-      boots_by (λ (s : State) (vs : List Event). Passes s vs c.set_up.new.self) c.fresh_shows.ensures.shows config c.from-cores.result c.in-Ok.world
+      boots_by (λ (s : State) (vs : List Event). Passes s vs c.set_up.new.self) c.law_fresh_world_shows.ensures.shows config c.from-cores.result c.in-Ok.world
           c.from-cores.ensures c.if-cores-lt1.false c.if-cores-gt-MAX_CORES.false c.in-Ok.ensures.fresh c.in-Ok-set_up.ensures.passes,
     )
 
@@ -19,7 +19,7 @@ pub returns-in-Err-clause-refused : goal.returns-in-Err-clause-refused
 returns-in-Err-clause-refused c =
     let config = config_by c.args.cores c.args.events.now in
     stopped config c.in-Err.fault (good_cores config c.from-cores.result c.from-cores.ensures c.if-cores-lt1.false c.if-cores-gt-MAX_CORES.false)
-    (boots_by (λ (s : State) (vs : List Event). StopsBy s vs c.in-Err.fault) c.fresh_shows.ensures.shows config c.from-cores.result c.in-Ok.world
+    (boots_by (λ (s : State) (vs : List Event). StopsBy s vs c.in-Err.fault) c.law_fresh_world_shows.ensures.shows config c.from-cores.result c.in-Ok.world
     c.from-cores.ensures c.if-cores-lt1.false c.if-cores-gt-MAX_CORES.false c.in-Ok.ensures.fresh c.in-Err.ensures.stops)
 
 pub returns-in-Ok-set_up-clause-unused : goal.returns-in-Ok-set_up-clause-unused
