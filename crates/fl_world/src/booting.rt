@@ -14,7 +14,7 @@ use crate::world::World;
 use fl_base::{MAX_CORES, faults};
 use fl_script_lines::{Answer, Event};
 use fl_world_events::let_go;
-use fl_world_refines::{Parts, law_fresh_shows};
+use fl_world_refines::{Parts, law_fresh_world_shows};
 use std::alloc::Global;
 use thiserror::Error;
 
@@ -129,7 +129,7 @@ impl World {
                 place: 0,
             });
         }
-        law_fresh_shows();
+        law_fresh_world_shows();
         let Ok(mut world) = World::with_cores(alloc, cores) else {
             return Err(BootFault::Memory);
         };

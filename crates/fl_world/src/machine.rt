@@ -7,14 +7,14 @@ use fl_base::EndId;
 use fl_script_exec::QueueMachine;
 use fl_script_lines::{Answer, DispatcherId, Event};
 use fl_value_data::Call;
-use fl_world_refines::{law_fresh_shows, law_steps_agree};
+use fl_world_refines::{law_fresh_world_shows, law_steps_agree};
 use std::alloc::{AllocError, Global};
 
 impl QueueMachine for World {
     ghost shows = { Shows };
 
     fn new(alloc: Global) -> Result<World, AllocError> {
-        law_fresh_shows();
+        law_fresh_world_shows();
         World::with_cores(alloc, 1)
     }
 
