@@ -3,8 +3,8 @@
 
 use crate::interfaces::interface;
 use crate::rows::{Row, all_hold};
-use crate::wiring::payload_tests::send;
-use crate::wiring::strings::{STRING, letters};
+use crate::wire::payload_tests::send;
+use crate::wire::strings::{STRING, letters};
 use fl_base::MsgNo;
 use fl_layout::{Plans, plan};
 use fl_value::{ValueFault, read_call};
