@@ -10,7 +10,7 @@ use Rattle.fl_core.specs.BoardView.{TheDispatcher, TheEndAtChannel, TheBoard, wi
 use Rattle.fl_core.specs.BoardSound.{IsBoard}
 use Rattle.fl_core.specs.BoardEvents.{Adds}
 use Rattle.fl_core.specs.BoardInside.{HasNoRoom, seats_of, GoTogether}
-use Rattle.fl_core.proofs.Places.{set_same}
+use Rattle.fl_core.proofs.BoardPlaces.{set_same}
 use Rattle.fl_core.proofs.Together.{one_more}
 use Rattle.fl_core.proofs.Dispatchers.{finds, finds_before}
 use Rattle.fl_core.proofs.BoardKept.{new_end_kept}

@@ -4,7 +4,7 @@ use Rattle.std.proofs.lemmas.Option.{slice_get_read, slice_get_within}
 use Rattle.fl_endpoint.specs.View.{TheEnd}
 use Rattle.fl_core.specs.declared.kind.ChannelKind.{ChannelKind}
 use Rattle.fl_core.specs.BoardView.{TheDispatcher, TheEndAtChannel, TheBoard, with_new_end}
-use Rattle.fl_core.proofs.Places.{one_stands, set_here, set_same, set_twice, last_parts, without_last}
+use Rattle.fl_core.proofs.BoardPlaces.{one_stands, set_here, set_same, set_twice, last_parts, without_last}
 
 module _ (k : TheBoard) (n : ℕ) (d : TheDispatcher) (s : TheEnd) (kind : ChannelKind) (dispatcher_is : slice_get k.dispatchers n ≡ Some d) (base : TheBoard) (grown : base ≡ with_new_end k n d s kind)
     (seats : List TheEndAtChannel) (last : TheEndAtChannel) (seats_are : base.seats ≡ seats ++ last ∷ []) where

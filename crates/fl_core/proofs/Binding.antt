@@ -11,7 +11,7 @@ use Rattle.fl_core.specs.declared.board_fault.BoardFault.{BoardFault}
 use Rattle.fl_core.specs.BoardView.{TheBoard}
 use Rattle.fl_core.specs.BoardEvents.{Adds, ChangesEnd}
 use Rattle.fl_core.specs.BoardTurns.{over}
-use Rattle.fl_core.proofs.Places.{set_same}
+use Rattle.fl_core.proofs.BoardPlaces.{set_same}
 use Rattle.fl_core.specs.declared.wiring.ArrivalPlace.{ArrivalPlace}
 use Rattle.fl_core.specs.declared.hearing.MadeServer.{MadeServer}
 use Rattle.fl_core.specs.View.{TheCore}

@@ -20,7 +20,7 @@ use Rattle.fl_core.specs.BoardTurns.{moment, over, LooksAt, Turns}
 use Rattle.fl_core.specs.BoardSound.{MayTurn, IsBoard}
 use Rattle.fl_core.specs.BoardAccounts.{TurnAccounts}
 use Rattle.fl_core.specs.BoardInside.{seat_with, seats_of, Belongs, GoTogether, board_of, IsStored, end_turn, LooksAtPlace}
-use Rattle.fl_core.proofs.Places.{one_stands, set_same}
+use Rattle.fl_core.proofs.BoardPlaces.{one_stands, set_same}
 use Rattle.fl_core.proofs.Together.{Placed, read_seat, seat_of, set_both, set_both_together, as_place}
 use Rattle.fl_core.proofs.Dispatchers.{finds, finds_before, due_is, may_turn}
 use Rattle.fl_core.proofs.Picks.{list_of}

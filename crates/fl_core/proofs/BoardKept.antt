@@ -10,7 +10,7 @@ use Rattle.fl_core.specs.declared.kind.ChannelKind.{ChannelKind}
 use Rattle.fl_core.specs.BoardView.{TheDispatcher, TheEndAtChannel, TheBoard, with_lists, with_end, with_dispatcher, with_new_end, new_dispatcher}
 use Rattle.fl_core.specs.BoardSound.{IsSeated, HasChannel, MayWaitIn, MayTurn, IsDispatcher, IsBoard}
 use Rattle.fl_core.proofs.Registered.{Listed}
-use Rattle.fl_core.proofs.Places.{set_here, set_elsewhere, push_stays, push_last, push_cases}
+use Rattle.fl_core.proofs.BoardPlaces.{set_here, set_elsewhere, push_stays, push_last, push_cases}
 
 -- ---- an end changes
 

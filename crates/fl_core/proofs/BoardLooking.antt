@@ -20,7 +20,7 @@ use Rattle.fl_core.specs.declared.turn_answer.TurnAnswer.{TurnAnswer}
 use Rattle.fl_core.specs.declared.turn_answer.TurnAnswer.TheVariants.{Handle, Part, Quiet, Full, Nothing}
 use Rattle.fl_core.specs.BoardTurns.{lent, moment, Gives, Examines, LooksAt}
 use Rattle.fl_core.specs.BoardInside.{Settles, MayCome, Refuses, end_turn, LooksAtPlace}
-use Rattle.fl_core.proofs.Places.{set_same}
+use Rattle.fl_core.proofs.BoardPlaces.{set_same}
 use Rattle.fl_core.proofs.Together.{standing}
 
 -- what a turn answers for what the end answered

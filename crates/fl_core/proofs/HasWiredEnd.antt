@@ -6,7 +6,7 @@ use Rattle.fl_base.specs.declared.identity.EndId.{EndId}
 use Rattle.fl_link.specs.Queue.{TheQueue}
 use Rattle.fl_core.specs.BoardView.{TheEndAtChannel, TheBoard}
 use Rattle.fl_core.specs.declared.kind.ChannelKind.{ChannelKind}
-use Rattle.fl_core.proofs.Places.{push_stays, push_last, push_cases}
+use Rattle.fl_core.proofs.BoardPlaces.{push_stays, push_last, push_cases}
 use Rattle.fl_monitor.specs.Monitors.{TheMonitor}
 use Rattle.fl_core.specs.declared.wiring.EndWiring.{EndWiring}
 use Rattle.fl_core.specs.declared.wiring.EndWiring.TheVariants.{Queues, Ring, Circuit}

@@ -1,4 +1,4 @@
-pub mod Places
+pub mod BoardPlaces
 pub mod Registered
 pub mod BoardKept
 pub mod Readiness

@@ -14,7 +14,7 @@ use Rattle.fl_core.specs.declared.board_fault.BoardFault.{BoardFault}
 use Rattle.fl_core.specs.declared.board_fault.BoardFault.TheVariants.{NotBound, Registered, NotRegistered, TooManyEnds, Failed, Memory}
 use Rattle.fl_core.specs.BoardTurns.{lent}
 use Rattle.fl_core.specs.BoardEvents.{ChangesLists, Joins, Registers}
-use Rattle.fl_core.proofs.Places.{one_stands, set_same}
+use Rattle.fl_core.proofs.BoardPlaces.{one_stands, set_same}
 use Rattle.fl_core.proofs.Registered.{Listed, pushed_each, unlinked_each, triggered_each, triggered_size}
 use Rattle.fl_core.proofs.Turning.{pending_fits, waits_fits}
 use Rattle.fl_core.proofs.BoardKept.{lists_kept}

@@ -7,7 +7,7 @@ use Rattle.fl_core.specs.declared.kind.ChannelKind.{ChannelKind}
 use Rattle.fl_core.specs.BoardView.{TheDispatcher, TheBoard, with_new_end}
 use Rattle.fl_core.specs.BoardEvents.{Adds, IsGrown}
 use Rattle.fl_core.specs.BoardSound.{IsBoard}
-use Rattle.fl_core.proofs.Places.{last_parts, set_twice}
+use Rattle.fl_core.proofs.BoardPlaces.{last_parts, set_twice}
 use Rattle.fl_monitor.specs.Monitors.{TheMonitor, with_new_link}
 use Rattle.fl_core.specs.declared.wiring.WiredEnd.{WiredEnd}
 use Rattle.fl_core.specs.declared.wiring.LinkSide.{LinkSide}

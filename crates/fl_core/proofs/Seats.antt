@@ -8,7 +8,7 @@ use Rattle.fl_core.specs.BoardView.{TheDispatcher, TheEndAtChannel, TheBoard, wi
 use Rattle.fl_core.specs.BoardSound.{IsBoard}
 use Rattle.fl_core.specs.BoardEvents.{ChangesEnd, Holds}
 use Rattle.fl_core.specs.BoardInside.{seat_with, board_of, IsStored}
-use Rattle.fl_core.proofs.Places.{one_stands}
+use Rattle.fl_core.proofs.BoardPlaces.{one_stands}
 use Rattle.fl_core.proofs.Together.{Placed, read_seat, seat_of, set_seat, set_seat_together, still_of}
 use Rattle.fl_core.proofs.BoardKept.{end_kept, seated_ready}
 

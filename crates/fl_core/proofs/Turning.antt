@@ -24,7 +24,7 @@ use Rattle.fl_core.specs.BoardSound.{MayWaitIn, MayTurn, IsDispatcher, IsBoard}
 use Rattle.fl_core.proofs.Readiness.{receives_ready, memory_ready}
 use Rattle.fl_core.proofs.Registered.{Listed, pushed_each, unlinked_each, left_all}
 use Rattle.fl_core.proofs.Picks.{list_of, first_pending, first_polled, pick_listed}
-use Rattle.fl_core.proofs.Places.{one_stands, set_here}
+use Rattle.fl_core.proofs.BoardPlaces.{one_stands, set_here}
 use Rattle.fl_core.proofs.BoardKept.{end_kept, lists_kept}
 
 -- a channel waits in a list of its kind

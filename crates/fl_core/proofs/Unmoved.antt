@@ -12,7 +12,7 @@ use Rattle.fl_core.specs.declared.board_fault.BoardFault.TheVariants.{NotBound, 
 use Rattle.fl_core.specs.BoardView.{TheEndAtChannel, TheBoard}
 use Rattle.fl_core.specs.BoardEvents.{Registers}
 use Rattle.fl_core.specs.BoardTurns.{EndMoment, BoardAndSide, ListsAndSide, LooksAt, over, Turns}
-use Rattle.fl_core.proofs.Places.{set_same}
+use Rattle.fl_core.proofs.BoardPlaces.{set_same}
 use Rattle.fl_core.specs.View.{TheCore}
 use Rattle.fl_core.specs.Ends.{RegistersAt}
 

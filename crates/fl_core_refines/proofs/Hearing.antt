@@ -28,7 +28,7 @@ use Rattle.fl_hop.specs.Table.{TheCircuits, hop_at}
 use Rattle.fl_compile.specs.declared.program.Program.{Program}
 use Rattle.fl_value_data.specs.Value.{TheCall}
 use Rattle.fl_endpoint.specs.View.{TheEnd, fresh, bound}
-use Rattle.fl_core.proofs.Places.{set_here}
+use Rattle.fl_core.proofs.BoardPlaces.{set_here}
 use Rattle.fl_core.specs.declared.hearing.OfferedService.{OfferedService}
 use Rattle.fl_core.specs.declared.board_fault.BoardFault.{BoardFault}
 use Rattle.fl_core.specs.declared.board_fault.BoardFault.TheVariants as board

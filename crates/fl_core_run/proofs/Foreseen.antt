@@ -6,7 +6,7 @@ use Rattle.fl_base.specs.declared.identity.LinkId.{LinkId}
 use Rattle.fl_base.specs.Control.{bare, with_circuit}
 use Rattle.fl_link.specs.Looks.{Look, placed, found, saw}
 use Rattle.fl_hop.specs.declared.forward.ForwardOutcome.TheVariants.{Moved}
-use Rattle.fl_core.proofs.Places.{set_here, set_elsewhere}
+use Rattle.fl_core.proofs.BoardPlaces.{set_here, set_elsewhere}
 use Rattle.fl_core.specs.declared.answer.LinkFront.{LinkFront}
 use Rattle.fl_core.specs.declared.answer.LinkFront.TheVariants.{Nothing, Acknowledged, Message, Onward, Arrival}
 use Rattle.fl_core.specs.declared.fault.LinkReceiveFault.{LinkReceiveFault}

@@ -11,7 +11,7 @@ use Rattle.fl_endpoint.specs.declared.fault.EndFault.{EndFault}
 use Rattle.fl_endpoint.specs.declared.fault.EndFault.TheVariants.{UnknownMessage, Misfit, NotBound, Failed, Busy}
 use Rattle.fl_endpoint.specs.View.{TheEnd, interface_in, are_some, is_busy}
 use Rattle.fl_endpoint.specs.Events.{IsMessage, Calls}
-use Rattle.fl_core.proofs.Places.{set_same}
+use Rattle.fl_core.proofs.BoardPlaces.{set_same}
 use Rattle.fl_core.specs.BoardView.{TheEndAtChannel, TheBoard, with_end}
 use Rattle.fl_core.specs.BoardEvents.{Holds}
 use Rattle.fl_core.specs.View.{place_of}

@@ -9,7 +9,7 @@ use Rattle.fl_link.specs.Looks.{Look, placed, no_room, spent}
 use Rattle.fl_link.specs.declared.fault.PutFault.{PutFault}
 use Rattle.fl_link.specs.declared.fault.PutFault.TheVariants.{Full, Spent}
 use Rattle.fl_core_run.specs.Inside.{put_label}
-use Rattle.fl_core.proofs.Places.{set_same}
+use Rattle.fl_core.proofs.BoardPlaces.{set_same}
 use Rattle.fl_core.specs.declared.answer.MonitorAnswer.{MonitorAnswer}
 use Rattle.fl_core.specs.declared.fault.LinkReceiveFault.{LinkReceiveFault}
 use Rattle.fl_core.specs.declared.fault.LinkReceiveFault.TheVariants as fault

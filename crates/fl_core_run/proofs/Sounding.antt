@@ -2,7 +2,7 @@
 use Rattle.std.proofs.Common.{◌≡◌, sym, ◌∙◌, subst, ℕ, slice_get, Some}
 use Rattle.fl_base.specs.declared.identity.EndId.{EndId}
 use Rattle.fl_endpoint.specs.Accounts.{Sound}
-use Rattle.fl_core.proofs.Places.{one_stands}
+use Rattle.fl_core.proofs.BoardPlaces.{one_stands}
 use Rattle.fl_core.specs.BoardView.{TheEndAtChannel}
 use Rattle.fl_core.specs.BoardEvents.{Holds}
 use Rattle.fl_core.specs.View.{place_of}

@@ -6,7 +6,7 @@ use Rattle.std.proofs.lemmas.Result.{on_err_weaker}
 use Rattle.fl_base.specs.declared.identity.EndId.{EndId}
 use Rattle.fl_base.specs.declared.identity.LinkId.{LinkId}
 use Rattle.fl_value_data.specs.declared.value.Call.{Call}
-use Rattle.fl_core.proofs.Places.{set_same}
+use Rattle.fl_core.proofs.BoardPlaces.{set_same}
 use Rattle.fl_core.specs.declared.turn_answer.TurnAnswer.{TurnAnswer}
 use Rattle.fl_core.specs.declared.turn_answer.TurnAnswer.TheVariants.{Handle}
 use Rattle.fl_core.specs.View.{place_of}

@@ -17,7 +17,7 @@ use Rattle.fl_hop.specs.Stretch.{passed as hop_passed, said as hop_said, heard a
 use Rattle.fl_hop.specs.Table.{TheCircuits}
 use Rattle.fl_compile.specs.declared.program.Program.{Program}
 use Rattle.fl_wire.specs.declared.fault.WireFault.TheVariants as wiring
-use Rattle.fl_core.proofs.Places.{one_stands, push_stays}
+use Rattle.fl_core.proofs.BoardPlaces.{one_stands, push_stays}
 use Rattle.fl_core.specs.declared.turn_answer.TurnAnswer.{TurnAnswer}
 use Rattle.fl_monitor.specs.Monitors.{TheMonitor, waiting_for}
 use Rattle.fl_monitor.specs.declared.heard.MessageOutcome.{MessageOutcome}

@@ -14,7 +14,7 @@ use Rattle.fl_hop.specs.declared.forward.ForwardOutcome.{ForwardOutcome}
 use Rattle.fl_hop.specs.declared.forward.ForwardOutcome.TheVariants.{Moved, Full, Spent}
 use Rattle.fl_hop.specs.OfCircuit.{as_carried}
 use Rattle.fl_hop.specs.Stretch.{TableStep, same_end, come_to, written_by}
-use Rattle.fl_core.proofs.Places.{push_last, one_stands}
+use Rattle.fl_core.proofs.BoardPlaces.{push_last, one_stands}
 use Rattle.fl_core.specs.BoardView.{TheEndAtChannel}
 use Rattle.fl_monitor.specs.Hearing.{ComesTo}
 use Rattle.fl_monitor.specs.Monitors.{TheMonitor, can_say, waiting_for}

@@ -8,7 +8,7 @@ use Rattle.fl_base.specs.declared.identity.MsgNo.{MsgNo}
 use Rattle.fl_base.specs.Prefix.{IsPrefix}
 use Rattle.fl_base.specs.Given.{given}
 use Rattle.fl_value_data.specs.Value.{TheCall}
-use Rattle.fl_core.proofs.Places.{set_here, set_elsewhere}
+use Rattle.fl_core.proofs.BoardPlaces.{set_here, set_elsewhere}
 use Rattle.fl_core.specs.declared.turn_answer.TurnAnswer.{TurnAnswer}
 use Rattle.fl_core.specs.declared.turn_answer.TurnAnswer.TheVariants as turn
 use Rattle.fl_endpoint.specs.declared.fault.EndFault.{EndFault}

@@ -13,7 +13,7 @@ use Rattle.fl_wire.specs.declared.fault.WireFault.TheVariants as wiring
 use Rattle.fl_link.specs.Queue.{TheQueue, QueuePuts, QueueTakes}
 use Rattle.fl_hop.specs.declared.forward.ForwardOutcome.{ForwardOutcome}
 use Rattle.fl_hop.specs.declared.forward.ForwardOutcome.TheVariants.{Moved, Full, Spent}
-use Rattle.fl_core.proofs.Places.{one_stands, set_here, set_elsewhere, push_stays, push_cases}
+use Rattle.fl_core.proofs.BoardPlaces.{one_stands, set_here, set_elsewhere, push_stays, push_cases}
 use Rattle.fl_core.specs.BoardView.{TheBoard}
 use Rattle.fl_monitor.specs.Monitors.{TheMonitor}
 use Rattle.fl_monitor.specs.declared.heard.MessageOutcome.{MessageOutcome}

@@ -9,7 +9,7 @@ use Rattle.fl_base.specs.declared.identity.EndId.{EndId}
 use Rattle.fl_base.specs.Given.{given}
 use Rattle.fl_base.specs.Numbered.{most_bindings}
 use Rattle.fl_value_data.specs.declared.value.Call.{Call}
-use Rattle.fl_core.proofs.Places.{set_here, set_elsewhere}
+use Rattle.fl_core.proofs.BoardPlaces.{set_here, set_elsewhere}
 use Rattle.fl_core.specs.declared.turn_answer.TurnAnswer.{TurnAnswer}
 use Rattle.fl_core.specs.declared.turn_answer.TurnAnswer.TheVariants as turn
 use Rattle.fl_endpoint.specs.declared.fault.EndFault.{EndFault}

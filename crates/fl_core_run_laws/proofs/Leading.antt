@@ -14,7 +14,7 @@ use Rattle.fl_hop.specs.declared.entry.Hop.{Hop}
 use Rattle.fl_hop.specs.Joined.{Sound}
 use Rattle.fl_hop.specs.Later.{way_at}
 use Rattle.fl_hop.specs.Table.{TheCircuits, is_of, stands, hop_at, slot}
-use Rattle.fl_core.proofs.Places.{set_here, set_elsewhere, push_cases}
+use Rattle.fl_core.proofs.BoardPlaces.{set_here, set_elsewhere, push_cases}
 use Rattle.fl_core.specs.BoardView.{TheEndAtChannel}
 use Rattle.fl_monitor.specs.Outboxes.{IsFragOf}
 use Rattle.fl_monitor.specs.Monitors.{waiting_for, AllSaid}

@@ -9,7 +9,7 @@ use Rattle.std.specs.declared.alloc.AllocError.{AllocError}
 use Rattle.fl_base.specs.declared.fragment.Frag.{Frag}
 use Rattle.fl_base.specs.declared.identity.EndId.{EndId}
 use Rattle.fl_link.specs.Looks.{Look, Looks, LinkStep, put_in, took_in, puts_of, takes_of}
-use Rattle.fl_core.proofs.Places.{one_stands, set_here, set_elsewhere}
+use Rattle.fl_core.proofs.BoardPlaces.{one_stands, set_here, set_elsewhere}
 use Rattle.fl_core.specs.declared.kind.ChannelKind.{ChannelKind}
 use Rattle.fl_core.specs.declared.kind.ChannelKind.TheVariants as kind
 use Rattle.fl_core.specs.declared.turn_answer.TurnAnswer.{TurnAnswer}

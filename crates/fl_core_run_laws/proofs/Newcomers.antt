@@ -11,7 +11,7 @@ use Rattle.fl_wire.specs.declared.fault.WireFault.TheVariants as wiring
 use Rattle.fl_hop.specs.Stretch.{same_end}
 use Rattle.fl_hop.specs.declared.forward.ForwardOutcome.TheVariants.{Moved, Full, Spent}
 use Rattle.fl_endpoint.specs.View.{TheEnd}
-use Rattle.fl_core.proofs.Places.{push_last}
+use Rattle.fl_core.proofs.BoardPlaces.{push_last}
 use Rattle.fl_core.specs.BoardView.{TheEndAtChannel, TheBoard}
 use Rattle.fl_core.specs.BoardEvents.{Adds}
 use Rattle.fl_core.specs.declared.kind.ChannelKind.{ChannelKind}

@@ -15,7 +15,7 @@ use Rattle.fl_hop.specs.Stretch.{TableStep, CircuitEvent as HopEvent, passed as 
 use Rattle.fl_hop.specs.Table.{TheCircuits}
 use Rattle.fl_hop.proofs.Laws.{later_same, stretch_join, stood_finish, carried_in, own_alone, end_same}
 use Rattle.fl_endpoint.specs.Laws.{OnAnotherCircuit}
-use Rattle.fl_core.proofs.Places.{one_stands}
+use Rattle.fl_core.proofs.BoardPlaces.{one_stands}
 use Rattle.fl_core.specs.BoardView.{TheEndAtChannel}
 use Rattle.fl_monitor.specs.Monitors.{waiting_for}
 use Rattle.fl_core.specs.View.{TheCore, place_of, arrivals_of, arriving}

@@ -7,7 +7,7 @@ use Rattle.fl_base.specs.declared.identity.EndId.{EndId}
 use Rattle.fl_lists.specs.ThreeLists.{ThreeLists}
 use Rattle.fl_hop.specs.Stretch.{same_end}
 use Rattle.fl_endpoint.specs.View.{TheEnd}
-use Rattle.fl_core.proofs.Places.{one_stands, set_here, set_elsewhere, push_stays}
+use Rattle.fl_core.proofs.BoardPlaces.{one_stands, set_here, set_elsewhere, push_stays}
 use Rattle.fl_core.specs.BoardView.{TheEndAtChannel, TheBoard, with_end}
 use Rattle.fl_core.specs.declared.kind.ChannelKind.{ChannelKind}
 use Rattle.fl_core.specs.BoardEvents.{ChangesLists, Adds}

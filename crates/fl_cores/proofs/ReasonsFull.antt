@@ -8,7 +8,7 @@ use Rattle.fl_base.specs.declared.identity.EndId.{EndId}
 use Rattle.fl_base.specs.Given.{given}
 use Rattle.fl_nameserv.specs.Registrations.{TheRegistration, by_iref}
 use Rattle.fl_ring.specs.SharedSides.{TheSide}
-use Rattle.fl_core.proofs.Places.{one_stands}
+use Rattle.fl_core.proofs.BoardPlaces.{one_stands}
 use Rattle.fl_core.specs.BoardSound.{IsBoard, HasChannel}
 use Rattle.fl_core.specs.BoardView.{TheDispatcher, TheEndAtChannel, TheBoard}
 use Rattle.fl_monitor.specs.Fates.{is_offered_elsewhere}

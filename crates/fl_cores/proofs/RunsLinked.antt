@@ -13,7 +13,7 @@ use Rattle.fl_compile.specs.declared.program.Program.{Program}
 use Rattle.fl_hop.specs.declared.links.LinkState.{LinkState}
 use Rattle.fl_hop.specs.Numbers.{OpenedThere}
 use Rattle.fl_hop.specs.Table.{TheCircuits, link_of}
-use Rattle.fl_core.proofs.Places.{one_stands}
+use Rattle.fl_core.proofs.BoardPlaces.{one_stands}
 use Rattle.fl_monitor.specs.Monitors.{waiting_for}
 use Rattle.fl_core.specs.declared.wiring.LinkSide.{LinkSide}
 use Rattle.fl_core.specs.declared.wiring.WiredEnd.{WiredEnd}

@@ -15,7 +15,7 @@ use Rattle.fl_compile.specs.declared.program.Program.{Program}
 use Rattle.fl_compile.specs.Programs.{TheProgram, program_of}
 use Rattle.fl_nameserv.specs.Registrations.{TheRegistration}
 use Rattle.fl_ring.specs.SharedSides.{TheSide}
-use Rattle.fl_core.proofs.Places.{one_stands}
+use Rattle.fl_core.proofs.BoardPlaces.{one_stands}
 use Rattle.fl_model.specs.Runs.{same_end}
 use Rattle.fl_core.specs.View.{TheCore, slot_of, place_of, side_of_link}
 use Rattle.fl_core.proofs.Numbering.{goes_to}

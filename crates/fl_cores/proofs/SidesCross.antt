@@ -1,7 +1,7 @@
 -- Of each ring, wherever its sides are: new at the start, and put together again in the end.
 use Rattle.std.proofs.Common.{◌≡◌, sym, ap, ◌∙◌, subst, ℕ, ◌+◌, ◌*◌, ◌<◌, List, length, slice_get, Some, arith}
 use Rattle.fl_ring.specs.SharedSides.{TheSide}
-use Rattle.fl_core.proofs.Places.{one_stands}
+use Rattle.fl_core.proofs.BoardPlaces.{one_stands}
 use Rattle.fl_core.specs.Numbers.{moved}
 use Rattle.fl_core.proofs.Numbering.{goes_to}
 use Rattle.fl_core.specs.declared.core_job.CoreJob.{CoreJob}

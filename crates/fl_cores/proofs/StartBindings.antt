@@ -6,7 +6,7 @@ use Rattle.fl_base.specs.declared.identity.EndId.{EndId}
 use Rattle.fl_compile.specs.declared.program.Program.{Program}
 use Rattle.fl_link.specs.Queue.{TheQueue}
 use Rattle.fl_ring.specs.SharedSides.{TheSide}
-use Rattle.fl_core.proofs.Places.{one_stands}
+use Rattle.fl_core.proofs.BoardPlaces.{one_stands}
 use Rattle.fl_core.specs.declared.wiring.EndWiring.{EndWiring}
 use Rattle.fl_core.specs.declared.wiring.EndWiring.TheVariants.{Queues, Ring}
 use Rattle.fl_core.specs.View.{TheCore, client_of, server_of}

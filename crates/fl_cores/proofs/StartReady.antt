@@ -6,7 +6,7 @@ use Rattle.fl_compile.specs.declared.program.Program.{Program}
 use Rattle.fl_compile.specs.Programs.{program_of}
 use Rattle.fl_ring.specs.SharedSides.{TheSide}
 use Rattle.fl_endpoint.specs.View.{TheEnd, nothing_to_send, no_rules, rule_at as rule_of_end}
-use Rattle.fl_core.proofs.Places.{one_stands}
+use Rattle.fl_core.proofs.BoardPlaces.{one_stands}
 use Rattle.fl_core.specs.declared.wiring.WiredEnd.{WiredEnd}
 use Rattle.fl_core.specs.declared.wiring.EndWiring.{EndWiring}
 use Rattle.fl_core.specs.View.{TheCore, place_of}

@@ -10,7 +10,7 @@ use Rattle.fl_base.specs.Given.{given}
 use Rattle.fl_endpoint.specs.View.{TheEnd, interface_in, rule_in as what_stands, rule_at as rule_of_end, with_rule}
 use Rattle.fl_endpoint.specs.Events.{IsMessage}
 use Rattle.fl_core.specs.BoardView.{TheEndAtChannel, TheBoard}
-use Rattle.fl_core.proofs.Places.{one_stands, set_here, set_elsewhere}
+use Rattle.fl_core.proofs.BoardPlaces.{one_stands, set_here, set_elsewhere}
 use Rattle.fl_core.specs.View.{TheCore, place_of, with_board}
 use Rattle.fl_model.specs.Runs.{same_side, same_end}
 use Rattle.fl_world_refines.specs.declared.binding.Binding.{Binding}

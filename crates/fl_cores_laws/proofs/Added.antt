@@ -3,7 +3,7 @@ use Rattle.std.proofs.Common.{◌≡◌, ◌≢◌, ◌⊎◌, inl, inr, sym, ap
 use Rattle.std.proofs.lemmas.List.{length-set}
 use Rattle.fl_base.specs.declared.identity.EndId.{EndId}
 use Rattle.fl_endpoint.specs.View.{TheEnd}
-use Rattle.fl_core.proofs.Places.{push_last}
+use Rattle.fl_core.proofs.BoardPlaces.{push_last}
 use Rattle.fl_core.specs.BoardView.{TheEndAtChannel, TheBoard}
 use Rattle.fl_core.specs.BoardEvents.{Adds}
 use Rattle.fl_core.specs.declared.kind.ChannelKind.{ChannelKind}

@@ -16,7 +16,7 @@ use Rattle.fl_hop.specs.declared.forward.ForwardOutcome.TheVariants.{Moved, Full
 use Rattle.fl_hop.specs.OfCircuit.{as_carried, of_circuit}
 use Rattle.fl_hop.specs.Stretch.{TableStep, heard as hop_heard, taken_from}
 use Rattle.fl_hop.proofs.Laws.{is_eq}
-use Rattle.fl_core.proofs.Places.{one_stands}
+use Rattle.fl_core.proofs.BoardPlaces.{one_stands}
 use Rattle.fl_core.specs.BoardView.{TheEndAtChannel, TheBoard}
 use Rattle.fl_monitor.specs.declared.opening.Opening.{Opening}
 use Rattle.fl_monitor.specs.Fates.{comes_along}

@@ -4,7 +4,7 @@ use Rattle.std.proofs.Common.{Option, Some, None, Bool, true, false, Result, Ok,
 use Rattle.std.proofs.lemmas.Bool.Decides.{nat_tests}
 use Rattle.fl_base.specs.declared.identity.EndId.{EndId}
 use Rattle.fl_base.specs.Given.{given}
-use Rattle.fl_core.proofs.Places.{one_stands, set_here, set_elsewhere}
+use Rattle.fl_core.proofs.BoardPlaces.{one_stands, set_here, set_elsewhere}
 use Rattle.fl_core.specs.declared.turn_answer.TurnAnswer.{TurnAnswer}
 use Rattle.fl_core.specs.declared.turn_answer.TurnAnswer.TheVariants as turn
 use Rattle.fl_endpoint.specs.declared.fault.EndFault.{EndFault}

@@ -18,7 +18,7 @@ use Rattle.fl_hop.specs.Openings.{IsWaiting}
 use Rattle.fl_hop.specs.Numbers.{next_own}
 use Rattle.fl_hop.specs.Table.{TheCircuits, slot, hop_at, link_of, without_entry}
 use Rattle.fl_hop.proofs.Answering.{numbers_apart}
-use Rattle.fl_core.proofs.Places.{one_stands, set_here}
+use Rattle.fl_core.proofs.BoardPlaces.{one_stands, set_here}
 use Rattle.fl_base.specs.declared.identity.CoreId.{CoreId}
 use Rattle.fl_base.specs.Given.{given}
 use Rattle.fl_nameserv.specs.Registrations.{TheRegistration, by_iref}

@@ -6,7 +6,7 @@ use Rattle.fl_base.specs.declared.identity.EndId.{EndId}
 use Rattle.fl_ring.specs.SharedSides.{TheSide}
 use Rattle.fl_cores_table.specs.declared.table.OpeningRefusal.{OpeningRefusal}
 use Rattle.fl_cores_table.specs.Seats.{TheCoresSeat}
-use Rattle.fl_core.proofs.Places.{one_stands, set_here, set_elsewhere}
+use Rattle.fl_core.proofs.BoardPlaces.{one_stands, set_here, set_elsewhere}
 use Rattle.fl_core.specs.View.{place_of}
 use Rattle.fl_core.specs.declared.core_job.CoreJob.{CoreJob}
 use Rattle.fl_core_run.specs.declared.opening_status.OpeningStatus.{OpeningStatus}

@@ -7,7 +7,7 @@ use Rattle.fl_base.specs.declared.identity.EndId.{EndId}
 use Rattle.fl_base.specs.Given.{given}
 use Rattle.fl_ring.specs.SharedSides.{TheSide}
 use Rattle.fl_value_data.specs.declared.value.Call.{Call}
-use Rattle.fl_core.proofs.Places.{one_stands, set_here, set_elsewhere}
+use Rattle.fl_core.proofs.BoardPlaces.{one_stands, set_here, set_elsewhere}
 use Rattle.fl_endpoint.specs.declared.fault.EndFault.{EndFault}
 use Rattle.fl_core.specs.declared.turn_answer.TurnAnswer.{TurnAnswer}
 use Rattle.fl_core.specs.declared.turn_answer.TurnAnswer.TheVariants as turn

@@ -12,7 +12,7 @@ use Rattle.fl_base.specs.declared.identity.Side.TheVariants.{Client, Server}
 use Rattle.fl_base.specs.declared.identity.Circuit.{Circuit}
 use Rattle.fl_base.specs.Control.{bare}
 use Rattle.fl_base.specs.Given.{given}
-use Rattle.fl_core.proofs.Places.{set_here, set_elsewhere}
+use Rattle.fl_core.proofs.BoardPlaces.{set_here, set_elsewhere}
 use Rattle.fl_core.specs.BoardView.{TheDispatcher}
 use Rattle.fl_core.specs.declared.turn_answer.TurnAnswer.{TurnAnswer}
 use Rattle.fl_core.specs.declared.turn_answer.TurnAnswer.TheVariants as turn

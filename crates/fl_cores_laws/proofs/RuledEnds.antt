@@ -11,7 +11,7 @@ use Rattle.fl_value_data.specs.Value.{call_of}
 use Rattle.fl_interface.specs.Interface.{TheMessage, TheInterface}
 use Rattle.fl_compile.specs.declared.program.Program.{Program}
 use Rattle.fl_compile.specs.Programs.{program_of}
-use Rattle.fl_core.proofs.Places.{one_stands, set_here, set_elsewhere}
+use Rattle.fl_core.proofs.BoardPlaces.{one_stands, set_here, set_elsewhere}
 use Rattle.fl_core.specs.BoardView.{TheEndAtChannel}
 use Rattle.fl_endpoint.specs.View.{TheEnd, interface_in, rule_in, rule_at as rule_of_end}
 use Rattle.fl_endpoint.specs.Events.{SetsRule}

@@ -13,7 +13,7 @@ use Rattle.fl_hop.specs.declared.forward.ForwardOutcome.{ForwardOutcome}
 use Rattle.fl_hop.specs.declared.forward.ForwardOutcome.TheVariants.{Moved, Full, Spent}
 use Rattle.fl_lists.specs.ThreeLists.{ThreeLists}
 use Rattle.fl_endpoint.specs.View.{TheEnd}
-use Rattle.fl_core.proofs.Places.{one_stands, set_here, set_elsewhere, push_stays}
+use Rattle.fl_core.proofs.BoardPlaces.{one_stands, set_here, set_elsewhere, push_stays}
 use Rattle.fl_core.specs.BoardView.{TheEndAtChannel, TheBoard}
 use Rattle.fl_core.specs.declared.kind.ChannelKind.{ChannelKind}
 use Rattle.fl_core.specs.BoardEvents.{ChangesEnd, ChangesLists, Adds}

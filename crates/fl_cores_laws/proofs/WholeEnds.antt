@@ -7,7 +7,7 @@ use Rattle.fl_hop.specs.declared.entry.Hop.{Hop}
 use Rattle.fl_hop.specs.declared.entry.HopTarget.TheVariants.{End}
 use Rattle.fl_hop.specs.Joined.{Leads, Sound}
 use Rattle.fl_hop.specs.Table.{TheCircuits}
-use Rattle.fl_core.proofs.Places.{one_stands}
+use Rattle.fl_core.proofs.BoardPlaces.{one_stands}
 use Rattle.fl_core.specs.declared.wiring.WiredEnd.{WiredEnd}
 use Rattle.fl_core.specs.View.{TheCore, place_of, client_of, server_of}
 use Rattle.fl_core.specs.declared.core_job.CoreJob.{CoreJob}

@@ -3,7 +3,7 @@ use Rattle.std.proofs.Common.{◌≡◌, refl, sym, ap, ◌∙◌, subst, ℕ, �
 use Rattle.std.proofs.lemmas.Option.{slice_get_within}
 use Rattle.fl_base.specs.Given.{given}
 use Rattle.fl_endpoint.specs.View.{TheEnd}
-use Rattle.fl_core.proofs.Places.{push_last}
+use Rattle.fl_core.proofs.BoardPlaces.{push_last}
 use Rattle.fl_core.specs.BoardView.{TheEndAtChannel, TheBoard}
 use Rattle.fl_core.specs.declared.wiring.WiredEnd.{WiredEnd}
 use Rattle.fl_core.specs.View.{TheCore, arrivals_of, arrivals_by}

@@ -1,6 +1,6 @@
 use Rattle.std.proofs.Common.{ap, List}
 use Rattle.fl_core.specs.BoardView.{TheDispatcher, TheBoard}
-use Rattle.fl_core.proofs.Places.{set_here, set_elsewhere, set_same}
+use Rattle.fl_core.proofs.BoardPlaces.{set_here, set_elsewhere, set_same}
 use Rattle.fl_core.proofs.law.law_one_dispatcher_changes.Goals as goal
 
 pub returns : goal.returns

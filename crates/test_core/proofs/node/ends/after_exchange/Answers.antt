@@ -3,7 +3,7 @@ use Rattle.fl_endpoint.specs.View.{TheEnd, interface_in}
 use Rattle.fl_core.specs.declared.kind.ChannelKind.{ChannelKind}
 use Rattle.fl_core.specs.BoardView.{TheBoard, TheEndAtChannel}
 use Rattle.fl_core.specs.BoardEvents.{Adds, Holds}
-use Rattle.fl_core.proofs.Places.{push_last}
+use Rattle.fl_core.proofs.BoardPlaces.{push_last}
 use Rattle.test_core.proofs.node.ends.after_exchange.Goals as goal
 
 -- an end that was added sits where it was said to
