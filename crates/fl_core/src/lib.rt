@@ -1,21 +1,27 @@
-//! One core: its board of dispatchers and ends, its monitor, and the wirings by which its ends and links are joined to queues and rings.
+//! One core: its board of dispatchers and ends, its monitor, and the wirings by which its ends and links are
+//! joined to queues and rings.
 //!
-//! A [`Core`] has all that one core of the machine has but the queues and the rings themselves: these stand outside, each known by a number, and the
-//! side that an event needs is lent to it. Which side that is, the core tells: [`Core::outlet`] and [`Core::inlet`] of an end, [`Core::side`] of a link.
-//! So the same `Core` serves a world that is run event by event, and a core that has a thread of its own.
+//! A [`Core`] has all that one core of the machine has but the queues and the rings themselves: these stand
+//! outside, each known by a number, and the side that an event needs is lent to it. Which side that is, the
+//! core tells: [`Core::outlet`] and [`Core::inlet`] of an end, [`Core::side`] of a link. So the same `Core`
+//! serves a world that is run event by event, and a core that has a thread of its own.
 //!
-//! Contract for the layers above: a `Core` is the record of `specs/View.antt`. What is known of it at any time stands in `specs/Sound.antt`: each end is
-//! found by its name, and has a wiring of the kind that the board knows. One event is one method, and one exact relation between the core before and
-//! after, by cases on the answer, over the relation of the side that was lent: `specs/Making.antt` for what is made, `specs/Ends.antt` for ends and turns,
-//! `specs/Links.antt` and `specs/Hearing.antt` for links. Where memory is refused the core is as it was.
+//! Contract for the layers above: a `Core` is the record of `specs/View.antt`. What is known of it at any
+//! time stands in `specs/Sound.antt`: each end is found by its name, and has a wiring of the kind that the
+//! board knows. One event is one method, and one exact relation between the core before and after, by cases
+//! on the answer, over the relation of the side that was lent: `specs/Making.antt` for what is made,
+//! `specs/Ends.antt` for ends and turns, `specs/Links.antt` and `specs/Hearing.antt` for links. Where memory
+//! is refused the core is as it was.
 //!
-//! A fragment that stands first on a link is forwarded in two steps: [`Core::look`] says what it needs; then it is passed on by [`fl_hop::move_on`],
-//! arrives for an end ([`Core::arrive`]), or is heard by the monitor ([`Core::hear`]).
+//! A fragment that stands first on a link is forwarded in two steps: [`Core::look`] says what it needs; then
+//! it is passed on by [`fl_hop::move_on`], arrives for an end ([`Core::arrive`]), or is heard by the monitor
+//! ([`Core::hear`]).
 //!
-//! Below the core stands its [`Board`]: the dispatchers, each with three lists of channels, and their ends, by place (`specs/BoardView.antt`,
-//! `specs/BoardTurns.antt`, `specs/BoardEvents.antt`, `specs/BoardSound.antt`). What its ends have taken of calls that aren't whole yet it has for all of them
-//! in one, a place for each. What a running core is given to do at its ends, its jobs, stands here too (`specs/Jobs.antt`), so that what joins the jobs of
-//! a file to cores need not stand over what does them.
+//! Below the core stands its [`Board`]: the dispatchers, each with three lists of channels, and their ends,
+//! by place (`specs/BoardView.antt`, `specs/BoardTurns.antt`, `specs/BoardEvents.antt`,
+//! `specs/BoardSound.antt`). What its ends have taken of calls that aren't whole yet it has for all of them
+//! in one, a place for each. What a running core is given to do at its ends, its jobs, stands here too
+//! (`specs/Jobs.antt`), so that what joins the jobs of a file to cores need not stand over what does them.
 //!
 //! The core:
 //! - `one_core.rt`: `Core`, and where things are

@@ -1,20 +1,23 @@
-//! Cores on threads of their own: a set-up is booted and taken apart, its cores run (`fl_cores_parts`), and what came of that is told, honestly, in any
-//! schedule; a cores file likewise.
+//! Cores on threads of their own: a set-up is booted and taken apart, its cores run (`fl_cores_parts`), and
+//! what came of that is told, honestly, in any schedule; a cores file likewise.
 //!
-//! Contract for the layer above, of [`run_cores`] and [`run_cores_text`]: what an end is reported to have handled is a prefix of what the other end made,
-//! and what it made is a prefix of what was handed in for it, on every binding (`specs/Honesty.antt`); the run ended as is told (`specs/Endings.antt`),
-//! bindings being refused for the reasons that are told (`specs/Reasons.antt`, `specs/Over.antt`). With one core the report is a function of the
-//! configuration, the jobs and the limit: that of so many turns of the machine (`specs/OneCore.antt`), so two runs of a file tell the same ([`law_one_report`],
-//! `specs/Again.antt`). And each core of a run goes on as the machine does, from the set-up, on what it knows of that ([`law_runs_follow`],
-//! `specs/Follows.antt`).
+//! Contract for the layer above, of [`run_cores`] and [`run_cores_text`]: what an end is reported to have
+//! handled is a prefix of what the other end made, and what it made is a prefix of what was handed in for it,
+//! on every binding (`specs/Honesty.antt`); the run ended as is told (`specs/Endings.antt`), bindings being
+//! refused for the reasons that are told (`specs/Reasons.antt`, `specs/Over.antt`). With one core the report
+//! is a function of the configuration, the jobs and the limit: that of so many turns of the machine
+//! (`specs/OneCore.antt`), so two runs of a file tell the same ([`law_one_report`], `specs/Again.antt`). And
+//! each core of a run goes on as the machine does, from the set-up, on what it knows of that
+//! ([`law_runs_follow`], `specs/Follows.antt`).
 //!
-//! Behind each report stand cores as `fl_cores_laws` speaks of them (`specs/Outcomes.antt`), so it follows by its laws from what a run tells
-//! (`specs/Promised.antt`).
+//! Behind each report stand cores as `fl_cores_laws` speaks of them (`specs/Outcomes.antt`), so it follows by
+//! its laws from what a run tells (`specs/Promised.antt`).
 //!
 //! - `run.rt`: a set-up with jobs run; `text.rt`: a cores file run; `fault.rt`: why there is no report
 //! - `reports.rt`: the same, with what is promised of reports
 //! - `law_outcomes.rt`: which cores stand behind a report, and what of the laws of endings holds of it
-//! - `law_reports.rt`: each report is honest, and tells how the run ended, and why bindings were refused; what that of one core is
+//! - `law_reports.rt`: each report is honest, and tells how the run ended, and why bindings were refused;
+//!   what that of one core is
 //! - `law_following.rt`: that each core of a run follows the machine
 #![tactic(auto)]
 

@@ -1,13 +1,15 @@
-//! When what the system shows of itself is a state of the machine: an end, a queue, a ring, a monitor and the table of names (`specs/Fragments.antt`,
-//! `specs/Ends.antt`, `specs/Queues.antt`, `specs/Rings.antt`, `specs/Cores.antt`), and a whole world of several cores (`specs/View.antt`,
-//! `specs/ShowsState.antt`).
+//! When what the system shows of itself is a state of the machine: an end, a queue, a ring, a monitor and the
+//! table of names (`specs/Fragments.antt`, `specs/Ends.antt`, `specs/Queues.antt`, `specs/Rings.antt`,
+//! `specs/Cores.antt`), and a whole world of several cores (`specs/View.antt`, `specs/ShowsState.antt`).
 //!
-//! Contract for the layers above: laws, the contracts of functions that do nothing. Of a world that shows a state each event (`specs/Step.antt`) has the
-//! machine's answer, and leaves a world that shows the machine's next state ([`law_steps_agree`], `specs/Laws.antt`). [`Parts`] is what a world is taken apart
-//! into, before its cores run on threads: it stands here so that they don't need the world's code (`fl_world`).
+//! Contract for the layers above: laws, the contracts of functions that do nothing. Of a world that shows a
+//! state each event (`specs/Step.antt`) has the machine's answer, and leaves a world that shows the machine's
+//! next state ([`law_steps_agree`], `specs/Laws.antt`). [`Parts`] is what a world is taken apart into, before
+//! its cores run on threads: it stands here so that they don't need the world's code (`fl_world`).
 //!
 //! - `law_ends.rt`, `law_rings.rt`, `law_labels.rt`, `law_cores.rt`, `law_states.rt`: laws of parts
-//! - `law_of_steps.rt`: the law of an event of a world; `law_of_ends.rt`, `law_of_fragments.rt`, `law_of_joining.rt`, `law_of_links.rt`, `law_of_making.rt`: its cases
+//! - `law_of_steps.rt`: the law of an event of a world; `law_of_ends.rt`, `law_of_fragments.rt`,
+//!   `law_of_joining.rt`, `law_of_links.rt`, `law_of_making.rt`: its cases
 //! - `binding.rt`, `parts.rt`: `Binding`, `Parts`
 #![tactic(auto)]
 
