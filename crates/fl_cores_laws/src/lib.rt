@@ -1,8 +1,8 @@
 //! What holds of the report of running cores: that it is honest (`law_honesty.rt`), and how the run ended
 //! (`law_endings.rt`). Laws, the contracts of functions that do nothing.
 //!
-//! **Honesty**, over what each core's log tells of a run (`fl_logs`), what the sides of rings came to
-//! (`fl_deal`), and what was joined to ends (`fl_dockets`). What is taken through a queue or a ring is the
+//! **Honesty**, over what each core's log tells of a run (`fl_core_run_laws`), what the sides of rings came to
+//! (`fl_cores_shares`), and what was joined to ends (`fl_cores_jobs`). What is taken through a queue or a ring is the
 //! first of what was put ([`law_cross_off_links`], `specs/Crossing.antt`). Of two ends of a binding, each of
 //! which took the first of what the other put, what one handled is the first of what the other made, and that
 //! the first of what was handed in for it ([`law_ends_are_honest`]). So it is of bindings by queues and by
@@ -26,8 +26,8 @@
 //! ([`law_progresses_tell_reasons`], `specs/Reasons.antt`): for want of a number on a link only where the
 //! routes of 1,023 other bindings go over it ([`law_spent_on_bindings`], `specs/Spent.antt`).
 //!
-//! **Endings**, over cores that took turns by their plans (`fl_running`), what was joined to their ends
-//! (`fl_dockets`), and a report that tells of their ends' progress (`fl_jobs`). Turns are within the limit,
+//! **Endings**, over cores that took turns by their plans (`fl_core_run`), what was joined to their ends
+//! (`fl_cores_jobs`), and a report that tells of their ends' progress (`fl_cores_file`). Turns are within the limit,
 //! and `turns out` comes only where a core took all of its turns ([`law_turns_are_kept`],
 //! `specs/EndedTurns.antt`). What cores hear of refused openings was told ([`law_tables_tell`],
 //! `specs/EndedHeard.antt`), so each refusal that a core knew of is named ([`law_refusals_are_named`],
