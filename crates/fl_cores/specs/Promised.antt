@@ -2,8 +2,8 @@
 use Rattle.std.specs.Prelude.{ℕ, ◌≡◌, ◌⊎◌, ◌+◌, Bool, true, false, not, List, ◌++◌, length, take, Option, Some, None, position}
 use Rattle.std.specs.List.{list_all}
 use Rattle.fl_model.specs.Events.{Event}
-use Rattle.fl_script_lines.specs.declared.event.Event.{Event as RustEvent}
-use Rattle.fl_script_lines.specs.Events.{event_of}
+use Rattle.fl_model.specs.declared.event.Event.{Event as RustEvent}
+use Rattle.fl_model.specs.Views.{event_of}
 use Rattle.fl_model.specs.Runs.{answers_to, reached}
 use Rattle.fl_model.specs.Worlds.{start_with}
 use Rattle.fl_world_refines.specs.View.{TheWorld}

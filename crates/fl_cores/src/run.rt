@@ -1,7 +1,7 @@
 //! A run of cores, from their set-up to the report.
 
 ghost use Rattle.std.specs.Prelude.{◌≡◌, ◌≤◌, Some, None, List, map, position, length, IfOk, IfErr};
-ghost use Rattle.fl_script_lines.specs.Events.{event_of};
+ghost use Rattle.fl_model.specs.Views.{event_of};
 ghost use Rattle.fl_cores_file.specs.Reports.{report_of};
 ghost use Rattle.fl_world_refines.specs.Apart.{is_making};
 ghost use Rattle.fl_world.specs.Booting.{config_of, IsFaultOf};
@@ -15,7 +15,7 @@ use fl_base::faults;
 use fl_core_run::Gate;
 use fl_cores_file::{Job, Report};
 use fl_cores_parts::run_parts;
-use fl_script_lines::{BackEnd, Event};
+use fl_model::{BackEnd, Event};
 use fl_world::{BootFault, Config, World};
 use fl_world_refines::Parts;
 use std::alloc::Global;

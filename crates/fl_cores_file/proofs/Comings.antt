@@ -10,7 +10,7 @@ use Rattle.fl_script_lines.specs.declared.fault.LineFault.{LineFault}
 use Rattle.fl_script_lines.specs.declared.fault.LineFault.TheVariants.{Memory as NoMemory}
 use Rattle.fl_script_lines.specs.Asked.{Asked, asks, Asks, asks_interface}
 use Rattle.fl_script_lines.specs.Commands.{Command}
-use Rattle.fl_script_lines.specs.Events.{event_of}
+use Rattle.fl_model.specs.Views.{event_of}
 use Rattle.fl_script_lines.specs.Items.{a_block}
 use Rattle.fl_script_lines.specs.Told.{named, Tells, AsksAs}
 use Rattle.fl_cores_file.specs.declared.stop.CoresLineFault.{CoresLineFault}

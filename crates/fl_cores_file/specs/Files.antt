@@ -1,7 +1,7 @@
 -- What was read of a cores file, as the definitions have it. Public contracts name what a file and a text come to (`file_from`,
 -- `outcome_of`); of `reading_of` the code alone speaks.
 use Rattle.std.specs.Prelude.{map}
-use Rattle.fl_script_lines.specs.Events.{event_of}
+use Rattle.fl_model.specs.Views.{event_of}
 use Rattle.fl_script_lines.specs.Told.{names_of}
 use Rattle.fl_cores_file.specs.declared.reading.PartialCoresFile.{PartialCoresFile as RustReading}
 use Rattle.fl_cores_file.specs.declared.file.CoresFile.{CoresFile as RustFile}

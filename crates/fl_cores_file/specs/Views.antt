@@ -4,7 +4,7 @@ use Rattle.std.specs.Prelude.{map}
 use Rattle.fl_interface.specs.Interface.{interface_of}
 use Rattle.fl_value_data.specs.Value.{call_of}
 use Rattle.fl_model.specs.Calls.{Planned}
-use Rattle.fl_script_lines.specs.Events.{id_of, event_of}
+use Rattle.fl_model.specs.Views.{id_of, event_of}
 use Rattle.fl_script_lines.specs.Tables.{table_of}
 use Rattle.fl_cores_file.specs.declared.job.CircuitRequest.{CircuitRequest as RustRequest}
 use Rattle.fl_cores_file.specs.declared.job.Job.{Job as RustJob}

@@ -4,10 +4,7 @@ ghost use Rattle.std.specs.Prelude.{◌≡◌, ◌≤◌, ◌∷◌, nat_lt, len
 ghost use Rattle.std.specs.List.{count_by, list_all};
 ghost use Rattle.fl_lists.specs.ThreeLists.{is_in};
 ghost use Rattle.fl_model.specs.Binding.{all_differ, same_dispatcher};
-ghost use Rattle.fl_script_lines.specs.Asked.{kind_of};
-ghost use Rattle.fl_script_lines.specs.Events.{id_of};
-ghost use Rattle.fl_script_lines.specs.Views.{back_end_of};
-ghost use Rattle.fl_script_lines.specs.Words.{numbers_in};
+ghost use Rattle.fl_model.specs.Views.{id_of, cores_of, kind_of};
 ghost use Rattle.fl_cores_file.specs.Draft.{with_binding, with_set_up, has_places, has_both_places, binds_by_queues};
 ghost use Rattle.fl_cores_file.specs.Draft.{binds_by_ring, is_route, binds_by_route, binds_by, offer_of, binds};
 ghost use Rattle.fl_cores_file.specs.Verdicts.{Comes, goes_on};
@@ -18,7 +15,7 @@ use crate::job::{CircuitRequest, Job};
 use crate::setup::is_ring_size;
 use crate::stop::CoresLineFault;
 use fl_base::{MAX_BINDINGS, MAX_CHANNELS, MAX_CORES, MAX_QUEUE, faults};
-use fl_script_lines::{BackEnd, DispatcherId, Event, Route};
+use fl_model::{BackEnd, DispatcherId, Event, Route};
 
 /// What a binding is asked for, once its service is known.
 #[derive(Clone, Copy)]
@@ -109,10 +106,10 @@ impl<'a> Draft<'a> {
     fn set_up(
         &mut self,
         want: DraftRequest<'a>,
-        back_end: BackEnd<'a>,
+        back_end: BackEnd,
     ) -> Result<(), CoresLineFault>
         ensures set_up { Comes result (draft_of self.new)
-            (goes_on (with_set_up (wanted_of want.entry) (kind_of (back_end_of back_end.entry)) (draft_of self.old))) }
+            (goes_on (with_set_up (wanted_of want.entry) (kind_of back_end.entry) (draft_of self.old))) }
     {
         self.seats.push(want.client)?;
         self.seats.push(want.server)?;
@@ -172,14 +169,15 @@ impl<'a> Draft<'a> {
     fn bind_by_route(
         &mut self,
         want: DraftRequest<'a>,
-        route: Vec<u32>,
+        route: &[u32],
     ) -> Result<(), CoresLineFault>
-        ensures comes { Comes result (draft_of self.new) (binds_by_route (wanted_of want.entry) route.items (draft_of self.old)) }
+        ensures comes { Comes result (draft_of self.new) (binds_by_route (wanted_of want.entry) route.now (draft_of self.old)) }
     {
-        if !self.is_route(want, &route) {
+        if !self.is_route(want, route) {
             return Err(CoresLineFault::Refused(faults::NO_SUCH_ROUTE));
         }
         self.put_binding(true, want.interface)?;
+        let route = route.to_vec(self.alloc)?;
         self.put_job(Job::Open(CircuitRequest {
             client: want.client,
             interface: want.interface,
@@ -188,30 +186,18 @@ impl<'a> Draft<'a> {
         }))
     }
 
-    fn bind_by_hops(
-        &mut self,
-        want: DraftRequest<'a>,
-        route: Route<'a>,
-    ) -> Result<(), CoresLineFault>
-        ensures comes { Comes result (draft_of self.new)
-            (binds_by_route (wanted_of want.entry) (route.entry.first ∷ numbers_in route.entry.others.now) (draft_of self.old)) }
-    {
-        let cores = route.cores(self.alloc)?;
-        self.bind_by_route(want, cores)
-    }
-
     fn bind_by(
         &mut self,
         want: DraftRequest<'a>,
-        back_end: BackEnd<'a>,
+        back_end: BackEnd,
     ) -> Result<(), CoresLineFault>
         ensures comes { Comes result (draft_of self.new)
-            (binds_by (wanted_of want.entry) (kind_of (back_end_of back_end.entry)) (draft_of self.old)) }
+            (binds_by (wanted_of want.entry) (kind_of back_end.entry) (draft_of self.old)) }
     {
         match back_end {
             BackEnd::Local(slots) => self.bind_by_queues(want, slots),
             BackEnd::Ump(slots) => self.bind_by_ring(want, slots),
-            BackEnd::Hop(route) => self.bind_by_hops(want, route),
+            BackEnd::Hop(route) => self.bind_by_route(want, route.cores()),
         }
     }
 
@@ -233,10 +219,10 @@ impl<'a> Draft<'a> {
         client: DispatcherId,
         interface: usize,
         service: &'a [u8],
-        back_end: BackEnd<'a>,
+        back_end: BackEnd,
     ) -> Result<(), CoresLineFault>
         ensures comes { Comes result (draft_of self.new)
-            (binds (id_of client) interface service.now (kind_of (back_end_of back_end.entry)) (draft_of self.old)) }
+            (binds (id_of client) interface service.now (kind_of back_end.entry) (draft_of self.old)) }
     {
         if !(self.is_dispatcher(client) && self.is_interface(interface)) {
             return Err(CoresLineFault::Refused(faults::WRONG_NAME));

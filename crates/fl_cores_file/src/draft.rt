@@ -1,7 +1,7 @@
 //! What the lines of a cores file come to, so far.
 
 ghost use Rattle.std.specs.Prelude.{◌≡◌};
-ghost use Rattle.fl_script_lines.specs.Events.{event_of};
+ghost use Rattle.fl_model.specs.Views.{event_of};
 ghost use Rattle.fl_cores_file.specs.Draft.{nothing_yet, with_event, with_job, is_core, takes};
 ghost use Rattle.fl_cores_file.specs.Verdicts.{Comes, goes_on};
 ghost use Rattle.fl_cores_file.specs.Views.{draft_of, job_of};
@@ -10,7 +10,8 @@ use crate::job::Job;
 use crate::stop::CoresLineFault;
 use fl_base::faults;
 use fl_interface::Interface;
-use fl_script_lines::{DispatcherId, Event, NameTable};
+use fl_model::{DispatcherId, Event};
+use fl_script_lines::NameTable;
 use fl_value_data::PlanNo;
 use std::alloc::Global;
 

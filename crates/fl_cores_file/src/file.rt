@@ -9,7 +9,8 @@ use crate::draft::{Draft, DraftBinding};
 use crate::job::Job;
 use crate::reading::PartialCoresFile;
 use fl_base::EndId;
-use fl_script_lines::{Event, ScriptNames};
+use fl_model::Event;
+use fl_script_lines::ScriptNames;
 use std::alloc::{AllocError, Global};
 
 /// What a cores file comes to.

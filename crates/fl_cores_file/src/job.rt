@@ -1,7 +1,7 @@
 //! What running cores are to do at their ends.
 
 use fl_base::{EndId, MsgNo};
-use fl_script_lines::DispatcherId;
+use fl_model::DispatcherId;
 use fl_value_data::Call;
 
 /// A circuit that is to be opened, by the core of its client's end.

@@ -4,7 +4,7 @@ ghost use Rattle.std.specs.Prelude.{ℕ, ◌≡◌, ◌≤◌, ◌==◌, Err, If
 ghost use Rattle.std.specs.List.{count_by};
 ghost use Rattle.fl_interface.specs.Interface.{interface_of};
 ghost use Rattle.fl_script_lines.specs.Asked.{Asked as TheAsked, asks};
-ghost use Rattle.fl_script_lines.specs.Events.{event_of};
+ghost use Rattle.fl_model.specs.Views.{event_of};
 ghost use Rattle.fl_script_lines.specs.Items.{a_line, a_block, is_too_long};
 ghost use Rattle.fl_script_lines.specs.Told.{names_of, named, IsNew, Tells};
 ghost use Rattle.fl_script_lines.specs.Views.{command_of, line_of, item_of};
@@ -20,9 +20,8 @@ use crate::stop::{CoresLineFault, stop_by};
 use fl_base::faults;
 use fl_check::{TextRead, read_text};
 use fl_interface::Interface;
-use fl_script_lines::{
-    Answer, Command, Item, Line, LineFault, NamedEvent, ScriptNames, law_some_items, next_item,
-};
+use fl_model::Answer;
+use fl_script_lines::{Command, Item, Line, LineFault, NamedEvent, ScriptNames, law_some_items, next_item};
 use fl_value_data::PlanNo;
 use std::alloc::{AllocError, Global};
 

@@ -4,7 +4,7 @@ ghost use Rattle.std.specs.Prelude.{◌≡◌, ◌==◌, bytes_eq};
 ghost use Rattle.std.specs.List.{count_by, list_any};
 ghost use Rattle.fl_interface.specs.Interface.{interface_of};
 ghost use Rattle.fl_model.specs.Making.{is_ring_size};
-ghost use Rattle.fl_script_lines.specs.Events.{id_of};
+ghost use Rattle.fl_model.specs.Views.{id_of};
 ghost use Rattle.fl_cores_file.specs.Draft.{has_interface, is_dispatcher, is_interface, adds_interface, sets_cores};
 ghost use Rattle.fl_cores_file.specs.Draft.{joins, has_link, adds_link, adds_dispatcher, exports};
 ghost use Rattle.fl_cores_file.specs.Verdicts.{Comes};
@@ -14,7 +14,7 @@ use crate::draft::{Draft, DraftInterface, DraftLink, DraftService};
 use crate::stop::CoresLineFault;
 use fl_base::{MAX_CORES, MAX_DISPATCHERS, MAX_INTERFACES, MAX_SERVICES, faults};
 use fl_interface::Interface;
-use fl_script_lines::{DispatcherId, Event};
+use fl_model::{DispatcherId, Event};
 use fl_value_data::PlanNo;
 
 // Whether a number is among these.

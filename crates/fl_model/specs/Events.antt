@@ -1,7 +1,7 @@
 -- What may be asked of the machine, and what it answers. Everything is named by its place in a list, from 0:
 -- the names of dispatchers and bindings are the script's alone. The two names that the world itself looks
 -- things up by are here: a service's stands in the table of names, and an interface has its own.
-use Rattle.std.specs.Prelude.{ℕ, List}
+use Rattle.std.specs.Prelude.{ℕ, Bool, true, false, List, take}
 use Rattle.fl_base.specs.declared.fragment.Frag.{Frag}
 use Rattle.fl_base.specs.declared.identity.EndId.{EndId}
 use Rattle.fl_interface.specs.Interface.{TheInterface}
@@ -21,6 +21,10 @@ pub data Kind : Type 0 where
   by_ring : ℕ → Kind
   -- by a circuit over these cores, the client's first
   by_route : List ℕ → Kind
+
+-- as much of a route as is asked with: no circuit goes over more than 16 cores, and one core more tells that a route is too long
+abbrev pub asked_route : List ℕ → List ℕ
+asked_route cores = take 17 cores
 
 pub data Event : Type 0 where
   -- an interface under a plan
@@ -82,3 +86,8 @@ pub data Answer : Type 0 where
   words : Frag → Answer
   -- the event is refused, with the fault's number
   refused : ℕ → Answer
+
+-- the answer that is written `ok`
+abbrev pub is_done : Answer → Bool
+is_done done = true
+is_done answer = false

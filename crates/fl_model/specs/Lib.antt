@@ -1,5 +1,5 @@
--- Here is no code: public promises of the crates above rest on all of these, those of the laws (`fl_model_laws`) first. `src/lib.rt` says in
--- which order they are read.
+-- Public promises of the crates above rest on all of these, those of the laws (`fl_model_laws`) first. `src/lib.rt` says in which order they are
+-- read.
 pub mod Given
 pub mod Events
 pub mod Calls
@@ -30,3 +30,5 @@ pub mod SoundCalls
 pub mod SoundLimits
 pub mod Worlds
 pub mod Keeping
+pub mod Views
+pub mod Steps

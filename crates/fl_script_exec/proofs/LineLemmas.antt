@@ -5,14 +5,15 @@ use Rattle.std.proofs.lemmas.Result.{on_ok_weaker}
 use Rattle.fl_model.specs.Events.{Event, Answer}
 use Rattle.fl_model.specs.State.{State}
 use Rattle.fl_model.specs.Step.{step}
-use Rattle.fl_script_lines.specs.declared.event.Event.{Event as RustEvent}
+use Rattle.fl_model.specs.declared.event.Event.{Event as RustEvent}
 use Rattle.fl_script_lines.specs.declared.fault.LineFault.{LineFault}
 use Rattle.fl_script_lines.specs.declared.fault.LineFault.TheVariants.{Memory}
 use Rattle.fl_script_lines.specs.Answers.{answer_text, line}
-use Rattle.fl_script_lines.specs.declared.answer.Answer.{Answer as RustAnswer}
-use Rattle.fl_script_lines.specs.Events.{event_of, answer_of}
+use Rattle.fl_model.specs.declared.answer.Answer.{Answer as RustAnswer}
+use Rattle.fl_model.specs.Views.{event_of, answer_of}
 use Rattle.fl_script_lines.specs.Faults.{number_of}
-use Rattle.fl_script_lines.specs.Asked.{Asked, asks, is_done, names_after}
+use Rattle.fl_model.specs.Events.{is_done}
+use Rattle.fl_script_lines.specs.Asked.{Asked, asks, names_after}
 use Rattle.fl_script_lines.specs.Commands.{Command}
 use Rattle.fl_script_lines.specs.Items.{a_line}
 use Rattle.fl_script_lines.specs.Lines.{LineAsks, LineTells, TellsEvent}
@@ -21,7 +22,7 @@ use Rattle.fl_script_lines.specs.Reading.{line_with}
 use Rattle.fl_script_lines.specs.Told.{names_of}
 use Rattle.fl_script_exec.specs.declared.script.Script.{Script as RustScript}
 use Rattle.fl_script_exec.specs.Shown.{IsAt, Answered, Answers, AnswersBy, AnswersEvent}
-use Rattle.fl_script_exec.specs.Steps.{Steps}
+use Rattle.fl_model.specs.Steps.{Steps}
 use Rattle.fl_script_exec.specs.Transcript.{Script, Does, effect_of, writes_refusal}
 
 same_names : (n : Names) (a : Answer) → names_after n n a ≡ n

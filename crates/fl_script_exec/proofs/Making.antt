@@ -22,7 +22,7 @@ use Rattle.fl_model.specs.Binding.{BindByNames, end_id, with_new_binding, binds_
 use Rattle.fl_model.specs.Step.{settles_by}
 use Rattle.fl_model_laws.proofs.Cases.{either, by_given}
 use Rattle.fl_model_laws.proofs.Views.{map_changed}
-use Rattle.fl_script_lines.specs.Asked.{is_done}
+use Rattle.fl_model.specs.Events.{is_done}
 use Rattle.fl_script_exec.proofs.Views.{View, view, Same, interface_in, count_in, cores_same, binds_same, seats_same}
 
 -- it was answered `ok`, and made this; or it wasn't, and made nothing

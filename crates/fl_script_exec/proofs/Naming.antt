@@ -24,7 +24,8 @@ use Rattle.fl_script_lines.specs.Commands.{EndName, Command, cores, link, disp, 
 use Rattle.fl_script_lines.specs.Grammar.{silent, heading, command, unread}
 use Rattle.fl_script_lines.specs.Items.{Item, a_line, a_block, open_block}
 use Rattle.fl_script_lines.specs.Names.{Names, is_on, place_of, dispatcher_at, end_at, message_at, with_interface, with_dispatcher, with_binding}
-use Rattle.fl_script_lines.specs.Asked.{Asked, asks, is_done, names_after, is_taken, kind_of, asks_end, asks_call, CallAsks, Asks}
+use Rattle.fl_model.specs.Events.{is_done}
+use Rattle.fl_script_lines.specs.Asked.{Asked, asks, names_after, is_taken, kind_of, asks_end, asks_call, CallAsks, Asks}
 use Rattle.fl_check.specs.Text.{TextOutcome, stands_for, text_fault}
 use Rattle.fl_script_exec.specs.Transcript.{Script, beginning, Effect, effect_of, block_effect, Does, AllDo, last_of}
 use Rattle.fl_script_exec.specs.Standing.{AllDiffer, name_of, message_names, NamesStand, ScriptsNameWhatStands}

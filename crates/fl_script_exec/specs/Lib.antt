@@ -1,8 +1,7 @@
--- The public promises rest on Transcript, CutShort, Handled and Standing (what is written, and what holds of every script), on Steps (what
--- a script runs on does), and on Reading, Written and Counting (what `exec` reads and writes). Shown is a working file.
+-- The public promises rest on Transcript, CutShort, Handled and Standing (what is written, and what holds of every script), and on Reading,
+-- Written and Counting (what `exec` reads and writes). Shown is a working file.
 pub mod Transcript
 pub mod CutShort
-pub mod Steps
 pub mod Shown
 pub mod Counting
 pub mod Reading

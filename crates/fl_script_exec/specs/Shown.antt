@@ -4,7 +4,7 @@ use Rattle.fl_model.specs.State.{State}
 use Rattle.fl_script_lines.specs.declared.event.NamedEvent.{NamedEvent as RustAsked}
 use Rattle.fl_script_lines.specs.declared.fault.LineFault.{LineFault}
 use Rattle.fl_script_lines.specs.Asked.{Asked}
-use Rattle.fl_script_lines.specs.declared.event.Event.{Event as RustEvent}
+use Rattle.fl_model.specs.declared.event.Event.{Event as RustEvent}
 use Rattle.fl_script_lines.specs.Lines.{TellsEvent}
 use Rattle.fl_script_lines.specs.Told.{names_of, Tells}
 use Rattle.fl_script_exec.specs.declared.script.Script.{Script as RustScript}

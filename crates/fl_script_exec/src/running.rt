@@ -10,9 +10,9 @@ ghost use Rattle.fl_script_exec.specs.Counting.{CountsUpTo};
 ghost use Rattle.fl_script_exec.specs.Reading.{status_of, ReadsWhole, CanBeUnread, GivesSome, GivesScript, GivesUntil};
 ghost use Rattle.fl_script_exec.specs.Written.{WritesTranscript, WritesPrefix, WritesAnswers, WritesUntil};
 
-use crate::machine::QueueMachine;
 use crate::reader::ScriptReader;
 use crate::script::Script;
+use fl_model::Machine;
 use fl_script_lines::next_part;
 use std::alloc::{AllocError, AllocFailed, Global};
 use std::io::Write;
@@ -103,7 +103,7 @@ fn put_all<W: Write>(writer: &mut W, text: &[u8]) -> Result<(), ExecFault>
 }
 
 // Runs a script's items one after another, and writes each one's answer; one buffer serves all.
-fn run<M: QueueMachine, W: Write>(
+fn run<M: Machine, W: Write>(
     script: &mut Script<M>,
     text: &[u8],
     writer: &mut W,
@@ -141,7 +141,7 @@ fn run<M: QueueMachine, W: Write>(
 /// the transcript: whole answers where memory is refused, not all of it after a failed write, and nothing after
 /// a failed read (`specs/CutShort.antt`). The reader then has given some of its first bytes; all of a script
 /// where a write failed (`specs/Reading.antt`).
-pub fn exec<M: QueueMachine + Drop, R: ScriptReader, W: Write>(
+pub fn exec<M: Machine + Drop, R: ScriptReader, W: Write>(
     alloc: Global,
     reader: &mut R,
     writer: &mut W,

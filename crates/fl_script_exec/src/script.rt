@@ -5,7 +5,7 @@ ghost use Rattle.fl_interface.specs.Interface.{interface_of};
 ghost use Rattle.fl_script_lines.specs.declared.fault.LineFault.TheVariants.{Memory};
 ghost use Rattle.fl_script_lines.specs.Answers.{answer_text, line};
 ghost use Rattle.fl_script_lines.specs.Asked.{asks};
-ghost use Rattle.fl_script_lines.specs.Events.{event_of, answer_of};
+ghost use Rattle.fl_model.specs.Views.{event_of, answer_of};
 ghost use Rattle.fl_script_lines.specs.Faults.{number_of};
 ghost use Rattle.fl_script_lines.specs.Grammar.{command as of_command};
 ghost use Rattle.fl_script_lines.specs.Items.{a_line, a_block};
@@ -17,14 +17,11 @@ ghost use Rattle.fl_script_exec.specs.Transcript.{beginning, writes_only, effect
 ghost use Rattle.fl_script_exec.specs.Transcript.{block_effect, Does};
 ghost use Rattle.fl_check.specs.Text.{stands_for, text_fault};
 
-use crate::machine::QueueMachine;
 use fl_base::faults;
 use fl_check::{TextRead, read_text};
 use fl_interface::Interface;
-use fl_script_lines::{
-    Answer, Command, LineFault, NamedEvent, RawItem, ScriptNames, Verb, print_answer, print_fault,
-    read_command,
-};
+use fl_model::{Answer, Machine};
+use fl_script_lines::{Command, LineFault, NamedEvent, RawItem, ScriptNames, Verb, print_answer, print_fault, read_command};
 use fl_value_data::{PlanNo, Value};
 use std::alloc::{AllocError, Global};
 use std::mem;
@@ -41,7 +38,7 @@ pub struct Script<M> {
     last: usize,
 }
 
-impl<M: QueueMachine> Script<M> {
+impl<M: Machine> Script<M> {
     /// A script of which nothing was read.
     ///
     /// # Errors

@@ -6,12 +6,12 @@ use Rattle.fl_lex.specs.Words.{is_name}
 use Rattle.fl_model.specs.Events.{Event}
 use Rattle.fl_value.specs.CallText.{without_blanks}
 use Rattle.fl_script_lines.specs.declared.event.NamedEvent.{NamedEvent as RustAsked}
-use Rattle.fl_script_lines.specs.declared.event.Event.{Event as RustEvent}
+use Rattle.fl_model.specs.declared.event.Event.{Event as RustEvent}
 use Rattle.fl_script_lines.specs.declared.fault.LineFault.{LineFault}
 use Rattle.fl_script_lines.specs.declared.fault.LineFault.TheVariants.{Memory}
 use Rattle.fl_script_lines.specs.Asked.{Asked, refuses, asks, Asks, asks_end, asks_turn}
 use Rattle.fl_script_lines.specs.Commands.{EndName, Command, call, turn}
-use Rattle.fl_script_lines.specs.Events.{event_of}
+use Rattle.fl_model.specs.Views.{event_of}
 use Rattle.fl_script_lines.specs.Lines.{LineAsks, TellsEvent, LineTells, CallTells, asks_by_end, asks_by_dispatcher}
 use Rattle.fl_script_lines.specs.Names.{Names}
 use Rattle.fl_script_lines.specs.Reading.{one_end, end_of, with_end, turn_row, call_row}

@@ -197,7 +197,7 @@ cons_there : (o : Option (List ℕ)) (n : ℕ) (whole : Option (List ℕ)) → w
 cons_there None n whole e h = let none : is_some whole ≡ false = ap is_some e in cc
 cons_there (Some ns) n whole e h = (refl, ap (λ (x : Option (List ℕ)). unwrap_or x []) e)
 
-numbers_first : (rest : List ℕ) (n : ℕ) → number_of (first_word rest) ≡ Some n
+pub numbers_first : (rest : List ℕ) (n : ℕ) → number_of (first_word rest) ≡ Some n
     → numbers_of (words_of rest) ≡ option_map (λ ns. n ∷ ns) (numbers_of (words_of (behind_word rest)))
 numbers_first rest n e =
     ap numbers_of (words_step rest (number_there (first_word rest) n e))

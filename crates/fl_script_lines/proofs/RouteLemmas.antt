@@ -1,46 +1,73 @@
 -- The numbers of a route, word by word.
-use Rattle.std.proofs.Common.{◌≡◌, ◌<◌, ℕ, true, false, List, [], ◌∷◌, length, Option, Some, None, option_map, is_some, refl, sym, ap, ◌∙◌}
+use Rattle.std.proofs.Common.{◌≡◌, ◌<◌, ℕ, suc, zero, true, List, [], ◌∷◌, ◌++◌, length, take, Option, Some, None, option_map, is_some, refl, sym, ap, subst, ◌∙◌, append-nil, append_assoc}
 use Rattle.std.specs.Prelude.{unwrap_or}
 use Rattle.fl_base.specs.Given.{given}
+use Rattle.fl_model.specs.Events.{asked_route}
 use Rattle.fl_script_lines.specs.Words.{first_word, behind_word, number_of, words_of, numbers_of}
 use Rattle.fl_script_lines.proofs.WordLemmas.{words_step, no_words}
+use Rattle.fl_script_lines.proofs.PieceLemmas.{numbers_first}
 
-pub some_mapped : {A B : Type 0} (f : A → B) (o : Option A) → is_some (option_map f o) ≡ is_some o
-some_mapped f None = refl
-some_mapped f (Some x) = refl
+-- what is asked with, of a route that goes on with the numbers of these words
+abbrev pub asked_with : List ℕ → List ℕ → Option (List ℕ)
+asked_with cores rest = option_map (λ ns. asked_route (cores ++ ns)) (numbers_of (words_of rest))
 
--- one word's number, and those of the others
-number_first : (o : Option ℕ) (rest : Option (List ℕ)) → is_some o ≡ true
-    → is_some (given o None λ n. option_map (λ ns. n ∷ ns) rest) ≡ is_some rest
-number_first None rest h = cc
-number_first (Some n) rest h = some_mapped (λ ns. n ∷ ns) rest
+take_taken : (k : ℕ) (xs ys : List ℕ) → take k (take k xs ++ ys) ≡ take k (xs ++ ys)
+take_taken zero xs ys = refl
+take_taken (suc k) [] ys = refl
+take_taken (suc k) (x ∷ xs) ys = ap (λ (zs : List ℕ). x ∷ zs) (take_taken k xs ys)
 
-none_first : (o : Option ℕ) (rest : Option (List ℕ)) → is_some o ≡ false
-    → is_some (given o None λ n. option_map (λ ns. n ∷ ns) rest) ≡ false
-none_first None rest h = refl
-none_first (Some n) rest h = cc
+mapped_alike : (f g : List ℕ → List ℕ) (o : Option (List ℕ)) → ((ns : List ℕ) → f ns ≡ g ns) → option_map f o ≡ option_map g o
+mapped_alike f g None h = refl
+mapped_alike f g (Some ns) h = ap (λ (x : List ℕ). Some x) (h ns)
 
-pub numbers_end : (rest line : List ℕ) → is_some (numbers_of (words_of rest)) ≡ is_some (numbers_of (words_of line)) → length (first_word rest) ≡ 0
-    → true ≡ is_some (numbers_of (words_of line))
-numbers_end rest line h none = sym (ap (λ (ws : List (List ℕ)). is_some (numbers_of ws)) (no_words rest none)) ∙ h
+mapped_first : (cores : List ℕ) (n : ℕ) (o : Option (List ℕ))
+    → option_map (λ ns. asked_route (cores ++ ns)) (option_map (λ ns. n ∷ ns) o) ≡ option_map (λ ns. asked_route (cores ++ n ∷ ns)) o
+mapped_first cores n None = refl
+mapped_first cores n (Some ns) = refl
 
-pub numbers_more : (rest line word behind : List ℕ) → is_some (numbers_of (words_of rest)) ≡ is_some (numbers_of (words_of line)) → 0 < length (first_word rest)
-    → word ≡ first_word rest → behind ≡ behind_word rest → is_some (number_of word) ≡ true
-    → is_some (numbers_of (words_of behind)) ≡ is_some (numbers_of (words_of line))
-numbers_more rest line word behind h some w b one =
-    let step = ap (λ (ws : List (List ℕ)). is_some (numbers_of ws)) (words_step rest some) in
-    let here : is_some (number_of (first_word rest)) ≡ true = ap (λ (x : List ℕ). is_some (number_of x)) (sym w) ∙ one in
-    ap (λ (x : List ℕ). is_some (numbers_of (words_of x))) b
-    ∙ (sym (number_first (number_of (first_word rest)) (numbers_of (words_of (behind_word rest))) here) ∙ (sym step ∙ h))
+-- one core more stands in the route, if there is room for it
+pub cores_more : (cores after rest word behind : List ℕ) (n : ℕ) (whole : Option (List ℕ)) → asked_with cores rest ≡ whole
+    → word ≡ first_word rest → behind ≡ behind_word rest → number_of word ≡ Some n → after ≡ asked_route (cores ++ n ∷ [])
+    → (asked_route after ≡ after) × (asked_with after behind ≡ whole)
+cores_more cores after rest word behind n whole h w b e a =
+    let others : Option (List ℕ) = numbers_of (words_of (behind_word rest)) in
+    let first : asked_with cores rest ≡ option_map (λ ns. asked_route (cores ++ n ∷ ns)) others =
+    ap (option_map (λ ns. asked_route (cores ++ ns))) (numbers_first rest n (ap number_of (sym w) ∙ e)) ∙ mapped_first cores n others in
+    let alike : (ns : List ℕ) → asked_route (asked_route (cores ++ n ∷ []) ++ ns) ≡ asked_route (cores ++ n ∷ ns) =
+    λ ns. take_taken 17 (cores ++ n ∷ []) ns ∙ ap asked_route (append_assoc cores (n ∷ []) ns) in
+    let whole_is : asked_with (asked_route (cores ++ n ∷ [])) (behind_word rest) ≡ whole =
+    mapped_alike (λ ns. asked_route (asked_route (cores ++ n ∷ []) ++ ns)) (λ ns. asked_route (cores ++ n ∷ ns)) others alike ∙ (sym first ∙ h) in
+    let kept : asked_route (asked_route (cores ++ n ∷ [])) ≡ asked_route (cores ++ n ∷ []) =
+    ap asked_route (sym (append-nil (asked_route (cores ++ n ∷ [])))) ∙ (alike [] ) in
+    (ap asked_route a ∙ (kept ∙ sym a), ap (λ (x : List ℕ). asked_with after x) b ∙ (ap (λ (x : List ℕ). asked_with x (behind_word rest)) a ∙ whole_is))
 
-pub numbers_stop : (rest line word : List ℕ) → is_some (numbers_of (words_of rest)) ≡ is_some (numbers_of (words_of line)) → 0 < length (first_word rest)
-    → word ≡ first_word rest → is_some (number_of word) ≡ false → false ≡ is_some (numbers_of (words_of line))
-numbers_stop rest line word h some w none =
-    let step = ap (λ (ws : List (List ℕ)). is_some (numbers_of ws)) (words_step rest some) in
-    let here : is_some (number_of (first_word rest)) ≡ false = ap (λ (x : List ℕ). is_some (number_of x)) (sym w) ∙ none in
-    sym (none_first (number_of (first_word rest)) (numbers_of (words_of (behind_word rest))) here) ∙ (sym step ∙ h)
+-- no word is left
+pub cores_end : (cores rest word : List ℕ) (whole : Option (List ℕ)) → (asked_route cores ≡ cores) × (asked_with cores rest ≡ whole)
+    → word ≡ first_word rest → length word ≡ 0 → Some cores ≡ whole
+cores_end cores rest word whole h w none =
+    let words : words_of rest ≡ [] = no_words rest (ap length (sym w) ∙ none) in
+    let one : asked_with cores rest ≡ Some (asked_route (cores ++ [])) =
+    ap (λ (ws : List (List ℕ)). option_map (λ ns. asked_route (cores ++ ns)) (numbers_of ws)) words in
+    let same : asked_route (cores ++ []) ≡ cores = ap asked_route (append-nil cores) ∙ h.0 in
+    ap (λ (x : List ℕ). Some x) (sym same) ∙ (sym one ∙ h.1)
+
+-- a word is no number
+pub cores_stop : (cores rest word : List ℕ) (whole : Option (List ℕ)) → asked_with cores rest ≡ whole → word ≡ first_word rest → 0 < length word
+    → number_of word ≡ None → None ≡ whole
+cores_stop cores rest word whole h w some none =
+    let there : 0 < length (first_word rest) = subst (λ (x : List ℕ). 0 < length x) w some in
+    let others : Option (List ℕ) = numbers_of (words_of (behind_word rest)) in
+    let no_numbers : numbers_of (words_of rest) ≡ None =
+    ap numbers_of (words_step rest there)
+    ∙ ap (λ (o : Option ℕ). given o None λ m. option_map (λ ms. m ∷ ms) others) (ap number_of (sym w) ∙ none) in
+    sym (ap (option_map (λ ns. asked_route (cores ++ ns))) no_numbers) ∙ h
 
 -- the list of numbers that is there
 pub there : {A B : Type 0} (f : List A → B) (o : Option (List A)) → is_some o ≡ true → Some (f (unwrap_or o [])) ≡ option_map f o
 there f None h = cc
 there f (Some x) h = refl
+
+-- it is there, since something was made of it
+pub made_of : {A B : Type 0} (f : List A → B) (o : Option (List A)) (y : B) → Some y ≡ option_map f o → (is_some o ≡ true) × (y ≡ f (unwrap_or o []))
+made_of f None y h = cc
+made_of f (Some x) y h = (refl, cc)

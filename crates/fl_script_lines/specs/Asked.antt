@@ -7,8 +7,8 @@ use Rattle.fl_interface.specs.Interface.{TheInterface}
 use Rattle.fl_value_data.specs.Value.{Datum}
 use Rattle.fl_value.specs.CallText.{SpellsCall}
 use Rattle.fl_value_data.specs.declared.value.PlanNo.{PlanNo}
-use Rattle.fl_model.specs.Events.{Kind, by_queues, by_ring, by_route, Event, add_interface, set_cores}
-use Rattle.fl_model.specs.Events.{add_link, add_dispatcher, monitor_write, monitor_ack, Answer, done}
+use Rattle.fl_model.specs.Events.{Kind, by_queues, by_ring, by_route, asked_route, Event, add_interface, set_cores}
+use Rattle.fl_model.specs.Events.{add_link, add_dispatcher, monitor_write, monitor_ack, Answer, is_done}
 use Rattle.fl_model.specs.Events as event
 use Rattle.fl_script_lines.specs.Commands.{EndName, BackEnd, local, ump, hop, Command, cores, link, disp, export}
 use Rattle.fl_script_lines.specs.Commands.{bind, call, show, write, turn, ack, register, deregister, reply, mwrite}
@@ -22,20 +22,15 @@ pub data Asked : Type 0 where
   -- an event, and the names behind it where it is answered `ok`
   asks : Event → Names → Asked
 
--- the answer that is written `ok`
-abbrev pub is_done : Answer → Bool
-is_done done = true
-is_done answer = false
-
 -- the names behind an event: the new ones that it gives, if it was answered `ok`
 abbrev pub names_after : Names → Names → Answer → Names
 names_after old new answer = if is_done answer then new else old
 
--- how the machine joins the ends: by queues, by a ring, or by a circuit over all cores of the route
+-- how the machine joins the ends: by queues, by a ring, or by a circuit over the cores of the route, as many as it is asked with
 abbrev pub kind_of : BackEnd → Kind
 kind_of (local slots) = by_queues slots
 kind_of (ump slots) = by_ring slots
-kind_of (hop first others) = by_route (first ∷ others)
+kind_of (hop first others) = by_route (asked_route (first ∷ others))
 
 -- one of these things has the name already
 abbrev pub is_taken : List ℕ → List (List ℕ) → Bool

@@ -3,15 +3,15 @@ use Rattle.std.specs.Prelude.{◌≡◌, ◌⊎◌, ℕ, if◌then◌else◌, Li
 use Rattle.fl_base.specs.declared.identity.EndId.{EndId}
 use Rattle.fl_base.specs.Given.{given}
 use Rattle.fl_model.specs.Events.{Event}
-use Rattle.fl_script_lines.specs.declared.event.DispatcherId.{DispatcherId}
-use Rattle.fl_script_lines.specs.declared.event.Event.{Event as RustEvent}
-use Rattle.fl_script_lines.specs.declared.event.Event.TheVariants as rust
+use Rattle.fl_model.specs.declared.event.DispatcherId.{DispatcherId}
+use Rattle.fl_model.specs.declared.event.Event.{Event as RustEvent}
+use Rattle.fl_model.specs.declared.event.Event.TheVariants as rust
 use Rattle.fl_value_data.specs.declared.value.Call.{Call as RustCall}
 use Rattle.fl_script_lines.specs.declared.fault.LineFault.{LineFault}
 use Rattle.fl_script_lines.specs.declared.fault.LineFault.TheVariants.{Memory}
 use Rattle.fl_script_lines.specs.Asked.{Asked, refuses, asks, Asks, CallAsks, asks_end, asks_turn}
 use Rattle.fl_script_lines.specs.Commands.{EndName, Command}
-use Rattle.fl_script_lines.specs.Events.{event_of}
+use Rattle.fl_model.specs.Views.{event_of}
 use Rattle.fl_script_lines.specs.Faults.{number_of}
 use Rattle.fl_script_lines.specs.Names.{Names}
 use Rattle.fl_script_lines.specs.Reading.{one_end, two_numbers}

@@ -8,7 +8,7 @@ use Rattle.fl_script_lines.specs.declared.fault.LineFault.TheVariants.{Memory}
 use Rattle.fl_script_lines.specs.declared.names.ScriptNames.{ScriptNames as RustNames}
 use Rattle.fl_script_lines.specs.Asked.{Asked, refuses, asks, Asks}
 use Rattle.fl_script_lines.specs.Commands.{Command, call}
-use Rattle.fl_script_lines.specs.Events.{id_of, event_of}
+use Rattle.fl_model.specs.Views.{id_of, event_of}
 use Rattle.fl_script_lines.specs.Faults.{number_of}
 use Rattle.fl_script_lines.specs.Names.{Names, place_of, with_names, with_dispatcher, with_binding}
 use Rattle.fl_script_lines.specs.Tables.{table_of}

@@ -1,8 +1,8 @@
 -- What the code reads of a line, as the definitions have it: for which command, line or item one of the code's stands, in public
 -- contracts too.
 use Rattle.fl_script_lines.specs.declared.command.EndName.{EndName as RustEndName}
-use Rattle.fl_script_lines.specs.declared.command.BackEnd.{BackEnd as RustBackEnd}
-use Rattle.fl_script_lines.specs.declared.command.BackEnd.TheVariants.{Local, Ump, Hop}
+use Rattle.fl_script_lines.specs.declared.command.BackEndText.{BackEndText}
+use Rattle.fl_script_lines.specs.declared.command.BackEndText.TheVariants.{Local, Ump, Hop}
 use Rattle.fl_script_lines.specs.declared.command.Command.{Command as RustCommand}
 use Rattle.fl_script_lines.specs.declared.command.Command.TheVariants as rust
 use Rattle.fl_script_lines.specs.declared.command.Line.{Line as RustLine}
@@ -24,7 +24,7 @@ use Rattle.fl_script_lines.specs.declared.item.Item.TheVariants as item
 abbrev pub end_name_of : RustEndName → EndName
 end_name_of e = record { binding = e.binding.now; side = e.side }
 
-abbrev pub back_end_of : RustBackEnd → BackEnd
+abbrev pub back_end_of : BackEndText → BackEnd
 back_end_of (Local slots) = local slots
 back_end_of (Ump slots) = ump slots
 back_end_of (Hop route) = hop route.first (numbers_in route.others.now)

@@ -10,12 +10,12 @@ ghost use Rattle.fl_script_lines.specs.Told.{names_of};
 ghost use Rattle.fl_script_lines.specs.Views.{end_name_of};
 
 use crate::command::{EndName, Verb};
-use crate::event::DispatcherId;
 use crate::fault::LineFault;
 use crate::names::ScriptNames;
 use crate::reader::{end_name, one_end, one_name, two_numbers};
 use crate::word::next_word;
 use fl_base::EndId;
+use fl_model::DispatcherId;
 use fl_value::{ValueFault, read_spoken, skip_blanks};
 use fl_value_data::{Call, Value};
 

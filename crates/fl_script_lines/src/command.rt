@@ -1,10 +1,15 @@
 //! Commands, and what a line is.
 
-ghost use Rattle.std.specs.Prelude.{◌≡◌, true, is_some};
-ghost use Rattle.fl_script_lines.specs.Words.{words_of, numbers_of};
+ghost use Rattle.std.specs.Prelude.{◌≡◌, ◌∷◌, IfOk, true, is_some};
+ghost use Rattle.fl_model.specs.Events.{asked_route};
+ghost use Rattle.fl_model.specs.Views.{cores_of, kind_of};
+ghost use Rattle.fl_script_lines.specs.Asked.{kind_of as kind_asked};
+ghost use Rattle.fl_script_lines.specs.Views.{back_end_of};
+ghost use Rattle.fl_script_lines.specs.Words.{words_of, numbers_of, numbers_in};
 
 use crate::word::{next_word, number};
 use fl_base::Side;
+use fl_model::{BackEnd, Route};
 use fl_value_data::PlanNo;
 use std::alloc::{AllocError, Global};
 
@@ -17,20 +22,20 @@ pub struct EndName<'a> {
     pub side: Side,
 }
 
-/// The cores of a circuit's route, as a line has them: the first, and the text of the others, which are numbers.
+/// The cores of a circuit's route, as a line has them: what is asked with, and the text of all of them.
 #[derive(Clone, Copy)]
-pub struct Route<'a> {
+pub struct RouteText<'a> {
+    /// The cores, as many as are asked with.
+    pub asked: Route,
     /// The first core, the client's.
     pub first: u32,
     /// The text behind it: the numbers of the other cores, parted by blanks.
     pub others: &'a [u8],
     pub ghost numbers: { is_some (numbers_of (words_of others.now)) ≡ true },
+    pub ghost same: { cores_of asked ≡ asked_route (first ∷ numbers_in others.now) },
 }
 
-impl Route<'_> {
-    ghost use Rattle.std.specs.Prelude.{IfOk, ◌∷◌};
-    ghost use Rattle.fl_script_lines.specs.Words.{numbers_in};
-
+impl RouteText<'_> {
     /// All cores of the route, in order.
     ///
     /// # Errors
@@ -52,15 +57,28 @@ impl Route<'_> {
     }
 }
 
-/// How a binding's two ends are to be joined.
+/// How a binding's two ends are to be joined, as a line has it.
 #[derive(Clone, Copy)]
-pub enum BackEnd<'a> {
+pub enum BackEndText<'a> {
     /// By queues of so many slots, on one core.
     Local(u32),
     /// By a ring of so many slots each way, on two cores.
     Ump(u32),
     /// By a circuit over these cores.
-    Hop(Route<'a>),
+    Hop(RouteText<'a>),
+}
+
+impl BackEndText<'_> {
+    /// What is asked with.
+    pub fn asked(self) -> BackEnd
+        ensures kind { kind_of result ≡ kind_asked (back_end_of self.entry) }
+    {
+        match self {
+            BackEndText::Local(slots) => BackEnd::Local(slots),
+            BackEndText::Ump(slots) => BackEnd::Ump(slots),
+            BackEndText::Hop(route) => BackEnd::Hop(route.asked),
+        }
+    }
 }
 
 /// What a line asks for. Names are lent by the line.
@@ -93,7 +111,7 @@ pub enum Command<'a> {
         client: &'a [u8],
         interface: &'a [u8],
         service: &'a [u8],
-        back_end: BackEnd<'a>,
+        back_end: BackEndText<'a>,
     },
     /// `call`: an end makes a call, told by its text, which no one has read yet.
     Call(EndName<'a>, &'a [u8]),

@@ -10,11 +10,11 @@
 //! - `reader.rt`: lines read, row by row of the table
 //! - `item.rt`: a script's lines, and its items: lines and blocks
 //! - `printing.rt`: commands as text
-//! - `answer.rt`: answers, and their texts
+//! - `answer.rt`: the texts of answers
 //! - `table.rt`: lists of names, asked from the front where they are few, else by a map
 //! - `asking.rt`: what a line asks, told from its words at once where it gives no name
 //! - `names.rt`: the names of a script, and what its commands ask by them
-//! - `event.rt`, `fault.rt`: what a command asks of the machine, and why it asks nothing
+//! - `event.rt`, `fault.rt`: what a command asks of the machine, and the name that it gives; why it asks nothing
 //! - `law.rt`: the laws
 #![tactic(auto)]
 
@@ -31,9 +31,9 @@ mod reader;
 mod table;
 mod word;
 
-pub use answer::{Answer, print_answer, print_fault, put_end};
-pub use command::{BackEnd, Command, EndName, Line, LineHead, Route, Verb};
-pub use event::{DispatcherId, Event, NamedEvent, Naming};
+pub use answer::{print_answer, print_fault, put_end};
+pub use command::{BackEndText, Command, EndName, Line, LineHead, RouteText, Verb};
+pub use event::{NamedEvent, Naming};
 pub use fault::LineFault;
 pub use item::{Item, RawItem, next_item, next_part};
 pub use law::{

@@ -13,18 +13,18 @@ ghost use Rattle.fl_script_lines.specs.Names.{messages_at, message_at, message_n
 ghost use Rattle.fl_script_lines.specs.Asked.{asks_disp, asks_export, asks_bind, asks_turn, asks_reply};
 ghost use Rattle.fl_script_lines.specs.Asked.{asks_interface};
 ghost use Rattle.fl_script_lines.specs.Asked.{asks_end, asks, kind_of, names_after};
-ghost use Rattle.fl_script_lines.specs.Events.{id_of, event_of, answer_of};
+ghost use Rattle.fl_model.specs.Views.{id_of, event_of, answer_of};
 ghost use Rattle.fl_script_lines.specs.Tables.{table_of};
 ghost use Rattle.fl_script_lines.specs.Told.{names_of, named, IsNew, Tells, AsksAs};
 ghost use Rattle.fl_script_lines.specs.Views.{end_name_of, back_end_of, command_of};
 
-use crate::answer::Answer;
-use crate::command::{BackEnd, Command, EndName};
-use crate::event::{DispatcherId, Event, NamedEvent, Naming};
+use crate::command::{BackEndText, Command, EndName};
+use crate::event::{NamedEvent, Naming};
 use crate::fault::LineFault;
 use crate::table::{InterfaceNames, NameTable};
 use fl_base::{EndId, MsgNo};
 use fl_interface::{Interface, Message};
+use fl_model::{Answer, DispatcherId, Event};
 use fl_value_data::PlanNo;
 use std::alloc::{AllocError, Global};
 
@@ -187,7 +187,7 @@ impl ScriptNames {
         client: &[u8],
         interface: &[u8],
         service: &'a [u8],
-        back_end: BackEnd<'a>,
+        back_end: BackEndText<'_>,
     ) -> Result<NamedEvent<'a>, LineFault>
         ensures tells { Tells (names_of self.now) result
             (asks_bind (names_of self.now) name.now client.now interface.now service.now (kind_of (back_end_of back_end.entry))) }
@@ -207,7 +207,7 @@ impl ScriptNames {
                 client,
                 interface,
                 service,
-                back_end,
+                back_end: back_end.asked(),
             },
             naming: Naming::Binding { name, interface },
         })

@@ -6,7 +6,7 @@ ghost use Rattle.fl_script_lines.specs.Commands.{end_text, a_name, a_number, an_
 ghost use Rattle.fl_script_lines.specs.Grammar.{printed_command, printed_more};
 ghost use Rattle.fl_script_lines.specs.Views.{end_name_of, back_end_of, command_of};
 
-use crate::command::{BackEnd, Command, EndName};
+use crate::command::{BackEndText, Command, EndName};
 use fl_base::Side;
 use std::alloc::{AllocError, Global};
 
@@ -57,19 +57,19 @@ fn put_numbers(alloc: Global, out: &mut Vec<u8>, numbers: &[u32]) -> Result<(), 
     Ok(())
 }
 
-fn put_back_end(alloc: Global, out: &mut Vec<u8>, back_end: BackEnd<'_>) -> Result<(), AllocError>
+fn put_back_end(alloc: Global, out: &mut Vec<u8>, back_end: BackEndText<'_>) -> Result<(), AllocError>
     ensures put { OnOk result (out.new.items ≡ out.old.items ++ printed_more (back_end_row (back_end_of back_end.entry))) }
 {
     match back_end {
-        BackEnd::Local(slots) => {
+        BackEndText::Local(slots) => {
             put_word(out, b"local")?;
             put_number(alloc, out, slots)
         }
-        BackEnd::Ump(slots) => {
+        BackEndText::Ump(slots) => {
             put_word(out, b"ump")?;
             put_number(alloc, out, slots)
         }
-        BackEnd::Hop(route) => {
+        BackEndText::Hop(route) => {
             let cores = route.cores(alloc)?;
             put_word(out, b"hop")?;
             put_numbers(alloc, out, &cores)

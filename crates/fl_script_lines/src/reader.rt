@@ -1,10 +1,12 @@
 //! Lines read: each function is a row of the table, behind the words before it.
 
-ghost use Rattle.std.specs.Prelude.{◌≡◌, ◌++◌, option_map, is_some, if◌then◌else◌, codes, IfSome};
+ghost use Rattle.std.specs.Prelude.{◌≡◌, ◌++◌, ◌∷◌, option_map, if◌then◌else◌, codes, IfSome};
 ghost use Rattle.std.specs.Str.{bytes_eq};
 ghost use Rattle.fl_base.specs.declared.identity.Side.TheVariants.{Client, Server};
 ghost use Rattle.std.specs.Prelude.{None, Some};
 ghost use Rattle.fl_base.specs.Given.{given};
+ghost use Rattle.fl_model.specs.Events.{asked_route};
+ghost use Rattle.fl_model.specs.Views.{cores_of};
 ghost use Rattle.fl_script_lines.specs.Commands.{local, ump, mwrite, forward, mack};
 ghost use Rattle.fl_script_lines.specs.Grammar.{LineIs};
 ghost use Rattle.fl_script_lines.specs.Words.{is_none, first_word, words_of, numbers_of};
@@ -14,10 +16,11 @@ ghost use Rattle.fl_script_lines.specs.Reading.{bind_row, call_row, turn_row, re
 ghost use Rattle.fl_script_lines.specs.Reading.{heading_by, line_by, line_with, read_line};
 ghost use Rattle.fl_script_lines.specs.Views.{end_name_of, back_end_of, command_of, line_of, opening_of};
 
-use crate::command::{BackEnd, Command, EndName, Line, LineHead, Route, Verb};
-use crate::word::{begins_comment, is_number, next_word, number};
+use crate::command::{BackEndText, Command, EndName, Line, LineHead, RouteText, Verb};
+use crate::word::{begins_comment, next_word, number};
 use fl_base::Side;
 use fl_lex::{is_digit, is_name};
+use fl_model::Route;
 use fl_value::skip_blanks;
 use fl_value_data::PlanNo;
 
@@ -212,46 +215,53 @@ fn export_row(line: &[u8]) -> Option<Command<'_>>
     })
 }
 
-// Whether each word is a number.
-fn are_numbers(line: &[u8]) -> bool
-    ensures same { result ≡ is_some (numbers_of (words_of line.now)) }
+// The route of a first core and the others, whose numbers these words are, if each of them is a number.
+fn route_in(first: u32, others: &[u8]) -> Option<Route>
+    ensures same { option_map cores_of result
+        ≡ option_map (λ ns. asked_route (first ∷ ns)) (numbers_of (words_of others.now)) }
 {
-    let mut rest = line;
+    let mut route = Route::new(first);
+    let mut rest = others;
     loop {
         let (word, behind) = next_word(rest);
         if word.is_empty() {
-            return true;
+            return Some(route);
         }
-        if !is_number(word) {
-            return false;
-        }
+        let Some(core) = number(word) else {
+            return None;
+        };
+        route.push(core);
         rest = behind;
     }
 }
 
-fn route_row(line: &[u8]) -> Option<BackEnd<'_>>
+fn route_row(line: &[u8]) -> Option<BackEndText<'_>>
     ensures same { option_map back_end_of result ≡ route_row line.now }
 {
     let (word, others) = next_word(line);
     let Some(first) = number(word) else {
         return None;
     };
-    if !are_numbers(others) {
+    let Some(asked) = route_in(first, others) else {
         return None;
-    }
-    Some(BackEnd::Hop(Route { first, others }))
+    };
+    Some(BackEndText::Hop(RouteText {
+        asked,
+        first,
+        others,
+    }))
 }
 
-fn local_row(line: &[u8]) -> Option<BackEnd<'_>>
+fn local_row(line: &[u8]) -> Option<BackEndText<'_>>
     ensures same { option_map back_end_of result ≡ given (one_number line.now) None (λ n. Some (local n)) }
 {
-    Some(BackEnd::Local(one_number(line)?))
+    Some(BackEndText::Local(one_number(line)?))
 }
 
-fn ump_row(line: &[u8]) -> Option<BackEnd<'_>>
+fn ump_row(line: &[u8]) -> Option<BackEndText<'_>>
     ensures same { option_map back_end_of result ≡ given (one_number line.now) None (λ n. Some (ump n)) }
 {
-    Some(BackEnd::Ump(one_number(line)?))
+    Some(BackEndText::Ump(one_number(line)?))
 }
 
 // Whether a word is this text.
@@ -262,7 +272,7 @@ fn is_text(word: &[u8], text: &[u8]) -> bool
     word == text
 }
 
-fn back_end_row(line: &[u8]) -> Option<BackEnd<'_>>
+fn back_end_row(line: &[u8]) -> Option<BackEndText<'_>>
     ensures same { option_map back_end_of result ≡ back_end_row line.now }
 {
     let (kind, rest) = next_word(line);

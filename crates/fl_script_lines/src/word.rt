@@ -1,6 +1,6 @@
 //! A line's words, and the numbers that words write.
 
-ghost use Rattle.std.specs.Prelude.{◌≡◌, ◌||◌, ◌==◌, is_some};
+ghost use Rattle.std.specs.Prelude.{◌≡◌, ◌||◌, ◌==◌};
 ghost use Rattle.std.specs.List.{list_all};
 ghost use Rattle.fl_script_lines.specs.Words.{first_word, behind_word, begins_comment, number_of};
 
@@ -47,11 +47,4 @@ pub fn number(word: &[u8]) -> Option<u32>
         value = 10 * value + u32::from(*digit - b'0');
     }
     Some(value)
-}
-
-/// Whether a word has 1 to 9 digits and nothing else.
-pub fn is_number(word: &[u8]) -> bool
-    ensures same { result ≡ is_some (number_of word.now) }
-{
-    number(word).is_some()
 }

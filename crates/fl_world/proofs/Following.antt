@@ -26,8 +26,8 @@ use Rattle.fl_world_refines.specs.declared.binding.Binding.{Binding}
 use Rattle.fl_world_refines.specs.View.{TheWorld, ring_at, which_at, with_ring}
 use Rattle.fl_world_refines.specs.Lending.{OverSide, front_for}
 use Rattle.fl_world_refines.specs.Linking.{LinkNumbers, offers_in, LooksWith, incoming, HearsWith, HearsFirst, IsHeard, HasRules}
-use Rattle.fl_script_lines.specs.declared.answer.Answer.{Answer as RustAnswer}
-use Rattle.fl_script_lines.specs.Events.{answer_of}
+use Rattle.fl_model.specs.declared.answer.Answer.{Answer as RustAnswer}
+use Rattle.fl_model.specs.Views.{answer_of}
 use Rattle.fl_world_events.specs.declared.moving.ForwardFrag.{ForwardFrag}
 use Rattle.fl_world_events.specs.Places.{HasLink}
 use Rattle.fl_world_events.specs.Parts.{InCore}

@@ -19,8 +19,8 @@ use Rattle.fl_model.specs.Events.{Answer, DispatcherId, nothing}
 use Rattle.fl_world_refines.specs.View.{TheWorld, made, ring_at}
 use Rattle.fl_world_refines.specs.Lending.{IsStray, answer_at}
 use Rattle.fl_world_refines.specs.Taking.{TurnsAt, HasInlet, AcksOver, AcksAt, TellsNothing, RegistersOver, RegistersBy}
-use Rattle.fl_script_lines.specs.declared.answer.Answer.{Answer as RustAnswer}
-use Rattle.fl_script_lines.specs.Events.{answer_of}
+use Rattle.fl_model.specs.declared.answer.Answer.{Answer as RustAnswer}
+use Rattle.fl_model.specs.Views.{answer_of}
 use Rattle.fl_world_events.specs.declared.taking.DueEnd.{DueEnd}
 use Rattle.fl_world_events.specs.declared.moving.ForwardFrag.{ForwardFrag}
 use Rattle.fl_world_events.specs.Passing.{StandsAt}

@@ -16,8 +16,8 @@ use Rattle.fl_world_refines.specs.Linking.{incoming, HearsWith}
 use Rattle.fl_core.specs.View.{TheCore}
 use Rattle.std.specs.declared.alloc.AllocError.{AllocError}
 use Rattle.fl_base.specs.Given.{given}
-use Rattle.fl_script_lines.specs.declared.answer.Answer.{Answer as RustAnswer}
-use Rattle.fl_script_lines.specs.Events.{answer_of}
+use Rattle.fl_model.specs.declared.answer.Answer.{Answer as RustAnswer}
+use Rattle.fl_model.specs.Views.{answer_of}
 use Rattle.fl_core.specs.declared.wiring.Inlet.{Inlet}
 use Rattle.fl_world_events.specs.declared.taking.DueEnd.{DueEnd}
 use Rattle.fl_model.specs.Events.{Answer}

@@ -10,7 +10,7 @@ use Rattle.fl_core.specs.declared.joining.LocalBinding.{LocalBinding}
 use Rattle.fl_core.specs.View.{TheCore}
 use Rattle.fl_core.specs.Making.{AddsWiredEnd, client_wired_end, server_wired_end}
 use Rattle.fl_model.specs.Events.{Answer, refused}
-use Rattle.fl_script_lines.specs.Events.{id_of}
+use Rattle.fl_model.specs.Views.{id_of}
 use Rattle.fl_world_refines.specs.declared.binding.Binding.{Binding}
 use Rattle.fl_world_refines.specs.View.{TheWorld}
 use Rattle.fl_world_refines.specs.Binding.{queue_pair, IsJoined, JoinsByQueues, BindsByQueues, new_queue}

@@ -13,8 +13,8 @@ use Rattle.fl_core.specs.BoardView.{TheDispatcher, TheBoard}
 use Rattle.fl_core.specs.View.{TheCore, place_of, client_of, server_of}
 use Rattle.fl_model.specs.Events.{DispatcherId}
 use Rattle.fl_model.specs.Binding.{same_dispatcher}
-use Rattle.fl_script_lines.specs.declared.event.DispatcherId.{DispatcherId as RustDispatcherId}
-use Rattle.fl_script_lines.specs.Events.{id_of}
+use Rattle.fl_model.specs.declared.event.DispatcherId.{DispatcherId as RustDispatcherId}
+use Rattle.fl_model.specs.Views.{id_of}
 use Rattle.fl_world_refines.specs.declared.binding.Binding.{Binding}
 use Rattle.fl_world_refines.specs.View.{Given, If, TheWorld, has_dispatcher}
 use Rattle.fl_world_refines.specs.Binding.{BindingRequest, HasEndOf, has_places, BindsBy, wanted_from}

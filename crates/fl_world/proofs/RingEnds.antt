@@ -26,9 +26,9 @@ use Rattle.fl_core.specs.BoardEvents.{Registers}
 use Rattle.fl_core.specs.View.{TheCore, place_of, client_of, server_of}
 use Rattle.fl_core.specs.Ends.{OnBoard, RegistersAt}
 use Rattle.fl_model.specs.Events.{Answer, DispatcherId, done}
-use Rattle.fl_script_lines.specs.declared.event.DispatcherId.{DispatcherId as RustDispatcherId}
-use Rattle.fl_script_lines.specs.declared.answer.Answer.{Answer as RustAnswer}
-use Rattle.fl_script_lines.specs.Events.{id_of, answer_of}
+use Rattle.fl_model.specs.declared.event.DispatcherId.{DispatcherId as RustDispatcherId}
+use Rattle.fl_model.specs.declared.answer.Answer.{Answer as RustAnswer}
+use Rattle.fl_model.specs.Views.{id_of, answer_of}
 use Rattle.fl_world_refines.specs.declared.binding.Binding.{Binding}
 use Rattle.fl_world_refines.specs.View.{If, TheWorld}
 use Rattle.fl_world_refines.specs.Lending.{answer_at, Refuses}

@@ -10,7 +10,7 @@ use Rattle.fl_base.specs.declared.identity.LinkId.{LinkId}
 use Rattle.fl_base.specs.Numbered.{core_id}
 use Rattle.fl_compile.specs.declared.program.Program.{Program}
 use Rattle.fl_core.specs.declared.board_fault.BoardFault.TheVariants as board
-use Rattle.fl_script_lines.specs.Events.{id_of}
+use Rattle.fl_model.specs.Views.{id_of}
 use Rattle.fl_monitor.specs.declared.fault.MonitorFault.{MonitorFault}
 use Rattle.fl_monitor.specs.declared.fault.MonitorFault.TheVariants as monitor
 use Rattle.fl_monitor.specs.Monitors.{MayOpen, wanted}

@@ -14,14 +14,14 @@ use Rattle.fl_model.specs.State.{State, start}
 use Rattle.fl_model.specs.Worlds.{start_with}
 use Rattle.fl_model.specs.Step.{step}
 use Rattle.fl_model.specs.Runs.{answers_to, reached}
-use Rattle.fl_script_lines.specs.Events.{event_of, answer_of}
-use Rattle.fl_script_lines.specs.declared.answer.Answer.{Answer as RustAnswer}
-use Rattle.fl_script_lines.specs.declared.event.Event.{Event as RustEvent}
+use Rattle.fl_model.specs.Views.{event_of, answer_of}
+use Rattle.fl_model.specs.declared.answer.Answer.{Answer as RustAnswer}
+use Rattle.fl_model.specs.declared.event.Event.{Event as RustEvent}
 use Rattle.fl_world_refines.specs.View.{TheWorld}
 use Rattle.fl_world_refines.specs.ShowsState.{Shows}
 use Rattle.fl_world_refines.specs.Laws.{StepAgrees, FreshShows}
 use Rattle.fl_world_refines.specs.Step.{settled, settled_by, fresh_world}
-use Rattle.fl_script_exec.specs.Steps as machine
+use Rattle.fl_model.specs.Steps as machine
 use Rattle.fl_world.specs.declared.booting.BootFault.{BootFault}
 use Rattle.fl_world.specs.declared.booting.BootFault.TheVariants.{Refused, Memory}
 use Rattle.fl_world.specs.Stepping.{StepsAlike, fault_in, is_interface, leaves_cores_open, RunsAlike, ShowsAfterSome}

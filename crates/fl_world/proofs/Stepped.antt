@@ -4,13 +4,13 @@ use Rattle.std.specs.Prelude.{OnErr}
 use Rattle.std.specs.declared.alloc.AllocError.{AllocError}
 use Rattle.fl_model.specs.Events.{Event}
 use Rattle.fl_model.specs.State.{State}
-use Rattle.fl_script_lines.specs.declared.answer.Answer.{Answer as RustAnswer}
-use Rattle.fl_script_lines.specs.Events.{answer_of}
+use Rattle.fl_model.specs.declared.answer.Answer.{Answer as RustAnswer}
+use Rattle.fl_model.specs.Views.{answer_of}
 use Rattle.fl_world_refines.specs.View.{TheWorld}
 use Rattle.fl_world_refines.specs.ShowsState.{Shows}
 use Rattle.fl_world_refines.specs.Laws.{StepsAgree}
 use Rattle.fl_world_refines.specs.Step.{Does, settled, settled_by, Steps}
-use Rattle.fl_script_exec.specs.Steps as machine
+use Rattle.fl_model.specs.Steps as machine
 use Rattle.fl_world.specs.Stepping.{StepsAlike, is_interface}
 use Rattle.fl_world.proofs.Runs.{of_interface, by_answer, steps_as, shows_still}
 

@@ -10,8 +10,8 @@ use Rattle.fl_ring.specs.Duo.{TheDuo}
 use Rattle.fl_nameserv.specs.Registrations.{by_name}
 use Rattle.fl_model.specs.Events.{DispatcherId, Kind, by_queues, by_ring, by_route, Event, add_interface, set_cores, add_link, add_dispatcher, export, bind, call, show, write}
 use Rattle.fl_model.specs.Events.{turn, ack, register, deregister, reply, monitor_write, forward, monitor_ack, Answer}
-use Rattle.fl_script_lines.specs.Events.{event_of}
-use Rattle.fl_script_lines.specs.declared.event.Event.{Event as RustEvent}
+use Rattle.fl_model.specs.Views.{event_of}
+use Rattle.fl_model.specs.declared.event.Event.{Event as RustEvent}
 use Rattle.fl_world_refines.specs.View.{TheWorld, If, Given, has_dispatcher}
 use Rattle.fl_world_refines.specs.Lending.{Refuses, DoesNothing}
 use Rattle.fl_world_refines.specs.Making.{new_duo, has_program, is_core, has_link, AddsInterface, SetsCores, AddsLink, AddsDispatcher, Exports}

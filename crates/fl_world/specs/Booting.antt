@@ -7,8 +7,8 @@ use Rattle.fl_model.specs.State.{State, StepOutcome}
 use Rattle.fl_model.specs.Step.{step}
 use Rattle.fl_model.specs.Runs.{answers_to, reached}
 use Rattle.fl_model.specs.Worlds.{start_with}
-use Rattle.fl_script_lines.specs.declared.event.Event.{Event as RustEvent}
-use Rattle.fl_script_lines.specs.Events.{event_of}
+use Rattle.fl_model.specs.declared.event.Event.{Event as RustEvent}
+use Rattle.fl_model.specs.Views.{event_of}
 use Rattle.fl_world_refines.specs.View.{TheWorld}
 use Rattle.fl_world_refines.specs.ShowsState.{Shows}
 use Rattle.fl_world.specs.declared.booting.Config.{Config}

@@ -8,7 +8,7 @@ use Rattle.fl_endpoint.specs.View.{TheEnd, fresh}
 use Rattle.fl_core.specs.View.{TheCore}
 use Rattle.fl_model.specs.Events.{DispatcherId, Kind, Answer}
 use Rattle.fl_model.specs.Binding.{same_dispatcher}
-use Rattle.fl_script_lines.specs.Events.{id_of}
+use Rattle.fl_model.specs.Views.{id_of}
 use Rattle.fl_world_refines.specs.View.{TheWorld}
 use Rattle.fl_world_refines.specs.Lending.{Refuses}
 use Rattle.fl_world_refines.specs.Binding.{BindingRequest, has_places, BindsBy, named_request, Binds}

@@ -4,7 +4,7 @@ use Rattle.fl_base.specs.declared.identity.EndId.{EndId}
 use Rattle.fl_ring.specs.Duo.{TheDuo}
 use Rattle.fl_endpoint.specs.View.{TheEnd}
 use Rattle.fl_core.specs.View.{TheCore}
-use Rattle.fl_script_lines.specs.declared.event.DispatcherId.{DispatcherId as RustDispatcherId}
+use Rattle.fl_model.specs.declared.event.DispatcherId.{DispatcherId as RustDispatcherId}
 use Rattle.fl_model.specs.Events.{Answer, done}
 use Rattle.fl_world_refines.specs.declared.binding.Binding.{Binding}
 use Rattle.fl_world_refines.specs.View.{If, TheWorld}

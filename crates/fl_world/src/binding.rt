@@ -1,9 +1,7 @@
 //! Bindings are made: what is asked for, and what each of the three ways to join two ends looks at first.
 
 ghost use Rattle.std.specs.Prelude.{◌≡◌, ◌<◌, length, true, false, IfOk, OnOk, OnErr};
-ghost use Rattle.fl_script_lines.specs.Asked.{kind_of};
-ghost use Rattle.fl_script_lines.specs.Events.{id_of, answer_of};
-ghost use Rattle.fl_script_lines.specs.Views.{back_end_of};
+ghost use Rattle.fl_model.specs.Views.{id_of, answer_of, kind_of};
 ghost use Rattle.fl_world_refines.specs.View.{has_dispatcher};
 ghost use Rattle.fl_world_refines.specs.Binding.{has_places, HasEndOf, BindsBy, named_request, Binds};
 ghost use Rattle.fl_world_events.specs.Requests.{HasDispatcher};
@@ -12,7 +10,7 @@ ghost use Rattle.fl_world.specs.Requests.{IsNewEnd};
 
 use crate::world::World;
 use fl_base::{IRef, MAX_BINDINGS, faults};
-use fl_script_lines::{Answer, BackEnd, DispatcherId};
+use fl_model::{Answer, BackEnd, DispatcherId};
 use fl_world_events::{NewEnds, has_end, has_places, new_ends};
 use std::alloc::AllocError;
 
@@ -124,21 +122,18 @@ impl World {
     }
 
     // The ends are joined as it is asked for.
-    fn bind_by(&mut self, want: BindRequest, back_end: BackEnd<'_>) -> Result<Answer, AllocError>
+    fn bind_by(&mut self, want: BindRequest, back_end: BackEnd) -> Result<Answer, AllocError>
         requires few { length self.old.bindings < 1024 }
         requires client { has_dispatcher self.old (id_of want.client) ≡ true }
         requires program { want.interface < length self.old.programs }
         requires server { want.server.core < 256 }
-        ensures binds { IfOk result (λ a. OfRequest want self.old (λ r. BindsBy r (kind_of (back_end_of back_end.entry)) self.old (answer_of a) self.new)) }
+        ensures binds { IfOk result (λ a. OfRequest want self.old (λ r. BindsBy r (kind_of back_end.entry) self.old (answer_of a) self.new)) }
         ensures kept { OnErr result (self.new ≡ self.old) }
     {
         match back_end {
             BackEnd::Local(slots) => self.bind_by_queues(want, slots),
             BackEnd::Ump(slots) => self.bind_by_ring(want, slots),
-            BackEnd::Hop(route) => {
-                let cores = route.cores(self.alloc)?;
-                self.bind_by_route(want, cores.as_slice())
-            }
+            BackEnd::Hop(route) => self.bind_by_route(want, route.cores()),
         }
     }
 
@@ -154,10 +149,10 @@ impl World {
         client: DispatcherId,
         interface: usize,
         service: &[u8],
-        back_end: BackEnd<'_>,
+        back_end: BackEnd,
     ) -> Result<Answer, AllocError>
         ensures binds { IfOk result (λ a. Binds
-            (named_request (id_of client) interface service.now (kind_of (back_end_of back_end.entry))) self.old (answer_of a) self.new) }
+            (named_request (id_of client) interface service.now (kind_of back_end.entry)) self.old (answer_of a) self.new) }
         ensures kept { OnErr result (self.new ≡ self.old) }
     {
         match self.request(client, interface, service) {

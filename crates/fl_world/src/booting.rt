@@ -2,7 +2,7 @@
 
 ghost use Rattle.std.specs.Prelude.{◌≡◌, true, [], ◌∷◌, map, IfOk, IfErr, OnOk};
 ghost use Rattle.std.specs.List.{list_all};
-ghost use Rattle.fl_script_lines.specs.Events.{event_of, answer_of};
+ghost use Rattle.fl_model.specs.Views.{event_of, answer_of};
 ghost use Rattle.fl_model.specs.State.{State};
 ghost use Rattle.fl_model.specs.Step.{step};
 ghost use Rattle.fl_world_refines.specs.ShowsState.{Shows};
@@ -12,7 +12,7 @@ ghost use Rattle.fl_world.specs.Stepping.{fault_in};
 
 use crate::world::World;
 use fl_base::{MAX_CORES, faults};
-use fl_script_lines::{Answer, Event};
+use fl_model::{Answer, Event};
 use fl_world_events::let_go;
 use fl_world_refines::{Parts, law_fresh_world_shows};
 use std::alloc::Global;

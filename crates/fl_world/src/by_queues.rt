@@ -3,7 +3,7 @@
 ghost use Rattle.std.specs.Prelude.{◌≡◌, ◌<◌, length, true, false, IfOk, OnErr};
 ghost use Rattle.fl_model.specs.Events.{done};
 ghost use Rattle.fl_link.specs.Queue.{MayHave};
-ghost use Rattle.fl_script_lines.specs.Events.{id_of, answer_of};
+ghost use Rattle.fl_model.specs.Views.{id_of, answer_of};
 ghost use Rattle.fl_world_refines.specs.View.{has_dispatcher};
 ghost use Rattle.fl_world_refines.specs.Binding.{BindsByQueues, JoinsByQueues};
 ghost use Rattle.fl_world.specs.Queued.{IsJoining, JoinsOrNot};
@@ -14,7 +14,7 @@ use crate::binding::BindRequest;
 use crate::world::World;
 use fl_base::{MAX_QUEUE, faults};
 use fl_core::{EndAtDispatcher, LocalBinding};
-use fl_script_lines::Answer;
+use fl_model::Answer;
 use fl_world_events::{join_at, new_queue, push_both};
 use fl_world_refines::Binding;
 use std::alloc::AllocError;

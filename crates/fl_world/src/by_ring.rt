@@ -2,7 +2,7 @@
 
 ghost use Rattle.std.specs.Prelude.{◌≡◌, ◌≢◌, ◌<◌, ◌⊎◌, ◌*◌, ◌-◌, ◌^◌, length, true, false, IfOk, OnErr};
 ghost use Rattle.fl_model.specs.Events.{done};
-ghost use Rattle.fl_script_lines.specs.Events.{id_of, answer_of};
+ghost use Rattle.fl_model.specs.Views.{id_of, answer_of};
 ghost use Rattle.fl_world_refines.specs.Making.{new_duo};
 ghost use Rattle.fl_world_refines.specs.Binding.{BindsByRing, HasEndOf, JoinsByRing};
 ghost use Rattle.fl_world_refines.specs.View.{has_dispatcher};
@@ -15,7 +15,7 @@ use crate::binding::BindRequest;
 use crate::world::World;
 use fl_base::{EndId, Side, faults};
 use fl_ring::{OneDuo, RingFault};
-use fl_script_lines::Answer;
+use fl_model::Answer;
 use fl_world_events::{NewRingEnd, join_parts};
 use fl_world_refines::Binding;
 use std::alloc::AllocError;

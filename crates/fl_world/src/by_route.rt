@@ -2,7 +2,7 @@
 
 ghost use Rattle.std.specs.Prelude.{◌≡◌, ◌<◌, length, map, true, IfOk, OnErr};
 ghost use Rattle.fl_base.specs.Numbered.{core_id};
-ghost use Rattle.fl_script_lines.specs.Events.{id_of, answer_of};
+ghost use Rattle.fl_model.specs.Views.{id_of, answer_of};
 ghost use Rattle.fl_world_refines.specs.Binding.{BindsByRoute, may_be_route};
 ghost use Rattle.fl_world_refines.specs.View.{has_dispatcher};
 ghost use Rattle.fl_world_events.specs.Requests.{HasDispatcher};
@@ -13,7 +13,7 @@ use crate::binding::BindRequest;
 use crate::world::World;
 use fl_base::{CoreId, LinkId, MAX_CORES, faults};
 use fl_monitor::{MonitorFault, Opening, Path};
-use fl_script_lines::Answer;
+use fl_model::Answer;
 use fl_world_events::{CircuitBinding, all_differ, are_cores, may_open_in, open_over, path_over};
 use std::alloc::AllocError;
 

@@ -5,7 +5,7 @@ ghost use Rattle.fl_base.specs.Control.{is_ack_only, with_circuit};
 ghost use Rattle.fl_world_refines.specs.View.{ring_at, location_of};
 ghost use Rattle.fl_world_refines.specs.Linking.{IsHeard, BringsRules, ThenRules};
 ghost use Rattle.fl_world_refines.specs.Linking.{HearsFirst, ForwardsBy, ForwardsFirst, Forwards};
-ghost use Rattle.fl_script_lines.specs.Events.{answer_of};
+ghost use Rattle.fl_model.specs.Views.{answer_of};
 ghost use Rattle.fl_world_events.specs.Places.{HasEnd, HasLink, link_side_from};
 ghost use Rattle.fl_world_events.specs.Passing.{StandsAt};
 ghost use Rattle.fl_world.specs.Following.{KnowsAt, MayForgetAt, Forgot, MayFollow, Forgets, GoesOn, TakesRulesOrNone};
@@ -14,7 +14,7 @@ use crate::world::World;
 use fl_base::{EndId, Frag, Side, faults};
 use fl_core::{LinkFront, LinkReceiveFault, MonitorAnswer};
 use fl_ring::law_forgets_looks;
-use fl_script_lines::Answer;
+use fl_model::Answer;
 use fl_world_events::{
     EndLocation, ForwardFrag, LinkWithSide, answer_heard, answer_unheard, move_among, ring_at,
     take_rules_of, which_at,

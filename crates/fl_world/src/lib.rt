@@ -2,7 +2,7 @@
 //!
 //! Contract for the layers above: a [`World`] is the record of `fl_world_refines/specs/View.antt`. One event is one step of its relations: what is
 //! answered and what the world is then, exactly ([`World::step`]). Where memory is refused the world is as it was. By the laws of `fl_world_refines` each is then a
-//! step of the machine: a world is what scripts run on (`fl_script_exec::QueueMachine`), it does lists of events ([`World::run`]), it is booted
+//! step of the machine: a world is what scripts run on (`fl_model::Machine`), it does lists of events ([`World::run`]), it is booted
 //! by a set-up ([`World::boot`], `specs/Booting.antt`), and taken apart before it was used ([`World::into_parts`], into the `Parts` of `fl_world_refines`).
 //!
 //! - `world.rt`: `World`, and what contracts see of it
@@ -38,5 +38,5 @@ mod taking;
 mod world;
 
 pub use booting::{BootFault, Config};
-pub use fl_script_lines::{Answer, Event};
+pub use fl_model::{Answer, Event};
 pub use world::World;

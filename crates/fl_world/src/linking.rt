@@ -4,12 +4,12 @@ ghost use Rattle.std.specs.Prelude.{◌⊎◌};
 ghost use Rattle.fl_world_refines.specs.View.{ring_at};
 ghost use Rattle.fl_world_refines.specs.Lending.{OverSide, IsStray};
 ghost use Rattle.fl_world_refines.specs.Linking.{MonitorWritesWith, WritesMessage, AcksLinkWith, AcksLink};
-ghost use Rattle.fl_script_lines.specs.Events.{answer_of};
+ghost use Rattle.fl_model.specs.Views.{answer_of};
 ghost use Rattle.fl_world_events.specs.Places.{HasLink};
 
 use crate::world::World;
 use fl_base::faults;
-use fl_script_lines::Answer;
+use fl_model::Answer;
 use fl_world_events::{LinkWithSide, monitor_ack_by_ring, monitor_write_by_ring, ring_at};
 
 // ---- the monitor writes

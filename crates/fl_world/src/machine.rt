@@ -4,13 +4,13 @@ ghost use Rattle.fl_world_refines.specs.ShowsState.{Shows};
 
 use crate::world::World;
 use fl_base::EndId;
-use fl_script_exec::QueueMachine;
-use fl_script_lines::{Answer, DispatcherId, Event};
+use fl_model::Machine;
+use fl_model::{Answer, DispatcherId, Event};
 use fl_value_data::Call;
 use fl_world_refines::{law_fresh_world_shows, law_steps_agree};
 use std::alloc::{AllocError, Global};
 
-impl QueueMachine for World {
+impl Machine for World {
     ghost shows = { Shows };
 
     fn new(alloc: Global) -> Result<World, AllocError> {

@@ -7,7 +7,7 @@ ghost use Rattle.fl_core.specs.Making.{IsLinked};
 ghost use Rattle.fl_model.specs.Events.{done};
 ghost use Rattle.fl_world_refines.specs.Making.{has_program, has_link, new_duo, WithProgram, AddsInterface, SetsCores, AddsLink, AddsDispatcher, Exports};
 ghost use Rattle.fl_world_refines.specs.Making as making;
-ghost use Rattle.fl_script_lines.specs.Events.{answer_of, id_of};
+ghost use Rattle.fl_model.specs.Views.{answer_of, id_of};
 ghost use Rattle.fl_world_refines.specs.Step.{fresh_world};
 ghost use Rattle.fl_world.specs.Parts.{is_no_pair};
 
@@ -17,7 +17,7 @@ use fl_compile::compile;
 use fl_interface::Interface;
 use fl_nameserv::{Names, Service};
 use fl_ring::{OneDuo, RingFault};
-use fl_script_lines::{Answer, DispatcherId};
+use fl_model::{Answer, DispatcherId};
 use fl_value_data::PlanNo;
 use fl_world_events::{fresh_cores, has_name, link_both, renew_cores};
 use std::alloc::{AllocError, Global};

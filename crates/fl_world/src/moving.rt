@@ -5,7 +5,7 @@ ghost use Rattle.fl_base.specs.Control.{is_ack_only, with_circuit};
 ghost use Rattle.fl_world_refines.specs.View.{ring_at};
 ghost use Rattle.fl_world_refines.specs.Lending.{OverSide};
 ghost use Rattle.fl_world_refines.specs.Linking.{LooksWith, incoming, HearsWith, ArrivesWith, offers_in};
-ghost use Rattle.fl_script_lines.specs.Events.{answer_of};
+ghost use Rattle.fl_model.specs.Views.{answer_of};
 ghost use Rattle.fl_world_events.specs.Places.{HasLink};
 ghost use Rattle.fl_world_events.specs.Passing.{StandsAt};
 ghost use Rattle.fl_core.specs.Links.{inbound};
@@ -13,7 +13,7 @@ ghost use Rattle.fl_core.specs.Links.{inbound};
 use crate::world::World;
 use fl_base::{EndId, Frag};
 use fl_core::{LinkFront, LinkReceiveFault, MonitorAnswer};
-use fl_script_lines::Answer;
+use fl_model::Answer;
 use fl_world_events::{LinkWithSide, arrive_by_ring, hear_by_ring, look_by_ring, ring_at};
 
 // ---- in a world

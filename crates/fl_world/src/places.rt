@@ -4,12 +4,12 @@ ghost use Rattle.std.specs.Prelude.{◌≡◌, IfSome};
 ghost use Rattle.std.specs.Option.{option_map};
 ghost use Rattle.fl_world_refines.specs.View.{location_of, has_dispatcher};
 ghost use Rattle.fl_world_refines.specs.Linking.{link_side_to};
-ghost use Rattle.fl_script_lines.specs.Events.{id_of};
+ghost use Rattle.fl_model.specs.Views.{id_of};
 ghost use Rattle.fl_world_events.specs.Places.{location_from, IsThere, link_side_from, HasLink};
 
 use crate::world::World;
 use fl_base::{CoreId, EndId};
-use fl_script_lines::DispatcherId;
+use fl_model::DispatcherId;
 use fl_world_events::{EndLocation, LinkWithSide, link_side_at, location_at};
 use fl_world_refines::core_in;
 

@@ -6,7 +6,7 @@ ghost use Rattle.fl_core.specs.View.{TheCore};
 ghost use Rattle.fl_world_refines.specs.View.{made};
 ghost use Rattle.fl_world_refines.specs.Sending.{MakesCall, PreviewsOver, PreviewsAt, Previews, HasOutlet};
 ghost use Rattle.fl_world_refines.specs.Sending.{WritesOver, WritesBy, WritesFragment};
-ghost use Rattle.fl_script_lines.specs.Events.{answer_of};
+ghost use Rattle.fl_model.specs.Views.{answer_of};
 ghost use Rattle.fl_world_events.specs.Places.{HasEnd};
 ghost use Rattle.fl_world_events.specs.Parts.{CallsWith};
 ghost use Rattle.fl_world.specs.Parts.{AtUnmadeOrNone};
@@ -14,7 +14,7 @@ ghost use Rattle.fl_world.specs.Parts.{AtUnmadeOrNone};
 use crate::world::World;
 use fl_base::{EndId, faults};
 use fl_core::Outlet;
-use fl_script_lines::Answer;
+use fl_model::Answer;
 use fl_value_data::Call;
 use fl_world_events::{
     EndLocation, call_in, call_kept, ring_at, show_by_queue, show_by_ring, write_by_queue,

@@ -1,7 +1,7 @@
 //! Whatever event is asked: one step of the machine, and many.
 
 ghost use Rattle.std.specs.Prelude.{◌≡◌, true, map, is_some, IfOk, OnErr};
-ghost use Rattle.fl_script_lines.specs.Events.{event_of, answer_of};
+ghost use Rattle.fl_model.specs.Views.{event_of, answer_of};
 ghost use Rattle.fl_model.specs.State.{State};
 ghost use Rattle.fl_world_refines.specs.ShowsState.{Shows};
 ghost use Rattle.fl_world_refines.specs.Step.{Does, settled, settled_by, Steps};
@@ -9,7 +9,7 @@ ghost use Rattle.fl_world.specs.Stepping.{StepsAlike, may_want_memory, fault_in,
 ghost use Rattle.fl_world.specs.Stepping.{RunsAlike, ShowsAfterSome};
 
 use crate::world::World;
-use fl_script_lines::{Answer, Event};
+use fl_model::{Answer, Event};
 use fl_world_refines::law_steps_agree;
 use std::alloc::AllocError;
 

@@ -9,14 +9,14 @@ ghost use Rattle.fl_world_refines.specs.Taking.{TurnsAt, due_at, HasTurn};
 ghost use Rattle.fl_world_refines.specs.Taking.{AcksOver, AcksAt, Acknowledges, HasInlet};
 ghost use Rattle.fl_world_refines.specs.Taking.{RegistersOver, RegistersBy, RegistersChannel};
 ghost use Rattle.fl_world_refines.specs.Taking.{DeregistersChannel, SetsReply};
-ghost use Rattle.fl_script_lines.specs.Events.{answer_of, id_of};
+ghost use Rattle.fl_model.specs.Views.{answer_of, id_of};
 ghost use Rattle.fl_world_events.specs.Places.{HasEnd};
 ghost use Rattle.fl_world.specs.Places.{HasDue, IsDueOver, TurnsFrom};
 
 use crate::world::World;
 use fl_base::{EndId, MsgNo, faults};
 use fl_core::Inlet;
-use fl_script_lines::{Answer, DispatcherId};
+use fl_model::{Answer, DispatcherId};
 use fl_world_events::{
     DueEnd, EndLocation, ack_by_ring, deregister_in, register_by_queue, register_by_ring,
     register_in, ring_at, rule_in, rule_kept, tell_nothing, turn_by_queue, turn_by_ring, turn_in,

@@ -20,8 +20,8 @@ use Rattle.fl_world_refines.specs.declared.binding.Binding.{Binding}
 use Rattle.fl_world_refines.specs.View.{which_at}
 use Rattle.fl_world_refines.specs.Sending.{IsCalled, IsShown, PreviewsWith}
 use Rattle.fl_world_refines.specs.Taking.{IsRuled, TellsNothing}
-use Rattle.fl_script_lines.specs.declared.answer.Answer.{Answer as RustAnswer}
-use Rattle.fl_script_lines.specs.Events.{answer_of}
+use Rattle.fl_model.specs.declared.answer.Answer.{Answer as RustAnswer}
+use Rattle.fl_model.specs.Views.{answer_of}
 use Rattle.fl_world_events.specs.Parts.{KeptOrNone, CallsWith, RulesWith}
 
 -- the end that a binding keeps makes a call

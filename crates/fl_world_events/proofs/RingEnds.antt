@@ -17,7 +17,7 @@ use Rattle.fl_core.specs.View.{TheCore, arrivals_by, place_of}
 use Rattle.fl_core.specs.Sound.{IsCore}
 use Rattle.fl_core.specs.Making.{HasNewEnd, TakesBackEnd}
 use Rattle.fl_model.specs.Events.{DispatcherId}
-use Rattle.fl_script_lines.specs.Events.{id_of}
+use Rattle.fl_model.specs.Views.{id_of}
 use Rattle.fl_world_refines.specs.View.{IsWhole}
 use Rattle.fl_world_events.specs.declared.by_ring.NewRingEnd.{NewRingEnd}
 use Rattle.fl_world_events.specs.Parts.{InCore}

@@ -5,7 +5,7 @@ use Rattle.fl_compile.specs.declared.program.Program.{Program}
 use Rattle.fl_compile.specs.Programs.{program_of}
 use Rattle.fl_core.specs.declared.board_fault.BoardFault.TheVariants as board
 use Rattle.fl_endpoint.specs.View.{fresh}
-use Rattle.fl_script_lines.specs.declared.event.DispatcherId.{DispatcherId}
+use Rattle.fl_model.specs.declared.event.DispatcherId.{DispatcherId}
 use Rattle.fl_monitor.specs.declared.opening.Opening.{Opening}
 use Rattle.fl_monitor.specs.declared.fault.MonitorFault.TheVariants as monitor
 use Rattle.fl_core.specs.declared.fault.OpenFault.{OpenFault}

@@ -3,7 +3,7 @@
 ghost use Rattle.std.specs.Prelude.{◌≡◌, ◌≢◌, ◌≤◌, ◌<◌, [], ◌∷◌, ◌++◌, length, None, IfOk, OnOk, OnErr, vec_len};
 ghost use Rattle.std.specs.Vec.{vec_capacity};
 ghost use Rattle.fl_core.specs.View.{place_of};
-ghost use Rattle.fl_script_lines.specs.Events.{id_of};
+ghost use Rattle.fl_model.specs.Views.{id_of};
 ghost use Rattle.fl_world_refines.specs.View.{IsWhole};
 ghost use Rattle.fl_world_events.specs.Parts.{InCore};
 ghost use Rattle.fl_world_events.specs.RingEnds.{HasRoom, AddsEnd, TakesFromRing, RegistersOver, Joins, JoinsBoth};
@@ -14,7 +14,7 @@ use fl_base::EndId;
 use fl_core::{Core, EndWiring, WiredEnd};
 use fl_endpoint::End;
 use fl_ring::OneDuo;
-use fl_script_lines::DispatcherId;
+use fl_model::DispatcherId;
 use fl_world_refines::Binding;
 use std::alloc::AllocError;
 

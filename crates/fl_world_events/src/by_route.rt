@@ -5,7 +5,7 @@ ghost use Rattle.std.specs.Vec.{vec_capacity};
 ghost use Rattle.std.specs.List.{list_all};
 ghost use Rattle.fl_base.specs.Numbered.{core_id};
 ghost use Rattle.fl_core.specs.declared.board_fault.BoardFault.{BoardFault};
-ghost use Rattle.fl_script_lines.specs.Events.{id_of, answer_of};
+ghost use Rattle.fl_model.specs.Views.{id_of, answer_of};
 ghost use Rattle.fl_lists.specs.ThreeLists.{is_in};
 ghost use Rattle.fl_monitor.specs.declared.fault.MonitorFault.{MonitorFault};
 ghost use Rattle.fl_monitor.specs.Monitors.{MayOpen, wanted};
@@ -25,7 +25,7 @@ use fl_compile::Program;
 use fl_core::{BoardFault, Core, OpenFault};
 use fl_endpoint::End;
 use fl_monitor::{MonitorFault, Opening, Path};
-use fl_script_lines::{Answer, DispatcherId};
+use fl_model::{Answer, DispatcherId};
 use fl_world_refines::Binding;
 use std::alloc::{AllocError, Global};
 

@@ -6,7 +6,7 @@ ghost use Rattle.fl_endpoint.specs.View.{interface_in};
 ghost use Rattle.fl_core.specs.BoardEvents.{Holds};
 ghost use Rattle.fl_world_refines.specs.View.{ring_at};
 ghost use Rattle.fl_world_refines.specs.Linking.{IsHeard};
-ghost use Rattle.fl_script_lines.specs.Events.{answer_of};
+ghost use Rattle.fl_model.specs.Views.{answer_of};
 ghost use Rattle.fl_world_events.specs.Parts.{InCore};
 ghost use Rattle.fl_world_events.specs.Passing.{StandsAt, PassesOver};
 ghost use Rattle.fl_world_events.specs.Following.{TakesRulesOf, TakesKept};
@@ -16,7 +16,7 @@ use crate::moving::{ForwardFrag, move_between};
 use fl_core::{Core, LinkReceiveFault, MonitorAnswer};
 use fl_endpoint::End;
 use fl_ring::OneDuo;
-use fl_script_lines::Answer;
+use fl_model::Answer;
 use fl_world_refines::Binding;
 use std::alloc::AllocError;
 

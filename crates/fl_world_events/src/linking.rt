@@ -3,7 +3,7 @@
 ghost use Rattle.std.specs.Prelude.{◌≡◌, ◌<◌, length};
 ghost use Rattle.fl_ring.specs.Side.{SameSide};
 ghost use Rattle.fl_world_refines.specs.Linking.{write_answer, MonitorWritesWith, AcksLinkWith};
-ghost use Rattle.fl_script_lines.specs.Events.{answer_of};
+ghost use Rattle.fl_model.specs.Views.{answer_of};
 ghost use Rattle.fl_world_events.specs.Parts.{ByRing};
 
 use crate::lending::{which_at, whole};
@@ -11,7 +11,7 @@ use crate::taking::answer_ack;
 use fl_base::LinkId;
 use fl_core::{Core, MonitorWrite};
 use fl_ring::{DuoSide, OneDuo};
-use fl_script_lines::Answer;
+use fl_model::Answer;
 
 // ---- the monitor writes
 

@@ -10,7 +10,7 @@ ghost use Rattle.fl_ring.specs.Side.{SameSide, SidePuts, SideTakes};
 ghost use Rattle.fl_world_refines.specs.View.{which_at};
 ghost use Rattle.fl_world_refines.specs.Lending.{front_for};
 ghost use Rattle.fl_world_refines.specs.Linking.{LooksWith, incoming, HearsWith, ArrivesWith, moved_answer};
-ghost use Rattle.fl_script_lines.specs.Events.{answer_of};
+ghost use Rattle.fl_model.specs.Views.{answer_of};
 ghost use Rattle.fl_world_events.specs.Parts.{ByRing};
 ghost use Rattle.fl_world_events.specs.Passing.{Passes};
 ghost use Rattle.fl_core.specs.Links.{inbound};
@@ -23,7 +23,7 @@ use fl_core::{Core, LinkFront, LinkReceiveFault, MonitorAnswer};
 use fl_hop::{ForwardOutcome, move_on};
 use fl_nameserv::Names;
 use fl_ring::{DuoSide, OneDuo};
-use fl_script_lines::Answer;
+use fl_model::Answer;
 
 // ---- a look
 

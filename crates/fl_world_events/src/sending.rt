@@ -10,7 +10,7 @@ ghost use Rattle.fl_world_refines.specs.View.{which_at};
 ghost use Rattle.fl_world_refines.specs.Lending.{answer_at};
 ghost use Rattle.fl_world_refines.specs.Sending.{IsCalled, IsShown, PreviewsWith};
 ghost use Rattle.fl_world_refines.specs.Sending.{IsWritten, WritesWith};
-ghost use Rattle.fl_script_lines.specs.Events.{answer_of};
+ghost use Rattle.fl_model.specs.Views.{answer_of};
 ghost use Rattle.fl_world_events.specs.Parts.{InCore, ByQueue, ByRing, CallsIn, CallsWith, KeptOrNone};
 
 use crate::lending::{which_at, whole};
@@ -19,7 +19,7 @@ use fl_core::Core;
 use fl_endpoint::{EndFault, WriteAnswer};
 use fl_link::QueueLink;
 use fl_ring::{DuoSide, OneDuo};
-use fl_script_lines::Answer;
+use fl_model::Answer;
 use fl_value_data::Call;
 use fl_world_refines::Binding;
 use std::alloc::AllocError;

@@ -15,7 +15,7 @@ ghost use Rattle.fl_world_refines.specs.Taking.{AcksWith};
 ghost use Rattle.fl_world_refines.specs.Taking.{TellsNothing, IsRegistered, RegistersWith, RegistersArrivals};
 ghost use Rattle.fl_world_refines.specs.Taking.{DeregistersIn, IsRuled};
 ghost use Rattle.fl_world_refines.specs.Linking.{ack_answer};
-ghost use Rattle.fl_script_lines.specs.Events.{answer_of};
+ghost use Rattle.fl_model.specs.Views.{answer_of};
 ghost use Rattle.fl_world_events.specs.Parts.{InCore, ByQueue, ByRing, KeptOrNone, RulesIn, RulesWith};
 
 use crate::lending::{which_at, whole};
@@ -24,7 +24,7 @@ use fl_core::{AckAnswer, BoardFault, Core, TurnAnswer};
 use fl_endpoint::EndFault;
 use fl_link::QueueLink;
 use fl_ring::{DuoSide, OneDuo, law_forgets_looks};
-use fl_script_lines::Answer;
+use fl_model::Answer;
 use fl_world_refines::Binding;
 use std::alloc::AllocError;
 

@@ -3,7 +3,7 @@
 use crate::gates::{Held, LockStep, Open, SideBySide};
 use crate::texts::{Told, add, add_lines, run, skip_lines};
 use fl_cores::{CoresEnd, CoresFault, run_cores};
-use fl_script_lines::{DispatcherId, Event};
+use fl_model::{DispatcherId, Event};
 use fl_world::Config;
 use std::alloc::{AllocError, Global};
 use std::sync::Wait;

@@ -3,7 +3,7 @@
 use crate::rows::{Row, all_hold};
 use fl_base::{EndId, Side};
 use fl_cores_file::{CoresFile, CoresText, Job, read_cores_text};
-use fl_script_lines::Event;
+use fl_model::Event;
 use std::alloc::{AllocError, Global};
 use std::test::Fail;
 

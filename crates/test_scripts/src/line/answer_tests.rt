@@ -3,7 +3,8 @@
 use crate::line::names::names_of;
 use crate::rows::{Row, all_hold};
 use fl_base::{EndId, Frag, MsgNo, Side};
-use fl_script_lines::{Answer, Naming, ScriptNames, print_answer, print_fault};
+use fl_model::Answer;
+use fl_script_lines::{Naming, ScriptNames, print_answer, print_fault};
 use fl_value_data::{Call, Value};
 use std::alloc::{AllocError, Global};
 use std::test::Fail;

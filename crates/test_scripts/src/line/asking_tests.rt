@@ -4,9 +4,8 @@ use crate::line::names::{interface, names_of};
 use crate::rows::{Row, all_hold};
 use fl_base::{EndId, Side};
 use fl_interface::Interface;
-use fl_script_lines::{
-    Answer, BackEnd, DispatcherId, Event, Line, LineFault, ScriptNames, law_one_asked, parse_line,
-};
+use fl_model::{Answer, BackEnd, DispatcherId, Event};
+use fl_script_lines::{Line, LineFault, ScriptNames, law_one_asked, parse_line};
 use fl_value_data::PlanNo;
 use std::alloc::{AllocError, Global};
 use std::test::Fail;
@@ -92,7 +91,7 @@ impl Asked {
         client: DispatcherId,
         interface: usize,
         service: &[u8],
-        to: BackEnd<'_>,
+        to: BackEnd,
     ) -> bool {
         let (kind, slots) = numbers_of(to);
         self.is(
@@ -173,12 +172,16 @@ fn side_of(end: EndId) -> usize {
     }
 }
 
+fn first_of(cores: &[u32]) -> usize {
+    cores.first().map_or(0, |core| *core as usize)
+}
+
 // The kind of a back end, and its slots; of a route the first core.
-fn numbers_of(back_end: BackEnd<'_>) -> (usize, usize) {
+fn numbers_of(back_end: BackEnd) -> (usize, usize) {
     match back_end {
         BackEnd::Local(slots) => (0, slots as usize),
         BackEnd::Ump(slots) => (1, slots as usize),
-        BackEnd::Hop(route) => (2, route.first as usize),
+        BackEnd::Hop(route) => (2, first_of(route.cores())),
     }
 }
 

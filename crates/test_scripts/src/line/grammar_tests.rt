@@ -1,10 +1,7 @@
 //! What lines spell, and which are not read.
 
 use crate::rows::{Row, all_hold};
-use fl_script_lines::{
-    BackEnd, Command, Line, law_one_line, law_printed_reads, law_spelled_reads, parse_line,
-    print_command,
-};
+use fl_script_lines::{BackEndText, Command, Line, law_one_line, law_printed_reads, law_spelled_reads, parse_line, print_command};
 use fl_value_data::PlanNo;
 use std::alloc::{AllocError, Global};
 use std::test::Fail;
@@ -136,7 +133,7 @@ fn cores_of(alloc: Global, line: &[u8]) -> Result<Vec<u32>, AllocError> {
     match parse_line(line) {
         Line::Command(
             Command::Bind {
-                back_end: BackEnd::Hop(route),
+                back_end: BackEndText::Hop(route),
                 ..
             },
         ) => route.cores(alloc),

@@ -1,15 +1,14 @@
 //! A system that stays as it is at its start: each event is out of memory.
 
 use fl_base::EndId;
-use fl_script_exec::QueueMachine;
-use fl_script_lines::{Answer, DispatcherId, Event};
+use fl_model::{Answer, DispatcherId, Event, Machine};
 use fl_value_data::Call;
 use std::alloc::{AllocError, Global};
 
 #[derive(Drop)]
 pub struct Still;
 
-impl QueueMachine for Still {
+impl Machine for Still {
     ghost use Rattle.std.specs.Prelude.{◌≡◌};
     ghost use Rattle.fl_model.specs.State.{start};
 

@@ -2,7 +2,7 @@
 
 use crate::texts::interface;
 use fl_base::{EndId, MsgNo, Side};
-use fl_script_lines::{BackEnd, Command, DispatcherId, Event, Line, parse_line};
+use fl_model::{BackEnd, DispatcherId, Event, Route};
 use fl_value::read_spoken;
 use fl_value_data::{Call, PlanNo};
 use std::alloc::{AllocError, Global};
@@ -14,15 +14,15 @@ pub enum Joint {
     Local(u32),
     /// By a ring of so many slots each way.
     Ump(u32),
-    /// By a circuit, over the cores that this line names.
-    Hop(&'static [u8]),
+    /// By a circuit, over this core and those.
+    Hop(u32, &'static [u32]),
 }
 
 /// A circuit over cores 0 and 1.
-pub const NEAR: Joint = Joint::Hop(b"bind p d i s hop 0 1");
+pub const NEAR: Joint = Joint::Hop(0, &[1]);
 
 /// A circuit over cores 0, 1 and 2.
-pub const FAR: Joint = Joint::Hop(b"bind p d i s hop 0 1 2");
+pub const FAR: Joint = Joint::Hop(0, &[1, 2]);
 
 /// What is asked.
 #[derive(Clone, Copy)]
@@ -112,19 +112,19 @@ fn adding(alloc: Global, text: &[u8], plan: PlanNo) -> Result<Event<'static>, Al
     }
 }
 
-// The back end of a line that binds.
-fn back_end_in(line: &'static [u8]) -> BackEnd<'static> {
-    match parse_line(line) {
-        Line::Command(Command::Bind { back_end, .. }) => back_end,
-        _ => BackEnd::Local(0),
+fn route(first: u32, others: &[u32]) -> Route {
+    let mut route = Route::new(first);
+    for core in others {
+        route.push(*core);
     }
+    route
 }
 
-fn back_end(joint: Joint) -> BackEnd<'static> {
+fn back_end(joint: Joint) -> BackEnd {
     match joint {
         Joint::Local(slots) => BackEnd::Local(slots),
         Joint::Ump(slots) => BackEnd::Ump(slots),
-        Joint::Hop(line) => back_end_in(line),
+        Joint::Hop(first, others) => BackEnd::Hop(route(first, others)),
     }
 }
 

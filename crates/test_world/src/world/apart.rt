@@ -2,7 +2,7 @@
 
 ghost use Rattle.std.specs.Prelude.{◌≡◌, map};
 ghost use Rattle.std.specs.List.{list_all};
-ghost use Rattle.fl_script_lines.specs.Events.{event_of};
+ghost use Rattle.fl_model.specs.Views.{event_of};
 ghost use Rattle.fl_world_refines.specs.Apart.{is_making};
 
 use crate::world::acts::{AT_0, AT_1, Act, CLIENT, Joint, NEXT_AT_0, PING, SERVER, SERVER_1};
@@ -10,7 +10,7 @@ use crate::world::worlds::config;
 use fl_base::EndId;
 use fl_core::Core;
 use fl_ring::{OneDuo, WhichSide};
-use fl_script_lines::{BackEnd, Event};
+use fl_model::{BackEnd, Event};
 use fl_world::{Config, World};
 use fl_world_refines::Parts;
 use std::alloc::{AllocError, Global};

@@ -251,7 +251,7 @@ pub const REFUSALS: &[Row] = &[
             (Act::Bind(AT_0, 0, b"t", FAR), Word::Refused(70)),
             (Act::Bind(AT_0, 0, b"s", NEAR), Word::Refused(73)),
             (
-                Act::Bind(AT_0, 0, b"s", Joint::Hop(b"bind p d i s hop 0 1 0")),
+                Act::Bind(AT_0, 0, b"s", Joint::Hop(0, &[1, 0])),
                 Word::Refused(73),
             ),
             (Act::Bind(AT_0, 0, b"s", Joint::Local(4)), Word::Refused(73)),

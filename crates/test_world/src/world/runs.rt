@@ -4,7 +4,7 @@ use crate::world::acts::{Act, event, events};
 use crate::world::tables::Claim;
 use crate::world::words::{Word, is};
 use crate::world::worlds::{Way, answers, answers_all, make};
-use fl_script_lines::{Answer, DispatcherId, Event};
+use fl_model::{Answer, DispatcherId, Event};
 use fl_world::World;
 use std::alloc::{AllocError, Global};
 

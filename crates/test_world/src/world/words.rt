@@ -1,7 +1,7 @@
 //! What is said in calls and in answers, as plain data, and whether an answer is the wanted one.
 
 use fl_base::{EndId, Frag, Side};
-use fl_script_lines::Answer;
+use fl_model::Answer;
 use fl_value::print_call;
 use fl_value_data::{Call, Value};
 use std::alloc::{AllocError, Global};

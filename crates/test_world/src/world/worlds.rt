@@ -2,7 +2,7 @@
 
 use crate::world::acts::{Act, event, events};
 use crate::world::words::{Word, in_round, is};
-use fl_script_lines::Answer;
+use fl_model::Answer;
 use fl_world::{BootFault, Config, World};
 use std::alloc::{AllocError, Global};
 

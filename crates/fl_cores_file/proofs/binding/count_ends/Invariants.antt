@@ -1,7 +1,7 @@
 use Rattle.std.proofs.Common.{◌≡◌, ◌≤◌, map, take}
 use Rattle.std.specs.List.{count_by}
 use Rattle.fl_model.specs.Binding.{same_dispatcher}
-use Rattle.fl_script_lines.specs.Events.{id_of}
+use Rattle.fl_model.specs.Views.{id_of}
 use Rattle.fl_cores_file.proofs.binding.count_ends.Given as goal
 
 abbrev pub invariant-loop-seat : goal.invariant-loop-seat

@@ -33,7 +33,7 @@ returns-clause-ok g c =
 pub returns-clause-err : goal.returns-clause-err
 returns-clause-err g c =
     let short : length c.in-Ok.text.items ≤ 1048576 = omega (arith, c.in-Ok.text.ok.0, c.len.ensures, c.if-len-gt-MAX_SCRIPT.false) in
-    leaves_run g.M.QueueMachine.shows c.run.result c.in-Ok-new.script (g.R.ScriptReader.remaining c.args.reader.now) (g.W.Write.contents c.args.writer.now) (g.W.Write.contents c.run.new.writer)
+    leaves_run g.M.Machine.shows c.run.result c.in-Ok-new.script (g.R.ScriptReader.remaining c.args.reader.now) (g.W.Write.contents c.args.writer.now) (g.W.Write.contents c.run.new.writer)
     c.in-Ok.text.items c.deref.result.now c.in-Ok.ensures.whole short c.in-Ok-new.ensures.start c.deref.ensures.value c.run.ensures.err
 
 pub returns-in-Err-clause-given : goal.returns-in-Err-clause-given

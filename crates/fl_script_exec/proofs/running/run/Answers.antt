@@ -21,7 +21,7 @@ pub loop-rest-preserved : goal.loop-rest-preserved
 loop-rest-preserved g c = λ s h.
     let i = c.loop-rest.invariant s h in
     let d = c.in-Ok.ensures.ok i.0 i.2 in
-    run_more g.M.QueueMachine.shows (g.W.Write.contents c.args.writer.now) (g.W.Write.contents c.loop-rest.writer) (g.W.Write.contents c.put_all.new.writer)
+    run_more g.M.Machine.shows (g.W.Write.contents c.args.writer.now) (g.W.Write.contents c.loop-rest.writer) (g.W.Write.contents c.put_all.new.writer)
     c.part.new.self s i.0 c.args.text.now c.loop-rest.rest.now c.next_part.result.1.now c.deref.result.now (part_of c.next_part.result.0) d.0 i.1 i.3 i.4
     c.next_part.ensures.items d.1 d.2.at (put_alone c.clear.new.self.items c.part.new.out.items c.deref.result.now d.0.text c.clear.ensures.items d.2.text c.deref.ensures.value)
     c.in_default-put_all.ensures.ok

@@ -7,8 +7,8 @@ use Rattle.fl_script_exec.proofs.running.run.Given as goal
 
 abbrev pub invariant-loop-rest : goal.invariant-loop-rest
 invariant-loop-rest g l =
-    (s : Script) → IsAt g.M.QueueMachine.shows l.fn.script s
-    → (now : Script) × (done : List Effect) × IsAt g.M.QueueMachine.shows l.script now × GoesOn s l.text now l.rest done
+    (s : Script) → IsAt g.M.Machine.shows l.fn.script s
+    → (now : Script) × (done : List Effect) × IsAt g.M.Machine.shows l.script now × GoesOn s l.text now l.rest done
     × Appends (g.W.Write.contents l.fn.writer) (g.W.Write.contents l.writer) (text_of done)
 
 abbrev pub decreases-loop-rest : goal.decreases-loop-rest

@@ -1,5 +1,5 @@
 use Rattle.std.proofs.Common.{ap, length-set, slice_set, slice_index_or, arith}
-use Rattle.fl_script_lines.specs.Events.{id_of}
+use Rattle.fl_model.specs.Views.{id_of}
 use Rattle.fl_world_events.proofs.RingEnds.{room_below, room_there, room_new, second_there, second_new, has_new, none_left, first_registers, joins_both}
 use Rattle.fl_world_events.proofs.by_ring.join_both.Goals as goal
 

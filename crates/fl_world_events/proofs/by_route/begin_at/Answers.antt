@@ -1,5 +1,5 @@
 use Rattle.std.proofs.Common.{ap, slice_index_or}
-use Rattle.fl_script_lines.specs.Events.{id_of}
+use Rattle.fl_model.specs.Views.{id_of}
 use Rattle.fl_core.specs.Making.{asked}
 use Rattle.fl_world_events.specs.Routes.{BeginsIn}
 use Rattle.fl_world_events.proofs.Routes.{core_below, at_one}

@@ -1,4 +1,4 @@
-use Rattle.fl_script_lines.specs.Events.{answer_of}
+use Rattle.fl_model.specs.Views.{answer_of}
 use Rattle.fl_world_events.proofs.Routes.{follows_from}
 use Rattle.fl_world_events.proofs.by_route.open_over.Goals as goal
 

@@ -1,4 +1,4 @@
-use Rattle.fl_script_lines.specs.declared.event.Event.TheVariants as rust
+use Rattle.fl_model.specs.declared.event.Event.TheVariants as rust
 use Rattle.fl_script_lines.specs.Told.{names_of}
 use Rattle.fl_script_lines.specs.Views.{end_name_of}
 use Rattle.fl_script_lines.proofs.LineLemmas.{asked_call, unasked_call}

@@ -1,8 +1,8 @@
 use Rattle.std.proofs.Common.{◌≡◌, true, subst, map, List}
 use Rattle.std.specs.Result.{IfOk, IfErr}
 use Rattle.std.specs.List.{list_all}
-use Rattle.fl_script_lines.specs.declared.event.Event.{Event as RustEvent}
-use Rattle.fl_script_lines.specs.Events.{event_of}
+use Rattle.fl_model.specs.declared.event.Event.{Event as RustEvent}
+use Rattle.fl_model.specs.Views.{event_of}
 use Rattle.fl_world_refines.specs.Apart.{AllUnused, is_making}
 use Rattle.fl_world.specs.Booting.{config_by, Stands, IsFaultOf}
 use Rattle.fl_world.proofs.world.World.boot.Goals as goal

@@ -1,5 +1,5 @@
 use Rattle.std.proofs.Common.{refl, map, List}
-use Rattle.fl_script_lines.specs.Events.{event_of}
+use Rattle.fl_model.specs.Views.{event_of}
 use Rattle.fl_model.specs.Events.{Event}
 use Rattle.fl_model.specs.State.{State}
 use Rattle.fl_world.specs.Booting.{config_by, Passes, StopsBy}

@@ -2,7 +2,7 @@ use Rattle.std.proofs.Common.{refl, subst, IfOk, arith}
 use Rattle.std.proofs.lemmas.Result.{IfOk-weaker}
 use Rattle.fl_value_data.specs.Value.{call_of}
 use Rattle.fl_model.specs.Events.{Answer, refused}
-use Rattle.fl_script_lines.specs.Events.{answer_of}
+use Rattle.fl_model.specs.Views.{answer_of}
 use Rattle.fl_world_events.specs.Parts.{CallsIn}
 use Rattle.fl_world_refines.specs.View.{WhereEnd, TheWorld}
 use Rattle.fl_world_refines.specs.Sending.{CallsAt}

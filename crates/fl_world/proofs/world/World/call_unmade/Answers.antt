@@ -1,6 +1,6 @@
 use Rattle.std.proofs.Common.{refl}
 use Rattle.fl_value_data.specs.Value.{call_of}
-use Rattle.fl_script_lines.specs.Events.{answer_of}
+use Rattle.fl_model.specs.Views.{answer_of}
 use Rattle.fl_world_events.specs.Parts.{CallsWith}
 use Rattle.fl_world.proofs.Lifts.{binding_read, unmade_if_ok}
 use Rattle.fl_world.proofs.world.World.call_unmade.Goals as goal

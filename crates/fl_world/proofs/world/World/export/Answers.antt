@@ -1,5 +1,5 @@
 use Rattle.std.proofs.Common.{◌<◌, sym, arith}
-use Rattle.fl_script_lines.specs.Events.{id_of}
+use Rattle.fl_model.specs.Views.{id_of}
 use Rattle.fl_world.proofs.Requested.{core_small}
 use Rattle.fl_world.proofs.world.World.export.Goals as goal
 

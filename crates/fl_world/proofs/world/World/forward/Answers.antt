@@ -4,8 +4,8 @@ use Rattle.fl_model.specs.Events.{Answer, refused, nothing}
 use Rattle.fl_world_refines.specs.View.{Given, TheWorld, ring_at}
 use Rattle.fl_world_refines.specs.Lending.{Refuses, IsStray}
 use Rattle.fl_world_refines.specs.Linking.{LinkNumbers, link_side_to, Forwards, ForwardsFirst}
-use Rattle.fl_script_lines.specs.declared.answer.Answer.{Answer as RustAnswer}
-use Rattle.fl_script_lines.specs.Events.{answer_of}
+use Rattle.fl_model.specs.declared.answer.Answer.{Answer as RustAnswer}
+use Rattle.fl_model.specs.Views.{answer_of}
 use Rattle.fl_world.proofs.Lent.{stray_ring, ring_here}
 use Rattle.fl_world.proofs.world.World.forward.Goals as goal
 

@@ -1,5 +1,5 @@
 use Rattle.std.proofs.Common.{sym, ◌∙◌}
-use Rattle.fl_script_lines.specs.Events.{id_of}
+use Rattle.fl_model.specs.Views.{id_of}
 use Rattle.fl_world.proofs.Requested.{client_there, server_there}
 use Rattle.fl_world.proofs.world.World.has_both_places.Goals as goal
 

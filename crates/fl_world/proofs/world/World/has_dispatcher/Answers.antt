@@ -1,7 +1,7 @@
 use Rattle.std.proofs.Common.{◌≡◌, sym, ap, ◌∙◌, length, slice_get, Some, None}
 use Rattle.std.proofs.lemmas.Bool.{ltb-false}
 use Rattle.fl_core.specs.BoardView.{TheBoard}
-use Rattle.fl_script_lines.specs.Events.{id_of}
+use Rattle.fl_model.specs.Views.{id_of}
 use Rattle.fl_world_refines.specs.View.{TheWorld}
 use Rattle.fl_world.proofs.Seen.{seen, unseen, no_dispatcher_at, dispatcher_at}
 use Rattle.fl_world.proofs.world.World.has_dispatcher.Goals as goal

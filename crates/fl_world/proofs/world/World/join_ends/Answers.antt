@@ -1,7 +1,7 @@
 use Rattle.std.proofs.Common.{◌≡◌, refl, arith, sym, ap, ◌∙◌, length}
 use Rattle.std.proofs.lemmas.List.{with_items_is}
 use Rattle.std.specs.Vec.{with_items}
-use Rattle.fl_script_lines.specs.Events.{id_of}
+use Rattle.fl_model.specs.Views.{id_of}
 use Rattle.fl_world.proofs.RingEnds.{lent_room, as_many_joined, joins_in}
 use Rattle.fl_world.proofs.Kept.{no_answer, on_any, same_parts, few_again}
 use Rattle.fl_world.proofs.world.World.join_ends.Goals as goal

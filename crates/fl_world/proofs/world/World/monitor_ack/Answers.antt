@@ -1,6 +1,6 @@
 use Rattle.std.proofs.Common.{◌⊎◌, refl, subst, Option}
 use Rattle.fl_model.specs.Events.{refused}
-use Rattle.fl_script_lines.specs.Events.{answer_of}
+use Rattle.fl_model.specs.Views.{answer_of}
 use Rattle.fl_world_refines.specs.View.{Given, ring_at}
 use Rattle.fl_world_refines.specs.Lending.{Refuses, OverSide, IsStray}
 use Rattle.fl_world_refines.specs.Linking.{LinkNumbers, AcksLinkWith}

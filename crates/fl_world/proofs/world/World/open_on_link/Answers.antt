@@ -2,7 +2,7 @@ use Rattle.std.proofs.Common.{ap, ◌∙◌, length, refl, sym, subst, ◌<◌, 
 use Rattle.std.proofs.lemmas.List.{with_items_is}
 use Rattle.std.proofs.lemmas.Result.{IfOk-weaker}
 use Rattle.std.specs.Vec.{with_items}
-use Rattle.fl_script_lines.specs.Events.{answer_of, id_of}
+use Rattle.fl_model.specs.Views.{answer_of, id_of}
 use Rattle.fl_world_refines.specs.View.{TheWorld}
 use Rattle.fl_world_refines.specs.declared.binding.Binding.{Binding}
 use Rattle.fl_world.proofs.Kept.{same_parts, few_again, dispatcher_lent}

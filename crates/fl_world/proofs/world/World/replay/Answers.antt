@@ -1,4 +1,4 @@
-use Rattle.fl_script_lines.specs.Events.{event_of}
+use Rattle.fl_model.specs.Views.{event_of}
 use Rattle.fl_world.proofs.Stepped.{steps_by, agrees_by, kept_by}
 use Rattle.fl_world.proofs.world.World.replay.Goals as goal
 

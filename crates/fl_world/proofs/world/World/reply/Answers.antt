@@ -1,6 +1,6 @@
 use Rattle.std.proofs.Common.{refl, subst, arith}
 use Rattle.fl_model.specs.Events.{Answer, refused}
-use Rattle.fl_script_lines.specs.Events.{answer_of}
+use Rattle.fl_model.specs.Views.{answer_of}
 use Rattle.fl_world_refines.specs.View.{WhereEnd, TheWorld}
 use Rattle.fl_world_refines.specs.Taking.{reply_rule, RulesAt}
 use Rattle.fl_world.proofs.Lifts.{unmade_below, binding_read, at_unmade, at_core, core_read, end_read, few_kept, at_location}

@@ -1,5 +1,5 @@
 use Rattle.std.proofs.Common.{◌≡◌, ◌∙◌, sym, subst, true, None, rules}
-use Rattle.fl_script_lines.specs.Events.{id_of}
+use Rattle.fl_model.specs.Views.{id_of}
 use Rattle.fl_nameserv.specs.Registrations.{by_name}
 use Rattle.fl_world_refines.specs.View.{TheWorld}
 use Rattle.fl_world.proofs.Requested.{not_offered, is_requested, no_service, too_many, within, still_few, all_taken}

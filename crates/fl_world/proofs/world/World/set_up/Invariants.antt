@@ -1,5 +1,5 @@
 use Rattle.std.proofs.Common.{map, take}
-use Rattle.fl_script_lines.specs.Events.{event_of}
+use Rattle.fl_model.specs.Views.{event_of}
 use Rattle.fl_model.specs.State.{State}
 use Rattle.fl_world_refines.specs.ShowsState.{Shows}
 use Rattle.fl_world_refines.specs.Apart.{KeepsUnused}

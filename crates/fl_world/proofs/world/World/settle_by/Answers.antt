@@ -1,5 +1,5 @@
 use Rattle.std.proofs.Common.{refl, sym, ◌∙◌}
-use Rattle.fl_script_lines.specs.Events.{event_of}
+use Rattle.fl_model.specs.Views.{event_of}
 use Rattle.fl_world.proofs.Kept.{on_any}
 use Rattle.fl_world.proofs.Stepped.{stays_by, settles_by}
 use Rattle.fl_world.proofs.world.World.settle_by.Goals as goal

@@ -1,6 +1,6 @@
 use Rattle.std.proofs.Common.{refl, subst}
 use Rattle.fl_model.specs.Events.{refused}
-use Rattle.fl_script_lines.specs.Events.{answer_of}
+use Rattle.fl_model.specs.Views.{answer_of}
 use Rattle.fl_world_refines.specs.View.{WhereEnd}
 use Rattle.fl_world_refines.specs.Sending.{PreviewsAt}
 use Rattle.fl_world.proofs.world.World.show.Goals as goal

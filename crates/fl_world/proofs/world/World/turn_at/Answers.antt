@@ -1,5 +1,5 @@
 use Rattle.std.proofs.Common.{ap, ◌∙◌, arith, Some}
-use Rattle.fl_script_lines.specs.Events.{id_of}
+use Rattle.fl_model.specs.Views.{id_of}
 use Rattle.fl_world.proofs.Lent.{due_below, due_seat, due_over, turns_at}
 use Rattle.fl_world.proofs.world.World.turn_at.Goals as goal
 

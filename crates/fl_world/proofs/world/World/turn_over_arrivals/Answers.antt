@@ -1,6 +1,6 @@
 use Rattle.std.proofs.Common.{refl, arith}
 use Rattle.fl_world_refines.specs.Taking.{as_turn, TurnsArrivals}
-use Rattle.fl_script_lines.specs.Events.{answer_of}
+use Rattle.fl_model.specs.Views.{answer_of}
 use Rattle.fl_world.proofs.Lifts.{due_read, core_if_ok, few_kept, core_put_back, on_err_map}
 use Rattle.fl_world.proofs.Lent.{due_there, due_end, due_within}
 use Rattle.fl_world.proofs.world.World.turn_over_arrivals.Goals as goal

@@ -1,7 +1,7 @@
 use Rattle.std.proofs.Common.{refl, arith, inr}
 use Rattle.fl_ring.specs.Side.{SideTakes}
 use Rattle.fl_world_refines.specs.Taking.{as_turn, TurnsWith}
-use Rattle.fl_script_lines.specs.Events.{answer_of}
+use Rattle.fl_model.specs.Views.{answer_of}
 use Rattle.fl_world.proofs.Lifts.{due_read, side_if_ok, few_kept, ring_put_back, on_err_both}
 use Rattle.fl_world.proofs.Lent.{due_there, due_end, due_within, lent_to_side, past_end, stray_ring}
 use Rattle.fl_world.proofs.world.World.turn_over_side.Goals as goal

@@ -1,21 +1,22 @@
-//! What a script runs on.
+//! A system that does what the machine does.
 
 ghost use Rattle.std.specs.Prelude.{IfOk, OnErr};
 ghost use Rattle.fl_model.specs.State.{State, start};
 ghost use Rattle.fl_value_data.specs.Value.{call_of};
 ghost use Rattle.fl_model.specs.Events as machine;
-ghost use Rattle.fl_script_lines.specs.Events.{event_of, answer_of, id_of};
-ghost use Rattle.fl_script_exec.specs.Steps.{Steps};
+ghost use Rattle.fl_model.specs.Views.{event_of, answer_of, id_of};
+ghost use Rattle.fl_model.specs.Steps.{Steps};
 
+use crate::answer::Answer;
+use crate::event::{DispatcherId, Event};
 use fl_base::EndId;
-use fl_script_lines::{Answer, DispatcherId, Event};
 use fl_value_data::Call;
 use std::alloc::{AllocError, Global};
 
 /// A system that does what the machine does.
 ///
 /// Its relation `shows` says of which of the machine's states it is the what is shown.
-pub trait QueueMachine {
+pub trait Machine {
     ghost shows: { Self → State → Type 0 };
 
     /// The system at its start: one core, and nothing on it.
@@ -36,7 +37,7 @@ pub trait QueueMachine {
     /// The same for a call that an end makes, which is lent. This event and the next five are those that scripts repeat, told by their parts.
     ///
     /// # Errors
-    /// As for [`QueueMachine::step`].
+    /// As for [`Machine::step`].
     fn step_call(&mut self, end: EndId, call: &Call) -> Result<Answer, AllocError>
         ensures steps { IfOk result (λ a. Steps shows self.old self.new (machine.call end (call_of call.now)) (answer_of a)) }
         ensures kept { OnErr result ((s : State) → shows self.old s → shows self.new s) };
@@ -44,7 +45,7 @@ pub trait QueueMachine {
     /// An end writes its next fragment.
     ///
     /// # Errors
-    /// As for [`QueueMachine::step`].
+    /// As for [`Machine::step`].
     fn step_write(&mut self, end: EndId) -> Result<Answer, AllocError>
         ensures steps { IfOk result (λ a. Steps shows self.old self.new (machine.write end) (answer_of a)) }
         ensures kept { OnErr result ((s : State) → shows self.old s → shows self.new s) };
@@ -52,7 +53,7 @@ pub trait QueueMachine {
     /// A dispatcher has a turn.
     ///
     /// # Errors
-    /// As for [`QueueMachine::step`].
+    /// As for [`Machine::step`].
     fn step_turn(&mut self, dispatcher: DispatcherId) -> Result<Answer, AllocError>
         ensures steps { IfOk result (λ a. Steps shows self.old self.new (machine.turn (id_of dispatcher)) (answer_of a)) }
         ensures kept { OnErr result ((s : State) → shows self.old s → shows self.new s) };
@@ -60,7 +61,7 @@ pub trait QueueMachine {
     /// An end shows the fragment that it would write next.
     ///
     /// # Errors
-    /// As for [`QueueMachine::step`].
+    /// As for [`Machine::step`].
     fn step_show(&mut self, end: EndId) -> Result<Answer, AllocError>
         ensures steps { IfOk result (λ a. Steps shows self.old self.new (machine.show end) (answer_of a)) }
         ensures kept { OnErr result ((s : State) → shows self.old s → shows self.new s) };
@@ -68,7 +69,7 @@ pub trait QueueMachine {
     /// An end tells what was taken at its ring.
     ///
     /// # Errors
-    /// As for [`QueueMachine::step`].
+    /// As for [`Machine::step`].
     fn step_ack(&mut self, end: EndId) -> Result<Answer, AllocError>
         ensures steps { IfOk result (λ a. Steps shows self.old self.new (machine.ack end) (answer_of a)) }
         ensures kept { OnErr result ((s : State) → shows self.old s → shows self.new s) };
@@ -76,7 +77,7 @@ pub trait QueueMachine {
     /// A core forwards what stands first on its link to a neighbour.
     ///
     /// # Errors
-    /// As for [`QueueMachine::step`].
+    /// As for [`Machine::step`].
     fn step_forward(&mut self, core: u32, neighbour: u32) -> Result<Answer, AllocError>
         ensures steps { IfOk result (λ a. Steps shows self.old self.new (machine.forward core neighbour) (answer_of a)) }
         ensures kept { OnErr result ((s : State) → shows self.old s → shows self.new s) };

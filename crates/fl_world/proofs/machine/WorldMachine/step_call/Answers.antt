@@ -1,7 +1,7 @@
 use Rattle.fl_value_data.specs.Value.{call_of}
 use Rattle.fl_model.specs.Events as machine
 use Rattle.fl_world.proofs.Stepped.{machine_steps, machine_kept}
-use Rattle.fl_world.proofs.machine.WorldQueueMachine.step_call.Goals as goal
+use Rattle.fl_world.proofs.machine.WorldMachine.step_call.Goals as goal
 
 pub returns : goal.returns
 returns c =

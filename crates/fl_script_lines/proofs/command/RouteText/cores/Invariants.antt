@@ -1,6 +1,6 @@
 use Rattle.std.proofs.Common.{◌≡◌, ◌++◌, ◌∷◌, length, is_some, true}
 use Rattle.fl_script_lines.specs.Words.{words_of, numbers_of, numbers_in}
-use Rattle.fl_script_lines.proofs.command.Route.cores.Given as goal
+use Rattle.fl_script_lines.proofs.command.RouteText.cores.Given as goal
 
 abbrev pub invariant-loop-core : goal.invariant-loop-core
 invariant-loop-core l =

@@ -1,7 +1,7 @@
 use Rattle.fl_model.specs.Events as machine
-use Rattle.fl_script_lines.specs.Events.{id_of}
+use Rattle.fl_model.specs.Views.{id_of}
 use Rattle.fl_world.proofs.Stepped.{machine_steps, machine_kept}
-use Rattle.fl_world.proofs.machine.WorldQueueMachine.step_turn.Goals as goal
+use Rattle.fl_world.proofs.machine.WorldMachine.step_turn.Goals as goal
 
 pub returns : goal.returns
 returns c =

@@ -2,7 +2,7 @@ use Rattle.std.proofs.Common.{◌∙◌, sym}
 use Rattle.fl_script_lines.specs.Words.{numbers_in}
 use Rattle.std.proofs.Common.{◌∷◌}
 use Rattle.fl_script_lines.proofs.PieceLemmas.{one_more, none_more, shorter}
-use Rattle.fl_script_lines.proofs.command.Route.cores.Goals as goal
+use Rattle.fl_script_lines.proofs.command.RouteText.cores.Goals as goal
 
 pub returns-in_default : goal.returns-in_default
 returns-in_default c = record {

@@ -1,7 +1,7 @@
 use Rattle.std.proofs.Common.{Ok}
 use Rattle.fl_model.specs.Events as machine
 use Rattle.fl_world.proofs.Stepped.{machine_steps}
-use Rattle.fl_world.proofs.machine.WorldQueueMachine.step_show.Goals as goal
+use Rattle.fl_world.proofs.machine.WorldMachine.step_show.Goals as goal
 
 pub returns : goal.returns
 returns c = record {

@@ -1,6 +1,6 @@
 use Rattle.fl_model.specs.Events as machine
 use Rattle.fl_world.proofs.Stepped.{machine_steps, machine_kept}
-use Rattle.fl_world.proofs.machine.WorldQueueMachine.step_forward.Goals as goal
+use Rattle.fl_world.proofs.machine.WorldMachine.step_forward.Goals as goal
 
 pub returns : goal.returns
 returns c =

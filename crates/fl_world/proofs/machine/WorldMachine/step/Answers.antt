@@ -1,5 +1,5 @@
 use Rattle.fl_world.proofs.Runs.{steps_as, shows_still}
-use Rattle.fl_world.proofs.machine.WorldQueueMachine.step.Goals as goal
+use Rattle.fl_world.proofs.machine.WorldMachine.step.Goals as goal
 
 pub returns-clause-steps : goal.returns-clause-steps
 returns-clause-steps c = steps_as _ _ _ c.replay.result c.replay.ensures.agrees

@@ -1,21 +1,32 @@
 -- Events and answers of the code, as the machine has them.
+use Rattle.std.specs.Prelude.{ℕ, List, take}
 use Rattle.fl_interface.specs.Interface.{interface_of}
 use Rattle.fl_value_data.specs.Value.{call_of}
-use Rattle.fl_model.specs.Events.{DispatcherId, Event, add_interface, set_cores, add_link, add_dispatcher}
+use Rattle.fl_model.specs.Events.{DispatcherId, Kind, by_queues, by_ring, by_route, Event, add_interface, set_cores}
+use Rattle.fl_model.specs.Events.{add_link, add_dispatcher}
 use Rattle.fl_model.specs.Events.{monitor_write, monitor_ack, Answer, done, accepted, nothing, full}
 use Rattle.fl_model.specs.Events.{written, handle, part, ready, quiet, forwarded, opened, opening_refused}
 use Rattle.fl_model.specs.Events.{words, refused}
 use Rattle.fl_model.specs.Events as machine
-use Rattle.fl_script_lines.specs.declared.answer.Answer.{Answer as RustAnswer}
-use Rattle.fl_script_lines.specs.declared.answer.Answer.TheVariants as answer
-use Rattle.fl_script_lines.specs.declared.event.DispatcherId.{DispatcherId as RustDispatcherId}
-use Rattle.fl_script_lines.specs.declared.event.Event.{Event as RustEvent}
-use Rattle.fl_script_lines.specs.declared.event.Event.TheVariants as event
-use Rattle.fl_script_lines.specs.Asked.{kind_of}
-use Rattle.fl_script_lines.specs.Views.{back_end_of}
+use Rattle.fl_model.specs.declared.answer.Answer.{Answer as RustAnswer}
+use Rattle.fl_model.specs.declared.answer.Answer.TheVariants as answer
+use Rattle.fl_model.specs.declared.event.DispatcherId.{DispatcherId as RustDispatcherId}
+use Rattle.fl_model.specs.declared.event.Event.{Event as RustEvent}
+use Rattle.fl_model.specs.declared.event.Event.TheVariants as event
+use Rattle.fl_model.specs.declared.back_end.BackEnd.{BackEnd as RustBackEnd}
+use Rattle.fl_model.specs.declared.back_end.BackEnd.TheVariants.{Local, Ump, Hop}
+use Rattle.fl_model.specs.declared.route.Route.{Route as RustRoute}
 
 abbrev pub id_of : RustDispatcherId → DispatcherId
 id_of d = record { core = d.core; place = d.place }
+
+abbrev pub cores_of : RustRoute → List ℕ
+cores_of r = take r.count r.cores
+
+abbrev pub kind_of : RustBackEnd → Kind
+kind_of (Local slots) = by_queues slots
+kind_of (Ump slots) = by_ring slots
+kind_of (Hop route) = by_route (cores_of route)
 
 abbrev pub event_of : RustEvent → Event
 event_of (event.AddInterface i plan) = add_interface (interface_of i) plan
@@ -23,7 +34,7 @@ event_of (event.SetCores n) = set_cores n
 event_of (event.AddLink a b slots) = add_link a b slots
 event_of (event.AddDispatcher core) = add_dispatcher core
 event_of (event.Export name d i) = machine.export name.now (id_of d) i
-event_of (event.Bind client i service back_end) = machine.bind (id_of client) i service.now (kind_of (back_end_of back_end))
+event_of (event.Bind client i service back_end) = machine.bind (id_of client) i service.now (kind_of back_end)
 event_of (event.Call e c) = machine.call e (call_of c)
 event_of (event.Show e) = machine.show e
 event_of (event.Write e) = machine.write e
