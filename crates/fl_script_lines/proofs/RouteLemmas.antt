@@ -38,7 +38,7 @@ cores_more cores after rest word behind n whole h w b e a =
     let whole_is : asked_with (asked_route (cores ++ n ∷ [])) (behind_word rest) ≡ whole =
     mapped_alike (λ ns. asked_route (asked_route (cores ++ n ∷ []) ++ ns)) (λ ns. asked_route (cores ++ n ∷ ns)) others alike ∙ (sym first ∙ h) in
     let kept : asked_route (asked_route (cores ++ n ∷ [])) ≡ asked_route (cores ++ n ∷ []) =
-    ap asked_route (sym (append-nil (asked_route (cores ++ n ∷ [])))) ∙ (alike [] ) in
+    ap asked_route (sym (append-nil (asked_route (cores ++ n ∷ [])))) ∙ (alike []) in
     (ap asked_route a ∙ (kept ∙ sym a), ap (λ (x : List ℕ). asked_with after x) b ∙ (ap (λ (x : List ℕ). asked_with x (behind_word rest)) a ∙ whole_is))
 
 -- no word is left
