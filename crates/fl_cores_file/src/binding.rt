@@ -103,11 +103,7 @@ impl<'a> Draft<'a> {
     }
 
     // A binding more before the cores run.
-    fn set_up(
-        &mut self,
-        want: DraftRequest<'a>,
-        back_end: BackEnd,
-    ) -> Result<(), CoresLineFault>
+    fn set_up(&mut self, want: DraftRequest<'a>, back_end: BackEnd) -> Result<(), CoresLineFault>
         ensures set_up { Comes result (draft_of self.new)
             (goes_on (with_set_up (wanted_of want.entry) (kind_of back_end.entry) (draft_of self.old))) }
     {
@@ -166,11 +162,7 @@ impl<'a> Draft<'a> {
             && self.has_link(route[0], route[1])
     }
 
-    fn bind_by_route(
-        &mut self,
-        want: DraftRequest<'a>,
-        route: &[u32],
-    ) -> Result<(), CoresLineFault>
+    fn bind_by_route(&mut self, want: DraftRequest<'a>, route: &[u32]) -> Result<(), CoresLineFault>
         ensures comes { Comes result (draft_of self.new) (binds_by_route (wanted_of want.entry) route.now (draft_of self.old)) }
     {
         if !self.is_route(want, route) {
@@ -186,11 +178,7 @@ impl<'a> Draft<'a> {
         }))
     }
 
-    fn bind_by(
-        &mut self,
-        want: DraftRequest<'a>,
-        back_end: BackEnd,
-    ) -> Result<(), CoresLineFault>
+    fn bind_by(&mut self, want: DraftRequest<'a>, back_end: BackEnd) -> Result<(), CoresLineFault>
         ensures comes { Comes result (draft_of self.new)
             (binds_by (wanted_of want.entry) (kind_of back_end.entry) (draft_of self.old)) }
     {

@@ -21,7 +21,9 @@ use fl_base::faults;
 use fl_check::{TextRead, read_text};
 use fl_interface::Interface;
 use fl_model::Answer;
-use fl_script_lines::{Command, Item, Line, LineFault, NamedEvent, ScriptNames, law_some_items, next_item};
+use fl_script_lines::{
+    Command, Item, Line, LineFault, NamedEvent, ScriptNames, law_some_items, next_item,
+};
 use fl_value_data::PlanNo;
 use std::alloc::{AllocError, Global};
 

@@ -21,7 +21,10 @@ use fl_base::faults;
 use fl_check::{TextRead, read_text};
 use fl_interface::Interface;
 use fl_model::{Answer, Machine};
-use fl_script_lines::{Command, LineFault, NamedEvent, RawItem, ScriptNames, Verb, print_answer, print_fault, read_command};
+use fl_script_lines::{
+    Command, LineFault, NamedEvent, RawItem, ScriptNames, Verb, print_answer, print_fault,
+    read_command,
+};
 use fl_value_data::{PlanNo, Value};
 use std::alloc::{AllocError, Global};
 use std::mem;

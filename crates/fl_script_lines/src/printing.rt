@@ -57,7 +57,11 @@ fn put_numbers(alloc: Global, out: &mut Vec<u8>, numbers: &[u32]) -> Result<(), 
     Ok(())
 }
 
-fn put_back_end(alloc: Global, out: &mut Vec<u8>, back_end: BackEndText<'_>) -> Result<(), AllocError>
+fn put_back_end(
+    alloc: Global,
+    out: &mut Vec<u8>,
+    back_end: BackEndText<'_>,
+) -> Result<(), AllocError>
     ensures put { OnOk result (out.new.items ≡ out.old.items ++ printed_more (back_end_row (back_end_of back_end.entry))) }
 {
     match back_end {

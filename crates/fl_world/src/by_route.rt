@@ -12,8 +12,8 @@ ghost use Rattle.fl_world.specs.Routes.{MayOpenFrom, OpensOnLink, OpensAlong};
 use crate::binding::BindRequest;
 use crate::world::World;
 use fl_base::{CoreId, LinkId, MAX_CORES, faults};
-use fl_monitor::{MonitorFault, Opening, Path};
 use fl_model::Answer;
+use fl_monitor::{MonitorFault, Opening, Path};
 use fl_world_events::{CircuitBinding, all_differ, are_cores, may_open_in, open_over, path_over};
 use std::alloc::AllocError;
 

@@ -13,8 +13,8 @@ ghost use Rattle.fl_world.specs.Following.{KnowsAt, MayForgetAt, Forgot, MayFoll
 use crate::world::World;
 use fl_base::{EndId, Frag, Side, faults};
 use fl_core::{LinkFront, LinkReceiveFault, MonitorAnswer};
-use fl_ring::law_forgets_looks;
 use fl_model::Answer;
+use fl_ring::law_forgets_looks;
 use fl_world_events::{
     EndLocation, ForwardFrag, LinkWithSide, answer_heard, answer_unheard, move_among, ring_at,
     take_rules_of, which_at,

@@ -4,8 +4,7 @@ ghost use Rattle.fl_world_refines.specs.ShowsState.{Shows};
 
 use crate::world::World;
 use fl_base::EndId;
-use fl_model::Machine;
-use fl_model::{Answer, DispatcherId, Event};
+use fl_model::{Answer, DispatcherId, Event, Machine};
 use fl_value_data::Call;
 use fl_world_refines::{law_fresh_world_shows, law_steps_agree};
 use std::alloc::{AllocError, Global};

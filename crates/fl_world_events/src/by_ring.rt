@@ -13,8 +13,8 @@ use crate::taking::register_by_ring;
 use fl_base::EndId;
 use fl_core::{Core, EndWiring, WiredEnd};
 use fl_endpoint::End;
-use fl_ring::OneDuo;
 use fl_model::DispatcherId;
+use fl_ring::OneDuo;
 use fl_world_refines::Binding;
 use std::alloc::AllocError;
 

@@ -24,8 +24,8 @@ use fl_base::{CoreId, LinkId};
 use fl_compile::Program;
 use fl_core::{BoardFault, Core, OpenFault};
 use fl_endpoint::End;
-use fl_monitor::{MonitorFault, Opening, Path};
 use fl_model::{Answer, DispatcherId};
+use fl_monitor::{MonitorFault, Opening, Path};
 use fl_world_refines::Binding;
 use std::alloc::{AllocError, Global};
 

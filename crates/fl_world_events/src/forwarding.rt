@@ -15,8 +15,8 @@ use crate::lending::{ring_at, whole};
 use crate::moving::{ForwardFrag, move_between};
 use fl_core::{Core, LinkReceiveFault, MonitorAnswer};
 use fl_endpoint::End;
-use fl_ring::OneDuo;
 use fl_model::Answer;
+use fl_ring::OneDuo;
 use fl_world_refines::Binding;
 use std::alloc::AllocError;
 

@@ -10,8 +10,8 @@ use crate::lending::{which_at, whole};
 use crate::taking::answer_ack;
 use fl_base::LinkId;
 use fl_core::{Core, MonitorWrite};
-use fl_ring::{DuoSide, OneDuo};
 use fl_model::Answer;
+use fl_ring::{DuoSide, OneDuo};
 
 // ---- the monitor writes
 

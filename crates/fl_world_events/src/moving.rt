@@ -21,9 +21,9 @@ use fl_base::{Circuit, EndId, Frag};
 use fl_compile::Program;
 use fl_core::{Core, LinkFront, LinkReceiveFault, MonitorAnswer};
 use fl_hop::{ForwardOutcome, move_on};
+use fl_model::Answer;
 use fl_nameserv::Names;
 use fl_ring::{DuoSide, OneDuo};
-use fl_model::Answer;
 
 // ---- a look
 

@@ -23,8 +23,8 @@ use fl_base::{EndId, MsgNo, faults};
 use fl_core::{AckAnswer, BoardFault, Core, TurnAnswer};
 use fl_endpoint::EndFault;
 use fl_link::QueueLink;
-use fl_ring::{DuoSide, OneDuo, law_forgets_looks};
 use fl_model::Answer;
+use fl_ring::{DuoSide, OneDuo, law_forgets_looks};
 use fl_world_refines::Binding;
 use std::alloc::AllocError;
 

@@ -86,13 +86,7 @@ impl Asked {
         self.is(word, &[core as usize, other as usize], b"")
     }
 
-    fn is_bind(
-        &self,
-        client: DispatcherId,
-        interface: usize,
-        service: &[u8],
-        to: BackEnd,
-    ) -> bool {
+    fn is_bind(&self, client: DispatcherId, interface: usize, service: &[u8], to: BackEnd) -> bool {
         let (kind, slots) = numbers_of(to);
         self.is(
             b"bind",

@@ -1,7 +1,10 @@
 //! What lines spell, and which are not read.
 
 use crate::rows::{Row, all_hold};
-use fl_script_lines::{BackEndText, Command, Line, law_one_line, law_printed_reads, law_spelled_reads, parse_line, print_command};
+use fl_script_lines::{
+    BackEndText, Command, Line, law_one_line, law_printed_reads, law_spelled_reads, parse_line,
+    print_command,
+};
 use fl_value_data::PlanNo;
 use std::alloc::{AllocError, Global};
 use std::test::Fail;

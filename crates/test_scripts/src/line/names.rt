@@ -3,8 +3,8 @@
 use fl_check::{TextFault, check};
 use fl_interface::Interface;
 use fl_lex::lex;
-use fl_parse::parse;
 use fl_model::Answer;
+use fl_parse::parse;
 use fl_script_lines::{Naming, ScriptNames, names_of_interface};
 use std::alloc::{AllocError, Global};
 use std::test::Fail;

@@ -9,8 +9,8 @@ use crate::world::acts::{AT_0, AT_1, Act, CLIENT, Joint, NEXT_AT_0, PING, SERVER
 use crate::world::worlds::config;
 use fl_base::EndId;
 use fl_core::Core;
-use fl_ring::{OneDuo, WhichSide};
 use fl_model::{BackEnd, Event};
+use fl_ring::{OneDuo, WhichSide};
 use fl_world::{Config, World};
 use fl_world_refines::Parts;
 use std::alloc::{AllocError, Global};

@@ -161,10 +161,7 @@ pub const LIMITS: &[Limit] = &[
             (Act::Bind(AT_0, 0, b"t", Joint::Ump(4)), Word::Refused(54)),
             (Act::Bind(AT_1, 0, b"s", Joint::Ump(4)), Word::Refused(54)),
             (Act::Bind(AT_0, 0, b"t", NEAR), Word::Refused(54)),
-            (
-                Act::Bind(AT_1, 0, b"s", Joint::Hop(1, &[0])),
-                Word::Done,
-            ),
+            (Act::Bind(AT_1, 0, b"s", Joint::Hop(1, &[0])), Word::Done),
             (Act::MonitorWrite(1, 0), Word::Written(1, 1)),
             (Act::Forward(0, 1), Word::Done),
             (Act::MonitorWrite(0, 1), Word::Written(1, 1)),
