@@ -1,8 +1,6 @@
 //! The route of a circuit.
 
-ghost use Rattle.std.specs.Prelude.{◌≡◌, ◌≤◌, ◌∷◌, ◌++◌, []};
-ghost use Rattle.fl_model.specs.Events.{asked_route};
-ghost use Rattle.fl_model.specs.Views.{cores_of};
+ghost use Rattle.std.specs.Prelude.{◌≤◌};
 
 /// The cores of a circuit's route, the client's first. No circuit goes over more than 16; of a longer route the
 /// first 17 are kept, by which it is refused.
@@ -14,6 +12,10 @@ pub struct Route {
 }
 
 impl Route {
+    ghost use Rattle.std.specs.Prelude.{◌≡◌, ◌∷◌, ◌++◌, []};
+    ghost use Rattle.fl_model.specs.Events.{asked_route};
+    ghost use Rattle.fl_model.specs.Views.{cores_of};
+
     /// The route of one core.
     pub fn new(first: u32) -> Route
         ensures cores { cores_of result ≡ first ∷ [] }
@@ -24,6 +26,7 @@ impl Route {
     }
 
     /// One core more, if it is kept.
+    #[tactic(auto, using(crate::proofs::Routes::full))]
     pub fn push(&mut self, core: u32)
         ensures cores { cores_of self.new ≡ asked_route (cores_of self.old ++ core ∷ []) }
     {

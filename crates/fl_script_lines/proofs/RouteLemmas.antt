@@ -1,6 +1,5 @@
 -- The numbers of a route, word by word.
-use Rattle.std.proofs.Common.{◌≡◌, ◌<◌, ℕ, suc, zero, true, List, [], ◌∷◌, ◌++◌, length, take, Option, Some, None, option_map, is_some, refl, sym, ap, subst, ◌∙◌, append-nil, append_assoc}
-use Rattle.std.specs.Prelude.{unwrap_or}
+use Rattle.std.proofs.Common.{◌≡◌, ◌<◌, ℕ, suc, zero, List, [], ◌∷◌, ◌++◌, length, take, Option, Some, None, option_map, refl, sym, ap, subst, ◌∙◌, append-nil, append_assoc}
 use Rattle.fl_base.specs.Given.{given}
 use Rattle.fl_model.specs.Events.{asked_route}
 use Rattle.fl_script_lines.specs.Words.{first_word, behind_word, number_of, words_of, numbers_of}
@@ -61,13 +60,3 @@ cores_stop cores rest word whole h w some none =
     ap numbers_of (words_step rest there)
     ∙ ap (λ (o : Option ℕ). given o None λ m. option_map (λ ms. m ∷ ms) others) (ap number_of (sym w) ∙ none) in
     sym (ap (option_map (λ ns. asked_route (cores ++ ns))) no_numbers) ∙ h
-
--- the list of numbers that is there
-pub there : {A B : Type 0} (f : List A → B) (o : Option (List A)) → is_some o ≡ true → Some (f (unwrap_or o [])) ≡ option_map f o
-there f None h = cc
-there f (Some x) h = refl
-
--- it is there, since something was made of it
-pub made_of : {A B : Type 0} (f : List A → B) (o : Option (List A)) (y : B) → Some y ≡ option_map f o → (is_some o ≡ true) × (y ≡ f (unwrap_or o []))
-made_of f None y h = cc
-made_of f (Some x) y h = (refl, cc)

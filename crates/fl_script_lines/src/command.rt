@@ -1,10 +1,8 @@
 //! Commands, and what a line is.
 
-ghost use Rattle.std.specs.Prelude.{◌≡◌, ◌∷◌, IfOk, true, is_some};
+ghost use Rattle.std.specs.Prelude.{◌≡◌, ◌∷◌, true, is_some};
 ghost use Rattle.fl_model.specs.Events.{asked_route};
-ghost use Rattle.fl_model.specs.Views.{cores_of, kind_of};
-ghost use Rattle.fl_script_lines.specs.Asked.{kind_of as kind_asked};
-ghost use Rattle.fl_script_lines.specs.Views.{back_end_of};
+ghost use Rattle.fl_model.specs.Views.{cores_of};
 ghost use Rattle.fl_script_lines.specs.Words.{words_of, numbers_of, numbers_in};
 
 use crate::word::{next_word, number};
@@ -36,6 +34,8 @@ pub struct RouteText<'a> {
 }
 
 impl RouteText<'_> {
+    ghost use Rattle.std.specs.Prelude.{IfOk};
+
     /// All cores of the route, in order.
     ///
     /// # Errors
@@ -69,6 +69,10 @@ pub enum BackEndText<'a> {
 }
 
 impl BackEndText<'_> {
+    ghost use Rattle.fl_model.specs.Views.{kind_of};
+    ghost use Rattle.fl_script_lines.specs.Asked.{kind_of as kind_asked};
+    ghost use Rattle.fl_script_lines.specs.Views.{back_end_of};
+
     /// What is asked with.
     pub fn asked(self) -> BackEnd
         ensures kind { kind_of result ≡ kind_asked (back_end_of self.entry) }
