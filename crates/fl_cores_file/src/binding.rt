@@ -168,8 +168,8 @@ impl<'a> Draft<'a> {
         if !self.is_route(want, route) {
             return Err(CoresLineFault::Refused(faults::NO_SUCH_ROUTE));
         }
-        self.put_binding(true, want.interface)?;
         let route = route.to_vec(self.alloc)?;
+        self.put_binding(true, want.interface)?;
         self.put_job(Job::Open(CircuitRequest {
             client: want.client,
             interface: want.interface,
