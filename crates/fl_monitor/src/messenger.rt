@@ -3,7 +3,7 @@
 ghost use Rattle.std.specs.Prelude.{◌≡◌, false, IfOk, IfErr};
 ghost use Rattle.fl_base.specs.Control.{is_ack_only};
 ghost use Rattle.fl_interface.specs.Interface.{interface_of};
-ghost use Rattle.fl_monitor.specs.declared.message.MonitorMessage.{Message as MonitorsMessage};
+ghost use Rattle.fl_monitor.specs.declared.message.MonitorMessage.{MonitorMessage};
 ghost use Rattle.fl_monitor.specs.Intermon.{intermon};
 ghost use Rattle.fl_monitor.specs.Outboxes.{IsFragOf};
 ghost use Rattle.fl_monitor.specs.Saying.{Says, Refuses, GivesUnlessMemory};
@@ -95,7 +95,7 @@ impl Messenger {
     pub fn read(&mut self, frag: &Frag) -> Result<MonitorMessage, WireFault>
         ensures says { IfOk result (λ m. Says frag.now m) }
         ensures refused { IfErr result (λ fault. Refuses frag.now fault) }
-        ensures back { (m : MonitorsMessage) → Says frag.now m → GivesUnlessMemory m result }
+        ensures back { (m : MonitorMessage) → Says frag.now m → GivesUnlessMemory m result }
     {
         self.run.feed(frag)?;
         let call = self.run.whole_call(self.alloc)?;
