@@ -5,7 +5,7 @@ use Rattle.std.proofs.lemmas.List.{length-map}
 use Rattle.std.proofs.lemmas.Nat.Bits.{bit_at-trailing_zeros}
 use Rattle.std.proofs.lemmas.Simd.{mask_l-lt, length-chunk, trailing_mask_l, run_in_chunk_fails, run_in_chunk_stops}
 use Rattle.std.specs.Int.{trailing_zeros}
-use Rattle.std.specs.Simd.LinkSides.{mask_l}
+use Rattle.std.specs.Simd.Lanes.{mask_l}
 use Rattle.memchr.specs.Find.{NoneBefore, Passes, is_byte}
 
 -- the bits that stand for the line feeds among the first 32 bytes
