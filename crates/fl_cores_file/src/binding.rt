@@ -105,7 +105,7 @@ impl<'a> Draft<'a> {
     // A binding more before the cores run.
     fn set_up(&mut self, want: DraftRequest<'a>, back_end: BackEnd) -> Result<(), CoresLineFault>
         ensures set_up { Comes result (draft_of self.new)
-            (goes_on (with_set_up (wanted_of want.entry) (kind_of back_end.entry) (draft_of self.old))) }
+            (goes_on (with_set_up (wanted_of want.entry) (kind_of back_end) (draft_of self.old))) }
     {
         self.seats.push(want.client)?;
         self.seats.push(want.server)?;
@@ -180,7 +180,7 @@ impl<'a> Draft<'a> {
 
     fn bind_by(&mut self, want: DraftRequest<'a>, back_end: BackEnd) -> Result<(), CoresLineFault>
         ensures comes { Comes result (draft_of self.new)
-            (binds_by (wanted_of want.entry) (kind_of back_end.entry) (draft_of self.old)) }
+            (binds_by (wanted_of want.entry) (kind_of back_end) (draft_of self.old)) }
     {
         match back_end {
             BackEnd::Local(slots) => self.bind_by_queues(want, slots),
@@ -210,7 +210,7 @@ impl<'a> Draft<'a> {
         back_end: BackEnd,
     ) -> Result<(), CoresLineFault>
         ensures comes { Comes result (draft_of self.new)
-            (binds (id_of client) interface service.now (kind_of back_end.entry) (draft_of self.old)) }
+            (binds (id_of client) interface service.now (kind_of back_end) (draft_of self.old)) }
     {
         if !(self.is_dispatcher(client) && self.is_interface(interface)) {
             return Err(CoresLineFault::Refused(faults::WRONG_NAME));

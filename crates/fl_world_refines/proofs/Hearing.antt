@@ -112,7 +112,7 @@ fate_is known services l o k n c names place leads = cases (next_on o.path k.cir
 
 said_ok : (l : ℕ) (said : MonitorLabel) (t : TheCircuits) (heard : Heard) (k : Core) (before after : TheMonitor) → MonitorShows k before
     → monitor_can_say before.outboxes l ≡ true
-    → Rattle.fl_monitor.specs.Monitors.Said (record { link = link_id l; message = message_of said }) before.outboxes after.outboxes → after.circuits ≡ t
+    → Rattle.fl_monitor.specs.Monitors.IsQueuedMessage (record { link = link_id l; message = message_of said }) before.outboxes after.outboxes → after.circuits ≡ t
     → ((saying l said t heard k).heard ≡ heard) × MonitorShows (saying l said t heard k).core after
 said_ok l said t heard k before after h can a e =
     let room : can_say l k ≡ true = sym (same_room k.links before.outboxes l h.outboxes) ∙ can in
@@ -357,7 +357,7 @@ same_circuit c n e = ap circuit_id e
 pub opens_agree : (l : ℕ) (o : OpeningLabel) (k : Core) (before after : TheMonitor) (c : Circuit) → MonitorShows k before → c.0 ≡ o.circuit
     → Opens (link_id l) (asked_of o) before (Ok c) after → MonitorShows (opens l c.0 o k) after
 opens_agree l o k before after c h e a =
-    let asked = subst (λ (x : Circuit). Rattle.fl_monitor.specs.Monitors.Said (record { link = link_id l; message = OpenCircuit x o.binding (Rattle.fl_world_refines.specs.Fragments.service_id o.service) (map core_id o.path) }) before.outboxes after.outboxes)
+    let asked = subst (λ (x : Circuit). Rattle.fl_monitor.specs.Monitors.IsQueuedMessage (record { link = link_id l; message = OpenCircuit x o.binding (Rattle.fl_world_refines.specs.Fragments.service_id o.service) (map core_id o.path) }) before.outboxes after.outboxes)
     (same_circuit c o.circuit e) a.4 in
     said_shows l (open_circuit o) (opened k.circuits (link_id l) (circuit_id c.0) o.binding) k before after h asked
     (a.3 ∙ ap (λ (t : TheCircuits). opened t (link_id l) c o.binding) h.circuits)
