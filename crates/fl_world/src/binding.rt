@@ -127,7 +127,7 @@ impl World {
         requires client { has_dispatcher self.old (id_of want.client) ≡ true }
         requires program { want.interface < length self.old.programs }
         requires server { want.server.core < 256 }
-        ensures binds { IfOk result (λ a. OfRequest want self.old (λ r. BindsBy r (kind_of back_end.entry) self.old (answer_of a) self.new)) }
+        ensures binds { IfOk result (λ a. OfRequest want self.old (λ r. BindsBy r (kind_of back_end) self.old (answer_of a) self.new)) }
         ensures kept { OnErr result (self.new ≡ self.old) }
     {
         match back_end {
@@ -152,7 +152,7 @@ impl World {
         back_end: BackEnd,
     ) -> Result<Answer, AllocError>
         ensures binds { IfOk result (λ a. Binds
-            (named_request (id_of client) interface service.now (kind_of back_end.entry)) self.old (answer_of a) self.new) }
+            (named_request (id_of client) interface service.now (kind_of back_end)) self.old (answer_of a) self.new) }
         ensures kept { OnErr result (self.new ≡ self.old) }
     {
         match self.request(client, interface, service) {
