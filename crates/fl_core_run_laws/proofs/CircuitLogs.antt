@@ -28,12 +28,12 @@ use Rattle.fl_core_run_laws.proofs.Stepping.{grows, log_steps, end_stays}
 
 pub come_joins : (name : EndId) (xs ys : List TableStep) → come_to name (xs ++ ys) ≡ come_to name xs ++ come_to name ys
 come_joins name [] ys = refl
-come_joins name (x ∷ xs) ys = ap (λ (fs : List Frag). come_by name x.log_entry ++ fs) (come_joins name xs ys) ∙ sym (append_assoc (come_by name x.log_entry) (come_to name xs) (come_to name ys))
+come_joins name (x ∷ xs) ys = ap (λ (fs : List Frag). come_by name x.circuit_event ++ fs) (come_joins name xs ys) ∙ sym (append_assoc (come_by name x.circuit_event) (come_to name xs) (come_to name ys))
 
 pub written_joins : (name : EndId) (xs ys : List TableStep) → written_by name (xs ++ ys) ≡ written_by name xs ++ written_by name ys
 written_joins name [] ys = refl
 written_joins name (x ∷ xs) ys =
-    ap (λ (fs : List Frag). written_in name x.log_entry ++ fs) (written_joins name xs ys) ∙ sym (append_assoc (written_in name x.log_entry) (written_by name xs) (written_by name ys))
+    ap (λ (fs : List Frag). written_in name x.circuit_event ++ fs) (written_joins name xs ys) ∙ sym (append_assoc (written_in name x.circuit_event) (written_by name xs) (written_by name ys))
 
 -- what comes to an end tells no epochs and no counts
 bare_if : (b : Bool) (f : Frag) → map bare (if b then as_carried f ∷ [] else []) ≡ (if b then as_carried f ∷ [] else [])
@@ -50,7 +50,7 @@ bare_by name (hop_heard l f) = refl
 pub come_bare : (name : EndId) (steps : List TableStep) → map bare (come_to name steps) ≡ come_to name steps
 come_bare name [] = refl
 come_bare name (x ∷ xs) =
-    map-append bare (come_by name x.log_entry) (come_to name xs) ∙ ap (λ (fs : List Frag). fs ++ map bare (come_to name xs)) (bare_by name x.log_entry) ∙ ap (λ (fs : List Frag). come_by name x.log_entry ++ fs) (come_bare name xs)
+    map-append bare (come_by name x.circuit_event) (come_to name xs) ∙ ap (λ (fs : List Frag). fs ++ map bare (come_to name xs)) (bare_by name x.circuit_event) ∙ ap (λ (fs : List Frag). come_by name x.circuit_event ++ fs) (come_bare name xs)
 
 -- ---- a log
 

@@ -56,11 +56,11 @@ module _ {S : Type 0} (w : SideRelations S) (jobs : List CoreJob) where
 module _ {S : Type 0} (w : SideRelations S) (jobs : List CoreJob) where
   put_joins : (l : ℕ) (xs ys : List TableStep) → put_on l (xs ++ ys) ≡ put_on l xs ++ put_on l ys
   put_joins l [] ys = refl
-  put_joins l (x ∷ xs) ys = ap (λ (fs : List Frag). put_by l x.log_entry ++ fs) (put_joins l xs ys) ∙ sym (append_assoc (put_by l x.log_entry) (put_on l xs) (put_on l ys))
+  put_joins l (x ∷ xs) ys = ap (λ (fs : List Frag). put_by l x.circuit_event ++ fs) (put_joins l xs ys) ∙ sym (append_assoc (put_by l x.circuit_event) (put_on l xs) (put_on l ys))
 
   took_joins : (l : ℕ) (xs ys : List TableStep) → taken_from l (xs ++ ys) ≡ taken_from l xs ++ taken_from l ys
   took_joins l [] ys = refl
-  took_joins l (x ∷ xs) ys = ap (λ (fs : List Frag). taken_by l x.log_entry ++ fs) (took_joins l xs ys) ∙ sym (append_assoc (taken_by l x.log_entry) (taken_from l xs) (taken_from l ys))
+  took_joins l (x ∷ xs) ys = ap (λ (fs : List Frag). taken_by l x.circuit_event ++ fs) (took_joins l xs ys) ∙ sym (append_assoc (taken_by l x.circuit_event) (taken_from l xs) (taken_from l ys))
 
   -- ---- links
 

@@ -49,7 +49,7 @@ abbrev pub link_at : TheCore → ℕ → Option LinkId
 link_at k e = given (slice_get k.wired_ends e) None λ p. link_by p.wiring
 
 abbrev pub step_of : TheCircuits → HopEvent → TableStep
-step_of t log_entry = record { moment = t; log_entry = log_entry }
+step_of t event = record { moment = t; circuit_event = event }
 
 abbrev pub steps_of : TheCircuits → (Frag → HopEvent) → List Frag → List TableStep
 steps_of t log_entry frags = map (λ (f : Frag). step_of t (log_entry f)) frags

@@ -427,11 +427,11 @@ module _ {Knows : Known → MonitorMessage → Type 0} {Requests : Opening → T
 
 pub put_joins : (l : ℕ) (xs ys : List TableStep) → put_on l (xs ++ ys) ≡ put_on l xs ++ put_on l ys
 put_joins l [] ys = refl
-put_joins l (x ∷ xs) ys = ap (λ (fs : List Frag). put_by l x.log_entry ++ fs) (put_joins l xs ys) ∙ sym (append_assoc (put_by l x.log_entry) (put_on l xs) (put_on l ys))
+put_joins l (x ∷ xs) ys = ap (λ (fs : List Frag). put_by l x.circuit_event ++ fs) (put_joins l xs ys) ∙ sym (append_assoc (put_by l x.circuit_event) (put_on l xs) (put_on l ys))
 
 pub took_joins : (l : ℕ) (xs ys : List TableStep) → taken_from l (xs ++ ys) ≡ taken_from l xs ++ taken_from l ys
 took_joins l [] ys = refl
-took_joins l (x ∷ xs) ys = ap (λ (fs : List Frag). taken_by l x.log_entry ++ fs) (took_joins l xs ys) ∙ sym (append_assoc (taken_by l x.log_entry) (taken_from l xs) (taken_from l ys))
+took_joins l (x ∷ xs) ys = ap (λ (fs : List Frag). taken_by l x.circuit_event ++ fs) (took_joins l xs ys) ∙ sym (append_assoc (taken_by l x.circuit_event) (taken_from l xs) (taken_from l ys))
 
 pub said_joins : (so : ℕ → List Frag) (xs ys : List TableStep) (l : ℕ) → then_said so (xs ++ ys) l ≡ then_said (then_said so xs) ys l
 said_joins so xs ys l =

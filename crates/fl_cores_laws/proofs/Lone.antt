@@ -45,7 +45,7 @@ first_none (x ∷ xs) ys is = absurd (cc)
 
 -- ---- an end that wrote nothing
 
-written_first : (name : EndId) (x : TableStep) (m : ℕ) (frag : Frag) → x.log_entry ≡ wrote name m frag → written_in name x.log_entry ≡ as_carried frag ∷ []
+written_first : (name : EndId) (x : TableStep) (m : ℕ) (frag : Frag) → x.circuit_event ≡ wrote name m frag → written_in name x.circuit_event ≡ as_carried frag ∷ []
 written_first name x m frag is =
     ap (written_in name) is ∙ ap (λ (b : Bool). let xs : List Frag = if b then as_carried frag ∷ [] else [] in xs) (end_same name)
 
@@ -53,10 +53,10 @@ none_onto : (l n : ℕ) (name : EndId) (steps : List TableStep) → written_by n
 none_onto l n name [] none = tt
 none_onto l n name (x ∷ steps) none = (
   λ m frag is.
-      (let first = first_none (written_in name x.log_entry) (written_by name steps) (sym none) in
+      (let first = first_none (written_in name x.circuit_event) (written_by name steps) (sym none) in
       let clash : as_carried frag ∷ [] ≡ [] = sym (written_first name x m frag is) ∙ first in
       absurd (cc)),
-  none_onto l n name steps (sym (ap (λ (xs : List Frag). xs ++ written_by name steps) (first_none (written_in name x.log_entry) (written_by name steps) (sym none))) ∙ none),
+  none_onto l n name steps (sym (ap (λ (xs : List Frag). xs ++ written_by name steps) (first_none (written_in name x.circuit_event) (written_by name steps) (sym none))) ∙ none),
 )
 
 module _ (l : Passing) (b : Below) (prefix : CircuitsPrefix) (stand : LedClientsStand) (jobs : List CoreJob) where

@@ -85,7 +85,7 @@ said_by l (heard m frag) = []
 
 abbrev pub said_on : ℕ → List TableStep → List Frag
 said_on l [] = []
-said_on l (p ∷ ps) = said_by l p.log_entry ++ said_on l ps
+said_on l (p ∷ ps) = said_by l p.circuit_event ++ said_on l ps
 
 pub record IsSaid (l : ℕ) (steps : List TableStep) (f : Frag) : Type 0 where
   pub frag : Frag
@@ -120,9 +120,9 @@ in_last f (x ∷ xs) ys h = inr (in_last f xs ys h)
 -- what was put on a link on circuit 0 is what the monitor put there
 pub zero_said : (t : TheCircuits) (steps : List TableStep) (u : TheCircuits) → goes_through t steps u → (l : ℕ) (f : Frag) → Has f (of_circuit 0 (put_on l steps)) → IsSaid l steps f
 zero_said t [] u all l f h = absurd h
-zero_said t (p ∷ ps) u all l f h = elim (has_split f (of_circuit 0 (put_by l p.log_entry)) (of_circuit 0 (put_on l ps)) (subst (Has f) (of_join 0 (put_by l p.log_entry) (put_on l ps)) h)) [
-  | inl here ↦ (let (g, has, is) = log_entry_said p l f p.log_entry all.1.sound all.1.led here in record { frag = g; has = in_first g (said_by l p.log_entry) (said_on l ps) has; is = is })
-  | inr later ↦ (let x = zero_said p.moment ps u all.2 l f later in record { frag = x.frag; has = in_last x.frag (said_by l p.log_entry) (said_on l ps) x.has; is = x.is })
+zero_said t (p ∷ ps) u all l f h = elim (has_split f (of_circuit 0 (put_by l p.circuit_event)) (of_circuit 0 (put_on l ps)) (subst (Has f) (of_join 0 (put_by l p.circuit_event) (put_on l ps)) h)) [
+  | inl here ↦ (let (g, has, is) = log_entry_said p l f p.circuit_event all.1.sound all.1.led here in record { frag = g; has = in_first g (said_by l p.circuit_event) (said_on l ps) has; is = is })
+  | inr later ↦ (let x = zero_said p.moment ps u all.2 l f later in record { frag = x.frag; has = in_last x.frag (said_by l p.circuit_event) (said_on l ps) x.has; is = x.is })
 ]
 
 -- ---- the monitors' own
