@@ -1,5 +1,5 @@
 //! Images with random edits: each is refused by number, or read, and then it is the image that would be written. (The 37 bytes of an
-//! image with each byte set to each value are in `text_tests`.)
+//! image with each byte set to each value are in `test_texts`.)
 
 use crate::hostile::takers::program;
 use fl_compile::Program;
