@@ -2,20 +2,25 @@
 //!
 //! - `scripts.rt`: scripts with their transcripts, and the test of all tables
 //! - `examples.rt`: the scripts of `examples/`
+//! - `stuck.rt`, `stuck_queue.rt`: those among them in which bindings with reply rules stick
 //! - `rows.rt`, `core_rows.rt`: worked examples of one core and of several
+//! - `letters.rt`: calls of a text of few letters and of many
 //! - `lines.rt`: lines that ask nothing, and words that are no command
 //! - `limits.rt`: one thing more than a world holds, and the longest script
 //! - `memory.rt`: memory that is refused
 //! - `tables.rt`: plan tables, and refusals of an interface's text
 //!
 //! `rt try --test --fail-alloc N` runs each with its Nth allocation refused: then `memory_is_refused` has to pass, and
-//! others end with out of memory. Readers and writers that give and take little, or fail, are tested in `script_tests`.
+//! others end with out of memory. Readers and writers that give and take little, or fail, are tested in `test_scripts`.
 
 mod core_rows;
 mod examples;
+mod letters;
 mod limits;
 mod lines;
 mod memory;
 mod rows;
 mod scripts;
+mod stuck;
+mod stuck_queue;
 mod tables;

@@ -1,12 +1,11 @@
 //! Worked examples of several cores, each a script and its transcript, worked out apart from this repository: rings that fill and are
 //! acknowledged, circuits of two and three cores.
 
-use crate::program::scripts::Script;
+use crate::program::scripts::UnderBoth;
 
-pub const ROWS: &[Script] = &[
-    Script(
+pub const ROWS: &[UnderBoth] = &[
+    UnderBoth(
         b"\
-idl
 interface i { message ping(uint32 v); }
 .
 cores 2
@@ -66,9 +65,8 @@ accepted
 written 1 of 1
 ",
     ),
-    Script(
+    UnderBoth(
         b"\
-idl
 interface i { message ping(uint32 v); }
 .
 cores 2
@@ -154,9 +152,8 @@ quiet p.c
 written 1 of 1
 ",
     ),
-    Script(
+    UnderBoth(
         b"\
-idl
 interface i { message ping(uint32 v); }
 .
 cores 3
@@ -232,9 +229,8 @@ forwarded
 ok
 ",
     ),
-    Script(
+    UnderBoth(
         b"\
-idl
 interface i { message blob(string s); }
 .
 cores 2

@@ -588,9 +588,8 @@ handle p.c input(13)
 
 const STUCK: Script = Script(
     b"\
-# A circuit with calls both ways that sticks, since its links have only four slots and both ends call without waiting.
-# With eight slots the same lines go through: give a link more than twice as many slots as fragments can be under way on it in
-# one direction, those of all its circuits together; or have each end wait until its last call was answered.
+# A circuit with calls both ways that sticks, since its links have only four slots and both ends call without
+# waiting. With eight slots the same lines go through. How to choose N: docs/WIRE.md, \"Choosing N\".
 idl
 interface chat \"two sides that both talk\" {
     message say(uint32 n);

@@ -16,7 +16,7 @@ pub struct Limit {
 const NOTHING: Script = Script(b"", b"");
 
 const LINKED: Script = Script(
-    b"idl\ninterface i { message m(); }\n.\ncores 2\nlink 0 1 4\ndisp d 0\ndisp e 1\nexport s e i\n",
+    b"idl\ninterface i { message ping(uint32 v); }\n.\ncores 2\nlink 0 1 4\ndisp d 0\ndisp e 1\nexport s e i\n",
     b"ok\nok\nok\nok\nok\nok\n",
 );
 
@@ -118,12 +118,15 @@ nothing
         ),
         last: Script(b"bind q d i s hop 0 1\n", b"refused E74\n"),
     },
-    // messages: a link's outbox holds 64
+    // messages: a link's outbox holds 64; one that was written makes room
     Limit {
         first: LINKED,
         times: 64,
         lines: Script(b"bind p@ d i s hop 0 1\n", b"ok\n"),
-        last: Script(b"bind q d i s hop 0 1\n", b"refused E75\n"),
+        last: Script(
+            b"bind q d i s hop 0 1\nmwrite 0 1\nbind q d i s hop 0 1\n",
+            b"refused E75\nwritten 1 of 1\nok\n",
+        ),
     },
     // a script of 1,048,576 bytes is run
     Limit {

@@ -17,4 +17,11 @@ pub const ROWS: &[Script] = &[
         b"ok\nok\nrefused E73\n",
     ),
     Script(b"cores 17\n", b"refused E94\n"),
+    // a core is made before all but interfaces
+    Script(b"disp d 0\ncores 2\n", b"ok\nrefused E93\n"),
+    // no link stands between the two cores
+    Script(
+        b"cores 2\nforward 1 0\nmwrite 1 0\nmack 1 0\n",
+        b"ok\nrefused E73\nrefused E73\nrefused E73\n",
+    ),
 ];

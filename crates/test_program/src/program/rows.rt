@@ -1,12 +1,12 @@
 //! Worked examples, each a script and its transcript, worked out apart from this repository: queues within a core, reply rules, waitsets, and
 //! what is refused.
 
-use crate::program::scripts::Script;
+use crate::program::scripts::{Script, UnderBoth};
 
-pub const ROWS: &[Script] = &[
-    Script(
+/// Those whose fragments both plans lay out alike.
+pub const ROWS: &[UnderBoth] = &[
+    UnderBoth(
         b"\
-idl
 interface i { message ping(uint32 v); }
 .
 disp d 0
@@ -32,9 +32,8 @@ handle p.s ping(7)
 nothing
 ",
     ),
-    Script(
+    UnderBoth(
         b"\
-idl
 interface i { message nop(); }
 .
 disp d 0
@@ -58,75 +57,8 @@ written 1 of 1
 handle p.s nop()
 ",
     ),
-    Script(
+    UnderBoth(
         b"\
-idl 1
-interface i { message m(uint8 a, string s, uint16 b); }
-.
-disp d 0
-disp e 0
-export s e i
-bind p d i s local 4
-call p.c m(1, \"hi\", 5)
-show p.c
-",
-        b"\
-ok
-ok
-ok
-ok
-ok
-accepted
-0000000000000001 0000000000000002 0000000000006968 0000000000000005 0000000000000000 0000000000000000 0000000000000000 0000000000000003
-",
-    ),
-    Script(
-        b"\
-idl
-interface i { message m(uint8 a, string s, uint16 b); }
-.
-disp d 0
-disp e 0
-export s e i
-bind p d i s local 4
-call p.c m(1, \"hi\", 5)
-show p.c
-",
-        b"\
-ok
-ok
-ok
-ok
-ok
-accepted
-0000000000010005 0000000000000002 0000000000006968 0000000000000000 0000000000000000 0000000000000000 0000000000000000 0000000000000003
-",
-    ),
-    Script(
-        b"\
-idl 1
-interface i { message m(int8 a, int64 b, uint8 c); }
-.
-disp d 0
-disp e 0
-export s e i
-bind p d i s local 4
-call p.c m(-128, -1, 255)
-show p.c
-",
-        b"\
-ok
-ok
-ok
-ok
-ok
-accepted
-0000000000000080 ffffffffffffffff 00000000000000ff 0000000000000000 0000000000000000 0000000000000000 0000000000000000 0000000000000003
-",
-    ),
-    Script(
-        b"\
-idl
 interface i { typedef struct { uint8 a; uint64 b; } t; message m(t x[n]); }
 .
 disp d 0
@@ -154,9 +86,8 @@ written 2 of 3
 0000000000000011 0000000000000000 0000000000000000 0000000000000000 0000000000000000 0000000000000000 0000000000000000 0000000000000001
 ",
     ),
-    Script(
+    UnderBoth(
         b"\
-idl
 interface i { message blob(string s); }
 .
 disp d 0
@@ -186,9 +117,8 @@ accepted
 handle p.s blob(\"aaaaaaaaaaaaaaaaaaaaaaaaaaaaaaaaaaaaaaaaaaaaaaaaa\")
 ",
     ),
-    Script(
+    UnderBoth(
         b"\
-idl
 interface i { message ping(uint32 v); }
 .
 cores 2
@@ -246,9 +176,8 @@ ok
 handle r.s ping(3)
 ",
     ),
-    Script(
+    UnderBoth(
         b"\
-idl
 interface i { message m(cap c); }
 .
 ",
@@ -256,9 +185,8 @@ interface i { message m(cap c); }
 refused E14 at 24
 ",
     ),
-    Script(
+    UnderBoth(
         b"\
-idl
 interface i { message ping(uint32 v); }
 .
 disp d 0
@@ -286,9 +214,8 @@ refused E92
 nothing
 ",
     ),
-    Script(
+    UnderBoth(
         b"\
-idl
 interface i { rpc echo(in uint32 x, out uint32 y); }
 .
 disp d 0
@@ -318,9 +245,8 @@ written 1 of 1
 handle p.c echo_response(9)
 ",
     ),
-    Script(
+    UnderBoth(
         b"\
-idl
 interface i { message ping(uint32 v); }
 .
 cores 3
@@ -350,9 +276,8 @@ refused E73 p.c
 refused E43
 ",
     ),
-    Script(
+    UnderBoth(
         b"\
-idl
 interface i { message m(uint64 x[n, 4096]); }
 .
 ",
@@ -360,9 +285,8 @@ interface i { message m(uint64 x[n, 4096]); }
 refused E21 at 22
 ",
     ),
-    Script(
+    UnderBoth(
         b"\
-idl
 interface i { message m(uint64 x[n, 4095]); }
 .
 ",
@@ -370,9 +294,8 @@ interface i { message m(uint64 x[n, 4095]); }
 ok
 ",
     ),
-    Script(
+    UnderBoth(
         b"\
-idl
 interface i { message m(uint64 a, uint64 b, uint64 c, uint64 d, uint64 e, uint64 f, uint64 g, uint64 h); }
 .
 disp d 0
@@ -402,9 +325,8 @@ written 2 of 2
 handle p.s m(1, 2, 3, 4, 5, 6, 7, 8)
 ",
     ),
-    Script(
+    UnderBoth(
         b"\
-idl
 interface i { rpc echo(in uint32 x, out uint32 y); }
 .
 disp d 0
@@ -532,6 +454,76 @@ handle p.s echo_call(17)
 full
 written 1 of 1
 handle p.s echo_call(18)
+",
+    ),
+];
+
+/// Those whose fragments the two plans lay out otherwise.
+pub const OF_ONE_PLAN: &[Script] = &[
+    Script(
+        b"\
+idl 1
+interface i { message m(uint8 a, string s, uint16 b); }
+.
+disp d 0
+disp e 0
+export s e i
+bind p d i s local 4
+call p.c m(1, \"hi\", 5)
+show p.c
+",
+        b"\
+ok
+ok
+ok
+ok
+ok
+accepted
+0000000000000001 0000000000000002 0000000000006968 0000000000000005 0000000000000000 0000000000000000 0000000000000000 0000000000000003
+",
+    ),
+    Script(
+        b"\
+idl
+interface i { message m(uint8 a, string s, uint16 b); }
+.
+disp d 0
+disp e 0
+export s e i
+bind p d i s local 4
+call p.c m(1, \"hi\", 5)
+show p.c
+",
+        b"\
+ok
+ok
+ok
+ok
+ok
+accepted
+0000000000010005 0000000000000002 0000000000006968 0000000000000000 0000000000000000 0000000000000000 0000000000000000 0000000000000003
+",
+    ),
+    Script(
+        b"\
+idl 1
+interface i { message m(int8 a, int64 b, uint8 c); }
+.
+disp d 0
+disp e 0
+export s e i
+bind p d i s local 4
+call p.c m(-128, -1, 255)
+show p.c
+",
+        b"\
+ok
+ok
+ok
+ok
+ok
+accepted
+0000000000000080 ffffffffffffffff 00000000000000ff 0000000000000000 0000000000000000 0000000000000000 0000000000000000 0000000000000003
 ",
     ),
     Script(
