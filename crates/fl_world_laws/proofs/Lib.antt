@@ -1,0 +1,3 @@
+mod BootedRuns
+mod BootedLaws
+mod BootedStates
