@@ -1,3 +1,5 @@
 mod BootedRuns
 mod BootedLaws
 mod BootedStates
+mod Denials
+mod OpeningAnswers
