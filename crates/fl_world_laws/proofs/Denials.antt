@@ -216,7 +216,7 @@ denials = record {
       let x : Hearing = hears s.services here.link m k in
       let told : State = change_core here.core (λ y. x.core) s in
       follows_well x.heard (takes_said here.ring x.heard told) (hears_well s.services here.link m k) (said_well here.ring x.heard told h);
-  passed = λ here p first route hop on s k q h. out_well p.end (passes p.station) _ h;
-  arrived = λ here p first route hop to s k q h. out_well p.end (passes p.station) _ (delivered_well (label_of p) to s h);
+  passed = λ here p first route hop on s k q h. out_well p.end (passes p.station) s h;
+  arrived = λ here p first route hop to s k q h. out_well p.end (passes p.station) (delivers (label_of p) to s) (delivered_well (label_of p) to s h);
   taken = λ here first s k q r h. h;
 }

@@ -383,13 +383,13 @@ same_fault a f c fault h = cc
 said_same : (m p : Message) → Some m ≡ Some p → m.said ≡ p.said
 said_same m p h = let e : m ≡ p = cc in ap (λ (x : Message). x.said) e
 
-due_good : (n : ℕ) (route : Route) (v : OpeningVerdict) (m : Message) (c fault : ℕ) → m.said ≡ circuit_refused c fault → WellVerdict v
+message_good : (n : ℕ) (route : Route) (v : OpeningVerdict) (m : Message) (c fault : ℕ) → m.said ≡ circuit_refused c fault → WellVerdict v
     → due_by n route v ≡ Some m → IsOpeningFault fault
-due_good n route undecided m c fault e h q = absurd (not_open _ c fault (said_same _ m q ∙ e))
-due_good n route (granted zero) m c fault e h q = absurd (cc)
-due_good n route (granted (suc i)) m c fault e h q = absurd (not_opened _ c fault (said_same _ m q ∙ e))
-due_good n route (denied zero f) m c fault e h q = absurd (cc)
-due_good n route (denied (suc i) f) m c fault e h q = subst IsOpeningFault (same_fault _ f c fault (said_same _ m q ∙ e)) h
+message_good n route undecided m c fault e h q = absurd (not_open _ c fault (said_same _ m q ∙ e))
+message_good n route (granted zero) m c fault e h q = absurd (cc)
+message_good n route (granted (suc i)) m c fault e h q = absurd (not_opened _ c fault (said_same _ m q ∙ e))
+message_good n route (denied zero f) m c fault e h q = absurd (cc)
+message_good n route (denied (suc i) f) m c fault e h q = subst IsOpeningFault (same_fault _ f c fault (said_same _ m q ∙ e)) h
 
 routed_well : (s : State) (n : ℕ) (route : Route) → AllWell s → Routed s n route → WellVerdict route.verdict
 routed_well s n route h r = subst WellBack r.back (h n r.binding r.there)
@@ -403,7 +403,7 @@ label_is_good s here first (says (circuit_opened c)) sound h at q is = tt
 label_is_good s here first (says (circuit_refused c fault)) sound h at q is =
     let under = is_under_way s here (circuit_refused c fault) first (link_there s here at) q is in
     let due = sound.messages here.neighbour here.core (circuit_refused c fault) under in
-    due_good due.binding due.route due.route.verdict _ c fault refl (routed_well s due.binding due.route h due.routed) due.due
+    message_good due.binding due.route due.route.verdict _ c fault refl (routed_well s due.binding due.route h due.routed) due.due
 
 forward_good : (core neighbour : ℕ) (s : State) → Sound s → AllWell s → Good (forwards core neighbour s)
 forward_good core neighbour s sound h =

@@ -1,5 +1,5 @@
 -- The fragments that stand in a world mean the accepted calls, and no others.
-use Rattle.std.specs.Prelude.{ℕ, suc, ◌≡◌, ◌⊎◌, ◌-◌, List, Contains, drop, take, filter_map, slice_get, slice_index}
+use Rattle.std.specs.Prelude.{ℕ, suc, ◌≡◌, ◌⊎◌, ◌-◌, List, drop, take, filter_map, slice_get, slice_index}
 use Rattle.std.specs.Prelude.{Option, Some, None}
 use Rattle.fl_base.specs.declared.fragment.Frag.{Frag}
 use Rattle.fl_base.specs.declared.identity.EndId.{EndId}
@@ -63,7 +63,7 @@ pub record LinkMeans (w : TheWorld) (s : State) (a b : ℕ) : Type 0 where
   -- on circuit 0 the messages that the monitor of core a has said there, and what only acknowledges, in order
   pub monitors : on_circuit 0 (aside (on_the_link w a b)) ≡ filter_map beside_calls (on_link s a b)
   -- and no fragment is on any other circuit
-  pub only : (f : Frag) → Contains (on_the_link w a b) f
+  pub only : (n : ℕ) (f : Frag) → slice_get (on_the_link w a b) n ≡ Some f
       → (circuit_of f.control ≡ 0) ⊎ ((e : EndId) × GoesOver s a b (circuit_of f.control) e)
 
 -- ---- before ends
