@@ -3,3 +3,7 @@ mod BootedLaws
 mod BootedStates
 mod Denials
 mod OpeningAnswers
+mod Picked
+mod OneWay
+mod OnLinks
+mod BeforeEnds
