@@ -65,10 +65,10 @@ known w s e c wiring shows at =
     let sits = shows.showing.ends.only at.place c e place.0 at.core_is place.1 in
     let b = binding_of_end s e sits.0 sits.1.1 in
     let i = interface_known s e b.0 shows.sound b.1 in
-    let seat_is : (end_in e.side b.0).seat ≡ Some sits.1.0 = ap (λ (x : End). x.seat) b.2 ∙ sits.1.2.0 in
+    let seat_is : (end_in e.side b.0).seat ≡ Some sits.1.0 = ap (λ (x : End). x.seat) b.2 ∙ sits.1.2 in
     let made = shows.showing.ends.made e b.0 i.0 sits.1.0 b.1 i.1 seat_is in
     let core : made.core ≡ c =
-    some_same made.core c (sym made.core_is ∙ ap (slice_get w.cores) sits.1.2.1 ∙ at.core_is) in
+    some_same made.core c (sym made.core_is ∙ ap (slice_get w.cores) sits.1.3 ∙ at.core_is) in
     let where_is : made.place ≡ place.0 =
     some_same made.place place.0 (sym made.place_is ∙ ap (λ (x : TheCore). place_of x e) core ∙ place.1) in
     let same : made.wired_end ≡ wired.0 =
@@ -236,7 +236,7 @@ module _ (s : State) (sound : Sound s) (e : EndId) (b : Binding) (there : bindin
       let labels = ring_labels at r.0 own r.1 in
       let duo = gets s.rings w.rings at.ring r.0 shows.showing.rings.count r.1 in
       let ring : RingShows (calls_off_links s) r.0 duo.0 =
-      shows.showing.rings.each at.ring r.0 duo.0 (calls_off_links s) r.1 duo.1 (inr (e.binding, (b, (there, (labels.0, refl))))) in
+      shows.showing.rings.each at.ring r.0 duo.0 (calls_off_links s) r.1 duo.1 (inr (e.binding, b, there, labels.0, refl)) in
       let frags : before_side w side ≡ (duo_side (which_of at.side) duo.0).waiting =
       ap (before_side w) is
       ∙ ap (λ (n : ℕ). given (slice_get w.rings n) [] λ d. (duo_side (which_at (side_number at)) d).waiting) (ring_of_number at)
@@ -272,7 +272,7 @@ module _ (s : State) (sound : Sound s) (e : EndId) (b : Binding) (there : bindin
 wired_means : (w : TheWorld) (s : State) (shows : Shows w s) (e : EndId) (c : TheCore) (b : Binding) (i : Planned) (there : binding_of s e ≡ Some b)
     → interface_of s b ≡ Some i → (wiring : EndWiring) → IsWiring w c s e b wiring
     → of_calls wiring (aside (before_end w c wiring)) ≡ before_the_take i (end_in (other e.side) b).out
-wired_means w s shows e c b i there r (Queues to from) h = in_queue_means s shows.sound e b there i r w.queues from h.1.0
+wired_means w s shows e c b i there r (Queues to from) h = in_queue_means s shows.sound e b there i r w.queues from h.1
 wired_means w s shows e c b i there r (OverRing side) h = on_ring_means s shows.sound e b there w shows i r h.0 side h.1 h.2
 wired_means w s shows e c b i there r (Circuit link arrivals) h = in_queue_means s shows.sound e b there i r c.arrivals arrivals h.1
 

@@ -83,7 +83,7 @@ the_link w s shows a b = by (slice_get s.cores b) (slice_get w.cores b) refl ref
     by (Some k) None q r = absurd (let e = some_too w.cores s.cores b k shows.showing.cores.count q in let u : Some e.0 ≡ None = sym e.1 ∙ r in cc)
     by (Some k) (Some c) q r = in_core w k c a (shows.showing.cores.each b k c q r)
 
-read_are : (streams : Streams) (side : RingSide) (r : Ring) (d : TheDuo) → RingShows streams r d
+pub read_are : (streams : Streams) (side : RingSide) (r : Ring) (d : TheDuo) → RingShows streams r d
     → AreOf streams (labels_of (read_by side r).waiting) (side_of (which_of side) d).waiting
 read_are streams first_side r d h = h.back.frags
 read_are streams second_side r d h = h.forth.frags
@@ -101,7 +101,7 @@ link_are w s shows a b =
         let duo = gets s.rings w.rings link.ring.ring paired.ring shows.showing.rings.count paired.ring_is in
         let ring : RingShows (calls_between a b s) paired.ring duo.0 =
         shows.showing.rings.each link.ring.ring paired.ring duo.0 (calls_between a b s) paired.ring_is duo.1
-        (inl (a, (b, (paired.back, (paired.back_is, (ap (λ (at : RingEnd). at.ring) paired.same, refl)))))) in
+        (inl (a, b, paired.back, paired.back_is, ap (λ (at : RingEnd). at.ring) paired.same, refl)) in
         let labels : labels_of (unread s link.ring) ≡ labels_of (read_by link.ring.side paired.ring).waiting =
         ap (λ (o : Option Ring). labels_of (given o [] λ r. (read_by link.ring.side r).waiting)) paired.ring_is in
         let frags : before_side w (side_number link.ring) ≡ (side_of (which_of link.ring.side) duo.0).waiting =
