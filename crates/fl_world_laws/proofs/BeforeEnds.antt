@@ -1,7 +1,7 @@
 -- The fragments before an end.
 use Rattle.std.proofs.Common.{◌≡◌, refl, sym, ◌∙◌, ap, subst, ℕ, suc, ◌+◌, ◌-◌, ◌<◌, ◌≤◌, ◌==◌, not, Bool, true, false, if◌then◌else◌}
 use Rattle.std.proofs.Common.{List, [], map, length, slice_get, Option, Some, None, inr, arith}
-use Rattle.std.specs.Prelude.{filter, filter_map, slice_index, IsSome, IsNone}
+use Rattle.std.specs.Prelude.{filter, slice_index, IsSome, IsNone}
 use Rattle.std.proofs.lemmas.Bool.{false≢true}
 use Rattle.std.specs.List.{range_with_len}
 use Rattle.fl_base.specs.declared.fragment.Frag.{Frag}
@@ -19,25 +19,23 @@ use Rattle.fl_core.specs.declared.wiring.EndWiring.{EndWiring}
 use Rattle.fl_core.specs.declared.wiring.EndWiring.TheVariants.{Queues, Ring as OverRing, Circuit}
 use Rattle.fl_core.specs.declared.wiring.WiredEnd.{WiredEnd}
 use Rattle.fl_model.specs.Calls.{Planned, stream}
-use Rattle.fl_model.specs.Rings.{Label, next_of, says, acknowledges, Ring, RingEnd, RingSide, first_side, second_side, read_by, written_by}
+use Rattle.fl_model.specs.Rings.{Label, next_of, says, acknowledges, Ring, RingEnd, read_by, written_by}
 use Rattle.fl_model.specs.Ends.{Queue, Direction, Seat, End, last_station}
-use Rattle.fl_model.specs.State.{Back, local, over_ring, over_route, Binding, State, binding_of, interface_of, end_in, end_of, own_ring, side_of, way_of}
-use Rattle.fl_model.specs.Runs.{same_end}
-use Rattle.fl_model.specs.Standing.{labels_of, queue_of, ring_from, number_of, picked, before_on, before_by}
-use Rattle.fl_model.specs.SoundLabels.{MayStandFrom, IsOf}
+use Rattle.fl_model.specs.State.{Back, local, over_ring, over_route, Binding, State, binding_of, interface_of, end_in, own_ring, side_of, way_of}
+use Rattle.fl_model.specs.Standing.{labels_of, queue_of, ring_from, number_of, picked, before_by}
+use Rattle.fl_model.specs.SoundLabels.{MayStandFrom}
 use Rattle.fl_model.specs.SoundPlaces.{stations, TakesFrom as EndTakesFrom}
-use Rattle.fl_model.specs.SoundRoutes.{RouteLeads}
 use Rattle.fl_model.specs.Sound.{Sound}
 use Rattle.fl_model_laws.proofs.BindingWalk.{given_there}
 use Rattle.fl_model_laws.proofs.Cases.{either, Each}
 use Rattle.fl_model_laws.proofs.ScenesSaid.{way_at}
 use Rattle.fl_model_laws.proofs.Small.{first_of, some_same}
 use Rattle.fl_model_laws.proofs.Ways.{way_long}
-use Rattle.fl_world_refines.specs.Fragments.{Streams, frag_of, AreOf, calls_off_links}
+use Rattle.fl_world_refines.specs.Fragments.{frag_of, AreOf, calls_off_links}
 use Rattle.fl_world_refines.specs.FragmentLaws.{CallsAreCarried}
 use Rattle.fl_world_refines.specs.Rings.{which_of, RingShows}
-use Rattle.fl_world_refines.specs.View.{TheWorld, side_number, ring_at, which_at}
-use Rattle.fl_world_refines.specs.ShowsState.{wiring_of, TakesFrom, IsWiring, IsMade, Shows}
+use Rattle.fl_world_refines.specs.View.{TheWorld, side_number, which_at}
+use Rattle.fl_world_refines.specs.ShowsState.{TakesFrom, IsWiring, IsMade, Shows}
 use Rattle.fl_world_refines.proofs.Carried.{calls_carried, calls_are}
 use Rattle.fl_world_refines.proofs.FramesBase.{gets, binding_of_end, end_of_binding}
 use Rattle.fl_world_refines.proofs.FramesFind.{interface_known}
@@ -58,31 +56,38 @@ record Known (w : TheWorld) (s : State) (e : EndId) (c : TheCore) (wiring : EndW
   interface_is : interface_of s binding ≡ Some interface
   joins : IsWiring w c s e binding wiring
 
+-- the end that is made for a name at a core is the one found there
+joined : (w : TheWorld) (s : State) (e : EndId) (c : TheCore) (n place : ℕ) (wired : WiredEnd) (b : Binding) (i : Planned) (seat : Seat)
+    → slice_get w.cores n ≡ Some c → place_of c e ≡ Some place → slice_get c.wired_ends place ≡ Some wired → seat.dispatcher.core ≡ n
+    → IsMade w s e b i seat → IsWiring w c s e b wired.wiring
+joined w s e c n place wired b i seat core_is place_is wired_is at made =
+    let core : made.core ≡ c = some_same made.core c (sym made.core_is ∙ ap (slice_get w.cores) at ∙ core_is) in
+    let here : made.place ≡ place = some_same made.place place (sym made.place_is ∙ ap (λ (x : TheCore). place_of x e) core ∙ place_is) in
+    let same : made.wired_end ≡ wired =
+    some_same made.wired_end wired
+    (sym made.wired_end_is ∙ ap (λ (x : TheCore). slice_get x.wired_ends made.place) core ∙ ap (slice_get c.wired_ends) here ∙ wired_is) in
+    subst (λ (x : WiredEnd). IsWiring w c s e b x.wiring) same (subst (λ (x : TheCore). IsWiring w x s e b made.wired_end.wiring) core made.wiring)
+
+known_at : (w : TheWorld) (s : State) (e : EndId) (c : TheCore) (n place : ℕ) (wired : WiredEnd) → Shows w s → slice_get w.cores n ≡ Some c
+    → place_of c e ≡ Some place → slice_get c.wired_ends place ≡ Some wired → Known w s e c wired.wiring
+known_at w s e c n place wired shows core_is place_is wired_is =
+    let (x, (seat, end_is, seat_is, at)) = shows.showing.ends.only n c e place core_is place_is in
+    let (b, there, is) = binding_of_end s e x end_is in
+    let (i, interface_is) = interface_known s e b shows.sound there in
+    record {
+      binding = b;
+      binding_is = there;
+      interface = i;
+      interface_is = interface_is;
+      joins = joined w s e c n place wired b i seat core_is place_is wired_is at
+          (shows.showing.ends.made e b i seat there interface_is (ap (λ (y : End). y.seat) is ∙ seat_is));
+    }
+
 known : (w : TheWorld) (s : State) (e : EndId) (c : TheCore) (wiring : EndWiring) → Shows w s → IsAt w e c wiring → Known w s e c wiring
 known w s e c wiring shows at =
-    let place = given_there (place_of c e) (λ p. given (slice_get c.wired_ends p) None λ x. Some x.wiring) wiring at.wiring_is in
-    let wired = given_there (slice_get c.wired_ends place.0) (λ (x : WiredEnd). Some x.wiring) wiring place.2 in
-    let sits = shows.showing.ends.only at.place c e place.0 at.core_is place.1 in
-    let b = binding_of_end s e sits.0 sits.1.1 in
-    let i = interface_known s e b.0 shows.sound b.1 in
-    let seat_is : (end_in e.side b.0).seat ≡ Some sits.1.0 = ap (λ (x : End). x.seat) b.2 ∙ sits.1.2 in
-    let made = shows.showing.ends.made e b.0 i.0 sits.1.0 b.1 i.1 seat_is in
-    let core : made.core ≡ c =
-    some_same made.core c (sym made.core_is ∙ ap (slice_get w.cores) sits.1.3 ∙ at.core_is) in
-    let where_is : made.place ≡ place.0 =
-    some_same made.place place.0 (sym made.place_is ∙ ap (λ (x : TheCore). place_of x e) core ∙ place.1) in
-    let same : made.wired_end ≡ wired.0 =
-    some_same made.wired_end wired.0
-    (sym made.wired_end_is ∙ ap (λ (x : TheCore). slice_get x.wired_ends made.place) core ∙ ap (slice_get c.wired_ends) where_is ∙ wired.1) in
-    let wiring_is : made.wired_end.wiring ≡ wiring =
-    ap (λ (x : WiredEnd). x.wiring) same ∙ some_same wired.0.wiring wiring wired.2 in
-    record {
-      binding = b.0;
-      binding_is = b.1;
-      interface = i.0;
-      interface_is = i.1;
-      joins = subst (IsWiring w c s e b.0) wiring_is (subst (λ (x : TheCore). IsWiring w x s e b.0 made.wired_end.wiring) core made.wiring);
-    }
+    let (place, place_is, rest) = given_there (place_of c e) (λ p. given (slice_get c.wired_ends p) None λ x. Some x.wiring) wiring at.wiring_is in
+    let (wired, wired_is, is) = given_there (slice_get c.wired_ends place) (λ (x : WiredEnd). Some x.wiring) wiring rest in
+    subst (Known w s e c) (some_same wired.wiring wiring is) (known_at w s e c at.place place wired shows at.core_is place_is wired_is)
 
 -- ---- the last station
 
@@ -206,10 +211,11 @@ module _ (s : State) (sound : Sound s) (e : EndId) (b : Binding) (there : bindin
       by local p v = absurd (cc)
       by (over_route route) p v = absurd (cc)
       by (over_ring n) p v =
-          let is : record { ring = n; side = side_of e.side } ≡ at = some_same (record { ring = n; side = side_of e.side }) at v in
-          (p ∙ ap (λ (x : RingEnd). over_ring x.ring) is,
-          ap (λ (o : Option Ring). given o [] λ x. labels_of (written_by (side_of (other e.side)) x).waiting) u ∙ across e.side
-          ∙ ap (λ (x : RingEnd). labels_of (read_by x.side r).waiting) is)
+          let is : record { ring = n; side = side_of e.side } ≡ at = some_same (record { ring = n; side = side_of e.side }) at v in (
+            p ∙ ap (λ (x : RingEnd). over_ring x.ring) is,
+            ap (λ (o : Option Ring). given o [] λ x. labels_of (written_by (side_of (other e.side)) x).waiting) u ∙ across e.side
+                ∙ ap (λ (x : RingEnd). labels_of (read_by x.side r).waiting) is,
+          )
 
   ring_suit : CallsAreCarried s → (at : RingEnd) (r : Ring) → b.back ≡ over_ring at.ring
       → ring_from s sender at.ring ≡ labels_of (read_by at.side r).waiting

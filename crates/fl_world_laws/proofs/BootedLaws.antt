@@ -1,23 +1,20 @@
 -- What holds of every run from the start holds of every run from a world of 1 to 16 cores.
-use Rattle.std.proofs.Common.{◌≡◌, sym, ◌∙◌, ap, subst, ℕ, ◌≤◌, List, [], ◌++◌, slice_get, Option, Some, None}
+use Rattle.std.proofs.Common.{◌≡◌, sym, ◌∙◌, ap, subst, List, [], ◌++◌, slice_get, Option, Some, None}
 use Rattle.fl_base.specs.declared.identity.EndId.{EndId}
-use Rattle.fl_base.specs.Ends.{other, peer}
+use Rattle.fl_base.specs.Ends.{peer}
 use Rattle.fl_base.specs.Given.{given}
-use Rattle.fl_base.specs.Numbered.{most_cores}
-use Rattle.fl_base.specs.Prefix.{IsPrefix}
 use Rattle.fl_value_data.specs.Value.{TheCall}
-use Rattle.fl_model.specs.Events.{Event}
 use Rattle.fl_model.specs.Calls.{Planned}
 use Rattle.fl_model.specs.Ends.{End, handled}
 use Rattle.fl_model.specs.State.{Binding, State, start, end_in}
-use Rattle.fl_model.specs.Runs.{run, reached, calls_accepted, calls_handled}
+use Rattle.fl_model.specs.Runs.{run, reached, calls_accepted}
 use Rattle.fl_model.specs.Worlds.{start_with}
-use Rattle.fl_model.specs.Laws.{accepted_by, waiting_at, replies_due, Merged}
+use Rattle.fl_model.specs.Laws.{accepted_by, waiting_at, Merged}
 use Rattle.fl_model_laws.proofs.Accepted.{all_accepted}
 use Rattle.fl_model_laws.proofs.SoundRuns.{sound_runs_are_counted, sound_runs_have_prefixes}
 use Rattle.fl_model_laws.proofs.SoundSteps.{runs_are_sound}
 use Rattle.fl_world_laws.specs.Booted.{EverHandledIsAPrefix, EverHandledIsCounted, EverAllAccepted}
-use Rattle.fl_world_laws.proofs.BootedRuns.{Alike, run_from_start}
+use Rattle.fl_world_laws.proofs.BootedRuns.{run_from_start}
 
 -- an end among some bindings
 abbrev end_among : EndId → List Binding → Option End
@@ -32,9 +29,11 @@ same_waiting s t e q = ap (λ (bs : List Binding). given (end_among e bs) [] λ 
 pub handled_is_ever_a_prefix : EverHandledIsAPrefix
 handled_is_ever_a_prefix n vs some few e =
     let (ws, h) = run_from_start n some few vs in
-    let p = sound_runs_have_prefixes runs_are_sound ws e in
-    (p.0, same_accepted (reached (start_with n) vs) (reached start ws) (peer e) h.bindings ∙ p.1
-    ∙ ap (λ (cs : List TheCall). cs ++ p.0) (sym (h.handled e)))
+    let p = sound_runs_have_prefixes runs_are_sound ws e in (
+      p.0,
+      same_accepted (reached (start_with n) vs) (reached start ws) (peer e) h.bindings ∙ p.1
+          ∙ ap (λ (cs : List TheCall). cs ++ p.0) (sym (h.handled e)),
+    )
 
 pub handled_is_ever_counted : EverHandledIsCounted
 handled_is_ever_counted n vs some few e b i q r =

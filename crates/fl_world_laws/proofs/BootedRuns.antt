@@ -10,14 +10,14 @@ use Rattle.fl_base.specs.Numbered.{most_cores}
 use Rattle.fl_interface.specs.Interface.{TheInterface}
 use Rattle.fl_value_data.specs.Value.{TheCall}
 use Rattle.fl_value_data.specs.declared.value.PlanNo.{PlanNo}
-use Rattle.fl_model.specs.Events.{DispatcherId, Kind, Event, add_interface, set_cores, add_link, add_dispatcher, export, bind}
+use Rattle.fl_model.specs.Events.{DispatcherId, Event, add_interface, set_cores, add_link, add_dispatcher, export, bind}
 use Rattle.fl_model.specs.Events.{call, show, write, turn, ack, register, deregister, reply, monitor_write, forward, monitor_ack}
-use Rattle.fl_model.specs.Events.{Answer, done, refused}
+use Rattle.fl_model.specs.Events.{done, refused}
 use Rattle.fl_model.specs.Calls.{Planned}
 use Rattle.fl_model.specs.Waits.{Dispatcher}
-use Rattle.fl_model.specs.Monitors.{Core, Link, fresh_core, link_to}
-use Rattle.fl_model.specs.State.{Binding, State, StepOutcome, answers, core_of, dispatcher_of, link_between}
-use Rattle.fl_model.specs.Making.{has_interface, with_interface, most_interfaces, is_core, has_link, is_ring_size, with_new_link}
+use Rattle.fl_model.specs.Monitors.{Link, fresh_core, link_to}
+use Rattle.fl_model.specs.State.{State, StepOutcome, answers, core_of, dispatcher_of, link_between}
+use Rattle.fl_model.specs.Making.{has_interface, most_interfaces, is_core, has_link, is_ring_size, with_new_link}
 use Rattle.fl_model.specs.Making.{count_dispatchers, most_dispatchers, with_dispatcher}
 use Rattle.fl_model.specs.State.{start, change_core}
 use Rattle.fl_model.specs.Worlds.{start_with}
@@ -173,11 +173,12 @@ module _ (n : ℕ) (some : 1 ≤ n) (few : n ≤ most_cores) where
   -- before one that makes something, the number of cores is set
   set_first : (v : Event) (vs : List Event) (is : List Planned) (o : StepOutcome) → Quiet v (bare n is) o → Quiet v (set n is) o
       → Found is (v ∷ vs)
-  set_first v vs is o q r =
-      (set_cores n ∷ v ∷ vs,
-      turned (bare 1 is) (bare n is) (set_cores n ∷ v ∷ vs) (v ∷ vs)
-      (after_quiet (set_cores n) (v ∷ vs) (v ∷ vs) (bare 1 is) (bare n is) (answers (set n is) done) (cores_quiet 1 n is within_limits)
-      (after_both v v vs vs (set n is) (bare n is) o o r q (same_run o.state vs))))
+  set_first v vs is o q r = (
+    set_cores n ∷ v ∷ vs,
+    turned (bare 1 is) (bare n is) (set_cores n ∷ v ∷ vs) (v ∷ vs)
+        (after_quiet (set_cores n) (v ∷ vs) (v ∷ vs) (bare 1 is) (bare n is) (answers (set n is) done) (cores_quiet 1 n is within_limits)
+        (after_both v v vs vs (set n is) (bare n is) o o r q (same_run o.state vs))),
+  )
 
   -- ---- event by event
 
@@ -189,11 +190,12 @@ module _ (n : ℕ) (some : 1 ≤ n) (few : n ≤ most_cores) where
       two_tests t u (answers (bare n is) (refused 92)) (answers (bare n is) (refused 94)) (answers (bare n more) done)
       (λ q. skipped (add_interface i plan) vs is 92 h q) (λ q. skipped (add_interface i plan) vs is 94 h q)
       (λ q r.
-      let x = h more in
-      (add_interface i plan ∷ x.0,
-      after_both (add_interface i plan) (add_interface i plan) vs x.0 (bare n is) (bare 1 is) (answers (bare n more) done) (answers (bare 1 more) done)
-      (made_quiet (add_interface i plan) (bare n is) (bare n more) (passed_both t u _ _ _ q r) (λ e. refl))
-      (made_quiet (add_interface i plan) (bare 1 is) (bare 1 more) (passed_both t u _ _ _ q r) (λ e. refl)) x.1))
+      let x = h more in (
+        add_interface i plan ∷ x.0,
+        after_both (add_interface i plan) (add_interface i plan) vs x.0 (bare n is) (bare 1 is) (answers (bare n more) done) (answers (bare 1 more) done)
+            (made_quiet (add_interface i plan) (bare n is) (bare n more) (passed_both t u _ _ _ q r) (λ e. refl))
+            (made_quiet (add_interface i plan) (bare 1 is) (bare 1 more) (passed_both t u _ _ _ q r) (λ e. refl)) x.1,
+      ))
 
   with_cores_found : (m : ℕ) (vs : List Event) (is : List Planned) → Follows vs → Found is (set_cores m ∷ vs)
   with_cores_found m vs is h = by (nat_lt m 1 || nat_lt most_cores m) refl
@@ -202,10 +204,11 @@ module _ (n : ℕ) (some : 1 ≤ n) (few : n ≤ most_cores) where
       by true q =
           skipped (set_cores m) vs is 94 h
           (ap (λ (b : Bool). settles (set_cores m) (if b then answers (bare n is) (refused 94) else answers (bare m is) done)) q)
-      by false q =
-          (set_cores m ∷ vs,
-          after_both (set_cores m) (set_cores m) vs vs (bare n is) (bare 1 is) (answers (set m is) done) (answers (set m is) done)
-          (cores_quiet n m is q) (cores_quiet 1 m is q) (same_run (set m is) vs))
+      by false q = (
+        set_cores m ∷ vs,
+        after_both (set_cores m) (set_cores m) vs vs (bare n is) (bare 1 is) (answers (set m is) done) (answers (set m is) done)
+            (cores_quiet n m is q) (cores_quiet 1 m is q) (same_run (set m is) vs),
+      )
 
   with_link_found : (a b size : ℕ) (vs : List Event) (is : List Planned) → Follows vs → Found is (add_link a b size ∷ vs)
   with_link_found a b size vs is h =

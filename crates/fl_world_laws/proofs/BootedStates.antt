@@ -1,7 +1,6 @@
 -- What is a part of being sound holds of every state that a run from a world of 1 to 16 cores reaches.
-use Rattle.std.proofs.Common.{◌≡◌, ap, sym, subst, ℕ, suc, ◌<◌, ◌≤◌, length, Some}
+use Rattle.std.proofs.Common.{ap, sym, subst, ℕ, suc, ◌<◌, ◌≤◌, length}
 use Rattle.std.specs.Prelude.{slice_index, is_some}
-use Rattle.fl_base.specs.declared.identity.EndId.{EndId}
 use Rattle.fl_model.specs.Ends.{End}
 use Rattle.fl_model.specs.State.{State, end_in}
 use Rattle.fl_model.specs.Runs.{reached}

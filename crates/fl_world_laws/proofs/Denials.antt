@@ -1,5 +1,5 @@
 -- A circuit's opening is denied for a fault that hearing it gives: in every state that a run reaches.
-use Rattle.std.proofs.Common.{◌≡◌, refl, ℕ, ◌+◌, List, [], ◌∷◌, length, slice_get, Option, Some, None, inl, inr}
+use Rattle.std.proofs.Common.{refl, ℕ, ◌+◌, List, [], ◌∷◌, length, slice_get, Option, Some, None, inl, inr}
 use Rattle.fl_base.specs.declared.identity.EndId.{EndId}
 use Rattle.fl_base.specs.declared.identity.Side.{Side}
 use Rattle.fl_base.specs.declared.identity.Side.TheVariants.{Client, Server}
@@ -12,15 +12,15 @@ use Rattle.fl_hop.specs.declared.entry.HopTarget.TheVariants.{Link as to_link, E
 use Rattle.fl_model.specs.Events.{DispatcherId}
 use Rattle.fl_model.specs.Calls.{Planned}
 use Rattle.fl_model.specs.Rings.{OpeningLabel, MonitorLabel, open_circuit, circuit_opened, circuit_refused, Label, next_of, says, acknowledges}
-use Rattle.fl_model.specs.Rings.{RingEnd, there_is_room, takes}
-use Rattle.fl_model.specs.Ends.{Queue, fresh_queue, joined_by, without_first, Direction, End, accepts, writes, with_rule, passes, takes_one, comes_to, replies, Taken}
+use Rattle.fl_model.specs.Rings.{RingEnd, there_is_room}
+use Rattle.fl_model.specs.Ends.{Queue, fresh_queue, joined_by, without_first, Direction, End, accepts, writes, with_rule, passes, takes_one, comes_to, replies}
 use Rattle.fl_model.specs.Waits.{Dispatcher, has_places}
 use Rattle.fl_model.specs.Monitors.{Core, Service, service_of, can_say, link_to, next_on, Fate, goes_on, ends_at, fails, arrival, passage, fate}
 use Rattle.fl_model.specs.Monitors.{Heard, no_outbox, misrouted, opening_went_on, server_made, opening_failed, answer_went_on, end_opened}
 use Rattle.fl_model.specs.Monitors.{end_refused, Hearing, saying, hears_opening, hears_opened, hears_refused, hears}
 use Rattle.fl_model.specs.State.{OpeningVerdict, undecided, granted, denied, Route, Back, local, over_ring, over_route, Binding, State}
 use Rattle.fl_model.specs.State.{StepOutcome, Outlet, peer_queue, ring_side, dispatcher_of, end_of, end_in, with_end_in, in_route, in_queue}
-use Rattle.fl_model.specs.State.{change_core, change_ring, change_end, change_out, change_route, change_channel, seats, binds_end, delivers}
+use Rattle.fl_model.specs.State.{change_core, change_end, change_out, change_route, change_channel, seats, binds_end, delivers}
 use Rattle.fl_model.specs.Binding.{BindByNames, end_id, arrival_queue, with_new_binding, binds_both}
 use Rattle.fl_model.specs.Sending.{writes_to}
 use Rattle.fl_model.specs.Taking.{Chosen, takes_label, finds}

@@ -1,7 +1,7 @@
 -- The fragments on a link, circuit by circuit.
-use Rattle.std.proofs.Common.{◌≡◌, ◌≢◌, refl, sym, ◌∙◌, ap, subst, ℕ, zero, suc, ◌+◌, ◌-◌, ◌<◌, ◌≤◌, ◌==◌, ◌&&◌, Bool, true, false, if◌then◌else◌}
+use Rattle.std.proofs.Common.{◌≡◌, ◌≢◌, refl, sym, ◌∙◌, ap, subst, ℕ, zero, suc, ◌+◌, ◌-◌, ◌<◌, ◌≤◌, ◌==◌, ◌&&◌, Bool, true, false}
 use Rattle.std.proofs.Common.{List, [], ◌∷◌, map, length, slice_get, Option, Some, None, inl, inr, ◌⊎◌, arith}
-use Rattle.std.specs.Prelude.{filter, filter_map, slice_index}
+use Rattle.std.specs.Prelude.{filter_map, slice_index}
 use Rattle.std.specs.List.{range_with_len}
 use Rattle.std.proofs.lemmas.Bool.{false≢true}
 use Rattle.std.proofs.lemmas.Bool.Decides.{nat_tests}
@@ -17,26 +17,26 @@ use Rattle.fl_core.specs.declared.wiring.LinkSide.{LinkSide}
 use Rattle.fl_hop.specs.Table.{TheCircuits, link_of}
 use Rattle.fl_ring.specs.Duo.{TheDuo, acknowledgement, side_of}
 use Rattle.fl_ring.specs.declared.one_duo.WhichSide.{WhichSide}
-use Rattle.fl_model.specs.Calls.{Planned, stream}
-use Rattle.fl_model.specs.Rings.{MonitorLabel, Label, next_of, says, acknowledges, Ring, RingEnd, RingSide, first_side, second_side, read_by}
+use Rattle.fl_model.specs.Calls.{stream}
+use Rattle.fl_model.specs.Rings.{Label, next_of, says, acknowledges, Ring, RingEnd, RingSide, first_side, second_side, read_by}
 use Rattle.fl_model.specs.Monitors.{Core, Link, link_to}
-use Rattle.fl_model.specs.State.{Route, Back, local, over_ring, over_route, Binding, State, binding_of, interface_of, end_in, core_of, way_of, link_between, number_between}
+use Rattle.fl_model.specs.State.{Back, over_route, Binding, State, end_in, way_of, link_between, number_between}
 use Rattle.fl_model.specs.Forwarding.{route_of}
-use Rattle.fl_model.specs.Standing.{Routed, labels_of, on_link, unread, queue_of, number_of, picked, before_on, before_by}
+use Rattle.fl_model.specs.Standing.{labels_of, on_link, unread, queue_of, number_of, picked, before_by}
 use Rattle.fl_model.specs.Runs.{same_side, same_end}
-use Rattle.fl_model.specs.SoundLabels.{StandsBefore, GoesOver as WayGoesOver, MayStandOn}
-use Rattle.fl_model.specs.SoundPlaces.{LinkIsPaired, opposite, stations}
+use Rattle.fl_model.specs.SoundLabels.{GoesOver as WayGoesOver, MayStandOn}
+use Rattle.fl_model.specs.SoundPlaces.{stations}
 use Rattle.fl_model.specs.Sound.{Sound}
-use Rattle.fl_model_laws.proofs.Cases.{either, by_given, Each}
+use Rattle.fl_model_laws.proofs.Cases.{either, Each}
 use Rattle.fl_model_laws.proofs.Small.{first_of, some_same}
 use Rattle.fl_model_laws.proofs.Ends.{same_end_true}
 use Rattle.fl_model_laws.proofs.Routed.{same_route}
 use Rattle.fl_model_laws.proofs.Ways.{got_within, got_index, way_long}
 use Rattle.fl_model_laws.proofs.ScenesSaid.{way_at}
-use Rattle.fl_world_refines.specs.Fragments.{Streams, frag_of, AreOf, said_frag, calls_on, calls_between}
+use Rattle.fl_world_refines.specs.Fragments.{Streams, frag_of, AreOf, calls_between}
 use Rattle.fl_world_refines.specs.FragmentLaws.{TellsKind, IsOnLink, NumbersAreSmall}
 use Rattle.fl_world_refines.specs.Rings.{which_of, RingShows}
-use Rattle.fl_world_refines.specs.View.{TheWorld, side_number, ring_at, which_at}
+use Rattle.fl_world_refines.specs.View.{TheWorld, side_number, which_at}
 use Rattle.fl_world_refines.specs.ShowsState.{link_side_of, CoreShows, Shows}
 use Rattle.fl_world_refines.proofs.Aside.{set_aside}
 use Rattle.fl_world_refines.proofs.Carried.{links_tell, link_calls_are, calls_are}
@@ -242,7 +242,7 @@ module _ (w : TheWorld) (s : State) (shows : Shows w s) (a b : ℕ) where
       let frags = on_circuit c (aside (on_the_link w a b)) in
       let before = shows.sound.labels e h.binding h.place h.binding_is (within_passed c e h) in
       let stream_is = link_calls_are a b s e h.binding h.route c h.binding_is (ap route_of h.back) h.number
-          ∙ calls_are c s e h.binding h.interface h.binding_is h.interface_is in
+      ∙ calls_are c s e h.binding h.interface h.binding_is h.interface_is in
       piece (stream c h.interface (end_in e.side h.binding).out.accepted) frags _ _
       (picked_are (calls_between a b s) (on_it c) (number_of e) (of_end e) (on_link s a b) (on_the_link w a b) (calls_suit c e h) (link_are w s shows a b)
       ∙ ap (λ (ls : List Label). map (of_end e) (picked e ls)) (sym (before_it c e h))

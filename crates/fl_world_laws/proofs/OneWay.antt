@@ -1,17 +1,14 @@
 -- A circuit's number on a link, one way, is one end's: two ends whose calls go over a link one way under one number are one.
-use Rattle.std.proofs.Common.{◌≡◌, refl, sym, ◌∙◌, ap, subst, ℕ, zero, suc, ◌+◌, ◌-◌, ◌<◌, min, List, length, reverse, slice_get}
+use Rattle.std.proofs.Common.{◌≡◌, refl, sym, ◌∙◌, ap, subst, ℕ, suc, ◌+◌, ◌-◌, ◌<◌, min, length, reverse, slice_get}
 use Rattle.std.proofs.Common.{true, Option, Some, None, arith}
-use Rattle.std.specs.Prelude.{slice_index}
 use Rattle.std.proofs.lemmas.List.{length-reverse}
 use Rattle.fl_base.specs.declared.identity.EndId.{EndId}
 use Rattle.fl_base.specs.declared.identity.Side.{Side}
 use Rattle.fl_base.specs.declared.identity.Side.TheVariants.{Client, Server}
 use Rattle.fl_base.specs.Given.{given}
 use Rattle.fl_model.specs.Binding.{all_differ}
-use Rattle.fl_model.specs.State.{Route, over_route, Binding, State, place_in, way_of, number_between}
+use Rattle.fl_model.specs.State.{Route, Binding, State, place_in, way_of, number_between}
 use Rattle.fl_model.specs.Standing.{Routed, core_at, number_at}
-use Rattle.fl_model.specs.SoundRoutes.{OneNumber}
-use Rattle.fl_model.specs.SoundLimits.{OneNumberBack}
 use Rattle.fl_model.specs.Sound.{Sound}
 use Rattle.fl_model_laws.proofs.ForwardsTold.{place_there}
 use Rattle.fl_model_laws.proofs.Routed.{same_route}

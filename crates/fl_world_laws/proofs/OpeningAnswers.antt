@@ -1,7 +1,7 @@
 -- A client hears that its opening was refused for a fault that hearing the opening gave: no other event answers so, and the message that a
 -- forward hears is the one that is due for a binding whose opening was denied.
-use Rattle.std.proofs.Common.{◌≡◌, refl, sym, ◌∙◌, ap, subst, ℕ, zero, suc, ◌+◌, ◌||◌, ◌==◌, nat_le, nat_lt, not, ◌&&◌}
-use Rattle.std.proofs.Common.{Bool, true, false, List, length, slice_get, slice_index}
+use Rattle.std.proofs.Common.{◌≡◌, refl, ◌∙◌, ap, subst, ℕ, zero, suc, ◌+◌, ◌||◌, ◌==◌, nat_le, nat_lt, not, ◌&&◌}
+use Rattle.std.proofs.Common.{List, length, slice_get, slice_index}
 use Rattle.std.proofs.Common.{Option, Some, None}
 use Rattle.fl_base.specs.declared.identity.EndId.{EndId}
 use Rattle.fl_base.specs.Numbered.{most_cores, most_bindings}
@@ -49,11 +49,11 @@ use Rattle.fl_model.specs.Sound.{Sound}
 use Rattle.fl_model.specs.Runs.{reached}
 use Rattle.fl_model.specs.Worlds.{start_with}
 use Rattle.fl_model_laws.proofs.Cases.{none_at_end}
-use Rattle.fl_model_laws.proofs.Hearing.{LinkThere, link_there, is_under_way}
+use Rattle.fl_model_laws.proofs.Hearing.{link_there, is_under_way}
 use Rattle.fl_model_laws.proofs.SoundSteps.{ever_sound}
 use Rattle.fl_model_laws.proofs.Walk.{IsHere, run_keeps}
 use Rattle.fl_model.specs.Rings.{RingLabel}
-use Rattle.fl_model.specs.State.{Binding, Back, over_route}
+use Rattle.fl_model.specs.State.{Binding, Back}
 use Rattle.fl_world_laws.specs.Refusing.{IsOpeningFault, OpeningsFailFor}
 use Rattle.fl_world_laws.proofs.Denials.{WellVerdict, WellBack, AllWell, denials}
 use Rattle.fl_model_laws.proofs.Cases.{either, by_given}
@@ -436,7 +436,6 @@ does_good (monitor_ack core neighbour) s sound h = monitor_acknowledge_good core
 settled_good : (v : Event) (o : StepOutcome) → Good o → Good (settles v o)
 settled_good (add_interface i plan) o h = h
 settled_good v o h = h
-
 
 fault_of : (fault : ℕ) (e : EndId) (a : Answer) → a ≡ opening_refused fault e → GoodAnswer a → IsOpeningFault fault
 fault_of fault e a q h = subst GoodAnswer q h

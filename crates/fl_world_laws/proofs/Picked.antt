@@ -1,5 +1,5 @@
 -- Where fragments stand for labels, those that pass a test stand for the labels that are picked.
-use Rattle.std.proofs.Common.{◌≡◌, refl, sym, ◌∙◌, ap, subst, ℕ, zero, suc, ◌+◌, Bool, true, false, cond, List, [], ◌∷◌, map, drop}
+use Rattle.std.proofs.Common.{◌≡◌, refl, sym, ◌∙◌, ap, ℕ, zero, suc, ◌+◌, Bool, true, false, cond, List, [], ◌∷◌, map, drop}
 use Rattle.std.proofs.Common.{slice_get, Option, Some, None, arith}
 use Rattle.std.specs.Prelude.{filter, filter_map, take}
 use Rattle.std.specs.List.{range_with_len, cons_option}

@@ -1,6 +1,6 @@
--- What holds of every run from a world that was booted with 1 to 16 cores: the set-up's events are the first of the run, so it
--- holds from each state on to which a set-up leads.
-use Rattle.std.specs.Prelude.{ℕ, suc, ◌≡◌, ◌≤◌, ◌<◌, ◌++◌, List, length, slice_get, slice_index, Some}
+-- What holds of every run from a world that was booted with 1 to 16 cores: the set-up's events are the first
+-- of the run, so it holds from each state on to which a set-up leads.
+use Rattle.std.specs.Prelude.{ℕ, suc, ◌≡◌, ◌≤◌, ◌<◌, ◌++◌, List, length, slice_index, Some}
 use Rattle.fl_base.specs.declared.identity.EndId.{EndId}
 use Rattle.fl_base.specs.Ends.{other, peer}
 use Rattle.fl_base.specs.Numbered.{most_cores}
@@ -28,18 +28,20 @@ EveryRun P = (cores : ℕ) (vs : List Event) → 1 ≤ cores → cores ≤ most_
 
 -- ---- calls
 
--- the calls that an end handled over a run from z are a prefix of those that were accepted at the other end, in order, with
--- equal arguments
+-- the calls that an end handled over a run from z are a prefix of those that were accepted at the other end,
+-- in order, with equal arguments
 abbrev pub HandledIsPrefix : State → List Event → Type 0
-HandledIsPrefix z vs = (e : EndId) → IsPrefix (calls_handled e (run z vs)) (accepted_by (reached z vs) (peer e))
+HandledIsPrefix z vs = (e : EndId)
+    → IsPrefix (calls_handled e (run z vs)) (accepted_by (reached z vs) (peer e))
 
 -- and they are those that the fragments taken make whole
 abbrev pub HandledIsWhole : State → List Event → Type 0
 HandledIsWhole z vs = (e : EndId) (b : Binding) (i : Planned) → binding_of (reached z vs) e ≡ Some b
-    → interface_of (reached z vs) b ≡ Some i → calls_handled e (run z vs) ≡ handled i (end_in (other e.side) b).out
+    → interface_of (reached z vs) b ≡ Some i
+    → calls_handled e (run z vs) ≡ handled i (end_in (other e.side) b).out
 
--- what an end accepted is the calls that it was asked for and that were accepted, and replies by rule, merged in order; these
--- replies, and then those that still wait, are all that fell due
+-- what an end accepted is the calls that it was asked for and that were accepted, and replies by rule, merged
+-- in order; these replies, and then those that still wait, are all that fell due
 pub record IsMerged (z : State) (vs : List Event) (e : EndId) : Type 0 where
   pub replies : List TheCall
   pub merged : Merged (calls_accepted e (run z vs)) replies (accepted_by (reached z vs) e)

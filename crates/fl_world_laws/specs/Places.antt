@@ -1,4 +1,5 @@
--- Where fragments stand in a world, in the world's own words: on the link from one core to another, and before an end.
+-- Where fragments stand in a world, in the world's own words: on the link from one core to another, and
+-- before an end.
 use Rattle.std.specs.Prelude.{ℕ, ◌≡◌, ◌==◌, not, List, [], filter, map, slice_get, Some}
 use Rattle.fl_base.specs.declared.fragment.Frag.{Frag}
 use Rattle.fl_base.specs.declared.identity.EndId.{EndId}
@@ -32,7 +33,8 @@ pub record IsAt (w : TheWorld) (e : EndId) (c : TheCore) (wiring : EndWiring) : 
   pub core_is : slice_get w.cores place ≡ Some c
   pub wiring_is : wiring_of c e ≡ Some wiring
 
--- before an end of core c with this wiring: in its local queue, on its binding's ring, or in its arrival queue
+-- before an end of core c with this wiring: in its local queue, on its binding's ring, or in its arrival
+-- queue
 abbrev pub before_end : TheWorld → TheCore → EndWiring → List Frag
 before_end w c (Queues out from) = given (slice_get w.queues from) [] λ q. q.items
 before_end w c (OverRing side) = before_side w side

@@ -1,7 +1,8 @@
-//! The laws of worlds and of their runs: what the fragments that stand in a world mean, and what holds of every run from a world
-//! of 1 to 16 cores. Each is the contract of a function that does nothing.
+//! The laws of worlds and of their runs: what the fragments that stand in a world mean, and what holds of
+//! every run from a world of 1 to 16 cores. Each is the contract of a function that does nothing.
 //!
-//! - `law_fragments_mean_accepted_calls`: of a world that shows a state of the machine (`fl_world_refines`), `specs/Meaning.antt`
+//! - `law_fragments_mean_accepted_calls`: of a world that shows a state of the machine (`fl_world_refines`);
+//!   `specs/Meaning.antt`
 //! - the laws of runs from a booted world: `specs/Booted.antt`
 //! - `law_openings_fail_for`: why an opening is refused, `specs/Refusing.antt`
 #![tactic(auto)]
@@ -14,18 +15,20 @@ ghost use Rattle.fl_world_laws.specs.Refusing.{OpeningsFailFor};
 
 // ---- Fragments
 
-/// In a world that shows a state of the machine, the fragments on every link, on every binding's ring, in every local queue and in
-/// every arrival queue mean the accepted calls and no others. Circuit by circuit those that stand on a link are the next
-/// fragments of the calls that the end accepted whose circuit it is, under its number there; on circuit 0 are the monitors'
-/// messages, and what only acknowledges; before an end are the next fragments of the other end's calls.
+/// In a world that shows a state of the machine, the fragments on every link, on every binding's ring, in
+/// every local queue and in every arrival queue mean the accepted calls and no others. Circuit by circuit
+/// those that stand on a link are the next fragments of the calls that the end accepted whose circuit it is,
+/// under its number there; on circuit 0 are the monitors' messages, and what only acknowledges; before an end
+/// are the next fragments of the other end's calls.
 pub fn law_fragments_mean_accepted_calls()
     ensures mean { FragmentsMeanAcceptedCalls }
 {}
 
 // ---- Runs from a world of 1 to 16 cores: calls
 
-/// The calls that an end handled over a run are a prefix of those that were accepted at the other end, in order, with equal
-/// arguments: whatever number of cores the world was booted with, over every route and back end.
+/// The calls that an end handled over a run are a prefix of those that were accepted at the other end, in
+/// order, with equal arguments: whatever number of cores the world was booted with, over every route and back
+/// end.
 pub fn law_handled_is_ever_a_prefix()
     ensures prefix { EverHandledIsAPrefix }
 {}
@@ -35,8 +38,8 @@ pub fn law_handled_is_ever_counted()
     ensures counted { EverHandledIsCounted }
 {}
 
-/// What an end accepted over a run is the calls that it was asked for and that were accepted, and its replies by rule, merged
-/// in order; these replies, and then those that still wait, are all that fell due.
+/// What an end accepted over a run is the calls that it was asked for and that were accepted, and its replies
+/// by rule, merged in order; these replies, and then those that still wait, are all that fell due.
 pub fn law_all_ever_accepted()
     ensures accepted { EverAllAccepted }
 {}
@@ -80,8 +83,9 @@ pub fn law_numbers_are_ever_given_once()
     ensures once { EverGivenOnce }
 {}
 
-/// An opening is refused where the service isn't there (70), its dispatcher has no place for one more end (54), a core of the
-/// route has no link to the next (73), or that link has no number left (74), and for no other reason.
+/// In every run a client hears that its opening was refused for one of four faults: there is no such service
+/// (70), its dispatcher has no place for one more end (54), a core of the route has no link to the next (73),
+/// or that link has no number left (74).
 pub fn law_openings_fail_for()
     ensures faults { OpeningsFailFor }
 {}
