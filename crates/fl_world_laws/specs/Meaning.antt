@@ -61,7 +61,8 @@ pub record LinkMeans (w : TheWorld) (s : State) (a b : ℕ) : Type 0 where
   -- on a circuit the next fragments of the calls that the end accepted whose circuit this is, under the
   -- circuit's number
   pub calls : (circuit : ℕ) (e : EndId) (h : GoesOver s a b circuit e)
-      → on_circuit circuit (aside (on_the_link w a b)) ≡ between_stations circuit h.interface (end_in e.side h.binding).out h.place
+      → on_circuit circuit (aside (on_the_link w a b))
+      ≡ between_stations circuit h.interface (end_in e.side h.binding).out h.place
   -- on circuit 0 the messages that the monitor of core a has said there, and what only acknowledges, in order
   pub monitors : on_circuit 0 (aside (on_the_link w a b)) ≡ filter_map beside_calls (on_link s a b)
   -- and no fragment is on any other circuit

@@ -16,4 +16,5 @@ IsOpeningFault fault = (fault ≡ 70) ⊎ (fault ≡ 54) ⊎ (fault ≡ 73) ⊎ 
 -- has such a fault
 abbrev pub OpeningsFailFor : Type 0
 OpeningsFailFor = (cores : ℕ) (vs : List Event) (v : Event) (fault : ℕ) (e : EndId) → 1 ≤ cores
-    → cores ≤ most_cores → (step (reached (start_with cores) vs) v).answer ≡ opening_refused fault e → IsOpeningFault fault
+    → cores ≤ most_cores
+    → (step (reached (start_with cores) vs) v).answer ≡ opening_refused fault e → IsOpeningFault fault
