@@ -24,7 +24,7 @@ use Rattle.fl_model.specs.State.{Back, over_route, Binding, State, end_in, way_o
 use Rattle.fl_model.specs.Forwarding.{route_of}
 use Rattle.fl_model.specs.Standing.{labels_of, on_link, unread, queue_of, number_of, picked, before_by}
 use Rattle.fl_model.specs.Runs.{same_side, same_end}
-use Rattle.fl_model.specs.SoundLabels.{GoesOver as WayGoesOver, MayStandOn}
+use Rattle.fl_model.specs.SoundLabels.{GoesOver, MayStandOn}
 use Rattle.fl_model.specs.SoundPlaces.{stations}
 use Rattle.fl_model.specs.Sound.{Sound}
 use Rattle.fl_model_laws.proofs.Cases.{either, Each}
@@ -45,7 +45,7 @@ use Rattle.fl_world_refines.proofs.FramesFind.{interface_known}
 use Rattle.fl_world_refines.proofs.PassingLinkSides.{none_too, some_too, ring_of_number, which_of_number}
 use Rattle.fl_world_refines.proofs.Small.{small_numbers}
 use Rattle.fl_world_laws.specs.Places.{before_side, on_the_link, aside, on_circuit}
-use Rattle.fl_world_laws.specs.Meaning.{GoesOver, beside_calls, between_stations, LinkMeans}
+use Rattle.fl_world_laws.specs.Meaning.{CircuitGoesOver, beside_calls, between_stations, LinkMeans}
 use Rattle.fl_world_laws.proofs.OneWay.{one_end}
 use Rattle.fl_world_laws.proofs.Picked.{SuitsBy, Suits, picked_are, label_of_frag, same_somes, piece}
 
@@ -149,7 +149,7 @@ module _ (w : TheWorld) (s : State) (shows : Shows w s) (a b : ℕ) where
   stands n l q = shows.sound.ways.links a b l (first_of (on_link s a b) n l q)
 
   -- the end of a call's fragment there goes over the link under the fragment's number
-  goes : (g : EndId) (f : Frag) → WayGoesOver s a b g → (on : IsOnLink a b s g f) → GoesOver s a b on.number g
+  goes : (g : EndId) (f : Frag) → GoesOver s a b g → (on : IsOnLink a b s g f) → CircuitGoesOver s a b on.number g
   goes g f way on =
       let one : way.routed.binding ≡ on.binding = some_same way.routed.binding on.binding (sym way.routed.there ∙ on.binding_is) in
       let back : on.binding.back ≡ over_route way.route = ap (λ (x : Binding). x.back) (sym one) ∙ way.routed.back in
@@ -169,13 +169,13 @@ module _ (w : TheWorld) (s : State) (shows : Shows w s) (a b : ℕ) where
       }
 
   -- and under one number
-  one_number : (c m : ℕ) (e : EndId) → GoesOver s a b c e → GoesOver s a b m e → m ≡ c
+  one_number : (c m : ℕ) (e : EndId) → CircuitGoesOver s a b c e → CircuitGoesOver s a b m e → m ≡ c
   one_number c m e h k =
       let one : k.binding ≡ h.binding = some_same k.binding h.binding (sym k.binding_is ∙ h.binding_is) in
       let route : k.route ≡ h.route = same_route k.route h.route (sym k.back ∙ ap (λ (x : Binding). x.back) one ∙ h.back) in
       some_same m c (sym k.number ∙ ap (number_between a b) route ∙ h.number)
 
-  above_none : (c : ℕ) (e : EndId) → GoesOver s a b c e → 1 ≤ c
+  above_none : (c : ℕ) (e : EndId) → CircuitGoesOver s a b c e → 1 ≤ c
   above_none c e h = (small e.binding h.route a b c (record { binding = h.binding; there = h.binding_is; back = h.back }) h.number).0
 
   not_none : (m n : ℕ) → m ≡ 0 → 1 ≤ n → m ≡ n → ⊥
@@ -189,24 +189,24 @@ module _ (w : TheWorld) (s : State) (shows : Shows w s) (a b : ℕ) where
   abbrev of_end : EndId → ℕ → Option Frag
   of_end e k = slice_get (calls_between a b s e) k
 
-  call_suits : (c : ℕ) (e : EndId) → GoesOver s a b c e → (g : EndId) (k : ℕ) (f : Frag) → WayGoesOver s a b g
+  call_suits : (c : ℕ) (e : EndId) → CircuitGoesOver s a b c e → (g : EndId) (k : ℕ) (f : Frag) → GoesOver s a b g
       → frag_of (calls_between a b s) (next_of g k) ≡ Some f → SuitsBy (of_end e) (number_of e (next_of g k)) (on_it c f) f
   call_suits c e h g k f way r =
       let on : IsOnLink a b s g f = tells (next_of g k) f r in
-      let it : GoesOver s a b on.number g = goes g f way on in
+      let it : CircuitGoesOver s a b on.number g = goes g f way on in
       either (λ (o : Option ℕ). SuitsBy (of_end e) o (on_it c f) f) (same_end e g) (Some k) None
       (λ q.
       let is : e ≡ g = same_end_true e g q in
-      let same : on.number ≡ c = one_number c on.number e h (subst (GoesOver s a b on.number) (sym is) it) in
+      let same : on.number ≡ c = one_number c on.number e h (subst (CircuitGoesOver s a b on.number) (sym is) it) in
       (is_it (circuit_of f.control) c (on.circuit ∙ same), ap (λ (x : EndId). slice_get (calls_between a b s x) k) is ∙ r))
       (λ q. isnt_it (circuit_of f.control) c
       (λ u.
       let same : on.number ≡ c = sym on.circuit ∙ u in
-      let is : e ≡ g = one_end s shows.sound a b c e g h (subst (λ (m : ℕ). GoesOver s a b m g) same it) in
+      let is : e ≡ g = one_end s shows.sound a b c e g h (subst (λ (m : ℕ). CircuitGoesOver s a b m g) same it) in
       let yes : same_end e g ≡ true = subst (λ (x : EndId). same_end e x ≡ true) is (same_self e) in
       absurd (false≢true (sym q ∙ yes))))
 
-  calls_suit : (c : ℕ) (e : EndId) → GoesOver s a b c e → Each (Suits (calls_between a b s) (on_it c) (number_of e) (of_end e)) (on_link s a b)
+  calls_suit : (c : ℕ) (e : EndId) → CircuitGoesOver s a b c e → Each (Suits (calls_between a b s) (on_it c) (number_of e) (of_end e)) (on_link s a b)
   calls_suit c e h n (next_of g k) q f r = call_suits c e h g k f (stands n (next_of g k) q) r
   calls_suit c e h n (says m) q f r =
       isnt_it (circuit_of f.control) c (not_none (circuit_of f.control) c (tells (says m) f r).1 (above_none c e h))
@@ -214,7 +214,7 @@ module _ (w : TheWorld) (s : State) (shows : Shows w s) (a b : ℕ) where
       let none : circuit_of f.control ≡ 0 = ap (λ (x : Frag). circuit_of x.control) (tells acknowledges f r) in
       isnt_it (circuit_of f.control) c (not_none (circuit_of f.control) c none (above_none c e h))
 
-  before_it : (c : ℕ) (e : EndId) (h : GoesOver s a b c e) → before_by s e h.binding.back (suc h.place) ≡ on_link s a b
+  before_it : (c : ℕ) (e : EndId) (h : CircuitGoesOver s a b c e) → before_by s e h.binding.back (suc h.place) ≡ on_link s a b
   before_it c e h =
       let way : List ℕ = way_of e.side h.route in
       let within : suc h.place < length way = got_within way (suc h.place) b h.far in
@@ -226,7 +226,7 @@ module _ (w : TheWorld) (s : State) (shows : Shows w s) (a b : ℕ) where
       ap (λ (n : ℕ). on_link s n (slice_index way (suc h.place))) (ap (slice_index way) one ∙ got_index way h.place a h.near)
       ∙ ap (on_link s a) (got_index way (suc h.place) b h.far))
 
-  within_passed : (c : ℕ) (e : EndId) (h : GoesOver s a b c e) → suc h.place < length (end_in e.side h.binding).out.passed
+  within_passed : (c : ℕ) (e : EndId) (h : CircuitGoesOver s a b c e) → suc h.place < length (end_in e.side h.binding).out.passed
   within_passed c e h =
       let x = shows.sound.ends e (end_in e.side h.binding) (end_of_binding s e h.binding h.binding_is) in
       let one : x.binding ≡ h.binding = some_same x.binding h.binding (sym x.there ∙ h.binding_is) in
@@ -236,7 +236,7 @@ module _ (w : TheWorld) (s : State) (shows : Shows w s) (a b : ℕ) where
       let within : suc h.place < length (way_of e.side h.route) = got_within (way_of e.side h.route) (suc h.place) b h.far in
       omega (arith, long, way, within)
 
-  calls_mean : (c : ℕ) (e : EndId) (h : GoesOver s a b c e)
+  calls_mean : (c : ℕ) (e : EndId) (h : CircuitGoesOver s a b c e)
       → on_circuit c (aside (on_the_link w a b)) ≡ between_stations c h.interface (end_in e.side h.binding).out h.place
   calls_mean c e h =
       let frags = on_circuit c (aside (on_the_link w a b)) in
@@ -273,16 +273,16 @@ module _ (w : TheWorld) (s : State) (shows : Shows w s) (a b : ℕ) where
   -- ---- nothing else
 
   circuit_by : (n : ℕ) (l : Label) (f : Frag) → slice_get (on_link s a b) n ≡ Some l → frag_of (calls_between a b s) l ≡ Some (bare f)
-      → (circuit_of f.control ≡ 0) ⊎ ((e : EndId) × GoesOver s a b (circuit_of f.control) e)
+      → (circuit_of f.control ≡ 0) ⊎ ((e : EndId) × CircuitGoesOver s a b (circuit_of f.control) e)
   circuit_by n (next_of g k) f q r =
       let on : IsOnLink a b s g (bare f) = tells (next_of g k) (bare f) r in
-      inr (g, subst (λ (m : ℕ). GoesOver s a b m g) (sym (sym (set_aside f).circuit ∙ on.circuit)) (goes g (bare f) (stands n (next_of g k) q) on))
+      inr (g, subst (λ (m : ℕ). CircuitGoesOver s a b m g) (sym (sym (set_aside f).circuit ∙ on.circuit)) (goes g (bare f) (stands n (next_of g k) q) on))
   circuit_by n (says m) f q r = inl (sym (set_aside f).circuit ∙ (tells (says m) (bare f) r).1)
   circuit_by n acknowledges f q r =
       inl (sym (set_aside f).circuit ∙ ap (λ (x : Frag). circuit_of x.control) (tells acknowledges (bare f) r))
 
   nothing_else : (n : ℕ) (f : Frag) → slice_get (on_the_link w a b) n ≡ Some f
-      → (circuit_of f.control ≡ 0) ⊎ ((e : EndId) × GoesOver s a b (circuit_of f.control) e)
+      → (circuit_of f.control ≡ 0) ⊎ ((e : EndId) × CircuitGoesOver s a b (circuit_of f.control) e)
   nothing_else n f q =
       let l = label_of_frag (calls_between a b s) (on_link s a b) (on_the_link w a b) n f (link_are w s shows a b) q in
       circuit_by n l.0 f l.1 l.2

@@ -14,7 +14,7 @@ use Rattle.fl_model_laws.proofs.ForwardsTold.{place_there}
 use Rattle.fl_model_laws.proofs.Routed.{same_route}
 use Rattle.fl_model_laws.proofs.Small.{some_same}
 use Rattle.fl_model_laws.proofs.Ways.{got_within, got_index, index_got, flipped, once_of}
-use Rattle.fl_world_laws.specs.Meaning.{GoesOver}
+use Rattle.fl_world_laws.specs.Meaning.{CircuitGoesOver}
 
 -- the core that a route comes to first, of two of which the ways of this side come to x first
 abbrev first_by : Side → ℕ → ℕ → ℕ
@@ -104,20 +104,20 @@ not_both_ways route a b c differ h k =
     absurd (omega (arith, ab, ba))
 
 module _ (s : State) (sound : Sound s) (a b c : ℕ) where
-  abbrev routed : (e : EndId) (h : GoesOver s a b c e) → Routed s e.binding h.route
+  abbrev routed : (e : EndId) (h : CircuitGoesOver s a b c e) → Routed s e.binding h.route
   routed e h = record { binding = h.binding; there = h.binding_is; back = h.back }
 
-  differ : (e : EndId) (h : GoesOver s a b c e) → all_differ h.route.cores ≡ true
+  differ : (e : EndId) (h : CircuitGoesOver s a b c e) → all_differ h.route.cores ≡ true
   differ e h = (sound.routes e.binding h.route (routed e h)).differ
 
-  pub same_binding : (e f : EndId) (h : GoesOver s a b c e) (k : GoesOver s a b c f) → e.binding ≡ f.binding → h.binding ≡ k.binding
+  pub same_binding : (e f : EndId) (h : CircuitGoesOver s a b c e) (k : CircuitGoesOver s a b c f) → e.binding ≡ f.binding → h.binding ≡ k.binding
   same_binding e f h k q =
       some_same h.binding k.binding (sym h.binding_is ∙ ap (slice_get s.bindings) q ∙ k.binding_is)
 
-  one_route : (e f : EndId) (h : GoesOver s a b c e) (k : GoesOver s a b c f) → e.binding ≡ f.binding → h.route ≡ k.route
+  one_route : (e f : EndId) (h : CircuitGoesOver s a b c e) (k : CircuitGoesOver s a b c f) → e.binding ≡ f.binding → h.route ≡ k.route
   one_route e f h k q = same_route h.route k.route (sym h.back ∙ ap (λ (x : Binding). x.back) (same_binding e f h k q) ∙ k.back)
 
-  by_sides : (x y : Side) (e f : EndId) (h : GoesOver s a b c e) (k : GoesOver s a b c f) → e.side ≡ x → f.side ≡ y → AtPlace x h.route a b c
+  by_sides : (x y : Side) (e f : EndId) (h : CircuitGoesOver s a b c e) (k : CircuitGoesOver s a b c f) → e.side ≡ x → f.side ≡ y → AtPlace x h.route a b c
       → AtPlace y k.route a b c → e ≡ f
   by_sides Client Client e f h k p q u v =
       same_ends e f
@@ -156,7 +156,7 @@ module _ (s : State) (sound : Sound s) (a b c : ℕ) where
       }) in
       absurd (not_both_ways k.route a b c (differ f k) v (subst (λ (r : Route). AtPlace Server r a b c) (one_route e f h k same) u))
 
-  pub one_end : (e f : EndId) (h : GoesOver s a b c e) (k : GoesOver s a b c f) → e ≡ f
+  pub one_end : (e f : EndId) (h : CircuitGoesOver s a b c e) (k : CircuitGoesOver s a b c f) → e ≡ f
   one_end e f h k =
       by_sides e.side f.side e f h k refl refl (at_place e.side h.route a b c h.place (differ e h) h.number h.near h.far)
       (at_place f.side k.route a b c k.place (differ f k) k.number k.near k.far)

@@ -37,7 +37,7 @@ before_the_take i d = between_stations 0 i d (last_station d - 1)
 
 -- the circuit of an end's binding has this number on the link from core a to core b, over which the end's
 -- calls go: core a stands at this place of their way, and core b at the next
-pub record GoesOver (s : State) (a b circuit : ℕ) (e : EndId) : Type 0 where
+pub record CircuitGoesOver (s : State) (a b circuit : ℕ) (e : EndId) : Type 0 where
   pub binding : Binding
   pub binding_is : binding_of s e ≡ Some binding
   pub interface : Planned
@@ -60,14 +60,14 @@ beside_calls acknowledges = Some acknowledgement
 pub record LinkMeans (w : TheWorld) (s : State) (a b : ℕ) : Type 0 where
   -- on a circuit the next fragments of the calls that the end accepted whose circuit this is, under the
   -- circuit's number
-  pub calls : (circuit : ℕ) (e : EndId) (h : GoesOver s a b circuit e)
+  pub calls : (circuit : ℕ) (e : EndId) (h : CircuitGoesOver s a b circuit e)
       → on_circuit circuit (aside (on_the_link w a b))
       ≡ between_stations circuit h.interface (end_in e.side h.binding).out h.place
   -- on circuit 0 the messages that the monitor of core a has said there, and what only acknowledges, in order
   pub monitors : on_circuit 0 (aside (on_the_link w a b)) ≡ filter_map beside_calls (on_link s a b)
   -- and no fragment is on any other circuit
   pub only : (n : ℕ) (f : Frag) → slice_get (on_the_link w a b) n ≡ Some f
-      → (circuit_of f.control ≡ 0) ⊎ ((e : EndId) × GoesOver s a b (circuit_of f.control) e)
+      → (circuit_of f.control ≡ 0) ⊎ ((e : EndId) × CircuitGoesOver s a b (circuit_of f.control) e)
 
 -- ---- before ends
 
