@@ -1,0 +1,31 @@
+//! Streams: links at the speed of acquire and release, over the kit's `rtrb`.
+//!
+//! A stream is a ring of whole fragments, whose two sides may be in two threads. One store hands a
+//! fragment over, or a whole slice of them, and one store frees what was taken: so nothing is
+//! acknowledged. Its sides are sides of links (`fl_link`), lent to ends and cores as any other.
+//!
+//! Contract for the layers above: each call of a side is one step of the side's relation
+//! (`specs/Steps.antt`), and what one side took is a prefix of what the other put ([`settle`]).
+//!
+//! - `plain.rt`: which fragments pass through a stream
+//! - `tx.rt`, `rx.rt`: the side that puts, and the side that takes
+//! - `making.rt`: `stream`, `duplex` and `settle`
+//! - `side.rt`: two streams, one each way, as one side
+//! - `law.rt`: what holds of a side over steps in a row
+#![tactic(auto)]
+
+mod law;
+mod making;
+mod plain;
+mod rx;
+mod side;
+#[cfg(test)]
+mod tests;
+mod tx;
+
+pub use law::{law_stream_receiver_conserves, law_stream_sender_conserves};
+pub use making::{duplex, settle, stream};
+pub use plain::is_plain;
+pub use rx::StreamRx;
+pub use side::StreamSide;
+pub use tx::StreamTx;
