@@ -44,7 +44,7 @@ receiver_one : (s t : TheReceiver) (look : Look) → StreamTakes s look t → Re
 receiver_one s t (placed f) h = absurd h
 receiver_one s t no_room h = absurd h
 receiver_one s t spent h = absurd h
-receiver_one s t (saw f) (h, _) = record { stream = h.stream; size = h.size; got = h.got ∙ sym (append-nil s.got) }
+receiver_one s t (saw f) (h, _, _) = record { stream = h.stream; size = h.size; got = h.got ∙ sym (append-nil s.got) }
 receiver_one s t saw_ack h = absurd h
 receiver_one s t (found f) h = record { stream = h.stream; size = h.size; got = h.got }
 receiver_one s t found_ack h = absurd h

@@ -1,6 +1,6 @@
 //! The fragments that pass through a stream.
 
-ghost use Rattle.std.specs.Prelude.{◌≡◌, IsTrue};
+ghost use Rattle.std.specs.Prelude.{◌≡◌, true};
 ghost use Rattle.fl_stream.specs.Plain.{is_plain};
 
 use fl_base::Frag;
