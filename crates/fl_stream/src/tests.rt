@@ -109,8 +109,14 @@ fn one_by_one(rt: HostRuntime) {
     assert!(rt; both_ways_follow(rt.alloc()) == Ok(true));
 }
 
-fn puts(tx: &mut StreamTx, first: u64) -> Result<(), PutFault> {
-    tx.put_all(&[frag(first), frag(first + 1), frag(first + 2)])
+// Puts three fragments at once.
+fn puts(tx: &mut StreamTx, first: u64) -> Result<(), PutFault>
+    ensures { tx.new.stream ≡ tx.old.stream }
+{
+    let a = frag(first);
+    let b = frag(first.wrapping_add(1));
+    let c = frag(first.wrapping_add(2));
+    tx.put_all(&[a, b, c])
 }
 
 // Whether these come next, and no more.
@@ -133,7 +139,8 @@ fn slices_follow(tx: &mut StreamTx, rx: &mut StreamRx) -> bool {
     puts(tx, 1) == Ok(())
         && puts(tx, 4) == Err(PutFault::Full)
         && rx.take_all(&mut two) == 2
-        && two == [frag(1), frag(2)]
+        && two[0] == frag(1)
+        && two[1] == frag(2)
         && puts(tx, 4) == Ok(())
         && tx.put_all(&[]) == Ok(())
         && rx.take_all(&mut []) == 0
@@ -196,7 +203,7 @@ fn sizes(rt: HostRuntime) {
 
 const COUNT: u64 = 10_000;
 
-// Puts fragments that count from 0, every third time three of them at once.
+// Puts fragments that count from 0, where a fifth is due three of them at once.
 fn put_counted<R: Wait>(rt: &R, mut tx: StreamTx) -> StreamTx
     ensures { result.stream ≡ tx.stream }
 {
@@ -228,7 +235,7 @@ fn in_order(frags: &[Frag], count: usize, next: u64) -> u64 {
     due
 }
 
-// Takes as many, singly and in slices, and says how many came in order.
+// Takes as many, and says how many came in order.
 fn take_counted<R: Wait>(rt: &R, mut rx: StreamRx) -> (StreamRx, u64)
     ensures { result.0.stream ≡ rx.stream }
 {
