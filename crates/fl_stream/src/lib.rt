@@ -1,8 +1,7 @@
-//! Streams: links at the speed of acquire and release, over the kit's `rtrb`.
+//! Streams: links that hand whole fragments over as plain memory, over the kit's `rtrb`.
 //!
-//! A stream is a ring of whole fragments, whose two sides may be in two threads. One store hands a
-//! fragment over, or a whole slice of them, and one store frees what was taken: so nothing is
-//! acknowledged. Its sides are sides of links (`fl_link`), lent to ends and cores as any other.
+//! A stream is a ring of fragments, whose two sides may be in two threads. One atomic store hands over
+//! a fragment, or a whole slice of them, and one frees what was taken: so nothing is acknowledged. Its sides are sides of links (`fl_link`), lent to ends and cores as any other.
 //!
 //! Contract for the layers above: each call of a side is one step of the side's relation
 //! (`specs/Steps.antt`), and what one side took is a prefix of what the other put ([`settle`]).

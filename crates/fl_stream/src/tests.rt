@@ -260,7 +260,7 @@ fn take_counted<R: Wait>(rt: &R, mut rx: StreamRx) -> (StreamRx, u64)
 fn across<R: Threads + Wait + Sync>(rt: &R, tx: StreamTx, rx: StreamRx) -> u64
     requires { tx.stream ≡ rx.stream }
 {
-    let ((mut tx), (mut rx, count)) = join(
+    let (mut tx, (mut rx, count)) = join(
         rt,
         move || -> StreamTx
             ensures { result.stream ≡ tx.stream }
