@@ -4,9 +4,9 @@ ghost use Rattle.std.specs.Prelude.{◌≡◌, ◌↔◌, [], IfOk, OnOk, Err};
 ghost use Rattle.fl_stream.specs.Sides.{new_sender, new_receiver, MayHaveSlots};
 ghost use Rattle.fl_stream.specs.Steps.{Sends, Sees, Settled};
 
-use crate::side::StreamSide;
 use crate::plain::PlainFrags;
 use crate::rx::StreamRx;
+use crate::side::StreamSide;
 use crate::tx::StreamTx;
 use fl_base::MAX_QUEUE;
 use fl_link::LinkFault;
