@@ -1,6 +1,7 @@
--- Turns of a core, on its cut: each of their events is the machine's, on the cut that the core showed before it, by what that
--- event's look found, and the core shows behind it what the machine makes of that.
-use Rattle.std.specs.Prelude.{ℕ, ◌≡◌, ◌+◌, ◌≤◌, ◌^◌, ◌==◌, ◌&&◌, nat_lt, Bool, false, if◌then◌else◌, List, [], ◌∷◌, length}
+-- Turns of a core, on its cut: each of their events is the machine's, on the cut that the core showed before
+-- it, by what that event's look found, and the core shows behind it what the machine makes of that.
+use Rattle.std.specs.Prelude.{ℕ, ◌≡◌, ◌+◌, ◌≤◌, ◌^◌, ◌==◌, ◌&&◌, nat_lt, Bool, false, if◌then◌else◌, List, []}
+use Rattle.std.specs.Prelude.{◌∷◌, length}
 use Rattle.std.specs.Prelude.{slice_get, Some, Ok}
 use Rattle.fl_base.specs.Given.{given}
 use Rattle.fl_ring.specs.SharedSeats.{front_seen}
@@ -40,7 +41,8 @@ moment run cut = record { run = run; cut = cut }
 
 -- ---- one event
 
-pub record Follows (services : List Service) (jobs : List CoreJob) (log_entry : LogEntry) (a b : CutMoment) : Type 0 where
+pub record Follows (services : List Service) (jobs : List CoreJob) (log_entry : LogEntry)
+    (a b : CutMoment) : Type 0 where
   -- it happens, in its place, and memory isn't refused to it
   pub happens : Happens shared_ways log_entry a.run b.run
   pub in_place : InPlace jobs a.run log_entry
@@ -56,12 +58,13 @@ pub record Follows (services : List Service) (jobs : List CoreJob) (log_entry : 
 abbrev pub AllFollow : List Service → List CoreJob → List (Event TheSide) → CutMoment → CutMoment → Type 0
 AllFollow services jobs [] a b = b ≡ a
 AllFollow services jobs (x ∷ xs) a b =
-    (cut : CoreCut) × Follows services jobs x.log_entry a (moment x.run cut) × AllFollow services jobs xs (moment x.run cut) b
+    (cut : CoreCut) × Follows services jobs x.log_entry a (moment x.run cut)
+        × AllFollow services jobs xs (moment x.run cut) b
 
 -- ---- how often a side was found so
 
--- an event found nothing at side n, which it leads from p to q. (A polled end that is quiet took a fragment that only
--- acknowledges, or found nothing.)
+-- an event found nothing at side n, which it leads from p to q. (A polled end that is quiet took a fragment
+-- that only acknowledges, or found nothing.)
 abbrev pub finds_nothing : ℕ → LogEntry → TheSide → TheSide → Bool
 finds_nothing n (looked m l (Ok Nothing)) p q = m == n
 finds_nothing n (turned d name (inlet.Side m) turn.Nothing) p q = m == n
@@ -82,17 +85,20 @@ finds_full n log_entry p q = false
 
 -- by an event of a core, over its side n
 abbrev pub at_side : ℕ → (TheSide → TheSide → Bool) → CutMoment → CutMoment → Bool
-at_side n test a b = given (slice_get a.run.rings n) false λ p. given (slice_get b.run.rings n) false λ q. test p q
+at_side n test a b =
+    given (slice_get a.run.rings n) false λ p.
+    given (slice_get b.run.rings n) false λ q. test p q
 
 -- how many events pass a test
 abbrev pub times : (services : List Service) (jobs : List CoreJob) → (LogEntry → CutMoment → CutMoment → Bool)
     → (events : List (Event TheSide)) (a b : CutMoment) → AllFollow services jobs events a b → ℕ
 times services jobs test [] a b all = 0
 times services jobs test (x ∷ xs) a b all =
-    (if test x.log_entry a (moment x.run all.0) then 1 else 0) + times services jobs test xs (moment x.run all.0) b all.2
+    (if test x.log_entry a (moment x.run all.0) then 1 else 0)
+    + times services jobs test xs (moment x.run all.0) b all.2
 
--- of a side: nothing was found at most as often as its misses rose, and it was found full at most as often as its loads rose;
--- what it knows to be acknowledged only rises
+-- of a side: nothing was found at most as often as its misses rose, and it was found full at most as often as
+-- its loads rose; what it knows to be acknowledged only rises
 pub record Counts (nothing full : ℕ) (p q : TheSide) : Type 0 where
   pub misses : p.misses + nothing ≤ q.misses
   pub loads : p.loads + full ≤ q.loads
@@ -110,7 +116,8 @@ abbrev pub many : TurnPlan → List CoreJob → ℕ → ManyTurns
 many plan jobs turns = record { plan = plan; jobs = jobs; turns = turns }
 
 -- a core took so many turns, with this log, from one moment to another
-pub record TurnedBy (services : List Service) (x : ManyTurns) (log : List LogEntry) (a b : CutMoment) : Type 0 where
+pub record TurnedBy (services : List Service) (x : ManyTurns) (log : List LogEntry)
+    (a b : CutMoment) : Type 0 where
   pub turns : Turned shared_ways x.plan x.jobs x.turns a.run b.run
   -- these are their events, and no others
   pub events : List (Event TheSide)

@@ -16,7 +16,8 @@ use Rattle.fl_core_refines.specs.CutStart.{first_cut}
 use Rattle.fl_core_turned.specs.Turned.{moment, many, TurnedBy}
 use Rattle.fl_cores.specs.Wanted.{behind}
 
--- an end of a cut as the machine has it, but for the rules that jobs set; the queue that it takes from stands among the core's
+-- an end of a cut as the machine has it, but for the rules that jobs set; the queue that it takes from stands
+-- among the core's
 pub record IsOfMachine (s : State) (x : EndCut) : Type 0 where
   pub end : End
   pub end_is : end_of s x.wired_end.name ≡ Some end
@@ -26,24 +27,31 @@ pub record IsOfMachine (s : State) (x : EndCut) : Type 0 where
   pub planned_is : interface_of s binding ≡ Some x.planned
 
 -- core n ran, from this core thread to this outcome
-pub record CoreFollows (c : TheConfig) (jobs : List CoreJob) (n : ℕ) (s : TheCoreThread) (o : TheFinishedCore) : Type 0 where
-  -- it began with the machine's core of its number behind the set-up, and with the machine's ends, at which no call was accepted
+pub record CoreFollows (c : TheConfig) (jobs : List CoreJob) (n : ℕ)
+    (s : TheCoreThread) (o : TheFinishedCore) : Type 0 where
+  -- it began with the machine's core of its number behind the set-up, and with the machine's ends, at which
+  -- no call was accepted
   pub core : Core
   pub core_is : core_of (behind c) n ≡ Some core
-  pub ends : (place : ℕ) (x : EndCut) → slice_get (first_cut core s.run).ends place ≡ Some x → IsOfMachine (behind c) x
-  -- it took so many turns by its plan, no fewer than were counted, with this log, and behind each event it showed the cut that the
-  -- machine makes by that of the cut before
+  pub ends : (place : ℕ) (x : EndCut) → slice_get (first_cut core s.run).ends place ≡ Some x
+      → IsOfMachine (behind c) x
+  -- it took so many turns by its plan, no fewer than were counted, with this log, and behind each event it
+  -- showed the cut that the machine makes by that of the cut before
   pub turns : ℕ
   pub counted : o.part.turns ≤ turns
   pub log : List LogEntry
   pub after : CoreCut
-  pub turned : TurnedBy (behind c).services (many s.plan jobs turns) log (moment s.run (first_cut core s.run)) (moment o.run after)
+  pub turned : TurnedBy (behind c).services (many s.plan jobs turns) log
+      (moment s.run (first_cut core s.run)) (moment o.run after)
 
 -- so did each core of a run that is reported
-abbrev pub CoresFollow : {c : TheConfig} {jobs : List Job} {limit : ℕ} {r : TheReport} → Reports c jobs limit r → Type 0
-CoresFollow {c} w = (n : ℕ) (s : TheCoreThread) (o : TheFinishedCore) → slice_get w.ran.ran.ran.core_threads n ≡ Some s
+abbrev pub CoresFollow : {c : TheConfig} {jobs : List Job} {limit : ℕ} {r : TheReport}
+    → Reports c jobs limit r → Type 0
+CoresFollow {c} w = (n : ℕ) (s : TheCoreThread) (o : TheFinishedCore)
+    → slice_get w.ran.ran.ran.core_threads n ≡ Some s
     → slice_get w.ran.ran.ran.outcomes n ≡ Some o → CoreFollows c w.ran.ran.joined.jobs n s o
 
 -- Law
 abbrev pub RunsFollow : Type 0
-RunsFollow = (c : TheConfig) (jobs : List Job) (limit : ℕ) (r : TheReport) (w : Reports c jobs limit r) → CoresFollow w
+RunsFollow = (c : TheConfig) (jobs : List Job) (limit : ℕ) (r : TheReport) (w : Reports c jobs limit r)
+    → CoresFollow w

@@ -1,5 +1,5 @@
--- That what is reported of a run of cores is honest, that it ended as is told, that each core went on as the machine does, and what the
--- report of one core is. Public promises rest on this file.
+-- That what is reported of a run of cores is honest, that it ended as is told, that each core went on as the
+-- machine does, and what the report of one core is. Public promises rest on this file.
 use Rattle.std.specs.Prelude.{ℕ, List}
 use Rattle.fl_cores_file.specs.CoresFile.{CoresFile, FileOutcome, Reads, is_file, refused_at}
 use Rattle.fl_cores_file.specs.Jobs.{Job}

@@ -9,9 +9,10 @@ use fl_cores_laws::{law_cores_go, law_requests_alone};
 use fl_cores_shares::law_handed_out_go_on;
 use fl_ring::{SharedSide, law_side_conserves};
 
-/// Of each core of a run that is reported: as it began it shows the first cut, with the machine's core of its number
-/// behind the set-up and the machine's ends; it took so many turns, no fewer than were counted; and after each event of
-/// these turns it shows the cut that the machine makes by that of the cut before, whatever the other cores did.
+/// Of each core of a run that is reported: as it began it shows the first cut, with the machine's core of its
+/// number behind the set-up and the machine's ends; it took so many turns, no fewer than were counted; and
+/// after each event of these turns it shows the cut that the machine makes by that of the cut before,
+/// whatever the other cores did.
 pub fn law_runs_follow()
     ensures follow { RunsFollow }
 {

@@ -19,9 +19,10 @@ use std::alloc::Global;
 use std::sync::Wait;
 use std::thread::Threads;
 
-/// Runs cores on threads of their own, each with its jobs, until each has finished or counted so many turns, and reports honestly what each end made and
-/// handled, and how the run ended. In its turns each core goes on as the machine does, event by event, on what it knows of the machine's
-/// state. With one core the report is a function of the configuration, the jobs and the limit.
+/// Runs cores on threads of their own, each with its jobs, until each has finished or counted so many turns,
+/// and reports honestly what each end made and handled, and how the run ended. In its turns each core goes on
+/// as the machine does, event by event, on what it knows of the machine's state. With one core the report is
+/// a function of the configuration, the jobs and the limit.
 ///
 /// # Errors
 /// [`CoresFault`]: a number of cores outside 1 to 16 (94, at place 0); else the first event of the set-up that
