@@ -128,13 +128,15 @@ turns_happen plan jobs k s t turns =
 pub ready_turns : ReadyFollow → ReadyTurns
 ready_turns law services plan jobs k a s t h ready turns differ =
     let events : List (Event TheSide) = events_of shared_ways jobs plan k s t turns in
-    let all = all_follow law services jobs a events a s t h ready (record { core = refl; links = λ i. refl }) differ (happened shared_ways jobs plan k s t turns) in
-    (all.0, record {
-      turns = turns;
-      events = events;
-      events_are = refl;
-      log_is = refl;
-      begins = h;
-      follows = all.1;
-      counts = λ n p at. (let x = all_count services jobs n events (moment s a) (moment t all.0) all.1 p at in (x.after, x.after_is, x.counts));
-    })
+    let all = all_follow law services jobs a events a s t h ready (record { core = refl; links = λ i. refl }) differ (happened shared_ways jobs plan k s t turns) in (
+      all.0,
+      record {
+        turns = turns;
+        events = events;
+        events_are = refl;
+        log_is = refl;
+        begins = h;
+        follows = all.1;
+        counts = λ n p at. (let x = all_count services jobs n events (moment s a) (moment t all.0) all.1 p at in (x.after, x.after_is, x.counts));
+      },
+    )

@@ -59,7 +59,7 @@ abbrev pub AllFollow : List Service → List CoreJob → List (Event TheSide) �
 AllFollow services jobs [] a b = b ≡ a
 AllFollow services jobs (x ∷ xs) a b =
     (cut : CoreCut) × Follows services jobs x.log_entry a (moment x.run cut)
-        × AllFollow services jobs xs (moment x.run cut) b
+    × AllFollow services jobs xs (moment x.run cut) b
 
 -- ---- how often a side was found so
 
