@@ -26,7 +26,7 @@ with_those_below() {
 
 for source in "$@"; do
     text="$top/bench/ffi/$source.rattle"
-    used=$(sed -n 's/^use \(fl_[a-z_]*\)::.*/\1/p' "$text" | sort -u | tr '\n' ' ')
+    used=$(sed -n 's/^use \([a-z_]*\)::.*/\1/p' "$text" | sort -u | grep -v '^std$' | tr '\n' ' ')
     with_those_below "$used" >crates.txt
     for name in $(cut -d: -f1 crates.txt); do
         [ -d "crates/$name/out" ] || { mkdir -p "crates/$name" && cp -a "$top/crates/$name/out" "crates/$name/" 2>/dev/null || true; }

@@ -1,6 +1,10 @@
 //! Builds what a benchmark calls of the proved crates, and links it.
 
-use std::{env, fs, path::PathBuf, process::Command};
+use std::{
+    env, fs,
+    path::{Path, PathBuf},
+    process::Command,
+};
 
 /// The sources in `ffi` that are built for a benchmark.
 fn sources(package: &str) -> &'static [&'static str] {
@@ -10,6 +14,7 @@ fn sources(package: &str) -> &'static [&'static str] {
         "interfaces-bench" => &["interfaces_bench"],
         "lists-bench" => &["flounder_bench"],
         "rings-bench" => &["flounder_bench", "flounder_threads"],
+        "streams-bench" => &["streams_bench", "flounder_streams", "flounder_threads"],
         "stubs-bench" => &["stubs_bench"],
         "world-bench" => &["world_bench"],
         _ => panic!("which sources {package} needs isn't known"),
@@ -33,11 +38,33 @@ fn main() {
     println!("cargo:rustc-link-search=native={}", into.display());
     for source in sources {
         // a static library starts no threads, so what does is a program of its own
-        if *source == "flounder_threads" {
-            println!("cargo:rustc-env=FLOUNDER_THREADS={}", into.join(source).display());
-        } else {
-            println!("cargo:rustc-link-lib=static={source}");
+        match *source {
+            "flounder_threads" | "flounder_streams" => {
+                let name = source.to_uppercase();
+                println!("cargo:rustc-env={name}={}", into.join(source).display());
+            }
+            _ => println!("cargo:rustc-link-lib=static={source}"),
         }
     }
     println!("cargo:rustc-link-lib=static=libc_c");
+    let plain_c = PathBuf::from("src/ring.c");
+    if plain_c.exists() {
+        compile_c(&plain_c);
+    }
+}
+
+/// Compiles a benchmark's plain C, and links it.
+fn compile_c(source: &Path) {
+    println!("cargo:rerun-if-changed={}", source.display());
+    let out = PathBuf::from(env::var("OUT_DIR").unwrap());
+    let (object, archive) = (out.join("plain_c.o"), out.join("libplain_c.a"));
+    run(Command::new("cc").args(["-O3", "-std=c11", "-D_POSIX_C_SOURCE=199309L", "-c"]).arg(source).arg("-o").arg(&object));
+    run(Command::new("ar").arg("crs").arg(&archive).arg(&object));
+    println!("cargo:rustc-link-search=native={}", out.display());
+    println!("cargo:rustc-link-lib=static=plain_c");
+}
+
+fn run(command: &mut Command) {
+    let status = command.status().expect("a C compiler");
+    assert!(status.success(), "the plain C was not built");
 }

@@ -1,0 +1,3 @@
+pub mod Conserved
+pub mod Plains
+pub mod Sides

@@ -1,0 +1,6 @@
+use Rattle.std.proofs.Common.{◌≡◌}
+use Rattle.fl_stream.proofs.tests.take_counted.Given as goal
+
+-- the side stays the same stream's
+abbrev pub invariant-loop : goal.invariant-loop
+invariant-loop g l = l.rx.stream ≡ l.initial.rx.stream

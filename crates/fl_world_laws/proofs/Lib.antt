@@ -1,0 +1,9 @@
+mod BootedRuns
+mod BootedLaws
+mod BootedStates
+mod Denials
+mod OpeningAnswers
+mod Picked
+mod OneWay
+mod OnLinks
+mod BeforeEnds
