@@ -78,10 +78,10 @@ both_more P Q n k o m1 m2 o2 a p q = one_more (λ i t. P i t ⊎ Q i t) n k o m1
 
 -- ---- what a core names
 
-wire_is : (c : TheCore) (e : EndId) (place : ℕ) (p : WiredEnd) → place_of c e ≡ Some place → slice_get c.wired_ends place ≡ Some p → wiring_of c e ≡ Some p.wire
+wire_is : (c : TheCore) (e : EndId) (place : ℕ) (p : WiredEnd) → place_of c e ≡ Some place → slice_get c.wired_ends place ≡ Some p → wiring_of c e ≡ Some p.wiring
 wire_is c e place p at is =
-    ap (λ (o : Option ℕ). given o None λ n. given (slice_get c.wired_ends n) None λ (q : WiredEnd). Some q.wire) at
-    ∙ ap (λ (o : Option WiredEnd). given o None λ (q : WiredEnd). Some q.wire) is
+    ap (λ (o : Option ℕ). given o None λ n. given (slice_get c.wired_ends n) None λ (q : WiredEnd). Some q.wiring) at
+    ∙ ap (λ (o : Option WiredEnd). given o None λ (q : WiredEnd). Some q.wiring) is
 
 -- an end on a wire: its name, its place and its wired end
 record OnWiring (c : TheCore) (name : EndId) (x : EndWiring) : Type 0 where
@@ -89,17 +89,17 @@ record OnWiring (c : TheCore) (name : EndId) (x : EndWiring) : Type 0 where
   pub place_is : place_of c name ≡ Some place
   pub wired_end : WiredEnd
   pub wired_end_is : slice_get c.wired_ends place ≡ Some wired_end
-  pub wire_is : wired_end.wire ≡ x
+  pub wire_is : wired_end.wiring ≡ x
 
 on_wire : (c : TheCore) (name : EndId) (x : EndWiring) → wiring_of c name ≡ Some x → OnWiring c name x
 on_wire c name x h = by_place (place_of c name) refl h
   where
-    by_wired_end : (place : ℕ) → place_of c name ≡ Some place → (o : Option WiredEnd) → slice_get c.wired_ends place ≡ o → given o None (λ (q : WiredEnd). Some q.wire) ≡ Some x
+    by_wired_end : (place : ℕ) → place_of c name ≡ Some place → (o : Option WiredEnd) → slice_get c.wired_ends place ≡ o → given o None (λ (q : WiredEnd). Some q.wiring) ≡ Some x
         → OnWiring c name x
     by_wired_end place at None is h = absurd (cc)
-    by_wired_end place at (Some p) is h = record { place = place; place_is = at; wired_end = p; wired_end_is = is; wire_is = (let e : Some p.wire ≡ Some x = h in cc) }
+    by_wired_end place at (Some p) is h = record { place = place; place_is = at; wired_end = p; wired_end_is = is; wire_is = (let e : Some p.wiring ≡ Some x = h in cc) }
 
-    by_place : (o : Option ℕ) → place_of c name ≡ o → given o None (λ n. given (slice_get c.wired_ends n) None λ (q : WiredEnd). Some q.wire) ≡ Some x → OnWiring c name x
+    by_place : (o : Option ℕ) → place_of c name ≡ o → given o None (λ n. given (slice_get c.wired_ends n) None λ (q : WiredEnd). Some q.wiring) ≡ Some x → OnWiring c name x
     by_place None at h = absurd (cc)
     by_place (Some place) at h = by_wired_end place at (slice_get c.wired_ends place) refl h
 
@@ -131,11 +131,11 @@ queue_out link_sides (Queues out from) queue h = (from, cc)
 queue_out link_sides (Ring s) queue h = absurd (cc)
 queue_out link_sides (Circuit l a) queue h = absurd (not_side (side_of_link link_sides l.0) queue h)
 
-inlet_at : (c : TheCore) (e : ℕ) (p : WiredEnd) → slice_get c.wired_ends e ≡ Some p → inlet_of c e ≡ Some (inlet_by p.wire)
-inlet_at c e p is = ap (λ (o : Option WiredEnd). given o None λ (q : WiredEnd). Some (inlet_by q.wire)) is
+inlet_at : (c : TheCore) (e : ℕ) (p : WiredEnd) → slice_get c.wired_ends e ≡ Some p → inlet_of c e ≡ Some (inlet_by p.wiring)
+inlet_at c e p is = ap (λ (o : Option WiredEnd). given o None λ (q : WiredEnd). Some (inlet_by q.wiring)) is
 
-outlet_at : (c : TheCore) (e : ℕ) (p : WiredEnd) → slice_get c.wired_ends e ≡ Some p → outlet_of c e ≡ outlet_by c.link_sides p.wire
-outlet_at c e p is = ap (λ (o : Option WiredEnd). given o None λ (q : WiredEnd). outlet_by c.link_sides q.wire) is
+outlet_at : (c : TheCore) (e : ℕ) (p : WiredEnd) → slice_get c.wired_ends e ≡ Some p → outlet_of c e ≡ outlet_by c.link_sides p.wiring
+outlet_at c e p is = ap (λ (o : Option WiredEnd). given o None λ (q : WiredEnd). outlet_by c.link_sides q.wiring) is
 
 link_below : (link_sides : List LinkSide) (l side : ℕ) → side_of_link link_sides l ≡ Some side → l < length link_sides
 link_below link_sides l side h = by (slice_get link_sides l) refl h
@@ -148,9 +148,9 @@ link_below link_sides l side h = by (slice_get link_sides l) refl h
 module _ (c : TheCore) (sound : IsCore c) where
   named_by_end : (e side : ℕ) → TakesSide c e side → NamesSide c side
   named_by_end e side h =
-      let (p, is, wired) = by_wired_end c e (λ (q : WiredEnd). Some (inlet_by q.wire)) (inlet.Side side) h in
-      let same : inlet_by p.wire ≡ inlet.Side side = cc in
-      inr (p.name, wire_is c p.name e p (sound.named e p is) is ∙ ap Some (ring_in p.wire side same))
+      let (p, is, wired) = by_wired_end c e (λ (q : WiredEnd). Some (inlet_by q.wiring)) (inlet.Side side) h in
+      let same : inlet_by p.wiring ≡ inlet.Side side = cc in
+      inr (p.name, wire_is c p.name e p (sound.named e p is) is ∙ ap Some (ring_in p.wiring side same))
 
   side_split : (n : ℕ) → length c.link_sides ≤ n → (side : ℕ) → NamesSide c side → Below (IsLinkSide c.link_sides) n side ⊎ Below (TakesSide c) (length c.board.seats) side
   side_split n few side (inl h) = inl (h.0, (let below = link_below c.link_sides h.0 side h.1 in omega (arith, below, few)), h.1)
@@ -166,13 +166,13 @@ module _ (c : TheCore) (sound : IsCore c) where
   -- queues
   named_by_use : (e queue : ℕ) → UsesQueue c e queue → NamesQueue c queue
   named_by_use e queue (inl h) =
-      let (p, is, wired) = by_wired_end c e (λ (q : WiredEnd). Some (inlet_by q.wire)) (inlet.Queue queue) h in
-      let same : inlet_by p.wire ≡ inlet.Queue queue = cc in
-      let x = queue_in p.wire queue same in
+      let (p, is, wired) = by_wired_end c e (λ (q : WiredEnd). Some (inlet_by q.wiring)) (inlet.Queue queue) h in
+      let same : inlet_by p.wiring ≡ inlet.Queue queue = cc in
+      let x = queue_in p.wiring queue same in
       inr (p.name, x.0, wire_is c p.name e p (sound.named e p is) is ∙ ap Some x.1)
   named_by_use e queue (inr h) =
-      let (p, is, wired) = by_wired_end c e (λ (q : WiredEnd). outlet_by c.link_sides q.wire) (outlet.Queue queue) h in
-      let x = queue_out c.link_sides p.wire queue wired in
+      let (p, is, wired) = by_wired_end c e (λ (q : WiredEnd). outlet_by c.link_sides q.wiring) (outlet.Queue queue) h in
+      let x = queue_out c.link_sides p.wiring queue wired in
       inl (p.name, x.0, wire_is c p.name e p (sound.named e p is) is ∙ ap Some x.1)
 
   used : (queue : ℕ) → NamesQueue c queue → Below (UsesQueue c) (length c.board.seats) queue
