@@ -19,7 +19,7 @@ use Rattle.fl_cores_laws.specs.EndedBegins.{IsUntouched, refusal_by}
 use Rattle.fl_cores_fork.specs.Tells.{handled_by, refusal_in, both_at, by_binding}
 use Rattle.fl_cores_parts.specs.Begins.{owns, progress_by, progress_for, progresses_of}
 use Rattle.fl_cores.proofs.CoresLists.{map_at, map_past, first_at, second_at, twos_many}
-use Rattle.fl_cores.proofs.CoresEnd.{end_by}
+use Rattle.fl_cores.proofs.CoresEnding.{end_by}
 
 -- ---- as a core begins
 

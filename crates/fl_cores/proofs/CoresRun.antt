@@ -32,7 +32,7 @@ use Rattle.fl_cores_parts.specs.Begins.{Places, IsCoreThread, AreCoreThreads, co
 use Rattle.fl_cores.specs.Behind.{core_of as the_core, cores_of, cores_in}
 use Rattle.fl_cores.specs.Outcomes.{ReportsAreOfRuns}
 use Rattle.fl_cores.proofs.CoresBegin.{places_in, are_core_threads}
-use Rattle.fl_cores.proofs.CoresEnd.{in_plan, is_in_plan}
+use Rattle.fl_cores.proofs.CoresEnding.{in_plan, is_in_plan}
 use Rattle.fl_cores.proofs.CoresProgress.{at_slot, is_new, own_jobs, untouched, progress_found, progress_there, progress_missing, handled_there, handled_is, refused_is, told_at, told_past, told_number, no_number}
 use Rattle.fl_cores.proofs.CoresCoreThreads.{at_core_thread, as_many_core_threads, AtCore, at_core, as_many_cores, turns_are, left_are, told_are, on_boards}
 use Rattle.fl_cores.proofs.CoresHeard.{heard_is_told}

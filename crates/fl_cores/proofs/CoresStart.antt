@@ -29,7 +29,7 @@ use Rattle.fl_cores_laws.proofs.Turns.{from_map}
 use Rattle.fl_cores.proofs.Booted.{all_making}
 use Rattle.fl_cores.specs.Promised.{Reports}
 use Rattle.fl_cores.specs.Behind.{joined_in}
-use Rattle.fl_cores.proofs.CoresEnd.{end_by}
+use Rattle.fl_cores.proofs.CoresEnding.{end_by}
 use Rattle.fl_cores.proofs.CoresCoreThreads.{on_boards}
 
 pub record StartsQuiet (j : TheJoinedJobs) (k : TheCore) : Type 0 where

@@ -4,7 +4,7 @@ pub mod Files
 pub mod Texts
 pub mod CoresBegin
 pub mod CoresLists
-pub mod CoresEnd
+pub mod CoresEnding
 pub mod CoresHeard
 pub mod CoresCoreThreads
 pub mod CoresProgress

@@ -38,7 +38,7 @@ use Rattle.fl_core_refines.proofs.Progress.{get_some}
 use Rattle.fl_core_refines.proofs.Later.{later_nothing}
 use Rattle.fl_cores.specs.OneCore.{both_ends, ends_in, post_for, span_in, made_at as made_there, handled_at as handled_there, ending_of, told_of}
 use Rattle.fl_cores.proofs.CoresProgress.{at_slot, is_new, told_at}
-use Rattle.fl_cores.proofs.CoresEnd.{in_plan}
+use Rattle.fl_cores.proofs.CoresEnding.{in_plan}
 use Rattle.fl_cores.proofs.OneJoined.{own, progress_is, all_ends, end_work_calls, posts_are, take_calls, same_replies}
 use Rattle.fl_cores.proofs.OneKept.{turns_kept}
 use Rattle.fl_cores.proofs.OneRan.{begins_with, work_in, OneRan}
