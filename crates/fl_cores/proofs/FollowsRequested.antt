@@ -1,18 +1,15 @@
--- What a core of a run hears to be asked for is what jobs ask for; so no opening turns back where no job's route names a core twice.
-use Rattle.std.proofs.Common.{◌≡◌, inl, inr, refl, sym, ◌∙◌, ap, subst, ℕ, ◌+◌, ◌-◌, ◌*◌, ◌^◌, not, Bool, true, false, if◌then◌else◌, List, [], ◌∷◌, ◌++◌, map, slice_get, slice_set, Option, Some, None, arith}
-use Rattle.std.specs.Option.{option_map}
-use Rattle.std.specs.Prelude.{Ok, Err}
+-- What a core of a run hears to be asked for is what jobs ask for; so it hears of no route that names a core twice.
+use Rattle.std.proofs.Common.{◌≡◌, inl, inr, refl, sym, ◌∙◌, ap, subst, ℕ, ◌+◌, ◌-◌, ◌*◌, ◌^◌, not, Bool, true, false, if◌then◌else◌, List, [], ◌∷◌, ◌++◌, map, slice_get, slice_set, Some, arith}
+use Rattle.std.specs.Prelude.{Ok}
 use Rattle.fl_base.specs.declared.fragment.Frag.{Frag}
 use Rattle.fl_base.specs.declared.identity.CoreId.{CoreId}
 use Rattle.fl_base.specs.declared.identity.LinkId.{LinkId}
 use Rattle.fl_base.specs.Control.{bare, body, circuit_of, is_ack_only}
-use Rattle.fl_base.specs.Given.{given}
 use Rattle.fl_base.specs.Numbered.{core_id}
 use Rattle.fl_link.specs.Calls.{bare_calls}
 use Rattle.fl_link.specs.Looks.{found, takes_of}
 use Rattle.fl_ring.specs.Laws.{SideLaw}
 use Rattle.fl_ring.specs.SharedSides.{TheSide}
-use Rattle.fl_hop.specs.declared.links.LinkState.{LinkState}
 use Rattle.fl_hop.specs.OfCircuit.{as_carried, with_number, of_circuit}
 use Rattle.fl_hop.specs.Table.{TheCircuits}
 use Rattle.fl_hop.specs.Stretch.{taken_from}
@@ -22,13 +19,12 @@ use Rattle.fl_hop.proofs.Lists.{set_here}
 use Rattle.fl_monitor.specs.declared.message.MonitorMessage.{MonitorMessage}
 use Rattle.fl_monitor.specs.declared.opening.Opening.{Opening as Asked}
 use Rattle.fl_monitor.specs.Fates.{comes_along}
-use Rattle.fl_monitor.specs.Routing.{is_on_route}
 use Rattle.fl_monitor.specs.Saying.{Says}
 use Rattle.fl_monitor.proofs.Single.{says_the_same, says_alone}
 use Rattle.fl_core.specs.declared.answer.MonitorAnswer.TheVariants as answer
 use Rattle.fl_core.specs.View.{TheCore, side_of_link}
 use Rattle.fl_core.specs.declared.core_job.CoreJob.{CoreJob}
-use Rattle.fl_core_run.specs.LogEntries.{LogEntry, looked, passed, arrived, heard, said, told, opened, called, ruled, wrote, acked, turned, Happens}
+use Rattle.fl_core_run.specs.LogEntries.{LogEntry, heard, Happens}
 use Rattle.fl_core_run.specs.Run.{TheRun}
 use Rattle.fl_core_run_laws.specs.Logs.{InPlace, Goes, LogsLook}
 use Rattle.fl_core_run_laws.proofs.Apart.{side_before}
@@ -36,19 +32,14 @@ use Rattle.fl_core_run_laws.proofs.Aside.{rings_aside, core_aside}
 use Rattle.fl_core_run_laws.proofs.Growing.{does_grow}
 use Rattle.fl_core_run_laws.proofs.Laning.{link_side_of}
 use Rattle.fl_model.specs.Binding.{all_differ}
-use Rattle.fl_model.specs.Monitors.{Service}
 use Rattle.fl_model.specs.Rings.{OpeningLabel, open_circuit}
 use Rattle.fl_cores_laws.specs.Asked.{HasLogEntry, AsksBy, GoesRequested}
 use Rattle.fl_cores_laws.specs.Cores.{OneCore}
 use Rattle.fl_cores_laws.specs.Named.{Has}
 use Rattle.fl_cores_fork.specs.Runs.{shared_ways}
-use Rattle.fl_core_refines.specs.Cut.{CoreCut}
-use Rattle.fl_core_refines.specs.CutDoes.{CutGoes}
 use Rattle.fl_core_refines.specs.CutHearing.{said_of}
-use Rattle.fl_core_refines.specs.CutReady.{TurnsBack, RefusesBack, CutMakesAll}
-use Rattle.fl_core_refines.proofs.Hearing.{beside}
 use Rattle.fl_core_refines.proofs.Opening.{path_same}
-use Rattle.fl_core_refines.proofs.Readying.{asks_for, makes_stay}
+use Rattle.fl_core_refines.proofs.Readying.{asks_for}
 use Rattle.fl_cores.proofs.FollowsRoutes.{RoutesDiffer}
 
 -- ---- a message that was heard
@@ -178,70 +169,3 @@ none_twice look law jobs c s t log start finish requested first differ goes n l 
     }) in
     ap (λ (y : OpeningLabel). all_differ y.path) is.opening
     ∙ ap (λ (y : Asked). all_differ (map (λ (z : CoreId). z.0) y.path)) (sym request.opening_is) ∙ differ request.place request.request request.job_is
-
--- ---- so the machine has a case for all of it
-
-record Twice (log_entry : LogEntry) (before : CoreCut) : Type 0 where
-  pub n : ℕ
-  pub l : LinkId
-  pub frag : Frag
-  pub message : MonitorMessage
-  pub opening : OpeningLabel
-  pub log_entry_is : log_entry ≡ heard n l frag (Ok answer.Done)
-  pub says : Says frag message
-  pub asked : said_of message ≡ open_circuit opening
-  pub back : TurnsBack l.0 opening before
-
-back_twice : (log_entry : LogEntry) (a b : CoreCut) → RefusesBack log_entry a b → Twice log_entry a
-back_twice (heard n l frag (Ok answer.Done)) a b h =
-    record { n = n; l = l; frag = frag; message = h.0; opening = h.1; log_entry_is = refl; says = h.2; asked = h.3; back = h.4 }
-back_twice (heard n l frag (Ok answer.Full)) a b h = absurd h
-back_twice (heard n l frag (Ok (answer.Opened e))) a b h = absurd h
-back_twice (heard n l frag (Ok (answer.OpeningRefused e reason))) a b h = absurd h
-back_twice (heard n l frag (Err fault)) a b h = absurd h
-back_twice (looked n l r) a b h = absurd h
-back_twice (passed n m frag c r) a b h = absurd h
-back_twice (arrived n l frag e r) a b h = absurd h
-back_twice (said n l r) a b h = absurd h
-back_twice (told n l r) a b h = absurd h
-back_twice (opened name request r) a b h = absurd h
-back_twice (called name c r) a b h = absurd h
-back_twice (ruled name msg reply r) a b h = absurd h
-back_twice (wrote name out r) a b h = absurd h
-back_twice (acked name n r) a b h = absurd h
-back_twice (turned d name from r) a b h = absurd h
-
--- a table of the same core, with the same neighbours
-pub record Laid (t u : TheCircuits) : Type 0 where
-  pub core : u.core ≡ t.core
-  pub links : (l : ℕ) → beside u l ≡ beside t l
-
-along_by : (path : List CoreId) (core : ℕ) (a b : Option LinkState) → option_map (λ (x : LinkState). x.neighbour) a ≡ option_map (λ (x : LinkState). x.neighbour) b
-    → given a false (λ x. is_on_route path x.neighbour.0 core) ≡ given b false (λ x. is_on_route path x.neighbour.0 core)
-along_by path core None None same = refl
-along_by path core None (Some b) same = absurd (cc)
-along_by path core (Some a) None same = absurd (cc)
-along_by path core (Some a) (Some b) same = let one : a.neighbour ≡ b.neighbour = cc in ap (λ (c : CoreId). is_on_route path c.0 core) one
-
-laid_along : (t u : TheCircuits) → Laid t u → (l : ℕ) (path : List CoreId) → comes_along u l path ≡ comes_along t l path
-laid_along t u laid l path =
-    ap (λ (core : ℕ). given (slice_get u.links l) false (λ (x : LinkState). is_on_route path x.neighbour.0 core)) laid.core
-    ∙ along_by path t.core (slice_get u.links l) (slice_get t.links l) (laid.links l)
-
-pub exactly : (services : List Service) (t : TheCircuits) (a b : CoreCut) (log : List LogEntry) → Laid t a.core.circuits → CutMakesAll services a log b → NoneTwice t log
-    → CutGoes services a log b
-exactly services t a b [] laid h none = h
-exactly services t a b (log_entry ∷ log) laid (m, inl does, rest) none =
-    let stays = makes_stay services log_entry a m (inl does) in (
-      m,
-      does,
-      exactly services t m b log (record { core = stays.number ∙ laid.core; links = λ i. stays.links i ∙ laid.links i }) rest
-          (λ n l frag msg o has says asked along. none n l frag msg o (inr has) says asked along),
-    )
-exactly services t a b (log_entry ∷ log) laid (m, inr turned_back, rest) none =
-    let x = back_twice log_entry a m turned_back in
-    let along : comes_along t x.l.0 (map core_id x.opening.path) ≡ true
-    = sym (laid_along t a.core.circuits laid x.l.0 (map core_id x.opening.path)) ∙ x.back.along in
-    let differ = none x.n x.l x.frag x.message x.opening (inl x.log_entry_is) x.says x.asked along in
-    let clash : true ≡ false = sym differ ∙ x.back.twice in
-    absurd (cc)

@@ -1,13 +1,16 @@
 -- Each core of a run follows the machine.
-use Rattle.std.proofs.Common.{◌≡◌, ◌⊎◌, inl, inr, sym, ◌∙◌, ap, subst, ℕ, zero, suc, List, [], ◌∷◌, map, slice_get, Some, arith}
+use Rattle.std.proofs.Common.{◌≡◌, ◌⊎◌, inl, inr, sym, ◌∙◌, ap, subst, ℕ, zero, suc, List, [], ◌∷◌, map, slice_get, Some, Ok, arith}
 use Rattle.std.specs.List.{AllZip}
 use Rattle.fl_core.specs.declared.core_job.CoreJob.{CoreJob}
 use Rattle.fl_base.specs.declared.identity.LinkId.{LinkId}
+use Rattle.fl_base.specs.Numbered.{core_id}
+use Rattle.fl_monitor.specs.Fates.{comes_along}
 use Rattle.fl_compile.specs.Programs.{TheProgram, program_of}
 use Rattle.fl_hop.proofs.Lists.{at_within, within}
 use Rattle.fl_core.specs.View.{side_of_link}
 use Rattle.fl_ring.specs.Laws.{SideLaw}
-use Rattle.fl_core_run.specs.LogEntries.{LogEntry}
+use Rattle.fl_core.specs.declared.answer.MonitorAnswer.TheVariants.{Done}
+use Rattle.fl_core_run.specs.LogEntries.{LogEntry, heard}
 use Rattle.fl_core_run_laws.specs.Logs.{Goes, CountedAreTurns}
 use Rattle.fl_core_run_laws.specs.Led.{LeadsAtFirst}
 use Rattle.fl_cores_file.specs.Jobs.{Job}
@@ -15,18 +18,17 @@ use Rattle.fl_cores_file.specs.Report.{TheReport}
 use Rattle.fl_world.specs.Booting.{TheConfig}
 use Rattle.fl_core_refines.specs.SetUpStart.{SetUpsStartFresh}
 use Rattle.fl_core_refines.specs.SetUpUntouched.{SetUpsTouchNothing}
-use Rattle.fl_ring.specs.SharedSeats.{front_seen}
 use Rattle.fl_ring.specs.SharedSides.{TheSide}
 use Rattle.fl_cores_fork.specs.Runs.{TheFinishedCore, TheCoreThread, RanTo, shared_ways}
 use Rattle.fl_cores.specs.Promised.{Reports}
 use Rattle.fl_core_refines.specs.CutStart.{first_cut, StartsShow}
-use Rattle.fl_core_refines.specs.CutReady.{ReadyTurnsFollow}
+use Rattle.fl_core_turned.specs.ReadyTurns.{IsIn, RoutesDiffer, turns_log, TurnsHappen, ReadyTurns}
 use Rattle.fl_cores.specs.Follows.{RunsFollow}
 use Rattle.fl_cores.specs.Wanted.{behind}
 use Rattle.fl_cores.proofs.FollowsRoutes.{routes_differ}
 use Rattle.fl_cores.proofs.FollowsBegin.{machine, begins, ends_are, is_ready}
 use Rattle.fl_cores_jobs.specs.State.{TheJoinedJobs}
-use Rattle.fl_cores_laws.specs.Asked.{AreBeside, RequestsAlone}
+use Rattle.fl_cores_laws.specs.Asked.{HasLogEntry, AreBeside, RequestsAlone}
 use Rattle.fl_cores_laws.specs.Runs.{AreSetUp}
 use Rattle.fl_nameserv.specs.Registrations.{TheRegistration}
 use Rattle.fl_cores_laws.specs.Circuits.{AreOneLink}
@@ -37,12 +39,8 @@ use Rattle.fl_cores.proofs.SidesCross.{SideLaws}
 use Rattle.fl_cores.proofs.Whole.{set_up}
 use Rattle.fl_cores.proofs.FollowsHandedOut.{new_one}
 use Rattle.fl_cores.proofs.FollowsTurns.{ran_turns}
-use Rattle.fl_cores.proofs.FollowsRequested.{NoneTwice, none_twice, Laid, exactly}
-use Rattle.fl_core_refines.proofs.Hearing.{beside}
+use Rattle.fl_cores.proofs.FollowsRequested.{NoneTwice, none_twice}
 use Rattle.fl_hop.specs.Table.{TheCircuits}
-use Rattle.fl_model.specs.Monitors.{Core}
-use Rattle.fl_core_run.specs.Run.{TheRun}
-use Rattle.fl_world_refines.specs.Cores.{MonitorShows}
 
 ran_at : (jobs : List CoreJob) (limit : ℕ) (core_threads : List TheCoreThread) (outcomes : List TheFinishedCore) → AllZip (RanTo jobs limit) core_threads outcomes
     → (n : ℕ) (s : TheCoreThread) (o : TheFinishedCore) → slice_get core_threads n ≡ Some s → slice_get outcomes n ≡ Some o → RanTo jobs limit s o
@@ -116,32 +114,33 @@ module _ (fresh : SetUpsStartFresh) (leads : LeadsAtFirst) (laws : Said) (c : Th
       (it.is.finish ∙ ap (λ (x : TheFinishedCore). x.run) outcome) requested
       (λ l side link_side. (let link = beside.beside n side core l core_is link_side in side_of_ring link.core core link.link l side link.one link_side)) differ goes
 
--- the first cut has the core's table
-laid_so : (k : Core) (s : TheRun TheSide) → MonitorShows k s.core.monitor → Laid s.core.monitor.circuits k.circuits
-laid_so k s h = record { core = ap (λ (t : TheCircuits). t.core) (sym h.circuits); links = λ i. ap (λ (t : TheCircuits). beside t i) (sym h.circuits) }
+-- an event of a log
+has_entry : (log_entry : LogEntry) (log : List LogEntry) → IsIn log_entry log → HasLogEntry log_entry log
+has_entry log_entry [] h = absurd h
+has_entry log_entry (first ∷ log) (inl same) = inl same
+has_entry log_entry (first ∷ log) (inr rest) = inr (has_entry log_entry log rest)
 
-pub runs_follow : SetUpsStartFresh → SetUpsTouchNothing → LeadsAtFirst → CountedAreTurns shared_ways → StartsShow → ReadyTurnsFollow → Said → RunsFollow
-runs_follow fresh untouched leads counted shows law laws c jobs limit r w n s o at is =
+pub runs_follow : SetUpsStartFresh → SetUpsTouchNothing → LeadsAtFirst → CountedAreTurns shared_ways → StartsShow → TurnsHappen → ReadyTurns → Said → RunsFollow
+runs_follow fresh untouched leads counted shows happen law laws c jobs limit r w n s o at is =
     let joined = w.ran.ran.joined in
     let ran = ran_at joined.jobs limit w.ran.ran.ran.core_threads w.ran.ran.ran.outcomes w.ran.ran.ran.ran n s o at is in
     let turns = ran_turns counted joined.jobs limit s o ran in
     let core = machine fresh c jobs limit r w n s at in
     let first = begins fresh c jobs limit r w n s at shows in
-    let all = law (λ (x : TheSide). front_seen x.peeked) s.plan joined.jobs turns.turns (behind c).services (first_cut core.0 s.run) s.run o.run first
-    (is_ready fresh c jobs limit r w n s at leads) turns.turned in
+    let log : List LogEntry = turns_log s.plan joined.jobs turns.turns s.run o.run turns.turned in
+    let none = none_turns fresh leads laws c jobs limit r w n s o at is log (happen s.plan joined.jobs turns.turns s.run o.run turns.turned) in
+    let differ : RoutesDiffer (first_cut core.0 s.run) log
+    = λ k l frag m x has says asked along. none k l frag m x (has_entry (heard k l frag (Ok Done)) log has) says asked
+    (ap (λ (t : TheCircuits). comes_along t l.0 (map core_id x.path)) first.monitor.circuits ∙ along) in
+    let all = law (behind c).services s.plan joined.jobs turns.turns (first_cut core.0 s.run) s.run o.run first
+    (is_ready fresh c jobs limit r w n s at leads) turns.turned differ in
     record {
       core = core.0;
       core_is = core.1;
-      begins = first;
       ends = ends_are fresh c jobs limit r w n s at untouched;
       turns = turns.turns;
       counted = turns.enough;
-      turned = turns.turned;
-      log = all.log;
-      happened = all.happened;
-      after = all.makes.after;
-      goes = exactly (behind c).services s.run.core.monitor.circuits (first_cut core.0 s.run) all.makes.after all.log
-          (laid_so core.0 s.run first.monitor) all.makes.makes
-          (none_turns fresh leads laws c jobs limit r w n s o at is all.log all.happened);
-      shows = all.makes.shows;
+      log = log;
+      after = all.0;
+      turned = all.1;
     }

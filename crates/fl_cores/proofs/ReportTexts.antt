@@ -5,23 +5,25 @@ use Rattle.fl_cores.specs.declared.text.CoresEnd.{CoresEnd}
 use Rattle.fl_cores.specs.Promised as plain
 use Rattle.fl_cores.specs.Promised.{config_in}
 use Rattle.fl_cores.specs.Endings.{RunsEndAsTold}
+use Rattle.fl_cores.specs.Follows.{RunsFollow}
 use Rattle.fl_cores.specs.OneCore.{RunsOfOneCore}
 use Rattle.fl_cores.specs.Honesty.{RunsReportHonestly, AppendsFor, Appends}
 
-appends_for : RunsReportHonestly → RunsEndAsTold → RunsOfOneCore → (o : FileOutcome) (limit : ℕ) (e : CoresEnd) (before after : List ℕ)
+appends_for : RunsReportHonestly → RunsEndAsTold → RunsFollow → RunsOfOneCore → (o : FileOutcome) (limit : ℕ) (e : CoresEnd) (before after : List ℕ)
     → plain.AppendsFor o limit e before after → AppendsFor o limit e before after
-appends_for honest ends one (is_file file) limit e before after h = record {
+appends_for honest ends follow one (is_file file) limit e before after h = record {
   appends = h;
   honest = honest (config_in file) file.jobs limit h.report h.reports;
   ends = ends (config_in file) file.jobs limit h.report h.reports;
+  cores = follow (config_in file) file.jobs limit h.report h.reports;
   one = one (config_in file) file.jobs limit h.report h.reports;
 }
-appends_for honest ends one (refused_at line number) limit e before after h = h
+appends_for honest ends follow one (refused_at line number) limit e before after h = h
 
-pub honestly : RunsReportHonestly → RunsEndAsTold → RunsOfOneCore → (text : List ℕ) (limit : ℕ) (e : CoresEnd) (before after : List ℕ)
+pub honestly : RunsReportHonestly → RunsEndAsTold → RunsFollow → RunsOfOneCore → (text : List ℕ) (limit : ℕ) (e : CoresEnd) (before after : List ℕ)
     → plain.Appends text limit e before after → Appends text limit e before after
-honestly honest ends one text limit e before after h = record {
+honestly honest ends follow one text limit e before after h = record {
   outcome = h.outcome;
   reads = h.reads;
-  appends = appends_for honest ends one h.outcome limit e before after h.appends;
+  appends = appends_for honest ends follow one h.outcome limit e before after h.appends;
 }

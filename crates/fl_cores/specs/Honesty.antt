@@ -1,4 +1,5 @@
--- That what is reported of a run of cores is honest, that it ended as is told, and what the report of one core is. Public promises rest on this file.
+-- That what is reported of a run of cores is honest, that it ended as is told, that each core went on as the
+-- machine does, and what the report of one core is. Public promises rest on this file.
 use Rattle.std.specs.Prelude.{ℕ, List}
 use Rattle.fl_cores_file.specs.CoresFile.{CoresFile, FileOutcome, Reads, is_file, refused_at}
 use Rattle.fl_cores_file.specs.Jobs.{Job}
@@ -7,6 +8,7 @@ use Rattle.fl_world.specs.Booting.{TheConfig}
 use Rattle.fl_cores.specs.declared.text.CoresEnd.{CoresEnd}
 use Rattle.fl_cores.specs.Promised.{Reports, AppendsReport, AppendsRefusal}
 use Rattle.fl_cores.specs.Endings.{EndsAsTold}
+use Rattle.fl_cores.specs.Follows.{CoresFollow}
 use Rattle.fl_cores.specs.OneCore.{IsThatOfOne, IsThatOfFile}
 
 -- ---- cores
@@ -16,6 +18,8 @@ pub record ReportsHonestly (c : TheConfig) (jobs : List Job) (limit : ℕ) (r : 
   pub reports : Reports c jobs limit r
   pub honest : Honest jobs r
   pub ends : EndsAsTold reports
+  -- in its turns each core went on as the machine does, event by event, on what it knew of the machine's state
+  pub cores : CoresFollow reports
   -- of one core it is a function of the configuration, the jobs and the limit
   pub one : IsThatOfOne c jobs limit r
 
@@ -30,6 +34,8 @@ pub record AppendsHonestly (file : CoresFile) (limit : ℕ) (e : CoresEnd) (befo
   pub appends : AppendsReport file limit e before after
   pub honest : Honest file.jobs appends.report
   pub ends : EndsAsTold appends.reports
+  -- each core went on as the machine does
+  pub cores : CoresFollow appends.reports
   -- of one core it is a function of the file and the limit
   pub one : IsThatOfFile file limit appends.report
 

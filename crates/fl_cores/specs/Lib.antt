@@ -10,6 +10,6 @@ pub mod Reasons
 pub mod Over
 pub mod Endings
 pub mod OneCore
+pub mod Follows
 pub mod Honesty
 pub mod Again
-pub mod Follows

@@ -8,6 +8,7 @@ ghost use Rattle.fl_cores.specs.Promised.{IsFault, IsFaultOfText};
 ghost use Rattle.fl_cores.specs.Honesty.{ReportsHonestly, Appends};
 
 use crate::fault::CoresFault;
+use crate::law_following::law_runs_follow;
 use crate::law_reports::{law_runs_end_as_told, law_runs_of_one_core, law_runs_report_honestly};
 use crate::run::run_jobs;
 use crate::text::{CoresEnd, run_text};
@@ -18,8 +19,10 @@ use std::alloc::Global;
 use std::sync::Wait;
 use std::thread::Threads;
 
-/// Runs cores on threads of their own, each with its jobs, until each has finished or counted so many turns, and reports honestly what each end made and
-/// handled, and how the run ended. With one core the report is a function of the configuration, the jobs and the limit.
+/// Runs cores on threads of their own, each with its jobs, until each has finished or counted so many turns,
+/// and reports honestly what each end made and handled, and how the run ended. In its turns each core goes on
+/// as the machine does, event by event, on what it knows of the machine's state. With one core the report is
+/// a function of the configuration, the jobs and the limit.
 ///
 /// # Errors
 /// [`CoresFault`]: a number of cores outside 1 to 16 (94, at place 0); else the first event of the set-up that
@@ -38,6 +41,7 @@ pub fn run_cores<R: Threads + Wait + Sync, G: Gate + Sync>(
 {
     law_runs_report_honestly();
     law_runs_end_as_told();
+    law_runs_follow();
     law_runs_of_one_core();
     run_jobs(rt, alloc, config, jobs, limit, gate)
 }
@@ -62,6 +66,7 @@ pub fn run_cores_text<R: Threads + Wait + Sync, G: Gate + Sync>(
 {
     law_runs_report_honestly();
     law_runs_end_as_told();
+    law_runs_follow();
     law_runs_of_one_core();
     run_text(rt, alloc, text, limit, gate, out)
 }
