@@ -44,30 +44,3 @@ attribute_name RefY = codes "refY"
 attribute_name MarkerWidth = codes "markerWidth"
 attribute_name MarkerHeight = codes "markerHeight"
 attribute_name Orient = codes "orient"
-
--- no two attributes have one number
-abbrev pub number_of : Attribute → ℕ
-number_of Namespace = 0
-number_of Id = 1
-number_of Class = 2
-number_of Role = 3
-number_of AriaLabel = 4
-number_of AriaLabelledBy = 5
-number_of X = 6
-number_of Y = 7
-number_of X1 = 8
-number_of Y1 = 9
-number_of X2 = 10
-number_of Y2 = 11
-number_of Width = 12
-number_of Height = 13
-number_of CenterX = 14
-number_of CenterY = 15
-number_of Radius = 16
-number_of D = 17
-number_of ViewBox = 18
-number_of RefX = 19
-number_of RefY = 20
-number_of MarkerWidth = 21
-number_of MarkerHeight = 22
-number_of Orient = 23

@@ -1,7 +1,7 @@
 //! The elements and attributes that a drawing has, by their names.
 
 ghost use Rattle.std.specs.Prelude.{◌≡◌};
-ghost use Rattle.flounder_svg.specs.Names.{tag_name, attribute_name, number_of};
+ghost use Rattle.flounder_svg.specs.Names.{tag_name, attribute_name};
 
 /// An element; the root is `Svg`.
 #[derive(Clone, Copy)]
@@ -101,38 +101,6 @@ impl Attribute {
             Attribute::MarkerWidth => b"markerWidth",
             Attribute::MarkerHeight => b"markerHeight",
             Attribute::Orient => b"orient",
-        }
-    }
-
-    /// A number that no other attribute has.
-    pub fn number(self) -> u8
-        ensures number { result ≡ number_of self }
-    {
-        match self {
-            Attribute::Namespace => 0,
-            Attribute::Id => 1,
-            Attribute::Class => 2,
-            Attribute::Role => 3,
-            Attribute::AriaLabel => 4,
-            Attribute::AriaLabelledBy => 5,
-            Attribute::X => 6,
-            Attribute::Y => 7,
-            Attribute::X1 => 8,
-            Attribute::Y1 => 9,
-            Attribute::X2 => 10,
-            Attribute::Y2 => 11,
-            Attribute::Width => 12,
-            Attribute::Height => 13,
-            Attribute::CenterX => 14,
-            Attribute::CenterY => 15,
-            Attribute::Radius => 16,
-            Attribute::D => 17,
-            Attribute::ViewBox => 18,
-            Attribute::RefX => 19,
-            Attribute::RefY => 20,
-            Attribute::MarkerWidth => 21,
-            Attribute::MarkerHeight => 22,
-            Attribute::Orient => 23,
         }
     }
 }

@@ -1,11 +1,15 @@
 //! A document as it is written: which elements stand open, and its text so far. Whatever is asked of it, what
 //! [`Document::finish`] gives is well-formed.
 
-ghost use Rattle.std.specs.Prelude.{◌≡◌, ◌++◌, ◌∷◌, [], ◌==◌, ◌-◌, length, not, is_ok, if◌then◌else◌, IfOk, OnOk, OnErr};
+ghost use Rattle.std.specs.Prelude.{◌≡◌, ◌++◌, ◌∷◌, [], List, ℕ, codes, not, is_ok, if◌then◌else◌, IfOk, OnOk, OnErr};
+ghost use Rattle.std.specs.Fmt.{decimal};
 ghost use Rattle.std.specs.List.{list_all};
+ghost use Rattle.std.specs.Str.{bytes_eq};
+ghost use Rattle.bstr.specs.Utf8.{lossy_chars};
 ghost use Rattle.flounder_svg.specs.declared.names.Tag.TheVariants.{Svg};
-ghost use Rattle.flounder_svg.specs.Names.{number_of};
-ghost use Rattle.flounder_svg.specs.Xml.{IsData, IsDocument, end_tag};
+ghost use Rattle.flounder_svg.specs.Names.{tag_name, attribute_name};
+ghost use Rattle.flounder_svg.specs.Xml.{Spells, IsNewTo, IsDocument, Closes, end_tag};
+ghost use Rattle.flounder_svg.specs.Shown.{AddsText, GivesOne};
 
 use crate::data::put_data;
 use crate::names::{Attribute, Tag};
@@ -33,11 +37,11 @@ impl Model for StartTag {
 
 // Whether an attribute isn't among those that were given.
 fn is_new(given: &[Attribute], attribute: Attribute) -> bool
-    ensures same { result ≡ list_all (λ other. not (number_of other == number_of attribute)) given.now }
+    ensures same { result ≡ list_all (λ other. not (bytes_eq (attribute_name other) (attribute_name attribute))) given.now }
 {
     given
         .iter()
-        .all(|other| other.number() != attribute.number())
+        .all(|other| other.name() != attribute.name())
 }
 
 impl StartTag {
@@ -47,6 +51,8 @@ impl StartTag {
     /// Out of memory.
     pub fn new(alloc: Global, tag: Tag) -> Result<StartTag, AllocError>
         ensures tag { IfOk result (λ s. s.tag ≡ tag) }
+        ensures none { IfOk result (λ s. s.given ≡ []) }
+        ensures text { IfOk result (λ s. s.text ≡ codes "<" ++ tag_name tag) }
     {
         let mut text = Vec::new(alloc);
         text.push(b'<')?;
@@ -65,6 +71,8 @@ impl StartTag {
     /// Out of memory.
     pub fn with(self, attribute: Attribute, value: &[u8]) -> Result<StartTag, AllocError>
         ensures tag { IfOk result (λ s. s.tag ≡ self.tag) }
+        ensures one { IfOk result (λ s. IsNewTo self.given attribute → GivesOne self attribute (lossy_chars value.now) s) }
+        ensures same { IfOk result (λ s. (IsNewTo self.given attribute → ⊥) → s ≡ self) }
     {
         if !is_new(&self.given, attribute) {
             return Ok(self);
@@ -95,6 +103,8 @@ impl StartTag {
     /// Out of memory.
     pub fn at(self, attribute: Attribute, number: u32) -> Result<StartTag, AllocError>
         ensures tag { IfOk result (λ s. s.tag ≡ self.tag) }
+        ensures one { IfOk result (λ s. IsNewTo self.given attribute → GivesOne self attribute (lossy_chars (decimal number)) s) }
+        ensures same { IfOk result (λ s. (IsNewTo self.given attribute → ⊥) → s ≡ self) }
     {
         let digits = format!(in self.alloc; "{number}")?;
         self.with(attribute, digits.as_bytes())
@@ -128,6 +138,7 @@ impl Document {
     pub fn new(alloc: Global, root: StartTag) -> Result<Document, AllocError>
         requires { root.tag ≡ Svg }
         ensures begun { IfOk result (λ d. d.tags ≡ []) }
+        ensures text { IfOk result (λ d. d.text ≡ root.text ++ codes ">\n") }
     {
         let StartTag { mut text, .. } = root;
         text.extend_from_slice(b">\n")?;
@@ -144,6 +155,7 @@ impl Document {
     /// Out of memory; nothing changed.
     pub fn begin(&mut self, start: StartTag) -> Result<(), AllocError>
         ensures ok { OnOk result (self.new.tags ≡ self.old.tags ++ start.tag ∷ []) }
+        ensures text { OnOk result (self.new.text ≡ self.old.text ++ (start.text ++ codes ">")) }
         ensures err { OnErr result (self.new ≡ self.old) }
     {
         let StartTag { tag, mut text, .. } = start;
@@ -161,7 +173,7 @@ impl Document {
     /// # Errors
     /// Out of memory; nothing changed.
     pub fn close(&mut self) -> Result<(), AllocError>
-        ensures ok { OnOk result (length self.new.tags ≡ length self.old.tags - 1) }
+        ensures ok { OnOk result (Closes (codes "\n") self.old self.new) }
         ensures err { OnErr result (self.new ≡ self.old) }
     {
         self.close_with(b"\n")
@@ -172,7 +184,7 @@ impl Document {
     /// # Errors
     /// Out of memory; nothing changed.
     pub fn close_inside(&mut self) -> Result<(), AllocError>
-        ensures ok { OnOk result (length self.new.tags ≡ length self.old.tags - 1) }
+        ensures ok { OnOk result (Closes [] self.old self.new) }
         ensures err { OnErr result (self.new ≡ self.old) }
     {
         self.close_with(b"")
@@ -180,8 +192,8 @@ impl Document {
 
     // Closes the element that was opened last, with this behind it.
     fn close_with(&mut self, behind: &[u8]) -> Result<(), AllocError>
-        requires { IsData behind.now }
-        ensures ok { OnOk result (length self.new.tags ≡ length self.old.tags - 1) }
+        requires { Spells behind.now behind.now }
+        ensures ok { OnOk result (Closes behind.now self.old self.new) }
         ensures err { OnErr result (self.new ≡ self.old) }
     {
         let Some(tag) = self.tags.pop() else {
@@ -200,6 +212,7 @@ impl Document {
     /// Out of memory; nothing changed.
     pub fn put(&mut self, element: StartTag) -> Result<(), AllocError>
         ensures ok { OnOk result (self.new.tags ≡ self.old.tags) }
+        ensures text { OnOk result (self.new.text ≡ self.old.text ++ (element.text ++ codes "/>\n")) }
         ensures err { OnErr result (self.new ≡ self.old) }
     {
         let StartTag { mut text, .. } = element;
@@ -213,6 +226,7 @@ impl Document {
     /// Out of memory; nothing changed.
     pub fn say(&mut self, text: &[u8]) -> Result<(), AllocError>
         ensures ok { OnOk result (self.new.tags ≡ self.old.tags) }
+        ensures text { OnOk result (AddsText (lossy_chars text.now) self.old.text self.new.text) }
         ensures err { OnErr result (self.new ≡ self.old) }
     {
         let mut shown = Vec::new(self.alloc);
@@ -226,6 +240,7 @@ impl Document {
     /// Out of memory.
     pub fn finish(self) -> Result<Vec<u8>, AllocError>
         ensures document { IfOk result (λ text. IsDocument text.items) }
+        ensures whole { IfOk result (λ text. (rest : List ℕ) × (text.items ≡ self.text ++ rest)) }
     {
         let mut document = self;
         'elements: while !document.tags.is_empty() {
