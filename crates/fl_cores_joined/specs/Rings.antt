@@ -1,0 +1,83 @@
+-- A ring as its two sides make it, while each is in the hands of a core of its own; and when a step of one side finds what stands there. Law.
+use Rattle.std.specs.Prelude.{ℕ, ◌≡◌, ◌⊎◌, ◌<◌, ◌≤◌, List, [], ◌∷◌, ◌++◌, length, drop, Some}
+use Rattle.fl_base.specs.declared.fragment.Frag.{Frag}
+use Rattle.fl_base.specs.Control.{told_of}
+use Rattle.fl_base.specs.Prefix.{IsPrefix}
+use Rattle.fl_link.specs.Looks.{Look}
+use Rattle.fl_ring.specs.Counts.{count_from}
+use Rattle.fl_ring.specs.declared.one_duo.WhichSide.{WhichSide}
+use Rattle.fl_ring.specs.declared.one_duo.WhichSide.TheVariants.{One, Two}
+use Rattle.fl_ring.specs.Duo.{TheHalf, TheDuo, DuoPuts, DuoTakes}
+use Rattle.fl_ring.specs.SharedSides.{TheSide, SharedPuts, SharedTakes}
+
+-- ---- the ring of two sides
+
+-- a side, and the one across from it, as that is at the same moment
+pub record FacingSide : Type 0 where
+  pub side : TheSide
+  pub across : TheSide
+
+-- what stands in the ring for a side: what the other put, and it hasn't taken
+abbrev pub standing_for : TheSide → TheSide → List Frag
+standing_for side across = drop (length side.got) across.sent
+
+-- a side as the ring has it
+abbrev pub half_of : TheSide → TheSide → TheHalf
+half_of side across = record {
+  sent = length side.sent;
+  known = side.known;
+  told = side.told;
+  read = drop side.told side.got;
+  waiting = standing_for side across;
+}
+
+abbrev pub ring_of : TheSide → TheSide → TheDuo
+ring_of one two = record { size = one.size; one = half_of one two; two = half_of two one }
+
+-- the ring of a side that is known to be this one of the two
+abbrev pub ring_by : WhichSide → FacingSide → TheDuo
+ring_by One x = ring_of x.side x.across
+ring_by Two x = ring_of x.across x.side
+
+-- what a side took is the first of what the other put, and it told no more than that
+pub record IsBehind (side across : TheSide) : Type 0 where
+  pub took : IsPrefix side.got across.sent
+  pub told : side.told ≤ length side.got
+
+-- so it is of both sides of one ring
+pub record AreFacing (x : FacingSide) : Type 0 where
+  pub size : x.across.size ≡ x.side.size
+  pub here : IsBehind x.side x.across
+  pub there : IsBehind x.across x.side
+
+-- ---- steps that find what stands there
+
+-- a load found the first of these fragments: the side knows what that tells, and saw or took no other
+pub record FindsFirst (stood : List Frag) (p q : TheSide) : Type 0 where
+  pub first : Frag
+  pub rest : List Frag
+  pub stood_is : stood ≡ first ∷ rest
+  pub known : q.known ≡ count_from p.known (told_of first.control)
+  pub saw : (frag : Frag) → q.peeked ≡ Some frag → frag ≡ first
+  pub took : (q.got ≡ p.got) ⊎ (q.got ≡ p.got ++ first ∷ [])
+
+-- by a step from p to q: where a load missed, nothing stood there, and where one didn't, it found the first
+pub record FindsWhatStood (stood : List Frag) (p q : TheSide) : Type 0 where
+  pub nothing : p.misses < q.misses → stood ≡ []
+  pub something : q.misses ≡ p.misses → p.loads < q.loads → FindsFirst stood p q
+
+-- a step of a side that finds so; the other side stays
+abbrev pub Truly : (TheSide → Look → TheSide → Type 0) → FacingSide → Look → FacingSide → Type 0
+Truly step x look y =
+    step x.side look y.side × FindsWhatStood (standing_for x.side x.across) x.side y.side × (y.across ≡ x.across)
+
+-- ---- law: it is a step of the ring of the two
+
+abbrev pub StepsOfRing : (TheSide → Look → TheSide → Type 0) → (WhichSide → TheDuo → Look → TheDuo → Type 0) → Type 0
+StepsOfRing step RingSteps = (which : WhichSide) (x y : FacingSide) (look : Look) → AreFacing x → Truly step x look y
+    → RingSteps which (ring_by which x) look (ring_by which y) × AreFacing y
+
+-- each put, look, take and tell over shared words that finds what stands there is the ring's
+pub record TrueStepsAreTheRings : Type 0 where
+  pub puts : StepsOfRing SharedPuts DuoPuts
+  pub takes : StepsOfRing SharedTakes DuoTakes
