@@ -1,0 +1,113 @@
+//! What an operation comes to, and its numbers.
+
+ghost use Rattle.std.specs.Prelude.{◌≡◌};
+ghost use Rattle.fl_c.specs.Numbers.{fault_of, what_of, count_of, answer_of};
+
+use fl_link::PutFault;
+
+/// What an operation came to.
+#[derive(Clone, Copy, Debug, PartialEq, Eq)]
+pub enum Outcome {
+    /// The fragment was put.
+    Placed,
+    /// Nothing stands there.
+    Nothing,
+    /// A fragment stood there, whose numbers are written.
+    Fragment,
+    /// A fragment that only acknowledges stood there.
+    Acknowledgement,
+    /// Too little is to be told.
+    Kept,
+    /// What was taken is told.
+    Told,
+    /// What the handle led to is freed. Its own block, of this size and alignment, is the caller's to free.
+    Freed { align: u32, size: u64 },
+}
+
+/// Why an operation was refused.
+#[derive(Clone, Copy, Debug, PartialEq, Eq)]
+pub enum UseFault {
+    /// There is no such operation at a handle of this kind (101).
+    NoSuchOperation,
+    /// There are too few or too many numbers (103).
+    WrongRoom,
+    /// The fragment only acknowledges: a put writes none (63).
+    OnlyAcknowledges,
+    /// Nothing was put (30, 33).
+    Link(PutFault),
+}
+
+/// What C is answered. A fault of 100 or more is a caller's mistake: nothing was done then.
+#[repr(C)]
+#[derive(Clone, Copy, Debug, PartialEq, Eq)]
+pub struct Answered {
+    /// The fault's number; 0 where there is none.
+    pub fault: u32,
+    /// Which of the things that it may come to.
+    pub what: u32,
+    /// How many numbers there are to read.
+    pub count: u64,
+}
+
+impl UseFault {
+    /// The fault's number.
+    #[inline]
+    pub fn number(self) -> u32
+        ensures number { result ≡ fault_of self }
+    {
+        match self {
+            UseFault::NoSuchOperation => 101,
+            UseFault::WrongRoom => 103,
+            UseFault::OnlyAcknowledges => 63,
+            UseFault::Link(fault) => u32::from(fault.number()),
+        }
+    }
+}
+
+impl Outcome {
+    /// Its number, among what the operation may come to.
+    #[inline]
+    pub fn what(self) -> u32
+        ensures what { result ≡ what_of self }
+    {
+        match self {
+            Outcome::Placed | Outcome::Nothing | Outcome::Kept => 0,
+            Outcome::Fragment | Outcome::Told => 1,
+            Outcome::Acknowledgement => 2,
+            Outcome::Freed { align, size: _ } => align,
+        }
+    }
+
+    /// How many numbers there are to read.
+    #[inline]
+    pub fn count(self) -> u64
+        ensures count { result ≡ count_of self }
+    {
+        match self {
+            Outcome::Fragment => 8,
+            Outcome::Freed { align: _, size } => size,
+            _ => 0,
+        }
+    }
+}
+
+impl Answered {
+    /// The numbers of what an operation came to.
+    #[inline]
+    pub fn of(outcome: Result<Outcome, UseFault>) -> Answered
+        ensures numbers { result ≡ answer_of outcome }
+    {
+        match outcome {
+            Ok(outcome) => Answered {
+                fault: 0,
+                what: outcome.what(),
+                count: outcome.count(),
+            },
+            Err(fault) => Answered {
+                fault: fault.number(),
+                what: 0,
+                count: 0,
+            },
+        }
+    }
+}

@@ -1,0 +1,54 @@
+//! What C calls. A handle is a pointer that C keeps and never reads: it owns what the pointer leads to.
+
+ghost use Rattle.std.specs.Prelude.{◌≡◌, ◌≢◌, ◌↔◌, ◌⊎◌};
+ghost use types.Logic.{sem};
+ghost use Rattle.std.specs.Ptr.{points_to};
+ghost use Rattle.fl_ring.specs.Duo.{MayHaveSlots};
+ghost use Rattle.fl_c.specs.Handles.{Uses};
+ghost use Rattle.fl_c.specs.contracts.handle.Handle.{the_row};
+
+use crate::answer::Answered;
+use crate::handle::{Handle, ring_handles, use_handle};
+use fl_ring::RingFault;
+use std::alloc::Global;
+
+/// Makes the two sides of a ring of two directions, each with its slots ([`ring_handles`]). Faults: a ring
+/// can't have this number of slots (32), out of memory (99); then no handle was made, and both pointers are
+/// as they were.
+#[unsafe(no_mangle)]
+pub extern "C" fn flounder_make(
+    alloc: Global,
+    slots: usize,
+    one: &mut *mut u8,
+    two: &mut *mut u8,
+) -> u32
+    ensures bad_size { (result ≡ 32) ↔ (¬ MayHaveSlots slots) }
+    ensures faults { (result ≡ 0) ⊎ ((result ≡ 32) ⊎ (result ≡ 99)) }
+    ensures kept { result ≢ 0 → (one.new ≡ one.old) × (two.new ≡ two.old) }
+{
+    let (first, second) = match ring_handles(alloc, slots) {
+        Ok(handles) => handles,
+        Err(RingFault::BadSize) => return 32,
+        Err(RingFault::Memory) => return 99,
+    };
+    let Ok(first) = Box::new(alloc, first) else {
+        return 99;
+    };
+    let Ok(second) = Box::new(alloc, second) else {
+        return 99;
+    };
+    *one = Box::into_raw(first) as *mut u8;
+    *two = Box::into_raw(second) as *mut u8;
+    0
+}
+
+/// Does the operation of this number at a handle, on these numbers ([`use_handle`]). The handle still owns
+/// what it leads to.
+#[unsafe(no_mangle)]
+pub unsafe extern "C" fn flounder_use(handle: *mut u8, what: u32, numbers: &mut [u64]) -> Answered
+    ghost before: { Handle }
+    requires* { sem 𝓛 (points_to the_row handle before) }
+    ensures* { ∃ₛ (λ (after : Handle). sem 𝓛 (points_to the_row handle after) ∗ ⌜ Uses before what numbers.old result after numbers.new ⌝) }
+{
+    use_handle(&mut *(handle as *mut Handle), what, numbers)
+}
