@@ -23,6 +23,10 @@ is_global arg = arg.global
 abbrev pub wanted : Rule → Rule
 wanted r = record r { required = true }
 
+-- an app that has a version
+abbrev pub with_version : App → App
+with_version a = record a { top = record a.top { has_version = true } }
+
 -- an app whose word `help` is no command
 abbrev pub without_help_word : App → App
 without_help_word a = record a { top = record a.top { disable_help_subcommand = true } }

@@ -11,18 +11,34 @@ use Rattle.clap.specs.Faults.{level_fault, step_fault, turn_fault, walk_fault}
 use Rattle.clap.specs.declared.builder.value_parser.ValueParser.TheVariants.{Unsigned}
 use Rattle.clap.proofs.ValueTestLemmas.{accepts-Accepts, Accepts-accepts}
 use Rattle.clap.proofs.OnLiterals.{clap_on_literals}
-use Rattle.clap.specs.declared.error.kind.ErrorKind.TheVariants.{DisplayHelp, MissingRequiredArgument, ValueValidation}
-use Rattle.flounder_args.specs.Words.{AskFor, BeginsWithoutHyphen, asks_for, compile_asked, cores_asked, missing_kinds, most_turns, number_in, program, refusals, value_of, to_run, to_show, to_compile, to_run_cores}
+use Rattle.clap.specs.declared.error.kind.ErrorKind.TheVariants.{DisplayHelp, DisplayVersion, MissingRequiredArgument, ValueValidation}
+use Rattle.flounder_args.specs.Words.{AskFor, BeginsWithoutHyphen, asks_for, compile_asked, show_asked, cores_asked, missing_kinds, most_turns, number_in, program, refusals, value_of, to_run, to_show, to_compile, to_run_cores}
 use Rattle.flounder_args.proofs.Asking.{number_is}
 use Rattle.flounder_args.proofs.Levels.{fault_behind, handed, level_passed, placed, positional_turn, positional_walked, stands, three_pass, two_pass, value_turn, value_walked}
 
-pub no_word : (name : Text) → AskFor (name ∷ []) to_run
+pub no_word : (name : Text) → AskFor (name ∷ []) (to_run false false)
 unfolding clap_on_literals
 no_word name = (refl, refl)
 
-pub exec_word : (name : Text) → AskFor (name ∷ codes "exec" ∷ []) to_run
+pub exec_word : (name : Text) → AskFor (name ∷ codes "exec" ∷ []) (to_run false false)
 unfolding clap_on_literals
 exec_word name = (refl, refl)
+
+pub exec_explain : (name : Text) → AskFor (name ∷ codes "exec" ∷ codes "--explain" ∷ []) (to_run true false)
+unfolding clap_on_literals
+exec_explain name = (refl, refl)
+
+pub exec_strict : (name : Text) → AskFor (name ∷ codes "exec" ∷ codes "--strict" ∷ []) (to_run false true)
+unfolding clap_on_literals
+exec_strict name = (refl, refl)
+
+pub exec_both : (name : Text) → AskFor (name ∷ codes "exec" ∷ codes "--explain" ∷ codes "--strict" ∷ []) (to_run true true)
+unfolding clap_on_literals
+exec_both name = (refl, refl)
+
+pub version_word : (name : Text) → refusals (name ∷ codes "--version" ∷ []) ≡ DisplayVersion ∷ []
+unfolding clap_on_literals
+version_word name = refl
 
 pub help_word : (name : Text) → refusals (name ∷ codes "--help" ∷ []) ≡ DisplayHelp ∷ []
 unfolding clap_on_literals
@@ -44,7 +60,7 @@ pub cores_help : (name : Text) → refusals (name ∷ codes "cores" ∷ codes "-
 unfolding clap_on_literals
 cores_help name = refl
 
-show_asked_for : (name file : Text) → BeginsWithoutHyphen file → asks_for (name ∷ codes "show" ∷ file ∷ []) ≡ Some (to_show file)
+show_asked_for : (name file : Text) → BeginsWithoutHyphen file → asks_for (name ∷ codes "show" ∷ file ∷ []) ≡ Some (to_show file false)
 unfolding clap_on_literals
 show_asked_for name [] h = refl
 show_asked_for name (b ∷ bytes) h = simp h
@@ -54,12 +70,68 @@ unfolding clap_on_literals
 show_taken name [] h = refl
 show_taken name (b ∷ bytes) h = simp h
 
-pub show_words : (name file : Text) → BeginsWithoutHyphen file → AskFor (name ∷ codes "show" ∷ file ∷ []) (to_show file)
+pub show_words : (name file : Text) → BeginsWithoutHyphen file → AskFor (name ∷ codes "show" ∷ file ∷ []) (to_show file false)
 show_words name file h = (show_asked_for name file h, show_taken name file h)
 
 -- the command of that name, as it is built
 abbrev shape_in : Text → Shape
 shape_in name = unwrap_or (find (λ s. answers_to name (label_of s)) (built program).subs) (new_shape [])
+
+-- ---- show with names
+
+abbrev show_shape : Shape
+show_shape = shape_in (codes "show")
+
+abbrev names_line : Text → Text → List Text
+names_line name file = name ∷ codes "show" ∷ file ∷ codes "--names" ∷ []
+
+abbrev behind_shown : Text → Walk
+behind_shown file = placed show_shape.rules 1 file nothing_held
+
+abbrev behind_names : Text → Walk
+behind_names file = walked show_shape.rules [] (behind_shown file) (codes "--names")
+
+names_walks : (file : Text) → BeginsWithoutHyphen file → walk show_shape.rules [] nothing_held (file ∷ codes "--names" ∷ []) ≡ behind_names file
+names_walks file h = ap (λ (w : Walk). walked show_shape.rules [] w (codes "--names")) (positional_walked show_shape.rules 1 file nothing_held h)
+
+names_found : (name file : Text) → asks_for (names_line name file) ≡ show_asked (finished show_shape.rules (walk show_shape.rules [] nothing_held (file ∷ codes "--names" ∷ [])).held)
+unfolding clap_on_literals
+names_found name file = refl
+
+names_values : (file : Text) → show_asked (finished show_shape.rules (behind_names file).held) ≡ Some (to_show file true)
+unfolding clap_on_literals
+names_values file = refl
+
+names_asked_for : (name file : Text) → BeginsWithoutHyphen file → asks_for (names_line name file) ≡ Some (to_show file true)
+names_asked_for name file h =
+    names_found name file ∙ ap (λ (w : Walk). show_asked (finished show_shape.rules w.held)) (names_walks file h) ∙ names_values file
+
+names_entered : (name file : Text) → fault_of program (names_line name file) ≡ or_else (level_fault show_shape [] nothing_held (file ∷ codes "--names" ∷ []) false []) []
+unfolding clap_on_literals
+names_entered name file = refl
+
+names_turn : (file : Text) → turn_fault show_shape [] (behind_shown file) (codes "--names") ≡ []
+unfolding clap_on_literals
+names_turn file = refl
+
+names_end : (file : Text) → fault_behind show_shape (behind_names file).held ≡ []
+unfolding clap_on_literals
+names_end file = refl
+
+names_fault : (name file : Text) → BeginsWithoutHyphen file → fault_of program (names_line name file) ≡ []
+names_fault name file h =
+    let pass : walk_fault show_shape [] (walk_from nothing_held) (file ∷ codes "--names" ∷ []) ≡ [] =
+    two_pass show_shape (walk_from nothing_held) (behind_shown file) file (codes "--names") (positional_walked show_shape.rules 1 file nothing_held h)
+    (positional_turn show_shape 1 file nothing_held h) (names_turn file) in
+    names_entered name file
+    ∙ ap (λ (kinds : Kinds). or_else kinds []) (level_passed show_shape (file ∷ codes "--names" ∷ []) (behind_names file) (names_walks file h) pass ∙ names_end file)
+
+pub show_names_words : (name file : Text) → BeginsWithoutHyphen file → AskFor (names_line name file) (to_show file true)
+show_names_words name file h =
+    let asked : asks_for (names_line name file) ≡ Some (to_show file true) = names_asked_for name file h in
+    (asked, ap₂ or_else (names_fault name file h) (ap missing_kinds asked))
+
+-- ---- compile
 
 abbrev compile_shape : Shape
 compile_shape = shape_in (codes "compile")

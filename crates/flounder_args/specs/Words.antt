@@ -3,6 +3,8 @@
 use Rattle.std.specs.Prelude.{◌≡◌, ◌==◌, ◌&&◌, ◌^◌, ℕ, Bool, true, false, List, [], ◌∷◌, Option, Some, None, option_map, option_and_then, nat_lt}
 use Rattle.std.specs.Prelude.{if◌then◌else◌, codes}
 use Rattle.std.specs.Str.{bytes_eq}
+use Rattle.std.specs.Option.{option_map_or}
+use Rattle.clap.specs.declared.builder.action.ArgAction.TheVariants.{SetTrue}
 use Rattle.std.specs.Str.Parse.{digits_value, without_leading_plus}
 use Rattle.clap.specs.Words.{App, Row, Rule, app_of, Text, Kinds, new_app, new_rule, with_rule, with_subcommand, IsUnsignedIn}
 use Rattle.clap.specs.Words.{subcommand_of, fault_of, first_of, one_of}
@@ -11,7 +13,7 @@ use Rattle.clap.specs.Kinds.{or_else}
 use Rattle.clap.specs.declared.builder.value_parser.ValueParser.TheVariants.{Unsigned}
 use Rattle.clap.specs.declared.builder.command.Command.{Command}
 use Rattle.clap.specs.declared.builder.command.Command.TheViews.{out-Command as fields_of}
-use Rattle.clap.specs.declared.error.kind.ErrorKind.TheVariants.{DisplayHelp, MissingRequiredArgument, ValueValidation}
+use Rattle.clap.specs.declared.error.kind.ErrorKind.TheVariants.{DisplayHelp, DisplayVersion, MissingRequiredArgument, ValueValidation}
 use Rattle.flounder_args.specs.declared.words.Request.{Request}
 use Rattle.flounder_args.specs.declared.words.Request.TheVariants.{Exec, Show, Compile, Cores}
 
@@ -21,11 +23,21 @@ use Rattle.flounder_args.specs.declared.words.Request.TheVariants.{Exec, Show, C
 abbrev pub required : Text → Rule
 required name = record (new_rule name) { required = true }
 
+-- an option without a value, by its name
+abbrev pub flag : Text → Rule
+flag name = record (new_rule name) { long = Some name; action = Some SetTrue }
+
+abbrev pub exec_with_explain : App
+exec_with_explain = with_rule (new_app (codes "exec")) (flag (codes "explain"))
+
 abbrev pub exec_command : App
-exec_command = new_app (codes "exec")
+exec_command = with_rule (with_rule (new_app (codes "exec")) (flag (codes "explain"))) (flag (codes "strict"))
+
+abbrev pub show_with_file : App
+show_with_file = with_rule (new_app (codes "show")) (required (codes "FILE"))
 
 abbrev pub show_command : App
-show_command = with_rule (new_app (codes "show")) (required (codes "FILE"))
+show_command = with_rule (with_rule (new_app (codes "show")) (required (codes "FILE"))) (flag (codes "names"))
 
 abbrev pub compile_with_file : App
 compile_with_file = with_rule (new_app (codes "compile")) (required (codes "FILE"))
@@ -48,7 +60,9 @@ cores_command = with_rule cores_with_file turns_option
 
 -- the program without its commands; the word `help` is none
 abbrev pub bare_program : App
-bare_program = record (new_app (codes "flounder")) { top = record (new_app (codes "flounder")).top { disable_help_subcommand = true } }
+bare_program = record (new_app (codes "flounder")) {
+  top = record (new_app (codes "flounder")).top { disable_help_subcommand = true; has_version = true };
+}
 
 -- the program with one command, with two and with three of them
 abbrev pub with_exec : App
@@ -73,22 +87,33 @@ pub record IsCommand (app : App) (c : Command) : Type 0 where
 
 -- ---- what words ask for
 
--- to run a script; to show a file; to compile a file to another; to run a cores file, with so many turns counted at most
+-- to run a script, with its refused lines told in words or not, and with a status of their own or not; to show a file, with its arguments'
+-- names or not; to compile a file to another; to run a cores file, with so many turns counted at most
 pub data Asked : Type 0 where
-  to_run : Asked
-  to_show : Text → Asked
+  to_run : Bool → Bool → Asked
+  to_show : Text → Bool → Asked
   to_compile : Text → Text → Asked
   to_run_cores : Text → ℕ → Asked
 
 abbrev pub asked_by : Request → Asked
-asked_by Exec = to_run
-asked_by (Show file) = to_show file.now
+asked_by (Exec explain strict) = to_run explain strict
+asked_by (Show file names) = to_show file.now names
 asked_by (Compile file out) = to_compile file.now out.now
 asked_by (Cores file turns) = to_run_cores file.now turns
 
+-- whether an option without a value is there
+abbrev pub is_true : Option Text → Bool
+is_true word = option_map_or (λ w. bytes_eq w (codes "true")) word false
+
+abbrev pub is_told : Text → List Row → Bool
+is_told name rows = is_true (first_of name rows)
+
+abbrev pub exec_asked : List Row → Option Asked
+exec_asked rows = Some (to_run (is_told (codes "explain") rows) (is_told (codes "strict") rows))
+
 -- a command's values, where all of them are there
 abbrev pub show_asked : List Row → Option Asked
-show_asked rows = option_map to_show (first_of (codes "FILE") rows)
+show_asked rows = option_map (λ file. to_show file (is_told (codes "names") rows)) (first_of (codes "FILE") rows)
 
 abbrev pub compile_asked : List Row → Option Asked
 compile_asked rows = option_and_then (λ file. option_map (to_compile file) (first_of (codes "OUT") rows)) (first_of (codes "FILE") rows)
@@ -114,11 +139,11 @@ command_asked name rows =
     if bytes_eq name (codes "show") then show_asked rows
     else (if bytes_eq name (codes "compile") then compile_asked rows
     else (if bytes_eq name (codes "cores") then cores_asked rows
-    else Some to_run))
+    else exec_asked rows))
 
 -- the command that was met and its values; without one a script is run
 abbrev pub asked_of : Option (Text × List Row) → Option Asked
-asked_of None = Some to_run
+asked_of None = Some (to_run false false)
 asked_of (Some met) = command_asked met.0 met.1
 
 -- what words ask for, the program's name being the first
@@ -144,13 +169,20 @@ abbrev pub BeginsWithoutHyphen : Text → Type 0
 BeginsWithoutHyphen [] = Unit {0}
 BeginsWithoutHyphen (byte ∷ bytes) = (byte == 45) ≡ false
 
--- Without a word, or with `exec` alone, a script is run.
+-- Without a word, or with `exec` alone, a script is run; with `--explain` its refused lines are told in words, with `--strict` they have
+-- a status of their own.
 abbrev pub ExecIsAsked : Type 0
-ExecIsAsked = (name : Text) → AskFor (name ∷ []) to_run × AskFor (name ∷ codes "exec" ∷ []) to_run
+ExecIsAsked = (name : Text) → AskFor (name ∷ []) (to_run false false)
+    × AskFor (name ∷ codes "exec" ∷ []) (to_run false false)
+    × AskFor (name ∷ codes "exec" ∷ codes "--explain" ∷ []) (to_run true false)
+    × AskFor (name ∷ codes "exec" ∷ codes "--strict" ∷ []) (to_run false true)
+    × AskFor (name ∷ codes "exec" ∷ codes "--explain" ∷ codes "--strict" ∷ []) (to_run true true)
 
--- `show FILE` and `compile FILE OUT` ask for that, where the files' names don't begin with `-`.
+-- `show FILE`, also with `--names` behind it, and `compile FILE OUT` ask for that, where the files' names don't begin with `-`.
 abbrev pub ShowIsAsked : Type 0
-ShowIsAsked = (name file : Text) → BeginsWithoutHyphen file → AskFor (name ∷ codes "show" ∷ file ∷ []) (to_show file)
+ShowIsAsked = (name file : Text) → BeginsWithoutHyphen file
+    → AskFor (name ∷ codes "show" ∷ file ∷ []) (to_show file false)
+    × AskFor (name ∷ codes "show" ∷ file ∷ codes "--names" ∷ []) (to_show file true)
 
 abbrev pub CompileIsAsked : Type 0
 CompileIsAsked = (name file out : Text) → BeginsWithoutHyphen file → BeginsWithoutHyphen out
@@ -167,6 +199,10 @@ TurnsAreWanted = (name file : Text) → BeginsWithoutHyphen file
     → (refusals (name ∷ codes "cores" ∷ file ∷ []) ≡ MissingRequiredArgument ∷ [])
     × ((turns : Text) → BeginsWithoutHyphen turns → (IsUnsignedIn 0 most_turns turns → ⊥)
     → refusals (name ∷ codes "cores" ∷ file ∷ codes "--turns" ∷ turns ∷ []) ≡ ValueValidation ∷ [])
+
+-- `--version` asks for the program's version.
+abbrev pub VersionIsAsked : Type 0
+VersionIsAsked = (name : Text) → refusals (name ∷ codes "--version" ∷ []) ≡ DisplayVersion ∷ []
 
 -- `--help` asks for help, also behind a command.
 abbrev pub HelpIsAsked : Type 0

@@ -2,24 +2,24 @@
 
 ghost use Rattle.std.specs.Prelude.{◌≡◌, false, map, option_map, IfOk, Some, codes};
 ghost use Rattle.clap.specs.Words.{FailsBy, new_app, with_rule, fault_of, first_of, found_of, rows_of, rule_of, subcommand_rows_of};
-ghost use Rattle.flounder_args.specs.Words.{exec_command, bare_program, to_compile, show_command, compile_command, program, IsCommand};
+ghost use Rattle.flounder_args.specs.Words.{exec_command, exec_with_explain, exec_asked, show_with_file, flag, is_told, bare_program, to_compile, show_command, compile_command, program, IsCommand};
 ghost use Rattle.flounder_args.specs.Words.{required, compile_with_file, with_exec, with_compile, with_show};
 ghost use Rattle.flounder_args.specs.Words.{turns_option, cores_with_file, cores_command, cores_asked, turns_asked, to_run_cores};
 ghost use Rattle.flounder_args.specs.Words.{asked_by, show_asked, compile_asked, command_asked, asked_of, asks_for, refusals};
 
 use clap::builder::ValueParser;
 use clap::error::ErrorKind;
-use clap::{Arg, ArgMatches, Command, Error};
+use clap::{Arg, ArgAction, ArgMatches, Command, Error};
 use std::alloc::{AllocError, Global};
 use std::convert::AsStr;
 
 /// What the words ask for.
 #[derive(Clone, Copy, Debug)]
 pub enum Request<'a> {
-    /// Run the script on standard input.
-    Exec,
-    /// Print the plan table of the interface in this file.
-    Show { file: &'a str },
+    /// Run the script on standard input: tell its refused lines in words, and end with a status of their own.
+    Exec { explain: bool, strict: bool },
+    /// Print the plan table of the interface in this file, with its arguments' names.
+    Show { file: &'a str, names: bool },
     /// Write the image of the interface in the one file to the other.
     Compile { file: &'a str, out: &'a str },
     /// Run the cores file, with so many turns of a core counted at most.
@@ -40,19 +40,31 @@ const OUT: &str = "OUT";
 
 const TURNS: &str = "N";
 
+const EXPLAIN: &str = "explain";
+
+const STRICT: &str = "strict";
+
+const NAMES: &str = "names";
+
+const VERSION: &str = "0.1.0";
+
 const LONG_TURNS: &str = "turns";
 
 // So many turns of a core may be counted.
 const MAX_TURNS: u64 = 1_000_000_000_000;
 
+const HINT_SCRIPT: &str =
+    "\nhelp: a script comes in on standard input: flounder exec < FILE\n";
+
 const ABOUT: &str =
     "Runs scripts of messages between dispatchers, also with threads, compiles interfaces, and shows how they are laid out";
 
 const STATUSES: &str = "\
-Without a command, flounder does what `flounder exec` does.
+Without a command, flounder does what `flounder exec` does: it runs the script that comes in on standard
+input, as `flounder < FILE`, up to its end (on a terminal Ctrl-D).
 
 Status:
-  0  done, whatever a script's lines answer
+  0  done, whatever a script's lines answer (with `exec --strict` 2 where one was refused)
   1  the command line isn't of a form shown here
   2  the file's content is refused: the first line on standard error is the fault alone, as `E14 at 24` of a
      text (its number, and its place in bytes) or `E82` of an image; the lines after it say it in words; of a
@@ -82,9 +94,15 @@ bindings, and sends messages over them:
   write p.c
   turn e
 
-docs/SCRIPTS.md describes all commands and their answers. The script is read whole before its first line
-is run. A line that is refused, as `refused E90`, is an answer and no fault: the status is 0, or 3 where it
-ran out of memory and 4 where a read or a write failed.";
+A script comes in on standard input, as `flounder exec < FILE`. It is read whole before its first line is
+run: typed on a terminal it ends with Ctrl-D, and is answered then. A line that is refused, as `refused E90`,
+is an answer and no fault: the status is 0, or 3 where it ran out of memory and 4 where a read or a write
+failed. With --strict it is 2 where a line was refused; --explain says on standard error what is wrong with
+each. docs/SCRIPTS.md describes all commands and their answers.";
+
+const HELP_EXPLAIN: &str = "Also tell each refused line on standard error: where it stands, what is wrong, and what to do";
+
+const HELP_STRICT: &str = "End with status 2 where a line was refused";
 
 const ABOUT_SHOW: &str =
     "Prints how long an interface's messages are, and where their arguments stand";
@@ -99,13 +117,16 @@ Standard output gets the plan table, with these lines; numbers count from 0, siz
 L and G are the least and greatest payload of message K, F the fragments of the greatest. O is where
 argument J begins in the payload, or `-` where that depends on the strings and arrays before it. KIND is
 `fixed SIZE`, `string max M` (M bytes) or `array max M stride S` (M elements of S bytes). P is the plan by which
-calls are laid out: 2 for a text, and for an image the one that it was made for.
+calls are laid out: 2 for a text, and for an image the one that it was made for. With --names each argument's
+line ends with a blank and its name, of which an image keeps none.
 
 A file that begins with the four bytes `FLND` is read as an image, every other as a text. One that is refused
 has status 2, and standard error tells its first fault. The whole file is read before anything is printed.
 docs/INTERFACES.md describes the language, docs/IMAGES.md images.";
 
 const HELP_SHOWN: &str = "An interface's text, or an image that `flounder compile` made";
+
+const HELP_NAMES: &str = "Put each argument's name at the end of its line";
 
 const ABOUT_COMPILE: &str = "Compiles an interface's text to an image";
 
@@ -116,12 +137,13 @@ bytes. `flounder show OUT` prints its plan table:
   flounder compile block.if block.image
   flounder show block.image
 
-FILE is always read as a text, and read whole first; OUT is made, or replaced, only where the text is accepted.
+FILE is always read as a text, whole or until it is too long; OUT is made, or replaced, only where the text is accepted.
 A text that is refused has status 2, and standard error tells its first fault, as
 
   E14 at 24
   block.if:1:25: messages carry no capabilities
-  found there: cap c); }
+      interface i { message m(cap c); }
+                              ^
   help: leave the argument out
 
 Where OUT can't be written the status is 4, and OUT may then hold only the beginning of the image, which is no
@@ -153,19 +175,40 @@ Standard output gets, for each binding in byte order of names, the calls that it
 why its opening was refused; and last `complete`, or `turns out` (status 5) where a core had something left to
 do. A line that is refused is told alone, as `line 9 refused E44` (status 2), and nothing runs.
 
-FILE is read whole first. docs/CORES.md describes cores files, and how to choose N.";
+FILE is read whole first. N says how long a run goes on that gets stuck, since a core counts its turns also
+while it waits. After `turns out` standard error tells what was left undone. docs/CORES.md describes cores
+files, and how to choose N.";
 
 const HELP_CORES: &str = "The cores file";
 
 const HELP_TURNS: &str =
-    "How many turns of each core are counted at most, from 0 to 1,000,000,000,000";
+    "How many turns of each core are counted at most: digits alone, from 0 to 1000000000000";
 
-fn exec_command<'a>(alloc: Global) -> Command<'a>
-    ensures is { IsCommand exec_command result }
+/// An option without a value.
+fn flag<'a>(alloc: Global, name: &'a str, help: &'a str) -> Arg<'a>
+    ensures rule { rule_of result ≡ flag name.now }
+    ensures local { result.global ≡ false }
 {
+    Arg::new(alloc, name)
+        .long(name)
+        .action(ArgAction::SetTrue)
+        .help(help)
+}
+
+fn exec_with_explain<'a>(alloc: Global) -> Result<Command<'a>, AllocError>
+    ensures is { IfOk result (IsCommand exec_with_explain) }
+{
+    let explain = flag(alloc, EXPLAIN, HELP_EXPLAIN);
     Command::new(alloc, EXEC)
         .about(ABOUT_EXEC)
         .after_help(AFTER_EXEC)
+        .arg(explain)
+}
+
+fn exec_command<'a>(alloc: Global) -> Result<Command<'a>, AllocError>
+    ensures is { IfOk result (IsCommand exec_command) }
+{
+    exec_with_explain(alloc)?.arg(flag(alloc, STRICT, HELP_STRICT))
 }
 
 /// A command of this name that wants a file.
@@ -185,10 +228,16 @@ fn with_file<'a>(
         .arg(file)
 }
 
+fn show_with_file<'a>(alloc: Global) -> Result<Command<'a>, AllocError>
+    ensures is { IfOk result (IsCommand show_with_file) }
+{
+    with_file(alloc, SHOW, ABOUT_SHOW, AFTER_SHOW, HELP_SHOWN)
+}
+
 fn show_command<'a>(alloc: Global) -> Result<Command<'a>, AllocError>
     ensures is { IfOk result (IsCommand show_command) }
 {
-    with_file(alloc, SHOW, ABOUT_SHOW, AFTER_SHOW, HELP_SHOWN)
+    show_with_file(alloc)?.arg(flag(alloc, NAMES, HELP_NAMES))
 }
 
 fn compile_with_file<'a>(alloc: Global) -> Result<Command<'a>, AllocError>
@@ -240,12 +289,14 @@ fn bare_program<'a>(alloc: Global) -> Command<'a>
         .about(ABOUT)
         .after_help(STATUSES)
         .disable_help_subcommand(true)
+        .version(VERSION)
 }
 
 fn with_exec<'a>(alloc: Global) -> Result<Command<'a>, AllocError>
     ensures is { IfOk result (IsCommand with_exec) }
 {
-    bare_program(alloc).subcommand(exec_command(alloc))
+    let program = bare_program(alloc);
+    program.subcommand(exec_command(alloc)?)
 }
 
 fn with_compile<'a>(alloc: Global) -> Result<Command<'a>, AllocError>
@@ -269,12 +320,32 @@ fn command<'a>(alloc: Global) -> Result<Command<'a>, AllocError>
     program.subcommand(cores_command(alloc)?)
 }
 
+/// Whether an option without a value is there.
+fn is_told(found: &ArgMatches<'_>, name: &str) -> bool
+    ensures told { result ≡ is_told name.now (rows_of (found_of found.now)) }
+{
+    match found.get_str(name) {
+        Some(word) => word == "true",
+        None => false,
+    }
+}
+
+/// What `exec` is asked for.
+fn exec_request<'a>(found: &ArgMatches<'a>) -> Option<Request<'a>>
+    ensures asked { option_map asked_by result ≡ exec_asked (rows_of (found_of found.now)) }
+{
+    let explain = is_told(found, EXPLAIN);
+    let strict = is_told(found, STRICT);
+    Some(Request::Exec { explain, strict })
+}
+
 /// What `show` is asked for, where its file was named.
 fn show_request<'a>(found: &ArgMatches<'a>) -> Option<Request<'a>>
     ensures asked { option_map asked_by result ≡ show_asked (rows_of (found_of found.now)) }
 {
+    let names = is_told(found, NAMES);
     match found.get_str(FILE) {
-        Some(file) => Some(Request::Show { file }),
+        Some(file) => Some(Request::Show { file, names }),
         None => None,
     }
 }
@@ -337,7 +408,7 @@ fn command_request<'a>(name: &str, found: &ArgMatches<'a>) -> Option<Request<'a>
     } else if name == CORES {
         cores_request(found)
     } else {
-        Some(Request::Exec)
+        exec_request(found)
     }
 }
 
@@ -347,7 +418,10 @@ fn request_of<'a>(matches: &ArgMatches<'a>) -> Option<Request<'a>>
 {
     match matches.subcommand() {
         Some((name, found)) => command_request(name, found),
-        None => Some(Request::Exec),
+        None => Some(Request::Exec {
+            explain: false,
+            strict: false,
+        }),
     }
 }
 
@@ -390,4 +464,18 @@ pub fn read_words<'a, S: AsStr>(alloc: Global, words: &'a [S]) -> Result<Request
 {
     let mut command = command(alloc)?;
     request_by(&mut command, words)
+}
+
+/// What stands behind words that are refused: where `exec` is given a file, and where a file stands in a command's place,
+/// how a script comes in.
+pub fn hint<S: AsStr>(words: &[S]) -> &'static str {
+    let (first, second) = match words {
+        [_, first, second, ..] => (first.as_str(), second.as_str()),
+        [_, first] => (first.as_str(), ""),
+        _ => return "",
+    };
+    let is_command = first == SHOW || first == COMPILE || first == CORES;
+    let is_exec = first == EXEC && !second.is_empty() && !second.starts_with('-');
+    let is_other = first != EXEC && !is_command && !first.starts_with('-');
+    if is_exec || is_other { HINT_SCRIPT } else { "" }
 }

@@ -1,3 +1,4 @@
 pub mod Telling
 pub mod TextImages
 pub mod OutOfMemory
+mod Naming

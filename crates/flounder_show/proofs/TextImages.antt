@@ -1,13 +1,12 @@
 -- The interface that a text stands for has an image.
 use Rattle.std.proofs.Common.{◌≡◌, ℕ, Bool, true, false, ◌&&◌, List, ap, ◌∙◌, subst}
-use Rattle.std.specs.List.{list_all}
 use Rattle.std.proofs.lemmas.Bool.{and_parts}
 use Rattle.fl_lex.specs.Token.{TheTokens}
 use Rattle.fl_lex.specs.Outcome.{IsLexed}
 use Rattle.fl_parse.specs.Grammar.{Derives}
 use Rattle.fl_parse.specs.Tree.{TheTree}
 use Rattle.fl_interface.specs.Interface.{TheInterface}
-use Rattle.fl_check.specs.Checks.{StandsFor, interface_from}
+use Rattle.fl_check.specs.Checks.{StandsFor}
 use Rattle.fl_interface.specs.Limits.{is_within_limits}
 use Rattle.fl_check.proofs.Limits.{within_limits}
 use Rattle.fl_check.proofs.TextInterfaces.{texts_are_spellable}

@@ -1,3 +1,4 @@
--- Public promises rest on both files: what a file's content shows, and the table.
+-- Public promises rest on all files: what a file's content shows, the table, and the table with its arguments' names.
 pub mod Content
+pub mod Named
 pub mod Table

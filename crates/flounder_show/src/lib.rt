@@ -7,18 +7,26 @@
 //! - [`plan_table`]: the table of any plans (`specs/Table.antt`).
 //!
 //! Files: `reading.rt` from a text to its interface, `show.rt` and `image.rt` what the two commands give, `table.rt` and
-//! `row.rt` the table's lines, `fault.rt` why there is nothing to give.
+//! `row.rt` the table's lines, `fault.rt` why there is nothing to give, `cause.rt` what more is known of that (`expected.rt` which
+//! tokens could stand there, `measure.rt` what is too big).
 #![tactic(auto)]
 
+mod cause;
+mod expected;
 mod fault;
 mod image;
+mod measure;
+mod named;
 mod reading;
 mod row;
 mod show;
 mod table;
 
+pub use cause::{Cause, cause_of};
+pub use expected::Expected;
 pub use fault::{ImageRefusal, ShowFault, TextRefusal};
 pub use image::compile_text;
-pub use reading::{law_texts_have_images, read_interface};
+pub use named::name_arguments;
+pub use reading::{law_texts_have_images, read_interface, refusal_of};
 pub use show::{show_content, show_image, show_text};
 pub use table::plan_table;

@@ -55,6 +55,14 @@ pub(crate) fn accept(alloc: Global, text: &[u8]) -> Result<Interface, ShowFault<
     }
 }
 
+/// Why a text is no interface, as a person is told; nothing of one that is an interface, and when out of memory.
+pub fn refusal_of(alloc: Global, text: &[u8]) -> Option<TextRefusal<'_>> {
+    match accept(alloc, text) {
+        Err(ShowFault::Refused(refusal)) => Some(refusal),
+        Ok(_) | Err(_) => None,
+    }
+}
+
 // A fault at a place is the text's; without one memory ran out.
 fn refusal(fault: TextFault, text: &[u8]) -> ShowFault<'_>
     requires fault { IsFaultOf text.now fault }

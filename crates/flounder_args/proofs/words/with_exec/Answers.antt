@@ -6,6 +6,6 @@ use Rattle.flounder_args.proofs.words.with_exec.Goals as goal
 pub returns : goal.returns
 returns c = record {
   is = IfOk-weaker c.subcommand.result _ _
-      (λ r h. with_one_more c.bare_program.result c.exec_command.result r bare_program exec_command c.bare_program.ensures.is c.exec_command.ensures.is h)
+      (λ r h. with_one_more c.bare_program-program.result c.in_ok-exec_command.field-0 r bare_program exec_command c.bare_program-program.ensures.is c.in_ok-exec_command.ensures.is h)
       c.subcommand.ensures;
 }

@@ -5,7 +5,7 @@ use Rattle.flounder_svg.proofs.xml.StartTag.with.Goals as goal
 
 pub invariant_of-result : goal.invariant_of-result
 invariant_of-result c =
-    let yes : c.is_new.result ≡ true = (cc (c.is_new.ensures.same, c.if-not-is_new.ensures.same, c.if-not-is_new.false)) in
+    let yes : c.is_new.result ≡ true = (cc (c.is_new.ensures.same, c.if-not-is_new.ensures.same)) in
     let new = new_for c.self.inside.given.items c.deref.result.now c.args.attribute c.is_new.result c.is_new.ensures.same c.deref.ensures.value yes in
     let before = before_value c.self.inside.text.items c.push-2.new.self.items c.name.result.now c.extend_from_slice.new.self.items
         c.extend_from_slice-2.new.self.items c.args.attribute c.in_ok-push-2.ensures.items c.name.ensures.name
@@ -21,6 +21,6 @@ returns-then-not-is_new-clause-one c =
 
 pub returns-clause-same : goal.returns-clause-same
 returns-clause-same c =
-    let yes : c.is_new.result ≡ true = (cc (c.is_new.ensures.same, c.if-not-is_new.ensures.same, c.if-not-is_new.false)) in
+    let yes : c.is_new.result ≡ true = (cc (c.is_new.ensures.same, c.if-not-is_new.ensures.same)) in
     λ h. absurd (h (new_for c.args.self.given c.deref.result.now c.args.attribute c.is_new.result c.is_new.ensures.same
     (c.deref.ensures.value ∙ ap (λ (s : Start). s.given) c.self.view_is) yes))
