@@ -1,5 +1,5 @@
 -- One end of a circuit more: k is the core before, and base the same by its fields.
-use Rattle.std.proofs.Common.{◌≡◌, refl, sym, ap, ◌∙◌, subst, ℕ, ◌<◌, ◌≤◌, nat_lt, ◌+◌, Bool, true, false, List, [], ◌∷◌, ◌++◌, length, slice_get, slice_set, Option, Some, None, Ok, Err, arith}
+use Rattle.std.proofs.Common.{◌≡◌, refl, sym, ap, ◌∙◌, subst, ℕ, ◌<◌, ◌≤◌, nat_lt, ◌+◌, Bool, true, false, List, [], ◌∷◌, ◌++◌, length, slice_get, slice_set, Option, Some, None, Result, Ok, Err, IfErr, arith}
 use Rattle.std.proofs.lemmas.List.{length-append, length-set}
 use Rattle.fl_base.specs.declared.identity.EndId.{EndId}
 use Rattle.fl_base.specs.declared.identity.LinkId.{LinkId}
@@ -15,6 +15,9 @@ use Rattle.fl_hop.proofs.Cells.{is_less}
 use Rattle.fl_core.specs.declared.kind.ChannelKind.{ChannelKind}
 use Rattle.fl_core.specs.declared.kind.ChannelKind.TheVariants.{Queue}
 use Rattle.fl_core.specs.declared.board_fault.BoardFault.{BoardFault}
+use Rattle.fl_core.specs.declared.board_fault.BoardFault.TheVariants as board
+use Rattle.fl_compile.specs.declared.program.Program.{Program}
+use Rattle.fl_monitor.specs.declared.fault.MonitorFault.TheVariants as monitor
 use Rattle.fl_core.specs.BoardView.{TheDispatcher, TheBoard, with_new_end}
 use Rattle.fl_core.specs.BoardEvents.{Adds}
 use Rattle.fl_monitor.specs.declared.opening.Opening.{Opening}
@@ -26,7 +29,7 @@ use Rattle.fl_core.specs.declared.fault.OpenFault.{OpenFault}
 use Rattle.fl_core.specs.declared.fault.OpenFault.TheVariants.{Board, Monitor}
 use Rattle.fl_core.specs.View.{TheCore, slot_of, place_of, new_arrivals, arrivals_by, circuit_wired_end, with_circuit_wired_end}
 use Rattle.fl_core.specs.Sound.{IsCore, IsWired}
-use Rattle.fl_core.specs.Making.{HasPlace, HasNoPlace, Asked, BeginsOn, Asks}
+use Rattle.fl_core.specs.Making.{HasPlace, HasNoPlace, Asked, asked, BeginsOn, Asks, MayOpen, RefusesOpen, OpensLast}
 use Rattle.fl_core.proofs.HasWiredEnd.{seats_wired_ends, grown_kept}
 use Rattle.fl_core.proofs.Making.{added_kinds}
 
@@ -113,3 +116,60 @@ link_opened l o m m2 c h = link_there m.circuits l.0 o.binding (nat_lt l.0 (leng
 
 pub opens_length : (l : LinkId) (o : Opening) (m m2 : TheMonitor) (c : Number) → Opens l o m (Ok c) m2 → length m2.circuits.links ≡ length m.circuits.links
 opens_length l o m m2 c h = ap (λ (t : TheCircuits). length t.links) h.3 ∙ opened_length m.circuits l c o.binding
+
+-- ---- memory is wanting last
+
+asks_not : (n : ℕ) (program : Program) (l : LinkId) (o : Opening) (k : TheCore) (f : OpenFault) → RefusesOpen n l o k f → Asks (asked n program l o) k (Err f) k
+asks_not n program l o k (Board board.TooManyEnds) h = (h (fresh program None) Queue, refl)
+asks_not n program l o k (Board board.NotBound) h = absurd h
+asks_not n program l o k (Board board.Registered) h = absurd h
+asks_not n program l o k (Board board.NotRegistered) h = absurd h
+asks_not n program l o k (Board board.Failed) h = absurd h
+asks_not n program l o k (Board board.Memory) h = absurd h
+asks_not n program l o k (Monitor monitor.Memory) h = absurd h.1
+asks_not n program l o k (Monitor monitor.Misrouted) h = (h.0, h.1, refl)
+asks_not n program l o k (Monitor monitor.OutboxFull) h = (h.0, h.1, refl)
+asks_not n program l o k (Monitor monitor.Differs) h = (h.0, h.1, refl)
+asks_not n program l o k (Monitor monitor.NoRoute) h = (h.0, h.1, refl)
+asks_not n program l o k (Monitor monitor.UsedUp) h = (h.0, h.1, refl)
+asks_not n program l o k (Monitor monitor.PlansDiffer) h = (h.0, h.1, refl)
+
+refused_last : (n : ℕ) (l : LinkId) (o : Opening) (k : TheCore) (f : OpenFault) → RefusesOpen n l o k f → OpensLast n l o k f
+refused_last n l o k (Board board.TooManyEnds) h = tt
+refused_last n l o k (Board board.NotBound) h = tt
+refused_last n l o k (Board board.Registered) h = tt
+refused_last n l o k (Board board.NotRegistered) h = tt
+refused_last n l o k (Board board.Failed) h = tt
+refused_last n l o k (Board board.Memory) h = absurd h
+refused_last n l o k (Monitor monitor.Memory) h = absurd h.1
+refused_last n l o k (Monitor monitor.Misrouted) h = tt
+refused_last n l o k (Monitor monitor.OutboxFull) h = tt
+refused_last n l o k (Monitor monitor.Differs) h = tt
+refused_last n l o k (Monitor monitor.NoRoute) h = tt
+refused_last n l o k (Monitor monitor.UsedUp) h = tt
+refused_last n l o k (Monitor monitor.PlansDiffer) h = tt
+
+-- so it is where the opening was refused before
+pub refused_open : (n : ℕ) (program : Program) (l : LinkId) (o : Opening) (k : TheCore) (f : OpenFault) → RefusesOpen n l o k f
+    → Asks (asked n program l o) k (Err f) k × OpensLast n l o k f
+refused_open n program l o k f h = (asks_not n program l o k f h, refused_last n l o k f h)
+
+may_last : (n : ℕ) (l : LinkId) (o : Opening) (k : TheCore) (f : OpenFault) → MayOpen n l o k → OpensLast n l o k f
+may_last n l o k (Board board.TooManyEnds) may = tt
+may_last n l o k (Board board.NotBound) may = tt
+may_last n l o k (Board board.Registered) may = tt
+may_last n l o k (Board board.NotRegistered) may = tt
+may_last n l o k (Board board.Failed) may = tt
+may_last n l o k (Board board.Memory) may = may
+may_last n l o k (Monitor monitor.Memory) may = may
+may_last n l o k (Monitor monitor.Misrouted) may = tt
+may_last n l o k (Monitor monitor.OutboxFull) may = tt
+may_last n l o k (Monitor monitor.Differs) may = tt
+may_last n l o k (Monitor monitor.NoRoute) may = tt
+may_last n l o k (Monitor monitor.UsedUp) may = tt
+may_last n l o k (Monitor monitor.PlansDiffer) may = tt
+
+-- and where it may be begun, whatever comes of it
+pub begun_last : (n : ℕ) (l : LinkId) (o : Opening) (k : TheCore) (r : Result ℕ OpenFault) → MayOpen n l o k → IfErr r (OpensLast n l o k)
+begun_last n l o k (Ok e) may = tt
+begun_last n l o k (Err f) may = may_last n l o k f may

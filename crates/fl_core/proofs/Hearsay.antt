@@ -1,5 +1,5 @@
 -- A message is heard: k is the core before, and base the same by its fields.
-use Rattle.std.proofs.Common.{◌≡◌, refl, sym, ap, ◌∙◌, subst, true, ℕ, ◌<◌, List, length, length-set, slice_get, slice_set, Option, Some, None, Result, Ok, Err}
+use Rattle.std.proofs.Common.{◌≡◌, refl, sym, ap, ◌∙◌, subst, true, ℕ, ◌<◌, List, length, length-set, slice_get, slice_set, Option, Some, None, Result, Ok, Err, IfErr}
 use Rattle.fl_base.specs.declared.identity.LinkId.{LinkId}
 use Rattle.fl_compile.specs.declared.program.Program.{Program}
 use Rattle.fl_compile.specs.Programs.{TheProgram, program_of}
@@ -17,7 +17,7 @@ use Rattle.fl_monitor.specs.declared.fault.MonitorFault.{MonitorFault}
 use Rattle.fl_monitor.specs.declared.fault.MonitorFault.TheVariants as fault
 use Rattle.fl_monitor.specs.Fates.{Known}
 use Rattle.fl_monitor.specs.Hearing.{ComesTo, circuit_in}
-use Rattle.fl_monitor.specs.Monitors.{TheMonitor, Hears}
+use Rattle.fl_monitor.specs.Monitors.{TheMonitor, Hears, MayHear, NotHeard}
 use Rattle.fl_monitor.proofs.Tables.{table_length}
 use Rattle.fl_core.specs.declared.wiring.WiredEnd.{WiredEnd}
 use Rattle.fl_core.specs.declared.wiring.LinkSide.{LinkSide}
@@ -32,7 +32,7 @@ use Rattle.fl_base.specs.Given.{given}
 use Rattle.fl_monitor.specs.Saying.{Says}
 use Rattle.fl_core.specs.View.{TheCore, with_monitor, server_of, place_of}
 use Rattle.fl_core.specs.Sound.{IsCore, kinds_seated}
-use Rattle.fl_core.specs.Hearing.{Offers, here_for, known_for, offer_for, offering, Follows, MakesServer, HearsAll, HearsMessage, HearsFrag}
+use Rattle.fl_core.specs.Hearing.{Offers, here_for, known_for, offer_for, offering, Follows, MakesServer, HearsAll, HearsMessage, HearsLast, HearsFrag}
 use Rattle.fl_core.specs.Inside.{server_in, LeadsTo, EndFor, for_message, core_parts, HearsWith, Unheard}
 use Rattle.fl_core.proofs.Kept.{parts_kept, failed_long}
 use Rattle.fl_core.proofs.Offers.{offer_found, offer_leads, made_for, made_new, none_made}
@@ -86,6 +86,36 @@ not_heard_so o l m k fault.NoRoute n2 answer link_sides h u = absurd h
 not_heard_so o l m k fault.UsedUp n2 answer link_sides h u = absurd h
 not_heard_so o l m k fault.PlansDiffer n2 answer link_sides h u = absurd h
 
+-- ---- memory is wanting last
+
+last_by : (o : Offers) (l : LinkId) (m : MonitorMessage) (k : TheCore) (f : MonitorFault) (n2 : TheMonitor) (answer : Result MonitorAnswer LinkReceiveFault) (link_sides lanes2 : List LinkSide)
+    → Hears (known_for o k m) l m k.monitor (Err f) n2 → Unheard l f link_sides answer lanes2 → IfErr answer (HearsLast o l m k)
+last_by o l m k fault.Misrouted n2 answer link_sides lanes2 h u = subst (λ (r : Result MonitorAnswer LinkReceiveFault). IfErr r (HearsLast o l m k)) (sym u.0) tt
+last_by o l m k fault.OutboxFull n2 answer link_sides lanes2 h u = subst (λ (r : Result MonitorAnswer LinkReceiveFault). IfErr r (HearsLast o l m k)) (sym u.0) tt
+last_by o l m k fault.Memory n2 answer link_sides lanes2 h u =
+    subst (λ (r : Result MonitorAnswer LinkReceiveFault). IfErr r (HearsLast o l m k)) (sym u.0) (h.0, (h.1, h.2))
+last_by o l m k fault.Differs n2 answer link_sides lanes2 h u = absurd h
+last_by o l m k fault.NoRoute n2 answer link_sides lanes2 h u = absurd h
+last_by o l m k fault.UsedUp n2 answer link_sides lanes2 h u = absurd h
+last_by o l m k fault.PlansDiffer n2 answer link_sides lanes2 h u = absurd h
+
+-- what isn't heard, memory aside, isn't heard
+pub hears_not : (kn : Known) (l : LinkId) (m : MonitorMessage) (n : TheMonitor) (f : MonitorFault) → NotHeard kn l m n f → Hears kn l m n (Err f) n
+hears_not kn l m n fault.Misrouted h = h
+hears_not kn l m n fault.OutboxFull h = h
+hears_not kn l m n fault.Memory h = absurd h
+hears_not kn l m n fault.Differs h = absurd h
+hears_not kn l m n fault.NoRoute h = absurd h
+hears_not kn l m n fault.UsedUp h = absurd h
+hears_not kn l m n fault.PlansDiffer h = absurd h
+
+last_for : (o : Offers) (l : LinkId) (m : MonitorMessage) (k : TheCore) (h : MessageOutcome) → MayHear (known_for o k m) l m k.monitor h → (f : LinkReceiveFault) → HearsLast o l m k f
+last_for o l m k h may link.Marked = tt
+last_for o l m k h may link.Failed = tt
+last_for o l m k h may link.Misrouted = tt
+last_for o l m k h may (link.Wire why) = tt
+last_for o l m k h may link.Memory = (h, may)
+
 -- ---- what is heard
 
 pub hears_length : (kn : Known) (l : LinkId) (m : MonitorMessage) (n n2 : TheMonitor) (h : MessageOutcome) → Hears kn l m n (Ok h) n2 → length n2.circuits.links ≡ length n.circuits.links
@@ -127,6 +157,21 @@ module _ (o : Offers) (l : LinkId) (m : MonitorMessage) (k base : TheCore) (same
   not_heard f n2 answer link_sides hears unheard =
       subst (λ (x : TheCore). HearsMessage o l m x answer (record base { monitor = n2; link_sides = link_sides })) same
       (not_heard_so o l m base f n2 answer link_sides (subst (λ (x : OpeningFacts). Hears (record { names = o.names; here = x }) l m base.monitor (Err f) n2) at_base hears) unheard)
+
+  pub unheard_last : (f : MonitorFault) (n2 : TheMonitor) (answer : Result MonitorAnswer LinkReceiveFault) (link_sides : List LinkSide) → Hears (record { names = o.names; here = here }) l m base.monitor (Err f) n2
+      → Unheard l f base.link_sides answer link_sides → IfErr answer (HearsLast o l m k)
+  unheard_last f n2 answer link_sides hears unheard =
+      subst (λ (x : TheCore). IfErr answer (HearsLast o l m x)) same
+      (last_by o l m base f n2 answer base.link_sides link_sides (subst (λ (x : OpeningFacts). Hears (record { names = o.names; here = x }) l m base.monitor (Err f) n2) at_base hears) unheard)
+
+  may_last : (h : MessageOutcome) → MayHear (record { names = o.names; here = here }) l m base.monitor h → (f : LinkReceiveFault) → HearsLast o l m k f
+  may_last h may f =
+      subst (λ (x : TheCore). HearsLast o l m x f) same
+      (last_for o l m base h (subst (λ (x : OpeningFacts). MayHear (record { names = o.names; here = x }) l m base.monitor h) at_base may) f)
+
+  pub heard_last : (h : MessageOutcome) (answer : Result MonitorAnswer LinkReceiveFault) → MayHear (record { names = o.names; here = here }) l m base.monitor h → IfErr answer (HearsLast o l m k)
+  heard_last h (Ok told) may = tt
+  heard_last h (Err f) may = may_last h may f
 
   -- with room that was made, and an end that was taken back
   pub not_heard_with : (source : TheProgram) (f : MonitorFault) (b2 : TheBoard) (n2 : TheMonitor) (answer : Result MonitorAnswer LinkReceiveFault) (link_sides : List LinkSide) (wired_ends : List WiredEnd) (arrivals : List TheQueue)

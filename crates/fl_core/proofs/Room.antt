@@ -2,10 +2,11 @@
 use Rattle.std.proofs.Common.{◌≡◌, refl, sym, ap, ◌∙◌, nat_le, nat_lt, false, Option, ◌+◌, ℕ, zero, suc, ◌<◌, ◌≤◌, List, [], ◌∷◌, length, slice_get, Some, arith}
 use Rattle.std.proofs.lemmas.Option.{slice_get_past}
 use Rattle.fl_base.specs.Given.{given}
-use Rattle.fl_core.specs.declared.board_fault.BoardFault.TheVariants.{TooManyEnds, Memory}
+use Rattle.fl_core.specs.declared.board_fault.BoardFault.{BoardFault}
+use Rattle.fl_core.specs.declared.board_fault.BoardFault.TheVariants.{NotBound, Registered, NotRegistered, TooManyEnds, Failed, Memory}
 use Rattle.fl_core.specs.BoardView.{TheDispatcher, TheBoard}
 use Rattle.fl_core.specs.BoardSound.{IsBoard}
-use Rattle.fl_core.specs.Making.{HasPlace, HasNoPlace, has_places}
+use Rattle.fl_core.specs.Making.{HasPlace, HasNoPlace, HasAllEnds, has_places}
 use Rattle.fl_core.specs.Hearing.{has_place}
 
 -- something stands at each place of a list
@@ -31,9 +32,6 @@ module _ (b : TheBoard) (sound : IsBoard b) (n : ℕ) (below : n < length b.disp
       let full : length it.0.ends ≡ 1024 = omega (arith, same, most, h) in
       ((it.0, it.1, full), refl)
 
-  pub no_memory : count < 1024 → HasNoPlace b n Memory
-  no_memory few s kind = (place_there few, refl)
-
   pub ends_few : count ≤ 1024
   ends_few =
       let it = at_place b.dispatchers n below in
@@ -47,6 +45,14 @@ module _ (b : TheBoard) (sound : IsBoard b) (n : ℕ) (below : n < length b.disp
       let found : has_places more b n ≡ nat_le (length it.0.ends + more) 1024
       = ap (λ (o : Option TheDispatcher). given o false (λ d. nat_le (length d.ends + more) 1024)) it.1 in
       ap (λ (k : ℕ). nat_le (k + more) 1024) (count_is it.0 it.1) ∙ sym found
+
+pub all_ends : (b : TheBoard) (n : ℕ) (fault : BoardFault) → HasAllEnds b n fault → HasNoPlace b n fault
+all_ends b n TooManyEnds h = h
+all_ends b n NotBound h = absurd h
+all_ends b n Registered h = absurd h
+all_ends b n NotRegistered h = absurd h
+all_ends b n Failed h = absurd h
+all_ends b n Memory h = absurd h
 
 -- one place more, and none where there is no such dispatcher
 pub place_told : (b : TheBoard) (n : ℕ) → n < length b.dispatchers → (count : ℕ) → ((d : TheDispatcher) → slice_get b.dispatchers n ≡ Some d → count ≡ length d.ends)

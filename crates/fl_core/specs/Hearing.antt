@@ -25,7 +25,7 @@ use Rattle.fl_monitor.specs.declared.fault.MonitorFault.TheVariants as monitor
 use Rattle.fl_monitor.specs.Fates.{Known}
 use Rattle.fl_monitor.specs.Hearing.{opening_of}
 use Rattle.fl_monitor.specs.Saying.{Says, Refuses}
-use Rattle.fl_monitor.specs.Monitors.{TheMonitor, Hears}
+use Rattle.fl_monitor.specs.Monitors.{TheMonitor, Hears, MayHear}
 use Rattle.fl_core.specs.declared.wiring.ArrivalPlace.{ArrivalPlace}
 use Rattle.fl_core.specs.declared.hearing.OfferedService.{OfferedService}
 use Rattle.fl_core.specs.declared.answer.MonitorAnswer.{MonitorAnswer}
@@ -150,6 +150,11 @@ HearsMessage o l m k (Ok told) k2 = HearsAll o l m k told k2
 HearsMessage o l m k (Err Misrouted) k2 = Hears (known_for o k m) l m k.monitor (Err monitor.Misrouted) k.monitor × (k2 ≡ with_failed k l.0)
 HearsMessage o l m k (Err Memory) k2 = k2 ≡ k
 HearsMessage o l m k (Err fault) k2 = ⊥
+
+-- memory is wanting last: only where the message would be heard
+abbrev pub HearsLast : Offers → LinkId → MonitorMessage → TheCore → LinkReceiveFault → Type 0
+HearsLast o l m k Memory = (heard : MessageOutcome) × MayHear (known_for o k m) l m k.monitor heard
+HearsLast o l m k fault = Unit {0}
 
 -- what becomes of the side: what was heard is taken, and what was not is left
 abbrev pub TakesHeard : {T : Type 0} → (T → Look → T → Type 0) → Frag → T → Result MonitorAnswer LinkReceiveFault → T → Type 0

@@ -15,7 +15,8 @@ use Rattle.fl_core.specs.BoardSound.{IsBoard}
 use Rattle.fl_core.specs.BoardView.{TheDispatcher, TheBoard}
 use Rattle.fl_core.specs.BoardEvents.{Adds}
 use Rattle.fl_monitor.specs.declared.opening.Opening.{Opening}
-use Rattle.fl_monitor.specs.Monitors.{TheMonitor, with_new_link, Opens}
+use Rattle.fl_monitor.specs.declared.fault.MonitorFault.TheVariants as monitor
+use Rattle.fl_monitor.specs.Monitors.{TheMonitor, with_new_link, Opens, MayStart, RefusesStart}
 use Rattle.fl_core.specs.declared.wiring.WiredEnd.{WiredEnd}
 use Rattle.fl_core.specs.declared.wiring.EndWiring.TheVariants.{Queues}
 use Rattle.fl_core.specs.declared.joining.LocalBinding.{LocalBinding}
@@ -51,6 +52,11 @@ HasPlace b n = (d : TheDispatcher) × (slice_get b.dispatchers n ≡ Some d) × 
 -- why the dispatcher gets no other end: it has 1,024, or there is no memory for one
 abbrev pub HasNoPlace : TheBoard → ℕ → BoardFault → Type 0
 HasNoPlace b n fault = (s : TheEnd) (kind : ChannelKind) → Adds b n s kind (Err fault) b
+
+-- it has 1,024
+abbrev pub HasAllEnds : TheBoard → ℕ → BoardFault → Type 0
+HasAllEnds b n TooManyEnds = HasNoPlace b n TooManyEnds
+HasAllEnds b n fault = ⊥
 
 -- the end is added at dispatcher n, with its name and its wiring; where it is refused nothing has changed
 abbrev pub AddsWiredEnd : ℕ → TheEnd → WiredEnd → TheCore → Result ℕ BoardFault → TheCore → Type 0
@@ -134,3 +140,19 @@ abbrev pub Asks : Asked → TheCore → Result ℕ OpenFault → TheCore → Typ
 Asks a k (Ok e) k2 = Begins a k e k2
 Asks a k (Err (Board fault)) k2 = Adds k.board a.dispatcher (fresh a.program None) Queue (Err fault) k.board × (k2 ≡ k)
 Asks a k (Err (Monitor fault)) k2 = HasPlace k.board a.dispatcher × Opens a.link a.opening k.monitor (Err fault) k.monitor × (k2 ≡ k)
+
+-- memory aside, a circuit is begun where dispatcher n has a place, no fault is due on link l, and its outbox has room
+pub record MayOpen (n : ℕ) (l : LinkId) (o : Opening) (k : TheCore) : Type 0 where
+  pub place : HasPlace k.board n
+  pub starts : MayStart l o k.monitor
+
+-- and else why it isn't
+abbrev pub RefusesOpen : ℕ → LinkId → Opening → TheCore → OpenFault → Type 0
+RefusesOpen n l o k (Board fault) = HasAllEnds k.board n fault
+RefusesOpen n l o k (Monitor fault) = HasPlace k.board n × RefusesStart l o k.monitor fault
+
+-- memory is wanting last: only where the circuit may be begun
+abbrev pub OpensLast : ℕ → LinkId → Opening → TheCore → OpenFault → Type 0
+OpensLast n l o k (Board Memory) = MayOpen n l o k
+OpensLast n l o k (Monitor monitor.Memory) = MayOpen n l o k
+OpensLast n l o k fault = Unit {0}

@@ -10,7 +10,7 @@ ghost use Rattle.fl_monitor.specs.Saying.{SaysSome};
 ghost use Rattle.fl_core.specs.View.{arriving_at};
 ghost use Rattle.fl_core.specs.Making.{HasPlace};
 ghost use Rattle.fl_core.specs.Hearing.{Offers, here_for, has_end, has_place, offer_of, offer_for};
-ghost use Rattle.fl_core.specs.Hearing.{BindsIf, Offering, Follows, HearsMessage, HearsFrag, TakesHeard};
+ghost use Rattle.fl_core.specs.Hearing.{BindsIf, Offering, Follows, HearsMessage, HearsLast, HearsFrag, TakesHeard};
 ghost use Rattle.fl_core.specs.Inside.{server_in, LeadsTo, for_message, core_parts, HearsWith, MayRefuse, Unheard};
 
 use crate::Board;
@@ -257,6 +257,7 @@ impl Core {
     ) -> Result<MonitorAnswer, LinkReceiveFault>
         requires { offer_for (record { names = names.now; programs = programs.now }) self.old message.now ≡ None }
         ensures hears { HearsMessage (record { names = names.now; programs = programs.now }) link message.now self.old result self.new }
+        ensures last { IfErr result (HearsLast (record { names = names.now; programs = programs.now }) link message.now self.old) }
     {
         let here = self.here_for(message, None);
         match self.monitor.on_message(names, here, link, message) {
@@ -327,6 +328,29 @@ impl Core {
         }
     }
 
+    // The same where the message may be heard.
+    fn hear_if_it_may(
+        &mut self,
+        link: LinkId,
+        message: &MonitorMessage,
+        names: &Names,
+        programs: &[Program],
+        offer: OfferedService,
+    ) -> Result<MonitorAnswer, LinkReceiveFault>
+        requires there { link.0 < length self.old.link_sides }
+        requires offer { offer_for (record { names = names.now; programs = programs.now }) self.old message.now ≡ Some offer }
+        requires dispatcher { offer.dispatcher < length self.old.board.dispatchers }
+        requires program { offer.interface < length programs.now }
+        ensures hears { HearsMessage (record { names = names.now; programs = programs.now }) link message.now self.old result self.new }
+        ensures last { IfErr result (HearsLast (record { names = names.now; programs = programs.now }) link message.now self.old) }
+    {
+        let here = self.here_for(message, Some(offer));
+        match self.monitor.may_hear(names, here, link, message) {
+            Err(fault) => unheard(&mut self.link_sides, link, fault),
+            Ok(_) => self.hear_offered(link, message, names, programs, offer),
+        }
+    }
+
     // Hears a message that came on a link.
     fn hear_message(
         &mut self,
@@ -337,10 +361,11 @@ impl Core {
     ) -> Result<MonitorAnswer, LinkReceiveFault>
         requires { link.0 < length self.old.link_sides }
         ensures hears { HearsMessage (record { names = names.now; programs = programs.now }) link message.now self.old result self.new }
+        ensures last { IfErr result (HearsLast (record { names = names.now; programs = programs.now }) link message.now self.old) }
     {
         match self.offer_for(message, names, programs) {
             None => self.hear_without_offer(link, message, names, programs),
-            Some(offer) => self.hear_offered(link, message, names, programs, offer),
+            Some(offer) => self.hear_if_it_may(link, message, names, programs, offer),
         }
     }
 

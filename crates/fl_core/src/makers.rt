@@ -3,6 +3,7 @@
 ghost use Rattle.std.specs.Prelude.{◌≡◌, ◌⊎◌, ◌<◌, ◌++◌, ◌∷◌, [], ℕ, length, slice_set, Some, None, IfOk, IfErr, OnOk, OnErr, vec_len};
 ghost use Rattle.std.specs.Vec.{vec_capacity};
 ghost use Rattle.fl_hop.specs.Table.{link_fault};
+ghost use Rattle.fl_hop.specs.Openings.{IsRefusal};
 ghost use Rattle.fl_endpoint.specs.View.{fresh};
 ghost use Rattle.fl_core.specs.declared.kind.ChannelKind.TheVariants.{Queue};
 ghost use Rattle.fl_core.specs.BoardView.{with_dispatcher};
@@ -10,7 +11,7 @@ ghost use Rattle.fl_core.specs.BoardEvents.{Adds};
 ghost use Rattle.fl_core.specs.View.{with_board, kind_of, arrivals_by, place_of, slot_of, new_arrivals, circuit_wired_end, number_in};
 ghost use Rattle.fl_core.specs.View.{TheCore};
 ghost use Rattle.fl_base.specs.declared.identity.CoreId.{CoreId};
-ghost use Rattle.fl_core.specs.Making.{linked, IsLinked, HasPlace, HasNoPlace, AddsWiredEnd, HasNewEnd, TakesBackEnd};
+ghost use Rattle.fl_core.specs.Making.{linked, IsLinked, HasPlace, HasNoPlace, HasAllEnds, AddsWiredEnd, HasNewEnd, TakesBackEnd};
 
 use crate::one_core::Core;
 use crate::places::{clear_place, put_place};
@@ -36,6 +37,19 @@ fn kind_of(wiring: EndWiring) -> ChannelKind
     }
 }
 
+// That the dispatcher has a place for one end more.
+pub(crate) fn find_place(board: &Board, dispatcher: usize) -> Result<(), BoardFault>
+    requires { dispatcher < length board.now.dispatchers }
+    ensures place { OnOk result (HasPlace board.now dispatcher) }
+    ensures refused { IfErr result (HasAllEnds board.now dispatcher) }
+{
+    board.sound();
+    if board.ends_at(dispatcher) >= MAX_CHANNELS {
+        return Err(BoardFault::TooManyEnds);
+    }
+    Ok(())
+}
+
 // Room for one wired end more, where the dispatcher has a place for an end.
 pub(crate) fn make_room(
     board: &Board,
@@ -48,9 +62,8 @@ pub(crate) fn make_room(
     ensures place { OnOk result (HasPlace board.now dispatcher) }
     ensures refused { IfErr result (HasNoPlace board.now dispatcher) }
 {
-    board.sound();
-    if board.ends_at(dispatcher) >= MAX_CHANNELS {
-        return Err(BoardFault::TooManyEnds);
+    if let Err(fault) = find_place(board, dispatcher) {
+        return Err(fault);
     }
     let Ok(()) = wired_ends.reserve(1) else {
         return Err(BoardFault::Memory);
@@ -160,9 +173,10 @@ impl Core {
         ensures link { IfOk result (λ link. link.0 ≡ length self.old.link_sides) }
         ensures linked { OnOk result (self.new ≡ linked self.old neighbour side) }
         ensures may { OnOk result (link_fault self.old.monitor.circuits neighbour.0 ≡ None) }
-        ensures refused { IfErr result (λ fault. (link_fault self.old.monitor.circuits neighbour.0 ≡ Some fault) ⊎ (fault ≡ HopFault.Memory)) }
+        ensures refused { IfErr result (IsRefusal (link_fault self.old.monitor.circuits neighbour.0)) }
         ensures kept { OnErr result (self.new ≡ self.old) }
     {
+        self.monitor.may_link(neighbour)?;
         self.link_sides.reserve(1)?;
         let link = self.monitor.add_link(neighbour)?;
         self.link_sides.push_reserved(LinkSide {

@@ -1,6 +1,6 @@
 //! The three lists over a table: a small one at first, and then a large one.
 
-ghost use Rattle.std.specs.Prelude.{◌≡◌, ◌<◌, IfOk, IfSome, IsSome, MatchOption, slice_get};
+ghost use Rattle.std.specs.Prelude.{◌≡◌, ◌<◌, ◌≤◌, IfOk, IfSome, IsSome, MatchOption, OnOk, slice_get};
 ghost use Rattle.fl_lists.specs.ThreeLists.{list_at, place_of, unlinked, pushed, moved, popped, empty, IsApart};
 ghost use Rattle.fl_lists.specs.Table.{index_of, ChangesFew};
 
@@ -19,7 +19,10 @@ use std::marker::Model;
 /// nodes beside its own (clauses `few`), and nothing is ever searched for.
 ///
 /// While only numbers below `FEW` were ever put in, the table is a small one that lies where the
-/// `Lists` itself lies, and no other memory is met.
+/// `Lists` itself lies, and no other memory is met. The first number that is put in above them
+/// copies the small table's eight nodes to the large one, which is in use from then on. That call
+/// too changes two nodes beside its own: the clauses `few` compare each node of the table in use
+/// before with the node of the same index in the table in use after.
 #[derive(Drop)]
 pub struct Lists {
     // the table while `few`
@@ -50,10 +53,11 @@ impl Lists {
     /// Empty lists of the numbers below `size`. No other call of `Lists` takes memory.
     ///
     /// # Errors
-    /// Over 65,533 numbers, or out of memory.
+    /// Over 65,533 numbers, always and without asking for memory; or out of memory.
     pub fn new(alloc: Global, size: usize) -> Result<Lists, AllocError>
         ensures made { IfOk result (λ made. made.lists ≡ empty size) }
         ensures apart { IfOk result (λ made. IsApart made.lists) }
+        ensures short { OnOk result (size ≤ 65533) }
     {
         if size > MOST {
             return Err(AllocError);

@@ -91,6 +91,15 @@ Hears k l m before (Err Memory) after =
     (heard : MessageOutcome) × ComesTo k before.circuits l m heard × (may_say (says l m heard) before.outboxes ≡ true) × (after ≡ before)
 Hears k l m before (Err fault) after = ⊥
 
+-- memory aside: what it comes to, where the outbox that is needed has room
+abbrev pub MayHear : Known → LinkId → MonitorMessage → TheMonitor → MessageOutcome → Type 0
+MayHear k l m n heard = ComesTo k n.circuits l m heard × (may_say (says l m heard) n.outboxes ≡ true)
+
+-- and else why it isn't heard
+abbrev pub NotHeard : Known → LinkId → MonitorMessage → TheMonitor → MonitorFault → Type 0
+NotHeard k l m n Memory = ⊥
+NotHeard k l m n fault = Hears k l m n (Err fault) n
+
 -- ---- a circuit is asked for
 
 -- the client's program and the one that the service was exported with; the service's core; the route; how many cores there are
@@ -141,6 +150,16 @@ Opens l o before (Err OutboxFull) after =
 Opens l o before (Err Memory) after =
     (open_fault before.circuits l.0 o.binding ≡ None) × (can_say before.outboxes l.0 ≡ true) × (after ≡ before)
 Opens l o before (Err fault) after = RefusesOpening before.circuits l.0 o.binding fault × (after ≡ before)
+
+-- memory aside: it is opened where no fault is due, and the link's outbox has room
+pub record MayStart (l : LinkId) (o : Opening) (m : TheMonitor) : Type 0 where
+  pub no_fault : open_fault m.circuits l.0 o.binding ≡ None
+  pub room : can_say m.outboxes l.0 ≡ true
+
+-- and else why it isn't
+abbrev pub RefusesStart : LinkId → Opening → TheMonitor → MonitorFault → Type 0
+RefusesStart l o m Memory = ⊥
+RefusesStart l o m fault = Opens l o m (Err fault) m
 
 -- ---- a message is sent
 

@@ -12,6 +12,8 @@ ghost use Rattle.fl_base.specs.Control.{bare, is_ack_only};
 ghost use Rattle.fl_monitor.specs.Outboxes.{IsFragOf};
 ghost use Rattle.fl_monitor.specs.Monitors.{TheMonitor, fresh_monitor, HasOutboxes, with_new_link, IsLinked, can_say, IsQueuedMessage, Hears, wanted, first_link, MayOpen};
 ghost use Rattle.fl_monitor.specs.Monitors.{asks, RefusesOpening, Opens, waiting_for, without_first};
+ghost use Rattle.fl_monitor.specs.Monitors.{MayStart, RefusesStart, MayHear, NotHeard};
+ghost use Rattle.fl_monitor.specs.Hearing.{GoesOnNext};
 
 use crate::decision::OpeningFacts;
 use crate::fault::MonitorFault;
@@ -114,6 +116,17 @@ impl Monitor {
         self.outboxes.get(usize::from(link.0))
     }
 
+    /// Whether a link to another core may be added. Takes no memory.
+    ///
+    /// # Errors
+    /// It would go to the core itself, or to one that a link goes to already (E73); there are 15 links (E94).
+    pub fn may_link(&self, neighbour: CoreId) -> Result<(), HopFault>
+        ensures may { OnOk result (link_fault self.now.circuits neighbour.0 ≡ None) }
+        ensures refused { IfErr result (λ fault. link_fault self.now.circuits neighbour.0 ≡ Some fault) }
+    {
+        may_link(&self.circuits, neighbour)
+    }
+
     /// Adds a link to another core, with an outbox that has room for all that may wait there.
     ///
     /// # Errors
@@ -178,6 +191,23 @@ impl Monitor {
         }
     }
 
+    /// Whether [`Monitor::start_open`] begins a circuit, memory aside: under which number. Takes no memory.
+    ///
+    /// # Errors
+    /// There is no such link (E73); an entry of the binding stands here (E67); this core has opened 1,023 circuits there
+    /// (E74); 64 messages wait there (E75).
+    pub fn may_start(&self, link: LinkId, opening: &Opening) -> Result<Circuit, MonitorFault>
+        ensures may { OnOk result (MayStart link opening.now self.now) }
+        ensures next { IfOk result (λ circuit. next_own self.now.circuits link.0 ≡ Some circuit.0) }
+        ensures refused { IfErr result (RefusesStart link opening.now self.now) }
+    {
+        let circuit = next_for(&self.circuits, link, opening.binding as usize)?;
+        if !can_say(&self.outboxes, link) {
+            return Err(MonitorFault::OutboxFull);
+        }
+        Ok(circuit)
+    }
+
     /// Asks for a circuit: makes the client's entry under the link's next number, and puts the opening into the link's outbox.
     /// Of the route only its link is looked at here; the rest is [`Monitor::may_open`]'s.
     ///
@@ -188,10 +218,7 @@ impl Monitor {
         ensures opens { Opens link opening.now self.old result self.new }
         ensures later { OnOk result (Later self.old.circuits self.new.circuits) }
     {
-        let circuit = next_for(&self.circuits, link, opening.binding as usize)?;
-        if !can_say(&self.outboxes, link) {
-            return Err(MonitorFault::OutboxFull);
-        }
+        let circuit = self.may_start(link, opening)?;
         let saying = LinkMessage {
             link,
             message: asks(circuit, opening),
@@ -202,6 +229,35 @@ impl Monitor {
         };
         put(&mut self.outboxes, &saying, &frag);
         Ok(circuit)
+    }
+
+    /// What [`Monitor::on_message`] makes of a message, memory aside. Takes no memory.
+    ///
+    /// # Errors
+    /// The message is out of its place (E67); 64 messages wait in the outbox that is needed (E75).
+    pub fn may_hear(
+        &self,
+        names: &Names,
+        here: OpeningFacts,
+        link: LinkId,
+        message: &MonitorMessage,
+    ) -> Result<MessageOutcome, MonitorFault>
+        ensures may { IfOk result (MayHear (record { names = names.now; here = here }) link message.now self.now) }
+        ensures next { IfOk result (GoesOnNext self.now.circuits) }
+        ensures refused { IfErr result (λ fault. NotHeard (record { names = names.now; here = here }) link message.now self.now fault) }
+    {
+        let Some(heard) = comes_to(&self.circuits, names, here, link, message) else {
+            return Err(MonitorFault::Misrouted);
+        };
+        match says(link, message, heard) {
+            Some(saying) => {
+                if !can_say(&self.outboxes, saying.link) {
+                    return Err(MonitorFault::OutboxFull);
+                }
+                Ok(heard)
+            }
+            None => Ok(heard),
+        }
     }
 
     /// Hears a message that came on a link. What it comes to is found first, by the table of names and what the core knows of
@@ -221,14 +277,9 @@ impl Monitor {
         ensures hears { Hears (record { names = names.now; here = here }) link message.now self.old result self.new }
         ensures later { OnOk result (Later self.old.circuits self.new.circuits) }
     {
-        let Some(heard) = comes_to(&self.circuits, names, here, link, message) else {
-            return Err(MonitorFault::Misrouted);
-        };
+        let heard = self.may_hear(names, here, link, message)?;
         match says(link, message, heard) {
             Some(saying) => {
-                if !can_say(&self.outboxes, saying.link) {
-                    return Err(MonitorFault::OutboxFull);
-                }
                 let frag = self.messenger.frag(&saying.message)?;
                 let Ok(()) = change(&mut self.circuits, link, message, heard) else {
                     return Err(MonitorFault::Memory);

@@ -1,14 +1,5 @@
-use Rattle.fl_core.proofs.Room.{place_there, none_left, no_memory}
+use Rattle.fl_core.proofs.Room.{all_ends}
 use Rattle.fl_core.proofs.makers.make_room.Goals as goal
 
-pub returns-then-ends_at-ge-MAX_CHANNELS-clause-refused : goal.returns-then-ends_at-ge-MAX_CHANNELS-clause-refused
-returns-then-ends_at-ge-MAX_CHANNELS-clause-refused c =
-    none_left c.args.board.now c.sound.ensures.sound c.args.dispatcher c.requires c.ends_at.result c.ends_at.ensures.ends c.if-ends_at-ge-MAX_CHANNELS.true
-
-pub returns-in_default-clause-refused : goal.returns-in_default-clause-refused
-returns-in_default-clause-refused c =
-    no_memory c.args.board.now c.sound.ensures.sound c.args.dispatcher c.requires c.ends_at.result c.ends_at.ensures.ends c.if-ends_at-ge-MAX_CHANNELS.false
-
-pub returns-clause-place : goal.returns-clause-place
-returns-clause-place c =
-    place_there c.args.board.now c.sound.ensures.sound c.args.dispatcher c.requires c.ends_at.result c.ends_at.ensures.ends c.if-ends_at-ge-MAX_CHANNELS.false
+pub returns-in-Err-clause-refused : goal.returns-in-Err-clause-refused
+returns-in-Err-clause-refused c = all_ends c.args.board.now c.args.dispatcher c.in-Err.fault c.in-Err.ensures.refused

@@ -3,7 +3,7 @@ use Rattle.fl_monitor.specs.Monitors.{TheMonitor}
 use Rattle.fl_core.specs.contracts.one_core.Core.{the_view}
 use Rattle.fl_core.specs.Hearing.{Offers, offer_for, offering}
 use Rattle.fl_core.proofs.Kept.{parts_kept}
-use Rattle.fl_core.proofs.Hearsay.{hears_kept, unheard_length, not_heard, none_so, message_heard}
+use Rattle.fl_core.proofs.Hearsay.{hears_kept, unheard_length, not_heard, unheard_last, none_so, message_heard}
 use Rattle.std.proofs.Common.{length}
 use Rattle.fl_core.proofs.one_core.Core.hear_without_offer.Goals as goal
 
@@ -18,9 +18,12 @@ unreachable-requires c =
 pub returns-in-Err : goal.returns-in-Err
 returns-in-Err c =
     let o : Offers = record { names = c.args.names.now; programs = c.args.programs.now } in
-    record { hears = not_heard o c.args.link c.args.message.now c.args.self.now _ c.self.view_is c.here_for-here.result (c.here_for-here.ensures.here o (sym c.requires)) c.in-Err.fault c.on_message.new.self c.unheard.result c.unheard.new.link_sides.items c.in-Err.ensures.hears c.unheard.ensures.unheard }
+    record {
+      hears = not_heard o c.args.link c.args.message.now c.args.self.now _ c.self.view_is c.here_for-here.result (c.here_for-here.ensures.here o (sym c.requires)) c.in-Err.fault c.on_message.new.self c.unheard.result c.unheard.new.link_sides.items c.in-Err.ensures.hears c.unheard.ensures.unheard;
+      last = unheard_last o c.args.link c.args.message.now c.args.self.now _ c.self.view_is c.here_for-here.result (c.here_for-here.ensures.here o (sym c.requires)) c.in-Err.fault c.on_message.new.self c.unheard.result c.unheard.new.link_sides.items c.in-Err.ensures.hears c.unheard.ensures.unheard;
+    }
 
 pub returns-in-None : goal.returns-in-None
 returns-in-None c =
     let o : Offers = record { names = c.args.names.now; programs = c.args.programs.now } in
-    record { hears = message_heard o c.args.link c.args.message.now c.args.self.now _ c.self.view_is c.here_for-here.result (c.here_for-here.ensures.here o (sym c.requires)) c.on_message.new.self c.in-Ok.heard c.follow.result c.follow.new.self c.in-Ok.ensures.hears (c.follow.ensures.follows (offering o.programs (offer_for o (the_view c.self.inside) c.args.message.now) c.args.link)) }
+    record { hears = message_heard o c.args.link c.args.message.now c.args.self.now _ c.self.view_is c.here_for-here.result (c.here_for-here.ensures.here o (sym c.requires)) c.on_message.new.self c.in-Ok.heard c.follow.result c.follow.new.self c.in-Ok.ensures.hears (c.follow.ensures.follows (offering o.programs (offer_for o (the_view c.self.inside) c.args.message.now) c.args.link)); last = tt }

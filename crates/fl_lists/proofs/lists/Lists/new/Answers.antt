@@ -24,7 +24,7 @@ returns-then-size-lt-FEW c =
     let left = new_large (replicate 8 free_node) c.in_ok-nodes.nodes.items c.deref_mut.result.now c.put_heads.new.nodes c.in_ok-nodes.nodes.len c.args.size _
     c.put_heads.ensures.table c.put_heads.ensures.lists refl (omega (arith, c.if-size-gt-MOST.false))
     (c.in_ok-nodes.ensures.items_if_clones_equal (λ y same. same)) c.deref_mut.ensures.value c.deref_mut.ensures.len c.put_heads.auto.nodes in
-    record { made = left.lists; apart = left.apart }
+    record { made = left.lists; apart = left.apart; short = omega (arith, c.if-size-gt-MOST.false) }
 
 pub invariant_of-result-2 : goal.invariant_of-result-2
 invariant_of-result-2 c =
@@ -35,4 +35,4 @@ pub returns : goal.returns
 returns c =
     let left = new_near c.put_heads-2.new.nodes c.in_ok-nodes.nodes.items c.args.size _ c.put_heads-2.ensures.table c.put_heads-2.ensures.lists
     c.put_heads-2.auto.nodes c.if-size-lt-FEW.false (omega (arith, c.if-size-gt-MOST.false)) (c.in_ok-nodes.ensures.items_if_clones_equal (λ y same. same)) in
-    record { made = left.lists; apart = left.apart }
+    record { made = left.lists; apart = left.apart; short = omega (arith, c.if-size-gt-MOST.false) }
