@@ -17,3 +17,5 @@ pub mod Telling
 pub mod OneFault
 pub mod Compiling
 pub mod Cases
+pub mod Packs
+pub mod Spreading

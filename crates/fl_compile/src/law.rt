@@ -1,6 +1,7 @@
 //! What the compiler's code does: laws, as the contracts of functions that do nothing.
 
 ghost use Rattle.fl_compile.specs.Laws.{SendsCalls, TakesCalls, CompilesToCode, TellsFaults, OneFault, OneRefusal};
+ghost use Rattle.fl_compile.specs.PackedLaws.{PacksCalls, SpreadsCalls};
 
 /// The send code of a message turns the tape of each fitting call into the call's payload.
 pub fn law_sends_calls()
@@ -30,4 +31,11 @@ pub fn law_tells_faults()
 pub fn law_one_fault()
     ensures fault { OneFault }
     ensures refusal { OneRefusal }
+{}
+
+/// The tape of a fitting call, packed as its message's send code takes it, is the call's packed tape; and of that the code
+/// makes the call's payload.
+pub fn law_spreads_calls()
+    ensures packs { PacksCalls }
+    ensures spreads { SpreadsCalls }
 {}

@@ -1,0 +1,4 @@
+pub mod Spreads
+pub mod StepsPut
+pub mod Stacks
+pub mod Plain

@@ -1,0 +1,13 @@
+-- Working file: the steps of the blocks that are open at a place of code, the innermost last.
+use Rattle.std.specs.Prelude.{◌≡◌, List, [], ◌∷◌, ◌++◌}
+use Rattle.std.specs.Global.{Vec}
+use Rattle.fl_stub.specs.Structure.{Block}
+use Rattle.fl_stub_steps.specs.declared.step.Step.{Step}
+use Rattle.fl_stub_steps.specs.Steps.{steps_of, Means}
+
+abbrev pub MeansBlock : Vec Step → Block → Type 0
+MeansBlock steps b = Means (steps_of steps.items) b
+
+abbrev pub Opened : List (Vec Step) → List Block → Type 0
+Opened held [] = held ≡ []
+Opened held (b ∷ blocks) = (outer : List (Vec Step)) × (inner : Vec Step) × (held ≡ outer ++ inner ∷ []) × MeansBlock inner b × Opened outer blocks

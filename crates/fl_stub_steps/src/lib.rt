@@ -1,0 +1,20 @@
+//! Prepared send code: the larger steps that verified code comes to, and runs of them over packed tapes.
+//!
+//! Contract for the layers above: [`PreparedCode`] means what the code means from which it was made
+//! (`specs/Steps.antt`), and that is what the code makes of a tape ([`law_spreads_packed`]); [`PreparedCode::give`]
+//! writes these bytes.
+//!
+//! - `step.rt`: `Step`, `PreparedCode`
+//! - `preparing.rt`: the steps of code
+//! - `give.rt`: the bytes that steps give
+//! - `law.rt`: what code makes of packed tapes
+#![tactic(auto)]
+
+mod give;
+mod law;
+mod preparing;
+mod step;
+
+pub use law::law_spreads_packed;
+pub use preparing::prepare;
+pub use step::PreparedCode;
