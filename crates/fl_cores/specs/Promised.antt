@@ -1,7 +1,7 @@
 -- What is promised of a run of cores, beside what its report will be shown to say of calls.
 use Rattle.std.specs.Prelude.{ℕ, ◌≡◌, ◌⊎◌, ◌+◌, Bool, true, false, not, List, ◌++◌, length, take, Option, Some, None, position}
 use Rattle.std.specs.List.{list_all}
-use Rattle.fl_model.specs.Events.{Event}
+use Rattle.fl_model.specs.Events.{Event, set_cores}
 use Rattle.fl_model.specs.declared.event.Event.{Event as RustEvent}
 use Rattle.fl_model.specs.Views.{event_of}
 use Rattle.fl_model.specs.Runs.{answers_to, reached}
@@ -25,9 +25,14 @@ use Rattle.fl_cores.specs.declared.text.CoresEnd.TheVariants as end
 
 -- ---- a set-up
 
+-- an event of a set-up makes an interface, a link, a dispatcher, a service, or a binding by queues or by a ring; the number of cores is the configuration's
+abbrev pub is_of_set_up : Event → Bool
+is_of_set_up (set_cores n) = false
+is_of_set_up event = is_making event
+
 -- an event that isn't of a set-up
 abbrev pub is_other : Event → Bool
-is_other event = not (is_making event)
+is_other event = not (is_of_set_up event)
 
 abbrev pub asks_other : RustEvent → Bool
 asks_other event = is_other (event_of event)

@@ -26,8 +26,9 @@ use std::thread::Threads;
 ///
 /// # Errors
 /// [`CoresFault`]: a number of cores outside 1 to 16 (94, at place 0); else the first event of the set-up that
-/// is refused, by the world or since no set-up has it (93); else the first job that is refused; or out of
-/// memory, or of threads. Every thread was joined then.
+/// is refused, by the world or since no set-up has it (93: one that makes nothing at once, as a call or a
+/// circuit, or that sets the number of cores, which the configuration has); else the first job that is
+/// refused; or out of memory, or of threads. Every thread was joined then.
 pub fn run_cores<R: Threads + Wait + Sync, G: Gate + Sync>(
     rt: &R,
     alloc: Global,

@@ -147,6 +147,12 @@ fn the_first_event_that_is_refused_is_told(rt: HostRuntime) -> Result<(), Fail> 
         place: 1,
     };
     assert!(rt; told == Some(refused));
+    let told = refusal_of(&rt, rt.alloc(), Event::SetCores(1), dispatcher())?;
+    let refused = CoresFault::Setup {
+        number: 93,
+        place: 1,
+    };
+    assert!(rt; told == Some(refused));
     let told = refusal_of(&rt, rt.alloc(), turn(), dispatcher())?;
     let refused = CoresFault::Setup {
         number: 93,
