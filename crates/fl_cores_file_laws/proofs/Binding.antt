@@ -1,5 +1,5 @@
 -- Lines that bind by queues or by a ring: each is refused as the machine refuses it, but where there are 1,024 bindings, and the draft goes on as the machine does.
-use Rattle.std.proofs.Common.{◌≡◌, ◌≢◌, ◌⊎◌, inl, inr, refl, sym, ◌∙◌, ap, subst, ℕ, ◌+◌, ◌≤◌, ◌==◌, ◌||◌, ◌&&◌, nat_lt, nat_le, not, Bool, true, false, if◌then◌else◌, List, [], ◌∷◌, ◌++◌, length, length-append, map, slice_get, is_some, cond, Option, Some, None, option_map, arith}
+use Rattle.std.proofs.Common.{◌≡◌, ◌≢◌, ◌⊎◌, inl, inr, refl, sym, ◌∙◌, ap, subst, ℕ, ◌+◌, ◌≤◌, ◌==◌, ◌||◌, ◌&&◌, nat_lt, nat_le, not, Bool, true, false, if◌then◌else◌, List, [], ◌∷◌, ◌++◌, length, length-append, map, slice_get, is_some, sum, cond, Option, Some, None, option_map, arith}
 use Rattle.std.specs.List.{count_by}
 use Rattle.std.proofs.lemmas.Bool.Decides.{nat_tests}
 use Rattle.std.proofs.lemmas.List.Sums.{sum_by-append}
@@ -10,7 +10,7 @@ use Rattle.fl_model.specs.Binding as machine
 use Rattle.fl_model.specs.Binding.{BindByNames, end_id, with_new_binding, same_dispatcher, has_places_for, place_of_service}
 use Rattle.fl_model.specs.Calls.{Planned}
 use Rattle.fl_model.specs.Ends.{Queue, fresh_queue}
-use Rattle.fl_model.specs.Events.{DispatcherId, Kind, by_queues, by_ring, Event, bind, Answer, done, refused}
+use Rattle.fl_model.specs.Events.{DispatcherId, Kind, by_queues, by_ring, by_route, Event, bind, Answer, done, refused}
 use Rattle.fl_model.specs.Making.{is_ring_size}
 use Rattle.fl_model.specs.Monitors.{Service}
 use Rattle.fl_model.specs.Rings.{fresh_ring}
@@ -18,15 +18,19 @@ use Rattle.fl_model.specs.State.{Back, local, over_ring, State, StepOutcome, ans
 use Rattle.fl_model.specs.Waits.{Dispatcher}
 use Rattle.fl_model_laws.proofs.Cases.{either, by_given}
 use Rattle.fl_model_laws.proofs.Replies.{length_changed}
-use Rattle.fl_cores_file.specs.Draft.{Draft, TheDraftRequest, is_dispatcher, is_interface, has_both_places, binds_by_queues, binds_by_ring, binds_by, binds, offer_of, with_set_up}
+use Rattle.fl_cores_file.specs.Draft.{Draft, Offer, TheDraftRequest, has_places, is_dispatcher, is_interface, has_both_places, binds_by_queues, binds_by_ring, binds_by, binds, offer_of, with_set_up}
 use Rattle.fl_cores_file.specs.Verdicts.{LineVerdict, stops, goes_on}
 use Rattle.fl_cores_file_laws.specs.SetUps.{is_binding}
 use Rattle.fl_cores_file_laws.proofs.Views.{View, view_of, ends_at, seated, seat_view, both_view}
-use Rattle.fl_cores_file_laws.proofs.Counts.{sizes, size_at, many_at, seat_more, seat_keeps, seat_sizes}
+use Rattle.fl_cores_file_laws.proofs.Counts.{one_longer, sizes, size_at, many_at, seat_more, seat_keeps, seat_sizes}
 use Rattle.fl_cores_file_laws.proofs.Mirrors.{Mirrors, offer_by, IsThere, there_same, interface_same, offer_same, places_same, found, present}
 use Rattle.fl_cores_file_laws.proofs.Making.{Agrees, agree_if, agree_there}
 
 -- ---- both ends find a place
+
+same_if : (a p q r p2 q2 r2 : Bool) → p ≡ p2 → q ≡ q2 → r ≡ r2 → (if a then p else (q && r)) ≡ (if a then p2 else (q2 && r2))
+same_if true p q r p2 q2 r2 e f g = e
+same_if false p q r p2 q2 r2 e f g = ap (λ b. b && r) f ∙ ap (λ b. q2 && b) g
 
 both_same : (d : Draft) (s : State) (h : Mirrors d (view_of s)) (m : BindByNames) (w : TheDraftRequest) → w.client ≡ m.client → w.server ≡ m.service.dispatcher
     → is_some (ends_at (view_of s).ends m.client) ≡ true → is_some (ends_at (view_of s).ends m.service.dispatcher) ≡ true
@@ -34,9 +38,8 @@ both_same : (d : Draft) (s : State) (h : Mirrors d (view_of s)) (m : BindByNames
 both_same d s h m w p q there here =
     let x = m.client in
     let y = m.service.dispatcher in
-    ap (λ c. if same_dispatcher x y then c else (has_places_for x 1 s && has_places_for y 1 s)) (places_same d s h x 2 there)
-    ∙ ap (λ c. if same_dispatcher x y then _ else (c && has_places_for y 1 s)) (places_same d s h x 1 there)
-    ∙ ap (λ c. if same_dispatcher x y then _ else (_ && c)) (places_same d s h y 1 here)
+    same_if (same_dispatcher x y) (has_places_for x 2 s) (has_places_for x 1 s) (has_places_for y 1 s) (has_places 2 x d) (has_places 1 x d) (has_places 1 y d)
+    (places_same d s h x 2 there) (places_same d s h x 1 there) (places_same d s h y 1 here)
     ∙ ap (λ z. has_both_places (record w { client = z; server = y }) d) (sym p)
     ∙ ap (λ z. has_both_places (record w { server = z }) d) (sym q)
 
@@ -67,7 +70,7 @@ bound_goes m w kind d v h p q there here =
       names = h.names;
       offers = h.offers;
       offered = λ n a at. seat_keeps one y a.dispatcher ∙ seat_keeps v.ends x a.dispatcher ∙ h.offered n a at;
-      few = let before = h.few in let long = length-append d.bindings (_ ∷ []) in omega (arith, before, long);
+      few = one_longer v.bindings d.bindings _ h.few;
     }
 
 -- the machine's binding, whatever it has beside its two ends
@@ -151,15 +154,20 @@ refused_as s fault h e = let same : fault ≡ 92 = same_fault (refused fault) (r
 is_done : (s : State) → Named (answers s done)
 is_done s e = absurd (cc)
 
-kind_named : (m : BindByNames) (slots : ℕ) (s : State) → Named (machine.binds_by_queues m slots s) × Named (machine.binds_by_ring m slots s)
-kind_named m slots s = (
-      either Named (not (m.client.core == m.service.dispatcher.core)) _ _ (λ q. refused_as s 73 refl)
-      (λ q. either Named (nat_lt slots 1 || nat_lt 1024 slots) _ _ (λ r. refused_as s 32 refl)
-      (λ r. either Named (not (machine.has_both_places m s)) _ _ (λ t. refused_as s 54 refl) (λ t. is_done _))),
-      either Named (m.client.core == m.service.dispatcher.core) _ _ (λ q. refused_as s 73 refl)
-      (λ q. either Named (not (is_ring_size slots)) _ _ (λ r. refused_as s 32 refl)
-      (λ r. either Named (not (machine.has_both_places m s)) _ _ (λ t. refused_as s 54 refl) (λ t. is_done _))),
-    )
+queues_named : (m : BindByNames) (slots : ℕ) (s : State) → Named (machine.binds_by_queues m slots s)
+queues_named m slots s =
+    let fresh = with_new_binding m local 2 (Some (fresh_queue slots)) s in
+    either Named (not (m.client.core == m.service.dispatcher.core)) _ _ (λ q. refused_as s 73 refl)
+    (λ q. either Named (nat_lt slots 1 || nat_lt 1024 slots) _ _ (λ r. refused_as s 32 refl)
+    (λ r. either Named (not (machine.has_both_places m s)) _ _ (λ t. refused_as s 54 refl) (λ t. is_done (machine.binds_both (length s.bindings) m fresh))))
+
+ring_named : (m : BindByNames) (size : ℕ) (s : State) → Named (machine.binds_by_ring m size s)
+ring_named m size s =
+    let ringed = record s { rings = s.rings ++ fresh_ring size ∷ [] } in
+    let fresh = with_new_binding m (over_ring (length s.rings)) 2 None ringed in
+    either Named (m.client.core == m.service.dispatcher.core) _ _ (λ q. refused_as s 73 refl)
+    (λ q. either Named (not (is_ring_size size)) _ _ (λ r. refused_as s 32 refl)
+    (λ r. either Named (not (machine.has_both_places m s)) _ _ (λ t. refused_as s 54 refl) (λ t. is_done (machine.binds_both (length s.bindings) m fresh))))
 
 rest_named : (m : Service → ℕ → BindByNames) (i : ℕ) (name : List ℕ) (kind : Kind) (s : State) → ((x : BindByNames) → Named (machine.binds_by x kind s))
     → Named (given (place_of_service name s.services) (answers s (refused 70)) λ place.
@@ -177,8 +185,8 @@ is_at_once (by_ring size) = true
 is_at_once kind = false
 
 at_once_named : (kind : Kind) (s : State) → is_at_once kind ≡ true → (x : BindByNames) → Named (machine.binds_by x kind s)
-at_once_named (by_queues slots) s e x = (kind_named x slots s).0
-at_once_named (by_ring size) s e x = (kind_named x size s).1
+at_once_named (by_queues slots) s e x = queues_named x slots s
+at_once_named (by_ring size) s e x = ring_named x size s
 at_once_named (by_route route) s e x = absurd (cc)
 
 kind_agrees : (client : DispatcherId) (i : ℕ) (name : List ℕ) (kind : Kind) (d : Draft) (s : State) → Mirrors d (view_of s) → (service : Service) (iref messages : ℕ)
@@ -189,60 +197,60 @@ kind_agrees client i name (by_queues slots) d s h service iref messages there he
 kind_agrees client i name (by_ring size) d s h service iref messages there here e = ring_agrees client i name d s h service iref messages there here size
 kind_agrees client i name (by_route route) d s h service iref messages there here e = absurd (cc)
 
-pub bind_agrees : (client : DispatcherId) (i : ℕ) (name : List ℕ) (kind : Kind) (d : Draft) (s : State) → Mirrors d (view_of s) → is_at_once kind ≡ true
-    → AgreesOr (bind client i name kind) d (binds client i name kind d) (machine.binds client i name kind s)
-bind_agrees client i name kind d s h once =
-    agree_there (AgreesOr v d) s (is_dispatcher client d) (is_interface i d) (dispatcher_of s client) (slice_get s.interfaces i) _ _ (inl refl)
-    (there_same d s h client) (interface_same d s h i)
-    (λ x planned q r. by_count x planned q (nat_le most_bindings (length d.bindings)) refl (nat_le most_bindings (length s.bindings)) refl)
-  where
-    abbrev v : Event
-    v = bind client i name kind
-    abbrev goes : LineVerdict Draft
-    goes = given (offer_of name d) (stops 70) λ offer.
-        if not (offer.interface == i) then stops 72
-        else binds_by (record { client = client; server = offer.dispatcher; interface = i; service = name }) kind d
-    abbrev named : Planned → Service → ℕ → BindByNames
-    named planned service place =
-        record { client = client; interface = i; messages = length planned.interface.messages; service = service; iref = place + 1 }
-    abbrev steps : Planned → StepOutcome
-    steps planned = given (place_of_service name s.services) (answers s (refused 70)) λ place.
-        given (slice_get s.services place) (answers s (refused 70)) λ service.
-        if not (service.interface == i) then answers s (refused 72) else machine.binds_by (named planned service place) kind s
-    rest : (x : Dispatcher) (planned : Planned) → dispatcher_of s client ≡ Some x → Agrees v d goes (steps planned)
-    rest x planned q =
-        subst (λ o. Agrees v d (given o (stops 70) λ offer.
-          if not (offer.interface == i) then stops 72
-          else binds_by (record { client = client; server = offer.dispatcher; interface = i; service = name }) kind d) (steps planned)) (sym (offer_same d s h name))
-        (by (place_of_service name s.services))
-      where
-        by : (o : Option ℕ) → Agrees v d (given (given o None λ place. option_map offer_by (slice_get s.services place)) (stops 70) λ offer.
-              if not (offer.interface == i) then stops 72
-              else binds_by (record { client = client; server = offer.dispatcher; interface = i; service = name }) kind d)
-            (given o (answers s (refused 70)) λ place.
-              given (slice_get s.services place) (answers s (refused 70)) λ service.
-              if not (service.interface == i) then answers s (refused 72) else machine.binds_by (named planned service place) kind s)
-        by None = refl
-        by (Some place) = one (slice_get s.services place) refl
-          where
-            one : (z : Option Service) → slice_get s.services place ≡ z → Agrees v d (given (option_map offer_by z) (stops 70) λ offer.
-                  if not (offer.interface == i) then stops 72
-                  else binds_by (record { client = client; server = offer.dispatcher; interface = i; service = name }) kind d)
-                (given z (answers s (refused 70)) λ service.
-                  if not (service.interface == i) then answers s (refused 72) else machine.binds_by (named planned service place) kind s)
-            one None at = refl
-            one (Some service) at =
-                agree_if (Agrees v d) (not (service.interface == i)) (not (service.interface == i)) _ _ _ _ refl (λ t. refl)
-                (λ t. kind_agrees client i name kind d s h service (place + 1) (length planned.interface.messages) (present s client x q) (h.offered place service at) once)
-    by_count : (x : Dispatcher) (planned : Planned) → dispatcher_of s client ≡ Some x → (a : Bool) → nat_le most_bindings (length d.bindings) ≡ a
-        → (b : Bool) → nat_le most_bindings (length s.bindings) ≡ b
-        → AgreesOr v d (if a then stops 94 else goes) (if b then answers s (refused 94) else steps planned)
-    by_count x planned q true e true f = inl refl
-    by_count x planned q true e false f = inr (record {
-      binding = refl;
-      fault_is = refl;
-      many = grind (arith, nat_tests, e);
-      named = rest_named (named planned) i name kind s (at_once_named kind s once);
-    })
-    by_count x planned q false e true f = absurd (let few = h.few in grind (arith, nat_tests, e, f, few))
-    by_count x planned q false e false f = or_else v d goes (steps planned) (rest x planned q)
+module _ (client : DispatcherId) (i : ℕ) (name : List ℕ) (kind : Kind) (d : Draft) (s : State) (h : Mirrors d (view_of s)) (once : is_at_once kind ≡ true) where
+  abbrev v : Event
+  v = bind client i name kind
+
+  abbrev by_offer : Option Offer → LineVerdict Draft
+  by_offer o = given o (stops 70) λ offer.
+      if not (offer.interface == i) then stops 72
+      else binds_by (record { client = client; server = offer.dispatcher; interface = i; service = name }) kind d
+
+  abbrev named : Planned → Service → ℕ → BindByNames
+  named planned service place =
+      record { client = client; interface = i; messages = length planned.interface.messages; service = service; iref = place + 1 }
+
+  abbrev by_service : Planned → ℕ → Option Service → StepOutcome
+  by_service planned place o = given o (answers s (refused 70)) λ service.
+      if not (service.interface == i) then answers s (refused 72) else machine.binds_by (named planned service place) kind s
+
+  abbrev by_place : Planned → Option ℕ → StepOutcome
+  by_place planned o = given o (answers s (refused 70)) λ place. by_service planned place (slice_get s.services place)
+
+  one_service : (x : Dispatcher) (planned : Planned) → dispatcher_of s client ≡ Some x → (place : ℕ) (z : Option Service) → slice_get s.services place ≡ z
+      → Agrees v d (by_offer (option_map offer_by z)) (by_service planned place z)
+  one_service x planned q place None at = refl
+  one_service x planned q place (Some service) at =
+      agree_if (Agrees v d) (not (service.interface == i)) (not (service.interface == i)) _ _ _ _ refl (λ t. refl)
+      (λ t. kind_agrees client i name kind d s h service (place + 1) (length planned.interface.messages) (present s client x q) (h.offered place service at) once)
+
+  one_place : (x : Dispatcher) (planned : Planned) → dispatcher_of s client ≡ Some x → (o : Option ℕ)
+      → Agrees v d (by_offer (given o None λ place. option_map offer_by (slice_get s.services place))) (by_place planned o)
+  one_place x planned q None = refl
+  one_place x planned q (Some place) = one_service x planned q place (slice_get s.services place) refl
+
+  rest : (x : Dispatcher) (planned : Planned) → dispatcher_of s client ≡ Some x
+      → Agrees v d (by_offer (offer_of name d)) (by_place planned (place_of_service name s.services))
+  rest x planned q =
+      subst (λ o. Agrees v d (by_offer o) (by_place planned (place_of_service name s.services))) (sym (offer_same d s h name))
+      (one_place x planned q (place_of_service name s.services))
+
+  by_count : (x : Dispatcher) (planned : Planned) → dispatcher_of s client ≡ Some x → (a : Bool) → nat_le most_bindings (length d.bindings) ≡ a
+      → (b : Bool) → nat_le most_bindings (length s.bindings) ≡ b
+      → AgreesOr v d (if a then stops 94 else by_offer (offer_of name d)) (if b then answers s (refused 94) else by_place planned (place_of_service name s.services))
+  by_count x planned q true e true f = inl refl
+  by_count x planned q true e false f = inr (record {
+    binding = refl;
+    fault_is = refl;
+    many = grind (arith, nat_tests, e);
+    named = rest_named (named planned) i name kind s (at_once_named kind s once);
+  })
+  by_count x planned q false e true f = absurd (let few = h.few in grind (arith, nat_tests, e, f, few))
+  by_count x planned q false e false f =
+      or_else v d (by_offer (offer_of name d)) (by_place planned (place_of_service name s.services)) (rest x planned q)
+
+  pub bind_agrees : AgreesOr v d (binds client i name kind d) (machine.binds client i name kind s)
+  bind_agrees =
+      agree_there (AgreesOr v d) s (is_dispatcher client d) (is_interface i d) (dispatcher_of s client) (slice_get s.interfaces i) _ _ (inl refl)
+      (there_same d s h client) (interface_same d s h i)
+      (λ x planned q r. by_count x planned q (nat_le most_bindings (length d.bindings)) refl (nat_le most_bindings (length s.bindings)) refl)

@@ -1,5 +1,5 @@
 -- Lists that are counted: what is found in one, one more of a kind, and one more at a place.
-use Rattle.std.proofs.Common.{◌≡◌, refl, sym, ◌∙◌, ap, ℕ, zero, suc, ◌+◌, ◌<◌, ◌==◌, ◌||◌, ◌&&◌, nat_lt, not, cond, Bool, true, false, List, [], ◌∷◌, ◌++◌, length, map, slice_get, position, sum, is_some, Option, Some, None, option_map, arith}
+use Rattle.std.proofs.Common.{◌≡◌, refl, sym, ◌∙◌, ap, ℕ, zero, suc, ◌+◌, ◌<◌, ◌≤◌, ◌==◌, ◌||◌, ◌&&◌, nat_lt, not, cond, Bool, true, false, List, [], ◌∷◌, ◌++◌, length, length-append, map, slice_get, position, sum, is_some, Option, Some, None, option_map, arith}
 use Rattle.std.specs.List.{list_any, count_by, sum_by, position_or_len}
 use Rattle.std.proofs.lemmas.Bool.Decides.{nat_tests}
 use Rattle.std.proofs.lemmas.List.Folds.{list_any-append}
@@ -90,6 +90,13 @@ within {X} (x ∷ xs) (suc n) = next (nat_lt n (length xs)) refl (within xs n)
 pub counted_more : {X : Type 0} (p : X → Bool) (xs : List X) (x : X) → count_by p (xs ++ x ∷ []) ≡ count_by p xs + cond (p x) 1 0
 counted_more p xs x = let more = sum_by-append (λ y. cond (p y) 1 0) xs (x ∷ []) in omega (arith, more)
 
+-- and one more in all
+pub one_longer : {X : Type 0} (n : ℕ) (xs : List X) (x : X) → n ≤ length xs → n + 1 ≤ length (xs ++ x ∷ [])
+one_longer n xs x h = let long = length-append xs (x ∷ []) in omega (arith, h, long)
+
+pub no_shorter : {X : Type 0} (xs : List X) (x : X) → length xs ≤ length (xs ++ x ∷ [])
+no_shorter xs x = let long = length-append xs (x ∷ []) in omega (arith, long)
+
 -- ---- links
 
 -- core x has a link to core y
@@ -173,53 +180,50 @@ size_more ns n x there = by (n == x) refl
 abbrev pub many_at : List (List ℕ) → DispatcherId → ℕ
 many_at es x = given (ends_at es x) 0 λ n. n
 
+abbrev inner : DispatcherId → List ℕ → List ℕ
+inner d ns = changed_at d.place (λ n. n + 1) ns
+
 -- one end more at dispatcher d
 pub seat_more : (es : List (List ℕ)) (d x : DispatcherId) → is_some (ends_at es d) ≡ true
     → many_at (seated d es) x ≡ many_at es x + cond (same_dispatcher x d) 1 0
 seat_more es d x there = by (d.core == x.core) refl
   where
-    abbrev inner : List ℕ → List ℕ
-    inner = changed_at d.place (λ n. n + 1)
     flip : (d.core == x.core) ≡ true → same_dispatcher x d ≡ (d.place == x.place)
     flip q = ap (λ b. b && (x.place == d.place)) (eq_sym x.core d.core ∙ q) ∙ eq_sym x.place d.place
     none : (d.core == x.core) ≡ false → same_dispatcher x d ≡ false
     none q = ap (λ b. b && (x.place == d.place)) (eq_sym x.core d.core ∙ q)
     here : (o : Option (List ℕ)) → is_some (given o None (λ ns. slice_get ns d.place)) ≡ true
-        → given (given (option_map inner o) None (λ ns. slice_get ns x.place)) 0 (λ n. n)
+        → given (given (option_map (inner d) o) None (λ ns. slice_get ns x.place)) 0 (λ n. n)
         ≡ given (given o None (λ ns. slice_get ns x.place)) 0 (λ n. n) + cond (d.place == x.place) 1 0
     here None h = absurd (cc)
     here (Some ns) h = size_more ns d.place x.place h
-    at : ℕ → List (List ℕ) → ℕ
-    at core fs = given (given (slice_get fs core) None (λ ns. slice_get ns x.place)) 0 (λ n. n)
     by : (c : Bool) → (d.core == x.core) ≡ c → many_at (seated d es) x ≡ many_at es x + cond (same_dispatcher x d) 1 0
     by true q =
         ap (λ core. given (given (slice_get (seated d es) core) None (λ ns. slice_get ns x.place)) 0 (λ n. n)) (sym (is_same d.core x.core q))
-        ∙ ap (λ (o : Option (List ℕ)). given (given o None (λ ns. slice_get ns x.place)) 0 (λ n. n)) (changed_same es d.core inner)
+        ∙ ap (λ (o : Option (List ℕ)). given (given o None (λ ns. slice_get ns x.place)) 0 (λ n. n)) (changed_same es d.core (inner d))
         ∙ here (slice_get es d.core) there
         ∙ ap (λ core. given (given (slice_get es core) None (λ ns. slice_get ns x.place)) 0 (λ n. n) + cond (d.place == x.place) 1 0) (is_same d.core x.core q)
         ∙ ap (λ b. many_at es x + cond b 1 0) (sym (flip q))
     by false q =
-        let same = ap (λ (o : Option (List ℕ)). given (given o None (λ ns. slice_get ns x.place)) 0 (λ n. n)) (changed_other es d.core x.core inner (is_other d.core x.core q)) in
-        let more = ap (λ b. cond b 1 0) (none q) in omega (arith, same, more)
+        let same = ap (λ (o : Option (List ℕ)). given (given o None (λ ns. slice_get ns x.place)) 0 (λ n. n)) (changed_other es d.core x.core (inner d) (is_other d.core x.core q)) in
+        let more : cond (same_dispatcher x d) 1 0 ≡ 0 = ap (λ b. let m : ℕ = cond b 1 0 in m) (none q) in omega (arith, same, more)
 
 -- dispatchers stay there
 pub seat_keeps : (es : List (List ℕ)) (d x : DispatcherId) → is_some (ends_at (seated d es) x) ≡ is_some (ends_at es x)
 seat_keeps es d x = by (d.core == x.core) refl
   where
-    abbrev inner : List ℕ → List ℕ
-    inner = changed_at d.place (λ n. n + 1)
-    count : (ns : List ℕ) → is_some (slice_get (inner ns) x.place) ≡ is_some (slice_get ns x.place)
-    count ns = sym (within (inner ns) x.place) ∙ ap (nat_lt x.place) (length_changed ns d.place (λ n. n + 1)) ∙ within ns x.place
-    here : (o : Option (List ℕ)) → is_some (given (option_map inner o) None (λ ns. slice_get ns x.place)) ≡ is_some (given o None (λ ns. slice_get ns x.place))
+    count : (ns : List ℕ) → is_some (slice_get (inner d ns) x.place) ≡ is_some (slice_get ns x.place)
+    count ns = sym (within (inner d ns) x.place) ∙ ap (nat_lt x.place) (length_changed ns d.place (λ n. n + 1)) ∙ within ns x.place
+    here : (o : Option (List ℕ)) → is_some (given (option_map (inner d) o) None (λ ns. slice_get ns x.place)) ≡ is_some (given o None (λ ns. slice_get ns x.place))
     here None = refl
     here (Some ns) = count ns
     by : (c : Bool) → (d.core == x.core) ≡ c → is_some (ends_at (seated d es) x) ≡ is_some (ends_at es x)
     by true q =
         ap (λ core. is_some (given (slice_get (seated d es) core) None (λ ns. slice_get ns x.place))) (sym (is_same d.core x.core q))
-        ∙ ap (λ (o : Option (List ℕ)). is_some (given o None (λ ns. slice_get ns x.place))) (changed_same es d.core inner)
+        ∙ ap (λ (o : Option (List ℕ)). is_some (given o None (λ ns. slice_get ns x.place))) (changed_same es d.core (inner d))
         ∙ here (slice_get es d.core)
         ∙ ap (λ core. is_some (given (slice_get es core) None (λ ns. slice_get ns x.place))) (is_same d.core x.core q)
-    by false q = ap (λ (o : Option (List ℕ)). is_some (given o None (λ ns. slice_get ns x.place))) (changed_other es d.core x.core inner (is_other d.core x.core q))
+    by false q = ap (λ (o : Option (List ℕ)). is_some (given o None (λ ns. slice_get ns x.place))) (changed_other es d.core x.core (inner d) (is_other d.core x.core q))
 
 pub seat_sizes : (es : List (List ℕ)) (d : DispatcherId) → sizes (seated d es) ≡ sizes es
 seat_sizes es d = map_kept (λ (ns : List ℕ). length ns) _ es d.core (λ ns q. length_changed ns d.place (λ n. n + 1))

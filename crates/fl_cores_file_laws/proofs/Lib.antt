@@ -4,3 +4,4 @@ pub mod Mirrors
 pub mod Making
 pub mod Binding
 pub mod Lines
+pub mod Texts

@@ -6,7 +6,9 @@ use Rattle.std.proofs.lemmas.List.{length-map}
 use Rattle.std.proofs.lemmas.List.Sums.{sum_by-append}
 use Rattle.fl_base.specs.declared.identity.EndId.{EndId}
 use Rattle.fl_base.specs.Given.{given}
-use Rattle.fl_base.specs.Numbered.{most_cores}
+use Rattle.fl_base.specs.Numbered.{most_cores, most_bindings}
+use Rattle.fl_interface.specs.Interface.{TheInterface}
+use Rattle.fl_value_data.specs.declared.value.PlanNo.{PlanNo}
 use Rattle.fl_model.specs.Given.{changed_at}
 use Rattle.fl_model.specs.Binding.{same_dispatcher}
 use Rattle.fl_model.specs.Events.{DispatcherId, Kind, by_queues, by_ring, by_route, Event, add_interface, set_cores, add_link, add_dispatcher, export, bind, Answer, done, refused}
@@ -25,7 +27,7 @@ use Rattle.fl_cores_file.specs.Draft.{binds, binds_by_route, TheDraftRequest, fa
 use Rattle.fl_cores_file.specs.Verdicts.{LineVerdict, stops, goes_on}
 use Rattle.fl_cores_file_laws.specs.SetUps.{sets_up, ComeTo, behind, is_refusal, answer_for, is_binding, IsOneTooMany, IsTheMachines, SetUpsAreTheMachines}
 use Rattle.fl_cores_file_laws.proofs.Views.{View, view_of, table_of, counts_of}
-use Rattle.fl_cores_file_laws.proofs.Counts.{links_to, sizes, size_at, many_at}
+use Rattle.fl_cores_file_laws.proofs.Counts.{no_shorter, links_to, sizes, size_at, many_at}
 use Rattle.fl_cores_file_laws.proofs.Mirrors.{Mirrors}
 use Rattle.fl_cores_file_laws.proofs.Making as making
 use Rattle.fl_cores_file_laws.proofs.Making.{Grown, Agrees, interface_agrees, link_agrees, dispatcher_agrees, export_agrees}
@@ -64,14 +66,14 @@ reached_push (w ∷ vs) v s = reached_push vs v (step s w).state
 abbrev passes : Answer → Bool
 passes a = not (is_refusal a)
 
+and_then : (b x y : Bool) → (x ≡ true → y ≡ true) → (b && x) ≡ true → (b && y) ≡ true
+and_then true x y f h = f h
+and_then false x y f h = h
+
 passes_push : (vs : List Event) (v : Event) (s : State) → list_all passes (answers_to s vs) ≡ true → (step (reached s vs) v).answer ≡ done
     → list_all passes (answers_to s (vs ++ v ∷ [])) ≡ true
 passes_push [] v s h e = ap (λ a. passes a && true) e
-passes_push (w ∷ vs) v s h e = by (passes (step s w).answer) h
-  where
-    by : (b : Bool) → (b && list_all passes (answers_to (step s w).state vs)) ≡ true → (b && list_all passes (answers_to (step s w).state (vs ++ v ∷ []))) ≡ true
-    by true k = passes_push vs v (step s w).state k e
-    by false k = k
+passes_push (w ∷ vs) v s h e = and_then (passes (step s w).answer) _ _ (λ k. passes_push vs v (step s w).state k e) h
 
 -- ---- a draft, and the machine
 
@@ -146,81 +148,75 @@ abbrev verdict_at : ℕ → LineVerdict Draft → LineVerdict Draft
 verdict_at n (stops fault) = stops fault
 verdict_at n (goes_on d) = goes_on (at n d)
 
+branch_at : (n : ℕ) (x : Draft) (a b : Bool)
+    → (if a then stops 92 else if b then stops 94 else goes_on (at n x)) ≡ verdict_at n (if a then stops 92 else if b then stops 94 else goes_on x)
+branch_at n x true b = refl
+branch_at n x false true = refl
+branch_at n x false false = refl
+
 interface_at : (n : ℕ) (v : Event) (d : Draft) → making.settles v false ≡ false → sets_up v ≡ true → takes v (at n d) ≡ verdict_at n (takes v d)
-interface_at n (add_interface i plan) d e u =
-    by (has_interface i.name d) (nat_le machine.most_interfaces (length d.interfaces))
-  where
-    by : (a b : Bool) → {x : Draft} → (if a then stops 92 else if b then stops 94 else goes_on (at n x)) ≡ verdict_at n (if a then stops 92 else if b then stops 94 else goes_on x)
-    by true b = refl
-    by false true = refl
-    by false false = refl
+interface_at n (add_interface i plan) d e u = branch_at n _ (has_interface i.name d) (nat_le machine.most_interfaces (length d.interfaces))
 interface_at n v d e u = absurd (cc)
 
+interface_still : (i : TheInterface) (plan : PlanNo) (s : State) → s.may_set_cores ≡ true → (machine.adds_interface i plan s).state.may_set_cores ≡ true
+interface_still i plan s q =
+    either (λ (o : StepOutcome). o.state.may_set_cores ≡ true) (machine.has_interface i.name s) _ _ (λ r. q)
+    (λ r. either (λ (o : StepOutcome). o.state.may_set_cores ≡ true) (nat_le machine.most_interfaces (length s.interfaces)) _ _ (λ t. q) (λ t. q))
+
+still : (v : Event) (b : Bool) (s : State) → sets_up v ≡ true → making.settles v b ≡ false → (b ≡ false → s.may_set_cores ≡ true) → (step s v).state.may_set_cores ≡ true
+still (add_interface i plan) b s u e h = interface_still i plan s (h e)
+still v b s u e h = absurd (cc)
+
 -- asked at the machine with n cores
-asked_at : (n : ℕ) (v : Event) (c d : Draft) → FitsAt n c → sets_up v ≡ true → takes v (at n c) ≡ goes_on (at n d) → FitsAt n d
-asked_at n v c d h u is = made (subst (λ x. AgreesOr v (at n c) x (does v s)) is (does_agrees v (at n c) s h.mirrors u))
-  where
-    abbrev s : State
-    s = reached (start_with n) c.setup
-    made : Agrees v (at n c) (goes_on (at n d)) (does v s) → FitsAt n d
-    made (answer, mirrors, grown) = record {
-      passes_all = ap (λ vs. list_all passes (answers_to (start_with n) vs)) grown.setup
-      ∙ passes_push c.setup v (start_with n) h.passes_all (same_answer v s ∙ answer);
-      mirrors = subst (Mirrors (at n d))
-      (sym (ap (λ vs. view_of (reached (start_with n) vs)) grown.setup ∙ ap (λ t. view_of t) (reached_push c.setup v (start_with n)) ∙ same_view v s)) mirrors;
-      may = λ q. ap (λ vs. State.may_set_cores (reached (start_with n) vs)) grown.setup
-      ∙ ap (λ t. State.may_set_cores t) (reached_push c.setup v (start_with n)) ∙ still v u (sym grown.settled ∙ q) answer;
-    }
-      where
-        still : (v : Event) → sets_up v ≡ true → making.settles v c.settled ≡ false → (does v s).answer ≡ done → (step s v).state.may_set_cores ≡ true
-        still (add_interface i plan) u e a = interface_still i plan (h.may e)
-          where
-            interface_still : (i : _) (plan : _) → s.may_set_cores ≡ true → (machine.adds_interface i plan s).state.may_set_cores ≡ true
-            interface_still i plan q =
-                either (λ (o : StepOutcome). o.state.may_set_cores ≡ true) (machine.has_interface i.name s) _ _ (λ r. q)
-                (λ r. either (λ (o : StepOutcome). o.state.may_set_cores ≡ true) (nat_le machine.most_interfaces (length s.interfaces)) _ _ (λ t. q) (λ t. q))
-        still v u e a = absurd (cc)
+module _ (n : ℕ) (v : Event) (c d : Draft) (h : FitsAt n c) (u : sets_up v ≡ true) where
+  abbrev s : State
+  s = reached (start_with n) c.setup
+
+  made : Agrees v (at n c) (goes_on (at n d)) (does v s) → FitsAt n d
+  made (answer, mirrors, grown) = record {
+    passes_all = ap (λ vs. list_all passes (answers_to (start_with n) vs)) grown.setup
+    ∙ passes_push c.setup v (start_with n) h.passes_all (same_answer v s ∙ answer);
+    mirrors = subst (Mirrors (at n d))
+    (sym (ap (λ vs. view_of (reached (start_with n) vs)) grown.setup ∙ ap (λ t. view_of t) (reached_push c.setup v (start_with n)) ∙ same_view v s)) mirrors;
+    may = λ q. ap (λ vs. State.may_set_cores (reached (start_with n) vs)) grown.setup
+    ∙ ap (λ t. State.may_set_cores t) (reached_push c.setup v (start_with n)) ∙ still v c.settled s u (sym grown.settled ∙ q) h.may;
+  }
+
+  asked_at : takes v (at n c) ≡ goes_on (at n d) → FitsAt n d
+  asked_at is = made (subst (λ x. AgreesOr v (at n c) x (does v s)) is (does_agrees v (at n c) s h.mirrors u))
 
 -- what an accepted line leaves of the draft: its number of cores, and settled or not
 grown_by : (v : Event) (d e : Draft) → FitsAt d.cores d → sets_up v ≡ true → takes v d ≡ goes_on e → Grown v d e
-grown_by v d e h u is = let x : Agrees v d (goes_on e) (does v s) = subst (λ y. AgreesOr v d y (does v s)) is (does_agrees v d s h.mirrors u) in x.2
-  where
-    abbrev s : State
-    s = reached (start_with d.cores) d.setup
+grown_by v d e h u is =
+    let s = reached (start_with d.cores) d.setup in
+    let x : Agrees v d (goes_on e) (does v s) = subst (λ y. AgreesOr v d y (does v s)) is (does_agrees v d s h.mirrors u) in x.2
+
+settles_any : (v : Event) (b : Bool) → making.settles v false ≡ true → making.settles v b ≡ true
+settles_any (add_interface i plan) b q = absurd (cc)
+settles_any v b q = refl
+
+settles_none : (v : Event) (b : Bool) → making.settles v false ≡ false → making.settles v b ≡ b
+settles_none (add_interface i plan) b q = refl
+settles_none v b q = absurd (cc)
+
+set_up_by : (v : Event) (c d : Draft) → Fits c → (u : sets_up v ≡ true) → takes v c ≡ goes_on d → Grown v c d → (b : Bool) → making.settles v false ≡ b → Fits d
+set_up_by v c d h u is grown true e =
+    let x : FitsAt c.cores (at c.cores d) = asked_at c.cores v c (at c.cores d) (h.fits c.cores (λ q. refl)) u (is ∙ ap (λ k. goes_on (record d { cores = k })) grown.cores) in
+    let here : FitsAt c.cores d = subst (FitsAt c.cores) (ap (λ k. record d { cores = k }) (sym grown.cores)) x in
+    record {
+      few = ap (λ k. nat_lt k 1 || nat_lt most_cores k) grown.cores ∙ h.few;
+      fits = λ n q. subst (λ k. FitsAt k d) (sym (q (grown.settled ∙ settles_any v c.settled e) ∙ grown.cores)) here;
+    }
+set_up_by v c d h u is grown false e = record {
+  few = ap (λ k. nat_lt k 1 || nat_lt most_cores k) grown.cores ∙ h.few;
+  fits = λ n q.
+      let x : FitsAt n (at n d) = asked_at n v c (at n d) (h.fits n (λ r. q (grown.settled ∙ settles_none v c.settled e ∙ r) ∙ grown.cores)) u
+      (interface_at n v c e u ∙ ap (verdict_at n) is) in
+      record { passes_all = x.passes_all; mirrors = x.mirrors; may = x.may };
+}
 
 set_up_fits : (v : Event) (c d : Draft) → Fits c → sets_up v ≡ true → takes v c ≡ goes_on d → Fits d
-set_up_fits v c d h u is = by (making.settles v false) refl
-  where
-    abbrev grown : Grown v c d
-    grown = grown_by v c d (h.fits c.cores (λ e. refl)) u is
-    here : FitsAt c.cores d
-    here =
-        let x : FitsAt c.cores (at c.cores d) = asked_at c.cores v c (at c.cores d) (h.fits c.cores (λ e. refl)) u (is ∙ ap (λ k. goes_on (record d { cores = k })) grown.cores) in
-        subst (FitsAt c.cores) (ap (λ k. record d { cores = k }) (sym grown.cores)) x
-    settled : (b : Bool) → making.settles v false ≡ true → making.settles v b ≡ true
-    settled b e = by_event v e
-      where
-        by_event : (w : Event) → making.settles w false ≡ true → making.settles w b ≡ true
-        by_event (add_interface i plan) q = absurd (cc)
-        by_event w q = refl
-    kept : (b : Bool) → making.settles v false ≡ false → making.settles v b ≡ b
-    kept b e = by_event v e
-      where
-        by_event : (w : Event) → making.settles w false ≡ false → making.settles w b ≡ b
-        by_event (add_interface i plan) q = refl
-        by_event w q = absurd (cc)
-    by : (b : Bool) → making.settles v false ≡ b → Fits d
-    by true e = record {
-      few = ap (λ k. nat_lt k 1 || nat_lt most_cores k) grown.cores ∙ h.few;
-      fits = λ n q. subst (λ k. FitsAt k d) (sym (q (grown.settled ∙ settled c.settled e) ∙ grown.cores)) here;
-    }
-    by false e = record {
-      few = ap (λ k. nat_lt k 1 || nat_lt most_cores k) grown.cores ∙ h.few;
-      fits = λ n q.
-          let x : FitsAt n (at n d) = asked_at n v c (at n d) (h.fits n (λ r. q (grown.settled ∙ kept c.settled e ∙ r) ∙ grown.cores)) u
-          (interface_at n v c e u ∙ ap (verdict_at n) is) in
-          record { passes_all = x.passes_all; mirrors = x.mirrors; may = x.may };
-    }
+set_up_fits v c d h u is = set_up_by v c d h u is (grown_by v c d (h.fits c.cores (λ e. refl)) u is) (making.settles v false) refl
 
 -- ---- other lines
 
@@ -286,7 +282,7 @@ route_keeps client i name route d =
     (λ u. let w : TheDraftRequest = record { client = client; server = offer.dispatcher; interface = i; service = name } in
       either (Keeps d) (not (is_route w route d)) _ _ (λ x. tt) (λ x. record {
         setup = refl; cores = refl; settled = refl; interfaces = refl; links = refl; dispatchers = refl; seats = refl; services = refl; offers = refl;
-        bindings = let long = length-append d.bindings (_ ∷ []) in omega (arith, long);
+        bindings = no_shorter d.bindings _;
       })))))
 
 used_long : (e : EndId) (u : Use) (d : Draft) → length d.bindings ≤ length (change_use e u d).bindings
@@ -359,18 +355,19 @@ answered v d h u = by (takes v d) refl (does_agrees v d (behind d) h.mirrors u)
     })
     by (goes_on e) q x = inl (same_answer v (behind d) ∙ x.0)
 
+number_answered : (n : ℕ) (s t : State) (e : Draft) (b : Bool)
+    → (settles (set_cores n) (if b then answers s (refused 94) else answers t done)).answer ≡ answer_for (if b then stops 94 else goes_on e)
+number_answered n s t e true = refl
+number_answered n s t e false = refl
+
 cores_answered : (d : Draft) (n : ℕ) → FitsAt d.cores d → d.settled ≡ false → (step (behind d) (set_cores n)).answer ≡ answer_for (takes (set_cores n) d)
 cores_answered d n h q =
-    ap (λ b. StepOutcome.answer (settles (set_cores n) (if not b then answers (behind d) (refused 93)
-      else if nat_lt n 1 || nat_lt most_cores n then answers (behind d) (refused 94)
-      else answers (record (behind d) { cores = map fresh_core (range_with_len 0 n) }) done))) (h.may q)
-    ∙ by (nat_lt n 1 || nat_lt most_cores n)
+    let s = behind d in
+    let t = record s { cores = map fresh_core (range_with_len 0 n) } in
+    ap (λ b. StepOutcome.answer (settles (set_cores n) (if not b then answers s (refused 93)
+      else if nat_lt n 1 || nat_lt most_cores n then answers s (refused 94) else answers t done))) (h.may q)
+    ∙ number_answered n s t (record d { settled = true; cores = n }) (nat_lt n 1 || nat_lt most_cores n)
     ∙ ap (λ b. answer_for (if b then stops 93 else if nat_lt n 1 || nat_lt most_cores n then stops 94 else goes_on (record d { settled = true; cores = n }))) (sym q)
-  where
-    by : (b : Bool) → {s t : State} {e : Draft}
-        → (settles (set_cores n) (if b then answers s (refused 94) else answers t done)).answer ≡ answer_for (if b then stops 94 else goes_on e)
-    by true = refl
-    by false = refl
 
 pub the_machines : SetUpsAreTheMachines
 the_machines lines d come =

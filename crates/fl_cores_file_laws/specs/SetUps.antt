@@ -7,6 +7,7 @@ use Rattle.fl_model.specs.Runs.{answers_to, reached}
 use Rattle.fl_model.specs.State.{State}
 use Rattle.fl_model.specs.Step.{step}
 use Rattle.fl_model.specs.Worlds.{start_with}
+use Rattle.fl_cores_file.specs.CoresFile.{CoresFile, is_file, Reads}
 use Rattle.fl_cores_file.specs.Draft.{Draft, nothing_yet, takes}
 use Rattle.fl_cores_file.specs.Verdicts.{LineVerdict, stops, goes_on}
 
@@ -38,9 +39,9 @@ abbrev pub is_refusal : Answer → Bool
 is_refusal (refused fault) = true
 is_refusal answer = false
 
--- it refused nothing of that
-abbrev pub PassesAll : Draft → Type 0
-PassesAll d = list_all (λ a. not (is_refusal a)) (answers_to (start_with d.cores) d.setup) ≡ true
+-- with so many cores it refuses none of these events
+abbrev pub Passes : ℕ → List Event → Type 0
+Passes cores events = list_all (λ a. not (is_refusal a)) (answers_to (start_with cores) events) ≡ true
 
 -- ---- a line, and the machine's event
 
@@ -63,9 +64,15 @@ pub record IsOneTooMany (v : Event) (d : Draft) : Type 0 where
 -- of a draft that lines came to: the machine refused nothing of what they set up; it answers each line that sets something up, behind these, by just the
 -- number for which the line is refused, or by `done` where it isn't; and so it does a number of cores, where that isn't settled
 pub record IsTheMachines (d : Draft) : Type 0 where
-  pub passes : PassesAll d
+  pub passes : Passes d.cores d.setup
   pub answered : (v : Event) → sets_up v ≡ true → ((step (behind d) v).answer ≡ answer_for (takes v d)) ⊎ IsOneTooMany v d
   pub cores : (n : ℕ) → d.settled ≡ false → (step (behind d) (set_cores n)).answer ≡ answer_for (takes (set_cores n) d)
 
 abbrev pub SetUpsAreTheMachines : Type 0
 SetUpsAreTheMachines = (lines : List Event) (d : Draft) → ComeTo lines d → IsTheMachines d
+
+-- ---- a file
+
+-- so the machine refuses nothing of the set-up of a text that is a cores file
+abbrev pub FilesPass : Type 0
+FilesPass = (text : List ℕ) (file : CoresFile) → Reads text (is_file file) → Passes file.cores file.setup
