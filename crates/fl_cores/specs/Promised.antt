@@ -150,12 +150,18 @@ pub record Appends (text : List ℕ) (limit : ℕ) (e : CoresEnd) (before after 
 
 -- ---- why nothing is told of a text
 
--- it is a cores file, whose set-up and jobs have this fault; so many cores there may be, and each event is of a set-up, so the fault is none of these
+-- a fault of none of the events of a set-up
+abbrev pub IsBehindSetUp : CoresFault → Type 0
+IsBehindSetUp (fault.Setup number place) = ⊥
+IsBehindSetUp f = Unit {0}
+
+-- it is a cores file, whose jobs have this fault, or the run of them: so many cores there may be, each event is of a set-up, and the machine refuses none
 pub record FileHasFault (text : List ℕ) (f : CoresFault) : Type 0 where
   pub file : CoresFile
   pub reads : Reads text (is_file file)
   pub counted : has_bad_cores (config_in file) ≡ false
   pub making : position is_other file.setup ≡ None
+  pub accepted : IsBehindSetUp f
   pub is_fault : IsFault (config_in file) file.jobs f
 
 -- out of memory may be told of any text, since memory is wanted to read it and to print what is told of it; each other fault is one of the file that it is

@@ -50,9 +50,9 @@ pub fn run_cores<R: Threads + Wait + Sync, G: Gate + Sync>(
 /// Runs a cores file, and appends what is told of that: an honest report, or the line that is refused.
 ///
 /// # Errors
-/// Out of memory, whatever the text is; else the text is a cores file, and the fault is one of its set-up and jobs, as
-/// [`run_cores`] tells them: a thread doesn't start, or a part is refused. (No clause rules out a refused set-up or
-/// job of an accepted file; no such file is known.) Nothing is appended then.
+/// Out of memory, whatever the text is; else the text is a cores file, whose set-up nothing refuses, and the fault is
+/// one of its jobs or of their run, as [`run_cores`] tells them: a thread doesn't start, or a job is refused. (No clause
+/// rules out a refused job of an accepted file; no such file is known.) Nothing is appended then.
 pub fn run_cores_text<R: Threads + Wait + Sync, G: Gate + Sync>(
     rt: &R,
     alloc: Global,

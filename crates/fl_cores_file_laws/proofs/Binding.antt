@@ -1,9 +1,9 @@
 -- Lines that bind by queues or by a ring: each is refused as the machine refuses it, but where there are 1,024 bindings, and the draft goes on as the machine does.
-use Rattle.std.proofs.Common.{◌≡◌, ◌≢◌, ◌⊎◌, inl, inr, refl, sym, ◌∙◌, ap, subst, ℕ, ◌+◌, ◌≤◌, ◌==◌, ◌||◌, ◌&&◌, nat_lt, nat_le, not, Bool, true, false, if◌then◌else◌, List, [], ◌∷◌, ◌++◌, length, length-append, map, slice_get, is_some, sum, cond, Option, Some, None, option_map, arith}
+use Rattle.std.proofs.Common.{◌≡◌, ◌≢◌, ◌⊎◌, inl, inr, refl, sym, ◌∙◌, ap, subst, ℕ, ◌+◌, ◌≤◌, ◌==◌, ◌||◌, ◌&&◌, nat_lt, nat_le, not, Bool, true, false, if◌then◌else◌, List, [], ◌∷◌, ◌++◌, length, length-append, slice_get, is_some, sum, cond, Option, Some, None, option_map, arith}
 use Rattle.std.specs.List.{count_by}
 use Rattle.std.proofs.lemmas.Bool.Decides.{nat_tests}
 use Rattle.std.proofs.lemmas.List.Sums.{sum_by-append}
-use Rattle.fl_base.specs.declared.identity.Side.TheVariants.{Client, Server}
+use Rattle.fl_base.specs.declared.identity.Side.TheVariants.{Client}
 use Rattle.fl_base.specs.Given.{given}
 use Rattle.fl_base.specs.Numbered.{most_bindings}
 use Rattle.fl_model.specs.Binding as machine
@@ -22,8 +22,8 @@ use Rattle.fl_cores_file.specs.Draft.{Draft, Offer, TheDraftRequest, has_places,
 use Rattle.fl_cores_file.specs.Verdicts.{LineVerdict, stops, goes_on}
 use Rattle.fl_cores_file_laws.specs.SetUps.{is_binding}
 use Rattle.fl_cores_file_laws.proofs.Views.{View, view_of, ends_at, seated, seat_view, both_view}
-use Rattle.fl_cores_file_laws.proofs.Counts.{one_longer, sizes, size_at, many_at, seat_more, seat_keeps, seat_sizes}
-use Rattle.fl_cores_file_laws.proofs.Mirrors.{Mirrors, offer_by, IsThere, there_same, interface_same, offer_same, places_same, found, present}
+use Rattle.fl_cores_file_laws.proofs.Counts.{one_longer, seat_more, seat_keeps, seat_sizes}
+use Rattle.fl_cores_file_laws.proofs.Mirrors.{Mirrors, offer_by, there_same, interface_same, offer_same, places_same, found, present}
 use Rattle.fl_cores_file_laws.proofs.Making.{Agrees, agree_if, agree_there}
 
 -- ---- both ends find a place
@@ -108,8 +108,12 @@ module _ (client : DispatcherId) (i : ℕ) (name : List ℕ) (d : Draft) (s : St
       agree_if (Agrees v d) (not (client.core == service.dispatcher.core)) _ _ _ _ _ refl (λ q. refl)
       (λ q. agree_if (Agrees v d) (nat_lt slots 1 || nat_lt 1024 slots) _ _ _ _ _ refl (λ r. refl)
       (λ r. agree_if (Agrees v d) (not (has_both_places w d)) (not (machine.has_both_places m s)) _ _ _ _ (ap not (both_same d s h m w refl refl there here)) (λ t. refl)
-      (λ t. (refl, subst (Mirrors (with_set_up w (by_queues slots) d)) (sym (joined_view m local 2 (Some (fresh_queue slots)) s s refl there here))
-        (bound_goes m w (by_queues slots) d (view_of s) h refl refl there here), record { setup = refl; cores = refl; settled = refl }))))
+      (λ t. (
+        refl,
+        subst (Mirrors (with_set_up w (by_queues slots) d)) (sym (joined_view m local 2 (Some (fresh_queue slots)) s s refl there here))
+            (bound_goes m w (by_queues slots) d (view_of s) h refl refl there here),
+        record { setup = refl; cores = refl; settled = refl },
+      ))))
 
   ring_agrees : (size : ℕ) → Agrees (bind client i name (by_ring size)) d (binds_by_ring w size d) (machine.binds_by_ring m size s)
   ring_agrees size =
@@ -118,8 +122,12 @@ module _ (client : DispatcherId) (i : ℕ) (name : List ℕ) (d : Draft) (s : St
       agree_if (Agrees v d) (client.core == service.dispatcher.core) _ _ _ _ _ refl (λ q. refl)
       (λ q. agree_if (Agrees v d) (not (is_ring_size size)) _ _ _ _ _ refl (λ r. refl)
       (λ r. agree_if (Agrees v d) (not (has_both_places w d)) (not (machine.has_both_places m s)) _ _ _ _ (ap not (both_same d s h m w refl refl there here)) (λ t. refl)
-      (λ t. (refl, subst (Mirrors (with_set_up w (by_ring size) d)) (sym (joined_view m (over_ring (length s.rings)) 2 None s ringed refl there here))
-        (bound_goes m w (by_ring size) d (view_of s) h refl refl there here), record { setup = refl; cores = refl; settled = refl }))))
+      (λ t. (
+        refl,
+        subst (Mirrors (with_set_up w (by_ring size) d)) (sym (joined_view m (over_ring (length s.rings)) 2 None s ringed refl there here))
+            (bound_goes m w (by_ring size) d (view_of s) h refl refl there here),
+        record { setup = refl; cores = refl; settled = refl },
+      ))))
 
 -- ---- a line that binds
 
@@ -148,6 +156,7 @@ refused_as s fault h e = let same : fault ≡ 92 = same_fault (refused fault) (r
     number : Answer → ℕ
     number (refused n) = n
     number a = 0
+
     same_fault : (a b : Answer) → a ≡ b → number a ≡ number b
     same_fault a b e = ap number e
 
@@ -171,8 +180,8 @@ ring_named m size s =
 
 rest_named : (m : Service → ℕ → BindByNames) (i : ℕ) (name : List ℕ) (kind : Kind) (s : State) → ((x : BindByNames) → Named (machine.binds_by x kind s))
     → Named (given (place_of_service name s.services) (answers s (refused 70)) λ place.
-      given (slice_get s.services place) (answers s (refused 70)) λ service.
-      if not (service.interface == i) then answers s (refused 72) else machine.binds_by (m service place) kind s)
+    given (slice_get s.services place) (answers s (refused 70)) λ service.
+    if not (service.interface == i) then answers s (refused 72) else machine.binds_by (m service place) kind s)
 rest_named m i name kind s h =
     by_given Named (place_of_service name s.services) _ _ (refused_as s 70 refl)
     (λ place q. by_given Named (slice_get s.services place) _ _ (refused_as s 70 refl)

@@ -1,6 +1,6 @@
 -- Lists that are counted: what is found in one, one more of a kind, and one more at a place.
-use Rattle.std.proofs.Common.{◌≡◌, refl, sym, ◌∙◌, ap, ℕ, zero, suc, ◌+◌, ◌<◌, ◌≤◌, ◌==◌, ◌||◌, ◌&&◌, nat_lt, not, cond, Bool, true, false, List, [], ◌∷◌, ◌++◌, length, length-append, map, slice_get, position, sum, is_some, Option, Some, None, option_map, arith}
-use Rattle.std.specs.List.{list_any, count_by, sum_by, position_or_len}
+use Rattle.std.proofs.Common.{◌≡◌, refl, sym, ◌∙◌, ap, ℕ, zero, suc, ◌+◌, ◌≤◌, ◌==◌, ◌||◌, ◌&&◌, nat_lt, not, cond, Bool, true, false, List, [], ◌∷◌, ◌++◌, length, length-append, map, slice_get, position, sum, is_some, Option, Some, None, option_map, arith}
+use Rattle.std.specs.List.{list_any, count_by, position_or_len}
 use Rattle.std.proofs.lemmas.Bool.Decides.{nat_tests}
 use Rattle.std.proofs.lemmas.List.Folds.{list_any-append}
 use Rattle.std.proofs.lemmas.List.Sums.{sum_by-append}
@@ -41,6 +41,7 @@ pos_any {X} p (x ∷ xs) = by (p x) (pos_any p xs)
     next : (k n : ℕ) (c : Bool) → nat_lt k n ≡ c → nat_lt (1 + k) (suc n) ≡ c
     next k n true q = grind (arith, nat_tests, q)
     next k n false q = grind (arith, nat_tests, q)
+
     by : (b : Bool) → nat_lt (position_or_len p xs) (length xs) ≡ list_any p xs
         → nat_lt (cond (not b) (1 + position_or_len p xs) 0) (suc (length xs)) ≡ (b || list_any p xs)
     by true h = grind (arith, nat_tests)
@@ -121,10 +122,12 @@ one_linked ts a b x y there = by (a == x) refl
     or_false : (c : Bool) → c ≡ (c || false)
     or_false true = refl
     or_false false = refl
+
     here : (o : Option TheCircuits) → is_some o ≡ true
         → given (option_map (table_linked b) o) false (λ t. is_some (link_of t y)) ≡ (given o false (λ t. is_some (link_of t y)) || (b == y))
     here None h = absurd (cc)
     here (Some t) h = linked_any t b y
+
     by : (c : Bool) → (a == x) ≡ c → links_to (changed_at a (table_linked b) ts) x y ≡ (links_to ts x y || (c && (b == y)))
     by true q =
         ap (λ n. links_to (changed_at a (table_linked b) ts) n y) (sym (is_same a x q))
@@ -167,6 +170,7 @@ size_more ns n x there = by (n == x) refl
     here : (o : Option ℕ) → is_some o ≡ true → given (option_map (λ k. k + 1) o) 0 (λ k. k) ≡ given o 0 (λ k. k) + 1
     here None h = absurd (cc)
     here (Some k) h = refl
+
     by : (c : Bool) → (n == x) ≡ c → given (slice_get (changed_at n (λ k. k + 1) ns) x) 0 (λ k. k) ≡ given (slice_get ns x) 0 (λ k. k) + cond c 1 0
     by true q =
         ap (λ m. given (slice_get (changed_at n (λ k. k + 1) ns) m) 0 (λ k. k)) (sym (is_same n x q))
@@ -190,13 +194,16 @@ seat_more es d x there = by (d.core == x.core) refl
   where
     flip : (d.core == x.core) ≡ true → same_dispatcher x d ≡ (d.place == x.place)
     flip q = ap (λ b. b && (x.place == d.place)) (eq_sym x.core d.core ∙ q) ∙ eq_sym x.place d.place
+
     none : (d.core == x.core) ≡ false → same_dispatcher x d ≡ false
     none q = ap (λ b. b && (x.place == d.place)) (eq_sym x.core d.core ∙ q)
+
     here : (o : Option (List ℕ)) → is_some (given o None (λ ns. slice_get ns d.place)) ≡ true
         → given (given (option_map (inner d) o) None (λ ns. slice_get ns x.place)) 0 (λ n. n)
         ≡ given (given o None (λ ns. slice_get ns x.place)) 0 (λ n. n) + cond (d.place == x.place) 1 0
     here None h = absurd (cc)
     here (Some ns) h = size_more ns d.place x.place h
+
     by : (c : Bool) → (d.core == x.core) ≡ c → many_at (seated d es) x ≡ many_at es x + cond (same_dispatcher x d) 1 0
     by true q =
         ap (λ core. given (given (slice_get (seated d es) core) None (λ ns. slice_get ns x.place)) 0 (λ n. n)) (sym (is_same d.core x.core q))
@@ -214,9 +221,11 @@ seat_keeps es d x = by (d.core == x.core) refl
   where
     count : (ns : List ℕ) → is_some (slice_get (inner d ns) x.place) ≡ is_some (slice_get ns x.place)
     count ns = sym (within (inner d ns) x.place) ∙ ap (nat_lt x.place) (length_changed ns d.place (λ n. n + 1)) ∙ within ns x.place
+
     here : (o : Option (List ℕ)) → is_some (given (option_map (inner d) o) None (λ ns. slice_get ns x.place)) ≡ is_some (given o None (λ ns. slice_get ns x.place))
     here None = refl
     here (Some ns) = count ns
+
     by : (c : Bool) → (d.core == x.core) ≡ c → is_some (ends_at (seated d es) x) ≡ is_some (ends_at es x)
     by true q =
         ap (λ core. is_some (given (slice_get (seated d es) core) None (λ ns. slice_get ns x.place))) (sym (is_same d.core x.core q))
@@ -237,10 +246,12 @@ new_many es core x = by (core == x.core) refl
     past [] (suc n) = refl
     past (k ∷ ns) zero = refl
     past (k ∷ ns) (suc n) = past ns n
+
     here : (o : Option (List ℕ)) → given (given (option_map one_more o) None (λ ns. slice_get ns x.place)) 0 (λ n. n)
         ≡ given (given o None (λ ns. slice_get ns x.place)) 0 (λ n. n)
     here None = refl
     here (Some ns) = past ns x.place
+
     by : (c : Bool) → (core == x.core) ≡ c → many_at (changed_at core one_more es) x ≡ many_at es x
     by true q =
         ap (λ m. given (given (slice_get (changed_at core one_more es) m) None (λ ns. slice_get ns x.place)) 0 (λ n. n)) (sym (is_same core x.core q))
@@ -257,10 +268,12 @@ new_keeps es core x h = by (core == x.core) refl
     past [] n q = absurd (cc)
     past (k ∷ ns) zero q = refl
     past (k ∷ ns) (suc n) q = past ns n q
+
     here : (o : Option (List ℕ)) → is_some (given o None (λ ns. slice_get ns x.place)) ≡ true
         → is_some (given (option_map one_more o) None (λ ns. slice_get ns x.place)) ≡ true
     here None q = q
     here (Some ns) q = past ns x.place q
+
     by : (c : Bool) → (core == x.core) ≡ c → is_some (ends_at (changed_at core one_more es) x) ≡ true
     by true q =
         ap (λ m. is_some (given (slice_get (changed_at core one_more es) m) None (λ ns. slice_get ns x.place))) (sym (is_same core x.core q))

@@ -1,7 +1,6 @@
 -- Lines one after another: the machine, asked for what they set up, refuses none of it, and answers the next line as the draft does.
-use Rattle.std.proofs.Common.{◌≡◌, ◌≢◌, ◌⊎◌, inl, inr, refl, sym, ◌∙◌, ap, subst, ℕ, zero, suc, ◌+◌, ◌≤◌, ◌<◌, ◌==◌, ◌||◌, ◌&&◌, nat_lt, nat_le, not, Bool, true, false, if◌then◌else◌, List, [], ◌∷◌, ◌++◌, length, length-append, map, slice_get, sum, is_some, Option, Some, None, arith}
+use Rattle.std.proofs.Common.{◌≡◌, ◌⊎◌, inl, inr, refl, sym, ◌∙◌, ap, subst, ℕ, zero, suc, ◌+◌, ◌≤◌, ◌==◌, ◌||◌, ◌&&◌, nat_lt, nat_le, not, Bool, true, false, if◌then◌else◌, List, [], ◌∷◌, ◌++◌, length, map, slice_get, sum, Option, None, arith}
 use Rattle.std.specs.List.{count_by, list_all, list_any, range_with_len}
-use Rattle.std.proofs.lemmas.Bool.Decides.{nat_tests}
 use Rattle.std.proofs.lemmas.List.{length-map}
 use Rattle.std.proofs.lemmas.List.Sums.{sum_by-append}
 use Rattle.fl_base.specs.declared.identity.EndId.{EndId}
@@ -9,7 +8,6 @@ use Rattle.fl_base.specs.Given.{given}
 use Rattle.fl_base.specs.Numbered.{most_cores, most_bindings}
 use Rattle.fl_interface.specs.Interface.{TheInterface}
 use Rattle.fl_value_data.specs.declared.value.PlanNo.{PlanNo}
-use Rattle.fl_model.specs.Given.{changed_at}
 use Rattle.fl_model.specs.Binding.{same_dispatcher}
 use Rattle.fl_model.specs.Events.{DispatcherId, Kind, by_queues, by_ring, by_route, Event, add_interface, set_cores, add_link, add_dispatcher, export, bind, Answer, done, refused}
 use Rattle.fl_model.specs.Events as event
@@ -22,10 +20,10 @@ use Rattle.fl_model.specs.Worlds.{start_with}
 use Rattle.fl_model_laws.proofs.Cases.{either, by_given, none_at_end}
 use Rattle.fl_model_laws.proofs.Replies.{length_changed}
 use Rattle.fl_model_laws.proofs.Views.{given_map}
-use Rattle.fl_cores_file.specs.Draft.{Draft, Use, Bound, joins, nothing_yet, takes, sets_cores, has_interface, is_route, offer_of, is_dispatcher, is_interface, with_use, change_use}
-use Rattle.fl_cores_file.specs.Draft.{binds, binds_by_route, TheDraftRequest, fault_at, call_fault, rule_fault}
+use Rattle.fl_cores_file.specs.Draft.{Draft, Use, joins, nothing_yet, takes, has_interface, is_route, offer_of, is_dispatcher, is_interface, with_use, change_use}
+use Rattle.fl_cores_file.specs.Draft.{binds, TheDraftRequest, fault_at, call_fault, rule_fault}
 use Rattle.fl_cores_file.specs.Verdicts.{LineVerdict, stops, goes_on}
-use Rattle.fl_cores_file_laws.specs.SetUps.{sets_up, ComeTo, behind, is_refusal, answer_for, is_binding, IsOneTooMany, IsTheMachines, SetUpsAreTheMachines}
+use Rattle.fl_cores_file_laws.specs.SetUps.{sets_up, ComeTo, behind, is_refusal, answer_for, IsOneTooMany, SetUpsAreTheMachines}
 use Rattle.fl_cores_file_laws.proofs.Views.{View, view_of, table_of, counts_of}
 use Rattle.fl_cores_file_laws.proofs.Counts.{no_shorter, links_to, sizes, size_at, many_at}
 use Rattle.fl_cores_file_laws.proofs.Mirrors.{Mirrors}
@@ -134,8 +132,17 @@ module _ (n : ℕ) where
 
   at_first : Mirrors (at n nothing_yet) first
   at_first = record {
-    interfaces = refl; cores = tables_long; even = ends_long; links = no_links; many = no_size; total = no_total; seats = none_seated; names = refl;
-    offers = refl; offered = none_at_end _; few = omega arith;
+    interfaces = refl;
+    cores = tables_long;
+    even = ends_long;
+    links = no_links;
+    many = no_size;
+    total = no_total;
+    seats = none_seated;
+    names = refl;
+    offers = refl;
+    offered = none_at_end _;
+    few = omega arith;
   }
 
 nothing_fits : Fits nothing_yet
@@ -175,11 +182,11 @@ module _ (n : ℕ) (v : Event) (c d : Draft) (h : FitsAt n c) (u : sets_up v ≡
   made : Agrees v (at n c) (goes_on (at n d)) (does v s) → FitsAt n d
   made (answer, mirrors, grown) = record {
     passes_all = ap (λ vs. list_all passes (answers_to (start_with n) vs)) grown.setup
-    ∙ passes_push c.setup v (start_with n) h.passes_all (same_answer v s ∙ answer);
+        ∙ passes_push c.setup v (start_with n) h.passes_all (same_answer v s ∙ answer);
     mirrors = subst (Mirrors (at n d))
-    (sym (ap (λ vs. view_of (reached (start_with n) vs)) grown.setup ∙ ap (λ t. view_of t) (reached_push c.setup v (start_with n)) ∙ same_view v s)) mirrors;
+        (sym (ap (λ vs. view_of (reached (start_with n) vs)) grown.setup ∙ ap (λ t. view_of t) (reached_push c.setup v (start_with n)) ∙ same_view v s)) mirrors;
     may = λ q. ap (λ vs. State.may_set_cores (reached (start_with n) vs)) grown.setup
-    ∙ ap (λ t. State.may_set_cores t) (reached_push c.setup v (start_with n)) ∙ still v c.settled s u (sym grown.settled ∙ q) h.may;
+        ∙ ap (λ t. State.may_set_cores t) (reached_push c.setup v (start_with n)) ∙ still v c.settled s u (sym grown.settled ∙ q) h.may;
   }
 
   asked_at : takes v (at n c) ≡ goes_on (at n d) → FitsAt n d
@@ -259,10 +266,18 @@ kept_fits c d k h =
     let here : FitsAt c.cores d = record {
       passes_all = ap (λ vs. list_all passes (answers_to (start_with c.cores) vs)) k.setup ∙ x.passes_all;
       mirrors = subst (Mirrors (at c.cores d)) (ap (λ vs. view_of (reached (start_with c.cores) vs)) (sym k.setup))
-      (kept_mirrors c (at c.cores d) v (record {
-        setup = k.setup; cores = refl; settled = k.settled; interfaces = k.interfaces; links = k.links; dispatchers = k.dispatchers; seats = k.seats;
-        services = k.services; offers = k.offers; bindings = k.bindings;
-      }) x.mirrors);
+          (kept_mirrors c (at c.cores d) v (record {
+            setup = k.setup;
+            cores = refl;
+            settled = k.settled;
+            interfaces = k.interfaces;
+            links = k.links;
+            dispatchers = k.dispatchers;
+            seats = k.seats;
+            services = k.services;
+            offers = k.offers;
+            bindings = k.bindings;
+          }) x.mirrors);
       may = λ q. absurd (false_true (sym q ∙ k.settled));
     } in
     record {
@@ -280,10 +295,18 @@ route_keeps client i name route d =
     (λ r. by_given (Keeps d) (offer_of name d) _ _ tt
     (λ offer t. either (Keeps d) (not (offer.interface == i)) _ _ (λ u. tt)
     (λ u. let w : TheDraftRequest = record { client = client; server = offer.dispatcher; interface = i; service = name } in
-      either (Keeps d) (not (is_route w route d)) _ _ (λ x. tt) (λ x. record {
-        setup = refl; cores = refl; settled = refl; interfaces = refl; links = refl; dispatchers = refl; seats = refl; services = refl; offers = refl;
-        bindings = no_shorter d.bindings _;
-      })))))
+    either (Keeps d) (not (is_route w route d)) _ _ (λ x. tt) (λ x. record {
+      setup = refl;
+      cores = refl;
+      settled = refl;
+      interfaces = refl;
+      links = refl;
+      dispatchers = refl;
+      seats = refl;
+      services = refl;
+      offers = refl;
+      bindings = no_shorter d.bindings _;
+    })))))
 
 used_long : (e : EndId) (u : Use) (d : Draft) → length d.bindings ≤ length (change_use e u d).bindings
 used_long e u d = let same = length_changed d.bindings e.binding (with_use e.side u) in omega (arith, same)
@@ -309,10 +332,20 @@ line_fits (set_cores n) c d h is = by c.settled refl (nat_lt n 1 || nat_lt most_
             draft_in : Draft → LineVerdict Draft → Draft
             draft_in z (goes_on y) = y
             draft_in z (stops fault) = z
+
         same_mirrors : (m : ℕ) → {v : View} → Mirrors (at m c) v → Mirrors (at m (record c { settled = true; cores = n })) v
         same_mirrors m k = record {
-          interfaces = k.interfaces; cores = k.cores; even = k.even; links = k.links; many = k.many; total = k.total; seats = k.seats; names = k.names;
-          offers = k.offers; offered = k.offered; few = k.few;
+          interfaces = k.interfaces;
+          cores = k.cores;
+          even = k.even;
+          links = k.links;
+          many = k.many;
+          total = k.total;
+          seats = k.seats;
+          names = k.names;
+          offers = k.offers;
+          offered = k.offered;
+          few = k.few;
         }
 line_fits (add_link a b size) c d h is = set_up_fits (add_link a b size) c d h refl is
 line_fits (add_dispatcher core) c d h is = set_up_fits (add_dispatcher core) c d h refl is
@@ -324,14 +357,30 @@ line_fits (event.call e x) c d h is = kept_fits c d (subst (Keeps c) is call_kee
   where
     call_keeps : Keeps c (takes (event.call e x) c)
     call_keeps = by_given (Keeps c) (fault_at e (call_fault e.side x) c) _ _ (record {
-      setup = refl; cores = refl; settled = refl; interfaces = refl; links = refl; dispatchers = refl; seats = refl; services = refl; offers = refl;
+      setup = refl;
+      cores = refl;
+      settled = refl;
+      interfaces = refl;
+      links = refl;
+      dispatchers = refl;
+      seats = refl;
+      services = refl;
+      offers = refl;
       bindings = used_long e _ c;
     }) (λ n q. tt)
 line_fits (event.reply e msg answer) c d h is = kept_fits c d (subst (Keeps c) is rule_keeps) h
   where
     rule_keeps : Keeps c (takes (event.reply e msg answer) c)
     rule_keeps = by_given (Keeps c) (fault_at e (rule_fault e.side msg answer) c) _ _ (record {
-      setup = refl; cores = refl; settled = refl; interfaces = refl; links = refl; dispatchers = refl; seats = refl; services = refl; offers = refl;
+      setup = refl;
+      cores = refl;
+      settled = refl;
+      interfaces = refl;
+      links = refl;
+      dispatchers = refl;
+      seats = refl;
+      services = refl;
+      offers = refl;
       bindings = used_long e _ c;
     }) (λ n q. tt)
 line_fits v c d h is = absurd (cc)
@@ -365,7 +414,7 @@ cores_answered d n h q =
     let s = behind d in
     let t = record s { cores = map fresh_core (range_with_len 0 n) } in
     ap (λ b. StepOutcome.answer (settles (set_cores n) (if not b then answers s (refused 93)
-      else if nat_lt n 1 || nat_lt most_cores n then answers s (refused 94) else answers t done))) (h.may q)
+    else if nat_lt n 1 || nat_lt most_cores n then answers s (refused 94) else answers t done))) (h.may q)
     ∙ number_answered n s t (record d { settled = true; cores = n }) (nat_lt n 1 || nat_lt most_cores n)
     ∙ ap (λ b. answer_for (if b then stops 93 else if nat_lt n 1 || nat_lt most_cores n then stops 94 else goes_on (record d { settled = true; cores = n }))) (sym q)
 

@@ -1,27 +1,24 @@
 -- Lines that set up interfaces, links, dispatchers and services: each is refused as the machine refuses it, and the draft goes on as the machine does.
-use Rattle.std.proofs.Common.{◌≡◌, refl, sym, ◌∙◌, ap, subst, ℕ, suc, ◌+◌, ◌≤◌, ◌==◌, ◌||◌, ◌&&◌, nat_lt, nat_le, not, Bool, true, false, if◌then◌else◌, List, [], ◌∷◌, ◌++◌, length, map, slice_get, sum, is_some, Option, Some, None, arith}
-use Rattle.std.specs.List.{list_any, count_by}
-use Rattle.std.proofs.lemmas.Bool.Decides.{nat_tests}
+use Rattle.std.proofs.Common.{◌≡◌, refl, sym, ◌∙◌, ap, subst, ℕ, ◌+◌, ◌==◌, ◌||◌, ◌&&◌, nat_lt, nat_le, not, Bool, true, false, if◌then◌else◌, List, [], ◌∷◌, ◌++◌, length, slice_get, sum, is_some, Option, Some, None, arith}
 use Rattle.std.proofs.lemmas.List.{map-append}
 use Rattle.std.proofs.lemmas.List.Folds.{list_any-append}
 use Rattle.fl_base.specs.Given.{given}
 use Rattle.fl_interface.specs.Interface.{TheInterface}
 use Rattle.fl_value_data.specs.declared.value.PlanNo.{PlanNo}
-use Rattle.fl_hop.specs.Table.{TheCircuits}
 use Rattle.fl_model.specs.Given.{changed_at}
 use Rattle.fl_model.specs.Calls.{Planned}
-use Rattle.fl_model.specs.Events.{DispatcherId, Event, add_interface, set_cores, add_link, add_dispatcher, export, Answer, done, refused}
+use Rattle.fl_model.specs.Events.{DispatcherId, Event, add_interface, add_link, add_dispatcher, export, done, refused}
 use Rattle.fl_model.specs.Making as machine
 use Rattle.fl_model.specs.Making.{most_interfaces, most_dispatchers, most_services, is_ring_size, with_new_link, with_dispatcher}
 use Rattle.fl_model.specs.Monitors.{Service}
-use Rattle.fl_model.specs.State.{State, StepOutcome, answers, dispatcher_of, change_core}
+use Rattle.fl_model.specs.State.{State, StepOutcome, answers, dispatcher_of}
 use Rattle.fl_model_laws.proofs.Cases.{each_push}
 use Rattle.fl_model_laws.proofs.Replies.{length_changed}
 use Rattle.fl_script_lines.specs.Asked.{is_taken}
-use Rattle.fl_cores_file.specs.Draft.{Draft, Joint, Offer, joins, has_interface, has_link, is_core, is_dispatcher, is_interface, adds_interface, adds_link, adds_dispatcher, exports}
+use Rattle.fl_cores_file.specs.Draft.{Draft, Joint, joins, has_interface, has_link, is_core, is_dispatcher, is_interface, adds_interface, adds_link, adds_dispatcher, exports}
 use Rattle.fl_cores_file.specs.Verdicts.{LineVerdict, stops, goes_on}
 use Rattle.fl_cores_file_laws.proofs.Views.{view_of, table_linked, link_view, one_more, dispatcher_view}
-use Rattle.fl_cores_file_laws.proofs.Counts.{within, counted_more, links_to, one_linked, sizes, size_at, longer, sum_more, size_more, new_many, new_keeps}
+use Rattle.fl_cores_file_laws.proofs.Counts.{within, counted_more, one_linked, sizes, longer, sum_more, size_more, new_many, new_keeps}
 use Rattle.fl_cores_file_laws.proofs.Mirrors.{Mirrors, present, name_of, offer_by, IsThere, core_same, link_same, table_there, size_there, total_same, there_same, interface_same, service_same, services_same}
 
 -- ---- what comes of a line
@@ -74,11 +71,23 @@ interface_agrees i plan d s h =
     (ap (λ (is : List Planned). machine.has_interface i.name (record s { interfaces = is })) h.interfaces) (λ q. refl)
     (λ q. agree_if (Agrees v d) (nat_le most_interfaces (length d.interfaces)) (nat_le most_interfaces (length s.interfaces)) _ _ _ _
     (ap (λ (is : List Planned). nat_le most_interfaces (length is)) h.interfaces) (λ r. refl)
-    (λ r. (refl, record {
-      interfaces = ap (λ is. is ++ one ∷ []) h.interfaces;
-      cores = h.cores; even = h.even; links = h.links; many = h.many; total = h.total; seats = h.seats; names = h.names; offers = h.offers;
-      offered = h.offered; few = h.few;
-    }, record { setup = refl; cores = refl; settled = refl })))
+    (λ r. (
+      refl,
+      record {
+        interfaces = ap (λ is. is ++ one ∷ []) h.interfaces;
+        cores = h.cores;
+        even = h.even;
+        links = h.links;
+        many = h.many;
+        total = h.total;
+        seats = h.seats;
+        names = h.names;
+        offers = h.offers;
+        offered = h.offered;
+        few = h.few;
+      },
+      record { setup = refl; cores = refl; settled = refl },
+    )))
 
 -- ---- links
 
@@ -113,7 +122,13 @@ link_goes a b size d e s h p q is =
           ∙ ap (λ c. c || ((b == x) && (a == y))) (one_linked ts a b x y (table_there d s h a p) ∙ ap (λ c. c || ((a == x) && (b == y))) (h.links x y))
           ∙ shuffle (has_link x y d) ((a == x) && (b == y)) (b == x) (a == y)
           ∙ sym (list_any-append (joins x y) d.links (j ∷ []));
-      many = h.many; total = h.total; seats = h.seats; names = h.names; offers = h.offers; offered = h.offered; few = h.few;
+      many = h.many;
+      total = h.total;
+      seats = h.seats;
+      names = h.names;
+      offers = h.offers;
+      offered = h.offered;
+      few = h.few;
     })
 
 pub link_agrees : (a b size : ℕ) (d : Draft) (s : State) → Mirrors d (view_of s) → Agrees (add_link a b size) d (adds_link a b size d) (machine.adds_link a b size s)
@@ -125,8 +140,8 @@ link_agrees a b size d s h =
     ∙ ap (λ c. not (is_core a d && is_core b d) || (a == b) || c) (link_same d s h a b)) (λ q. refl)
     (λ q. agree_if (Agrees v d) (not (is_ring_size size)) (not (is_ring_size size)) _ _ _ _ refl (λ r. refl)
     (λ r.
-      let both = parts (is_core a d) (is_core b d) (a == b) (has_link a b d) q in
-      (refl, subst (Mirrors _) (sym (link_view a b size s)) (link_goes a b size d _ s h both.0 both.1 refl), record { setup = refl; cores = refl; settled = refl })))
+    let both = parts (is_core a d) (is_core b d) (a == b) (has_link a b d) q in
+    (refl, subst (Mirrors _) (sym (link_view a b size s)) (link_goes a b size d _ s h both.0 both.1 refl), record { setup = refl; cores = refl; settled = refl })))
 
 -- ---- dispatchers
 
@@ -143,8 +158,9 @@ dispatcher_agrees core d s h =
     (ap (nat_le most_dispatchers) (total_same d s h)) (λ q. refl)
     (λ q. agree_if (Agrees v d) (not (is_core core d)) (not (machine.is_core core s)) _ _ _ _ (ap not (core_same d s h core)) (λ r. refl)
     (λ r.
-      let there = size_there d s h core (is_not (is_core core d) r) in
-      (refl, subst (Mirrors _) (sym (dispatcher_view core s)) (record {
+    let there = size_there d s h core (is_not (is_core core d) r) in (
+      refl,
+      subst (Mirrors _) (sym (dispatcher_view core s)) (record {
         interfaces = h.interfaces;
         cores = h.cores;
         even = length_changed es core one_more ∙ h.even;
@@ -160,10 +176,13 @@ dispatcher_agrees core d s h =
             let before = h.total in
             let long = long_more d.dispatchers core in omega (arith, wider, more, before, long);
         seats = λ x. new_many es core x ∙ h.seats x;
-        names = h.names; offers = h.offers;
+        names = h.names;
+        offers = h.offers;
         offered = λ n x at. new_keeps es core x.dispatcher (h.offered n x at);
         few = h.few;
-      }), record { setup = refl; cores = refl; settled = refl })))
+      }),
+      record { setup = refl; cores = refl; settled = refl },
+    )))
   where
     long_more : {X : Type 0} (xs : List X) (x : X) → length (xs ++ x ∷ []) ≡ length xs + 1
     long_more [] x = refl
@@ -179,10 +198,20 @@ export_agrees name x i d s h =
     agree_there (Agrees v d) s (is_dispatcher x d) (is_interface i d) (dispatcher_of s x) (slice_get s.interfaces i) _ _ refl (there_same d s h x) (interface_same d s h i)
     (λ y z q r. agree_if (Agrees v d) (is_taken name d.services) (machine.has_service name s) _ _ _ _ (service_same d s h name) (λ t. refl)
     (λ t. agree_if (Agrees v d) (nat_le most_services (length d.offers)) (nat_le most_services (length s.services)) _ _ _ _ (ap (nat_le most_services) (services_same d s h)) (λ u. refl)
-    (λ u. (refl, record {
-      interfaces = h.interfaces; cores = h.cores; even = h.even; links = h.links; many = h.many; total = h.total; seats = h.seats;
-      names = map-append name_of s.services (one ∷ []) ∙ ap (λ ns. ns ++ name ∷ []) h.names;
-      offers = map-append offer_by s.services (one ∷ []) ∙ ap (λ os. os ++ offer_by one ∷ []) h.offers;
-      offered = each_push (IsThere (view_of s)) s.services one h.offered (present s x y q);
-      few = h.few;
-    }, record { setup = refl; cores = refl; settled = refl }))))
+    (λ u. (
+      refl,
+      record {
+        interfaces = h.interfaces;
+        cores = h.cores;
+        even = h.even;
+        links = h.links;
+        many = h.many;
+        total = h.total;
+        seats = h.seats;
+        names = map-append name_of s.services (one ∷ []) ∙ ap (λ ns. ns ++ name ∷ []) h.names;
+        offers = map-append offer_by s.services (one ∷ []) ∙ ap (λ os. os ++ offer_by one ∷ []) h.offers;
+        offered = each_push (IsThere (view_of s)) s.services one h.offered (present s x y q);
+        few = h.few;
+      },
+      record { setup = refl; cores = refl; settled = refl },
+    ))))

@@ -1,17 +1,16 @@
 -- A draft of a cores file beside the machine's state behind what it sets up: what the refusals of the one look at is what those of the other do.
-use Rattle.std.proofs.Common.{◌≡◌, refl, sym, ◌∙◌, ap, subst, ℕ, suc, ◌+◌, ◌≤◌, ◌==◌, ◌||◌, ◌&&◌, nat_lt, nat_le, not, Bool, true, false, if◌then◌else◌, List, [], ◌∷◌, ◌++◌, length, length-append, map, slice_get, position, sum, is_some, Option, Some, None, option_map, bytes_eq, arith}
-use Rattle.std.specs.List.{list_any, count_by, sum_by, range_with_len}
+use Rattle.std.proofs.Common.{◌≡◌, refl, sym, ◌∙◌, ap, ℕ, ◌+◌, ◌≤◌, ◌==◌, nat_lt, nat_le, true, false, List, [], ◌∷◌, length, map, slice_get, position, sum, is_some, Option, Some, None, option_map, bytes_eq}
+use Rattle.std.specs.List.{list_any, count_by}
 use Rattle.std.proofs.lemmas.List.{length-map}
-use Rattle.std.proofs.lemmas.List.Sums.{sum_by-append}
 use Rattle.std.proofs.lemmas.Option.{slice_get-map}
 use Rattle.fl_base.specs.Given.{given}
 use Rattle.fl_model.specs.Binding.{same_dispatcher, place_of_service, has_places_for}
 use Rattle.fl_model.specs.Events.{DispatcherId}
 use Rattle.fl_model.specs.Making.{is_core as is_core_there, has_link as has_link_there, has_service, count_dispatchers}
-use Rattle.fl_model.specs.Monitors.{Core, fresh_core, Service, link_to}
+use Rattle.fl_model.specs.Monitors.{Core, Service}
 use Rattle.fl_model.specs.State.{State, dispatcher_of}
 use Rattle.fl_model.specs.Waits.{Dispatcher}
-use Rattle.fl_model_laws.proofs.Cases.{by_given, Each}
+use Rattle.fl_model_laws.proofs.Cases.{Each}
 use Rattle.fl_model_laws.proofs.Views.{given_map}
 use Rattle.fl_script_lines.specs.Asked.{is_taken}
 use Rattle.fl_cores_file.specs.Draft.{Draft, Offer, has_link, is_core, is_dispatcher, has_places, offer_of}
@@ -70,6 +69,7 @@ module _ (d : Draft) (s : State) (h : Mirrors d (view_of s)) where
       some_same : (o : Option Dispatcher) → is_some o ≡ is_some (option_map count_of o)
       some_same None = refl
       some_same (Some y) = refl
+
       by : (o : Option (List ℕ)) → nat_lt x.place (given (option_map (λ (ns : List ℕ). length ns) o) 0 λ n. n) ≡ is_some (given o None λ ns. slice_get ns x.place)
       by None = none x.place
         where

@@ -1,18 +1,15 @@
 -- What a text comes to: lines that were accepted one after another, of which the machine refuses nothing.
-use Rattle.std.proofs.Common.{◌≡◌, refl, sym, ap, subst, ◌∙◌, ℕ, ◌+◌, not, Bool, true, false, List, [], ◌∷◌}
+use Rattle.std.proofs.Common.{◌≡◌, refl, sym, subst, ℕ, ◌+◌, Bool, true, false, List, [], ◌∷◌}
 use Rattle.std.specs.Bool.{MatchBool}
-use Rattle.std.specs.List.{list_all}
 use Rattle.fl_check.specs.Text.{TextOutcome, stands_for, text_fault}
 use Rattle.fl_model.specs.Events.{Event}
-use Rattle.fl_model.specs.Runs.{answers_to}
-use Rattle.fl_model.specs.Worlds.{start_with}
 use Rattle.fl_script_lines.specs.Asked.{Asked, refuses, asks, Asks, asks_interface}
 use Rattle.fl_script_lines.specs.Commands.{Command}
 use Rattle.fl_script_lines.specs.Grammar.{silent, heading, command, unread}
 use Rattle.fl_script_lines.specs.Items.{Item, a_line, a_block, open_block, is_too_long}
 use Rattle.fl_script_lines.specs.Names.{Names}
-use Rattle.fl_cores_file.specs.CoresFile.{Reading, CoresFile, FileOutcome, is_file, refused_at, beginning, belongs, named_by, does, does_block, DoesCommand, Does}
-use Rattle.fl_cores_file.specs.CoresFile.{lines_in, Behind, Follows, ReadsFrom, Reads, file_of}
+use Rattle.fl_cores_file.specs.CoresFile.{Reading, FileOutcome, is_file, refused_at, beginning, belongs, named_by, does, does_block, DoesCommand, Does}
+use Rattle.fl_cores_file.specs.CoresFile.{lines_in, Behind, Follows, ReadsFrom}
 use Rattle.fl_cores_file.specs.Draft.{Draft, takes}
 use Rattle.fl_cores_file.specs.Verdicts.{LineVerdict, stops, goes_on}
 use Rattle.fl_cores_file_laws.specs.SetUps.{ComeTo, Passes, FilesPass}

@@ -1,6 +1,6 @@
 -- What a set-up's refusals look at in the machine: interfaces, each core's table of links, how many ends each of its dispatchers has, services, and how many
 -- bindings there are; and what the events of a set-up make of that.
-use Rattle.std.proofs.Common.{◌≡◌, refl, sym, ◌∙◌, ap, ℕ, suc, ◌+◌, List, [], ◌∷◌, ◌++◌, length, length-append, map, slice_get, Option, Some, None, option_map, arith}
+use Rattle.std.proofs.Common.{◌≡◌, refl, ◌∙◌, ap, ℕ, ◌+◌, List, [], ◌∷◌, ◌++◌, length, length-append, map, slice_get, Option, Some, None, option_map}
 use Rattle.std.proofs.lemmas.List.{map-append}
 use Rattle.std.proofs.lemmas.Option.{slice_get-map}
 use Rattle.fl_base.specs.declared.identity.EndId.{EndId}
@@ -8,14 +8,14 @@ use Rattle.fl_base.specs.declared.identity.Side.TheVariants.{Client, Server}
 use Rattle.fl_base.specs.Given.{given}
 use Rattle.fl_hop.specs.Table.{TheCircuits, with_link}
 use Rattle.fl_model.specs.Given.{changed_at}
-use Rattle.fl_model.specs.Binding.{BindByNames, end_id, with_new_binding, binds_both}
+use Rattle.fl_model.specs.Binding.{BindByNames, end_id, binds_both}
 use Rattle.fl_model.specs.Calls.{Planned}
-use Rattle.fl_model.specs.Ends.{Seat, End, Queue}
+use Rattle.fl_model.specs.Ends.{End}
 use Rattle.fl_model.specs.Events.{DispatcherId}
 use Rattle.fl_model.specs.Making.{linked, with_new_link, with_dispatcher}
 use Rattle.fl_model.specs.Monitors.{Core, Service}
-use Rattle.fl_model.specs.Rings.{first_side, second_side, fresh_ring}
-use Rattle.fl_model.specs.State.{Back, State, dispatcher_of, end_of, change_core, change_dispatcher, change_end, seats, registers_end, binds_end, with_end_in}
+use Rattle.fl_model.specs.Rings.{first_side, second_side}
+use Rattle.fl_model.specs.State.{State, dispatcher_of, end_of, change_core, change_dispatcher, change_end, seats, binds_end, with_end_in}
 use Rattle.fl_model.specs.Waits.{Dispatcher, with_end, registers, waits_in}
 use Rattle.fl_model_laws.proofs.Cases.{by_given}
 use Rattle.fl_model_laws.proofs.Replies.{length_changed}
