@@ -2,7 +2,8 @@
 use Rattle.std.specs.Prelude.{ℕ, ◌≡◌, ◌≢◌, ◌⊎◌, ◌≤◌, not, Bool, true, false, List, [], ◌∷◌, length}
 use Rattle.std.specs.List.{list_all}
 use Rattle.fl_base.specs.Numbered.{most_bindings}
-use Rattle.fl_model.specs.Events.{Event, add_interface, set_cores, add_link, add_dispatcher, export, bind, by_queues, by_ring, Answer, done, refused}
+use Rattle.fl_model.specs.Events.{Event, add_interface, set_cores, add_link, add_dispatcher, export, bind}
+use Rattle.fl_model.specs.Events.{by_queues, by_ring, Answer, done, refused}
 use Rattle.fl_model.specs.Runs.{answers_to, reached}
 use Rattle.fl_model.specs.State.{State}
 use Rattle.fl_model.specs.Step.{step}
@@ -13,8 +14,8 @@ use Rattle.fl_cores_file.specs.Verdicts.{LineVerdict, stops, goes_on}
 
 -- ---- lines
 
--- a line asks for something that is set up before the cores run, beside their number: an interface, a link, a dispatcher, a service, or a binding by queues
--- or by a ring
+-- a line asks for something that is set up before the cores run, beside their number: an interface, a link,
+-- a dispatcher, a service, or a binding by queues or by a ring
 abbrev pub sets_up : Event → Bool
 sets_up (add_interface i plan) = true
 sets_up (add_link a b size) = true
@@ -54,19 +55,23 @@ abbrev pub is_binding : Event → Bool
 is_binding (bind client i name kind) = true
 is_binding event = false
 
--- a binding is refused since there are 1,024 (E94), those among them that jobs open, of which the machine knows nothing yet; its names are right
+-- a binding is refused since there are 1,024 (E94), those among them that jobs open, of which the machine
+-- knows nothing yet; its names are right
 pub record IsOneTooMany (v : Event) (d : Draft) : Type 0 where
   pub binding : is_binding v ≡ true
   pub too_many : most_bindings ≤ length d.bindings
   pub refused_as : takes v d ≡ stops 94
   pub named : (step (behind d) v).answer ≢ refused 92
 
--- of a draft that lines came to: the machine refused nothing of what they set up; it answers each line that sets something up, behind these, by just the
--- number for which the line is refused, or by `done` where it isn't; and so it does a number of cores, where that isn't settled
+-- of a draft that lines came to: the machine refused nothing of what they set up; it answers each line that
+-- sets something up, behind these, by just the number for which the line is refused, or by `done` where it
+-- isn't; and so it does a number of cores, where that isn't settled
 pub record IsTheMachines (d : Draft) : Type 0 where
   pub passes : Passes d.cores d.setup
-  pub answered : (v : Event) → sets_up v ≡ true → ((step (behind d) v).answer ≡ answer_for (takes v d)) ⊎ IsOneTooMany v d
-  pub cores : (n : ℕ) → d.settled ≡ false → (step (behind d) (set_cores n)).answer ≡ answer_for (takes (set_cores n) d)
+  pub answered : (v : Event) → sets_up v ≡ true
+      → ((step (behind d) v).answer ≡ answer_for (takes v d)) ⊎ IsOneTooMany v d
+  pub cores : (n : ℕ) → d.settled ≡ false
+      → (step (behind d) (set_cores n)).answer ≡ answer_for (takes (set_cores n) d)
 
 abbrev pub SetUpsAreTheMachines : Type 0
 SetUpsAreTheMachines = (lines : List Event) (d : Draft) → ComeTo lines d → IsTheMachines d
