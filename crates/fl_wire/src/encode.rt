@@ -32,7 +32,7 @@ fn align_to(out: &mut Vec<u8>, align: usize) -> Result<(), AllocError>
     if count == 0 {
         return Ok(());
     }
-    out.extend_from_slice(&[1; 8][..count])
+    out.extend_from_slice(&[0; 8][..count])
 }
 
 // A leaf without a byte: what follows starts at a multiple of the alignment.
