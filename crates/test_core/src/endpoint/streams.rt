@@ -84,13 +84,19 @@ impl Half {
 }
 
 // Whether each end's call comes to the other.
-fn both_call(alloc: Global, one: &mut StreamSide, two: &mut StreamSide) -> Result<bool, AllocError> {
+fn both_call(
+    alloc: Global,
+    one: &mut StreamSide,
+    two: &mut StreamSide,
+) -> Result<bool, AllocError> {
     let mut client = Half::new(alloc)?;
     let mut server = Half::new(alloc)?;
-    Ok(client.call(alloc) == Said::Done
-        && server.call(alloc) == Said::Done
-        && client.calls(&mut server, one, two)
-        && server.calls(&mut client, two, one))
+    Ok(
+        client.call(alloc) == Said::Done
+            && server.call(alloc) == Said::Done
+            && client.calls(&mut server, one, two)
+            && server.calls(&mut client, two, one),
+    )
 }
 
 /// Ends over two streams.

@@ -180,13 +180,7 @@ const OF_LETTERS: &[OfLetters] = &[
 ];
 
 // A text alone.
-const TEXT: &[Op] = &[
-    Op::Length(4_096),
-    Op::Each,
-    Op::Emit(1),
-    Op::Back,
-    Op::End,
-];
+const TEXT: &[Op] = &[Op::Length(4_096), Op::Each, Op::Emit(1), Op::Back, Op::End];
 
 // How many fragments a run gives, a hundred at most.
 fn count_frags(code: &VerifiedCode, run: SendRun) -> usize
