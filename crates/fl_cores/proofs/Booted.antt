@@ -1,12 +1,12 @@
 -- What a set-up comes to, and why there may be no report.
 use Rattle.std.proofs.Common.{◌≡◌, inl, inr, take, ◌≤◌, refl, sym, ap, ◌∙◌, subst, ℕ, suc, ◌+◌, Bool, true, false, ◌&&◌, not, cond, nat_lt, List, [], ◌∷◌, length, map, Some, None, arith}
-use Rattle.std.proofs.lemmas.Bool.{and_parts}
+use Rattle.std.proofs.lemmas.Bool.{and_from, and_parts}
 use Rattle.std.proofs.lemmas.List.{length-map, take-map}
 use Rattle.std.specs.List.{list_all, position, position_or_len}
 use Rattle.std.proofs.lemmas.Bool.Decides.{nat_tests}
 use Rattle.fl_model.specs.declared.event.Event.{Event as RustEvent}
 use Rattle.fl_model.specs.Views.{event_of}
-use Rattle.fl_model.specs.Events.{Event}
+use Rattle.fl_model.specs.Events.{Event, set_cores}
 use Rattle.fl_world_refines.specs.View.{TheWorld}
 use Rattle.fl_world_refines.specs.declared.parts.Parts.{Parts}
 use Rattle.fl_world.specs.declared.booting.BootFault.{BootFault}
@@ -20,17 +20,24 @@ use Rattle.fl_cores.specs.declared.fault.CoresFault.TheVariants as fault
 use Rattle.fl_cores_parts.specs.declared.fault.RunFault.{RunFault}
 use Rattle.fl_cores_parts.specs.declared.fault.RunFault.TheVariants as run
 use Rattle.fl_cores.specs.Faults.{by_boot, by_run}
-use Rattle.fl_cores.specs.Promised.{is_other, asks_other, cores_by, IsAccepted, Made, front_of, IsRefusedAt, IsFault, IsLater}
+use Rattle.fl_cores.specs.Promised.{is_of_set_up, is_other, asks_other, cores_by, IsAccepted, Made, front_of, IsRefusedAt, IsFault, IsLater}
 
 -- ---- no other event: each makes something at once
 
-one_more : (b : Bool) (n m : ℕ) (rest : Bool) → (nat_lt n m ≡ false → rest ≡ true) → nat_lt (cond (not (not b)) (1 + n) 0) (suc m) ≡ false → (b && rest) ≡ true
-one_more true n m rest h e = h (grind (arith, nat_tests, e))
-one_more false n m rest h e = absurd (grind (arith, nat_tests, e))
+-- each event of a set-up makes something
+makes_it : (v : Event) → is_of_set_up v ≡ true → is_making v ≡ true
+makes_it (set_cores n) e = refl
+makes_it v e = e
+
+one_more : (b c : Bool) (n m : ℕ) (rest : Bool) → (b ≡ true → c ≡ true) → (nat_lt n m ≡ false → rest ≡ true)
+    → nat_lt (cond (not (not b)) (1 + n) 0) (suc m) ≡ false → (c && rest) ≡ true
+one_more true c n m rest makes h e = and_from c rest (makes refl) (h (grind (arith, nat_tests, e)))
+one_more false c n m rest makes h e = absurd (grind (arith, nat_tests, e))
 
 all_before : (events : List Event) → nat_lt (position_or_len is_other events) (length events) ≡ false → list_all is_making events ≡ true
 all_before [] e = refl
-all_before (v ∷ vs) e = one_more (is_making v) (position_or_len is_other vs) (length vs) (list_all is_making vs) (all_before vs) e
+all_before (v ∷ vs) e =
+    one_more (is_of_set_up v) (is_making v) (position_or_len is_other vs) (length vs) (list_all is_making vs) (makes_it v) (all_before vs) e
 
 none_found : (b : Bool) (n : ℕ) → cond b (Some n) None ≡ None → b ≡ false
 none_found true n e = absurd (cc)
@@ -39,22 +46,22 @@ none_found false n e = refl
 pub all_making : (events : List Event) → position is_other events ≡ None → list_all is_making events ≡ true
 all_making events none = all_before events (none_found (nat_lt (position_or_len is_other events) (length events)) (position_or_len is_other events) none)
 
--- nor is there another where each makes something
+-- nor is there another where each is of a set-up
 one_past : (b : Bool) (n m : ℕ) → b ≡ true → nat_lt n m ≡ false → nat_lt (cond (not (not b)) (1 + n) 0) (suc m) ≡ false
 one_past true n m e h = grind (arith, nat_tests, h)
 one_past false n m e h = absurd (cc)
 
-all_past : (events : List Event) → list_all is_making events ≡ true → nat_lt (position_or_len is_other events) (length events) ≡ false
+all_past : (events : List Event) → list_all is_of_set_up events ≡ true → nat_lt (position_or_len is_other events) (length events) ≡ false
 all_past [] e = refl
 all_past (v ∷ vs) e =
-    let (first, rest) = and_parts (is_making v) (list_all is_making vs) e in
-    one_past (is_making v) (position_or_len is_other vs) (length vs) first (all_past vs rest)
+    let (first, rest) = and_parts (is_of_set_up v) (list_all is_of_set_up vs) e in
+    one_past (is_of_set_up v) (position_or_len is_other vs) (length vs) first (all_past vs rest)
 
 none_if : (b : Bool) (n : ℕ) → b ≡ false → cond b (Some n) None ≡ None
 none_if true n e = absurd (cc)
 none_if false n e = refl
 
-pub none_other : (events : List Event) → list_all is_making events ≡ true → position is_other events ≡ None
+pub none_other : (events : List Event) → list_all is_of_set_up events ≡ true → position is_other events ≡ None
 none_other events e = none_if (nat_lt (position_or_len is_other events) (length events)) (position_or_len is_other events) (all_past events e)
 
 -- ---- a world stands

@@ -1,5 +1,5 @@
--- What every cores file has: 1 to 16 cores, since a line on their number is refused for another one and there is one without; and events alone that make
--- something, since no line asks for another before the cores run.
+-- What every cores file has: 1 to 16 cores, since a line on their number is refused for another one and there is one without; and events alone that
+-- belong to a set-up, since no line asks for another before the cores run.
 use Rattle.std.proofs.Common.{◌≡◌, refl, sym, subst, ℕ, ◌+◌, ◌≤◌, ◌==◌, ◌||◌, ◌&&◌, nat_lt, nat_le, not, Bool, true, false, if◌then◌else◌, ◌∙◌}
 use Rattle.std.proofs.Common.{List, [], ◌∷◌, ◌++◌, length, Option, Some, None, arith}
 use Rattle.std.specs.Bool.{MatchBool}
@@ -18,7 +18,6 @@ use Rattle.fl_script_lines.specs.Commands.{Command}
 use Rattle.fl_script_lines.specs.Grammar.{silent, heading, command, unread}
 use Rattle.fl_script_lines.specs.Items.{Item, a_line, a_block, open_block, is_too_long}
 use Rattle.fl_script_lines.specs.Names.{Names}
-use Rattle.fl_world_refines.specs.Apart.{is_making}
 use Rattle.fl_world.specs.Booting.{has_bad_cores}
 use Rattle.fl_cores_file.specs.Verdicts.{LineVerdict, stops, goes_on}
 use Rattle.fl_cores_file.specs.Draft.{Draft, TheDraftRequest, has_interface, is_core, has_link, is_dispatcher, is_interface, has_both_places, is_route, offer_of}
@@ -26,7 +25,7 @@ use Rattle.fl_cores_file.specs.Draft.{sets_cores, adds_link, adds_dispatcher, ex
 use Rattle.fl_cores_file.specs.Draft.{call_fault, rule_fault, fault_at, takes}
 use Rattle.fl_cores_file.specs.CoresFile.{Reading, CoresFile, FileOutcome, is_file, refused_at, beginning, belongs, named_by, does, does_block, DoesCommand, Does}
 use Rattle.fl_cores_file.specs.CoresFile.{lines_in, Behind, Follows, ReadsFrom, Reads}
-use Rattle.fl_cores.specs.Promised.{is_other, config_in}
+use Rattle.fl_cores.specs.Promised.{is_of_set_up, is_other, config_in}
 use Rattle.fl_cores.proofs.Booted.{none_other}
 
 -- ---- cases
@@ -41,9 +40,9 @@ by_given P (Some x) y f h g = g x refl
 
 -- ---- what is asked
 
--- so many cores there may be, and each of these events makes something
+-- so many cores there may be, and each of these events is of a set-up
 abbrev MayStand : ℕ → List Event → Type 0
-MayStand n events = ((nat_lt n 1 || nat_lt most_cores n) ≡ false) × (list_all is_making events ≡ true)
+MayStand n events = ((nat_lt n 1 || nat_lt most_cores n) ≡ false) × (list_all is_of_set_up events ≡ true)
 
 abbrev IsFit : Draft → Type 0
 IsFit d = MayStand d.cores d.setup
@@ -54,10 +53,10 @@ Stays (stops fault) = Unit {0}
 Stays (goes_on d) = IsFit d
 
 -- one event more
-with_one : (v : Event) (d : Draft) → is_making v ≡ true → IsFit d → MayStand d.cores (d.setup ++ v ∷ [])
+with_one : (v : Event) (d : Draft) → is_of_set_up v ≡ true → IsFit d → MayStand d.cores (d.setup ++ v ∷ [])
 with_one v d makes h =
-    let last : list_all is_making (v ∷ []) ≡ true = and_from (is_making v) true makes refl in
-    (h.0, list_all-append is_making d.setup (v ∷ []) ∙ and_from (list_all is_making d.setup) (list_all is_making (v ∷ [])) h.1 last)
+    let last : list_all is_of_set_up (v ∷ []) ≡ true = and_from (is_of_set_up v) true makes refl in
+    (h.0, list_all-append is_of_set_up d.setup (v ∷ []) ∙ and_from (list_all is_of_set_up d.setup) (list_all is_of_set_up (v ∷ [])) h.1 last)
 
 cores_stay : (n : ℕ) (d : Draft) → IsFit d → Stays (sets_cores n d)
 cores_stay n d h =

@@ -1,7 +1,7 @@
 -- What is promised of a run of cores, beside what its report will be shown to say of calls.
 use Rattle.std.specs.Prelude.{ℕ, ◌≡◌, ◌⊎◌, ◌+◌, Bool, true, false, not, List, ◌++◌, length, take, Option, Some, None, position}
 use Rattle.std.specs.List.{list_all}
-use Rattle.fl_model.specs.Events.{Event}
+use Rattle.fl_model.specs.Events.{Event, set_cores}
 use Rattle.fl_model.specs.declared.event.Event.{Event as RustEvent}
 use Rattle.fl_model.specs.Views.{event_of}
 use Rattle.fl_model.specs.Runs.{answers_to, reached}
@@ -25,9 +25,14 @@ use Rattle.fl_cores.specs.declared.text.CoresEnd.TheVariants as end
 
 -- ---- a set-up
 
+-- an event of a set-up makes an interface, a link, a dispatcher, a service, or a binding by queues or by a ring; the number of cores is the configuration's
+abbrev pub is_of_set_up : Event → Bool
+is_of_set_up (set_cores n) = false
+is_of_set_up event = is_making event
+
 -- an event that isn't of a set-up
 abbrev pub is_other : Event → Bool
-is_other event = not (is_making event)
+is_other event = not (is_of_set_up event)
 
 abbrev pub asks_other : RustEvent → Bool
 asks_other event = is_other (event_of event)
@@ -145,12 +150,18 @@ pub record Appends (text : List ℕ) (limit : ℕ) (e : CoresEnd) (before after 
 
 -- ---- why nothing is told of a text
 
--- it is a cores file, whose set-up and jobs have this fault; so many cores there may be, and each event is of a set-up, so the fault is none of these
+-- a fault of none of the events of a set-up
+abbrev pub IsBehindSetUp : CoresFault → Type 0
+IsBehindSetUp (fault.Setup number place) = ⊥
+IsBehindSetUp f = Unit {0}
+
+-- it is a cores file, whose jobs have this fault, or the run of them: so many cores there may be, each event is of a set-up, and the machine refuses none
 pub record FileHasFault (text : List ℕ) (f : CoresFault) : Type 0 where
   pub file : CoresFile
   pub reads : Reads text (is_file file)
   pub counted : has_bad_cores (config_in file) ≡ false
   pub making : position is_other file.setup ≡ None
+  pub accepted : IsBehindSetUp f
   pub is_fault : IsFault (config_in file) file.jobs f
 
 -- out of memory may be told of any text, since memory is wanted to read it and to print what is told of it; each other fault is one of the file that it is

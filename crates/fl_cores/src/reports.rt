@@ -26,8 +26,9 @@ use std::thread::Threads;
 ///
 /// # Errors
 /// [`CoresFault`]: a number of cores outside 1 to 16 (94, at place 0); else the first event of the set-up that
-/// is refused, by the world or since no set-up has it (93); else the first job that is refused; or out of
-/// memory, or of threads. Every thread was joined then.
+/// is refused, by the world or since no set-up has it (93: one that makes nothing at once, as a call or a
+/// circuit, or that sets the number of cores, which the configuration has); else the first job that is
+/// refused; or out of memory, or of threads. Every thread was joined then.
 pub fn run_cores<R: Threads + Wait + Sync, G: Gate + Sync>(
     rt: &R,
     alloc: Global,
@@ -49,9 +50,9 @@ pub fn run_cores<R: Threads + Wait + Sync, G: Gate + Sync>(
 /// Runs a cores file, and appends what is told of that: an honest report, or the line that is refused.
 ///
 /// # Errors
-/// Out of memory, whatever the text is; else the text is a cores file, and the fault is one of its set-up and jobs, as
-/// [`run_cores`] tells them: a thread doesn't start, or a part is refused. (No clause rules out a refused set-up or
-/// job of an accepted file; no such file is known.) Nothing is appended then.
+/// Out of memory, whatever the text is; else the text is a cores file, whose set-up nothing refuses, and the fault is
+/// one of its jobs or of their run, as [`run_cores`] tells them: a thread doesn't start, or a job is refused. (No clause
+/// rules out a refused job of an accepted file; no such file is known.) Nothing is appended then.
 pub fn run_cores_text<R: Threads + Wait + Sync, G: Gate + Sync>(
     rt: &R,
     alloc: Global,

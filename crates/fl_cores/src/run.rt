@@ -3,11 +3,10 @@
 ghost use Rattle.std.specs.Prelude.{◌≡◌, ◌≤◌, Some, None, List, map, position, length, IfOk, IfErr};
 ghost use Rattle.fl_model.specs.Views.{event_of};
 ghost use Rattle.fl_cores_file.specs.Reports.{report_of};
-ghost use Rattle.fl_world_refines.specs.Apart.{is_making};
 ghost use Rattle.fl_world.specs.Booting.{config_of, IsFaultOf};
 ghost use Rattle.fl_cores_file.specs.Jobs.{Job as TheJob};
 ghost use Rattle.fl_cores_file.specs.Views.{job_of};
-ghost use Rattle.fl_cores.specs.Promised.{is_other, asks_other, cores_by, IsAccepted, Made, Reports, IsFault, IsLater};
+ghost use Rattle.fl_cores.specs.Promised.{is_of_set_up, is_other, asks_other, cores_by, IsAccepted, Made, Reports, IsFault, IsLater};
 ghost use Rattle.fl_cores_parts.specs.Ran.{Keeps, RanFrom};
 
 use crate::fault::CoresFault;
@@ -22,13 +21,12 @@ use std::alloc::Global;
 use std::sync::Wait;
 use std::thread::Threads;
 
-// Whether an event makes something at once: nothing else belongs to a set-up.
-fn is_making(event: &Event<'_>) -> bool
-    ensures making { result ≡ is_making (event_of event.now) }
+// Whether an event makes something at once, beside the cores, whose number the configuration has: nothing else belongs to a set-up.
+fn is_of_set_up(event: &Event<'_>) -> bool
+    ensures of_set_up { result ≡ is_of_set_up (event_of event.now) }
 {
     match event {
         Event::AddInterface { .. }
-        | Event::SetCores(_)
         | Event::AddLink { .. }
         | Event::AddDispatcher(_)
         | Event::Export { .. } => true,
@@ -36,6 +34,7 @@ fn is_making(event: &Event<'_>) -> bool
             BackEnd::Local(_) | BackEnd::Ump(_) => true,
             BackEnd::Hop(_) => false,
         },
+        Event::SetCores(_) => false,
         Event::Call(_, _)
         | Event::Show(_)
         | Event::Write(_)
@@ -53,7 +52,7 @@ fn is_making(event: &Event<'_>) -> bool
 fn is_other(event: &Event<'_>) -> bool
     ensures other { result ≡ asks_other event.now }
 {
-    !is_making(event)
+    !is_of_set_up(event)
 }
 
 fn place_of_other(events: &[Event<'_>]) -> Option<usize>
