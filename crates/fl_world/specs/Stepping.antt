@@ -29,8 +29,8 @@ may_want_memory (monitor_write core neighbour) = false
 may_want_memory (monitor_ack core neighbour) = false
 may_want_memory event = true
 
--- memory is wanting last: no refusal is what the event comes to. A turn of a dispatcher that is there, and a forward over a link that is
--- there, are never refused by the machine (`law_no_wire_faults`).
+-- memory is wanting last: no refusal is what the event comes to. A turn of a dispatcher that is there, and
+-- a forward over a link that is there, are never refused by the machine (`law_no_wire_faults`).
 abbrev pub IsAccepted : Event → TheWorld → Type 0
 IsAccepted (turn d) w = has_dispatcher w d ≡ true
 IsAccepted (forward core neighbour) w = IsSome (link_side_to w core neighbour)

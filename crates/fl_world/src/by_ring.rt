@@ -152,8 +152,8 @@ impl World {
         Err(AllocError)
     }
 
-    /// The ends of a binding are joined by a ring of so many slots a direction. They are to be on two cores (E73), the ring to have a power of two from 4
-    /// to 1,024 slots (E32), and the dispatchers places (E54).
+    /// The ends of a binding are joined by a ring of so many slots a direction. They are to be on two cores
+    /// (E73), the ring to have a power of two from 4 to 1,024 slots (E32), and the dispatchers places (E54).
     ///
     /// # Errors
     /// Out of memory.

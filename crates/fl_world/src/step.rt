@@ -107,7 +107,8 @@ impl World {
     /// Does one event, which is lent: nothing of it is copied but what the world keeps.
     ///
     /// # Errors
-    /// Out of memory, for events that make something, make or handle calls, or hear messages, where they aren't refused. Nothing has changed.
+    /// Out of memory, for events that make something, make or handle calls, or hear messages, where they
+    /// aren't refused. Nothing has changed.
     pub fn replay(&mut self, event: &Event<'_>) -> Result<Answer, AllocError>
         ensures steps { IfOk result (λ a. Steps (event_of event.now) self.old (answer_of a) self.new) }
         ensures agrees { IfOk result (λ a. StepsAlike (event_of event.now) self.old (answer_of a) self.new) }
@@ -124,7 +125,8 @@ impl World {
     /// Does one event: a step of the machine.
     ///
     /// # Errors
-    /// Out of memory, for events that make something, make or handle calls, or hear messages, where they aren't refused. Nothing has changed.
+    /// Out of memory, for events that make something, make or handle calls, or hear messages, where they
+    /// aren't refused. Nothing has changed.
     pub fn step(&mut self, event: Event<'_>) -> Result<Answer, AllocError>
         ensures steps { IfOk result (λ a. Steps (event_of event.entry) self.old (answer_of a) self.new) }
         ensures agrees { IfOk result (λ a. StepsAlike (event_of event.entry) self.old (answer_of a) self.new) }

@@ -6,7 +6,7 @@ use Rattle.fl_base.specs.declared.identity.LinkId.{LinkId}
 use Rattle.fl_compile.specs.declared.program.Program.{Program}
 use Rattle.fl_interface.specs.Interface.{TheMessage}
 use Rattle.fl_value_data.specs.Value.{TheCall}
-use Rattle.fl_value_data.specs.Fits.{fits_of, fit_message}
+use Rattle.fl_value_data.specs.Fits.{fit_message}
 use Rattle.fl_endpoint.specs.declared.fault.EndFault.{EndFault}
 use Rattle.fl_endpoint.specs.declared.fault.EndFault.TheVariants.{Spent, Busy, UnknownMessage, Misfit, NotBound, Failed, Wire, Memory}
 use Rattle.fl_endpoint.specs.View.{TheEnd, interface_in, fresh}

@@ -127,7 +127,8 @@ fn number_of(fault: OpenFault) -> Result<u8, AllocError>
     }
 }
 
-// What is answered of an opening for which no memory is wanted: its core has an end of the binding already, or refuses it.
+// What is answered of an opening for which no memory is wanted: its core has an end of the binding already,
+// or refuses it.
 fn answer_in(core: &Core, dispatcher: usize, link: LinkId, opening: &Opening) -> Option<Answer>
     requires { dispatcher < length core.now.board.dispatchers }
     ensures answer { IfSome result (λ a. IsAnsweredIn dispatcher link opening.now (answer_of a) core.now) }

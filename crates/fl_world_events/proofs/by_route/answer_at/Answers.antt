@@ -1,4 +1,3 @@
-use Rattle.std.proofs.Common.{IfSome, IfNone}
 use Rattle.fl_core.specs.Making.{MayOpen}
 use Rattle.fl_model.specs.Views.{answer_of, id_of}
 use Rattle.fl_world_events.specs.Routes.{IsAnsweredIn}
