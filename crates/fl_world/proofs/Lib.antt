@@ -1,3 +1,4 @@
+pub mod Last
 pub mod Lifts
 pub mod Lent
 pub mod Kept

@@ -21,7 +21,7 @@ use Rattle.fl_world_refines.specs.Binding.{BindingRequest, HasEndOf, has_places,
 use Rattle.fl_world.specs.declared.binding.BindRequest.{BindRequest}
 use Rattle.fl_world_events.specs.Requests.{has_end_in, HasDispatcher, places_in}
 use Rattle.fl_world_events.specs.Requests.{IsNewEndOf}
-use Rattle.fl_world.specs.Requests.{request, IsRequest, has_end_of, IsNewAt, both_places, IsCopyOf, IsNewEnd}
+use Rattle.fl_world.specs.Requests.{request, IsRequest, IsOnly, has_end_of, IsNewAt, both_places, IsCopyOf, IsNewEnd}
 use Rattle.fl_world_events.proofs.Lifts.{stands}
 use Rattle.fl_world_events.proofs.Requested.{at_place}
 
@@ -189,6 +189,25 @@ module _ (client : DispatcherId) (i : ℕ) (name : List ℕ) (w : TheWorld) wher
               if_false _ _ _ (ap not there) (given_some _ _ _ it.0 it.1
               (if_false _ _ _ (lt-leb 1024 (length w.bindings) few) (given_some _ _ _ s found (if_false _ _ _ (ap not (eq-eqb s.service.interface i one)) joins))))
 
+-- and the other way
+given_one : {X : Type 0} (Otherwise : Type 0) (Then : X → Type 0) (o : Option X) (x : X) → o ≡ Some x → Given o Otherwise Then → Then x
+given_one Otherwise Then None x e h = absurd (cc)
+given_one Otherwise Then (Some y) x e h = subst Then (same_Some y x e) h
+
+if_other : (Then Else : Type 0) (b : Bool) → b ≡ false → If b Then Else → Else
+if_other Then Else true e h = absurd (cc)
+if_other Then Else false e h = h
+
+pub only_requested : (client : DispatcherId) (i : ℕ) (name : List ℕ) (w : TheWorld) → has_dispatcher w client ≡ true → i < length w.programs → length w.bindings < 1024
+    → (s : TheRegistration) → by_name name w.names ≡ Some s → s.service.interface ≡ i → (x : BindRequest) → x.interface ≡ i
+    → ((p : Program) → wanted_from client i p s ≡ request x p) → IsOnly client i name w x
+only_requested client i name w there below few s found one x here asks kind a w2 h =
+    let it = at_place w.programs i below in
+    let joins : BindsBy (wanted_from client i it.0 s) kind w a w2
+    = if_other _ _ _ (ap not (eq-eqb s.service.interface i one)) (given_one _ _ _ s found (if_other _ _ _ (lt-leb 1024 (length w.bindings) few)
+    (given_one _ _ _ it.0 it.1 (if_other _ _ _ (ap not there) h)))) in
+    (it.0, subst (λ (n : ℕ). slice_get w.programs n ≡ Some it.0) (sym here) it.1, subst (λ (r : BindingRequest). BindsBy r kind w a w2) (asks it.0) joins)
+
 -- the same from the facts of the code, once a service of this name is found
 module _ (w base : TheWorld) (same : base ≡ w) (c : RustDispatcherId) (i : ℕ) (name : List ℕ) (there : has_dispatcher w (id_of c) ≡ true)
     (ps : List Program) (all : ps ≡ base.programs) (below : i < length ps) (bs : List Binding) (known : bs ≡ base.bindings) (few : length bs < 1024)
@@ -212,4 +231,10 @@ module _ (w base : TheWorld) (same : base ≡ w) (c : RustDispatcherId) (i : ℕ
       → IsRequest (id_of c) i name w (Ok (record { client = c; interface = i; server = record { core = core; place = found.service.dispatcher }; iref = found.iref }))
   is_requested one core here =
       requested (id_of c) i name w there below_then few_then (registration_of found) named one (request_at core) refl
+      (λ p. ap (λ (n : ℕ). request (request_at n) p) (sym here))
+
+  pub is_only : found.service.interface ≡ i → (core : ℕ) → core ≡ found.service.core.0
+      → IsOnly (id_of c) i name w (record { client = c; interface = i; server = record { core = core; place = found.service.dispatcher }; iref = found.iref })
+  is_only one core here =
+      only_requested (id_of c) i name w there below_then few_then (registration_of found) named one (request_at core) refl
       (λ p. ap (λ (n : ℕ). request (request_at n) p) (sym here))

@@ -29,6 +29,11 @@ IsRequest client i name w (Ok x) =
     (kind : Kind) (a : Answer) (w2 : TheWorld) → OfRequest x w (λ r. BindsBy r kind w a w2) → Binds (named_request client i name kind) w a w2
 IsRequest client i name w (Err fault) = (kind : Kind) (a : Answer) (w2 : TheWorld) → Refuses fault w a w2 → Binds (named_request client i name kind) w a w2
 
+-- and the other way: what the event comes to is what is made of this
+abbrev pub IsOnly : DispatcherId → ℕ → List ℕ → TheWorld → BindRequest → Type 0
+IsOnly client i name w x = (kind : Kind) (a : Answer) (w2 : TheWorld) → Binds (named_request client i name kind) w a w2
+    → (p : Program) × (slice_get w.programs x.interface ≡ Some p) × BindsBy (request x p) kind w a w2
+
 -- ---- ends that are there
 
 abbrev pub has_end_of : ℕ → ℕ → TheWorld → Bool

@@ -17,6 +17,8 @@ use Rattle.fl_world_refines.specs.View.{TheWorld, IsWhole}
 use Rattle.fl_world.specs.declared.binding.BindRequest.{BindRequest}
 use Rattle.fl_world_events.specs.declared.by_route.OpenOutcome.{OpenOutcome}
 use Rattle.fl_world_events.specs.declared.by_route.OpenOutcome.TheVariants as begun
+use Rattle.fl_core.specs.Making.{MayOpen as MayOpenAt}
+use Rattle.fl_world_events.specs.Last.{NotRefused}
 use Rattle.fl_world.specs.Requests.{request}
 
 -- ---- among the bindings
@@ -55,3 +57,14 @@ OpensOnLink x l path w a w2 = (p : Program) (k : TheCore) (cores : List ℕ) →
 abbrev pub OpensAlong : BindRequest → List CoreId → TheWorld → Answer → TheWorld → Type 0
 OpensAlong x path w a w2 = (p : Program) (cores : List ℕ) → slice_get w.programs x.interface ≡ Some p → path ≡ map core_id cores
     → OpensFrom (request x p) cores w a w2
+
+-- ---- memory is wanting last
+
+-- memory aside, the client's core opens it on link l
+abbrev pub MayOpenOn : BindRequest → LinkId → List CoreId → TheWorld → Type 0
+MayOpenOn x l path w = (k : TheCore) → slice_get w.cores x.client.core ≡ Some k → MayOpenAt x.client.place l (opening_along x (length w.bindings) path) k
+
+-- no refusal is what comes of it, whatever program stands there
+abbrev pub OpensLast : BindRequest → List CoreId → TheWorld → Type 0
+OpensLast x path w = (p : Program) (cores : List ℕ) → slice_get w.programs x.interface ≡ Some p → path ≡ map core_id cores
+    → NotRefused (OpensFrom (request x p) cores w)

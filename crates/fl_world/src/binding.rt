@@ -5,7 +5,8 @@ ghost use Rattle.fl_model.specs.Views.{id_of, answer_of, kind_of};
 ghost use Rattle.fl_world_refines.specs.View.{has_dispatcher};
 ghost use Rattle.fl_world_refines.specs.Binding.{has_places, HasEndOf, BindsBy, named_request, Binds};
 ghost use Rattle.fl_world_events.specs.Requests.{HasDispatcher};
-ghost use Rattle.fl_world.specs.Requests.{OfRequest, IsRequest, has_end_of, IsNewAt, both_places};
+ghost use Rattle.fl_world_events.specs.Last.{NotRefused};
+ghost use Rattle.fl_world.specs.Requests.{OfRequest, IsRequest, IsOnly, has_end_of, IsNewAt, both_places};
 ghost use Rattle.fl_world.specs.Requests.{IsNewEnd};
 
 use crate::world::World;
@@ -95,6 +96,7 @@ impl World {
         ensures client { IfOk result (λ x. has_dispatcher self.now (id_of x.client) ≡ true) }
         ensures program { IfOk result (λ x. x.interface < length self.now.programs) }
         ensures server { IfOk result (λ x. x.server.core < 256) }
+        ensures only { IfOk result (IsOnly (id_of client) interface service.now self.now) }
     {
         if !self.has_dispatcher(client) || self.programs.as_slice().len() <= interface {
             return Err(faults::WRONG_NAME);
@@ -129,6 +131,7 @@ impl World {
         requires server { want.server.core < 256 }
         ensures binds { IfOk result (λ a. OfRequest want self.old (λ r. BindsBy r (kind_of back_end) self.old (answer_of a) self.new)) }
         ensures kept { OnErr result (self.new ≡ self.old) }
+        ensures last { OnErr result (OfRequest want self.old (λ r. NotRefused (BindsBy r (kind_of back_end) self.old))) }
     {
         match back_end {
             BackEnd::Local(slots) => self.bind_by_queues(want, slots),
@@ -154,6 +157,7 @@ impl World {
         ensures binds { IfOk result (λ a. Binds
             (named_request (id_of client) interface service.now (kind_of back_end)) self.old (answer_of a) self.new) }
         ensures kept { OnErr result (self.new ≡ self.old) }
+        ensures last { OnErr result (NotRefused (Binds (named_request (id_of client) interface service.now (kind_of back_end)) self.old)) }
     {
         match self.request(client, interface, service) {
             Err(fault) => Ok(Answer::Refused(fault)),

@@ -7,6 +7,7 @@ ghost use Rattle.fl_model.specs.Views.{id_of, answer_of};
 ghost use Rattle.fl_world_refines.specs.View.{has_dispatcher};
 ghost use Rattle.fl_world_refines.specs.Binding.{BindsByQueues, JoinsByQueues};
 ghost use Rattle.fl_world.specs.Queued.{IsJoining, JoinsOrNot};
+ghost use Rattle.fl_world_events.specs.Last.{NotRefused};
 ghost use Rattle.fl_world_events.specs.Requests.{HasDispatcher};
 ghost use Rattle.fl_world.specs.Requests.{OfRequest, IsNewAt};
 
@@ -104,6 +105,7 @@ impl World {
         requires program { want.interface < length self.old.programs }
         ensures binds { IfOk result (λ a. OfRequest want self.old (λ r. BindsByQueues r slots self.old (answer_of a) self.new)) }
         ensures kept { OnErr result (self.new ≡ self.old) }
+        ensures last { OnErr result (OfRequest want self.old (λ r. NotRefused (BindsByQueues r slots self.old))) }
     {
         if want.client.core != want.server.core {
             return Ok(Answer::Refused(faults::NO_SUCH_ROUTE));

@@ -1,6 +1,6 @@
 //! A binding between two cores is made, with its ring.
 
-ghost use Rattle.std.specs.Prelude.{◌≡◌, ◌≢◌, ◌<◌, ◌⊎◌, ◌*◌, ◌-◌, ◌^◌, length, true, false, IfOk, OnErr};
+ghost use Rattle.std.specs.Prelude.{ℕ, ◌≡◌, ◌≢◌, ◌<◌, ◌⊎◌, ◌*◌, ◌-◌, ◌^◌, length, true, false, IfOk, OnErr};
 ghost use Rattle.fl_model.specs.Events.{done};
 ghost use Rattle.fl_model.specs.Views.{id_of, answer_of};
 ghost use Rattle.fl_world_refines.specs.Making.{new_duo};
@@ -9,7 +9,8 @@ ghost use Rattle.fl_world_refines.specs.View.{has_dispatcher};
 ghost use Rattle.fl_world_events.specs.RingEnds.{HasRoom};
 ghost use Rattle.fl_world.specs.RingEnds.{JoinsIn, JoinsIfPlaces};
 ghost use Rattle.fl_world_events.specs.Requests.{HasDispatcher};
-ghost use Rattle.fl_world.specs.Requests.{OfRequest, IsNewAt};
+ghost use Rattle.fl_world_events.specs.Last.{NotRefused};
+ghost use Rattle.fl_world.specs.Requests.{OfRequest, IsNewAt, both_places};
 
 use crate::binding::BindRequest;
 use crate::world::World;
@@ -129,6 +130,7 @@ impl World {
         requires fresh { ring ≡ new_duo ring.size }
         ensures joins { IfOk result (λ a. OfRequest want self.old (λ r. JoinsIfPlaces r ring.size self.old (answer_of a) self.new)) }
         ensures kept { OnErr result (self.new ≡ self.old) }
+        ensures last { OnErr result (both_places (id_of want.client) (id_of want.server) self.old ≡ true) }
     {
         if !self.has_both_places(want.client, want.server) {
             return Ok(Answer::Refused(faults::TOO_MANY_CHANNELS));
@@ -139,7 +141,22 @@ impl World {
         self.join_over(want, ring)
     }
 
-    /// The ends of a binding are joined by a ring of so many slots a direction.
+    // There is no memory for a ring: that is told where there are places for both ends.
+    fn lacks_ring(&self, want: BindRequest) -> Result<Answer, AllocError>
+        ensures refused { IfOk result (λ a. OfRequest want self.now (λ r. (size : ℕ) → JoinsIfPlaces r size self.now (answer_of a) self.now)) }
+        ensures last { OnErr result (both_places (id_of want.client) (id_of want.server) self.now ≡ true) }
+    {
+        if !self.has_both_places(want.client, want.server) {
+            return Ok(Answer::Refused(faults::TOO_MANY_CHANNELS));
+        }
+        Err(AllocError)
+    }
+
+    /// The ends of a binding are joined by a ring of so many slots a direction. They are to be on two cores
+    /// (E73), the ring to have a power of two from 4 to 1,024 slots (E32), and the dispatchers places (E54).
+    ///
+    /// # Errors
+    /// Out of memory.
     pub(crate) fn bind_by_ring(
         &mut self,
         want: BindRequest,
@@ -150,6 +167,7 @@ impl World {
         requires program { want.interface < length self.old.programs }
         ensures binds { IfOk result (λ a. OfRequest want self.old (λ r. BindsByRing r slots self.old (answer_of a) self.new)) }
         ensures kept { OnErr result (self.new ≡ self.old) }
+        ensures last { OnErr result (OfRequest want self.old (λ r. NotRefused (BindsByRing r slots self.old))) }
     {
         if want.client.core == want.server.core {
             return Ok(Answer::Refused(faults::NO_SUCH_ROUTE));
@@ -157,7 +175,7 @@ impl World {
         match OneDuo::new(self.alloc, slots as usize) {
             Ok(ring) => self.join_if_places(want, ring),
             Err(RingFault::BadSize) => Ok(Answer::Refused(faults::BAD_SIZE)),
-            Err(_) => Err(AllocError),
+            Err(RingFault::Memory) => self.lacks_ring(want),
         }
     }
 }

@@ -7,7 +7,8 @@ ghost use Rattle.fl_world_refines.specs.Binding.{BindsByRoute, may_be_route};
 ghost use Rattle.fl_world_refines.specs.View.{has_dispatcher};
 ghost use Rattle.fl_world_events.specs.Requests.{HasDispatcher};
 ghost use Rattle.fl_world.specs.Requests.{OfRequest};
-ghost use Rattle.fl_world.specs.Routes.{MayOpenFrom, OpensOnLink, OpensAlong};
+ghost use Rattle.fl_world_events.specs.Last.{NotRefused};
+ghost use Rattle.fl_world.specs.Routes.{MayOpenFrom, OpensOnLink, OpensAlong, MayOpenOn, OpensLast};
 
 use crate::binding::BindRequest;
 use crate::world::World;
@@ -30,11 +31,12 @@ impl World {
     }
 
     // The route over these cores.
-    fn path(&self, cores: &[u32]) -> Result<Path, AllocError>
+    fn path(&self, cores: &[u32]) -> Path
         requires route { may_be_route cores.now self.now ≡ true }
-        ensures path { IfOk result (λ path. path ≡ map core_id cores.now) }
+        ensures path { result ≡ map core_id cores.now }
     {
-        path_over(self.alloc, cores)
+        let _cores = &self.cores;
+        path_over(cores)
     }
 
     // On which link a circuit along this route may be opened.
@@ -62,6 +64,7 @@ impl World {
         requires program { want.interface < length self.old.programs }
         ensures opens { IfOk result (λ a. OpensOnLink want link path self.old (answer_of a) self.new) }
         ensures kept { OnErr result (self.new ≡ self.old) }
+        ensures last { OnErr result (MayOpenOn want link path self.old) }
     {
         let opening = Opening {
             binding: self.bindings.as_slice().len() as u32,
@@ -92,6 +95,7 @@ impl World {
         requires server { want.server.core < 256 }
         ensures opens { IfOk result (λ a. OpensAlong want path self.old (answer_of a) self.new) }
         ensures kept { OnErr result (self.new ≡ self.old) }
+        ensures last { OnErr result (OpensLast want path self.old) }
     {
         match self.may_open(want, &path) {
             Err(fault) => Ok(Answer::Refused(fault.number())),
@@ -117,11 +121,12 @@ impl World {
         requires server { want.server.core < 256 }
         ensures binds { IfOk result (λ a. OfRequest want self.old (λ r. BindsByRoute r cores.now self.old (answer_of a) self.new)) }
         ensures kept { OnErr result (self.new ≡ self.old) }
+        ensures last { OnErr result (OfRequest want self.old (λ r. NotRefused (BindsByRoute r cores.now self.old))) }
     {
         if !self.may_be_route(cores) {
             return Ok(Answer::Refused(faults::NO_SUCH_ROUTE));
         }
-        let path = self.path(cores)?;
+        let path = self.path(cores);
         self.open_along(want, path)
     }
 }

@@ -1,9 +1,9 @@
 //! What was seen to stand first on a link is followed.
 
-ghost use Rattle.std.specs.Prelude.{◌≡◌, ◌<◌, false, length, IfOk, OnOk, OnErr, Ok, Err};
+ghost use Rattle.std.specs.Prelude.{◌≡◌, ◌<◌, false, length, IsSome, IfOk, OnOk, OnErr, Ok, Err};
 ghost use Rattle.fl_base.specs.Control.{is_ack_only, with_circuit};
 ghost use Rattle.fl_world_refines.specs.View.{ring_at, location_of};
-ghost use Rattle.fl_world_refines.specs.Linking.{IsHeard, BringsRules, ThenRules};
+ghost use Rattle.fl_world_refines.specs.Linking.{link_side_to, IsHeard, BringsRules, ThenRules};
 ghost use Rattle.fl_world_refines.specs.Linking.{HearsFirst, ForwardsBy, ForwardsFirst, Forwards};
 ghost use Rattle.fl_model.specs.Views.{answer_of};
 ghost use Rattle.fl_world_events.specs.Places.{HasEnd, HasLink, link_side_from};
@@ -32,6 +32,7 @@ impl World {
     pub(crate) fn forward(&mut self, core: u32, neighbour: u32) -> Result<Answer, AllocError>
         ensures forwards { IfOk result (λ a. Forwards core neighbour self.old (answer_of a) self.new) }
         ensures kept { OnErr result (self.new ≡ self.old) }
+        ensures last { OnErr result (IsSome (link_side_to self.old core neighbour)) }
     {
         let Some(at) = self.link_side(core, neighbour) else {
             return Ok(Answer::Refused(faults::NO_SUCH_ROUTE));

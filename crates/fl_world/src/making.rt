@@ -9,6 +9,7 @@ ghost use Rattle.fl_world_refines.specs.Making.{has_program, has_link, new_duo, 
 ghost use Rattle.fl_world_refines.specs.Making as making;
 ghost use Rattle.fl_model.specs.Views.{answer_of, id_of};
 ghost use Rattle.fl_world_refines.specs.Step.{fresh_world};
+ghost use Rattle.fl_world_events.specs.Last.{NotRefused};
 ghost use Rattle.fl_world.specs.Parts.{is_no_pair};
 
 use crate::world::World;
@@ -71,6 +72,7 @@ impl World {
     ) -> Result<Answer, AllocError>
         ensures adds { IfOk result (λ a. AddsInterface (interface_of interface.now) plan self.old (answer_of a) self.new) }
         ensures kept { OnErr result (self.new ≡ self.old) }
+        ensures last { OnErr result (NotRefused (AddsInterface (interface_of interface.now) plan self.old)) }
     {
         if self.has_program(interface.name.bytes.as_slice()) {
             return Ok(Answer::Refused(faults::WRONG_NAME));
@@ -100,6 +102,7 @@ impl World {
     pub(crate) fn set_cores(&mut self, n: u32) -> Result<Answer, AllocError>
         ensures sets { IfOk result (λ a. SetsCores n self.old (answer_of a) self.new) }
         ensures kept { OnErr result (self.new ≡ self.old) }
+        ensures last { OnErr result (NotRefused (SetsCores n self.old)) }
     {
         if !self.may_set_cores {
             return Ok(Answer::Refused(faults::NOT_NOW));
@@ -119,6 +122,7 @@ impl World {
     pub(crate) fn add_dispatcher(&mut self, core: u32) -> Result<Answer, AllocError>
         ensures adds { IfOk result (λ a. AddsDispatcher core self.old (answer_of a) self.new) }
         ensures kept { OnErr result (self.new ≡ self.old) }
+        ensures last { OnErr result (NotRefused (AddsDispatcher core self.old)) }
     {
         if self.dispatchers >= MAX_DISPATCHERS {
             return Ok(Answer::Refused(faults::TOO_MANY));
@@ -146,6 +150,7 @@ impl World {
     ) -> Result<Answer, AllocError>
         ensures exports { IfOk result (λ a. Exports name.now (id_of d) interface self.old (answer_of a) self.new) }
         ensures kept { OnErr result (self.new ≡ self.old) }
+        ensures last { OnErr result (NotRefused (Exports name.now (id_of d) interface self.old)) }
     {
         if !self.has_dispatcher(d) || self.programs.len() <= interface {
             return Ok(Answer::Refused(faults::WRONG_NAME));
@@ -211,6 +216,7 @@ impl World {
     pub(crate) fn add_link(&mut self, a: u32, b: u32, slots: u32) -> Result<Answer, AllocError>
         ensures adds { IfOk result (λ answer. AddsLink a b slots self.old (answer_of answer) self.new) }
         ensures kept { OnErr result (self.new ≡ self.old) }
+        ensures last { OnErr result (NotRefused (AddsLink a b slots self.old)) }
     {
         if self.is_no_pair(a as usize, b as usize) {
             return Ok(Answer::Refused(faults::NO_SUCH_ROUTE));

@@ -8,6 +8,7 @@ ghost use Rattle.fl_world_refines.specs.Sending.{MakesCall, PreviewsOver, Previe
 ghost use Rattle.fl_world_refines.specs.Sending.{WritesOver, WritesBy, WritesFragment};
 ghost use Rattle.fl_model.specs.Views.{answer_of};
 ghost use Rattle.fl_world_events.specs.Places.{HasEnd};
+ghost use Rattle.fl_world_events.specs.Last.{NotRefused};
 ghost use Rattle.fl_world_events.specs.Parts.{CallsWith};
 ghost use Rattle.fl_world.specs.Parts.{AtUnmadeOrNone};
 
@@ -33,6 +34,7 @@ impl World {
     pub(crate) fn call(&mut self, e: EndId, call: &Call) -> Result<Answer, AllocError>
         ensures calls { IfOk result (λ a. MakesCall e (call_of call.now) self.old (answer_of a) self.new) }
         ensures kept { OnErr result (self.new ≡ self.old) }
+        ensures last { OnErr result (NotRefused (MakesCall e (call_of call.now) self.old)) }
     {
         match self.location(e) {
             EndLocation::Nowhere => Ok(Answer::Refused(faults::WRONG_NAME)),
@@ -47,6 +49,7 @@ impl World {
         requires binding { n < length self.old.bindings }
         ensures calls { IfOk result (λ a. AtUnmadeOrNone self.old n (CallsWith (call_of call.now) (answer_of a)) (answer_of a) self.new) }
         ensures kept { OnErr result (self.new ≡ self.old) }
+        ensures last { OnErr result (NotRefused (λ a w. AtUnmadeOrNone self.old n (CallsWith (call_of call.now) a) a w)) }
     {
         let mut spare = Vec::new(self.alloc);
         let binding = &mut self.bindings[n];

@@ -1,9 +1,9 @@
 //! Turns of dispatchers, and what ends say of themselves.
 
-ghost use Rattle.std.specs.Prelude.{◌≡◌, ◌<◌, slice_get, Some, IfOk, IfSome, OnErr};
+ghost use Rattle.std.specs.Prelude.{◌≡◌, ◌<◌, true, slice_get, Some, IfOk, IfSome, OnErr};
 ghost use Rattle.fl_core.specs.BoardView.{due};
 ghost use Rattle.fl_core.specs.View.{TheCore, inlet_of};
-ghost use Rattle.fl_world_refines.specs.View.{made};
+ghost use Rattle.fl_world_refines.specs.View.{made, has_dispatcher};
 ghost use Rattle.fl_world_refines.specs.Lending.{answer_at};
 ghost use Rattle.fl_world_refines.specs.Taking.{TurnsAt, due_at, HasTurn};
 ghost use Rattle.fl_world_refines.specs.Taking.{AcksOver, AcksAt, Acknowledges, HasInlet};
@@ -49,6 +49,7 @@ impl World {
     pub(crate) fn turn(&mut self, d: DispatcherId) -> Result<Answer, AllocError>
         ensures turns { IfOk result (λ a. HasTurn (id_of d) self.old (answer_of a) self.new) }
         ensures kept { OnErr result (self.new ≡ self.old) }
+        ensures last { OnErr result (has_dispatcher self.old (id_of d) ≡ true) }
     {
         if !self.has_dispatcher(d) {
             return Ok(Answer::Refused(faults::WRONG_NAME));

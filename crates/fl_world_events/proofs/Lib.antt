@@ -1,3 +1,4 @@
+pub mod Last
 pub mod Lifts
 pub mod Ends
 pub mod Unturned

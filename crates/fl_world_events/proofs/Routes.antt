@@ -1,5 +1,10 @@
 -- A binding by a route: one of all cores has changed.
-use Rattle.std.proofs.Common.{◌≡◌, refl, subst, ℕ, ◌<◌, List, length, slice_set, slice_index_or, Result, Ok, Err, IfOk}
+use Rattle.std.proofs.Common.{◌≡◌, ◌∙◌, ◌+◌, refl, sym, ap, subst, ℕ, zero, suc, ◌<◌, nat_lt, true, List, [], ◌∷◌, ◌++◌, length, map, take, get_or, slice_set, slice_index_or, Result, Ok, Err, IfOk, arith}
+use Rattle.std.specs.List.{list_all}
+use Rattle.std.proofs.lemmas.Bool.{and_parts, ltb-true}
+use Rattle.std.proofs.lemmas.List.{take_more, take_more_set, map-append}
+use Rattle.fl_base.specs.declared.identity.CoreId.{CoreId}
+use Rattle.fl_base.specs.Numbered.{core_id}
 use Rattle.std.specs.declared.alloc.AllocError.{AllocError}
 use Rattle.std.proofs.lemmas.Option.{slice_get_within}
 use Rattle.fl_core.specs.View.{TheCore}
@@ -10,6 +15,20 @@ use Rattle.fl_world_events.specs.Parts.{InCore}
 use Rattle.fl_world_events.specs.Requests.{HasDispatcher}
 use Rattle.fl_world_events.specs.Routes.{AtOne, Follows}
 use Rattle.fl_world_events.proofs.Lifts.{stands}
+
+-- ---- a route
+
+pub small_at : (xs : List ℕ) → list_all (λ n. nat_lt n 256) xs ≡ true → (k : ℕ) → k < length xs → get_or xs k 0 < 256
+small_at [] h k lt = absurd (omega (arith, lt))
+small_at (x ∷ xs) h zero lt = ltb-true x 256 (and_parts (nat_lt x 256) (list_all (λ n. nat_lt n 256) xs) h).0
+small_at (x ∷ xs) h (suc k) lt = small_at xs (and_parts (nat_lt x 256) (list_all (λ n. nat_lt n 256) xs) h).1 k (omega (arith, lt))
+
+pub next_id : (ids : List CoreId) (xs : List ℕ) (k : ℕ) → k < length ids → k < length xs → take k ids ≡ map core_id (take k xs)
+    → take (k + 1) (slice_set ids k (core_id (get_or xs k 0))) ≡ map core_id (take (k + 1) xs)
+next_id ids xs k inside within same =
+    let core = core_id (get_or xs k 0) in
+    take_more_set ids k core inside ∙ (λ i. same i ++ core ∷ [])
+    ∙ sym (ap (map core_id) (take_more xs k 0 within) ∙ map-append core_id (take k xs) (get_or xs k 0 ∷ []))
 
 -- ---- the client's core
 

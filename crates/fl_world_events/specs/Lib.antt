@@ -1,5 +1,6 @@
 -- The public promises rest on all of these: what events come to at the parts of a world that they touch, from what fl_world_refines says of
 -- a world.
+pub mod Last
 pub mod Places
 pub mod Parts
 pub mod Passing

@@ -71,3 +71,15 @@ pub record OpensOver (p : Program) (x : CircuitBinding) (l : LinkId) (opening : 
   pub binding : Binding
   pub unmade : IsUnmade p x binding
   pub follows : Follows begun binding bs a bs2
+
+-- ---- before memory is taken
+
+-- so it is of core n
+abbrev pub IsAt : List TheCore → ℕ → (TheCore → Type 0) → Type 0
+IsAt cores n Fact = (k : TheCore) → slice_get cores n ≡ Some k → Fact k
+
+-- the core stays as it is, whatever the client's program is, and so do the bindings: this is answered
+pub record IsAnsweredIn (place : ℕ) (l : LinkId) (opening : Opening) (a : Answer) (k : TheCore) : Type 0 where
+  pub outcome : OpenOutcome
+  pub begins : (p : Program) → InCore (BeginsIn (asked place p l opening) outcome) k k
+  pub follows : (b : Binding) (bs : List Binding) → Follows outcome b bs a bs

@@ -1,6 +1,6 @@
 //! A binding is begun whose fragments go along a circuit.
 
-ghost use Rattle.std.specs.Prelude.{◌≡◌, ◌<◌, ◌≤◌, ◌⊎◌, ◌++◌, length, map, nat_lt, true, None, IfOk, OnOk, OnErr, vec_len};
+ghost use Rattle.std.specs.Prelude.{◌≡◌, ◌<◌, ◌≤◌, ◌⊎◌, length, map, nat_lt, true, None, IfOk, IfNone, IfSome, OnErr, vec_len};
 ghost use Rattle.std.specs.Vec.{vec_capacity};
 ghost use Rattle.std.specs.List.{list_all};
 ghost use Rattle.fl_base.specs.Numbered.{core_id};
@@ -10,13 +10,14 @@ ghost use Rattle.fl_lists.specs.ThreeLists.{is_in};
 ghost use Rattle.fl_monitor.specs.declared.fault.MonitorFault.{MonitorFault};
 ghost use Rattle.fl_monitor.specs.Monitors.{MayOpen, wanted};
 ghost use Rattle.fl_core.specs.declared.fault.OpenFault.{OpenFault};
-ghost use Rattle.fl_core.specs.Making.{asked};
+ghost use Rattle.fl_core.specs.Making.{asked, MayOpen as MayOpenAt};
 ghost use Rattle.fl_core.specs.View.{client_of, place_of};
 ghost use Rattle.fl_model.specs.Binding.{all_differ};
 ghost use Rattle.fl_world_refines.specs.View.{IsWhole};
 ghost use Rattle.fl_world_events.specs.Parts.{InCore};
 ghost use Rattle.fl_world_events.specs.Requests.{HasDispatcher};
 ghost use Rattle.fl_world_events.specs.Routes.{IsNumberOf, BeginsIn, AtOne, BeginsWith, IsUnmade, Follows, OpensOver};
+ghost use Rattle.fl_world_events.specs.Routes.{IsAt, IsAnsweredIn};
 
 use crate::binding::has_end;
 use crate::lending::whole;
@@ -25,7 +26,7 @@ use fl_compile::Program;
 use fl_core::{BoardFault, Core, OpenFault};
 use fl_endpoint::End;
 use fl_model::{Answer, DispatcherId};
-use fl_monitor::{MonitorFault, Opening, Path};
+use fl_monitor::{MAX_ROUTE, MonitorFault, Opening, Path};
 use fl_world_refines::Binding;
 use std::alloc::{AllocError, Global};
 
@@ -77,33 +78,20 @@ pub fn are_cores(cores: &[u32], count: usize) -> bool
     cores.iter().all(|one| (*one as usize) < count)
 }
 
-// Puts the cores' identities behind those that are there.
-fn push_ids(ids: &mut Vec<CoreId>, cores: &[u32]) -> Result<(), AllocError>
-    requires small { list_all (λ n. nat_lt n 256) cores.now ≡ true }
-    ensures ids { OnOk result (ids.new.items ≡ ids.old.items ++ map core_id cores.now) }
-{
-    let [first, rest @ ..] = cores else {
-        return Ok(());
-    };
-    ids.push(CoreId(*first as u8))?;
-    push_ids(ids, rest)
-}
-
-/// The route over these cores.
-///
-/// # Errors
-/// Out of memory.
-pub fn path_over(alloc: Global, cores: &[u32]) -> Result<Path, AllocError>
+/// The route over these cores. Takes no memory.
+pub fn path_over(cores: &[u32]) -> Path
     requires few { length cores.now ≤ 16 }
     requires small { list_all (λ n. nat_lt n 256) cores.now ≡ true }
-    ensures path { IfOk result (λ path. path ≡ map core_id cores.now) }
+    ensures path { result ≡ map core_id cores.now }
 {
-    let mut ids = Vec::new(alloc);
-    push_ids(&mut ids, cores)?;
-    let Some(path) = Path::new(ids.as_slice()) else {
+    let mut ids = [CoreId(0); MAX_ROUTE];
+    for (place, core) in cores.iter().enumerate() {
+        ids[place] = CoreId(*core as u8);
+    }
+    let Some(path) = Path::new(&ids[..cores.len()]) else {
         unreachable!();
     };
-    Ok(path)
+    path
 }
 
 // ---- at a core
@@ -137,6 +125,37 @@ fn number_of(fault: OpenFault) -> Result<u8, AllocError>
         OpenFault::Monitor(MonitorFault::Memory) => Err(AllocError),
         _ => Ok(fault.number()),
     }
+}
+
+// What is answered of an opening for which no memory is wanted: its core has an end of the binding already,
+// or refuses it.
+fn answer_in(core: &Core, dispatcher: usize, link: LinkId, opening: &Opening) -> Option<Answer>
+    requires { dispatcher < length core.now.board.dispatchers }
+    ensures answer { IfSome result (λ a. IsAnsweredIn dispatcher link opening.now (answer_of a) core.now) }
+    ensures may { IfNone result (MayOpenAt dispatcher link opening.now core.now) }
+{
+    whole(core);
+    if has_end(core, opening.binding as usize) {
+        return Some(Answer::Nothing);
+    }
+    match core.may_open(dispatcher, link, opening) {
+        Ok(()) => None,
+        Err(fault) => Some(Answer::Refused(fault.number())),
+    }
+}
+
+// The same of a dispatcher's core, among all cores.
+fn answer_at(
+    cores: &[Core],
+    client: DispatcherId,
+    link: LinkId,
+    opening: &Opening,
+) -> Option<Answer>
+    requires { HasDispatcher cores.now (id_of client) }
+    ensures answer { IfSome result (λ a. IsAt cores.now client.core (IsAnsweredIn client.place link opening.now (answer_of a))) }
+    ensures may { IfNone result (IsAt cores.now client.core (MayOpenAt client.place link opening.now)) }
+{
+    answer_in(&cores[client.core as usize], client.place, link, opening)
 }
 
 // A core begins a circuit for a binding of which it has no end.
@@ -257,11 +276,8 @@ fn keep(bindings: &mut Vec<Binding>, begun: OpenOutcome, binding: Binding) -> An
     }
 }
 
-/// A circuit is begun for a binding, which keeps the server's end until it is made; copies of a program are for both ends.
-///
-/// # Errors
-/// Out of memory.
-pub fn open_over(
+// A circuit is begun for a binding, whatever stands in its way.
+fn begin_over(
     cores: &mut [Core],
     bindings: &mut Vec<Binding>,
     alloc: Global,
@@ -280,4 +296,30 @@ pub fn open_over(
     let binding = unmade_binding(alloc, program, between)?;
     let begun = begin_with(cores, between.client, alloc, program, link, opening)?;
     Ok(keep(bindings, begun, binding))
+}
+
+/// A circuit is begun for a binding, which keeps the server's end until it is made; copies of a program are for both ends.
+///
+/// # Errors
+/// Out of memory.
+pub fn open_over(
+    cores: &mut [Core],
+    bindings: &mut Vec<Binding>,
+    alloc: Global,
+    program: &Program,
+    between: CircuitBinding,
+    link: LinkId,
+    opening: &Opening,
+) -> Result<Answer, AllocError>
+    requires client { HasDispatcher cores.old (id_of between.client) }
+    requires few { opening.now.binding < 1024 }
+    ensures opens { IfOk result (λ a. OpensOver program.now between link opening.now (answer_of a) cores.old cores.new bindings.old.items bindings.new.items) }
+    ensures kept { OnErr result (cores.new ≡ cores.old) }
+    ensures same { OnErr result (bindings.new.items ≡ bindings.old.items) }
+    ensures last { OnErr result (IsAt cores.old between.client.core (MayOpenAt between.client.place link opening.now)) }
+{
+    match answer_at(cores, between.client, link, opening) {
+        Some(answer) => Ok(answer),
+        None => begin_over(cores, bindings, alloc, program, between, link, opening),
+    }
 }

@@ -11,6 +11,7 @@ ghost use Rattle.fl_world_refines.specs.Lending.{answer_at};
 ghost use Rattle.fl_world_refines.specs.Sending.{IsCalled, IsShown, PreviewsWith};
 ghost use Rattle.fl_world_refines.specs.Sending.{IsWritten, WritesWith};
 ghost use Rattle.fl_model.specs.Views.{answer_of};
+ghost use Rattle.fl_world_events.specs.Last.{NotRefused};
 ghost use Rattle.fl_world_events.specs.Parts.{InCore, ByQueue, ByRing, CallsIn, CallsWith, KeptOrNone};
 
 use crate::lending::{which_at, whole};
@@ -59,6 +60,7 @@ pub fn call_in(core: &mut Core, place: usize, call: &Call) -> Result<Answer, All
     requires place { place < length core.old.board.seats }
     ensures calls { IfOk result (λ a. InCore (CallsIn place (call_of call.now) (answer_of a)) core.old core.new) }
     ensures kept { OnErr result (core.new ≡ core.old) }
+    ensures last { OnErr result (NotRefused (λ a k. CallsIn place (call_of call.now) a core.old k)) }
 {
     whole(core);
     let outcome = core.call(place, call);
@@ -77,6 +79,7 @@ pub fn call_kept(
 ) -> Result<Answer, AllocError>
     ensures calls { IfOk result (λ a. KeptOrNone (CallsWith (call_of call.now) (answer_of a)) (answer_of a) binding.old binding.new) }
     ensures kept { OnErr result (binding.new ≡ binding.old) }
+    ensures last { OnErr result (NotRefused (λ a b. KeptOrNone (CallsWith (call_of call.now) a) a binding.old b)) }
 {
     match &mut binding.unmade {
         None => Ok(Answer::Refused(faults::WRONG_NAME)),

@@ -1,12 +1,22 @@
-use Rattle.fl_model.specs.Views.{answer_of}
-use Rattle.fl_world_events.proofs.Routes.{follows_from}
+use Rattle.fl_world_events.proofs.Last.{answered_over, always}
 use Rattle.fl_world_events.proofs.by_route.open_over.Goals as goal
 
-pub returns-clause-opens : goal.returns-clause-opens
-returns-clause-opens c = record {
-  begun = c.in_ok-begun.begun;
-  begins = c.in_ok-begun.ensures.begins;
-  binding = c.in_ok-binding.binding;
-  unmade = c.in_ok-binding.ensures.binding;
-  follows = follows_from c.in_ok-begun.begun c.in_ok-binding.binding _ _ c.reserve.ensures.items (answer_of c.keep.result) _ c.keep.ensures.follows;
+pub returns-in-Some : goal.returns-in-Some
+returns-in-Some c = record {
+  opens = answered_over c.args.program.now c.args.between c.args.link c.args.opening.now _ c.args.cores.now c.args.bindings.now.items c.requires.client c.in-Some.ensures.answer;
+  kept = tt;
+  same = tt;
+  last = tt;
 }
+
+pub returns-in-None-clause-opens : goal.returns-in-None-clause-opens
+returns-in-None-clause-opens c = c.begin_over.ensures.opens
+
+pub returns-in-None-clause-kept : goal.returns-in-None-clause-kept
+returns-in-None-clause-kept c = c.begin_over.ensures.kept
+
+pub returns-in-None-clause-same : goal.returns-in-None-clause-same
+returns-in-None-clause-same c = c.begin_over.ensures.same
+
+pub returns-in-None-clause-last : goal.returns-in-None-clause-last
+returns-in-None-clause-last c = always c.begin_over.result c.in-None.ensures.may

@@ -3,6 +3,7 @@ use Rattle.fl_world.proofs.Added.{no_room, no_core, added}
 use Rattle.fl_world.proofs.Kept.{on_any}
 use Rattle.fl_world.proofs.Lent.{past_end, nothing_at}
 use Rattle.fl_world.proofs.Lifts.{few_kept, core_put_back}
+use Rattle.fl_world.proofs.Last.{dispatcher_last}
 use Rattle.fl_world.proofs.world.World.add_dispatcher.Goals as goal
 
 pub returns-then-self-ge-MAX_DISPATCHERS-clause-adds : goal.returns-then-self-ge-MAX_DISPATCHERS-clause-adds
@@ -26,3 +27,7 @@ invariant_of-self-in-Some c = few_kept c.self.inside.cores.items c.args.core c.a
 
 pub invariant_of-self-in_err-add_dispatcher-in-Some : goal.invariant_of-self-in_err-add_dispatcher-in-Some
 invariant_of-self-in_err-add_dispatcher-in-Some c = few_kept c.self.inside.cores.items c.args.core c.add_dispatcher.new.self c.self.invariant
+
+pub returns-in_err-add_dispatcher-in-Some-clause-last : goal.returns-in_err-add_dispatcher-in-Some-clause-last
+returns-in_err-add_dispatcher-in-Some-clause-last c = on_any _ c.from_residual.result (dispatcher_last c.args.core c.args.self.now _ c.self.view_is
+    c.if-self-ge-MAX_DISPATCHERS.false (omega (arith, c.in-Some.ensures.variant.0 refl, c.self.inside.cores.ok.0)) _ c.in-Some.ensures.value)

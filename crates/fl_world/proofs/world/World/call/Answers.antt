@@ -7,10 +7,12 @@ use Rattle.fl_world_events.specs.Parts.{CallsIn}
 use Rattle.fl_world_refines.specs.View.{WhereEnd, TheWorld}
 use Rattle.fl_world_refines.specs.Sending.{CallsAt}
 use Rattle.fl_world.proofs.Lifts.{unmade_below, core_read, end_read, few_kept, core_if_ok, core_put_back, on_err_map, at_location}
+use Rattle.fl_world_events.proofs.Last.{on_err}
+use Rattle.fl_world.proofs.Last.{call_last, unmade_last}
 use Rattle.fl_world.proofs.world.World.call.Goals as goal
 
 pub returns-in-Nowhere : goal.returns-in-Nowhere
-returns-in-Nowhere c = record { calls = subst (λ (s : WhereEnd). CallsAt s c.args.e (call_of c.args.call.now) c.args.self.now (refused 92) c.args.self.now) c.in-Nowhere.ensures.location (refl, refl); kept = tt }
+returns-in-Nowhere c = record { calls = subst (λ (s : WhereEnd). CallsAt s c.args.e (call_of c.args.call.now) c.args.self.now (refused 92) c.args.self.now) c.in-Nowhere.ensures.location (refl, refl); kept = tt; last = tt }
 
 pub call_unmade-requires : goal.call_unmade-requires
 call_unmade-requires c = record { binding = unmade_below c.args.self.now c.args.e c.in-Unmade.ensures.location }
@@ -44,3 +46,10 @@ returns-in-Made-clause-calls c = IfOk-weaker c.call_in.result _ _
 pub returns-in-Made-clause-kept : goal.returns-in-Made-clause-kept
 returns-in-Made-clause-kept c = on_err_map _ _ c.call_in.result (λ k. core_put_back c.args.self.now _ c.self.view_is c.in-Made.n _ _ _
     c.index_mut.ensures.value refl k) c.call_in.ensures.kept
+
+pub returns-in-Unmade-clause-last : goal.returns-in-Unmade-clause-last
+returns-in-Unmade-clause-last c = on_err c.call_unmade.result (unmade_last c.args.e (call_of c.args.call.now) c.args.self.now c.in-Unmade.ensures.location) c.call_unmade.ensures.last
+
+pub returns-in-Made-clause-last : goal.returns-in-Made-clause-last
+returns-in-Made-clause-last c = on_err c.call_in.result (call_last c.args.e (call_of c.args.call.now) c.args.self.now _ c.self.view_is c.in-Made.n c.in-Made.place c.in-Made.ensures.location
+    (core_read c.args.self.now _ c.self.view_is c.in-Made.n c.in-Made.place c.in-Made.ensures.there) _ c.index_mut.ensures.value) c.call_in.ensures.last

@@ -66,10 +66,10 @@ pub returns-in-Call-clause-memory : goal.returns-in-Call-clause-memory
 returns-in-Call-clause-memory c = rw c.in-Call.is (on_any _ c.call.result refl)
 
 pub returns-in-Show : goal.returns-in-Show
-returns-in-Show c = record { does = rw c.in-Show.is c.show.ensures.shows; kept = tt; memory = tt }
+returns-in-Show c = record { does = rw c.in-Show.is c.show.ensures.shows; kept = tt; memory = tt; last = tt }
 
 pub returns-in-Write : goal.returns-in-Write
-returns-in-Write c = record { does = rw c.in-Write.is c.write.ensures.writes; kept = tt; memory = tt }
+returns-in-Write c = record { does = rw c.in-Write.is c.write.ensures.writes; kept = tt; memory = tt; last = tt }
 
 pub returns-in-Turn-clause-does : goal.returns-in-Turn-clause-does
 returns-in-Turn-clause-does c = rw c.in-Turn.is c.turn.ensures.turns
@@ -81,19 +81,19 @@ pub returns-in-Turn-clause-memory : goal.returns-in-Turn-clause-memory
 returns-in-Turn-clause-memory c = rw c.in-Turn.is (on_any _ c.turn.result refl)
 
 pub returns-in-Ack : goal.returns-in-Ack
-returns-in-Ack c = record { does = rw c.in-Ack.is c.ack.ensures.acks; kept = tt; memory = tt }
+returns-in-Ack c = record { does = rw c.in-Ack.is c.ack.ensures.acks; kept = tt; memory = tt; last = tt }
 
 pub returns-in-Register : goal.returns-in-Register
-returns-in-Register c = record { does = rw c.in-Register.is c.register.ensures.registers; kept = tt; memory = tt }
+returns-in-Register c = record { does = rw c.in-Register.is c.register.ensures.registers; kept = tt; memory = tt; last = tt }
 
 pub returns-in-Deregister : goal.returns-in-Deregister
-returns-in-Deregister c = record { does = rw c.in-Deregister.is c.deregister.ensures.deregisters; kept = tt; memory = tt }
+returns-in-Deregister c = record { does = rw c.in-Deregister.is c.deregister.ensures.deregisters; kept = tt; memory = tt; last = tt }
 
 pub returns-in-Reply : goal.returns-in-Reply
-returns-in-Reply c = record { does = rw c.in-Reply.is c.reply.ensures.rules; kept = tt; memory = tt }
+returns-in-Reply c = record { does = rw c.in-Reply.is c.reply.ensures.rules; kept = tt; memory = tt; last = tt }
 
 pub returns-in-MonitorWrite : goal.returns-in-MonitorWrite
-returns-in-MonitorWrite c = record { does = rw c.in-MonitorWrite.is c.monitor_write.ensures.writes; kept = tt; memory = tt }
+returns-in-MonitorWrite c = record { does = rw c.in-MonitorWrite.is c.monitor_write.ensures.writes; kept = tt; memory = tt; last = tt }
 
 pub returns-in-Forward-clause-does : goal.returns-in-Forward-clause-does
 returns-in-Forward-clause-does c = rw c.in-Forward.is c.forward.ensures.forwards
@@ -105,4 +105,31 @@ pub returns-in-Forward-clause-memory : goal.returns-in-Forward-clause-memory
 returns-in-Forward-clause-memory c = rw c.in-Forward.is (on_any _ c.forward.result refl)
 
 pub returns-in-MonitorAck : goal.returns-in-MonitorAck
-returns-in-MonitorAck c = record { does = rw c.in-MonitorAck.is c.monitor_ack.ensures.acks; kept = tt; memory = tt }
+returns-in-MonitorAck c = record { does = rw c.in-MonitorAck.is c.monitor_ack.ensures.acks; kept = tt; memory = tt; last = tt }
+
+pub returns-in-AddInterface-clause-last : goal.returns-in-AddInterface-clause-last
+returns-in-AddInterface-clause-last c = rw c.in-AddInterface.is c.add_interface.ensures.last
+
+pub returns-in-SetCores-clause-last : goal.returns-in-SetCores-clause-last
+returns-in-SetCores-clause-last c = rw c.in-SetCores.is c.set_cores.ensures.last
+
+pub returns-in-AddLink-clause-last : goal.returns-in-AddLink-clause-last
+returns-in-AddLink-clause-last c = rw c.in-AddLink.is c.add_link.ensures.last
+
+pub returns-in-AddDispatcher-clause-last : goal.returns-in-AddDispatcher-clause-last
+returns-in-AddDispatcher-clause-last c = rw c.in-AddDispatcher.is c.add_dispatcher.ensures.last
+
+pub returns-in-Export-clause-last : goal.returns-in-Export-clause-last
+returns-in-Export-clause-last c = rw c.in-Export.is c.export.ensures.last
+
+pub returns-in-Bind-clause-last : goal.returns-in-Bind-clause-last
+returns-in-Bind-clause-last c = rw c.in-Bind.is c.bind.ensures.last
+
+pub returns-in-Call-clause-last : goal.returns-in-Call-clause-last
+returns-in-Call-clause-last c = rw c.in-Call.is c.call.ensures.last
+
+pub returns-in-Turn-clause-last : goal.returns-in-Turn-clause-last
+returns-in-Turn-clause-last c = rw c.in-Turn.is c.turn.ensures.last
+
+pub returns-in-Forward-clause-last : goal.returns-in-Forward-clause-last
+returns-in-Forward-clause-last c = rw c.in-Forward.is c.forward.ensures.last

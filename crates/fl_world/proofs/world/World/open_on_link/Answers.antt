@@ -8,6 +8,8 @@ use Rattle.fl_world_refines.specs.declared.binding.Binding.{Binding}
 use Rattle.fl_world.proofs.Kept.{same_parts, few_again, dispatcher_lent}
 use Rattle.fl_world.proofs.Lifts.{on_err_both}
 use Rattle.fl_world.proofs.Routes.{as_many, opened_over}
+use Rattle.fl_world_events.proofs.Last.{on_err}
+use Rattle.fl_world.proofs.Last.{may_on}
 use Rattle.fl_world.proofs.world.World.open_on_link.Goals as goal
 
 pub returns-clause-opens : goal.returns-clause-opens
@@ -33,3 +35,7 @@ open_over-requires-clause-few c = subst (λ (bs : List Binding). length bs < 102
 pub invariant_of-self : goal.invariant_of-self
 invariant_of-self c = few_again _ c.self.inside.cores.items (sym (with_items c.self.inside.cores c.open_over.new.cores).ok.0 ∙ c.self.inside.cores.ok.0)
     c.self.invariant
+
+pub returns-clause-last : goal.returns-clause-last
+returns-clause-last c = on_err c.open_over.result (may_on c.args.want c.args.link c.args.path c.args.self.now _ c.self.view_is _ (ap length c.as_slice.ensures.value)
+    c.as_mut_slice.result.now c.as_mut_slice.ensures.value) c.open_over.ensures.last

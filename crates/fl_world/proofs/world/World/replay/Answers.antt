@@ -12,4 +12,5 @@ returns c =
       agrees = agrees_by event c.args.self.now c.settle_by.new.self c.does-outcome.result c.law_steps_agree.ensures.agree steps;
       kept = kept_by c.args.self.now made c.settle_by.new.self c.does-outcome.result c.does-outcome.ensures.kept c.settle_by.ensures.kept;
       memory = c.does-outcome.ensures.memory;
+      last = c.does-outcome.ensures.last;
     }

@@ -2,7 +2,7 @@ use Rattle.std.proofs.Common.{◌≡◌, ◌∙◌, sym, subst, true, None, rule
 use Rattle.fl_model.specs.Views.{id_of}
 use Rattle.fl_nameserv.specs.Registrations.{by_name}
 use Rattle.fl_world_refines.specs.View.{TheWorld}
-use Rattle.fl_world.proofs.Requested.{not_offered, is_requested, no_service, too_many, within, still_few, all_taken}
+use Rattle.fl_world.proofs.Requested.{not_offered, is_requested, is_only, no_service, too_many, within, still_few, all_taken}
 use Rattle.fl_world.proofs.world.World.request.Goals as goal
 
 pub returns-then-offered-interface-clause-request : goal.returns-then-offered-interface-clause-request
@@ -37,3 +37,10 @@ returns-clause-program c = within c.args.self.now _ c.self.view_is (λ (x : TheW
 
 pub returns-clause-few : goal.returns-clause-few
 returns-clause-few c = still_few c.args.self.now _ c.self.view_is _ c.as_slice-2.ensures.value c.if-as_slice-ge-MAX_BINDINGS.false
+
+pub returns-clause-only : goal.returns-clause-only
+returns-clause-only c =
+    let there : c.has_dispatcher.result ≡ true = search rules in
+    is_only c.args.self.now _ c.self.view_is c.args.client c.args.interface c.args.service.now (sym c.has_dispatcher.ensures.has ∙ there)
+    c.as_slice.result.now c.as_slice.ensures.value c.if-as_slice-interface.false c.as_slice-2.result.now c.as_slice-2.ensures.value
+    c.if-as_slice-ge-MAX_BINDINGS.false c.in-Ok.found c.in-Ok.ensures.found c.if-offered-interface.false c.from.result c.from.ensures
