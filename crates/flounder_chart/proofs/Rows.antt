@@ -13,9 +13,9 @@ pub one_read : (script rest behind : List ℕ) (part : Item) (rows more : ℕ) �
     → ((items : List Item) → ItemsOf behind items → ItemsOf rest (part ∷ items)) → more ≤ rows + 1 → RowsSoFar script behind more
 one_read script rest behind part rows more so_far next one = record {
   back = λ items h.
-    let whole = so_far.back (part ∷ items) (next items h) in
-    let least : rows + suc (length items) ≤ length whole.0 = whole.1.1 in
-    (whole.0, (whole.1.0, omega (arith, least, one)));
+      let whole = so_far.back (part ∷ items) (next items h) in
+      let least : rows + suc (length items) ≤ length whole.0 = whole.1.1 in
+      (whole.0, (whole.1.0, omega (arith, least, one)));
 }
 
 pub all_read : (script rest : List ℕ) (rows : ℕ) → RowsSoFar script rest rows → length rest ≡ 0

@@ -1,3 +1,3 @@
 -- The public promise rests on these, and on `flounder_svg`'s definition of a document.
 pub mod Lines
-pub mod Status
+pub mod Faults

@@ -1,12 +1,12 @@
 //! A script's drawing.
 
-ghost use Rattle.std.specs.Prelude.{◌≡◌, ◌-◌, ◌<◌, ◌≤◌, ◌↔◌, length, List, Err, IfOk, IfErr};
-ghost use Rattle.fl_script_lines.specs.Items.{Item as TheItem, ItemsOf};
+ghost use Rattle.std.specs.Prelude.{◌≡◌, ◌<◌, ◌≤◌, length, Err, IfOk, IfErr};
 ghost use Rattle.flounder_svg.specs.Xml.{IsDocument};
+ghost use Rattle.flounder_chart.specs.Faults.{IsFaultOf};
 
+use crate::chosen::Lines;
 use crate::drawing::{Shown, draw};
 use crate::fault::ChartFault;
-use crate::chosen::Lines;
 use crate::reading::read_run;
 use crate::run::Row;
 use fl_model::Machine;
@@ -16,9 +16,9 @@ use std::alloc::Global;
 /// Rows that a drawing has at most.
 pub const MAX_ROWS: usize = 5_000;
 
-/// Runs a script, and draws its run, as SVG: a lane for each dispatcher and for each monitor that has a link, a row
-/// for each line that has an answer and for each comment, an arrow for each fragment. Where lines are given, the whole
-/// script is run, and the rows of these lines are drawn.
+/// Runs a script, and draws its run, as SVG: a lane for each dispatcher and for each monitor that has a
+/// link, a row for each line that has an answer and for each comment, an arrow for each fragment. Where
+/// lines are given, the whole script is run, and the rows of these lines are drawn.
 ///
 /// # Errors
 /// [`ChartFault`].
@@ -28,9 +28,8 @@ pub fn chart_script<M: Machine + Drop>(
     lines: Option<Lines>,
 ) -> Result<Vec<u8>, ChartFault>
     ensures document { IfOk result (λ drawing. IsDocument drawing.items) }
-    ensures long { (result ≡ Err ChartFault.TooLong) ↔ (1048576 < length script.now) }
-    ensures many { result ≡ Err ChartFault.TooManyRows
-        → (items : List TheItem) × ItemsOf script.now items × (5000 < length items) }
+    ensures fault { IfErr result (λ fault. IsFaultOf script.now fault) }
+    ensures long { 1048576 < length script.now → result ≡ Err ChartFault.TooLong }
 {
     if script.len() > MAX_SCRIPT {
         return Err(ChartFault::TooLong);

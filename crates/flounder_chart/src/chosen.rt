@@ -4,7 +4,7 @@ ghost use Rattle.std.specs.Prelude.{◌≡◌, ◌<◌, ◌≤◌, ◌↔◌, Is
 ghost use Rattle.flounder_chart.specs.Lines.{AreNone, TellsLines};
 
 /// Some lines of a script, by the numbers of the first and the last, from 1.
-#[derive(Clone, Copy, Debug)]
+#[derive(Clone, Copy)]
 pub struct Lines {
     pub first: usize,
     pub last: usize,

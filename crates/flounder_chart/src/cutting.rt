@@ -2,8 +2,8 @@
 
 use bstr::ByteSlice;
 
-// How many columns a character takes: two where it is written as wide as two letters, none where it is a blank
-// behind a blank, which is not drawn.
+// How many columns a character takes: two where it is written as wide as two letters, none where it is a
+// blank behind a blank, which is not drawn.
 fn width(c: char, is_behind_blank: bool) -> usize {
     match c {
         ' ' | '\t' | '\r' | '\n' if is_behind_blank => 0,

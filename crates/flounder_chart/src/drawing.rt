@@ -43,7 +43,8 @@ pub(crate) struct Placed {
 pub(crate) fn draw(alloc: Global, run: &Run<'_>, shown: Shown) -> Result<Vec<u8>, AllocError>
     ensures document { IfOk result (λ drawing. IsDocument drawing.items) }
 {
-    let rows = rows_of(run, shown);
+    let end = shown.end.min(run.rows.len());
+    let rows = &run.rows[shown.first.min(end)..end];
     let layout = Layout::new(alloc, run, rows)?;
     let bottom = bottom_of(rows.len());
     let document = begin(alloc, layout.width(), bottom.saturating_add(LEGEND_HEIGHT))?;
@@ -62,10 +63,6 @@ pub(crate) fn draw(alloc: Global, run: &Run<'_>, shown: Shown) -> Result<Vec<u8>
     draw_legend(&mut drawing, bottom)?;
     let Drawing { document, .. } = drawing;
     document.finish()
-}
-
-fn rows_of<'r, 'a: 'r>(run: &'r Run<'a>, shown: Shown) -> &'r [Row<'a>] {
-    run.rows.get(shown.first..shown.end).unwrap_or(&[])
 }
 
 fn bottom_of(rows: usize) -> u32 {
@@ -120,7 +117,12 @@ pub(crate) fn element(
 
 impl<'a> Drawing<'a> {
     // An element in which a text stands alone.
-    fn text_in(&mut self, tag: Tag, words: &[(Attribute, &[u8])], text: &[u8]) -> Result<(), AllocError> {
+    fn text_in(
+        &mut self,
+        tag: Tag,
+        words: &[(Attribute, &[u8])],
+        text: &[u8],
+    ) -> Result<(), AllocError> {
         let start = element(self.alloc, tag, words, &[])?;
         self.document.begin(start)?;
         self.document.say(text)?;
@@ -145,7 +147,12 @@ impl<'a> Drawing<'a> {
     ///
     /// # Errors
     /// Out of memory.
-    pub(crate) fn label(&mut self, placed: Placed, text: &[u8], most: usize) -> Result<(), AllocError> {
+    pub(crate) fn label(
+        &mut self,
+        placed: Placed,
+        text: &[u8],
+        most: usize,
+    ) -> Result<(), AllocError> {
         let start = element(
             self.alloc,
             Tag::Text,
@@ -179,7 +186,12 @@ impl<'a> Drawing<'a> {
     ///
     /// # Errors
     /// Out of memory.
-    pub(crate) fn line(&mut self, class: &[u8], from: (u32, u32), to: (u32, u32)) -> Result<(), AllocError> {
+    pub(crate) fn line(
+        &mut self,
+        class: &[u8],
+        from: (u32, u32),
+        to: (u32, u32),
+    ) -> Result<(), AllocError> {
         let line = element(
             self.alloc,
             Tag::Line,
@@ -198,7 +210,12 @@ impl<'a> Drawing<'a> {
     ///
     /// # Errors
     /// Out of memory.
-    pub(crate) fn rectangle(&mut self, class: &[u8], corner: (u32, u32), size: (u32, u32)) -> Result<(), AllocError> {
+    pub(crate) fn rectangle(
+        &mut self,
+        class: &[u8],
+        corner: (u32, u32),
+        size: (u32, u32),
+    ) -> Result<(), AllocError> {
         let rectangle = element(
             self.alloc,
             Tag::Rect,
@@ -217,7 +234,12 @@ impl<'a> Drawing<'a> {
     ///
     /// # Errors
     /// Out of memory.
-    pub(crate) fn dot(&mut self, class: &[u8], at: (u32, u32), radius: u32) -> Result<(), AllocError> {
+    pub(crate) fn dot(
+        &mut self,
+        class: &[u8],
+        at: (u32, u32),
+        radius: u32,
+    ) -> Result<(), AllocError> {
         let dot = dot_at(self.alloc, &[(Attribute::Class, class)], at, radius)?;
         self.document.put(dot)
     }
@@ -231,7 +253,9 @@ impl<'a> Drawing<'a> {
         )?;
         let lanes = self.layout.lanes.len();
         let passages = run.passages.len();
-        let text = format!(in self.alloc; "{rows} lines of a script, {lanes} lanes, {passages} fragments in the whole run. Time goes down.")?;
+        let text = format!(in self.alloc;
+            "{rows} lines of a script, {lanes} lanes, {passages} fragments in the whole run. Time goes down."
+        )?;
         self.text_in(Tag::Desc, &[(Attribute::Id, b"desc")], text.as_bytes())?;
         self.text_in(Tag::Style, &[], STYLE)
     }
@@ -239,7 +263,11 @@ impl<'a> Drawing<'a> {
     // The ground: white, and every second row a little darker, so that a line is followed to its lane.
     fn draw_ground(&mut self, rows: usize, bottom: u32) -> Result<(), AllocError> {
         let width = self.layout.width();
-        self.rectangle(b"ground", (0, 0), (width, bottom.saturating_add(LEGEND_HEIGHT)))?;
+        self.rectangle(
+            b"ground",
+            (0, 0),
+            (width, bottom.saturating_add(LEGEND_HEIGHT)),
+        )?;
         for place in 0..rows {
             if place % 2 == 0 {
                 let y = row_y(place).saturating_sub(ROW / 2);
@@ -307,7 +335,12 @@ impl<'a> Drawing<'a> {
 
     // A line's number, its text, and its answer.
     fn draw_row(&mut self, row: &Row<'a>, y: u32) -> Result<(), AllocError> {
-        let start = element(self.alloc, Tag::Group, &[(Attribute::Role, b"listitem")], &[])?;
+        let start = element(
+            self.alloc,
+            Tag::Group,
+            &[(Attribute::Role, b"listitem")],
+            &[],
+        )?;
         self.document.begin(start)?;
         let base = y.saturating_add(4);
         let number = row.number;

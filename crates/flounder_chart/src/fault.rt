@@ -1,13 +1,13 @@
 //! Why there is no drawing.
 
 ghost use Rattle.std.specs.Prelude.{◌≡◌};
-ghost use Rattle.flounder_chart.specs.Status.{status_of};
+ghost use Rattle.flounder_chart.specs.Faults.{status_of};
 
 use std::alloc::AllocError;
 use thiserror::Error;
 
 /// Why a script isn't drawn.
-#[derive(Clone, Copy, Debug, PartialEq, Eq, Error)]
+#[derive(Clone, Copy, Debug, Error)]
 pub enum ChartFault {
     /// The script has more bytes than `exec` runs.
     #[error("the script is over 1,048,576 bytes; exec refuses it whole (E91)")]
@@ -35,6 +35,7 @@ impl ChartFault {
 
 impl From<AllocError> for ChartFault {
     ghost use Rattle.flounder_chart.specs.declared.fault.ChartFault.TheVariants.{Memory};
+
     ghost from_gives = { λ _ e. e ≡ Memory };
 
     fn from(_error: AllocError) -> ChartFault {

@@ -1,5 +1,5 @@
-//! Which fragment goes where, told by a script's commands and their answers alone: what is put stands in a queue
-//! until it is taken, and the first put is the first taken.
+//! Which fragment goes where, told by a script's commands and their answers alone: what is put stands in a
+//! queue until it is taken, and the first put is the first taken.
 
 use crate::run::{Actor, Carried, Passage, Queue, Spot};
 use fl_base::Side;
@@ -9,7 +9,8 @@ use std::collections::VecDeque;
 /// Cores that a script may have.
 pub(crate) const CORES: u32 = 16;
 
-/// A binding: the dispatchers of its two ends, the cores of its circuit, if it is one, and what waits for each end.
+/// A binding: the dispatchers of its two ends, the cores of its circuit, if it is one, and what waits for
+/// each end.
 #[derive(Drop)]
 pub(crate) struct Binding {
     pub client: usize,
@@ -151,7 +152,12 @@ impl Flows {
     }
 
     // Puts a fragment where an end finds it; says whose end that is.
-    fn put_before(&mut self, end: End, carried: Carried, from: Spot) -> Result<Option<Actor>, AllocError> {
+    fn put_before(
+        &mut self,
+        end: End,
+        carried: Carried,
+        from: Spot,
+    ) -> Result<Option<Actor>, AllocError> {
         let Some(binding) = self.bindings.get(end.binding) else {
             return Ok(None);
         };
@@ -184,8 +190,8 @@ impl Flows {
         Ok(Some(toward))
     }
 
-    /// An end writes a fragment: into the queue or ring of its binding, or onto the first link of its circuit. Says
-    /// who is to take it.
+    /// An end writes a fragment: into the queue or ring of its binding, or onto the first link of its
+    /// circuit. Says who is to take it.
     ///
     /// # Errors
     /// Out of memory.
@@ -208,7 +214,11 @@ impl Flows {
     ///
     /// # Errors
     /// Out of memory.
-    pub(crate) fn acknowledge(&mut self, end: End, row: usize) -> Result<Option<Actor>, AllocError> {
+    pub(crate) fn acknowledge(
+        &mut self,
+        end: End,
+        row: usize,
+    ) -> Result<Option<Actor>, AllocError> {
         let Some(binding) = self.bindings.get(end.binding) else {
             return Ok(None);
         };
@@ -249,8 +259,8 @@ impl Flows {
         self.take(end, row)
     }
 
-    /// A core takes what stands first on its link from another: who put it, and the end that it goes to, if it
-    /// carries a call.
+    /// A core takes what stands first on its link from another: who put it, and the end that it goes to, if
+    /// it carries a call.
     pub(crate) fn take_from_link(
         &mut self,
         row: usize,
@@ -268,7 +278,12 @@ impl Flows {
     ///
     /// # Errors
     /// Out of memory.
-    pub(crate) fn pass_on(&mut self, end: End, row: usize, core: u32) -> Result<Option<Actor>, AllocError> {
+    pub(crate) fn pass_on(
+        &mut self,
+        end: End,
+        row: usize,
+        core: u32,
+    ) -> Result<Option<Actor>, AllocError> {
         let Some(binding) = self.bindings.get(end.binding) else {
             return Ok(None);
         };

@@ -40,8 +40,8 @@ pub(crate) struct Lane<'a> {
     pub name: &'a [u8],
 }
 
-/// On which side of its lane an answer stands. Where arrows are on both, it is raised on the side to which the
-/// second goes, since that goes down.
+/// On which side of its lane an answer stands. Where arrows are on both, it is raised on the side to which
+/// the second goes, since that goes down.
 #[derive(Clone, Copy)]
 pub(crate) enum LabelSide {
     Left,
@@ -73,7 +73,11 @@ impl<'a> Layout<'a> {
     ///
     /// # Errors
     /// Out of memory.
-    pub(crate) fn new(alloc: Global, run: &Run<'a>, rows: &[Row<'a>]) -> Result<Layout<'a>, AllocError> {
+    pub(crate) fn new(
+        alloc: Global,
+        run: &Run<'a>,
+        rows: &[Row<'a>],
+    ) -> Result<Layout<'a>, AllocError> {
         let mut layout = Layout {
             lanes: Vec::new(alloc),
             dispatcher_lanes: Vec::new(alloc),
@@ -169,7 +173,9 @@ impl<'a> Layout<'a> {
     pub(crate) fn label_columns(&self, row: &Row<'a>) -> usize {
         let gap = self.label_gap(row);
         let whole = self.gaps.get(gap).copied().unwrap_or(0);
-        let free = whole.saturating_sub(AIR).saturating_sub(taken_before(gap, row));
+        let free = whole
+            .saturating_sub(AIR)
+            .saturating_sub(taken_before(gap, row));
         (free / LETTER) as usize
     }
 

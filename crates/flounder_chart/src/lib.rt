@@ -1,6 +1,7 @@
 //! A drawing of a script's run, as SVG.
 //!
-//! Contract for the program: [`chart_script`] gives a well-formed document (`specs/Xml.antt` of `flounder_svg`), and says when not.
+//! Contract for the program: [`chart_script`] gives a well-formed document (`specs/Xml.antt` of
+//! `flounder_svg`), and says when not.
 //!
 //! - `chart.rt`: [`chart_script`]; `chosen.rt`: which lines; `fault.rt`: why there is no drawing
 //! - `reading.rt`, `tracing.rt`, `flows.rt`, `run.rt`: what happened, told by the script's lines and answers

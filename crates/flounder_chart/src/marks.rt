@@ -52,7 +52,7 @@ pub(crate) fn draw_heads(drawing: &mut Drawing<'_>) -> Result<(), AllocError> {
     drawing.document.close()
 }
 
-fn draw_head(drawing: &mut Drawing<'_>, id: &[u8], class: &[u8]) -> Result<(), AllocError> {
+fn draw_head(drawing: &mut Drawing<'_>, id: &'static [u8], class: &'static [u8]) -> Result<(), AllocError> {
     let marker = element(
         drawing.alloc,
         Tag::Marker,
@@ -100,7 +100,13 @@ pub(crate) fn draw_legend(drawing: &mut Drawing<'_>, bottom: u32) -> Result<(), 
 }
 
 // A line with the looks of a kind of arrow, and the kind's name.
-fn draw_sample(drawing: &mut Drawing<'_>, class: &[u8], x: u32, y: u32, name: &[u8]) -> Result<(), AllocError> {
+fn draw_sample(
+    drawing: &mut Drawing<'_>,
+    class: &[u8],
+    x: u32,
+    y: u32,
+    name: &[u8],
+) -> Result<(), AllocError> {
     drawing.line(class, (x, y), (x.saturating_add(26), y))?;
     let at = Placed {
         class: b"line",

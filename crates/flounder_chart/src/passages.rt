@@ -31,7 +31,11 @@ fn height_of(drawing: &Drawing<'_>, row: usize) -> u32 {
     row_y(row - drawing.shown.first)
 }
 
-fn draw_passage(drawing: &mut Drawing<'_>, run: &Run<'_>, passage: &Passage) -> Result<(), AllocError> {
+fn draw_passage(
+    drawing: &mut Drawing<'_>,
+    run: &Run<'_>,
+    passage: &Passage,
+) -> Result<(), AllocError> {
     let shown = drawing.shown;
     if passage.from.row >= shown.end {
         return Ok(());
@@ -47,7 +51,13 @@ fn draw_passage(drawing: &mut Drawing<'_>, run: &Run<'_>, passage: &Passage) -> 
             let end = height_of(drawing, row);
             draw_arrow(drawing, carried, way, end, title.as_bytes())
         }
-        Some(_later) => draw_dot(drawing, later_class(carried), carried, way, title.as_bytes()),
+        Some(_later) => draw_dot(
+            drawing,
+            later_class(carried),
+            carried,
+            way,
+            title.as_bytes(),
+        ),
         None => draw_dot(drawing, left_class(carried), carried, way, title.as_bytes()),
     }
 }

@@ -29,9 +29,13 @@ fn count_lines(bytes: &[u8]) -> usize {
 ///
 /// # Errors
 /// Out of memory.
-pub(crate) fn read_run<'a>(alloc: Global, script: &'a [u8], transcript: &'a [u8]) -> Result<Run<'a>, AllocError>
+pub(crate) fn read_run<'a>(
+    alloc: Global,
+    script: &'a [u8],
+    transcript: &'a [u8],
+) -> Result<Run<'a>, AllocError>
     ensures rows { IfOk result
-        (λ run. (items : List TheItem) × ItemsOf script.now items × (length run.rows.items ≤ length items)) }
+        (λ run. (items : List TheItem) × (ItemsOf script.now items × (length run.rows.items ≤ length items))) }
 {
     let mut trace = Trace::new(alloc)?;
     let mut rows = Vec::new(alloc);
@@ -43,7 +47,16 @@ pub(crate) fn read_run<'a>(alloc: Global, script: &'a [u8], transcript: &'a [u8]
         let lines = &rest[..rest.len() - behind.len()];
         let (answer, answers_behind) = answer_of(part, answers);
         let place = rows.len();
-        let row = read_row(part, Source { lines, number, answer }, &mut trace, place)?;
+        let row = read_row(
+            part,
+            Source {
+                lines,
+                number,
+                answer,
+            },
+            &mut trace,
+            place,
+        )?;
         push_some(&mut rows, row)?;
         number = number.saturating_add(count_lines(lines));
         rest = behind;

@@ -208,7 +208,13 @@ impl<'a> Trace<'a> {
         }
     }
 
-    fn forward(&mut self, core: u32, neighbour: u32, answer: &[u8], row: usize) -> Result<Acted, AllocError> {
+    fn forward(
+        &mut self,
+        core: u32,
+        neighbour: u32,
+        answer: &[u8],
+        row: usize,
+    ) -> Result<Acted, AllocError> {
         let actor = self.monitor(core);
         let (word, rest) = first_word(answer);
         let is_taken = match word {
@@ -254,7 +260,9 @@ impl<'a> Trace<'a> {
             Command::Link { a, b, .. } => self.make_link(a, b),
             Command::Disp { name, core } => self.make_dispatcher(name, core),
             Command::Export {
-                name, dispatcher, ..
+                name,
+                dispatcher,
+                ..
             } => self.make_service(name, dispatcher),
             Command::Bind {
                 name,
@@ -311,7 +319,12 @@ impl<'a> Trace<'a> {
     ///
     /// # Errors
     /// Out of memory.
-    pub(crate) fn take_up(&mut self, command: Command<'a>, answer: &[u8], row: usize) -> Result<Acted, AllocError> {
+    pub(crate) fn take_up(
+        &mut self,
+        command: Command<'a>,
+        answer: &[u8],
+        row: usize,
+    ) -> Result<Acted, AllocError> {
         match command {
             Command::Turn(name) => {
                 let actor = self.dispatcher(name);
@@ -323,7 +336,12 @@ impl<'a> Trace<'a> {
     }
 
     // The same for a command that takes nothing.
-    fn command(&mut self, command: Command<'a>, answer: &[u8], row: usize) -> Result<Acted, AllocError> {
+    fn command(
+        &mut self,
+        command: Command<'a>,
+        answer: &[u8],
+        row: usize,
+    ) -> Result<Acted, AllocError> {
         let mut goal = None;
         let (word, _) = first_word(answer);
         if matches!(word, b"ok" | b"written") {

@@ -1,6 +1,6 @@
 -- Spellings joined spell what was joined, and what appends one piece adds its character.
-use Rattle.std.proofs.Common.{◌≡◌, ◌++◌, ◌∷◌, [], ◌∙◌, ℕ, List, subst, sym, ap, append_assoc, append-nil, arith, inl}
-use Rattle.std.specs.Prelude.{Result, Ok, Err, OnOk, is_ok, if◌then◌else◌, codes, ◌⊎◌, ◌<◌}
+use Rattle.std.proofs.Common.{◌≡◌, ◌++◌, ◌∷◌, [], ◌∙◌, ℕ, List, subst, sym, ap, append_assoc, append-nil, arith}
+use Rattle.std.specs.Prelude.{Result, Ok, Err, OnOk, is_ok, if◌then◌else◌, codes}
 use Rattle.std.specs.Fmt.{decimal}
 use Rattle.flounder_svg.specs.Xml.{Spells, nothing, line_end, plain, less, greater, ampersand, quote, numbered, IsPlain, IsXmlCharacter}
 use Rattle.flounder_svg.specs.Shown.{AddsText, AreShownAs, none, one_more, IsShownAs}

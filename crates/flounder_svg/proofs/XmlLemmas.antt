@@ -1,5 +1,5 @@
 -- Start tags and documents, step by step.
-use Rattle.std.proofs.Common.{◌≡◌, ◌++◌, ◌∷◌, [], ◌∙◌, ℕ, List, subst, sym, ap, true, false, Bool, refl, append_assoc, append-nil, arith}
+use Rattle.std.proofs.Common.{◌≡◌, ◌++◌, ◌∷◌, [], ◌∙◌, ℕ, List, subst, sym, ap, true, false, Bool, refl, append_assoc, append-nil}
 use Rattle.std.specs.Prelude.{not, ◌&&◌, codes, if◌then◌else◌}
 use Rattle.std.specs.List.{list_all}
 use Rattle.std.specs.Str.{bytes_eq}

@@ -8,7 +8,8 @@ use Rattle.flounder_svg.specs.Xml.{Spells, Start}
 abbrev pub IsBlank : ℕ → Type 0
 IsBlank c = (c ≡ 9) ⊎ ((c ≡ 10) ⊎ (c ≡ 13))
 
--- a character is shown as itself; a tab or line end as a blank; and one that isn't printable ASCII may be shown as U+FFFD
+-- a character is shown as itself; a tab or line end as a blank; and one that isn't printable ASCII may be
+-- shown as U+FFFD
 abbrev pub IsShownAs : ℕ → ℕ → Type 0
 IsShownAs c shown = (shown ≡ c) ⊎ (((shown ≡ 32) × IsBlank c) ⊎ ((shown ≡ 65533) × ((c < 32) ⊎ (126 < c))))
 

@@ -1,4 +1,5 @@
--- Well-formed XML, as drawings need it: elements that are closed in order, each attribute once, and in text and
+-- Well-formed XML, as drawings need it: elements that are closed in order, each attribute once, and in text
+-- and
 -- values no mark that would end them.
 use Rattle.std.specs.Prelude.{◌≡◌, ℕ, ◌≤◌, List, [], ◌∷◌, ◌++◌, codes, ◌⊎◌, ◌≢◌}
 use Rattle.std.specs.Fmt.{decimal}
@@ -15,7 +16,8 @@ IsPlain byte = (32 ≤ byte) × ((byte ≤ 126) × ((byte ≢ 38) × ((byte ≢ 
 abbrev pub IsXmlCharacter : ℕ → Type 0
 IsXmlCharacter c = ((32 ≤ c) × (c ≤ 55295)) ⊎ (((57344 ≤ c) × (c ≤ 65533)) ⊎ ((65536 ≤ c) × (c ≤ 1114111)))
 
--- what may stand between tags and in a value's quotes, and the characters that a reader takes from it: plain bytes, line ends, and
+-- what may stand between tags and in a value's quotes, and the characters that a reader takes from it:
+-- plain bytes, line ends, and
 -- references to characters
 pub data Spells : List ℕ → List ℕ → Type 0 where
   nothing : Spells [] []

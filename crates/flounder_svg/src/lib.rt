@@ -1,7 +1,8 @@
 //! Well-formed SVG, element by element.
 //!
 //! Contract for the layer above: whatever is asked of a [`Document`], in whatever order, what
-//! [`Document::finish`] gives is a well-formed document (`specs/Xml.antt`): elements are closed in order, none has
+//! [`Document::finish`] gives is a well-formed document (`specs/Xml.antt`): elements are closed in order,
+//! none has
 //! an attribute twice, and no text or value has a mark that would end it. All that is written is ASCII.
 //!
 //! - `xml.rt`: [`StartTag`], [`Document`]

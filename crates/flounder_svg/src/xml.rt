@@ -39,9 +39,7 @@ impl Model for StartTag {
 fn is_new(given: &[Attribute], attribute: Attribute) -> bool
     ensures same { result ≡ list_all (λ other. not (bytes_eq (attribute_name other) (attribute_name attribute))) given.now }
 {
-    given
-        .iter()
-        .all(|other| other.name() != attribute.name())
+    given.iter().all(|other| other.name() != attribute.name())
 }
 
 impl StartTag {

@@ -4,10 +4,9 @@
 use fl_world::World;
 use flounder_chart::{Lines, chart_script};
 use std::alloc::Global;
-use std::fs;
-use std::io;
 use std::io::{Read, Write};
 use std::rt::Files;
+use std::{fs, io};
 
 // The scripts, and of long ones which lines are drawn.
 const SCRIPTS: [(&str, &str); 10] = [

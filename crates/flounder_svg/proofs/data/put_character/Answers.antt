@@ -1,4 +1,4 @@
-use Rattle.std.proofs.Common.{[], ◌∷◌, sym, inl, inr, refl}
+use Rattle.std.proofs.Common.{[], sym, inl, inr, refl}
 use Rattle.std.specs.Prelude.{codes}
 use Rattle.flounder_svg.specs.Xml.{nothing, ampersand, less, greater, quote}
 use Rattle.flounder_svg.proofs.DataLemmas.{piece_added, blank_spelled}

@@ -8,8 +8,8 @@ invariant_of-result c =
     let yes : c.is_new.result ≡ true = (cc (c.is_new.ensures.same, c.if-not-is_new.ensures.same)) in
     let new = new_for c.self.inside.given.items c.deref.result.now c.args.attribute c.is_new.result c.is_new.ensures.same c.deref.ensures.value yes in
     let before = before_value c.self.inside.text.items c.push-2.new.self.items c.name.result.now c.extend_from_slice.new.self.items
-        c.extend_from_slice-2.new.self.items c.args.attribute c.in_ok-push-2.ensures.items c.name.ensures.name
-        c.in_ok-extend_from_slice.ensures.items c.in_ok-extend_from_slice-2.ensures.items in
+    c.extend_from_slice-2.new.self.items c.args.attribute c.in_ok-push-2.ensures.items c.name.ensures.name
+    c.in_ok-extend_from_slice.ensures.items c.in_ok-extend_from_slice-2.ensures.items in
     one_more c.self.inside.tag c.self.inside.given.items c.push.new.self.items c.self.inside.text.items c.extend_from_slice-2.new.self.items
     c.put_data.new.out.items c.push-3.new.self.items _ c.args.attribute c.self.invariant new c.in_ok-push.ensures.items before
     c.in_ok-put_data.ensures.put c.in_ok-push-3.ensures.items
