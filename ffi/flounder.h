@@ -1,4 +1,4 @@
-/* The proved rings of fl_c, for C. Link with libfl_c.a, and with liblibc_c.a of the toolchain or three
+/* The proved rings and ends of fl_c, for C. Link with libfl_c.a, and with liblibc_c.a of the toolchain or three
  * symbols of your own:
  *
  *     struct fl_room rattle_alloc(size_t size, size_t align);
@@ -27,11 +27,17 @@ enum {
     FL_FULL = 30,              /* too few slots are free: try again once the other side took and acknowledged */
     FL_BAD_SIZE = 32,          /* a ring can't have this number of slots */
     FL_SPENT = 33,             /* the ring has carried 2^62 fragments: make a new one */
+    FL_BUSY = 40,              /* a call is in transmission: write it first */
+    FL_NO_SUCH_MESSAGE = 41,
+    FL_MISFIT = 42,            /* the tape is that of no call of the message; of a rule, the types differ */
     FL_ONLY_ACKNOWLEDGES = 63, /* the fragment isn't one of a call */
+    FL_FAILED = 64,            /* the end failed earlier: make new ends */
     FL_NO_MEMORY = 99,
     FL_NO_SUCH_OPERATION = 101,/* the handle leads to something that has no such operation */
+    FL_NO_SUCH_PLAN = 102,     /* plans are 1 and 2 */
     FL_WRONG_ROOM = 103,       /* too few numbers, or too many */
-    FL_NULL = 104              /* a null pointer */
+    FL_NULL = 104,             /* a null pointer */
+    FL_UNREAD = 105            /* a call that was received is to be read first */
 };
 
 /* What a look or a take found. */
@@ -43,6 +49,10 @@ typedef struct { uint32_t fault, what; uint64_t count; } fl_answer;
 struct fl_room { uint64_t is_there; void *at; };
 
 uint32_t flounder_make(size_t slots, uint8_t **one, uint8_t **two);
+uint32_t flounder_make_text_ends(const uint8_t *text, size_t length, uint32_t plan, size_t slots, uint8_t **one,
+    uint8_t **two, uint64_t *place);
+uint32_t flounder_make_image_ends(const uint8_t *image, size_t length, size_t slots, uint8_t **one,
+    uint8_t **two);
 fl_answer flounder_use(uint8_t *handle, uint32_t what, uint64_t *numbers, size_t count);
 void rattle_dealloc(void *at, size_t size, size_t align);
 
@@ -52,7 +62,7 @@ void rattle_dealloc(void *at, size_t size, size_t align);
 typedef struct { uint8_t *at; } fl_side;
 
 /* Makes a ring with `slots` slots each way (a power of two from 4 to 1024), and its two sides. On a fault
- * both are null. It is the one call that takes memory: none of the others ever does, and none waits. */
+ * both are null. Makers take memory, and ends do for their calls; sides never do. None waits. */
 static inline unsigned fl_duo(size_t slots, fl_side *one, fl_side *two)
 {
     if (!one || !two || one == two) return FL_NULL;
@@ -108,6 +118,131 @@ static inline void fl_free_side(fl_side *side)
     fl_answer block = flounder_use(side->at, 5, (uint64_t *)8, 0);
     rattle_dealloc(side->at, block.count, block.what);
     side->at = 0;
+}
+
+/* ---- ends of a binding, each over its side of a ring */
+
+/* An end: calls of an interface go out of it and come to it, and it owns its side. Make both ends at once. */
+typedef struct { uint8_t *at; } fl_end;
+
+/* What a write came to. */
+enum { FL_IDLE = 0, FL_WROTE = 1, FL_NO_ROOM = 2 };
+/* What a receive came to. FL_HELD_BACK: the end has a reply rule, and 16 replies are to be written first. */
+enum { FL_EMPTY = 0, FL_PART = 1, FL_ACKNOWLEDGED = 2, FL_HELD_BACK = 3, FL_CALL = 4 };
+
+/* Makes both ends of the interface that a text stands for, laid out by plan 1 or 2, over a new ring. A fault
+ * of 1 to 21 is the text's, and stands `*place` bytes from its start (`place` may be null). */
+static inline unsigned fl_ends_of_text(const char *text, size_t length, unsigned plan, size_t slots, fl_end *one,
+    fl_end *two, uint64_t *place)
+{
+    uint64_t unwanted;
+    if (!text || !one || !two || one == two) return FL_NULL;
+    if (!place) place = &unwanted;
+    *place = 0;
+    one->at = two->at = 0;
+    return flounder_make_text_ends((const uint8_t *)text, length, plan, slots, &one->at, &two->at, place);
+}
+
+/* The same of an image, which `flounder compile` writes. Faults 80 to 85 are the image's. */
+static inline unsigned fl_ends_of_image(const void *image, size_t length, size_t slots, fl_end *one, fl_end *two)
+{
+    if (!image || !one || !two || one == two) return FL_NULL;
+    one->at = two->at = 0;
+    return flounder_make_image_ends((const uint8_t *)image, length, slots, &one->at, &two->at);
+}
+
+/* Makes a call. `call` is the message's number, and then its tape: a number for each scalar (two's complement
+ * in its bits), a length before each text and array, in the plan's order. Faults: 40 one is in transmission,
+ * 41 no such message, 42 the tape fits no call of it, 64 the end failed. */
+static inline unsigned fl_call(fl_end *end, uint64_t *call, size_t count)
+{
+    if (!end || !end->at || !call) return FL_NULL;
+    return flounder_use(end->at, 6, call, count).fault;
+}
+
+static inline unsigned fl_ask_end(fl_end *end, uint32_t what, unsigned *came, uint64_t *count)
+{
+    if (!came) return FL_NULL;
+    *came = 0;
+    if (!end || !end->at) return FL_NULL;
+    fl_answer answer = flounder_use(end->at, what, (uint64_t *)8, 0);
+    *came = answer.what;
+    if (count) *count = answer.count;
+    return answer.fault;
+}
+
+/* Puts the next fragment of the call in transmission, if there is one and it has room. `*left`, unless null,
+ * says how many of the call's fragments follow. */
+static inline unsigned fl_write(fl_end *end, unsigned *came, uint64_t *left)
+{
+    return fl_ask_end(end, 7, came, left);
+}
+
+/* Takes a fragment. FL_CALL: a call is whole, and is to be read before the next receive (else FL_UNREAD).
+ * Faults 60 to 66: what came can't follow what came before, and the end has failed for good. */
+static inline unsigned fl_receive(fl_end *end, unsigned *came)
+{
+    return fl_ask_end(end, 8, came, 0);
+}
+
+/* Reads the call that was received: its message's number and its tape. `*count` says how many numbers these
+ * are; 0: there is no call. FL_WRONG_ROOM: there is room for fewer, and the call stays. */
+static inline unsigned fl_read(fl_end *end, uint64_t *call, size_t room, uint64_t *count)
+{
+    if (!end || !end->at || !call || !count) return FL_NULL;
+    fl_answer answer = flounder_use(end->at, 9, call, room);
+    *count = answer.count;
+    return answer.fault;
+}
+
+/* From now on each call of `message` that the end receives is answered by `reply` with the same arguments. */
+static inline unsigned fl_reply_rule(fl_end *end, uint16_t message, uint16_t reply)
+{
+    uint64_t numbers[2] = { message, reply };
+    if (!end || !end->at) return FL_NULL;
+    return flounder_use(end->at, 10, numbers, 2).fault;
+}
+
+/* Whether a call is in transmission: 1 or 0. */
+static inline unsigned fl_is_busy(fl_end *end, unsigned *busy)
+{
+    return fl_ask_end(end, 11, busy, 0);
+}
+
+/* As fl_tell, at the end's side: call it where nothing is to be written back. */
+static inline unsigned fl_tell_end(fl_end *end)
+{
+    if (!end || !end->at) return FL_NULL;
+    return flounder_use(end->at, 4, (uint64_t *)8, 0).fault;
+}
+
+/* Frees an end with its side. */
+static inline void fl_free_end(fl_end *end)
+{
+    if (!end || !end->at) return;
+    fl_answer block = flounder_use(end->at, 5, (uint64_t *)8, 0);
+    rattle_dealloc(end->at, block.count, block.what);
+    end->at = 0;
+}
+
+/* ---- tapes that come, for headers that are made of interfaces */
+
+struct fl_tape { const uint64_t *at; size_t left; int wrong; };
+
+/* The next number; 0 where the tape has ended. */
+static inline uint64_t fl_next(struct fl_tape *tape)
+{
+    if (!tape->left) return tape->wrong = 1, 0;
+    tape->left--;
+    return *tape->at++;
+}
+
+/* The next number as a count; 0 where it is over its bound. */
+static inline uint32_t fl_next_count(struct fl_tape *tape, uint32_t most)
+{
+    uint64_t count = fl_next(tape);
+    if (count > most) return tape->wrong = 1, 0;
+    return (uint32_t)count;
 }
 
 #endif

@@ -21,6 +21,13 @@ void *memcpy(void *to, const void *from, size_t count)
     return to;
 }
 
+void *memmove(void *to, const void *from, size_t count)
+{
+    if ((char *)to <= (const char *)from) return memcpy(to, from, count);
+    while (count--) ((volatile char *)to)[count] = ((const char *)from)[count];
+    return to;
+}
+
 void *memset(void *to, int byte, size_t count)
 {
     for (size_t k = 0; k < count; k++) ((volatile char *)to)[k] = (char)byte;

@@ -1,17 +1,18 @@
 -- What each operation does at a handle, exactly, and what C is answered.
-use Rattle.std.specs.Prelude.{◌≡◌, ℕ, List, Option, Some, None, Result, Ok, Err}
+use Rattle.std.specs.Prelude.{◌≡◌, ◌≢◌, ℕ, List, Option, Some, None, Result, Ok, Err}
 use Rattle.fl_ring.specs.SharedSides.{TheSide}
 use Rattle.fl_c.specs.declared.operation.Operation.{Operation}
-use Rattle.fl_c.specs.declared.operation.Operation.TheVariants.{Put, Take, Peek, Tell, Free}
 use Rattle.fl_c.specs.declared.answer.Outcome.{Outcome}
 use Rattle.fl_c.specs.declared.answer.Outcome.TheVariants.{Freed}
 use Rattle.fl_c.specs.declared.answer.UseFault.{UseFault}
 use Rattle.fl_c.specs.declared.answer.UseFault.TheVariants.{NoSuchOperation}
 use Rattle.fl_c.specs.declared.answer.Answered.{Answered}
 use Rattle.fl_c.specs.declared.handle.Handle.{Handle}
-use Rattle.fl_c.specs.declared.handle.Handle.TheVariants.{Side, Ended}
+use Rattle.fl_c.specs.declared.handle.Handle.TheVariants.{Side, End, Ended}
 use Rattle.fl_c.specs.Numbers.{operation_at, answer_of}
+use Rattle.fl_c.specs.View.{TheHeld}
 use Rattle.fl_c.specs.Sides.{UsesSide}
+use Rattle.fl_c.specs.Ends.{UsesEnd}
 
 -- what the handle led to is freed, and its own block is left
 abbrev pub Frees : List ℕ → Result Outcome UseFault → Handle → List ℕ → Type 0
@@ -21,17 +22,18 @@ Frees numbers r t written = ((align : ℕ) × (size : ℕ) × (r ≡ Ok (Freed a
 abbrev pub Refuses : Handle → List ℕ → Result Outcome UseFault → Handle → List ℕ → Type 0
 Refuses s numbers r t written = (r ≡ Err NoSuchOperation) × (t ≡ s) × (written ≡ numbers)
 
--- an operation but `Free`, by the kind of the handle
-abbrev pub UsesKind : Handle → Operation → List ℕ → Result Outcome UseFault → Handle → List ℕ → Type 0
-UsesKind (Side side) operation numbers r t written = (after : TheSide) × (t ≡ Side after) × UsesSide side operation numbers r after written
-UsesKind Ended operation numbers r t written = Refuses Ended numbers r t written
+-- an operation, by the kind of the handle; none has no number
+abbrev pub UsesKind : Option Operation → Handle → List ℕ → Result Outcome UseFault → Handle → List ℕ → Type 0
+UsesKind None s numbers r t written = Refuses s numbers r t written
+UsesKind (Some operation) (Side side) numbers r t written = (after : TheSide) × (t ≡ Side after) × UsesSide side operation numbers r after written
+UsesKind (Some operation) (End end) numbers r t written = (after : TheHeld) × (t ≡ End after) × UsesEnd end operation numbers r after written
+UsesKind (Some operation) Ended numbers r t written = Refuses Ended numbers r t written
 
--- the operation of a number
-abbrev pub UsesAt : Handle → Option Operation → List ℕ → Result Outcome UseFault → Handle → List ℕ → Type 0
-UsesAt s None numbers r t written = Refuses s numbers r t written
-UsesAt s (Some Free) numbers r t written = Frees numbers r t written
-UsesAt s (Some operation) numbers r t written = UsesKind s operation numbers r t written
+-- a use of a handle: what this number asks for is done on these numbers
+pub record UsesAt (s : Handle) (what : ℕ) (numbers : List ℕ) (r : Result Outcome UseFault) (t : Handle) (written : List ℕ) : Type 0 where
+  pub frees : what ≡ 5 → Frees numbers r t written
+  pub uses : what ≢ 5 → UsesKind (operation_at what) s numbers r t written
 
--- a use of a handle: what the operation of this number does on these numbers, and what C is answered
+-- the same, and what C is answered
 abbrev pub Uses : Handle → ℕ → List ℕ → Answered → Handle → List ℕ → Type 0
-Uses s what numbers answer t written = (r : Result Outcome UseFault) × (answer ≡ answer_of r) × UsesAt s (operation_at what) numbers r t written
+Uses s what numbers answer t written = (r : Result Outcome UseFault) × (answer ≡ answer_of r) × UsesAt s what numbers r t written

@@ -1,8 +1,9 @@
 //! What an operation comes to, and its numbers.
 
 ghost use Rattle.std.specs.Prelude.{◌≡◌};
-ghost use Rattle.fl_c.specs.Numbers.{fault_of, what_of, count_of, answer_of};
+ghost use Rattle.fl_c.specs.Numbers.{fault_of, wanted_of, what_of, count_of, answer_of};
 
+use fl_endpoint::EndFault;
 use fl_link::PutFault;
 
 /// What an operation came to.
@@ -20,6 +21,26 @@ pub enum Outcome {
     Kept,
     /// What was taken is told.
     Told,
+    /// The call is accepted: it is in transmission.
+    Accepted,
+    /// A fragment of the call was put, and so many are left.
+    Wrote { left: u64 },
+    /// There was no room to put it.
+    NoRoom,
+    /// No call is in transmission.
+    Idle,
+    /// A call is in transmission.
+    Sending,
+    /// A fragment was taken, and its call isn't whole yet.
+    PartTaken,
+    /// Replies have to be written first: no fragment was looked at.
+    Held,
+    /// A fragment was taken, and its call is whole: it is to be read.
+    Handled,
+    /// The call's numbers, so many, are written.
+    CallRead { count: u64 },
+    /// The reply rule is set.
+    RuleSet,
     /// What the handle led to is freed. Its own block, of this size and alignment, is the caller's to free.
     Freed { align: u32, size: u64 },
 }
@@ -31,10 +52,16 @@ pub enum UseFault {
     NoSuchOperation,
     /// There are too few or too many numbers (103).
     WrongRoom,
+    /// There are too few numbers (103): so many are wanted, as the answer's count tells.
+    ShortRoom { wanted: u64 },
+    /// A call that was handled is to be read first (105).
+    Unread,
     /// The fragment only acknowledges: a put writes none (63).
     OnlyAcknowledges,
     /// Nothing was put (30, 33).
     Link(PutFault),
+    /// The end refuses (33, 40 to 43, 60 to 66, 99).
+    End(EndFault),
 }
 
 /// What C is answered. A fault of 100 or more is a caller's mistake: nothing was done then.
@@ -45,7 +72,7 @@ pub struct Answered {
     pub fault: u32,
     /// Which of the things that it may come to.
     pub what: u32,
-    /// How many numbers there are to read.
+    /// How many numbers there are to read, or wanted, or fragments left.
     pub count: u64,
 }
 
@@ -57,9 +84,22 @@ impl UseFault {
     {
         match self {
             UseFault::NoSuchOperation => 101,
-            UseFault::WrongRoom => 103,
+            UseFault::WrongRoom | UseFault::ShortRoom { wanted: _ } => 103,
+            UseFault::Unread => 105,
             UseFault::OnlyAcknowledges => 63,
             UseFault::Link(fault) => u32::from(fault.number()),
+            UseFault::End(fault) => u32::from(fault.number()),
+        }
+    }
+
+    /// How many numbers are wanted, where there are too few.
+    #[inline]
+    pub fn wanted(self) -> u64
+        ensures wanted { result ≡ wanted_of self }
+    {
+        match self {
+            UseFault::ShortRoom { wanted } => wanted,
+            _ => 0,
         }
     }
 }
@@ -72,13 +112,17 @@ impl Outcome {
     {
         match self {
             Outcome::Placed | Outcome::Nothing | Outcome::Kept => 0,
-            Outcome::Fragment | Outcome::Told => 1,
-            Outcome::Acknowledgement => 2,
+            Outcome::Accepted | Outcome::Idle | Outcome::RuleSet => 0,
+            Outcome::Fragment | Outcome::Told | Outcome::Sending | Outcome::PartTaken => 1,
+            Outcome::Wrote { left: _ } | Outcome::CallRead { count: _ } => 1,
+            Outcome::Acknowledgement | Outcome::NoRoom => 2,
+            Outcome::Held => 3,
+            Outcome::Handled => 4,
             Outcome::Freed { align, size: _ } => align,
         }
     }
 
-    /// How many numbers there are to read.
+    /// How many numbers there are to read, or fragments left.
     #[inline]
     pub fn count(self) -> u64
         ensures count { result ≡ count_of self }
@@ -86,6 +130,8 @@ impl Outcome {
         match self {
             Outcome::Fragment => 8,
             Outcome::Freed { align: _, size } => size,
+            Outcome::Wrote { left } => left,
+            Outcome::CallRead { count } => count,
             _ => 0,
         }
     }
@@ -106,7 +152,7 @@ impl Answered {
             Err(fault) => Answered {
                 fault: fault.number(),
                 what: 0,
-                count: 0,
+                count: fault.wanted(),
             },
         }
     }

@@ -7,19 +7,30 @@
 //!
 //! - `exports.rt`: what C calls
 //! - `handle.rt`: what a handle leads to
+//! - `sending.rt`: handles may go to other threads
 //! - `operation.rt`: the operations, by number
 //! - `side.rt`: operations at a side of a ring
+//! - `end.rt`: an end with its side and place, and operations at it (`specs/Ends.antt`)
+//! - `making.rt`: the ends of a text or an image
 //! - `answer.rt`: what an operation comes to, and its numbers
 #![tactic(auto)]
 
 mod answer;
+mod end;
 mod exports;
 mod handle;
+mod making;
 mod operation;
+mod sending;
 mod side;
+#[cfg(test)]
+mod tests;
 
 pub use answer::{Answered, Outcome, UseFault};
-pub use exports::{flounder_make, flounder_use};
-pub use handle::{Handle, law_handles_go_to_threads, ring_handles, use_handle};
+pub use end::{HeldEnd, use_end};
+pub use exports::{flounder_make, flounder_make_image_ends, flounder_make_text_ends, flounder_use};
+pub use handle::{Handle, ring_handles, use_handle};
+pub use making::{MakeFault, image_ends, text_ends};
 pub use operation::Operation;
+pub use sending::law_handles_go_to_threads;
 pub use side::{peek, put, take, tell, use_side};

@@ -14,8 +14,18 @@ pub enum Operation {
     Peek,
     /// To acknowledge what was taken (4).
     Tell,
-    /// To free what the handle leads to (5).
-    Free,
+    /// To make a call (6).
+    Call,
+    /// To put the next fragment of the call in transmission (7).
+    Write,
+    /// To take a fragment of a call that comes (8).
+    Receive,
+    /// To read the call that was handled (9).
+    Read,
+    /// To set a reply rule (10).
+    Rule,
+    /// To ask whether a call is in transmission (11).
+    Busy,
 }
 
 impl Operation {
@@ -29,7 +39,12 @@ impl Operation {
             2 => Some(Operation::Take),
             3 => Some(Operation::Peek),
             4 => Some(Operation::Tell),
-            5 => Some(Operation::Free),
+            6 => Some(Operation::Call),
+            7 => Some(Operation::Write),
+            8 => Some(Operation::Receive),
+            9 => Some(Operation::Read),
+            10 => Some(Operation::Rule),
+            11 => Some(Operation::Busy),
             _ => None,
         }
     }

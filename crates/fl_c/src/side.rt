@@ -134,6 +134,6 @@ pub fn use_side(
         Operation::Take => take(side, numbers),
         Operation::Peek => peek(side, numbers),
         Operation::Tell => tell(side),
-        Operation::Free => Err(UseFault::NoSuchOperation),
+        _ => Err(UseFault::NoSuchOperation),
     }
 }

@@ -58,7 +58,7 @@ flounder_use_spec 𝓤 𝓛 𝓜 𝓡 wired =
     let vss : Ptr → List Val × (List Val × (List Val × Unit {0})) = λ p. (rawptr_vals p, (uint_vals w32 what, (mut_slice_vals s, tt))) in
     let y : Ptr → W.Ghost = λ p. ((κs, qs, bounds, (p, a.1), vss p), before) in
     qed 𝓛 (((‵ (flft κ q) ⊛ ‵ ftrue) ⊛ ‵ (RawPtr.own_val a.0 (rawptr_vals a.0)) ⊛ ‵ (u32.own_val what (uint_vals w32 what)) ⊛ ‵ ((MutSlice (named 0) κ u64).own_val s (mut_slice_vals s)) ⊛ ‵ ftrue)
-      ∷ ‵ (lies_at R full_share a.0 before) ∷ []) ∵
+    ∷ ‵ (lies_at R full_share a.0 before) ∷ []) ∵
     split ! $ split ! $ move ! (2 ∷ []) $ split ! $ drop ! $ split ! $ move ! (1 ∷ []) $ split ! $ keep ! (5 ∷ 3 ∷ 2 ∷ 0 ∷ []) $
     -- [what lies there; the token of κ; the two numbers; the slice]
     in_a_block ! a.0 (λ p. lies_at R full_share p before) (id⊢ 𝓤 _) (λ b o e.

@@ -1,0 +1,15 @@
+use Rattle.std.proofs.Common.{◌≡◌, refl, subst, Option, Some}
+use Rattle.fl_c.specs.declared.operation.Operation.{Operation}
+use Rattle.fl_c.specs.declared.handle.Handle.{Handle}
+use Rattle.fl_c.specs.declared.handle.Handle.TheVariants.{End}
+use Rattle.fl_c.specs.Numbers.{operation_at}
+use Rattle.fl_c.specs.Handles.{UsesKind}
+use Rattle.fl_c.proofs.handle.attempt.Goals as goal
+
+pub returns-in-End-clause-uses : goal.returns-in-End-clause-uses
+returns-in-End-clause-uses c =
+    let asked : Some c.in-Some.operation ≡ operation_at c.args.what = cc in
+    let held : End c.in-End.end ≡ c.args.handle.now = cc in
+    let by = λ (o : Option Operation) (s : Handle). UsesKind o s c.args.numbers.now c.use_end.result (End c.use_end.new.end) c.use_end.new.numbers in
+    λ _. subst (λ (o : Option Operation). by o c.args.handle.now) asked
+    (subst (λ (s : Handle). by (Some c.in-Some.operation) s) held (c.use_end.new.end, refl, c.use_end.ensures.uses))

@@ -1,0 +1,15 @@
+use Rattle.fl_compile.specs.Programs.{program_of}
+use Rattle.fl_c.proofs.making.image_ends.Goals as goal
+
+pub returns-in-Ok-ends_of : goal.returns-in-Ok-ends_of
+returns-in-Ok-ends_of c = record {
+  makes = (
+    c.in-Ok.ensures.sized,
+    (
+      program_of c.in-Ok-read_image.program,
+      c.in-Ok-read_image.ensures.found.0,
+      c.in-Ok-read_image.ensures.found.1,
+      (c.in-Ok.sides.0, c.in-Ok.sides.1, (c.in-Ok.ensures.one, c.in-Ok.ensures.two), c.in-Ok-ends_of.ensures.made),
+    ),
+  );
+}

@@ -1,0 +1,313 @@
+//! An end that owns its side and its place, and its operations.
+//!
+//! A call crosses as its message's number and its tape (`fl_value_data::flatten`): one number for each
+//! scalar, a length before each text and array, in the plan's order.
+
+ghost use Rattle.std.specs.Prelude.{◌≡◌, ◌+◌, ◌≤◌, [], ◌∷◌, ◌++◌, length, drop, None, IfOk, IfSome, IfNone};
+ghost use Rattle.fl_compile.specs.Programs.{program_of};
+ghost use Rattle.fl_endpoint.specs.View.{interface_in, plan_in};
+ghost use Rattle.fl_c.specs.Sides.{Tells};
+ghost use Rattle.fl_c.specs.View.{IsNewEnd};
+ghost use Rattle.fl_c.specs.Ends.{ReadsCall, called_as, received_as, handled_in, PutsCall};
+ghost use Rattle.fl_c.specs.Ends.{CallsBy, WritesBy, ReceivesNext, ReceivesBy, ReadsBy, RulesBy, IsBusyBy, UsesEnd};
+
+use crate::answer::{Outcome, UseFault};
+use crate::operation::Operation;
+use crate::side::tell;
+use fl_base::{Circuit, MsgNo};
+use fl_compile::Program;
+use fl_endpoint::{End, EndFault, ReceiveAnswer, WriteAnswer};
+use fl_machine::Reassemblies;
+use fl_ring::SharedSide;
+use fl_value_data::{Call, flatten_into, unflatten};
+use std::alloc::{AllocError, Global};
+use std::marker::Model;
+
+/// An end with its side, its place, and the call that it handled last, until that is read.
+#[derive(Drop)]
+pub struct HeldEnd {
+    alloc: Global,
+    end: End,
+    side: SharedSide,
+    calls: Reassemblies,
+    handled: Option<Call>,
+    // memory that is used again
+    spare: Vec<u64>,
+}
+
+impl Model for HeldEnd {
+    ghost use Rattle.std.specs.Coded.{codes};
+    ghost use Rattle.fl_compile.specs.contracts.program.Program.{the_row as program_row};
+    ghost use Rattle.fl_value_data.specs.contracts.value.Call.{the_row as call_row};
+    ghost use Rattle.fl_endpoint.specs.Lent.{IsPlaceOf};
+    ghost use Rattle.fl_c.specs.View.{TheHeld};
+
+    ghost Value = { TheHeld };
+
+    ghost coded = { Prim.hlevel (codes, program_row.coded, call_row.coded) };
+
+    ghost view = { λ h. record { end = h.end; side = h.side; calls = h.calls; handled = h.handled } };
+
+    ghost invariant = { λ h. IsPlaceOf h.end h.calls 0 };
+}
+
+// The first of some numbers, and the others.
+#[inline]
+fn first_and_rest(numbers: &[u64]) -> Option<(u64, &[u64])>
+    ensures some { IfSome result (λ r. numbers.now ≡ r.0 ∷ r.1.now) }
+    ensures none { IfNone result (numbers.now ≡ []) }
+{
+    match numbers {
+        [] => None,
+        [first, rest @ ..] => Some((*first, rest)),
+    }
+}
+
+// The call of these numbers: its message's, and its tape.
+fn read_numbers(alloc: Global, program: &Program, numbers: &[u64]) -> Result<Call, UseFault>
+    ensures reads { ReadsCall (program_of program.now).plan (program_of program.now).interface numbers.now result }
+{
+    let Some((message, tape)) = first_and_rest(numbers) else {
+        return Err(UseFault::WrongRoom);
+    };
+    let Ok(message) = u16::try_from(message) else {
+        return Err(UseFault::End(EndFault::UnknownMessage));
+    };
+    let interface = program.interface();
+    if usize::from(message) >= interface.messages.len() {
+        return Err(UseFault::End(EndFault::UnknownMessage));
+    }
+    match unflatten(alloc, MsgNo(message), tape, interface, program.plan()) {
+        Err(AllocError) => Err(UseFault::End(EndFault::Memory)),
+        Ok(None) => Err(UseFault::End(EndFault::Misfit)),
+        Ok(Some(call)) => Ok(call),
+    }
+}
+
+// What a call comes to, as it is told.
+#[inline]
+fn called(answer: Result<(), EndFault>) -> Result<Outcome, UseFault>
+    ensures told { result ≡ called_as answer }
+{
+    match answer {
+        Ok(()) => Ok(Outcome::Accepted),
+        Err(fault) => Err(UseFault::End(fault)),
+    }
+}
+
+// What a receive comes to, as it is told, and the call that stays to be read.
+#[inline]
+fn received(answer: Result<ReceiveAnswer, EndFault>) -> (Result<Outcome, UseFault>, Option<Call>)
+    ensures told { result.0 ≡ received_as answer }
+    ensures handled { result.1 ≡ handled_in answer }
+{
+    match answer {
+        Ok(ReceiveAnswer::Handle(call)) => (Ok(Outcome::Handled), Some(call)),
+        Ok(ReceiveAnswer::Part) => (Ok(Outcome::PartTaken), None),
+        Ok(ReceiveAnswer::Quiet) => (Ok(Outcome::Acknowledgement), None),
+        Ok(ReceiveAnswer::Empty) => (Ok(Outcome::Nothing), None),
+        Ok(ReceiveAnswer::HeldBack) => (Ok(Outcome::Held), None),
+        Err(fault) => (Err(UseFault::End(fault)), None),
+    }
+}
+
+// Writes a call's message and tape into the first places of a room.
+#[inline]
+fn write_numbers(room: &mut [u64], message: u16, tape: &[u64])
+    requires room { length tape.now + 1 ≤ length room.old }
+    ensures numbers { room.new ≡ (message ∷ tape.now) ++ drop (length tape.now + 1) room.old }
+{
+    let (first, rest) = room.split_at_mut(1);
+    first[0] = u64::from(message);
+    let (rest, _) = rest.split_at_mut(tape.len());
+    rest.copy_from_slice(tape);
+}
+
+// Puts a call's message and tape into the first places of a room, and tells how many numbers these are.
+fn put_numbers(
+    end: &End,
+    call: &Call,
+    spare: &mut Vec<u64>,
+    room: &mut [u64],
+) -> Result<u64, UseFault>
+    ensures puts { PutsCall (plan_in end.now) (interface_in end.now) call.now room.old result room.new }
+{
+    let message = call.msg.0;
+    let program = end.program();
+    let Ok(()) = flatten_into(spare, call, program.interface(), program.plan()) else {
+        return Err(UseFault::End(EndFault::Memory));
+    };
+    let count = spare.len() as u64 + 1;
+    if (room.len() as u64) < count {
+        return Err(UseFault::ShortRoom { wanted: count });
+    }
+    write_numbers(room, message, spare);
+    Ok(count)
+}
+
+impl HeldEnd {
+    /// A new end of a program over a side.
+    ///
+    /// # Errors
+    /// Out of memory (E99).
+    pub fn new(alloc: Global, program: Program, side: SharedSide) -> Result<HeldEnd, AllocError>
+        ensures made { IfOk result (λ h. IsNewEnd program side h) }
+    {
+        let end = End::new(alloc, program, Circuit(0))?;
+        let mut calls = Reassemblies::new(alloc);
+        end.add_place(&mut calls)?;
+        Ok(HeldEnd {
+            alloc,
+            end,
+            side,
+            calls,
+            handled: None,
+            spare: Vec::new(alloc),
+        })
+    }
+
+    /// Makes the call of these numbers: its message's, and its tape.
+    ///
+    /// # Errors
+    /// There is no number (103); no such message (41); the tape is that of no fitting call (42); and those of
+    /// `End::call`.
+    pub fn call(&mut self, numbers: &[u64]) -> Result<Outcome, UseFault>
+        ensures calls { CallsBy self.old numbers.now result self.new }
+    {
+        let call = match read_numbers(self.alloc, self.end.program(), numbers) {
+            Ok(call) => call,
+            Err(fault) => return Err(fault),
+        };
+        called(self.end.call(&call, &mut self.spare))
+    }
+
+    /// Puts the next fragment of the call in transmission.
+    ///
+    /// # Errors
+    /// Those of `End::write`.
+    pub fn write(&mut self) -> Result<Outcome, UseFault>
+        ensures writes { WritesBy self.old result self.new }
+    {
+        match self.end.write(&mut self.side) {
+            Ok(WriteAnswer::Written { number, count }) => {
+                let left = (count - number) as u64;
+                Ok(Outcome::Wrote { left })
+            }
+            Ok(WriteAnswer::Full) => Ok(Outcome::NoRoom),
+            Ok(WriteAnswer::Nothing) => Ok(Outcome::Idle),
+            Err(fault) => Err(UseFault::End(fault)),
+        }
+    }
+
+    /// Takes what stands first. A call that becomes whole stays until it is read.
+    ///
+    /// # Errors
+    /// A call is to be read first (105); those of `End::receive`.
+    pub fn receive(&mut self) -> Result<Outcome, UseFault>
+        ensures receives { ReceivesBy self.old result self.new }
+    {
+        match &self.handled {
+            Some(_) => Err(UseFault::Unread),
+            None => self.receive_next(),
+        }
+    }
+
+    // Takes what stands first, where no call is unread.
+    fn receive_next(&mut self) -> Result<Outcome, UseFault>
+        requires read { self.old.handled ≡ None }
+        ensures receives { ReceivesNext self.old result self.new }
+    {
+        let answer = self.end.receive(&mut self.side, &mut self.calls, 0);
+        let (outcome, handled) = received(answer);
+        self.handled = handled;
+        outcome
+    }
+
+    /// Reads the call that was handled: its message's number and its tape stand first in the room then.
+    ///
+    /// # Errors
+    /// There are too few numbers (103), and the answer tells how many are wanted; out of memory (99). The call
+    /// stays then.
+    pub fn read(&mut self, room: &mut [u64]) -> Result<Outcome, UseFault>
+        ensures reads { ReadsBy self.old room.old result self.new room.new }
+    {
+        let Some(call) = &self.handled else {
+            return Ok(Outcome::Nothing);
+        };
+        match put_numbers(&self.end, call, &mut self.spare, room) {
+            Err(fault) => Err(fault),
+            Ok(count) => {
+                self.handled = None;
+                Ok(Outcome::CallRead { count })
+            }
+        }
+    }
+
+    /// Sets a rule, by the numbers of the message and of the reply to it.
+    ///
+    /// # Errors
+    /// There are other than two numbers (103); those of `End::reply_rule`.
+    pub fn rule(&mut self, numbers: &[u64]) -> Result<Outcome, UseFault>
+        ensures rules { RulesBy self.old numbers.now result self.new }
+    {
+        let [message, reply] = numbers else {
+            return Err(UseFault::WrongRoom);
+        };
+        let Ok(message) = u16::try_from(*message) else {
+            return Err(UseFault::End(EndFault::UnknownMessage));
+        };
+        let Ok(reply) = u16::try_from(*reply) else {
+            return Err(UseFault::End(EndFault::UnknownMessage));
+        };
+        match self.end.reply_rule(MsgNo(message), MsgNo(reply)) {
+            Ok(()) => Ok(Outcome::RuleSet),
+            Err(fault) => Err(UseFault::End(fault)),
+        }
+    }
+
+    /// Tells what was taken, where that is at least half of the slots.
+    ///
+    /// # Errors
+    /// There is something to tell, and no slot is free (30).
+    pub fn tell(&mut self) -> Result<Outcome, UseFault>
+        ensures tells { Tells self.old.side result self.new.side }
+        ensures only { (self.new.end ≡ self.old.end) × (self.new.calls ≡ self.old.calls) × (self.new.handled ≡ self.old.handled) }
+    {
+        tell(&mut self.side)
+    }
+
+    /// Whether a call is in transmission.
+    pub fn busy(&self) -> Outcome
+        ensures busy { IsBusyBy self.now (Ok result) }
+    {
+        if self.end.is_busy() {
+            Outcome::Sending
+        } else {
+            Outcome::Idle
+        }
+    }
+}
+
+/// Does an operation at an end, on these numbers.
+///
+/// # Errors
+/// Those of the operation; an end has no such operation (101).
+#[inline]
+pub fn use_end(
+    end: &mut HeldEnd,
+    operation: Operation,
+    numbers: &mut [u64],
+) -> Result<Outcome, UseFault>
+    ensures uses { UsesEnd end.old operation numbers.old result end.new numbers.new }
+{
+    match operation {
+        Operation::Tell => end.tell(),
+        Operation::Call => end.call(numbers),
+        Operation::Write => end.write(),
+        Operation::Receive => end.receive(),
+        Operation::Read => end.read(numbers),
+        Operation::Rule => end.rule(numbers),
+        Operation::Busy => Ok(end.busy()),
+        _ => Err(UseFault::NoSuchOperation),
+    }
+}

@@ -1,0 +1,73 @@
+//! A handle may go to another thread. Nothing here does anything.
+
+ghost use denote.Param.Send.{IsSend};
+ghost use Rattle.fl_value_data.specs.contracts.value.Call as CallRows;
+ghost use Rattle.fl_compile.specs.contracts.program.Program as ProgramRows;
+ghost use Rattle.fl_machine.specs.contracts.reassemblies.Reassemblies as ReassembliesRows;
+ghost use Rattle.fl_endpoint.specs.contracts.end.End as EndRows;
+ghost use Rattle.fl_ring.specs.contracts.shared.duo_sides.SharedSide as SharedSideRows;
+ghost use Rattle.fl_c.specs.contracts.end.HeldEnd as HeldRows;
+ghost use Rattle.fl_c.specs.contracts.handle.Handle as HandleRows;
+
+use crate::handle::Handle;
+use fl_compile::Program;
+use fl_endpoint::End;
+use fl_machine::Reassemblies;
+use fl_ring::SharedSide;
+use fl_value_data::Call;
+
+// What goes to a thread.
+fn sends<T: Send>()
+    ensures sent { IsSend T.row }
+{}
+
+fn call_sent()
+    ensures sent { IsSend CallRows.the_row }
+{
+    sends::<Call>();
+}
+
+fn program_sent()
+    ensures sent { IsSend ProgramRows.the_row }
+{
+    sends::<Program>();
+}
+
+fn end_sent()
+    ensures sent { IsSend EndRows.the_row }
+{
+    call_sent();
+    program_sent();
+    sends::<End>();
+}
+
+fn calls_sent()
+    ensures sent { IsSend ReassembliesRows.the_row }
+{
+    program_sent();
+    sends::<Reassemblies>();
+}
+
+fn side_sent()
+    ensures sent { IsSend SharedSideRows.the_row }
+{
+    sends::<SharedSide>();
+}
+
+fn held_sent()
+    ensures sent { IsSend HeldRows.the_row }
+{
+    end_sent();
+    calls_sent();
+    side_sent();
+    call_sent();
+}
+
+/// A handle may go to another thread: asked here, since C's threads ask nothing.
+pub fn law_handles_go_to_threads()
+    ensures sent { IsSend HandleRows.the_row }
+{
+    held_sent();
+    side_sent();
+    sends::<Handle>();
+}

@@ -1,0 +1,77 @@
+//! A handle of the archive's, and what the archive has.
+
+use crate::fault::Fault;
+use core::ptr::NonNull;
+
+/// What the archive answers.
+#[repr(C)]
+pub(crate) struct Answer {
+    pub fault: u32,
+    pub what: u32,
+    pub count: u64,
+}
+
+extern "C" {
+    pub(crate) fn flounder_make(slots: usize, one: &mut *mut u8, two: &mut *mut u8) -> u32;
+    pub(crate) fn flounder_make_text_ends(
+        text: *const u8,
+        length: usize,
+        plan: u32,
+        slots: usize,
+        one: &mut *mut u8,
+        two: &mut *mut u8,
+        place: &mut u64,
+    ) -> u32;
+    pub(crate) fn flounder_make_image_ends(
+        image: *const u8,
+        length: usize,
+        slots: usize,
+        one: &mut *mut u8,
+        two: &mut *mut u8,
+    ) -> u32;
+    fn flounder_use(handle: *mut u8, what: u32, numbers: *mut u64, count: usize) -> Answer;
+    fn rattle_dealloc(at: *mut u8, size: usize, align: usize);
+}
+
+/// A handle that nobody else has.
+#[derive(Debug)]
+pub(crate) struct Handle {
+    at: NonNull<u8>,
+}
+
+// SAFETY: `fl_c` proves that what a handle leads to may go to another thread. A handle is moved there, so its
+// calls are in order.
+unsafe impl Send for Handle {}
+
+impl Handle {
+    /// Both handles that a maker stored, by its answer.
+    pub(crate) fn both(
+        number: u32,
+        one: *mut u8,
+        two: *mut u8,
+    ) -> Result<(Handle, Handle), Fault> {
+        Fault::of(number, 0)?;
+        match (NonNull::new(one), NonNull::new(two)) {
+            (Some(one), Some(two)) => Ok((Handle { at: one }, Handle { at: two })),
+            _ => Err(Fault::Other(0)),
+        }
+    }
+
+    /// What the operation of this number comes to, and its count.
+    pub(crate) fn ask(&mut self, what: u32, numbers: &mut [u64]) -> Result<(u32, u64), Fault> {
+        // SAFETY: the handle is ours alone and not freed, and the numbers are a slice's.
+        let answer =
+            unsafe { flounder_use(self.at.as_ptr(), what, numbers.as_mut_ptr(), numbers.len()) };
+        Fault::of(answer.fault, answer.count)?;
+        Ok((answer.what, answer.count))
+    }
+}
+
+impl Drop for Handle {
+    fn drop(&mut self) {
+        if let Ok((align, size)) = self.ask(5, &mut []) {
+            // SAFETY: what the handle led to is freed, and the block is of this size and alignment.
+            unsafe { rattle_dealloc(self.at.as_ptr(), size as usize, align as usize) }
+        }
+    }
+}

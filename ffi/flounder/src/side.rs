@@ -1,0 +1,79 @@
+//! Sides of rings.
+
+use crate::fault::Fault;
+use crate::handle::{flounder_make, Handle};
+use core::ptr;
+
+/// Seven words and a control word, whose bits 0 and 48 to 63 the ring writes anew.
+pub type Fragment = [u64; 8];
+
+/// What a look found.
+#[derive(Clone, Copy, Debug, PartialEq, Eq)]
+pub enum Sight {
+    /// A fragment of a call.
+    Data(Fragment),
+    /// A fragment that only acknowledges.
+    Acknowledgement,
+    /// Nothing stands there.
+    Empty,
+}
+
+/// A side of a ring: it puts into one direction and takes from the other.
+#[derive(Debug)]
+pub struct Side {
+    handle: Handle,
+}
+
+/// Makes a ring with so many slots each way, a power of two from 4 to 1,024.
+///
+/// # Errors
+/// [`Fault::BadSize`], [`Fault::Memory`].
+pub fn duo(slots: usize) -> Result<(Side, Side), Fault> {
+    let (mut one, mut two) = (ptr::null_mut(), ptr::null_mut());
+    // SAFETY: both places are ours, and differ.
+    let number = unsafe { flounder_make(slots, &mut one, &mut two) };
+    let (one, two) = Handle::both(number, one, two)?;
+    Ok((Side { handle: one }, Side { handle: two }))
+}
+
+impl Side {
+    fn look(&mut self, what: u32) -> Sight {
+        let mut fragment = [0; 8];
+        match self.handle.ask(what, &mut fragment) {
+            Ok((1, _)) => Sight::Data(fragment),
+            Ok((2, _)) => Sight::Acknowledgement,
+            _ => Sight::Empty,
+        }
+    }
+
+    /// Puts a fragment.
+    ///
+    /// # Errors
+    /// [`Fault::Full`], [`Fault::Spent`]; [`Fault::Failed`] (E63) where the fragment only acknowledges.
+    pub fn put(&mut self, fragment: &Fragment) -> Result<(), Fault> {
+        let mut numbers = *fragment;
+        self.handle.ask(1, &mut numbers)?;
+        Ok(())
+    }
+
+    /// Takes what stands first. Its slot is free for the other side once it is acknowledged: by a put back,
+    /// or by [`Side::tell`].
+    pub fn take(&mut self) -> Sight {
+        self.look(2)
+    }
+
+    /// What [`Side::take`] would take, which is left there.
+    pub fn peek(&mut self) -> Sight {
+        self.look(3)
+    }
+
+    /// Acknowledges what was taken, where at least half of the slots are taken and not acknowledged; says
+    /// whether it did.
+    ///
+    /// # Errors
+    /// [`Fault::Full`]: there is something to tell, and no slot is free for it.
+    pub fn tell(&mut self) -> Result<bool, Fault> {
+        let (told, _) = self.handle.ask(4, &mut [])?;
+        Ok(told == 1)
+    }
+}
