@@ -1,6 +1,7 @@
--- Running cores, each with the sides of rings and the queues in its hands, and the one world that they make. A
--- core names its sides and queues by their places with it; in the world they have numbers.
-use Rattle.std.specs.Prelude.{ℕ, ◌≡◌, ◌+◌, ◌-◌, ◌*◌, ◌%◌, ◌==◌, ◌<◌, if◌then◌else◌, false, List, length, map, slice_get, Some}
+-- Running cores, each with the sides of rings and the queues in its hands, and the one world that they make.
+-- A core names its sides and queues by their places with it; in the world they have numbers.
+use Rattle.std.specs.Prelude.{ℕ, ◌≡◌, ◌+◌, ◌-◌, ◌*◌, ◌%◌, ◌==◌, ◌<◌, if◌then◌else◌, false, List, length, map}
+use Rattle.std.specs.Prelude.{slice_get, Some}
 use Rattle.fl_compile.specs.Programs.{program_of}
 use Rattle.fl_link.specs.Queue.{TheQueue}
 use Rattle.fl_ring.specs.Duo.{TheDuo}
@@ -67,9 +68,11 @@ pub record AreOffers (w : TheWorld) (offers : Offers) : Type 0 where
 pub record AreNumbered (xs : List JoinedCore) : Type 0 where
   pub sides : (n : ℕ) (x : JoinedCore) → slice_get xs n ≡ Some x → length x.sides ≡ length x.run.rings
   pub queues : (n : ℕ) (x : JoinedCore) → slice_get xs n ≡ Some x → length x.queues ≡ length x.run.queues
-  pub sides_apart : (n m i j number : ℕ) (x y : JoinedCore) → slice_get xs n ≡ Some x → slice_get xs m ≡ Some y
+  pub sides_apart : (n m i j number : ℕ) (x y : JoinedCore) → slice_get xs n ≡ Some x
+      → slice_get xs m ≡ Some y
       → slice_get x.sides i ≡ Some number → slice_get y.sides j ≡ Some number → (n ≡ m) × (i ≡ j)
-  pub queues_apart : (n m i j number : ℕ) (x y : JoinedCore) → slice_get xs n ≡ Some x → slice_get xs m ≡ Some y
+  pub queues_apart : (n m i j number : ℕ) (x y : JoinedCore) → slice_get xs n ≡ Some x
+      → slice_get xs m ≡ Some y
       → slice_get x.queues i ≡ Some number → slice_get y.queues j ≡ Some number → (n ≡ m) × (i ≡ j)
 
 -- ---- the whole
@@ -80,7 +83,8 @@ pub record IsJoined (w : TheWorld) (xs : List JoinedCore) : Type 0 where
   pub cores : w.cores ≡ map in_world xs
   -- each ring is that of its two sides, and each side is of one of them
   pub rings : (n : ℕ) (d : TheDuo) → slice_get w.rings n ≡ Some d → IsRingOf xs n d
-  pub sides : (n i m : ℕ) (x : JoinedCore) → slice_get xs n ≡ Some x → slice_get x.sides i ≡ Some m → ring_at m < length w.rings
+  pub sides : (n i m : ℕ) (x : JoinedCore) → slice_get xs n ≡ Some x → slice_get x.sides i ≡ Some m
+      → ring_at m < length w.rings
   pub queues : (n : ℕ) (queue : TheQueue) → HasQueue xs n queue → slice_get w.queues n ≡ Some queue
   pub offers : (n : ℕ) (x : JoinedCore) → slice_get xs n ≡ Some x → AreOffers w x.run.offers
   pub numbered : AreNumbered xs

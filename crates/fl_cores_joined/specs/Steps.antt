@@ -1,6 +1,7 @@
--- What the cores do together, one after another, where each look finds what stands in its ring at that moment; and
--- what of it is asked of the machine.
-use Rattle.std.specs.Prelude.{ℕ, ◌≡◌, ◌==◌, if◌then◌else◌, false, List, [], ◌∷◌, ◌++◌, slice_get, slice_set, Option, Some, None}
+-- What the cores do together, one after another, where each look finds what stands in its ring at that
+-- moment; and what of it is asked of the machine.
+use Rattle.std.specs.Prelude.{ℕ, ◌≡◌, ◌==◌, if◌then◌else◌, false, List, [], ◌∷◌, ◌++◌, slice_get, slice_set}
+use Rattle.std.specs.Prelude.{Option, Some, None}
 use Rattle.std.specs.Prelude.{Result, Ok, Err}
 use Rattle.fl_base.specs.declared.identity.LinkId.{LinkId}
 use Rattle.fl_base.specs.Given.{given}
@@ -10,7 +11,8 @@ use Rattle.fl_hop.specs.declared.forward.ForwardOutcome.{ForwardOutcome}
 use Rattle.fl_hop.specs.declared.links.LinkState.{LinkState}
 use Rattle.fl_endpoint.specs.declared.fault.EndFault.{EndFault}
 use Rattle.fl_endpoint.specs.declared.answer.WriteAnswer.{WriteAnswer}
-use Rattle.fl_endpoint.specs.declared.answer.WriteAnswer.TheVariants.{Written, Full as FullWrite, Nothing as NothingWritten}
+use Rattle.fl_endpoint.specs.declared.answer.WriteAnswer.TheVariants.{Written, Full as FullWrite}
+use Rattle.fl_endpoint.specs.declared.answer.WriteAnswer.TheVariants.{Nothing as NothingWritten}
 use Rattle.fl_endpoint.specs.Faults.{fault_number}
 use Rattle.fl_core.specs.declared.turn_answer.AckAnswer.{AckAnswer}
 use Rattle.fl_core.specs.declared.board_fault.BoardFault.{BoardFault}
@@ -24,11 +26,14 @@ use Rattle.fl_core.specs.Faults.{link_number}
 use Rattle.fl_core.specs.View.{TheCore}
 use Rattle.fl_core.specs.declared.core_job.CoreJob.{CoreJob}
 use Rattle.fl_core_run.specs.Run.{SideRelations, ways, TheRun}
-use Rattle.fl_core_run.specs.LogEntries.{LogEntry, looked, passed, arrived, heard, said, told as acked_link, opened, called, ruled, wrote, acked, turned, Happens}
+use Rattle.fl_core_run.specs.LogEntries.{LogEntry, looked, passed, arrived, heard, said, told as acked_link}
+use Rattle.fl_core_run.specs.LogEntries.{opened, called, ruled, wrote, acked, turned, Happens}
 use Rattle.fl_core_run.specs.Steps.{lacks_to_hear, lacks_to_open, lacks_to_call}
 use Rattle.fl_core_run_laws.specs.Logs.{InPlace}
-use Rattle.fl_model.specs.Events.{Event, call, reply, write, turn, ack, forward, monitor_write, monitor_ack, Answer}
-use Rattle.fl_model.specs.Events.{done, accepted, nothing, full, written, opened as circuit_opened, opening_refused, refused}
+use Rattle.fl_model.specs.Events.{Event, call, reply, write, turn, ack, forward, monitor_write, monitor_ack}
+use Rattle.fl_model.specs.Events.{Answer}
+use Rattle.fl_model.specs.Events.{done, accepted, nothing, full, written, opened as circuit_opened}
+use Rattle.fl_model.specs.Events.{opening_refused, refused}
 use Rattle.fl_model.specs.Runs.{Exchange}
 use Rattle.fl_world_refines.specs.Taking.{turn_answer}
 use Rattle.fl_world_refines.specs.Linking.{write_answer as monitor_answer, ack_answer, moved_answer}
@@ -42,7 +47,8 @@ abbrev pub true_ways : SideRelations FacingSide
 true_ways = ways (Truly SharedPuts) (Truly SharedTakes) (λ (p : FacingSide). front_seen p.side.peeked)
 
 -- by it core n alone goes on; it happens in its place, and its loads find what stands in the rings then
-pub record HappensAt (jobs : List CoreJob) (n : ℕ) (log_entry : LogEntry) (xs ys : List JoinedCore) : Type 0 where
+pub record HappensAt (jobs : List CoreJob) (n : ℕ) (log_entry : LogEntry)
+    (xs ys : List JoinedCore) : Type 0 where
   pub before : JoinedCore
   pub before_is : slice_get xs n ≡ Some before
   pub beside : TheRun FacingSide
@@ -54,8 +60,8 @@ pub record HappensAt (jobs : List CoreJob) (n : ℕ) (log_entry : LogEntry) (xs 
 
 -- ---- a moment of a run
 
--- an event that is whole in itself: not a look that leaves something to follow, nor what follows one; and memory isn't
--- refused to it
+-- an event that is whole in itself: not a look that leaves something to follow, nor what follows one; and
+-- memory isn't refused to it
 abbrev pub IsWholeEvent : LogEntry → Type 0
 IsWholeEvent (looked side l (Ok (front.Message frag))) = ⊥
 IsWholeEvent (looked side l (Ok (front.Onward frag to c))) = ⊥
@@ -69,13 +75,16 @@ IsWholeEvent log_entry = Unit {0}
 
 -- what a look found is heard, passed on, or brought to an end
 abbrev pub Follows : LogEntry → LogEntry → Type 0
-Follows (looked side l (Ok (front.Message frag))) (heard n m f answer) = (n ≡ side) × (m ≡ l) × (f ≡ frag) × (lacks_to_hear answer ≡ false)
-Follows (looked side l (Ok (front.Onward frag to c))) (passed n m f d outcome) = (n ≡ side) × (m ≡ to) × (f ≡ frag) × (d ≡ c)
-Follows (looked side l (Ok (front.Arrival frag e))) (arrived n m f d answer) = (n ≡ side) × (m ≡ l) × (f ≡ frag) × (d ≡ e)
+Follows (looked side l (Ok (front.Message frag))) (heard n m f answer) = (n ≡ side) × (m ≡ l) × (f ≡ frag)
+    × (lacks_to_hear answer ≡ false)
+Follows (looked side l (Ok (front.Onward frag to c))) (passed n m f d outcome) = (n ≡ side) × (m ≡ to)
+    × (f ≡ frag) × (d ≡ c)
+Follows (looked side l (Ok (front.Arrival frag e))) (arrived n m f d answer) = (n ≡ side) × (m ≡ l)
+    × (f ≡ frag) × (d ≡ e)
 Follows look log_entry = ⊥
 
--- a core's event; or a look at what stands first on a link with what follows it there, at the moment of that: what
--- stood first stands first still, since this side alone takes it
+-- a core's event; or a look at what stands first on a link with what follows it there, at the moment of that:
+-- what stood first stands first still, since this side alone takes it
 pub data Moment : Type 0 where
   does : ℕ → LogEntry → Moment
   forwards : ℕ → LogEntry → LogEntry → Moment
@@ -83,12 +92,14 @@ pub data Moment : Type 0 where
 abbrev pub Passes : List CoreJob → Moment → List JoinedCore → List JoinedCore → Type 0
 Passes jobs (does n log_entry) xs ys = IsWholeEvent log_entry × HappensAt jobs n log_entry xs ys
 Passes jobs (forwards n look follows) xs ys =
-    Follows look follows × ((ms : List JoinedCore) × HappensAt jobs n look xs ms × HappensAt jobs n follows ms ys)
+    Follows look follows × ((ms : List JoinedCore) × HappensAt jobs n look xs ms
+    × HappensAt jobs n follows ms ys)
 
 -- moments one after another; what is known of each core at any time is known of it behind each
 abbrev pub Interleaves : List CoreJob → List JoinedCore → List Moment → List JoinedCore → Type 0
 Interleaves jobs xs [] ys = ys ≡ xs
-Interleaves jobs xs (x ∷ moments) ys = (ms : List JoinedCore) × Passes jobs x xs ms × AreWhole ms × Interleaves jobs ms moments ys
+Interleaves jobs xs (x ∷ moments) ys = (ms : List JoinedCore) × Passes jobs x xs ms × AreWhole ms
+    × Interleaves jobs ms moments ys
 
 -- the log of core n in it
 abbrev pub entries_in : ℕ → Moment → List LogEntry
@@ -167,5 +178,6 @@ follow_answer (heard side l frag answer) = Some (heard_answer answer)
 follow_answer log_entry = None
 
 abbrev pub forward_asks : ℕ → TheCore → LogEntry → LogEntry → List Exchange
-forward_asks n k (looked side l found) follows = given (follow_answer follows) [] λ a. asked (forward n (neighbour_on k l)) a
+forward_asks n k (looked side l found) follows =
+    given (follow_answer follows) [] λ a. asked (forward n (neighbour_on k l)) a
 forward_asks n k look follows = []
