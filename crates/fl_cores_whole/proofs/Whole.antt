@@ -1,9 +1,9 @@
 -- The cores of a reported run begin as a world that shows the machine; so what they do is its run.
-use Rattle.std.proofs.Common.{◌≡◌, refl, sym, ◌∙◌, ap, subst, ℕ, ◌<◌, false, List, length, slice_get, Some}
+use Rattle.std.proofs.Common.{◌≡◌, sym, ◌∙◌, ap, subst, ℕ, ◌<◌, false, List, length, slice_get, Some}
 use Rattle.fl_core.specs.View.{TheCore}
 use Rattle.fl_core_refines.specs.SetUpStart.{SetUpsStartFresh, StartsFresh}
 use Rattle.fl_cores.specs.Behind.{joined_in}
-use Rattle.fl_cores.specs.OneCore.{begins, rule_in}
+use Rattle.fl_cores.specs.OneCore.{begins}
 use Rattle.fl_cores.specs.Promised.{Reports}
 use Rattle.fl_cores.specs.Wanted.{behind}
 use Rattle.fl_cores.proofs.Booted.{all_making}
