@@ -1,1 +1,13 @@
 pub mod Rings
+pub mod Mapped
+pub mod Renumbered
+pub mod Joining
+pub mod Stepping
+pub mod Over
+pub mod Writing
+pub mod Turning
+pub mod Calling
+pub mod Telling
+pub mod Runs
+pub mod Linking
+pub mod Looking

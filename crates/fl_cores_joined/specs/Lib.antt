@@ -1,1 +1,5 @@
 pub mod Rings
+pub mod Joined
+pub mod Steps
+pub mod Laws
+pub mod Runs

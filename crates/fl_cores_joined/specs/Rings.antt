@@ -1,5 +1,6 @@
--- A ring as its two sides make it, while each is in the hands of a core of its own; and when a step of one side finds what stands there. Law.
-use Rattle.std.specs.Prelude.{ℕ, ◌≡◌, ◌⊎◌, ◌<◌, ◌≤◌, List, [], ◌∷◌, ◌++◌, length, drop, Some}
+-- A ring as its two sides make it, while each is in the hands of a core of its own; and when a step of one
+-- side finds what stands there. Law.
+use Rattle.std.specs.Prelude.{◌≡◌, ◌⊎◌, ◌<◌, ◌≤◌, List, [], ◌∷◌, ◌++◌, length, drop, Some}
 use Rattle.fl_base.specs.declared.fragment.Frag.{Frag}
 use Rattle.fl_base.specs.Control.{told_of}
 use Rattle.fl_base.specs.Prefix.{IsPrefix}
@@ -69,12 +70,15 @@ pub record FindsWhatStood (stood : List Frag) (p q : TheSide) : Type 0 where
 -- a step of a side that finds so; the other side stays
 abbrev pub Truly : (TheSide → Look → TheSide → Type 0) → FacingSide → Look → FacingSide → Type 0
 Truly step x look y =
-    step x.side look y.side × FindsWhatStood (standing_for x.side x.across) x.side y.side × (y.across ≡ x.across)
+    step x.side look y.side × FindsWhatStood (standing_for x.side x.across) x.side y.side
+    × (y.across ≡ x.across)
 
 -- ---- law: it is a step of the ring of the two
 
-abbrev pub StepsOfRing : (TheSide → Look → TheSide → Type 0) → (WhichSide → TheDuo → Look → TheDuo → Type 0) → Type 0
-StepsOfRing step RingSteps = (which : WhichSide) (x y : FacingSide) (look : Look) → AreFacing x → Truly step x look y
+abbrev pub StepsOfRing : (TheSide → Look → TheSide → Type 0) → (WhichSide → TheDuo → Look → TheDuo
+    → Type 0) → Type 0
+StepsOfRing step RingSteps = (which : WhichSide) (x y : FacingSide) (look : Look) → AreFacing x
+    → Truly step x look y
     → RingSteps which (ring_by which x) look (ring_by which y) × AreFacing y
 
 -- each put, look, take and tell over shared words that finds what stands there is the ring's

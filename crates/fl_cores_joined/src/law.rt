@@ -1,9 +1,51 @@
-//! Rings between the cores of a run, as one ring each: a law, as the contract of a function that does nothing.
+//! What cores do together, joined to one world: laws, as the contracts of functions that do nothing.
 
 ghost use Rattle.fl_cores_joined.specs.Rings.{TrueStepsAreTheRings};
+ghost use Rattle.fl_cores_joined.specs.Laws.{WritesJoin, TurnsJoin, AcksJoin, CallsJoin, RulesJoin};
+ghost use Rattle.fl_cores_joined.specs.Laws.{MonitorsJoin, TellsJoin, LooksJoin};
+ghost use Rattle.fl_cores_joined.specs.Runs.{RunsJoin};
 
-/// A step of a side over shared words whose loads find what stands there is the same step of the ring that its two
-/// sides make, and what each side took is still the first of what the other put.
+use fl_world_refines::law_steps_agree;
+
+/// A step of a side over shared words whose loads find what stands there is the same step of the ring that
+/// its two sides make, and what each side took is still the first of what the other put.
 pub fn law_true_steps()
     ensures rings { TrueStepsAreTheRings }
 {}
+
+/// A write of an end of one core is the machine's, into a queue, onto a ring between two of the cores, or
+/// onto a link; so are a dispatcher's turn, whatever the end that is due takes from, and an acknowledgement
+/// over a ring.
+pub fn law_ends_join()
+    ensures writes { WritesJoin }
+    ensures turns { TurnsJoin }
+    ensures acks { AcksJoin }
+{
+    law_steps_agree();
+}
+
+/// A call that an end of one core makes is the machine's, and so is a reply rule that is set there.
+pub fn law_jobs_join()
+    ensures calls { CallsJoin }
+    ensures rules { RulesJoin }
+{
+    law_steps_agree();
+}
+
+/// What a core does on a link is the machine's: its monitor writes, what was read is told, and a look finds
+/// nothing that is to go on.
+pub fn law_links_join()
+    ensures says { MonitorsJoin }
+    ensures tells { TellsJoin }
+    ensures looks { LooksJoin }
+{
+    law_steps_agree();
+}
+
+/// Where cores do one thing after another, each look finds what stands in its ring at that moment, and no
+/// circuit is opened, that is a run of the machine, with the cores' answers, to a state that the cores show.
+pub fn law_runs_join()
+    ensures runs { RunsJoin }
+{
+    law_steps_agree();
+}

@@ -1,6 +1,17 @@
-//! Running cores joined to one world.
+//! Running cores, each with the sides of rings and the queues in its hands, joined to one world; and what
+//! they do together, as a run of the machine. Laws, the contracts of functions that do nothing.
+//!
+//! A ring between two cores is made of its two sides' views. A step of one side is a step of that ring where
+//! each of its loads finds what stands there ([`law_true_steps`], `specs/Rings.antt`). The cores, rings and
+//! queues make one world (`specs/Joined.antt`). An interleaving of the cores' logs, in which each look finds
+//! what stands in its ring at that moment, is `specs/Steps.antt`. By each event of it the cores go on as the
+//! machine does, and show the machine's next state ([`law_ends_join`], [`law_jobs_join`], [`law_links_join`],
+//! `specs/Laws.antt`). So an interleaving is a run of the machine, as long as no circuit is opened
+//! ([`law_runs_join`], `specs/Runs.antt`).
+//!
+//! - `law.rt`: the laws
 #![tactic(auto)]
 
 mod law;
 
-pub use law::law_true_steps;
+pub use law::{law_ends_join, law_jobs_join, law_links_join, law_runs_join, law_true_steps};

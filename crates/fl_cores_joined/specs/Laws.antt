@@ -1,0 +1,94 @@
+-- The laws of joined cores: what one of them does is the machine's event of that name, and together they show
+-- what the machine comes to.
+use Rattle.std.specs.Prelude.{ℕ, ◌≡◌, false, List, Some, Result}
+use Rattle.fl_base.specs.declared.identity.EndId.{EndId}
+use Rattle.fl_base.specs.declared.identity.LinkId.{LinkId}
+use Rattle.fl_base.specs.declared.identity.MsgNo.{MsgNo}
+use Rattle.fl_value_data.specs.Value.{TheCall}
+use Rattle.fl_endpoint.specs.declared.fault.EndFault.{EndFault}
+use Rattle.fl_endpoint.specs.declared.answer.WriteAnswer.{WriteAnswer}
+use Rattle.fl_core.specs.declared.turn_answer.TurnAnswer.{TurnAnswer}
+use Rattle.fl_core.specs.declared.turn_answer.AckAnswer.{AckAnswer}
+use Rattle.fl_core.specs.declared.board_fault.BoardFault.{BoardFault}
+use Rattle.fl_core.specs.declared.answer.LinkFront.{LinkFront}
+use Rattle.fl_core.specs.declared.answer.MonitorWrite.{MonitorWrite}
+use Rattle.fl_core.specs.declared.fault.LinkReceiveFault.{LinkReceiveFault}
+use Rattle.fl_core.specs.declared.wiring.Outlet.{Outlet}
+use Rattle.fl_core.specs.declared.wiring.Inlet.{Inlet}
+use Rattle.fl_model.specs.Events.{Event, call, reply, write, ack, turn, forward, monitor_write, monitor_ack}
+use Rattle.fl_model.specs.Events.{Answer}
+use Rattle.fl_model.specs.State.{State}
+use Rattle.fl_model.specs.Step.{step}
+use Rattle.fl_core.specs.declared.core_job.CoreJob.{CoreJob}
+use Rattle.fl_core_run.specs.LogEntries.{LogEntry, looked, said, told, called, ruled, wrote, acked, turned}
+use Rattle.fl_core_run.specs.Steps.{lacks_to_call}
+use Rattle.fl_world_refines.specs.View.{TheWorld}
+use Rattle.fl_world_refines.specs.ShowsState.{Shows}
+use Rattle.fl_world_refines.specs.Taking.{turn_answer}
+use Rattle.fl_world_refines.specs.Linking.{write_answer as monitor_answer, ack_answer}
+use Rattle.fl_cores_joined.specs.Joined.{JoinedCore, IsJoined, AreWhole}
+use Rattle.fl_cores_joined.specs.Steps.{HappensAt, call_answer, rule_answer, write_answer, acked_answer}
+use Rattle.fl_cores_joined.specs.Steps.{look_answer, neighbour_on}
+
+-- the cores make a world that shows this state
+pub record TheyShow (xs : List JoinedCore) (s : State) : Type 0 where
+  pub world : TheWorld
+  pub joined : IsJoined world xs
+  pub shows : Shows world s
+
+-- the machine answers the same to this event, and the cores show its next state
+pub record MachineDoes (event : Event) (answer : Answer) (s : State) (ys : List JoinedCore) : Type 0 where
+  pub answers : (step s event).answer ≡ answer
+  pub shows : TheyShow ys (step s event).state
+
+-- so it is of a core's event, of cores that show a state, each of which is whole before and after
+abbrev pub Is : LogEntry → ℕ → Event → Answer → Type 0
+Is log_entry n event answer = (jobs : List CoreJob) (xs ys : List JoinedCore) (s : State)
+    → TheyShow xs s → AreWhole xs → AreWhole ys → HappensAt jobs n log_entry xs ys
+    → MachineDoes event answer s ys
+
+-- the same of an event on a link, to the core across, as the core's own table has it
+abbrev pub IsOnLink : LogEntry → ℕ → LinkId → (ℕ → Event) → Answer → Type 0
+IsOnLink log_entry n l event answer = (jobs : List CoreJob) (xs ys : List JoinedCore) (s : State)
+    → TheyShow xs s → AreWhole xs → AreWhole ys → (h : HappensAt jobs n log_entry xs ys)
+    → MachineDoes (event (neighbour_on h.before.run.core l)) answer s ys
+
+-- ---- the events
+
+-- a write, wherever the end puts
+abbrev pub WritesJoin : Type 0
+WritesJoin = (n : ℕ) (name : EndId) (out : Outlet) (answer : Result WriteAnswer EndFault)
+    → Is (wrote name out answer) n (write name) (write_answer answer)
+
+-- a dispatcher's turn, wherever the end that is due takes from
+abbrev pub TurnsJoin : Type 0
+TurnsJoin = (n d : ℕ) (name : EndId) (from : Inlet) (answer : TurnAnswer)
+    → Is (turned d name from answer) n (turn (record { core = n; place = d })) (turn_answer name answer)
+
+-- an end tells what it took from a ring
+abbrev pub AcksJoin : Type 0
+AcksJoin = (n : ℕ) (name : EndId) (side : ℕ) (answer : Result AckAnswer BoardFault)
+    → Is (acked name side answer) n (ack name) (acked_answer answer)
+
+-- a call, to which memory isn't refused, and a reply rule
+abbrev pub CallsJoin : Type 0
+CallsJoin = (n : ℕ) (name : EndId) (c : TheCall) (answer : Result (Unit {0}) EndFault)
+    → lacks_to_call answer ≡ false
+    → Is (called name c answer) n (call name c) (call_answer answer)
+
+abbrev pub RulesJoin : Type 0
+RulesJoin = (n : ℕ) (name : EndId) (msg answer : MsgNo) (r : Result (Unit {0}) EndFault)
+    → Is (ruled name msg answer r) n (reply name msg.0 answer.0) (rule_answer r)
+
+-- on a link: a monitor writes, what was taken is told, and a look leaves nothing to follow
+abbrev pub MonitorsJoin : Type 0
+MonitorsJoin = (n side : ℕ) (l : LinkId) (answer : MonitorWrite)
+    → IsOnLink (said side l answer) n l (monitor_write n) (monitor_answer answer)
+
+abbrev pub TellsJoin : Type 0
+TellsJoin = (n side : ℕ) (l : LinkId) (answer : AckAnswer)
+    → IsOnLink (told side l answer) n l (monitor_ack n) (ack_answer answer)
+
+abbrev pub LooksJoin : Type 0
+LooksJoin = (n side : ℕ) (l : LinkId) (found : Result LinkFront LinkReceiveFault) (answer : Answer)
+    → look_answer found ≡ Some answer → IsOnLink (looked side l found) n l (forward n) answer
