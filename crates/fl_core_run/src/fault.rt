@@ -1,5 +1,7 @@
 //! Why a run ends early.
 
+ghost use Rattle.std.specs.Prelude.{◌≡◌};
+
 use thiserror::Error;
 
 /// Why a run of cores ends early.
@@ -8,4 +10,15 @@ pub enum CoreRunFault {
     /// Out of memory (E99).
     #[error("out of memory")]
     Memory,
+}
+
+impl CoreRunFault {
+    /// The fault's number.
+    pub fn number(self) -> u8
+        ensures number { result ≡ 99 }
+    {
+        match self {
+            CoreRunFault::Memory => 99,
+        }
+    }
 }
