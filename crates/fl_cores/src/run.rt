@@ -14,7 +14,7 @@ use crate::fault::CoresFault;
 use fl_base::faults;
 use fl_core_run::Gate;
 use fl_cores_file::{Job, Report};
-use fl_cores_parts::run_parts;
+use fl_cores_parts::{Recording, WiredCores, run_parts, wire_parts};
 use fl_model::{BackEnd, Event};
 use fl_world::{BootFault, Config, World};
 use fl_world_refines::Parts;
@@ -95,13 +95,14 @@ fn run_made<R: Threads + Wait + Sync, G: Gate + Sync>(
     jobs: Vec<Job<'_>>,
     limit: u64,
     gate: &G,
+    recording: &mut Recording,
 ) -> Result<Report, CoresFault>
     requires few { length parts.cores.items ≤ 16 }
     ensures ran { IfOk result (λ r. RanFrom parts (map job_of jobs.entry.items) limit (report_of r)) }
     ensures keeps { IfOk result (λ r. Keeps (length parts.cores.items) limit (report_of r)) }
     ensures later { IfErr result (λ fault. IsLater parts (map job_of jobs.entry.items) fault) }
 {
-    match run_parts(rt, alloc, parts, jobs, limit, gate) {
+    match run_parts(rt, alloc, parts, jobs, limit, gate, recording) {
         Ok(report) => Ok(report),
         Err(fault) => Err(CoresFault::from(fault)),
     }
@@ -133,6 +134,7 @@ pub(crate) fn run_jobs<R: Threads + Wait + Sync, G: Gate + Sync>(
     jobs: Vec<Job<'_>>,
     limit: u64,
     gate: &G,
+    recording: &mut Recording,
 ) -> Result<Report, CoresFault>
     ensures reports { IfOk result (λ r. Reports (config_of config.now) (map job_of jobs.entry.items) limit (report_of r)) }
     ensures refused { IfErr result (λ fault. IsFault (config_of config.now) (map job_of jobs.entry.items) fault) }
@@ -141,5 +143,21 @@ pub(crate) fn run_jobs<R: Threads + Wait + Sync, G: Gate + Sync>(
         return Err(refuse_other(alloc, config, place));
     }
     let parts = boot(alloc, config)?;
-    run_made(rt, alloc, parts, jobs, limit, gate)
+    run_made(rt, alloc, parts, jobs, limit, gate, recording)
+}
+
+/// What the cores of a run begin with, as [`run_cores`](crate::run_cores) starts their threads: no thread is started.
+///
+/// # Errors
+/// [`CoresFault`]: an event of the set-up is refused, or a job; or out of memory.
+pub fn wire_cores(
+    alloc: Global,
+    config: &Config<'_>,
+    jobs: Vec<Job<'_>>,
+) -> Result<WiredCores, CoresFault> {
+    if let Some(place) = first_other(&config.setup) {
+        return Err(refuse_other(alloc, config, place));
+    }
+    let parts = boot(alloc, config)?;
+    Ok(wire_parts(alloc, parts, jobs)?)
 }

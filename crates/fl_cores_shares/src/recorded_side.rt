@@ -8,7 +8,7 @@ ghost use Rattle.fl_ring.specs.SharedSides.{SharedPuts, SharedTakes, SidesNear, 
 use fl_base::Frag;
 use fl_link::{PutFault, PutSide, Sight, TakeSide, Told};
 use fl_ring::SharedSide;
-use std::alloc::Global;
+use std::alloc::{AllocError, Global};
 use std::marker::Model;
 
 /// What a side noted: enough to tell again what each of its looks and puts came to.
@@ -38,6 +38,29 @@ impl SideRecord {
             taken: 0,
             is_on,
         }
+    }
+
+    /// How many looks found nothing at a fragment of the other side before one saw it; of the first that wasn't seen, how many did.
+    pub fn missed_at(&self, fragment: usize) -> u32 {
+        match self.missed.get(fragment) {
+            Some(count) => *count,
+            None => self.missing,
+        }
+    }
+
+    /// The same once more.
+    ///
+    /// # Errors
+    /// Out of memory.
+    pub fn duplicate(&self, alloc: Global) -> Result<SideRecord, AllocError> {
+        Ok(SideRecord {
+            missed: Vec::from_slice(alloc, &self.missed)?,
+            refused: Vec::from_slice(alloc, &self.refused)?,
+            missing: self.missing,
+            refusing: self.refusing,
+            taken: self.taken,
+            is_on: self.is_on,
+        })
     }
 
     // A look at the next fragment, which saw it or found nothing.

@@ -1,0 +1,24 @@
+//! A run of cores that was recorded, told as a script.
+//!
+//! What a core does is a function of the cores file and of what its looks and puts come to, which its sides noted. So the cores are
+//! run once more, one after another on one thread, over sides that answer as the record says; that tells each core's events. They
+//! are put in one order then: a fragment is put behind the last look that found nothing there, and before the first that saw it.
+//!
+//! Nothing is promised of the script that this makes: whether it does what the run did is for the caller to see (`fl_cores_script`).
+//!
+//! - `replayed_side.rt`: a side that answers as a record says
+//! - `replayed_core.rt`: a core that is run once more, and its events
+//! - `replay.rt`: all cores run once more
+//! - `order.rt`: their events in one order
+//! - `lines.rt`: the file's lines, and those of events
+//! - `telling.rt`: the whole script
+#![tactic(auto)]
+
+mod lines;
+mod order;
+mod replay;
+mod replayed_core;
+mod replayed_side;
+mod telling;
+
+pub use telling::tell_script;
