@@ -4,7 +4,8 @@
 //! run once more, one after another on one thread, over sides that answer as the record says; that tells each core's events. They
 //! are put in one order then: a fragment is put behind the last look that found nothing there, and before the first that saw it.
 //!
-//! Nothing is promised of the script that this makes: whether it does what the run did is for the caller to see (`fl_cores_script`).
+//! Nothing is promised of how the script is made: that it does what the run did is seen by running it (`fl_cores_script`), and a script
+//! that doesn't is given to nobody.
 //!
 //! - `replayed_side.rt`: a side that answers as a record says
 //! - `replayed_core.rt`: a core that is run once more, and its events
@@ -21,4 +22,4 @@ mod replayed_core;
 mod replayed_side;
 mod telling;
 
-pub use telling::tell_script;
+pub use telling::script_of;

@@ -68,7 +68,7 @@ pub(crate) fn split_file<'a>(
         jobs: Vec::new(alloc),
     };
     let mut rest = text;
-    let mut job = 0;
+    let mut job: usize = 0;
     while !rest.is_empty() {
         let (item, behind) = next_item(rest);
         let (line, _) = rest.split_at(rest.len() - behind.len());
@@ -81,7 +81,7 @@ pub(crate) fn split_file<'a>(
                 } else {
                     lines.jobs.push(line)?;
                 }
-                job += 1;
+                job = job.wrapping_add(1);
             }
         }
         rest = behind;

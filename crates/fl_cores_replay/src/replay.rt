@@ -9,6 +9,7 @@ use fl_cores::{Recording, WiredCores};
 use fl_cores_fork::CoreThread;
 use fl_cores_jobs::{EndWork, JoinedJobs};
 use std::alloc::{AllocError, Global};
+use std::mem;
 
 /// A side of a ring, by its core and its place there.
 #[derive(Clone, Copy)]
@@ -69,8 +70,12 @@ fn sides_of(
         return Ok(None);
     }
     let mut sides = Vec::new(alloc);
-    for (record, number) in records.iter().zip(numbers.iter()) {
-        let Some(size) = sizes.get(*number / 2) else {
+    for (place, record) in records.iter().enumerate() {
+        let number = match numbers.get(place) {
+            None => return Ok(None),
+            Some(number) => *number,
+        };
+        let Some(size) = sizes.get(number / 2) else {
             return Ok(None);
         };
         if !record.is_on {
@@ -114,8 +119,13 @@ impl Replay {
         let count = wired.core_threads.as_slice().len();
         let (numbers, places) = number_sides(alloc, count, &wired.owners)?;
         let mut cores = Vec::new(alloc);
-        let mut core = 0;
-        for (thread, own) in wired.core_threads.into_iter().zip(numbers.into_iter()) {
+        let mut numbers = numbers;
+        let mut core: usize = 0;
+        for thread in wired.core_threads {
+            let own = match numbers.get_mut(core) {
+                None => return Ok(None),
+                Some(own) => mem::replace(own, Vec::new(alloc)),
+            };
             let Some(sides) = sides_of(alloc, recording, core, &own, sizes)? else {
                 return Ok(None);
             };
@@ -123,7 +133,7 @@ impl Replay {
                 return Ok(None);
             };
             cores.push(replayed(alloc, thread, sides, own, *turns)?)?;
-            core += 1;
+            core = core.wrapping_add(1);
         }
         Ok(Some(Replay {
             cores,
@@ -195,6 +205,16 @@ impl Replay {
         Ok((moved, false))
     }
 
+    // Whether memory was refused to a side.
+    fn is_lost(&self) -> bool {
+        for core in self.cores.iter() {
+            if core.is_lost() {
+                return true;
+            }
+        }
+        false
+    }
+
     /// Runs all cores to their ends. Whether they came there.
     pub(crate) fn run(&mut self) -> Result<bool, AllocError> {
         for _ in 0..u64::MAX {
@@ -206,7 +226,7 @@ impl Replay {
                 all_done = all_done && done;
             }
             if all_done || !moved {
-                return Ok(all_done && !self.cores.iter().any(|core| core.is_lost()));
+                return Ok(all_done && !self.is_lost());
             }
         }
         Ok(false)

@@ -188,12 +188,22 @@ impl ReplayedCore {
 
     /// Whether memory was refused to one of its sides.
     pub(crate) fn is_lost(&self) -> bool {
-        self.running.rings.iter().any(|side| side.is_lost)
+        for side in self.running.rings.iter() {
+            if side.is_lost {
+                return true;
+            }
+        }
+        false
     }
 
     // Whether all that its sides noted came again.
     fn is_done(&self) -> bool {
-        self.running.rings.iter().all(|side| side.is_done())
+        for side in self.running.rings.iter() {
+            if !side.is_done() {
+                return false;
+            }
+        }
+        true
     }
 
     fn is_ready(&self, place: usize) -> bool {
@@ -234,7 +244,7 @@ impl ReplayedCore {
                 None => 0,
                 Some(number) => *number,
             };
-            place += 1;
+            place = usize::wrapping_add(place, 1);
             let effect = side.effect;
             side.effect = NO_EFFECT;
             if effect.saw || effect.took {
@@ -270,10 +280,11 @@ impl ReplayedCore {
         for rounds in self.rounds.iter_mut() {
             let count = rounds.ends.as_slice().len();
             if rounds.is_closed && count > 0 {
-                let kept = rounds.count % count;
-                for step in rounds.steps.as_slice().iter().skip(kept) {
-                    if let Some(step) = self.steps.get_mut(*step) {
-                        step.is_left_out = true;
+                for k in rounds.count % count..count {
+                    if let Some(at) = rounds.steps.get(k) {
+                        if let Some(step) = self.steps.get_mut(*at) {
+                            step.is_left_out = true;
+                        }
                     }
                 }
             }
@@ -292,8 +303,8 @@ impl ReplayedCore {
             return Ok(());
         };
         rounds.count = rounds.count.wrapping_add(1);
-        if !rounds.is_closed && rounds.ends.get(0) == Some(&end) {
-            rounds.is_closed = true;
+        if let Some(first) = rounds.ends.get(0) {
+            rounds.is_closed = rounds.is_closed || *first == end;
         }
         if !rounds.is_closed {
             rounds.ends.push(end)?;

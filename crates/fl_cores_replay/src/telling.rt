@@ -1,5 +1,8 @@
 //! A recorded run, told as a script.
 
+ghost use Rattle.std.specs.Prelude.{IfOk, IfSome};
+ghost use Rattle.fl_cores_script.specs.Replays.{Replays};
+
 use crate::lines::{FileLines, put_line, split_file};
 use crate::order::{OrderedEvent, order_events};
 use crate::replay::Replay;
@@ -7,6 +10,7 @@ use crate::replayed_core::CoreEvent;
 use fl_base::{EndId, LinkId};
 use fl_cores::{CoresFault, Recording, WiredCores, wire_cores};
 use fl_cores_file::{CoresFile, CoresText, read_cores_text};
+use fl_cores_script::certify;
 use fl_model::{BackEnd, Event};
 use fl_script_lines::{ScriptNames, put_end};
 use fl_world::Config;
@@ -158,11 +162,8 @@ fn put_script(
     Ok(Some(out))
 }
 
-/// A script of what the cores of a file did in a run that was recorded, if an order of their events is found.
-///
-/// # Errors
-/// Out of memory.
-pub fn tell_script(
+// A script of what the cores of a file did in a run that was recorded, if an order of their events is found.
+fn tell_script(
     alloc: Global,
     text: &[u8],
     recording: &Recording,
@@ -190,5 +191,25 @@ pub fn tell_script(
         Ok(wired) => put_script(alloc, lines, &names, &numbers, wired, recording, &sizes),
         Err(CoresFault::Memory) => Err(AllocError),
         Err(_) => Ok(None),
+    }
+}
+
+/// A script that does what the cores of a file did in a run that was recorded, if one is found: run by `exec` it has a transcript
+/// that tells, at each end, just the calls that the run's report tells, in order. None is found where nothing was recorded, where the
+/// script would be too long for `exec`, or where it tells other calls.
+///
+/// # Errors
+/// Out of memory.
+pub fn script_of(
+    alloc: Global,
+    file: &[u8],
+    recording: &Recording,
+    report: &[u8],
+) -> Result<Option<Vec<u8>>, AllocError>
+    ensures replays { IfOk result (λ found. IfSome found (λ script. Replays script.items report.now)) }
+{
+    match tell_script(alloc, file, recording)? {
+        None => Ok(None),
+        Some(script) => certify(alloc, script, report),
     }
 }

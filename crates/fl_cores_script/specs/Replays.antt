@@ -4,6 +4,7 @@ use Rattle.std.specs.List.{flat_map, filter, All}
 use Rattle.std.specs.Str.{bytes_eq}
 use Rattle.fl_base.specs.Given.{given}
 use Rattle.fl_script_lines.specs.Answers.{line}
+use Rattle.fl_script_exec.specs.Transcript.{Transcript}
 
 -- what stands behind these bytes, where a text begins with them
 abbrev pub behind : List ℕ → List ℕ → Option (List ℕ)
@@ -42,3 +43,9 @@ pub record HandlesAlike (one other : List ℕ) : Type 0 where
   pub are_lines : AreLines one lines
   pub are_others : AreLines other others
   pub each : (end : List ℕ) → handled_at end lines ≡ handled_at end others
+
+-- the script's transcript tells, at each end, the calls that the report tells
+pub record Replays (script report : List ℕ) : Type 0 where
+  pub transcript : List ℕ
+  pub is_transcript : Transcript script transcript
+  pub alike : HandlesAlike transcript report

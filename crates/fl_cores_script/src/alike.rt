@@ -246,12 +246,11 @@ fn all_handled_alike(alloc: Global, lines: &[&[u8]], others: &[&[u8]]) -> Result
     all_alike(alloc, lines, others)
 }
 
-/// Whether two texts of lines tell the same handled calls, end by end and in order, as far as lines `handle P.c CALL` tell them. `false`
-/// also where one doesn't end with a line feed.
+/// Whether two texts of lines tell the same handled calls, end by end and in order. `false` also where one doesn't end with a line feed.
 ///
 /// # Errors
 /// Out of memory.
-pub fn handle_alike(alloc: Global, one: &[u8], other: &[u8]) -> Result<bool, AllocError>
+pub(crate) fn handle_alike(alloc: Global, one: &[u8], other: &[u8]) -> Result<bool, AllocError>
     ensures alike { IfOk result (λ r. r ≡ true → HandlesAlike one.now other.now) }
 {
     let Some(lines) = lines_of(alloc, one)? else {

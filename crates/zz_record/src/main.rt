@@ -4,8 +4,7 @@
 use fl_base::CoreId;
 use fl_core_run::Gate;
 use fl_cores::{Recording, run_cores_text_recorded};
-use fl_cores_replay::tell_script;
-use fl_cores_script::handle_alike;
+use fl_cores_replay::script_of;
 use fl_script_exec::exec;
 use fl_world::World;
 use std::io::{Read, Write};
@@ -35,11 +34,22 @@ fn main(rt: HostRuntime) -> ExitCode {
     }
     let mut told = Vec::new(alloc);
     let mut recording = Recording::new(alloc, true);
-    let turns = 200_000;
+    let mut turns: u64 = 0;
+    let mut k = 8;
+    for _ in 0..20 {
+        let Some(digit) = text.get(k) else {
+            break;
+        };
+        if *digit < b'0' || *digit > b'9' {
+            break;
+        }
+        turns = turns.wrapping_mul(10).wrapping_add(u64::from(*digit - b'0'));
+        k += 1;
+    }
     let Ok(_) = run_cores_text_recorded(&rt, alloc, &text, turns, &NoGate, &mut told, &mut recording) else {
         return ExitCode::from(8);
     };
-    let Ok(found) = tell_script(alloc, &text, &recording) else {
+    let Ok(found) = script_of(alloc, &text, &recording, &told) else {
         return ExitCode::from(7);
     };
     let _ = out.write_all(&told);
@@ -56,10 +66,5 @@ fn main(rt: HostRuntime) -> ExitCode {
     };
     let _ = out.write_all(b"---- transcript\n");
     let _ = out.write_all(&transcript);
-    let Ok(alike) = handle_alike(alloc, &transcript, &told) else {
-        return ExitCode::from(4);
-    };
-    let verdict: &[u8] = if alike { b"ALIKE\n" } else { b"DIFFERENT\n" };
-    let _ = out.write_all(verdict);
     ExitCode::from(0)
 }
