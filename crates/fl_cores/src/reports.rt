@@ -13,8 +13,8 @@ use crate::law_reports::{law_runs_end_as_told, law_runs_of_one_core, law_runs_re
 use crate::run::run_jobs;
 use crate::text::{CoresEnd, run_text};
 use fl_core_run::Gate;
-use fl_cores_parts::Recording;
 use fl_cores_file::{Job, Report};
+use fl_cores_parts::Recording;
 use fl_world::Config;
 use std::alloc::Global;
 use std::sync::Wait;

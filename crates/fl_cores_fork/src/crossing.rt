@@ -21,12 +21,12 @@ ghost use Rattle.fl_cores_fork.specs.contracts.core_thread.FinishedCore as DoneR
 use fl_compile::Program;
 use fl_core::CoreJob;
 use fl_core_run::EndProgress;
+use fl_cores_shares::RecordedSide;
 use fl_endpoint::End;
 use fl_link::QueueLink;
 use fl_machine::Reassemblies;
 use fl_monitor::{Messenger, Monitor};
 use fl_nameserv::Names;
-use fl_cores_shares::RecordedSide;
 use fl_value_data::Call;
 
 // What goes to a thread.

@@ -44,7 +44,11 @@ fn owners_of(alloc: Global, owners: &[usize]) -> Result<Vec<u64>, AllocError>
 }
 
 // Everybody's seat on the table of a run.
-pub(crate) fn seat_of_all(alloc: Global, cores: usize, owners: &[usize]) -> Result<EndSeat, AllocError>
+pub(crate) fn seat_of_all(
+    alloc: Global,
+    cores: usize,
+    owners: &[usize],
+) -> Result<EndSeat, AllocError>
     requires few { cores ≤ 16 }
     requires jobs { length owners.now ≤ 65536 }
     ensures all { IfOk result (λ seat. seat.knows ≡ opening_view cores owners.now) }

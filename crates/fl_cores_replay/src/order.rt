@@ -46,7 +46,8 @@ impl SideState {
         }
         match self.told.front() {
             None => false,
-            Some(told) => self.size.saturating_add(*told) >= self.sent.saturating_add(u64::from(need)),
+            Some(told) => self.size.saturating_add(*told)
+                >= self.sent.saturating_add(u64::from(need)),
         }
     }
 

@@ -259,7 +259,11 @@ impl ReplayedCore {
                     self.sent = Some((number, frag));
                 }
             }
-            is_noted = is_noted || effect.missed || effect.saw || effect.took || effect.put.is_some();
+            is_noted = is_noted
+                || effect.missed
+                || effect.saw
+                || effect.took
+                || effect.put.is_some();
             side.is_missing = effect.missed;
         }
         is_noted
@@ -296,7 +300,12 @@ impl ReplayedCore {
     }
 
     // A turn of a dispatcher that did nothing, at this end.
-    fn idle_turn(&mut self, dispatcher: usize, end: usize, step: CoreStep) -> Result<(), AllocError> {
+    fn idle_turn(
+        &mut self,
+        dispatcher: usize,
+        end: usize,
+        step: CoreStep,
+    ) -> Result<(), AllocError> {
         let here = self.steps.as_slice().len();
         let Some(rounds) = self.rounds.get_mut(dispatcher) else {
             self.steps.push(step)?;

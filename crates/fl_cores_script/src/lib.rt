@@ -10,7 +10,4 @@
 mod alike;
 mod script;
 
-#[cfg(test)]
-mod tests;
-
 pub use script::certify;

@@ -37,11 +37,7 @@ fn replays(alloc: Global, script: &[u8], report: &[u8]) -> Result<bool, AllocErr
 ///
 /// # Errors
 /// Out of memory.
-pub fn certify(
-    alloc: Global,
-    script: Vec<u8>,
-    report: &[u8],
-) -> Result<Option<Vec<u8>>, AllocError>
+pub fn certify(alloc: Global, script: Vec<u8>, report: &[u8]) -> Result<Option<Vec<u8>>, AllocError>
     ensures replays { IfOk result (λ found. IfSome found (λ script. Replays script.items report.now)) }
 {
     if replays(alloc, &script, report)? {

@@ -1,6 +1,6 @@
-//! Scripts that tell what a report tells, and scripts made with a mistake.
+//! Scripts that tell what a report of cores tells, and scripts made with a mistake.
 
-use crate::script::certify;
+use fl_cores_script::certify;
 use std::alloc::{AllocError, Global};
 
 const SETUP: &[u8] = b"\
