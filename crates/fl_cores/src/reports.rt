@@ -44,8 +44,7 @@ pub fn run_cores<R: Threads + Wait + Sync, G: Gate + Sync>(
     law_runs_end_as_told();
     law_runs_follow();
     law_runs_of_one_core();
-    let mut recording = Recording::new(alloc, false);
-    run_jobs(rt, alloc, config, jobs, limit, gate, &mut recording)
+    run_jobs(rt, alloc, config, jobs, limit, gate)
 }
 
 /// Runs a cores file, and appends what is told of that: an honest report, or the line that is refused.

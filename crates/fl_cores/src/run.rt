@@ -125,9 +125,9 @@ fn refuse_other(alloc: Global, config: &Config<'_>, place: usize) -> CoresFault
 }
 
 // Runs cores on threads of their own, each with its jobs, until each has finished or counted so many turns; the fault is the first event of the set-up
-// that is refused, else the first job, else memory or a thread.
+// that is refused, else the first job, else memory or a thread. What the cores' sides note is kept, where the recording is on.
 #[tactic(auto, using(crate::proofs::Booted::not_booted, crate::proofs::Booted::late_fault))]
-pub(crate) fn run_jobs<R: Threads + Wait + Sync, G: Gate + Sync>(
+pub(crate) fn run_recorded<R: Threads + Wait + Sync, G: Gate + Sync>(
     rt: &R,
     alloc: Global,
     config: &Config<'_>,
@@ -144,6 +144,22 @@ pub(crate) fn run_jobs<R: Threads + Wait + Sync, G: Gate + Sync>(
     }
     let parts = boot(alloc, config)?;
     run_made(rt, alloc, parts, jobs, limit, gate, recording)
+}
+
+// The same, where nothing is noted.
+pub(crate) fn run_jobs<R: Threads + Wait + Sync, G: Gate + Sync>(
+    rt: &R,
+    alloc: Global,
+    config: &Config<'_>,
+    jobs: Vec<Job<'_>>,
+    limit: u64,
+    gate: &G,
+) -> Result<Report, CoresFault>
+    ensures reports { IfOk result (λ r. Reports (config_of config.now) (map job_of jobs.entry.items) limit (report_of r)) }
+    ensures refused { IfErr result (λ fault. IsFault (config_of config.now) (map job_of jobs.entry.items) fault) }
+{
+    let mut recording = Recording::new(alloc, false);
+    run_recorded(rt, alloc, config, jobs, limit, gate, &mut recording)
 }
 
 /// What the cores of a run begin with, as [`run_cores`](crate::run_cores) starts their threads: no thread is started.

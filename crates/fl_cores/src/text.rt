@@ -5,7 +5,7 @@ ghost use Rattle.fl_cores_file.specs.Files.{file_from};
 ghost use Rattle.fl_cores.specs.Promised.{config_in, Appends, AppendsReport, IsFault, IsFaultOfText};
 
 use crate::fault::CoresFault;
-use crate::run::run_jobs;
+use crate::run::run_recorded;
 use fl_core_run::Gate;
 use fl_cores_file::{CoresFile, CoresText, Ending, print_refusal, print_report, read_cores_text};
 use fl_cores_parts::Recording;
@@ -52,7 +52,7 @@ fn run_file<R: Threads + Wait + Sync, G: Gate + Sync>(
         cores: cores as u8,
         setup,
     };
-    let report = run_jobs(rt, alloc, &config, jobs, limit, gate, recording)?;
+    let report = run_recorded(rt, alloc, &config, jobs, limit, gate, recording)?;
     let file = CoresFile {
         cores,
         setup: config.setup,
