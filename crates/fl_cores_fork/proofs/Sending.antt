@@ -9,16 +9,16 @@ use Rattle.fl_compile.specs.contracts.program.Program
 use Rattle.fl_link.specs.contracts.queue.QueueLink
 use Rattle.fl_nameserv.specs.contracts.names.Names
 use Rattle.fl_core.specs.contracts.one_core.Core
-use Rattle.fl_cores_shares.specs.contracts.recorded_side.RecordedSide
+use Rattle.fl_ring.specs.contracts.shared.duo_sides.SharedSide
 use Rattle.fl_core_run.specs.contracts.end_progress.EndProgress
 use Rattle.fl_core_run.specs.contracts.running.RunningCore as Running
 use Rattle.fl_cores_fork.specs.contracts.core_thread.CoreThread
 use Rattle.fl_cores_fork.specs.contracts.core_thread.FinishedCore as Done
 
 -- a core with its sides, queues and ends' progress
-pub running_sends : IsSend Core.the_row → IsSend RecordedSide.the_row → IsSend QueueLink.the_row → IsSend EndProgress.the_row → IsSend Names.the_row
-    → IsSend Program.the_row → IsSend (Running.the_field RecordedSide.the_row).row
-running_sends core side queue progress names program = struct_send (shape (Running.the_type RecordedSide.the_row)) (
+pub running_sends : IsSend Core.the_row → IsSend SharedSide.the_row → IsSend QueueLink.the_row → IsSend EndProgress.the_row → IsSend Names.the_row
+    → IsSend Program.the_row → IsSend (Running.the_field SharedSide.the_row).row
+running_sends core side queue progress names program = struct_send (shape (Running.the_type SharedSide.the_row)) (
   search (sendable, crosses) depth 20,
   (
     core,
@@ -42,17 +42,17 @@ running_sends core side queue progress names program = struct_send (shape (Runni
 )
 
 -- the same in a box
-running_boxed : IsSend (Running.the_field RecordedSide.the_row).row → IsSend (Running.the_row RecordedSide.the_row)
-running_boxed running = recorded_send (Running.the_field RecordedSide.the_row).row _ _ (Running.the_type RecordedSide.the_row).to_one running
+running_boxed : IsSend (Running.the_field SharedSide.the_row).row → IsSend (Running.the_row SharedSide.the_row)
+running_boxed running = recorded_send (Running.the_field SharedSide.the_row).row _ _ (Running.the_type SharedSide.the_row).to_one running
 
-pub core_thread_field : IsSend (Running.the_field RecordedSide.the_row).row → IsSend (CoreThread.the_field).row
+pub core_thread_field : IsSend (Running.the_field SharedSide.the_row).row → IsSend (CoreThread.the_field).row
 core_thread_field running = struct_send (shape CoreThread.the_type) (let row = running_boxed running in search (sendable, crosses, row) depth 40, (plan.the_field_send, (run_seat.the_field_send, tt)))
 
-pub core_thread_sends : IsSend (Running.the_field RecordedSide.the_row).row → IsSend CoreThread.the_row
+pub core_thread_sends : IsSend (Running.the_field SharedSide.the_row).row → IsSend CoreThread.the_row
 core_thread_sends running = recorded_send (CoreThread.the_field).row _ _ (CoreThread.the_type).to_one (core_thread_field running)
 
-pub done_field : IsSend (Running.the_field RecordedSide.the_row).row → IsSend (Done.the_field).row
+pub done_field : IsSend (Running.the_field SharedSide.the_row).row → IsSend (Done.the_field).row
 done_field running = struct_send (shape Done.the_type) (core_thread_field running, (part.the_field_send, tt))
 
-pub done_sends : IsSend (Running.the_field RecordedSide.the_row).row → IsSend Done.the_row
+pub done_sends : IsSend (Running.the_field SharedSide.the_row).row → IsSend Done.the_row
 done_sends running = recorded_send (Done.the_field).row _ _ (Done.the_type).to_one (done_field running)

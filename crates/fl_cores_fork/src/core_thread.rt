@@ -1,14 +1,14 @@
 //! A core as its thread has it, and as that leaves it.
 
 use fl_core_run::{Part, RunSeat, RunningCore, TurnPlan};
-use fl_cores_shares::RecordedSide;
+use fl_ring::SharedSide;
 
 /// A core with all that its thread needs.
 #[derive(Drop)]
 pub struct CoreThread {
     // in a box: it is large, and a core thread goes from hand to hand
     /// The core, with its sides of rings, its queues and its ends' progress.
-    pub running: Box<RunningCore<RecordedSide>>,
+    pub running: Box<RunningCore<SharedSide>>,
     /// What its turns visit.
     pub plan: TurnPlan,
     /// Its seat on the table of the run, and what is known of the openings of its ends.

@@ -10,7 +10,7 @@ ghost use Rattle.fl_monitor.specs.contracts.messenger.Messenger as MessengerRows
 ghost use Rattle.fl_monitor.specs.contracts.monitor.Monitor as MonitorRows;
 ghost use Rattle.fl_link.specs.contracts.queue.QueueLink as QueueLinkRows;
 ghost use Rattle.fl_core.specs.contracts.one_core.Core as CoreRows;
-ghost use Rattle.fl_cores_shares.specs.contracts.recorded_side.RecordedSide as RecordedSideRows;
+ghost use Rattle.fl_ring.specs.contracts.shared.duo_sides.SharedSide as SharedSideRows;
 ghost use Rattle.fl_nameserv.specs.contracts.names.Names as NamesRows;
 ghost use Rattle.fl_core_run.specs.contracts.end_progress.EndProgress as ProgressRows;
 ghost use Rattle.fl_core.specs.contracts.core_job.CoreJob as JobRows;
@@ -21,12 +21,12 @@ ghost use Rattle.fl_cores_fork.specs.contracts.core_thread.FinishedCore as DoneR
 use fl_compile::Program;
 use fl_core::CoreJob;
 use fl_core_run::EndProgress;
-use fl_cores_shares::RecordedSide;
 use fl_endpoint::End;
 use fl_link::QueueLink;
 use fl_machine::Reassemblies;
 use fl_monitor::{Messenger, Monitor};
 use fl_nameserv::Names;
+use fl_ring::SharedSide;
 use fl_value_data::Call;
 
 // What goes to a thread.
@@ -102,9 +102,9 @@ fn core_sent()
 }
 
 fn side_sent()
-    ensures sent { IsSend RecordedSideRows.the_row }
+    ensures sent { IsSend SharedSideRows.the_row }
 {
-    assert_send::<RecordedSide>();
+    assert_send::<SharedSide>();
 }
 
 fn names_sent()
@@ -129,7 +129,7 @@ pub(crate) fn law_job_shared()
 
 // So may a core with its sides of rings, as a part of a core thread.
 fn running_sent()
-    ensures sent { IsSend (RunningRows.the_field RecordedSideRows.the_row).row }
+    ensures sent { IsSend (RunningRows.the_field SharedSideRows.the_row).row }
 {
     core_sent();
     side_sent();

@@ -9,12 +9,12 @@ ghost use Rattle.fl_cores_parts.specs.Heard.{HeardAsTold};
 ghost use Rattle.fl_cores_parts.specs.CoreThreads.{AreSeats, all_in, IsRest};
 
 use fl_cores_fork::FinishedCore;
-use fl_cores_shares::RecordedSide;
 use fl_cores_table::EndSeat;
+use fl_ring::SharedSide;
 use std::alloc::{AllocError, Global};
 
 // The sides of rings and the seat that a core has in the end.
-fn parts_of(done: FinishedCore) -> (Vec<RecordedSide>, EndSeat)
+fn parts_of(done: FinishedCore) -> (Vec<SharedSide>, EndSeat)
     ensures rings { result.0.items ≡ done.core_thread.running.value.rings.items }
     ensures seat { result.1 ≡ done.core_thread.run_seat.seat }
 {
@@ -30,7 +30,7 @@ fn take_apart(
     alloc: Global,
     own: &mut EndSeat,
     done: Vec<FinishedCore>,
-) -> Result<Vec<Vec<RecordedSide>>, AllocError>
+) -> Result<Vec<Vec<SharedSide>>, AllocError>
     requires some { 0 < own.old.knows.seats }
     requires seats { AreSeats own.old (seats_left (map outcome_of done.items)) }
     ensures sides { IfOk result (λ holdings. map (λ holding. holding.items) holdings.items ≡ sides_left (map outcome_of done.items)) }
@@ -65,7 +65,7 @@ pub(crate) fn gather(
     own: EndSeat,
     jobs: usize,
     done: Vec<FinishedCore>,
-) -> Result<Vec<Vec<RecordedSide>>, AllocError>
+) -> Result<Vec<Vec<SharedSide>>, AllocError>
     requires rest { IsRest own jobs (seats_left (map outcome_of done.items)) }
     ensures sides { IfOk result (λ holdings. map (λ holding. holding.items) holdings.items ≡ sides_left (map outcome_of done.items)) }
     ensures heard { OnOk result (HeardAsTold jobs (seats_left (map outcome_of done.items))) }

@@ -12,8 +12,9 @@ ghost use Rattle.fl_cores_parts.specs.Dealing.{RingsHold};
 use crate::gathering::gather;
 use fl_core_run_laws::{law_counted_are_turns, law_sides_go, law_turns_are_logged};
 use fl_cores_fork::FinishedCore;
-use fl_cores_shares::{RecordedSide, law_handed_out_go_on, settle};
+use fl_cores_shares::{law_handed_out_go_on, settle};
 use fl_cores_table::EndSeat;
+use fl_ring::SharedSide;
 use std::alloc::{AllocError, Global};
 
 /// Where cores ran, the sides of new rings that were handed out to them are still in their hands.
@@ -21,9 +22,9 @@ pub(crate) fn law_rings_hold()
     ensures hold { RingsHold }
 {
     law_handed_out_go_on();
-    law_counted_are_turns::<RecordedSide>();
-    law_turns_are_logged::<RecordedSide>();
-    law_sides_go::<RecordedSide>();
+    law_counted_are_turns::<SharedSide>();
+    law_turns_are_logged::<SharedSide>();
+    law_sides_go::<SharedSide>();
 }
 
 /// The seats of cores that ran are put in the run's own, and their rings together again: what they heard of refused

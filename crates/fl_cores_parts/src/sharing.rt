@@ -7,10 +7,10 @@ ghost use Rattle.fl_world_refines.specs.ShowsState.{NamesQueue, NamesSide};
 
 use fl_base::LinkId;
 use fl_core::{Core, Inlet, Outlet};
-use fl_cores_shares::{CoreShares, RecordedSide};
+use fl_cores_shares::CoreShares;
 use fl_hop::{MAX_LINKS, never_shared};
 use fl_link::QueueLink;
-use fl_ring::OneDuo;
+use fl_ring::{OneDuo, SharedSide};
 use std::alloc::{AllocError, Global};
 
 // ---- owners
@@ -155,31 +155,29 @@ impl SideOwners {
 // A new ring of the size of this one, whose sides go to these cores.
 fn hand_out_ring(
     alloc: Global,
-    handed_out: CoreShares<RecordedSide>,
+    handed_out: CoreShares<SharedSide>,
     ring: &OneDuo,
     first: usize,
     second: usize,
-    is_recorded: bool,
-) -> Result<CoreShares<RecordedSide>, AllocError>
+) -> Result<CoreShares<SharedSide>, AllocError>
     requires first { first < length handed_out.holdings.items }
     requires second { second < length handed_out.holdings.items }
     ensures hands_out { IfOk result (λ d. HandsOut ring.now.size first second handed_out d) }
 {
     let size = ring.words().len() / 16;
-    match handed_out.hand_out(alloc, size, first, second, is_recorded) {
+    match handed_out.hand_out(alloc, size, first, second) {
         Ok(handed_out) => Ok(handed_out),
         Err(_) => Err(AllocError),
     }
 }
 
-/// New rings of the same sizes, whose sides go to their cores, and note what they do or not.
+/// New rings of the same sizes, whose sides go to their cores.
 pub(crate) fn hand_out_sides(
     alloc: Global,
     rings: &[OneDuo],
     owners: &[usize],
     cores: usize,
-    is_recorded: bool,
-) -> Result<CoreShares<RecordedSide>, AllocError>
+) -> Result<CoreShares<SharedSide>, AllocError>
     requires count { length owners.now ≡ 2 * length rings.now }
     requires of { AreOf cores owners.now }
     ensures hands_out { IfOk result (λ d. HandsOutRings rings.now owners.now cores d) }
@@ -187,14 +185,7 @@ pub(crate) fn hand_out_sides(
     let mut handed_out = CoreShares::new(alloc, cores)?;
     let mut place = 0;
     for ring in rings {
-        handed_out = hand_out_ring(
-            alloc,
-            handed_out,
-            ring,
-            owners[place],
-            owners[place + 1],
-            is_recorded,
-        )?;
+        handed_out = hand_out_ring(alloc, handed_out, ring, owners[place], owners[place + 1])?;
         place += 2;
     }
     Ok(handed_out)

@@ -22,12 +22,12 @@ use fl_core::Core;
 use fl_core_run::{EndProgress, OpeningStatus, RunSeat, RunningCore, TurnPlan};
 use fl_cores_fork::{CoreThread, core_at};
 use fl_cores_jobs::{BindingCores, JoinedJobs, slot_of};
-use fl_cores_shares::{CoreShares, RecordedSide};
+use fl_cores_shares::CoreShares;
 use fl_cores_table::EndSeat;
 use fl_hop::{Circuits, never_shared};
 use fl_link::QueueLink;
 use fl_nameserv::Names;
-use fl_ring::OneDuo;
+use fl_ring::{OneDuo, SharedSide};
 use fl_world_refines::Parts;
 use std::alloc::{AllocError, Global};
 
@@ -240,9 +240,9 @@ impl CoreInputs<'_> {
         &self,
         k: usize,
         core: Core,
-        rings: Vec<RecordedSide>,
+        rings: Vec<SharedSide>,
         queues: Vec<QueueLink>,
-    ) -> Result<Box<RunningCore<RecordedSide>>, AllocError>
+    ) -> Result<Box<RunningCore<SharedSide>>, AllocError>
         requires few { length self.now.joined.now.bindings.items ≤ 1024 }
         requires end_works { HasEndWork self.now.joined.now.bindings.items self.now.joined.now.end_works.items }
         ensures core { IfOk result (λ r. r.value.core ≡ core) }
@@ -271,7 +271,7 @@ impl CoreInputs<'_> {
         &self,
         k: usize,
         core: Core,
-        rings: Vec<RecordedSide>,
+        rings: Vec<SharedSide>,
         queues: Vec<QueueLink>,
         seat: EndSeat,
     ) -> Result<CoreThread, AllocError>
@@ -301,7 +301,7 @@ impl CoreInputs<'_> {
         core_threads: &mut Vec<CoreThread>,
         own: &mut EndSeat,
         core: Core,
-        rings: Vec<RecordedSide>,
+        rings: Vec<SharedSide>,
         queues: Vec<QueueLink>,
     ) -> Result<(), AllocError>
         requires bindings { AreBindings self.now.cores self.now.joined.now.bindings.items self.now.joined.now.owners.items }
@@ -322,7 +322,7 @@ impl CoreInputs<'_> {
         &self,
         own: &mut EndSeat,
         cores: Vec<Core>,
-        sides: Vec<Vec<RecordedSide>>,
+        sides: Vec<Vec<SharedSide>>,
         queues: Vec<Vec<QueueLink>>,
     ) -> Result<Vec<CoreThread>, AllocError>
         requires bindings { AreBindings self.now.cores self.now.joined.now.bindings.items self.now.joined.now.owners.items }
@@ -360,7 +360,7 @@ impl CoreInputs<'_> {
 // New rings and the queues of a set-up, each handed out to the core that names it.
 #[derive(Drop)]
 struct LinkShares {
-    sides: CoreShares<RecordedSide>,
+    sides: CoreShares<SharedSide>,
     queues: CoreShares<QueueLink>,
 }
 
@@ -369,14 +369,13 @@ fn share(
     rings: &[OneDuo],
     queues: Vec<QueueLink>,
     cores: &[Core],
-    is_recorded: bool,
 ) -> Result<LinkShares, AllocError>
     requires some { 0 < length cores.now }
     ensures shares { IfOk result (λ s. SharesOut cores.now rings.now queues.items s.sides s.queues) }
 {
     let by_name = SideOwners::from_names(alloc, rings.len(), queues.as_slice().len(), cores)?;
     Ok(LinkShares {
-        sides: hand_out_sides(alloc, rings, &by_name.sides, cores.len(), is_recorded)?,
+        sides: hand_out_sides(alloc, rings, &by_name.sides, cores.len())?,
         queues: hand_out_queues(alloc, queues, &by_name.queues, cores.len())?,
     })
 }
@@ -388,13 +387,12 @@ pub(crate) struct WiredThreads {
     pub(crate) owners: Vec<usize>,
 }
 
-/// Gives each core what its thread needs, sides that note what they do or don't, and a seat cut off everybody's. What is left of that is the run's own, by which it may tell of a stop.
+/// Gives each core what its thread needs, and a seat cut off everybody's. What is left of that is the run's own, by which it may tell of a stop.
 pub(crate) fn wire(
     alloc: Global,
     parts: Parts,
     joined: &JoinedJobs,
     own: &mut EndSeat,
-    is_recorded: bool,
 ) -> Result<WiredThreads, AllocError>
     requires bindings { AreBindings (length parts.cores.items) joined.now.bindings.items joined.now.owners.items }
     requires end_works { HasEndWork joined.now.bindings.items joined.now.end_works.items }
@@ -418,7 +416,7 @@ pub(crate) fn wire(
         // A set-up has one core at least.
         return Err(AllocError);
     }
-    let LinkShares { sides, queues } = share(alloc, &rings, queues, &cores, is_recorded)?;
+    let LinkShares { sides, queues } = share(alloc, &rings, queues, &cores)?;
     let owners = sides.owners;
     let side_holdings = sides.holdings;
     let queue_holdings = queues.holdings;

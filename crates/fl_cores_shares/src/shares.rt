@@ -5,8 +5,7 @@ ghost use Rattle.fl_cores_shares.specs.Shares.{holding_at, Holds, Gives, HandsOu
 ghost use Rattle.fl_cores_shares.specs.Giving.{given_to};
 ghost use Rattle.fl_ring.specs.Duo.{MayHaveSlots};
 
-use crate::recorded_side::RecordedSide;
-use fl_ring::{RingFault, duo};
+use fl_ring::{RingFault, SharedSide, duo};
 use std::alloc::{AllocError, Global};
 
 /// Things that are handed out to cores. A thing is known by its number, from 0 in the order of dealing: the sides of ring n are number 2 n and 2 n + 1.
@@ -69,8 +68,8 @@ impl<T: Drop> CoreShares<T> {
     }
 }
 
-impl CoreShares<RecordedSide> {
-    /// A new ring of `size` slots each way, whose sides go to these cores, and note what they do or not.
+impl CoreShares<SharedSide> {
+    /// A new ring of `size` slots each way, whose sides go to these cores.
     ///
     /// # Errors
     /// A ring may not have so many slots (E32), or out of memory (E99).
@@ -80,16 +79,13 @@ impl CoreShares<RecordedSide> {
         size: usize,
         first: usize,
         second: usize,
-        is_recorded: bool,
-    ) -> Result<CoreShares<RecordedSide>, RingFault>
+    ) -> Result<CoreShares<SharedSide>, RingFault>
         requires first { first < length self.holdings.items }
         requires second { second < length self.holdings.items }
         ensures hands_out { IfOk result (λ d. HandsOut size first second self d) }
         ensures bad_size { (result ≡ Err RingFault.BadSize) ↔ (¬ MayHaveSlots size) }
     {
         let (one, two) = duo(alloc, size)?;
-        let one = RecordedSide::new(alloc, one, is_recorded);
-        let two = RecordedSide::new(alloc, two, is_recorded);
         let Ok(handed_out) = self.give(first, one) else {
             return Err(RingFault::Memory);
         };

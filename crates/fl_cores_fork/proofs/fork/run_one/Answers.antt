@@ -1,5 +1,5 @@
 use Rattle.std.proofs.Common.{subst}
-use Rattle.fl_cores_shares.specs.declared.recorded_side.RecordedSide.{RecordedSide}
+use Rattle.fl_ring.specs.declared.shared.duo_sides.SharedSide.{SharedSide}
 use Rattle.fl_core_run.specs.declared.running.RunningCore.{RunningCore}
 use Rattle.fl_core_run.specs.Run.{run_of}
 use Rattle.fl_core_run.specs.Ran.{moment, task, run_seat_of, CoreRan}
@@ -9,10 +9,10 @@ use Rattle.fl_cores_fork.proofs.fork.run_one.Goals as goal
 pub returns-in-Ok : goal.returns-in-Ok
 returns-in-Ok g c = record {
   ran = record {
-    ran = subst (λ (run : RunningCore RecordedSide). CoreRan shared_ways (task c.args.core_thread.plan c.args.jobs.now c.args.limit)
+    ran = subst (λ (run : RunningCore SharedSide). CoreRan shared_ways (task c.args.core_thread.plan c.args.jobs.now c.args.limit)
         (moment (run_of run) (run_seat_of c.args.core_thread.run_seat)) c.in-Ok.part (moment (run_of c.core_run.new.run) (run_seat_of c.core_run.new.run_seat)))
         c.deref_mut.ensures.value c.in-Ok.ensures.ran;
-    left = subst (λ (run : RunningCore RecordedSide).
+    left = subst (λ (run : RunningCore SharedSide).
         IsLeftSound (let o : TheFinishedCore = record { run = run_of run; run_seat = run_seat_of c.core_run.new.run_seat; part = c.in-Ok.part } in o))
         c.deref.ensures (record { ends = c.sound.ensures.ends; table = c.sound.ensures.table });
   };

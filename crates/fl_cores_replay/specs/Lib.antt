@@ -1,2 +1,0 @@
--- What contracts say of a replayed side.
-pub mod Sides
