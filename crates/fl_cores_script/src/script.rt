@@ -33,7 +33,7 @@ fn replays(alloc: Global, script: &[u8], report: &[u8]) -> Result<bool, AllocErr
 }
 
 /// The script, if it does what the report tells: run by `exec` it has a transcript that tells, at each end, just the report's calls, in
-/// order. No script is too long for `exec`.
+/// order. One that is too long for `exec` isn't given back.
 ///
 /// # Errors
 /// Out of memory.
