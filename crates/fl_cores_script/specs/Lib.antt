@@ -1,0 +1,3 @@
+-- The promises rest on these.
+pub mod Replays
+pub mod Alike
