@@ -6,7 +6,6 @@
 //! - `rows.rt`: worked examples
 //! - `forged.rt`: fragments that can't follow those before them
 //! - `sides.rt`: sides that can't be had from a queue
-//! - `streams.rt`: ends over streams
 //! - `faults.rt`: the numbers and words of the faults
 
 mod ends;
@@ -15,4 +14,3 @@ pub mod forged;
 mod pair;
 mod rows;
 mod sides;
-mod streams;
