@@ -52,7 +52,11 @@ pub(crate) fn draw_heads(drawing: &mut Drawing<'_>) -> Result<(), AllocError> {
     drawing.document.close()
 }
 
-fn draw_head(drawing: &mut Drawing<'_>, id: &'static [u8], class: &'static [u8]) -> Result<(), AllocError> {
+fn draw_head(
+    drawing: &mut Drawing<'_>,
+    id: &'static [u8],
+    class: &'static [u8],
+) -> Result<(), AllocError> {
     let marker = element(
         drawing.alloc,
         Tag::Marker,
