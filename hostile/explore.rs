@@ -1,5 +1,6 @@
-//! Every schedule of a small script or cores file: how many states, which of them are stuck, and the shortest script that leads there.
-//! `hostile/explore` compiles it and says how it is called. Plain Rust, apart from the crates: `docs/MODEL.md` has the machine's rules.
+//! Every schedule of a small script or cores file: how many states, which of them are stuck, and the shortest
+//! script that leads there. `hostile/explore` compiles it and says how it is called. Plain Rust, apart from the
+//! crates.
 
 use explore_machine::{fail, transcript, Back, Came, End, Event, Label, Machine, Setup, State};
 use std::collections::{HashMap, VecDeque};
