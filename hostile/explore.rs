@@ -325,6 +325,9 @@ fn main() {
         .unwrap_or_else(|error| fail(format!("{}: {error}", options.file)));
     let setup = Setup::read(&options.program, &text);
     let events = events_of(&setup);
+    if setup.bindings.len() > 32 || setup.messages.len() > 256 || events.len() > 256 {
+        fail("the file is too large: at most 32 bindings, and 256 messages and kinds of event");
+    }
     let began = std::time::Instant::now();
     let mut found = search(&setup, &events, &options);
     let states = found.met.before.len();
