@@ -43,7 +43,9 @@ impl<R: Clock + Eprint> Progress<'_, R> {
         let now = second(self.rt);
         if now > self.told.load(Ordering::SeqCst) {
             self.told.store(now, Ordering::SeqCst);
-            let _told = eprintln!(self.rt; "core 0 has taken {turns} turns; Ctrl-C ends the run without a report");
+            let _told = eprintln!(self.rt;
+                "core 0 has taken {turns} turns; Ctrl-C ends the run without a report"
+            );
         }
     }
 }
