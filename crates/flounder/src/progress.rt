@@ -9,6 +9,7 @@ use std::sync::atomic::{AtomicU64, Ordering};
 const TURNS_A_LOOK: u64 = 16;
 
 /// Tells on standard error about once a second how many turns core 0 took, where a person sees that.
+#[derive(Drop)]
 pub struct Progress<'r, R> {
     rt: &'r R,
     is_seen: bool,

@@ -22,7 +22,7 @@ use std::thread::Threads;
 /// where the status is 0.
 ///
 /// Faults are found in the order usage, reading the file, its content, writing; out of memory where it happens.
-/// Only the first is told, on `errors`.
+/// Only the first is told, on `errors`. `gate` is called before each turn of cores that run.
 pub fn run<
     T: Threads + Wait + Sync,
     G: Gate + Sync,
