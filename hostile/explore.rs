@@ -1,5 +1,6 @@
-//! Every schedule of a small script or cores file: how many states, which of them are stuck, and the shortest script that leads there.
-//! `hostile/explore` compiles it and says how it is called. Plain Rust, apart from the crates: `docs/MODEL.md` has the machine's rules.
+//! Every schedule of a small script or cores file: how many states, which of them are stuck, and the shortest
+//! script that leads there. `hostile/explore` compiles it and says how it is called. Plain Rust, apart from the
+//! crates.
 
 use explore_machine::{fail, transcript, Back, Came, End, Event, Label, Machine, Setup, State};
 use std::collections::{HashMap, VecDeque};
@@ -324,6 +325,9 @@ fn main() {
         .unwrap_or_else(|error| fail(format!("{}: {error}", options.file)));
     let setup = Setup::read(&options.program, &text);
     let events = events_of(&setup);
+    if setup.bindings.len() > 32 || setup.messages.len() > 256 || events.len() > 256 {
+        fail("the file is too large: at most 32 bindings, and 256 messages and kinds of event");
+    }
     let began = std::time::Instant::now();
     let mut found = search(&setup, &events, &options);
     let states = found.met.before.len();

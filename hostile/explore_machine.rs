@@ -1,4 +1,5 @@
-//! The machine that `explore.rs` walks through: a file's parts, a state, and what each event makes of it. `docs/MODEL.md` has its rules.
+//! The machine that `explore.rs` walks through: a file's parts, a state, and what each event makes of it.
+//! `docs/MODEL.md` has its rules.
 
 use std::collections::{HashMap, VecDeque};
 use std::fmt::Write as _;

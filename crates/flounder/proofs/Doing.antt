@@ -1,5 +1,5 @@
 -- What `cores` and a whole run did, from what each of their calls did.
-use Rattle.std.proofs.Common.{◌≡◌, ℕ, List, [], ◌∷◌, Option, Some, refl, sym, ◌∙◌, subst, inl, inr}
+use Rattle.std.proofs.Common.{◌≡◌, ℕ, Bool, List, [], ◌∷◌, Option, Some, refl, sym, ◌∙◌, subst, inl, inr}
 use Rattle.std.specs.Prelude.{MatchResult, Result, Ok, Err}
 use Rattle.std.specs.declared.io.ErrorKind.{ErrorKind}
 use Rattle.clap.specs.Words.{Text, HasKind, kind_of}
@@ -60,13 +60,13 @@ told_so (Err f) end told o p h = inl (h, p)
 
 -- ---- a whole run
 
-pub performs_exec : (old : Option (List FileEffect)) (io : Streams) (status : ℕ) → Execs io status → Does old old (λ effects. (effects ≡ []) × Execs io status)
-performs_exec old io status h = does_none old (λ effects. (effects ≡ []) × Execs io status) (refl, h)
+pub performs_exec : (old : Option (List FileEffect)) (strict : Bool) (io : Streams) (status : ℕ) → Execs strict io status → Does old old (λ effects. (effects ≡ []) × Execs strict io status)
+performs_exec old strict io status h = does_none old (λ effects. (effects ≡ []) × Execs strict io status) (refl, h)
 
-pub performs_show : (old new : Option (List FileEffect)) (io : Streams) (file : List ℕ) (status : ℕ) → IsUnread io → Does old new (Views file io.output status)
-    → Does old new (λ effects. IsUnread io × Views file io.output status effects)
-performs_show old new io file status u h =
-    does_weaker old new (Views file io.output status) (λ effects. IsUnread io × Views file io.output status effects) (λ ds p. (u, p)) h
+pub performs_show : (old new : Option (List FileEffect)) (io : Streams) (file : List ℕ) (names : Bool) (status : ℕ) → IsUnread io → Does old new (Views file names io.output status)
+    → Does old new (λ effects. IsUnread io × Views file names io.output status effects)
+performs_show old new io file names status u h =
+    does_weaker old new (Views file names io.output status) (λ effects. IsUnread io × Views file names io.output status effects) (λ ds p. (u, p)) h
 
 pub performs_compile : (old new : Option (List FileEffect)) (io : Streams) (file out : List ℕ) (status : ℕ) → IsUnread io → IsUntouched io.output → Does old new (Compiles file out status)
     → Does old new (λ effects. IsUnread io × IsUntouched io.output × Compiles file out status effects)

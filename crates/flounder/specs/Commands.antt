@@ -79,8 +79,8 @@ RunsCores file turns output status effects =
 
 -- each command does what it says, and touches nothing else
 abbrev pub Performs : Asked → Streams → ℕ → List FileEffect → Type 0
-Performs to_run io status effects = (effects ≡ []) × Execs io status
-Performs (to_show file) io status effects = IsUnread io × Views file io.output status effects
+Performs (to_run explain strict) io status effects = (effects ≡ []) × Execs strict io status
+Performs (to_show file names) io status effects = IsUnread io × Views file names io.output status effects
 Performs (to_compile file out) io status effects = IsUnread io × IsUntouched io.output × Compiles file out status effects
 Performs (to_run_cores file turns) io status effects = IsUnread io × RunsCores file turns io.output status effects
 

@@ -150,32 +150,68 @@ handle p.s ping(3)
 complete
 ";
 
-const AFTER_0: &[u8] =
-    b"a core had not finished when its turns (0) were used up; docs/CORES.md says how to choose the number\n";
-
 const AFTER_2: &[u8] =
     b"a core had not finished when its turns (2) were used up; docs/CORES.md says how to choose the number\n";
 
 const LINE_REFUSED: &[u8] =
     b"x: nothing was run, since a line is refused, which standard output tells; docs/FAULTS.md says of its fault what to do\n";
 
+const LEFT_0: &[u8] = b"\
+a core had not finished when its turns (0) were used up; docs/CORES.md says how to choose the number
+p.s, on core 0, handled 0 of the 3 calls that p.c, on core 0, was to make
+";
+
+const LEFT_2: &[u8] = b"\
+a core had not finished when its turns (2) were used up; docs/CORES.md says how to choose the number
+p.s, on core 0, handled 2 of the 3 calls that p.c, on core 0, was to make
+";
+
+const WRONG_RULE: &[u8] = b"\
+x: nothing was run, since a line is refused, which standard output tells; docs/FAULTS.md says of its fault what to do
+x:11: E44: one end of a binding makes calls, and rules answer at the other
+    call p.s echo_response(2)
+help: give an end calls or rules, and not both; rules stand at one end of a binding alone
+";
+
+const WRONG_WORD: &[u8] = b"\
+x: nothing was run, since a line is refused, which standard output tells; docs/FAULTS.md says of its fault what to do
+x:2: E90: this is no line that is read here
+    write p.c
+help: its form is: write END; a cores file has none
+";
+
+const WRONG_BLOCK: &[u8] = b"\
+x: nothing was run, since a line is refused, which standard output tells; docs/FAULTS.md says of its fault what to do
+x:3:25: E14: messages carry no capabilities
+    interface i { message m(cap c); }
+                            ^
+help: leave the argument out
+";
+
 // Files of the name x, how many turns are counted, the status, the report, and what is said on standard error.
 const FILES: &[(&[u8], &str, u8, &[u8], &[u8])] = &[
-    (CALLS, "2", 5, CALLS_REPORT, AFTER_2),
+    (CALLS, "2", 5, CALLS_REPORT, LEFT_2),
     (CALLS, "3", 0, ALL_CALLS, b""),
     (CALLS, MANY, 0, ALL_CALLS, b""),
-    (CALLS, "0", 5, b"turns out\n", AFTER_0),
+    (CALLS, "0", 5, b"turns out\n", LEFT_0),
     (b"", "0", 0, b"complete\n", b""),
     (DISK, MANY, 0, DISK_REPORT, b""),
     (ECHO, MANY, 0, ECHO_REPORT, b""),
     (HOPS, MANY, 0, HOPS_REPORT, b""),
-    (WRONG, "8", 2, WRONG_REPORT, LINE_REFUSED),
+    (WRONG, "8", 2, WRONG_REPORT, WRONG_RULE),
     (
         b"disp d 0\nwrite p.c\n",
         "8",
         2,
         b"line 2 refused E90\n",
-        LINE_REFUSED,
+        WRONG_WORD,
+    ),
+    (
+        b"# a comment\nidl\ninterface i { message m(cap c); }\n.\n",
+        "8",
+        2,
+        b"line 2 refused E14\n",
+        WRONG_BLOCK,
     ),
 ];
 

@@ -5,12 +5,14 @@
 #![tactic(auto)]
 
 mod cores;
+mod progress;
 mod run;
 
+use crate::progress::Progress;
 use crate::run::run;
-use flounder_commands::{Disk, Fault, finish, no_words};
+use flounder_commands::{Disk, Fault, Watched, finish, no_words};
 use std::env;
-use std::io::BufWriter;
+use std::io::{BufWriter, IsTerminal};
 use std::process::ExitCode;
 
 #[cfg(test)]
@@ -28,15 +30,20 @@ fn main(rt: HostRuntime) -> ExitCode {
     let Ok(words) = args.collect::<Vec<String>>(alloc) else {
         return ExitCode::from(finish(Err(Fault::Memory), &mut errors));
     };
-    let Ok(mut output) = BufWriter::new(alloc, rt.stdout()) else {
+    let Ok(mut output) = BufWriter::new(alloc, Watched::new(alloc, rt.stdout())) else {
         return ExitCode::from(finish(Err(Fault::Memory), &mut errors));
     };
+    let reader = rt.reader();
+    let is_typed = reader.is_terminal();
+    let mut input = Watched::new(alloc, reader).typed(is_typed);
+    let progress = Progress::new(&rt, rt.stderr().is_terminal());
     let status = run(
         &rt,
+        &progress,
         alloc,
         &words,
         &mut Disk(&rt),
-        &mut rt.reader(),
+        &mut input,
         &mut output,
         &mut errors,
     );

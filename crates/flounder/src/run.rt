@@ -7,8 +7,11 @@ ghost use Rattle.flounder_commands.specs.Streams.{streams_of};
 ghost use Rattle.flounder.specs.Commands.{Performs, Runs};
 
 use crate::cores::cores_file;
-use flounder_args::{Request, read_words};
-use flounder_commands::{FileStore, compile_file, finish, run_script, show_file, tell_usage};
+use fl_core_run::Gate;
+use flounder_args::{Request, hint, read_words};
+use flounder_commands::{
+    FileStore, FindsRefusals, Watch, compile_file, finish, run_script, show_file, tell_usage,
+};
 use std::alloc::Global;
 use std::convert::AsStr;
 use std::io::{BufWriter, Read, Write};
@@ -19,9 +22,18 @@ use std::thread::Threads;
 /// where the status is 0.
 ///
 /// Faults are found in the order usage, reading the file, its content, writing; out of memory where it happens.
-/// Only the first is told, on `errors`.
-pub fn run<T: Threads + Wait + Sync, S: AsStr, F: FileStore, R: Read, W: Write + Drop, E: Write>(
+/// Only the first is told, on `errors`. `gate` is called before each turn of cores that run.
+pub fn run<
+    T: Threads + Wait + Sync,
+    G: Gate + Sync,
+    S: AsStr,
+    F: FileStore,
+    R: Read + Watch,
+    W: FindsRefusals + Watch + Drop,
+    E: Write,
+>(
     rt: &T,
+    gate: &G,
     alloc: Global,
     words: &[S],
     files: &mut F,
@@ -33,14 +45,22 @@ pub fn run<T: Threads + Wait + Sync, S: AsStr, F: FileStore, R: Read, W: Write +
         (Runs (map S.text words.entry.now) (streams_of R.remaining W.contents input.old input.new output.old output.new) result) }
 {
     match read_words(alloc, words) {
-        Ok(request) => perform(rt, alloc, request, files, input, output, errors),
-        Err(error) => finish(tell_usage(alloc, error, output), errors),
+        Ok(request) => perform(rt, gate, alloc, request, files, input, output, errors),
+        Err(error) => finish(tell_usage(alloc, error, hint(words), output), errors),
     }
 }
 
 /// Does what was asked for, and answers the status.
-pub fn perform<T: Threads + Wait + Sync, F: FileStore, R: Read, W: Write + Drop, E: Write>(
+pub fn perform<
+    T: Threads + Wait + Sync,
+    G: Gate + Sync,
+    F: FileStore,
+    R: Read + Watch,
+    W: FindsRefusals + Watch + Drop,
+    E: Write,
+>(
     rt: &T,
+    gate: &G,
     alloc: Global,
     request: Request<'_>,
     files: &mut F,
@@ -52,11 +72,13 @@ pub fn perform<T: Threads + Wait + Sync, F: FileStore, R: Read, W: Write + Drop,
         (Performs (asked_by request.entry) (streams_of R.remaining W.contents input.old input.new output.old output.new) result) }
 {
     match request {
-        Request::Exec => run_script(alloc, input, output, errors),
-        Request::Show { file } => show_file(alloc, file, files, output, errors),
+        Request::Exec { explain, strict } => {
+            run_script(alloc, explain, strict, input, output, errors)
+        }
+        Request::Show { file, names } => show_file(alloc, file, names, files, output, errors),
         Request::Compile { file, out } => compile_file(alloc, file, out, files, errors),
         Request::Cores { file, turns } => {
-            cores_file(rt, alloc, file, turns, files, output, errors)
+            cores_file(rt, gate, alloc, file, turns, files, output, errors)
         }
     }
 }

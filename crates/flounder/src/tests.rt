@@ -2,7 +2,9 @@
 //! by itself is tested in `program_tests` (`command`).
 
 use crate::run::run;
-use flounder_commands::{Fault, FileStore, finish};
+use fl_base::CoreId;
+use fl_core_run::Gate;
+use flounder_commands::{Fault, FileKind, FileStore, Watched, finish};
 use std::alloc::{AllocGlobal, Global};
 use std::io;
 use std::io::{BufWriter, Write};
@@ -17,9 +19,12 @@ pub enum Shelf {
 }
 
 impl FileStore for Shelf {
-    fn read(&mut self, alloc: Global, path: &str) -> io::Result<Vec<u8>> {
+    fn read(&mut self, alloc: Global, path: &str, kind: FileKind) -> io::Result<Vec<u8>> {
         match self {
-            Shelf::Holds(name, content) if path == *name => Ok(Vec::from_slice(alloc, content)?),
+            Shelf::Holds(name, content) if path == *name => {
+                let most = content.len().min(kind.most());
+                Ok(Vec::from_slice(alloc, &content[..most])?)
+            }
             Shelf::Holds(_, _) => Err(io::Error::from(io::ErrorKind::NotFound)),
             Shelf::Fails(kind) => Err(io::Error::from(*kind)),
         }
@@ -28,6 +33,14 @@ impl FileStore for Shelf {
     fn write(&mut self, _path: &str, _bytes: &[u8]) -> io::Result<()> {
         Err(io::Error::from(io::ErrorKind::Other))
     }
+}
+
+// Cores go on at once.
+#[derive(Clone, Copy)]
+struct NoGate;
+
+impl Gate for NoGate {
+    fn before_turn(&self, _core: CoreId) {}
 }
 
 // A run, as `main` makes it. What it leaves in the buffer of standard output is lost.
@@ -41,11 +54,20 @@ fn run_on<T: Threads + Wait + AllocGlobal + Sync, W: Write + Drop>(
 ) -> u8 {
     let alloc = rt.alloc();
     let mut files = shelf;
-    let mut rest = input;
-    let Ok(mut output) = BufWriter::new(alloc, output) else {
+    let mut input = Watched::new(alloc, input);
+    let Ok(mut output) = BufWriter::new(alloc, Watched::new(alloc, output)) else {
         return finish(Err(Fault::Memory), errors);
     };
-    let status = run(rt, alloc, words, &mut files, &mut rest, &mut output, errors);
+    let status = run(
+        rt,
+        &NoGate,
+        alloc,
+        words,
+        &mut files,
+        &mut input,
+        &mut output,
+        errors,
+    );
     let _left = output.into_parts();
     status
 }
@@ -111,6 +133,7 @@ const TRANSCRIPT: &[u8] = b"ok\nrefused E92\nrefused E90\n";
 const COMMANDS: &[(&[&str], u8, &[u8])] = &[
     (&["flounder"], 0, TRANSCRIPT),
     (&["flounder", "exec"], 0, TRANSCRIPT),
+    (&["flounder", "--version"], 0, b"flounder 0.1.0\n"),
     (&["flounder", "show", "mixed.if"], 0, TABLE),
     (&["flounder", "compile", "mixed.if", "out"], 4, b""),
     (

@@ -1,6 +1,7 @@
 //! The words of the command line: what the program is asked for.
 //!
-//! - [`read_words`]: the request that the words make, or why they make none, as `clap` reads them (`specs/Words.antt`)
+//! - [`read_words`]: the request that the words make, or why they make none, as `clap` reads them
+//!   (`specs/Words.antt`)
 //! - [`hint`]: how a script comes in, behind words that are refused
 //! - [`law_what_words_ask`]: what words ask for
 //!

@@ -200,8 +200,9 @@ why its opening was refused; and last `complete`, or `turns out` (status 5) wher
 do. A line that is refused is told alone, as `line 9 refused E44` (status 2), and nothing runs.
 
 FILE is read whole first. N says how long a run goes on that gets stuck, since a core counts its turns also
-while it waits. After `turns out` standard error tells what was left undone. docs/CORES.md describes cores
-files, and how to choose N.";
+while it waits: a million such turns take some seconds. On a terminal standard error gets a line a second;
+Ctrl-C ends the run without a report. After `turns out` standard error tells what was left undone.
+docs/CORES.md describes cores files, and how to choose N.";
 
 const HELP_CORES: &str = "The cores file";
 

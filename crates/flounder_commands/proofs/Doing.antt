@@ -1,5 +1,5 @@
 -- What commands did, from what each of their calls did.
-use Rattle.std.proofs.Common.{◌≡◌, ℕ, List, [], ◌∷◌, ◌++◌, Option, None, Some, refl, sym, ap, ◌∙◌, subst, inl, inr, append_assoc, append-nil, take, drop}
+use Rattle.std.proofs.Common.{◌≡◌, ℕ, Bool, List, [], ◌∷◌, ◌++◌, Option, None, Some, refl, sym, ap, ◌∙◌, subst, inl, inr, append_assoc, append-nil, take, drop}
 use Rattle.std.specs.Prelude.{IfSome, IfErr, OnOk, OnErr, Result, Ok, Err}
 use Rattle.std.specs.Io.KnownBytes.{Appends, Keeps, append_known}
 use Rattle.std.specs.declared.io.ErrorKind.{ErrorKind}
@@ -17,8 +17,8 @@ use Rattle.flounder_commands.specs.declared.fault.Fault.{Fault}
 use Rattle.flounder_commands.specs.Status as program
 use Rattle.flounder_commands.specs.FileEffects.{FileEffect, was_read, was_not_read, was_written, was_not_written, Adds, Does}
 use Rattle.flounder_commands.specs.Streams.{Output, Streams, Puts, PutsPrefix, Prints, IsUntouched}
-use Rattle.flounder_commands.specs.Parts.{EndsSo, IsCut, IsUnmade}
-use Rattle.flounder_commands.specs.Commands.{failed_status, Compiles, Views, Execs, Helps}
+use Rattle.flounder_commands.specs.Parts.{EndsSo, IsCut, IsUnmade, TellsTable}
+use Rattle.flounder_commands.specs.Commands.{failed_status, Compiles, IsShown, Views, Execs, EndsRun, Helps}
 use Rattle.flounder_commands.proofs.FileEffects.{does_none, does_one, does_more}
 
 -- ---- compile
@@ -80,26 +80,39 @@ compiled_so (Err f) old new file out bytes image made e h done fault = not_writt
 
 -- ---- show
 
-pub not_viewed : (old new : Option (List FileEffect)) (file : List ℕ) (o : Output) (kind : ErrorKind) (status failed : ℕ) → Adds old new (was_not_read file kind) → IsUntouched o → status ≡ failed → failed ≡ failed_status kind
-    → Does old new (Views file o status)
-not_viewed old new file o kind status failed a same e h =
-    does_one old new (was_not_read file kind) (Views file o status) a (inr (inl (same, record { kind = kind; done = refl; ends = e ∙ h })))
+pub not_viewed : (old new : Option (List FileEffect)) (file : List ℕ) (names : Bool) (o : Output) (kind : ErrorKind) (status failed : ℕ) → Adds old new (was_not_read file kind) → IsUntouched o → status ≡ failed → failed ≡ failed_status kind
+    → Does old new (Views file names o status)
+not_viewed old new file names o kind status failed a same e h =
+    does_one old new (was_not_read file kind) (Views file names o status) a (inr (inl (same, record { kind = kind; done = refl; ends = e ∙ h })))
 
 -- what came of the content that was read
-pub show_done : (old new : Option (List FileEffect)) (file bytes content : List ℕ) (o : Output) (status : ℕ) → Adds old new (was_read file bytes) → content ≡ bytes → Views file o status (was_read file content ∷ [])
-    → Does old new (Views file o status)
-show_done old new file bytes content o status a e h =
-    does_one old new (was_read file bytes) (Views file o status) a (subst (λ (t : List ℕ). Views file o status (was_read file t ∷ [])) e h)
+pub show_done : (old new : Option (List FileEffect)) (file bytes content : List ℕ) (names : Bool) (o : Output) (status : ℕ) → Adds old new (was_read file bytes) → content ≡ bytes → Views file names o status (was_read file content ∷ [])
+    → Does old new (Views file names o status)
+show_done old new file bytes content names o status a e h =
+    does_one old new (was_read file bytes) (Views file names o status) a (subst (λ (t : List ℕ). Views file names o status (was_read file t ∷ [])) e h)
 
-pub not_shown : (file bytes : List ℕ) (o : Output) (fault : ShowFault) (status : ℕ) → IsRefusedAs bytes fault → IsUntouched o → status ≡ status_of fault → Views file o status (was_read file bytes ∷ [])
-not_shown file bytes o fault status h same e = inr (inr (inl record { bytes = bytes; fault = fault; is_fault = h; printed = same; done = refl; ends = e }))
+pub not_shown : (file bytes : List ℕ) (names : Bool) (o : Output) (fault : ShowFault) (status : ℕ) → IsRefusedAs bytes fault → IsUntouched o → status ≡ status_of fault → Views file names o status (was_read file bytes ∷ [])
+not_shown file bytes names o fault status h same e = inr (inr (inl record { bytes = bytes; fault = fault; is_fault = h; printed = same; done = refl; ends = e }))
 
-pub shown_so : {A : Type 0} (r : Result A Fault) (file bytes table put : List ℕ) (o : Output) → put ≡ table → Shows bytes table → OnOk r (Prints o put) → IfErr r (λ f. IsCut o put (program.status_of f))
-    → EndsSo r (λ status. Views file o status (was_read file bytes ∷ []))
-shown_so (Ok x) file bytes table put o e h done fault =
-    inl record { bytes = bytes; table = table; shows = h; printed = subst (λ (t : List ℕ). Prints o t) e done; done = refl; ends = refl }
-shown_so (Err f) file bytes table put o e h done fault =
-    inr (inr (inr record { bytes = bytes; table = table; shows = h; put = subst (λ (t : List ℕ). PutsPrefix o t) e fault.1; done = refl; ends = fault.0 }))
+viewed : (file bytes table : List ℕ) (names : Bool) (o : Output) (status : ℕ) → Shows bytes table → TellsTable names table o status → Views file names o status (was_read file bytes ∷ [])
+viewed file bytes table names o status h (inl (text, is, inl p)) =
+    inl record { bytes = bytes; table = table; text = text; shows = h; is_shown = is; printed = p.1; done = refl; ends = p.0 }
+viewed file bytes table names o status h (inl (text, is, inr p)) =
+    inr (inr (inr (inl record { bytes = bytes; table = table; text = text; shows = h; is_shown = is; put = p.1; done = refl; ends = p.0 })))
+viewed file bytes table names o status h (inr p) =
+    inr (inr (inr (inr record { bytes = bytes; table = table; shows = h; asked = p.0; printed = p.1; done = refl; ends = p.2 })))
+
+pub shown_so : {A : Type 0} (r : Result A Fault) (file bytes table put : List ℕ) (names : Bool) (o : Output) → put ≡ table → Shows bytes table → EndsSo r (TellsTable names put o)
+    → EndsSo r (λ status. Views file names o status (was_read file bytes ∷ []))
+shown_so (Ok x) file bytes table put names o e h told = viewed file bytes table names o 0 h (subst (λ (t : List ℕ). TellsTable names t o 0) e told)
+shown_so (Err f) file bytes table put names o e h told =
+    viewed file bytes table names o (program.status_of f) h (subst (λ (t : List ℕ). TellsTable names t o (program.status_of f)) e told)
+
+-- a text that is shown of a table was printed, or a prefix of it was put
+pub told_text : {A : Type 0} (r : Result A Fault) (names : Bool) (table text put : List ℕ) (o : Output) → IsShown names table text → put ≡ text → OnOk r (Prints o put) → IfErr r (λ f. IsCut o put (program.status_of f))
+    → EndsSo r (TellsTable names table o)
+told_text (Ok x) names table text put o is e done fault = inl (text, is, inl (refl, subst (λ (t : List ℕ). Prints o t) e done))
+told_text (Err f) names table text put o is e done fault = inl (text, is, inr (subst (λ (t : List ℕ). IsCut o t (program.status_of f)) e fault))
 
 -- ---- standard output
 
@@ -169,10 +182,10 @@ all_put u v text rest e p = subst (λ (t : List ℕ). Appends u v t) (sym (p.par
 
 -- ---- exec
 
-pub ran : (io : Streams) (v : Option (List ℕ)) (buffer : List ℕ) (status : ℕ)
+pub ran : (strict : Bool) (io : Streams) (v : Option (List ℕ)) (buffer : List ℕ) (status : ℕ)
     → IfSome io.input (λ bytes. (out : List ℕ) × Transcript bytes out × Appends io.output.before v out)
-    → Keeps v io.output.put → io.output.put ≡ append_known io.output.reached buffer → buffer ≡ [] → status ≡ 0 → Execs io status
-ran io v buffer status t k same e z = inl record {
+    → Keeps v io.output.put → io.output.put ≡ append_known io.output.reached buffer → buffer ≡ [] → EndsRun strict io.output.reached status → Execs strict io status
+ran strict io v buffer status t k same e z = inl record {
   transcript = at_input io.input t;
   ends = z;
 }
@@ -182,10 +195,10 @@ ran io v buffer status t k same e z = inl record {
     at_input None t = tt
     at_input (Some bytes) (out, is, a) = (out, is, prints io.output v buffer out a k same e)
 
-pub not_flushed : (io : Streams) (v : Option (List ℕ)) (status : ℕ)
+pub not_flushed : (strict : Bool) (io : Streams) (v : Option (List ℕ)) (status : ℕ)
     → IfSome io.input (λ bytes. (out : List ℕ) × Transcript bytes out × Appends io.output.before v out)
-    → Keeps v io.output.put → status ≡ 4 → Execs io status
-not_flushed io v status t k z = inr (inr record {
+    → Keeps v io.output.put → status ≡ 4 → Execs strict io status
+not_flushed strict io v status t k z = inr (inr record {
   transcript = at_input io.input t;
   ends = z;
 })
@@ -195,10 +208,10 @@ not_flushed io v status t k z = inr (inr record {
     at_input None t = tt
     at_input (Some bytes) (out, is, a) = (out, is, puts_kept io.output.before v io.output.put out a k)
 
-pub cut_short : (io : Streams) (v : Option (List ℕ)) (fault : ExecFault) (status : ℕ)
+pub cut_short : (strict : Bool) (io : Streams) (v : Option (List ℕ)) (fault : ExecFault) (status : ℕ)
     → IfSome io.input (λ bytes. (out : List ℕ) × LeavesWritten fault bytes out × Appends io.output.before v out)
-    → Keeps v io.output.put → status ≡ script.status_of fault → Execs io status
-cut_short io v fault status t k z = inr (inl record {
+    → Keeps v io.output.put → status ≡ script.status_of fault → Execs strict io status
+cut_short strict io v fault status t k z = inr (inl record {
   fault = fault;
   prefix = at_input io.input t;
   ends = z;

@@ -1,2 +1,3 @@
 pub mod FileEffects
 mod Doing
+mod Scanning

@@ -13,13 +13,14 @@ use clap::error::ErrorKind;
 use std::alloc::Global;
 use std::io::{BufWriter, Write};
 
-/// Prints help where the words ask for it.
+/// Prints help, or the version, where the words ask for it. `hint` is what stands behind words about others.
 ///
 /// # Errors
 /// What is wrong with the words; or why help isn't printed.
 pub fn tell_usage<'a, W: Write + Drop>(
     alloc: Global,
     error: clap::Error,
+    hint: &'static str,
     output: &mut BufWriter<W>,
 ) -> Result<(), Fault<'a>>
     ensures told { MatchResult result
@@ -27,9 +28,9 @@ pub fn tell_usage<'a, W: Write + Drop>(
         (λ fault. Helps (kind_of error) (output_of W.contents output.old output.new) (status_of fault)) }
 {
     match error.kind() {
-        ErrorKind::DisplayHelp => put_help(alloc, &error, output),
+        ErrorKind::DisplayHelp | ErrorKind::DisplayVersion => put_help(alloc, &error, output),
         ErrorKind::OutOfMemory => Err(Fault::Memory),
-        _ => Err(Fault::Usage(error)),
+        _ => Err(Fault::Usage { error, hint }),
     }
 }
 
@@ -42,8 +43,8 @@ fn put_help<'a, W: Write + Drop>(
         (λ _. Helps DisplayHelp (output_of W.contents output.old output.new) 0)
         (λ fault. Helps DisplayHelp (output_of W.contents output.old output.new) (status_of fault)) }
 {
-    match help.to_string(alloc) {
-        Ok(text) => print(text.as_bytes(), output),
-        Err(_) => Err(Fault::Memory),
-    }
+    let Ok(text) = help.to_string(alloc) else {
+        return Err(Fault::Memory);
+    };
+    print(text.as_bytes(), output)
 }

@@ -1,5 +1,5 @@
-//! What more is known of a text's first fault than its rule: what could stand there, where the first of a name stands, and how
-//! much is too much.
+//! What more is known of a text's first fault than its rule: what could stand there, where the first of a
+//! name stands, and how much is too much.
 
 use crate::expected::{Expected, expected_at};
 use crate::measure::{KnownTypes, Measure};
@@ -16,7 +16,7 @@ const MAX_DEPTH: u32 = 16;
 const MAX_RPC_NAME: usize = 55;
 
 /// What more is known of a fault. No promise rests on it.
-#[derive(Clone, Copy, Debug, PartialEq, Eq)]
+#[derive(Clone, Copy, Debug)]
 pub enum Cause {
     /// E7: what could stand there.
     Expected(Expected),
@@ -77,7 +77,7 @@ fn cause_in(
 ) -> Result<Option<Cause>, AllocError> {
     match rule {
         Rule::TypeNameTaken => Ok(Some(first_type(tree, at))),
-        Rule::MessageNameTaken => first_message(alloc, tree, at),
+        Rule::MessageNameTaken => Ok(first_message(tree, at)),
         Rule::NameTwice => first_in_list(alloc, tree, at),
         Rule::TooBig => size_of(alloc, tree, at),
         Rule::TooMany => Ok(too_many(tree, at)),
@@ -133,7 +133,7 @@ fn first_type(tree: &Tree<'_>, at: usize) -> Cause {
     Cause::BuiltIn
 }
 
-// The name of a message or an rpc, with what stands behind it in the first and second name that it takes.
+// The name of a message or an rpc, and whether it is an rpc's.
 fn message_name<'t, 'a>(declaration: &'t Declaration<'a>) -> Option<(&'t Name<'a>, bool)> {
     match declaration {
         Declaration::Message {
@@ -149,54 +149,46 @@ fn message_name<'t, 'a>(declaration: &'t Declaration<'a>) -> Option<(&'t Name<'a
     }
 }
 
-fn joined(alloc: Global, name: &[u8], end: &[u8]) -> Result<Vec<u8>, AllocError> {
-    let mut all = Vec::from_slice(alloc, name)?;
-    all.extend_from_slice(end)?;
-    Ok(all)
-}
-
-// The names that a message or an rpc takes.
-fn taken_names(alloc: Global, name: &[u8], is_rpc: bool) -> Result<Vec<Vec<u8>>, AllocError> {
-    let mut names = Vec::new(alloc);
-    if is_rpc {
-        names.push(joined(alloc, name, b"_call")?)?;
-        names.push(joined(alloc, name, b"_response")?)?;
-    } else {
-        names.push(joined(alloc, name, b"")?)?;
+// Whether a message's name is one of the two that an rpc takes.
+fn is_half(name: &[u8], rpc: &[u8]) -> bool {
+    match name.strip_prefix(rpc) {
+        Some(end) => end == b"_call".as_slice() || end == b"_response".as_slice(),
+        None => false,
     }
-    Ok(names)
 }
 
-fn share_a_name(ones: &[Vec<u8>], others: &[Vec<u8>]) -> bool {
-    for one in ones {
-        for other in others {
-            if one.as_slice() == other.as_slice() {
-                return true;
+// Whether two messages or rpcs take the same name.
+fn take_the_same(one: (&Name<'_>, bool), other: (&Name<'_>, bool)) -> bool {
+    match (one.1, other.1) {
+        (false, true) => is_half(one.0.text, other.0.text),
+        (true, false) => is_half(other.0.text, one.0.text),
+        _ => one.0.text == other.0.text,
+    }
+}
+
+// The message or rpc at a place.
+fn message_at<'t, 'a>(tree: &'t Tree<'a>, at: usize) -> Option<(&'t Name<'a>, bool)> {
+    for declaration in &tree.declarations {
+        if let Some(found) = message_name(declaration) {
+            if found.0.at == at {
+                return Some(found);
             }
         }
     }
-    false
+    None
 }
 
 // Where the first message stands that has a name of the message or rpc at this place.
-fn first_message(alloc: Global, tree: &Tree<'_>, at: usize) -> Result<Option<Cause>, AllocError> {
-    let mut wanted = Vec::new(alloc);
+fn first_message(tree: &Tree<'_>, at: usize) -> Option<Cause> {
+    let taken = message_at(tree, at)?;
     for declaration in &tree.declarations {
-        if let Some((name, is_rpc)) = message_name(declaration) {
-            if name.at == at {
-                wanted = taken_names(alloc, name.text, is_rpc)?;
+        if let Some(found) = message_name(declaration) {
+            if found.0.at < at && take_the_same(found, taken) {
+                return Some(Cause::First { at: found.0.at });
             }
         }
     }
-    for declaration in &tree.declarations {
-        if let Some((name, is_rpc)) = message_name(declaration) {
-            let names = taken_names(alloc, name.text, is_rpc)?;
-            if name.at < at && share_a_name(&names, &wanted) {
-                return Ok(Some(Cause::First { at: name.at }));
-            }
-        }
-    }
-    Ok(None)
+    None
 }
 
 fn push_argument<'a>(names: &mut Vec<Name<'a>>, argument: &Argument<'a>) -> Result<(), AllocError> {
@@ -236,11 +228,24 @@ fn list_of<'a>(alloc: Global, declaration: &Declaration<'a>) -> Result<Vec<Name<
     Ok(names)
 }
 
+// The first of the names that has this text.
+fn first_of(names: &[Name<'_>], text: &[u8]) -> Option<Cause> {
+    for name in names {
+        if name.text == text {
+            return Some(Cause::First { at: name.at });
+        }
+    }
+    None
+}
+
 // The first of the names that is the same as the one at this place, if that is among them.
 fn first_same(names: &[Name<'_>], at: usize) -> Option<Cause> {
-    let twice = names.iter().find(|name| name.at == at)?;
-    let first = names.iter().find(|name| name.text == twice.text)?;
-    Some(Cause::First { at: first.at })
+    for name in names {
+        if name.at == at {
+            return first_of(names, name.text);
+        }
+    }
+    None
 }
 
 fn first_in_list(alloc: Global, tree: &Tree<'_>, at: usize) -> Result<Option<Cause>, AllocError> {

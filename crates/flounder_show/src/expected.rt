@@ -116,7 +116,7 @@ const CANDIDATES: &[Candidate] = &[
 ];
 
 /// What could stand at a place: at least one kind of token. It is printed as "`;`, `[` or a name".
-#[derive(Clone, Copy, Debug, PartialEq, Eq)]
+#[derive(Clone, Copy, Debug)]
 pub struct Expected {
     // A bit for each candidate that could, the first the lowest.
     fits: u32,

@@ -1,14 +1,14 @@
 //! What `flounder show` and `flounder compile` make of a file's content.
 //!
-//! - [`show_content`]: the plan table of an interface's text under plan 2, or of an image under the plan that it has; else the
-//!   first fault of the text or of the image, in words for a person (`specs/Content.antt`).
-//! - [`compile_text`]: the image under plan 2 of the interface that a text stands for. Each text that is accepted has
-//!   one, which [`fl_image::read_image`] gives back ([`law_texts_have_images`]).
+//! - [`show_content`]: the plan table of an interface's text under plan 2, or of an image under the plan that
+//!   it has; else the first fault of the text or of the image, in words for a person (`specs/Content.antt`).
+//! - [`compile_text`]: the image under plan 2 of the interface that a text stands for. Each text that is
+//!   accepted has one, which [`fl_image::read_image`] gives back ([`law_texts_have_images`]).
 //! - [`plan_table`]: the table of any plans (`specs/Table.antt`).
 //!
-//! Files: `reading.rt` from a text to its interface, `show.rt` and `image.rt` what the two commands give, `table.rt` and
-//! `row.rt` the table's lines, `fault.rt` why there is nothing to give, `cause.rt` what more is known of that (`expected.rt` which
-//! tokens could stand there, `measure.rt` what is too big).
+//! Files: `reading.rt` from a text to its interface, `show.rt` and `image.rt` what the two commands give,
+//! `table.rt` and `row.rt` the table's lines, `fault.rt` why there is nothing to give, `cause.rt` what more
+//! is known of that (`expected.rt` which tokens could stand there, `measure.rt` what is too big).
 #![tactic(auto)]
 
 mod cause;

@@ -1,4 +1,5 @@
-//! Sizes of types as a text declares them, also of those that are too big. A sum that no 64 bits hold stays at the greatest.
+//! Sizes of types as a text declares them, also of those that are too big. A sum that no 64 bits hold stays
+//! at the greatest.
 
 use fl_parse::{Argument, Declaration, Field, Name, Number, Shape};
 use std::alloc::{AllocError, Global};
@@ -9,7 +10,8 @@ const USUAL_TEXT: u32 = 2_047;
 /// Elements of a sized array without a bound.
 const USUAL_ELEMENTS: u32 = 1_024;
 
-/// A type's bytes and alignment, how deep structs and fixed arrays nest in it, and how deep fixed arrays alone.
+/// A type's bytes and alignment, how deep structs and fixed arrays nest in it, and how deep fixed arrays
+/// alone.
 #[derive(Clone, Copy)]
 pub(crate) struct Measure {
     pub size: u64,

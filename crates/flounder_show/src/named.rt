@@ -97,8 +97,8 @@ fn with_names(alloc: Global, table: &[u8], names: &[&[u8]]) -> Result<Vec<u8>, A
     Ok(named)
 }
 
-/// The plan table of a file's content with a blank and its name at the end of each argument's line. An image keeps no
-/// arguments' names: its table stays as it is.
+/// The plan table of a file's content with a blank and its name at the end of each argument's line. An image
+/// keeps no arguments' names: its table stays as it is.
 ///
 /// # Errors
 /// Out of memory.

@@ -44,7 +44,8 @@ const REFUSED_TEXT: CompileRow = CompileRow {
         b"\
 E14 at 24
 in.if:1:25: messages carry no capabilities
-found there: cap c); }
+    interface i { message m(cap c); }
+                            ^
 help: leave the argument out
 ",
     ),
@@ -60,7 +61,8 @@ const REFUSED_IMAGE: CompileRow = CompileRow {
         b"\
 E1 at 4
 in.if:1:5: no token begins with this byte
-found there: \\x02\\x00
+    FLND\\x02\\x00
+        ^
 help: the file is an image: give the interface's text, or use show
 ",
     ),

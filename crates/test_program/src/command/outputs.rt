@@ -1,6 +1,6 @@
 //! Files that can only be read, and what commands print.
 
-use flounder_commands::FileStore;
+use flounder_commands::{FileKind, FileStore};
 use std::alloc::Global;
 use std::io;
 use std::io::Write;
@@ -13,9 +13,12 @@ pub enum Shelf {
 }
 
 impl FileStore for Shelf {
-    fn read(&mut self, alloc: Global, path: &str) -> io::Result<Vec<u8>> {
+    fn read(&mut self, alloc: Global, path: &str, kind: FileKind) -> io::Result<Vec<u8>> {
         match self {
-            Shelf::Holds(name, content) if path == *name => Ok(Vec::from_slice(alloc, content)?),
+            Shelf::Holds(name, content) if path == *name => {
+                let most = content.len().min(kind.most());
+                Ok(Vec::from_slice(alloc, &content[..most])?)
+            }
             Shelf::Holds(_, _) => Err(io::Error::from(io::ErrorKind::NotFound)),
             Shelf::Fails(kind) => Err(io::Error::from(*kind)),
         }
@@ -23,6 +26,20 @@ impl FileStore for Shelf {
 
     fn write(&mut self, _path: &str, _bytes: &[u8]) -> io::Result<()> {
         Err(io::Error::from(io::ErrorKind::Other))
+    }
+}
+
+/// Takes no byte, since nobody reads any more.
+#[derive(Drop)]
+pub struct Closed;
+
+impl Write for Closed {
+    fn write(&mut self, _buf: &[u8]) -> io::Result<usize> {
+        Err(io::Error::from(io::ErrorKind::BrokenPipe))
+    }
+
+    fn flush(&mut self) -> io::Result<()> {
+        Ok(())
     }
 }
 

@@ -3,7 +3,7 @@
 ghost use Rattle.std.specs.Prelude.{◌≡◌, ◌++◌, ◌∷◌, [], map, option_map, IfOk, IfSome};
 ghost use Rattle.flounder_commands.specs.FileEffects.{Adds, effect_of};
 
-use flounder_commands::FileStore;
+use flounder_commands::{FileKind, FileStore};
 use std::alloc::{AllocError, Global};
 use std::io;
 
@@ -128,10 +128,11 @@ fn note(
 impl FileStore for EndProgress {
     ghost effects = { λ progress. option_map (λ all. map (λ e. effect_of e.is_read e.path.items e.bytes.items e.failed) all.items) progress.effects };
 
-    fn read(&mut self, alloc: Global, path: &str) -> io::Result<Vec<u8>> {
+    fn read(&mut self, alloc: Global, path: &str, kind: FileKind) -> io::Result<Vec<u8>> {
+        let most = self.content.len().min(kind.most());
         let found = match self.unread {
             Some(kind) => Err(io::Error::from(kind)),
-            None if path == "in.if" => Vec::from_slice(alloc, self.content).map_err(
+            None if path == "in.if" => Vec::from_slice(alloc, &self.content[..most]).map_err(
                 io::Error::from,
             ),
             None => Err(io::Error::from(io::ErrorKind::NotFound)),

@@ -1,8 +1,8 @@
 //! `exec`.
 
-use crate::command::outputs::{Narrow, Ran};
+use crate::command::outputs::{Closed, Narrow, Ran};
 use crate::rows::{Row, all_hold};
-use flounder_commands::{Fault, finish, run_script};
+use flounder_commands::{Fault, Watched, finish, run_script};
 use std::alloc::{AllocError, Global};
 use std::io;
 use std::io::{BufWriter, Read, Write};
@@ -19,25 +19,41 @@ impl Read for NoSource {
 }
 
 // What is left in the buffer of standard output is lost.
-fn exec_into<R: Read, W: Write + Drop>(
+fn exec_with<R: Read + Drop, W: Write + Drop>(
     alloc: Global,
-    input: &mut R,
+    options: (bool, bool),
+    input: R,
     output: W,
     errors: &mut Vec<u8>,
 ) -> u8 {
-    let Ok(mut output) = BufWriter::new(alloc, output) else {
+    let (explain, strict) = options;
+    let mut input = Watched::new(alloc, input);
+    let Ok(mut output) = BufWriter::new(alloc, Watched::new(alloc, output)) else {
         return finish(Err(Fault::Memory), errors);
     };
-    let status = run_script(alloc, input, &mut output, errors);
+    let status = run_script(alloc, explain, strict, &mut input, &mut output, errors);
     let _left = output.into_parts();
     status
 }
 
-fn exec<R: Read>(alloc: Global, input: &mut R) -> Ran {
+fn exec_into<R: Read + Drop, W: Write + Drop>(
+    alloc: Global,
+    input: R,
+    output: W,
+    errors: &mut Vec<u8>,
+) -> u8 {
+    exec_with(alloc, (false, false), input, output, errors)
+}
+
+fn exec_so<R: Read + Drop>(alloc: Global, options: (bool, bool), input: R) -> Ran {
     let mut out = Vec::new(alloc);
     let mut err = Vec::new(alloc);
-    let status = exec_into(alloc, input, &mut out, &mut err);
+    let status = exec_with(alloc, options, input, &mut out, &mut err);
     Ran { status, out, err }
+}
+
+fn exec<R: Read + Drop>(alloc: Global, input: R) -> Ran {
+    exec_so(alloc, (false, false), input)
 }
 
 const SCRIPT: &[u8] = b"disp d 0\ndisp d 0\nnope\n";
@@ -46,8 +62,7 @@ const TRANSCRIPT: &[u8] = b"ok\nrefused E92\nrefused E90\n";
 
 // Whether a script has this transcript, and nothing is told of it.
 fn has_transcript(alloc: Global, script: &[u8], transcript: &[u8]) -> bool {
-    let mut script = script;
-    exec(alloc, &mut script).is(0, transcript, b"")
+    exec(alloc, script).is(0, transcript, b"")
 }
 
 // Lines that are refused are no fault.
@@ -56,8 +71,81 @@ fn scripts_are_run(rt: HostRuntime) {
     assert!(rt; has_transcript(rt.alloc(), SCRIPT, TRANSCRIPT));
 }
 
+// A script, its status with `--strict`, and what `--explain` tells.
+struct Explained(&'static [u8], u8, &'static [u8]);
+
+// A block is one item, a refused opening no refused line; the number after `at` counts from the block's first byte.
+const EXPLAINED: &[Explained] = &[
+    Explained(b"disp d 0\n# nothing\n\ndisp e 0\n", 0, b""),
+    Explained(
+        b"disp d 0\n\r\ndisp d 0\r\nnope 1\n",
+        2,
+        b"\
+line 3: E92: there is a dispatcher of this name already
+    disp d 0
+help: choose another name
+line 4: E90: this is no line that is read here
+    nope 1
+help: docs/SCRIPTS.md lists all commands, docs/CORES.md those of a cores file
+",
+    ),
+    Explained(
+        b"idl\ninterface i {\n  message m(cap c);\n}\n.\ncores 17\nidl\n",
+        2,
+        b"\
+line 3, column 13: E14: messages carry no capabilities
+      message m(cap c);
+                ^
+help: leave the argument out
+line 6: E94: there would be too many
+    cores 17
+help: 1 to 16 cores, 64 interfaces, 256 dispatchers, 256 services, 1024 bindings, 15 links of a core
+line 7: E90: this is no line that is read here
+    idl
+help: a block begins with a line that is idl or idl 1, and ends with one that is . alone
+",
+    ),
+    Explained(
+        b"idl\ninterface i { }\n.\nidl 1\ninterface i { }\n.\n",
+        2,
+        b"\
+line 4: E92: there is an interface of this name already
+    idl
+help: choose another name in the text
+",
+    ),
+];
+
+impl Row for Explained {
+    fn holds(&self, alloc: Global) -> Result<bool, Fail> {
+        let told = exec_so(alloc, (true, false), self.0);
+        let strict = exec_so(alloc, (false, true), self.0);
+        let plain = exec(alloc, self.0);
+        let is_same = told.out == plain.out && strict.out == plain.out;
+        let is_told = told.status == 0 && told.err.as_slice() == self.2;
+        Ok(is_same && is_told && strict.status == self.1 && strict.err.is_empty())
+    }
+}
+
+// Standard output stays as it is.
+#[test]
+fn refused_lines_are_told(rt: HostRuntime) -> Result<(), Fail> {
+    all_hold(rt.alloc(), "refused lines", EXPLAINED)
+}
+
+fn is_quiet(alloc: Global) -> bool {
+    let mut err = Vec::new(alloc);
+    exec_into(alloc, SCRIPT, Closed, &mut err) == 4 && err.is_empty()
+}
+
+// Who reads the transcript may stop.
+#[test]
+fn a_closed_pipe_is_quiet(rt: HostRuntime) {
+    assert!(rt; is_quiet(rt.alloc()));
+}
+
 fn is_unread(alloc: Global) -> bool {
-    exec(alloc, &mut NoSource).has_told(4)
+    exec(alloc, NoSource).has_told(4)
 }
 
 // Nothing is printed of a script that isn't read.
@@ -70,11 +158,10 @@ fn scripts_that_are_not_read(rt: HostRuntime) {
 fn is_cut_at(alloc: Global, room: usize) -> bool {
     let mut page = [0; 27];
     let mut err = Vec::new(alloc);
-    let mut script = SCRIPT;
     let Some(output) = page.get_mut(..room) else {
         return false;
     };
-    let status = exec_into(alloc, &mut script, output, &mut err);
+    let status = exec_into(alloc, SCRIPT, output, &mut err);
     status == 4 && !err.is_empty() && TRANSCRIPT.starts_with(&page[..room])
 }
 
@@ -105,8 +192,7 @@ fn lines(alloc: Global, line: &[u8]) -> Result<Vec<u8>, AllocError> {
 // Whether it fails where standard output takes so many bytes.
 fn is_lost(alloc: Global, script: &[u8], room: usize) -> bool {
     let mut err = Vec::new(alloc);
-    let mut rest = script;
-    exec_into(alloc, &mut rest, Narrow(room), &mut err) == 4
+    exec_into(alloc, script, Narrow(room), &mut err) == 4
 }
 
 // A line that is written many times, and its answer: the transcript is longer than the buffer, which is written out on the way.

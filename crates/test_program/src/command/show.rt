@@ -12,6 +12,7 @@ use std::test::Fail;
 fn show_into<W: Write + Drop>(
     alloc: Global,
     file: &str,
+    names: bool,
     shelf: Shelf,
     output: W,
     errors: &mut Vec<u8>,
@@ -20,15 +21,15 @@ fn show_into<W: Write + Drop>(
     let Ok(mut output) = BufWriter::new(alloc, output) else {
         return finish(Err(Fault::Memory), errors);
     };
-    let status = show_file(alloc, file, &mut files, &mut output, errors);
+    let status = show_file(alloc, file, names, &mut files, &mut output, errors);
     let _left = output.into_parts();
     status
 }
 
-fn show(alloc: Global, file: &str, shelf: Shelf) -> Ran {
+fn show(alloc: Global, file: &str, names: bool, shelf: Shelf) -> Ran {
     let mut out = Vec::new(alloc);
     let mut err = Vec::new(alloc);
-    let status = show_into(alloc, file, shelf, &mut out, &mut err);
+    let status = show_into(alloc, file, names, shelf, &mut out, &mut err);
     Ran { status, out, err }
 }
 
@@ -65,7 +66,8 @@ const TOLD: &[ShowRow] = &[ShowRow(
     b"\
 E14 at 24
 cap.if:1:25: messages carry no capabilities
-found there: cap c); }
+    interface i { message m(cap c); }
+                            ^
 help: leave the argument out
 ",
 )];
@@ -77,40 +79,35 @@ const NO_TEXTS: &[ShowRow] = &[
         Shelf::Holds("x", b""),
         2,
         b"",
-        b"E7 at 0\nx:1:1: this isn't expected here\nhelp: compare with the grammar in docs/INTERFACES.md\n",
+        b"E7 at 0\nx:1:1: the text ends here, where `interface` is expected\nhelp: compare with the grammar in docs/INTERFACES.md\n",
     ),
     ShowRow(
         "x",
         Shelf::Holds("x", b"FLNE\x02\x00"),
         2,
         b"",
-        b"E1 at 4\nx:1:5: no token begins with this byte\nfound there: \\x02\\x00\n",
+        b"E1 at 4\nx:1:5: no token begins with this byte\n    FLNE\\x02\\x00\n        ^\nhelp: a text has words, decimal numbers, { } ( ) [ ] , ; and comments alone\n",
     ),
     ShowRow(
         "x",
         Shelf::Holds("x", b"interface\ni {\n"),
         2,
         b"",
-        b"E7 at 14\nx:3:1: this isn't expected here\nhelp: compare with the grammar in docs/INTERFACES.md\n",
+        b"E7 at 14\nx:3:1: the text ends here, where `}`, `alias`, `typedef`, `message`, `call`, `response` or `rpc` is expected\nhelp: compare with the grammar in docs/INTERFACES.md\n",
     ),
     ShowRow(
         "x",
         Shelf::Holds("x", b"\xef\xbb\xbfinterface i { }"),
         2,
         b"",
-        b"E1 at 0\nx:1:1: no token begins with this byte\nfound there: \\xef\\xbb\\xbfinterface i { }\n\
-            help: the file begins with a byte order mark: save it without one\n",
+        b"E1 at 0\nx:1:1: no token begins with this byte\n    \\xef\\xbb\\xbfinterface i { }\n    ^\nhelp: the file begins with a byte order mark: save it without one\n",
     ),
     ShowRow(
         "x",
-        Shelf::Holds(
-            "x",
-            b"interface i { message m(later x); typedef uint8 later; }",
-        ),
+        Shelf::Holds("x", b"interface i { message m(later x); typedef uint8 later; }"),
         2,
         b"",
-        b"E11 at 24\nx:1:25: no type of this name is declared before\nfound there: later x); typedef uint8 later; }\n\
-            help: declare the type above what uses it, or mend its name\n",
+        b"E11 at 24\nx:1:25: no type of this name is declared before\n    interface i { message m(later x); typedef uint8 later; }\n                            ^\nhelp: declare the type above what uses it, or mend its name\n",
     ),
     ShowRow(
         "x",
@@ -121,9 +118,125 @@ const NO_TEXTS: &[ShowRow] = &[
     ),
 ];
 
+// What could stand there, where the first stands, and how much is too much.
+const CAUSES: &[ShowRow] = &[
+    ShowRow(
+        "x",
+        Shelf::Holds("x", b"interface i { message m(uint32 v) }"),
+        2,
+        b"",
+        b"E7 at 34\nx:1:35: `;` is expected here\n    interface i { message m(uint32 v) }\n                                      ^\nhelp: compare with the grammar in docs/INTERFACES.md\n",
+    ),
+    ShowRow(
+        "x",
+        Shelf::Holds("x", b"interface i { message m(uint32 v[4]); }"),
+        2,
+        b"",
+        b"E7 at 33\nx:1:34: a name is expected here\n    interface i { message m(uint32 v[4]); }\n                                     ^\nhelp: compare with the grammar in docs/INTERFACES.md\n",
+    ),
+    ShowRow(
+        "x",
+        Shelf::Holds("x", b"interface i { message m(string s 4); }"),
+        2,
+        b"",
+        b"E7 at 33\nx:1:34: `)`, `[` or `,` is expected here\n    interface i { message m(string s 4); }\n                                     ^\nhelp: compare with the grammar in docs/INTERFACES.md\n",
+    ),
+    ShowRow(
+        "x",
+        Shelf::Holds("x", b"interface i { rpc f(uint8 x); }"),
+        2,
+        b"",
+        b"E7 at 20\nx:1:21: `)`, `in` or `out` is expected here\n    interface i { rpc f(uint8 x); }\n                        ^\nhelp: compare with the grammar in docs/INTERFACES.md\n",
+    ),
+    ShowRow(
+        "x",
+        Shelf::Holds("x", b"interface i {\n  typedef uint8 t;\n  typedef uint8 t;\n}"),
+        2,
+        b"",
+        b"E10 at 49\nx:3:17: this type's name is taken: the first is at 2:17\n      typedef uint8 t;\n                    ^\nhelp: choose another name\n",
+    ),
+    ShowRow(
+        "x",
+        Shelf::Holds("x", b"interface i { typedef uint8 bool; }"),
+        2,
+        b"",
+        b"E10 at 28\nx:1:29: this type's name is taken: a type of this name is built in\n    interface i { typedef uint8 bool; }\n                                ^\nhelp: choose another name\n",
+    ),
+    ShowRow(
+        "x",
+        Shelf::Holds("x", b"interface i { rpc f(in uint8 x); message f_call(); }"),
+        2,
+        b"",
+        b"E12 at 41\nx:1:42: this message's name is taken: the first is at 1:19\n    interface i { rpc f(in uint8 x); message f_call(); }\n                                             ^\nhelp: choose another name\n",
+    ),
+    ShowRow(
+        "x",
+        Shelf::Holds("x", b"interface i { message m(uint8 a, uint8 b, uint8 a); }"),
+        2,
+        b"",
+        b"E13 at 48\nx:1:49: this name stands twice in one list: the first is at 1:31\n    interface i { message m(uint8 a, uint8 b, uint8 a); }\n                                                    ^\nhelp: choose another name\n",
+    ),
+    ShowRow(
+        "x",
+        Shelf::Holds("x", b"interface i { typedef uint64 t[1024]; }"),
+        2,
+        b"",
+        b"E17 at 29\nx:1:30: this type has 8192 bytes, where 4096 are the most\n    interface i { typedef uint64 t[1024]; }\n                                 ^\nhelp: use smaller bounds, or several messages\n",
+    ),
+    ShowRow(
+        "x",
+        Shelf::Holds("x", b"interface i { typedef struct { uint8 a; uint64 b[600]; uint8 c; } s; }"),
+        2,
+        b"",
+        b"E17 at 66\nx:1:67: this type has 4816 bytes, where 4096 are the most\n    terface i { typedef struct { uint8 a; uint64 b[600]; uint8 c; } s; }\n                                                                    ^\nhelp: use smaller bounds, or several messages\n",
+    ),
+    ShowRow(
+        "x",
+        Shelf::Holds("x", b"interface i { typedef uint8 a[1]; typedef a b[1]; typedef b c[1]; typedef c d[1]; typedef d e[1]; typedef e f[1]; typedef f g[1]; typedef g h[1]; }"),
+        2,
+        b"",
+        b"E17 at 140\nx:1:141: fixed arrays nest 8 deep in this type, where 7 is the most\n    d[1]; typedef d e[1]; typedef e f[1]; typedef f g[1]; typedef g h[1]; }\n                                                                    ^\nhelp: use smaller bounds, or several messages\n",
+    ),
+    ShowRow(
+        "x",
+        Shelf::Holds("x", b"interface i { rpc ffffffffffffffffffffffffffffffffffffffffffffffffffffffff(); }"),
+        2,
+        b"",
+        b"E19 at 18\nx:1:19: this rpc's name has 56 bytes, where 55 are the most\n    interface i { rpc ffffffffffffffffffffffffffffffffffffffff\n                      ^\nhelp: split the interface; the name of an rpc has at most 55 bytes\n",
+    ),
+    ShowRow(
+        "x",
+        Shelf::Holds("x", b"interface i { message m(uint8 a0, uint8 a1, uint8 a2, uint8 a3, uint8 a4, uint8 a5, uint8 a6, uint8 a7, uint8 a8, uint8 a9, uint8 a10, uint8 a11, uint8 a12, uint8 a13, uint8 a14, uint8 a15, uint8 a16, uint8 a17, uint8 a18, uint8 a19, uint8 a20, uint8 a21, uint8 a22, uint8 a23, uint8 a24, uint8 a25, uint8 a26, uint8 a27, uint8 a28, uint8 a29, uint8 a30, uint8 a31, uint8 a32); }"),
+        2,
+        b"",
+        b"E19 at 372\nx:1:373: this is one too many: there may be 32 fields or arguments at most\n    6, uint8 a27, uint8 a28, uint8 a29, uint8 a30, uint8 a31, uint8 a32); }\n                                                                    ^\nhelp: split the interface; the name of an rpc has at most 55 bytes\n",
+    ),
+    ShowRow(
+        "x",
+        Shelf::Holds("x", b"interface i { typedef uint8 t[1024]; rpc f(in uint8 a, out uint8 b, in t x[n, 4096]); }"),
+        2,
+        b"",
+        b"E21 at 41\nx:1:42: this message's payload may have 4194320 bytes, where 32768 are the most\n    interface i { typedef uint8 t[1024]; rpc f(in uint8 a, out uint8 b, in t x[n, 409\n                                             ^\nhelp: use smaller bounds, or several messages\n",
+    ),
+    ShowRow(
+        "x",
+        Shelf::Holds("x", b"interface i { typedef uint8 t[0]; }"),
+        2,
+        b"",
+        b"E16 at 30\nx:1:31: a count is 1 to 1,024\n    interface i { typedef uint8 t[0]; }\n                                  ^\nhelp: write a count from 1 to 1024, or use a sized array\n",
+    ),
+    ShowRow(
+        "x",
+        Shelf::Holds("x", b"interface i { message m(string s[5000]); }"),
+        2,
+        b"",
+        b"E20 at 33\nx:1:34: a bound is 1 to 4,096\n    interface i { message m(string s[5000]); }\n                                     ^\nhelp: write a bound from 1 to 4096\n",
+    ),
+];
+
 impl Row for ShowRow {
     fn holds(&self, alloc: Global) -> Result<bool, Fail> {
-        Ok(show(alloc, self.0, self.1).is(self.2, self.3, self.4))
+        Ok(show(alloc, self.0, false, self.1).is(self.2, self.3, self.4))
     }
 }
 
@@ -135,6 +248,48 @@ fn the_table_of_a_text(rt: HostRuntime) -> Result<(), Fail> {
 #[test]
 fn a_text_that_is_refused(rt: HostRuntime) -> Result<(), Fail> {
     all_hold(rt.alloc(), "refused texts", TOLD)
+}
+
+#[test]
+fn what_is_wrong_with_a_text(rt: HostRuntime) -> Result<(), Fail> {
+    all_hold(rt.alloc(), "causes", CAUSES)
+}
+
+const NAMED: &[u8] = b"\
+interface i plan 2
+message 0 f_call least 16 greatest 2063 fragments 37
+arg 0 at 0 fixed 1 on
+arg 1 at 8 string max 2047 text
+message 1 f_response least 4 greatest 4 fragments 1
+arg 0 at 0 fixed 4 err
+message 2 none least 0 greatest 0 fragments 1
+";
+
+fn is_named(alloc: Global) -> bool {
+    let shelf = Shelf::Holds(
+        "x",
+        b"interface i { rpc f(in bool on, out uint32 err, in string text); message none(); }",
+    );
+    show(alloc, "x", true, shelf).is(0, NAMED, b"")
+}
+
+// The call has the arguments of its direction, and the response the others.
+#[test]
+fn names_of_arguments(rt: HostRuntime) {
+    assert!(rt; is_named(rt.alloc()));
+}
+
+fn is_on_one_line(alloc: Global) -> bool {
+    let file = "a\n\u{1b}b.if";
+    let unread = show(alloc, file, false, Shelf::Fails(io::ErrorKind::NotFound));
+    let err = unread.err.as_slice();
+    unread.status == 4 && err.starts_with(b"a\\n\\u{1b}b.if could not be read")
+}
+
+// A name has no line end where it is printed, and moves no cursor.
+#[test]
+fn names_of_files(rt: HostRuntime) {
+    assert!(rt; is_on_one_line(rt.alloc()));
 }
 
 #[test]
@@ -162,7 +317,7 @@ const FIRST_FAULTS: &[First] = &[
 impl Row for First {
     fn holds(&self, alloc: Global) -> Result<bool, Fail> {
         let mut errors = Vec::new(alloc);
-        let status = show_into(alloc, self.0, self.1, Narrow(self.2), &mut errors);
+        let status = show_into(alloc, self.0, false, self.1, Narrow(self.2), &mut errors);
         Ok(status == self.3 && errors.is_empty() == (self.3 == 0))
     }
 }

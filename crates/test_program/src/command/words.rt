@@ -2,7 +2,7 @@
 
 use crate::command::outputs::{Narrow, Ran};
 use crate::rows::{Row, all_hold};
-use flounder_args::{Request, read_words};
+use flounder_args::{Request, hint, read_words};
 use flounder_commands::{Fault, finish, no_words, tell_usage};
 use std::alloc::Global;
 use std::io;
@@ -14,6 +14,8 @@ enum Asked {
     /// `cores`, of the file `x` with two turns.
     TwoTurns,
     Exec,
+    /// `exec` or `show` of the file `x`, with all their options.
+    Options,
     /// Nothing: they are no command.
     Nothing,
     Help,
@@ -32,6 +34,15 @@ const TWO_TURNS: &[Words] = &[
 const SCRIPTS: &[Words] = &[
     Words(Asked::Exec, &["flounder"]),
     Words(Asked::Exec, &["flounder", "exec"]),
+];
+
+const OPTIONS: &[Words] = &[
+    Words(
+        Asked::Options,
+        &["flounder", "exec", "--strict", "--explain"],
+    ),
+    Words(Asked::Options, &["flounder", "show", "--names", "x"]),
+    Words(Asked::Options, &["flounder", "show", "x", "--names"]),
 ];
 
 const NO_COMMANDS: &[Words] = &[
@@ -93,7 +104,22 @@ fn are_two_turns(alloc: Global, words: &[&str]) -> bool {
 
 fn are_exec(alloc: Global, words: &[&str]) -> bool {
     let asked = read_words(alloc, words);
-    matches!(&asked, Ok(Request::Exec))
+    matches!(
+        &asked,
+        Ok(Request::Exec {
+            explain: false,
+            strict: false
+        })
+    )
+}
+
+fn are_options(alloc: Global, words: &[&str]) -> bool {
+    let asked = read_words(alloc, words);
+    match &asked {
+        Ok(Request::Exec { explain, strict }) => *explain && *strict,
+        Ok(Request::Show { file: "x", names }) => *names,
+        _ => false,
+    }
 }
 
 // How words that ask for nothing are told; what is left in the buffer of standard output is lost. Words that ask for something
@@ -110,7 +136,7 @@ fn tell_into<W: Write + Drop>(
     let Ok(mut output) = BufWriter::new(alloc, output) else {
         return finish(Err(Fault::Memory), errors);
     };
-    let status = finish(tell_usage(alloc, error, &mut output), errors);
+    let status = finish(tell_usage(alloc, error, hint(words), &mut output), errors);
     let _left = output.into_parts();
     status
 }
@@ -138,6 +164,7 @@ impl Row for Words {
         Ok(match self.0 {
             Asked::TwoTurns => are_two_turns(alloc, self.1),
             Asked::Exec => are_exec(alloc, self.1),
+            Asked::Options => are_options(alloc, self.1),
             Asked::Nothing => tell(alloc, self.1).has_told(1),
             Asked::Help => are_help(alloc, self.1),
         })
@@ -152,6 +179,34 @@ fn turns_are_told(rt: HostRuntime) -> Result<(), Fail> {
 #[test]
 fn a_script_is_asked_for(rt: HostRuntime) -> Result<(), Fail> {
     all_hold(rt.alloc(), "scripts", SCRIPTS)
+}
+
+#[test]
+fn options_are_told(rt: HostRuntime) -> Result<(), Fail> {
+    all_hold(rt.alloc(), "options", OPTIONS)
+}
+
+// Words, and whether a hint tells how a script comes in.
+struct Hint(&'static [&'static str], bool);
+
+const HINTS: &[Hint] = &[
+    Hint(&["flounder", "exec", "hello.flounder"], true),
+    Hint(&["flounder", "hello.flounder"], true),
+    Hint(&["flounder", "exec", "--nope"], false),
+    Hint(&["flounder", "show"], false),
+    Hint(&["flounder", "--nope"], false),
+];
+
+impl Row for Hint {
+    fn holds(&self, alloc: Global) -> Result<bool, Fail> {
+        let err = tell(alloc, self.0).err;
+        Ok(err.ends_with(b"flounder exec < FILE\n") == self.1)
+    }
+}
+
+#[test]
+fn how_a_script_comes_in(rt: HostRuntime) -> Result<(), Fail> {
+    all_hold(rt.alloc(), "hints", HINTS)
 }
 
 #[test]

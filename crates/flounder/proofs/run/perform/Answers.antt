@@ -7,7 +7,7 @@ pub returns-in-Exec : goal.returns-in-Exec
 returns-in-Exec g c =
     rw c.in-Exec.is (record {
       done =
-          performs_exec (g.F.FileStore.effects c.args.files.now)
+          performs_exec (g.F.FileStore.effects c.args.files.now) c.in-Exec.strict
           (streams_of g.R.Read.remaining g.W.Write.contents c.args.input.now c.run_script.new.input c.args.output.now c.run_script.new.output)
           c.run_script.result c.run_script.ensures.ran;
     })
@@ -18,7 +18,7 @@ returns-in-Show g c =
       done =
           performs_show (g.F.FileStore.effects c.args.files.now) (g.F.FileStore.effects c.show_file.new.files)
           (streams_of g.R.Read.remaining g.W.Write.contents c.args.input.now c.args.input.now c.args.output.now c.show_file.new.output)
-          c.in-Show.file.now c.show_file.result refl c.show_file.ensures.shown;
+          c.in-Show.file.now c.in-Show.names c.show_file.result refl c.show_file.ensures.shown;
     })
 
 pub returns-in-Compile : goal.returns-in-Compile

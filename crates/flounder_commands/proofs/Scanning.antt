@@ -1,0 +1,164 @@
+-- What a scan finds is what there is.
+use Rattle.std.proofs.Common.{◌≡◌, ◌∙◌, ap, refl, sym, subst, ℕ, Bool, true, false, cond, eqb, ◌||◌, List, [], ◌∷◌, ◌++◌, Option, Some, None, IfSome}
+use Rattle.std.specs.Prelude.{◌==◌, if◌then◌else◌, codes}
+use Rattle.std.specs.Char.{is_ascii_digit}
+use Rattle.std.proofs.Common.{◌&&◌}
+use Rattle.std.proofs.lemmas.Bool.{false≢true}
+use Rattle.std.specs.Str.{bytes_eq}
+use Rattle.std.proofs.lemmas.Slice.Eq.{bytes_eq-Decides}
+use Rattle.std.specs.Io.KnownBytes.{Appends, Keeps}
+use Rattle.flounder_commands.specs.Refusals.{begins, is_any, is_numbered, is_refusal, any_line, has_refusal}
+use Rattle.flounder_commands.specs.Scan.{Ahead, before, behind, other, after, ends_line, Scanned, at_start, after_byte, after_all, same_found, same_line, same_scan, told_by}
+
+-- whether a line is a refusal, from its rest
+abbrev passes : Ahead → List ℕ → Bool
+passes (before cs) rest = begins cs is_numbered rest
+passes (behind cs) rest = begins cs is_any rest
+passes other rest = false
+
+passes_end : (a : Ahead) → ends_line a ≡ passes a []
+passes_end (before []) = refl
+passes_end (before (c ∷ cs)) = refl
+passes_end (behind []) = refl
+passes_end (behind (c ∷ cs)) = refl
+passes_end other = refl
+
+-- one byte more, and what is to come is told by the rest
+passes_after : (a : Ahead) (b : ℕ) (rest : List ℕ) → passes (after a b) rest ≡ passes a (b ∷ rest)
+passes_after (before []) b rest =
+    elim (is_ascii_digit b) as (λ d. passes (if d then before [] else (if b == 32 then behind (codes "at ") else other)) rest
+    ≡ (if d then is_numbered rest else begins (codes " at ") is_any (b ∷ rest))) [
+      | true ↦ refl
+      | false ↦ elim (b == 32) as (λ e. passes (if e then behind (codes "at ") else other) rest ≡ (if e then begins (codes "at ") is_any rest else false)) [
+        | true ↦ refl
+        | false ↦ refl
+      ]
+    ]
+passes_after (before (c ∷ cs)) b rest =
+    elim (b == c) as (λ e. passes (if e then before cs else other) rest ≡ (if e then begins cs is_numbered rest else false)) [ true ↦ refl | false ↦ refl ]
+passes_after (behind []) b rest = refl
+passes_after (behind (c ∷ cs)) b rest =
+    elim (b == c) as (λ e. passes (if e then behind cs else other) rest ≡ (if e then begins cs is_any rest else false)) [ true ↦ refl | false ↦ refl ]
+passes_after other b rest = refl
+
+-- tests that agree find the same
+any_line_same : (test first second : List ℕ → Bool) (text : List ℕ) → ((rest : List ℕ) → first rest ≡ second rest) → any_line test first text ≡ any_line test second text
+any_line_same test first second [] h = refl
+any_line_same test first second (b ∷ bs) h =
+    elim (b == 10) as (λ e. (if e then first [] || any_line test test bs else any_line test (λ rest. first (b ∷ rest)) bs)
+    ≡ (if e then second [] || any_line test test bs else any_line test (λ rest. second (b ∷ rest)) bs)) [
+      | true ↦ ap (λ (x : Bool). x || any_line test test bs) (h [])
+      | false ↦ any_line_same test (λ rest. first (b ∷ rest)) (λ rest. second (b ∷ rest)) bs (λ rest. h (b ∷ rest))
+    ]
+
+or_assoc : (a b c : Bool) → ((a || b) || c) ≡ (a || (b || c))
+or_assoc true b c = refl
+or_assoc false b c = refl
+
+or_false : (a : Bool) → a ≡ (a || false)
+or_false true = refl
+or_false false = refl
+
+found_next : (s : Scanned) (b : ℕ) (bs : List ℕ)
+    → ((after_byte s b).found || any_line is_refusal (passes (after_byte s b).line) bs) ≡ (s.found || any_line is_refusal (passes s.line) (b ∷ bs))
+unfolding is_refusal
+found_next s b bs =
+    elim (b == 10) as (λ e. ((if e then s.found || ends_line s.line else s.found)
+    || any_line is_refusal (passes (if e then before (codes "refused E") else after s.line b)) bs)
+    ≡ (s.found || (if e then passes s.line [] || any_line is_refusal is_refusal bs else any_line is_refusal (λ rest. passes s.line (b ∷ rest)) bs))) [
+      | true ↦ ap (λ (x : Bool). (s.found || x) || any_line is_refusal is_refusal bs) (passes_end s.line) ∙ or_assoc s.found (passes s.line []) (any_line is_refusal is_refusal bs)
+      | false ↦ ap (λ (x : Bool). s.found || x) (any_line_same is_refusal (passes (after s.line b)) (λ rest. passes s.line (b ∷ rest)) bs (λ rest. passes_after s.line b rest))
+    ]
+
+-- what is found in all is what was found, or is found in the rest
+finds : (s : Scanned) (text : List ℕ) → (after_all s text).found ≡ (s.found || any_line is_refusal (passes s.line) text)
+unfolding is_refusal
+finds s [] = or_false s.found
+finds s (b ∷ bs) = finds (after_byte s b) bs ∙ found_next s b bs
+
+pub finds_refusals : (text : List ℕ) → (after_all at_start text).found ≡ has_refusal text
+unfolding is_refusal has_refusal
+finds_refusals text = finds at_start text
+
+-- ---- what a writer tells, where the whole of it was scanned
+
+same_lines : (a b : Ahead) → same_line a b ≡ true → a ≡ b
+same_lines (before a) (before b) h = ap before ((bytes_eq-Decides a b).0 h)
+same_lines (behind a) (behind b) h = ap behind ((bytes_eq-Decides a b).0 h)
+same_lines other other h = refl
+same_lines (before a) (behind b) h = absurd (false≢true h)
+same_lines (before a) other h = absurd (false≢true h)
+same_lines (behind a) (before b) h = absurd (false≢true h)
+same_lines (behind a) other h = absurd (false≢true h)
+same_lines other (before b) h = absurd (false≢true h)
+same_lines other (behind b) h = absurd (false≢true h)
+
+line_same : (a : Ahead) → same_line a a ≡ true
+line_same (before a) = (bytes_eq-Decides a a).1 refl
+line_same (behind a) = (bytes_eq-Decides a a).1 refl
+line_same other = refl
+
+same_founds : (a b : Bool) (c : Bool) → (same_found a b && c) ≡ true → (a ≡ b) × (c ≡ true)
+same_founds true true c h = (refl, h)
+same_founds true false c h = absurd (false≢true h)
+same_founds false true c h = absurd (false≢true h)
+same_founds false false c h = (refl, h)
+
+same_scans : (s t : Scanned) → same_scan s t ≡ true → s ≡ t
+same_scans s t h =
+    let p = same_founds s.found t.found (same_line s.line t.line) h in
+    ap (λ (f : Bool). let r : Scanned = record { found = f; line = s.line } in r) p.0
+    ∙ ap (λ (l : Ahead). let r : Scanned = record { found = t.found; line = l } in r) (same_lines s.line t.line p.1)
+
+found_same : (a : Bool) (c : Bool) → c ≡ true → (same_found a a && c) ≡ true
+found_same true c h = h
+found_same false c h = h
+
+scan_same : (s : Scanned) → same_scan s s ≡ true
+scan_same s = found_same s.found (same_line s.line s.line) (line_same s.line)
+
+after_more : (s : Scanned) (a b : List ℕ) → after_all s (a ++ b) ≡ after_all (after_all s a) b
+after_more s [] b = refl
+after_more s (x ∷ a) b = after_more (after_byte s x) a b
+
+-- what is told of all that was scanned
+told_all : (s : Scanned) (x : List ℕ) → s ≡ after_all at_start x → told_by s (Some x) ≡ Some x
+told_all s x e =
+    let same : same_scan s (after_all at_start x) ≡ true = subst (λ (t : Scanned). same_scan s t ≡ true) e (scan_same s) in
+    ap (λ (v : Bool). if v then Some x else None) same
+
+told_case : (s : Scanned) (x : List ℕ) (P : Option (List ℕ) → Type 0) → (s ≡ after_all at_start x → P (Some x)) → P None
+    → (v : Bool) → same_scan s (after_all at_start x) ≡ v → P (if v then Some x else None)
+told_case s x P all none true e = all (same_scans s (after_all at_start x) e)
+told_case s x P all none false e = none
+
+-- either it is all that was scanned, or nothing is told
+told_or : (s : Scanned) (x : List ℕ) (P : Option (List ℕ) → Type 0) → (s ≡ after_all at_start x → P (Some x)) → P None → P (told_by s (Some x))
+told_or s x P all none = told_case s x P all none (same_scan s (after_all at_start x)) refl
+
+-- what a writer tells grows by what is written, which is scanned
+pub told_appends : (s t : Scanned) (a b : Option (List ℕ)) (bs : List ℕ) → t ≡ after_all s bs → Appends a b bs → Appends (told_by s a) (told_by t b) bs
+told_appends s t None b bs e h = tt
+told_appends s t (Some x) None bs e h = absurd h
+told_appends s t (Some x) (Some y) bs e h =
+    told_or s x (λ (o : Option (List ℕ)). Appends o (told_by t (Some y)) bs)
+    (λ (is : s ≡ after_all at_start x). subst (λ (o : Option (List ℕ)). Appends (Some x) o bs)
+    (sym (told_all t y (e ∙ ap (λ (u : Scanned). after_all u bs) is ∙ sym (after_more at_start x bs) ∙ ap (after_all at_start) (sym h)))) h)
+    tt
+
+pub told_keeps : (s t : Scanned) (a b : Option (List ℕ)) → t ≡ s → Keeps a b → Keeps (told_by s a) (told_by t b)
+told_keeps s t None b e h = tt
+told_keeps s t (Some x) None e h = absurd h
+told_keeps s t (Some x) (Some y) e h =
+    told_or s x (λ (o : Option (List ℕ)). Keeps o (told_by t (Some y)))
+    (λ (is : s ≡ after_all at_start x). subst (λ (o : Option (List ℕ)). Keeps (Some x) o)
+    (sym (told_all t y (e ∙ is ∙ ap (after_all at_start) (sym h)))) h)
+    tt
+
+-- what a scan found of all that is told
+pub found_in_told : (s : Scanned) (a : Option (List ℕ)) → IfSome (told_by s a) (λ all. s.found ≡ has_refusal all)
+found_in_told s None = tt
+found_in_told s (Some x) =
+    told_or s x (λ (o : Option (List ℕ)). IfSome o (λ all. s.found ≡ has_refusal all))
+    (λ (is : s ≡ after_all at_start x). ap (λ (u : Scanned). u.found) is ∙ finds_refusals x)
+    tt

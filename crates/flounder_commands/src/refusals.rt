@@ -1,0 +1,113 @@
+//! Lines of a transcript that tell of refused lines, found byte by byte.
+
+ghost use Rattle.std.specs.Prelude.{◌≡◌};
+ghost use Rattle.flounder_commands.specs.Scan.{Ahead, before, behind, after, ends_line, after_byte, after_all, at_start};
+ghost use Rattle.flounder_commands.specs.ScanView.{ahead, scanned};
+
+const REFUSED: &[u8] = b"refused E";
+
+const AT: &[u8] = b"at ";
+
+/// What is to come of a line where it tells of a refused line.
+#[derive(Clone, Copy)]
+enum LineState {
+    /// These bytes before its number, or digits if there are none.
+    Before(&'static [u8]),
+    /// These bytes behind its number.
+    Behind(&'static [u8]),
+    /// It tells of none.
+    Other,
+}
+
+// One more byte of a line of which these are to come before its number.
+fn after_before(rest: &'static [u8], byte: u8) -> LineState
+    ensures is { ahead result ≡ after (before rest.now) byte }
+{
+    match rest.split_first() {
+        Some((first, more)) if *first == byte => LineState::Before(more),
+        Some(_) => LineState::Other,
+        None if byte.is_ascii_digit() => LineState::Before(rest),
+        None if byte == b' ' => LineState::Behind(AT),
+        None => LineState::Other,
+    }
+}
+
+// One more byte of a line of which these are to come behind its number.
+fn after_behind(rest: &'static [u8], byte: u8) -> LineState
+    ensures is { ahead result ≡ after (behind rest.now) byte }
+{
+    match rest.split_first() {
+        Some((first, more)) if *first == byte => LineState::Behind(more),
+        Some(_) => LineState::Other,
+        None => LineState::Behind(rest),
+    }
+}
+
+impl LineState {
+    // One more byte of the line.
+    fn after(self, byte: u8) -> LineState
+        ensures is { ahead result ≡ after (ahead self) byte }
+    {
+        match self {
+            LineState::Before(rest) => after_before(rest, byte),
+            LineState::Behind(rest) => after_behind(rest, byte),
+            LineState::Other => LineState::Other,
+        }
+    }
+
+    // Whether the line tells of a refused one where it ends here.
+    fn is_refusal(self) -> bool
+        ensures is { result ≡ ends_line (ahead self) }
+    {
+        match self {
+            LineState::Before(rest) | LineState::Behind(rest) => rest.is_empty(),
+            LineState::Other => false,
+        }
+    }
+}
+
+/// How far a transcript was read: whether a line told of a refused one, and what is to come of the last line.
+#[derive(Clone, Copy)]
+pub(crate) struct Scan {
+    pub found: bool,
+    line: LineState,
+}
+
+impl Scan {
+    /// Nothing was read.
+    pub(crate) fn new() -> Scan
+        ensures is { scanned result ≡ at_start }
+    {
+        Scan {
+            found: false,
+            line: LineState::Before(REFUSED),
+        }
+    }
+
+    fn after_byte(self, byte: u8) -> Scan
+        ensures is { scanned result ≡ after_byte (scanned self) byte }
+    {
+        if byte == b'\n' {
+            Scan {
+                found: self.found || self.line.is_refusal(),
+                line: LineState::Before(REFUSED),
+            }
+        } else {
+            Scan {
+                found: self.found,
+                line: self.line.after(byte),
+            }
+        }
+    }
+
+    /// These bytes were read behind the others.
+    pub(crate) fn after(self, bytes: &[u8]) -> Scan
+        ensures is { scanned result ≡ after_all (scanned self) bytes.now }
+    {
+        let mut scan = self;
+        for byte in bytes {
+            scan = scan.after_byte(*byte);
+        }
+        scan
+    }
+}

@@ -1,0 +1,327 @@
+//! What a run of cores left undone, from its file and its report: for each end how many calls it was to
+//! handle and how many it handled.
+
+use crate::explain::Items;
+use fl_base::Side;
+use fl_script_lines::{BackEndText, Command, EndName, Line, parse_line};
+use std::alloc::{AllocError, Global};
+use std::fmt;
+use std::io::Write;
+
+/// Counts of a binding's two ends.
+#[derive(Clone, Copy)]
+struct Counts {
+    client: usize,
+    server: usize,
+}
+
+impl Counts {
+    fn add(&mut self, side: Side) {
+        match side {
+            Side::Client => self.client = self.client.saturating_add(1),
+            Side::Server => self.server = self.server.saturating_add(1),
+        }
+    }
+}
+
+/// A binding of a cores file: its name, the client's dispatcher, the service and whether a circuit joins its
+/// ends; the calls that each end is to handle and those that it handled; and whether its opening was refused.
+#[derive(Clone, Copy)]
+struct Bound<'a> {
+    name: &'a [u8],
+    client: &'a [u8],
+    service: &'a [u8],
+    is_circuit: bool,
+    due: Counts,
+    handled: Counts,
+    is_refused: bool,
+}
+
+impl<'a> Bound<'a> {
+    fn new(name: &'a [u8], client: &'a [u8], service: &'a [u8], is_circuit: bool) -> Bound<'a> {
+        let none = Counts {
+            client: 0,
+            server: 0,
+        };
+        Bound {
+            name,
+            client,
+            service,
+            is_circuit,
+            due: none,
+            handled: none,
+            is_refused: false,
+        }
+    }
+}
+
+/// A reply rule: at which end, and of which message.
+#[derive(Clone, Copy)]
+struct Rule<'a> {
+    end: EndName<'a>,
+    message: &'a [u8],
+}
+
+/// What a cores file makes, by the names of its lines.
+#[derive(Drop)]
+struct Made<'a> {
+    cores: Vec<(&'a [u8], u32)>,
+    services: Vec<(&'a [u8], &'a [u8])>,
+    bindings: Vec<Bound<'a>>,
+    rules: Vec<Rule<'a>>,
+}
+
+fn other(side: Side) -> Side {
+    match side {
+        Side::Client => Side::Server,
+        Side::Server => Side::Client,
+    }
+}
+
+impl<'a> Made<'a> {
+    fn new(alloc: Global) -> Made<'a> {
+        Made {
+            cores: Vec::new(alloc),
+            services: Vec::new(alloc),
+            bindings: Vec::new(alloc),
+            rules: Vec::new(alloc),
+        }
+    }
+
+    // The end's other side has one more call to handle.
+    fn add_due(&mut self, end: EndName<'_>) {
+        for binding in self.bindings.iter_mut() {
+            if binding.name == end.binding {
+                binding.due.add(other(end.side));
+            }
+        }
+    }
+
+    // Takes up a line of the file.
+    fn take(&mut self, command: Command<'a>) -> Result<(), AllocError> {
+        match command {
+            Command::Disp { name, core } => self.cores.push((name, core))?,
+            Command::Export {
+                name,
+                dispatcher,
+                interface: _,
+            } => self.services.push((name, dispatcher))?,
+            Command::Bind {
+                name,
+                client,
+                interface: _,
+                service,
+                back_end,
+            } => {
+                let is_circuit = matches!(back_end, BackEndText::Hop(_));
+                self.bindings
+                    .push(Bound::new(name, client, service, is_circuit))?;
+            }
+            Command::Reply {
+                end,
+                message,
+                answer: _,
+            } => self.rules.push(Rule { end, message })?,
+            Command::Call(end, _) => self.add_due(end),
+            _ => {}
+        }
+        Ok(())
+    }
+
+    // An end handled a message: a rule has it answer.
+    fn handle(&mut self, end: EndName<'_>, message: &[u8]) {
+        for binding in self.bindings.iter_mut() {
+            if binding.name == end.binding {
+                binding.handled.add(end.side);
+            }
+        }
+        if self.answers(end, message) {
+            self.add_due(end);
+        }
+    }
+
+    // Whether a rule at an end answers a message.
+    fn answers(&self, end: EndName<'_>, message: &[u8]) -> bool {
+        for rule in &self.rules {
+            let is_there = rule.end.binding == end.binding && rule.end.side == end.side;
+            if is_there && rule.message == message {
+                return true;
+            }
+        }
+        false
+    }
+
+    // Takes up a line of the report.
+    fn report(&mut self, line: &[u8]) {
+        if let Some(behind) = line.strip_prefix(b"handle ".as_slice()) {
+            let (end, call) = split_at_first(behind, b' ');
+            let (message, _) = split_at_first(call, b'(');
+            if let Some(end) = end_named(end) {
+                self.handle(end, message);
+            }
+        } else if let Some(behind) = line.strip_prefix(b"refused ".as_slice()) {
+            let (_number, end) = split_at_first(behind, b' ');
+            let (refused, _) = split_at_first(end, b'.');
+            self.refuse(refused);
+        }
+    }
+
+    // The opening of a binding was refused.
+    fn refuse(&mut self, name: &[u8]) {
+        for binding in self.bindings.iter_mut() {
+            if binding.name == name {
+                binding.is_refused = true;
+            }
+        }
+    }
+
+    // The core of a dispatcher.
+    fn core_of(&self, dispatcher: &[u8]) -> u32 {
+        for (name, core) in &self.cores {
+            if *name == dispatcher {
+                return *core;
+            }
+        }
+        0
+    }
+
+    // The core of a service's dispatcher.
+    fn service_core(&self, service: &[u8]) -> u32 {
+        for (name, dispatcher) in &self.services {
+            if *name == service {
+                return self.core_of(dispatcher);
+            }
+        }
+        0
+    }
+}
+
+// What stands before the first of a byte, and behind it.
+fn split_at_first(text: &[u8], byte: u8) -> (&[u8], &[u8]) {
+    for (at, one) in text.iter().enumerate() {
+        if *one == byte {
+            return (&text[..at], &text[at + 1..]);
+        }
+    }
+    (text, b"")
+}
+
+fn end_named(text: &[u8]) -> Option<EndName<'_>> {
+    let (binding, side) = split_at_first(text, b'.');
+    match side {
+        b"c" => Some(EndName {
+            binding,
+            side: Side::Client,
+        }),
+        b"s" => Some(EndName {
+            binding,
+            side: Side::Server,
+        }),
+        _ => None,
+    }
+}
+
+/// An end that had calls left to handle.
+#[derive(Clone, Copy)]
+struct Left<'a> {
+    name: &'a [u8],
+    side: Side,
+    core: u32,
+    other_core: u32,
+    handled: usize,
+    due: usize,
+}
+
+fn letter(side: Side) -> &'static str {
+    match side {
+        Side::Client => "c",
+        Side::Server => "s",
+    }
+}
+
+impl fmt::Display for Left<'_> {
+    fn fmt<W: fmt::Write>(&self, f: &mut fmt::Formatter<W>) -> fmt::Result {
+        let name = self.name.escape_ascii();
+        write!(
+            f,
+            "{name}.{}, on core {}, handled {}",
+            letter(self.side),
+            self.core,
+            self.handled
+        )?;
+        let name = self.name.escape_ascii();
+        let from = letter(other(self.side));
+        write!(
+            f,
+            " of the {} calls that {name}.{from}, on core {}, was to make\n",
+            self.due, self.other_core
+        )
+    }
+}
+
+const BOTH_WAYS: &str =
+    "help: a circuit with calls both ways can stick for good; docs/WIRE.md, \"Choosing N\", says \
+how many slots its links want\n";
+
+// Tells of an end that had calls left to handle, and whether it had.
+fn tell_end<E: Write>(left: Left<'_>, errors: &mut E) -> bool {
+    let is_left = left.handled < left.due;
+    if is_left {
+        let _told = write!(errors, "{left}");
+    }
+    is_left
+}
+
+// Tells of a binding whose ends had calls left to handle.
+fn tell_binding<E: Write>(made: &Made<'_>, binding: &Bound<'_>, errors: &mut E) {
+    let at_server = Left {
+        name: binding.name,
+        side: Side::Server,
+        core: made.service_core(binding.service),
+        other_core: made.core_of(binding.client),
+        handled: binding.handled.server,
+        due: binding.due.server,
+    };
+    let at_client = Left {
+        name: binding.name,
+        side: Side::Client,
+        core: at_server.other_core,
+        other_core: at_server.core,
+        handled: binding.handled.client,
+        due: binding.due.client,
+    };
+    let is_server_left = tell_end(at_server, errors);
+    if tell_end(at_client, errors) && is_server_left && binding.is_circuit {
+        let _told = errors.write_all(BOTH_WAYS.as_bytes());
+    }
+}
+
+fn made_by<'a>(alloc: Global, content: &'a [u8]) -> Result<Made<'a>, AllocError> {
+    let mut made = Made::new(alloc);
+    let mut items = Items::new(content);
+    for line in content.split_inclusive(|byte| *byte == b'\n') {
+        if let Some(item) = items.next(line) {
+            if !item.is_block {
+                if let Line::Command(command) = parse_line(item.text) {
+                    made.take(command)?;
+                }
+            }
+        }
+    }
+    Ok(made)
+}
+
+/// Tells what a run of cores left undone, from the file's content and its report.
+pub fn tell_unfinished<E: Write>(alloc: Global, content: &[u8], report: &[u8], errors: &mut E) {
+    let Ok(mut made) = made_by(alloc, content) else {
+        return;
+    };
+    for line in report.split(|byte| *byte == b'\n') {
+        made.report(line);
+    }
+    for binding in &made.bindings {
+        if !binding.is_refused {
+            tell_binding(&made, binding, errors);
+        }
+    }
+}
