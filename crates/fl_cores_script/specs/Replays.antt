@@ -1,5 +1,7 @@
--- A script that does what a run of cores is reported to have done: at each end its transcript has the calls of the report.
-use Rattle.std.specs.Prelude.{◌≡◌, ◌==◌, ℕ, Bool, true, false, if◌then◌else◌, List, [], ◌∷◌, Option, None, Some, codes}
+-- A script that does what a run of cores is reported to have done: at each end its transcript has the report's
+-- calls.
+use Rattle.std.specs.Prelude.{◌≡◌, ◌==◌, ℕ, Bool, true, false, if◌then◌else◌, List, [], ◌∷◌, codes}
+use Rattle.std.specs.Prelude.{Option, None, Some}
 use Rattle.std.specs.List.{flat_map, filter, All}
 use Rattle.std.specs.Str.{bytes_eq}
 use Rattle.fl_base.specs.Given.{given}

@@ -246,7 +246,8 @@ fn all_handled_alike(alloc: Global, lines: &[&[u8]], others: &[&[u8]]) -> Result
     all_alike(alloc, lines, others)
 }
 
-/// Whether two texts of lines tell the same handled calls, end by end and in order. `false` also where one doesn't end with a line feed.
+/// Whether two texts of lines tell the same handled calls, end by end and in order. `false` also where one doesn't
+/// end with a line feed.
 ///
 /// # Errors
 /// Out of memory.

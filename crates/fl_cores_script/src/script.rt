@@ -32,8 +32,8 @@ fn replays(alloc: Global, script: &[u8], report: &[u8]) -> Result<bool, AllocErr
     handle_alike(alloc, &transcript, report)
 }
 
-/// The script, if it does what the report tells: run by `exec` it has a transcript that tells, at each end, just the report's calls, in
-/// order. One that is too long for `exec` isn't given back.
+/// The script, if it does what the report tells: run by `exec` it has a transcript that tells, at each end, just
+/// the report's calls, in order. One that is too long for `exec` isn't given back.
 ///
 /// # Errors
 /// Out of memory.
