@@ -1,6 +1,6 @@
 //! The bytes of values and arguments, side by side.
 
-ghost use Rattle.std.specs.Prelude.{◌≡◌, ◌+◌, ◌*◌, ◌++◌, ◌≤◌, length, map, take, IfOk, OnOk};
+ghost use Rattle.std.specs.Prelude.{◌≡◌, ◌+◌, ◌*◌, ◌++◌, ◌≤◌, map, OnOk};
 ghost use Rattle.std.specs.List.{flat_map};
 ghost use Rattle.fl_interface.specs.Interface.{scalar, type_of, arg_type_of, fields_from};
 ghost use Rattle.fl_interface.specs.Sizes.{scalar_size};
