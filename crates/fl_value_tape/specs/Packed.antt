@@ -1,7 +1,7 @@
 -- The packed tape of a call, in bytes: its numbers side by side in the plan's order of arguments, each little-endian in as
 -- many bytes as its type has, a length in 8. No zeros stand between. As a list of numbers it is the tape of `fl_value_data`.
-use Rattle.std.specs.Prelude.{ℕ, List, [], ◌++◌, length, slice_get}
-use Rattle.std.specs.List.{zip, flat_map}
+use Rattle.std.specs.Prelude.{ℕ, List, [], ◌++◌, length}
+use Rattle.std.specs.List.{flat_map}
 use Rattle.std.specs.Int.{bytes_low_first}
 use Rattle.fl_interface.specs.Interface.{TheType, scalar, enumeration, structure, array, TheTypes, field}
 use Rattle.fl_interface.specs.Interface.{TheArgType, fixed, text, sized, TheInterface}

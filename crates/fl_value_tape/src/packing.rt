@@ -1,6 +1,6 @@
 //! The bytes of values and arguments, side by side.
 
-ghost use Rattle.std.specs.Prelude.{◌≡◌, ◌+◌, ◌*◌, ◌++◌, ◌≤◌, length, map, take, IfOk, OnOk};
+ghost use Rattle.std.specs.Prelude.{◌≡◌, ◌+◌, ◌*◌, ◌++◌, ◌≤◌, map, OnOk};
 ghost use Rattle.std.specs.List.{flat_map};
 ghost use Rattle.fl_interface.specs.Interface.{scalar, type_of, arg_type_of, fields_from};
 ghost use Rattle.fl_interface.specs.Sizes.{scalar_size};
@@ -115,11 +115,7 @@ fn push_value(out: &mut Vec<u8>, fixed: &FixedType, value: &Value) -> Result<(),
 
 /// Appends the bytes of a struct's fields.
 #[cycle(tapes)]
-fn push_fields(
-    out: &mut Vec<u8>,
-    fields: &[FixedType],
-    values: &[Value],
-) -> Result<(), AllocError>
+fn push_fields(out: &mut Vec<u8>, fields: &[FixedType], values: &[Value]) -> Result<(), AllocError>
     ensures packed { OnOk result (out.new.items ≡ out.old.items ++ fields_packed (fields_from (map type_of fields.now)) (data_from (map datum_of values.now))) }
 {
     for (index, field) in fields.iter().enumerate() {
@@ -133,11 +129,7 @@ fn push_fields(
 
 /// Appends the bytes of elements of one type.
 #[cycle(tapes)]
-fn push_elements(
-    out: &mut Vec<u8>,
-    element: &FixedType,
-    values: &[Value],
-) -> Result<(), AllocError>
+fn push_elements(out: &mut Vec<u8>, element: &FixedType, values: &[Value]) -> Result<(), AllocError>
     ensures packed { OnOk result (out.new.items ≡ out.old.items ++ elements_packed (type_of element.now) (data_from (map datum_of values.now))) }
 {
     if let FixedType::Scalar(kind) = element {
@@ -222,11 +214,7 @@ fn push_rank(
 
 /// Appends the bytes of all arguments, rank by rank under plan 2.
 #[inline(never)]
-fn push_ranks(
-    out: &mut Vec<u8>,
-    arguments: &[ArgType],
-    values: &[Value],
-) -> Result<(), AllocError>
+fn push_ranks(out: &mut Vec<u8>, arguments: &[ArgType], values: &[Value]) -> Result<(), AllocError>
     ensures packed { OnOk result (out.new.items ≡ out.old.items ++ flat_map packed_argument (by_ranks kind PlanNo.Two (beside arguments.now values.now))) }
 {
     for rank in 0..RANKS {
@@ -249,4 +237,3 @@ pub(crate) fn push_arguments(
         PlanNo::Two => push_ranks(out, arguments, values),
     }
 }
-

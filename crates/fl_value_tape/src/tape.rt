@@ -1,6 +1,6 @@
 //! A call's packed tape.
 
-ghost use Rattle.std.specs.Prelude.{◌≡◌, [], IfOk, OnOk};
+ghost use Rattle.std.specs.Prelude.{◌≡◌, IfOk};
 ghost use Rattle.fl_interface.specs.Interface.{interface_of};
 ghost use Rattle.fl_value_data.specs.Value.{call_of};
 ghost use Rattle.fl_value_tape.specs.Packed.{packed_of};
