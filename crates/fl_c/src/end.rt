@@ -292,7 +292,7 @@ impl HeldEnd {
 ///
 /// # Errors
 /// Those of the operation; an end has no such operation (101).
-#[inline]
+#[inline(never)]
 pub fn use_end(
     end: &mut HeldEnd,
     operation: Operation,
