@@ -23,8 +23,6 @@ mod making;
 mod operation;
 mod sending;
 mod side;
-#[cfg(test)]
-mod tests;
 
 pub use answer::{Answered, Outcome, UseFault};
 pub use end::{HeldEnd, use_end};
