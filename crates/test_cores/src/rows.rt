@@ -15,9 +15,6 @@ const MANY: u64 = 1_000_000_000;
 
 const PINGS: &[u8] = b"idl\ninterface i { message ping(uint32 v); }\n.\n";
 
-// The same laid out by plan 1.
-const PINGS_ONE: &[u8] = b"idl 1\ninterface i { message ping(uint32 v); }\n.\n";
-
 // Calls within a core: by its N-th turn it has handled N of them.
 const THREE_CALLS: &[u8] =
     b"disp d 0\ndisp e 0\nexport s e i\nbind p d i s local 4\ncall p.c ping(1)\ncall p.c ping(2)\ncall p.c ping(3)\n";
@@ -98,8 +95,8 @@ fn join(alloc: Global, one: &[u8], two: &[u8]) -> Result<Vec<u8>, AllocError> {
 }
 
 // A row with 100 calls each way.
-fn both_ways(alloc: Global, pings: &[u8], row: &[u8]) -> Result<Vec<u8>, AllocError> {
-    let mut text = join(alloc, pings, row)?;
+fn both_ways(alloc: Global, row: &[u8]) -> Result<Vec<u8>, AllocError> {
+    let mut text = join(alloc, PINGS, row)?;
     add_lines(alloc, &mut text, "call p.c", (0, 100))?;
     add_lines(alloc, &mut text, "call p.s", (100, 200))?;
     Ok(text)
@@ -126,21 +123,19 @@ fn counts(alloc: Global, told: &Told) -> Result<Option<(u64, u64)>, AllocError> 
 
 #[test]
 fn turns_of_one_core(rt: HostRuntime) -> Result<(), Fail> {
-    for pings in [PINGS, PINGS_ONE] {
-        let text = join(rt.alloc(), pings, THREE_CALLS)?;
-        let told = run(&rt, rt.alloc(), &text, 2, &Open)?;
-        assert_eq!(rt; told.end, CoresEnd::TurnsOut);
-        assert_eq!(rt;
-            told.text.as_slice(),
-            b"handle p.s ping(1)\nhandle p.s ping(2)\nturns out\n".as_slice()
-        );
-        let told = run(&rt, rt.alloc(), &text, 3, &Open)?;
-        assert_eq!(rt; told.end, CoresEnd::Complete);
-        assert_eq!(rt;
-            told.text.as_slice(),
-            b"handle p.s ping(1)\nhandle p.s ping(2)\nhandle p.s ping(3)\ncomplete\n".as_slice()
-        );
-    }
+    let text = join(rt.alloc(), PINGS, THREE_CALLS)?;
+    let told = run(&rt, rt.alloc(), &text, 2, &Open)?;
+    assert_eq!(rt; told.end, CoresEnd::TurnsOut);
+    assert_eq!(rt;
+        told.text.as_slice(),
+        b"handle p.s ping(1)\nhandle p.s ping(2)\nturns out\n".as_slice()
+    );
+    let told = run(&rt, rt.alloc(), &text, 3, &Open)?;
+    assert_eq!(rt; told.end, CoresEnd::Complete);
+    assert_eq!(rt;
+        told.text.as_slice(),
+        b"handle p.s ping(1)\nhandle p.s ping(2)\nhandle p.s ping(3)\ncomplete\n".as_slice()
+    );
     Ok(())
 }
 
@@ -149,12 +144,6 @@ fn the_first_event_that_is_refused_is_told(rt: HostRuntime) -> Result<(), Fail> 
     let told = refusal_of(&rt, rt.alloc(), dispatcher(), turn())?;
     let refused = CoresFault::Setup {
         number: 73,
-        place: 1,
-    };
-    assert!(rt; told == Some(refused));
-    let told = refusal_of(&rt, rt.alloc(), Event::SetCores(1), dispatcher())?;
-    let refused = CoresFault::Setup {
-        number: 93,
         place: 1,
     };
     assert!(rt; told == Some(refused));
@@ -169,7 +158,7 @@ fn the_first_event_that_is_refused_is_told(rt: HostRuntime) -> Result<(), Fail> 
 
 #[test]
 fn no_turns(rt: HostRuntime) -> Result<(), Fail> {
-    let text = both_ways(rt.alloc(), PINGS, ROW)?;
+    let text = both_ways(rt.alloc(), ROW)?;
     let told = run(&rt, rt.alloc(), &text, 0, &Open)?;
     assert_eq!(rt; told.end, CoresEnd::TurnsOut);
     assert_eq!(rt; told.text.as_slice(), b"turns out\n".as_slice());
@@ -178,7 +167,7 @@ fn no_turns(rt: HostRuntime) -> Result<(), Fail> {
 
 #[test]
 fn three_cores_in_step(rt: HostRuntime) -> Result<(), Fail> {
-    let text = both_ways(rt.alloc(), PINGS_ONE, ROW)?;
+    let text = both_ways(rt.alloc(), ROW)?;
     let told = run(&rt, rt.alloc(), &text, MANY, &LockStep::new(&rt))?;
     assert_eq!(rt; told.end, CoresEnd::Complete);
     let wanted = all_handled(rt.alloc())?;
@@ -188,7 +177,7 @@ fn three_cores_in_step(rt: HostRuntime) -> Result<(), Fail> {
 
 #[test]
 fn fifty_turns(rt: HostRuntime) -> Result<(), Fail> {
-    let text = both_ways(rt.alloc(), PINGS, ROW)?;
+    let text = both_ways(rt.alloc(), ROW)?;
     let told = run(&rt, rt.alloc(), &text, 50, &Open)?;
     let few = match counts(rt.alloc(), &told)? {
         Some((client, server)) => client <= 50 && server <= 50,
@@ -201,7 +190,7 @@ fn fifty_turns(rt: HostRuntime) -> Result<(), Fail> {
 // Each of the first two cores waits for the other's first turn, so that one thread for all would never go on. No wait may run out before all is handled.
 #[test]
 fn cores_run_side_by_side(rt: HostRuntime) -> Result<(), Fail> {
-    let text = both_ways(rt.alloc(), PINGS, ROW)?;
+    let text = both_ways(rt.alloc(), ROW)?;
     let gate = SideBySide::new(&rt);
     let told = run(&rt, rt.alloc(), &text, MANY, &gate)?;
     assert!(rt; !gate.wait.ran_out());
@@ -214,7 +203,7 @@ fn cores_run_side_by_side(rt: HostRuntime) -> Result<(), Fail> {
 // Core 1 begins when core 0 has taken nearly all its turns: so next to nothing is handled, and nothing of that is told that wasn't.
 #[test]
 fn a_core_that_begins_late(rt: HostRuntime) -> Result<(), Fail> {
-    let text = both_ways(rt.alloc(), PINGS, ROW)?;
+    let text = both_ways(rt.alloc(), ROW)?;
     let gate = Held::new(&rt, 50);
     let told = run(&rt, rt.alloc(), &text, 50, &gate)?;
     let few = match counts(rt.alloc(), &told)? {
@@ -236,7 +225,7 @@ fn replies_over_a_ring(rt: HostRuntime) -> Result<(), Fail> {
 
 #[test]
 fn a_route_without_its_second_link(rt: HostRuntime) -> Result<(), Fail> {
-    let text = both_ways(rt.alloc(), PINGS_ONE, BROKEN_ROW)?;
+    let text = both_ways(rt.alloc(), BROKEN_ROW)?;
     let told = run(&rt, rt.alloc(), &text, MANY, &Open)?;
     assert_eq!(rt; told.end, CoresEnd::Complete);
     assert_eq!(rt;
