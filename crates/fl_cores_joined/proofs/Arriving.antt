@@ -11,8 +11,7 @@ use Rattle.fl_hop.proofs.Lists.{set_cases, set_here}
 use Rattle.fl_hop.specs.declared.forward.ForwardOutcome.{ForwardOutcome}
 use Rattle.fl_hop.specs.declared.forward.ForwardOutcome.TheVariants as outcome
 use Rattle.fl_hop.specs.Forward.{BeforeAfter, Leaves}
-use Rattle.fl_link.specs.Looks.{Look, saw, found}
-use Rattle.fl_ring.specs.declared.one_duo.WhichSide.{WhichSide}
+use Rattle.fl_link.specs.Looks.{Look, found}
 use Rattle.fl_ring.specs.Side.{SideTakes}
 use Rattle.fl_ring.specs.SharedSides.{TheSide, SharedTakes}
 use Rattle.fl_ring.specs.SharedSeats.{front_seen}
