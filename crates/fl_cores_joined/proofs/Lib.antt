@@ -11,3 +11,5 @@ pub mod Telling
 pub mod Runs
 pub mod Linking
 pub mod Looking
+pub mod Arriving
+pub mod Happening

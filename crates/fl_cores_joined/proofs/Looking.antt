@@ -2,9 +2,11 @@
 use Rattle.std.proofs.Common.{◌≡◌, ◌⊎◌, inl, refl, sym, ◌∙◌, ap, subst, ℕ, false, true, List, length, map, slice_get, slice_set, Option, Some, None}
 use Rattle.std.specs.Prelude.{Result, Ok, Err}
 use Rattle.fl_base.specs.declared.fragment.Frag.{Frag}
+use Rattle.fl_base.specs.declared.identity.EndId.{EndId}
 use Rattle.fl_base.specs.declared.identity.LinkId.{LinkId}
 use Rattle.fl_base.specs.Control.{bare}
 use Rattle.fl_base.specs.Given.{given}
+use Rattle.fl_hop.specs.declared.entry.HopTarget.TheVariants.{End}
 use Rattle.fl_hop.specs.declared.forward.HopFront.{HopFront}
 use Rattle.fl_hop.specs.declared.forward.HopFront.TheVariants as first
 use Rattle.fl_hop.specs.declared.fault.HopFault.{HopFault}
@@ -68,12 +70,12 @@ failed_moved sides links l = by (slice_get links l) refl
         ∙ sym (ap (λ (o : Option LinkSide). given o (map (moved_link_side sides) links) (fails l (map (moved_link_side sides) links)))
         (get_image (moved_link_side sides) links l ∙ ap (λ (o : Option LinkSide). given o None (λ y. Some (moved_link_side sides y))) q))
 
-renumbered_failed : (sides queues : List ℕ) (k : TheCore) (l : ℕ) → renumbered sides queues (with_failed k l) ≡ with_failed (renumbered sides queues k) l
+pub renumbered_failed : (sides queues : List ℕ) (k : TheCore) (l : ℕ) → renumbered sides queues (with_failed k l) ≡ with_failed (renumbered sides queues k) l
 renumbered_failed sides queues k l = ap (λ (ls : List LinkSide). record (renumbered sides queues k) { link_sides = ls }) (failed_moved sides k.link_sides l)
 
 -- ---- a look, over the ring
 
-fronts_by : (which : WhichSide) (d e : TheDuo) (f : Frag) → DuoTakes which d (saw f) e → front_of (side_of which e).waiting ≡ saw f
+pub fronts_by : (which : WhichSide) (d e : TheDuo) (f : Frag) → DuoTakes which d (saw f) e → front_of (side_of which e).waiting ≡ saw f
 fronts_by One d e f h = ap (λ (z : TheHalf). front_of z.waiting) h.0.1 ∙ h.0.0
 fronts_by Two d e f h = ap (λ (z : TheHalf). front_of z.waiting) h.0.1 ∙ h.0.0
 
@@ -124,6 +126,11 @@ module _ {P Q : Type 0} (Good : P → Type 0) (m : P → Q) (takes : P → Look 
     pub looks_acknowledged : LooksAhead takes front_p l (at_side k p) (Ok front.Acknowledged) (at_side k2 q)
         → LooksAhead takes2 front_q l (at_side (here k) (m p)) (Ok front.Acknowledged) (at_side (here k2) (m q)) × Good q
     looks_acknowledged (sees, e) = let x = seen_so (Ok first.Acknowledged) sees in ((x.0, ap here e), x.1)
+
+    -- it finds a fragment for an end of the core
+    pub looks_arrival : (frag : Frag) (e : EndId) → LooksAhead takes front_p l (at_side k p) (Ok (front.Arrival frag e)) (at_side k2 q)
+        → LooksAhead takes2 front_q l (at_side (here k) (m p)) (Ok (front.Arrival frag e)) (at_side (here k2) (m q)) × Good q
+    looks_arrival frag e (sees, s) = let x = seen_so (Ok (first.Goes frag (End e))) sees in ((x.0, ap here s), x.1)
 
     pub looks_failed : (fault : LinkReceiveFault) → LooksAhead takes front_p l (at_side k p) (Err fault) (at_side k2 q)
         → LooksAhead takes2 front_q l (at_side (here k) (m p)) (Err fault) (at_side (here k2) (m q)) × Good q

@@ -1,7 +1,12 @@
--- An interleaving off circuits is a run of the machine, moment by moment.
-use Rattle.std.proofs.Common.{refl, sym, subst, ℕ, List, [], ◌∷◌, ◌++◌}
+-- An interleaving between neighbours is a run of the machine, moment by moment.
+use Rattle.std.proofs.Common.{◌≡◌, refl, sym, subst, ℕ, List, [], ◌∷◌, ◌++◌}
 use Rattle.fl_core.specs.declared.core_job.CoreJob.{CoreJob}
-use Rattle.std.specs.Prelude.{Ok, Err}
+use Rattle.std.specs.Prelude.{Result, Ok, Err}
+use Rattle.fl_base.specs.declared.fragment.Frag.{Frag}
+use Rattle.fl_base.specs.declared.identity.EndId.{EndId}
+use Rattle.fl_base.specs.declared.identity.LinkId.{LinkId}
+use Rattle.fl_hop.specs.declared.forward.ForwardOutcome.{ForwardOutcome}
+use Rattle.fl_core.specs.declared.fault.LinkReceiveFault.{LinkReceiveFault}
 use Rattle.fl_core.specs.declared.answer.LinkFront.TheVariants as front
 use Rattle.fl_core.specs.Faults.{link_number}
 use Rattle.fl_core_run.specs.LogEntries.{LogEntry, looked, passed, arrived, heard, said, told, opened, called, ruled, wrote, acked, turned}
@@ -11,7 +16,7 @@ use Rattle.fl_model.specs.State.{State}
 use Rattle.fl_model.specs.Step.{step}
 use Rattle.fl_world_refines.specs.Laws.{StepsAgree}
 use Rattle.fl_cores_joined.specs.Joined.{JoinedCore, AreWhole}
-use Rattle.fl_cores_joined.specs.Steps.{does, forwards, HappensAt, IsWholeEvent, exchange, asks}
+use Rattle.fl_cores_joined.specs.Steps.{does, forwards, HappensAt, IsWholeEvent, Follows, exchange, asks, forward_asks}
 use Rattle.fl_cores_joined.specs.Laws.{TheyShow, MachineDoes}
 use Rattle.fl_cores_joined.specs.Runs.{asked_in, MachineRuns, OpensNone, RunsJoin}
 use Rattle.fl_cores_joined.proofs.Writing.{writes_are}
@@ -20,6 +25,7 @@ use Rattle.fl_cores_joined.proofs.Calling.{calls_are, rules_are}
 use Rattle.fl_cores_joined.proofs.Telling.{acks_are}
 use Rattle.fl_cores_joined.proofs.Linking.{says_so, tells_so}
 use Rattle.fl_cores_joined.proofs.Looking.{looks_so}
+use Rattle.fl_cores_joined.proofs.Arriving.{arrives_there}
 
 one_more : (event : Event) (answer : Answer) (s : State) (ms ys : List JoinedCore) (zs : List Exchange) → MachineDoes event answer s ms
     → ((z : State) → TheyShow ms z → MachineRuns zs z ys) → MachineRuns (exchange event answer ∷ zs) s ys
@@ -63,9 +69,30 @@ module _ (law : StepsAgree) (jobs : List CoreJob) where
   by_event n (heard i l frag answer) xs ms ys s zs off some h show whole still rest = absurd some
   by_event n (opened name request answer) xs ms ys s zs off some h show whole still rest = absurd off
 
+  -- a look with the arrival behind it, and then the others
+  by_arrival : (n i : ℕ) (l : LinkId) (frag : Frag) (e : EndId) (answer : Result ForwardOutcome LinkReceiveFault) (look : LogEntry)
+      (xs mid ms ys : List JoinedCore) (s : State) (zs : List Exchange) → look ≡ looked i l (Ok (front.Arrival frag e))
+      → (h : HappensAt jobs n look xs mid) → HappensAt jobs n (arrived i l frag e answer) mid ms → TheyShow xs s → AreWhole xs → AreWhole ms
+      → ((z : State) → TheyShow ms z → MachineRuns zs z ys)
+      → MachineRuns (forward_asks n h.before.run.core look (arrived i l frag e answer) ++ zs) s ys
+  by_arrival n i l frag e answer look xs mid ms ys s zs same h g show whole still rest =
+      subst (λ (x : LogEntry). (t : HappensAt jobs n x xs mid) → MachineRuns (forward_asks n t.before.run.core x (arrived i l frag e answer) ++ zs) s ys)
+      (sym same)
+      (λ t. one_more _ _ s ms ys zs (arrives_there law n i l frag e answer jobs xs mid ms s show whole still t g) rest) h
+
+-- what an arrival follows
+arrival_of : (look : LogEntry) (i : ℕ) (l : LinkId) (frag : Frag) (e : EndId) (answer : Result ForwardOutcome LinkReceiveFault)
+    → Follows look (arrived i l frag e answer) → look ≡ looked i l (Ok (front.Arrival frag e))
+arrival_of (looked side m (Ok (front.Arrival f d))) i l frag e answer (sides, links, frags, names) =
+    λ j. looked (sym sides j) (sym links j) (Ok (front.Arrival (sym frags j) (sym names j)))
+arrival_of look i l frag e answer h = absurd h
+
 pub runs_join : StepsAgree → RunsJoin
 runs_join law jobs xs ys [] s show whole off h = record { answers = refl; shows = subst (λ (l : List JoinedCore). TheyShow l s) (sym h) show }
 runs_join law jobs xs ys (does n log_entry ∷ moments) s show whole off h =
     by_event law jobs n log_entry xs h.0 ys s (asked_in jobs h.0 moments ys h.3) off.0 h.1.0 h.1.1 show whole h.2
     (λ z shown. runs_join law jobs h.0 ys moments z shown h.2 off.1 h.3)
+runs_join law jobs xs ys (forwards n look (arrived i l frag e answer) ∷ moments) s show whole off h =
+    by_arrival law jobs n i l frag e answer look xs h.1.1.0 h.0 ys s (asked_in jobs h.0 moments ys h.3) (arrival_of look i l frag e answer h.1.0)
+    h.1.1.1 h.1.1.2 show whole h.2 (λ z shown. runs_join law jobs h.0 ys moments z shown h.2 off h.3)
 runs_join law jobs xs ys (forwards n look follows ∷ moments) s show whole off h = absurd off

@@ -1,16 +1,19 @@
 -- The laws of joined cores: what one of them does is the machine's event of that name, and together they show
 -- what the machine comes to.
-use Rattle.std.specs.Prelude.{ℕ, ◌≡◌, false, List, Some, Result}
+use Rattle.std.specs.Prelude.{ℕ, ◌≡◌, false, List, Some, Result, Ok}
+use Rattle.fl_base.specs.declared.fragment.Frag.{Frag}
 use Rattle.fl_base.specs.declared.identity.EndId.{EndId}
 use Rattle.fl_base.specs.declared.identity.LinkId.{LinkId}
 use Rattle.fl_base.specs.declared.identity.MsgNo.{MsgNo}
 use Rattle.fl_value_data.specs.Value.{TheCall}
+use Rattle.fl_hop.specs.declared.forward.ForwardOutcome.{ForwardOutcome}
 use Rattle.fl_endpoint.specs.declared.fault.EndFault.{EndFault}
 use Rattle.fl_endpoint.specs.declared.answer.WriteAnswer.{WriteAnswer}
 use Rattle.fl_core.specs.declared.turn_answer.TurnAnswer.{TurnAnswer}
 use Rattle.fl_core.specs.declared.turn_answer.AckAnswer.{AckAnswer}
 use Rattle.fl_core.specs.declared.board_fault.BoardFault.{BoardFault}
 use Rattle.fl_core.specs.declared.answer.LinkFront.{LinkFront}
+use Rattle.fl_core.specs.declared.answer.LinkFront.TheVariants.{Arrival}
 use Rattle.fl_core.specs.declared.answer.MonitorWrite.{MonitorWrite}
 use Rattle.fl_core.specs.declared.fault.LinkReceiveFault.{LinkReceiveFault}
 use Rattle.fl_core.specs.declared.wiring.Outlet.{Outlet}
@@ -20,7 +23,8 @@ use Rattle.fl_model.specs.Events.{Answer}
 use Rattle.fl_model.specs.State.{State}
 use Rattle.fl_model.specs.Step.{step}
 use Rattle.fl_core.specs.declared.core_job.CoreJob.{CoreJob}
-use Rattle.fl_core_run.specs.LogEntries.{LogEntry, looked, said, told, called, ruled, wrote, acked, turned}
+use Rattle.fl_core_run.specs.LogEntries.{LogEntry, looked, arrived, said, told, called, ruled}
+use Rattle.fl_core_run.specs.LogEntries.{wrote, acked, turned}
 use Rattle.fl_core_run.specs.Steps.{lacks_to_call}
 use Rattle.fl_world_refines.specs.View.{TheWorld}
 use Rattle.fl_world_refines.specs.ShowsState.{Shows}
@@ -28,7 +32,7 @@ use Rattle.fl_world_refines.specs.Taking.{turn_answer}
 use Rattle.fl_world_refines.specs.Linking.{write_answer as monitor_answer, ack_answer}
 use Rattle.fl_cores_joined.specs.Joined.{JoinedCore, IsJoined, AreWhole}
 use Rattle.fl_cores_joined.specs.Steps.{HappensAt, call_answer, rule_answer, write_answer, acked_answer}
-use Rattle.fl_cores_joined.specs.Steps.{look_answer, neighbour_on}
+use Rattle.fl_cores_joined.specs.Steps.{look_answer, arrival_answer, neighbour_on}
 
 -- the cores make a world that shows this state
 pub record TheyShow (xs : List JoinedCore) (s : State) : Type 0 where
@@ -92,3 +96,13 @@ TellsJoin = (n side : ℕ) (l : LinkId) (answer : AckAnswer)
 abbrev pub LooksJoin : Type 0
 LooksJoin = (n side : ℕ) (l : LinkId) (found : Result LinkFront LinkReceiveFault) (answer : Answer)
     → look_answer found ≡ Some answer → IsOnLink (looked side l found) n l (forward n) answer
+
+-- a look that finds a fragment for an end of the core, with the fragment's arrival behind it
+abbrev pub ArrivalsJoin : Type 0
+ArrivalsJoin = (n side : ℕ) (l : LinkId) (frag : Frag) (e : EndId)
+    (answer : Result ForwardOutcome LinkReceiveFault)
+    (jobs : List CoreJob) (xs ms ys : List JoinedCore) (s : State)
+    → TheyShow xs s → AreWhole xs → AreWhole ys
+    → (h : HappensAt jobs n (looked side l (Ok (Arrival frag e))) xs ms)
+    → HappensAt jobs n (arrived side l frag e answer) ms ys
+    → MachineDoes (forward n (neighbour_on h.before.run.core l)) (arrival_answer answer) s ys

@@ -1,15 +1,17 @@
 -- A ring as its two sides make it, while each is in the hands of a core of its own; and when a step of one
 -- side finds what stands there. Law.
-use Rattle.std.specs.Prelude.{◌≡◌, ◌⊎◌, ◌<◌, ◌≤◌, List, [], ◌∷◌, ◌++◌, length, drop, Some}
+use Rattle.std.specs.Prelude.{◌≡◌, ◌⊎◌, ◌^◌, ◌<◌, ◌≤◌, false, List, [], ◌∷◌, ◌++◌, length, drop, Some, None}
 use Rattle.fl_base.specs.declared.fragment.Frag.{Frag}
-use Rattle.fl_base.specs.Control.{told_of}
+use Rattle.fl_base.specs.Control.{told_of, is_ack_only}
 use Rattle.fl_base.specs.Prefix.{IsPrefix}
-use Rattle.fl_link.specs.Looks.{Look}
+use Rattle.fl_link.specs.Looks.{Look, placed, saw, found, missed}
+use Rattle.fl_link.specs.Queue.{look_at}
 use Rattle.fl_ring.specs.Counts.{count_from}
 use Rattle.fl_ring.specs.declared.one_duo.WhichSide.{WhichSide}
 use Rattle.fl_ring.specs.declared.one_duo.WhichSide.TheVariants.{One, Two}
 use Rattle.fl_ring.specs.Duo.{TheHalf, TheDuo, DuoPuts, DuoTakes}
-use Rattle.fl_ring.specs.SharedSides.{TheSide, SharedPuts, SharedTakes}
+use Rattle.fl_ring.specs.SharedSides.{TheSide, SharedPuts, SharedTakes, SideMayCome, KnowsSent, free_of}
+use Rattle.fl_ring.specs.SharedSides.{side_written, side_taken, side_missed}
 
 -- ---- the ring of two sides
 
@@ -85,3 +87,17 @@ StepsOfRing step RingSteps = (which : WhichSide) (x y : FacingSide) (look : Look
 pub record TrueStepsAreTheRings : Type 0 where
   pub puts : StepsOfRing SharedPuts DuoPuts
   pub takes : StepsOfRing SharedTakes DuoTakes
+
+-- ---- law: there are such steps
+
+-- A side that knows of room puts; what stands first is taken, unless it would tell more than was put; and
+-- where nothing stands, a look misses.
+pub record TrueStepsHappen : Type 0 where
+  pub puts : (x : FacingSide) (frag : Frag) → is_ack_only frag ≡ false → length x.side.sent < 2 ^ 62
+      → 2 ≤ free_of x.side → Truly SharedPuts x (placed frag) (record x { side = side_written x.side frag })
+  pub takes : (x : FacingSide) (first frag : Frag) (rest : List Frag)
+      → standing_for x.side x.across ≡ first ∷ rest → look_at first ≡ saw frag
+      → SideMayCome x.side first → KnowsSent (side_taken x.side first)
+      → Truly SharedTakes x (found frag) (record x { side = side_taken x.side first })
+  pub misses : (x : FacingSide) → standing_for x.side x.across ≡ [] → x.side.peeked ≡ None
+      → Truly SharedTakes x missed (record x { side = side_missed x.side })

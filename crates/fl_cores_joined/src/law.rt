@@ -1,16 +1,18 @@
 //! What cores do together, joined to one world: laws, as the contracts of functions that do nothing.
 
-ghost use Rattle.fl_cores_joined.specs.Rings.{TrueStepsAreTheRings};
+ghost use Rattle.fl_cores_joined.specs.Rings.{TrueStepsAreTheRings, TrueStepsHappen};
 ghost use Rattle.fl_cores_joined.specs.Laws.{WritesJoin, TurnsJoin, AcksJoin, CallsJoin, RulesJoin};
-ghost use Rattle.fl_cores_joined.specs.Laws.{MonitorsJoin, TellsJoin, LooksJoin};
+ghost use Rattle.fl_cores_joined.specs.Laws.{MonitorsJoin, TellsJoin, LooksJoin, ArrivalsJoin};
 ghost use Rattle.fl_cores_joined.specs.Runs.{RunsJoin};
 
 use fl_world_refines::law_steps_agree;
 
 /// A step of a side over shared words whose loads find what stands there is the same step of the ring that
-/// its two sides make, and what each side took is still the first of what the other put.
+/// its two sides make, and what each side took is still the first of what the other put. There are such
+/// steps.
 pub fn law_true_steps()
     ensures rings { TrueStepsAreTheRings }
+    ensures happen { TrueStepsHappen }
 {}
 
 /// A write of an end of one core is the machine's, into a queue, onto a ring between two of the cores, or
@@ -32,18 +34,20 @@ pub fn law_jobs_join()
     law_steps_agree();
 }
 
-/// What a core does on a link is the machine's: its monitor writes, what was read is told, and a look finds
-/// nothing that is to go on.
+/// What a core does on a link is the machine's: its monitor writes, what was read is told, a look finds
+/// nothing that is to go on, or it finds a fragment for an end of the core, which arrives there.
 pub fn law_links_join()
     ensures says { MonitorsJoin }
     ensures tells { TellsJoin }
     ensures looks { LooksJoin }
+    ensures arrivals { ArrivalsJoin }
 {
     law_steps_agree();
 }
 
-/// Where cores do one thing after another, each look finds what stands in its ring at that moment, and no
-/// circuit is opened, that is a run of the machine, with the cores' answers, to a state that the cores show.
+/// Where cores do one thing after another, each look finds what stands in its ring at that moment, no circuit
+/// is opened and what goes over links goes between neighbours, that is a run of the machine, with the cores'
+/// answers, to a state that the cores show.
 pub fn law_runs_join()
     ensures runs { RunsJoin }
 {

@@ -1,4 +1,5 @@
-//! The cores of a run that `run_cores` reports, joined to one world: what they do together is a run of the machine.
+//! The cores of a run that `run_cores` reports, joined to one world: what they do together is a run of the
+//! machine.
 //!
 //! Contract for the layers above: [`law_handed_out_join`] (`specs/Begin.antt`), [`law_reports_join`]
 //! (`specs/Whole.antt`), over interleavings as `fl_cores_joined` has them.

@@ -1,0 +1,55 @@
+-- There are steps of a side whose loads find what stands there.
+use Rattle.std.proofs.Common.{◌≡◌, inr, refl, ℕ, ◌+◌, ◌^◌, ◌<◌, ◌≤◌, false, List, [], ◌∷◌, length, None, arith}
+use Rattle.fl_base.specs.declared.fragment.Frag.{Frag}
+use Rattle.fl_base.specs.Control.{is_ack_only}
+use Rattle.fl_link.specs.Looks.{placed, saw, found, missed}
+use Rattle.fl_link.specs.Queue.{look_at}
+use Rattle.fl_ring.specs.SharedSides.{TheSide, SharedPuts, SharedTakes, SideMayCome, KnowsSent, free_of, side_written, side_taken, side_missed}
+use Rattle.fl_world_refines.proofs.FramesBase.{not_both}
+use Rattle.fl_cores_joined.specs.Rings.{FacingSide, standing_for, Truly, TrueStepsHappen}
+
+no_more : {X : Type 0} (a : ℕ) → a < a → X
+no_more a h = absurd (omega (arith, h))
+
+no_one_more : {X : Type 0} (a : ℕ) → a + 1 ≡ a → X
+no_one_more a e = absurd (omega (arith, e))
+
+few : {X : Type 0} (s : TheSide) → free_of s < 2 → 2 ≤ free_of s → X
+few s h room = absurd (omega (arith, h, room))
+
+puts_so : (x : FacingSide) (frag : Frag) → is_ack_only frag ≡ false → length x.side.sent < 2 ^ 62 → 2 ≤ free_of x.side
+    → Truly SharedPuts x (placed frag) (record x { side = side_written x.side frag })
+puts_so x frag plain most room = (
+  (plain, most, (x.side, record { by_known = λ h. refl; by_look = λ h. few x.side h room }, room, refl)),
+  record { nothing = λ h. no_more x.side.misses h; something = λ same h. no_more x.side.loads h },
+  refl,
+)
+
+takes_so : (x : FacingSide) (first frag : Frag) (rest : List Frag) → standing_for x.side x.across ≡ first ∷ rest → look_at first ≡ saw frag
+    → SideMayCome x.side first → KnowsSent (side_taken x.side first) → Truly SharedTakes x (found frag) (record x { side = side_taken x.side first })
+takes_so x first frag rest stood is may knows = (
+  (first, is, (may, refl, knows)),
+  record {
+    nothing = λ h. no_more x.side.misses h;
+    something = λ same h. record {
+      first = first;
+      rest = rest;
+      stood_is = stood;
+      known = refl;
+      saw = λ f e. not_both None f refl e;
+      took = inr refl;
+    };
+  },
+  refl,
+)
+
+misses_so : (x : FacingSide) → standing_for x.side x.across ≡ [] → x.side.peeked ≡ None
+    → Truly SharedTakes x missed (record x { side = side_missed x.side })
+misses_so x none unseen = (
+  (unseen, refl),
+  record { nothing = λ h. none; something = λ same h. no_one_more x.side.misses same },
+  refl,
+)
+
+pub steps_happen : TrueStepsHappen
+steps_happen = record { puts = puts_so; takes = takes_so; misses = misses_so }
