@@ -53,8 +53,7 @@ const LONG_TURNS: &str = "turns";
 // So many turns of a core may be counted.
 const MAX_TURNS: u64 = 1_000_000_000_000;
 
-const HINT_SCRIPT: &str =
-    "\nhelp: a script comes in on standard input: flounder exec < FILE\n";
+const HINT_SCRIPT: &str = "\nhelp: a script comes in on standard input: flounder exec < FILE\n";
 
 const ABOUT: &str =
     "Runs scripts of messages between dispatchers, also with threads, compiles interfaces, and shows how they are laid out";
@@ -100,7 +99,8 @@ is an answer and no fault: the status is 0, or 3 where it ran out of memory and 
 failed. With --strict it is 2 where a line was refused; --explain says on standard error what is wrong with
 each. docs/SCRIPTS.md describes all commands and their answers.";
 
-const HELP_EXPLAIN: &str = "Also tell each refused line on standard error: where it stands, what is wrong, and what to do";
+const HELP_EXPLAIN: &str =
+    "Also tell each refused line on standard error: where it stands, what is wrong, and what to do";
 
 const HELP_STRICT: &str = "End with status 2 where a line was refused";
 

@@ -104,7 +104,10 @@ const NO_TEXTS: &[ShowRow] = &[
     ),
     ShowRow(
         "x",
-        Shelf::Holds("x", b"interface i { message m(later x); typedef uint8 later; }"),
+        Shelf::Holds(
+            "x",
+            b"interface i { message m(later x); typedef uint8 later; }",
+        ),
         2,
         b"",
         b"E11 at 24\nx:1:25: no type of this name is declared before\n    interface i { message m(later x); typedef uint8 later; }\n                            ^\nhelp: declare the type above what uses it, or mend its name\n",
@@ -150,7 +153,10 @@ const CAUSES: &[ShowRow] = &[
     ),
     ShowRow(
         "x",
-        Shelf::Holds("x", b"interface i {\n  typedef uint8 t;\n  typedef uint8 t;\n}"),
+        Shelf::Holds(
+            "x",
+            b"interface i {\n  typedef uint8 t;\n  typedef uint8 t;\n}",
+        ),
         2,
         b"",
         b"E10 at 49\nx:3:17: this type's name is taken: the first is at 2:17\n      typedef uint8 t;\n                    ^\nhelp: choose another name\n",
@@ -171,7 +177,10 @@ const CAUSES: &[ShowRow] = &[
     ),
     ShowRow(
         "x",
-        Shelf::Holds("x", b"interface i { message m(uint8 a, uint8 b, uint8 a); }"),
+        Shelf::Holds(
+            "x",
+            b"interface i { message m(uint8 a, uint8 b, uint8 a); }",
+        ),
         2,
         b"",
         b"E13 at 48\nx:1:49: this name stands twice in one list: the first is at 1:31\n    interface i { message m(uint8 a, uint8 b, uint8 a); }\n                                                    ^\nhelp: choose another name\n",
@@ -185,35 +194,50 @@ const CAUSES: &[ShowRow] = &[
     ),
     ShowRow(
         "x",
-        Shelf::Holds("x", b"interface i { typedef struct { uint8 a; uint64 b[600]; uint8 c; } s; }"),
+        Shelf::Holds(
+            "x",
+            b"interface i { typedef struct { uint8 a; uint64 b[600]; uint8 c; } s; }",
+        ),
         2,
         b"",
         b"E17 at 66\nx:1:67: this type has 4816 bytes, where 4096 are the most\n    terface i { typedef struct { uint8 a; uint64 b[600]; uint8 c; } s; }\n                                                                    ^\nhelp: use smaller bounds, or several messages\n",
     ),
     ShowRow(
         "x",
-        Shelf::Holds("x", b"interface i { typedef uint8 a[1]; typedef a b[1]; typedef b c[1]; typedef c d[1]; typedef d e[1]; typedef e f[1]; typedef f g[1]; typedef g h[1]; }"),
+        Shelf::Holds(
+            "x",
+            b"interface i { typedef uint8 a[1]; typedef a b[1]; typedef b c[1]; typedef c d[1]; typedef d e[1]; typedef e f[1]; typedef f g[1]; typedef g h[1]; }",
+        ),
         2,
         b"",
         b"E17 at 140\nx:1:141: fixed arrays nest 8 deep in this type, where 7 is the most\n    d[1]; typedef d e[1]; typedef e f[1]; typedef f g[1]; typedef g h[1]; }\n                                                                    ^\nhelp: use smaller bounds, or several messages\n",
     ),
     ShowRow(
         "x",
-        Shelf::Holds("x", b"interface i { rpc ffffffffffffffffffffffffffffffffffffffffffffffffffffffff(); }"),
+        Shelf::Holds(
+            "x",
+            b"interface i { rpc ffffffffffffffffffffffffffffffffffffffffffffffffffffffff(); }",
+        ),
         2,
         b"",
         b"E19 at 18\nx:1:19: this rpc's name has 56 bytes, where 55 are the most\n    interface i { rpc ffffffffffffffffffffffffffffffffffffffff\n                      ^\nhelp: split the interface; the name of an rpc has at most 55 bytes\n",
     ),
     ShowRow(
         "x",
-        Shelf::Holds("x", b"interface i { message m(uint8 a0, uint8 a1, uint8 a2, uint8 a3, uint8 a4, uint8 a5, uint8 a6, uint8 a7, uint8 a8, uint8 a9, uint8 a10, uint8 a11, uint8 a12, uint8 a13, uint8 a14, uint8 a15, uint8 a16, uint8 a17, uint8 a18, uint8 a19, uint8 a20, uint8 a21, uint8 a22, uint8 a23, uint8 a24, uint8 a25, uint8 a26, uint8 a27, uint8 a28, uint8 a29, uint8 a30, uint8 a31, uint8 a32); }"),
+        Shelf::Holds(
+            "x",
+            b"interface i { message m(uint8 a0, uint8 a1, uint8 a2, uint8 a3, uint8 a4, uint8 a5, uint8 a6, uint8 a7, uint8 a8, uint8 a9, uint8 a10, uint8 a11, uint8 a12, uint8 a13, uint8 a14, uint8 a15, uint8 a16, uint8 a17, uint8 a18, uint8 a19, uint8 a20, uint8 a21, uint8 a22, uint8 a23, uint8 a24, uint8 a25, uint8 a26, uint8 a27, uint8 a28, uint8 a29, uint8 a30, uint8 a31, uint8 a32); }",
+        ),
         2,
         b"",
         b"E19 at 372\nx:1:373: this is one too many: there may be 32 fields or arguments at most\n    6, uint8 a27, uint8 a28, uint8 a29, uint8 a30, uint8 a31, uint8 a32); }\n                                                                    ^\nhelp: split the interface; the name of an rpc has at most 55 bytes\n",
     ),
     ShowRow(
         "x",
-        Shelf::Holds("x", b"interface i { typedef uint8 t[1024]; rpc f(in uint8 a, out uint8 b, in t x[n, 4096]); }"),
+        Shelf::Holds(
+            "x",
+            b"interface i { typedef uint8 t[1024]; rpc f(in uint8 a, out uint8 b, in t x[n, 4096]); }",
+        ),
         2,
         b"",
         b"E21 at 41\nx:1:42: this message's payload may have 4194320 bytes, where 32768 are the most\n    interface i { typedef uint8 t[1024]; rpc f(in uint8 a, out uint8 b, in t x[n, 409\n                                             ^\nhelp: use smaller bounds, or several messages\n",
