@@ -11,8 +11,7 @@ use Rattle.fl_stub.specs.Frames.{block_of}
 use Rattle.fl_stub_steps.specs.declared.step.PreparedCode.{PreparedCode}
 use Rattle.fl_stub_steps.specs.Steps.{steps_in, Means}
 use Rattle.fl_compile.specs.declared.program.MessageCode.{MessageCode}
-use Rattle.fl_compile.specs.Codes.{compiled_code, compiled_codes}
-use Rattle.fl_compile.specs.Programs.{ArePrepared}
+use Rattle.fl_compile.specs.Codes.{compiled_code, compiled_codes, ArePrepared}
 
 one_more : (codes : List MessageCode) (code : MessageCode) (ps : List PreparedCode) (p : PreparedCode) → ArePrepared codes ps → Means (steps_in p) (block_of code.send.ops)
     → ArePrepared (codes ++ code ∷ []) (ps ++ p ∷ [])

@@ -1,5 +1,5 @@
 -- Programs as contracts see them.
-use Rattle.std.specs.Prelude.{◌≡◌, ℕ, List, [], ◌∷◌, Option, slice_get, Some}
+use Rattle.std.specs.Prelude.{◌≡◌, ℕ, Option, slice_get, Some}
 use Rattle.std.specs.Option.{option_map}
 use Rattle.fl_interface.specs.Interface.{TheInterface, interface_of}
 use Rattle.fl_value_data.specs.declared.value.PlanNo.{PlanNo}
@@ -8,7 +8,6 @@ use Rattle.fl_stub.specs.Code.{TheCode}
 use Rattle.fl_stub.specs.Frames.{block_of}
 use Rattle.fl_stub_steps.specs.declared.step.PreparedCode.{PreparedCode}
 use Rattle.fl_stub_steps.specs.Steps.{steps_in, Means}
-use Rattle.fl_compile.specs.declared.program.MessageCode.{MessageCode}
 use Rattle.fl_compile.specs.declared.program.Program.{Program}
 use Rattle.fl_compile.specs.Codes.{compiled_code}
 
@@ -23,13 +22,6 @@ program_of p = record { interface = interface_of p.compiled.value.plans.interfac
 -- the code of a program's message for a column; none where there is no such message
 abbrev pub code_in : Column → TheProgram → ℕ → Option TheCode
 code_in column p msg = option_map (compiled_code column p.plan) (slice_get p.interface.messages msg)
-
--- prepared send code of each message
-abbrev pub ArePrepared : List MessageCode → List PreparedCode → Type 0
-ArePrepared [] [] = Unit {0}
-ArePrepared [] (prepared ∷ others) = ⊥
-ArePrepared (code ∷ codes) [] = ⊥
-ArePrepared (code ∷ codes) (prepared ∷ others) = Means (steps_in prepared) (block_of code.send.ops) × ArePrepared codes others
 
 -- prepared code that means what this code means
 abbrev pub Prepares : Option TheCode → PreparedCode → Type 0

@@ -5,8 +5,8 @@ ghost use Rattle.std.specs.List.{list_all};
 ghost use Rattle.fl_interface.specs.Interface.{arg_type_of, interface_of, message_of};
 ghost use Rattle.fl_interface.specs.Limits.{is_message_within};
 ghost use Rattle.fl_interface.specs.Counts.{argument_words_fit};
-ghost use Rattle.fl_compile.specs.Codes.{compiled_code, compiled_codes};
-ghost use Rattle.fl_compile.specs.Programs.{program_of, ArePrepared};
+ghost use Rattle.fl_compile.specs.Codes.{compiled_code, compiled_codes, ArePrepared};
+ghost use Rattle.fl_compile.specs.Programs.{program_of};
 
 use crate::arguments::arguments_code;
 use crate::order::in_order;

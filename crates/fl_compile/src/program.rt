@@ -3,8 +3,7 @@
 ghost use Rattle.std.specs.Prelude.{◌≡◌, true, map, IfOk};
 ghost use Rattle.fl_interface.specs.Interface.{interface_of, message_of};
 ghost use Rattle.fl_interface.specs.Counts.{interface_words_fit};
-ghost use Rattle.fl_compile.specs.Codes.{compiled_codes};
-ghost use Rattle.fl_compile.specs.Programs.{ArePrepared};
+ghost use Rattle.fl_compile.specs.Codes.{compiled_codes, ArePrepared};
 
 use fl_base::MsgNo;
 use fl_interface::Interface;

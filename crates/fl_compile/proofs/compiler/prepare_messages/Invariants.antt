@@ -1,5 +1,5 @@
 use Rattle.std.proofs.Common.{take}
-use Rattle.fl_compile.specs.Programs.{ArePrepared}
+use Rattle.fl_compile.specs.Codes.{ArePrepared}
 use Rattle.fl_compile.proofs.compiler.prepare_messages.Given as goal
 
 abbrev pub invariant-loop-message : goal.invariant-loop-message
