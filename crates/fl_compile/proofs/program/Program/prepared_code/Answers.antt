@@ -10,7 +10,7 @@ returns-in-Some c =
     let p = program_of c.args.self.now in
     let ps = c.args.self.now.compiled.value.prepared.items in
     let h = subst (λ (cs : List MessageCode). ArePrepared cs ps) c.args.self.now.exact c.args.self.now.prepared in
-    record { means = λ code told. prepared_at p.plan p.interface.messages ps _ _ code h c.in-Some.ensures.lookup.3.0 c.in-Some.ensures.lookup.1 told }
+    record { means = λ code told. prepared_at p.plan p.interface.messages ps _ _ code h ? ? told }
 
 pub returns-in-None : goal.returns-in-None
 returns-in-None c =
