@@ -17,6 +17,7 @@ use Rattle.fl_compile.proofs.Ordering.{all_arranged, arranged_kinds, zip_kinds}
 use Rattle.fl_compile.proofs.Lawful.{sends_calls, compiles_to_code}
 use Rattle.fl_value_tape.specs.Packed.{packed_argument, packed_of}
 use Rattle.fl_stub_steps.specs.Spreading.{Packing, packed_for, block_packed, block_spread, spread_first}
+use Rattle.fl_stub.specs.Structure.{Block}
 use Rattle.fl_stub_steps.proofs.Spreads.{spreads}
 use Rattle.fl_stub_steps.specs.Spreading.{Spread}
 use Rattle.fl_stub_steps.specs.Steps.{TheSteps, steps_in, steps_done, all_of, IsPlain}
