@@ -103,7 +103,7 @@ pub prepared_is : (p : TheProgram) (c : TheCall) (code : PreparedCode) → is_wi
 prepared_is p c code within words prepares m e x =
     let told : code_in Send p c.msg ≡ Some (compiled_code Send p.plan m) = ap (option_map (compiled_code Send p.plan)) e in
     let is = structure_is Send (message_code Send p.plan m) (message_block Send p.plan m)
-        (compiles_to_code Send p.plan p.interface c.msg m (record { within = within; words = words; message = e })) in
+    (compiles_to_code Send p.plan p.interface c.msg m (record { within = within; words = words; message = e })) in
     prepares (compiled_code Send p.plan m) told x ∙ ap (λ (b : Block). block_spread b x) is
 
 -- a fitting call's message has code

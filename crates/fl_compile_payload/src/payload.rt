@@ -11,8 +11,8 @@ use fl_value_data::Call;
 use fl_value_tape::Tape;
 use std::alloc::{AllocError, Global};
 
-/// The payload of a fitting call, by its message's prepared send code: where that puts nothing between the packed tape's
-/// bytes, in the tape's own memory.
+/// The payload of a fitting call, by its message's prepared send code, in room for so many bytes at first: where the code
+/// puts nothing between the packed tape's bytes, in the tape's own memory.
 ///
 /// # Errors
 /// Out of memory (E99), and nothing else.
@@ -20,6 +20,7 @@ pub fn payload_by(
     alloc: Global,
     program: &Program,
     call: &Call,
+    room: usize,
 ) -> Result<Vec<u8>, AllocError>
     requires fits { fits_of (program_of program.now).interface (call_of call.now) ≡ true }
     ensures payload { IfOk result (λ v. v.items ≡ payload_of (program_of program.now).plan (program_of program.now).interface (call_of call.now)) }
@@ -29,7 +30,6 @@ pub fn payload_by(
     let Some(code) = program.prepared_code(call.msg) else {
         unreachable!();
     };
-    let room = program.plans().size_of(call);
     let tape = Tape::pack(alloc, call, program.interface(), program.plan(), room)?;
     if code.is_plain() {
         return Ok(tape.into_bytes());

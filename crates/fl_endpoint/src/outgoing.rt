@@ -90,17 +90,19 @@ impl QueuedCall {
         })
     }
 
-    // A fitting call as it is queued: its payload, which its message's send code makes. Out of line, so that a call of one fragment has nothing of it.
+    // A fitting call as it is queued: its payload, which its message's send code makes. Out of line, so that a call of one
+    // fragment has nothing of it.
     #[inline(never)]
     fn of_payload(
         alloc: Global,
         program: &Program,
         call: &Call,
+        room: usize,
     ) -> Result<QueuedCall, AllocError>
         requires { fits_of (program_of program.now).interface (call_of call.now) ≡ true }
         ensures queues { IfOk result (λ queued. Queues (program_of program.now) (call_of call.now) queued) }
     {
-        let payload = payload_by(alloc, program, call)?;
+        let payload = payload_by(alloc, program, call, room)?;
         Ok(QueuedCall {
             body: CallBody::Payload(payload),
             msg: call.msg,
@@ -123,7 +125,7 @@ impl QueuedCall {
             let tape = mem::replace(spare, Vec::new(alloc));
             return QueuedCall::of_tape(tape, program, call);
         }
-        QueuedCall::of_payload(alloc, program, call)
+        QueuedCall::of_payload(alloc, program, call, size)
     }
 }
 

@@ -1,5 +1,4 @@
 use Rattle.std.proofs.Common.{◌≡◌, List, subst, rules}
-use Rattle.fl_stub_steps.specs.declared.step.PreparedCode.{PreparedCode}
 use Rattle.fl_compile.specs.declared.program.MessageCode.{MessageCode}
 use Rattle.fl_compile.specs.Codes.{ArePrepared}
 use Rattle.fl_compile.specs.Programs.{program_of}
