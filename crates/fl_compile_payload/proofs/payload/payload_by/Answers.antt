@@ -40,4 +40,4 @@ returns-then-is_plain c =
     }
 
 pub unreachable-requires : goal.unreachable-requires
-unreachable-requires c = no_code (program_of c.args.program.now) (call_of c.args.call.now) c.requires.fits c.in-None.ensures.none
+unreachable-requires c = no_code (program_of c.args.program.now) (call_of c.args.call.now) c.requires.fits c.in_default.ensures.none
