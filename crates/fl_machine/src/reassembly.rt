@@ -18,6 +18,7 @@ use fl_compile::Program;
 use fl_value_data::Call;
 use fl_wire::{WireFault, read_call_frags};
 use std::alloc::{AllocError, Global};
+use thiserror::Error;
 
 /// What taking a fragment came to.
 #[derive(Debug, Drop)]
@@ -29,11 +30,13 @@ pub enum Taken {
 }
 
 /// Why a fragment isn't taken.
-#[derive(Clone, Copy, Debug, PartialEq, Eq)]
+#[derive(Clone, Copy, Debug, PartialEq, Eq, Drop, Error)]
 pub enum TakeFault {
     /// It can't follow those before it.
+    #[error("{0}")]
     Wire(WireFault),
     /// Memory ran out, over a fragment that is the last of its call (E99).
+    #[error("out of memory")]
     Memory,
 }
 

@@ -9,6 +9,7 @@ use Rattle.fl_ring.specs.Duo.{TheHalf, with_written, with_arrived, with_taken, l
 use Rattle.fl_ring.specs.Halves.{Direction, InStep, half_of}
 use Rattle.fl_ring.specs.declared.halves.DuoHalf.{DuoHalf}
 use Rattle.fl_ring.proofs.Places.{slot_within}
+use Rattle.fl_ring.proofs.Clear.{clear_put, clear_across}
 use Rattle.fl_ring.proofs.Ways.{standing_more, keeps_standing, same_standing, kept_apart, length-standing, gains, tells, elsewhere}
 use Rattle.fl_ring.proofs.RingSteps.{standing_first, standing_none}
 use Rattle.fl_ring.proofs.Tells.{tells_kept, tells_put}
@@ -51,6 +52,7 @@ known_steps n ws a b k s e = record {
     room = omega (arith, s.there.room, e, after_rises a.known (half_of n ws a b).waiting);
     counts = ap (λ (x : ℕ). last_count x (half_of n ws a b).waiting) e ∙ last_after a.known (half_of n ws a b).waiting ∙ s.there.counts;
     last = s.there.last;
+    clear = s.there.clear;
   };
   back = record {
     from = s.back.from;
@@ -63,6 +65,7 @@ known_steps n ws a b k s e = record {
     room = s.back.room;
     counts = s.back.counts;
     last = s.back.last;
+    clear = s.back.clear;
   };
 }
 
@@ -83,6 +86,7 @@ forget_steps n ws a b k s before = record {
     room = before.sent_near;
     counts = forgets k a.known b.told (half_of n ws a b).waiting before.before (omega (arith, s.there.told_taken, s.there.taken_sent, before.sent_near, s.few)) before.none_waits s.there.counts;
     last = s.there.last;
+    clear = s.there.clear;
   };
   back = record {
     from = s.back.from;
@@ -95,6 +99,7 @@ forget_steps n ws a b k s before = record {
     room = s.back.room;
     counts = s.back.counts;
     last = s.back.last;
+    clear = s.back.clear;
   };
 }
 
@@ -118,6 +123,7 @@ take_steps n ws a b p s lt looked_at e = record {
     room = s.there.room;
     counts = ap (λ (q : TheCursor). last_count a.known (standing b.base n ws q.index (b.put.index - q.index))) e ∙ rest_counts;
     last = s.there.last;
+    clear = s.there.clear;
   };
   back = record {
     from = s.back.from;
@@ -130,6 +136,7 @@ take_steps n ws a b p s lt looked_at e = record {
     room = s.back.room;
     counts = s.back.counts;
     last = s.back.last;
+    clear = s.back.clear;
   };
 }
   where
@@ -207,6 +214,7 @@ write_steps n ws ws' a b f s unspent room w turn number = record {
     room = room;
     counts = ap (λ (xs : List Frag). last_count a.known xs) (same_standing b.base n ws ws' (b.put.index - a.take.index) a.take.index (λ j _ _. stays j)) ∙ s.there.counts;
     last = tells_put a.base n 0 ws' a.put.index (a.put.index + 1) a.take.index f.control (omega arith) refl (ap (λ (g : Frag). g.control) w.holds) number;
+    clear = clear_put a.base n a.put.index f ws ws' s.there.clear w;
   };
   back = record {
     from = s.back.from;
@@ -224,6 +232,7 @@ write_steps n ws ws' a b f s unspent room w turn number = record {
         ∙ ap (λ (k : ℕ). count_from a.told k) number
         ∙ count_named a.told a.take.index s.back.told_taken near;
     last = tells_kept b.base n 0 ws ws' b.put.index b.told s.back.last (λ j. ap (λ (g : Frag). g.control) (stays j));
+    clear = clear_across n a.base b.base a.put.index b.put.index f ws ws' s.there.marked.some s.apart w s.back.clear;
   };
 }
   where

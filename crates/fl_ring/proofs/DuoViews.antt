@@ -23,7 +23,7 @@ second n x y p (inl (e, d)) first = d
 second n x y p (inr (e, d)) first = absurd (omega arith)
 
 way_of : (n : ℕ) (ws : List ℕ) (w r : DuoHalf) → Direction n ws w r → WayStands w.base n ws r.told (standing w.base n ws r.told (r.take.index - r.told) ++ standing w.base n ws r.take.index (w.put.index - r.take.index))
-way_of n ws w r d = way_stands w.base n ws r.told r.take.index w.put.index d.marked d.told_taken d.taken_sent
+way_of n ws w r d = way_stands w.base n ws r.told r.take.index w.put.index d.marked d.told_taken d.taken_sent d.clear
 
 pub duo_stands : (n : ℕ) (ws : List ℕ) (a b : DuoHalf) → a.base ≡ 0 → InStep n ws a b → DuoStands ws (duo_of n ws a b)
 duo_stands n ws a b first s =

@@ -1,3 +1,4 @@
+pub mod Clear
 pub mod Conserved
 pub mod DuoGoes
 pub mod DuoLooks

@@ -7,6 +7,7 @@ use Rattle.fl_ring.specs.Ring.{TheRing, IsRing, ring_of}
 use Rattle.fl_ring.specs.Duo.{new_half}
 use Rattle.fl_ring.specs.Halves.{Direction, InStep, duo_of}
 use Rattle.fl_ring.specs.declared.halves.DuoHalf.{DuoHalf}
+use Rattle.fl_ring.proofs.Clear.{clear_zeros}
 use Rattle.fl_ring.proofs.SharedMakes.{all_zero, new_marked}
 
 word : (k i : ℕ) (ws : List ℕ) → ws ≡ replicate k 0 → get_or ws i 0 ≡ 0
@@ -29,6 +30,7 @@ new_ring n ws put take some few zeros puts takes =
       taken_sent = omega arith;
       most = omega arith;
       marked = subst (λ (t : ℕ). Marked 0 n ws t 0) (sym told) (new_marked 0 n ws some (omega (arith, wide)) (λ i. word (8 * n + 1) i ws zeros));
+      clear = clear_zeros 0 n 0 ws (λ i. word (8 * n + 1) i ws zeros);
     } in
     subst (λ (p : TheCursor). (take.size ≡ p.size) × IsRing ws p.size p.index take.index) (sym puts)
     (subst (λ (t : TheCursor). (t.size ≡ n) × IsRing ws n 0 t.index) (sym takes) (refl, ring))
@@ -58,6 +60,7 @@ fresh_way b c n ws some wide zeros = record {
   room = omega arith;
   counts = refl;
   last = record { since = omega arith; none_put = λ e. refl; last_put = λ i from last. absurd (omega arith) };
+  clear = clear_zeros b n 0 ws zeros;
 }
 
 pub new_duo : (n : ℕ) (ws : List ℕ) (one two : DuoHalf) → 0 < n → n ≤ 1024 → ws ≡ replicate (16 * n) 0 → one ≡ fresh 0 (8 * n) n → two ≡ fresh (8 * n) 0 n

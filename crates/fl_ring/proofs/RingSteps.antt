@@ -6,9 +6,10 @@ use Rattle.fl_link.specs.Looks.{no_room, spent, saw, saw_ack, found, found_ack, 
 use Rattle.fl_link.specs.Queue.{TheQueue, with_taken, front_of, has_room, next_epoch_of}
 use Rattle.fl_link.proofs.Carried.{stamped-bare}
 use Rattle.fl_link.specs.Cursor.{epoch_at}
-use Rattle.fl_ring.specs.Way.{slot, frag_at, frag_of, epoch_in, standing, Marked, WritesSlot, WayStands}
+use Rattle.fl_ring.specs.Way.{slot, frag_at, frag_of, epoch_in, standing, Marked, IsClear, WritesSlot, WayStands}
 use Rattle.fl_ring.specs.Ring.{TheRing, queue_of, IsRing, ring_of, RingStands, RingGains, RingPuts, RingTakes}
 use Rattle.fl_ring.proofs.Places.{slot_within}
+use Rattle.fl_ring.proofs.Clear.{clear_put, clear_elsewhere}
 use Rattle.fl_ring.proofs.Ways.{standing_join, standing_more, keeps_standing, same_standing, same_frag, length-standing, is_there, is_end, gains, tells, elsewhere}
 
 -- the first of the fragments that stand
@@ -49,11 +50,12 @@ first_or_none None items items' rest E L same (none, end) = sym same ∙ none
 first_or_none (Some f) items items' rest E L same (is, there) = (rest, sym same ∙ is)
 
 -- a way stands whose epochs say so: the fragments taken and not told, and those not taken
-pub way_stands : (b n : ℕ) (ws : List ℕ) (t taken sent : ℕ) → Marked b n ws t sent → t ≤ taken → taken ≤ sent
+pub way_stands : (b n : ℕ) (ws : List ℕ) (t taken sent : ℕ) → Marked b n ws t sent → t ≤ taken → taken ≤ sent → IsClear b n ws sent
     → WayStands b n ws t (standing b n ws t (taken - t) ++ standing b n ws taken (sent - taken))
-way_stands b n ws t taken sent m le most = record {
+way_stands b n ws t taken sent m le most clear = record {
   marked = subst (λ (x : ℕ). Marked b n ws t x) (sym (ap (λ (x : ℕ). t + x) count ∙ all)) m;
   stand = sym joined ∙ ap (λ (x : ℕ). standing b n ws t x) (sym count);
+  clear = λ i from below. clear i (omega (arith, count)) below;
 }
   where
     all : t + (sent - t) ≡ sent
@@ -74,7 +76,7 @@ way_stands b n ws t taken sent m le most = record {
 pub ring_stands : (ws : List ℕ) (n sent taken : ℕ) → IsRing ws n sent taken → RingStands ws (ring_of ws n sent taken)
 ring_stands ws n sent taken r = record {
   wide = r.wide;
-  way = way_stands 0 n ws (get_or ws (8 * n) 0) taken sent r.marked r.told_taken r.taken_sent;
+  way = way_stands 0 n ws (get_or ws (8 * n) 0) taken sent r.marked r.told_taken r.taken_sent r.clear;
   told_is = refl;
 }
 
@@ -129,6 +131,7 @@ put_stands ws ws' n sent taken f r unspent room w turn = record {
   marked =
       let free : sent < get_or ws (8 * n) 0 + n = omega (arith, r.marked.within, r.marked.order) in
       subst (λ (x : ℕ). Marked 0 n ws' x (sent + 1)) (sym (told_stays ws ws' n sent taken f r w)) (gains 0 n ws ws' (get_or ws (8 * n) 0) sent f r.marked free w turn);
+  clear = clear_put 0 n sent f ws ws' r.clear w;
 }
 
 -- and the fragment is the last of those that stand
@@ -261,6 +264,7 @@ tell_stands ws n sent taken r =
       most = r.most;
       marked = subst (λ (x : ℕ). Marked 0 n ws' x sent) (sym (told_word ws n sent taken r))
           (elsewhere 0 n ws ws' taken sent (tells 0 n ws (get_or ws (8 * n) 0) taken sent r.marked r.told_taken r.taken_sent) len (slots_stay ws n sent taken r));
+      clear = clear_elsewhere 0 n sent ws ws' r.clear (λ i from below. let ne : i ≢ 8 * n = λ e. omega arith in get_or-set_other ws (8 * n) i taken 0 ne);
     }
 
 pub takes_told : (ws : List ℕ) (n sent taken : ℕ) → IsRing ws n sent taken → RingTakes (ring_of ws n sent taken) told (ring_of (set ws (8 * n) taken) n sent taken)

@@ -2,6 +2,8 @@
 use Rattle.std.proofs.Common.{ℕ, zero, suc, ◌≡◌, ◌≢◌, ◌<◌, ◌≤◌, ◌+◌, ◌-◌, ◌*◌, ◌/◌, ◌%◌, ◌^◌, ◌⊎◌, inl, inr, List, [], ◌∷◌, length, replicate, get_or, set, ap, subst, ◌∙◌, sym, refl, arith, length-set, get_or-set_same, get_or-set_other, Option, Some, None}
 use Rattle.std.proofs.lemmas.List.{append-nil}
 use Rattle.std.proofs.lemmas.Bool.{cases_lt}
+use Rattle.std.proofs.Math.Nat.{add-mod_right, mod-eq_of_lt}
+use Rattle.std.proofs.lemmas.Nat.{mod_below}
 use mathlib.Core.Option.{some, some-injective, some-ne-none}
 use lib.ListN.{get_elem?, length-replicate}
 use Rattle.atomic_table.specs.Table.{State, Me, Splits, Joins, opening}
@@ -12,14 +14,14 @@ use Rattle.fl_link.specs.Cursor.{epoch_at}
 use Rattle.fl_ring.specs.declared.shared.duo_board.SeatHolder.{SeatHolder}
 use Rattle.fl_ring.specs.declared.shared.duo_board.SeatHolder.TheVariants.{One, Two, Both, Nobody}
 use Rattle.fl_ring.specs.declared.shared.duo_board.DuoView.{DuoView}
-use Rattle.fl_ring.specs.Way.{slot, epoch_in, Marked}
+use Rattle.fl_ring.specs.Way.{slot, epoch_in, IsClear, Marked}
 use Rattle.fl_ring.specs.Counts.{LastTells}
 use Rattle.fl_ring.specs.SharedWay.{WayRuns}
 use Rattle.fl_ring.specs.SharedDuo.{NumbersRide, CountsNear, Pairing, DuoFits, DuoHolds, IsOneSide, blank, new_side, duo_opening, side_one_of, side_two_of, duo_both_of, duo_nobody}
 use Rattle.fl_ring.specs.SharedSides.{DuoSeat, SidesNear, side_of_seat}
 use Rattle.fl_ring.proofs.Places.{slots_apart, slot_within, epoch_bit}
 use Rattle.fl_ring.proofs.SharedWays.{front_within}
-use Rattle.fl_ring.proofs.SharedMakes.{at_end}
+use Rattle.fl_ring.proofs.SharedMakes.{at_end, first_epoch}
 
 one_two : (let h : SeatHolder = One in h) ≡ Two → ⊥
 one_two e = cc
@@ -173,8 +175,8 @@ none_some : (g : Frag) → (let o : Option Frag = None in o) ≡ Some g → ⊥
 none_some g e = cc
 
 new_way : (b n start : ℕ) (ws : List ℕ) → 0 < n → b + 8 * n ≤ length ws → start ≤ 2 ^ 62 → ((i : ℕ) → start ≤ i → i < start + n → epoch_in b n ws i ≢ epoch_at n i)
-    → WayRuns b n ws (new_side n start).put (new_side n start).take start
-new_way b n start ws p wide few free = record {
+    → IsClear b n ws start → WayRuns b n ws (new_side n start).put (new_side n start).take start
+new_way b n start ws p wide few free clear = record {
   holds = record {
     marked = subst (λ (x : ℕ). Marked b n ws start x) (sym (passed start)) (record {
       some = p;
@@ -195,6 +197,8 @@ new_way b n start ws p wide few free = record {
   part = λ k lt. absurd (omega arith);
   due = λ d lt. absurd (not_due n start d);
   peeked = λ f e. absurd (none_some f e);
+  clear = λ i from below. clear i (omega (arith, passed start)) below;
+  untouched = λ _ i from below. clear i (omega (arith, passed start)) below;
 }
 
 new_rides : (start : ℕ) → NumbersRide (replicate start blank) (replicate start blank) start start
@@ -204,16 +208,17 @@ new_tells : (b n start : ℕ) (ws : List ℕ) → LastTells b n start ws (length
 new_tells b n start ws = record { since = omega (arith, passed start); none_put = λ e. refl; last_put = λ i from last. absurd (omega (arith, passed start)) }
 
 pub duo_opens : (n start : ℕ) (ws : List ℕ) → 0 < n → n ≤ 1024 → start ≤ 2 ^ 62 → length ws ≡ 16 * n
-    → ((i : ℕ) → start ≤ i → i < start + n → (epoch_in 0 n ws i ≢ epoch_at n i) × (epoch_in (8 * n) n ws i ≢ epoch_at n i)) → DuoHolds n start (opening ws [] (duo_opening n start))
-duo_opens n start ws p small few wide free = record {
+    → ((i : ℕ) → start ≤ i → i < start + n → (epoch_in 0 n ws i ≢ epoch_at n i) × (epoch_in (8 * n) n ws i ≢ epoch_at n i))
+    → IsClear 0 n ws start × IsClear (8 * n) n ws start → DuoHolds n start (opening ws [] (duo_opening n start))
+duo_opens n start ws p small few wide free clear = record {
   account = all;
   seats = λ j u at. only j u at;
   holds = record {
     few = small;
     wide = wide;
     apart = inl (refl, refl);
-    there = new_way 0 n start ws p (omega arith) few (λ i le lt. (free i le lt).0);
-    back = new_way (8 * n) n start ws p (omega arith) few (λ i le lt. (free i le lt).1);
+    there = new_way 0 n start ws p (omega arith) few (λ i le lt. (free i le lt).0) clear.0;
+    back = new_way (8 * n) n start ws p (omega arith) few (λ i le lt. (free i le lt).1) clear.1;
     told_there = new_rides start;
     told_back = new_rides start;
     last_there = λ d lt. absurd (not_due n start d);
@@ -298,6 +303,57 @@ marked_more n start j place e ws p wide at is from near before i le lt =
         let now : (epoch_in 0 n (set first (slot (8 * n) n j + 7) e) j ≢ epoch_at n j) × (epoch_in (8 * n) n (set first (slot (8 * n) n j + 7) e) j ≢ epoch_at n j) =
         ((λ same. marks 0 n j e ws p (omega (arith, wide)) bit other (sym a ∙ same)), marks (8 * n) n j e first p (omega (arith, long)) bit other) in
         subst (λ (k : ℕ). (epoch_in 0 n (set first (slot (8 * n) n j + 7) e) k ≢ epoch_at n k) × (epoch_in (8 * n) n (set first (slot (8 * n) n j + 7) e) k ≢ epoch_at n k)) here now
+
+sub_add : (x y : ℕ) → y ≤ x → x ≡ x - y + y
+sub_add x y le = omega arith
+
+-- a slot from the start on that is marked is marked in the first round, with zero: those of the next round lie below the start
+first_round : (n start j place e : ℕ) → 0 < n → start ≤ j → j < start + n → place ≡ j % n → e ≡ 1 - epoch_at n j → start ≤ place → e ≡ 0
+first_round n start j place e p from near at is low = within (cases_lt j n)
+  where
+    within : (j < n) ⊎ (n ≤ j) → e ≡ 0
+    within (inl below) = omega (arith, is, first_epoch n j p below)
+    within (inr above) =
+        let over : j - n < n = omega (arith, at, mod_below j n p) in
+        let place_is : j % n ≡ j - n = ap (λ (x : ℕ). x % n) (sub_add j n above) ∙ add-mod_right (j - n) n ∙ mod-eq_of_lt over in
+        absurd (omega (arith, at, place_is))
+
+-- a word that is zero stays so, where zero is stored there
+zero_stays : (ws : List ℕ) (p e w : ℕ) → p < length ws → get_or ws w 0 ≡ 0 → (w ≡ p → e ≡ 0) → get_or (set ws p e) w 0 ≡ 0
+zero_stays ws p e w inside was none = cases (cases_lt w p) (cases_lt p w)
+  where
+    cases : (w < p) ⊎ (p ≤ w) → (p < w) ⊎ (w ≤ p) → get_or (set ws p e) w 0 ≡ 0
+    cases (inl below) _ = let ne : w ≢ p = λ d. omega arith in get_or-set_other ws p w e 0 ne ∙ was
+    cases (inr above) (inl beyond) = let ne : w ≢ p = λ d. omega arith in get_or-set_other ws p w e 0 ne ∙ was
+    cases (inr above) (inr under) =
+        let same : w ≡ p = omega arith in
+        ap (λ (k : ℕ). get_or (set ws p e) k 0) same ∙ get_or-set_same ws p e 0 inside ∙ none same
+
+-- both slots of this index got this number: what is due in the first round stays zero
+pub clear_more : (n start j place e : ℕ) (ws : List ℕ) → 0 < n → length ws ≡ 16 * n → place ≡ j % n → e ≡ 1 - epoch_at n j → start ≤ j → j < start + n
+    → IsClear 0 n ws start × IsClear (8 * n) n ws start
+    → IsClear 0 n (set (set ws (8 * place + 7) e) (8 * n + (8 * place + 7)) e) start × IsClear (8 * n) n (set (set ws (8 * place + 7) e) (8 * n + (8 * place + 7)) e) start
+clear_more n start j place e ws p wide at is from near h = (
+  (λ i le lt. both (0 + i) (h.0 i le lt) (λ d. due (omega arith)) (λ d. absurd (omega arith))),
+  (λ i le lt. both (8 * n + i) (h.1 i le lt) (λ d. absurd (omega arith)) (λ d. due (omega arith))),
+)
+  where
+    first : List ℕ
+    first = set ws (8 * place + 7) e
+
+    small : place < n
+    small = omega (arith, at, mod_below j n p)
+
+    long : length first ≡ 16 * n
+    long = length-set ws (8 * place + 7) e ∙ wide
+
+    due : start ≤ place → e ≡ 0
+    due low = first_round n start j place e p from near at is low
+
+    both : (w : ℕ) → get_or ws w 0 ≡ 0 → (w ≡ 8 * place + 7 → e ≡ 0) → (w ≡ 8 * n + (8 * place + 7) → e ≡ 0) → get_or (set first (8 * n + (8 * place + 7)) e) w 0 ≡ 0
+    both w was one two =
+        zero_stays first (8 * n + (8 * place + 7)) e w (omega (arith, long, small))
+        (zero_stays ws (8 * place + 7) e w (omega (arith, wide, small)) was one) two
 
 -- ---- both sides in one hand
 

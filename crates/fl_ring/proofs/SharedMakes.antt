@@ -13,6 +13,7 @@ use Rattle.fl_ring.specs.declared.shared.board.RingView.{RingView}
 use Rattle.fl_ring.specs.Way.{slot, Marked}
 use Rattle.fl_ring.specs.SharedWay.{WayNear}
 use Rattle.fl_ring.specs.SharedSeats.{RingSeat, RingNear, sender_of, receiver_of}
+use Rattle.fl_ring.proofs.Clear.{clear_zeros}
 use Rattle.fl_ring.specs.SharedRing.{Sides, Fits, RingHolds, RingRule, new_writing, new_reading, opening_view, writer_of, reader_of, both_of, nobody}
 
 -- what stands in a list with one more at its end
@@ -87,7 +88,7 @@ joins n id other v w writes reads s rule at apart there = record {
 
 -- ---- a new ring
 
-first_epoch : (n i : ℕ) → 0 < n → i < n → epoch_at n i ≡ 1
+pub first_epoch : (n i : ℕ) → 0 < n → i < n → epoch_at n i ≡ 1
 first_epoch n i p lt =
     let e : i ≡ zero * n + i = omega arith in
     let none : i / n ≡ zero = ap (λ (x : ℕ). x / n) e ∙ div-mul-add zero n i lt in
@@ -125,6 +126,8 @@ new_holds n ws p wide zeros = record {
     part = λ k lt. absurd (omega arith);
     due = λ d lt. let h : 0 ≡ 1 = d ∙ first_epoch n 0 p p in absurd (omega arith);
     peeked = λ f e. absurd (none_some f e);
+    clear = clear_zeros 0 n 1 ws zeros;
+    untouched = λ _. clear_zeros 0 n 0 ws zeros;
   };
   told_is = zeros (8 * n);
 }

@@ -10,10 +10,11 @@ use Rattle.fl_base.specs.Prefix.{IsPrefix}
 use Rattle.fl_link.specs.Cursor.{epoch_at}
 use Rattle.fl_ring.specs.declared.shared.board.WriterView.{WriterView}
 use Rattle.fl_ring.specs.declared.shared.board.ReaderView.{ReaderView}
-use Rattle.fl_ring.specs.Way.{slot, frag_of, epoch_in, WritesSlot}
+use Rattle.fl_ring.specs.Way.{slot, frag_of, epoch_in, IsClear, WritesSlot}
 use Rattle.fl_ring.specs.SharedWay.{IsNext, IsDue, IsLoaded, WayRuns, frag_from, loaded_frag, with_found, with_stored, with_put, with_known, with_control, with_loaded, with_peeked, with_got, with_told}
 use Rattle.fl_ring.proofs.Places.{slot_within}
 use Rattle.fl_ring.proofs.Ways.{same_frag}
+use Rattle.fl_ring.proofs.Clear.{clear_word, clear_elsewhere}
 use Rattle.fl_ring.proofs.SlotWrites.{slot_written}
 use Rattle.fl_ring.proofs.Published.{holds_word, holds_control, holds_told, holds_elsewhere, holds_due}
 
@@ -73,6 +74,8 @@ module _ (b n : ℕ) (ws : List ℕ) (w : WriterView) (r : ReaderView) (told : �
     part = λ k lt. part_found x h is k lt (cases_lt k (length w.part));
     due = h.due;
     peeked = h.peeked;
+    clear = h.clear;
+    untouched = λ none. absurd (omega (arith, ap length none, length_push w.part x));
   }
 
   -- a number is stored into payload word j, and the words before it are known
@@ -107,6 +110,8 @@ module _ (b n : ℕ) (ws : List ℕ) (w : WriterView) (r : ReaderView) (told : �
     part = λ k lt. part_stored x j h few small k lt (cases_lt k j);
     due = h.due;
     peeked = h.peeked;
+    clear = clear_word b n (length w.sent) j x ws (omega arith) h.clear;
+    untouched = λ none. absurd (omega (arith, ap length none, stored_length x j few));
   }
 
   pub runs_put : (c : ℕ) → WayRuns b n ws w r told → length w.sent < w.known + n → length w.part ≡ 7 → length w.sent < 2 ^ 62 → epoch_of c ≡ epoch_at n (length w.sent)
@@ -117,6 +122,7 @@ module _ (b n : ℕ) (ws : List ℕ) (w : WriterView) (r : ReaderView) (told : �
       let len : length sent' ≡ length w.sent + 1 = length_push w.sent f in
       let write : WritesSlot (slot b n (length w.sent)) f ws (set ws (slot b n (length w.sent) + 7) c) =
       slot_written ws ws (slot b n (length w.sent)) f (slot_fits h) refl seven (λ k lt. h.part k (omega arith)) (λ i away. refl) in
+      let stays : IsClear b n (set ws (slot b n (length w.sent) + 7) c) (length w.sent + 1) = clear_word b n (length w.sent) 7 c ws (omega arith) h.clear in
       record {
         holds = holds_control b n ws (set ws (slot b n (length w.sent) + 7) c) w.sent told f h.holds (omega (arith, h.known_told)) write turn;
         told_got = h.told_got;
@@ -128,6 +134,8 @@ module _ (b n : ℕ) (ws : List ℕ) (w : WriterView) (r : ReaderView) (told : �
         part = λ k lt. absurd (omega arith);
         due = λ d lt. let l = h.due d lt in record { frag = l.frag; next = more_sent (r.got ++ l.frag ∷ []) w.sent f l.next; control = l.control; words = l.words };
         peeked = λ g e. more_sent (r.got ++ g ∷ []) w.sent f (h.peeked g e);
+        clear = λ i from below. stays i (omega (arith, len)) below;
+        untouched = λ _ i from below. stays i (omega (arith, len)) below;
       }
 
   pub runs_known : (k : ℕ) → WayRuns b n ws w r told → w.known ≤ k → k ≤ told → WayRuns b n ws (with_known w k) r told
@@ -142,6 +150,8 @@ module _ (b n : ℕ) (ws : List ℕ) (w : WriterView) (r : ReaderView) (told : �
     part = h.part;
     due = h.due;
     peeked = h.peeked;
+    clear = h.clear;
+    untouched = h.untouched;
   }
 
   -- ---- the reader's steps
@@ -174,6 +184,8 @@ module _ (b n : ℕ) (ws : List ℕ) (w : WriterView) (r : ReaderView) (told : �
     part = h.part;
     due = λ d lt. seen_due c h is d;
     peeked = h.peeked;
+    clear = h.clear;
+    untouched = h.untouched;
   }
 
   -- a fragment that was peeked is still there
@@ -212,6 +224,8 @@ module _ (b n : ℕ) (ws : List ℕ) (w : WriterView) (r : ReaderView) (told : �
         part = h.part;
         due = λ d lt. record { frag = l.frag; next = l.next; control = l.control; words = λ k below. loaded_more x h l (omega arith) is k below (cases_lt k (length r.part)) };
         peeked = h.peeked;
+        clear = h.clear;
+        untouched = h.untouched;
       }
 
   same_parts : (f : Frag) (xs : List ℕ) (c : ℕ) → f.words ≡ xs → f.control ≡ c → f ≡ frag_from xs c
@@ -253,6 +267,8 @@ module _ (b n : ℕ) (ws : List ℕ) (w : WriterView) (r : ReaderView) (told : �
     part = h.part;
     due = λ d lt. absurd (omega (arith, length_push r.part x));
     peeked = λ f e. subst (λ (g : Frag). IsNext w.sent r.got g) (some_same (loaded_frag r x) f e) (loaded_whole x h due six is);
+    clear = h.clear;
+    untouched = h.untouched;
   }
 
   pub runs_got : (x : ℕ) → WayRuns b n ws w r told → IsDue n r → length r.part ≡ 6 → x ≡ get_or ws (slot b n (length r.got) + 6) 0 → WayRuns b n ws w (with_got r x) told
@@ -267,6 +283,8 @@ module _ (b n : ℕ) (ws : List ℕ) (w : WriterView) (r : ReaderView) (told : �
     part = h.part;
     due = λ d lt. absurd (omega (arith, length_push r.part x));
     peeked = λ f e. absurd (none_some f e);
+    clear = h.clear;
+    untouched = h.untouched;
   }
 
   -- fewer are got than ever will be
@@ -285,6 +303,8 @@ module _ (b n : ℕ) (ws : List ℕ) (w : WriterView) (r : ReaderView) (told : �
     part = h.part;
     due = h.due;
     peeked = h.peeked;
+    clear = h.clear;
+    untouched = h.untouched;
   }
 
   -- ---- a word outside the way changes
@@ -301,6 +321,8 @@ module _ (b n : ℕ) (ws : List ℕ) (w : WriterView) (r : ReaderView) (told : �
     part = λ k lt. inside (length w.sent) k (omega (arith, h.seven)) ∙ h.part k lt;
     due = h.due;
     peeked = h.peeked;
+    clear = clear_elsewhere b n (length w.sent + 1) ws ws' h.clear same;
+    untouched = λ none. clear_elsewhere b n (length w.sent) ws ws' (h.untouched none) same;
   }
     where
       inside : (i k : ℕ) → k < 8 → get_or ws' (slot b n i + k) 0 ≡ get_or ws (slot b n i + k) 0

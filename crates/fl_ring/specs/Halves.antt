@@ -2,7 +2,7 @@
 use Rattle.std.specs.Prelude.{ℕ, ◌≡◌, ◌+◌, ◌-◌, ◌*◌, ◌≤◌, ◌^◌, ◌⊎◌, List, length}
 use Rattle.fl_link.specs.Looks.{Look}
 use Rattle.fl_ring.specs.Counts.{last_count, LastTells}
-use Rattle.fl_ring.specs.Way.{Marked, standing}
+use Rattle.fl_ring.specs.Way.{Marked, standing, IsClear}
 use Rattle.fl_ring.specs.Duo.{TheHalf, TheDuo}
 use Rattle.fl_ring.specs.declared.halves.DuoHalf.{DuoHalf}
 
@@ -20,6 +20,8 @@ pub record Direction (n : ℕ) (words : List ℕ) (w r : DuoHalf) : Type 0 where
   pub counts : last_count w.known (standing r.base n words w.take.index (r.put.index - w.take.index)) ≡ r.told
   -- what the writer has told stands in its last control word
   pub last : LastTells w.base n 0 words w.put.index w.told
+  -- slots that were never put into are zero
+  pub clear : IsClear w.base n words w.put.index
 
 -- two sides over one table
 pub record InStep (n : ℕ) (words : List ℕ) (a b : DuoHalf) : Type 0 where

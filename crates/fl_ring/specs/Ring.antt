@@ -3,7 +3,7 @@ use Rattle.std.specs.Prelude.{ℕ, ◌≡◌, ◌+◌, ◌*◌, ◌-◌, ◌≤�
 use Rattle.fl_base.specs.declared.fragment.Frag.{Frag}
 use Rattle.fl_link.specs.Looks.{Look, placed, found, found_ack, told}
 use Rattle.fl_link.specs.Queue.{TheQueue, QueueGains, QueuePuts, QueueTakes}
-use Rattle.fl_ring.specs.Way.{Marked, standing, WayStands}
+use Rattle.fl_ring.specs.Way.{Marked, standing, IsClear, WayStands}
 
 -- what contracts see of a ring
 pub record TheRing : Type 0 where
@@ -52,6 +52,7 @@ pub record IsRing (words : List ℕ) (n sent taken : ℕ) : Type 0 where
   pub taken_sent : taken ≤ sent
   pub most : sent ≤ 2 ^ 62
   pub marked : Marked 0 n words (slice_index words (8 * n)) sent
+  pub clear : IsClear 0 n words sent
 
 -- what those words and numbers show
 abbrev pub ring_of : List ℕ → ℕ → ℕ → ℕ → TheRing

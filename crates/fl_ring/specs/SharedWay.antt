@@ -8,7 +8,7 @@ use Rattle.fl_base.specs.declared.fragment.Frag.{Frag}
 use Rattle.fl_base.specs.Control.{epoch_of}
 use Rattle.fl_base.specs.Prefix.{IsPrefix}
 use Rattle.fl_link.specs.Cursor.{epoch_at}
-use Rattle.fl_ring.specs.Way.{slot, WayHolds}
+use Rattle.fl_ring.specs.Way.{slot, WayHolds, IsClear}
 use Rattle.fl_ring.specs.declared.shared.board.WriterView.{WriterView}
 use Rattle.fl_ring.specs.declared.shared.board.ReaderView.{ReaderView}
 
@@ -44,6 +44,9 @@ pub record WayRuns (b n : ℕ) (words : List ℕ) (w : WriterView) (r : ReaderVi
   -- where the reader has seen the epoch due, the next fragment is there, and so is one that it peeked
   pub due : IsDue n r → length r.part < 7 → IsLoaded w.sent r.got r.part r.last
   pub peeked : (frag : Frag) → r.peeked ≡ Some frag → IsNext w.sent r.got frag
+  -- in the first round all slots behind the next one are zero, and the next one where no word of it is known
+  pub clear : IsClear b n words (length w.sent + 1)
+  pub untouched : w.part ≡ [] → IsClear b n words (length w.sent)
 
 -- Both sides' knowledge in one hand, of a way of n slots: what was got is a prefix of what was sent, what the writer knows
 -- was acknowledged, what was acknowledged was got, and no more than n were sent beyond what the writer knows.

@@ -1,6 +1,6 @@
 -- Known bytes, and a script's items one after another.
 use Rattle.std.proofs.Common.{◌≡◌, ◌∙◌, ◌+◌, ◌++◌, ◌∷◌, [], ◌≤◌, ◌<◌, List, ℕ, Bool, true, false, length, take, drop, sym, ap, subst, append_assoc, append-nil, refl, arith, Option, Some, None, length-append}
-use Rattle.std.specs.Prelude.{IfSome, IfErr, OnErr, Result, Ok, Err, codes, ◌==◌, ◌≢◌, ⊤}
+use Rattle.std.specs.Prelude.{IfSome, IfErr, OnOk, OnErr, Result, Ok, Err, codes, ◌==◌, ◌≢◌, ⊤}
 use Rattle.std.proofs.lemmas.Bool.{true≢false, false≢true}
 use Rattle.std.specs.Bool.{MatchBool}
 use Rattle.std.proofs.lemmas.List.{take-append-drop}
@@ -18,7 +18,8 @@ use Rattle.fl_script_exec.specs.Reading.{ReadsWhole, CanBeUnread, GivesSome, Giv
 use Rattle.fl_base.specs.Prefix.{IsPrefix}
 use Rattle.fl_script_lines.specs.Answers.{line}
 use Rattle.fl_script_exec.specs.CutShort.{IsProperPrefix, SomeAnswers, PartOfAnswers, LeavesWritten}
-use Rattle.fl_script_exec.specs.Transcript.{Script, Effect, Does, AllDo, Runs, text_of, Transcript, beginning}
+use Rattle.fl_script_exec.specs.Transcript.{Script, Effect, Does, AllDo, Runs, last_of, text_of, Transcript, beginning}
+use Rattle.fl_script_exec.specs.Written.{RanOn, Ran}
 use Rattle.fl_script_exec.proofs.Doing.{some_effect, some_run, one_run, one_transcript}
 use Rattle.fl_script_exec.proofs.Firsts.{HasItem, has_item}
 
@@ -205,10 +206,15 @@ run_fault fault u v w s now whole rest behind text item effect done is g a first
   appends_then u v w (text_of done) prefix a b,
 )
 
+-- a script is behind the last item
+last_push : (s : Script) (done : List Effect) (effect : Effect) → last_of s (done ++ effect ∷ []) ≡ effect.after
+last_push s [] effect = refl
+last_push s (first ∷ done) effect = last_push first.after done effect
+
 pub run_more : {M : Type 0} (shows : M → State → Type 0) (u v w : Option (List ℕ)) (r : RustScript M) (s now : Script) (whole rest behind text : List ℕ)
     (item : Item) (effect : Effect) (done : List Effect) → GoesOn s whole now rest done → Appends u v (text_of done) → Leads rest behind item
     → Does now item effect → IsAt shows r effect.after → text ≡ effect.text → Appends v w text
-    → (after : Script) × (effects : List Effect) × IsAt shows r after × GoesOn s whole after behind effects × Appends u w (text_of effects)
+    → (after : Script) × (effects : List Effect) × IsAt shows r after × GoesOn s whole after behind effects × Appends u w (text_of effects) × (after ≡ last_of s effects)
 run_more shows u v w r s now whole rest behind text item effect done g a first d at e b = (
   effect.after,
   done ++ effect ∷ [],
@@ -216,6 +222,7 @@ run_more shows u v w r s now whole rest behind text item effect done g a first d
   item_more s now whole rest behind item effect done g first d,
   subst (λ (t : List ℕ). Appends u w t) (sym (text_push done effect))
       (subst (λ (t : List ℕ). Appends u w (text_of done ++ t)) e (appends_then u v w (text_of done) text a b)),
+  sym (last_push s done effect),
 )
 
 -- ---- The whole
@@ -301,6 +308,39 @@ pub leaves_long : {A : Type 0} (r : Result A ExecFault) (u : Option (List ℕ)) 
 leaves_long (Ok x) u v w text h long part is = tt
 leaves_long (Err fault) u v w text h long part is =
     subst (λ (f : ExecFault). IfSome u (λ input. (out : List ℕ) × LeavesWritten f input out × Appends v w out)) (sym is) (long_write u v w text h long part)
+
+-- ---- What it ran on
+
+-- a machine at the end of a script ran it
+pub ran_on : {M : Type 0} (shows : M → State → Type 0) (r : RustScript M) (s now : Script) (bytes : List ℕ) (done : List Effect) → IsAt shows r now → now ≡ last_of s done
+    → Runs s bytes done → RanOn shows r.machine s bytes
+ran_on shows r s now bytes done at last runs = (done, runs, subst (λ (x : Script). shows r.machine x.state) last at.shown)
+
+ran_short : {M : Type 0} (shows : M → State → Type 0) (input : List ℕ) → is_too_long input ≡ false → (input ≢ [] → (m : M) × RanOn shows m beginning input) → Ran shows input
+ran_short {M} shows input few ran = to_false ⊤ (input ≢ [] → (m : M) × RanOn shows m beginning input) (is_too_long input) few ran
+
+pub ran_all : {M : Type 0} (shows : M → State → Type 0) (m : M) (u : Option (List ℕ)) (text bytes : List ℕ) → IfSome u (λ input. ReadsWhole input text) → length text ≤ 1048576
+    → bytes ≡ text → RanOn shows m beginning bytes → IfSome u (λ input. Ran shows input)
+ran_all shows m None text bytes h short e ran = tt
+ran_all shows m (Some input) text bytes h short e ran =
+    let (same, few) = short_whole input text h short in
+    ran_short shows input few (λ _. (m, subst (RanOn shows m beginning) (e ∙ same) ran))
+
+-- there was nothing to run
+pub ran_none : {M : Type 0} (shows : M → State → Type 0) (u : Option (List ℕ)) (text : List ℕ) → IfSome u (λ input. ReadsWhole input text) → length text ≡ 0 → IfSome u (λ input. Ran shows input)
+ran_none shows None text h none = tt
+ran_none shows (Some input) [] h none = let (same, few) = short_whole input [] h (omega arith) in ran_short shows input few (λ some. absurd (some (sym same)))
+ran_none shows (Some input) (b ∷ text) h none = absurd (omega (arith, none))
+
+ran_too_long : {M : Type 0} (shows : M → State → Type 0) (input : List ℕ) → is_too_long input ≡ true → Ran shows input
+ran_too_long {M} shows input much = to_true ⊤ (input ≢ [] → (m : M) × RanOn shows m beginning input) (is_too_long input) much tt
+
+-- or too much
+pub ran_long : {A M : Type 0} (r : Result A ExecFault) (shows : M → State → Type 0) (u : Option (List ℕ)) (text : List ℕ) → IfSome u (λ input. ReadsWhole input text) → 1048576 < length text
+    → OnOk r (IfSome u (λ input. Ran shows input))
+ran_long (Ok x) shows None text h long = tt
+ran_long (Ok x) shows (Some input) text h long = ran_too_long shows input (long_input input text h (long_text text long))
+ran_long (Err fault) shows u text h long = tt
 
 -- ---- Nothing was written yet
 

@@ -8,7 +8,7 @@ ghost use Rattle.fl_script_exec.specs.CutShort.{IsProperPrefix};
 ghost use Rattle.fl_script_exec.specs.Shown.{IsAt};
 ghost use Rattle.fl_script_exec.specs.Counting.{CountsUpTo};
 ghost use Rattle.fl_script_exec.specs.Reading.{status_of, ReadsWhole, CanBeUnread, GivesSome, GivesScript, GivesUntil};
-ghost use Rattle.fl_script_exec.specs.Written.{WritesTranscript, WritesPrefix, WritesAnswers, WritesUntil};
+ghost use Rattle.fl_script_exec.specs.Written.{WritesTranscript, WritesPrefix, WritesAnswers, WritesUntil, RanOn, Ran};
 
 use crate::reader::ScriptReader;
 use crate::script::Script;
@@ -113,6 +113,7 @@ fn run<M: Machine, W: Write>(
     ensures err { IfErr result (λ fault. (s : TheScript) → IsAt M.shows script.old s
         → WritesUntil fault s text.now (W.contents writer.old) (W.contents writer.new)) }
     ensures fault { result ≢ Err ExecFault.Read }
+    ensures ran { OnOk result ((s : TheScript) → IsAt M.shows script.old s → RanOn M.shows script.new.machine s text.now) }
 {
     let mut out = Vec::new(script.alloc);
     let mut rest = text;
@@ -151,6 +152,7 @@ pub fn exec<M: Machine + Drop, R: ScriptReader, W: Write>(
     ensures unread { result ≡ Err ExecFault.Read → writer.new ≡ writer.old }
     ensures given { GivesUntil (R.remaining reader.old) result (R.remaining reader.new) }
     ensures reads { CountsUpTo 1048577 (R.reads reader.old) (R.reads reader.new) }
+    ensures ran { OnOk result (IfSome (R.remaining reader.old) (λ input. Ran M.shows input)) }
 {
     let text = match read_script(alloc, reader) {
         Ok(text) => text,

@@ -132,6 +132,17 @@ pub record SpellsCall (bytes name : List ℕ) (values : List Datum) : Type 0 whe
   pub ends : Blanks end []
   pub nested : greatest_depth (data_from values) ≤ 20
 
+-- the bytes begin as a call's text does: a name stands, and an opening parenthesis behind it
+pub record BeginsCall (bytes : List ℕ) : Type 0 where
+  pub start : List ℕ
+  pub name : List ℕ
+  pub after : List ℕ
+  pub inside : List ℕ
+  pub before : Blanks bytes start
+  pub word : is_name name ≡ true
+  pub named : start ≡ name ++ after
+  pub opens : Token (a_mark 40) after inside
+
 -- a mark that ends a list of values
 abbrev pub is_close : ℕ → Bool
 is_close b = (b == 41) || (b == 93) || (b == 125)

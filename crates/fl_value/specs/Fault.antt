@@ -9,6 +9,11 @@ number_of NoSuchMessage = 41
 number_of DoesNotFit = 42
 number_of Memory = 99
 
+-- memory is wanting only where this holds
+abbrev pub WantsMemory : ValueFault → Type 0 → Type 0
+WantsMemory Memory holds = holds
+WantsMemory fault holds = Unit {0}
+
 -- a reading of a text fails only where the text says nothing, or memory runs out
 abbrev pub Refuses : ValueFault → Type 0 → Type 0
 Refuses NotACall nothing = nothing

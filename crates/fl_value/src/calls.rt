@@ -4,9 +4,9 @@ ghost use Rattle.std.specs.Prelude.{Result, ◌≡◌, ℕ, ◌++◌, List, map,
 ghost use Rattle.fl_interface.specs.Interface.{interface_of, message_of};
 ghost use Rattle.fl_value_data.specs.Value.{Datum, TheCall, datum_of};
 ghost use Rattle.fl_lex.specs.Words.{is_word_byte, is_name};
-ghost use Rattle.fl_value.specs.CallText.{StopsAt, SpellsCall};
+ghost use Rattle.fl_value.specs.CallText.{StopsAt, SpellsCall, BeginsCall};
 ghost use Rattle.fl_value.specs.declared.fault.ValueFault.{ValueFault};
-ghost use Rattle.fl_value.specs.Fault.{Refuses};
+ghost use Rattle.fl_value.specs.Fault.{Refuses, WantsMemory};
 ghost use Rattle.fl_value.specs.Resolve.{named_from, resolved, Answers, AnswersUnlessMemory, ComesTo, ReadsAs};
 
 use crate::fault::ValueFault;
@@ -57,7 +57,7 @@ fn read_word(bytes: &[u8]) -> Option<(&[u8], &[u8])>
 ///
 /// # Errors
 ///
-/// `NotACall` where the bytes spell no call, and `Memory`.
+/// `NotACall` where the bytes spell no call, and `Memory`, only behind a name and an opening parenthesis.
 pub fn read_spoken(
     alloc: Global,
     bytes: &[u8],
@@ -65,6 +65,7 @@ pub fn read_spoken(
 ) -> Result<(&[u8], Vec<Value>), ValueFault>
     ensures found { IfOk result (λ t. SpellsCall bytes.now t.0.now (map datum_of t.1.items)) }
     ensures fault { IfErr result (λ e. Refuses e ((name : List ℕ) (values : List Datum) → SpellsCall bytes.now name values → ⊥)) }
+    ensures begun { IfErr result (λ e. WantsMemory e (BeginsCall bytes.now)) }
 {
     let Some((name, after)) = read_word(skip_blanks(bytes)) else {
         return Err(ValueFault::NotACall);
@@ -87,6 +88,7 @@ pub fn read_spoken(
 pub fn read_call_text(alloc: Global, bytes: &[u8]) -> Result<CallText, ValueFault>
     ensures found { IfOk result (λ t. SpellsCall bytes.now t.name.bytes.items (map datum_of t.args.items)) }
     ensures fault { IfErr result (λ e. Refuses e ((name : List ℕ) (values : List Datum) → SpellsCall bytes.now name values → ⊥)) }
+    ensures begun { IfErr result (λ e. WantsMemory e (BeginsCall bytes.now)) }
 {
     let (name, args) = read_spoken(alloc, bytes, Vec::new(alloc))?;
     let bytes = Vec::from_slice(alloc, name)?;
@@ -138,10 +140,11 @@ pub fn resolve(interface: &Interface, text: CallText) -> Result<Call, ValueFault
 /// # Errors
 ///
 /// `NotACall` where the bytes spell no call, else `NoSuchMessage`, else `DoesNotFit`, as [`resolve`];
-/// and `Memory`.
+/// and `Memory`, only behind a name and an opening parenthesis.
 pub fn read_call(alloc: Global, bytes: &[u8], interface: &Interface) -> Result<Call, ValueFault>
     ensures exact { ReadsAs (interface_of interface.now) bytes.now result }
     ensures only { (answer : Result TheCall ValueFault) → ComesTo (interface_of interface.now) bytes.now answer → AnswersUnlessMemory result answer }
+    ensures begun { IfErr result (λ e. WantsMemory e (BeginsCall bytes.now)) }
 {
     let text = read_call_text(alloc, bytes)?;
     resolve(interface, text)

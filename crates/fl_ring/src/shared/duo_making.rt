@@ -1,8 +1,8 @@
 //! A ring of two directions made, and its two sides put together again.
 
-ghost use Rattle.std.specs.Prelude.{◌≡◌, ◌≢◌, ◌*◌, ◌+◌, ◌^◌, ◌<◌, ◌≤◌, ◌↔◌, ℕ, [], vec_len, IfOk, OnOk, Err};
+ghost use Rattle.std.specs.Prelude.{◌≡◌, ◌≢◌, ◌*◌, ◌+◌, ◌^◌, ◌<◌, ◌≤◌, ◌↔◌, ℕ, [], vec_len, slice_index, IfOk, OnOk, Err};
 ghost use Rattle.fl_link.specs.Cursor.{epoch_at};
-ghost use Rattle.fl_ring.specs.Way.{epoch_in};
+ghost use Rattle.fl_ring.specs.Way.{epoch_in, IsClear};
 ghost use Rattle.fl_ring.specs.Duo.{MayHaveSlots};
 ghost use Rattle.fl_ring.specs.SharedDuo.{duo_opening};
 ghost use Rattle.fl_ring.specs.SharedSides.{started_side, SidesNear};
@@ -65,9 +65,11 @@ fn mark(words: &mut Vec<u64>, size: usize, start: u64)
     requires size { (0 < size) × (size ≤ 1024) }
     requires start { start ≤ 2 ^ 62 }
     requires wide { vec_len words.old ≡ 16 * size }
+    requires zeros { (i : ℕ) → slice_index words.old.items i ≡ 0 }
     ensures wide { vec_len words.new ≡ 16 * size }
     ensures free { (i : ℕ) → start ≤ i → i < start + size
         → (epoch_in 0 size words.new.items i ≢ epoch_at size i) × (epoch_in (8 * size) size words.new.items i ≢ epoch_at size i) }
+    ensures clear { IsClear 0 size words.new.items start × IsClear (8 * size) size words.new.items start }
 {
     let mut next = Cursor::at(size, start);
     for k in 0..size {

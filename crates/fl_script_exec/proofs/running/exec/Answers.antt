@@ -3,7 +3,7 @@ use Rattle.fl_script_exec.specs.declared.running.ExecFault.TheVariants.{Memory}
 use Rattle.std.specs.Io.KnownBytes.{Appends}
 use Rattle.std.proofs.lemmas.Result.{on_ok_weaker}
 use Rattle.fl_script_exec.specs.Transcript.{beginning, Effect, Runs, text_of}
-use Rattle.fl_script_exec.proofs.ExecLemmas.{given_some, given_until, transcript_all, leaves_run, leaves_unread, leaves_long, leaves_unstarted, more_left}
+use Rattle.fl_script_exec.proofs.ExecLemmas.{given_some, given_until, no_more, ran_all, ran_none, ran_long, transcript_all, leaves_run, leaves_unread, leaves_long, leaves_unstarted, more_left}
 use Rattle.fl_script_exec.proofs.running.exec.Goals as goal
 
 pub returns-in-Err-clause-err : goal.returns-in-Err-clause-err
@@ -55,3 +55,19 @@ returns-in_default-clause-given g c =
 pub returns-clause-given : goal.returns-clause-given
 returns-clause-given g c =
     given_until (g.R.ScriptReader.remaining c.args.reader.now) (g.R.ScriptReader.remaining c.read_script.new.reader) c.run.result c.in-Ok.text.items c.in-Ok.ensures.given
+
+pub returns-then-len-gt-MAX_SCRIPT-clause-ran : goal.returns-then-len-gt-MAX_SCRIPT-clause-ran
+returns-then-len-gt-MAX_SCRIPT-clause-ran g c =
+    let long : 1048576 < length c.in-Ok.text.items = omega (arith, c.in-Ok.text.ok.0, c.len.ensures, c.if-len-gt-MAX_SCRIPT.true) in
+    ran_long c.put_all.result g.M.Machine.shows (g.R.ScriptReader.remaining c.args.reader.now) c.in-Ok.text.items c.in-Ok.ensures.whole long
+
+pub returns-then-is_empty-clause-ran : goal.returns-then-is_empty-clause-ran
+returns-then-is_empty-clause-ran g c =
+    let none = no_more _ c.is_empty.result c.is_empty.ensures c.if-is_empty.true in
+    ran_none g.M.Machine.shows (g.R.ScriptReader.remaining c.args.reader.now) c.in-Ok.text.items c.in-Ok.ensures.whole (omega (arith, c.in-Ok.text.ok.0, none))
+
+pub returns-clause-ran : goal.returns-clause-ran
+returns-clause-ran g c =
+    let short : length c.in-Ok.text.items ≤ 1048576 = omega (arith, c.in-Ok.text.ok.0, c.len.ensures, c.if-len-gt-MAX_SCRIPT.false) in
+    on_ok_weaker c.run.result (λ w. ran_all g.M.Machine.shows c.run.new.script.machine (g.R.ScriptReader.remaining c.args.reader.now) c.in-Ok.text.items c.deref.result.now
+    c.in-Ok.ensures.whole short c.deref.ensures.value (w beginning c.in-Ok-new.ensures.start)) c.run.ensures.ran

@@ -1,6 +1,6 @@
 use Rattle.fl_script_lines.specs.Views.{part_of}
 use Rattle.fl_script_exec.specs.Transcript.{text_of}
-use Rattle.fl_script_exec.proofs.ExecLemmas.{some_answers, run_fault, run_more, all_done, no_more, put_alone}
+use Rattle.fl_script_exec.proofs.ExecLemmas.{some_answers, run_fault, run_more, all_done, ran_on, no_more, put_alone}
 use Rattle.fl_script_exec.proofs.running.run.Goals as goal
 
 pub returns-in_default-clause-err : goal.returns-in_default-clause-err
@@ -30,3 +30,8 @@ pub returns-clause-ok : goal.returns-clause-ok
 returns-clause-ok g c = λ s h.
     let i = c.loop-rest.invariant s h in
     (i.1, all_done s i.0 c.args.text.now c.loop-rest.rest.now i.1 i.3 (no_more _ c.is_empty.result c.is_empty.ensures c.loop-rest-test.false), i.4)
+
+pub returns-clause-ran : goal.returns-clause-ran
+returns-clause-ran g c = λ s h.
+    let i = c.loop-rest.invariant s h in
+    ran_on g.M.Machine.shows c.loop-rest.script s i.0 c.args.text.now i.1 i.2 i.5 (all_done s i.0 c.args.text.now c.loop-rest.rest.now i.1 i.3 (no_more _ c.is_empty.result c.is_empty.ensures c.loop-rest-test.false))

@@ -4,6 +4,8 @@ use Rattle.std.proofs.lemmas.Result.{err_from_is_err_and}
 use Rattle.fl_value_data.specs.Value.{datum_of, data_from}
 use Rattle.fl_value.proofs.Nested.{refuse_weaker}
 use Rattle.fl_value.proofs.Words.{no_word, no_open, no_arguments, not_ended, spelled_call}
+use Rattle.fl_value.specs.CallText.{BeginsCall}
+use Rattle.fl_value.proofs.CallStarts.{begins, wants}
 use Rattle.fl_value.proofs.calls.read_spoken.Goals as goal
 
 pub returns-in_default-clause-fault : goal.returns-in_default-clause-fault
@@ -29,3 +31,9 @@ returns-clause-found c =
     c.skip_blanks-2.result.now c.in-Some.name.now (map datum_of c.in_ok-args.args.items) c.skip_blanks.ensures.blank c.in-Some.ensures.word
     c.in-Some.ensures.split c.in-Some-read_mark.ensures.found c.in_ok-args.ensures.found c.in_ok-args.ensures.shallow c.skip_blanks-2.ensures.blank
     (eqb-true (length c.skip_blanks-2.result.now) 0 (sym c.if-not-is_empty.ensures)) refl
+
+pub returns-in_err-args-clause-begun : goal.returns-in_err-args-clause-begun
+returns-in_err-args-clause-begun c =
+    let p = err_from_is_err_and c.from_residual.result c.from_residual.ensures.1 in
+    let begun = begins c.args.bytes.now c.skip_blanks.result.now c.in-Some.name.now c.in-Some.after.now c.in-Some-read_mark.inside.now c.skip_blanks.ensures.blank c.in-Some.ensures.word c.in-Some.ensures.split c.in-Some-read_mark.ensures.found in
+    rw (p.1, p.2) (wants c.in_err-args.field-0.0 (BeginsCall c.args.bytes.now) begun)

@@ -1,6 +1,6 @@
 use Rattle.std.proofs.Common.{◌≡◌, ◌+◌, ◌-◌, ◌%◌, ◌<◌, ◌∙◌, ap, arith, ℕ, length-set}
 use Rattle.fl_link.specs.Cursor.{TheCursor, epoch_at}
-use Rattle.fl_ring.proofs.SharedDuoMakes.{marked_more}
+use Rattle.fl_ring.proofs.SharedDuoMakes.{marked_more, clear_more}
 use Rattle.fl_ring.proofs.shared.duo_making.mark.Goals as goal
 
 pub loop-k-preserved : goal.loop-k-preserved
@@ -17,4 +17,5 @@ loop-k-preserved c =
       index = omega (arith, ap (λ (p : TheCursor). p.index) next, inv.index);
       size = ap (λ (p : TheCursor). p.size) next ∙ inv.size;
       free = λ i le lt. marked_more n c.args.start j c.place.result (1 - c.epoch-other.result) c.loop-k.words.items c.requires.size.0 inv.wide place other (omega arith) (omega (arith, near)) inv.free i le (omega (arith, lt));
+      clear = clear_more n c.args.start j c.place.result (1 - c.epoch-other.result) c.loop-k.words.items c.requires.size.0 inv.wide place other (omega arith) (omega (arith, near)) inv.clear;
     }
