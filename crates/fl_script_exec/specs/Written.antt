@@ -29,8 +29,10 @@ WritesUntil fault s bytes before after = (prefix : List ℕ) × StopsWith fault 
 
 -- this machine ran the items of these bytes: it shows the state behind them
 abbrev pub RanOn : {M : Type 0} → (M → State → Type 0) → M → Script → List ℕ → Type 0
-RanOn shows machine s bytes = (effects : List Effect) × Runs s bytes effects × shows machine (last_of s effects).state
+RanOn shows machine s bytes =
+    (effects : List Effect) × Runs s bytes effects × shows machine (last_of s effects).state
 
 -- some machine of this kind ran the script, if it has a byte and isn't too long
 abbrev pub Ran : {M : Type 0} → (M → State → Type 0) → List ℕ → Type 0
-Ran {M} shows bytes = MatchBool (is_too_long bytes) ⊤ (bytes ≢ [] → (machine : M) × RanOn shows machine beginning bytes)
+Ran {M} shows bytes =
+    MatchBool (is_too_long bytes) ⊤ (bytes ≢ [] → (machine : M) × RanOn shows machine beginning bytes)

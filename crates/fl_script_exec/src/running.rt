@@ -8,7 +8,8 @@ ghost use Rattle.fl_script_exec.specs.CutShort.{IsProperPrefix};
 ghost use Rattle.fl_script_exec.specs.Shown.{IsAt};
 ghost use Rattle.fl_script_exec.specs.Counting.{CountsUpTo};
 ghost use Rattle.fl_script_exec.specs.Reading.{status_of, ReadsWhole, CanBeUnread, GivesSome, GivesScript, GivesUntil};
-ghost use Rattle.fl_script_exec.specs.Written.{WritesTranscript, WritesPrefix, WritesAnswers, WritesUntil, RanOn, Ran};
+ghost use Rattle.fl_script_exec.specs.Written.{WritesTranscript, WritesPrefix, WritesAnswers, WritesUntil};
+ghost use Rattle.fl_script_exec.specs.Written.{RanOn, Ran};
 
 use crate::reader::ScriptReader;
 use crate::script::Script;
@@ -113,7 +114,8 @@ fn run<M: Machine, W: Write>(
     ensures err { IfErr result (λ fault. (s : TheScript) → IsAt M.shows script.old s
         → WritesUntil fault s text.now (W.contents writer.old) (W.contents writer.new)) }
     ensures fault { result ≢ Err ExecFault.Read }
-    ensures ran { OnOk result ((s : TheScript) → IsAt M.shows script.old s → RanOn M.shows script.new.machine s text.now) }
+    ensures ran { OnOk result ((s : TheScript) → IsAt M.shows script.old s
+        → RanOn M.shows script.new.machine s text.now) }
 {
     let mut out = Vec::new(script.alloc);
     let mut rest = text;
