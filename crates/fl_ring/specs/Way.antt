@@ -39,8 +39,7 @@ pub record Marked (b n : ℕ) (words : List ℕ) (told sent : ℕ) : Type 0 wher
   pub full : (i : ℕ) → told ≤ i → i < sent → epoch_in b n words i ≡ epoch_at n i
   pub free : (i : ℕ) → sent ≤ i → i < told + n → epoch_in b n words i ≢ epoch_at n i
 
--- From this index on no fragment was ever put, so that the slots of the first round from there on are as a
--- new table is: zeros.
+-- From this index on no fragment was ever put, so that the slots of these indexes in the first round are as a new table is: zeros.
 abbrev pub IsClear : ℕ → ℕ → List ℕ → ℕ → Type 0
 IsClear b n words from = (i : ℕ) → 8 * from ≤ i → i < 8 * n → slice_index words (b + i) ≡ 0
 
@@ -50,8 +49,7 @@ pub record WritesSlot (s : ℕ) (frag : Frag) (old new : List ℕ) : Type 0 wher
   pub holds : frag_at new s ≡ frag
   pub others : (i : ℕ) → (i < s) ⊎ (s + 8 ≤ i) → slice_index new i ≡ slice_index old i
 
--- The way stands: these fragments, from the number told on, are in their slots, the epochs say so, and slots
--- that were never put into are zero.
+-- The way stands: these fragments, from the number told on, are in their slots, the epochs say so, and what was never put into is zero.
 pub record WayStands (b n : ℕ) (words : List ℕ) (told : ℕ) (frags : List Frag) : Type 0 where
   pub marked : Marked b n words told (told + length frags)
   pub stand : frags ≡ standing b n words told (length frags)
