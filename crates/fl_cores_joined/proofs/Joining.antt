@@ -59,10 +59,10 @@ pub record Lent (w : TheWorld) (xs : List JoinedCore) (n : ℕ) (x : JoinedCore)
 turned : (a b : TheSide) → AreFacing (facing a b) → AreFacing (facing b a)
 turned a b h = record { size = sym h.size; here = h.there; there = h.here }
 
-is_even : (m : ℕ) → (m % 2 == 0) ≡ true → m ≡ 2 * (m / 2)
+pub is_even : (m : ℕ) → (m % 2 == 0) ≡ true → m ≡ 2 * (m / 2)
 is_even m h = let e : m % 2 ≡ 0 = grind (arith, nat_tests, h) in omega (arith, e)
 
-is_odd : (m : ℕ) → (m % 2 == 0) ≡ false → m ≡ 2 * (m / 2) + 1
+pub is_odd : (m : ℕ) → (m % 2 == 0) ≡ false → m ≡ 2 * (m / 2) + 1
 is_odd m h = by (same_or (m % 2) 0)
   where
     by : (m % 2 ≡ 0) ⊎ (m % 2 ≢ 0) → m ≡ 2 * (m / 2) + 1
@@ -239,7 +239,7 @@ module _ (w : TheWorld) (xs : List JoinedCore) (joined : IsJoined w xs) (n : ℕ
       }
 
   -- side i has, whose number is k
-  side_others : (i k m : ℕ) (a b : TheSide) → slice_get x.sides i ≡ Some k → t.rings ≡ slice_set x.run.rings i b → m ≢ k → HasSide xs m a
+  pub side_others : (i k m : ℕ) (a b : TheSide) → slice_get x.sides i ≡ Some k → t.rings ≡ slice_set x.run.rings i b → m ≢ k → HasSide xs m a
       → HasSide then_all m a
   side_others i k m a b number_is rest other_number h = by (same_or h.core n)
     where

@@ -11,5 +11,7 @@ pub mod Telling
 pub mod Runs
 pub mod Linking
 pub mod Looking
+pub mod Behind
 pub mod Arriving
+pub mod Passing
 pub mod Happening

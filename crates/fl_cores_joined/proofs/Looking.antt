@@ -4,9 +4,10 @@ use Rattle.std.specs.Prelude.{Result, Ok, Err}
 use Rattle.fl_base.specs.declared.fragment.Frag.{Frag}
 use Rattle.fl_base.specs.declared.identity.EndId.{EndId}
 use Rattle.fl_base.specs.declared.identity.LinkId.{LinkId}
+use Rattle.fl_base.specs.declared.identity.Circuit.{Circuit}
 use Rattle.fl_base.specs.Control.{bare}
 use Rattle.fl_base.specs.Given.{given}
-use Rattle.fl_hop.specs.declared.entry.HopTarget.TheVariants.{End}
+use Rattle.fl_hop.specs.declared.entry.HopTarget.TheVariants.{Link, End}
 use Rattle.fl_hop.specs.declared.forward.HopFront.{HopFront}
 use Rattle.fl_hop.specs.declared.forward.HopFront.TheVariants as first
 use Rattle.fl_hop.specs.declared.fault.HopFault.{HopFault}
@@ -29,7 +30,7 @@ use Rattle.fl_core.specs.declared.wiring.LinkSide.{LinkSide}
 use Rattle.fl_core.specs.declared.core_job.CoreJob.{CoreJob}
 use Rattle.fl_core.specs.Ends.{at_side}
 use Rattle.fl_core.specs.Links.{IsLinkSide, Seen, link_of, LooksAhead}
-use Rattle.fl_core.specs.Numbers.{moved_link_side, renumbered}
+use Rattle.fl_core.specs.Numbers.{moved, moved_link_side, renumbered}
 use Rattle.fl_core.specs.View.{TheCore, side_of_link, failed_at, with_failed}
 use Rattle.fl_core.proofs.Numbering.{goes_to}
 use Rattle.fl_core_run.specs.Run.{TheRun}
@@ -45,7 +46,7 @@ use Rattle.fl_cores_joined.specs.Joined.{JoinedCore, AreWhole}
 use Rattle.fl_cores_joined.specs.Steps.{HappensAt, neighbour_on, look_answer}
 use Rattle.fl_cores_joined.specs.Laws.{TheyShow, MachineDoes, IsOnLink}
 use Rattle.fl_cores_joined.proofs.Mapped.{Maps}
-use Rattle.fl_cores_joined.proofs.Renumbered.{get_image}
+use Rattle.fl_cores_joined.proofs.Renumbered.{get_image, side_moved}
 use Rattle.fl_cores_joined.proofs.Joining.{map_set}
 use Rattle.fl_cores_joined.proofs.Linking.{side_lent, across, side_found}
 use Rattle.fl_cores_joined.proofs.Stepping.{begun, ended_whole, there_is, finish, settled_same, lent_side, nothing_noted, IsGood, takes_map}
@@ -131,6 +132,14 @@ module _ {P Q : Type 0} (Good : P → Type 0) (m : P → Q) (takes : P → Look 
     pub looks_arrival : (frag : Frag) (e : EndId) → LooksAhead takes front_p l (at_side k p) (Ok (front.Arrival frag e)) (at_side k2 q)
         → LooksAhead takes2 front_q l (at_side (here k) (m p)) (Ok (front.Arrival frag e)) (at_side (here k2) (m q)) × Good q
     looks_arrival frag e (sees, s) = let x = seen_so (Ok (first.Goes frag (End e))) sees in ((x.0, ap here s), x.1)
+
+    -- it finds one that goes on over another of its links
+    pub looks_onward : (frag : Frag) (to : ℕ) (c : Circuit) → LooksAhead takes front_p l (at_side k p) (Ok (front.Onward frag to c)) (at_side k2 q)
+        → LooksAhead takes2 front_q l (at_side (here k) (m p)) (Ok (front.Onward frag (moved sides to) c)) (at_side (here k2) (m q)) × Good q
+    looks_onward frag to c (goes, s) =
+        let x = seen_so (Ok (first.Goes frag (Link goes.link c))) goes.seen in
+        let side = side_moved sides queues k goes.link.0 ∙ ap (λ (o : Option ℕ). given o None λ n. Some (moved sides n)) goes.side_is in
+        ((record { link = goes.link; seen = x.0; side_is = side }, ap here s), x.1)
 
     pub looks_failed : (fault : LinkReceiveFault) → LooksAhead takes front_p l (at_side k p) (Err fault) (at_side k2 q)
         → LooksAhead takes2 front_q l (at_side (here k) (m p)) (Err fault) (at_side (here k2) (m q)) × Good q

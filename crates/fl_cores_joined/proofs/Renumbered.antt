@@ -1,6 +1,7 @@
 -- A core under the world's numbers for its sides and queues: what it names is moved, and all else is as it was.
 use Rattle.std.proofs.Common.{◌≡◌, refl, ◌∙◌, ap, ℕ, zero, suc, List, [], ◌∷◌, map, slice_get, Option, Some, None}
 use Rattle.std.specs.Prelude.{Result, Ok, Err}
+use Rattle.fl_base.specs.declared.identity.EndId.{EndId}
 use Rattle.fl_base.specs.Given.{given}
 use Rattle.fl_endpoint.specs.declared.fault.EndFault.{EndFault}
 use Rattle.fl_endpoint.specs.declared.answer.WriteAnswer.{WriteAnswer}
@@ -15,7 +16,7 @@ use Rattle.fl_core.specs.declared.wiring.Outlet.TheVariants as outlet
 use Rattle.fl_core.specs.declared.wiring.WiredEnd.{WiredEnd}
 use Rattle.fl_core.specs.Ends.{woken_by}
 use Rattle.fl_core.specs.Numbers.{moved, moved_link_side, moved_wiring, moved_wired_end, renumbered}
-use Rattle.fl_core.specs.View.{TheCore, side_of_link, outlet_by, outlet_of, inlet_by, inlet_of, arrivals_by, arrivals_of, joined_by, joined_to}
+use Rattle.fl_core.specs.View.{TheCore, side_of_link, outlet_by, outlet_of, inlet_by, inlet_of, arrivals_by, arrivals_of, place_of, arriving, arriving_at, joined_by, joined_to}
 use Rattle.fl_core.proofs.Numbering.{renumbered_kept}
 use Rattle.fl_world_refines.specs.View.{IsWhole}
 
@@ -108,6 +109,14 @@ module _ (sides queues : List ℕ) (k : TheCore) where
           ≡ given o None (λ (p : WiredEnd). arrivals_by p.wiring)
       by None = refl
       by (Some p) = arrivals_wired p.wiring
+
+  pub arriving_same : (name : EndId) → arriving_at here name ≡ arriving_at k name
+  arriving_same name = by (place_of k name)
+    where
+      by : (o : Option ℕ) → given o None (λ e. given (arrivals_of here e) None λ a. Some (arriving e a))
+          ≡ given o None (λ e. given (arrivals_of k e) None λ a. Some (arriving e a))
+      by None = refl
+      by (Some e) = ap (λ (o : Option ℕ). given o None λ a. Some (arriving e a)) (arrivals_same e)
 
   -- ---- who learns of a write
 

@@ -1,10 +1,11 @@
--- An interleaving between neighbours is a run of the machine, moment by moment.
+-- An interleaving is a run of the machine, moment by moment.
 use Rattle.std.proofs.Common.{◌≡◌, refl, sym, subst, ℕ, List, [], ◌∷◌, ◌++◌}
 use Rattle.fl_core.specs.declared.core_job.CoreJob.{CoreJob}
 use Rattle.std.specs.Prelude.{Result, Ok, Err}
 use Rattle.fl_base.specs.declared.fragment.Frag.{Frag}
 use Rattle.fl_base.specs.declared.identity.EndId.{EndId}
 use Rattle.fl_base.specs.declared.identity.LinkId.{LinkId}
+use Rattle.fl_base.specs.declared.identity.Circuit.{Circuit}
 use Rattle.fl_hop.specs.declared.forward.ForwardOutcome.{ForwardOutcome}
 use Rattle.fl_core.specs.declared.fault.LinkReceiveFault.{LinkReceiveFault}
 use Rattle.fl_core.specs.declared.answer.LinkFront.TheVariants as front
@@ -26,6 +27,7 @@ use Rattle.fl_cores_joined.proofs.Telling.{acks_are}
 use Rattle.fl_cores_joined.proofs.Linking.{says_so, tells_so}
 use Rattle.fl_cores_joined.proofs.Looking.{looks_so}
 use Rattle.fl_cores_joined.proofs.Arriving.{arrives_there}
+use Rattle.fl_cores_joined.proofs.Passing.{passes_there}
 
 one_more : (event : Event) (answer : Answer) (s : State) (ms ys : List JoinedCore) (zs : List Exchange) → MachineDoes event answer s ms
     → ((z : State) → TheyShow ms z → MachineRuns zs z ys) → MachineRuns (exchange event answer ∷ zs) s ys
@@ -80,12 +82,29 @@ module _ (law : StepsAgree) (jobs : List CoreJob) where
       (sym same)
       (λ t. one_more _ _ s ms ys zs (arrives_there law n i l frag e answer jobs xs mid ms s show whole still t g) rest) h
 
--- what an arrival follows
+  -- a look with the passing on behind it, and then the others
+  by_passing : (n i : ℕ) (l : LinkId) (frag : Frag) (to : ℕ) (c : Circuit) (outcome : ForwardOutcome) (look : LogEntry)
+      (xs mid ms ys : List JoinedCore) (s : State) (zs : List Exchange) → look ≡ looked i l (Ok (front.Onward frag to c))
+      → (h : HappensAt jobs n look xs mid) → HappensAt jobs n (passed i to frag c outcome) mid ms → TheyShow xs s → AreWhole xs
+      → ((z : State) → TheyShow ms z → MachineRuns zs z ys)
+      → MachineRuns (forward_asks n h.before.run.core look (passed i to frag c outcome) ++ zs) s ys
+  by_passing n i l frag to c outcome look xs mid ms ys s zs same h g show whole rest =
+      subst (λ (x : LogEntry). (t : HappensAt jobs n x xs mid) → MachineRuns (forward_asks n t.before.run.core x (passed i to frag c outcome) ++ zs) s ys)
+      (sym same)
+      (λ t. one_more _ _ s ms ys zs (passes_there law n i l frag to c jobs xs mid ms s show whole t outcome g) rest) h
+
+-- what an arrival follows, and what a passing on does
 arrival_of : (look : LogEntry) (i : ℕ) (l : LinkId) (frag : Frag) (e : EndId) (answer : Result ForwardOutcome LinkReceiveFault)
     → Follows look (arrived i l frag e answer) → look ≡ looked i l (Ok (front.Arrival frag e))
 arrival_of (looked side m (Ok (front.Arrival f d))) i l frag e answer (sides, links, frags, names) =
     λ j. looked (sym sides j) (sym links j) (Ok (front.Arrival (sym frags j) (sym names j)))
 arrival_of look i l frag e answer h = absurd h
+
+onward_of : (look : LogEntry) (i to : ℕ) (frag : Frag) (c : Circuit) (outcome : ForwardOutcome) → Follows look (passed i to frag c outcome)
+    → (l : LinkId) × (look ≡ looked i l (Ok (front.Onward frag to c)))
+onward_of (looked side l (Ok (front.Onward f m d))) i to frag c outcome (sides, onto, frags, circuits) =
+    (l, λ j. looked (sym sides j) l (Ok (front.Onward (sym frags j) (sym onto j) (sym circuits j))))
+onward_of look i to frag c outcome h = absurd h
 
 pub runs_join : StepsAgree → RunsJoin
 runs_join law jobs xs ys [] s show whole off h = record { answers = refl; shows = subst (λ (l : List JoinedCore). TheyShow l s) (sym h) show }
@@ -95,4 +114,8 @@ runs_join law jobs xs ys (does n log_entry ∷ moments) s show whole off h =
 runs_join law jobs xs ys (forwards n look (arrived i l frag e answer) ∷ moments) s show whole off h =
     by_arrival law jobs n i l frag e answer look xs h.1.1.0 h.0 ys s (asked_in jobs h.0 moments ys h.3) (arrival_of look i l frag e answer h.1.0)
     h.1.1.1 h.1.1.2 show whole h.2 (λ z shown. runs_join law jobs h.0 ys moments z shown h.2 off h.3)
+runs_join law jobs xs ys (forwards n look (passed i to frag c outcome) ∷ moments) s show whole off h =
+    let (l, is) = onward_of look i to frag c outcome h.1.0 in
+    by_passing law jobs n i l frag to c outcome look xs h.1.1.0 h.0 ys s (asked_in jobs h.0 moments ys h.3) is
+    h.1.1.1 h.1.1.2 show whole (λ z shown. runs_join law jobs h.0 ys moments z shown h.2 off h.3)
 runs_join law jobs xs ys (forwards n look follows ∷ moments) s show whole off h = absurd off

@@ -5,6 +5,7 @@ use Rattle.fl_base.specs.declared.fragment.Frag.{Frag}
 use Rattle.fl_base.specs.declared.identity.EndId.{EndId}
 use Rattle.fl_base.specs.declared.identity.LinkId.{LinkId}
 use Rattle.fl_base.specs.declared.identity.MsgNo.{MsgNo}
+use Rattle.fl_base.specs.declared.identity.Circuit.{Circuit}
 use Rattle.fl_value_data.specs.Value.{TheCall}
 use Rattle.fl_hop.specs.declared.forward.ForwardOutcome.{ForwardOutcome}
 use Rattle.fl_endpoint.specs.declared.fault.EndFault.{EndFault}
@@ -13,7 +14,7 @@ use Rattle.fl_core.specs.declared.turn_answer.TurnAnswer.{TurnAnswer}
 use Rattle.fl_core.specs.declared.turn_answer.AckAnswer.{AckAnswer}
 use Rattle.fl_core.specs.declared.board_fault.BoardFault.{BoardFault}
 use Rattle.fl_core.specs.declared.answer.LinkFront.{LinkFront}
-use Rattle.fl_core.specs.declared.answer.LinkFront.TheVariants.{Arrival}
+use Rattle.fl_core.specs.declared.answer.LinkFront.TheVariants.{Onward, Arrival}
 use Rattle.fl_core.specs.declared.answer.MonitorWrite.{MonitorWrite}
 use Rattle.fl_core.specs.declared.fault.LinkReceiveFault.{LinkReceiveFault}
 use Rattle.fl_core.specs.declared.wiring.Outlet.{Outlet}
@@ -23,13 +24,13 @@ use Rattle.fl_model.specs.Events.{Answer}
 use Rattle.fl_model.specs.State.{State}
 use Rattle.fl_model.specs.Step.{step}
 use Rattle.fl_core.specs.declared.core_job.CoreJob.{CoreJob}
-use Rattle.fl_core_run.specs.LogEntries.{LogEntry, looked, arrived, said, told, called, ruled}
+use Rattle.fl_core_run.specs.LogEntries.{LogEntry, looked, passed, arrived, said, told, called, ruled}
 use Rattle.fl_core_run.specs.LogEntries.{wrote, acked, turned}
 use Rattle.fl_core_run.specs.Steps.{lacks_to_call}
 use Rattle.fl_world_refines.specs.View.{TheWorld}
 use Rattle.fl_world_refines.specs.ShowsState.{Shows}
 use Rattle.fl_world_refines.specs.Taking.{turn_answer}
-use Rattle.fl_world_refines.specs.Linking.{write_answer as monitor_answer, ack_answer}
+use Rattle.fl_world_refines.specs.Linking.{write_answer as monitor_answer, ack_answer, moved_answer}
 use Rattle.fl_cores_joined.specs.Joined.{JoinedCore, IsJoined, AreWhole}
 use Rattle.fl_cores_joined.specs.Steps.{HappensAt, call_answer, rule_answer, write_answer, acked_answer}
 use Rattle.fl_cores_joined.specs.Steps.{look_answer, arrival_answer, neighbour_on}
@@ -106,3 +107,12 @@ ArrivalsJoin = (n side : ℕ) (l : LinkId) (frag : Frag) (e : EndId)
     → (h : HappensAt jobs n (looked side l (Ok (Arrival frag e))) xs ms)
     → HappensAt jobs n (arrived side l frag e answer) ms ys
     → MachineDoes (forward n (neighbour_on h.before.run.core l)) (arrival_answer answer) s ys
+
+-- a look that finds one which goes on over another link, with its passing on behind it
+abbrev pub PassesJoin : Type 0
+PassesJoin = (n side to : ℕ) (l : LinkId) (frag : Frag) (c : Circuit) (outcome : ForwardOutcome)
+    (jobs : List CoreJob) (xs ms ys : List JoinedCore) (s : State)
+    → TheyShow xs s → AreWhole xs
+    → (h : HappensAt jobs n (looked side l (Ok (Onward frag to c))) xs ms)
+    → HappensAt jobs n (passed side to frag c outcome) ms ys
+    → MachineDoes (forward n (neighbour_on h.before.run.core l)) (moved_answer outcome) s ys

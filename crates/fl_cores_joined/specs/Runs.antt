@@ -1,8 +1,8 @@
 -- What an interleaving of the cores' logs comes to: a run of the machine, where no circuit is asked for and
--- what goes over links goes between neighbours.
+-- no monitors' message is heard.
 use Rattle.std.specs.Prelude.{◌≡◌, List, [], ◌∷◌, ◌++◌, map}
 use Rattle.fl_core.specs.declared.core_job.CoreJob.{CoreJob}
-use Rattle.fl_core_run.specs.LogEntries.{LogEntry, arrived, opened}
+use Rattle.fl_core_run.specs.LogEntries.{LogEntry, passed, arrived, opened}
 use Rattle.fl_model.specs.Events.{Event}
 use Rattle.fl_model.specs.Runs.{Exchange, run, reached}
 use Rattle.fl_model.specs.State.{State}
@@ -27,24 +27,25 @@ pub record MachineRuns (exchanges : List Exchange) (s : State) (ys : List Joined
   pub answers : run s (events_of exchanges) ≡ exchanges
   pub shows : TheyShow ys (reached s (events_of exchanges))
 
--- ---- between neighbours
+-- ---- calls' fragments
 
 -- no circuit is asked for by it
 abbrev pub OpensNone : LogEntry → Type 0
 OpensNone (opened name request answer) = ⊥
 OpensNone log_entry = Unit {0}
 
--- nor by any of these; and what stands first on a link, and isn't for this core's ends, is left there: no
--- core passes anything on, and no monitors' message is heard
-abbrev pub AreBetweenNeighbours : List Moment → Type 0
-AreBetweenNeighbours [] = Unit {0}
-AreBetweenNeighbours (does n log_entry ∷ moments) = OpensNone log_entry × AreBetweenNeighbours moments
-AreBetweenNeighbours (forwards n look (arrived side l frag e answer) ∷ moments) = AreBetweenNeighbours moments
-AreBetweenNeighbours (forwards n look follows ∷ moments) = ⊥
+-- nor by any of these; and no monitors' message is heard: what stands first on a link, and is followed, is a
+-- call's fragment, for an end of this core or on its way to another
+abbrev pub MoveCallsAlone : List Moment → Type 0
+MoveCallsAlone [] = Unit {0}
+MoveCallsAlone (does n log_entry ∷ moments) = OpensNone log_entry × MoveCallsAlone moments
+MoveCallsAlone (forwards n look (arrived side l frag e answer) ∷ moments) = MoveCallsAlone moments
+MoveCallsAlone (forwards n look (passed side to frag c outcome) ∷ moments) = MoveCallsAlone moments
+MoveCallsAlone (forwards n look follows ∷ moments) = ⊥
 
 -- cores that show a state of the machine, in an interleaving in which each look finds what stands in its
 -- ring: the machine's run
 abbrev pub RunsJoin : Type 0
 RunsJoin = (jobs : List CoreJob) (xs ys : List JoinedCore) (moments : List Moment) (s : State)
-    → TheyShow xs s → AreWhole xs → AreBetweenNeighbours moments
+    → TheyShow xs s → AreWhole xs → MoveCallsAlone moments
     → (h : Interleaves jobs xs moments ys) → MachineRuns (asked_in jobs xs moments ys h) s ys

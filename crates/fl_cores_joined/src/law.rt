@@ -2,7 +2,7 @@
 
 ghost use Rattle.fl_cores_joined.specs.Rings.{TrueStepsAreTheRings, TrueStepsHappen};
 ghost use Rattle.fl_cores_joined.specs.Laws.{WritesJoin, TurnsJoin, AcksJoin, CallsJoin, RulesJoin};
-ghost use Rattle.fl_cores_joined.specs.Laws.{MonitorsJoin, TellsJoin, LooksJoin, ArrivalsJoin};
+ghost use Rattle.fl_cores_joined.specs.Laws.{MonitorsJoin, TellsJoin, LooksJoin, ArrivalsJoin, PassesJoin};
 ghost use Rattle.fl_cores_joined.specs.Runs.{RunsJoin};
 
 use fl_world_refines::law_steps_agree;
@@ -35,19 +35,21 @@ pub fn law_jobs_join()
 }
 
 /// What a core does on a link is the machine's: its monitor writes, what was read is told, a look finds
-/// nothing that is to go on, or it finds a fragment for an end of the core, which arrives there.
+/// nothing that is to go on, or it finds a fragment for an end of the core, which arrives there, or one that
+/// is passed on over another link.
 pub fn law_links_join()
     ensures says { MonitorsJoin }
     ensures tells { TellsJoin }
     ensures looks { LooksJoin }
     ensures arrivals { ArrivalsJoin }
+    ensures passes { PassesJoin }
 {
     law_steps_agree();
 }
 
 /// Where cores do one thing after another, each look finds what stands in its ring at that moment, no circuit
-/// is opened and what goes over links goes between neighbours, that is a run of the machine, with the cores'
-/// answers, to a state that the cores show.
+/// is asked for and no monitors' message is heard, that is a run of the machine, with the cores' answers, to
+/// a state that the cores show.
 pub fn law_runs_join()
     ensures runs { RunsJoin }
 {
