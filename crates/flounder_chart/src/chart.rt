@@ -67,8 +67,17 @@ fn shown_rows(rows: &[Row<'_>], lines: Option<Lines>) -> Shown
             end: rows.len(),
         };
     };
+    let mut shown = Shown { first: 0, end: 0 };
+    for row in rows {
+        if row.number < first {
+            shown.first = shown.first.saturating_add(1);
+        }
+        if row.number <= last {
+            shown.end = shown.end.saturating_add(1);
+        }
+    }
     Shown {
-        first: rows.iter().filter(|row| row.number < first).count(),
-        end: rows.iter().filter(|row| row.number <= last).count(),
+        first: shown.first,
+        end: shown.end.min(rows.len()),
     }
 }

@@ -2,7 +2,7 @@
 
 use crate::program::scripts::Script;
 
-const CIRCUIT: Script = Script(
+pub const CIRCUIT: Script = Script(
     b"\
 # A circuit over three cores: the monitors open it by messages of their own, and then fragments are forwarded link by link.
 idl
@@ -140,7 +140,7 @@ handle p.s write(11, \"d\")
 ",
 );
 
-const ECHO: Script = Script(
+pub const ECHO: Script = Script(
     b"\
 # An rpc that is answered by a reply rule: whatever the echo server is asked, it answers with the same number.
 idl
@@ -222,7 +222,7 @@ nothing
 ",
 );
 
-const HELLO: Script = Script(
+pub const HELLO: Script = Script(
     b"\
 idl
 interface i { message ping(uint32 v); }
@@ -251,7 +251,7 @@ nothing
 ",
 );
 
-const MEMORY: Script = Script(
+pub const MEMORY: Script = Script(
     b"\
 # the memory server of docs/SCRIPTS.md, and its client
 idl
@@ -320,7 +320,7 @@ nothing
 ",
 );
 
-const NAMES: Script = Script(
+pub const NAMES: Script = Script(
     b"\
 # A name service with two services: a memory server and a block device, each under a name of its own. A binding names the
 # service, and the interface under which it wants to speak to it.
@@ -403,7 +403,7 @@ refused E41
 ",
 );
 
-const REFUSED: Script = Script(
+pub const REFUSED: Script = Script(
     b"\
 # A route that is refused: the first link is there, so the client's monitor asks; the next core has no link to go on by.
 idl
@@ -487,7 +487,7 @@ accepted
 ",
 );
 
-const RING: Script = Script(
+pub const RING: Script = Script(
     b"\
 # A ring between two cores that fills and is acknowledged. Of its four slots one direction can use three here: each put
 # wants two free slots, so that the last is always free for an acknowledgement.
@@ -586,7 +586,7 @@ handle p.c input(13)
 ",
 );
 
-const STUCK: Script = Script(
+pub const STUCK: Script = Script(
     b"\
 # A circuit with calls both ways that sticks, since its links have only four slots and both ends call without
 # waiting. With eight slots the same lines go through. How to choose N: docs/WIRE.md, \"Choosing N\".

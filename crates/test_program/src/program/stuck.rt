@@ -3,7 +3,7 @@
 
 use crate::program::scripts::Script;
 
-const STUCK: Script = Script(
+pub const STUCK: Script = Script(
     b"\
 # A binding over a ring that sticks, with one reply rule. An end at which 16 replies wait takes nothing before
 # one is written. To write one it wants room on the ring, and for that it looks at the first call that it

@@ -2,7 +2,7 @@
 
 use crate::program::scripts::Script;
 
-const STUCK: Script = Script(
+pub const STUCK: Script = Script(
     b"\
 # A binding within a core that sticks, with reply rules at both ends. An end at which 16 replies wait takes
 # nothing before one is written, and here both queues are full of what both ends hold back. How to choose N:
