@@ -63,8 +63,8 @@ fn read_rows<'a>(
     trace: &mut Trace<'a>,
     rows: &mut Vec<Row<'a>>,
 ) -> bool
-    ensures rows { length rows.old.items ≡ 0 → (items : List TheItem)
-        × (ItemsOf script.now items × (length rows.new.items ≤ length items)) }
+    requires { length rows.now.items ≡ 0 }
+    ensures rows { (items : List TheItem) × (ItemsOf script.now items × (length rows.new.items ≤ length items)) }
 {
     let mut rest = script;
     let mut answers = transcript;

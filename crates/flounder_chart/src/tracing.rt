@@ -56,6 +56,16 @@ fn first_word(answer: &[u8]) -> (&[u8], &[u8]) {
     answer.split_once_str(b" ").unwrap_or((answer, b""))
 }
 
+// Whether a word is one of these.
+fn is_among(word: &[u8], words: &[&[u8]]) -> bool {
+    for one in words {
+        if word == *one {
+            return true;
+        }
+    }
+    false
+}
+
 impl<'a> Trace<'a> {
     /// Nothing was made yet.
     pub(crate) fn new(alloc: Global) -> Trace<'a> {
@@ -208,10 +218,12 @@ impl<'a> Trace<'a> {
         let Some(end) = self.end_told(rest) else {
             return Acted::alone(actor);
         };
-        let source = match word {
-            b"handle" | b"part" => self.flows.take(end, row),
-            b"quiet" => self.flows.look(end, row),
-            _ => None,
+        let source = if is_among(word, &[b"handle", b"part"]) {
+            self.flows.take(end, row)
+        } else if is_among(word, &[b"quiet"]) {
+            self.flows.look(end, row)
+        } else {
+            None
         };
         Acted {
             actor,
@@ -223,11 +235,10 @@ impl<'a> Trace<'a> {
     // Whether a core took something from a link, by its answer.
     fn is_taken(&self, answer: &[u8]) -> bool {
         let (word, rest) = first_word(answer);
-        match word {
-            b"forwarded" | b"ok" | b"opened" => true,
-            b"refused" => self.end_told(first_word(rest).1).is_some(),
-            _ => false,
+        if is_among(word, &[b"refused"]) {
+            return self.end_told(first_word(rest).1).is_some();
         }
+        is_among(word, &[b"forwarded", b"ok", b"opened"])
     }
 
     fn forward(&mut self, core: u32, neighbour: u32, answer: &[u8], row: usize) -> Acted {
@@ -286,8 +297,14 @@ impl<'a> Trace<'a> {
     // What was put by a command that was done: who is to take it.
     fn put(&mut self, command: Command<'a>, row: usize) -> Option<Actor> {
         let (carried, core, neighbour) = match command {
-            Command::Write(name) => return self.flows.write(self.end(name)?, row),
-            Command::Ack(name) => return self.flows.acknowledge(self.end(name)?, row),
+            Command::Write(name) => {
+                let end = self.end(name)?;
+                return self.flows.write(end, row);
+            }
+            Command::Ack(name) => {
+                let end = self.end(name)?;
+                return self.flows.acknowledge(end, row);
+            }
             Command::MonitorAck { core, neighbour } => {
                 (Carried::Acknowledgement, core, neighbour)
             }
@@ -340,7 +357,7 @@ impl<'a> Trace<'a> {
     fn command(&mut self, command: Command<'a>, answer: &[u8], row: usize) -> Acted {
         let mut goal = None;
         let (word, _) = first_word(answer);
-        if matches!(word, b"ok" | b"written") {
+        if is_among(word, &[b"ok", b"written"]) {
             self.make(command);
             goal = self.put(command, row);
         }

@@ -85,7 +85,7 @@ struct Declared<'a> {
     name: Name<'a>,
 }
 
-fn declared<'a>(declaration: &Declaration<'a>) -> Declared<'a> {
+fn declared_by<'a>(declaration: &Declaration<'a>) -> Declared<'a> {
     let (kind, name) = match declaration {
         Declaration::Alias { new, old: _ } => (Kind::Type, new),
         Declaration::Typedef {
@@ -108,9 +108,9 @@ fn declared<'a>(declaration: &Declaration<'a>) -> Declared<'a> {
 // What is declared at a place.
 fn declared_at<'a>(tree: &Tree<'a>, at: usize) -> Option<Declared<'a>> {
     for declaration in &tree.declarations {
-        let declared = declared(declaration);
-        if declared.name.at == at {
-            return Some(declared);
+        let found = declared_by(declaration);
+        if found.name.at == at {
+            return Some(found);
         }
     }
     None
@@ -139,7 +139,7 @@ fn take_the_same(one: Declared<'_>, other: Declared<'_>) -> bool {
 fn first_declared(tree: &Tree<'_>, at: usize) -> Option<Cause> {
     let taken = declared_at(tree, at)?;
     for declaration in &tree.declarations {
-        let found = declared(declaration);
+        let found = declared_by(declaration);
         if found.name.at < at && take_the_same(found, taken) {
             return Some(Cause::First { at: found.name.at });
         }
@@ -287,7 +287,7 @@ fn size_of(alloc: Global, tree: &Tree<'_>, at: usize) -> Option<Cause> {
     let mut found = None;
     for declaration in &tree.declarations {
         let measure = known.declare(declaration);
-        if declared(declaration).name.at == at && known.is_whole {
+        if declared_by(declaration).name.at == at && known.is_whole {
             found = measure;
         }
     }
@@ -316,7 +316,7 @@ fn payload_of(alloc: Global, tree: &Tree<'_>, at: usize) -> Option<Cause> {
     let mut found = None;
     for declaration in &tree.declarations {
         let _measure = known.declare(declaration);
-        if declared(declaration).name.at == at && known.is_whole {
+        if declared_by(declaration).name.at == at && known.is_whole {
             found = greatest_payload(&known, declaration);
         }
     }

@@ -1,28 +1,17 @@
-//! The drawings of `examples/`, by what `cksum` prints of each: `examples/check` tells where they differ.
+//! Examples with their drawings, by what `cksum` prints of each: `examples/check` tells where they differ.
 
 use crate::program::scripts::Script;
-use crate::program::{examples, stuck, stuck_queue};
 use crate::rows::Row;
 use fl_world::World;
 use flounder_chart::{Lines, chart_script};
 use std::alloc::Global;
 use std::test::Fail;
 
-/// A script, the lines of it that are drawn (from line 0 to 0: all), the drawing's sum, and its bytes.
-pub struct Drawing(Script, usize, usize, u32, usize);
+/// The lines of a script that are drawn (from 0 to 0: all), and the drawing's sum and bytes.
+pub struct Drawing(pub usize, pub usize, pub u32, pub usize);
 
-pub const ROWS: &[Drawing] = &[
-    Drawing(examples::CIRCUIT, 0, 0, 1722245196, 24720),
-    Drawing(examples::ECHO, 0, 0, 665927842, 14091),
-    Drawing(examples::HELLO, 0, 0, 4274017903, 5745),
-    Drawing(examples::MEMORY, 0, 0, 2488777074, 11787),
-    Drawing(examples::NAMES, 0, 0, 2661933574, 13462),
-    Drawing(examples::REFUSED, 0, 0, 2175524789, 14512),
-    Drawing(examples::RING, 0, 0, 3393590405, 16968),
-    Drawing(stuck_queue::STUCK, 280, 310, 2393815754, 15784),
-    Drawing(stuck::STUCK, 97, 149, 441591894, 17361),
-    Drawing(examples::STUCK, 0, 0, 2533608763, 23001),
-];
+/// A script of `examples/`, its transcript and its drawing.
+pub struct Example(pub Script, pub Drawing);
 
 // A sum with one more byte: the rest of a division, bit by bit.
 fn added(sum: u32, byte: u8) -> u32 {
@@ -51,9 +40,15 @@ fn sum_of(bytes: &[u8]) -> u32 {
     !sum
 }
 
-impl Row for Drawing {
+impl Drawing {
+    fn is_of(&self, alloc: Global, script: &[u8]) -> Result<bool, Fail> {
+        let drawing = chart_script::<World>(alloc, script, Lines::new(self.0, self.1))?;
+        Ok(drawing.len() == self.3 && sum_of(&drawing) == self.2)
+    }
+}
+
+impl Row for Example {
     fn holds(&self, alloc: Global) -> Result<bool, Fail> {
-        let drawing = chart_script::<World>(alloc, self.0.0, Lines::new(self.1, self.2))?;
-        Ok(drawing.len() == self.4 && sum_of(&drawing) == self.3)
+        Ok(self.0.holds(alloc)? && self.1.is_of(alloc, self.0.0)?)
     }
 }

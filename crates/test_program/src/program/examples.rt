@@ -1,8 +1,9 @@
 //! The scripts of `examples/` and their transcripts, as they stand there: `examples/check` tells where they differ.
 
+use crate::program::drawings::{Drawing, Example};
 use crate::program::scripts::Script;
 
-pub const CIRCUIT: Script = Script(
+const CIRCUIT: Script = Script(
     b"\
 # A circuit over three cores: the monitors open it by messages of their own, and then fragments are forwarded link by link.
 idl
@@ -140,7 +141,7 @@ handle p.s write(11, \"d\")
 ",
 );
 
-pub const ECHO: Script = Script(
+const ECHO: Script = Script(
     b"\
 # An rpc that is answered by a reply rule: whatever the echo server is asked, it answers with the same number.
 idl
@@ -222,7 +223,7 @@ nothing
 ",
 );
 
-pub const HELLO: Script = Script(
+const HELLO: Script = Script(
     b"\
 idl
 interface i { message ping(uint32 v); }
@@ -251,7 +252,7 @@ nothing
 ",
 );
 
-pub const MEMORY: Script = Script(
+const MEMORY: Script = Script(
     b"\
 # the memory server of docs/SCRIPTS.md, and its client
 idl
@@ -320,7 +321,7 @@ nothing
 ",
 );
 
-pub const NAMES: Script = Script(
+const NAMES: Script = Script(
     b"\
 # A name service with two services: a memory server and a block device, each under a name of its own. A binding names the
 # service, and the interface under which it wants to speak to it.
@@ -403,7 +404,7 @@ refused E41
 ",
 );
 
-pub const REFUSED: Script = Script(
+const REFUSED: Script = Script(
     b"\
 # A route that is refused: the first link is there, so the client's monitor asks; the next core has no link to go on by.
 idl
@@ -487,7 +488,7 @@ accepted
 ",
 );
 
-pub const RING: Script = Script(
+const RING: Script = Script(
     b"\
 # A ring between two cores that fills and is acknowledged. Of its four slots one direction can use three here: each put
 # wants two free slots, so that the last is always free for an acknowledgement.
@@ -586,7 +587,7 @@ handle p.c input(13)
 ",
 );
 
-pub const STUCK: Script = Script(
+const STUCK: Script = Script(
     b"\
 # A circuit with calls both ways that sticks, since its links have only four slots and both ends call without
 # waiting. With eight slots the same lines go through. How to choose N: docs/WIRE.md, \"Choosing N\".
@@ -720,9 +721,20 @@ full
 );
 
 /// Those that call in turn.
-pub const CALLS: &[Script] = &[ECHO, HELLO, MEMORY, NAMES];
+pub const CALLS: &[Example] = &[
+    Example(ECHO, Drawing(0, 0, 665927842, 14091)),
+    Example(HELLO, Drawing(0, 0, 4274017903, 5745)),
+    Example(MEMORY, Drawing(0, 0, 2488777074, 11787)),
+    Example(NAMES, Drawing(0, 0, 2661933574, 13462)),
+];
 
 /// Those of links and rings.
-pub const LINKS: &[Script] = &[CIRCUIT, REFUSED];
+pub const LINKS: &[Example] = &[
+    Example(CIRCUIT, Drawing(0, 0, 1722245196, 24720)),
+    Example(REFUSED, Drawing(0, 0, 2175524789, 14512)),
+];
 
-pub const RINGS: &[Script] = &[RING, STUCK];
+pub const RINGS: &[Example] = &[
+    Example(RING, Drawing(0, 0, 3393590405, 16968)),
+    Example(STUCK, Drawing(0, 0, 2533608763, 23001)),
+];

@@ -1,7 +1,7 @@
 //! Scripts with their transcripts, and the test of all tables.
 
 use crate::program::{
-    core_rows, drawings, examples, letters, limits, lines, rows, stuck, stuck_queue, tables,
+    core_rows, examples, letters, limits, lines, rows, stuck, stuck_queue, tables,
 };
 use crate::rows::{Row, all_hold};
 use fl_script_exec::{ExecFault, exec};
@@ -64,7 +64,6 @@ fn scripts(rt: HostRuntime) -> Result<(), Fail> {
     all_hold(rt.alloc(), "examples of rings", examples::RINGS)?;
     all_hold(rt.alloc(), "a ring that sticks", stuck::RING)?;
     all_hold(rt.alloc(), "queues that stick", stuck_queue::QUEUE)?;
-    all_hold(rt.alloc(), "drawings", drawings::ROWS)?;
     all_hold(rt.alloc(), "limits", limits::LIMITS)?;
     all_hold(rt.alloc(), "texts under plan one", tables::UNDER_PLAN_ONE)?;
     all_hold(rt.alloc(), "texts", tables::TEXTS)
