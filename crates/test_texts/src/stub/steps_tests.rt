@@ -55,7 +55,14 @@ const GIVEN: &[Given] = &[
     },
     // numbers side by side, in a loop and before it
     Given {
-        ops: &[Op::Emit(2), Op::Times(3), Op::Emit(1), Op::Emit(1), Op::Back, Op::End],
+        ops: &[
+            Op::Emit(2),
+            Op::Times(3),
+            Op::Emit(1),
+            Op::Emit(1),
+            Op::Back,
+            Op::End,
+        ],
         tape: &[1, 2, 3, 4, 5, 6, 7, 8],
         bytes: &[1, 2, 3, 4, 5, 6, 7, 8],
     },
