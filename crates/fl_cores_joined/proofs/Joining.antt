@@ -322,6 +322,7 @@ module _ (w : TheWorld) (xs : List JoinedCore) (joined : IsJoined w xs) (n : ℕ
     queues = λ m q h. joined.queues m q (queue_before m q queues h);
     offers = λ k z e. let o = still_offers k z e in record { names = o.names; programs = o.programs };
     numbered = still_numbered;
+    unruled = joined.unruled;
   }
 
   -- and one of its queues
@@ -345,6 +346,7 @@ module _ (w : TheWorld) (xs : List JoinedCore) (joined : IsJoined w xs) (n : ℕ
     queues = queue_is;
     offers = λ c z e. let o = still_offers c z e in record { names = o.names; programs = o.programs };
     numbered = still_numbered;
+    unruled = joined.unruled;
   } where
     there : slice_get w.queues k ≡ Some before
     there = joined.queues k before (record { core = n; at = x; at_is = x_is; place = i; number_is = number_is; queue_is = before_is })
@@ -458,4 +460,5 @@ module _ (w : TheWorld) (xs : List JoinedCore) (joined : IsJoined w xs) (n : ℕ
       queues = λ m c h. joined.queues m c (queue_before m c queues h);
       offers = λ k z e. let o = still_offers k z e in record { names = o.names; programs = o.programs };
       numbered = still_numbered;
+      unruled = joined.unruled;
     }

@@ -14,4 +14,8 @@ pub mod Looking
 pub mod Behind
 pub mod Arriving
 pub mod Passing
+pub mod Alike
+pub mod Seated
+pub mod Hearing
+pub mod Opening
 pub mod Happening

@@ -141,6 +141,11 @@ module _ {P Q : Type 0} (Good : P → Type 0) (m : P → Q) (takes : P → Look 
         let side = side_moved sides queues k goes.link.0 ∙ ap (λ (o : Option ℕ). given o None λ n. Some (moved sides n)) goes.side_is in
         ((record { link = goes.link; seen = x.0; side_is = side }, ap here s), x.1)
 
+    -- it finds a monitors' message
+    pub looks_message : (frag : Frag) → LooksAhead takes front_p l (at_side k p) (Ok (front.Message frag)) (at_side k2 q)
+        → LooksAhead takes2 front_q l (at_side (here k) (m p)) (Ok (front.Message frag)) (at_side (here k2) (m q)) × Good q
+    looks_message frag (sees, s) = let x = seen_so (Ok (first.Monitor frag)) sees in ((x.0, ap here s), x.1)
+
     pub looks_failed : (fault : LinkReceiveFault) → LooksAhead takes front_p l (at_side k p) (Err fault) (at_side k2 q)
         → LooksAhead takes2 front_q l (at_side (here k) (m p)) (Err fault) (at_side (here k2) (m q)) × Good q
     looks_failed link.Failed (failed, e, same) = (

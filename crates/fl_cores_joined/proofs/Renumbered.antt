@@ -1,7 +1,8 @@
 -- A core under the world's numbers for its sides and queues: what it names is moved, and all else is as it was.
-use Rattle.std.proofs.Common.{◌≡◌, refl, ◌∙◌, ap, ℕ, zero, suc, List, [], ◌∷◌, map, slice_get, Option, Some, None}
+use Rattle.std.proofs.Common.{◌≡◌, refl, ◌∙◌, ap, ℕ, zero, suc, List, [], ◌∷◌, ◌++◌, length, map, slice_get, Option, Some, None}
 use Rattle.std.specs.Prelude.{Result, Ok, Err}
 use Rattle.fl_base.specs.declared.identity.EndId.{EndId}
+use Rattle.fl_base.specs.declared.identity.LinkId.{LinkId}
 use Rattle.fl_base.specs.Given.{given}
 use Rattle.fl_endpoint.specs.declared.fault.EndFault.{EndFault}
 use Rattle.fl_endpoint.specs.declared.answer.WriteAnswer.{WriteAnswer}
@@ -14,9 +15,10 @@ use Rattle.fl_core.specs.declared.wiring.LinkSide.{LinkSide}
 use Rattle.fl_core.specs.declared.wiring.Outlet.{Outlet}
 use Rattle.fl_core.specs.declared.wiring.Outlet.TheVariants as outlet
 use Rattle.fl_core.specs.declared.wiring.WiredEnd.{WiredEnd}
+use Rattle.fl_core.specs.BoardView.{TheBoard}
 use Rattle.fl_core.specs.Ends.{woken_by}
 use Rattle.fl_core.specs.Numbers.{moved, moved_link_side, moved_wiring, moved_wired_end, renumbered}
-use Rattle.fl_core.specs.View.{TheCore, side_of_link, outlet_by, outlet_of, inlet_by, inlet_of, arrivals_by, arrivals_of, place_of, arriving, arriving_at, joined_by, joined_to}
+use Rattle.fl_core.specs.View.{TheCore, side_of_link, outlet_by, outlet_of, inlet_by, inlet_of, arrivals_by, arrivals_of, place_of, arriving, arriving_at, joined_by, joined_to, circuit_wired_end, with_circuit_wired_end}
 use Rattle.fl_core.proofs.Numbering.{renumbered_kept}
 use Rattle.fl_world_refines.specs.View.{IsWhole}
 
@@ -138,3 +140,15 @@ module _ (sides queues : List ℕ) (k : TheCore) where
   woken_same e (Ok Full) = refl
   woken_same e (Ok Nothing) = refl
   woken_same e (Err fault) = refl
+
+-- ---- an end of a circuit more
+
+map_push : {X Y : Type 0} (f : X → Y) (xs : List X) (x : X) → map f (xs ++ x ∷ []) ≡ map f xs ++ f x ∷ []
+map_push f [] x = refl
+map_push f (y ∷ xs) x = ap (λ zs. f y ∷ zs) (map_push f xs x)
+
+pub wired_more : (sides queues : List ℕ) (k : TheCore) (b : TheBoard) (e : ℕ) (name : EndId) (l : LinkId)
+    → renumbered sides queues (with_circuit_wired_end k b e name l) ≡ with_circuit_wired_end (renumbered sides queues k) b e name l
+wired_more sides queues k b e name l =
+    ap (λ (ws : List WiredEnd). record (with_circuit_wired_end (renumbered sides queues k) b e name l) { wired_ends = ws })
+    (map_push (moved_wired_end sides queues) k.wired_ends (circuit_wired_end name l (length k.arrivals)))

@@ -6,10 +6,12 @@ use Rattle.fl_compile.specs.Programs.{program_of}
 use Rattle.fl_link.specs.Queue.{TheQueue}
 use Rattle.fl_ring.specs.Duo.{TheDuo}
 use Rattle.fl_ring.specs.SharedSides.{TheSide}
+use Rattle.fl_endpoint.specs.View.{TheEnd, no_rules}
 use Rattle.fl_core.specs.Hearing.{Offers}
 use Rattle.fl_core.specs.Numbers.{renumbered}
 use Rattle.fl_core.specs.View.{TheCore}
 use Rattle.fl_core_run.specs.Run.{TheRun}
+use Rattle.fl_world_refines.specs.declared.binding.Binding.{Binding}
 use Rattle.fl_world_refines.specs.View.{TheWorld, ring_at, IsWhole}
 use Rattle.fl_cores_joined.specs.Rings.{FacingSide, ring_of, AreFacing}
 
@@ -62,6 +64,11 @@ pub record AreOffers (w : TheWorld) (offers : Offers) : Type 0 where
   pub names : offers.names ≡ w.names
   pub programs : map program_of offers.programs ≡ map program_of w.programs
 
+-- an end that isn't made yet has no reply rule: a core sets one where the end is
+abbrev pub UnmadeHaveNoRules : TheWorld → Type 0
+UnmadeHaveNoRules w = (n : ℕ) (b : Binding) (end : TheEnd) → slice_get w.bindings n ≡ Some b
+    → b.unmade ≡ Some end → end.rules ≡ no_rules end.program
+
 -- ---- numbers
 
 -- each side and each queue of a core has a number, and no two have one
@@ -88,6 +95,7 @@ pub record IsJoined (w : TheWorld) (xs : List JoinedCore) : Type 0 where
   pub queues : (n : ℕ) (queue : TheQueue) → HasQueue xs n queue → slice_get w.queues n ≡ Some queue
   pub offers : (n : ℕ) (x : JoinedCore) → slice_get xs n ≡ Some x → AreOffers w x.run.offers
   pub numbered : AreNumbered xs
+  pub unruled : UnmadeHaveNoRules w
 
 -- what is known of each core at any time
 abbrev pub AreWhole : List JoinedCore → Type 0

@@ -1,6 +1,6 @@
 -- The laws of joined cores: what one of them does is the machine's event of that name, and together they show
 -- what the machine comes to.
-use Rattle.std.specs.Prelude.{ℕ, ◌≡◌, false, List, Some, Result, Ok}
+use Rattle.std.specs.Prelude.{ℕ, ◌≡◌, false, List, length, Some, Result, Ok}
 use Rattle.fl_base.specs.declared.fragment.Frag.{Frag}
 use Rattle.fl_base.specs.declared.identity.EndId.{EndId}
 use Rattle.fl_base.specs.declared.identity.LinkId.{LinkId}
@@ -8,13 +8,17 @@ use Rattle.fl_base.specs.declared.identity.MsgNo.{MsgNo}
 use Rattle.fl_base.specs.declared.identity.Circuit.{Circuit}
 use Rattle.fl_value_data.specs.Value.{TheCall}
 use Rattle.fl_hop.specs.declared.forward.ForwardOutcome.{ForwardOutcome}
+use Rattle.fl_monitor.specs.Monitors.{first_link}
+use Rattle.fl_nameserv.specs.Registrations.{TheRegistration, by_iref, by_name}
+use Rattle.fl_ring.specs.SharedSides.{TheSide}
 use Rattle.fl_endpoint.specs.declared.fault.EndFault.{EndFault}
 use Rattle.fl_endpoint.specs.declared.answer.WriteAnswer.{WriteAnswer}
 use Rattle.fl_core.specs.declared.turn_answer.TurnAnswer.{TurnAnswer}
 use Rattle.fl_core.specs.declared.turn_answer.AckAnswer.{AckAnswer}
 use Rattle.fl_core.specs.declared.board_fault.BoardFault.{BoardFault}
 use Rattle.fl_core.specs.declared.answer.LinkFront.{LinkFront}
-use Rattle.fl_core.specs.declared.answer.LinkFront.TheVariants.{Onward, Arrival}
+use Rattle.fl_core.specs.declared.answer.LinkFront.TheVariants.{Message, Onward, Arrival}
+use Rattle.fl_core.specs.declared.answer.MonitorAnswer.{MonitorAnswer}
 use Rattle.fl_core.specs.declared.answer.MonitorWrite.{MonitorWrite}
 use Rattle.fl_core.specs.declared.fault.LinkReceiveFault.{LinkReceiveFault}
 use Rattle.fl_core.specs.declared.wiring.Outlet.{Outlet}
@@ -24,16 +28,21 @@ use Rattle.fl_model.specs.Events.{Answer}
 use Rattle.fl_model.specs.State.{State}
 use Rattle.fl_model.specs.Step.{step}
 use Rattle.fl_core.specs.declared.core_job.CoreJob.{CoreJob}
-use Rattle.fl_core_run.specs.LogEntries.{LogEntry, looked, passed, arrived, said, told, called, ruled}
+use Rattle.fl_core.specs.declared.core_job.OpenRequest.{OpenRequest}
+use Rattle.fl_core.specs.declared.fault.OpenFault.{OpenFault}
+use Rattle.fl_core_run.specs.LogEntries.{LogEntry, looked, passed, arrived, heard, said, told, opened}
+use Rattle.fl_core_run.specs.LogEntries.{called, ruled}
 use Rattle.fl_core_run.specs.LogEntries.{wrote, acked, turned}
-use Rattle.fl_core_run.specs.Steps.{lacks_to_call}
+use Rattle.fl_core_run.specs.Run.{TheRun}
+use Rattle.fl_core_run.specs.Steps.{lacks_to_hear, lacks_to_open, lacks_to_call}
 use Rattle.fl_world_refines.specs.View.{TheWorld}
 use Rattle.fl_world_refines.specs.ShowsState.{Shows}
 use Rattle.fl_world_refines.specs.Taking.{turn_answer}
 use Rattle.fl_world_refines.specs.Linking.{write_answer as monitor_answer, ack_answer, moved_answer}
 use Rattle.fl_cores_joined.specs.Joined.{JoinedCore, IsJoined, AreWhole}
 use Rattle.fl_cores_joined.specs.Steps.{HappensAt, call_answer, rule_answer, write_answer, acked_answer}
-use Rattle.fl_cores_joined.specs.Steps.{look_answer, arrival_answer, neighbour_on}
+use Rattle.fl_cores_joined.specs.Steps.{look_answer, arrival_answer, heard_answer, neighbour_on}
+use Rattle.fl_cores_joined.specs.Steps.{opening_event, opened_answer}
 
 -- the cores make a world that shows this state
 pub record TheyShow (xs : List JoinedCore) (s : State) : Type 0 where
@@ -116,3 +125,34 @@ PassesJoin = (n side to : ℕ) (l : LinkId) (frag : Frag) (c : Circuit) (outcome
     → (h : HappensAt jobs n (looked side l (Ok (Onward frag to c))) xs ms)
     → HappensAt jobs n (passed side to frag c outcome) ms ys
     → MachineDoes (forward n (neighbour_on h.before.run.core l)) (moved_answer outcome) s ys
+
+-- a look that finds a monitors' message, with its hearing behind it, to which memory isn't refused
+abbrev pub HearsJoin : Type 0
+HearsJoin = (n side : ℕ) (l : LinkId) (frag : Frag) (answer : Result MonitorAnswer LinkReceiveFault)
+    (jobs : List CoreJob) (xs ms ys : List JoinedCore) (s : State)
+    → TheyShow xs s → AreWhole xs → AreWhole ys → lacks_to_hear answer ≡ false
+    → (h : HappensAt jobs n (looked side l (Ok (Message frag))) xs ms)
+    → HappensAt jobs n (heard side l frag answer) ms ys
+    → MachineDoes (forward n (neighbour_on h.before.run.core l)) (heard_answer answer) s ys
+
+-- ---- circuits
+
+-- one is asked for as a job does that was accepted: the service has this reference and a name of its own, and
+-- is offered under this interface; and of so many cores the route leads from this one, over this link, to the
+-- service's
+pub record AsksRightly (cores : ℕ) (r : TheRun TheSide) (request : OpenRequest) : Type 0 where
+  pub service : TheRegistration
+  pub registered : by_iref request.opening.service.0 r.offers.names ≡ Some service
+  pub named : by_name service.name r.offers.names ≡ Some service
+  pub interface : service.service.interface ≡ request.interface
+  pub leads : first_link r.core.monitor.circuits request.opening.path service.service.core.0 cores
+      ≡ Some request.link.0
+
+-- so it is, for the binding that the machine makes next; memory isn't refused to it
+abbrev pub OpensJoin : Type 0
+OpensJoin = (n : ℕ) (name : EndId) (request : OpenRequest) (answer : Result ℕ OpenFault)
+    (jobs : List CoreJob) (xs ys : List JoinedCore) (s : State)
+    → lacks_to_open answer ≡ false → TheyShow xs s → AreWhole xs → AreWhole ys
+    → (h : HappensAt jobs n (opened name request answer) xs ys)
+    → AsksRightly (length xs) h.before.run request → request.opening.binding ≡ length s.bindings
+    → MachineDoes (opening_event n h.before.run request) (opened_answer answer) s ys

@@ -1,23 +1,25 @@
--- What an interleaving of the cores' logs comes to: a run of the machine, where no circuit is asked for and
--- no monitors' message is heard.
-use Rattle.std.specs.Prelude.{◌≡◌, List, [], ◌∷◌, ◌++◌, map}
+-- What an interleaving of the cores' logs comes to: a run of the machine, where circuits are asked for in the
+-- order of their numbers.
+use Rattle.std.specs.Prelude.{ℕ, ◌≡◌, List, [], ◌∷◌, ◌++◌, length, map}
+use Rattle.fl_ring.specs.SharedSides.{TheSide}
 use Rattle.fl_core.specs.declared.core_job.CoreJob.{CoreJob}
-use Rattle.fl_core_run.specs.LogEntries.{LogEntry, passed, arrived, opened}
+use Rattle.fl_core_run.specs.LogEntries.{LogEntry, opened}
+use Rattle.fl_core_run.specs.Run.{TheRun}
 use Rattle.fl_model.specs.Events.{Event}
 use Rattle.fl_model.specs.Runs.{Exchange, run, reached}
 use Rattle.fl_model.specs.State.{State}
 use Rattle.fl_cores_joined.specs.Joined.{JoinedCore, AreWhole}
 use Rattle.fl_cores_joined.specs.Steps.{Moment, does, forwards, Interleaves, asks, forward_asks}
-use Rattle.fl_cores_joined.specs.Laws.{TheyShow}
+use Rattle.fl_cores_joined.specs.Laws.{TheyShow, AsksRightly}
 
 -- what is asked of the machine in an interleaving, moment by moment, with the cores' answers
 abbrev pub asked_in : (jobs : List CoreJob) (xs : List JoinedCore) (moments : List Moment)
     (ys : List JoinedCore) → Interleaves jobs xs moments ys → List Exchange
 asked_in jobs xs [] ys h = []
 asked_in jobs xs (does n log_entry ∷ moments) ys h =
-    asks n h.1.1.before.run.core log_entry ++ asked_in jobs h.0 moments ys h.3
+    asks n h.1.1.before.run log_entry ++ asked_in jobs h.0 moments ys h.3
 asked_in jobs xs (forwards n look follows ∷ moments) ys h =
-    forward_asks n h.1.1.1.before.run.core look follows ++ asked_in jobs h.0 moments ys h.3
+    forward_asks n h.1.1.1.before.run look follows ++ asked_in jobs h.0 moments ys h.3
 
 abbrev pub events_of : List Exchange → List Event
 events_of xs = map (λ (x : Exchange). x.event) xs
@@ -27,25 +29,30 @@ pub record MachineRuns (exchanges : List Exchange) (s : State) (ys : List Joined
   pub answers : run s (events_of exchanges) ≡ exchanges
   pub shows : TheyShow ys (reached s (events_of exchanges))
 
--- ---- calls' fragments
+-- ---- circuits
 
--- no circuit is asked for by it
-abbrev pub OpensNone : LogEntry → Type 0
-OpensNone (opened name request answer) = ⊥
-OpensNone log_entry = Unit {0}
+-- a circuit that is asked for by it, at one of so many cores, is asked for rightly, and for the binding that
+-- the machine makes next
+abbrev pub OpensNext : ℕ → TheRun TheSide → State → LogEntry → Type 0
+OpensNext cores r s (opened name request answer) =
+    AsksRightly cores r request × (request.opening.binding ≡ length s.bindings)
+OpensNext cores r s log_entry = Unit {0}
 
--- nor by any of these; and no monitors' message is heard: what stands first on a link, and is followed, is a
--- call's fragment, for an end of this core or on its way to another
-abbrev pub MoveCallsAlone : List Moment → Type 0
-MoveCallsAlone [] = Unit {0}
-MoveCallsAlone (does n log_entry ∷ moments) = OpensNone log_entry × MoveCallsAlone moments
-MoveCallsAlone (forwards n look (arrived side l frag e answer) ∷ moments) = MoveCallsAlone moments
-MoveCallsAlone (forwards n look (passed side to frag c outcome) ∷ moments) = MoveCallsAlone moments
-MoveCallsAlone (forwards n look follows ∷ moments) = ⊥
+-- so it is of each, where the machine has come by then
+abbrev pub OpenInTurn : (jobs : List CoreJob) (s : State) (xs : List JoinedCore) (moments : List Moment)
+    (ys : List JoinedCore) → Interleaves jobs xs moments ys → Type 0
+OpenInTurn jobs s xs [] ys h = Unit {0}
+OpenInTurn jobs s xs (does n log_entry ∷ moments) ys h =
+    OpensNext (length xs) h.1.1.before.run s log_entry
+    × OpenInTurn jobs (reached s (events_of (asks n h.1.1.before.run log_entry))) h.0 moments ys h.3
+OpenInTurn jobs s xs (forwards n look follows ∷ moments) ys h =
+    OpenInTurn jobs (reached s (events_of (forward_asks n h.1.1.1.before.run look follows))) h.0 moments ys
+    h.3
 
 -- cores that show a state of the machine, in an interleaving in which each look finds what stands in its
 -- ring: the machine's run
 abbrev pub RunsJoin : Type 0
 RunsJoin = (jobs : List CoreJob) (xs ys : List JoinedCore) (moments : List Moment) (s : State)
-    → TheyShow xs s → AreWhole xs → MoveCallsAlone moments
-    → (h : Interleaves jobs xs moments ys) → MachineRuns (asked_in jobs xs moments ys h) s ys
+    → TheyShow xs s → AreWhole xs
+    → (h : Interleaves jobs xs moments ys) → OpenInTurn jobs s xs moments ys h
+    → MachineRuns (asked_in jobs xs moments ys h) s ys

@@ -1,12 +1,14 @@
 -- What the cores do together, one after another, where each look finds what stands in its ring at that
 -- moment; and what of it is asked of the machine.
-use Rattle.std.specs.Prelude.{ℕ, ◌≡◌, ◌==◌, if◌then◌else◌, false, List, [], ◌∷◌, ◌++◌, slice_get, slice_set}
-use Rattle.std.specs.Prelude.{Option, Some, None}
+use Rattle.std.specs.Prelude.{ℕ, ◌≡◌, ◌==◌, if◌then◌else◌, false, List, [], ◌∷◌, ◌++◌, map}
+use Rattle.std.specs.Prelude.{slice_get, slice_set, Option, Some, None}
 use Rattle.std.specs.Prelude.{Result, Ok, Err}
+use Rattle.fl_base.specs.declared.identity.CoreId.{CoreId}
 use Rattle.fl_base.specs.declared.identity.LinkId.{LinkId}
 use Rattle.fl_base.specs.Given.{given}
 use Rattle.fl_ring.specs.SharedSeats.{front_seen}
-use Rattle.fl_ring.specs.SharedSides.{SharedPuts, SharedTakes}
+use Rattle.fl_nameserv.specs.Registrations.{TheRegistration, by_iref}
+use Rattle.fl_ring.specs.SharedSides.{TheSide, SharedPuts, SharedTakes}
 use Rattle.fl_hop.specs.declared.forward.ForwardOutcome.{ForwardOutcome}
 use Rattle.fl_hop.specs.declared.links.LinkState.{LinkState}
 use Rattle.fl_endpoint.specs.declared.fault.EndFault.{EndFault}
@@ -22,15 +24,18 @@ use Rattle.fl_core.specs.declared.answer.LinkFront.TheVariants as front
 use Rattle.fl_core.specs.declared.answer.MonitorAnswer.{MonitorAnswer}
 use Rattle.fl_core.specs.declared.answer.MonitorAnswer.TheVariants as told
 use Rattle.fl_core.specs.declared.fault.LinkReceiveFault.{LinkReceiveFault}
-use Rattle.fl_core.specs.Faults.{link_number}
+use Rattle.fl_core.specs.declared.fault.OpenFault.{OpenFault}
+use Rattle.fl_core.specs.Faults.{open_number, link_number}
 use Rattle.fl_core.specs.View.{TheCore}
 use Rattle.fl_core.specs.declared.core_job.CoreJob.{CoreJob}
+use Rattle.fl_core.specs.declared.core_job.OpenRequest.{OpenRequest}
 use Rattle.fl_core_run.specs.Run.{SideRelations, ways, TheRun}
 use Rattle.fl_core_run.specs.LogEntries.{LogEntry, looked, passed, arrived, heard, said, told as acked_link}
 use Rattle.fl_core_run.specs.LogEntries.{opened, called, ruled, wrote, acked, turned, Happens}
 use Rattle.fl_core_run.specs.Steps.{lacks_to_hear, lacks_to_open, lacks_to_call}
 use Rattle.fl_core_run_laws.specs.Logs.{InPlace}
-use Rattle.fl_model.specs.Events.{Event, call, reply, write, turn, ack, forward, monitor_write, monitor_ack}
+use Rattle.fl_model.specs.Events.{Event, by_route, bind, call, reply, write, turn, ack, forward}
+use Rattle.fl_model.specs.Events.{monitor_write, monitor_ack}
 use Rattle.fl_model.specs.Events.{Answer}
 use Rattle.fl_model.specs.Events.{done, accepted, nothing, full, written, opened as circuit_opened}
 use Rattle.fl_model.specs.Events.{opening_refused, refused}
@@ -116,6 +121,10 @@ abbrev pub call_answer : Result (Unit {0}) EndFault → Answer
 call_answer (Ok unit) = accepted
 call_answer (Err fault) = refused (fault_number fault)
 
+abbrev pub opened_answer : Result ℕ OpenFault → Answer
+opened_answer (Ok e) = done
+opened_answer (Err fault) = refused (open_number fault)
+
 abbrev pub rule_answer : Result (Unit {0}) EndFault → Answer
 rule_answer (Ok unit) = done
 rule_answer (Err fault) = refused (fault_number fault)
@@ -158,17 +167,32 @@ asked event answer = exchange event answer ∷ []
 abbrev pub neighbour_on : TheCore → LinkId → ℕ
 neighbour_on k l = given (slice_get k.monitor.circuits.links l.0) 0 λ (link : LinkState). link.neighbour.0
 
--- by one event of core n, which is k
-abbrev pub asks : ℕ → TheCore → LogEntry → List Exchange
-asks n k (looked side l answer) = given (look_answer answer) [] λ a. asked (forward n (neighbour_on k l)) a
-asks n k (said side l answer) = asked (monitor_write n (neighbour_on k l)) (monitor_answer answer)
-asks n k (acked_link side l answer) = asked (monitor_ack n (neighbour_on k l)) (ack_answer answer)
-asks n k (called name c answer) = asked (call name c) (call_answer answer)
-asks n k (ruled name msg answer r) = asked (reply name msg.0 answer.0) (rule_answer r)
-asks n k (wrote name out answer) = asked (write name) (write_answer answer)
-asks n k (acked name side answer) = asked (ack name) (acked_answer answer)
-asks n k (turned d name from answer) = asked (turn (record { core = n; place = d })) (turn_answer name answer)
-asks n k log_entry = []
+-- the name of the service of a reference
+abbrev pub name_of : List TheRegistration → ℕ → List ℕ
+name_of names iref = given (by_iref iref names) [] λ (r : TheRegistration). r.name
+
+abbrev pub cores_of : List CoreId → List ℕ
+cores_of path = map (λ (c : CoreId). c.0) path
+
+-- core n asks for a circuit under the names that it knows
+abbrev pub opening_event : ℕ → TheRun TheSide → OpenRequest → Event
+opening_event n r request =
+    bind (record { core = n; place = request.dispatcher }) request.interface
+    (name_of r.offers.names request.opening.service.0) (by_route (cores_of request.opening.path))
+
+-- by one event of core n, which is this one
+abbrev pub asks : ℕ → TheRun TheSide → LogEntry → List Exchange
+asks n r (looked side l answer) =
+    given (look_answer answer) [] λ a. asked (forward n (neighbour_on r.core l)) a
+asks n r (said side l answer) = asked (monitor_write n (neighbour_on r.core l)) (monitor_answer answer)
+asks n r (acked_link side l answer) = asked (monitor_ack n (neighbour_on r.core l)) (ack_answer answer)
+asks n r (opened name request answer) = asked (opening_event n r request) (opened_answer answer)
+asks n r (called name c answer) = asked (call name c) (call_answer answer)
+asks n r (ruled name msg answer reply_set) = asked (reply name msg.0 answer.0) (rule_answer reply_set)
+asks n r (wrote name out answer) = asked (write name) (write_answer answer)
+asks n r (acked name side answer) = asked (ack name) (acked_answer answer)
+asks n r (turned d name from answer) = asked (turn (record { core = n; place = d })) (turn_answer name answer)
+asks n r log_entry = []
 
 -- what follows a look answers for both
 abbrev pub follow_answer : LogEntry → Option Answer
@@ -177,7 +201,7 @@ follow_answer (arrived side l frag e answer) = Some (arrival_answer answer)
 follow_answer (heard side l frag answer) = Some (heard_answer answer)
 follow_answer log_entry = None
 
-abbrev pub forward_asks : ℕ → TheCore → LogEntry → LogEntry → List Exchange
-forward_asks n k (looked side l found) follows =
-    given (follow_answer follows) [] λ a. asked (forward n (neighbour_on k l)) a
-forward_asks n k look follows = []
+abbrev pub forward_asks : ℕ → TheRun TheSide → LogEntry → LogEntry → List Exchange
+forward_asks n r (looked side l found) follows =
+    given (follow_answer follows) [] λ a. asked (forward n (neighbour_on r.core l)) a
+forward_asks n r look follows = []

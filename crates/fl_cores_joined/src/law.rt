@@ -1,8 +1,10 @@
 //! What cores do together, joined to one world: laws, as the contracts of functions that do nothing.
 
 ghost use Rattle.fl_cores_joined.specs.Rings.{TrueStepsAreTheRings, TrueStepsHappen};
-ghost use Rattle.fl_cores_joined.specs.Laws.{WritesJoin, TurnsJoin, AcksJoin, CallsJoin, RulesJoin};
-ghost use Rattle.fl_cores_joined.specs.Laws.{MonitorsJoin, TellsJoin, LooksJoin, ArrivalsJoin, PassesJoin};
+ghost use Rattle.fl_cores_joined.specs.Laws.{WritesJoin, TurnsJoin, AcksJoin};
+ghost use Rattle.fl_cores_joined.specs.Laws.{CallsJoin, RulesJoin, OpensJoin};
+ghost use Rattle.fl_cores_joined.specs.Laws.{MonitorsJoin, TellsJoin, LooksJoin};
+ghost use Rattle.fl_cores_joined.specs.Laws.{ArrivalsJoin, PassesJoin, HearsJoin};
 ghost use Rattle.fl_cores_joined.specs.Runs.{RunsJoin};
 
 use fl_world_refines::law_steps_agree;
@@ -26,30 +28,33 @@ pub fn law_ends_join()
     law_steps_agree();
 }
 
-/// A call that an end of one core makes is the machine's, and so is a reply rule that is set there.
+/// A call that an end of one core makes is the machine's, and so is a reply rule that is set there, and a
+/// circuit that a core asks for, for the binding that the machine makes next.
 pub fn law_jobs_join()
     ensures calls { CallsJoin }
     ensures rules { RulesJoin }
+    ensures opens { OpensJoin }
 {
     law_steps_agree();
 }
 
 /// What a core does on a link is the machine's: its monitor writes, what was read is told, a look finds
 /// nothing that is to go on, or it finds a fragment for an end of the core, which arrives there, or one that
-/// is passed on over another link.
+/// is passed on over another link, or a monitors' message, which is heard.
 pub fn law_links_join()
     ensures says { MonitorsJoin }
     ensures tells { TellsJoin }
     ensures looks { LooksJoin }
     ensures arrivals { ArrivalsJoin }
     ensures passes { PassesJoin }
+    ensures hears { HearsJoin }
 {
     law_steps_agree();
 }
 
-/// Where cores do one thing after another, each look finds what stands in its ring at that moment, no circuit
-/// is asked for and no monitors' message is heard, that is a run of the machine, with the cores' answers, to
-/// a state that the cores show.
+/// Where cores do one thing after another, each look finds what stands in its ring at that moment, and
+/// circuits are asked for in the order of their numbers, that is a run of the machine, with the cores'
+/// answers, to a state that the cores show.
 pub fn law_runs_join()
     ensures runs { RunsJoin }
 {

@@ -6,8 +6,8 @@
 //! queues make one world (`specs/Joined.antt`). An interleaving of the cores' logs, in which each look finds
 //! what stands in its ring at that moment, is `specs/Steps.antt`. By each event of it the cores go on as the
 //! machine does, and show the machine's next state ([`law_ends_join`], [`law_jobs_join`], [`law_links_join`],
-//! `specs/Laws.antt`). So an interleaving is a run of the machine, as long as no circuit is asked for and no
-//! monitors' message is heard ([`law_runs_join`], `specs/Runs.antt`).
+//! `specs/Laws.antt`). So an interleaving is a run of the machine, as long as circuits are
+//! asked for in the order of their numbers ([`law_runs_join`], `specs/Runs.antt`).
 //!
 //! - `law.rt`: the laws
 #![tactic(auto)]

@@ -343,6 +343,7 @@ module _ (w : TheWorld) (p : Parts) (j : TheJoinedJobs) (at : Places) (threads :
   are_joined : IsJoined w xs
   are_joined = record {
     settled = behind.settled;
+    unruled = behind.unruled;
     cores = cores_are;
     rings = rings_are;
     sides = λ n i m x x_is number.

@@ -1,12 +1,17 @@
 -- The cores of a reported run begin as a world that shows the machine; so what they do is its run.
-use Rattle.std.proofs.Common.{◌≡◌, sym, ◌∙◌, ap, subst, ℕ, ◌<◌, false, List, length, slice_get, Some}
-use Rattle.fl_core.specs.View.{TheCore}
-use Rattle.fl_core_refines.specs.SetUpStart.{SetUpsStartFresh, StartsFresh}
+use Rattle.std.proofs.Common.{◌≡◌, inl, inr, refl, sym, ◌∙◌, ap, subst, ℕ, ◌+◌, ◌*◌, ◌<◌, false, List, length, slice_get, Option, Some}
+use Rattle.fl_base.specs.declared.identity.EndId.{EndId}
+use Rattle.fl_compile.specs.declared.program.Program.{Program}
+use Rattle.fl_core.specs.declared.wiring.EndWiring.{EndWiring}
+use Rattle.fl_core.specs.declared.wiring.EndWiring.TheVariants.{Queues, Ring}
+use Rattle.fl_core.specs.View.{TheCore, place_in, place_of, server_of}
+use Rattle.fl_core_refines.specs.SetUpStart.{SetUpsStartFresh, StartsFresh, Stands}
 use Rattle.fl_cores.specs.Behind.{joined_in}
 use Rattle.fl_cores.specs.OneCore.{begins}
 use Rattle.fl_cores.specs.Promised.{Reports}
 use Rattle.fl_cores.specs.Wanted.{behind}
 use Rattle.fl_cores.proofs.Booted.{all_making}
+use Rattle.fl_cores.proofs.CoresCoreThreads.{OnBoards, on_boards}
 use Rattle.fl_cores.proofs.OneRules.{ShownWith, rules_shown}
 use Rattle.fl_cores.proofs.StartShared.{AreReady, are_ready}
 use Rattle.fl_cores_file.specs.Jobs.{Job}
@@ -19,8 +24,10 @@ use Rattle.fl_world_refines.specs.Apart.{AllUnused}
 use Rattle.fl_world_refines.specs.declared.binding.Binding.{Binding}
 use Rattle.fl_world_refines.specs.declared.parts.Parts.{Parts}
 use Rattle.fl_world_refines.specs.View.{TheWorld, ring_at}
-use Rattle.fl_cores_joined.specs.Joined.{IsJoined}
+use Rattle.fl_world_refines.proofs.FramesBase.{gets, same_some}
+use Rattle.fl_cores_joined.specs.Joined.{UnmadeHaveNoRules, IsJoined}
 use Rattle.fl_cores_joined.specs.Runs.{RunsJoin}
+use Rattle.fl_cores_joined.proofs.Seated.{closed_world, closed_shows, binding_there, none_kept}
 use Rattle.fl_cores_whole.specs.Begin.{IsBehind, HandedOutJoin}
 use Rattle.fl_cores_whole.specs.Whole.{begun, ReportsJoin}
 
@@ -52,16 +59,49 @@ module _ (fresh : SetUpsStartFresh) (c : TheConfig) (jobs : List Job) (limit : �
   core_then : (n : ℕ) (k : TheCore) → slice_get shown.world.cores n ≡ Some k → slice_get parts.cores.items n ≡ Some k
   core_then n k is = ap (λ (ks : List TheCore). slice_get ks n) (sym shown.cores_are) ∙ is
 
-  pub is_behind : AllUnused made.rings → (begins c jobs).may_set_cores ≡ false → IsBehind shown.world parts
+  -- its world, where no end that is made is kept at its binding
+  abbrev pub world : TheWorld
+  world = closed_world shown.world (begins c jobs) shown.shows
+
+  -- each binding of a set-up has its server's end at a core; so none is kept
+  on : OnBoards made.cores parts.cores.items
+  on = on_boards made.bindings jobs made.cores parts.cores.items rules
+
+  stands_there : (e : EndId) (m : ℕ) (program : Program) (wiring : EndWiring) (stands : Stands made m e program wiring)
+      → (k : TheCore) × (slice_get world.cores m ≡ Some k) × (place_of k e ≡ Some stands.place)
+  stands_there e m program wiring stands =
+      let (k, k_is) = gets made.cores parts.cores.items m stands.core on.count stands.core_is in
+      let was = on.each m k k_is in
+      let same = same_some (slice_get made.cores m) was.core stands.core was.core_is stands.core_is in (
+        k,
+        ap (λ (ks : List TheCore). slice_get ks m) shown.cores_are ∙ k_is,
+        ap (λ (ps : List (Option ℕ)). place_in ps e) (was.places ∙ ap (λ (x : TheCore). x.places) same) ∙ stands.place_is,
+      )
+
+  unruled : UnmadeHaveNoRules world
+  unruled n now end now_is end_is =
+      let (b, b_is) = binding_there shown.world (begins c jobs) shown.shows n now now_is in
+      let (there, there_is) = gets (begins c jobs).bindings shown.world.bindings n b shown.shows.showing.bindings.count b_is in
+      let its = starts.joined n there (ap (λ (bs : List Binding). slice_get bs n) (sym shown.bindings) ∙ there_is) in
+      elim its.joined [
+        | inl (forth, back, queues) ↦
+            (let (k, k_is, place) = stands_there (server_of n) there.server its.program (Queues back forth) queues.server in
+            absurd (none_kept shown.world (begins c jobs) shown.shows (server_of n) there.server queues.server.place k now end refl k_is place now_is end_is))
+        | inr (ring, sides) ↦
+            (let (k, k_is, place) = stands_there (server_of n) there.server its.program (Ring (2 * ring + 1)) sides.server in
+            absurd (none_kept shown.world (begins c jobs) shown.shows (server_of n) there.server sides.server.place k now end refl k_is place now_is end_is))
+      ]
+
+  pub is_behind : AllUnused made.rings → (begins c jobs).may_set_cores ≡ false → IsBehind world parts
   is_behind unused settled = record {
     settled = shown.shows.showing.may_set_cores ∙ settled;
+    unruled = unruled;
     parts = record {
       cores = sym shown.cores_are;
       rings = w.ran.ran.beside.rings ∙ w.ran.made.parts.rings ∙ sym shown.rings;
       queues = w.ran.ran.beside.queues ∙ w.ran.made.parts.queues ∙ sym shown.queues;
       programs = w.ran.ran.beside.programs ∙ w.ran.made.parts.programs ∙ sym shown.programs;
       names = w.ran.ran.beside.names ∙ w.ran.made.parts.names ∙ sym shown.names;
-      bindings = w.ran.ran.beside.bindings ∙ w.ran.made.parts.bindings ∙ sym shown.bindings;
     };
     unused = subst AllUnused (sym shown.rings) unused;
     side_cores = λ n m side k l k_is l_is a b. ready.side_cores n m side k l (core_then n k k_is) (core_then m l l_is) a b;
@@ -74,10 +114,14 @@ module _ (fresh : SetUpsStartFresh) (c : TheConfig) (jobs : List Job) (limit : �
   }
 
 pub reports_join : SetUpsStartFresh → HandedOutJoin → RunsJoin → ReportsJoin
-reports_join fresh handed runs c jobs limit r w moments ys unused whole settled off h =
-    let shown_so = shown fresh c jobs limit r w in
-    let joined : IsJoined shown_so.world (begun w) =
-    handed shown_so.world w.ran.ran.parts (joined_in w) w.ran.ran.ran.places w.ran.ran.ran.core_threads w.ran.ran.ran.outcomes
+reports_join fresh handed runs c jobs limit r w moments ys unused whole settled h in_turn =
+    let there = world fresh c jobs limit r w in
+    let joined : IsJoined there (begun w) =
+    handed there w.ran.ran.parts (joined_in w) w.ran.ran.ran.places w.ran.ran.ran.core_threads w.ran.ran.ran.outcomes
     (is_behind fresh c jobs limit r w unused settled) w.ran.ran.ran.sound.begin w.ran.ran.ran.begin w.ran.ran.ran.shares in
     runs (joined_in w).jobs (begun w) ys moments (begins c jobs)
-    (record { world = shown_so.world; joined = joined; shows = shown_so.shows }) whole off h
+    (record {
+      world = there;
+      joined = joined;
+      shows = closed_shows (shown fresh c jobs limit r w).world (begins c jobs) (shown fresh c jobs limit r w).shows;
+    }) whole h in_turn

@@ -8,10 +8,10 @@ use Rattle.fl_cores_parts.specs.Begins.{Places, common_in, AreCoreThreads}
 use Rattle.fl_cores_parts.specs.Shares.{Shares}
 use Rattle.fl_cores_shares.specs.Shares.{own_things}
 use Rattle.fl_core_refines.specs.SetUpStart.{SidesHaveOneCore, QueuesHaveOneCore, SidesAreThere, QueuesAreNew}
-use Rattle.fl_world_refines.specs.Apart.{AllUnused, AreParts}
+use Rattle.fl_world_refines.specs.Apart.{AllUnused}
 use Rattle.fl_world_refines.specs.declared.parts.Parts.{Parts}
 use Rattle.fl_world_refines.specs.View.{TheWorld}
-use Rattle.fl_cores_joined.specs.Joined.{JoinedCore, IsJoined}
+use Rattle.fl_cores_joined.specs.Joined.{JoinedCore, UnmadeHaveNoRules, IsJoined}
 
 -- of things with these owners the numbers of those that are this core's, in order
 abbrev pub numbers_of : ℕ → List ℕ → List ℕ
@@ -34,12 +34,21 @@ abbrev pub owners_in : {p : Parts} {at : Places} {core_threads : List TheCoreThr
     → Shares p at core_threads outcomes → Owners
 owners_in h = record { sides = h.side_owners; queues = h.queue_owners }
 
--- a world behind a set-up: the number of its cores stands, nothing was put on a ring, and what a core names
--- is there and no other core's
+-- these are a world's cores, rings, queues, programs and names; threads are given nothing of its bindings
+pub record AreTaken (w : TheWorld) (p : Parts) : Type 0 where
+  pub cores : p.cores.items ≡ w.cores
+  pub rings : p.rings.items ≡ w.rings
+  pub queues : p.queues.items ≡ w.queues
+  pub programs : p.programs.items ≡ w.programs
+  pub names : p.names ≡ w.names
+
+-- a world behind a set-up: the number of its cores stands, nothing was put on a ring, an end that isn't made
+-- yet has no reply rule, and what a core names is there and no other core's
 pub record IsBehind (w : TheWorld) (p : Parts) : Type 0 where
   pub settled : w.may_set_cores ≡ false
-  pub parts : AreParts w p
+  pub parts : AreTaken w p
   pub unused : AllUnused w.rings
+  pub unruled : UnmadeHaveNoRules w
   pub side_cores : SidesHaveOneCore w
   pub queue_cores : QueuesHaveOneCore w
   pub sides : SidesAreThere w

@@ -13,8 +13,8 @@ pub fn law_handed_out_join()
 {}
 
 /// What the cores of a reported run do one after another, where each look finds what stands in its ring at
-/// that moment, no circuit is asked for and no monitors' message is heard, is a run of the machine from
-/// behind the set-up, with the cores' answers, to a state that the cores show.
+/// that moment and circuits are asked for in the order of their numbers, is a run of the machine from behind
+/// the set-up, with the cores' answers, to a state that the cores show.
 pub fn law_reports_join()
     ensures runs { ReportsJoin }
 {
