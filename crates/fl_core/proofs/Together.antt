@@ -45,13 +45,19 @@ as_many [] (r ∷ calls) h = absurd h
 as_many (x ∷ seats) [] h = absurd h
 as_many (x ∷ seats) (r ∷ calls) h = ap suc (as_many seats calls h.1)
 
+same_some : {X : Type 0} (x y : X) → Some x ≡ Some y → x ≡ y
+same_some x y e = cc
+
+none_stands : {A X : Type 0} (x : X) → ◌≡◌ {A = Option X} None (Some x) → A
+none_stands x e = absurd (cc)
+
 -- ---- a seat changes
 
 pub set_seat : (seats : List TheEndAtChannel) (calls : List TheReassembly) (e : ℕ) (t : TheEndAtChannel) (r : TheReassembly) → slice_get calls e ≡ Some r
     → seats_of (slice_set seats e t) calls ≡ slice_set (seats_of seats calls) e (seat_with t r.parts)
 set_seat [] calls e t r at = refl
-set_seat (x ∷ seats) [] e t r at = absurd (cc)
-set_seat (x ∷ seats) (q ∷ calls) zero t r at = let same : q ≡ r = cc in ap (λ (y : TheReassembly). seat_with t y.parts ∷ seats_of seats calls) same
+set_seat (x ∷ seats) [] e t r at = none_stands r at
+set_seat (x ∷ seats) (q ∷ calls) zero t r at = let same : q ≡ r = same_some q r at in ap (λ (y : TheReassembly). seat_with t y.parts ∷ seats_of seats calls) same
 set_seat (x ∷ seats) (q ∷ calls) (suc e) t r at = ap (λ ys. seat_with x q.parts ∷ ys) (set_seat seats calls e t r at)
 
 pub set_seat_together : (seats : List TheEndAtChannel) (calls : List TheReassembly) → GoTogether seats calls → (e : ℕ) (t : TheEndAtChannel) (r : TheReassembly) → slice_get calls e ≡ Some r → Belongs r t.end
@@ -59,7 +65,7 @@ pub set_seat_together : (seats : List TheEndAtChannel) (calls : List TheReassemb
 set_seat_together [] [] h e t r at of = tt
 set_seat_together [] (q ∷ calls) h e t r at of = absurd h
 set_seat_together (x ∷ seats) [] h e t r at of = absurd h
-set_seat_together (x ∷ seats) (q ∷ calls) h zero t r at of = let same : q ≡ r = cc in (subst (λ (y : TheReassembly). Belongs y t.end) (sym same) of, h.1)
+set_seat_together (x ∷ seats) (q ∷ calls) h zero t r at of = let same : q ≡ r = same_some q r at in (subst (λ (y : TheReassembly). Belongs y t.end) (sym same) of, h.1)
 set_seat_together (x ∷ seats) (q ∷ calls) h (suc e) t r at of = (h.0, set_seat_together seats calls h.1 e t r at of)
 
 -- ---- a seat and its place change
