@@ -1,5 +1,5 @@
 -- Memory is wanting only behind what a call's text begins with.
-use Rattle.std.proofs.Common.{◌≡◌, ◌++◌, ℕ, List, true, Result, Ok, Err}
+use Rattle.std.proofs.Common.{◌≡◌, ◌++◌, ℕ, List, true, refl, Result, Ok, Err}
 use Rattle.std.specs.Prelude.{IfErr}
 use Rattle.fl_value_data.specs.Value.{Datum}
 use Rattle.fl_lex.specs.Words.{is_name}
