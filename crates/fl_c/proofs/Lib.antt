@@ -1,1 +1,3 @@
 mod HeldSends
+mod Messages
+mod Starts

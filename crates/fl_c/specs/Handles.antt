@@ -1,5 +1,6 @@
 -- What each operation does at a handle, exactly, and what C is answered.
 use Rattle.std.specs.Prelude.{◌≡◌, ◌≢◌, ℕ, List, Option, Some, None, Result, Ok, Err}
+use denote.RawPtr.{Ptr}
 use Rattle.fl_ring.specs.SharedSides.{TheSide}
 use Rattle.fl_c.specs.declared.operation.Operation.{Operation}
 use Rattle.fl_c.specs.declared.answer.Outcome.{Outcome}

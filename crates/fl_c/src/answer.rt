@@ -7,7 +7,7 @@ use fl_endpoint::EndFault;
 use fl_link::PutFault;
 
 /// What an operation came to.
-#[derive(Clone, Copy, Debug, PartialEq, Eq)]
+#[derive(Clone, Copy)]
 pub enum Outcome {
     /// The fragment was put.
     Placed,
@@ -52,7 +52,7 @@ pub enum Outcome {
 }
 
 /// Why an operation was refused.
-#[derive(Clone, Copy, Debug, PartialEq, Eq)]
+#[derive(Clone, Copy)]
 pub enum UseFault {
     /// There is no such operation at a handle of this kind, or no such run (101).
     NoSuchOperation,
@@ -72,7 +72,7 @@ pub enum UseFault {
 
 /// What C is answered. A fault of 100 or more is a caller's mistake: nothing was done then.
 #[repr(C)]
-#[derive(Clone, Copy, Debug, PartialEq, Eq)]
+#[derive(Clone, Copy)]
 pub struct Answered {
     /// The fault's number; 0 where there is none.
     pub fault: u32,

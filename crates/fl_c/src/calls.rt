@@ -1,7 +1,7 @@
 //! Calls as numbers: a message's, and its tape (`fl_value_data::flatten`), which is one number for each scalar, a
 //! length before each text and array, in the plan's order.
 
-ghost use Rattle.std.specs.Prelude.{◌≡◌, ◌+◌, ◌≤◌, [], ◌∷◌, ◌++◌, length, drop, IfSome, IfNone};
+ghost use Rattle.std.specs.Prelude.{◌≡◌, ◌+◌, ◌<◌, ◌≤◌, [], ◌∷◌, ◌++◌, length, drop, IfSome, IfNone};
 ghost use Rattle.fl_compile.specs.Programs.{program_of};
 ghost use Rattle.fl_c.specs.Calls.{IsNoMessage, ReadsCall, PutsCall};
 
@@ -14,7 +14,7 @@ use std::alloc::{AllocError, Global};
 
 /// The message of a number.
 pub(crate) fn message_at(program: &Program, number: u64) -> Option<MsgNo>
-    ensures some { IfSome result (λ message. (message.0 ≡ number) × HasMessageAt (program_of program.now).interface number) }
+    ensures some { IfSome result (λ message. (message.0 ≡ number) × (number < length (program_of program.now).interface.messages)) }
     ensures none { IfNone result (IsNoMessage (program_of program.now).interface number) }
 {
     let message = u16::try_from(number).ok()?;

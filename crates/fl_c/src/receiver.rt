@@ -1,6 +1,6 @@
 //! A run of receive code alone: fragments are fed to it, and calls come of them.
 
-ghost use Rattle.std.specs.Prelude.{◌≡◌, ◌≢◌, true, [], IfOk};
+ghost use Rattle.std.specs.Prelude.{◌≡◌, ◌≢◌, [], IfOk};
 ghost use Rattle.fl_compile.specs.Programs.{program_of};
 ghost use Rattle.fl_machine.specs.Receiving.{HoldsTapes};
 ghost use Rattle.fl_c.specs.Runs.{PutsWhole, FeedsBy, ReadsFed, UsesReceiver, IsNewReceiver};
@@ -26,6 +26,7 @@ pub struct HeldReceiver {
 }
 
 impl Model for HeldReceiver {
+    ghost use Rattle.std.specs.Prelude.{◌≡◌, ◌≢◌, true, []};
     ghost use Rattle.std.specs.Coded.{codes};
     ghost use Rattle.fl_compile.specs.contracts.program.Program.{the_row};
     ghost use Rattle.fl_c.specs.Runs.{TheReceiver};

@@ -1,9 +1,9 @@
 //! A run of send code alone: the fragments of a call, one after another.
 
-ghost use Rattle.std.specs.Prelude.{◌≡◌, ◌≢◌, [], ◌∷◌, length};
+ghost use Rattle.std.specs.Prelude.{◌≡◌, ◌≢◌, true, false, [], ◌∷◌, length};
 ghost use Rattle.fl_stub.specs.declared.op.Column.TheVariants.{Send};
 ghost use Rattle.fl_compile.specs.Programs.{program_of, code_in};
-ghost use Rattle.fl_c.specs.Runs.{left_at, RunsAt, left_in, RunsIn, Gives, StartsRun, StartsBy, GivesBy, UsesSender};
+ghost use Rattle.fl_c.specs.Runs.{left_at, RunsAt, Gives, StartsRun, StartsBy, GivesBy, UsesSender};
 
 use crate::answer::{Outcome, UseFault};
 use crate::calls::read_numbers;
@@ -28,8 +28,10 @@ pub struct HeldSender {
 
 impl Model for HeldSender {
     ghost use Rattle.std.specs.Coded.{codes};
+    ghost use Rattle.fl_stub.specs.declared.op.Column.TheVariants.{Send};
     ghost use Rattle.fl_compile.specs.contracts.program.Program.{the_row};
-    ghost use Rattle.fl_c.specs.Runs.{TheSender};
+    ghost use Rattle.fl_compile.specs.Programs.{program_of, code_in};
+    ghost use Rattle.fl_c.specs.Runs.{TheSender, left_in, RunsIn};
 
     ghost Value = { TheSender };
 

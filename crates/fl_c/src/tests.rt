@@ -1,15 +1,16 @@
 //! Tests of the operations, by their numbers as C asks them: each once, and on handles of a wrong kind and with
 //! too little room.
 
-use crate::answer::{Answered, UseFault};
+use crate::answer::UseFault;
 use crate::handle::{Handle, new_run, ring_handles, use_handle};
 use crate::making::{MakeFault, image_ends, text_ends, text_program};
 use crate::program::HeldProgram;
 use fl_image::BadImage;
 use fl_ring::RingFault;
 use fl_value_data::PlanNo;
+use std::alloc::Global;
+use std::mem::size_of;
 use std::process::Abort;
-use std::test::Fail;
 
 const TEXT: &[u8] = b"interface desk \"a desk\" {
     typedef uint64 row[8];
@@ -133,55 +134,97 @@ fn holds(handle: &mut Handle, row: &Row) -> bool {
         *number = *wanted;
     }
     let answer = use_handle(handle, what, numbers);
-    let wanted = Answered {
-        fault,
-        what: came,
-        count,
-    };
-    answer == wanted && *numbers == *after
+    let as_wanted = answer.fault == fault && answer.what == came && answer.count == count;
+    as_wanted && *numbers == *after
 }
 
-// All rows come to what they say, one after another.
-fn all_hold(rt: &impl Abort, one: &mut Handle, two: &mut Handle, rows: &[Row]) {
+// The first of some rows that doesn't come to what it says, one after another.
+fn first_wrong(one: &mut Handle, two: &mut Handle, rows: &[Row]) -> Option<usize> {
     for (number, row) in rows.iter().enumerate() {
         let handle = if row.0 == 1 { &mut *one } else { &mut *two };
-        assert!(rt; holds(handle, row), "row {number}");
+        if !holds(handle, row) {
+            return Some(number);
+        }
+    }
+    None
+}
+
+// All rows come to what they say at two handles, one after another.
+fn all_hold(rt: &impl Abort, handles: Option<(Handle, Handle)>, rows: &[Row]) {
+    let Some((mut one, mut two)) = handles else {
+        assert!(rt; false, "no handles");
+        return;
+    };
+    if let Some(number) = first_wrong(&mut one, &mut two, rows) {
+        assert!(rt; false, "row {number}");
     }
 }
 
-#[test]
-fn fragments_go_over(rt: HostRuntime) -> Result<(), Fail> {
-    let (mut one, mut two) = ring_handles(rt.alloc(), 4)?;
-    all_hold(&rt, &mut one, &mut two, FRAGMENTS);
-    Ok(())
+// Two sides.
+fn sides(alloc: Global) -> Option<(Handle, Handle)> {
+    ring_handles(alloc, 4).ok()
+}
+
+// Two ends.
+fn ends(alloc: Global) -> Option<(Handle, Handle)> {
+    let (one, two) = text_ends(alloc, TEXT, PlanNo::One, 8).ok()?;
+    Some((Handle::End(one), Handle::End(two)))
+}
+
+// A send run and a receive run of a program.
+fn runs(alloc: Global) -> Option<(Handle, Handle)> {
+    let program = text_program(alloc, TEXT, PlanNo::One).ok()?;
+    let program = HeldProgram::new(alloc, program);
+    Some((new_run(&program, 1).ok()?, new_run(&program, 2).ok()?))
+}
+
+// A program, which makes no third kind of run.
+fn program(alloc: Global) -> Option<(Handle, Handle)> {
+    let program = text_program(alloc, TEXT, PlanNo::One).ok()?;
+    let program = HeldProgram::new(alloc, program);
+    let none = new_run(&program, 3).err()?;
+    let run = new_run(&program, 1).ok()?;
+    matches!(none, UseFault::NoSuchOperation).then_some((Handle::Program(program), run))
 }
 
 #[test]
-fn mistakes_at_sides_are_told(rt: HostRuntime) -> Result<(), Fail> {
-    let (mut one, mut two) = ring_handles(rt.alloc(), 4)?;
-    all_hold(&rt, &mut one, &mut two, MISTAKES_AT_SIDES);
+fn fragments_go_over(rt: HostRuntime) {
+    all_hold(&rt, sides(rt.alloc()), FRAGMENTS);
+}
+
+#[test]
+fn mistakes_at_sides_are_told(rt: HostRuntime) {
+    all_hold(&rt, sides(rt.alloc()), MISTAKES_AT_SIDES);
+}
+
+// A side is freed, which tells the size of the handle's block, and answers nothing then.
+fn is_freed(alloc: Global) -> bool {
+    let Some((mut one, _)) = sides(alloc) else {
+        return false;
+    };
     let freed = use_handle(&mut one, 5, &mut []);
-    assert!(rt; freed.fault == 0 && freed.what == 8 && freed.count > 8);
-    assert!(rt; use_handle(&mut one, 2, &mut [0; 8]).fault == 101);
-    Ok(())
+    let size = size_of::<Handle>() as u64;
+    freed.fault == 0 && freed.count == size && use_handle(&mut one, 4, &mut []).fault == 101
 }
 
 #[test]
-fn calls_go_over(rt: HostRuntime) -> Result<(), Fail> {
-    let (one, two) = text_ends(rt.alloc(), TEXT, PlanNo::One, 8)?;
-    all_hold(&rt, &mut Handle::End(one), &mut Handle::End(two), CALLS);
-    Ok(())
+fn a_freed_handle_answers_nothing(rt: HostRuntime) {
+    assert!(rt; is_freed(rt.alloc()));
 }
 
 #[test]
-fn runs_give_and_take_fragments(rt: HostRuntime) -> Result<(), Fail> {
-    let program = HeldProgram::new(rt.alloc(), text_program(rt.alloc(), TEXT, PlanNo::One)?);
-    let mut one = new_run(&program, 1)?;
-    let mut two = new_run(&program, 2)?;
-    all_hold(&rt, &mut one, &mut two, RUNS);
-    assert!(rt; matches!(new_run(&program, 3), Err(UseFault::NoSuchOperation)));
-    all_hold(&rt, &mut Handle::Program(program), &mut two, SIZES);
-    Ok(())
+fn calls_go_over(rt: HostRuntime) {
+    all_hold(&rt, ends(rt.alloc()), CALLS);
+}
+
+#[test]
+fn runs_give_and_take_fragments(rt: HostRuntime) {
+    all_hold(&rt, runs(rt.alloc()), RUNS);
+}
+
+#[test]
+fn programs_tell_sizes(rt: HostRuntime) {
+    all_hold(&rt, program(rt.alloc()), SIZES);
 }
 
 #[test]

@@ -1,7 +1,7 @@
 //! The header, message by message.
 
-ghost use Rattle.std.specs.Prelude.{◌≡◌, ◌++◌, ◌∷◌, [], IfOk, OnOk, flat_map, take, map};
-ghost use Rattle.fl_interface.specs.Interface.{interface_of, message_of};
+ghost use Rattle.std.specs.Prelude.{◌≡◌, IfOk, flat_map};
+ghost use Rattle.fl_interface.specs.Interface.{interface_of};
 ghost use Rattle.flounder_header.specs.Header.{IsHeader, IsSection, AreSections, message_name};
 
 use crate::arguments::{declare_argument, move_argument, push_most};
@@ -116,6 +116,23 @@ fn section(
     joined(alloc, &pieces)
 }
 
+// The declarations of all messages.
+fn sections(
+    alloc: Global,
+    interface: &Interface,
+    plan: PlanNo,
+) -> Result<Vec<u8>, AllocError>
+    ensures sections { IfOk result (λ text.
+        AreSections (interface_of interface.now).name 0 (interface_of interface.now).messages text.items) }
+{
+    let mut text = Vec::new(alloc);
+    for (number, message) in interface.messages.iter().enumerate() {
+        let section = section(alloc, &interface.name.bytes, message, number, plan)?;
+        text.extend_from_slice(&section)?;
+    }
+    Ok(text)
+}
+
 /// A header in C for an interface whose calls a plan lays out. Of the message M of the interface I it has
 ///
 /// - `struct I_M`, with a member for each argument: `a0`, `a1`, ..
@@ -148,10 +165,8 @@ pub fn header(alloc: Global, interface: &Interface, plan: PlanNo) -> Result<Vec<
             b"_H\n#include <flounder.h>\n",
         ],
     )?;
-    for (number, message) in interface.messages.iter().enumerate() {
-        let section = section(alloc, name, message, number, plan)?;
-        text.extend_from_slice(&section)?;
-    }
+    let sections = sections(alloc, interface, plan)?;
+    text.extend_from_slice(&sections)?;
     text.extend_from_slice(b"\n#endif\n")?;
     Ok(text)
 }
