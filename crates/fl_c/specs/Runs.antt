@@ -1,5 +1,5 @@
 -- What each operation does at a program alone and at stubs alone, exactly: by cases on what it came to. A run goes from h to t.
-use Rattle.std.specs.Prelude.{◌≡◌, ◌≢◌, ℕ, true, false, Bool, List, [], ◌∷◌, length, Option, Some, None, Result, Ok, Err}
+use Rattle.std.specs.Prelude.{◌≡◌, ◌≢◌, ◌⊎◌, ℕ, true, false, Bool, List, [], ◌∷◌, length, Option, Some, None, Result, Ok, Err}
 use Rattle.fl_base.specs.declared.fragment.Frag.{Frag}
 use Rattle.fl_base.specs.declared.identity.MsgNo.{MsgNo}
 use Rattle.fl_value_data.specs.declared.value.Call.{Call}
@@ -124,11 +124,10 @@ FeedsBy h numbers (Err (End (Wire fault))) t =
     (h.unread ≡ false) × ((frag : Frag) × (numbers ≡ numbers_of frag) × Feeds h.run frag (Err fault) t.run) × (t ≡ h)
 FeedsBy h numbers (Err fault) t = ⊥
 
--- the call that became whole stands first in a room, or there is no room for it
+-- the call that became whole stands first in a room, or there is no room for it; or memory ran out
 abbrev pub PutsWhole : TheReceiving → List ℕ → Result ℕ UseFault → List ℕ → Type 0
-PutsWhole run room (Err (End Memory)) written = written ≡ room
-PutsWhole run room r written = (call : Call) × Means (plan_in run) (interface_in run) run.whole (call_of call) 0
-    × PutsCall (program_of run.program) call room r written
+PutsWhole run room r written = ((r ≡ Err (End Memory)) × (written ≡ room))
+    ⊎ ((call : Call) × Means (plan_in run) (interface_in run) run.whole (call_of call) 0 × PutsCall (program_of run.program) call room r written)
 
 -- the call that became whole is read, and may be read once
 abbrev pub ReadsFed : TheReceiver → List ℕ → Result Outcome UseFault → TheReceiver → List ℕ → Type 0

@@ -33,27 +33,45 @@ pub extern "C" fn flounder_make(
     ensures kept { result ≢ 0 → (one.new ≡ one.old) × (two.new ≡ two.old) }
 {
     match ring_handles(alloc, slots) {
-        Ok((first, second)) => hand_out(alloc, first, second, one, two),
+        Ok((first, second)) => {
+            hand_out(boxed(alloc, first), boxed(alloc, second), one, two)
+        }
         Err(RingFault::BadSize) => 32,
         Err(RingFault::Memory) => 99,
     }
 }
 
-// Two handles for C, or none where memory runs out (99).
+// A handle in a block of its own, where there is memory.
+fn boxed(alloc: Global, handle: Handle) -> Option<Box<Handle>> {
+    Box::new(alloc, handle).ok()
+}
+
+// A handle for C, or none where memory ran out (99).
+fn hand_one(handle: Option<Box<Handle>>, at: &mut *mut u8) -> u32
+    ensures faults { (result ≡ 0) ⊎ (result ≡ 99) }
+    ensures kept { result ≢ 0 → at.new ≡ at.old }
+{
+    let Some(handle) = handle else {
+        return 99;
+    };
+    *at = Box::into_raw(handle) as *mut u8;
+    0
+}
+
+// Two handles for C, or none where memory ran out (99).
 fn hand_out(
-    alloc: Global,
-    first: Handle,
-    second: Handle,
+    first: Option<Box<Handle>>,
+    second: Option<Box<Handle>>,
     one: &mut *mut u8,
     two: &mut *mut u8,
 ) -> u32
     ensures faults { (result ≡ 0) ⊎ (result ≡ 99) }
     ensures kept { result ≢ 0 → (one.new ≡ one.old) × (two.new ≡ two.old) }
 {
-    let Ok(first) = Box::new(alloc, first) else {
+    let Some(first) = first else {
         return 99;
     };
-    let Ok(second) = Box::new(alloc, second) else {
+    let Some(second) = second else {
         return 99;
     };
     *one = Box::into_raw(first) as *mut u8;
@@ -91,7 +109,9 @@ pub extern "C" fn flounder_make_text_ends(
     };
     match text_ends(alloc, text, plan, slots) {
         Ok((first, second)) => {
-            hand_out(alloc, Handle::End(first), Handle::End(second), one, two)
+            let first = boxed(alloc, Handle::End(first));
+            let second = boxed(alloc, Handle::End(second));
+            hand_out(first, second, one, two)
         }
         Err(fault) => {
             *place = fault.place();
@@ -115,22 +135,12 @@ pub extern "C" fn flounder_make_image_ends(
 {
     match image_ends(alloc, image, slots) {
         Ok((first, second)) => {
-            hand_out(alloc, Handle::End(first), Handle::End(second), one, two)
+            let first = boxed(alloc, Handle::End(first));
+            let second = boxed(alloc, Handle::End(second));
+            hand_out(first, second, one, two)
         }
         Err(fault) => fault.number(),
     }
-}
-
-// A handle for C, or none where memory runs out (99).
-fn hand_one(alloc: Global, handle: Handle, at: &mut *mut u8) -> u32
-    ensures faults { (result ≡ 0) ⊎ (result ≡ 99) }
-    ensures kept { result ≢ 0 → at.new ≡ at.old }
-{
-    let Ok(handle) = Box::new(alloc, handle) else {
-        return 99;
-    };
-    *at = Box::into_raw(handle) as *mut u8;
-    0
 }
 
 /// Makes the program of the interface that a text stands for, compiled under plan 1 or 2 ([`text_program`]).
@@ -150,7 +160,10 @@ pub extern "C" fn flounder_make_text_program(
         return NO_SUCH_PLAN;
     };
     match text_program(alloc, text, plan) {
-        Ok(made) => hand_one(alloc, Handle::Program(HeldProgram::new(alloc, made)), program),
+        Ok(made) => {
+            let made = Handle::Program(HeldProgram::new(alloc, made));
+            hand_one(boxed(alloc, made), program)
+        }
         Err(fault) => {
             *place = fault.place();
             fault.number()
@@ -169,7 +182,10 @@ pub extern "C" fn flounder_make_image_program(
     ensures kept { result ≢ 0 → program.new ≡ program.old }
 {
     match image_program(alloc, image) {
-        Ok(made) => hand_one(alloc, Handle::Program(HeldProgram::new(alloc, made)), program),
+        Ok(made) => {
+            let made = Handle::Program(HeldProgram::new(alloc, made));
+            hand_one(boxed(alloc, made), program)
+        }
         Err(fault) => fault.number(),
     }
 }
@@ -183,7 +199,7 @@ fn make_run(handle: &mut Handle, kind: u32, run: &mut *mut u8) -> Answered
     };
     match new_run(program, kind) {
         Err(fault) => Answered::of(Err(fault)),
-        Ok(made) => match hand_one(program.alloc(), made, run) {
+        Ok(made) => match hand_one(boxed(program.alloc(), made), run) {
             0 => Answered::of(Ok(Outcome::Made)),
             _ => Answered::of(Err(UseFault::End(EndFault::Memory))),
         },

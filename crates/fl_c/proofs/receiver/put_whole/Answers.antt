@@ -1,0 +1,11 @@
+use Rattle.std.proofs.Common.{subst}
+use Rattle.std.specs.Prelude.{inr}
+use Rattle.fl_compile.specs.declared.program.Program.{Program}
+use Rattle.fl_compile.specs.Programs.{program_of}
+use Rattle.fl_c.specs.Calls.{PutsCall}
+use Rattle.fl_c.proofs.receiver.put_whole.Goals as goal
+
+pub returns : goal.returns
+returns c =
+    let puts = λ (p : Program). PutsCall (program_of p) c.in-Ok.call c.args.room.now c.put_numbers.result c.put_numbers.new.room in
+    record { puts = inr (c.in-Ok.call, c.in-Ok.ensures.means, subst puts c.program.ensures.program c.put_numbers.ensures.puts) }
