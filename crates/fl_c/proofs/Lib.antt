@@ -1,6 +1,6 @@
 mod Gives
 mod HeldSends
 mod Messages
-mod Reads
 mod RunSends
 mod Starts
+mod Unread
