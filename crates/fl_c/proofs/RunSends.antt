@@ -17,7 +17,7 @@ sender_inside : IsSend Program.the_row → IsSend SendRun.the_row → IsSend Sen
 sender_inside program run = recorded_send (SenderInside.the_field).row _ _ (SenderInside.the_type).to_one
     (struct_send (shape SenderInside.the_type) (
       search (sendable, crosses) depth 20,
-      (program, (search (sendable, crosses) depth 20, (search (sendable, crosses, run) depth 40, tt))),
+      (search (sendable, crosses, program) depth 20, (search (sendable, crosses) depth 20, (search (sendable, crosses, run) depth 40, tt))),
     ))
 
 pub sender_sends : IsSend Program.the_row → IsSend SendRun.the_row → IsSend Sender.the_row

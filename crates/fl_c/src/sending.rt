@@ -9,11 +9,13 @@ ghost use Rattle.fl_machine.specs.contracts.recv.RecvRun as RecvRunRows;
 ghost use Rattle.fl_endpoint.specs.contracts.end.End as EndRows;
 ghost use Rattle.fl_ring.specs.contracts.shared.duo_sides.SharedSide as SharedSideRows;
 ghost use Rattle.fl_c.specs.contracts.end.HeldEnd as HeldRows;
+ghost use Rattle.fl_c.specs.contracts.program.HeldProgram as HeldProgramRows;
 ghost use Rattle.fl_c.specs.contracts.sender.HeldSender as SenderRows;
 ghost use Rattle.fl_c.specs.contracts.receiver.HeldReceiver as ReceiverRows;
 ghost use Rattle.fl_c.specs.contracts.handle.Handle as HandleRows;
 
 use crate::handle::Handle;
+use crate::program::HeldProgram;
 use fl_compile::Program;
 use fl_endpoint::End;
 use fl_machine::{Reassemblies, RecvRun, SendRun};
@@ -80,6 +82,13 @@ fn receive_run_sent()
     sends::<RecvRun>();
 }
 
+fn held_program_sent()
+    ensures sent { IsSend HeldProgramRows.the_row }
+{
+    program_sent();
+    sends::<HeldProgram>();
+}
+
 fn sender_sent()
     ensures sent { IsSend SenderRows.the_row }
 {
@@ -99,7 +108,7 @@ pub fn law_handles_go_to_threads()
 {
     held_sent();
     side_sent();
-    program_sent();
+    held_program_sent();
     sender_sent();
     receiver_sent();
     sends::<Handle>();

@@ -10,7 +10,7 @@ pub returns : goal.returns
 returns c =
     let x = program_of c.args.program.now in
     let call = call_of c.in-Ok.call in
-    let fits = c.in-Ok.ensures.reads.1.1.1.fits in
+    let fits = c.in-Ok.ensures.reads.3.fits in
     record {
       starts = (
         (

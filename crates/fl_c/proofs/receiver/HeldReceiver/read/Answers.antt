@@ -4,11 +4,14 @@ use Rattle.fl_c.specs.Runs.{TheReceiver, PutsWhole}
 use Rattle.fl_c.proofs.Unread.{is_unread}
 use Rattle.fl_c.proofs.receiver.HeldReceiver.read.Goals as goal
 
+-- a call that is read may not be read again
+abbrev read_of : TheReceiver → TheReceiver
+read_of h = record { run = h.run; unread = false }
+
 pub returns-in-Ok : goal.returns-in-Ok
 returns-in-Ok c =
     let view : TheReceiver = record { run = c.self.inside.run; unread = c.self.inside.unread } in
-    let read = λ (h : TheReceiver). record { run = h.run; unread = false } in
-    let at = λ (h : TheReceiver). (h.unread ≡ true) × PutsWhole h.run c.args.room.now (Ok c.in-Ok.count) c.put_whole.new.room × (read view ≡ read h) in
+    let at = λ (h : TheReceiver). (h.unread ≡ true) × PutsWhole h.run c.args.room.now (Ok c.in-Ok.count) c.put_whole.new.room × (read_of view ≡ read_of h) in
     let same : view ≡ c.args.self.now = cc in
     record { reads = subst at same (is_unread c.self.inside.unread c.if-not-self.false, c.in-Ok.ensures.puts, refl) }
 
