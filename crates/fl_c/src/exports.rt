@@ -33,9 +33,7 @@ pub extern "C" fn flounder_make(
     ensures kept { result ≢ 0 → (one.new ≡ one.old) × (two.new ≡ two.old) }
 {
     match ring_handles(alloc, slots) {
-        Ok((first, second)) => {
-            hand_out(boxed(alloc, first), boxed(alloc, second), one, two)
-        }
+        Ok((first, second)) => { hand_out(boxed(alloc, first), boxed(alloc, second), one, two) }
         Err(RingFault::BadSize) => 32,
         Err(RingFault::Memory) => 99,
     }

@@ -26,6 +26,7 @@ const FREE: u32 = 5;
 
 // The numbers of runs.
 const SEND_RUN: u32 = 1;
+
 const RECEIVE_RUN: u32 = 2;
 
 /// What a handle leads to.

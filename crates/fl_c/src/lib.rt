@@ -34,8 +34,10 @@ mod tests;
 
 pub use answer::{Answered, Outcome, UseFault};
 pub use end::{HeldEnd, use_end};
-pub use exports::{flounder_make, flounder_make_image_ends, flounder_make_text_ends, flounder_use};
-pub use exports::{flounder_make_image_program, flounder_make_run, flounder_make_text_program};
+pub use exports::{
+    flounder_make, flounder_make_image_ends, flounder_make_image_program, flounder_make_run,
+    flounder_make_text_ends, flounder_make_text_program, flounder_use,
+};
 pub use handle::{Handle, new_run, ring_handles, use_handle};
 pub use making::{MakeFault, image_ends, image_program, text_ends, text_program};
 pub use operation::Operation;

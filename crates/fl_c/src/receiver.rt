@@ -61,11 +61,7 @@ impl HeldReceiver {
     ///
     /// # Errors
     /// Out of memory (E99).
-    pub fn new(
-        alloc: Global,
-        program: Program,
-        capacity: usize,
-    ) -> Result<HeldReceiver, AllocError>
+    pub fn new(alloc: Global, program: Program, capacity: usize) -> Result<HeldReceiver, AllocError>
         requires room { HoldsTapes (program_of program).plan (program_of program).interface capacity }
         ensures made { IfOk result (λ run. IsNewReceiver (program_of program) run) }
     {

@@ -117,11 +117,7 @@ fn section(
 }
 
 // The declarations of all messages.
-fn sections(
-    alloc: Global,
-    interface: &Interface,
-    plan: PlanNo,
-) -> Result<Vec<u8>, AllocError>
+fn sections(alloc: Global, interface: &Interface, plan: PlanNo) -> Result<Vec<u8>, AllocError>
     ensures sections { IfOk result (λ text.
         AreSections (interface_of interface.now).name 0 (interface_of interface.now).messages text.items) }
 {

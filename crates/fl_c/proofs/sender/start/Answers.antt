@@ -17,7 +17,7 @@ returns c =
           call,
           c.in-Ok.ensures.reads,
           starts_at c.law_sends_fragments.ensures.sends x _ _ call c.in-Some.code.now c.start-run.result _ c.interface.ensures.interface c.plan.ensures.plan
-          c.interface.result.now.within c.interface.ensures.words fits c.in-Some.ensures.exact c.in-Ok-flatten_into.ensures.tape c.start-run.ensures.given,
+              c.interface.result.now.within c.interface.ensures.words fits c.in-Some.ensures.exact c.in-Ok-flatten_into.ensures.tape c.start-run.ensures.given,
         ),
         subst (λ (o : Option TheCode). RunsAt o c.start-run.result) c.in-Some.ensures.exact c.start-run.ensures.runs,
       );
