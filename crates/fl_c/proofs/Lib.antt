@@ -3,4 +3,3 @@ mod HeldSends
 mod Messages
 mod RunSends
 mod Starts
-mod Unread
