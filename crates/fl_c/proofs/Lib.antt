@@ -1,5 +1,1 @@
-mod Gives
 mod HeldSends
-mod Messages
-mod RunSends
-mod Starts
