@@ -27,7 +27,8 @@ pub record NotDrawn (file : List ℕ) (output : Output) (status : ℕ) (effects 
   pub done : effects ≡ was_read file bytes ∷ []
   pub ends : status ≡ chart.status_of fault
 
--- FILE was read, and a prefix of a document was put, which may be all of it; the rest couldn't be put or written out
+-- FILE was read, and a prefix of a document was put, which may be all of it; the rest couldn't be put or
+-- written out
 pub record DrawnInPart (file : List ℕ) (output : Output) (status : ℕ) (effects : List FileEffect) : Type 0 where
   pub bytes : List ℕ
   pub drawing : List ℕ
@@ -36,7 +37,8 @@ pub record DrawnInPart (file : List ℕ) (output : Output) (status : ℕ) (effec
   pub done : effects ≡ was_read file bytes ∷ []
   pub ends : status ≡ 4
 
--- all that `chart FILE` does, where the word behind `--lines`, if there is one, tells lines: it reads FILE alone, and writes standard output alone
+-- all that `chart FILE` does, where the word behind `--lines`, if there is one, tells lines: it reads FILE
+-- alone, and writes standard output alone
 abbrev pub Draws : List ℕ → Output → ℕ → List FileEffect → Type 0
 Draws file output status effects =
     Drawn file output status effects
