@@ -19,4 +19,3 @@ pub mod Compiling
 pub mod Cases
 pub mod Packs
 pub mod Spreading
-pub mod Prepared

@@ -1,20 +1,18 @@
 //! The bytes that prepared code gives.
 
-ghost use Rattle.std.specs.Prelude.{◌≡◌, ◌++◌, ◌*◌, ℕ, List, length, replicate, IfOk, OnOk};
+ghost use Rattle.std.specs.Prelude.{◌≡◌, ◌++◌, ◌*◌, length, replicate, IfOk, OnOk};
 ghost use Rattle.std.specs.Bool.{IsTrue};
-ghost use Rattle.fl_stub_steps.specs.declared.step.StubStep.TheVariants.{Align as align_step};
 ghost use Rattle.fl_stub.specs.Meaning.{gap_to_8};
-ghost use Rattle.fl_stub_steps.specs.Spreading.{Spread, spread_of, spread_first, copied, length_at as length_of};
+ghost use Rattle.fl_stub_steps.specs.Spreading.{Spread, copied, repeated, length_at as length_of};
 ghost use Rattle.fl_stub_steps.specs.Steps.{step_of, step_done, done, steps_done, steps_in, all_of, IsPlain};
 
-use crate::step::{PreparedCode, StubStep};
+use crate::step::{PreparedCode, Step};
 use std::alloc::AllocError;
 
 // The next bytes of the tape, so many or as many as there are; what is left of it.
 #[inline(always)]
 fn copy<'t>(count: usize, tape: &'t [u8], out: &mut Vec<u8>) -> Result<&'t [u8], AllocError>
-    ensures copied { IfOk result (λ left. spread_of out.new.items left.now
-        ≡ copied count (spread_of out.old.items tape.now)) }
+    ensures copied { IfOk result (λ left. record { given = out.new.items; left = left.now } ≡ copied count (record { given = out.old.items; left = tape.now })) }
 {
     let (next, left) = tape.split_at(count.min(tape.len()));
     out.extend_from_slice(next)?;
@@ -74,8 +72,7 @@ fn copy_each<'t>(
     tape: &'t [u8],
     out: &mut Vec<u8>,
 ) -> Result<&'t [u8], AllocError>
-    ensures copied { IfOk result (λ left. spread_of out.new.items left.now
-        ≡ copied (turns * bytes) (spread_of out.old.items tape.now)) }
+    ensures copied { IfOk result (λ left. record { given = out.new.items; left = left.now } ≡ copied (turns * bytes) (record { given = out.old.items; left = tape.now })) }
 {
     let count = match (turns as usize).checked_mul(bytes) {
         Some(count) => count,
@@ -85,26 +82,25 @@ fn copy_each<'t>(
 }
 
 #[cycle(steps)]
-fn give_step<'t>(step: &StubStep, tape: &'t [u8], out: &mut Vec<u8>) -> Result<&'t [u8], AllocError>
-    ensures done { IfOk result (λ left. spread_of out.new.items left.now
-        ≡ step_done (step_of step.now) (spread_of out.old.items tape.now)) }
+fn give_step<'t>(step: &Step, tape: &'t [u8], out: &mut Vec<u8>) -> Result<&'t [u8], AllocError>
+    ensures done { IfOk result (λ left. record { given = out.new.items; left = left.now } ≡ step_done (step_of step.now) (record { given = out.old.items; left = tape.now })) }
 {
     match step {
-        StubStep::Span(bytes, zeros) => {
+        Step::Span(bytes, zeros) => {
             let left = copy(*bytes, tape, out)?;
             pad(*zeros, out)?;
             Ok(left)
         }
-        StubStep::Align => {
+        Step::Align => {
             align(out)?;
             Ok(tape)
         }
-        StubStep::Each(bytes) => {
+        Step::Each(bytes) => {
             let count = length_at(tape);
             let left = copy(8, tape, out)?;
             copy_each(*bytes, count, left, out)
         }
-        StubStep::Counted(steps) => {
+        Step::Counted(steps) => {
             let count = length_at(tape);
             let mut left = copy(8, tape, out)?;
             for turn in 0..count {
@@ -112,7 +108,7 @@ fn give_step<'t>(step: &StubStep, tape: &'t [u8], out: &mut Vec<u8>) -> Result<&
             }
             Ok(left)
         }
-        StubStep::Times(turns, steps) => {
+        Step::Times(turns, steps) => {
             let mut left = tape;
             for again in 0..*turns {
                 left = give_steps(steps, left, out)?;
@@ -124,13 +120,8 @@ fn give_step<'t>(step: &StubStep, tape: &'t [u8], out: &mut Vec<u8>) -> Result<&
 
 // The last step first.
 #[cycle(steps)]
-fn give_steps<'t>(
-    steps: &[StubStep],
-    tape: &'t [u8],
-    out: &mut Vec<u8>,
-) -> Result<&'t [u8], AllocError>
-    ensures done { IfOk result (λ left. spread_of out.new.items left.now
-        ≡ done steps.now (spread_of out.old.items tape.now)) }
+fn give_steps<'t>(steps: &[Step], tape: &'t [u8], out: &mut Vec<u8>) -> Result<&'t [u8], AllocError>
+    ensures done { IfOk result (λ left. record { given = out.new.items; left = left.now } ≡ done steps.now (record { given = out.old.items; left = tape.now })) }
 {
     let mut left = tape;
     let mut more = steps.len();
@@ -142,16 +133,16 @@ fn give_steps<'t>(
 }
 
 // Whether a step gives bytes of the tape alone.
-fn is_copy(step: &StubStep) -> bool
+fn is_copy(step: &Step) -> bool
     ensures { IsTrue result → (x : Spread) → all_of (step_done (step_of step.now) x) ≡ all_of x }
 {
     match step {
-        StubStep::Span(_, 0) | StubStep::Each(_) => true,
+        Step::Span(_, 0) | Step::Each(_) => true,
         _ => false,
     }
 }
 
-fn are_copies(steps: &[StubStep]) -> bool
+fn are_copies(steps: &[Step]) -> bool
     ensures { IsTrue result → (x : Spread) → all_of (done steps.now x) ≡ all_of x }
 {
     for step in steps {
@@ -162,39 +153,13 @@ fn are_copies(steps: &[StubStep]) -> bool
     true
 }
 
-fn is_align(step: &StubStep) -> bool
-    ensures { IsTrue result → step.now ≡ align_step }
-{
-    match step {
-        StubStep::Align => true,
-        _ => false,
-    }
-}
-
-// The steps behind zeros that come first: before the first byte they are none.
-fn without_align(steps: &[StubStep]) -> &[StubStep]
-    ensures { ((x : Spread) → all_of (done result.now x) ≡ all_of x)
-        → (packed : List ℕ) → all_of (done steps.now (spread_first packed)) ≡ packed }
-{
-    let mut count = steps.len();
-    if count == 0 {
-        return steps;
-    }
-    count -= 1;
-    let first = &steps[count];
-    if !is_align(first) {
-        return steps;
-    }
-    &steps[..count]
-}
-
 impl PreparedCode {
     /// Whether the code puts nothing between a tape's bytes: so the tape is the payload. Zeros up to a multiple of 8 before
     /// the first byte are none.
     pub fn is_plain(&self) -> bool
         ensures plain { IsTrue result → IsPlain (steps_in self.now) }
     {
-        are_copies(without_align(&self.steps))
+        are_copies(&self.steps)
     }
 
     /// Appends the bytes that the code makes of a packed tape. A tape that is too short gives what its bytes give.
@@ -202,8 +167,7 @@ impl PreparedCode {
     /// # Errors
     /// Out of memory (E99), and nothing else. Nothing is known of what stands there then.
     pub fn give(&self, tape: &[u8], out: &mut Vec<u8>) -> Result<(), AllocError>
-        ensures given { OnOk result (out.new.items
-            ≡ (steps_done (steps_in self.now) (spread_of out.old.items tape.now)).given) }
+        ensures given { OnOk result (out.new.items ≡ (steps_done (steps_in self.now) (record { given = out.old.items; left = tape.now })).given) }
     {
         let _left = give_steps(&self.steps, tape, out)?;
         Ok(())
