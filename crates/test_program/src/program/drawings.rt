@@ -33,9 +33,11 @@ fn sum_of(bytes: &[u8]) -> u32 {
         sum = added(sum, *byte);
     }
     let mut rest = bytes.len();
-    while rest > 0 {
-        sum = added(sum, (rest % 256) as u8);
-        rest /= 256;
+    for _digit in 0..8 {
+        if rest > 0 {
+            sum = added(sum, (rest % 256) as u8);
+            rest /= 256;
+        }
     }
     !sum
 }
