@@ -1,11 +1,12 @@
 -- What `chart` did, from what each of its calls did.
-use Rattle.std.proofs.Common.{◌≡◌, ℕ, Bool, true, false, List, [], ◌∷◌, Option, refl, ◌∙◌, subst, inl, inr}
-use Rattle.std.specs.Prelude.{cond, IfErr, OnOk, Result, Ok, Err}
+use Rattle.std.proofs.Common.{◌≡◌, ℕ, List, [], ◌∷◌, Option, Some, None, refl, ◌∙◌, subst, inl, inr}
+use Rattle.std.specs.Prelude.{IfErr, OnOk, Result, Ok, Err}
 use Rattle.std.specs.declared.io.ErrorKind.{ErrorKind}
 use Rattle.clap.specs.Words.{Text}
 use Rattle.flounder_svg.specs.Xml.{IsDocument}
 use Rattle.flounder_chart.specs.declared.fault.ChartFault.{ChartFault}
 use Rattle.flounder_chart.specs.Faults as chart
+use Rattle.flounder_chart.specs.Lines.{TellsLines}
 use Rattle.flounder_commands.specs.declared.fault.Fault.{Fault}
 use Rattle.flounder_commands.specs.Status as program
 use Rattle.flounder_commands.specs.FileEffects.{FileEffect, was_read, was_not_read, Adds, Does}
@@ -13,7 +14,7 @@ use Rattle.flounder_commands.specs.Streams.{Output, PutsPrefix, Prints, IsUntouc
 use Rattle.flounder_commands.specs.Parts.{EndsSo, IsCut}
 use Rattle.flounder_commands.specs.Commands.{failed_status}
 use Rattle.flounder_commands.proofs.FileEffects.{does_none, does_one, does_weaker}
-use Rattle.flounder.specs.Charts.{Charts, Draws, TellsNone}
+use Rattle.flounder.specs.Charts.{AreTold, Charts, Draws}
 
 pub not_charted : (old new : Option (List FileEffect)) (file : List ℕ) (o : Output) (kind : ErrorKind) (status failed : ℕ) → Adds old new (was_not_read file kind) → IsUntouched o → status ≡ failed → failed ≡ failed_status kind
     → Does old new (Draws file o status)
@@ -38,13 +39,10 @@ drawn_so (Err f) file bytes drawing put o e h done fault =
 
 -- ---- the word behind `--lines`
 
-pub true_is_not_false : true ≡ false → ⊥
-true_is_not_false e = subst (λ (b : Bool). cond b (Unit {0}) ⊥) e tt
-
-pub lines_told : (old new : Option (List FileEffect)) (file : List ℕ) (lines : Option Text) (o : Output) (status : ℕ) → (TellsNone lines → ⊥) → Does old new (Draws file o status)
+pub lines_told : (old new : Option (List FileEffect)) (file : List ℕ) (lines : Option Text) (o : Output) (status : ℕ) → AreTold lines → Does old new (Draws file o status)
     → Does old new (Charts file lines o status)
 lines_told old new file lines o status told h = does_weaker old new (Draws file o status) (Charts file lines o status) (λ effects d. inl (told, d)) h
 
-pub no_lines : (effects : Option (List FileEffect)) (file : List ℕ) (lines : Option Text) (o : Output) (status : ℕ) → TellsNone lines → IsUntouched o → status ≡ 1 → Does effects effects (Charts file lines o status)
-no_lines effects file lines o status none same e =
-    does_none effects (Charts file lines o status) (inr record { tells_none = none; printed = same; done = refl; ends = e })
+pub no_lines : (effects : Option (List FileEffect)) (file word : List ℕ) (o : Output) (status : ℕ) → (TellsLines word → ⊥) → IsUntouched o → status ≡ 1 → Does effects effects (Charts file (Some word) o status)
+no_lines effects file word o status none same e =
+    does_none effects (Charts file (Some word) o status) (inr record { word = word; is_word = refl; tells_none = none; printed = same; done = refl; ends = e })

@@ -27,8 +27,7 @@ pub record NotDrawn (file : List ℕ) (output : Output) (status : ℕ) (effects 
   pub done : effects ≡ was_read file bytes ∷ []
   pub ends : status ≡ chart.status_of fault
 
--- FILE was read, and a prefix of a document was put, which may be all of it; the rest couldn't be put or
--- written out
+-- FILE was read, and a prefix of a document was put, which may be all of it; the rest couldn't be put or written out
 pub record DrawnInPart (file : List ℕ) (output : Output) (status : ℕ) (effects : List FileEffect) : Type 0 where
   pub bytes : List ℕ
   pub drawing : List ℕ
@@ -37,26 +36,27 @@ pub record DrawnInPart (file : List ℕ) (output : Output) (status : ℕ) (effec
   pub done : effects ≡ was_read file bytes ∷ []
   pub ends : status ≡ 4
 
--- all that `chart FILE` does, where the word behind `--lines`, if there is one, tells lines: it reads FILE
--- alone, and writes standard output alone
+-- all that `chart FILE` does, where the word behind `--lines`, if there is one, tells lines: it reads FILE alone, and writes standard output alone
 abbrev pub Draws : List ℕ → Output → ℕ → List FileEffect → Type 0
 Draws file output status effects =
     Drawn file output status effects
     ⊎ ((IsUntouched output × Unread file effects status)
     ⊎ (NotDrawn file output status effects ⊎ DrawnInPart file output status effects))
 
--- a word stands behind `--lines`, and tells no lines
-abbrev pub TellsNone : Option Text → Type 0
-TellsNone None = ⊥
-TellsNone (Some word) = TellsLines word → ⊥
+-- no word stands behind `--lines`, or one that tells lines
+abbrev pub AreTold : Option Text → Type 0
+AreTold None = Unit {0}
+AreTold (Some word) = TellsLines word
 
--- then nothing was read or printed
+-- the word behind `--lines` tells no lines: nothing was read or printed
 pub record NoLines (lines : Option Text) (output : Output) (status : ℕ) (effects : List FileEffect) : Type 0 where
-  pub tells_none : TellsNone lines
+  pub word : Text
+  pub is_word : lines ≡ Some word
+  pub tells_none : TellsLines word → ⊥
   pub printed : IsUntouched output
   pub done : effects ≡ []
   pub ends : status ≡ 1
 
 abbrev pub Charts : List ℕ → Option Text → Output → ℕ → List FileEffect → Type 0
 Charts file lines output status effects =
-    ((TellsNone lines → ⊥) × Draws file output status effects) ⊎ NoLines lines output status effects
+    (AreTold lines × Draws file output status effects) ⊎ NoLines lines output status effects

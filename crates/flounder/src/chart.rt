@@ -1,6 +1,6 @@
 //! The command `chart`.
 
-ghost use Rattle.std.specs.Prelude.{◌≡◌, ◌∷◌, [], Some, option_map};
+ghost use Rattle.std.specs.Prelude.{◌≡◌, ◌∷◌, [], option_map};
 ghost use Rattle.flounder_chart.specs.Faults.{status_of as chart_status};
 ghost use Rattle.flounder_commands.specs.FileEffects.{Does, was_read};
 ghost use Rattle.flounder_commands.specs.Streams.{output_of};
@@ -23,30 +23,14 @@ pub fn chart_file<F: FileStore, W: Write + Drop, E: Write>(
     errors: &mut E,
 ) -> u8
     ensures charted { Does (F.effects files.old) (F.effects files.new)
-        (Charts file.now (option_map (λ word. word.now) lines.entry)
-        (output_of W.contents output.old output.new) result) }
+        (Charts file.now (option_map (λ word. word.now) lines.entry) (output_of W.contents output.old output.new) result) }
 {
-    match lines {
-        None => chart_lines(alloc, file, None, files, output, errors),
-        Some(word) => chart_told(alloc, file, word, files, output, errors),
-    }
-}
-
-// The same of the lines that a word tells.
-fn chart_told<F: FileStore, W: Write + Drop, E: Write>(
-    alloc: Global,
-    file: &str,
-    word: &str,
-    files: &mut F,
-    output: &mut BufWriter<W>,
-    errors: &mut E,
-) -> u8
-    ensures charted { Does (F.effects files.old) (F.effects files.new)
-        (Charts file.now (Some word.now) (output_of W.contents output.old output.new) result) }
-{
+    let Some(word) = lines else {
+        return chart_lines(alloc, file, None, files, output, errors);
+    };
     match Lines::read(word) {
         None => tell_no_lines(errors),
-        Some(lines) => chart_lines(alloc, file, Some(lines), files, output, errors),
+        told => chart_lines(alloc, file, told, files, output, errors),
     }
 }
 
