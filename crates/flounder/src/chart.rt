@@ -23,7 +23,7 @@ pub fn chart_file<F: FileStore, W: Write + Drop, E: Write>(
     errors: &mut E,
 ) -> u8
     ensures charted { Does (F.effects files.old) (F.effects files.new)
-        (Charts file.now (option_map (λ word. word.now) lines.entry) (output_of W.contents output.old output.new) result) }
+        (Charts file.now (option_map (λ word. word.now) lines) (output_of W.contents output.old output.new) result) }
 {
     let Some(word) = lines else {
         return chart_lines(alloc, file, None, files, output, errors);
