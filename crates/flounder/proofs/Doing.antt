@@ -16,7 +16,6 @@ use Rattle.fl_cores.specs.declared.fault.CoresFault.{CoresFault}
 use Rattle.fl_cores.specs.declared.text.CoresEnd.{CoresEnd}
 use Rattle.fl_cores.specs.Promised.{IsFaultOfText}
 use Rattle.fl_cores.specs.Honesty as run
-use Rattle.flounder.specs.Charts.{Charts}
 use Rattle.flounder.specs.Commands.{cores_status, end_status, IsTold, TellsCores, RunsCores, Performs, Runs}
 
 -- ---- cores
@@ -78,11 +77,6 @@ pub performs_cores : (old new : Option (List FileEffect)) (io : Streams) (file :
     → Does old new (λ effects. IsUnread io × RunsCores file turns io.output status effects)
 performs_cores old new io file turns status u h =
     does_weaker old new (RunsCores file turns io.output status) (λ effects. IsUnread io × RunsCores file turns io.output status effects) (λ ds p. (u, p)) h
-
-pub performs_chart : (old new : Option (List FileEffect)) (io : Streams) (file : List ℕ) (lines : Option Text) (status : ℕ) → IsUnread io → Does old new (Charts file lines io.output status)
-    → Does old new (λ effects. IsUnread io × Charts file lines io.output status effects)
-performs_chart old new io file lines status u h =
-    does_weaker old new (Charts file lines io.output status) (λ effects. IsUnread io × Charts file lines io.output status effects) (λ ds p. (u, p)) h
 
 pub runs_asked : (old new : Option (List FileEffect)) (words : List Text) (io : Streams) (asked : Asked) (status : ℕ) → asks_for words ≡ Some asked → refusals words ≡ [] → Does old new (Performs asked io status)
     → Does old new (Runs words io status)

@@ -1,2 +1,1 @@
-mod Charting
 mod Doing

@@ -4,12 +4,11 @@ use Rattle.std.specs.Prelude.{◌≡◌, ◌⊎◌, ℕ, List, [], ◌∷◌}
 use Rattle.clap.specs.declared.error.kind.ErrorKind.{ErrorKind as UsageKind}
 use Rattle.clap.specs.declared.error.kind.ErrorKind.TheVariants.{OutOfMemory as NoMemory}
 use Rattle.clap.specs.Words.{IsAmong, Text}
-use Rattle.flounder_args.specs.Words.{Asked, to_run, to_show, to_compile, to_run_cores, to_chart, AskFor, refusals}
+use Rattle.flounder_args.specs.Words.{Asked, to_run, to_show, to_compile, to_run_cores, AskFor, refusals}
 use Rattle.flounder_commands.specs.Commands.{Unread, Compiles, Views, Execs, Helps}
 use Rattle.flounder_commands.specs.FileEffects.{FileEffect, was_read}
 use Rattle.flounder_commands.specs.Parts.{IsCut}
 use Rattle.flounder_commands.specs.Streams.{Output, Streams, PutsPrefix, Prints, IsUntouched, IsUnread}
-use Rattle.flounder.specs.Charts.{Charts}
 use Rattle.fl_cores.specs.declared.fault.CoresFault.{CoresFault}
 use Rattle.fl_cores.specs.declared.fault.CoresFault.TheVariants as fault
 use Rattle.fl_cores.specs.declared.text.CoresEnd.{CoresEnd}
@@ -84,7 +83,6 @@ Performs (to_run explain strict) io status effects = (effects ≡ []) × Execs s
 Performs (to_show file names) io status effects = IsUnread io × Views file names io.output status effects
 Performs (to_compile file out) io status effects = IsUnread io × IsUntouched io.output × Compiles file out status effects
 Performs (to_run_cores file turns) io status effects = IsUnread io × RunsCores file turns io.output status effects
-Performs (to_chart file lines) io status effects = IsUnread io × Charts file lines io.output status effects
 
 -- the words ask for something, and it was done
 pub record DoesAsked (words : List Text) (io : Streams) (status : ℕ) (effects : List FileEffect) : Type 0 where

@@ -1,3 +1,2 @@
--- Public promises rest on these files: what `chart`, `cores` and whole runs do.
-pub mod Charts
+-- Public promises rest on this file: what `cores` and whole runs do.
 pub mod Commands

@@ -1,10 +1,9 @@
 //! `flounder`: the message system's program. `flounder exec`, also without a word, runs the script on
 //! standard input and writes its transcript to standard output; `flounder show FILE` prints the plan table of
 //! an interface's text or of an image; `flounder compile FILE OUT` writes the image of a text; `flounder cores
-//! FILE --turns N` runs a cores file, with a thread for each core; `flounder chart FILE` draws a script's run.
+//! FILE --turns N` runs a cores file, with a thread for each core.
 #![tactic(auto)]
 
-mod chart;
 mod cores;
 mod progress;
 mod run;

@@ -6,7 +6,6 @@ ghost use Rattle.flounder_commands.specs.FileEffects.{Does};
 ghost use Rattle.flounder_commands.specs.Streams.{streams_of};
 ghost use Rattle.flounder.specs.Commands.{Performs, Runs};
 
-use crate::chart::chart_file;
 use crate::cores::cores_file;
 use fl_core_run::Gate;
 use flounder_args::{Request, hint, read_words};
@@ -81,6 +80,5 @@ pub fn perform<
         Request::Cores { file, turns } => {
             cores_file(rt, gate, alloc, file, turns, files, output, errors)
         }
-        Request::Chart { file, lines } => chart_file(alloc, file, lines, files, output, errors),
     }
 }

@@ -142,8 +142,6 @@ const COMMANDS: &[(&[&str], u8, &[u8])] = &[
         b"line 1 refused E90\n",
     ),
     (&["flounder", "show"], 1, b""),
-    (&["flounder", "chart", "none.flounder"], 4, b""),
-    (&["flounder", "chart", "mixed.if", "--lines", "5-4"], 1, b""),
 ];
 
 #[test]
@@ -153,11 +151,4 @@ fn commands_are_run(rt: HostRuntime) {
         assert!(rt; ran.status == *status && ran.out.as_slice() == *out);
         assert_eq!(rt; ran.err.is_empty(), *status == 0);
     }
-}
-
-// A text that is no script has a drawing, too: of one refused line.
-#[test]
-fn a_run_is_drawn(rt: HostRuntime) {
-    let ran = go(&rt, &["flounder", "chart", "mixed.if"], MIXED, b"");
-    assert!(rt; ran.status == 0 && ran.out.starts_with(b"<svg "));
 }

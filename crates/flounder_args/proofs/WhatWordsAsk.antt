@@ -1,5 +1,5 @@
 -- What words ask for.
-use Rattle.std.proofs.Common.{◌≡◌, ◌∙◌, Bool, true, false, refl, ap, ap₂, arith, codes, List, [], ◌∷◌, Some, None}
+use Rattle.std.proofs.Common.{◌≡◌, ◌∙◌, Bool, true, false, refl, ap, ap₂, arith, codes, List, [], ◌∷◌, Some}
 use Rattle.std.proofs.lemmas.Bool.{ne_eqb}
 use Rattle.std.specs.Prelude.{find, option_map, unwrap_or, if◌then◌else◌}
 use Rattle.clap.specs.Kinds.{Kinds, or_else, value_kinds}
@@ -12,7 +12,7 @@ use Rattle.clap.specs.declared.builder.value_parser.ValueParser.TheVariants.{Uns
 use Rattle.clap.proofs.ValueTestLemmas.{accepts-Accepts, Accepts-accepts}
 use Rattle.clap.proofs.OnLiterals.{clap_on_literals}
 use Rattle.clap.specs.declared.error.kind.ErrorKind.TheVariants.{DisplayHelp, DisplayVersion, MissingRequiredArgument, ValueValidation}
-use Rattle.flounder_args.specs.Words.{AskFor, BeginsWithoutHyphen, asks_for, compile_asked, show_asked, cores_asked, chart_asked, missing_kinds, most_turns, number_in, program, refusals, value_of, to_run, to_show, to_compile, to_run_cores, to_chart}
+use Rattle.flounder_args.specs.Words.{AskFor, BeginsWithoutHyphen, asks_for, compile_asked, show_asked, cores_asked, missing_kinds, most_turns, number_in, program, refusals, value_of, to_run, to_show, to_compile, to_run_cores}
 use Rattle.flounder_args.proofs.Asking.{number_is}
 use Rattle.flounder_args.proofs.Levels.{fault_behind, handed, level_passed, placed, positional_turn, positional_walked, stands, three_pass, two_pass, value_turn, value_walked}
 
@@ -59,10 +59,6 @@ compile_help name = refl
 pub cores_help : (name : Text) → refusals (name ∷ codes "cores" ∷ codes "--help" ∷ []) ≡ DisplayHelp ∷ []
 unfolding clap_on_literals
 cores_help name = refl
-
-pub chart_help : (name : Text) → refusals (name ∷ codes "chart" ∷ codes "--help" ∷ []) ≡ DisplayHelp ∷ []
-unfolding clap_on_literals
-chart_help name = refl
 
 show_asked_for : (name file : Text) → BeginsWithoutHyphen file → asks_for (name ∷ codes "show" ∷ file ∷ []) ≡ Some (to_show file false)
 unfolding clap_on_literals
@@ -296,86 +292,3 @@ pub turns_refused : (name file turns : Text) → BeginsWithoutHyphen file → Be
 turns_refused name file turns h k other =
     let fails = failed (accepts false (Unsigned 0 most_turns) turns) (λ a. other (accepts-Accepts false (Unsigned 0 most_turns) turns a)) in
     ap (λ kinds. or_else kinds (missing_kinds (asks_for (cores_line name file turns)))) (cores_fault name file turns h k ∙ ap faults_at fails)
-
--- ---- chart
-
-chart_asked_for : (name file : Text) → BeginsWithoutHyphen file → asks_for (name ∷ codes "chart" ∷ file ∷ []) ≡ Some (to_chart file None)
-unfolding clap_on_literals
-chart_asked_for name [] h = refl
-chart_asked_for name (b ∷ bytes) h = simp h
-
-chart_taken : (name file : Text) → BeginsWithoutHyphen file → refusals (name ∷ codes "chart" ∷ file ∷ []) ≡ []
-unfolding clap_on_literals
-chart_taken name [] h = refl
-chart_taken name (b ∷ bytes) h = simp h
-
-pub chart_words : (name file : Text) → BeginsWithoutHyphen file → AskFor (name ∷ codes "chart" ∷ file ∷ []) (to_chart file None)
-chart_words name file h = (chart_asked_for name file h, chart_taken name file h)
-
-abbrev lines_line : Text → Text → Text → List Text
-lines_line name file lines = name ∷ codes "chart" ∷ file ∷ codes "--lines" ∷ lines ∷ []
-
-abbrev chart_shape : Shape
-chart_shape = shape_in (codes "chart")
-
-abbrev lines_rest : Text → Text → List Text
-lines_rest file lines = file ∷ codes "--lines" ∷ lines ∷ []
-
-abbrev behind_chart : Text → Walk
-behind_chart file = placed chart_shape.rules 1 file nothing_held
-
-abbrev waits_for_lines : Text → Held
-waits_for_lines file = record (settled chart_shape.rules (behind_chart file).held) { pending = Some (codes "A-B", []) }
-
-abbrev behind_lines : Text → Text → Walk
-behind_lines file lines = handed chart_shape.rules (codes "A-B") 2 lines (waits_for_lines file)
-
-lines_walked : (file : Text) → walked chart_shape.rules [] (behind_chart file) (codes "--lines") ≡ stands (waits_for_lines file) (option (codes "A-B")) 2
-unfolding clap_on_literals
-lines_walked file = refl
-
-lines_turn : (file : Text) → turn_fault chart_shape [] (behind_chart file) (codes "--lines") ≡ []
-unfolding clap_on_literals
-lines_turn file = refl
-
-lines_walks : (file lines : Text) → BeginsWithoutHyphen file → BeginsWithoutHyphen lines → walk chart_shape.rules [] nothing_held (lines_rest file lines) ≡ behind_lines file lines
-lines_walks file lines h k =
-    ap (λ (w : Walk). walked chart_shape.rules [] (walked chart_shape.rules [] w (codes "--lines")) lines) (positional_walked chart_shape.rules 1 file nothing_held h)
-    ∙ ap (λ (w : Walk). walked chart_shape.rules [] w lines) (lines_walked file)
-    ∙ value_walked chart_shape.rules (codes "A-B") 2 lines (waits_for_lines file) k
-
-lines_found : (name file lines : Text) → asks_for (lines_line name file lines) ≡ chart_asked (finished chart_shape.rules (walk chart_shape.rules [] nothing_held (lines_rest file lines)).held)
-unfolding clap_on_literals
-lines_found name file lines = refl
-
-lines_values : (file lines : Text) → chart_asked (finished chart_shape.rules (behind_lines file lines).held) ≡ Some (to_chart file (Some lines))
-unfolding clap_on_literals
-lines_values file lines = refl
-
-lines_asked_for : (name file lines : Text) → BeginsWithoutHyphen file → BeginsWithoutHyphen lines → asks_for (lines_line name file lines) ≡ Some (to_chart file (Some lines))
-lines_asked_for name file lines h k =
-    lines_found name file lines ∙ ap (λ (w : Walk). chart_asked (finished chart_shape.rules w.held)) (lines_walks file lines h k) ∙ lines_values file lines
-
-lines_entered : (name file lines : Text) → fault_of program (lines_line name file lines) ≡ or_else (level_fault chart_shape [] nothing_held (lines_rest file lines) false []) []
-unfolding clap_on_literals
-lines_entered name file lines = refl
-
-lines_end : (file lines : Text) → fault_behind chart_shape (behind_lines file lines).held ≡ []
-unfolding clap_on_literals
-lines_end file lines = refl
-
-lines_fault : (name file lines : Text) → BeginsWithoutHyphen file → BeginsWithoutHyphen lines → fault_of program (lines_line name file lines) ≡ []
-lines_fault name file lines h k =
-    let two : walk_fault chart_shape [] (behind_chart file) (codes "--lines" ∷ lines ∷ []) ≡ [] =
-    two_pass chart_shape (behind_chart file) (stands (waits_for_lines file) (option (codes "A-B")) 2) (codes "--lines") lines
-    (lines_walked file) (lines_turn file) (value_turn chart_shape (codes "A-B") 2 lines (waits_for_lines file) k) in
-    let pass : walk_fault chart_shape [] (walk_from nothing_held) (lines_rest file lines) ≡ [] =
-    three_pass chart_shape (walk_from nothing_held) (behind_chart file) file (codes "--lines") lines
-    (positional_walked chart_shape.rules 1 file nothing_held h) (positional_turn chart_shape 1 file nothing_held h) two in
-    lines_entered name file lines
-    ∙ ap (λ (kinds : Kinds). or_else kinds []) (level_passed chart_shape (lines_rest file lines) (behind_lines file lines) (lines_walks file lines h k) pass ∙ lines_end file lines)
-
-pub lines_words : (name file lines : Text) → BeginsWithoutHyphen file → BeginsWithoutHyphen lines → AskFor (lines_line name file lines) (to_chart file (Some lines))
-lines_words name file lines h k =
-    let asked : asks_for (lines_line name file lines) ≡ Some (to_chart file (Some lines)) = lines_asked_for name file lines h k in
-    (asked, ap₂ or_else (lines_fault name file lines h k) (ap missing_kinds asked))

@@ -3,9 +3,8 @@
 ghost use Rattle.std.specs.Prelude.{◌≡◌, false, map, option_map, IfOk, Some, codes};
 ghost use Rattle.clap.specs.Words.{FailsBy, new_app, with_rule, fault_of, first_of, found_of, rows_of, rule_of, subcommand_rows_of};
 ghost use Rattle.flounder_args.specs.Words.{exec_command, exec_with_explain, exec_asked, show_with_file, flag, is_told, bare_program, to_compile, show_command, compile_command, program, IsCommand};
-ghost use Rattle.flounder_args.specs.Words.{required, compile_with_file, with_exec, with_compile, with_show, with_cores};
+ghost use Rattle.flounder_args.specs.Words.{required, compile_with_file, with_exec, with_compile, with_show};
 ghost use Rattle.flounder_args.specs.Words.{turns_option, cores_with_file, cores_command, cores_asked, turns_asked, to_run_cores};
-ghost use Rattle.flounder_args.specs.Words.{lines_option, chart_with_file, chart_command, chart_asked};
 ghost use Rattle.flounder_args.specs.Words.{asked_by, show_asked, compile_asked, command_asked, asked_of, asks_for, refusals};
 
 use clap::builder::ValueParser;
@@ -15,33 +14,16 @@ use std::alloc::{AllocError, Global};
 use std::convert::AsStr;
 
 /// What the words ask for.
-#[derive(Clone, Copy)]
+#[derive(Clone, Copy, Debug)]
 pub enum Request<'a> {
     /// Run the script on standard input: tell its refused lines in words, and end with a status of their own.
-    Exec {
-        explain: bool,
-        strict: bool,
-    },
+    Exec { explain: bool, strict: bool },
     /// Print the plan table of the interface in this file, with its arguments' names.
-    Show {
-        file: &'a str,
-        names: bool,
-    },
+    Show { file: &'a str, names: bool },
     /// Write the image of the interface in the one file to the other.
-    Compile {
-        file: &'a str,
-        out: &'a str,
-    },
+    Compile { file: &'a str, out: &'a str },
     /// Run the cores file, with so many turns of a core counted at most.
-    Cores {
-        file: &'a str,
-        turns: u64,
-    },
-    /// Draw the run of the script in this file, of all of its lines or of those that a word tells.
-    Chart {
-        file: &'a str,
-        lines: Option<&'a str>,
-    },
+    Cores { file: &'a str, turns: u64 },
 }
 
 const EXEC: &str = "exec";
@@ -51,8 +33,6 @@ const SHOW: &str = "show";
 const COMPILE: &str = "compile";
 
 const CORES: &str = "cores";
-
-const CHART: &str = "chart";
 
 const FILE: &str = "FILE";
 
@@ -70,17 +50,13 @@ const VERSION: &str = "0.1.0";
 
 const LONG_TURNS: &str = "turns";
 
-const LINES: &str = "A-B";
-
-const LONG_LINES: &str = "lines";
-
 // So many turns of a core may be counted.
 const MAX_TURNS: u64 = 1_000_000_000_000;
 
 const HINT_SCRIPT: &str = "\nhelp: a script comes in on standard input: flounder exec < FILE\n";
 
 const ABOUT: &str =
-    "Runs and draws scripts of messages between dispatchers, also with threads, compiles interfaces, and shows how they are laid out";
+    "Runs scripts of messages between dispatchers, also with threads, compiles interfaces, and shows how they are laid out";
 
 const STATUSES: &str = "\
 Without a command, flounder does what `flounder exec` does: it runs the script that comes in on standard
@@ -236,22 +212,6 @@ fn exec_command<'a>(alloc: Global) -> Result<Command<'a>, AllocError>
     exec_with_explain(alloc)?.arg(flag(alloc, STRICT, HELP_STRICT))
 }
 
-const ABOUT_CHART: &str = "Draws a script's run, as SVG";
-
-const AFTER_CHART: &str = "\
-Standard output gets a drawing: a lane for each dispatcher and monitor, a row for each line, an arrow for each
-fragment, from the line that put it to the line that took it:
-
-  flounder chart hello.flounder > hello.svg
-  flounder chart long.flounder --lines 200-260 > part.svg
-
-The script is run whole. A drawing has at most 5,000 rows; a longer script wants --lines. docs/GALLERY.md shows
-drawings.";
-
-const HELP_SCRIPT: &str = "The script";
-
-const HELP_LINES: &str = "The first and the last line that are drawn; without it all";
-
 /// A command of this name that wants a file.
 fn with_file<'a>(
     alloc: Global,
@@ -323,25 +283,6 @@ fn cores_command<'a>(alloc: Global) -> Result<Command<'a>, AllocError>
     cores_with_file(alloc)?.arg(turns_option(alloc))
 }
 
-fn lines_option<'a>(alloc: Global) -> Arg<'a>
-    ensures rule { rule_of result ≡ lines_option }
-    ensures local { result.global ≡ false }
-{
-    Arg::new(alloc, LINES).long(LONG_LINES).help(HELP_LINES)
-}
-
-fn chart_with_file<'a>(alloc: Global) -> Result<Command<'a>, AllocError>
-    ensures is { IfOk result (IsCommand chart_with_file) }
-{
-    with_file(alloc, CHART, ABOUT_CHART, AFTER_CHART, HELP_SCRIPT)
-}
-
-fn chart_command<'a>(alloc: Global) -> Result<Command<'a>, AllocError>
-    ensures is { IfOk result (IsCommand chart_command) }
-{
-    chart_with_file(alloc)?.arg(lines_option(alloc))
-}
-
 fn bare_program<'a>(alloc: Global) -> Command<'a>
     ensures is { IsCommand bare_program result }
 {
@@ -373,18 +314,11 @@ fn with_show<'a>(alloc: Global) -> Result<Command<'a>, AllocError>
     program.subcommand(show_command(alloc)?)
 }
 
-fn with_cores<'a>(alloc: Global) -> Result<Command<'a>, AllocError>
-    ensures is { IfOk result (IsCommand with_cores) }
-{
-    let program = with_show(alloc)?;
-    program.subcommand(cores_command(alloc)?)
-}
-
 fn command<'a>(alloc: Global) -> Result<Command<'a>, AllocError>
     ensures is { IfOk result (IsCommand program) }
 {
-    let program = with_cores(alloc)?;
-    program.subcommand(chart_command(alloc)?)
+    let program = with_show(alloc)?;
+    program.subcommand(cores_command(alloc)?)
 }
 
 /// Whether an option without a value is there.
@@ -464,24 +398,6 @@ fn cores_request<'a>(found: &ArgMatches<'a>) -> Option<Request<'a>>
     }
 }
 
-/// The lines that `chart` is to draw, where they were told.
-fn lines_of<'a>(found: &ArgMatches<'a>) -> Option<&'a str>
-    ensures lines { option_map (λ word. word.now) result ≡ first_of (codes "A-B") (rows_of (found_of found.now)) }
-{
-    found.get_str(LINES)
-}
-
-/// What `chart` is asked for, where its file was named.
-fn chart_request<'a>(found: &ArgMatches<'a>) -> Option<Request<'a>>
-    ensures asked { option_map asked_by result ≡ chart_asked (rows_of (found_of found.now)) }
-{
-    let lines = lines_of(found);
-    match found.get_str(FILE) {
-        Some(file) => Some(Request::Chart { file, lines }),
-        None => None,
-    }
-}
-
 /// What a command of that name is asked for.
 fn command_request<'a>(name: &str, found: &ArgMatches<'a>) -> Option<Request<'a>>
     ensures asked { option_map asked_by result ≡ command_asked name.now (rows_of (found_of found.now)) }
@@ -492,8 +408,6 @@ fn command_request<'a>(name: &str, found: &ArgMatches<'a>) -> Option<Request<'a>
         compile_request(found)
     } else if name == CORES {
         cores_request(found)
-    } else if name == CHART {
-        chart_request(found)
     } else {
         exec_request(found)
     }
@@ -553,24 +467,16 @@ pub fn read_words<'a, S: AsStr>(alloc: Global, words: &'a [S]) -> Result<Request
     request_by(&mut command, words)
 }
 
-// Whether a word asks for a command that is given a file.
-fn takes_file(word: &str) -> bool {
-    matches!(word, SHOW | COMPILE | CORES | CHART)
-}
-
 /// What stands behind words that are refused: where `exec` is given a file, and where a file stands in a command's place,
 /// how a script comes in.
 pub fn hint<S: AsStr>(words: &[S]) -> &'static str {
-    let Some(first) = words.get(1) else {
-        return "";
+    let (first, second) = match words {
+        [_, first, second, ..] => (first.as_str(), second.as_str()),
+        [_, first] => (first.as_str(), ""),
+        _ => return "",
     };
-    let file = match first.as_str() {
-        EXEC => words.get(2),
-        word if takes_file(word) => None,
-        _ => Some(first),
-    };
-    match file {
-        Some(word) if !word.as_str().starts_with('-') => HINT_SCRIPT,
-        _ => "",
-    }
+    let is_command = first == SHOW || first == COMPILE || first == CORES;
+    let is_exec = first == EXEC && !second.is_empty() && !second.starts_with('-');
+    let is_other = first != EXEC && !is_command && !first.starts_with('-');
+    if is_exec || is_other { HINT_SCRIPT } else { "" }
 }

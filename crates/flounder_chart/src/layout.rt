@@ -3,7 +3,7 @@
 use crate::cutting::columns;
 use crate::flows::CORES;
 use crate::run::{Actor, Row, RowKind, Run};
-use std::alloc::Global;
+use std::alloc::{AllocError, Global};
 
 /// The width of a letter.
 pub(crate) const LETTER: u32 = 6;
@@ -60,8 +60,6 @@ pub(crate) struct Layout<'a> {
     monitor_lanes: Vec<Option<usize>>,
     /// The ways left of each lane, and right of the last. The first way has the lines' texts, too.
     gaps: Vec<u32>,
-    /// Whether memory was never refused.
-    pub is_whole: bool,
 }
 
 // A number of columns, as pixels.
@@ -71,80 +69,71 @@ fn pixels(columns: usize) -> u32 {
 }
 
 impl<'a> Layout<'a> {
-    /// The places for these rows of a run; some are missing where memory was refused.
-    pub(crate) fn new(alloc: Global, run: &Run<'a>, rows: &[Row<'a>]) -> Layout<'a> {
+    /// The places for these rows of a run.
+    ///
+    /// # Errors
+    /// Out of memory.
+    pub(crate) fn new(
+        alloc: Global,
+        run: &Run<'a>,
+        rows: &[Row<'a>],
+    ) -> Result<Layout<'a>, AllocError> {
         let mut layout = Layout {
             lanes: Vec::new(alloc),
             dispatcher_lanes: Vec::new(alloc),
             monitor_lanes: Vec::new(alloc),
             gaps: Vec::new(alloc),
-            is_whole: true,
         };
         for _dispatcher in &run.dispatchers {
-            let is_kept = layout.dispatcher_lanes.push(0).is_ok();
-            layout.is_whole = layout.is_whole && is_kept;
+            layout.dispatcher_lanes.push(0)?;
         }
         for core in 0..CORES {
-            layout.make_dispatchers(run, core);
-            layout.make_monitor(run, core);
+            layout.make_lanes(run, core)?;
         }
-        layout.make_gaps();
+        layout.make_gaps()?;
         for row in rows {
             layout.make_room(row);
         }
-        layout
+        Ok(layout)
     }
 
-    // Adds a lane behind all others, and says which it is.
-    fn add(&mut self, lane: Lane<'a>) -> usize {
-        let place = self.lanes.len();
-        let is_kept = self.lanes.push(lane).is_ok();
-        self.is_whole = self.is_whole && is_kept;
-        place
-    }
-
-    // The lanes of a core's dispatchers.
-    fn make_dispatchers(&mut self, run: &Run<'a>, core: u32) {
+    // The lanes of a core: its dispatchers', and its monitor's where a link leads to it.
+    fn make_lanes(&mut self, run: &Run<'a>, core: u32) -> Result<(), AllocError> {
         for (place, dispatcher) in run.dispatchers.iter().enumerate() {
             if dispatcher.core == core {
-                let added = self.add(Lane {
+                if let Some(lane) = self.dispatcher_lanes.get_mut(place) {
+                    *lane = self.lanes.len();
+                }
+                self.lanes.push(Lane {
                     actor: Actor::Dispatcher(place),
                     core,
                     name: dispatcher.name,
-                });
-                if let Some(lane) = self.dispatcher_lanes.get_mut(place) {
-                    *lane = added;
-                }
+                })?;
             }
         }
-    }
-
-    // The lane of a core's monitor, where a link leads to it.
-    fn make_monitor(&mut self, run: &Run<'a>, core: u32) {
         let mut lane = None;
         if run.linked.contains(&core) {
-            lane = Some(self.add(Lane {
+            lane = Some(self.lanes.len());
+            self.lanes.push(Lane {
                 actor: Actor::Monitor(core),
                 core,
                 name: b"monitor",
-            }));
+            })?;
         }
-        let is_kept = self.monitor_lanes.push(lane).is_ok();
-        self.is_whole = self.is_whole && is_kept;
+        self.monitor_lanes.push(lane)?;
+        Ok(())
     }
 
-    fn make_gaps(&mut self) {
+    fn make_gaps(&mut self) -> Result<(), AllocError> {
         let mut before = 0;
         for lane in &self.lanes {
             let name = columns(lane.name).min(MOST_OF_NAME);
             let half = (pixels(name) / 2).saturating_add(AIR / 2);
-            let gap = half.saturating_add(before).max(LEAST_GAP);
-            let is_kept = self.gaps.push(gap).is_ok();
-            self.is_whole = self.is_whole && is_kept;
+            self.gaps.push(half.saturating_add(before).max(LEAST_GAP))?;
             before = half;
         }
-        let is_kept = self.gaps.push(before.max(2 * AIR)).is_ok();
-        self.is_whole = self.is_whole && is_kept;
+        self.gaps.push(before.max(2 * AIR))?;
+        Ok(())
     }
 
     // Makes room for a row's text and answer.
@@ -206,8 +195,8 @@ impl<'a> Layout<'a> {
         let Some(lane) = self.row_lane(row) else {
             return LabelSide::Right;
         };
-        let source = self.lane_of(row.source);
-        let goal = self.lane_of(row.goal);
+        let source = self.other_lane(row.source);
+        let goal = self.other_lane(row.goal);
         let left = is_before(source, lane) || is_before(goal, lane);
         let right = is_behind(source, lane) || is_behind(goal, lane);
         let is_last = lane.saturating_add(1) == self.lanes.len();
@@ -231,6 +220,10 @@ impl<'a> Layout<'a> {
         }
     }
 
+    fn other_lane(&self, actor: Option<Actor>) -> Option<usize> {
+        self.lane(actor?)
+    }
+
     /// The lane of an actor.
     pub(crate) fn lane(&self, actor: Actor) -> Option<usize> {
         match actor {
@@ -239,13 +232,9 @@ impl<'a> Layout<'a> {
         }
     }
 
-    fn lane_of(&self, actor: Option<Actor>) -> Option<usize> {
-        self.lane(actor?)
-    }
-
     /// The lane of a row, if anyone acts in it.
     pub(crate) fn row_lane(&self, row: &Row<'a>) -> Option<usize> {
-        self.lane_of(row.actor)
+        self.lane(row.actor?)
     }
 
     /// Where a lane is, from the left.

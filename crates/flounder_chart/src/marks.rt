@@ -1,7 +1,8 @@
 //! How a drawing's parts look, and the legend that tells it.
 
-use crate::canvas::{Canvas, Placed};
-use flounder_svg::{Attribute, Tag};
+use crate::drawing::{Drawing, Placed, element};
+use flounder_svg::{Attribute, StartTag, Tag};
+use std::alloc::AllocError;
 
 /// The legend's height.
 pub(crate) const LEGEND_HEIGHT: u32 = 40;
@@ -39,16 +40,25 @@ text{font:10px ui-monospace,Menlo,Consolas,DejaVu Sans Mono,monospace;fill:#222}
 ";
 
 /// The arrows' heads, one for each colour, which arrows name.
-pub(crate) fn draw_heads(canvas: &mut Canvas) {
-    canvas.begin(Tag::Defs, &[], &[]);
-    draw_head(canvas, b"call", b"head call");
-    draw_head(canvas, b"ack", b"head ack");
-    draw_head(canvas, b"monitor", b"head monitor");
-    canvas.close();
+///
+/// # Errors
+/// Out of memory.
+pub(crate) fn draw_heads(drawing: &mut Drawing<'_>) -> Result<(), AllocError> {
+    let start = StartTag::new(drawing.alloc, Tag::Defs)?;
+    drawing.document.begin(start)?;
+    draw_head(drawing, b"call", b"head call")?;
+    draw_head(drawing, b"ack", b"head ack")?;
+    draw_head(drawing, b"monitor", b"head monitor")?;
+    drawing.document.close()
 }
 
-fn draw_head(canvas: &mut Canvas, id: &'static [u8], class: &'static [u8]) {
-    canvas.begin(
+fn draw_head(
+    drawing: &mut Drawing<'_>,
+    id: &'static [u8],
+    class: &'static [u8],
+) -> Result<(), AllocError> {
+    let marker = element(
+        drawing.alloc,
         Tag::Marker,
         &[
             (Attribute::Id, id),
@@ -61,39 +71,51 @@ fn draw_head(canvas: &mut Canvas, id: &'static [u8], class: &'static [u8]) {
             (Attribute::MarkerWidth, 6),
             (Attribute::MarkerHeight, 6),
         ],
-    );
-    canvas.put(
+    )?;
+    drawing.document.begin(marker)?;
+    let head = element(
+        drawing.alloc,
         Tag::Path,
         &[(Attribute::Class, class), (Attribute::D, b"M0 0L8 4L0 8z")],
         &[],
-    );
-    canvas.close();
+    )?;
+    drawing.document.put(head)?;
+    drawing.document.close()
 }
 
 /// The legend, under the last row.
-pub(crate) fn draw_legend(canvas: &mut Canvas, bottom: u32) {
-    canvas.open_group(b"group", b"legend");
+///
+/// # Errors
+/// Out of memory.
+pub(crate) fn draw_legend(drawing: &mut Drawing<'_>, bottom: u32) -> Result<(), AllocError> {
+    drawing.open_group(b"group", b"legend")?;
     let y = bottom.saturating_add(22);
-    draw_sample(canvas, b"arrow call", 12, y, b"call");
-    draw_sample(canvas, b"arrow ack", 80, y, b"acknowledgement");
-    draw_sample(canvas, b"arrow monitor", 214, y, b"monitor's message");
-    canvas.dot(b"stands call", (366, y), 4);
+    draw_sample(drawing, b"arrow call", 12, y, b"call")?;
+    draw_sample(drawing, b"arrow ack", 80, y, b"acknowledgement")?;
+    draw_sample(drawing, b"arrow monitor", 214, y, b"monitor's message")?;
+    drawing.dot(b"stands call", (366, y), 4)?;
     let at = Placed {
         class: b"line",
         x: 378,
         y: y.saturating_add(4),
     };
-    canvas.label(at, b"left in a queue", 20);
-    canvas.close();
+    drawing.label(at, b"left in a queue", 20)?;
+    drawing.document.close()
 }
 
 // A line with the looks of a kind of arrow, and the kind's name.
-fn draw_sample(canvas: &mut Canvas, class: &[u8], x: u32, y: u32, name: &[u8]) {
-    canvas.line(class, (x, y), (x.saturating_add(26), y));
+fn draw_sample(
+    drawing: &mut Drawing<'_>,
+    class: &[u8],
+    x: u32,
+    y: u32,
+    name: &[u8],
+) -> Result<(), AllocError> {
+    drawing.line(class, (x, y), (x.saturating_add(26), y))?;
     let at = Placed {
         class: b"line",
         x: x.saturating_add(32),
         y: y.saturating_add(4),
     };
-    canvas.label(at, name, 20);
+    drawing.label(at, name, 20)
 }

@@ -11,7 +11,7 @@ use std::fmt;
 use std::io::Write;
 
 /// Where a line stands: in a file, or on standard input.
-#[derive(Clone, Copy)]
+#[derive(Clone, Copy, Debug)]
 pub(crate) enum Source<'a> {
     File(&'a str),
     Input,

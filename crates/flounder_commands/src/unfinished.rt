@@ -4,7 +4,7 @@
 use crate::explain::Items;
 use fl_base::Side;
 use fl_script_lines::{BackEndText, Command, EndName, Line, parse_line};
-use std::alloc::Global;
+use std::alloc::{AllocError, Global};
 use std::fmt;
 use std::io::Write;
 
@@ -62,10 +62,9 @@ struct Rule<'a> {
     message: &'a [u8],
 }
 
-/// What a cores file makes, by the names of its lines; some is missing where memory was refused.
+/// What a cores file makes, by the names of its lines.
 #[derive(Drop)]
 struct Made<'a> {
-    is_whole: bool,
     cores: Vec<(&'a [u8], u32)>,
     services: Vec<(&'a [u8], &'a [u8])>,
     bindings: Vec<Bound<'a>>,
@@ -82,7 +81,6 @@ fn other(side: Side) -> Side {
 impl<'a> Made<'a> {
     fn new(alloc: Global) -> Made<'a> {
         Made {
-            is_whole: true,
             cores: Vec::new(alloc),
             services: Vec::new(alloc),
             bindings: Vec::new(alloc),
@@ -100,14 +98,14 @@ impl<'a> Made<'a> {
     }
 
     // Takes up a line of the file.
-    fn take(&mut self, command: Command<'a>) {
-        let is_kept = match command {
-            Command::Disp { name, core } => self.cores.push((name, core)).is_ok(),
+    fn take(&mut self, command: Command<'a>) -> Result<(), AllocError> {
+        match command {
+            Command::Disp { name, core } => self.cores.push((name, core))?,
             Command::Export {
                 name,
                 dispatcher,
                 interface: _,
-            } => self.services.push((name, dispatcher)).is_ok(),
+            } => self.services.push((name, dispatcher))?,
             Command::Bind {
                 name,
                 client,
@@ -116,21 +114,18 @@ impl<'a> Made<'a> {
                 back_end,
             } => {
                 let is_circuit = matches!(back_end, BackEndText::Hop(_));
-                let bound = Bound::new(name, client, service, is_circuit);
-                self.bindings.push(bound).is_ok()
+                self.bindings
+                    .push(Bound::new(name, client, service, is_circuit))?;
             }
             Command::Reply {
                 end,
                 message,
                 answer: _,
-            } => self.rules.push(Rule { end, message }).is_ok(),
-            Command::Call(end, _) => {
-                self.add_due(end);
-                true
-            }
-            _ => true,
-        };
-        self.is_whole = self.is_whole && is_kept;
+            } => self.rules.push(Rule { end, message })?,
+            Command::Call(end, _) => self.add_due(end),
+            _ => {}
+        }
+        Ok(())
     }
 
     // An end handled a message: a rule has it answer.
@@ -301,27 +296,26 @@ fn tell_binding<E: Write>(made: &Made<'_>, binding: &Bound<'_>, errors: &mut E) 
     }
 }
 
-fn made_by<'a>(alloc: Global, content: &'a [u8]) -> Made<'a> {
+fn made_by<'a>(alloc: Global, content: &'a [u8]) -> Result<Made<'a>, AllocError> {
     let mut made = Made::new(alloc);
     let mut items = Items::new(content);
     for line in content.split_inclusive(|byte| *byte == b'\n') {
         if let Some(item) = items.next(line) {
             if !item.is_block {
                 if let Line::Command(command) = parse_line(item.text) {
-                    made.take(command);
+                    made.take(command)?;
                 }
             }
         }
     }
-    made
+    Ok(made)
 }
 
-/// Tells what a run of cores left undone, from the file's content and its report, if memory isn't refused.
+/// Tells what a run of cores left undone, from the file's content and its report.
 pub fn tell_unfinished<E: Write>(alloc: Global, content: &[u8], report: &[u8], errors: &mut E) {
-    let mut made = made_by(alloc, content);
-    if !made.is_whole {
+    let Ok(mut made) = made_by(alloc, content) else {
         return;
-    }
+    };
     for line in report.split(|byte| *byte == b'\n') {
         made.report(line);
     }

@@ -10,7 +10,7 @@ use crate::fault::{ShowFault, TextRefusal};
 use fl_check::{TextFault, check};
 use fl_interface::Interface;
 use fl_lex::lex;
-use fl_parse::{Tree, parse};
+use fl_parse::parse;
 use std::alloc::Global;
 
 const LONGEST_EXCERPT: usize = 40;
@@ -33,12 +33,6 @@ pub fn read_interface(alloc: Global, text: &[u8]) -> Result<Interface, TextFault
         Err(fault) => return Err(TextFault::Parse(fault)),
     };
     check(alloc, &tree).map_err(TextFault::Check)
-}
-
-/// The tree of a text, if it has one and memory isn't refused.
-pub(crate) fn tree_of<'a>(alloc: Global, text: &'a [u8]) -> Option<Tree<'a>> {
-    let tokens = lex(alloc, text).ok()?;
-    parse(alloc, &tokens).ok()
 }
 
 /// A law: the interface that a text stands for has an image. Its names are words of at most 64 bytes, and its enums

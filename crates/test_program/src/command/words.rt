@@ -58,13 +58,6 @@ const NO_COMMANDS: &[Words] = &[
         Asked::Nothing,
         &["flounder", "compile", "cap.if", "out", "more"],
     ),
-    Words(Asked::Nothing, &["flounder", "chart"]),
-    Words(Asked::Nothing, &["flounder", "chart", "x", "--lines"]),
-    Words(
-        Asked::Nothing,
-        &["flounder", "chart", "x", "--lines", "-1-2"],
-    ),
-    Words(Asked::Nothing, &["flounder", "chart", "x", "more"]),
     Words(Asked::Nothing, &["flounder", "cores"]),
     Words(Asked::Nothing, &["flounder", "cores", "x"]),
     Words(Asked::Nothing, &["flounder", "cores", "--turns", "2"]),
@@ -96,7 +89,6 @@ const HELPS: &[Words] = &[
     Words(Asked::Help, &["flounder", "show", "--help"]),
     Words(Asked::Help, &["flounder", "compile", "--help"]),
     Words(Asked::Help, &["flounder", "cores", "--help"]),
-    Words(Asked::Help, &["flounder", "chart", "--help"]),
 ];
 
 fn are_two_turns(alloc: Global, words: &[&str]) -> bool {

@@ -1,6 +1,5 @@
 //! The scripts of `examples/` and their transcripts, as they stand there: `examples/check` tells where they differ.
 
-use crate::program::drawings::{Drawing, Example};
 use crate::program::scripts::Script;
 
 const CIRCUIT: Script = Script(
@@ -721,20 +720,9 @@ full
 );
 
 /// Those that call in turn.
-pub const CALLS: &[Example] = &[
-    Example(ECHO, Drawing(0, 0, 665927842, 14091)),
-    Example(HELLO, Drawing(0, 0, 4274017903, 5745)),
-    Example(MEMORY, Drawing(0, 0, 2488777074, 11787)),
-    Example(NAMES, Drawing(0, 0, 2661933574, 13462)),
-];
+pub const CALLS: &[Script] = &[ECHO, HELLO, MEMORY, NAMES];
 
 /// Those of links and rings.
-pub const LINKS: &[Example] = &[
-    Example(CIRCUIT, Drawing(0, 0, 1722245196, 24720)),
-    Example(REFUSED, Drawing(0, 0, 2175524789, 14512)),
-];
+pub const LINKS: &[Script] = &[CIRCUIT, REFUSED];
 
-pub const RINGS: &[Example] = &[
-    Example(RING, Drawing(0, 0, 3393590405, 16968)),
-    Example(STUCK, Drawing(0, 0, 2533608763, 23001)),
-];
+pub const RINGS: &[Script] = &[RING, STUCK];

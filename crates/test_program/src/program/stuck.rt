@@ -1,7 +1,6 @@
 //! The script of `examples/` in which a binding over a ring with a reply rule sticks, as it stands there:
 //! `examples/check` tells where they differ. That of a circuit stands in `examples.rt`.
 
-use crate::program::drawings::{Drawing, Example};
 use crate::program::scripts::Script;
 
 const STUCK: Script = Script(
@@ -294,4 +293,4 @@ full
 );
 
 /// The one script.
-pub const RING: &[Example] = &[Example(STUCK, Drawing(97, 149, 441591894, 17361))];
+pub const RING: &[Script] = &[STUCK];

@@ -1,6 +1,5 @@
 //! The script of `examples/` in which a binding within a core with reply rules sticks, as it stands there.
 
-use crate::program::drawings::{Drawing, Example};
 use crate::program::scripts::Script;
 
 const STUCK: Script = Script(
@@ -614,4 +613,4 @@ full
 );
 
 /// The one script.
-pub const QUEUE: &[Example] = &[Example(STUCK, Drawing(280, 310, 2393815754, 15784))];
+pub const QUEUE: &[Script] = &[STUCK];

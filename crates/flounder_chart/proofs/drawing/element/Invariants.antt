@@ -1,5 +1,5 @@
 use Rattle.std.proofs.Common.{◌≡◌}
-use Rattle.flounder_chart.proofs.canvas.element.Given as goal
+use Rattle.flounder_chart.proofs.drawing.element.Given as goal
 
 abbrev pub invariant-words : goal.invariant-words
 invariant-words l = l.start.tag ≡ l.fn.tag
