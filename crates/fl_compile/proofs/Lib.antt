@@ -19,3 +19,4 @@ pub mod Compiling
 pub mod Cases
 pub mod Packs
 pub mod Spreading
+pub mod Prepared

@@ -1,6 +1,6 @@
 -- The packed tape that a call's send code takes is the call's own.
-use Rattle.std.proofs.Common.{◌≡◌, ℕ, zero, suc, ◌+◌, ◌%◌, ◌<◌, ◌≤◌, true, false, Bool, eqb, cond, List, [], ◌∷◌, ◌++◌, length, map, refl, sym, ◌∙◌, ap, subst, arith, append_assoc}
-use Rattle.std.specs.List.{zip, list_all, flat_map}
+use Rattle.std.proofs.Common.{◌≡◌, ℕ, suc, ◌+◌, ◌%◌, ◌<◌, true, false, Bool, eqb, cond, List, [], ◌∷◌, ◌++◌, length, map, refl, sym, ◌∙◌, ap, arith, append_assoc}
+use Rattle.std.specs.List.{list_all, flat_map}
 use Rattle.std.proofs.lemmas.List.{append-nil}
 use Rattle.std.proofs.lemmas.Bool.{and_parts, ltb-true, eqb-true, false≢true}
 use Rattle.fl_interface.specs.Interface.{TheType, scalar, enumeration, structure, array, TheTypes, no_more, field, TheArgType, fixed, text, sized}
@@ -9,13 +9,13 @@ use Rattle.fl_value_data.specs.Value.{Datum, number, string, elements, fields, D
 use Rattle.fl_value_data.specs.Fits.{has_type, have_types, all_have_type, is_argument, count_of, is_text_byte}
 use Rattle.fl_value_data.specs.Tape.{Argument, kind, value_tape, fields_tape, elements_tape, argument_tape, tape_of_argument}
 use Rattle.fl_stub.specs.declared.op.Column.TheVariants.{Send}
-use Rattle.fl_stub.specs.Structure.{Block, finished, next, one, times, counted}
+use Rattle.fl_stub.specs.Structure.{Block, finished, next, one}
 use Rattle.fl_stub.specs.Meaning.{number_bytes}
 use Rattle.fl_compile.specs.declared.arguments.ArgOffset.{ArgOffset}
 use Rattle.fl_compile.specs.declared.arguments.ArgOffset.TheVariants.{At, AfterDynamic}
 use Rattle.fl_compile.specs.Compiled.{padding, text_op, pad_op, zeros_then, type_then, fields_then, start_at, start_then, arguments_block}
-use Rattle.fl_value_tape.specs.Packed.{value_packed, fields_packed, elements_packed, argument_packed, packed_argument, low_bytes}
-use Rattle.fl_stub_steps.specs.Spreading.{Packing, Packer, then_packed, turns_packed, block_packed}
+use Rattle.fl_value_tape.specs.Packed.{value_packed, fields_packed, elements_packed, argument_packed, packed_argument}
+use Rattle.fl_stub_steps.specs.Spreading.{Packing, then_packed, turns_packed, block_packed}
 
 -- bytes before a packing's
 abbrev pub put_before : List ℕ → Packing → Packing

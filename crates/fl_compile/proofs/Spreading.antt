@@ -1,10 +1,9 @@
 -- The laws of send code and packed tapes.
-use Rattle.std.proofs.Common.{◌≡◌, ℕ, true, List, [], ◌∷◌, map, length, refl, sym, ◌∙◌, ap, subst}
+use Rattle.std.proofs.Common.{◌≡◌, ℕ, true, List, [], ◌∷◌, map, refl, sym, ◌∙◌, ap, subst}
 use Rattle.std.specs.Prelude.{Option, Some, None, slice_get}
 use Rattle.std.specs.List.{zip, list_all, flat_map}
 use Rattle.std.proofs.lemmas.Bool.{and_parts, false≢true}
-use Rattle.std.proofs.Math.Bool.{and-true}
-use Rattle.fl_interface.specs.Interface.{TheArgType, TheMessage, TheInterface}
+use Rattle.fl_interface.specs.Interface.{TheArgType, TheMessage}
 use Rattle.fl_value_data.specs.declared.value.PlanNo.{PlanNo}
 use Rattle.fl_value_data.specs.Value.{Datum, TheCall}
 use Rattle.fl_value_data.specs.Fits.{fits_of, fit_message, is_argument, are_arguments}
@@ -12,18 +11,23 @@ use Rattle.fl_value_data.specs.Plan.{arranged}
 use Rattle.fl_value_data.specs.Tape.{Argument, kind, tape_of_argument, tape_of, types_of}
 use Rattle.fl_wire.specs.Payload.{payload_of}
 use Rattle.fl_stub.specs.declared.op.Column.TheVariants.{Send}
-use Rattle.fl_stub.specs.Structure.{Block}
 use Rattle.fl_compile.specs.declared.arguments.ArgOffset.TheVariants.{At}
 use Rattle.fl_compile.specs.Compiled.{arguments_block, in_order, message_block}
-use Rattle.fl_compile.specs.Laws.{HasMessage}
 use Rattle.fl_compile.proofs.Ordering.{all_arranged, arranged_kinds, zip_kinds}
 use Rattle.fl_compile.proofs.Lawful.{sends_calls, compiles_to_code}
 use Rattle.fl_value_tape.specs.Packed.{packed_argument, packed_of}
 use Rattle.fl_stub_steps.specs.Spreading.{Packing, packed_for, block_packed, block_spread, spread_first}
+use Rattle.fl_stub.specs.Structure.{Block}
 use Rattle.fl_stub_steps.proofs.Spreads.{spreads}
 use Rattle.fl_stub_steps.specs.Spreading.{Spread}
-use Rattle.fl_stub_steps.specs.Steps.{TheSteps, steps_done}
-use Rattle.fl_compile.specs.Programs.{TheProgram}
+use Rattle.fl_stub_steps.specs.Steps.{TheSteps, steps_in, steps_done, all_of, IsPlain}
+use Rattle.std.proofs.lemmas.List.{append-nil}
+use Rattle.fl_compile.specs.Programs.{TheProgram, code_in, Prepares}
+use Rattle.fl_compile.specs.Codes.{compiled_code}
+use Rattle.fl_compile.specs.Compiled.{message_code}
+use Rattle.fl_stub.proofs.Structures.{structure_is}
+use Rattle.fl_stub_steps.specs.declared.step.PreparedCode.{PreparedCode}
+use Rattle.std.specs.Option.{option_map}
 use Rattle.fl_interface.specs.Limits.{is_within_limits}
 use Rattle.fl_interface.specs.Counts.{interface_words_fit}
 use Rattle.fl_compile.specs.PackedLaws.{PacksCalls, SpreadsCalls, IsPrepared}
@@ -84,3 +88,28 @@ makes_payload p c steps old packed within words fits prepared none is =
     ap (λ (g : List ℕ). (steps_done steps (record { given = g; left = packed })).given) none
     ∙ ap (λ (l : List ℕ). (steps_done steps (spread_first l)).given) is
     ∙ ap (λ (s : Spread). s.given) (steps_make p c steps (slice_get p.interface.messages c.msg) within words fits prepared refl)
+
+-- where it puts nothing between the tape's bytes, the tape is the payload
+pub plain_payload : (p : TheProgram) (c : TheCall) (steps : TheSteps) → is_within_limits p.interface ≡ true → interface_words_fit p.interface ≡ true
+    → fits_of p.interface c ≡ true → IsPrepared p c.msg steps → IsPlain steps → packed_of p.plan p.interface c ≡ payload_of p.plan p.interface c
+plain_payload p c steps within words fits prepared plain =
+    sym (plain (packed_of p.plan p.interface c))
+    ∙ ap all_of (steps_make p c steps (slice_get p.interface.messages c.msg) within words fits prepared refl)
+    ∙ append-nil (payload_of p.plan p.interface c)
+
+-- the prepared code that a program has of a call's message
+pub prepared_is : (p : TheProgram) (c : TheCall) (code : PreparedCode) → is_within_limits p.interface ≡ true → interface_words_fit p.interface ≡ true
+    → Prepares (code_in Send p c.msg) code → IsPrepared p c.msg (steps_in code)
+prepared_is p c code within words prepares m e x =
+    let told : code_in Send p c.msg ≡ Some (compiled_code Send p.plan m) = ap (option_map (compiled_code Send p.plan)) e in
+    let is = structure_is Send (message_code Send p.plan m) (message_block Send p.plan m)
+    (compiles_to_code Send p.plan p.interface c.msg m (record { within = within; words = words; message = e })) in
+    prepares (compiled_code Send p.plan m) told x ∙ ap (λ (b : Block). block_spread b x) is
+
+-- a fitting call's message has code
+has_code : (p : TheProgram) (c : TheCall) (o : Option TheMessage) → fit_message o c.args ≡ true → option_map (compiled_code Send p.plan) o ≡ None → ⊥
+has_code p c None fits none = false≢true fits
+has_code p c (Some m) fits none = absurd (cc)
+
+pub no_code : (p : TheProgram) (c : TheCall) → fits_of p.interface c ≡ true → code_in Send p c.msg ≡ None → ⊥
+no_code p c fits none = has_code p c (slice_get p.interface.messages c.msg) fits none

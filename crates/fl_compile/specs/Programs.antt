@@ -1,10 +1,13 @@
 -- Programs as contracts see them.
-use Rattle.std.specs.Prelude.{ℕ, Option, slice_get}
+use Rattle.std.specs.Prelude.{◌≡◌, ℕ, Option, slice_get, Some}
 use Rattle.std.specs.Option.{option_map}
 use Rattle.fl_interface.specs.Interface.{TheInterface, interface_of}
 use Rattle.fl_value_data.specs.declared.value.PlanNo.{PlanNo}
 use Rattle.fl_stub.specs.declared.op.Column.{Column}
 use Rattle.fl_stub.specs.Code.{TheCode}
+use Rattle.fl_stub.specs.Frames.{block_of}
+use Rattle.fl_stub_steps.specs.declared.step.PreparedCode.{PreparedCode}
+use Rattle.fl_stub_steps.specs.Steps.{steps_in, Means}
 use Rattle.fl_compile.specs.declared.program.Program.{Program}
 use Rattle.fl_compile.specs.Codes.{compiled_code}
 
@@ -19,3 +22,7 @@ program_of p = record { interface = interface_of p.compiled.value.plans.interfac
 -- the code of a program's message for a column; none where there is no such message
 abbrev pub code_in : Column → TheProgram → ℕ → Option TheCode
 code_in column p msg = option_map (compiled_code column p.plan) (slice_get p.interface.messages msg)
+
+-- prepared code that means what this code means
+abbrev pub Prepares : Option TheCode → PreparedCode → Type 0
+Prepares code prepared = (c : TheCode) → code ≡ Some c → Means (steps_in prepared) (block_of c.ops)

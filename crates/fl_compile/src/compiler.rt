@@ -5,7 +5,7 @@ ghost use Rattle.std.specs.List.{list_all};
 ghost use Rattle.fl_interface.specs.Interface.{arg_type_of, interface_of, message_of};
 ghost use Rattle.fl_interface.specs.Limits.{is_message_within};
 ghost use Rattle.fl_interface.specs.Counts.{argument_words_fit};
-ghost use Rattle.fl_compile.specs.Codes.{compiled_code, compiled_codes};
+ghost use Rattle.fl_compile.specs.Codes.{compiled_code, compiled_codes, ArePrepared};
 ghost use Rattle.fl_compile.specs.Programs.{program_of};
 
 use crate::arguments::arguments_code;
@@ -13,6 +13,7 @@ use crate::order::in_order;
 use crate::program::{Compiled, MessageCode, Program};
 use fl_interface::{Interface, Message};
 use fl_stub::{Code, Column, VerifiedCode, law_one_structure, verify};
+use fl_stub_steps::{PreparedCode, prepare};
 use fl_value_data::PlanNo;
 use std::alloc::{AllocError, Global};
 use std::sync::Arc;
@@ -63,6 +64,20 @@ fn compile_messages(
     Ok(messages)
 }
 
+// The send code of each message as larger steps.
+fn prepare_messages(
+    alloc: Global,
+    messages: &[MessageCode],
+) -> Result<Vec<PreparedCode>, AllocError>
+    ensures prepared { IfOk result (λ v. ArePrepared messages.now v.items) }
+{
+    let mut prepared = Vec::with_capacity(alloc, messages.len())?;
+    for message in messages {
+        prepared.push(prepare(alloc, &message.send)?)?;
+    }
+    Ok(prepared)
+}
+
 /// Compiles an interface under a plan.
 ///
 /// # Errors
@@ -73,7 +88,12 @@ pub fn compile(alloc: Global, interface: &Interface, plan: PlanNo) -> Result<Pro
 {
     let plans = fl_layout::plan(alloc, interface, plan)?;
     let messages = compile_messages(alloc, &plans.interface, plan)?;
-    let compiled = Compiled { plans, messages };
+    let prepared = prepare_messages(alloc, &messages)?;
+    let compiled = Compiled {
+        plans,
+        messages,
+        prepared,
+    };
     Ok(Program {
         compiled: Arc::new(alloc, compiled)?,
         plan,

@@ -3,12 +3,13 @@
 ghost use Rattle.std.specs.Prelude.{◌≡◌, true, map, IfOk};
 ghost use Rattle.fl_interface.specs.Interface.{interface_of, message_of};
 ghost use Rattle.fl_interface.specs.Counts.{interface_words_fit};
-ghost use Rattle.fl_compile.specs.Codes.{compiled_codes};
+ghost use Rattle.fl_compile.specs.Codes.{compiled_codes, ArePrepared};
 
 use fl_base::MsgNo;
 use fl_interface::Interface;
 use fl_layout::Plans;
 use fl_stub::VerifiedCode;
+use fl_stub_steps::PreparedCode;
 use fl_value_data::PlanNo;
 use std::alloc::{AllocError, Global};
 use std::sync::Arc;
@@ -26,6 +27,8 @@ pub(crate) struct MessageCode {
 pub(crate) struct Compiled {
     pub plans: Plans,
     pub messages: Vec<MessageCode>,
+    // Of each message its send code as larger steps.
+    pub prepared: Vec<PreparedCode>,
 }
 
 /// An interface compiled under a plan: a copy of it, its layout, and verified send and receive code for each of its messages.
@@ -36,16 +39,17 @@ pub struct Program {
     pub(crate) plan: PlanNo,
     ghost words: { interface_words_fit (interface_of compiled.value.plans.interface) ≡ true },
     ghost same: { compiled.value.plans.plan ≡ plan },
+    ghost prepared: { ArePrepared compiled.value.messages.items compiled.value.prepared.items },
     ghost exact: { compiled.value.messages.items ≡ map (compiled_codes plan) (map message_of compiled.value.plans.interface.messages.items) },
 }
 
 impl Program {
-    ghost use Rattle.std.specs.Prelude.{◌≡◌, true, map, IfOk};
+    ghost use Rattle.std.specs.Prelude.{◌≡◌, true, map, IfOk, IfSome, IfNone, None};
     ghost use Rattle.std.specs.Option.{option_map};
     ghost use Rattle.fl_interface.specs.Interface.{interface_of};
     ghost use Rattle.fl_interface.specs.Counts.{interface_words_fit};
     ghost use Rattle.fl_stub.specs.declared.op.Column.TheVariants.{Send, Receive};
-    ghost use Rattle.fl_compile.specs.Programs.{program_of, code_in};
+    ghost use Rattle.fl_compile.specs.Programs.{program_of, code_in, Prepares};
 
     /// The plan under which the interface was compiled: the rule for the order of arguments in every payload.
     /// Both ends of a binding need the same.
@@ -78,6 +82,17 @@ impl Program {
     {
         match self.compiled.messages.get(usize::from(msg.0)) {
             Some(message) => Some(&message.send),
+            None => None,
+        }
+    }
+
+    /// The send code of a message as larger steps; none where the interface has no such message.
+    pub fn prepared_code(&self, msg: MsgNo) -> Option<&PreparedCode>
+        ensures means { IfSome result (λ prepared. Prepares (code_in Send (program_of self.now) msg.0) prepared.now) }
+        ensures none { IfNone result (code_in Send (program_of self.now) msg.0 ≡ None) }
+    {
+        match self.compiled.prepared.get(usize::from(msg.0)) {
+            Some(prepared) => Some(prepared),
             None => None,
         }
     }

@@ -203,6 +203,10 @@ woken_same a k e name (Ok write.Full) h = refl
 woken_same a k e name (Ok write.Nothing) h = refl
 woken_same a k e name (Err fault) h = refl
 
+-- of large records cc does not end, of any type it does
+same_some : {X : Type 0} (x y : X) → Some x ≡ Some y → x ≡ y
+same_some x y e = cc
+
 -- how fragments come to an end, by its wiring
 pub kind_at : (seats : List TheEndAtChannel) (wired_ends : List WiredEnd) (e : ℕ) (seat : TheEndAtChannel) (p : WiredEnd)
     → map (λ (x : TheEndAtChannel). x.kind) seats ≡ map (λ (q : WiredEnd). kind_of q.wiring) wired_ends → slice_get seats e ≡ Some seat → slice_get wired_ends e ≡ Some p
@@ -211,8 +215,8 @@ kind_at [] wired_ends e seat p h x y = absurd (cc)
 kind_at (s ∷ seats) [] e seat p h x y = absurd (cc)
 kind_at (s ∷ seats) (q ∷ wired_ends) zero seat p h x y =
     let first : s.kind ≡ kind_of q.wiring = cc in
-    let left : s ≡ seat = cc in
-    let right : q ≡ p = cc in
+    let left : s ≡ seat = same_some s seat x in
+    let right : q ≡ p = same_some q p y in
     ap (λ (z : TheEndAtChannel). z.kind) (sym left) ∙ first ∙ ap (λ (z : WiredEnd). kind_of z.wiring) right
 kind_at (s ∷ seats) (q ∷ wired_ends) (suc e) seat p h x y =
     let rest : map (λ (z : TheEndAtChannel). z.kind) seats ≡ map (λ (z : WiredEnd). kind_of z.wiring) wired_ends = cc in kind_at seats wired_ends e seat p rest x y

@@ -57,6 +57,10 @@ push_both R [] (z ∷ ys) x y h r = absurd h
 push_both R (w ∷ xs) [] x y h r = absurd h
 push_both R (w ∷ xs) (z ∷ ys) x y h r = (h.0, push_both R xs ys x y h.1 r)
 
+-- of large records cc does not end, of any type it does
+same_some : {X : Type 0} (x y : X) → Some x ≡ Some y → x ≡ y
+same_some x y e = cc
+
 -- of a copy of a program that is lent
 pub copied : (programs : List Program) (plans : List Planned) (n : ℕ) (p source : Program) → map (λ (q : Program). planned_of q) programs ≡ plans
     → slice_get programs n ≡ Some source → program_of p ≡ program_of source → slice_get plans n ≡ Some (planned_of p)
@@ -66,7 +70,7 @@ copied programs plans n p source h at same =
   where
     lent_at : (ps : List Program) (m : ℕ) → slice_get ps m ≡ Some source → slice_get (map (λ (q : Program). planned_of q) ps) m ≡ Some (planned_of source)
     lent_at [] m q = absurd (cc)
-    lent_at (x ∷ ps) zero q = let first : x ≡ source = cc in ap (λ (z : Program). Some (planned_of z)) first
+    lent_at (x ∷ ps) zero q = let first : x ≡ source = same_some x source q in ap (λ (z : Program). Some (planned_of z)) first
     lent_at (x ∷ ps) (suc m) q = lent_at ps m q
 
 pub same_length : {A B : Type 0} (R : A → B → Type 0) (xs : List A) (ys : List B) → AllZip R xs ys → length xs ≡ length ys

@@ -38,11 +38,15 @@ seen k = seen_by k k.board (map spoken_at k.board.seats)
 
 -- ---- behind rules
 
+-- of large records cc does not end, of any type it does
+same_some : {X : Type 0} (x y : X) → Some x ≡ Some y → x ≡ y
+same_some x y e = cc
+
 seat_seen : (seats : List TheEndAtChannel) (n : ℕ) (seat after : TheEndAtChannel) → slice_get seats n ≡ Some seat → spoken_at after ≡ spoken_at seat
     → map spoken_at (slice_set seats n after) ≡ map spoken_at seats
 seat_seen [] n seat after is same = absurd (cc)
 seat_seen (x ∷ seats) zero seat after is same =
-    let now : x ≡ seat = cc in ap (λ (s : Planned). s ∷ map spoken_at seats) (same ∙ ap spoken_at (sym now))
+    let now : x ≡ seat = same_some x seat is in ap (λ (s : Planned). s ∷ map spoken_at seats) (same ∙ ap spoken_at (sym now))
 seat_seen (x ∷ seats) (suc n) seat after is same = ap (λ (t : List Planned). spoken_at x ∷ t) (seat_seen seats n seat after is same)
 
 rule_spoken : (s t : TheEnd) (msg answer : ℕ) → SetsRule s msg answer (Ok tt) t → spoken_by t ≡ spoken_by s
@@ -58,7 +62,7 @@ core_seen e msg answer k k2 r =
 set_seen : (cores : List TheCore) (n : ℕ) (c after : TheCore) → slice_get cores n ≡ Some c → seen after ≡ seen c
     → map seen (slice_set cores n after) ≡ map seen cores
 set_seen [] n c after is same = absurd (cc)
-set_seen (x ∷ cores) zero c after is same = let now : x ≡ c = cc in ap (λ (s : Seen). s ∷ map seen cores) (same ∙ ap seen (sym now))
+set_seen (x ∷ cores) zero c after is same = let now : x ≡ c = same_some x c is in ap (λ (s : Seen). s ∷ map seen cores) (same ∙ ap seen (sym now))
 set_seen (x ∷ cores) (suc n) c after is same = ap (λ (t : List Seen). seen x ∷ t) (set_seen cores n c after is same)
 
 now_seen : (o : Option Binding) (e : EndId) (msg answer : ℕ) (ks ks2 : List TheCore) → RuleNow o e msg answer ks ks2 → map seen ks2 ≡ map seen ks

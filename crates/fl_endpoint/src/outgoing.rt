@@ -14,10 +14,11 @@ ghost use Rattle.fl_endpoint.specs.Stored.{IsShort, IsQueued, AreQueued, Queues,
 
 use fl_base::{Circuit, Frag, MsgNo, control};
 use fl_compile::Program;
+use fl_compile_payload::payload_by;
 use fl_layout::fragment_count;
 use fl_machine::{first_frag, law_sends_fragments};
 use fl_value_data::{Call, flatten_into};
-use fl_wire::{fragment, payload_into};
+use fl_wire::fragment;
 use std::alloc::{AllocError, Global};
 use std::collections::VecDeque;
 use std::mem;
@@ -89,7 +90,8 @@ impl QueuedCall {
         })
     }
 
-    // A fitting call as it is queued: its payload. Out of line, so that a call of one fragment has nothing of it.
+    // A fitting call as it is queued: its payload, which its message's send code makes. Out of line, so that a call of one
+    // fragment has nothing of it.
     #[inline(never)]
     fn of_payload(
         alloc: Global,
@@ -100,8 +102,7 @@ impl QueuedCall {
         requires { fits_of (program_of program.now).interface (call_of call.now) ≡ true }
         ensures queues { IfOk result (λ queued. Queues (program_of program.now) (call_of call.now) queued) }
     {
-        let mut payload = Vec::with_capacity(alloc, room)?;
-        payload_into(&mut payload, program.interface(), program.plan(), call)?;
+        let payload = payload_by(alloc, program, call, room)?;
         Ok(QueuedCall {
             body: CallBody::Payload(payload),
             msg: call.msg,

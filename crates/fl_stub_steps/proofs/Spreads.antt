@@ -1,18 +1,15 @@
 -- What code makes of a tape's packed form is what it makes of the tape.
-use Rattle.std.proofs.Common.{◌≡◌, ℕ, zero, suc, ◌+◌, ◌^◌, ◌<◌, ◌≤◌, true, false, List, [], ◌∷◌, ◌++◌, length, take, drop, replicate, refl, sym, ◌∙◌, ap, subst, arith, append_assoc, ltb, leb, ◌&&◌}
+use Rattle.std.proofs.Common.{◌≡◌, ℕ, zero, suc, ◌+◌, ◌^◌, ◌<◌, ◌≤◌, true, false, List, [], ◌∷◌, ◌++◌, length, take, drop, replicate, refl, sym, ◌∙◌, ap, subst, arith, append_assoc, ltb, leb}
 use Rattle.std.proofs.lemmas.List.{append-nil, length-append, length-replicate}
 use Rattle.std.proofs.lemmas.Bool.{and_parts, leb-true, le-ltb, cond-false}
 use Rattle.std.proofs.lemmas.Nat.{from_le_bytes-to_le_bytes_8}
-use Rattle.std.specs.Int.{bytes_low_first, byte_at, from_le_bytes, to_le_bytes, w64}
+use Rattle.std.specs.Int.{bytes_low_first, byte_at, from_le_bytes, w64}
 use Rattle.fl_stub.specs.declared.op.Column.{Column}
 use Rattle.fl_stub.specs.Structure.{Piece, one, times, counted, Block, finished, next, is_within, piece_fits, block_fits}
-use Rattle.fl_stub.specs.Meaning.{OpMove, number, zeros, zeros_to_8, move_of, number_bytes, gap_to_8, StubMoment, MovesNumber, MovesZeros, Moves, Repeats, PieceTurns, BlockTurns, Turns, moment_first, moment_last}
+use Rattle.fl_stub.specs.Meaning.{OpMove, number, zeros, zeros_to_8, move_of, number_bytes, gap_to_8, StubMoment, MovesNumber, MovesZeros, Moves, Repeats, PieceTurns, BlockTurns, moment_first, moment_last}
 use Rattle.fl_stub.specs.Given.{first_of_tape, rest_of_tape}
 use Rattle.fl_stub_steps.specs.Spreading.{Packing, Packer, nothing_packed, number_packed, then_packed, move_packed, turns_packed, piece_packed, block_packed, packed_for}
-use Rattle.fl_stub_steps.specs.Spreading.{Spread, Spreader, copied, padded, aligned, repeated, length_at, move_spread, piece_spread, block_spread, spread_first, SpreadsPacked}
-
-abbrev pub spread_of : List ℕ → List ℕ → Spread
-spread_of given left = record { given = given; left = left }
+use Rattle.fl_stub_steps.specs.Spreading.{Spreader, spread_of, copied, padded, aligned, repeated, length_at, move_spread, piece_spread, block_spread, spread_first, SpreadsPacked}
 
 -- a packed tape is spread as the bytes move
 record Carried (f : Spreader) (p : Packing) (m n : StubMoment) : Type 0 where

@@ -1,36 +1,35 @@
 -- Steps that are put before others.
-use Rattle.std.proofs.Common.{◌≡◌, ℕ, zero, suc, ◌+◌, ◌-◌, ◌*◌, ◌<◌, ◌≤◌, List, [], ◌∷◌, ◌++◌, length, take, drop, replicate, refl, sym, ◌∙◌, ap, subst, arith, append_assoc, rules}
+use Rattle.std.proofs.Common.{◌≡◌, ℕ, zero, suc, ◌+◌, ◌-◌, ◌*◌, ◌<◌, List, [], ◌∷◌, ◌++◌, take, drop, refl, sym, ◌∙◌, ap, arith, append_assoc, rules}
 use Rattle.std.proofs.lemmas.List.{append-nil, drop-drop}
 use Rattle.std.proofs.Math.Seq.{take-add}
-use Rattle.fl_stub.specs.Structure.{Piece, one, times, counted, Block, finished, next}
-use Rattle.fl_stub_steps.specs.declared.step.Step.{Step}
-use Rattle.fl_stub_steps.specs.declared.step.Step.TheVariants.{Span, Align, Each, Counted, Times}
-use Rattle.fl_stub_steps.specs.declared.step.Step.TheViews.{the_lemmas}
-use Rattle.fl_stub_steps.specs.declared.step.Step.TheFolds.{fold-roll-Step, fold_out-Step}
+use Rattle.fl_stub_steps.specs.declared.step.StubStep.{StubStep}
+use Rattle.fl_stub_steps.specs.declared.step.StubStep.TheVariants.{Span, Align, Each, Counted, Times}
+use Rattle.fl_stub_steps.specs.declared.step.StubStep.TheViews.{the_lemmas}
+use Rattle.fl_stub_steps.specs.declared.step.StubStep.TheFolds.{fold_out-StubStep}
 use Rattle.std.specs.Global.{Vec}
-use Rattle.fl_stub_steps.specs.Spreading.{Spread, Spreader, copied, padded, aligned, repeated, length_at, block_spread}
-use Rattle.fl_stub_steps.specs.Steps.{TheStep, TheSteps, span, align, each, counted as counted_steps, times as times_steps, step_step, step_of, steps_of, step_done, steps_done, done, Means}
-use Rattle.fl_stub_steps.proofs.Spreads.{spread_of}
+use Rattle.fl_stub_steps.specs.Spreading.{Spread, Spreader, copied, padded, aligned, repeated, length_at}
+use Rattle.fl_stub_steps.specs.Steps.{TheStep, span, align, each, counted as counted_steps, times as times_steps, step_step, step_of, steps_of, step_done, done}
+use Rattle.fl_stub_steps.specs.Spreading.{spread_of}
 
 -- ---- a step's meaning
 
 pub span_seen : (bytes pad : ℕ) → step_of (Span bytes pad) ≡ span bytes pad
-span_seen bytes pad = search (rules, the_lemmas, fold_out-Step TheStep step_step)
+span_seen bytes pad = search (rules, the_lemmas, fold_out-StubStep TheStep step_step)
 
 pub align_seen : step_of Align ≡ align
-align_seen = search (rules, the_lemmas, fold_out-Step TheStep step_step)
+align_seen = search (rules, the_lemmas, fold_out-StubStep TheStep step_step)
 
 pub each_seen : (bytes : ℕ) → step_of (Each bytes) ≡ each bytes
-each_seen bytes = search (rules, the_lemmas, fold_out-Step TheStep step_step)
+each_seen bytes = search (rules, the_lemmas, fold_out-StubStep TheStep step_step)
 
-pub counted_seen : (body : Vec Step) → step_of (Counted body) ≡ counted_steps (steps_of body.items)
-counted_seen body = search (rules, the_lemmas, fold-roll-Step TheStep step_step, fold_out-Step TheStep step_step)
+pub counted_seen : (body : Vec StubStep) → step_of (Counted body) ≡ counted_steps (steps_of body.items)
+counted_seen body = search (rules, the_lemmas, fold_out-StubStep TheStep step_step)
 
-pub times_seen : (turns : ℕ) (body : Vec Step) → step_of (Times turns body) ≡ times_steps turns (steps_of body.items)
-times_seen turns body = search (rules, the_lemmas, fold-roll-Step TheStep step_step, fold_out-Step TheStep step_step)
+pub times_seen : (turns : ℕ) (body : Vec StubStep) → step_of (Times turns body) ≡ times_steps turns (steps_of body.items)
+times_seen turns body = search (rules, the_lemmas, fold_out-StubStep TheStep step_step)
 
 -- a step put behind those stored is done before them
-pub done_pushed : (steps : List Step) (s : Step) (x : Spread) → done (steps ++ s ∷ []) x ≡ done steps (step_done (step_of s) x)
+pub done_pushed : (steps : List StubStep) (s : StubStep) (x : Spread) → done (steps ++ s ∷ []) x ≡ done steps (step_done (step_of s) x)
 done_pushed [] s x = refl
 done_pushed (t ∷ steps) s x = ap (λ (y : Spread). step_done (step_of t) y) (done_pushed steps s x)
 
@@ -88,43 +87,43 @@ joined_span bytes more all zeros x e =
     ∙ ap (λ (s : TheStep). step_done s (copied bytes x)) (sym (span_seen more zeros))
 
 -- a step pushed
-pub pushed : (old new : List Step) (s : Step) (f : Spreader) → new ≡ old ++ s ∷ [] → ((x : Spread) → step_done (step_of s) x ≡ f x) → (x : Spread) → done new x ≡ done old (f x)
-pushed old new s f is same x = ap (λ (l : List Step). done l x) is ∙ done_pushed old s x ∙ ap (λ (y : Spread). done old y) (same x)
+pub pushed : (old new : List StubStep) (s : StubStep) (f : Spreader) → new ≡ old ++ s ∷ [] → ((x : Spread) → step_done (step_of s) x ≡ f x) → (x : Spread) → done new x ≡ done old (f x)
+pushed old new s f is same x = ap (λ (l : List StubStep). done l x) is ∙ done_pushed old s x ∙ ap (λ (y : Spread). done old y) (same x)
 
 -- a step in place of the last
-pub replaced : (old mid new : List Step) (s t : Step) (f : Spreader) → old ≡ mid ++ s ∷ [] → new ≡ mid ++ t ∷ [] → ((x : Spread) → step_done (step_of t) x ≡ step_done (step_of s) (f x))
+pub replaced : (old mid new : List StubStep) (s t : StubStep) (f : Spreader) → old ≡ mid ++ s ∷ [] → new ≡ mid ++ t ∷ [] → ((x : Spread) → step_done (step_of t) x ≡ step_done (step_of s) (f x))
     → (x : Spread) → done new x ≡ done old (f x)
 replaced old mid new s t f popped is same x =
-    ap (λ (l : List Step). done l x) is ∙ done_pushed mid t x ∙ ap (λ (y : Spread). done mid y) (same x)
-    ∙ sym (done_pushed mid s (f x)) ∙ ap (λ (l : List Step). done l (f x)) (sym popped)
+    ap (λ (l : List StubStep). done l x) is ∙ done_pushed mid t x ∙ ap (λ (y : Spread). done mid y) (same x)
+    ∙ sym (done_pushed mid s (f x)) ∙ ap (λ (l : List StubStep). done l (f x)) (sym popped)
 
 -- nothing was there
-pub first_pushed : (old mid new : List Step) (s : Step) (f : Spreader) → old ≡ mid ++ [] → new ≡ mid ++ s ∷ [] → ((x : Spread) → step_done (step_of s) x ≡ f x)
+pub first_pushed : (old mid new : List StubStep) (s : StubStep) (f : Spreader) → old ≡ mid ++ [] → new ≡ mid ++ s ∷ [] → ((x : Spread) → step_done (step_of s) x ≡ f x)
     → (x : Spread) → done new x ≡ done old (f x)
 first_pushed old mid new s f popped is same x =
-    pushed mid new s f is same x ∙ ap (λ (l : List Step). done l (f x)) (sym (append-nil mid) ∙ sym popped)
+    pushed mid new s f is same x ∙ ap (λ (l : List StubStep). done l (f x)) (sym (append-nil mid) ∙ sym popped)
 
 -- what was there is put back
-pub put_back : (old mid back new : List Step) (s t : Step) (f : Spreader) → old ≡ mid ++ s ∷ [] → back ≡ mid ++ s ∷ [] → new ≡ back ++ t ∷ [] → ((x : Spread) → step_done (step_of t) x ≡ f x)
+pub put_back : (old mid back new : List StubStep) (s t : StubStep) (f : Spreader) → old ≡ mid ++ s ∷ [] → back ≡ mid ++ s ∷ [] → new ≡ back ++ t ∷ [] → ((x : Spread) → step_done (step_of t) x ≡ f x)
     → (x : Spread) → done new x ≡ done old (f x)
 put_back old mid back new s t f popped again is same x =
-    pushed back new t f is same x ∙ ap (λ (l : List Step). done l (f x)) (again ∙ sym popped)
+    pushed back new t f is same x ∙ ap (λ (l : List StubStep). done l (f x)) (again ∙ sym popped)
 
 -- ---- loops
 
-pub each_put : (body : List Step) (bytes : ℕ) → ((x : Spread) → done body x ≡ copied bytes x) → (x : Spread) → step_done (step_of (Each bytes)) x ≡ repeated (done body) (length_at x.left) (copied 8 x)
+pub each_put : (body : List StubStep) (bytes : ℕ) → ((x : Spread) → done body x ≡ copied bytes x) → (x : Spread) → step_done (step_of (Each bytes)) x ≡ repeated (done body) (length_at x.left) (copied 8 x)
 each_put body bytes told x =
     ap (λ (s : TheStep). step_done s x) (each_seen bytes)
     ∙ sym (repeated_copies bytes (length_at x.left) (copied 8 x))
     ∙ sym (repeated_same (done body) (copied bytes) told (length_at x.left) (copied 8 x))
 
-pub counted_put_in : (body : Vec Step) (x : Spread) → step_done (step_of (Counted body)) x ≡ repeated (done body.items) (length_at x.left) (copied 8 x)
+pub counted_put_in : (body : Vec StubStep) (x : Spread) → step_done (step_of (Counted body)) x ≡ repeated (done body.items) (length_at x.left) (copied 8 x)
 counted_put_in body x = ap (λ (s : TheStep). step_done s x) (counted_seen body)
 
-pub times_put_in : (turns : ℕ) (body : Vec Step) (x : Spread) → step_done (step_of (Times turns body)) x ≡ repeated (done body.items) turns x
+pub times_put_in : (turns : ℕ) (body : Vec StubStep) (x : Spread) → step_done (step_of (Times turns body)) x ≡ repeated (done body.items) turns x
 times_put_in turns body x = ap (λ (s : TheStep). step_done s x) (times_seen turns body)
 
-pub copies_put : (body : List Step) (bytes turns all : ℕ) → ((x : Spread) → done body x ≡ copied bytes x) → all ≡ turns * bytes → (x : Spread) → copied all x ≡ repeated (done body) turns x
+pub copies_put : (body : List StubStep) (bytes turns all : ℕ) → ((x : Spread) → done body x ≡ copied bytes x) → all ≡ turns * bytes → (x : Spread) → copied all x ≡ repeated (done body) turns x
 copies_put body bytes turns all told e x =
     ap (λ (n : ℕ). copied n x) e ∙ sym (repeated_copies bytes turns x) ∙ sym (repeated_same (done body) (copied bytes) told turns x)
 

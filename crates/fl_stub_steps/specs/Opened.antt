@@ -2,12 +2,14 @@
 use Rattle.std.specs.Prelude.{◌≡◌, List, [], ◌∷◌, ◌++◌}
 use Rattle.std.specs.Global.{Vec}
 use Rattle.fl_stub.specs.Structure.{Block}
-use Rattle.fl_stub_steps.specs.declared.step.Step.{Step}
+use Rattle.fl_stub_steps.specs.declared.step.StubStep.{StubStep}
 use Rattle.fl_stub_steps.specs.Steps.{steps_of, Means}
 
-abbrev pub MeansBlock : Vec Step → Block → Type 0
+abbrev pub MeansBlock : Vec StubStep → Block → Type 0
 MeansBlock steps b = Means (steps_of steps.items) b
 
-abbrev pub Opened : List (Vec Step) → List Block → Type 0
+abbrev pub Opened : List (Vec StubStep) → List Block → Type 0
 Opened held [] = held ≡ []
-Opened held (b ∷ blocks) = (outer : List (Vec Step)) × (inner : Vec Step) × (held ≡ outer ++ inner ∷ []) × MeansBlock inner b × Opened outer blocks
+Opened held (b ∷ blocks) =
+    (outer : List (Vec StubStep)) × (inner : Vec StubStep)
+    × (held ≡ outer ++ inner ∷ []) × MeansBlock inner b × Opened outer blocks

@@ -1,6 +1,7 @@
 -- Packed tapes of code: a tape's numbers side by side, each in as many bytes as its instruction gives, a length in 8. And
 -- what code makes of one: a number's bytes are copied, zeros are put between.
-use Rattle.std.specs.Prelude.{◌≡◌, ℕ, zero, suc, ◌+◌, true, if◌then◌else◌, nat_lt, List, [], ◌∷◌, ◌++◌, map, take, drop, length, replicate, slice_index}
+use Rattle.std.specs.Prelude.{◌≡◌, ℕ, zero, suc, true, if◌then◌else◌, nat_lt}
+use Rattle.std.specs.Prelude.{List, [], ◌++◌, map, take, drop, length, replicate, slice_index}
 use Rattle.std.specs.List.{range_with_len}
 use Rattle.std.specs.Int.{from_le_bytes, w64}
 use Rattle.fl_stub.specs.declared.op.Column.{Column}
@@ -60,6 +61,9 @@ pub record Spread : Type 0 where
 abbrev pub Spreader : Type 0
 Spreader = Spread → Spread
 
+abbrev pub spread_of : List ℕ → List ℕ → Spread
+spread_of given left = record { given = given; left = left }
+
 -- so many bytes of the tape
 abbrev pub copied : ℕ → Spreader
 copied count x = record { given = x.given ++ take count x.left; left = drop count x.left }
@@ -96,9 +100,9 @@ abbrev mutual
 
 -- before the first byte
 abbrev pub spread_first : List ℕ → Spread
-spread_first packed = record { given = []; left = packed }
+spread_first packed = spread_of [] packed
 
 -- code makes of a tape's packed tape the bytes that it makes of the tape, and leaves none of it
 abbrev pub SpreadsPacked : Type 0
 SpreadsPacked = (column : Column) (b : Block) (tape bytes : List ℕ) → block_fits column b ≡ true → Turns b tape bytes
-    → block_spread b (spread_first (packed_for b tape)) ≡ record { given = bytes; left = [] }
+    → block_spread b (spread_first (packed_for b tape)) ≡ spread_of bytes []

@@ -1,11 +1,12 @@
 -- Prepared code as contracts see it: larger steps, and what each makes of a packed tape.
 use Rattle.std.specs.Prelude.{◌≡◌, ℕ, ◌*◌, List, [], ◌∷◌, ◌++◌, map}
 use Rattle.fl_stub.specs.Structure.{Block}
-use Rattle.fl_stub_steps.specs.declared.step.Step.{Step}
+use Rattle.fl_stub_steps.specs.declared.step.StubStep.{StubStep}
 use Rattle.fl_stub_steps.specs.declared.step.PreparedCode.{PreparedCode}
-use Rattle.fl_stub_steps.specs.declared.step.Step.TheOpen.{Step-F, Span, Align, Each, Counted, Times}
-use Rattle.fl_stub_steps.specs.declared.step.Step.TheFolds.{fold-Step}
-use Rattle.fl_stub_steps.specs.Spreading.{Spread, Spreader, copied, padded, aligned, repeated, length_at, block_spread, spread_first}
+use Rattle.fl_stub_steps.specs.declared.step.StubStep.TheOpen.{StubStep-F, Span, Align, Each, Counted, Times}
+use Rattle.fl_stub_steps.specs.declared.step.StubStep.TheFolds.{fold-StubStep}
+use Rattle.fl_stub_steps.specs.Spreading.{Spread, Spreader, copied, padded, aligned, repeated}
+use Rattle.fl_stub_steps.specs.Spreading.{length_at, block_spread, spread_first}
 
 mutual
   pub data TheStep : Type 0 where
@@ -29,17 +30,17 @@ abbrev pub steps_from : List TheStep → TheSteps
 steps_from [] = no_step
 steps_from (s ∷ earlier) = after s (steps_from earlier)
 
-abbrev pub step_step : Step-F TheStep → TheStep
+abbrev pub step_step : StubStep-F TheStep → TheStep
 step_step (Span bytes zeros) = span bytes zeros
 step_step Align = align
 step_step (Each bytes) = each bytes
 step_step (Counted steps) = counted (steps_from steps.items)
 step_step (Times turns steps) = times turns (steps_from steps.items)
 
-abbrev pub step_of : Step → TheStep
-step_of = fold-Step TheStep step_step
+abbrev pub step_of : StubStep → TheStep
+step_of = fold-StubStep TheStep step_step
 
-abbrev pub steps_of : List Step → TheSteps
+abbrev pub steps_of : List StubStep → TheSteps
 steps_of steps = steps_from (map step_of steps)
 
 abbrev mutual
@@ -59,7 +60,7 @@ abbrev pub steps_in : PreparedCode → TheSteps
 steps_in p = steps_of p.steps.items
 
 -- what the code's steps make of a packed tape
-abbrev pub done : List Step → Spreader
+abbrev pub done : List StubStep → Spreader
 done steps x = steps_done (steps_of steps) x
 
 -- steps that mean what a block means

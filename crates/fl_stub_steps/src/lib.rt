@@ -4,7 +4,7 @@
 //! (`specs/Steps.antt`), and that is what the code makes of a tape ([`law_spreads_packed`]); [`PreparedCode::give`]
 //! writes these bytes.
 //!
-//! - `step.rt`: `Step`, `PreparedCode`
+//! - `step.rt`: `StubStep`, `PreparedCode`
 //! - `preparing.rt`: the steps of code
 //! - `give.rt`: the bytes that steps give
 //! - `law.rt`: what code makes of packed tapes

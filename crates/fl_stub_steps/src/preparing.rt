@@ -5,30 +5,32 @@ ghost use Rattle.fl_stub.specs.declared.op.Op.{Op as the_op};
 ghost use Rattle.fl_stub.specs.Structure.{Block, finished, one, times, counted};
 ghost use Rattle.fl_stub.specs.Meaning.{move_of};
 ghost use Rattle.fl_stub.specs.Frames.{frames_of, starts_with, closes, block_of};
-ghost use Rattle.fl_stub_steps.specs.Spreading.{Spread, copied, padded, aligned, move_spread, repeated, length_at};
+ghost use Rattle.fl_stub_steps.specs.Spreading.{Spread, copied, padded, aligned, move_spread};
+ghost use Rattle.fl_stub_steps.specs.Spreading.{repeated, length_at};
 ghost use Rattle.fl_stub_steps.specs.Steps.{step_of, step_done, steps_in, done, Means};
 ghost use Rattle.fl_stub_steps.specs.Opened.{Opened};
 
-use crate::step::{PreparedCode, Step};
+use crate::step::{PreparedCode, StubStep};
 use fl_stub::{Op, VerifiedCode};
 use std::alloc::{AllocError, Global};
 
 // The step that copies so many bytes and then does what this one does, if one step can.
-fn copying_first(bytes: usize, step: &Step) -> Option<Step>
-    ensures { IfSome result (λ s. (x : Spread) → step_done (step_of s) x ≡ step_done (step_of step.now) (copied bytes x)) }
+fn copying_first(bytes: usize, step: &StubStep) -> Option<StubStep>
+    ensures { IfSome result (λ s. (x : Spread) → step_done (step_of s) x
+        ≡ step_done (step_of step.now) (copied bytes x)) }
 {
     match step {
-        Step::Span(more, zeros) => Some(Step::Span(bytes.checked_add(*more)?, *zeros)),
+        StubStep::Span(more, zeros) => Some(StubStep::Span(bytes.checked_add(*more)?, *zeros)),
         _ => None,
     }
 }
 
 // A copy of so many bytes, before the steps.
-fn put_copy(steps: &mut Vec<Step>, bytes: usize) -> Result<(), AllocError>
+fn put_copy(steps: &mut Vec<StubStep>, bytes: usize) -> Result<(), AllocError>
     ensures { OnOk result ((x : Spread) → done steps.new.items x ≡ done steps.old.items (copied bytes x)) }
 {
     let Some(first) = steps.pop() else {
-        steps.push(Step::Span(bytes, 0))?;
+        steps.push(StubStep::Span(bytes, 0))?;
         return Ok(());
     };
     match copying_first(bytes, &first) {
@@ -38,69 +40,71 @@ fn put_copy(steps: &mut Vec<Step>, bytes: usize) -> Result<(), AllocError>
         }
         None => {
             steps.push(first)?;
-            steps.push(Step::Span(bytes, 0))?;
+            steps.push(StubStep::Span(bytes, 0))?;
             Ok(())
         }
     }
 }
 
 // How many bytes the steps copy, if they do nothing else.
-fn bytes_of(steps: &[Step]) -> Option<usize>
+fn bytes_of(steps: &[StubStep]) -> Option<usize>
     ensures { IfSome result (λ bytes. (x : Spread) → done steps.now x ≡ copied bytes x) }
 {
     match steps {
-        [Step::Span(bytes, 0)] => Some(*bytes),
+        [StubStep::Span(bytes, 0)] => Some(*bytes),
         _ => None,
     }
 }
 
 // A loop of so many turns, before the steps.
-fn put_times(steps: &mut Vec<Step>, turns: u32, body: Vec<Step>) -> Result<(), AllocError>
-    ensures { OnOk result ((x : Spread) → done steps.new.items x ≡ done steps.old.items (repeated (done body.items) turns x)) }
+fn put_times(steps: &mut Vec<StubStep>, turns: u32, body: Vec<StubStep>) -> Result<(), AllocError>
+    ensures { OnOk result ((x : Spread) → done steps.new.items x
+        ≡ done steps.old.items (repeated (done body.items) turns x)) }
 {
     if let Some(bytes) = bytes_of(&body) {
         if let Some(all) = bytes.checked_mul(turns as usize) {
             return put_copy(steps, all);
         }
     }
-    steps.push(Step::Times(turns, body))?;
+    steps.push(StubStep::Times(turns, body))?;
     Ok(())
 }
 
 // A length and its loop, before the steps.
-fn put_counted(steps: &mut Vec<Step>, body: Vec<Step>) -> Result<(), AllocError>
-    ensures { OnOk result ((x : Spread) → done steps.new.items x ≡ done steps.old.items (repeated (done body.items) (length_at x.left) (copied 8 x))) }
+fn put_counted(steps: &mut Vec<StubStep>, body: Vec<StubStep>) -> Result<(), AllocError>
+    ensures { OnOk result ((x : Spread) → done steps.new.items x
+        ≡ done steps.old.items (repeated (done body.items) (length_at x.left) (copied 8 x))) }
 {
     match bytes_of(&body) {
         Some(bytes) => {
-            steps.push(Step::Each(bytes))?;
+            steps.push(StubStep::Each(bytes))?;
             Ok(())
         }
         None => {
-            steps.push(Step::Counted(body))?;
+            steps.push(StubStep::Counted(body))?;
             Ok(())
         }
     }
 }
 
 // So many zeros, before the steps.
-fn put_zeros(steps: &mut Vec<Step>, zeros: u32) -> Result<(), AllocError>
+fn put_zeros(steps: &mut Vec<StubStep>, zeros: u32) -> Result<(), AllocError>
     ensures { OnOk result ((x : Spread) → done steps.new.items x ≡ done steps.old.items (padded zeros x)) }
 {
-    steps.push(Step::Span(0, zeros))?;
+    steps.push(StubStep::Span(0, zeros))?;
     Ok(())
 }
 
 // Zeros up to a multiple of 8, before the steps.
-fn put_align(steps: &mut Vec<Step>) -> Result<(), AllocError>
+fn put_align(steps: &mut Vec<StubStep>) -> Result<(), AllocError>
     ensures { OnOk result ((x : Spread) → done steps.new.items x ≡ done steps.old.items (aligned x)) }
 {
-    steps.push(Step::Align)?;
+    steps.push(StubStep::Align)?;
     Ok(())
 }
 
 // An instruction that moves something, before the steps; one that moves nothing changes nothing.
-fn put_move(steps: &mut Vec<Step>, op: Op) -> Result<(), AllocError>
+fn put_move(steps: &mut Vec<StubStep>, op: Op) -> Result<(), AllocError>
     ensures { OnOk result ((x : Spread) → done steps.new.items x ≡ done steps.old.items (move_spread (move_of op) x)) }
 {
     match op {
@@ -114,15 +118,16 @@ fn put_move(steps: &mut Vec<Step>, op: Op) -> Result<(), AllocError>
 }
 
 // A block begins that ends here: it has no steps yet.
-fn put_block(alloc: Global, stack: &mut Vec<Vec<Step>>) -> Result<(), AllocError>
-    ensures { (blocks : List Block) → Opened stack.old.items blocks → OnOk result (Opened stack.new.items (finished ∷ blocks)) }
+fn put_block(alloc: Global, stack: &mut Vec<Vec<StubStep>>) -> Result<(), AllocError>
+    ensures { (blocks : List Block) → Opened stack.old.items blocks
+        → OnOk result (Opened stack.new.items (finished ∷ blocks)) }
 {
     stack.push(Vec::new(alloc))?;
     Ok(())
 }
 
 // The code ends here: one block, which has no steps yet.
-fn put_last(alloc: Global, stack: &mut Vec<Vec<Step>>) -> Result<(), AllocError>
+fn put_last(alloc: Global, stack: &mut Vec<Vec<StubStep>>) -> Result<(), AllocError>
     ensures { OnOk result (Opened stack.new.items (finished ∷ [])) }
 {
     stack.clear();
@@ -130,8 +135,9 @@ fn put_last(alloc: Global, stack: &mut Vec<Vec<Step>>) -> Result<(), AllocError>
 }
 
 // An instruction that is no loop, in the innermost block.
-fn put_inside(stack: &mut Vec<Vec<Step>>, op: Op) -> Result<(), AllocError>
-    ensures { (blocks : List Block) → Opened stack.old.items blocks → OnOk result (Opened stack.new.items (starts_with (one op) blocks)) }
+fn put_inside(stack: &mut Vec<Vec<StubStep>>, op: Op) -> Result<(), AllocError>
+    ensures { (blocks : List Block) → Opened stack.old.items blocks
+        → OnOk result (Opened stack.new.items (starts_with (one op) blocks)) }
 {
     let Some(inner) = stack.pop() else {
         return Ok(());
@@ -143,8 +149,9 @@ fn put_inside(stack: &mut Vec<Vec<Step>>, op: Op) -> Result<(), AllocError>
 }
 
 // The innermost block is a loop's, in the one around it.
-fn close_times(stack: &mut Vec<Vec<Step>>, turns: u32) -> Result<(), AllocError>
-    ensures { (blocks : List Block) → Opened stack.old.items blocks → OnOk result (Opened stack.new.items (closes (times turns) blocks)) }
+fn close_times(stack: &mut Vec<Vec<StubStep>>, turns: u32) -> Result<(), AllocError>
+    ensures { (blocks : List Block) → Opened stack.old.items blocks
+        → OnOk result (Opened stack.new.items (closes (times turns) blocks)) }
 {
     let Some(body) = stack.pop() else {
         return Ok(());
@@ -159,8 +166,9 @@ fn close_times(stack: &mut Vec<Vec<Step>>, turns: u32) -> Result<(), AllocError>
 }
 
 // As `close_times`, of a loop that a length counts.
-fn close_counted(stack: &mut Vec<Vec<Step>>) -> Result<(), AllocError>
-    ensures { (blocks : List Block) (most : ℕ) → Opened stack.old.items blocks → OnOk result (Opened stack.new.items (closes (counted most) blocks)) }
+fn close_counted(stack: &mut Vec<Vec<StubStep>>) -> Result<(), AllocError>
+    ensures { (blocks : List Block) (most : ℕ) → Opened stack.old.items blocks
+        → OnOk result (Opened stack.new.items (closes (counted most) blocks)) }
 {
     let Some(body) = stack.pop() else {
         return Ok(());
@@ -175,8 +183,9 @@ fn close_counted(stack: &mut Vec<Vec<Step>>) -> Result<(), AllocError>
 }
 
 // An instruction before those whose open blocks these are.
-fn put(alloc: Global, stack: &mut Vec<Vec<Step>>, op: Op) -> Result<(), AllocError>
-    ensures { (ops : List the_op) → Opened stack.old.items (frames_of ops) → OnOk result (Opened stack.new.items (frames_of (op ∷ ops))) }
+fn put(alloc: Global, stack: &mut Vec<Vec<StubStep>>, op: Op) -> Result<(), AllocError>
+    ensures { (ops : List the_op) → Opened stack.old.items (frames_of ops)
+        → OnOk result (Opened stack.new.items (frames_of (op ∷ ops))) }
 {
     match op {
         Op::End | Op::Done => put_last(alloc, stack),

@@ -1,7 +1,7 @@
 use Rattle.std.proofs.Common.{◌≡◌, ◌≤◌, ◌-◌, length, drop}
 use Rattle.fl_stub_steps.specs.Spreading.{repeated}
 use Rattle.fl_stub_steps.specs.Steps.{done}
-use Rattle.fl_stub_steps.proofs.Spreads.{spread_of}
+use Rattle.fl_stub_steps.specs.Spreading.{spread_of}
 use Rattle.fl_stub_steps.proofs.give.+steps.Given as goal
 
 abbrev pub invariant-give_step-loop-turn : goal.invariant-give_step-loop-turn

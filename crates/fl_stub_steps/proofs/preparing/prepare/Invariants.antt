@@ -1,4 +1,4 @@
-use Rattle.std.proofs.Common.{◌≤◌, ℕ, length, drop}
+use Rattle.std.proofs.Common.{◌≤◌, length, drop}
 use Rattle.fl_stub.specs.Frames.{frames_of}
 use Rattle.fl_stub_steps.specs.Opened.{Opened}
 use Rattle.fl_stub_steps.proofs.preparing.prepare.Given as goal

@@ -1,4 +1,4 @@
-use Rattle.fl_stub_steps.specs.declared.step.Step.TheVariants.{Align}
+use Rattle.fl_stub_steps.specs.declared.step.StubStep.TheVariants.{Align}
 use Rattle.fl_stub_steps.specs.Spreading.{aligned}
 use Rattle.fl_stub_steps.proofs.StepsPut.{pushed, align_done}
 use Rattle.fl_stub_steps.proofs.preparing.put_align.Goals as goal

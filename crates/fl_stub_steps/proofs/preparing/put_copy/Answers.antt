@@ -1,4 +1,4 @@
-use Rattle.fl_stub_steps.specs.declared.step.Step.TheVariants.{Span}
+use Rattle.fl_stub_steps.specs.declared.step.StubStep.TheVariants.{Span}
 use Rattle.fl_stub_steps.specs.Spreading.{copied}
 use Rattle.fl_stub_steps.proofs.StepsPut.{span_done, replaced, put_back}
 use Rattle.fl_stub_steps.proofs.preparing.put_copy.Goals as goal

@@ -1,4 +1,4 @@
-use Rattle.fl_stub_steps.specs.declared.step.Step.TheVariants.{Span}
+use Rattle.fl_stub_steps.specs.declared.step.StubStep.TheVariants.{Span}
 use Rattle.fl_stub_steps.specs.Spreading.{padded}
 use Rattle.fl_stub_steps.proofs.StepsPut.{pushed, zeros_done}
 use Rattle.fl_stub_steps.proofs.preparing.put_zeros.Goals as goal

@@ -1,4 +1,4 @@
-use Rattle.std.proofs.Common.{◌≡◌, refl, rules}
+use Rattle.std.proofs.Common.{◌≡◌, refl}
 use Rattle.fl_value_data.specs.Value.{call_of}
 use Rattle.fl_wire.specs.Payload.{payload_of}
 use Rattle.fl_compile.specs.Programs.{program_of}
@@ -10,6 +10,6 @@ pub returns : goal.returns
 returns c =
     let p = program_of c.args.program.now in
     let d = call_of c.args.call.now in
-    let bytes = c.payload_into.new.out in
-    let is : bytes.items ≡ payload_of p.plan p.interface d = search rules in
+    let bytes = c.in_ok-payload.payload in
+    let is : bytes.items ≡ payload_of p.plan p.interface d = c.in_ok-payload.ensures.payload in
     record { queues = queues_payload p d bytes (record { body = Payload bytes; msg = c.args.call.now.msg }) refl refl is }
