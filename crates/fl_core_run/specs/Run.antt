@@ -49,6 +49,10 @@ run_of r = record {
   offers = record { names = r.names; programs = r.programs.items };
 }
 
+-- the same over other sides
+abbrev pub over : {S T : Type 0} → List T → TheRun S → TheRun T
+over rings s = record { core = s.core; rings = rings; queues = s.queues; progresses = s.progresses; offers = s.offers }
+
 -- ---- ends' progress
 
 -- of a run the end's progress of this end alone has changed

@@ -95,7 +95,7 @@ fn note<S>(run: &mut RunningCore<S>, name: EndId, answer: TurnAnswer) -> Result<
 }
 
 // Whether an end is still to be opened, or a reply rule still to be set there.
-fn awaits<S>(run: &RunningCore<S>, jobs: &[CoreJob], name: EndId) -> bool
+pub(crate) fn awaits<S>(run: &RunningCore<S>, jobs: &[CoreJob], name: EndId) -> bool
     ensures awaits { result ≡ awaits jobs.now (run_of run.now) name }
 {
     match next_job(run, jobs, name) {
@@ -109,7 +109,7 @@ fn awaits<S>(run: &RunningCore<S>, jobs: &[CoreJob], name: EndId) -> bool
 }
 
 // One turn of a dispatcher, at the end that is due; it waits while that end has something to wait for.
-fn turn<S: PutSide + TakeSide + Drop>(
+pub(crate) fn turn<S: PutSide + TakeSide + Drop>(
     run: &mut RunningCore<S>,
     jobs: &[CoreJob],
     dispatcher: usize,

@@ -117,7 +117,7 @@ fn try_rule<S: PutSide + TakeSide + Drop>(
 }
 
 // Tries the next job of an end.
-fn try_job<S: PutSide + TakeSide + Drop>(
+pub(crate) fn try_job<S: PutSide + TakeSide + Drop>(
     run: &mut RunningCore<S>,
     jobs: &[CoreJob],
     name: EndId,
@@ -159,7 +159,7 @@ fn write_to<S: PutSide + TakeSide + Drop>(
 }
 
 // One write of an end.
-fn write<S: PutSide + TakeSide + Drop>(run: &mut RunningCore<S>, name: EndId)
+pub(crate) fn write<S: PutSide + TakeSide + Drop>(run: &mut RunningCore<S>, name: EndId)
     ensures writes { WritesFrom (ways S.puts S.takes S.front) name (lent_post (run_of run.old) name) (run_of run.old) (run_of run.new) }
 {
     sound(run);
@@ -195,7 +195,7 @@ pub(crate) fn serve_all<S: PutSide + TakeSide + Drop>(
 // ---- acknowledgements
 
 // One acknowledgement of an end, where it is a ring's.
-fn ack<S: PutSide + TakeSide + Drop>(run: &mut RunningCore<S>, name: EndId)
+pub(crate) fn ack<S: PutSide + TakeSide + Drop>(run: &mut RunningCore<S>, name: EndId)
     ensures acks { Acknowledges (ways S.puts S.takes S.front) name (run_of run.old) (run_of run.new) }
 {
     sound(run);

@@ -11,6 +11,7 @@
 //! stands in `fl_core`. What follows for logs is `fl_core_run_laws`'s.
 //!
 //! - `running.rt`: `RunningCore`, and turns
+//! - `single.rt`: what a turn is made of, one by one
 //! - `links.rt`: what is done for a link
 //! - `ends.rt`: what is done for an end
 //! - `opening.rt`: a job that opens a circuit
@@ -39,6 +40,7 @@ mod rest;
 mod run;
 mod run_seat;
 mod running;
+mod single;
 
 pub use end_progress::EndProgress;
 pub use fault::CoreRunFault;

@@ -157,7 +157,7 @@ fn hand_out<S: PutSide + TakeSide + Drop>(
 }
 
 /// One forward.
-fn forward<S: PutSide + TakeSide + Drop>(
+pub(crate) fn forward<S: PutSide + TakeSide + Drop>(
     run: &mut RunningCore<S>,
     link: LinkId,
 ) -> Result<(), AllocError>
@@ -192,7 +192,7 @@ pub(crate) fn forward_all<S: PutSide + TakeSide + Drop>(
 // ---- monitor writes
 
 // One monitor write.
-fn say<S: PutSide + TakeSide + Drop>(run: &mut RunningCore<S>, link: LinkId)
+pub(crate) fn say<S: PutSide + TakeSide + Drop>(run: &mut RunningCore<S>, link: LinkId)
     ensures says { Says (ways S.puts S.takes S.front) link (run_of run.old) (run_of run.new) }
 {
     sound(run);
@@ -216,7 +216,7 @@ pub(crate) fn say_all<S: PutSide + TakeSide + Drop>(run: &mut RunningCore<S>, li
 // ---- acknowledgements
 
 // One acknowledgement.
-fn tell<S: PutSide + TakeSide + Drop>(run: &mut RunningCore<S>, link: LinkId)
+pub(crate) fn tell<S: PutSide + TakeSide + Drop>(run: &mut RunningCore<S>, link: LinkId)
     ensures tells { Tells (ways S.puts S.takes S.front) link (run_of run.old) (run_of run.new) }
 {
     sound(run);

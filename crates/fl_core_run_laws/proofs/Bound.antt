@@ -1,5 +1,5 @@
 -- The circuits to which a core's ends are bound: but for a binding, what happens leaves them.
-use Rattle.std.proofs.Common.{◌≡◌, refl, ap, ◌∙◌, ℕ, zero, suc, ◌⊎◌, inl, inr, List, [], ◌∷◌, ◌++◌, map, slice_get, slice_set, Option, Some, None, Result, Ok, Err}
+use Rattle.std.proofs.Common.{◌≡◌, refl, sym, ap, ◌∙◌, ℕ, zero, suc, ◌⊎◌, inl, inr, List, [], ◌∷◌, ◌++◌, map, slice_get, slice_set, Option, Some, None, Result, Ok, Err}
 use Rattle.fl_lists.specs.ThreeLists.{ThreeLists}
 use Rattle.fl_value_data.specs.Value.{TheCall}
 use Rattle.fl_link.specs.Looks.{Look}
@@ -77,10 +77,14 @@ looks_same takes (pick.Polled c) kind a answer b h = same a.end b.end h.1
 
 -- ---- all of a board
 
+-- of large records cc does not end, of any type it does
+same_some : {X : Type 0} (x y : X) → Some x ≡ Some y → x ≡ y
+same_some x y e = cc
+
 seat_same : (seats : List TheEndAtChannel) (e : ℕ) (s : TheEndAtChannel) (y : TheEnd) → slice_get seats e ≡ Some s → y.circuit ≡ s.end.circuit
     → circuits_of (slice_set seats e (record { end = y; dispatcher = s.dispatcher; channel = s.channel; kind = s.kind })) ≡ circuits_of seats
 seat_same [] e s y at is = refl
-seat_same (x ∷ xs) zero s y at is = let one : s ≡ x = cc in ap (λ (o : Option ℕ). o ∷ circuits_of xs) (is ∙ ap (λ (z : TheEndAtChannel). z.end.circuit) one)
+seat_same (x ∷ xs) zero s y at is = let one : s ≡ x = sym (same_some x s at) in ap (λ (o : Option ℕ). o ∷ circuits_of xs) (is ∙ ap (λ (z : TheEndAtChannel). z.end.circuit) one)
 seat_same (x ∷ xs) (suc e) s y at is = ap (λ (os : List (Option ℕ)). x.end.circuit ∷ os) (seat_same xs e s y at is)
 
 seat_set : (seats : List TheEndAtChannel) (e : ℕ) (s : TheEndAtChannel) (y : TheEnd)

@@ -26,13 +26,17 @@ pub record AtCoreThread (c : TheCoreInputs) (j : ℕ) (cores : List TheCore) (i 
   pub core_is : slice_get cores i ≡ Some core
   pub core_thread : IsCoreThread c j core s
 
+-- of large records cc does not end, of any type it does
+same_some : {X : Type 0} (x y : X) → Some x ≡ Some y → x ≡ y
+same_some x y e = cc
+
 pub at_core_thread : (c : TheCoreInputs) (n : ℕ) (cores : List TheCore) (core_threads : List TheCoreThread) (i j : ℕ) (s : TheCoreThread) → AreCoreThreads c n cores core_threads
     → slice_get core_threads i ≡ Some s → n + i ≡ j → AtCoreThread c j cores i s
 at_core_thread c n [] [] i j s are at is = absurd (cc)
 at_core_thread c n [] (x ∷ core_threads) i j s are at is = absurd are
 at_core_thread c n (k ∷ cores) [] i j s are at is = absurd are
 at_core_thread c n (k ∷ cores) (x ∷ core_threads) zero j s are at is =
-    let same : x ≡ s = cc in
+    let same : x ≡ s = same_some x s at in
     let number : n ≡ j = omega (arith, is) in
     record { core = k; core_is = refl; core_thread = subst (λ (m : ℕ). IsCoreThread c m k s) number (subst (λ (y : TheCoreThread). IsCoreThread c n k y) same are.0) }
 at_core_thread c n (k ∷ cores) (x ∷ core_threads) (suc i) j s are at is =

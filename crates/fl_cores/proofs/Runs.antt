@@ -55,6 +55,10 @@ pub record RunAt (jobs : List CoreJob) (core_threads : List TheCoreThread) (outc
   pub outcome_is : slice_get outcomes n ≡ Some outcome
   pub is : IsRun jobs core_thread outcome c
 
+-- of large records cc does not end, of any type it does
+same_some : {X : Type 0} (x y : X) → Some x ≡ Some y → x ≡ y
+same_some x y e = cc
+
 pub run_at : (jobs : List CoreJob) (core_threads : List TheCoreThread) (outcomes : List TheFinishedCore) (cores : List OneCore) → AreRuns jobs core_threads outcomes cores
     → (n : ℕ) (c : OneCore) → slice_get cores n ≡ Some c → RunAt jobs core_threads outcomes n c
 run_at jobs [] [] [] are n c at = absurd (cc)
@@ -63,7 +67,7 @@ run_at jobs [] (o ∷ outcomes) cores are n c at = absurd are
 run_at jobs (s ∷ core_threads) [] cores are n c at = absurd are
 run_at jobs (s ∷ core_threads) (o ∷ outcomes) [] are n c at = absurd are
 run_at jobs (s ∷ core_threads) (o ∷ outcomes) (d ∷ cores) are zero c at =
-    let same : d ≡ c = cc in
+    let same : d ≡ c = same_some d c at in
     record { core_thread = s; core_thread_is = refl; outcome = o; outcome_is = refl; is = subst (λ (x : OneCore). IsRun jobs s o x) same are.0 }
 run_at jobs (s ∷ core_threads) (o ∷ outcomes) (d ∷ cores) are (suc n) c at =
     let r = run_at jobs core_threads outcomes cores are.1 n c at in
@@ -92,7 +96,7 @@ core_thread_from common first [] [] are n m s at is = absurd (cc)
 core_thread_from common first [] (x ∷ core_threads) are n m s at is = absurd are
 core_thread_from common first (k ∷ ks) [] are n m s at is = absurd are
 core_thread_from common first (k ∷ ks) (x ∷ core_threads) are zero m s at is =
-    let same : x ≡ s = cc in
+    let same : x ≡ s = same_some x s at in
     let number : first ≡ m = omega (arith, is) in
     (k, refl, subst (λ (i : ℕ). IsCoreThread common i k s) number (subst (λ (y : TheCoreThread). IsCoreThread common first k y) same are.0))
 core_thread_from common first (k ∷ ks) (x ∷ core_threads) are (suc n) m s at is = core_thread_from common (suc first) ks core_threads are.1 n m s at (omega (arith, is))

@@ -32,11 +32,15 @@ rests_then k k2 k3 a b = record {
   kinds = b.kinds ∙ a.kinds;
 }
 
+-- of large records cc does not end, of any type it does
+same_some : {X : Type 0} (x y : X) → Some x ≡ Some y → x ≡ y
+same_some x y e = cc
+
 kinds_set : (seats : List TheEndAtChannel) (place : ℕ) (s t : TheEndAtChannel) → slice_get seats place ≡ Some s → t.kind ≡ s.kind
     → kinds_seated (slice_set seats place t) ≡ kinds_seated seats
 kinds_set [] place s t is kind = refl
 kinds_set (x ∷ seats) zero s t is kind =
-    let same : s ≡ x = cc in ap (λ (k : ChannelKind). k ∷ kinds_seated seats) (kind ∙ ap (λ (u : TheEndAtChannel). u.kind) same)
+    let same : s ≡ x = sym (same_some x s is) in ap (λ (k : ChannelKind). k ∷ kinds_seated seats) (kind ∙ ap (λ (u : TheEndAtChannel). u.kind) same)
 kinds_set (x ∷ seats) (suc place) s t is kind = ap (λ (ks : List ChannelKind). x.kind ∷ ks) (kinds_set seats place s t is kind)
 
 core_rests : (e : EndId) (msg answer : ℕ) (k k2 : TheCore) → RulesCore e msg answer k k2 → Rests k k2
@@ -107,7 +111,7 @@ all_same cores m same n = subst (λ (ks : List TheCore). RestsAt (slice_get core
 
 all_set : (cores : List TheCore) (n : ℕ) (k after : TheCore) → slice_get cores n ≡ Some k → Rests k after → AllRest cores (slice_set cores n after)
 all_set [] n k after is rests m = absurd (cc)
-all_set (c ∷ cores) zero k after is rests zero = let same : k ≡ c = cc in subst (λ (x : TheCore). Rests x after) same rests
+all_set (c ∷ cores) zero k after is rests zero = let same : k ≡ c = sym (same_some c k is) in subst (λ (x : TheCore). Rests x after) same rests
 all_set (c ∷ cores) zero k after is rests (suc m) = at_itself (slice_get cores m)
 all_set (c ∷ cores) (suc n) k after is rests zero = rests_itself c
 all_set (c ∷ cores) (suc n) k after is rests (suc m) = all_set cores n k after is rests m
@@ -139,7 +143,7 @@ was_by cores n k2 None None is at h = absurd (cc)
 was_by cores n k2 None (Some y) is at h = absurd h
 was_by cores n k2 (Some x) None is at h = absurd h
 was_by cores n k2 (Some x) (Some y) is at h =
-    let same : y ≡ k2 = cc in record { core = x; core_is = is; rests = subst (λ (c : TheCore). Rests x c) same h }
+    let same : y ≡ k2 = same_some y k2 at in record { core = x; core_is = is; rests = subst (λ (c : TheCore). Rests x c) same h }
 
 pub was_at : (bindings : List Binding) (jobs : List Job) (cores cores2 : List TheCore) → RulesOf bindings jobs cores cores2
     → (n : ℕ) (k2 : TheCore) → slice_get cores2 n ≡ Some k2 → WasAt cores n k2
@@ -156,7 +160,7 @@ after_by : (cores2 : List TheCore) (n : ℕ) (k : TheCore) (o p : Option TheCore
 after_by cores2 n k None p at is h = absurd (cc)
 after_by cores2 n k (Some x) None at is h = absurd h
 after_by cores2 n k (Some x) (Some y) at is h =
-    let same : x ≡ k = cc in record { core = y; core_is = is; rests = subst (λ (c : TheCore). Rests c y) same h }
+    let same : x ≡ k = same_some x k at in record { core = y; core_is = is; rests = subst (λ (c : TheCore). Rests c y) same h }
 
 pub after_at : (bindings : List Binding) (jobs : List Job) (cores cores2 : List TheCore) → RulesOf bindings jobs cores cores2
     → (n : ℕ) (k : TheCore) → slice_get cores n ≡ Some k → IsAfter cores2 n k

@@ -32,6 +32,7 @@ mod text;
 pub use fault::CoresFault;
 pub use fl_core_run::{Gate, Part, core_run};
 pub use fl_cores_file::{Job, Report};
+pub use fl_cores_parts::{Recording, WiredCores};
 pub use fl_cores_table::EndSeat;
 pub use law_following::law_runs_follow;
 pub use law_outcomes::{
@@ -42,5 +43,6 @@ pub use law_reports::{
     law_one_report, law_refusals_have_reasons, law_runs_end_as_told, law_runs_of_one_core,
     law_runs_report_honestly, law_spent_links_are_led_over, law_wanted_handle_few,
 };
-pub use reports::{run_cores, run_cores_text};
+pub use reports::{run_cores, run_cores_text, run_cores_text_recorded};
+pub use run::wire_cores;
 pub use text::CoresEnd;

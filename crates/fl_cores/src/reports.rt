@@ -14,6 +14,7 @@ use crate::run::run_jobs;
 use crate::text::{CoresEnd, run_text};
 use fl_core_run::Gate;
 use fl_cores_file::{Job, Report};
+use fl_cores_parts::Recording;
 use fl_world::Config;
 use std::alloc::Global;
 use std::sync::Wait;
@@ -65,9 +66,31 @@ pub fn run_cores_text<R: Threads + Wait + Sync, G: Gate + Sync>(
     ensures kept { OnErr result (out.new.items ≡ out.old.items) }
     ensures fault { IfErr result (λ fault. IsFaultOfText text.now fault) }
 {
+    let mut recording = Recording::new(alloc, false);
+    run_cores_text_recorded(rt, alloc, text, limit, gate, out, &mut recording)
+}
+
+/// Runs a cores file, and appends what is told of that, as [`run_cores_text`]. What its cores' sides note is kept, where the
+/// recording is on.
+///
+/// # Errors
+/// As of that.
+pub fn run_cores_text_recorded<R: Threads + Wait + Sync, G: Gate + Sync>(
+    rt: &R,
+    alloc: Global,
+    text: &[u8],
+    limit: u64,
+    gate: &G,
+    out: &mut Vec<u8>,
+    recording: &mut Recording,
+) -> Result<CoresEnd, CoresFault>
+    ensures told { IfOk result (λ end. Appends text.now limit end out.old.items out.new.items) }
+    ensures kept { OnErr result (out.new.items ≡ out.old.items) }
+    ensures fault { IfErr result (λ fault. IsFaultOfText text.now fault) }
+{
     law_runs_report_honestly();
     law_runs_end_as_told();
     law_runs_follow();
     law_runs_of_one_core();
-    run_text(rt, alloc, text, limit, gate, out)
+    run_text(rt, alloc, text, limit, gate, out, recording)
 }

@@ -13,7 +13,7 @@ use crate::fault::CoresFault;
 use fl_base::faults;
 use fl_core_run::Gate;
 use fl_cores_file::{Job, Report};
-use fl_cores_parts::run_parts;
+use fl_cores_parts::{Recording, WiredCores, run_parts, wire_parts};
 use fl_model::{BackEnd, Event};
 use fl_world::{BootFault, Config, World};
 use fl_world_refines::Parts;
@@ -94,13 +94,14 @@ fn run_made<R: Threads + Wait + Sync, G: Gate + Sync>(
     jobs: Vec<Job<'_>>,
     limit: u64,
     gate: &G,
+    recording: &mut Recording,
 ) -> Result<Report, CoresFault>
     requires few { length parts.cores.items ≤ 16 }
     ensures ran { IfOk result (λ r. RanFrom parts (map job_of jobs.entry.items) limit (report_of r)) }
     ensures keeps { IfOk result (λ r. Keeps (length parts.cores.items) limit (report_of r)) }
     ensures later { IfErr result (λ fault. IsLater parts (map job_of jobs.entry.items) fault) }
 {
-    match run_parts(rt, alloc, parts, jobs, limit, gate) {
+    match run_parts(rt, alloc, parts, jobs, limit, gate, recording) {
         Ok(report) => Ok(report),
         Err(fault) => Err(CoresFault::from(fault)),
     }
@@ -123,8 +124,28 @@ fn refuse_other(alloc: Global, config: &Config<'_>, place: usize) -> CoresFault
 }
 
 // Runs cores on threads of their own, each with its jobs, until each has finished or counted so many turns; the fault is the first event of the set-up
-// that is refused, else the first job, else memory or a thread.
+// that is refused, else the first job, else memory or a thread. What the cores' sides note is kept, where the recording is on.
 #[tactic(auto, using(crate::proofs::Booted::not_booted, crate::proofs::Booted::late_fault))]
+pub(crate) fn run_recorded<R: Threads + Wait + Sync, G: Gate + Sync>(
+    rt: &R,
+    alloc: Global,
+    config: &Config<'_>,
+    jobs: Vec<Job<'_>>,
+    limit: u64,
+    gate: &G,
+    recording: &mut Recording,
+) -> Result<Report, CoresFault>
+    ensures reports { IfOk result (λ r. Reports (config_of config.now) (map job_of jobs.entry.items) limit (report_of r)) }
+    ensures refused { IfErr result (λ fault. IsFault (config_of config.now) (map job_of jobs.entry.items) fault) }
+{
+    if let Some(place) = first_other(&config.setup) {
+        return Err(refuse_other(alloc, config, place));
+    }
+    let parts = boot(alloc, config)?;
+    run_made(rt, alloc, parts, jobs, limit, gate, recording)
+}
+
+// The same, where nothing is noted.
 pub(crate) fn run_jobs<R: Threads + Wait + Sync, G: Gate + Sync>(
     rt: &R,
     alloc: Global,
@@ -136,9 +157,22 @@ pub(crate) fn run_jobs<R: Threads + Wait + Sync, G: Gate + Sync>(
     ensures reports { IfOk result (λ r. Reports (config_of config.now) (map job_of jobs.entry.items) limit (report_of r)) }
     ensures refused { IfErr result (λ fault. IsFault (config_of config.now) (map job_of jobs.entry.items) fault) }
 {
+    let mut recording = Recording::new(alloc, false);
+    run_recorded(rt, alloc, config, jobs, limit, gate, &mut recording)
+}
+
+/// What the cores of a run begin with, as [`run_cores`](crate::run_cores) starts their threads: no thread is started.
+///
+/// # Errors
+/// [`CoresFault`]: an event of the set-up is refused, or a job; or out of memory.
+pub fn wire_cores(
+    alloc: Global,
+    config: &Config<'_>,
+    jobs: Vec<Job<'_>>,
+) -> Result<WiredCores, CoresFault> {
     if let Some(place) = first_other(&config.setup) {
         return Err(refuse_other(alloc, config, place));
     }
     let parts = boot(alloc, config)?;
-    run_made(rt, alloc, parts, jobs, limit, gate)
+    Ok(wire_parts(alloc, parts, jobs)?)
 }

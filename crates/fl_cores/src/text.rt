@@ -5,9 +5,10 @@ ghost use Rattle.fl_cores_file.specs.Files.{file_from};
 ghost use Rattle.fl_cores.specs.Promised.{config_in, Appends, AppendsReport, IsFault, IsFaultOfText};
 
 use crate::fault::CoresFault;
-use crate::run::run_jobs;
+use crate::run::run_recorded;
 use fl_core_run::Gate;
 use fl_cores_file::{CoresFile, CoresText, Ending, print_refusal, print_report, read_cores_text};
+use fl_cores_parts::Recording;
 use fl_world::Config;
 use std::alloc::Global;
 use std::sync::Wait;
@@ -32,6 +33,7 @@ fn run_file<R: Threads + Wait + Sync, G: Gate + Sync>(
     limit: u64,
     gate: &G,
     out: &mut Vec<u8>,
+    recording: &mut Recording,
 ) -> Result<CoresEnd, CoresFault>
     requires few { file.cores ≤ 16 }
     ensures told { IfOk result (λ end. AppendsReport (file_from file.entry) limit end out.old.items out.new.items) }
@@ -50,7 +52,7 @@ fn run_file<R: Threads + Wait + Sync, G: Gate + Sync>(
         cores: cores as u8,
         setup,
     };
-    let report = run_jobs(rt, alloc, &config, jobs, limit, gate)?;
+    let report = run_recorded(rt, alloc, &config, jobs, limit, gate, recording)?;
     let file = CoresFile {
         cores,
         setup: config.setup,
@@ -73,13 +75,14 @@ pub(crate) fn run_text<R: Threads + Wait + Sync, G: Gate + Sync>(
     limit: u64,
     gate: &G,
     out: &mut Vec<u8>,
+    recording: &mut Recording,
 ) -> Result<CoresEnd, CoresFault>
     ensures told { IfOk result (λ end. Appends text.now limit end out.old.items out.new.items) }
     ensures kept { OnErr result (out.new.items ≡ out.old.items) }
     ensures fault { IfErr result (λ fault. IsFaultOfText text.now fault) }
 {
     match read_cores_text(alloc, text)? {
-        CoresText::File(file) => run_file(rt, alloc, file, limit, gate, out),
+        CoresText::File(file) => run_file(rt, alloc, file, limit, gate, out, recording),
         CoresText::Refused { line, number } => {
             print_refusal(alloc, out, line, number)?;
             Ok(CoresEnd::Refused)

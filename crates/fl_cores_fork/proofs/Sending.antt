@@ -5,6 +5,7 @@ use Rattle.std.proofs.Crossing.{crosses}
 use Rattle.fl_core_run.proofs.plan.TurnPlan.TheSendSync as plan
 use Rattle.fl_core_run.proofs.run_seat.RunSeat.TheSendSync as run_seat
 use Rattle.fl_core_run.proofs.run.Part.TheSendSync as part
+use Rattle.fl_cores_shares.proofs.recorded_side.SideRecord.TheSendSync as side_record
 use Rattle.fl_compile.specs.contracts.program.Program
 use Rattle.fl_link.specs.contracts.queue.QueueLink
 use Rattle.fl_nameserv.specs.contracts.names.Names
@@ -52,7 +53,7 @@ pub core_thread_sends : IsSend (Running.the_field SharedSide.the_row).row → Is
 core_thread_sends running = recorded_send (CoreThread.the_field).row _ _ (CoreThread.the_type).to_one (core_thread_field running)
 
 pub done_field : IsSend (Running.the_field SharedSide.the_row).row → IsSend (Done.the_field).row
-done_field running = struct_send (shape Done.the_type) (core_thread_field running, (part.the_field_send, tt))
+done_field running = struct_send (shape Done.the_type) (core_thread_field running, (part.the_field_send, (search (sendable, crosses, side_record.the_send) depth 40, tt)))
 
 pub done_sends : IsSend (Running.the_field SharedSide.the_row).row → IsSend Done.the_row
 done_sends running = recorded_send (Done.the_field).row _ _ (Done.the_type).to_one (done_field running)

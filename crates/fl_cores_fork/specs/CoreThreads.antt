@@ -1,9 +1,12 @@
 -- A core as its thread is given it, and what comes of it, as the code has them. The contracts of `run_each` and `tell` name it; no
 -- promise of a crate above rests on it by itself.
 use Rattle.std.specs.Prelude.{ℕ, ◌≡◌, ◌<◌, Bool, List, [], ◌∷◌, length}
+use Rattle.fl_ring.specs.SharedSides.{TheSide}
 use Rattle.fl_core.specs.Sound.{IsCore}
 use Rattle.fl_core.specs.declared.core_job.CoreJob.{CoreJob}
-use Rattle.fl_core_run.specs.Run.{run_of}
+use Rattle.fl_core_run.specs.declared.run.Part.{Part}
+use Rattle.fl_core_run.specs.declared.run_seat.RunSeat.{RunSeat}
+use Rattle.fl_core_run.specs.Run.{TheRun, run_of}
 use Rattle.fl_core_run.specs.OpeningStatus.{AreWords}
 use Rattle.fl_core_run.specs.Ran.{run_seat_of}
 use Rattle.fl_cores_fork.specs.declared.core_thread.CoreThread.{CoreThread}
@@ -16,6 +19,10 @@ core_thread_of s = record { run = run_of s.running.value; plan = s.plan; run_sea
 
 abbrev pub outcome_of : FinishedCore → TheFinishedCore
 outcome_of d = record { run = run_of d.core_thread.running.value; run_seat = run_seat_of d.core_thread.run_seat; part = d.part }
+
+-- of this run, this seat and this share of the report
+abbrev pub came_to : TheRun TheSide → RunSeat → Part → TheFinishedCore
+came_to run run_seat part = record { run = run; run_seat = run_seat_of run_seat; part = part }
 
 -- how it ended
 abbrev pub has_left_off : FinishedCore → Bool

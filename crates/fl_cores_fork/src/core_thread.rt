@@ -1,6 +1,7 @@
 //! A core as its thread has it, and as that leaves it.
 
 use fl_core_run::{Part, RunSeat, RunningCore, TurnPlan};
+use fl_cores_shares::SideRecord;
 use fl_ring::SharedSide;
 
 /// A core with all that its thread needs.
@@ -22,4 +23,6 @@ pub struct FinishedCore {
     pub core_thread: CoreThread,
     /// How many turns it took, and how it ended.
     pub part: Part,
+    /// What its sides of rings noted, in their order, where they were to note and there was memory for that.
+    pub records: Option<Vec<SideRecord>>,
 }

@@ -12,6 +12,7 @@ ghost use Rattle.fl_cores_fork.specs.CoreThreads.{IsReady, AllReady, CoreThreadR
 use crate::core_thread::{CoreThread, FinishedCore};
 use crate::crossing::{core_thread_sent, done_sent, law_job_shared};
 use crate::no_report::NoReport;
+use crate::noting::run_thread;
 use fl_core::{Core, CoreJob};
 use fl_core_run::{Gate, core_run};
 use fl_cores_table::EndSeat;
@@ -43,7 +44,7 @@ fn sound_at(core: &Core, e: usize)
 }
 
 // What is known of each end of a core, and of its circuits. It does nothing.
-fn sound(core: &Core)
+pub(crate) fn sound(core: &Core)
     ensures ends { (place : ℕ) (seat : TheEndAtChannel) → slice_get core.now.board.seats place ≡ Some seat → IsEnd seat.end }
     ensures table { IsTable core.now.monitor.circuits }
 {
@@ -54,7 +55,7 @@ fn sound(core: &Core)
 }
 
 // A core's whole run.
-fn run_one<R: Wait, G: Gate>(
+pub(crate) fn run_one<R: Wait, G: Gate>(
     rt: &R,
     gate: &G,
     core_thread: CoreThread,
@@ -76,7 +77,11 @@ fn run_one<R: Wait, G: Gate>(
     ) {
         Ok(part) => {
             sound(&core_thread.running.core);
-            Ok(FinishedCore { core_thread, part })
+            Ok(FinishedCore {
+                core_thread,
+                part,
+                records: None,
+            })
         }
         Err(_) => Err(AllocError),
     }
@@ -90,6 +95,7 @@ fn start<'s, 'e: 's, R: Threads + Wait + Sync, G: Gate + Sync>(
     core_thread: CoreThread,
     jobs: &'e [CoreJob],
     limit: u64,
+    is_recorded: bool,
 ) -> Option<PromisedHandle<Result<FinishedCore, AllocError>, RunInputs<'e>>>
     requires shared { IsSync R.row }
     requires gate { IsSync G.row }
@@ -111,7 +117,7 @@ fn start<'s, 'e: 's, R: Threads + Wait + Sync, G: Gate + Sync>(
         requires gate { IsSync G.row }
         requires ready { IsReady core_thread }
         ensures ran { IfOk result (λ d. CoreThreadRan jobs.entry.now limit core_thread d) }
-    { run_one(rt, gate, core_thread, jobs, limit) };
+    { run_thread(rt, gate, core_thread, jobs, limit, is_recorded) };
     scope.spawn_with(promise, run).ok()
 }
 
@@ -143,6 +149,7 @@ fn run_in<'s, 'e: 's, R: Threads + Wait + Sync, G: Gate + Sync>(
     todo: Vec<CoreThread>,
     jobs: &'e [CoreJob],
     limit: u64,
+    is_recorded: bool,
 ) -> (Result<Vec<FinishedCore>, NoReport>, EndSeat)
     requires shared { IsSync R.row }
     requires gate { IsSync G.row }
@@ -157,11 +164,11 @@ fn run_in<'s, 'e: 's, R: Threads + Wait + Sync, G: Gate + Sync>(
     let Some(last) = todo.pop() else {
         return (Ok(Vec::new(alloc)), own);
     };
-    let Some(child) = start(scope, rt, gate, last, jobs, limit) else {
+    let Some(child) = start(scope, rt, gate, last, jobs, limit, is_recorded) else {
         own.stop();
         return (Err(NoReport::Thread), own);
     };
-    let (rest, own) = run_in(scope, rt, alloc, gate, own, todo, jobs, limit);
+    let (rest, own) = run_in(scope, rt, alloc, gate, own, todo, jobs, limit, is_recorded);
     let last = child.join(rt);
     match rest {
         Ok(rest) => (push_last(rest, last), own),
@@ -170,7 +177,7 @@ fn run_in<'s, 'e: 's, R: Threads + Wait + Sync, G: Gate + Sync>(
 }
 
 /// Runs each core on a thread of its own, and joins all threads. The seat is the caller's own: by it the cores are told where a thread doesn't start. It comes
-/// back in either case.
+/// back in either case. Where that is wanted, the cores' sides of rings note what they do.
 pub fn run_each<R: Threads + Wait + Sync, G: Gate + Sync>(
     rt: &R,
     alloc: Global,
@@ -179,6 +186,7 @@ pub fn run_each<R: Threads + Wait + Sync, G: Gate + Sync>(
     todo: Vec<CoreThread>,
     jobs: &[CoreJob],
     limit: u64,
+    is_recorded: bool,
 ) -> (Result<Vec<FinishedCore>, NoReport>, EndSeat)
     requires own { own.knows.stopped < own.knows.seats }
     requires ready { AllReady todo.items }
@@ -197,6 +205,6 @@ pub fn run_each<R: Threads + Wait + Sync, G: Gate + Sync>(
             ensures each { IfOk result.0 (λ all. AllZip (CoreThreadRan jobs.entry.now limit) todo.items all.items) }
             ensures own { IfOk result.0 (λ _. result.1 ≡ own) }
             ensures told { IfErr result.0 (λ e. e ≡ stop.Thread → result.1.knows.stopped ≡ own.knows.stopped + 1) }
-        { run_in(scope, rt, alloc, gate, own, todo, jobs, limit) },
+        { run_in(scope, rt, alloc, gate, own, todo, jobs, limit, is_recorded) },
     )
 }

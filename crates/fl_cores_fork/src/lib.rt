@@ -7,6 +7,7 @@
 //! - `core_thread.rt`: a core as its thread has it
 //! - `crossing.rt`: what may go to a thread
 //! - `fork.rt`: a thread for each core
+//! - `noting.rt`: a core's run over sides that note what they do
 //! - `no_report.rt`: why there is no report
 //! - `telling.rt`: the report
 #![tactic(auto)]
@@ -15,6 +16,7 @@ mod core_thread;
 mod crossing;
 mod fork;
 mod no_report;
+mod noting;
 mod telling;
 
 pub use core_thread::{CoreThread, FinishedCore};

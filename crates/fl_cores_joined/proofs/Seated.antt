@@ -36,8 +36,8 @@ closed_was : (bs : List Binding) (theirs : List TheBinding) (n : ℕ) (b : Bindi
 closed_was [] theirs n b now p q = absurd (cc)
 closed_was (c ∷ bs) [] n b now p q = absurd (cc)
 closed_was (c ∷ bs) (there ∷ theirs) zero b now p q =
-    let same : c ≡ b = cc in
-    let is : closed c there ≡ now = cc in
+    let same : c ≡ b = same_some (Some c) c b refl p in
+    let is : closed c there ≡ now = same_some (Some (closed c there)) (closed c there) now refl q in
     (there, refl, sym is ∙ ap (λ (z : Binding). closed z there) same)
 closed_was (c ∷ bs) (there ∷ theirs) (suc n) b now p q = closed_was bs theirs n b now p q
 

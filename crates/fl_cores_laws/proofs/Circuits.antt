@@ -29,7 +29,7 @@ use Rattle.fl_cores_laws.proofs.Starts.{since_new}
 use Rattle.fl_cores_laws.proofs.OffLinks.{Passing}
 use Rattle.fl_cores_laws.proofs.Routes.{CircuitsPrefix, out_of, into, along_route}
 
-one_of : (a b : TheEndAtChannel) → Some a ≡ Some b → a ≡ b
+one_of : {X : Type 0} (a b : X) → Some a ≡ Some b → a ≡ b
 one_of a b same = cc
 
 pub same_seat : (seats : List TheEndAtChannel) (n : ℕ) (a b : TheEndAtChannel) → slice_get seats n ≡ Some a → slice_get seats n ≡ Some b → a ≡ b

@@ -128,8 +128,12 @@ module _ (l : Passing) (b : Below) (prefix : CircuitsPrefix) (stand : LedClients
         let agreed = b.agree silent (traffic e x.had q.core.log (f.put e) (f.took e)) (fresh y.program y.circuit) y (since_silent y sound) x.since refl (as_same [] (f.took e) [] [] (sym took) refl ([], refl)) in
         handled_is b.handled b.made b.first jobs d e q.core h v.went ∙ of_none (calls_handled e q.core.log) [] agreed refl
 
+  -- of large records cc does not end, of any type it does
+  same_some : {X : Type 0} (x y : X) → Some x ≡ Some y → x ≡ y
+  same_some x y e = cc
+
   one_of : (n m : ℕ) (c d : OneCore) (cores : List OneCore) → slice_get cores n ≡ Some c → slice_get cores m ≡ Some d → n ≡ m → c ≡ d
-  one_of n m c d cores is is2 same = (let found : Some c ≡ Some d = sym is ∙ ap (slice_get cores) same ∙ is2 in cc)
+  one_of n m c d cores is is2 same = same_some c d (sym is ∙ ap (slice_get cores) same ∙ is2)
 
   module _ (begin : RoutesBegin) (cores : List OneCore) (paired : ArePaired jobs cores) (n : ℕ) (d : TheEndWork) (q : Point) (k : WaitsAlone jobs cores n d q) where
     rests : handled_by q.core.finish (server_of n) ≡ []

@@ -199,6 +199,10 @@ pub record SoFar (cores : List TheCore) (Names : TheCore → ℕ → Type 0) (co
   pub each : (m thing : ℕ) (c : TheCore) → m < n → slice_get cores m ≡ Some c → Names c thing → thing < count
       → ((k : ℕ) (d : TheCore) → slice_get cores k ≡ Some d → Names d thing → k ≡ m) → slice_get owners thing ≡ Some m
 
+-- of large records cc does not end, of any type it does
+same_some : {X : Type 0} (x y : X) → Some x ≡ Some y → x ≡ y
+same_some x y e = cc
+
 pub one_core_more : (cores : List TheCore) (Names : TheCore → ℕ → Type 0) (count n : ℕ) (c : TheCore) (o o2 : List ℕ) → slice_get cores n ≡ Some c
     → SoFar cores Names count n o → Owns (Names c) n o o2 → SoFar cores Names count (n + 1) o2
 one_core_more cores Names count n c o o2 core_is so owns = record {
@@ -224,7 +228,7 @@ one_core_more cores Names count n c o o2 core_is so owns = record {
       (owns.others thing))
       (λ x there named alone.
       let twice : Some c ≡ Some x = sym core_is ∙ there in
-      let same : c ≡ x = cc in
+      let same : c ≡ x = same_some c x twice in
       let long = so.count_is in
       owns.own thing (subst (λ (y : TheCore). Names y thing) (sym same) named) (omega (arith, within, long)))
       m below d at names only;

@@ -5,6 +5,8 @@
 //! world's parts, and not the world.
 //!
 //! - `run.rt`: the whole run
+//! - `again.rt`: what a run begins with, once more
+//! - `recording.rt`: what the sides of a run noted
 //! - `sharing.rt`: whose each side of a ring and each queue is, and all of them handed out out
 //! - `wiring.rt`: each core is given what its thread needs
 //! - `gathering.rt`: the cores' seats put in one
@@ -12,12 +14,16 @@
 //! - `fault.rt`: why there is no report
 #![tactic(auto)]
 
+mod again;
 mod fault;
 mod gathering;
+mod recording;
 mod run;
 mod settling;
 mod sharing;
 mod wiring;
 
+pub use again::{WiredCores, wire_parts};
 pub use fault::RunFault;
+pub use recording::Recording;
 pub use run::run_parts;

@@ -18,6 +18,7 @@ ghost use Rattle.fl_cores_parts.specs.CoreThreads.{IsRest};
 ghost use Rattle.fl_cores_parts.specs.Ran.{Keeps, CoresRan, RanFrom};
 
 use crate::fault::RunFault;
+use crate::recording::Recording;
 use crate::settling::{law_rings_hold, put_together};
 use crate::wiring::wire;
 use fl_core_run::Gate;
@@ -43,7 +44,11 @@ fn owners_of(alloc: Global, owners: &[usize]) -> Result<Vec<u64>, AllocError>
 }
 
 // Everybody's seat on the table of a run.
-fn seat_of_all(alloc: Global, cores: usize, owners: &[usize]) -> Result<EndSeat, AllocError>
+pub(crate) fn seat_of_all(
+    alloc: Global,
+    cores: usize,
+    owners: &[usize],
+) -> Result<EndSeat, AllocError>
     requires few { cores ≤ 16 }
     requires jobs { length owners.now ≤ 65536 }
     ensures all { IfOk result (λ seat. seat.knows ≡ opening_view cores owners.now) }
@@ -88,6 +93,7 @@ fn run_joined<R: Threads + Wait + Sync, G: Gate + Sync>(
     joined: JoinedJobs,
     limit: u64,
     gate: &G,
+    recording: &mut Recording,
 ) -> Result<Report, NoReport>
     requires few { length parts.cores.items ≤ 16 }
     requires bindings { AreBindings (length parts.cores.items) joined.bindings.items joined.owners.items }
@@ -107,13 +113,15 @@ fn run_joined<R: Threads + Wait + Sync, G: Gate + Sync>(
         wired.core_threads,
         &joined.jobs,
         limit,
+        recording.is_on,
     );
     let done = ran?;
+    recording.keep(alloc, &done, &wired.owners);
     Ok(report_on(alloc, &mut joined, own, wired.owners, done)?)
 }
 
 /// Runs the cores of a world's parts on threads of their own, each with its jobs, until each has finished or
-/// counted so many turns.
+/// counted so many turns. What their sides note is kept, where the recording is on.
 ///
 /// # Errors
 /// [`RunFault`]: a job is refused, out of memory, or a thread doesn't start. Every thread was joined then.
@@ -125,6 +133,7 @@ pub fn run_parts<R: Threads + Wait + Sync, G: Gate + Sync>(
     jobs: Vec<Job<'_>>,
     limit: u64,
     gate: &G,
+    recording: &mut Recording,
 ) -> Result<Report, RunFault>
     requires few { length parts.cores.items ≤ 16 }
     ensures ran { IfOk result (λ r. RanFrom parts (map job_of jobs.entry.items) limit (report_of r)) }
@@ -133,6 +142,6 @@ pub fn run_parts<R: Threads + Wait + Sync, G: Gate + Sync>(
 {
     let mut parts = parts;
     let joined = join_jobs(alloc, &mut parts, jobs)?;
-    let report = run_joined(rt, alloc, parts, joined, limit, gate)?;
+    let report = run_joined(rt, alloc, parts, joined, limit, gate, recording)?;
     Ok(report)
 }

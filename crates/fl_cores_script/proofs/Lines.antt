@@ -78,11 +78,17 @@ find : (end : List ℕ) (ls : List (List ℕ)) → (handled_at end ls ≡ []) �
 find end [] = inl refl
 find end (l ∷ ls) = find_by (is_at end l) end l ls refl (find end ls)
 
-by_found : (xs ys : List (List ℕ)) (end : List ℕ) → All (OfEnd (IsAmong ys)) xs → All (OfEnd (AlikeAt xs ys)) ys
-    → (handled_at end xs ≡ []) ⊎ HasOne end xs → (handled_at end ys ≡ []) ⊎ HasOne end ys → AlikeAt xs ys end
-by_found xs ys end among alike x (inr one) = alike one.k [] one.below end one.at
-by_found xs ys end among alike (inl none) (inl none2) = none ∙ sym none2
-by_found xs ys end among alike (inr one) (inl none) = absurd (among one.k [] one.below end one.at none)
+-- where none of the firsts tells of an end, none of the lines does whose ends are among theirs
+none_in : (fs zs : List (List ℕ)) (end : List ℕ) → All (OfEnd (IsAmong fs)) zs → handled_at end fs ≡ []
+    → (handled_at end zs ≡ []) ⊎ HasOne end zs → handled_at end zs ≡ []
+none_in fs zs end among none (inl is) = is
+none_in fs zs end among none (inr one) = absurd (among one.k [] one.below end one.at none)
 
-pub each_alike : (xs ys : List (List ℕ)) → All (OfEnd (IsAmong ys)) xs → All (OfEnd (AlikeAt xs ys)) ys → (end : List ℕ) → AlikeAt xs ys end
-each_alike xs ys among alike end = by_found xs ys end among alike (find end xs) (find end ys)
+by_found : (fs xs ys : List (List ℕ)) (end : List ℕ) → All (OfEnd (IsAmong fs)) xs → All (OfEnd (IsAmong fs)) ys
+    → All (OfEnd (AlikeAt xs ys)) fs → (handled_at end fs ≡ []) ⊎ HasOne end fs → AlikeAt xs ys end
+by_found fs xs ys end in_x in_y alike (inr one) = alike one.k [] one.below end one.at
+by_found fs xs ys end in_x in_y alike (inl none) = none_in fs xs end in_x none (find end xs) ∙ sym (none_in fs ys end in_y none (find end ys))
+
+pub each_alike : (fs xs ys : List (List ℕ)) → All (OfEnd (IsAmong fs)) xs → All (OfEnd (IsAmong fs)) ys → All (OfEnd (AlikeAt xs ys)) fs
+    → (end : List ℕ) → AlikeAt xs ys end
+each_alike fs xs ys in_x in_y alike end = by_found fs xs ys end in_x in_y alike (find end fs)

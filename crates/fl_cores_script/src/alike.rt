@@ -221,12 +221,28 @@ fn alike_by(
     }
 }
 
-// Whether at each end that the others tell of the same calls were handled.
-fn all_alike(alloc: Global, lines: &[&[u8]], others: &[&[u8]]) -> Result<bool, AllocError>
+// A line of each end that these lines tell of. That none is missing is looked at by whoever takes them.
+fn firsts_of<'a>(alloc: Global, lines: &[&'a [u8]]) -> Result<Vec<&'a [u8]>, AllocError> {
+    let mut firsts = Vec::new(alloc);
+    for line in lines {
+        if !among_by(*line, &firsts) {
+            firsts.push(*line)?;
+        }
+    }
+    Ok(firsts)
+}
+
+// Whether at each end that the first lines tell of the same calls were handled.
+fn all_alike(
+    alloc: Global,
+    firsts: &[&[u8]],
+    lines: &[&[u8]],
+    others: &[&[u8]],
+) -> Result<bool, AllocError>
     ensures alike { IfOk result (λ r. r ≡ true
-        → All (OfEnd (AlikeAt (map (λ l. l.now) lines.now) (map (λ l. l.now) others.now))) (map (λ l. l.now) others.now)) }
+        → All (OfEnd (AlikeAt (map (λ l. l.now) lines.now) (map (λ l. l.now) others.now))) (map (λ l. l.now) firsts.now)) }
 {
-    for line in others {
+    for line in firsts {
         if !alike_by(alloc, *line, lines, others)? {
             return Ok(false);
         }
@@ -234,16 +250,32 @@ fn all_alike(alloc: Global, lines: &[&[u8]], others: &[&[u8]]) -> Result<bool, A
     Ok(true)
 }
 
+// Whether these lines tell the same handled calls, where the first lines tell of all their ends.
+fn alike_by_firsts(
+    alloc: Global,
+    firsts: &[&[u8]],
+    lines: &[&[u8]],
+    others: &[&[u8]],
+) -> Result<bool, AllocError>
+    ensures alike { IfOk result (λ r. r ≡ true
+        → (end : List ℕ) → AlikeAt (map (λ l. l.now) lines.now) (map (λ l. l.now) others.now) end) }
+{
+    if !all_among(lines, firsts) {
+        return Ok(false);
+    }
+    if !all_among(others, firsts) {
+        return Ok(false);
+    }
+    all_alike(alloc, firsts, lines, others)
+}
+
 // Whether these lines tell the same handled calls.
-#[tactic(auto, using(crate::proofs::Lines::each_alike))]
 fn all_handled_alike(alloc: Global, lines: &[&[u8]], others: &[&[u8]]) -> Result<bool, AllocError>
     ensures alike { IfOk result (λ r. r ≡ true
         → (end : List ℕ) → AlikeAt (map (λ l. l.now) lines.now) (map (λ l. l.now) others.now) end) }
 {
-    if !all_among(lines, others) {
-        return Ok(false);
-    }
-    all_alike(alloc, lines, others)
+    let firsts = firsts_of(alloc, others)?;
+    alike_by_firsts(alloc, &firsts, lines, others)
 }
 
 /// Whether two texts of lines tell the same handled calls, end by end and in order. `false` also where one doesn't

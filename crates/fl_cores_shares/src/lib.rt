@@ -5,14 +5,17 @@
 //! ring what each side took is the first of what the other put (`specs/Settled.antt`, which has the laws for that, too).
 //!
 //! - `shares.rt`: things handed out
+//! - `recorded_side.rt`: a side of a ring that notes what its looks and puts come to
 //! - `settling.rt`: sides put together again
 //! - `law.rt`: what holds of sides in use
 #![tactic(auto)]
 
 mod law;
+mod recorded_side;
 mod settling;
 mod shares;
 
 pub use law::{law_handed_out_go_on, law_rings_conserve};
+pub use recorded_side::{RecordedSide, SideRecord};
 pub use settling::settle;
 pub use shares::CoreShares;

@@ -2,7 +2,7 @@ use Rattle.std.proofs.Common.{map}
 use Rattle.fl_cores_file.specs.Views.{job_of}
 use Rattle.fl_world.specs.Booting.{config_of}
 use Rattle.fl_cores.proofs.Reporting.{reports_ran}
-use Rattle.fl_cores.proofs.run.run_jobs.Goals as goal
+use Rattle.fl_cores.proofs.run.run_recorded.Goals as goal
 
 pub returns-clause-reports : goal.returns-clause-reports
 returns-clause-reports g c =

@@ -1,6 +1,6 @@
 use Rattle.std.proofs.lemmas.Result.{IfOk-weaker}
 use Rattle.fl_cores.proofs.ReportTexts.{honestly}
-use Rattle.fl_cores.proofs.reports.run_cores_text.Goals as goal
+use Rattle.fl_cores.proofs.reports.run_cores_text_recorded.Goals as goal
 
 pub returns : goal.returns
 returns g c = record {

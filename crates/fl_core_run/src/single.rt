@@ -1,0 +1,118 @@
+//! What a turn is made of, one by one; and a core over other sides.
+
+ghost use Rattle.std.specs.Prelude.{◌≡◌, Some, IfSome, OnOk};
+ghost use Rattle.fl_core_run.specs.Run.{ways, run_of, over, next_job, lent_link_side, lent_post, lent_due};
+ghost use Rattle.fl_core_run.specs.Steps.{Forwards, Says, Tells, Tries, WritesFrom, TakesTurn, Acknowledges};
+
+use crate::dispatchers::{awaits, turn};
+use crate::ends::{ack, try_job, write};
+use crate::lent::{LentTakeEnd, lent_due, lent_link_side};
+use crate::links::{forward, say, tell};
+use crate::running::RunningCore;
+use fl_base::{EndId, LinkId};
+use fl_core::CoreJob;
+use fl_link::{PutSide, TakeSide};
+use std::alloc::AllocError;
+
+impl<S> RunningCore<S> {
+    /// The core over other sides, and those that it had.
+    pub fn with_rings<T>(self, rings: Vec<T>) -> (RunningCore<T>, Vec<S>)
+        ensures over { run_of result.0 ≡ over rings.items (run_of self) }
+        ensures had { result.1.items ≡ self.rings.items }
+    {
+        let core = RunningCore {
+            alloc: self.alloc,
+            core: self.core,
+            rings,
+            queues: self.queues,
+            progresses: self.progresses,
+            names: self.names,
+            programs: self.programs,
+            idle: self.idle,
+        };
+        (core, self.rings)
+    }
+}
+
+impl<S: PutSide + TakeSide + Drop> RunningCore<S> {
+    /// The side of a link, where the core has it.
+    pub fn side_of(&self, link: LinkId) -> Option<usize>
+        ensures side { result ≡ lent_link_side (run_of self.now) link }
+    {
+        lent_link_side(self, link)
+    }
+
+    /// The end at which a dispatcher's turn looks, and where that takes; none where no end is due or it is to
+    /// wait.
+    pub fn due(&self, jobs: &[CoreJob], dispatcher: usize) -> Option<LentTakeEnd>
+        ensures due { IfSome result (λ at. lent_due (run_of self.now) dispatcher ≡ Some at) }
+    {
+        let at = lent_due(self, dispatcher)?;
+        if awaits(self, jobs, self.core.name(at.end)) {
+            return None;
+        }
+        Some(at)
+    }
+
+    /// A forward for a link.
+    ///
+    /// # Errors
+    /// Out of memory.
+    pub fn forward(&mut self, link: LinkId) -> Result<(), AllocError>
+        ensures forwards { OnOk result (Forwards (ways S.puts S.takes S.front) link
+            (run_of self.old) (run_of self.new)) }
+    {
+        forward(self, link)
+    }
+
+    /// A monitor write for a link.
+    pub fn say(&mut self, link: LinkId)
+        ensures says { Says (ways S.puts S.takes S.front) link (run_of self.old) (run_of self.new) }
+    {
+        say(self, link);
+    }
+
+    /// The next job of an end, where that can be done.
+    ///
+    /// # Errors
+    /// Out of memory.
+    pub fn try_job(&mut self, jobs: &[CoreJob], name: EndId) -> Result<(), AllocError>
+        ensures tries { OnOk result (Tries (ways S.puts S.takes S.front) name
+            (next_job jobs.now (run_of self.old) name) (run_of self.old) (run_of self.new)) }
+    {
+        try_job(self, jobs, name)
+    }
+
+    /// A write of an end.
+    pub fn write(&mut self, name: EndId)
+        ensures writes { WritesFrom (ways S.puts S.takes S.front) name (lent_post (run_of self.old) name)
+            (run_of self.old) (run_of self.new) }
+    {
+        write(self, name);
+    }
+
+    /// A turn of a dispatcher.
+    ///
+    /// # Errors
+    /// Out of memory.
+    pub fn turn_of(&mut self, jobs: &[CoreJob], dispatcher: usize) -> Result<(), AllocError>
+        ensures turns { OnOk result (TakesTurn (ways S.puts S.takes S.front) jobs.now dispatcher
+            (run_of self.old) (run_of self.new)) }
+    {
+        turn(self, jobs, dispatcher)
+    }
+
+    /// An acknowledgement for a link.
+    pub fn tell(&mut self, link: LinkId)
+        ensures tells { Tells (ways S.puts S.takes S.front) link (run_of self.old) (run_of self.new) }
+    {
+        tell(self, link);
+    }
+
+    /// An acknowledgement of an end.
+    pub fn ack(&mut self, name: EndId)
+        ensures acks { Acknowledges (ways S.puts S.takes S.front) name (run_of self.old) (run_of self.new) }
+    {
+        ack(self, name);
+    }
+}

@@ -1,0 +1,7 @@
+use Rattle.std.proofs.Common.{◌≡◌, ◌++◌}
+use Rattle.std.specs.Vec.Iter.{into_iter_items}
+use Rattle.fl_cores_fork.proofs.noting.noted.Given as goal
+
+-- the sides so far, and those that are left
+abbrev pub invariant-loop-side : goal.invariant-loop-side
+invariant-loop-side l = l.sides.items ++ into_iter_items l.side-iterator ≡ l.fn.rings.items

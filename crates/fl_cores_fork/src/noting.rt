@@ -1,0 +1,185 @@
+//! A core's run over sides that note what they do.
+
+ghost use Rattle.std.specs.Prelude.{◌≡◌, ◌<◌, ◌≤◌, [], length, IfOk};
+ghost use Rattle.std.specs.Vec.{vec_capacity};
+ghost use Rattle.fl_core_run.specs.Run.{run_of};
+ghost use Rattle.fl_core_run.specs.OpeningStatus.{AreWords};
+ghost use Rattle.fl_core_run.specs.Ran.{moment, task, run_seat_of, CoreRan};
+ghost use Rattle.fl_cores_fork.specs.Runs.{shared_ways, IsLeftSound};
+ghost use Rattle.fl_cores_fork.specs.CoreThreads.{outcome_of, came_to, IsReady, CoreThreadRan};
+
+use crate::core_thread::{CoreThread, FinishedCore};
+use crate::fork::{run_one, sound};
+use fl_core::CoreJob;
+use fl_core_run::{Gate, Part, RunSeat, RunningCore, TurnPlan, core_run};
+use fl_cores_shares::{RecordedSide, SideRecord};
+use fl_ring::SharedSide;
+use std::alloc::{AllocError, Global};
+use std::sync::Wait;
+
+// Sides that note what they do from here on.
+fn noting(alloc: Global, rings: Vec<SharedSide>, room: Vec<RecordedSide>) -> Vec<RecordedSide>
+    requires none { room.items ≡ [] }
+    requires fits { length rings.items ≤ vec_capacity room }
+    ensures same { result.items ≡ rings.items }
+{
+    let mut sides = room;
+    for side in rings {
+        sides.push_reserved(RecordedSide::new(alloc, side));
+    }
+    sides
+}
+
+// The sides, and what each noted.
+fn noted(
+    alloc: Global,
+    rings: Vec<RecordedSide>,
+) -> Result<(Vec<SharedSide>, Vec<SideRecord>), AllocError>
+    ensures same { IfOk result (λ r. r.0.items ≡ rings.items) }
+{
+    let mut sides = Vec::new(alloc);
+    let mut records = Vec::new(alloc);
+    for side in rings {
+        let (side, record) = side.into_parts();
+        sides.push(side)?;
+        records.push(record)?;
+    }
+    Ok((sides, records))
+}
+
+// The same core over sides that note.
+fn over_noting(
+    running: Box<RunningCore<SharedSide>>,
+    room: Vec<RecordedSide>,
+) -> RunningCore<RecordedSide>
+    requires none { room.items ≡ [] }
+    requires fits { length running.value.rings.items ≤ vec_capacity room }
+    ensures same { run_of result ≡ run_of running.value }
+{
+    let running = Box::into_inner(running);
+    let alloc = running.alloc;
+    let none: Vec<RecordedSide> = Vec::new(alloc);
+    let (running, rings) = running.with_rings(none);
+    let (running, _) = running.with_rings(noting(alloc, rings, room));
+    running
+}
+
+// And over its own again, with what these noted.
+fn over_shared(
+    running: RunningCore<RecordedSide>,
+) -> Result<(Box<RunningCore<SharedSide>>, Vec<SideRecord>), AllocError>
+    ensures same { IfOk result (λ r. run_of r.0.value ≡ run_of running) }
+{
+    let alloc = running.alloc;
+    let none: Vec<SharedSide> = Vec::new(alloc);
+    let (running, rings) = running.with_rings(none);
+    let (rings, records) = noted(alloc, rings)?;
+    let (running, _) = running.with_rings(rings);
+    Ok((Box::new(alloc, running)?, records))
+}
+
+// The core's run, over such sides.
+fn run_over<R: Wait, G: Gate>(
+    rt: &R,
+    gate: &G,
+    running: &mut RunningCore<RecordedSide>,
+    plan: &TurnPlan,
+    jobs: &[CoreJob],
+    limit: u64,
+    run_seat: &mut RunSeat,
+) -> Result<Part, AllocError>
+    requires as_many { length run_seat.old.words.items ≡ length plan.now.ends.items }
+    requires may { AreWords run_seat.old.words.items run_seat.old.seat.knows }
+    requires silent { (run_seat.old.seat.knows.finished < length run_seat.old.seat.knows.cores) × (run_seat.old.seat.knows.stopped < run_seat.old.seat.knows.seats) }
+    ensures ran { IfOk result (λ part. CoreRan shared_ways (task plan.now jobs.now limit)
+        (moment (run_of running.old) (run_seat_of run_seat.old)) part (moment (run_of running.new) (run_seat_of run_seat.new))) }
+    ensures left { IfOk result (λ part. IsLeftSound (came_to (run_of running.new) run_seat.new part)) }
+{
+    match core_run(rt, running, plan, jobs, limit, run_seat, gate) {
+        Ok(part) => {
+            sound(&running.core);
+            Ok(part)
+        }
+        Err(_) => Err(AllocError),
+    }
+}
+
+// What came of it, over the core's own sides.
+fn finished(
+    running: RunningCore<RecordedSide>,
+    plan: TurnPlan,
+    run_seat: RunSeat,
+    part: Part,
+) -> Result<FinishedCore, AllocError>
+    ensures outcome { IfOk result (λ d. outcome_of d ≡ came_to (run_of running) run_seat part) }
+{
+    let (running, records) = over_shared(running)?;
+    Ok(FinishedCore {
+        core_thread: CoreThread {
+            running,
+            plan,
+            run_seat,
+        },
+        part,
+        records: Some(records),
+    })
+}
+
+// A core's whole run, over sides for which there is room.
+fn run_noting<R: Wait, G: Gate>(
+    rt: &R,
+    gate: &G,
+    core_thread: CoreThread,
+    room: Vec<RecordedSide>,
+    jobs: &[CoreJob],
+    limit: u64,
+) -> Result<FinishedCore, AllocError>
+    requires ready { IsReady core_thread }
+    requires none { room.items ≡ [] }
+    requires fits { length core_thread.running.value.rings.items ≤ vec_capacity room }
+    ensures ran { IfOk result (λ d. CoreThreadRan jobs.now limit core_thread d) }
+{
+    let CoreThread {
+        running,
+        plan,
+        run_seat,
+    } = core_thread;
+    let mut run_seat = run_seat;
+    let mut running = over_noting(running, room);
+    match run_over(rt, gate, &mut running, &plan, jobs, limit, &mut run_seat) {
+        Ok(part) => finished(running, plan, run_seat, part),
+        Err(_) => Err(AllocError),
+    }
+}
+
+// Room for as many sides as a core has.
+fn room_for(core_thread: &CoreThread) -> Result<Vec<RecordedSide>, AllocError>
+    ensures none { IfOk result (λ room. room.items ≡ []) }
+    ensures fits { IfOk result (λ room. length core_thread.now.running.value.rings.items ≤ vec_capacity room) }
+{
+    let mut room = Vec::new(core_thread.running.alloc);
+    room.reserve(core_thread.running.rings.as_slice().len())?;
+    Ok(room)
+}
+
+/// A core's whole run on its thread: over sides that note what they do, where that is wanted and there is
+/// memory for it.
+pub(crate) fn run_thread<R: Wait, G: Gate>(
+    rt: &R,
+    gate: &G,
+    core_thread: CoreThread,
+    jobs: &[CoreJob],
+    limit: u64,
+    is_recorded: bool,
+) -> Result<FinishedCore, AllocError>
+    requires ready { IsReady core_thread }
+    ensures ran { IfOk result (λ d. CoreThreadRan jobs.now limit core_thread d) }
+{
+    if !is_recorded {
+        return run_one(rt, gate, core_thread, jobs, limit);
+    }
+    match room_for(&core_thread) {
+        Ok(room) => run_noting(rt, gate, core_thread, room, jobs, limit),
+        Err(_) => run_one(rt, gate, core_thread, jobs, limit),
+    }
+}

@@ -1,0 +1,2 @@
+-- What contracts say of a replayed side.
+pub mod Sides

@@ -1,0 +1,27 @@
+//! A run of cores that was recorded, told as a script.
+//!
+//! What a core does is a function of the cores file and of what its looks and puts come to, which its
+//! sides noted. So the cores are run once more, one after another on one thread, over sides that answer as
+//! the record says; that tells each core's events. They are put in one order then: a fragment is put behind
+//! the last look that found nothing there, and before the first that saw it.
+//!
+//! Contract for the layer above, of [`script_of`]: a script that it gives has a transcript which tells, at
+//! each end, just the report's calls. How it is made promises nothing: it is run before it is given
+//! (`fl_cores_script`), and one that does something else is given to nobody.
+//!
+//! - `replayed_side.rt`: a side that answers as a record says
+//! - `replayed_core.rt`: a core that is run once more, and its events
+//! - `replay.rt`: all cores run once more
+//! - `order.rt`: their events in one order
+//! - `lines.rt`: the file's lines, and those of events
+//! - `telling.rt`: the whole script
+#![tactic(auto)]
+
+mod lines;
+mod order;
+mod replay;
+mod replayed_core;
+mod replayed_side;
+mod telling;
+
+pub use telling::script_of;

@@ -1,0 +1,238 @@
+//! A side of a ring that answers as a record says.
+
+ghost use Rattle.std.specs.Prelude.{◌≡◌, true};
+ghost use Rattle.fl_ring.specs.SharedSeats.{front_seen, sight_of};
+ghost use Rattle.fl_cores_replay.specs.Sides.{Any};
+
+use fl_base::Frag;
+use fl_cores_shares::SideRecord;
+use fl_link::{PutFault, PutSide, Sight, TakeSide, Told};
+use std::alloc::Global;
+use std::collections::VecDeque;
+
+/// What an event did at a side.
+#[derive(Clone, Copy)]
+pub(crate) struct SideEffect {
+    /// A look found nothing.
+    pub(crate) missed: bool,
+    /// A look saw a fragment.
+    pub(crate) saw: bool,
+    /// One was taken.
+    pub(crate) took: bool,
+    /// One was put, which needed so many free slots.
+    pub(crate) put: Option<usize>,
+}
+
+pub(crate) const NO_EFFECT: SideEffect = SideEffect {
+    missed: false,
+    saw: false,
+    took: false,
+    put: None,
+};
+
+/// A side of a ring that answers as a record says.
+#[derive(Drop)]
+pub(crate) struct ReplayedSide {
+    record: SideRecord,
+    // so many that are taken and not told are acknowledged
+    half: usize,
+    // what the other side put and this one didn't take, and what the last look saw
+    inbox: VecDeque<Frag>,
+    sighted: Option<Frag>,
+    // how often the next look found nothing, and the next put no room
+    missing: u32,
+    refusing: u32,
+    taken: usize,
+    told: usize,
+    placed: usize,
+    // what was put and isn't in the other side's inbox yet
+    pub(crate) outbox: Vec<Frag>,
+    pub(crate) effect: SideEffect,
+    // whether the last event's look found nothing
+    pub(crate) is_missing: bool,
+    // behind how many of its core's events the last look stands that found nothing; and that of each fragment
+    // that was seen
+    pub(crate) missed_behind: usize,
+    pub(crate) behind: Vec<usize>,
+    // memory was refused
+    pub(crate) is_lost: bool,
+}
+
+// A fragment that only acknowledges.
+const ACKNOWLEDGEMENT: Frag = Frag {
+    words: [0; 7],
+    control: 4,
+};
+
+fn sight_of(frag: Frag) -> Sight
+    ensures sight { result ≡ sight_of frag }
+{
+    if frag.is_ack_only() {
+        return Sight::Acknowledgement;
+    }
+    Sight::Data(frag)
+}
+
+impl ReplayedSide {
+    /// A side that has done nothing yet.
+    pub(crate) fn new(alloc: Global, record: SideRecord, size: usize) -> ReplayedSide {
+        ReplayedSide {
+            record,
+            half: size / 2,
+            inbox: VecDeque::new(alloc),
+            sighted: None,
+            missing: 0,
+            refusing: 0,
+            taken: 0,
+            told: 0,
+            placed: 0,
+            outbox: Vec::new(alloc),
+            effect: NO_EFFECT,
+            is_missing: false,
+            missed_behind: 0,
+            behind: Vec::new(alloc),
+            is_lost: false,
+        }
+    }
+
+    /// Whether it can answer a look: what that is to find is there.
+    pub(crate) fn is_ready(&self) -> bool {
+        if self.sighted.is_some() {
+            return true;
+        }
+        self.taken >= self.record.missed.as_slice().len()
+            || self.missing < self.record.missed_at(self.taken)
+            || !self.inbox.is_empty()
+    }
+
+    /// Whether all that was noted came again.
+    pub(crate) fn is_done(&self) -> bool {
+        self.behind.as_slice().len() >= self.record.missed.as_slice().len()
+            && self.placed >= self.record.refused.as_slice().len()
+    }
+
+    /// The next fragment that the other side put is there.
+    pub(crate) fn receive(&mut self, frag: Frag) {
+        if self.inbox.push_back(frag).is_err() {
+            self.is_lost = true;
+        }
+    }
+
+    // What a look finds that saw nothing before.
+    fn look(&mut self) -> Option<Frag> {
+        if self.missing < self.record.missed_at(self.taken) {
+            self.missing = self.missing.saturating_add(1);
+            self.effect.missed = true;
+            return None;
+        }
+        if self.taken >= self.record.missed.as_slice().len() {
+            return None;
+        }
+        let first = self.inbox.front()?;
+        let frag = *first;
+        if self.behind.push(self.missed_behind).is_err() {
+            self.is_lost = true;
+        }
+        self.missing = 0;
+        self.effect.saw = true;
+        Some(frag)
+    }
+
+    // A put, or an acknowledgement, that needs so many free slots.
+    fn place(&mut self, frag: &Frag, need: usize) -> Result<(), PutFault> {
+        let refused = match self.record.refused.get(self.placed) {
+            None => true,
+            Some(count) => self.refusing < *count,
+        };
+        if refused {
+            self.refusing = self.refusing.saturating_add(1);
+            return Err(PutFault::Full);
+        }
+        if self.outbox.push(*frag).is_err() {
+            self.is_lost = true;
+        }
+        self.placed = self.placed.wrapping_add(1);
+        self.refusing = 0;
+        self.told = self.taken;
+        self.effect.put = Some(need);
+        Ok(())
+    }
+}
+
+impl PutSide for ReplayedSide {
+    ghost puts = { Any };
+
+    ghost has_room = { λ _. true };
+
+    ghost epoch_of = { λ _. 0 };
+
+    ghost told_of = { λ _. 0 };
+
+    ghost known_of = { λ _. 0 };
+
+    fn room(&self) -> bool {
+        true
+    }
+
+    fn put(&mut self, frag: &Frag) -> Result<(), PutFault> {
+        self.place(frag, 2)
+    }
+
+    fn next_epoch(&self) -> u64 {
+        0
+    }
+
+    fn next_told(&self) -> u16 {
+        0
+    }
+
+    fn known(&self) -> u64 {
+        0
+    }
+}
+
+impl TakeSide for ReplayedSide {
+    ghost takes = { Any };
+
+    ghost front = { λ s. front_seen s.sighted };
+
+    fn peek(&mut self) -> Sight {
+        if let Some(frag) = self.sighted {
+            self.effect.saw = true;
+            return sight_of(frag);
+        }
+        let found = self.look();
+        self.sighted = found;
+        match found {
+            None => Sight::Empty,
+            Some(frag) => sight_of(frag),
+        }
+    }
+
+    fn take(&mut self) -> Sight {
+        let found = match self.sighted {
+            None => self.look(),
+            Some(frag) => Some(frag),
+        };
+        self.sighted = None;
+        match found {
+            None => Sight::Empty,
+            Some(frag) => {
+                let _ = self.inbox.pop_front();
+                self.taken = self.taken.wrapping_add(1);
+                self.effect.took = true;
+                sight_of(frag)
+            }
+        }
+    }
+
+    fn tell(&mut self) -> Result<Told, PutFault> {
+        if self.taken.wrapping_sub(self.told) < self.half {
+            return Ok(Told::Nothing);
+        }
+        match self.place(&ACKNOWLEDGEMENT, 1) {
+            Ok(()) => Ok(Told::Written),
+            Err(_) => Err(PutFault::Full),
+        }
+    }
+}
