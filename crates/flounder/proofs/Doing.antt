@@ -1,5 +1,5 @@
 -- What `cores` and a whole run did, from what each of their calls did.
-use Rattle.std.proofs.Common.{◌≡◌, ℕ, Bool, List, [], ◌∷◌, Option, Some, refl, sym, ◌∙◌, subst, inl, inr}
+use Rattle.std.proofs.Common.{◌≡◌, ◌⊎◌, arith, ℕ, Bool, List, [], ◌∷◌, Option, Some, refl, sym, ◌∙◌, subst, inl, inr}
 use Rattle.std.specs.Prelude.{MatchResult, Result, Ok, Err}
 use Rattle.std.specs.declared.io.ErrorKind.{ErrorKind}
 use Rattle.clap.specs.Words.{Text, HasKind, kind_of}
@@ -7,16 +7,19 @@ use Rattle.clap.specs.declared.error.Error.{Error}
 use Rattle.flounder_args.specs.Words.{Asked, asks_for, refusals}
 use Rattle.flounder_commands.specs.declared.fault.Fault.{Fault}
 use Rattle.flounder_commands.specs.Commands.{failed_status, Compiles, Views, Execs, Helps}
-use Rattle.flounder_commands.specs.FileEffects.{FileEffect, was_read, was_not_read, Adds, Does}
+use Rattle.flounder_commands.specs.FileEffects.{FileEffect, was_read, was_not_read, was_written, was_not_written, Adds, Does}
+use Rattle.flounder_commands.specs.Headers.{Heads}
 use Rattle.flounder_commands.specs.Parts.{EndsSo}
 use Rattle.flounder_commands.specs.Status.{status_of}
 use Rattle.flounder_commands.specs.Streams.{Output, Streams, Prints, IsUntouched, IsUnread}
-use Rattle.flounder_commands.proofs.FileEffects.{does_none, does_one, does_weaker}
+use Rattle.flounder_commands.proofs.FileEffects.{does_none, does_one, does_more, does_weaker}
 use Rattle.fl_cores.specs.declared.fault.CoresFault.{CoresFault}
 use Rattle.fl_cores.specs.declared.text.CoresEnd.{CoresEnd}
 use Rattle.fl_cores.specs.Promised.{IsFaultOfText}
 use Rattle.fl_cores.specs.Honesty as run
-use Rattle.flounder.specs.Commands.{cores_status, end_status, IsTold, TellsCores, RunsCores, Performs, Runs}
+use Rattle.fl_cores_script.specs.Replays.{Replays}
+use Rattle.flounder.specs.Charts.{Charts}
+use Rattle.flounder.specs.Commands.{cores_status, end_status, IsTold, TellsCores, RunsCores, RecordsCores, DoesCores, KeepsScript, WritesScript, Performs, Runs}
 
 -- ---- cores
 
@@ -58,6 +61,72 @@ pub told_so : {A : Type 0} (r : Result A Fault) (end : CoresEnd) (told : List �
 told_so (Ok x) end told o p h = inl (sym h, p)
 told_so (Err f) end told o p h = inl (h, p)
 
+-- ---- cores, recorded
+
+-- what is done without a script is done with the option, too
+pub recorded_so : (old new : Option (List FileEffect)) (file : List ℕ) (turns : ℕ) (out : List ℕ) (o : Output) (status : ℕ) → Does old new (RunsCores file turns o status)
+    → Does old new (RecordsCores file turns out o status)
+recorded_so old new file turns out o status h = does_weaker old new (RunsCores file turns o status) (RecordsCores file turns out o status) (λ ds p. inl p) h
+
+-- what came of the content that was read
+pub recorded_done : (old middle new : Option (List FileEffect)) (file bytes content : List ℕ) (turns : ℕ) (out : List ℕ) (o : Output) (status : ℕ) → Adds old middle (was_read file bytes)
+    → content ≡ bytes → Does middle new (λ effects. RecordsCores file turns out o status (was_read file content ∷ effects)) → Does old new (RecordsCores file turns out o status)
+recorded_done old middle new file bytes content turns out o status a e h =
+    does_more old middle new (was_read file bytes) (RecordsCores file turns out o status) a
+    (subst (λ (t : List ℕ). Does middle new (λ effects. RecordsCores file turns out o status (was_read file t ∷ effects))) e h)
+
+-- no script was looked for
+pub not_kept : (old : Option (List FileEffect)) (file bytes : List ℕ) (turns : ℕ) (out : List ℕ) (o : Output) (status : ℕ) → RunsCores file turns o status (was_read file bytes ∷ [])
+    → Does old old (λ effects. RecordsCores file turns out o status (was_read file bytes ∷ effects))
+not_kept old file bytes turns out o status h = does_none old (λ effects. RecordsCores file turns out o status (was_read file bytes ∷ effects)) (inl h)
+
+-- the status of a run with a report
+abbrev pub HasReport : ℕ → Type 0
+HasReport status = (status ≡ 0) ⊎ (((status ≡ 0) → ⊥) × (status ≡ 5))
+
+-- where the status is that, the report was printed
+all_printed : (end : CoresEnd) (told : List ℕ) (o : Output) (status : ℕ) → TellsCores end told o status → HasReport status → (status ≡ end_status end) × Prints o told
+all_printed end told o status (inl p) h = p
+all_printed end told o status (inr p) (inl h) = absurd (omega (arith, p.0, h))
+all_printed end told o status (inr p) (inr h) = absurd (omega (arith, p.0, h.1))
+
+-- a script of the run was looked for, once all was printed
+pub kept_so : (old new : Option (List FileEffect)) (file bytes told put report : List ℕ) (turns : ℕ) (end : CoresEnd) (out : List ℕ) (o : Output) (status result : ℕ) → put ≡ told
+    → report ≡ told → IsTold bytes turns end told → TellsCores end put o status → HasReport status → Does old new (KeepsScript out report status result)
+    → Does old new (λ effects. RecordsCores file turns out o result (was_read file bytes ∷ effects))
+kept_so old new file bytes told put report turns end out o status result e same h t is kept =
+    let p = all_printed end told o status (subst (λ (u : List ℕ). TellsCores end u o status) e t) is in
+    does_weaker old new (KeepsScript out report status result) (λ effects. RecordsCores file turns out o result (was_read file bytes ∷ effects))
+    (λ ds k. inr (
+      bytes,
+      told,
+      end,
+      ds,
+      h,
+      p.1,
+      refl,
+      subst (λ (n : ℕ). KeepsScript out told n result ds) p.0 (subst (λ (u : List ℕ). KeepsScript out u status result ds) same k),
+    )) kept
+
+-- a script that was found
+pub script_found : (old new : Option (List FileEffect)) (out script put told : List ℕ) (status result : ℕ) → put ≡ script → Replays script told
+    → Does old new (WritesScript out put status result) → Does old new (KeepsScript out told status result)
+script_found old new out script put told status result e r h =
+    does_weaker old new (WritesScript out put status result) (KeepsScript out told status result) (λ ds w. inl (put, subst (λ (u : List ℕ). Replays u told) (sym e) r, w)) h
+
+pub none_found : (old : Option (List FileEffect)) (out told : List ℕ) (status : ℕ) → Does old old (KeepsScript out told status status)
+none_found old out told status = does_none old (KeepsScript out told status status) (inr (refl, inl refl))
+
+pub no_room : (old : Option (List FileEffect)) (out told : List ℕ) (status result : ℕ) → result ≡ 3 → Does old old (KeepsScript out told status result)
+no_room old out told status result e = does_none old (KeepsScript out told status result) (inr (refl, inr e))
+
+pub wrote : (old new : Option (List FileEffect)) (out script : List ℕ) (status : ℕ) → Adds old new (was_written out script) → Does old new (WritesScript out script status status)
+wrote old new out script status a = does_one old new (was_written out script) (WritesScript out script status status) a (inl (refl, refl))
+
+pub not_wrote : (old new : Option (List FileEffect)) (out script : List ℕ) (kind : ErrorKind) (status result failed : ℕ) → Adds old new (was_not_written out kind) → result ≡ failed → failed ≡ failed_status kind
+    → Does old new (WritesScript out script status result)
+not_wrote old new out script kind status result failed a e h = does_one old new (was_not_written out kind) (WritesScript out script status result) a (inr (kind, refl, e ∙ h))
+
 -- ---- a whole run
 
 pub performs_exec : (old : Option (List FileEffect)) (strict : Bool) (io : Streams) (status : ℕ) → Execs strict io status → Does old old (λ effects. (effects ≡ []) × Execs strict io status)
@@ -73,10 +142,20 @@ pub performs_compile : (old new : Option (List FileEffect)) (io : Streams) (file
 performs_compile old new io file out status u v h =
     does_weaker old new (Compiles file out status) (λ effects. IsUnread io × IsUntouched io.output × Compiles file out status effects) (λ ds p. (u, v, p)) h
 
-pub performs_cores : (old new : Option (List FileEffect)) (io : Streams) (file : List ℕ) (turns status : ℕ) → IsUnread io → Does old new (RunsCores file turns io.output status)
-    → Does old new (λ effects. IsUnread io × RunsCores file turns io.output status effects)
-performs_cores old new io file turns status u h =
-    does_weaker old new (RunsCores file turns io.output status) (λ effects. IsUnread io × RunsCores file turns io.output status effects) (λ ds p. (u, p)) h
+pub performs_cores : (old new : Option (List FileEffect)) (io : Streams) (file : List ℕ) (turns : ℕ) (script : Option Text) (status : ℕ) → IsUnread io
+    → Does old new (DoesCores file turns script io.output status) → Does old new (λ effects. IsUnread io × DoesCores file turns script io.output status effects)
+performs_cores old new io file turns script status u h =
+    does_weaker old new (DoesCores file turns script io.output status) (λ effects. IsUnread io × DoesCores file turns script io.output status effects) (λ ds p. (u, p)) h
+
+pub performs_chart : (old new : Option (List FileEffect)) (io : Streams) (file : List ℕ) (lines : Option Text) (status : ℕ) → IsUnread io → Does old new (Charts file lines io.output status)
+    → Does old new (λ effects. IsUnread io × Charts file lines io.output status effects)
+performs_chart old new io file lines status u h =
+    does_weaker old new (Charts file lines io.output status) (λ effects. IsUnread io × Charts file lines io.output status effects) (λ ds p. (u, p)) h
+
+pub performs_header : (old new : Option (List FileEffect)) (io : Streams) (file : List ℕ) (status : ℕ) → IsUnread io → Does old new (Heads file io.output status)
+    → Does old new (λ effects. IsUnread io × Heads file io.output status effects)
+performs_header old new io file status u h =
+    does_weaker old new (Heads file io.output status) (λ effects. IsUnread io × Heads file io.output status effects) (λ ds p. (u, p)) h
 
 pub runs_asked : (old new : Option (List FileEffect)) (words : List Text) (io : Streams) (asked : Asked) (status : ℕ) → asks_for words ≡ Some asked → refusals words ≡ [] → Does old new (Performs asked io status)
     → Does old new (Runs words io status)

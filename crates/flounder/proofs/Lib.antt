@@ -1,1 +1,2 @@
+mod Charting
 mod Doing

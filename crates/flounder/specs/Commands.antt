@@ -1,20 +1,24 @@
 -- What `cores` does with files and standard output, what a whole run of the program does, and the statuses with which they end.
 -- Public promises rest on this file.
-use Rattle.std.specs.Prelude.{◌≡◌, ◌⊎◌, ℕ, List, [], ◌∷◌}
+use Rattle.std.specs.Prelude.{◌≡◌, ◌⊎◌, ℕ, List, [], ◌∷◌, Option, None, Some}
+use Rattle.std.specs.declared.io.ErrorKind.{ErrorKind}
 use Rattle.clap.specs.declared.error.kind.ErrorKind.{ErrorKind as UsageKind}
 use Rattle.clap.specs.declared.error.kind.ErrorKind.TheVariants.{OutOfMemory as NoMemory}
 use Rattle.clap.specs.Words.{IsAmong, Text}
-use Rattle.flounder_args.specs.Words.{Asked, to_run, to_show, to_compile, to_run_cores, AskFor, refusals}
-use Rattle.flounder_commands.specs.Commands.{Unread, Compiles, Views, Execs, Helps}
-use Rattle.flounder_commands.specs.FileEffects.{FileEffect, was_read}
+use Rattle.flounder_args.specs.Words.{Asked, to_run, to_show, to_compile, to_run_cores, to_chart, to_head, AskFor, refusals}
+use Rattle.flounder_commands.specs.Commands.{Unread, failed_status, Compiles, Views, Execs, Helps}
+use Rattle.flounder_commands.specs.FileEffects.{FileEffect, was_read, was_written, was_not_written}
+use Rattle.flounder_commands.specs.Headers.{Heads}
 use Rattle.flounder_commands.specs.Parts.{IsCut}
 use Rattle.flounder_commands.specs.Streams.{Output, Streams, PutsPrefix, Prints, IsUntouched, IsUnread}
+use Rattle.flounder.specs.Charts.{Charts}
 use Rattle.fl_cores.specs.declared.fault.CoresFault.{CoresFault}
 use Rattle.fl_cores.specs.declared.fault.CoresFault.TheVariants as fault
 use Rattle.fl_cores.specs.declared.text.CoresEnd.{CoresEnd}
 use Rattle.fl_cores.specs.declared.text.CoresEnd.TheVariants as end
 use Rattle.fl_cores.specs.Promised.{IsFaultOfText}
 use Rattle.fl_cores.specs.Honesty.{Appends}
+use Rattle.fl_cores_script.specs.Replays.{Replays}
 
 -- ---- cores FILE --turns N
 
@@ -75,6 +79,32 @@ RunsCores file turns output status effects =
     ⊎ ((IsUntouched output × Unread file effects status)
     ⊎ (CoresUnacknowledged file turns output effects status ⊎ CoresFailed file output effects status))
 
+-- ---- cores FILE --turns N --script OUT
+
+-- a script was written to OUT, and the status is the run's; or OUT couldn't be written
+abbrev pub WritesScript : List ℕ → List ℕ → ℕ → ℕ → List FileEffect → Type 0
+WritesScript out script status result effects =
+    ((effects ≡ was_written out script ∷ []) × (result ≡ status))
+    ⊎ ((kind : ErrorKind) × (effects ≡ was_not_written out kind ∷ []) × (result ≡ failed_status kind))
+
+-- a script of the run with this report was found: what it tells of each end are the report's calls; or none was found, and the status
+-- is the run's, or memory was refused (3)
+abbrev pub KeepsScript : List ℕ → List ℕ → ℕ → ℕ → List FileEffect → Type 0
+KeepsScript out report status result effects =
+    ((script : List ℕ) × Replays script report × WritesScript out script status result effects)
+    ⊎ ((effects ≡ []) × ((result ≡ status) ⊎ (result ≡ 3)))
+
+-- as without `--script`; where all of a report was printed, a script of the run may have been written behind that
+abbrev pub RecordsCores : List ℕ → ℕ → List ℕ → Output → ℕ → List FileEffect → Type 0
+RecordsCores file turns out output result effects =
+    RunsCores file turns output result effects
+    ⊎ ((bytes told : List ℕ) × (end : CoresEnd) × (kept : List FileEffect) × IsTold bytes turns end told × Prints output told
+    × (effects ≡ was_read file bytes ∷ kept) × KeepsScript out told (end_status end) result kept)
+
+abbrev pub DoesCores : List ℕ → ℕ → Option (List ℕ) → Output → ℕ → List FileEffect → Type 0
+DoesCores file turns None output status effects = RunsCores file turns output status effects
+DoesCores file turns (Some out) output status effects = RecordsCores file turns out output status effects
+
 -- ---- a whole run
 
 -- each command does what it says, and touches nothing else
@@ -82,7 +112,9 @@ abbrev pub Performs : Asked → Streams → ℕ → List FileEffect → Type 0
 Performs (to_run explain strict) io status effects = (effects ≡ []) × Execs strict io status
 Performs (to_show file names) io status effects = IsUnread io × Views file names io.output status effects
 Performs (to_compile file out) io status effects = IsUnread io × IsUntouched io.output × Compiles file out status effects
-Performs (to_run_cores file turns) io status effects = IsUnread io × RunsCores file turns io.output status effects
+Performs (to_run_cores file turns script) io status effects = IsUnread io × DoesCores file turns script io.output status effects
+Performs (to_chart file lines) io status effects = IsUnread io × Charts file lines io.output status effects
+Performs (to_head file) io status effects = IsUnread io × Heads file io.output status effects
 
 -- the words ask for something, and it was done
 pub record DoesAsked (words : List Text) (io : Streams) (status : ℕ) (effects : List FileEffect) : Type 0 where

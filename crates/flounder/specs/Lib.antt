@@ -1,2 +1,3 @@
--- Public promises rest on this file: what `cores` and whole runs do.
+-- Public promises rest on these files: what `chart`, `cores` and whole runs do.
+pub mod Charts
 pub mod Commands

@@ -1,32 +1,54 @@
 //! The command `cores`.
 
-ghost use Rattle.std.specs.Prelude.{◌≡◌, ◌∷◌, [], MatchResult, OnOk, IfErr};
+ghost use Rattle.std.specs.Prelude.{◌≡◌, ◌∷◌, [], MatchResult, OnOk, IfErr, option_map};
 ghost use Rattle.flounder_commands.specs.FileEffects.{Does, was_read};
 ghost use Rattle.flounder_commands.specs.Parts.{EndsSo};
 ghost use Rattle.flounder_commands.specs.Status.{status_of};
 ghost use Rattle.flounder_commands.specs.Streams.{output_of};
-ghost use Rattle.flounder.specs.Commands.{RunsCores, TellsCores, cores_status, end_status};
+ghost use Rattle.flounder.specs.Commands.{DoesCores, RunsCores, TellsCores, RecordsCores, KeepsScript, WritesScript, cores_status, end_status};
 
 use fl_core_run::Gate;
-use fl_cores::{CoresEnd, CoresFault, run_cores_text};
+use fl_cores::{CoresEnd, CoresFault, Recording, run_cores_text, run_cores_text_recorded};
+use fl_cores_replay::script_of;
 use flounder_commands::{
-    Fault, FileKind, FileName, FileStore, explain_line, fault_of_reading, finish, print,
-    tell_unfinished,
+    Fault, FileKind, FileName, FileStore, explain_line, fault_of_reading, fault_of_writing, finish,
+    print, tell_unfinished,
 };
 use std::alloc::Global;
 use std::io::{BufWriter, Write};
 use std::sync::Wait;
 use std::thread::Threads;
 
-/// `cores FILE --turns N`: runs a cores file on threads, and prints what is told of that: the report, or the line
-/// that is refused. `gate` is called before each turn.
-pub fn cores_file<
+/// `cores FILE --turns N`, and with `--script OUT` where a file for a script is named.
+pub fn cores_command<
     T: Threads + Wait + Sync,
     G: Gate + Sync,
     F: FileStore,
     W: Write + Drop,
     E: Write,
 >(
+    rt: &T,
+    gate: &G,
+    alloc: Global,
+    file: &str,
+    turns: u64,
+    script: Option<&str>,
+    files: &mut F,
+    output: &mut BufWriter<W>,
+    errors: &mut E,
+) -> u8
+    ensures ran { Does (F.effects files.old) (F.effects files.new)
+        (DoesCores file.now turns (option_map (λ out. out.now) script.entry) (output_of W.contents output.old output.new) result) }
+{
+    match script {
+        None => cores_file(rt, gate, alloc, file, turns, files, output, errors),
+        Some(out) => recorded_file(rt, gate, alloc, file, turns, out, files, output, errors),
+    }
+}
+
+// `cores FILE --turns N`: runs a cores file on threads, and prints what is told of that: the report, or the line
+// that is refused. `gate` is called before each turn.
+fn cores_file<T: Threads + Wait + Sync, G: Gate + Sync, F: FileStore, W: Write + Drop, E: Write>(
     rt: &T,
     gate: &G,
     alloc: Global,
@@ -65,6 +87,114 @@ fn cores_read<T: Threads + Wait + Sync, G: Gate + Sync, W: Write + Drop, E: Writ
             finish_told(alloc, outcome, file, content, end, &told, errors)
         }
         Err(fault) => tell_no_report(fault, errors),
+    }
+}
+
+// `cores FILE --turns N --script OUT`: the same, and the run is recorded. Where its report was printed, a script that does what
+// the cores did is written to OUT, if one is found; else standard error says that none is, and the status stays.
+fn recorded_file<T: Threads + Wait + Sync, G: Gate + Sync, F: FileStore, W: Write + Drop, E: Write>(
+    rt: &T,
+    gate: &G,
+    alloc: Global,
+    file: &str,
+    turns: u64,
+    out: &str,
+    files: &mut F,
+    output: &mut BufWriter<W>,
+    errors: &mut E,
+) -> u8
+    ensures ran { Does (F.effects files.old) (F.effects files.new)
+        (RecordsCores file.now turns out.now (output_of W.contents output.old output.new) result) }
+{
+    match files.read(alloc, file, FileKind::Cores) {
+        Ok(content) => recorded_read(
+            rt, gate, alloc, file, &content, turns, out, files, output, errors,
+        ),
+        Err(error) => finish(Err(fault_of_reading(file, error)), errors),
+    }
+}
+
+// Runs and records a cores file that was read, prints what is told of that, and writes a script of the run.
+fn recorded_read<T: Threads + Wait + Sync, G: Gate + Sync, F: FileStore, W: Write + Drop, E: Write>(
+    rt: &T,
+    gate: &G,
+    alloc: Global,
+    file: &str,
+    content: &[u8],
+    turns: u64,
+    out: &str,
+    files: &mut F,
+    output: &mut BufWriter<W>,
+    errors: &mut E,
+) -> u8
+    ensures ran { Does (F.effects files.old) (F.effects files.new)
+        (λ effects. RecordsCores file.now turns out.now (output_of W.contents output.old output.new) result (was_read file.now content.now ∷ effects)) }
+{
+    let mut told = Vec::new(alloc);
+    let mut recording = Recording::new(alloc, true);
+    match run_cores_text_recorded(rt, alloc, content, turns, gate, &mut told, &mut recording) {
+        Ok(end) => {
+            let outcome = print_told(file, turns, end, &told, output);
+            let status = finish_told(alloc, outcome, file, content, end, &told, errors);
+            if status == 0 || status == 5 {
+                keep_script(
+                    alloc, content, out, &recording, &told, status, files, errors,
+                )
+            } else {
+                status
+            }
+        }
+        Err(fault) => tell_no_report(fault, errors),
+    }
+}
+
+// Writes a script of a run with this report, if one is found, and answers the run's status; another where memory is wanting or the
+// file can't be written.
+fn keep_script<F: FileStore, E: Write>(
+    alloc: Global,
+    content: &[u8],
+    out: &str,
+    recording: &Recording,
+    told: &[u8],
+    status: u8,
+    files: &mut F,
+    errors: &mut E,
+) -> u8
+    ensures kept { Does (F.effects files.old) (F.effects files.new) (KeepsScript out.now told.now status result) }
+{
+    match script_of(alloc, content, recording, told) {
+        Ok(found) => match found {
+            Some(script) => write_script(out, &script, status, files, errors),
+            None => {
+                tell_no_script(out, errors);
+                status
+            }
+        },
+        Err(_) => finish(Err(Fault::Memory), errors),
+    }
+}
+
+fn tell_no_script<E: Write>(out: &str, errors: &mut E) {
+    let out = FileName(out);
+    let _told = write!(
+        errors,
+        "no script of this run was found that exec takes; {out} is not written\n"
+    );
+}
+
+// Writes a script, and answers the run's status, or that of the write where it fails.
+fn write_script<F: FileStore, E: Write>(
+    out: &str,
+    script: &[u8],
+    status: u8,
+    files: &mut F,
+    errors: &mut E,
+) -> u8
+    ensures wrote { Does (F.effects files.old) (F.effects files.new) (WritesScript out.now script.now status result) }
+{
+    match files.write(out, script) {
+        Ok(()) => status,
+        Err(error) => finish(Err(fault_of_writing(out, error)), errors),
     }
 }
 

@@ -225,6 +225,24 @@ fn files_are_run(rt: HostRuntime) {
     }
 }
 
+// Files, the status, and the report: a script of each run is found, and can't be written; a refused line has none.
+const RECORDED: &[(&[u8], u8, &[u8])] = &[
+    (CALLS, 4, ALL_CALLS),
+    (DISK, 4, DISK_REPORT),
+    (ECHO, 4, ECHO_REPORT),
+    (HOPS, 4, HOPS_REPORT),
+    (WRONG, 2, WRONG_REPORT),
+];
+
+#[test]
+fn scripts_are_found(rt: HostRuntime) {
+    let words = ["flounder", "cores", "x", "--turns", MANY, "--script", "y"];
+    for (content, status, report) in RECORDED {
+        let ran = go(&rt, &words, Shelf::Holds("x", content), b"");
+        assert!(rt; ran.status == *status && ran.out.as_slice() == *report);
+    }
+}
+
 // Reading the file, its content, writing: standard output takes 5 bytes.
 const FIRST_FAULTS: &[(Shelf, u8)] = &[
     (Shelf::Fails(io::ErrorKind::Other), 4),

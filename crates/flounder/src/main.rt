@@ -1,9 +1,12 @@
 //! `flounder`: the message system's program. `flounder exec`, also without a word, runs the script on
 //! standard input and writes its transcript to standard output; `flounder show FILE` prints the plan table of
 //! an interface's text or of an image; `flounder compile FILE OUT` writes the image of a text; `flounder cores
-//! FILE --turns N` runs a cores file, with a thread for each core.
+//! FILE --turns N` runs a cores file, with a thread for each core, and with `--script OUT` writes a script of the
+//! run; `flounder chart FILE` draws a script's run; `flounder header FILE` prints a header in C for the interface of a
+//! text or of an image.
 #![tactic(auto)]
 
+mod chart;
 mod cores;
 mod progress;
 mod run;

@@ -6,11 +6,13 @@ ghost use Rattle.flounder_commands.specs.FileEffects.{Does};
 ghost use Rattle.flounder_commands.specs.Streams.{streams_of};
 ghost use Rattle.flounder.specs.Commands.{Performs, Runs};
 
-use crate::cores::cores_file;
+use crate::chart::chart_file;
+use crate::cores::cores_command;
 use fl_core_run::Gate;
 use flounder_args::{Request, hint, read_words};
 use flounder_commands::{
-    FileStore, FindsRefusals, Watch, compile_file, finish, run_script, show_file, tell_usage,
+    FileStore, FindsRefusals, Watch, compile_file, finish, header_file, run_script, show_file,
+    tell_usage,
 };
 use std::alloc::Global;
 use std::convert::AsStr;
@@ -77,8 +79,12 @@ pub fn perform<
         }
         Request::Show { file, names } => show_file(alloc, file, names, files, output, errors),
         Request::Compile { file, out } => compile_file(alloc, file, out, files, errors),
-        Request::Cores { file, turns } => {
-            cores_file(rt, gate, alloc, file, turns, files, output, errors)
-        }
+        Request::Cores {
+            file,
+            turns,
+            script,
+        } => cores_command(rt, gate, alloc, file, turns, script, files, output, errors),
+        Request::Chart { file, lines } => chart_file(alloc, file, lines, files, output, errors),
+        Request::Header { file } => header_file(alloc, file, files, output, errors),
     }
 }

@@ -117,6 +117,8 @@ const MIXED: Shelf = Shelf::Holds(
     b"interface i { message m(uint8 a, string s, uint16 b); }",
 );
 
+const REFUSED: Shelf = Shelf::Holds("cap.if", b"interface i { message m(cap c); }");
+
 const TABLE: &[u8] = b"\
 interface i plan 2
 message 0 m least 16 greatest 2063 fragments 37
@@ -142,6 +144,9 @@ const COMMANDS: &[(&[&str], u8, &[u8])] = &[
         b"line 1 refused E90\n",
     ),
     (&["flounder", "show"], 1, b""),
+    (&["flounder", "chart", "none.flounder"], 4, b""),
+    (&["flounder", "header", "none.if"], 4, b""),
+    (&["flounder", "chart", "mixed.if", "--lines", "5-4"], 1, b""),
 ];
 
 #[test]
@@ -151,4 +156,15 @@ fn commands_are_run(rt: HostRuntime) {
         assert!(rt; ran.status == *status && ran.out.as_slice() == *out);
         assert_eq!(rt; ran.err.is_empty(), *status == 0);
     }
+}
+
+// A text that is no script has a drawing, too: of one refused line.
+#[test]
+fn runs_are_drawn_and_headers_printed(rt: HostRuntime) {
+    let drawn = go(&rt, &["flounder", "chart", "mixed.if"], MIXED, b"");
+    assert!(rt; drawn.status == 0 && drawn.out.starts_with(b"<svg "));
+    let headed = go(&rt, &["flounder", "header", "mixed.if"], MIXED, b"");
+    assert!(rt; headed.status == 0 && headed.out.starts_with(b"/* Interface i, plan 2. */\n"));
+    let refused = go(&rt, &["flounder", "header", "cap.if"], REFUSED, b"");
+    assert!(rt; refused.status == 2 && refused.err.starts_with(b"E14 at 24\n"));
 }

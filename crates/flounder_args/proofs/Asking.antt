@@ -18,7 +18,7 @@ use Rattle.clap.specs.declared.error.kind.ErrorKind.TheVariants.{MissingRequired
 use Rattle.clap.specs.declared.builder.arg.Arg.{Arg}
 use Rattle.clap.specs.declared.builder.command.Command.{Command}
 use Rattle.clap.proofs.OnLiterals.{clap_on_literals}
-use Rattle.flounder_args.specs.Words.{IsCommand, Asked, to_compile, compile_asked, to_run_cores, turns_asked, cores_asked, value_of, is_number, number_in, program, asked_of, asks_for, missing_kinds, refusals}
+use Rattle.flounder_args.specs.Words.{IsCommand, Asked, to_compile, compile_asked, cores_of, cores_asked, value_of, is_number, number_in, program, asked_of, asks_for, missing_kinds, refusals}
 
 -- a command with one more below it
 pub with_one_more : (old sub new : Command) (a b : App) → IsCommand a old → IsCommand b sub → AddsSubcommand old sub new → IsCommand (with_subcommand a b.top) new
@@ -41,8 +41,8 @@ to_other rows file asked e h = h ∙ ap (option_and_then (λ f. option_map (to_c
 
 -- the values of `cores`, from its first
 pub to_turns : (rows : List Row) (file : Option Text) (asked : Option Asked) → file ≡ first_of (codes "FILE") rows
-    → asked ≡ option_and_then (λ f. option_map (to_run_cores f) (turns_asked rows)) file → asked ≡ cores_asked rows
-to_turns rows file asked e h = h ∙ ap (option_and_then (λ f. option_map (to_run_cores f) (turns_asked rows))) e
+    → asked ≡ option_and_then (λ f. cores_of f rows) file → asked ≡ cores_asked rows
+to_turns rows file asked e h = h ∙ ap (option_and_then (λ f. cores_of f rows)) e
 
 -- tests one after another
 first_two : (a b c : Bool) → (a && (b && c)) ≡ true → (a && b) ≡ true

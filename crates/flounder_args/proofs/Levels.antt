@@ -44,14 +44,14 @@ pub value_turn : (s : Shape) (id : Text) (position : ℕ) (word : Text) (h : Hel
 value_turn s id position [] h free = refl
 value_turn s id position (b ∷ bytes) h free = simp free
 
--- two words, and three, that all pass
+-- two words that pass, and a word that passes before others
 pub two_pass : (s : Shape) (w v : Walk) (a b : Text) → walked s.rules [] w a ≡ v → turn_fault s [] w a ≡ [] → turn_fault s [] v b ≡ [] → walk_fault s [] w (a ∷ b ∷ []) ≡ []
 unfolding walk_fault
 two_pass s w v a b step first second = ap₂ or_else first (ap (λ (x : Walk). walk_fault s [] x (b ∷ [])) step ∙ ap (λ (kinds : Kinds). or_else kinds []) second)
 
-pub three_pass : (s : Shape) (w v : Walk) (a b d : Text) → walked s.rules [] w a ≡ v → turn_fault s [] w a ≡ [] → walk_fault s [] v (b ∷ d ∷ []) ≡ [] → walk_fault s [] w (a ∷ b ∷ d ∷ []) ≡ []
+pub more_pass : (s : Shape) (w v : Walk) (a : Text) (others : List Text) → walked s.rules [] w a ≡ v → turn_fault s [] w a ≡ [] → walk_fault s [] v others ≡ [] → walk_fault s [] w (a ∷ others) ≡ []
 unfolding walk_fault
-three_pass s w v a b d step first others = ap₂ or_else first (ap (λ (x : Walk). walk_fault s [] x (b ∷ d ∷ [])) step ∙ others)
+more_pass s w v a others step first pass = ap₂ or_else first (ap (λ (x : Walk). walk_fault s [] x others) step ∙ pass)
 
 -- what is left to judge behind words that pass
 abbrev pub fault_behind : Shape → Held → Kinds

@@ -1,5 +1,5 @@
 -- What words ask for.
-use Rattle.std.proofs.Common.{◌≡◌, ◌∙◌, Bool, true, false, refl, ap, ap₂, arith, codes, List, [], ◌∷◌, Some}
+use Rattle.std.proofs.Common.{◌≡◌, ◌∙◌, ℕ, Bool, true, false, refl, ap, ap₂, arith, codes, List, [], ◌∷◌, Some, None}
 use Rattle.std.proofs.lemmas.Bool.{ne_eqb}
 use Rattle.std.specs.Prelude.{find, option_map, unwrap_or, if◌then◌else◌}
 use Rattle.clap.specs.Kinds.{Kinds, or_else, value_kinds}
@@ -12,9 +12,9 @@ use Rattle.clap.specs.declared.builder.value_parser.ValueParser.TheVariants.{Uns
 use Rattle.clap.proofs.ValueTestLemmas.{accepts-Accepts, Accepts-accepts}
 use Rattle.clap.proofs.OnLiterals.{clap_on_literals}
 use Rattle.clap.specs.declared.error.kind.ErrorKind.TheVariants.{DisplayHelp, DisplayVersion, MissingRequiredArgument, ValueValidation}
-use Rattle.flounder_args.specs.Words.{AskFor, BeginsWithoutHyphen, asks_for, compile_asked, show_asked, cores_asked, missing_kinds, most_turns, number_in, program, refusals, value_of, to_run, to_show, to_compile, to_run_cores}
+use Rattle.flounder_args.specs.Words.{AskFor, BeginsWithoutHyphen, asks_for, compile_asked, show_asked, cores_asked, chart_asked, missing_kinds, most_turns, number_in, program, refusals, value_of, to_run, to_show, to_compile, to_run_cores, to_chart, to_head}
 use Rattle.flounder_args.proofs.Asking.{number_is}
-use Rattle.flounder_args.proofs.Levels.{fault_behind, handed, level_passed, placed, positional_turn, positional_walked, stands, three_pass, two_pass, value_turn, value_walked}
+use Rattle.flounder_args.proofs.Levels.{fault_behind, handed, level_passed, more_pass, placed, positional_turn, positional_walked, stands, two_pass, value_turn, value_walked}
 
 pub no_word : (name : Text) → AskFor (name ∷ []) (to_run false false)
 unfolding clap_on_literals
@@ -59,6 +59,14 @@ compile_help name = refl
 pub cores_help : (name : Text) → refusals (name ∷ codes "cores" ∷ codes "--help" ∷ []) ≡ DisplayHelp ∷ []
 unfolding clap_on_literals
 cores_help name = refl
+
+pub chart_help : (name : Text) → refusals (name ∷ codes "chart" ∷ codes "--help" ∷ []) ≡ DisplayHelp ∷ []
+unfolding clap_on_literals
+chart_help name = refl
+
+pub header_help : (name : Text) → refusals (name ∷ codes "header" ∷ codes "--help" ∷ []) ≡ DisplayHelp ∷ []
+unfolding clap_on_literals
+header_help name = refl
 
 show_asked_for : (name file : Text) → BeginsWithoutHyphen file → asks_for (name ∷ codes "show" ∷ file ∷ []) ≡ Some (to_show file false)
 unfolding clap_on_literals
@@ -227,11 +235,11 @@ cores_found : (name file turns : Text) → asks_for (cores_line name file turns)
 unfolding clap_on_literals
 cores_found name file turns = refl
 
-cores_values : (file turns : Text) → cores_asked (finished cores_shape.rules (behind_turns file turns).held) ≡ option_map (to_run_cores file) (number_in turns)
+cores_values : (file turns : Text) → cores_asked (finished cores_shape.rules (behind_turns file turns).held) ≡ option_map (λ (n : ℕ). to_run_cores file n None) (number_in turns)
 unfolding clap_on_literals
 cores_values file turns = refl
 
-cores_asked_for : (name file turns : Text) → BeginsWithoutHyphen file → BeginsWithoutHyphen turns → asks_for (cores_line name file turns) ≡ option_map (to_run_cores file) (number_in turns)
+cores_asked_for : (name file turns : Text) → BeginsWithoutHyphen file → BeginsWithoutHyphen turns → asks_for (cores_line name file turns) ≡ option_map (λ (n : ℕ). to_run_cores file n None) (number_in turns)
 cores_asked_for name file turns h k =
     cores_found name file turns ∙ ap (λ (w : Walk). cores_asked (finished cores_shape.rules w.held)) (cores_walks file turns h k) ∙ cores_values file turns
 
@@ -253,7 +261,7 @@ cores_fault name file turns h k =
     two_pass cores_shape (behind_cores file) (stands (waits_for_turns file) (option (codes "N")) 2) (codes "--turns") turns
     (turns_walked file) (turns_turn file) (value_turn cores_shape (codes "N") 2 turns (waits_for_turns file) k) in
     let pass : walk_fault cores_shape [] (walk_from nothing_held) (cores_rest file turns) ≡ [] =
-    three_pass cores_shape (walk_from nothing_held) (behind_cores file) file (codes "--turns") turns
+    more_pass cores_shape (walk_from nothing_held) (behind_cores file) file (codes "--turns" ∷ turns ∷ [])
     (positional_walked cores_shape.rules 1 file nothing_held h) (positional_turn cores_shape 1 file nothing_held h) two in
     cores_entered name file turns
     ∙ ap (λ (kinds : Kinds). or_else kinds []) (level_passed cores_shape (cores_rest file turns) (behind_turns file turns) (cores_walks file turns h k) pass)
@@ -270,10 +278,10 @@ unsigned_begins_without : (turns : Text) → IsUnsignedIn 0 most_turns turns →
 unsigned_begins_without [] h = tt
 unsigned_begins_without (d ∷ ds) h = ne_eqb d 45 (λ e. not_minus ds (rw e at h))
 
-pub cores_words : (name file turns : Text) → BeginsWithoutHyphen file → IsUnsignedIn 0 most_turns turns → AskFor (cores_line name file turns) (to_run_cores file (value_of turns))
+pub cores_words : (name file turns : Text) → BeginsWithoutHyphen file → IsUnsignedIn 0 most_turns turns → AskFor (cores_line name file turns) (to_run_cores file (value_of turns) None)
 cores_words name file turns h n =
-    let asked : asks_for (cores_line name file turns) ≡ Some (to_run_cores file (value_of turns)) =
-    cores_asked_for name file turns h (unsigned_begins_without turns n) ∙ ap (option_map (to_run_cores file)) (number_is turns n.0 n.1) in
+    let asked : asks_for (cores_line name file turns) ≡ Some (to_run_cores file (value_of turns) None) =
+    cores_asked_for name file turns h (unsigned_begins_without turns n) ∙ ap (option_map (λ (n : ℕ). to_run_cores file n None)) (number_is turns n.0 n.1) in
     let passed : fault_of program (cores_line name file turns) ≡ [] =
     cores_fault name file turns h (unsigned_begins_without turns n) ∙ ap faults_at (Accepts-accepts false (Unsigned 0 most_turns) turns n) in
     (asked, ap₂ or_else passed (ap missing_kinds asked))
@@ -292,3 +300,183 @@ pub turns_refused : (name file turns : Text) → BeginsWithoutHyphen file → Be
 turns_refused name file turns h k other =
     let fails = failed (accepts false (Unsigned 0 most_turns) turns) (λ a. other (accepts-Accepts false (Unsigned 0 most_turns) turns a)) in
     ap (λ kinds. or_else kinds (missing_kinds (asks_for (cores_line name file turns)))) (cores_fault name file turns h k ∙ ap faults_at fails)
+
+-- ---- cores with a script
+
+abbrev script_line : Text → Text → Text → Text → List Text
+script_line name file turns out = name ∷ codes "cores" ∷ file ∷ codes "--turns" ∷ turns ∷ codes "--script" ∷ out ∷ []
+
+abbrev script_rest : Text → Text → Text → List Text
+script_rest file turns out = file ∷ codes "--turns" ∷ turns ∷ codes "--script" ∷ out ∷ []
+
+-- the walk behind the turns, where `--script` waits for its value, and behind that
+abbrev waits_for_script : Text → Text → Held
+waits_for_script file turns = record (settled cores_shape.rules (behind_turns file turns).held) { pending = Some (codes "OUT", []) }
+
+abbrev behind_script : Text → Text → Text → Walk
+behind_script file turns out = handed cores_shape.rules (codes "OUT") 2 out (waits_for_script file turns)
+
+script_walked : (file turns : Text) → walked cores_shape.rules [] (behind_turns file turns) (codes "--script") ≡ stands (waits_for_script file turns) (option (codes "OUT")) 2
+unfolding clap_on_literals
+script_walked file turns = refl
+
+-- the turns are judged where the next option comes
+script_turn : (file turns : Text) → turn_fault cores_shape [] (behind_turns file turns) (codes "--script") ≡ or_else (or_else (value_kinds false (Unsigned 0 most_turns) turns) []) []
+unfolding clap_on_literals
+script_turn file turns = refl
+
+script_walks : (file turns out : Text) → BeginsWithoutHyphen file → BeginsWithoutHyphen turns → BeginsWithoutHyphen out
+    → walk cores_shape.rules [] nothing_held (script_rest file turns out) ≡ behind_script file turns out
+script_walks file turns out h k l =
+    ap (λ (w : Walk). walked cores_shape.rules [] (walked cores_shape.rules [] w (codes "--script")) out) (cores_walks file turns h k)
+    ∙ ap (λ (w : Walk). walked cores_shape.rules [] w out) (script_walked file turns)
+    ∙ value_walked cores_shape.rules (codes "OUT") 2 out (waits_for_script file turns) l
+
+script_found : (name file turns out : Text) → asks_for (script_line name file turns out) ≡ cores_asked (finished cores_shape.rules (walk cores_shape.rules [] nothing_held (script_rest file turns out)).held)
+unfolding clap_on_literals
+script_found name file turns out = refl
+
+script_values : (file turns out : Text) → cores_asked (finished cores_shape.rules (behind_script file turns out).held) ≡ option_map (λ (n : ℕ). to_run_cores file n (Some out)) (number_in turns)
+unfolding clap_on_literals
+script_values file turns out = refl
+
+script_asked_for : (name file turns out : Text) → BeginsWithoutHyphen file → BeginsWithoutHyphen turns → BeginsWithoutHyphen out
+    → asks_for (script_line name file turns out) ≡ option_map (λ (n : ℕ). to_run_cores file n (Some out)) (number_in turns)
+script_asked_for name file turns out h k l =
+    script_found name file turns out ∙ ap (λ (w : Walk). cores_asked (finished cores_shape.rules w.held)) (script_walks file turns out h k l) ∙ script_values file turns out
+
+script_entered : (name file turns out : Text) → fault_of program (script_line name file turns out) ≡ or_else (level_fault cores_shape [] nothing_held (script_rest file turns out) false []) []
+unfolding clap_on_literals
+script_entered name file turns out = refl
+
+script_ends : (file turns out : Text) → fault_behind cores_shape (behind_script file turns out).held ≡ []
+unfolding clap_on_literals
+script_ends file turns out = refl
+
+script_fault : (name file turns out : Text) → BeginsWithoutHyphen file → BeginsWithoutHyphen turns → BeginsWithoutHyphen out → accepts false (Unsigned 0 most_turns) turns ≡ true
+    → fault_of program (script_line name file turns out) ≡ []
+script_fault name file turns out h k l a =
+    let judged : turn_fault cores_shape [] (behind_turns file turns) (codes "--script") ≡ [] =
+    script_turn file turns ∙ ap (λ (b : Bool). or_else (or_else (if b then [] else ValueValidation ∷ []) []) []) a in
+    let two : walk_fault cores_shape [] (behind_turns file turns) (codes "--script" ∷ out ∷ []) ≡ [] =
+    two_pass cores_shape (behind_turns file turns) (stands (waits_for_script file turns) (option (codes "OUT")) 2) (codes "--script") out
+    (script_walked file turns) judged (value_turn cores_shape (codes "OUT") 2 out (waits_for_script file turns) l) in
+    let three : walk_fault cores_shape [] (stands (waits_for_turns file) (option (codes "N")) 2) (turns ∷ codes "--script" ∷ out ∷ []) ≡ [] =
+    more_pass cores_shape (stands (waits_for_turns file) (option (codes "N")) 2) (behind_turns file turns) turns (codes "--script" ∷ out ∷ [])
+    (value_walked cores_shape.rules (codes "N") 2 turns (waits_for_turns file) k) (value_turn cores_shape (codes "N") 2 turns (waits_for_turns file) k) two in
+    let four : walk_fault cores_shape [] (behind_cores file) (codes "--turns" ∷ turns ∷ codes "--script" ∷ out ∷ []) ≡ [] =
+    more_pass cores_shape (behind_cores file) (stands (waits_for_turns file) (option (codes "N")) 2) (codes "--turns") (turns ∷ codes "--script" ∷ out ∷ [])
+    (turns_walked file) (turns_turn file) three in
+    let pass : walk_fault cores_shape [] (walk_from nothing_held) (script_rest file turns out) ≡ [] =
+    more_pass cores_shape (walk_from nothing_held) (behind_cores file) file (codes "--turns" ∷ turns ∷ codes "--script" ∷ out ∷ [])
+    (positional_walked cores_shape.rules 1 file nothing_held h) (positional_turn cores_shape 1 file nothing_held h) four in
+    script_entered name file turns out
+    ∙ ap (λ (kinds : Kinds). or_else kinds [])
+    (level_passed cores_shape (script_rest file turns out) (behind_script file turns out) (script_walks file turns out h k l) pass ∙ script_ends file turns out)
+
+pub script_words : (name file turns out : Text) → BeginsWithoutHyphen file → IsUnsignedIn 0 most_turns turns → BeginsWithoutHyphen out
+    → AskFor (script_line name file turns out) (to_run_cores file (value_of turns) (Some out))
+script_words name file turns out h n l =
+    let k = unsigned_begins_without turns n in
+    let asked : asks_for (script_line name file turns out) ≡ Some (to_run_cores file (value_of turns) (Some out)) =
+    script_asked_for name file turns out h k l ∙ ap (option_map (λ (t : ℕ). to_run_cores file t (Some out))) (number_is turns n.0 n.1) in
+    let passed : fault_of program (script_line name file turns out) ≡ [] = script_fault name file turns out h k l (Accepts-accepts false (Unsigned 0 most_turns) turns n) in
+    (asked, ap₂ or_else passed (ap missing_kinds asked))
+
+-- ---- chart
+
+chart_asked_for : (name file : Text) → BeginsWithoutHyphen file → asks_for (name ∷ codes "chart" ∷ file ∷ []) ≡ Some (to_chart file None)
+unfolding clap_on_literals
+chart_asked_for name [] h = refl
+chart_asked_for name (b ∷ bytes) h = simp h
+
+chart_taken : (name file : Text) → BeginsWithoutHyphen file → refusals (name ∷ codes "chart" ∷ file ∷ []) ≡ []
+unfolding clap_on_literals
+chart_taken name [] h = refl
+chart_taken name (b ∷ bytes) h = simp h
+
+pub chart_words : (name file : Text) → BeginsWithoutHyphen file → AskFor (name ∷ codes "chart" ∷ file ∷ []) (to_chart file None)
+chart_words name file h = (chart_asked_for name file h, chart_taken name file h)
+
+abbrev lines_line : Text → Text → Text → List Text
+lines_line name file lines = name ∷ codes "chart" ∷ file ∷ codes "--lines" ∷ lines ∷ []
+
+abbrev chart_shape : Shape
+chart_shape = shape_in (codes "chart")
+
+abbrev lines_rest : Text → Text → List Text
+lines_rest file lines = file ∷ codes "--lines" ∷ lines ∷ []
+
+abbrev behind_chart : Text → Walk
+behind_chart file = placed chart_shape.rules 1 file nothing_held
+
+abbrev waits_for_lines : Text → Held
+waits_for_lines file = record (settled chart_shape.rules (behind_chart file).held) { pending = Some (codes "A-B", []) }
+
+abbrev behind_lines : Text → Text → Walk
+behind_lines file lines = handed chart_shape.rules (codes "A-B") 2 lines (waits_for_lines file)
+
+lines_walked : (file : Text) → walked chart_shape.rules [] (behind_chart file) (codes "--lines") ≡ stands (waits_for_lines file) (option (codes "A-B")) 2
+unfolding clap_on_literals
+lines_walked file = refl
+
+lines_turn : (file : Text) → turn_fault chart_shape [] (behind_chart file) (codes "--lines") ≡ []
+unfolding clap_on_literals
+lines_turn file = refl
+
+lines_walks : (file lines : Text) → BeginsWithoutHyphen file → BeginsWithoutHyphen lines → walk chart_shape.rules [] nothing_held (lines_rest file lines) ≡ behind_lines file lines
+lines_walks file lines h k =
+    ap (λ (w : Walk). walked chart_shape.rules [] (walked chart_shape.rules [] w (codes "--lines")) lines) (positional_walked chart_shape.rules 1 file nothing_held h)
+    ∙ ap (λ (w : Walk). walked chart_shape.rules [] w lines) (lines_walked file)
+    ∙ value_walked chart_shape.rules (codes "A-B") 2 lines (waits_for_lines file) k
+
+lines_found : (name file lines : Text) → asks_for (lines_line name file lines) ≡ chart_asked (finished chart_shape.rules (walk chart_shape.rules [] nothing_held (lines_rest file lines)).held)
+unfolding clap_on_literals
+lines_found name file lines = refl
+
+lines_values : (file lines : Text) → chart_asked (finished chart_shape.rules (behind_lines file lines).held) ≡ Some (to_chart file (Some lines))
+unfolding clap_on_literals
+lines_values file lines = refl
+
+lines_asked_for : (name file lines : Text) → BeginsWithoutHyphen file → BeginsWithoutHyphen lines → asks_for (lines_line name file lines) ≡ Some (to_chart file (Some lines))
+lines_asked_for name file lines h k =
+    lines_found name file lines ∙ ap (λ (w : Walk). chart_asked (finished chart_shape.rules w.held)) (lines_walks file lines h k) ∙ lines_values file lines
+
+lines_entered : (name file lines : Text) → fault_of program (lines_line name file lines) ≡ or_else (level_fault chart_shape [] nothing_held (lines_rest file lines) false []) []
+unfolding clap_on_literals
+lines_entered name file lines = refl
+
+lines_end : (file lines : Text) → fault_behind chart_shape (behind_lines file lines).held ≡ []
+unfolding clap_on_literals
+lines_end file lines = refl
+
+lines_fault : (name file lines : Text) → BeginsWithoutHyphen file → BeginsWithoutHyphen lines → fault_of program (lines_line name file lines) ≡ []
+lines_fault name file lines h k =
+    let two : walk_fault chart_shape [] (behind_chart file) (codes "--lines" ∷ lines ∷ []) ≡ [] =
+    two_pass chart_shape (behind_chart file) (stands (waits_for_lines file) (option (codes "A-B")) 2) (codes "--lines") lines
+    (lines_walked file) (lines_turn file) (value_turn chart_shape (codes "A-B") 2 lines (waits_for_lines file) k) in
+    let pass : walk_fault chart_shape [] (walk_from nothing_held) (lines_rest file lines) ≡ [] =
+    more_pass chart_shape (walk_from nothing_held) (behind_chart file) file (codes "--lines" ∷ lines ∷ [])
+    (positional_walked chart_shape.rules 1 file nothing_held h) (positional_turn chart_shape 1 file nothing_held h) two in
+    lines_entered name file lines
+    ∙ ap (λ (kinds : Kinds). or_else kinds []) (level_passed chart_shape (lines_rest file lines) (behind_lines file lines) (lines_walks file lines h k) pass ∙ lines_end file lines)
+
+pub lines_words : (name file lines : Text) → BeginsWithoutHyphen file → BeginsWithoutHyphen lines → AskFor (lines_line name file lines) (to_chart file (Some lines))
+lines_words name file lines h k =
+    let asked : asks_for (lines_line name file lines) ≡ Some (to_chart file (Some lines)) = lines_asked_for name file lines h k in
+    (asked, ap₂ or_else (lines_fault name file lines h k) (ap missing_kinds asked))
+
+-- ---- header
+
+header_asked_for : (name file : Text) → BeginsWithoutHyphen file → asks_for (name ∷ codes "header" ∷ file ∷ []) ≡ Some (to_head file)
+unfolding clap_on_literals
+header_asked_for name [] h = refl
+header_asked_for name (b ∷ bytes) h = simp h
+
+header_taken : (name file : Text) → BeginsWithoutHyphen file → refusals (name ∷ codes "header" ∷ file ∷ []) ≡ []
+unfolding clap_on_literals
+header_taken name [] h = refl
+header_taken name (b ∷ bytes) h = simp h
+
+pub header_words : (name file : Text) → BeginsWithoutHyphen file → AskFor (name ∷ codes "header" ∷ file ∷ []) (to_head file)
+header_words name file h = (header_asked_for name file h, header_taken name file h)

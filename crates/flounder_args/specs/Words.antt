@@ -15,7 +15,7 @@ use Rattle.clap.specs.declared.builder.command.Command.{Command}
 use Rattle.clap.specs.declared.builder.command.Command.TheViews.{out-Command as fields_of}
 use Rattle.clap.specs.declared.error.kind.ErrorKind.TheVariants.{DisplayHelp, DisplayVersion, MissingRequiredArgument, ValueValidation}
 use Rattle.flounder_args.specs.declared.words.Request.{Request}
-use Rattle.flounder_args.specs.declared.words.Request.TheVariants.{Exec, Show, Compile, Cores}
+use Rattle.flounder_args.specs.declared.words.Request.TheVariants.{Exec, Show, Compile, Cores, Chart, Header}
 
 -- ---- the program's commands
 
@@ -55,8 +55,27 @@ turns_option = record (required (codes "N")) { long = Some (codes "turns"); pars
 abbrev pub cores_with_file : App
 cores_with_file = with_rule (new_app (codes "cores")) (required (codes "FILE"))
 
+abbrev pub cores_with_turns : App
+cores_with_turns = with_rule cores_with_file turns_option
+
+-- an option with a value, which need not be there
+abbrev pub script_option : Rule
+script_option = record (new_rule (codes "OUT")) { long = Some (codes "script") }
+
 abbrev pub cores_command : App
-cores_command = with_rule cores_with_file turns_option
+cores_command = with_rule cores_with_turns script_option
+
+abbrev pub lines_option : Rule
+lines_option = record (new_rule (codes "A-B")) { long = Some (codes "lines") }
+
+abbrev pub chart_with_file : App
+chart_with_file = with_rule (new_app (codes "chart")) (required (codes "FILE"))
+
+abbrev pub chart_command : App
+chart_command = with_rule chart_with_file lines_option
+
+abbrev pub header_command : App
+header_command = with_rule (new_app (codes "header")) (required (codes "FILE"))
 
 -- the program without its commands; the word `help` is none
 abbrev pub bare_program : App
@@ -64,7 +83,7 @@ bare_program = record (new_app (codes "flounder")) {
   top = record (new_app (codes "flounder")).top { disable_help_subcommand = true; has_version = true };
 }
 
--- the program with one command, with two and with three of them
+-- the program with one command, with two, three, four and five of them
 abbrev pub with_exec : App
 with_exec = with_subcommand bare_program exec_command.top
 
@@ -74,11 +93,21 @@ with_compile = with_subcommand with_exec compile_command.top
 abbrev pub with_show : App
 with_show = with_subcommand with_compile show_command.top
 
+abbrev pub with_cores : App
+with_cores = with_subcommand with_show cores_command.top
+
+abbrev pub with_chart : App
+with_chart = with_subcommand with_cores chart_command.top
+
 abbrev pub program : App
 program =
     with_subcommand
+    (with_subcommand
+    (with_subcommand
     (with_subcommand (with_subcommand (with_subcommand bare_program exec_command.top) compile_command.top) show_command.top)
-    cores_command.top
+    cores_command.top)
+    chart_command.top)
+    header_command.top
 
 -- a command that `clap` reads so, and that has no argument of all its commands
 pub record IsCommand (app : App) (c : Command) : Type 0 where
@@ -88,18 +117,23 @@ pub record IsCommand (app : App) (c : Command) : Type 0 where
 -- ---- what words ask for
 
 -- to run a script, with its refused lines told in words or not, and with a status of their own or not; to show a file, with its arguments'
--- names or not; to compile a file to another; to run a cores file, with so many turns counted at most
+-- names or not; to compile a file to another; to run a cores file, with so many turns counted at most, and to write a script of the run to
+-- a file or not; to draw the run of a script's file, of all of its lines or of those that a word tells; to print the header of a file
 pub data Asked : Type 0 where
   to_run : Bool → Bool → Asked
   to_show : Text → Bool → Asked
   to_compile : Text → Text → Asked
-  to_run_cores : Text → ℕ → Asked
+  to_run_cores : Text → ℕ → Option Text → Asked
+  to_chart : Text → Option Text → Asked
+  to_head : Text → Asked
 
 abbrev pub asked_by : Request → Asked
 asked_by (Exec explain strict) = to_run explain strict
 asked_by (Show file names) = to_show file.now names
 asked_by (Compile file out) = to_compile file.now out.now
-asked_by (Cores file turns) = to_run_cores file.now turns
+asked_by (Cores file turns script) = to_run_cores file.now turns (option_map (λ out. out.now) script)
+asked_by (Chart file lines) = to_chart file.now (option_map (λ word. word.now) lines)
+asked_by (Header file) = to_head file.now
 
 -- whether an option without a value is there
 abbrev pub is_true : Option Text → Bool
@@ -131,15 +165,26 @@ number_in word = if is_number word then Some (value_of word) else None
 abbrev pub turns_asked : List Row → Option ℕ
 turns_asked rows = option_and_then number_in (one_of (codes "N") rows)
 
+abbrev pub cores_of : Text → List Row → Option Asked
+cores_of file rows = option_map (λ turns. to_run_cores file turns (first_of (codes "OUT") rows)) (turns_asked rows)
+
 abbrev pub cores_asked : List Row → Option Asked
-cores_asked rows = option_and_then (λ file. option_map (to_run_cores file) (turns_asked rows)) (first_of (codes "FILE") rows)
+cores_asked rows = option_and_then (λ file. cores_of file rows) (first_of (codes "FILE") rows)
+
+abbrev pub chart_asked : List Row → Option Asked
+chart_asked rows = option_map (λ file. to_chart file (first_of (codes "A-B") rows)) (first_of (codes "FILE") rows)
+
+abbrev pub header_asked : List Row → Option Asked
+header_asked rows = option_map to_head (first_of (codes "FILE") rows)
 
 abbrev pub command_asked : Text → List Row → Option Asked
 command_asked name rows =
     if bytes_eq name (codes "show") then show_asked rows
     else (if bytes_eq name (codes "compile") then compile_asked rows
     else (if bytes_eq name (codes "cores") then cores_asked rows
-    else exec_asked rows))
+    else (if bytes_eq name (codes "chart") then chart_asked rows
+    else (if bytes_eq name (codes "header") then header_asked rows
+    else exec_asked rows))))
 
 -- the command that was met and its values; without one a script is run
 abbrev pub asked_of : Option (Text × List Row) → Option Asked
@@ -188,10 +233,13 @@ abbrev pub CompileIsAsked : Type 0
 CompileIsAsked = (name file out : Text) → BeginsWithoutHyphen file → BeginsWithoutHyphen out
     → AskFor (name ∷ codes "compile" ∷ file ∷ out ∷ []) (to_compile file out)
 
--- `cores FILE --turns N` asks for that, where the file's name doesn't begin with `-`, and N is a number that isn't too great;
+-- `cores FILE --turns N` asks for that, also with `--script OUT` behind it, where the files' names don't begin with `-`, and N is a number
+-- that isn't too great;
 abbrev pub CoresIsAsked : Type 0
 CoresIsAsked = (name file turns : Text) → BeginsWithoutHyphen file → IsUnsignedIn 0 most_turns turns
-    → AskFor (name ∷ codes "cores" ∷ file ∷ codes "--turns" ∷ turns ∷ []) (to_run_cores file (value_of turns))
+    → AskFor (name ∷ codes "cores" ∷ file ∷ codes "--turns" ∷ turns ∷ []) (to_run_cores file (value_of turns) None)
+    × ((out : Text) → BeginsWithoutHyphen out
+    → AskFor (name ∷ codes "cores" ∷ file ∷ codes "--turns" ∷ turns ∷ codes "--script" ∷ out ∷ []) (to_run_cores file (value_of turns) (Some out)))
 
 -- another word in the place of N is refused, and so are words without `--turns`.
 abbrev pub TurnsAreWanted : Type 0
@@ -199,6 +247,16 @@ TurnsAreWanted = (name file : Text) → BeginsWithoutHyphen file
     → (refusals (name ∷ codes "cores" ∷ file ∷ []) ≡ MissingRequiredArgument ∷ [])
     × ((turns : Text) → BeginsWithoutHyphen turns → (IsUnsignedIn 0 most_turns turns → ⊥)
     → refusals (name ∷ codes "cores" ∷ file ∷ codes "--turns" ∷ turns ∷ []) ≡ ValueValidation ∷ [])
+
+-- `chart FILE` asks for that, also with `--lines` and a word behind it, where neither begins with `-`.
+abbrev pub ChartIsAsked : Type 0
+ChartIsAsked = (name file : Text) → BeginsWithoutHyphen file
+    → AskFor (name ∷ codes "chart" ∷ file ∷ []) (to_chart file None)
+    × ((lines : Text) → BeginsWithoutHyphen lines → AskFor (name ∷ codes "chart" ∷ file ∷ codes "--lines" ∷ lines ∷ []) (to_chart file (Some lines)))
+
+-- `header FILE` asks for that, where the file's name doesn't begin with `-`.
+abbrev pub HeaderIsAsked : Type 0
+HeaderIsAsked = (name file : Text) → BeginsWithoutHyphen file → AskFor (name ∷ codes "header" ∷ file ∷ []) (to_head file)
 
 -- `--version` asks for the program's version.
 abbrev pub VersionIsAsked : Type 0
@@ -211,3 +269,5 @@ HelpIsAsked = (name : Text) → (refusals (name ∷ codes "--help" ∷ []) ≡ D
     × (refusals (name ∷ codes "show" ∷ codes "--help" ∷ []) ≡ DisplayHelp ∷ [])
     × (refusals (name ∷ codes "compile" ∷ codes "--help" ∷ []) ≡ DisplayHelp ∷ [])
     × (refusals (name ∷ codes "cores" ∷ codes "--help" ∷ []) ≡ DisplayHelp ∷ [])
+    × (refusals (name ∷ codes "chart" ∷ codes "--help" ∷ []) ≡ DisplayHelp ∷ [])
+    × (refusals (name ∷ codes "header" ∷ codes "--help" ∷ []) ≡ DisplayHelp ∷ [])

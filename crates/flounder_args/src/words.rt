@@ -3,8 +3,9 @@
 ghost use Rattle.std.specs.Prelude.{◌≡◌, false, map, option_map, IfOk, Some, codes};
 ghost use Rattle.clap.specs.Words.{FailsBy, new_app, with_rule, fault_of, first_of, found_of, rows_of, rule_of, subcommand_rows_of};
 ghost use Rattle.flounder_args.specs.Words.{exec_command, exec_with_explain, exec_asked, show_with_file, flag, is_told, bare_program, to_compile, show_command, compile_command, program, IsCommand};
-ghost use Rattle.flounder_args.specs.Words.{required, compile_with_file, with_exec, with_compile, with_show};
-ghost use Rattle.flounder_args.specs.Words.{turns_option, cores_with_file, cores_command, cores_asked, turns_asked, to_run_cores};
+ghost use Rattle.flounder_args.specs.Words.{required, compile_with_file, with_exec, with_compile, with_show, with_cores, with_chart};
+ghost use Rattle.flounder_args.specs.Words.{turns_option, cores_with_file, cores_with_turns, script_option, cores_command, cores_asked, cores_of, turns_asked};
+ghost use Rattle.flounder_args.specs.Words.{lines_option, chart_with_file, chart_command, chart_asked, header_command, header_asked};
 ghost use Rattle.flounder_args.specs.Words.{asked_by, show_asked, compile_asked, command_asked, asked_of, asks_for, refusals};
 
 use clap::builder::ValueParser;
@@ -14,16 +15,39 @@ use std::alloc::{AllocError, Global};
 use std::convert::AsStr;
 
 /// What the words ask for.
-#[derive(Clone, Copy, Debug)]
+#[derive(Clone, Copy)]
 pub enum Request<'a> {
     /// Run the script on standard input: tell its refused lines in words, and end with a status of their own.
-    Exec { explain: bool, strict: bool },
+    Exec {
+        explain: bool,
+        strict: bool,
+    },
     /// Print the plan table of the interface in this file, with its arguments' names.
-    Show { file: &'a str, names: bool },
+    Show {
+        file: &'a str,
+        names: bool,
+    },
     /// Write the image of the interface in the one file to the other.
-    Compile { file: &'a str, out: &'a str },
-    /// Run the cores file, with so many turns of a core counted at most.
-    Cores { file: &'a str, turns: u64 },
+    Compile {
+        file: &'a str,
+        out: &'a str,
+    },
+    /// Run the cores file, with so many turns of a core counted at most; and write a script of the run, where a file for it
+    /// is named.
+    Cores {
+        file: &'a str,
+        turns: u64,
+        script: Option<&'a str>,
+    },
+    /// Draw the run of the script in this file, of all of its lines or of those that a word tells.
+    Chart {
+        file: &'a str,
+        lines: Option<&'a str>,
+    },
+    /// Print a header in C for the interface in this file.
+    Header {
+        file: &'a str,
+    },
 }
 
 const EXEC: &str = "exec";
@@ -33,6 +57,10 @@ const SHOW: &str = "show";
 const COMPILE: &str = "compile";
 
 const CORES: &str = "cores";
+
+const CHART: &str = "chart";
+
+const HEADER: &str = "header";
 
 const FILE: &str = "FILE";
 
@@ -50,13 +78,19 @@ const VERSION: &str = "0.1.0";
 
 const LONG_TURNS: &str = "turns";
 
+const LONG_SCRIPT: &str = "script";
+
+const LINES: &str = "A-B";
+
+const LONG_LINES: &str = "lines";
+
 // So many turns of a core may be counted.
 const MAX_TURNS: u64 = 1_000_000_000_000;
 
 const HINT_SCRIPT: &str = "\nhelp: a script comes in on standard input: flounder exec < FILE\n";
 
 const ABOUT: &str =
-    "Runs scripts of messages between dispatchers, also with threads, compiles interfaces, and shows how they are laid out";
+    "Runs and draws scripts of messages between dispatchers, also with threads, compiles interfaces, and shows how they are laid out";
 
 const STATUSES: &str = "\
 Without a command, flounder does what `flounder exec` does: it runs the script that comes in on standard
@@ -157,7 +191,7 @@ const ABOUT_CORES: &str = "Runs a cores file, with a thread for each core";
 
 const AFTER_CORES: &str = "\
 A cores file has the lines of a script that make things (idl, cores, link, disp, export, bind) and those that
-holding in work (reply, call). What they make is set up; a circuit (bind .. hop) is opened while the cores run.
+hand in work (reply, call). What they make is set up; a circuit (bind .. hop) is opened while the cores run.
 Each core runs on a thread of its own and does what is handed in at its ends, until all cores are done or it
 has taken N turns:
 
@@ -178,9 +212,12 @@ do. A line that is refused is told alone, as `line 9 refused E44` (status 2), an
 FILE is read whole first. N says how long a run goes on that gets stuck, since a core counts its turns also
 while it waits: a million such turns take some seconds. On a terminal standard error gets a line a second;
 Ctrl-C ends the run without a report. After `turns out` standard error tells what was left undone.
+With --script the run is recorded, and told as a script that exec runs: at each end it handles the same calls.
 docs/CORES.md describes cores files, and how to choose N.";
 
 const HELP_CORES: &str = "The cores file";
+
+const HELP_RECORD: &str = "The file that gets a script of the run";
 
 const HELP_TURNS: &str =
     "How many turns of each core are counted at most: digits alone, from 0 to 1000000000000";
@@ -211,6 +248,37 @@ fn exec_command<'a>(alloc: Global) -> Result<Command<'a>, AllocError>
 {
     exec_with_explain(alloc)?.arg(flag(alloc, STRICT, HELP_STRICT))
 }
+
+const ABOUT_CHART: &str = "Draws a script's run, as SVG";
+
+const AFTER_CHART: &str = "\
+Standard output gets a drawing: a lane for each dispatcher and monitor, a row for each line, an arrow for each
+fragment, from the line that put it to the line that took it:
+
+  flounder chart hello.flounder > hello.svg
+  flounder chart long.flounder --lines 200-260 > part.svg
+
+The script is run whole. A drawing has at most 5,000 rows; a longer script wants --lines. docs/GALLERY.md shows
+drawings.";
+
+const HELP_SCRIPT: &str = "The script";
+
+const HELP_LINES: &str = "The first and the last line that are drawn; without it all";
+
+const ABOUT_HEADER: &str = "Prints a header in C for an interface";
+
+const AFTER_HEADER: &str = "\
+Of each message M of the interface I standard output gets a struct, and functions that make the numbers of a
+call of it and read them back, for callers of ffi/flounder.h:
+
+  struct I_M         a member for each argument, a0, a1, ..
+  I_M_number         the message's number
+  I_M_most           how many numbers a call has at most
+  I_M_put(m, call)   puts a call's numbers, and tells how many; 0 where a text or an array is too long
+  I_M_get(m, call, count)   whether so many numbers are such a call, which then stands in the struct
+
+A text's numbers are those of plan 2, an image's those of its own plan; docs/C.md describes calls. A file that
+is refused has status 2, as of `show`, and nothing is printed.";
 
 /// A command of this name that wants a file.
 fn with_file<'a>(
@@ -277,10 +345,48 @@ fn cores_with_file<'a>(alloc: Global) -> Result<Command<'a>, AllocError>
     with_file(alloc, CORES, ABOUT_CORES, AFTER_CORES, HELP_CORES)
 }
 
+fn cores_with_turns<'a>(alloc: Global) -> Result<Command<'a>, AllocError>
+    ensures is { IfOk result (IsCommand cores_with_turns) }
+{
+    cores_with_file(alloc)?.arg(turns_option(alloc))
+}
+
+fn script_option<'a>(alloc: Global) -> Arg<'a>
+    ensures rule { rule_of result ≡ script_option }
+    ensures local { result.global ≡ false }
+{
+    Arg::new(alloc, OUT).long(LONG_SCRIPT).help(HELP_RECORD)
+}
+
 fn cores_command<'a>(alloc: Global) -> Result<Command<'a>, AllocError>
     ensures is { IfOk result (IsCommand cores_command) }
 {
-    cores_with_file(alloc)?.arg(turns_option(alloc))
+    cores_with_turns(alloc)?.arg(script_option(alloc))
+}
+
+fn lines_option<'a>(alloc: Global) -> Arg<'a>
+    ensures rule { rule_of result ≡ lines_option }
+    ensures local { result.global ≡ false }
+{
+    Arg::new(alloc, LINES).long(LONG_LINES).help(HELP_LINES)
+}
+
+fn chart_with_file<'a>(alloc: Global) -> Result<Command<'a>, AllocError>
+    ensures is { IfOk result (IsCommand chart_with_file) }
+{
+    with_file(alloc, CHART, ABOUT_CHART, AFTER_CHART, HELP_SCRIPT)
+}
+
+fn chart_command<'a>(alloc: Global) -> Result<Command<'a>, AllocError>
+    ensures is { IfOk result (IsCommand chart_command) }
+{
+    chart_with_file(alloc)?.arg(lines_option(alloc))
+}
+
+fn header_command<'a>(alloc: Global) -> Result<Command<'a>, AllocError>
+    ensures is { IfOk result (IsCommand header_command) }
+{
+    with_file(alloc, HEADER, ABOUT_HEADER, AFTER_HEADER, HELP_SHOWN)
 }
 
 fn bare_program<'a>(alloc: Global) -> Command<'a>
@@ -314,11 +420,25 @@ fn with_show<'a>(alloc: Global) -> Result<Command<'a>, AllocError>
     program.subcommand(show_command(alloc)?)
 }
 
-fn command<'a>(alloc: Global) -> Result<Command<'a>, AllocError>
-    ensures is { IfOk result (IsCommand program) }
+fn with_cores<'a>(alloc: Global) -> Result<Command<'a>, AllocError>
+    ensures is { IfOk result (IsCommand with_cores) }
 {
     let program = with_show(alloc)?;
     program.subcommand(cores_command(alloc)?)
+}
+
+fn with_chart<'a>(alloc: Global) -> Result<Command<'a>, AllocError>
+    ensures is { IfOk result (IsCommand with_chart) }
+{
+    let program = with_cores(alloc)?;
+    program.subcommand(chart_command(alloc)?)
+}
+
+fn command<'a>(alloc: Global) -> Result<Command<'a>, AllocError>
+    ensures is { IfOk result (IsCommand program) }
+{
+    let program = with_chart(alloc)?;
+    program.subcommand(header_command(alloc)?)
 }
 
 /// Whether an option without a value is there.
@@ -378,12 +498,24 @@ fn turns_of(found: &ArgMatches<'_>) -> Option<u64>
     found.get_one(TURNS)
 }
 
+/// The file that gets a script of the run, where one is named.
+fn script_of<'a>(found: &ArgMatches<'a>) -> Option<&'a str>
+    ensures script { option_map (λ out. out.now) result ≡ first_of (codes "OUT") (rows_of (found_of found.now)) }
+{
+    found.get_str(OUT)
+}
+
 /// What `cores` is asked for of this file, where the number of turns was told.
 fn cores_with_request<'a>(file: &'a str, found: &ArgMatches<'a>) -> Option<Request<'a>>
-    ensures asked { option_map asked_by result ≡ option_map (to_run_cores file.now) (turns_asked (rows_of (found_of found.now))) }
+    ensures asked { option_map asked_by result ≡ cores_of file.now (rows_of (found_of found.now)) }
 {
+    let script = script_of(found);
     match turns_of(found) {
-        Some(turns) => Some(Request::Cores { file, turns }),
+        Some(turns) => Some(Request::Cores {
+            file,
+            turns,
+            script,
+        }),
         None => None,
     }
 }
@@ -398,6 +530,34 @@ fn cores_request<'a>(found: &ArgMatches<'a>) -> Option<Request<'a>>
     }
 }
 
+/// The lines that `chart` is to draw, where they were told.
+fn lines_of<'a>(found: &ArgMatches<'a>) -> Option<&'a str>
+    ensures lines { option_map (λ word. word.now) result ≡ first_of (codes "A-B") (rows_of (found_of found.now)) }
+{
+    found.get_str(LINES)
+}
+
+/// What `chart` is asked for, where its file was named.
+fn chart_request<'a>(found: &ArgMatches<'a>) -> Option<Request<'a>>
+    ensures asked { option_map asked_by result ≡ chart_asked (rows_of (found_of found.now)) }
+{
+    let lines = lines_of(found);
+    match found.get_str(FILE) {
+        Some(file) => Some(Request::Chart { file, lines }),
+        None => None,
+    }
+}
+
+/// What `header` is asked for, where its file was named.
+fn header_request<'a>(found: &ArgMatches<'a>) -> Option<Request<'a>>
+    ensures asked { option_map asked_by result ≡ header_asked (rows_of (found_of found.now)) }
+{
+    match found.get_str(FILE) {
+        Some(file) => Some(Request::Header { file }),
+        None => None,
+    }
+}
+
 /// What a command of that name is asked for.
 fn command_request<'a>(name: &str, found: &ArgMatches<'a>) -> Option<Request<'a>>
     ensures asked { option_map asked_by result ≡ command_asked name.now (rows_of (found_of found.now)) }
@@ -408,6 +568,10 @@ fn command_request<'a>(name: &str, found: &ArgMatches<'a>) -> Option<Request<'a>
         compile_request(found)
     } else if name == CORES {
         cores_request(found)
+    } else if name == CHART {
+        chart_request(found)
+    } else if name == HEADER {
+        header_request(found)
     } else {
         exec_request(found)
     }
@@ -467,16 +631,24 @@ pub fn read_words<'a, S: AsStr>(alloc: Global, words: &'a [S]) -> Result<Request
     request_by(&mut command, words)
 }
 
+// Whether a word asks for a command that is given a file.
+fn takes_file(word: &str) -> bool {
+    matches!(word, SHOW | COMPILE | CORES | CHART | HEADER)
+}
+
 /// What stands behind words that are refused: where `exec` is given a file, and where a file stands in a command's place,
 /// how a script comes in.
 pub fn hint<S: AsStr>(words: &[S]) -> &'static str {
-    let (first, second) = match words {
-        [_, first, second, ..] => (first.as_str(), second.as_str()),
-        [_, first] => (first.as_str(), ""),
-        _ => return "",
+    let Some(first) = words.get(1) else {
+        return "";
     };
-    let is_command = first == SHOW || first == COMPILE || first == CORES;
-    let is_exec = first == EXEC && !second.is_empty() && !second.starts_with('-');
-    let is_other = first != EXEC && !is_command && !first.starts_with('-');
-    if is_exec || is_other { HINT_SCRIPT } else { "" }
+    let file = match first.as_str() {
+        EXEC => words.get(2),
+        word if takes_file(word) => None,
+        _ => Some(first),
+    };
+    match file {
+        Some(word) if !word.as_str().starts_with('-') => HINT_SCRIPT,
+        _ => "",
+    }
 }

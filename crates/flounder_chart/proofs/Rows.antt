@@ -1,6 +1,10 @@
 -- A script's rows so far are no more than the items that were read.
 use Rattle.std.proofs.Common.{◌≡◌, ℕ, suc, ◌+◌, ◌≤◌, List, [], ◌∷◌, length, refl, arith}
+use Rattle.std.specs.Prelude.{◌<◌, IfErr, Result, Ok, Err}
 use Rattle.fl_script_lines.specs.Items.{Item, ItemsOf}
+use Rattle.flounder_chart.specs.declared.fault.ChartFault.{ChartFault}
+use Rattle.flounder_chart.specs.declared.fault.ChartFault.TheVariants.{TooLong, TooManyRows, Memory}
+use Rattle.flounder_chart.specs.Faults.{IsFaultOf, IsFaultOfRows}
 
 -- whatever items the rest has, the whole script has those and one for each row
 pub record RowsSoFar (script rest : List ℕ) (rows : ℕ) : Type 0 where
@@ -24,3 +28,17 @@ all_read script [] rows so_far e =
     let whole = so_far.back [] refl in
     (whole.0, (whole.1.0, omega (arith, whole.1.1)))
 all_read script (b ∷ rest) rows so_far e = absurd (omega (arith, e))
+
+-- a fault of a script's rows is one of the script
+fault_of_rows : (script : List ℕ) (rows : ℕ) (fault : ChartFault) → (items : List Item) × (ItemsOf script items × (rows ≤ length items))
+    → IsFaultOfRows rows fault → IsFaultOf script fault
+fault_of_rows script rows TooLong all is = absurd is
+fault_of_rows script rows TooManyRows all is =
+    let few : rows ≤ length all.0 = all.1.1 in
+    (all.0, (all.1.0, omega (arith, few, is)))
+fault_of_rows script rows Memory all is = tt
+
+pub faults_of_rows : {A : Type 0} (r : Result A ChartFault) (script : List ℕ) (rows : ℕ) → (items : List Item) × (ItemsOf script items × (rows ≤ length items))
+    → IfErr r (λ fault. IsFaultOfRows rows fault) → IfErr r (λ fault. IsFaultOf script fault)
+faults_of_rows (Ok x) script rows all is = tt
+faults_of_rows (Err fault) script rows all is = fault_of_rows script rows fault all is

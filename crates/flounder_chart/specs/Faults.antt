@@ -15,3 +15,9 @@ abbrev pub IsFaultOf : List ℕ → ChartFault → Type 0
 IsFaultOf script TooLong = 1048576 < length script
 IsFaultOf script TooManyRows = (items : List Item) × (ItemsOf script items × (5000 < length items))
 IsFaultOf script Memory = Unit {0}
+
+-- the same of a run of so many rows; no public promise rests on it
+abbrev pub IsFaultOfRows : ℕ → ChartFault → Type 0
+IsFaultOfRows rows TooLong = ⊥
+IsFaultOfRows rows TooManyRows = 5000 < rows
+IsFaultOfRows rows Memory = Unit {0}

@@ -1,15 +1,29 @@
 -- Lines that are asked for by their first and last.
-use Rattle.std.specs.Prelude.{◌≡◌, ◌<◌, ◌⊎◌, ◌==◌, ℕ, List}
+use Rattle.std.specs.Prelude.{◌≡◌, ◌<◌, ◌≤◌, ◌⊎◌, ◌==◌, ◌^◌, ℕ, List}
 use Rattle.std.specs.List.{before_first, after_first}
-use Rattle.std.specs.Str.Parse.{digits_value, without_leading_plus}
+use Rattle.std.specs.Str.Parse.{IsNumeral, digits_value, without_leading_plus}
 
 -- there are no such lines: the first is 0, or behind the last
 abbrev pub AreNone : ℕ → ℕ → Type 0
 AreNone first last = (first ≡ 0) ⊎ (last < first)
 
--- a text tells two numbers in decimal digits, before its first `-` and behind it; a plus may stand before
--- each
-abbrev pub TellsLines : List ℕ → ℕ → ℕ → Type 0
-TellsLines text first last =
-    (first ≡ digits_value 10 (without_leading_plus (before_first (λ b. b == 45) text)))
-    × (last ≡ digits_value 10 (without_leading_plus (after_first (λ b. b == 45) text)))
+-- a word is a number in decimal digits, where 64 bits hold it; a plus may stand before them
+abbrev pub number_of : List ℕ → ℕ
+number_of word = digits_value 10 (without_leading_plus word)
+
+abbrev pub IsNumber : List ℕ → Type 0
+IsNumber word = IsNumeral 10 (without_leading_plus word) × (number_of word < 2 ^ 64)
+
+-- what stands before a text's first `-`, and behind it
+abbrev pub first_word : List ℕ → List ℕ
+first_word text = before_first (λ b. b == 45) text
+
+abbrev pub last_word : List ℕ → List ℕ
+last_word text = after_first (λ b. b == 45) text
+
+-- a text tells lines, as `40-60` does: two numbers with a `-` between them, of which the first is 1 or more, and the last isn't below it
+pub record TellsLines (text : List ℕ) : Type 0 where
+  pub has_first : IsNumber (first_word text)
+  pub has_last : IsNumber (last_word text)
+  pub some : 0 < number_of (first_word text)
+  pub ordered : number_of (first_word text) ≤ number_of (last_word text)

@@ -2,13 +2,13 @@
 
 ghost use Rattle.std.specs.Prelude.{◌≡◌, ◌<◌, ◌≤◌, length, Err, IfOk, IfErr};
 ghost use Rattle.flounder_svg.specs.Xml.{IsDocument};
-ghost use Rattle.flounder_chart.specs.Faults.{IsFaultOf};
+ghost use Rattle.flounder_chart.specs.Faults.{IsFaultOf, IsFaultOfRows};
 
 use crate::chosen::Lines;
 use crate::drawing::{Shown, draw};
 use crate::fault::ChartFault;
 use crate::reading::read_run;
-use crate::run::Row;
+use crate::run::{Row, Run};
 use fl_model::Machine;
 use fl_script_exec::{ExecFault, MAX_SCRIPT, exec};
 use std::alloc::Global;
@@ -34,13 +34,41 @@ pub fn chart_script<M: Machine + Drop>(
     if script.len() > MAX_SCRIPT {
         return Err(ChartFault::TooLong);
     }
-    let transcript = transcript_of::<M>(alloc, script)?;
-    let run = read_run(alloc, script, &transcript)?;
+    match transcript_of::<M>(alloc, script) {
+        Ok(transcript) => chart_transcript(alloc, script, &transcript, lines),
+        Err(fault) => Err(fault),
+    }
+}
+
+// The same for a script that was run, from its transcript.
+fn chart_transcript(
+    alloc: Global,
+    script: &[u8],
+    transcript: &[u8],
+    lines: Option<Lines>,
+) -> Result<Vec<u8>, ChartFault>
+    ensures document { IfOk result (λ drawing. IsDocument drawing.items) }
+    ensures fault { IfErr result (λ fault. IsFaultOf script.now fault) }
+{
+    match read_run(alloc, script, transcript) {
+        Ok(run) => chart_run(alloc, &run, lines),
+        Err(error) => Err(ChartFault::from(error)),
+    }
+}
+
+// The same for a run.
+fn chart_run(alloc: Global, run: &Run<'_>, lines: Option<Lines>) -> Result<Vec<u8>, ChartFault>
+    ensures document { IfOk result (λ drawing. IsDocument drawing.items) }
+    ensures fault { IfErr result (λ fault. IsFaultOfRows (length run.now.rows.items) fault) }
+{
     let shown = shown_rows(&run.rows, lines);
     if shown.end.saturating_sub(shown.first) > MAX_ROWS {
         return Err(ChartFault::TooManyRows);
     }
-    Ok(draw(alloc, &run, shown)?)
+    match draw(alloc, run, shown) {
+        Ok(drawing) => Ok(drawing),
+        Err(error) => Err(ChartFault::from(error)),
+    }
 }
 
 // The script's transcript; it is written into memory, so that nothing but memory can be refused.
@@ -67,8 +95,17 @@ fn shown_rows(rows: &[Row<'_>], lines: Option<Lines>) -> Shown
             end: rows.len(),
         };
     };
+    let mut shown = Shown { first: 0, end: 0 };
+    for row in rows {
+        if row.number < first {
+            shown.first = shown.first.saturating_add(1);
+        }
+        if row.number <= last {
+            shown.end = shown.end.saturating_add(1);
+        }
+    }
     Shown {
-        first: rows.iter().filter(|row| row.number < first).count(),
-        end: rows.iter().filter(|row| row.number <= last).count(),
+        first: shown.first,
+        end: shown.end.min(rows.len()),
     }
 }

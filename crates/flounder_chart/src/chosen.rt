@@ -1,7 +1,7 @@
 //! The lines of a script that are drawn.
 
-ghost use Rattle.std.specs.Prelude.{◌≡◌, ◌<◌, ◌≤◌, ◌↔◌, IsNone, IfSome};
-ghost use Rattle.flounder_chart.specs.Lines.{AreNone, TellsLines};
+ghost use Rattle.std.specs.Prelude.{◌≡◌, ◌<◌, ◌≤◌, ◌↔◌, SomeIff, IsNone, IfSome};
+ghost use Rattle.flounder_chart.specs.Lines.{AreNone, IsNumber, TellsLines, first_word, last_word, number_of};
 
 /// Some lines of a script, by the numbers of the first and the last, from 1.
 #[derive(Clone, Copy)]
@@ -10,6 +10,13 @@ pub struct Lines {
     pub last: usize,
     pub ghost some: { 0 < first },
     pub ghost ordered: { first ≤ last },
+}
+
+// The number that a word is.
+fn number(word: &str) -> Option<usize>
+    ensures number { SomeIff result (IsNumber word.now) (number_of word.now) }
+{
+    word.parse::<usize>().ok()
 }
 
 impl Lines {
@@ -24,13 +31,15 @@ impl Lines {
         Some(Lines { first, last })
     }
 
-    /// The lines that a text such as `40-60` tells.
+    /// The lines that a text such as `40-60` tells, if it tells any.
     pub fn read(text: &str) -> Option<Lines>
-        ensures lines { IfSome result (λ lines. TellsLines text.now lines.first lines.last) }
+        ensures none { IsNone result ↔ (TellsLines text.now → ⊥) }
+        ensures first { IfSome result (λ lines. lines.first ≡ number_of (first_word text.now)) }
+        ensures last { IfSome result (λ lines. lines.last ≡ number_of (last_word text.now)) }
     {
         let (first, last) = text.split_once('-')?;
-        let first = first.parse::<usize>().ok()?;
-        let last = last.parse::<usize>().ok()?;
+        let first = number(first)?;
+        let last = number(last)?;
         Lines::new(first, last)
     }
 }

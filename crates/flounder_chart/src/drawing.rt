@@ -1,15 +1,14 @@
 //! The drawing of a run.
 
-ghost use Rattle.std.specs.Prelude.{◌≡◌, IfOk};
-ghost use Rattle.flounder_svg.specs.declared.names.Tag.TheVariants.{Svg};
+ghost use Rattle.std.specs.Prelude.{IfOk};
 ghost use Rattle.flounder_svg.specs.Xml.{IsDocument};
 
-use crate::cutting::fitted;
-use crate::layout::{LabelSide, Lane, Layout, MOST_OF_NAME, ROW, TEXT, TOP, behind_text, row_y};
+use crate::canvas::{Canvas, Placed};
+use crate::layout::{LabelSide, Lane, Layout, MOST_OF_NAME, ROW, TOP, row_y};
 use crate::marks::{LEGEND_HEIGHT, STYLE, draw_heads, draw_legend};
-use crate::passages::draw_passages;
+use crate::passages::{count_above, draw_arrows, draw_dots};
 use crate::run::{Row, RowKind, Run};
-use flounder_svg::{Attribute, Document, StartTag, Tag};
+use flounder_svg::{Attribute, Tag};
 use std::alloc::{AllocError, Global};
 
 /// The rows that are drawn: those at these places of the run.
@@ -17,23 +16,6 @@ use std::alloc::{AllocError, Global};
 pub(crate) struct Shown {
     pub first: usize,
     pub end: usize,
-}
-
-/// A drawing that is made: its document so far, and its places.
-#[derive(Drop)]
-pub(crate) struct Drawing<'a> {
-    pub alloc: Global,
-    pub document: Document,
-    pub layout: &'a Layout<'a>,
-    pub shown: Shown,
-}
-
-/// Where a text stands, and how it looks.
-#[derive(Clone, Copy)]
-pub(crate) struct Placed {
-    pub class: &'static [u8],
-    pub x: u32,
-    pub y: u32,
 }
 
 /// Draws some rows of a run.
@@ -45,417 +27,229 @@ pub(crate) fn draw(alloc: Global, run: &Run<'_>, shown: Shown) -> Result<Vec<u8>
 {
     let end = shown.end.min(run.rows.len());
     let rows = &run.rows[shown.first.min(end)..end];
-    let layout = Layout::new(alloc, run, rows)?;
-    let bottom = bottom_of(rows.len());
-    let document = begin(alloc, layout.width(), bottom.saturating_add(LEGEND_HEIGHT))?;
-    let mut drawing = Drawing {
-        alloc,
-        document,
-        layout: &layout,
-        shown,
+    let mut layout = Layout::new(alloc, run, rows);
+    count_above(&mut layout, run, shown);
+    if !layout.is_whole {
+        return Err(AllocError);
+    }
+    draw_in(alloc, &layout, run, rows, shown)
+}
+
+// The same, within its places.
+fn draw_in(
+    alloc: Global,
+    layout: &Layout<'_>,
+    run: &Run<'_>,
+    rows: &[Row<'_>],
+    shown: Shown,
+) -> Result<Vec<u8>, AllocError>
+    ensures document { IfOk result (λ drawing. IsDocument drawing.items) }
+{
+    let width = layout.width();
+    let bottom = row_y(rows.len()).saturating_sub(ROW / 2);
+    match Canvas::new(alloc, width, bottom.saturating_add(LEGEND_HEIGHT)) {
+        Ok(canvas) => draw_on(canvas, layout, run, rows, shown),
+        Err(error) => Err(error),
+    }
+}
+
+// The same, on an empty drawing.
+fn draw_on(
+    mut canvas: Canvas,
+    layout: &Layout<'_>,
+    run: &Run<'_>,
+    rows: &[Row<'_>],
+    shown: Shown,
+) -> Result<Vec<u8>, AllocError>
+    ensures document { IfOk result (λ drawing. IsDocument drawing.items) }
+{
+    describe(&mut canvas, layout, run, rows.len());
+    draw_heads(&mut canvas);
+    let bottom = row_y(rows.len()).saturating_sub(ROW / 2);
+    draw_ground(&mut canvas, layout.width(), rows.len(), bottom);
+    draw_lanes(&mut canvas, layout, bottom);
+    draw_arrows(&mut canvas, layout, run, shown);
+    draw_rows(&mut canvas, layout, rows);
+    draw_dots(&mut canvas, layout, run, shown);
+    draw_legend(&mut canvas, bottom);
+    canvas.finish()
+}
+
+// What is said of the drawing to those who don't see it, and how its parts look.
+fn describe(canvas: &mut Canvas, layout: &Layout<'_>, run: &Run<'_>, rows: usize) {
+    canvas.text_in(
+        Tag::Title,
+        &[(Attribute::Id, b"title")],
+        b"A script's run: who put which fragment, and who took it",
+    );
+    let lanes = layout.lanes.len();
+    let passages = run.passages.len();
+    let alloc = canvas.alloc;
+    let text = canvas.made(format!(in alloc;
+        "Lines: {rows}; lanes: {lanes}; fragments in the whole run: {passages}. Time goes down."
+    ));
+    canvas.text_in(Tag::Desc, &[(Attribute::Id, b"desc")], text.as_bytes());
+    canvas.text_in(Tag::Style, &[], STYLE);
+}
+
+// The ground: white, and every second row a little darker, so that a line is followed to its lane.
+fn draw_ground(canvas: &mut Canvas, width: u32, rows: usize, bottom: u32) {
+    let height = bottom.saturating_add(LEGEND_HEIGHT);
+    canvas.rectangle(b"ground", (0, 0), (width, height));
+    for place in 0..rows {
+        if place % 2 == 0 {
+            let y = row_y(place).saturating_sub(ROW / 2);
+            canvas.rectangle(b"band", (0, y), (width, ROW));
+        }
+    }
+}
+
+// The lanes, between their names, and the cores above those.
+fn draw_lanes(canvas: &mut Canvas, layout: &Layout<'_>, bottom: u32) {
+    canvas.open_group(b"group", b"lanes");
+    let mut first = 0;
+    for (place, lane) in layout.lanes.iter().enumerate() {
+        let x = layout.lane_x(place);
+        draw_lane(canvas, lane, x, bottom);
+        if is_last_of_core(&layout.lanes, place, lane.core) {
+            draw_core(canvas, lane.core, layout.lane_x(first), x);
+            first = place.saturating_add(1);
+        }
+    }
+    canvas.close();
+}
+
+// Whether the lane behind this one is of another core, or there is none.
+fn is_last_of_core(lanes: &[Lane<'_>], place: usize, core: u32) -> bool {
+    match lanes.get(place.saturating_add(1)) {
+        Some(next) => next.core != core,
+        None => true,
+    }
+}
+
+fn draw_lane(canvas: &mut Canvas, lane: &Lane<'_>, x: u32, bottom: u32) {
+    canvas.line(b"lane", (x, TOP - 8), (x, bottom));
+    let class = b"name";
+    let y = TOP - 14;
+    canvas.label(Placed { class, x, y }, lane.name, MOST_OF_NAME);
+    let y = bottom.saturating_add(13);
+    canvas.label(Placed { class, x, y }, lane.name, MOST_OF_NAME);
+    draw_count(canvas, b"left", x.saturating_sub(21), lane.left_above);
+    draw_count(canvas, b"right", x.saturating_add(21), lane.right_above);
+}
+
+// How many dots stand at one place above the first row, where it is more than one.
+fn draw_count(canvas: &mut Canvas, class: &'static [u8], x: u32, count: u32) {
+    if count > 1 {
+        let alloc = canvas.alloc;
+        let digits = canvas.made(format!(in alloc; "{count}"));
+        let y = TOP;
+        canvas.label(Placed { class, x, y }, digits.as_bytes(), 8);
+    }
+}
+
+// A core's name, over its lanes, of which the first and the last stand here.
+fn draw_core(canvas: &mut Canvas, core: u32, first: u32, last: u32) {
+    let left = first.saturating_sub(24);
+    let width = last.saturating_add(24).saturating_sub(left);
+    let alloc = canvas.alloc;
+    let text = canvas.made(format!(in alloc; "core {core}"));
+    canvas.rectangle(b"core", (left, 10), (width, 20));
+    let name = Placed {
+        class: b"name",
+        x: left.saturating_add(width / 2),
+        y: 24,
     };
-    drawing.describe(run, rows.len())?;
-    draw_heads(&mut drawing)?;
-    drawing.draw_ground(rows.len(), bottom)?;
-    drawing.draw_lanes(bottom)?;
-    draw_passages(&mut drawing, run)?;
-    drawing.draw_rows(rows)?;
-    draw_legend(&mut drawing, bottom)?;
-    let Drawing { document, .. } = drawing;
-    document.finish()
+    canvas.label(name, text.as_bytes(), MOST_OF_NAME);
 }
 
-fn bottom_of(rows: usize) -> u32 {
-    row_y(rows).saturating_sub(ROW / 2)
-}
-
-// The document's root.
-fn begin(alloc: Global, width: u32, height: u32) -> Result<Document, AllocError> {
-    let view = format!(in alloc; "0 0 {width} {height}")?;
-    let root = root(alloc, view.as_bytes(), width)?;
-    Document::new(alloc, root)
-}
-
-fn root(alloc: Global, view: &[u8], width: u32) -> Result<StartTag, AllocError>
-    ensures root { IfOk result (λ s. s.tag ≡ Svg) }
-{
-    element(
-        alloc,
-        Tag::Svg,
-        &[
-            (Attribute::Namespace, b"http://www.w3.org/2000/svg"),
-            (Attribute::ViewBox, view),
-            (Attribute::Class, b"chart"),
-            (Attribute::Role, b"graphics-document"),
-            (Attribute::AriaLabelledBy, b"title desc"),
-        ],
-        &[(Attribute::Width, width)],
-    )
-}
-
-/// A start tag with some attributes that are words, and some that are numbers.
-///
-/// # Errors
-/// Out of memory.
-pub(crate) fn element(
-    alloc: Global,
-    tag: Tag,
-    words: &[(Attribute, &[u8])],
-    numbers: &[(Attribute, u32)],
-) -> Result<StartTag, AllocError>
-    ensures tag { IfOk result (λ s. s.tag ≡ tag) }
-{
-    let mut start = StartTag::new(alloc, tag)?;
-    'words: for (attribute, value) in words {
-        start = start.with(*attribute, value)?;
-    }
-    'numbers: for (attribute, number) in numbers {
-        start = start.at(*attribute, *number)?;
-    }
-    Ok(start)
-}
-
-impl<'a> Drawing<'a> {
-    // An element in which a text stands alone.
-    fn text_in(
-        &mut self,
-        tag: Tag,
-        words: &[(Attribute, &[u8])],
-        text: &[u8],
-    ) -> Result<(), AllocError> {
-        let start = element(self.alloc, tag, words, &[])?;
-        self.document.begin(start)?;
-        self.document.say(text)?;
-        self.document.close()
-    }
-
-    /// A group of one kind of things, which is named for those who hear the drawing read.
-    ///
-    /// # Errors
-    /// Out of memory.
-    pub(crate) fn open_group(&mut self, role: &[u8], name: &[u8]) -> Result<(), AllocError> {
-        let group = element(
-            self.alloc,
-            Tag::Group,
-            &[(Attribute::Role, role), (Attribute::AriaLabel, name)],
-            &[],
-        )?;
-        self.document.begin(group)
-    }
-
-    /// A text that is cut behind so many letters; all of it is kept as its title.
-    ///
-    /// # Errors
-    /// Out of memory.
-    pub(crate) fn label(
-        &mut self,
-        placed: Placed,
-        text: &[u8],
-        most: usize,
-    ) -> Result<(), AllocError> {
-        let start = element(
-            self.alloc,
-            Tag::Text,
-            &[(Attribute::Class, placed.class)],
-            &[(Attribute::X, placed.x), (Attribute::Y, placed.y)],
-        )?;
-        self.document.begin(start)?;
-        let (shown, is_cut) = fitted(text, most);
-        if is_cut {
-            self.title(text)?;
-        }
-        self.document.say(shown)?;
-        if is_cut {
-            self.document.say("…".as_bytes())?;
-        }
-        self.document.close()
-    }
-
-    /// The title of the element that stands open.
-    ///
-    /// # Errors
-    /// Out of memory.
-    pub(crate) fn title(&mut self, text: &[u8]) -> Result<(), AllocError> {
-        let start = StartTag::new(self.alloc, Tag::Title)?;
-        self.document.begin(start)?;
-        self.document.say(text)?;
-        self.document.close_inside()
-    }
-
-    /// A straight line.
-    ///
-    /// # Errors
-    /// Out of memory.
-    pub(crate) fn line(
-        &mut self,
-        class: &[u8],
-        from: (u32, u32),
-        to: (u32, u32),
-    ) -> Result<(), AllocError> {
-        let line = element(
-            self.alloc,
-            Tag::Line,
-            &[(Attribute::Class, class)],
-            &[
-                (Attribute::X1, from.0),
-                (Attribute::Y1, from.1),
-                (Attribute::X2, to.0),
-                (Attribute::Y2, to.1),
-            ],
-        )?;
-        self.document.put(line)
-    }
-
-    /// A rectangle: its corner, and its sizes.
-    ///
-    /// # Errors
-    /// Out of memory.
-    pub(crate) fn rectangle(
-        &mut self,
-        class: &[u8],
-        corner: (u32, u32),
-        size: (u32, u32),
-    ) -> Result<(), AllocError> {
-        let rectangle = element(
-            self.alloc,
-            Tag::Rect,
-            &[(Attribute::Class, class)],
-            &[
-                (Attribute::X, corner.0),
-                (Attribute::Y, corner.1),
-                (Attribute::Width, size.0),
-                (Attribute::Height, size.1),
-            ],
-        )?;
-        self.document.put(rectangle)
-    }
-
-    /// A dot in which nothing stands.
-    ///
-    /// # Errors
-    /// Out of memory.
-    pub(crate) fn dot(
-        &mut self,
-        class: &[u8],
-        at: (u32, u32),
-        radius: u32,
-    ) -> Result<(), AllocError> {
-        let dot = dot_at(self.alloc, &[(Attribute::Class, class)], at, radius)?;
-        self.document.put(dot)
-    }
-
-    // What is said of the drawing to those who don't see it, and how its parts look.
-    fn describe(&mut self, run: &Run<'a>, rows: usize) -> Result<(), AllocError> {
-        self.text_in(
-            Tag::Title,
-            &[(Attribute::Id, b"title")],
-            b"A script's run: who put which fragment, and who took it",
-        )?;
-        let lanes = self.layout.lanes.len();
-        let passages = run.passages.len();
-        let text = format!(in self.alloc;
-            "{rows} lines of a script, {lanes} lanes, {passages} fragments in the whole run. Time goes down."
-        )?;
-        self.text_in(Tag::Desc, &[(Attribute::Id, b"desc")], text.as_bytes())?;
-        self.text_in(Tag::Style, &[], STYLE)
-    }
-
-    // The ground: white, and every second row a little darker, so that a line is followed to its lane.
-    fn draw_ground(&mut self, rows: usize, bottom: u32) -> Result<(), AllocError> {
-        let width = self.layout.width();
-        self.rectangle(
-            b"ground",
-            (0, 0),
-            (width, bottom.saturating_add(LEGEND_HEIGHT)),
-        )?;
-        for place in 0..rows {
-            if place % 2 == 0 {
-                let y = row_y(place).saturating_sub(ROW / 2);
-                self.rectangle(b"band", (0, y), (width, ROW))?;
-            }
-        }
-        Ok(())
-    }
-
-    // The lanes, under their names, and the cores above those.
-    fn draw_lanes(&mut self, bottom: u32) -> Result<(), AllocError> {
-        let layout = self.layout;
-        self.open_group(b"group", b"lanes")?;
-        let mut first = 0;
-        for (place, lane) in layout.lanes.iter().enumerate() {
-            self.draw_lane(*lane, place, bottom)?;
-            if self.is_last_of_core(place, lane.core) {
-                self.draw_core(lane.core, first, place)?;
-                first = place.saturating_add(1);
-            }
-        }
-        self.document.close()
-    }
-
-    // Whether the lane behind this one is of another core, or there is none.
-    fn is_last_of_core(&self, place: usize, core: u32) -> bool {
-        match self.layout.lanes.get(place.saturating_add(1)) {
-            Some(next) => next.core != core,
-            None => true,
-        }
-    }
-
-    fn draw_lane(&mut self, lane: Lane<'a>, place: usize, bottom: u32) -> Result<(), AllocError> {
-        let x = self.layout.lane_x(place);
-        self.line(b"lane", (x, TOP - 8), (x, bottom))?;
-        let name = Placed {
-            class: b"name",
-            x,
-            y: TOP - 14,
-        };
-        self.label(name, lane.name, MOST_OF_NAME)
-    }
-
-    fn draw_core(&mut self, core: u32, first: usize, last: usize) -> Result<(), AllocError> {
-        let left = self.layout.lane_x(first).saturating_sub(24);
-        let right = self.layout.lane_x(last).saturating_add(24);
-        let width = right.saturating_sub(left);
-        let text = format!(in self.alloc; "core {core}")?;
-        self.rectangle(b"core", (left, 10), (width, 20))?;
-        let name = Placed {
-            class: b"name",
-            x: left.saturating_add(width / 2),
-            y: 24,
-        };
-        self.label(name, text.as_bytes(), MOST_OF_NAME)
-    }
-
-    fn draw_rows(&mut self, rows: &[Row<'a>]) -> Result<(), AllocError> {
-        self.open_group(b"list", b"lines and answers")?;
-        for (place, row) in rows.iter().enumerate() {
-            self.draw_row(row, row_y(place))?;
-        }
-        self.document.close()
-    }
-
-    // A line's number, its text, and its answer.
-    fn draw_row(&mut self, row: &Row<'a>, y: u32) -> Result<(), AllocError> {
-        let start = element(
-            self.alloc,
-            Tag::Group,
-            &[(Attribute::Role, b"listitem")],
-            &[],
-        )?;
-        self.document.begin(start)?;
-        let base = y.saturating_add(4);
-        let number = row.number;
-        let digits = format!(in self.alloc; "{number}")?;
-        let at = Placed {
-            class: b"number",
-            x: TEXT - 8,
-            y: base,
-        };
-        self.label(at, digits.as_bytes(), 8)?;
-        let class: &'static [u8] = match row.kind {
-            RowKind::Comment => b"comment",
-            RowKind::Line => b"line",
-        };
-        let at = Placed {
-            class,
-            x: TEXT,
-            y: base,
-        };
-        let most = self.layout.text_columns(row);
-        self.label(at, row.text, most)?;
+fn draw_rows(canvas: &mut Canvas, layout: &Layout<'_>, rows: &[Row<'_>]) {
+    canvas.open_group(b"list", b"lines and answers");
+    for (place, row) in rows.iter().enumerate() {
+        let y = row_y(place);
+        canvas.begin(Tag::Group, &[(Attribute::Role, b"listitem")], &[]);
+        draw_line(canvas, layout, row, y.saturating_add(4));
         if let RowKind::Line = row.kind {
-            self.draw_answer(row, y)?;
+            draw_answer(canvas, layout, row, y);
         }
-        self.document.close()
+        canvas.close();
     }
+    canvas.close();
+}
 
-    // A row's answer beside its lane, where a point stands; beside its text where nobody acts.
-    fn draw_answer(&mut self, row: &Row<'a>, y: u32) -> Result<(), AllocError> {
-        let most = self.layout.label_columns(row);
-        let tone = Tone::of(row.answer);
-        let Some(lane) = self.layout.row_lane(row) else {
-            let at = Placed {
-                class: tone.label(false),
-                x: behind_text(row),
-                y: y.saturating_add(4),
-            };
-            return self.label(at, row.answer, most);
-        };
-        let x = self.layout.lane_x(lane);
-        self.dot(tone.point(), (x, y), 3)?;
-        let (is_left, x, y) = match self.layout.label_side(row) {
-            LabelSide::Left => (true, x.saturating_sub(7), y.saturating_add(4)),
-            LabelSide::Right => (false, x.saturating_add(7), y.saturating_add(4)),
-            LabelSide::RaisedLeft => (true, x.saturating_sub(7), y.saturating_sub(2)),
-            LabelSide::RaisedRight => (false, x.saturating_add(7), y.saturating_sub(2)),
-        };
+// A line's number and its text, on this base.
+fn draw_line(canvas: &mut Canvas, layout: &Layout<'_>, row: &Row<'_>, y: u32) {
+    let number = row.number;
+    let alloc = canvas.alloc;
+    let digits = canvas.made(format!(in alloc; "{number}"));
+    let x = layout.text.saturating_sub(8);
+    let class = b"number";
+    canvas.label(Placed { class, x, y }, digits.as_bytes(), 8);
+    let class: &'static [u8] = match row.kind {
+        RowKind::Comment => b"comment",
+        RowKind::Line => b"line",
+    };
+    let x = layout.text;
+    canvas.label(Placed { class, x, y }, row.text, layout.text_columns(row));
+}
+
+// A row's answer beside its lane, where a point stands; beside its text where nobody acts.
+fn draw_answer(canvas: &mut Canvas, layout: &Layout<'_>, row: &Row<'_>, y: u32) {
+    let tone = tone_of(row.answer);
+    let most = layout.label_columns(row);
+    let base = y.saturating_add(4);
+    let Some(lane) = layout.row_lane(row) else {
         let at = Placed {
-            class: tone.label(is_left),
-            x,
-            y,
+            class: tone.right,
+            x: layout.behind_text(row),
+            y: base,
         };
-        self.label(at, row.answer, most)
-    }
+        return canvas.label(at, row.answer, most);
+    };
+    let x = layout.lane_x(lane);
+    canvas.dot(tone.point, (x, y), 3);
+    let raised = y.saturating_sub(3);
+    let (class, x, y) = match layout.label_side(row) {
+        LabelSide::Left => (tone.left, x.saturating_sub(7), base),
+        LabelSide::Right => (tone.right, x.saturating_add(7), base),
+        LabelSide::RaisedLeft => (tone.left, x.saturating_sub(7), raised),
+        LabelSide::RaisedRight => (tone.right, x.saturating_add(7), raised),
+    };
+    canvas.label(Placed { class, x, y }, row.answer, most);
 }
 
-/// A dot's start tag.
-///
-/// # Errors
-/// Out of memory.
-pub(crate) fn dot_at(
-    alloc: Global,
-    words: &[(Attribute, &[u8])],
-    at: (u32, u32),
-    radius: u32,
-) -> Result<StartTag, AllocError> {
-    element(
-        alloc,
-        Tag::Circle,
-        words,
-        &[
-            (Attribute::CenterX, at.0),
-            (Attribute::CenterY, at.1),
-            (Attribute::Radius, radius),
-        ],
-    )
-}
-
-/// How an answer looks.
+/// How an answer looks: the classes of its text, on the left of its lane and on the right, and of its point.
 #[derive(Clone, Copy)]
-enum Tone {
-    Plain,
-    Handled,
-    Refused,
+struct Tone {
+    left: &'static [u8],
+    right: &'static [u8],
+    point: &'static [u8],
 }
 
-impl Tone {
-    fn of(answer: &[u8]) -> Tone {
-        if answer.starts_with(b"handle") {
-            return Tone::Handled;
-        }
-        if answer.starts_with(b"refused") || answer == b"full".as_slice() {
-            return Tone::Refused;
-        }
-        Tone::Plain
-    }
+const PLAIN: Tone = Tone {
+    left: b"answer left",
+    right: b"answer",
+    point: b"point",
+};
 
-    // The class of its text.
-    fn label(self, is_left: bool) -> &'static [u8] {
-        match (self, is_left) {
-            (Tone::Plain, false) => b"answer",
-            (Tone::Plain, true) => b"answer left",
-            (Tone::Handled, false) => b"answer handled",
-            (Tone::Handled, true) => b"answer handled left",
-            (Tone::Refused, false) => b"answer refused",
-            (Tone::Refused, true) => b"answer refused left",
-        }
-    }
+const HANDLED: Tone = Tone {
+    left: b"answer handled left",
+    right: b"answer handled",
+    point: b"point handled",
+};
 
-    // The class of its point.
-    fn point(self) -> &'static [u8] {
-        match self {
-            Tone::Plain => b"point",
-            Tone::Handled => b"point handled",
-            Tone::Refused => b"point refused",
-        }
+const REFUSED: Tone = Tone {
+    left: b"answer refused left",
+    right: b"answer refused",
+    point: b"point refused",
+};
+
+fn tone_of(answer: &[u8]) -> Tone {
+    if answer.starts_with(b"handle") {
+        return HANDLED;
     }
+    if answer.starts_with(b"refused") || answer == b"full".as_slice() {
+        return REFUSED;
+    }
+    PLAIN
 }

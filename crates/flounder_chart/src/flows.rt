@@ -1,9 +1,9 @@
 //! Which fragment goes where, told by a script's commands and their answers alone: what is put stands in a
 //! queue until it is taken, and the first put is the first taken.
 
-use crate::run::{Actor, Carried, Passage, Queue, Spot};
+use crate::run::{Actor, Carried, End, Passage, Queue, Spot};
 use fl_base::Side;
-use std::alloc::{AllocError, Global};
+use std::alloc::Global;
 use std::collections::VecDeque;
 
 /// Cores that a script may have.
@@ -21,26 +21,6 @@ pub(crate) struct Binding {
     pub to_server: Queue,
 }
 
-/// An end, by its binding's place.
-#[derive(Clone, Copy)]
-pub(crate) struct End {
-    pub binding: usize,
-    pub side: Side,
-}
-
-impl End {
-    fn other(self) -> End {
-        let side = match self.side {
-            Side::Client => Side::Server,
-            Side::Server => Side::Client,
-        };
-        End {
-            binding: self.binding,
-            side,
-        }
-    }
-}
-
 impl Binding {
     /// The dispatcher of an end.
     pub(crate) fn dispatcher(&self, side: Side) -> Actor {
@@ -50,35 +30,31 @@ impl Binding {
         }
     }
 
-    // Puts a passage behind all that waits for an end.
-    fn push(&mut self, side: Side, place: usize) -> Result<(), AllocError> {
+    // What waits for an end.
+    fn queue(&mut self, side: Side) -> &mut Queue {
         match side {
-            Side::Client => self.to_client.push_back(place)?,
-            Side::Server => self.to_server.push_back(place)?,
-        }
-        Ok(())
-    }
-
-    // Takes the passage that waits first for an end.
-    fn pop(&mut self, side: Side) -> Option<usize> {
-        match side {
-            Side::Client => self.to_client.pop_front(),
-            Side::Server => self.to_server.pop_front(),
+            Side::Client => &mut self.to_client,
+            Side::Server => &mut self.to_server,
         }
     }
 
     // The core behind this one on the way to an end.
     fn next_core(&self, core: u32, side: Side) -> Option<u32> {
-        let place = self.route.iter().position(|other| *other == core)?;
-        match side {
-            Side::Server => self.route.get(place.saturating_add(1)).copied(),
-            Side::Client => {
-                if place == 0 {
-                    return None;
-                }
-                self.route.get(place - 1).copied()
+        let mut before = None;
+        let mut is_behind = false;
+        for other in &self.route {
+            if is_behind {
+                return Some(*other);
             }
+            if *other == core {
+                if let Side::Client = side {
+                    return before;
+                }
+                is_behind = true;
+            }
+            before = Some(*other);
         }
+        None
     }
 
     // The core of an end.
@@ -90,16 +66,25 @@ impl Binding {
     }
 }
 
-/// All queues of a run, and what passed through them.
+/// All queues of a run, and what passed through them; whole unless memory was refused.
 #[derive(Drop)]
 pub(crate) struct Flows {
-    alloc: Global,
     pub bindings: Vec<Binding>,
     // From core a to core b: at a * 16 + b.
     links: Vec<Queue>,
     pub passages: Vec<Passage>,
-    // Of each passage the end that its fragment goes to, if it carries a call.
-    bound: Vec<Option<End>>,
+    pub is_whole: bool,
+}
+
+fn other(end: End) -> End {
+    let side = match end.side {
+        Side::Client => Side::Server,
+        Side::Server => Side::Client,
+    };
+    End {
+        binding: end.binding,
+        side,
+    }
 }
 
 fn link_place(from: u32, to: u32) -> usize {
@@ -108,155 +93,108 @@ fn link_place(from: u32, to: u32) -> usize {
 
 impl Flows {
     /// Nothing is there yet.
-    ///
-    /// # Errors
-    /// Out of memory.
-    pub(crate) fn new(alloc: Global) -> Result<Flows, AllocError> {
+    pub(crate) fn new(alloc: Global) -> Flows {
         let mut links = Vec::new(alloc);
+        let mut is_whole = true;
         for _place in 0..CORES * CORES {
-            links.push(VecDeque::new(alloc))?;
+            let is_made = links.push(VecDeque::new(alloc)).is_ok();
+            is_whole = is_whole && is_made;
         }
-        Ok(Flows {
-            alloc,
+        Flows {
             bindings: Vec::new(alloc),
             links,
             passages: Vec::new(alloc),
-            bound: Vec::new(alloc),
-        })
+            is_whole,
+        }
     }
 
-    // A new passage, that stands in no queue yet.
-    fn begin(
-        &mut self,
-        carried: Carried,
-        from: Spot,
-        toward: Actor,
-        bound: Option<End>,
-    ) -> Result<usize, AllocError> {
+    // Adds a passage, that stands in no queue yet; says which it is.
+    fn begin(&mut self, passage: Passage) -> usize {
         let place = self.passages.len();
-        self.bound.push(bound)?;
-        self.passages.push(Passage {
-            carried,
-            from,
-            toward,
-            taken: None,
-        })?;
-        Ok(place)
+        let is_kept = self.passages.push(passage).is_ok();
+        self.is_whole = self.is_whole && is_kept;
+        place
     }
 
-    // Takes a passage: its place, and who put it.
-    fn end(&mut self, place: usize, row: usize) -> Option<Actor> {
+    // Takes a passage: who put it, and the end that it goes to, if it carries a call.
+    fn end(&mut self, place: usize, row: usize) -> Option<(Actor, Option<End>)> {
         let passage = self.passages.get_mut(place)?;
         passage.taken = Some(row);
-        Some(passage.from.actor)
+        Some((passage.from.actor, passage.bound))
     }
 
     // Puts a fragment where an end finds it; says whose end that is.
-    fn put_before(
-        &mut self,
-        end: End,
-        carried: Carried,
-        from: Spot,
-    ) -> Result<Option<Actor>, AllocError> {
-        let Some(binding) = self.bindings.get(end.binding) else {
-            return Ok(None);
-        };
-        let toward = binding.dispatcher(end.side);
-        let place = self.begin(carried, from, toward, Some(end))?;
-        if let Some(binding) = self.bindings.get_mut(end.binding) {
-            binding.push(end.side, place)?;
-        }
-        Ok(Some(toward))
+    fn put_before(&mut self, end: End, carried: Carried, from: Spot) -> Option<Actor> {
+        let toward = self.bindings.get(end.binding)?.dispatcher(end.side);
+        let place = self.begin(Passage {
+            carried,
+            from,
+            toward,
+            bound: Some(end),
+            taken: None,
+        });
+        let binding = self.bindings.get_mut(end.binding)?;
+        let is_put = binding.queue(end.side).push_back(place).is_ok();
+        self.is_whole = self.is_whole && is_put;
+        Some(toward)
     }
 
     /// Puts a fragment onto the link from a core to another; says whose monitor is to take it.
-    ///
-    /// # Errors
-    /// Out of memory.
     pub(crate) fn put_on_link(
         &mut self,
         carried: Carried,
-        row: usize,
+        from: Spot,
         cores: (u32, u32),
-        actor: Actor,
         bound: Option<End>,
-    ) -> Result<Option<Actor>, AllocError> {
-        let (from, to) = cores;
-        let toward = Actor::Monitor(to);
-        let place = self.begin(carried, Spot { row, actor }, toward, bound)?;
-        if let Some(queue) = self.links.get_mut(link_place(from, to)) {
-            queue.push_back(place)?;
-        }
-        Ok(Some(toward))
+    ) -> Option<Actor> {
+        let toward = Actor::Monitor(cores.1);
+        let place = self.begin(Passage {
+            carried,
+            from,
+            toward,
+            bound,
+            taken: None,
+        });
+        let queue = self.links.get_mut(link_place(cores.0, cores.1))?;
+        let is_put = queue.push_back(place).is_ok();
+        self.is_whole = self.is_whole && is_put;
+        Some(toward)
     }
 
     /// An end writes a fragment: into the queue or ring of its binding, or onto the first link of its
     /// circuit. Says who is to take it.
-    ///
-    /// # Errors
-    /// Out of memory.
-    pub(crate) fn write(&mut self, end: End, row: usize) -> Result<Option<Actor>, AllocError> {
-        let Some(binding) = self.bindings.get(end.binding) else {
-            return Ok(None);
-        };
+    pub(crate) fn write(&mut self, end: End, row: usize) -> Option<Actor> {
+        let binding = self.bindings.get(end.binding)?;
         let actor = binding.dispatcher(end.side);
-        let other = end.other();
-        let Some(core) = binding.core(end.side) else {
-            return self.put_before(other, Carried::Call, Spot { row, actor });
-        };
-        let Some(next) = binding.next_core(core, other.side) else {
-            return Ok(None);
-        };
-        self.put_on_link(Carried::Call, row, (core, next), actor, Some(other))
+        let from = Spot { row, actor };
+        match binding.core(end.side) {
+            Some(core) => self.go_on(other(end), from, core),
+            None => self.put_before(other(end), Carried::Call, from),
+        }
     }
 
     /// An end acknowledges; says to whom.
-    ///
-    /// # Errors
-    /// Out of memory.
-    pub(crate) fn acknowledge(
-        &mut self,
-        end: End,
-        row: usize,
-    ) -> Result<Option<Actor>, AllocError> {
-        let Some(binding) = self.bindings.get(end.binding) else {
-            return Ok(None);
-        };
-        let actor = binding.dispatcher(end.side);
-        self.put_before(end.other(), Carried::Acknowledgement, Spot { row, actor })
+    pub(crate) fn acknowledge(&mut self, end: End, row: usize) -> Option<Actor> {
+        let actor = self.bindings.get(end.binding)?.dispatcher(end.side);
+        self.put_before(other(end), Carried::Acknowledgement, Spot { row, actor })
     }
 
     /// An end takes what stands first before it; says who put it.
     pub(crate) fn take(&mut self, end: End, row: usize) -> Option<Actor> {
         let binding = self.bindings.get_mut(end.binding)?;
-        let place = binding.pop(end.side)?;
-        self.end(place, row)
-    }
-
-    // Whether what stands first before an end only acknowledges.
-    fn is_acknowledged(&self, end: End) -> bool {
-        let Some(binding) = self.bindings.get(end.binding) else {
-            return false;
-        };
-        let queue = match end.side {
-            Side::Client => &binding.to_client,
-            Side::Server => &binding.to_server,
-        };
-        let Some(place) = queue.front() else {
-            return false;
-        };
-        match self.passages.get(*place) {
-            Some(passage) => matches!(passage.carried, Carried::Acknowledgement),
-            None => false,
-        }
+        let place = binding.queue(end.side).pop_front()?;
+        let (source, _bound) = self.end(place, row)?;
+        Some(source)
     }
 
     /// An end is looked at, and no call stands before it: what only acknowledges is taken.
     pub(crate) fn look(&mut self, end: End, row: usize) -> Option<Actor> {
-        if !self.is_acknowledged(end) {
-            return None;
+        let binding = self.bindings.get_mut(end.binding)?;
+        let place = *binding.queue(end.side).front()?;
+        match self.passages.get(place)?.carried {
+            Carried::Acknowledgement => self.take(end, row),
+            _ => None,
         }
-        self.take(end, row)
     }
 
     /// A core takes what stands first on its link from another: who put it, and the end that it goes to, if
@@ -269,28 +207,15 @@ impl Flows {
     ) -> Option<(Actor, Option<End>)> {
         let queue = self.links.get_mut(link_place(neighbour, core))?;
         let place = queue.pop_front()?;
-        let source = self.end(place, row)?;
-        let bound = self.bound.get(place)?;
-        Some((source, *bound))
+        self.end(place, row)
     }
 
-    /// A core passes a call's fragment on: onto the next link, or to the end. Says who is to take it.
-    ///
-    /// # Errors
-    /// Out of memory.
-    pub(crate) fn pass_on(
-        &mut self,
-        end: End,
-        row: usize,
-        core: u32,
-    ) -> Result<Option<Actor>, AllocError> {
-        let Some(binding) = self.bindings.get(end.binding) else {
-            return Ok(None);
-        };
-        let actor = Actor::Monitor(core);
+    /// A call's fragment goes on from a core: onto the next link, or to the end. Says who is to take it.
+    pub(crate) fn go_on(&mut self, end: End, from: Spot, core: u32) -> Option<Actor> {
+        let binding = self.bindings.get(end.binding)?;
         match binding.next_core(core, end.side) {
-            Some(next) => self.put_on_link(Carried::Call, row, (core, next), actor, Some(end)),
-            None => self.put_before(end, Carried::Call, Spot { row, actor }),
+            Some(next) => self.put_on_link(Carried::Call, from, (core, next), Some(end)),
+            None => self.put_before(end, Carried::Call, from),
         }
     }
 }

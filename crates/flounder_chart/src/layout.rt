@@ -3,7 +3,7 @@
 use crate::cutting::columns;
 use crate::flows::CORES;
 use crate::run::{Actor, Row, RowKind, Run};
-use std::alloc::{AllocError, Global};
+use std::alloc::Global;
 
 /// The width of a letter.
 pub(crate) const LETTER: u32 = 6;
@@ -11,8 +11,10 @@ pub(crate) const LETTER: u32 = 6;
 pub(crate) const ROW: u32 = 18;
 /// Where the lanes begin, under their names.
 pub(crate) const TOP: u32 = 62;
-/// Where a line's text begins, behind its number.
-pub(crate) const TEXT: u32 = 36;
+// Where a line's text begins, behind its number of up to four digits.
+const TEXT: u32 = 36;
+// The same behind a number of up to seven.
+const FAR_TEXT: u32 = 54;
 /// The most letters of a line's text that are shown.
 const MOST_OF_LINE: usize = 40;
 /// Where there are comments, they have room for so many letters at least.
@@ -28,7 +30,7 @@ const AIR: u32 = 14;
 // What stays free between a line's text and an answer behind it.
 const BETWEEN: u32 = 2 * LETTER;
 // The least way between two lanes.
-const LEAST_GAP: u32 = 64;
+const LEAST_GAP: u32 = 96;
 // The legend's width.
 const LEAST_WIDTH: u32 = 480;
 
@@ -38,6 +40,9 @@ pub(crate) struct Lane<'a> {
     pub actor: Actor,
     pub core: u32,
     pub name: &'a [u8],
+    /// How many dots stand above the first row, left of the lane and right of it.
+    pub left_above: u32,
+    pub right_above: u32,
 }
 
 /// On which side of its lane an answer stands. Where arrows are on both, it is raised on the side to which
@@ -60,6 +65,10 @@ pub(crate) struct Layout<'a> {
     monitor_lanes: Vec<Option<usize>>,
     /// The ways left of each lane, and right of the last. The first way has the lines' texts, too.
     gaps: Vec<u32>,
+    /// Where the lines' texts begin.
+    pub text: u32,
+    /// Whether memory was never refused.
+    pub is_whole: bool,
 }
 
 // A number of columns, as pixels.
@@ -69,71 +78,85 @@ fn pixels(columns: usize) -> u32 {
 }
 
 impl<'a> Layout<'a> {
-    /// The places for these rows of a run.
-    ///
-    /// # Errors
-    /// Out of memory.
-    pub(crate) fn new(
-        alloc: Global,
-        run: &Run<'a>,
-        rows: &[Row<'a>],
-    ) -> Result<Layout<'a>, AllocError> {
+    /// The places for these rows of a run; some are missing where memory was refused.
+    pub(crate) fn new(alloc: Global, run: &Run<'a>, rows: &[Row<'a>]) -> Layout<'a> {
         let mut layout = Layout {
             lanes: Vec::new(alloc),
             dispatcher_lanes: Vec::new(alloc),
             monitor_lanes: Vec::new(alloc),
             gaps: Vec::new(alloc),
+            text: text_x(rows),
+            is_whole: true,
         };
         for _dispatcher in &run.dispatchers {
-            layout.dispatcher_lanes.push(0)?;
+            let is_kept = layout.dispatcher_lanes.push(0).is_ok();
+            layout.is_whole = layout.is_whole && is_kept;
         }
         for core in 0..CORES {
-            layout.make_lanes(run, core)?;
+            layout.make_dispatchers(run, core);
+            layout.make_monitor(run, core);
         }
-        layout.make_gaps()?;
+        layout.make_gaps();
         for row in rows {
             layout.make_room(row);
         }
-        Ok(layout)
+        layout
     }
 
-    // The lanes of a core: its dispatchers', and its monitor's where a link leads to it.
-    fn make_lanes(&mut self, run: &Run<'a>, core: u32) -> Result<(), AllocError> {
+    // Adds a lane behind all others, and says which it is.
+    fn add(&mut self, lane: Lane<'a>) -> usize {
+        let place = self.lanes.len();
+        let is_kept = self.lanes.push(lane).is_ok();
+        self.is_whole = self.is_whole && is_kept;
+        place
+    }
+
+    // The lanes of a core's dispatchers.
+    fn make_dispatchers(&mut self, run: &Run<'a>, core: u32) {
         for (place, dispatcher) in run.dispatchers.iter().enumerate() {
             if dispatcher.core == core {
-                if let Some(lane) = self.dispatcher_lanes.get_mut(place) {
-                    *lane = self.lanes.len();
-                }
-                self.lanes.push(Lane {
+                let added = self.add(Lane {
                     actor: Actor::Dispatcher(place),
                     core,
                     name: dispatcher.name,
-                })?;
+                    left_above: 0,
+                    right_above: 0,
+                });
+                if let Some(lane) = self.dispatcher_lanes.get_mut(place) {
+                    *lane = added;
+                }
             }
         }
+    }
+
+    // The lane of a core's monitor, where a link leads to it.
+    fn make_monitor(&mut self, run: &Run<'a>, core: u32) {
         let mut lane = None;
         if run.linked.contains(&core) {
-            lane = Some(self.lanes.len());
-            self.lanes.push(Lane {
+            lane = Some(self.add(Lane {
                 actor: Actor::Monitor(core),
                 core,
                 name: b"monitor",
-            })?;
+                left_above: 0,
+                right_above: 0,
+            }));
         }
-        self.monitor_lanes.push(lane)?;
-        Ok(())
+        let is_kept = self.monitor_lanes.push(lane).is_ok();
+        self.is_whole = self.is_whole && is_kept;
     }
 
-    fn make_gaps(&mut self) -> Result<(), AllocError> {
+    fn make_gaps(&mut self) {
         let mut before = 0;
         for lane in &self.lanes {
             let name = columns(lane.name).min(MOST_OF_NAME);
             let half = (pixels(name) / 2).saturating_add(AIR / 2);
-            self.gaps.push(half.saturating_add(before).max(LEAST_GAP))?;
+            let gap = half.saturating_add(before).max(LEAST_GAP);
+            let is_kept = self.gaps.push(gap).is_ok();
+            self.is_whole = self.is_whole && is_kept;
             before = half;
         }
-        self.gaps.push(before.max(2 * AIR))?;
-        Ok(())
+        let is_kept = self.gaps.push(before.max(2 * AIR)).is_ok();
+        self.is_whole = self.is_whole && is_kept;
     }
 
     // Makes room for a row's text and answer.
@@ -179,15 +202,22 @@ impl<'a> Layout<'a> {
         (free / LETTER) as usize
     }
 
-    /// The letters that a row's text has room for: a comment may go on to the first lane.
+    /// The letters that a row's text has room for: it may go on to the first lane where no answer is before that.
     pub(crate) fn text_columns(&self, row: &Row<'a>) -> usize {
-        match row.kind {
-            RowKind::Comment => {
-                let whole = self.gaps.first().copied().unwrap_or(0);
-                (whole.saturating_sub(AIR) / LETTER) as usize
-            }
-            RowKind::Line => MOST_OF_LINE,
+        let is_alone = match row.kind {
+            RowKind::Comment => true,
+            RowKind::Line => self.label_gap(row) > 0,
+        };
+        if !is_alone {
+            return MOST_OF_LINE;
         }
+        let whole = self.gaps.first().copied().unwrap_or(0);
+        (whole.saturating_sub(AIR) / LETTER) as usize
+    }
+
+    /// Where an answer stands in whose row nobody acts: behind the line's text.
+    pub(crate) fn behind_text(&self, row: &Row<'a>) -> u32 {
+        taken_before(0, row).saturating_add(self.text)
     }
 
     /// Where an answer stands: away from the row's arrows, and from those between the lanes where it can.
@@ -195,8 +225,8 @@ impl<'a> Layout<'a> {
         let Some(lane) = self.row_lane(row) else {
             return LabelSide::Right;
         };
-        let source = self.other_lane(row.source);
-        let goal = self.other_lane(row.goal);
+        let source = self.lane_of(row.source);
+        let goal = self.lane_of(row.goal);
         let left = is_before(source, lane) || is_before(goal, lane);
         let right = is_behind(source, lane) || is_behind(goal, lane);
         let is_last = lane.saturating_add(1) == self.lanes.len();
@@ -220,10 +250,6 @@ impl<'a> Layout<'a> {
         }
     }
 
-    fn other_lane(&self, actor: Option<Actor>) -> Option<usize> {
-        self.lane(actor?)
-    }
-
     /// The lane of an actor.
     pub(crate) fn lane(&self, actor: Actor) -> Option<usize> {
         match actor {
@@ -232,14 +258,32 @@ impl<'a> Layout<'a> {
         }
     }
 
+    fn lane_of(&self, actor: Option<Actor>) -> Option<usize> {
+        self.lane(actor?)
+    }
+
     /// The lane of a row, if anyone acts in it.
     pub(crate) fn row_lane(&self, row: &Row<'a>) -> Option<usize> {
-        self.lane(row.actor?)
+        self.lane_of(row.actor)
+    }
+
+    /// Counts the dot of a fragment that stands above the first row.
+    pub(crate) fn add_above(&mut self, from: Actor, toward: Actor) {
+        let (Some(from), Some(to)) = (self.lane(from), self.lane(toward)) else {
+            return;
+        };
+        if let Some(lane) = self.lanes.get_mut(from) {
+            if to < from {
+                lane.left_above = lane.left_above.saturating_add(1);
+            } else {
+                lane.right_above = lane.right_above.saturating_add(1);
+            }
+        }
     }
 
     /// Where a lane is, from the left.
     pub(crate) fn lane_x(&self, lane: usize) -> u32 {
-        let mut x = TEXT;
+        let mut x = self.text;
         for (place, gap) in self.gaps.iter().enumerate() {
             if place <= lane {
                 x = x.saturating_add(*gap);
@@ -285,9 +329,12 @@ fn taken_before(gap: usize, row: &Row<'_>) -> u32 {
     pixels(shown_columns(row)).saturating_add(BETWEEN)
 }
 
-/// Where an answer stands in whose row nobody acts: behind the line's text.
-pub(crate) fn behind_text(row: &Row<'_>) -> u32 {
-    taken_before(0, row).saturating_add(TEXT)
+// Where the texts of these rows begin.
+fn text_x(rows: &[Row<'_>]) -> u32 {
+    match rows.last() {
+        Some(row) if row.number > 9_999 => FAR_TEXT,
+        _ => TEXT,
+    }
 }
 
 /// The middle of a row, from the top.

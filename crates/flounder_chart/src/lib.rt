@@ -6,9 +6,10 @@
 //! - `chart.rt`: [`chart_script`]; `chosen.rt`: which lines; `fault.rt`: why there is no drawing
 //! - `reading.rt`, `tracing.rt`, `flows.rt`, `run.rt`: what happened, told by the script's lines and answers
 //! - `layout.rt`, `cutting.rt`: where lanes, rows and texts are
-//! - `drawing.rt`, `passages.rt`, `marks.rt`: what is drawn
+//! - `drawing.rt`, `passages.rt`, `marks.rt`: what is drawn; `canvas.rt`: on what
 #![tactic(auto)]
 
+mod canvas;
 mod chart;
 mod chosen;
 mod cutting;

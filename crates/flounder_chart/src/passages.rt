@@ -1,7 +1,8 @@
 //! Fragments: an arrow from where each was put to where it was taken, or a dot where it stands.
 
-use crate::drawing::{Drawing, dot_at, element};
-use crate::layout::{TOP, row_y};
+use crate::canvas::Canvas;
+use crate::drawing::Shown;
+use crate::layout::{Layout, TOP, row_y};
 use crate::run::{Carried, Passage, Run};
 use flounder_svg::{Attribute, Tag};
 use std::alloc::{AllocError, Global};
@@ -11,71 +12,179 @@ const GAP: u32 = 4;
 // How far from its lane a dot stands.
 const AWAY: u32 = 15;
 
-/// Draws the fragments that were put or taken, or stood in a queue, in the rows that are shown.
-///
-/// # Errors
-/// Out of memory.
-pub(crate) fn draw_passages(drawing: &mut Drawing<'_>, run: &Run<'_>) -> Result<(), AllocError> {
-    drawing.open_group(b"group", b"fragments")?;
-    for passage in &run.passages {
-        draw_passage(drawing, run, passage)?;
+/// How a kind of fragment is called, and how it looks: its arrow, its dot where it was left, and its ring where
+/// a later line takes it.
+#[derive(Clone, Copy)]
+struct Look {
+    name: &'static str,
+    arrow: &'static [u8],
+    left: &'static [u8],
+    later: &'static [u8],
+    // Dots differ by size as well as by colour.
+    radius: u32,
+}
+
+const CALL: Look = Look {
+    name: "fragment of a call",
+    arrow: b"arrow call",
+    left: b"stands call",
+    later: b"later call",
+    radius: 4,
+};
+
+const ACKNOWLEDGEMENT: Look = Look {
+    name: "acknowledgement",
+    arrow: b"arrow ack",
+    left: b"stands ack",
+    later: b"later ack",
+    radius: 3,
+};
+
+const MONITOR: Look = Look {
+    name: "monitor's message",
+    arrow: b"arrow monitor",
+    left: b"stands monitor",
+    later: b"later monitor",
+    radius: 5,
+};
+
+fn look_of(carried: Carried) -> Look {
+    match carried {
+        Carried::Call => CALL,
+        Carried::Acknowledgement => ACKNOWLEDGEMENT,
+        Carried::MonitorMessage => MONITOR,
     }
-    drawing.document.close()
+}
+
+/// Draws an arrow for each fragment that was taken in the rows that are shown.
+pub(crate) fn draw_arrows(canvas: &mut Canvas, layout: &Layout<'_>, run: &Run<'_>, shown: Shown) {
+    canvas.open_group(b"group", b"fragments that were taken");
+    for passage in &run.passages {
+        if let Some(row) = passage.taken {
+            if shown.first <= row && row < shown.end {
+                draw_arrow(canvas, layout, run, shown, passage, row);
+            }
+        }
+    }
+    canvas.close();
+}
+
+/// Draws a dot for each fragment that stood in a queue behind these rows.
+pub(crate) fn draw_dots(canvas: &mut Canvas, layout: &Layout<'_>, run: &Run<'_>, shown: Shown) {
+    canvas.open_group(b"group", b"fragments that were not taken");
+    for passage in &run.passages {
+        if is_left(passage, shown) {
+            draw_dot(canvas, layout, run, shown, passage);
+        }
+    }
+    canvas.close();
+}
+
+/// Counts at their lanes the fragments that were put before these rows and stood in a queue behind them: their
+/// dots are all at one place.
+pub(crate) fn count_above(layout: &mut Layout<'_>, run: &Run<'_>, shown: Shown) {
+    for passage in &run.passages {
+        if is_left(passage, shown) && passage.from.row < shown.first {
+            layout.add_above(passage.from.actor, passage.toward);
+        }
+    }
+}
+
+// Whether a fragment stood in a queue behind the rows that are shown.
+fn is_left(passage: &Passage, shown: Shown) -> bool {
+    let is_taken = match passage.taken {
+        Some(row) => row < shown.end,
+        None => false,
+    };
+    passage.from.row < shown.end && !is_taken
 }
 
 // Where a row is; the top edge for one that stands before all that are shown.
-fn height_of(drawing: &Drawing<'_>, row: usize) -> u32 {
-    if row < drawing.shown.first {
+fn height_of(shown: Shown, row: usize) -> u32 {
+    if row < shown.first {
         return TOP - 4;
     }
-    row_y(row - drawing.shown.first)
+    row_y(row - shown.first)
 }
 
-fn draw_passage(
-    drawing: &mut Drawing<'_>,
+fn draw_arrow(
+    canvas: &mut Canvas,
+    layout: &Layout<'_>,
     run: &Run<'_>,
+    shown: Shown,
     passage: &Passage,
-) -> Result<(), AllocError> {
-    let shown = drawing.shown;
-    if passage.from.row >= shown.end {
-        return Ok(());
-    }
-    let Some(way) = way_of(drawing, passage) else {
-        return Ok(());
+    row: usize,
+) {
+    let Some(way) = way_of(layout, shown, passage) else {
+        return;
     };
-    let carried = passage.carried;
-    let title = title_of(drawing.alloc, run, passage)?;
-    match passage.taken {
-        Some(row) if row < shown.first => Ok(()),
-        Some(row) if row < shown.end => {
-            let end = height_of(drawing, row);
-            draw_arrow(drawing, carried, way, end, title.as_bytes())
-        }
-        Some(_later) => draw_dot(
-            drawing,
-            later_class(carried),
-            carried,
-            way,
-            title.as_bytes(),
-        ),
-        None => draw_dot(drawing, left_class(carried), carried, way, title.as_bytes()),
-    }
+    let look = look_of(passage.carried);
+    let path = path_of(canvas, way, height_of(shown, row));
+    canvas.begin(
+        Tag::Path,
+        &[
+            (Attribute::Class, look.arrow),
+            (Attribute::Role, b"img"),
+            (Attribute::D, path.as_bytes()),
+        ],
+        &[],
+    );
+    draw_title(canvas, run, look.name, passage);
+    canvas.close();
+}
+
+fn draw_dot(
+    canvas: &mut Canvas,
+    layout: &Layout<'_>,
+    run: &Run<'_>,
+    shown: Shown,
+    passage: &Passage,
+) {
+    let Some(way) = way_of(layout, shown, passage) else {
+        return;
+    };
+    let look = look_of(passage.carried);
+    let class = match passage.taken {
+        Some(_later) => look.later,
+        None => look.left,
+    };
+    canvas.begin(
+        Tag::Circle,
+        &[(Attribute::Class, class), (Attribute::Role, b"img")],
+        &[
+            (Attribute::CenterX, way.away(AWAY)),
+            (Attribute::CenterY, way.y),
+            (Attribute::Radius, look.radius),
+        ],
+    );
+    draw_title(canvas, run, look.name, passage);
+    canvas.close();
+}
+
+fn draw_title(canvas: &mut Canvas, run: &Run<'_>, name: &str, passage: &Passage) {
+    let title = title_of(canvas.alloc, run, name, passage);
+    let title = canvas.made(title);
+    canvas.title(title.as_bytes());
 }
 
 // From where and to where a fragment goes, where both have lanes.
-fn way_of(drawing: &Drawing<'_>, passage: &Passage) -> Option<Way> {
-    let from = drawing.layout.lane(passage.from.actor)?;
-    let to = drawing.layout.lane(passage.toward)?;
+fn way_of(layout: &Layout<'_>, shown: Shown, passage: &Passage) -> Option<Way> {
+    let from = layout.lane(passage.from.actor)?;
+    let to = layout.lane(passage.toward)?;
     Some(Way {
-        from: drawing.layout.lane_x(from),
-        to: drawing.layout.lane_x(to),
-        y: height_of(drawing, passage.from.row),
+        from: layout.lane_x(from),
+        to: layout.lane_x(to),
+        y: height_of(shown, passage.from.row),
     })
 }
 
 // What a fragment is, and the lines that put and took it.
-fn title_of(alloc: Global, run: &Run<'_>, passage: &Passage) -> Result<String, AllocError> {
-    let name = word(passage.carried);
+fn title_of(
+    alloc: Global,
+    run: &Run<'_>,
+    name: &str,
+    passage: &Passage,
+) -> Result<String, AllocError> {
     let put = number_of(run, passage.from.row);
     match passage.taken {
         Some(row) => {
@@ -111,108 +220,23 @@ impl Way {
             self.from.saturating_add(distance)
         }
     }
-
-    // A place so far before the second lane.
-    fn before(self, distance: u32) -> u32 {
-        if self.to < self.from {
-            self.to.saturating_add(distance)
-        } else {
-            self.to.saturating_sub(distance)
-        }
-    }
-}
-
-fn draw_arrow(
-    drawing: &mut Drawing<'_>,
-    carried: Carried,
-    way: Way,
-    end: u32,
-    title: &[u8],
-) -> Result<(), AllocError> {
-    let path = path_of(drawing.alloc, way, end)?;
-    let start = element(
-        drawing.alloc,
-        Tag::Path,
-        &[
-            (Attribute::Class, arrow_class(carried)),
-            (Attribute::Role, b"img"),
-            (Attribute::D, path.as_bytes()),
-        ],
-        &[],
-    )?;
-    drawing.document.begin(start)?;
-    drawing.title(title)?;
-    drawing.document.close()
 }
 
 // A straight line; where a dispatcher takes what it put itself, a bow.
-fn path_of(alloc: Global, way: Way, end: u32) -> Result<String, AllocError> {
+fn path_of(canvas: &mut Canvas, way: Way, end: u32) -> String {
+    let alloc = canvas.alloc;
     let y = way.y;
     let near = way.away(GAP);
     if way.from == way.to {
         let far = way.away(AWAY + AWAY);
-        let bow = format!(in alloc; "C{far} {y} {far} {end}")?;
-        return format!(in alloc; "M{near} {y}{bow} {near} {end}");
+        let bow = canvas.made(format!(in alloc; "C{far} {y} {far} {end}"));
+        return canvas.made(format!(in alloc; "M{near} {y}{bow} {near} {end}"));
     }
-    let stop = way.before(GAP + 1);
-    format!(in alloc; "M{near} {y}L{stop} {end}")
-}
-
-fn draw_dot(
-    drawing: &mut Drawing<'_>,
-    class: &'static [u8],
-    carried: Carried,
-    way: Way,
-    title: &[u8],
-) -> Result<(), AllocError> {
-    let start = dot_at(
-        drawing.alloc,
-        &[(Attribute::Class, class), (Attribute::Role, b"img")],
-        (way.away(AWAY), way.y),
-        dot_radius(carried),
-    )?;
-    drawing.document.begin(start)?;
-    drawing.title(title)?;
-    drawing.document.close()
-}
-
-fn word(carried: Carried) -> &'static str {
-    match carried {
-        Carried::Call => "fragment of a call",
-        Carried::Acknowledgement => "acknowledgement",
-        Carried::MonitorMessage => "monitor's message",
-    }
-}
-
-// Dots differ by size as well as by colour.
-fn dot_radius(carried: Carried) -> u32 {
-    match carried {
-        Carried::Call => 4,
-        Carried::Acknowledgement => 3,
-        Carried::MonitorMessage => 5,
-    }
-}
-
-fn arrow_class(carried: Carried) -> &'static [u8] {
-    match carried {
-        Carried::Call => b"arrow call",
-        Carried::Acknowledgement => b"arrow ack",
-        Carried::MonitorMessage => b"arrow monitor",
-    }
-}
-
-fn left_class(carried: Carried) -> &'static [u8] {
-    match carried {
-        Carried::Call => b"stands call",
-        Carried::Acknowledgement => b"stands ack",
-        Carried::MonitorMessage => b"stands monitor",
-    }
-}
-
-fn later_class(carried: Carried) -> &'static [u8] {
-    match carried {
-        Carried::Call => b"later call",
-        Carried::Acknowledgement => b"later ack",
-        Carried::MonitorMessage => b"later monitor",
-    }
+    let back = Way {
+        from: way.to,
+        to: way.from,
+        y,
+    };
+    let stop = back.away(GAP + 1);
+    canvas.made(format!(in alloc; "M{near} {y}L{stop} {end}"))
 }

@@ -1,28 +1,27 @@
 //! A script and its transcript, line by line: each line that has an answer beside its answer.
 
-ghost use Rattle.std.specs.Prelude.{◌≤◌, ◌+◌, length, List, IfOk, OnOk};
+ghost use Rattle.std.specs.Prelude.{◌≡◌, ◌≤◌, ◌+◌, length, List, IfOk};
 ghost use Rattle.fl_script_lines.specs.Items.{Item as TheItem, ItemsOf};
 
 use crate::run::{Row, RowKind, Run};
-use crate::tracing::{Acted, Trace};
+use crate::tracing::{Acted, Told, Trace};
+use bstr::ByteSlice;
 use fl_script_lines::{RawItem, next_part, read_command};
 use std::alloc::{AllocError, Global};
 
 // The first line of a text, without its line feed, and what stands behind it.
 fn next_line(bytes: &[u8]) -> (&[u8], &[u8]) {
-    match bytes.iter().position(|byte| *byte == b'\n') {
-        None => (bytes, &[]),
-        Some(at) => (&bytes[..at], &bytes[at + 1..]),
-    }
-}
-
-// A text without blanks and line ends around it.
-fn trimmed(bytes: &[u8]) -> &[u8] {
-    bytes.trim_ascii()
+    bytes.split_once_str(b"\n").unwrap_or((bytes, b""))
 }
 
 fn count_lines(bytes: &[u8]) -> usize {
-    bytes.iter().filter(|byte| **byte == b'\n').count()
+    let mut count: usize = 0;
+    for byte in bytes {
+        if *byte == b'\n' {
+            count = count.saturating_add(1);
+        }
+    }
+    count
 }
 
 /// A script's run, told by its transcript.
@@ -37,32 +36,18 @@ pub(crate) fn read_run<'a>(
     ensures rows { IfOk result
         (λ run. (items : List TheItem) × (ItemsOf script.now items × (length run.rows.items ≤ length items))) }
 {
-    let mut trace = Trace::new(alloc)?;
+    let mut trace = Trace::new(alloc);
     let mut rows = Vec::new(alloc);
-    let mut rest = script;
-    let mut answers = transcript;
-    let mut number: usize = 1;
-    'items: while !rest.is_empty() {
-        let (part, behind) = next_part(rest);
-        let lines = &rest[..rest.len() - behind.len()];
-        let (answer, answers_behind) = answer_of(part, answers);
-        let place = rows.len();
-        let row = read_row(
-            part,
-            Source {
-                lines,
-                number,
-                answer,
-            },
-            &mut trace,
-            place,
-        )?;
-        push_some(&mut rows, row)?;
-        number = number.saturating_add(count_lines(lines));
-        rest = behind;
-        answers = answers_behind;
+    let is_kept = read_rows(script, transcript, &mut trace, &mut rows);
+    let Told {
+        passages,
+        dispatchers,
+        linked,
+        is_whole,
+    } = trace.told();
+    if !(is_whole && is_kept) {
+        return Err(AllocError);
     }
-    let (passages, dispatchers, linked) = trace.told();
     Ok(Run {
         rows,
         passages,
@@ -71,14 +56,47 @@ pub(crate) fn read_run<'a>(
     })
 }
 
-// Adds an item's row, if it has one.
-fn push_some<'a>(rows: &mut Vec<Row<'a>>, row: Option<Row<'a>>) -> Result<(), AllocError>
-    ensures one { OnOk result (length rows.new.items ≤ length rows.old.items + 1) }
+// The rows of a script, behind none; says whether memory served for all of them.
+fn read_rows<'a>(
+    script: &'a [u8],
+    transcript: &'a [u8],
+    trace: &mut Trace<'a>,
+    rows: &mut Vec<Row<'a>>,
+) -> bool
+    requires { length rows.now.items ≡ 0 }
+    ensures rows { (items : List TheItem) × (ItemsOf script.now items × (length rows.new.items ≤ length items)) }
 {
-    if let Some(row) = row {
-        rows.push(row)?;
+    let mut rest = script;
+    let mut answers = transcript;
+    let mut number: usize = 1;
+    let mut is_whole = true;
+    'items: while !rest.is_empty() {
+        let (part, behind) = next_part(rest);
+        let lines = &rest[..rest.len() - behind.len()];
+        let (answer, answers_behind) = answer_of(part, answers);
+        let source = Source {
+            lines,
+            number,
+            answer,
+        };
+        let row = read_row(part, source, trace, rows.len());
+        let is_kept = push_some(rows, row);
+        is_whole = is_whole && is_kept;
+        number = number.saturating_add(count_lines(lines));
+        rest = behind;
+        answers = answers_behind;
     }
-    Ok(())
+    is_whole
+}
+
+// Adds an item's row, if it has one; says whether memory served.
+fn push_some<'a>(rows: &mut Vec<Row<'a>>, row: Option<Row<'a>>) -> bool
+    ensures one { length rows.new.items ≤ length rows.old.items + 1 }
+{
+    match row {
+        Some(row) => rows.push(row).is_ok(),
+        None => true,
+    }
 }
 
 // An item's answer, if it has one, and the answers behind it.
@@ -103,22 +121,22 @@ fn read_row<'a>(
     source: Source<'a>,
     trace: &mut Trace<'a>,
     place: usize,
-) -> Result<Option<Row<'a>>, AllocError> {
-    let text = trimmed(source.lines);
-    let row = match part {
+) -> Option<Row<'a>> {
+    let text = source.lines.trim_ascii();
+    match part {
         RawItem::Silent => comment(text, source.number),
-        RawItem::Block(_, interface) => Some(line(trimmed(interface), source, Acted::alone(None))),
-        RawItem::Command(verb, words) => match read_command(verb, words) {
-            Some(command) => {
-                let acted = trace.take_up(command, source.answer, place)?;
-                Some(line(text, source, acted))
-            }
-            None => Some(line(text, source, Acted::alone(None))),
-        },
-        RawItem::Unread => Some(line(text, source, Acted::alone(None))),
-        RawItem::OpenBlock => Some(line(text, source, Acted::alone(None))),
-    };
-    Ok(row)
+        RawItem::Block(_, interface) => {
+            Some(line(interface.trim_ascii(), source, Acted::alone(None)))
+        }
+        RawItem::Command(verb, words) => {
+            let acted = match read_command(verb, words) {
+                Some(command) => trace.take_up(command, source.answer, place),
+                None => Acted::alone(None),
+            };
+            Some(line(text, source, acted))
+        }
+        RawItem::Unread | RawItem::OpenBlock => Some(line(text, source, Acted::alone(None))),
+    }
 }
 
 // The row of a comment; a blank line has none.

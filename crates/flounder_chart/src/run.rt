@@ -1,5 +1,6 @@
 //! What happened in a script's run, as a drawing tells it.
 
+use fl_base::Side;
 use std::collections::VecDeque;
 
 /// Who acts: a dispatcher, by its place in order of making, or a core's monitor.
@@ -14,6 +15,13 @@ pub(crate) enum Actor {
 pub(crate) struct Spot {
     pub row: usize,
     pub actor: Actor,
+}
+
+/// An end, by its binding's place.
+#[derive(Clone, Copy)]
+pub(crate) struct End {
+    pub binding: usize,
+    pub side: Side,
 }
 
 /// What a fragment carries.
@@ -31,6 +39,8 @@ pub(crate) struct Passage {
     pub from: Spot,
     /// Who is to take it.
     pub toward: Actor,
+    /// The end that it goes to, if it carries a call.
+    pub bound: Option<End>,
     pub taken: Option<usize>,
 }
 

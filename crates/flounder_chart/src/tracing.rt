@@ -1,10 +1,11 @@
 //! A script's lines and their answers, read as what was made, put and taken.
 
-use crate::flows::{Binding, CORES, End, Flows};
-use crate::run::{Actor, Carried, Dispatcher, Passage};
+use crate::flows::{Binding, CORES, Flows};
+use crate::run::{Actor, Carried, Dispatcher, End, Passage, Spot};
+use bstr::ByteSlice;
 use fl_base::Side;
 use fl_script_lines::{BackEndText, Command, EndName, NameTable};
-use std::alloc::{AllocError, Global};
+use std::alloc::Global;
 use std::collections::VecDeque;
 
 /// What a row shows beside its text: who acted, who had put what was taken, and who is to take what was put.
@@ -26,7 +27,7 @@ impl Acted {
     }
 }
 
-/// All that a script has made so far, by its lines and answers.
+/// All that a script has made so far, by its lines and answers; whole unless memory was refused.
 #[derive(Drop)]
 pub(crate) struct Trace<'a> {
     alloc: Global,
@@ -37,32 +38,38 @@ pub(crate) struct Trace<'a> {
     binding_names: NameTable,
     linked: Vec<u32>,
     flows: Flows,
+    is_whole: bool,
 }
 
-// Adds a name; says whether it is new.
-fn add_name(names: &mut NameTable, alloc: Global, name: &[u8]) -> Result<bool, AllocError> {
-    if names.find(name).is_some() {
-        return Ok(false);
-    }
-    names.add(alloc, name)?;
-    Ok(true)
+/// What came of a whole script: what passed, the dispatchers, and the cores that links join; and whether memory
+/// was never refused.
+#[derive(Drop)]
+pub(crate) struct Told<'a> {
+    pub passages: Vec<Passage>,
+    pub dispatchers: Vec<Dispatcher<'a>>,
+    pub linked: Vec<u32>,
+    pub is_whole: bool,
 }
 
 // The first word of an answer, and what stands behind it.
 fn first_word(answer: &[u8]) -> (&[u8], &[u8]) {
-    match answer.iter().position(|byte| *byte == b' ') {
-        None => (answer, &[]),
-        Some(at) => (&answer[..at], &answer[at + 1..]),
+    answer.split_once_str(b" ").unwrap_or((answer, b""))
+}
+
+// Whether a word is one of these.
+fn is_among(word: &[u8], words: &[&[u8]]) -> bool {
+    for one in words {
+        if word == *one {
+            return true;
+        }
     }
+    false
 }
 
 impl<'a> Trace<'a> {
     /// Nothing was made yet.
-    ///
-    /// # Errors
-    /// Out of memory.
-    pub(crate) fn new(alloc: Global) -> Result<Trace<'a>, AllocError> {
-        Ok(Trace {
+    pub(crate) fn new(alloc: Global) -> Trace<'a> {
+        Trace {
             alloc,
             dispatcher_names: NameTable::new(alloc),
             dispatchers: Vec::new(alloc),
@@ -70,20 +77,36 @@ impl<'a> Trace<'a> {
             services: Vec::new(alloc),
             binding_names: NameTable::new(alloc),
             linked: Vec::new(alloc),
-            flows: Flows::new(alloc)?,
-        })
+            flows: Flows::new(alloc),
+            is_whole: true,
+        }
     }
 
-    /// What passed, the dispatchers, and the cores that links join.
-    pub(crate) fn told(self) -> (Vec<Passage>, Vec<Dispatcher<'a>>, Vec<u32>) {
+    /// What came of the script, behind its last line.
+    pub(crate) fn told(self) -> Told<'a> {
         let Trace {
             dispatchers,
             linked,
             flows,
+            is_whole,
             ..
         } = self;
-        let Flows { passages, .. } = flows;
-        (passages, dispatchers, linked)
+        let Flows {
+            passages,
+            is_whole: is_flow_whole,
+            ..
+        } = flows;
+        Told {
+            passages,
+            dispatchers,
+            linked,
+            is_whole: is_whole && is_flow_whole,
+        }
+    }
+
+    // Remembers whether memory served.
+    fn note(&mut self, is_done: bool) {
+        self.is_whole = self.is_whole && is_done;
     }
 
     fn dispatcher(&self, name: &[u8]) -> Option<Actor> {
@@ -114,10 +137,9 @@ impl<'a> Trace<'a> {
     }
 
     // The dispatcher of an end.
-    fn actor(&self, end: Option<End>) -> Option<Actor> {
-        let end = end?;
-        let binding = self.flows.bindings.get(end.binding)?;
-        Some(binding.dispatcher(end.side))
+    fn actor(&self, name: EndName<'_>) -> Option<Actor> {
+        let place = self.binding_names.find(name.binding)?;
+        Some(self.flows.bindings.get(place)?.dispatcher(name.side))
     }
 
     // The monitor of a core that has a lane.
@@ -128,66 +150,67 @@ impl<'a> Trace<'a> {
         Some(Actor::Monitor(core))
     }
 
-    fn make_link(&mut self, a: u32, b: u32) -> Result<(), AllocError> {
-        if a < CORES && !self.linked.contains(&a) {
-            self.linked.push(a)?;
+    // A core that a link joins.
+    fn make_linked(&mut self, core: u32) {
+        if core < CORES && !self.linked.contains(&core) {
+            let is_made = self.linked.push(core).is_ok();
+            self.note(is_made);
         }
-        if b < CORES && !self.linked.contains(&b) {
-            self.linked.push(b)?;
-        }
-        Ok(())
     }
 
-    fn make_dispatcher(&mut self, name: &'a [u8], core: u32) -> Result<(), AllocError> {
-        if add_name(&mut self.dispatcher_names, self.alloc, name)? {
-            self.dispatchers.push(Dispatcher { name, core })?;
+    fn make_dispatcher(&mut self, name: &'a [u8], core: u32) {
+        if self.dispatcher_names.find(name).is_none() {
+            let is_named = self.dispatcher_names.add(self.alloc, name).is_ok();
+            let is_made = self.dispatchers.push(Dispatcher { name, core }).is_ok();
+            self.note(is_named && is_made);
         }
-        Ok(())
     }
 
-    fn make_service(&mut self, name: &[u8], dispatcher: &[u8]) -> Result<(), AllocError> {
+    fn make_service(&mut self, name: &[u8], dispatcher: &[u8]) {
         let Some(place) = self.dispatcher_names.find(dispatcher) else {
-            return Ok(());
+            return;
         };
-        if add_name(&mut self.service_names, self.alloc, name)? {
-            self.services.push(place)?;
+        if self.service_names.find(name).is_none() {
+            let is_named = self.service_names.add(self.alloc, name).is_ok();
+            let is_made = self.services.push(place).is_ok();
+            self.note(is_named && is_made);
         }
-        Ok(())
     }
 
-    fn make_binding(
-        &mut self,
-        name: &[u8],
-        client: &[u8],
-        service: &[u8],
-        back_end: BackEndText<'_>,
-    ) -> Result<(), AllocError> {
-        let Some(client) = self.dispatcher_names.find(client) else {
-            return Ok(());
-        };
-        let Some(place) = self.service_names.find(service) else {
-            return Ok(());
-        };
-        let Some(server) = self.services.get(place) else {
-            return Ok(());
-        };
-        let server = *server;
-        let route = match back_end {
-            BackEndText::Hop(route) => route.cores(self.alloc)?,
-            BackEndText::Local(_) => Vec::new(self.alloc),
-            BackEndText::Ump(_) => Vec::new(self.alloc),
-        };
-        let alloc = self.alloc;
-        if add_name(&mut self.binding_names, alloc, name)? {
-            self.flows.bindings.push(Binding {
+    // The dispatcher that exports a service.
+    fn server(&self, service: &[u8]) -> Option<usize> {
+        let place = self.service_names.find(service)?;
+        self.services.get(place).copied()
+    }
+
+    fn make_binding(&mut self, name: &[u8], client: usize, server: usize, route: Vec<u32>) {
+        if self.binding_names.find(name).is_none() {
+            let alloc = self.alloc;
+            let is_named = self.binding_names.add(alloc, name).is_ok();
+            let binding = Binding {
                 client,
                 server,
                 route,
                 to_client: VecDeque::new(alloc),
                 to_server: VecDeque::new(alloc),
-            })?;
+            };
+            let is_made = self.flows.bindings.push(binding).is_ok();
+            self.note(is_named && is_made);
         }
-        Ok(())
+    }
+
+    // A binding's circuit, if it is one.
+    fn route(&mut self, back_end: BackEndText<'_>) -> Vec<u32> {
+        let BackEndText::Hop(route) = back_end else {
+            return Vec::new(self.alloc);
+        };
+        match route.cores(self.alloc) {
+            Ok(cores) => cores,
+            Err(_) => {
+                self.note(false);
+                Vec::new(self.alloc)
+            }
+        }
     }
 
     fn turn(&mut self, actor: Option<Actor>, answer: &[u8], row: usize) -> Acted {
@@ -195,11 +218,12 @@ impl<'a> Trace<'a> {
         let Some(end) = self.end_told(rest) else {
             return Acted::alone(actor);
         };
-        let source = match word {
-            b"handle" => self.flows.take(end, row),
-            b"part" => self.flows.take(end, row),
-            b"quiet" => self.flows.look(end, row),
-            _ => None,
+        let source = if is_among(word, &[b"handle", b"part"]) {
+            self.flows.take(end, row)
+        } else if is_among(word, &[b"quiet"]) {
+            self.flows.look(end, row)
+        } else {
+            None
         };
         Acted {
             actor,
@@ -208,56 +232,45 @@ impl<'a> Trace<'a> {
         }
     }
 
-    fn forward(
-        &mut self,
-        core: u32,
-        neighbour: u32,
-        answer: &[u8],
-        row: usize,
-    ) -> Result<Acted, AllocError> {
-        let actor = self.monitor(core);
+    // Whether a core took something from a link, by its answer.
+    fn is_taken(&self, answer: &[u8]) -> bool {
         let (word, rest) = first_word(answer);
-        let is_taken = match word {
-            b"forwarded" => true,
-            b"ok" => true,
-            b"opened" => true,
-            b"refused" => self.end_told(first_word(rest).1).is_some(),
-            _ => false,
-        };
-        if !is_taken {
-            return Ok(Acted::alone(actor));
+        if is_among(word, &[b"refused"]) {
+            return self.end_told(first_word(rest).1).is_some();
+        }
+        is_among(word, &[b"forwarded", b"ok", b"opened"])
+    }
+
+    fn forward(&mut self, core: u32, neighbour: u32, answer: &[u8], row: usize) -> Acted {
+        let actor = self.monitor(core);
+        if !self.is_taken(answer) {
+            return Acted::alone(actor);
         }
         let Some((source, bound)) = self.flows.take_from_link(row, core, neighbour) else {
-            return Ok(Acted::alone(actor));
+            return Acted::alone(actor);
+        };
+        let from = Spot {
+            row,
+            actor: Actor::Monitor(core),
         };
         let goal = match bound {
             None => None,
-            Some(end) => self.flows.pass_on(end, row, core)?,
+            Some(end) => self.flows.go_on(end, from, core),
         };
-        Ok(Acted {
+        Acted {
             actor,
             source: Some(source),
             goal,
-        })
-    }
-
-    // A monitor puts a fragment of its own onto a link.
-    fn monitor_puts(
-        &mut self,
-        carried: Carried,
-        core: u32,
-        neighbour: u32,
-        row: usize,
-    ) -> Result<Option<Actor>, AllocError> {
-        let actor = Actor::Monitor(core);
-        self.flows
-            .put_on_link(carried, row, (core, neighbour), actor, None)
+        }
     }
 
     // What was made by a command that was done.
-    fn make(&mut self, command: Command<'a>) -> Result<(), AllocError> {
+    fn make(&mut self, command: Command<'a>) {
         match command {
-            Command::Link { a, b, .. } => self.make_link(a, b),
+            Command::Link { a, b, .. } => {
+                self.make_linked(a);
+                self.make_linked(b);
+            }
             Command::Disp { name, core } => self.make_dispatcher(name, core),
             Command::Export {
                 name,
@@ -270,30 +283,42 @@ impl<'a> Trace<'a> {
                 service,
                 back_end,
                 ..
-            } => self.make_binding(name, client, service, back_end),
-            _ => Ok(()),
+            } => {
+                let client = self.dispatcher_names.find(client);
+                if let (Some(client), Some(server)) = (client, self.server(service)) {
+                    let route = self.route(back_end);
+                    self.make_binding(name, client, server, route);
+                }
+            }
+            _ => {}
         }
     }
 
     // What was put by a command that was done: who is to take it.
-    fn put(&mut self, command: Command<'a>, row: usize) -> Result<Option<Actor>, AllocError> {
-        match command {
-            Command::Write(name) => match self.end(name) {
-                Some(end) => self.flows.write(end, row),
-                None => Ok(None),
-            },
-            Command::Ack(name) => match self.end(name) {
-                Some(end) => self.flows.acknowledge(end, row),
-                None => Ok(None),
-            },
+    fn put(&mut self, command: Command<'a>, row: usize) -> Option<Actor> {
+        let (carried, core, neighbour) = match command {
+            Command::Write(name) => {
+                let end = self.end(name)?;
+                return self.flows.write(end, row);
+            }
+            Command::Ack(name) => {
+                let end = self.end(name)?;
+                return self.flows.acknowledge(end, row);
+            }
             Command::MonitorAck { core, neighbour } => {
-                self.monitor_puts(Carried::Acknowledgement, core, neighbour, row)
+                (Carried::Acknowledgement, core, neighbour)
             }
             Command::MonitorWrite { core, neighbour } => {
-                self.monitor_puts(Carried::MonitorMessage, core, neighbour, row)
+                (Carried::MonitorMessage, core, neighbour)
             }
-            _ => Ok(None),
-        }
+            _ => return None,
+        };
+        let from = Spot {
+            row,
+            actor: Actor::Monitor(core),
+        };
+        self.flows
+            .put_on_link(carried, from, (core, neighbour), None)
     }
 
     // Who acts by a command, if anyone who has a lane.
@@ -302,33 +327,26 @@ impl<'a> Trace<'a> {
             Command::Disp { name, .. } => self.dispatcher(name),
             Command::Export { dispatcher, .. } => self.dispatcher(dispatcher),
             Command::Bind { client, .. } => self.dispatcher(client),
-            Command::Call(name, _) => self.actor(self.end(name)),
-            Command::Show(name) => self.actor(self.end(name)),
-            Command::Write(name) => self.actor(self.end(name)),
-            Command::Ack(name) => self.actor(self.end(name)),
-            Command::Register(name) => self.actor(self.end(name)),
-            Command::Deregister(name) => self.actor(self.end(name)),
-            Command::Reply { end, .. } => self.actor(self.end(end)),
-            Command::MonitorWrite { core, .. } => self.monitor(core),
-            Command::MonitorAck { core, .. } => self.monitor(core),
+            Command::Call(name, _)
+            | Command::Show(name)
+            | Command::Write(name)
+            | Command::Ack(name)
+            | Command::Register(name)
+            | Command::Deregister(name) => self.actor(name),
+            Command::Reply { end, .. } => self.actor(end),
+            Command::MonitorWrite { core, .. } | Command::MonitorAck { core, .. } => {
+                self.monitor(core)
+            }
             _ => None,
         }
     }
 
     /// Takes up a command and its answer.
-    ///
-    /// # Errors
-    /// Out of memory.
-    pub(crate) fn take_up(
-        &mut self,
-        command: Command<'a>,
-        answer: &[u8],
-        row: usize,
-    ) -> Result<Acted, AllocError> {
+    pub(crate) fn take_up(&mut self, command: Command<'a>, answer: &[u8], row: usize) -> Acted {
         match command {
             Command::Turn(name) => {
                 let actor = self.dispatcher(name);
-                Ok(self.turn(actor, answer, row))
+                self.turn(actor, answer, row)
             }
             Command::Forward { core, neighbour } => self.forward(core, neighbour, answer, row),
             _ => self.command(command, answer, row),
@@ -336,22 +354,17 @@ impl<'a> Trace<'a> {
     }
 
     // The same for a command that takes nothing.
-    fn command(
-        &mut self,
-        command: Command<'a>,
-        answer: &[u8],
-        row: usize,
-    ) -> Result<Acted, AllocError> {
+    fn command(&mut self, command: Command<'a>, answer: &[u8], row: usize) -> Acted {
         let mut goal = None;
         let (word, _) = first_word(answer);
-        if matches!(word, b"ok" | b"written") {
-            self.make(command)?;
-            goal = self.put(command, row)?;
+        if is_among(word, &[b"ok", b"written"]) {
+            self.make(command);
+            goal = self.put(command, row);
         }
-        Ok(Acted {
+        Acted {
             actor: self.who(command),
             source: None,
             goal,
-        })
+        }
     }
 }

@@ -11,6 +11,8 @@ use Rattle.fl_script_exec.specs.declared.running.ExecFault.{ExecFault}
 use Rattle.fl_script_exec.specs.Transcript.{Transcript}
 use Rattle.fl_script_exec.specs.CutShort.{LeavesWritten}
 use Rattle.fl_script_exec.specs.Reading as script
+use Rattle.fl_script_exec.specs.Written as written
+use Rattle.fl_world_refines.specs.ShowsState.{Shows as WorldShows}
 use Rattle.flounder_show.specs.declared.fault.ShowFault.{ShowFault}
 use Rattle.flounder_show.specs.Content.{StandsFor, IsImageOf, IsRefusalOf, Shows, IsRefusedAs, status_of}
 use Rattle.flounder_commands.specs.declared.fault.Fault.{Fault}
@@ -183,9 +185,11 @@ all_put u v text rest e p = subst (λ (t : List ℕ). Appends u v t) (sym (p.par
 -- ---- exec
 
 pub ran : (strict : Bool) (io : Streams) (v : Option (List ℕ)) (buffer : List ℕ) (status : ℕ)
+    → IfSome io.input (written.Ran WorldShows)
     → IfSome io.input (λ bytes. (out : List ℕ) × Transcript bytes out × Appends io.output.before v out)
     → Keeps v io.output.put → io.output.put ≡ append_known io.output.reached buffer → buffer ≡ [] → EndsRun strict io.output.reached status → Execs strict io status
-ran strict io v buffer status t k same e z = inl record {
+ran strict io v buffer status w t k same e z = inl record {
+  world = w;
   transcript = at_input io.input t;
   ends = z;
 }

@@ -1,3 +1,4 @@
 pub mod FileEffects
 mod Doing
+mod Heading
 mod Scanning

@@ -11,6 +11,8 @@ use Rattle.fl_script_exec.specs.declared.running.ExecFault.{ExecFault}
 use Rattle.fl_script_exec.specs.Transcript.{Transcript}
 use Rattle.fl_script_exec.specs.CutShort.{LeavesWritten}
 use Rattle.fl_script_exec.specs.Reading as script
+use Rattle.fl_script_exec.specs.Written as written
+use Rattle.fl_world_refines.specs.ShowsState.{Shows as WorldShows}
 use Rattle.flounder_show.specs.declared.fault.ShowFault.{ShowFault}
 use Rattle.flounder_show.specs.Content as content
 use Rattle.flounder_show.specs.Named.{StandsIn}
@@ -131,8 +133,9 @@ abbrev pub EndsRun : Bool → Option (List ℕ) → ℕ → Type 0
 EndsRun strict reached status =
     (is_refused : Bool) × IfSome reached (λ all. is_refused ≡ has_refusal all) × (status ≡ (if strict && is_refused then 2 else 0))
 
--- the transcript of standard input was printed
+-- a world ran standard input, and shows the machine's state behind it; its transcript was printed
 pub record Ran (strict : Bool) (io : Streams) (status : ℕ) : Type 0 where
+  pub world : IfSome io.input (written.Ran WorldShows)
   pub transcript : IfSome io.input (λ bytes. (out : List ℕ) × Transcript bytes out × Prints io.output out)
   pub ends : EndsRun strict io.output.reached status
 

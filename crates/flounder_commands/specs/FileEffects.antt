@@ -4,7 +4,7 @@ use Rattle.std.specs.IoError.{error_kind}
 use Rattle.std.specs.declared.io.Error.{Error}
 use Rattle.std.specs.declared.io.ErrorKind.{ErrorKind}
 use Rattle.flounder_commands.specs.declared.files.FileKind.{FileKind}
-use Rattle.flounder_commands.specs.declared.files.FileKind.TheVariants.{Text, TextOrImage, Cores}
+use Rattle.flounder_commands.specs.declared.files.FileKind.TheVariants.{Text, TextOrImage, Cores, Script}
 
 -- So many bytes of a file of a kind are read at most: one more than any interface's text, any image (of which none has over 2 ^ 30) and any
 -- cores file has.
@@ -12,6 +12,7 @@ abbrev pub most_read : FileKind → ℕ
 most_read Text = 65537
 most_read TextOrImage = 1073741825
 most_read Cores = 1048577
+most_read Script = 1048577
 
 -- A file, by its path, was read, or its first bytes were where it has more than are read of its kind; or it was written whole; or that
 -- failed with an error of some kind.

@@ -2,6 +2,7 @@
 -- lines that tell of refusals, and the statuses.
 pub mod Commands
 pub mod FileEffects
+pub mod Headers
 pub mod Parts
 pub mod Refusals
 pub mod Scan

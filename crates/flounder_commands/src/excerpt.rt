@@ -10,7 +10,7 @@ const MOST_BEHIND: usize = 40;
 /// What stands on the line of a place: up to 64 bytes before it and 40 from it on, and below them a mark at
 /// the place. It is printed on two lines, each with a line feed before it; of an empty line nothing is
 /// printed.
-#[derive(Clone, Copy, Debug)]
+#[derive(Clone, Copy)]
 pub struct Excerpt<'a> {
     before: &'a [u8],
     behind: &'a [u8],
@@ -67,7 +67,7 @@ fn space<W: fmt::Write>(bytes: &[u8], f: &mut fmt::Formatter<W>) -> fmt::Result 
 }
 
 /// A whole line, its first 104 bytes, behind a line feed.
-#[derive(Clone, Copy, Debug)]
+#[derive(Clone, Copy)]
 pub struct LineShown<'a>(pub &'a [u8]);
 
 impl fmt::Display for LineShown<'_> {

@@ -8,18 +8,20 @@ use std::io::{Read, Write};
 use std::rt::Files;
 use std::{fs, io};
 
-// One byte more than any interface's text, image and cores file has.
+// One byte more than any interface's text, image, cores file and script has.
 const MOST_TEXT: usize = 65_537;
 
 const MOST_IMAGE: usize = 1_073_741_825;
 
 const MOST_CORES: usize = 1_048_577;
 
+const MOST_SCRIPT: usize = 1_048_577;
+
 const MAGIC: &[u8] = b"FLND";
 
 /// What a file is to hold. Of one that has more bytes than any of its kind only so many are read as show
 /// that.
-#[derive(Clone, Copy, Debug, PartialEq, Eq)]
+#[derive(Clone, Copy, PartialEq, Eq)]
 pub enum FileKind {
     /// An interface's text.
     Text,
@@ -27,6 +29,8 @@ pub enum FileKind {
     TextOrImage,
     /// A cores file.
     Cores,
+    /// A script.
+    Script,
 }
 
 /// Reads and writes files by their paths.
@@ -64,6 +68,7 @@ impl FileKind {
             FileKind::Text => MOST_TEXT,
             FileKind::TextOrImage => MOST_IMAGE,
             FileKind::Cores => MOST_CORES,
+            FileKind::Script => MOST_SCRIPT,
         }
     }
 
@@ -72,6 +77,7 @@ impl FileKind {
         match self {
             FileKind::Text | FileKind::TextOrImage => MOST_TEXT,
             FileKind::Cores => MOST_CORES,
+            FileKind::Script => MOST_SCRIPT,
         }
     }
 }

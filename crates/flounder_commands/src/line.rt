@@ -11,7 +11,7 @@ use std::fmt;
 use std::io::Write;
 
 /// Where a line stands: in a file, or on standard input.
-#[derive(Clone, Copy, Debug)]
+#[derive(Clone, Copy)]
 pub(crate) enum Source<'a> {
     File(&'a str),
     Input,

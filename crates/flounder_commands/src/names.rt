@@ -3,7 +3,7 @@
 use std::fmt;
 
 /// A file's name on one line: a control character is escaped, and whatever else shows nothing by itself.
-#[derive(Clone, Copy, Debug)]
+#[derive(Clone, Copy)]
 pub struct FileName<'a>(pub &'a str);
 
 impl fmt::Display for FileName<'_> {

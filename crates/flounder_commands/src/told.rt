@@ -14,7 +14,7 @@ const BYTE_ORDER_MARK: &[u8] = b"\xef\xbb\xbf";
 /// its byte offset in a text; then `FILE:LINE:COLUMN:` (of an image `FILE:`) and the fault in words; then
 /// what stands there, where something does, with a mark below the place; then what would be right. Lines and
 /// columns count from 1, a column in bytes.
-#[derive(Clone, Copy, Debug)]
+#[derive(Clone, Copy)]
 pub struct RefusedFile<'a> {
     /// The file's name, as the words of the command line have it.
     pub file: &'a str,
@@ -58,7 +58,7 @@ fn tell_place<W: fmt::Write>(place: Option<Position>, f: &mut fmt::Formatter<W>)
 }
 
 /// Why a text is refused: the fault in words, what stands there, and what would be right.
-#[derive(Clone, Copy, Debug)]
+#[derive(Clone, Copy)]
 pub(crate) struct RefusedText<'a> {
     pub content: &'a [u8],
     pub refusal: TextRefusal<'a>,

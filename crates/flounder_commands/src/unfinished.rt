@@ -4,7 +4,7 @@
 use crate::explain::Items;
 use fl_base::Side;
 use fl_script_lines::{BackEndText, Command, EndName, Line, parse_line};
-use std::alloc::{AllocError, Global};
+use std::alloc::Global;
 use std::fmt;
 use std::io::Write;
 
@@ -62,9 +62,10 @@ struct Rule<'a> {
     message: &'a [u8],
 }
 
-/// What a cores file makes, by the names of its lines.
+/// What a cores file makes, by the names of its lines; some is missing where memory was refused.
 #[derive(Drop)]
 struct Made<'a> {
+    is_whole: bool,
     cores: Vec<(&'a [u8], u32)>,
     services: Vec<(&'a [u8], &'a [u8])>,
     bindings: Vec<Bound<'a>>,
@@ -81,6 +82,7 @@ fn other(side: Side) -> Side {
 impl<'a> Made<'a> {
     fn new(alloc: Global) -> Made<'a> {
         Made {
+            is_whole: true,
             cores: Vec::new(alloc),
             services: Vec::new(alloc),
             bindings: Vec::new(alloc),
@@ -98,14 +100,14 @@ impl<'a> Made<'a> {
     }
 
     // Takes up a line of the file.
-    fn take(&mut self, command: Command<'a>) -> Result<(), AllocError> {
-        match command {
-            Command::Disp { name, core } => self.cores.push((name, core))?,
+    fn take(&mut self, command: Command<'a>) {
+        let is_kept = match command {
+            Command::Disp { name, core } => self.cores.push((name, core)).is_ok(),
             Command::Export {
                 name,
                 dispatcher,
                 interface: _,
-            } => self.services.push((name, dispatcher))?,
+            } => self.services.push((name, dispatcher)).is_ok(),
             Command::Bind {
                 name,
                 client,
@@ -114,18 +116,21 @@ impl<'a> Made<'a> {
                 back_end,
             } => {
                 let is_circuit = matches!(back_end, BackEndText::Hop(_));
-                self.bindings
-                    .push(Bound::new(name, client, service, is_circuit))?;
+                let bound = Bound::new(name, client, service, is_circuit);
+                self.bindings.push(bound).is_ok()
             }
             Command::Reply {
                 end,
                 message,
                 answer: _,
-            } => self.rules.push(Rule { end, message })?,
-            Command::Call(end, _) => self.add_due(end),
-            _ => {}
-        }
-        Ok(())
+            } => self.rules.push(Rule { end, message }).is_ok(),
+            Command::Call(end, _) => {
+                self.add_due(end);
+                true
+            }
+            _ => true,
+        };
+        self.is_whole = self.is_whole && is_kept;
     }
 
     // An end handled a message: a rule has it answer.
@@ -296,26 +301,27 @@ fn tell_binding<E: Write>(made: &Made<'_>, binding: &Bound<'_>, errors: &mut E) 
     }
 }
 
-fn made_by<'a>(alloc: Global, content: &'a [u8]) -> Result<Made<'a>, AllocError> {
+fn made_by<'a>(alloc: Global, content: &'a [u8]) -> Made<'a> {
     let mut made = Made::new(alloc);
     let mut items = Items::new(content);
     for line in content.split_inclusive(|byte| *byte == b'\n') {
         if let Some(item) = items.next(line) {
             if !item.is_block {
                 if let Line::Command(command) = parse_line(item.text) {
-                    made.take(command)?;
+                    made.take(command);
                 }
             }
         }
     }
-    Ok(made)
+    made
 }
 
-/// Tells what a run of cores left undone, from the file's content and its report.
+/// Tells what a run of cores left undone, from the file's content and its report, if memory isn't refused.
 pub fn tell_unfinished<E: Write>(alloc: Global, content: &[u8], report: &[u8], errors: &mut E) {
-    let Ok(mut made) = made_by(alloc, content) else {
+    let mut made = made_by(alloc, content);
+    if !made.is_whole {
         return;
-    };
+    }
     for line in report.split(|byte| *byte == b'\n') {
         made.report(line);
     }

@@ -3,7 +3,7 @@
 use fl_script_lines::Verb;
 
 /// What is wrong, and what to do.
-#[derive(Clone, Copy, Debug)]
+#[derive(Clone, Copy)]
 pub(crate) struct LineWords {
     pub fault: &'static str,
     pub remedy: &'static str,

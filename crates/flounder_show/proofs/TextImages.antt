@@ -14,8 +14,9 @@ use Rattle.fl_value_data.specs.declared.value.PlanNo.{PlanNo}
 use Rattle.fl_value_data.specs.declared.value.PlanNo.TheVariants.{Two}
 use Rattle.fl_compile.specs.Programs.{TheProgram}
 use Rattle.fl_image.specs.Image.{is_writable, has_image, image_of}
-use Rattle.flounder_show.specs.Content.{StandsFor as TextStandsFor, IsImageOf, ShowsImage}
+use Rattle.flounder_show.specs.Content.{StandsFor as TextStandsFor, IsImageOf, ShowsImage, HeadsImage}
 use Rattle.flounder_show.specs.Table.{IsTable}
+use Rattle.flounder_header.specs.Header.{IsHeader}
 
 both : (a b : Bool) → a ≡ true → b ≡ true → (a && b) ≡ true
 both true b p q = q
@@ -52,4 +53,14 @@ table_told bytes table p i plan found e same t = (
   p.interface,
   record { has = found.0; spelled = found.1 },
   subst (λ (q : PlanNo). IsTable q p.interface table) same (subst (λ (x : TheInterface). IsTable plan x table) e t),
+)
+
+-- the header of a program that was read from an image
+pub header_told : (bytes header : List ℕ) (p : TheProgram) (i : TheInterface) → (has_image p.interface ≡ true) × (bytes ≡ image_of p.plan p.interface)
+    → i ≡ p.interface → IsHeader i header → HeadsImage bytes header
+header_told bytes header p i found e h = (
+  p.plan,
+  p.interface,
+  record { has = found.0; spelled = found.1 },
+  subst (λ (x : TheInterface). IsHeader x header) e h,
 )

@@ -26,6 +26,7 @@ use Rattle.fl_image.specs.Outcome.{BeginsAsImage}
 use Rattle.flounder_show.specs.declared.fault.ShowFault.{ShowFault}
 use Rattle.flounder_show.specs.declared.fault.ShowFault.TheVariants.{Refused, NoImage, Memory}
 use Rattle.flounder_show.specs.Table.{IsTable}
+use Rattle.flounder_header.specs.Header.{IsHeader}
 
 -- the bytes spell the tokens, the tokens are those of the tree, and the tree stands for the interface
 pub record StandsFor (bytes : List ℕ) (i : TheInterface) : Type 0 where
@@ -94,6 +95,16 @@ is_meant_as_image bytes = bytes_eq magic (take 4 bytes)
 
 abbrev pub Shows : List ℕ → List ℕ → Type 0
 Shows bytes table = ((is_meant_as_image bytes ≡ true) × ShowsImage bytes table) ⊎ ((is_meant_as_image bytes ≡ false) × ShowsText bytes table)
+
+-- a file's header is that of the interface which its text stands for, or which it is an image of
+abbrev pub HeadsText : List ℕ → List ℕ → Type 0
+HeadsText bytes header = (i : TheInterface) × StandsFor bytes i × IsHeader i header
+
+abbrev pub HeadsImage : List ℕ → List ℕ → Type 0
+HeadsImage bytes header = (plan : PlanNo) × (i : TheInterface) × IsImageOf bytes plan i × IsHeader i header
+
+abbrev pub HasHeader : List ℕ → List ℕ → Type 0
+HasHeader bytes header = ((is_meant_as_image bytes ≡ true) × HeadsImage bytes header) ⊎ ((is_meant_as_image bytes ≡ false) × HeadsText bytes header)
 
 abbrev pub IsRefusedAs : List ℕ → ShowFault → Type 0
 IsRefusedAs bytes e = ((is_meant_as_image bytes ≡ true) × IsImageRefusalOf bytes e) ⊎ ((is_meant_as_image bytes ≡ false) × IsRefusalOf bytes e)

@@ -3,10 +3,10 @@
 
 use crate::expected::{Expected, expected_at};
 use crate::measure::{KnownTypes, Measure};
+use crate::reading::tree_of;
 use fl_check::{CheckFault, Rule, TextFault};
-use fl_lex::{Tokens, lex};
-use fl_parse::{Argument, Declaration, DirectedArgument, Direction, Name, Shape, Tree, parse};
-use std::alloc::{AllocError, Global};
+use fl_parse::{Argument, Declaration, Direction, Name, Shape, Tree};
+use std::alloc::Global;
 
 const MAX_SIZE: u64 = 4_096;
 
@@ -16,7 +16,7 @@ const MAX_DEPTH: u32 = 16;
 const MAX_RPC_NAME: usize = 55;
 
 /// What more is known of a fault. No promise rests on it.
-#[derive(Clone, Copy, Debug)]
+#[derive(Clone, Copy)]
 pub enum Cause {
     /// E7: what could stand there.
     Expected(Expected),
@@ -41,191 +41,165 @@ pub enum Cause {
 /// What more is known of a text's first fault, if something is and memory isn't refused.
 pub fn cause_of(alloc: Global, text: &[u8], fault: TextFault) -> Option<Cause> {
     match fault {
-        TextFault::Lex(_) => None,
         TextFault::Parse(fault) if fault.number() == 7 => {
-            let offset = fault.offset()?;
-            match expected_at(alloc, text, offset) {
-                Ok(expected) => expected.map(Cause::Expected),
-                Err(_) => None,
-            }
+            let expected = expected_at(alloc, text, fault.offset()?)?;
+            Some(Cause::Expected(expected))
         }
-        TextFault::Parse(_) => None,
         TextFault::Check(CheckFault::Broken { rule, at }) => {
-            let tokens: Tokens<'_> = match lex(alloc, text) {
-                Ok(tokens) => tokens,
-                Err(_) => return None,
-            };
-            let tree = match parse(alloc, &tokens) {
-                Ok(tree) => tree,
-                Err(_) => return None,
-            };
-            match cause_in(alloc, &tree, rule, at) {
-                Ok(cause) => cause,
-                Err(AllocError) => None,
-            }
+            let tree = tree_of(alloc, text)?;
+            cause_in(alloc, &tree, rule, at)
         }
-        TextFault::Check(CheckFault::Memory) => None,
+        _ => None,
     }
 }
 
 // What more is known of a rule that a tree breaks.
-fn cause_in(
-    alloc: Global,
-    tree: &Tree<'_>,
-    rule: Rule,
-    at: usize,
-) -> Result<Option<Cause>, AllocError> {
+fn cause_in(alloc: Global, tree: &Tree<'_>, rule: Rule, at: usize) -> Option<Cause> {
     match rule {
-        Rule::TypeNameTaken => Ok(Some(first_type(tree, at))),
-        Rule::MessageNameTaken => Ok(first_message(tree, at)),
+        Rule::TypeNameTaken | Rule::MessageNameTaken => first_declared(tree, at),
         Rule::NameTwice => first_in_list(alloc, tree, at),
         Rule::TooBig => size_of(alloc, tree, at),
-        Rule::TooMany => Ok(too_many(tree, at)),
+        Rule::TooMany => Some(too_many(tree, at)),
         Rule::TooLong => payload_of(alloc, tree, at),
         Rule::UnknownType
         | Rule::Capability
         | Rule::NothingInIt
         | Rule::BadCount
         | Rule::NotFixed
-        | Rule::BadBound => Ok(None),
+        | Rule::BadBound => None,
     }
 }
 
-// The name of the type that a declaration makes.
-fn new_type<'t, 'a>(declaration: &'t Declaration<'a>) -> Option<&'t Name<'a>> {
-    match declaration {
-        Declaration::Alias { new, old: _ } => Some(new),
+/// What a declaration makes.
+#[derive(Clone, Copy)]
+enum Kind {
+    Type,
+    Message,
+    Rpc,
+}
+
+/// What a declaration makes, and its name.
+#[derive(Clone, Copy)]
+struct Declared<'a> {
+    kind: Kind,
+    name: Name<'a>,
+}
+
+fn declared_by<'a>(declaration: &Declaration<'a>) -> Declared<'a> {
+    let (kind, name) = match declaration {
+        Declaration::Alias { new, old: _ } => (Kind::Type, new),
         Declaration::Typedef {
             old: _,
             new,
             count: _,
-        } => Some(new),
-        Declaration::Enumeration { members: _, name } => Some(name),
-        Declaration::Structure { fields: _, name } => Some(name),
-        Declaration::Message { .. } | Declaration::Rpc { .. } => None,
-    }
-}
-
-// The declared type at a place, by its name.
-fn type_at<'t, 'a>(tree: &'t Tree<'a>, at: usize) -> Option<&'t Name<'a>> {
-    for declaration in &tree.declarations {
-        if let Some(name) = new_type(declaration) {
-            if name.at == at {
-                return Some(name);
-            }
-        }
-    }
-    None
-}
-
-// Where the first type of the name at this place stands; a name that no declaration before has is built in.
-fn first_type(tree: &Tree<'_>, at: usize) -> Cause {
-    let Some(taken) = type_at(tree, at) else {
-        return Cause::BuiltIn;
-    };
-    for declaration in &tree.declarations {
-        if let Some(name) = new_type(declaration) {
-            if name.at < at && name.text == taken.text {
-                return Cause::First { at: name.at };
-            }
-        }
-    }
-    Cause::BuiltIn
-}
-
-// The name of a message or an rpc, and whether it is an rpc's.
-fn message_name<'t, 'a>(declaration: &'t Declaration<'a>) -> Option<(&'t Name<'a>, bool)> {
-    match declaration {
+        } => (Kind::Type, new),
+        Declaration::Enumeration { members: _, name } => (Kind::Type, name),
+        Declaration::Structure { fields: _, name } => (Kind::Type, name),
         Declaration::Message {
             kind: _,
             name,
             args: _,
-        } => Some((name, false)),
-        Declaration::Rpc { name, args: _ } => Some((name, true)),
-        Declaration::Alias { .. }
-        | Declaration::Typedef { .. }
-        | Declaration::Enumeration { .. }
-        | Declaration::Structure { .. } => None,
+        } => (Kind::Message, name),
+        Declaration::Rpc { name, args: _ } => (Kind::Rpc, name),
+    };
+    Declared { kind, name: *name }
+}
+
+// What is declared at a place.
+fn declared_at<'a>(tree: &Tree<'a>, at: usize) -> Option<Declared<'a>> {
+    for declaration in &tree.declarations {
+        let found = declared_by(declaration);
+        if found.name.at == at {
+            return Some(found);
+        }
     }
+    None
 }
 
 // Whether a message's name is one of the two that an rpc takes.
 fn is_half(name: &[u8], rpc: &[u8]) -> bool {
-    match name.strip_prefix(rpc) {
-        Some(end) => end == b"_call".as_slice() || end == b"_response".as_slice(),
-        None => false,
+    let end = name.strip_prefix(rpc);
+    end == Some(b"_call".as_slice()) || end == Some(b"_response".as_slice())
+}
+
+// Whether two declarations take the same name.
+fn take_the_same(one: Declared<'_>, other: Declared<'_>) -> bool {
+    match (one.kind, other.kind) {
+        (Kind::Type, Kind::Type) | (Kind::Message, Kind::Message) | (Kind::Rpc, Kind::Rpc) => {
+            one.name.text == other.name.text
+        }
+        (Kind::Message, Kind::Rpc) => is_half(one.name.text, other.name.text),
+        (Kind::Rpc, Kind::Message) => is_half(other.name.text, one.name.text),
+        _ => false,
     }
 }
 
-// Whether two messages or rpcs take the same name.
-fn take_the_same(one: (&Name<'_>, bool), other: (&Name<'_>, bool)) -> bool {
-    match (one.1, other.1) {
-        (false, true) => is_half(one.0.text, other.0.text),
-        (true, false) => is_half(other.0.text, one.0.text),
-        _ => one.0.text == other.0.text,
-    }
-}
-
-// The message or rpc at a place.
-fn message_at<'t, 'a>(tree: &'t Tree<'a>, at: usize) -> Option<(&'t Name<'a>, bool)> {
+// Where the first stands that takes the name of the type, message or rpc at this place. A type's name that none
+// takes is built in.
+fn first_declared(tree: &Tree<'_>, at: usize) -> Option<Cause> {
+    let taken = declared_at(tree, at)?;
     for declaration in &tree.declarations {
-        if let Some(found) = message_name(declaration) {
-            if found.0.at == at {
-                return Some(found);
-            }
+        let found = declared_by(declaration);
+        if found.name.at < at && take_the_same(found, taken) {
+            return Some(Cause::First { at: found.name.at });
         }
     }
-    None
+    match taken.kind {
+        Kind::Type => Some(Cause::BuiltIn),
+        Kind::Message | Kind::Rpc => None,
+    }
 }
 
-// Where the first message stands that has a name of the message or rpc at this place.
-fn first_message(tree: &Tree<'_>, at: usize) -> Option<Cause> {
-    let taken = message_at(tree, at)?;
-    for declaration in &tree.declarations {
-        if let Some(found) = message_name(declaration) {
-            if found.0.at < at && take_the_same(found, taken) {
-                return Some(Cause::First { at: found.0.at });
-            }
-        }
-    }
-    None
+/// The names of a list, in order; some are missing where memory was refused.
+#[derive(Drop)]
+struct Listed<'a> {
+    names: Vec<Name<'a>>,
+    is_whole: bool,
 }
 
-fn push_argument<'a>(names: &mut Vec<Name<'a>>, argument: &Argument<'a>) -> Result<(), AllocError> {
-    names.push(argument.name)?;
-    if let Shape::Sized { length, bound: _ } = argument.shape {
-        names.push(length)?;
+impl<'a> Listed<'a> {
+    fn add(&mut self, name: Name<'a>) {
+        let is_kept = self.names.push(name).is_ok();
+        self.is_whole = self.is_whole && is_kept;
     }
-    Ok(())
-}
 
-// The names of a declaration's list, in order.
-fn list_of<'a>(alloc: Global, declaration: &Declaration<'a>) -> Result<Vec<Name<'a>>, AllocError> {
-    let mut names = Vec::new(alloc);
-    match declaration {
-        Declaration::Enumeration { members, name: _ } => names.extend_from_slice(members)?,
-        Declaration::Structure { fields, name: _ } => {
-            for field in fields {
-                names.push(field.name)?;
-            }
+    fn add_argument(&mut self, argument: &Argument<'a>) {
+        self.add(argument.name);
+        if let Shape::Sized { length, bound: _ } = argument.shape {
+            self.add(length);
         }
-        Declaration::Message {
-            kind: _,
-            name: _,
-            args,
-        } => {
-            for argument in args {
-                push_argument(&mut names, argument)?;
-            }
-        }
-        Declaration::Rpc { name: _, args } => {
-            for directed in args {
-                push_argument(&mut names, &directed.argument)?;
-            }
-        }
-        Declaration::Alias { .. } | Declaration::Typedef { .. } => {}
     }
-    Ok(names)
+
+    // Adds the names of a declaration's list.
+    fn add_list(&mut self, declaration: &Declaration<'a>) {
+        match declaration {
+            Declaration::Enumeration { members, name: _ } => {
+                for member in members {
+                    self.add(*member);
+                }
+            }
+            Declaration::Structure { fields, name: _ } => {
+                for field in fields {
+                    self.add(field.name);
+                }
+            }
+            Declaration::Message {
+                kind: _,
+                name: _,
+                args,
+            } => {
+                for argument in args {
+                    self.add_argument(argument);
+                }
+            }
+            Declaration::Rpc { name: _, args } => {
+                for directed in args {
+                    self.add_argument(&directed.argument);
+                }
+            }
+            Declaration::Alias { .. } | Declaration::Typedef { .. } => {}
+        }
+    }
 }
 
 // The first of the names that has this text.
@@ -248,51 +222,46 @@ fn first_same(names: &[Name<'_>], at: usize) -> Option<Cause> {
     None
 }
 
-fn first_in_list(alloc: Global, tree: &Tree<'_>, at: usize) -> Result<Option<Cause>, AllocError> {
+// Where the first name of a list stands that is the same as the one at this place.
+fn first_in_list(alloc: Global, tree: &Tree<'_>, at: usize) -> Option<Cause> {
+    let mut found = None;
     for declaration in &tree.declarations {
-        let names = list_of(alloc, declaration)?;
-        if let Some(cause) = first_same(&names, at) {
-            return Ok(Some(cause));
+        let mut list = Listed {
+            names: Vec::new(alloc),
+            is_whole: true,
+        };
+        list.add_list(declaration);
+        if list.is_whole {
+            found = found.or(first_same(&list.names, at));
         }
     }
-    Ok(None)
+    found
 }
 
 // Of what there is one too many at a place.
-fn too_many(tree: &Tree<'_>, at: usize) -> Option<Cause> {
-    for declaration in &tree.declarations {
-        if let Some(name) = new_type(declaration) {
-            if name.at == at {
-                return Some(Cause::Count {
-                    things: "types",
-                    most: fl_interface::MAX_TYPES,
-                });
-            }
+fn too_many(tree: &Tree<'_>, at: usize) -> Cause {
+    let (things, most) = match declared_at(tree, at) {
+        Some(
+            Declared {
+                kind: Kind::Rpc,
+                name,
+            },
+        ) if name.text.len() > MAX_RPC_NAME => {
+            return Cause::NameLength {
+                bytes: name.text.len(),
+                most: MAX_RPC_NAME,
+            };
         }
-        if let Some((name, is_rpc)) = message_name(declaration) {
-            if name.at == at {
-                return Some(too_many_messages(name, is_rpc));
-            }
-        }
-    }
-    Some(Cause::Count {
-        things: "fields or arguments",
-        most: fl_interface::MAX_LISTED,
-    })
-}
-
-fn too_many_messages(name: &Name<'_>, is_rpc: bool) -> Cause {
-    let bytes = name.text.len();
-    if is_rpc && bytes > MAX_RPC_NAME {
-        return Cause::NameLength {
-            bytes,
-            most: MAX_RPC_NAME,
-        };
-    }
-    Cause::Count {
-        things: "messages",
-        most: fl_interface::MAX_MESSAGES,
-    }
+        Some(
+            Declared {
+                kind: Kind::Type,
+                name: _,
+            },
+        ) => ("types", fl_interface::MAX_TYPES),
+        Some(_) => ("messages", fl_interface::MAX_MESSAGES),
+        None => ("fields or arguments", fl_interface::MAX_LISTED),
+    };
+    Cause::Count { things, most }
 }
 
 // What is too big in a type.
@@ -312,55 +281,45 @@ fn excess(measure: Measure) -> Cause {
     }
 }
 
-fn size_of(alloc: Global, tree: &Tree<'_>, at: usize) -> Result<Option<Cause>, AllocError> {
+// What is too big in the type at a place.
+fn size_of(alloc: Global, tree: &Tree<'_>, at: usize) -> Option<Cause> {
     let mut known = KnownTypes::new(alloc);
+    let mut found = None;
     for declaration in &tree.declarations {
-        let measure = known.declare(declaration)?;
-        if let Some(name) = new_type(declaration) {
-            if name.at == at {
-                return Ok(Some(excess(measure)));
-            }
+        let measure = known.declare(declaration);
+        if declared_by(declaration).name.at == at && known.is_whole {
+            found = measure;
         }
     }
-    Ok(None)
+    Some(excess(found?))
 }
 
-// The arguments that one of an rpc's messages carries.
-fn half<'a>(
-    alloc: Global,
-    args: &[DirectedArgument<'a>],
-    direction: Direction,
-) -> Result<Vec<Argument<'a>>, AllocError> {
-    let mut carried = Vec::new(alloc);
-    for directed in args {
-        if directed.direction == direction {
-            carried.push(directed.argument)?;
+// The greatest payload of a message or rpc, in bytes.
+fn greatest_payload(known: &KnownTypes<'_>, declaration: &Declaration<'_>) -> Option<u64> {
+    match declaration {
+        Declaration::Message {
+            kind: _,
+            name: _,
+            args,
+        } => Some(known.payload(args)),
+        Declaration::Rpc { name: _, args } => {
+            let ins = known.half_payload(args, Direction::In);
+            Some(ins.max(known.half_payload(args, Direction::Out)))
         }
+        _ => None,
     }
-    Ok(carried)
 }
 
-fn payload_of(alloc: Global, tree: &Tree<'_>, at: usize) -> Result<Option<Cause>, AllocError> {
+// The greatest payload of the message or rpc at a place.
+fn payload_of(alloc: Global, tree: &Tree<'_>, at: usize) -> Option<Cause> {
     let mut known = KnownTypes::new(alloc);
+    let mut found = None;
     for declaration in &tree.declarations {
-        let _measure = known.declare(declaration)?;
-        match declaration {
-            Declaration::Message {
-                kind: _,
-                name,
-                args,
-            } if name.at == at => {
-                let bytes = known.payload(args);
-                return Ok(Some(Cause::Payload { bytes }));
-            }
-            Declaration::Rpc { name, args } if name.at == at => {
-                let ins = known.payload(&half(alloc, args, Direction::In)?);
-                let outs = known.payload(&half(alloc, args, Direction::Out)?);
-                let bytes = ins.max(outs);
-                return Ok(Some(Cause::Payload { bytes }));
-            }
-            _ => {}
+        let _measure = known.declare(declaration);
+        if declared_by(declaration).name.at == at && known.is_whole {
+            found = greatest_payload(&known, declaration);
         }
     }
-    Ok(None)
+    let bytes = found?;
+    Some(Cause::Payload { bytes })
 }

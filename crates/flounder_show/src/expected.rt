@@ -2,7 +2,7 @@
 
 use fl_lex::{Mark, Token, TokenKind, Tokens, lex};
 use fl_parse::{ParseFault, parse};
-use std::alloc::{AllocError, Global};
+use std::alloc::Global;
 use std::fmt;
 
 /// A token that could stand somewhere, and its words.
@@ -116,7 +116,7 @@ const CANDIDATES: &[Candidate] = &[
 ];
 
 /// What could stand at a place: at least one kind of token. It is printed as "`;`, `[` or a name".
-#[derive(Clone, Copy, Debug)]
+#[derive(Clone, Copy)]
 pub struct Expected {
     // A bit for each candidate that could, the first the lowest.
     fits: u32,
@@ -154,56 +154,66 @@ impl fmt::Display for Expected {
     }
 }
 
-// Whether an interface goes on behind these tokens, or ends there. The last of them stands at `usize::MAX`.
-fn goes_on(alloc: Global, tokens: &Tokens<'_>) -> Result<bool, AllocError> {
+// Whether an interface goes on behind these tokens, or ends there, if memory isn't refused. The last of them
+// stands at `usize::MAX`.
+fn goes_on(alloc: Global, tokens: &Tokens<'_>) -> Option<bool> {
     match parse(alloc, tokens) {
-        Ok(_) => Ok(true),
-        Err(ParseFault::NotExpected(at)) => Ok(at == tokens.end),
-        Err(ParseFault::AfterInterface(_)) => Ok(false),
-        Err(ParseFault::Memory) => Err(AllocError),
+        Ok(_) => Some(true),
+        Err(ParseFault::NotExpected(at)) => Some(at == tokens.end),
+        Err(ParseFault::AfterInterface(_)) => Some(false),
+        Err(ParseFault::Memory) => None,
     }
 }
 
-// Whether a token could stand behind these.
-fn fits(alloc: Global, tokens: &mut Tokens<'_>, candidate: &Candidate) -> Result<bool, AllocError> {
-    tokens.items.push(Token {
+// Whether a token could stand behind these, if memory isn't refused.
+fn fits(alloc: Global, tokens: &mut Tokens<'_>, candidate: &Candidate) -> Option<bool> {
+    let token = Token {
         kind: candidate.kind,
         text: candidate.text,
         at: usize::MAX - 1,
-    })?;
+    };
+    if tokens.items.push(token).is_err() {
+        return None;
+    }
     let found = goes_on(alloc, tokens);
     let _candidate = tokens.items.pop();
     found
 }
 
-/// What could stand at this place of a text, of which the tokens before begin an interface.
-///
-/// # Errors
-/// Out of memory.
-pub(crate) fn expected_at(
-    alloc: Global,
-    text: &[u8],
-    offset: usize,
-) -> Result<Option<Expected>, AllocError> {
-    let Ok(mut tokens) = lex(alloc, text) else {
-        return Ok(None);
-    };
-    let before = tokens
-        .items
-        .iter()
-        .filter(|token| token.at < offset)
-        .count();
-    tokens.items.truncate(before);
-    tokens.end = usize::MAX;
+// What could stand behind these tokens, if memory isn't refused.
+fn expected_behind(alloc: Global, tokens: &mut Tokens<'_>) -> Option<Expected> {
     let mut found = 0u32;
     let mut bit = 1u32;
     for candidate in CANDIDATES.iter() {
         // Where a name, the first candidate, could stand, each word could.
         let is_told = candidate.kind == TokenKind::Word && found & 1 != 0;
-        if !is_told && fits(alloc, &mut tokens, candidate)? {
+        if !is_told && fits(alloc, tokens, candidate)? {
             found |= bit;
         }
         bit = bit.rotate_left(1);
     }
-    Ok(Some(Expected { fits: found }))
+    Some(Expected { fits: found })
+}
+
+// So many tokens stand before a place.
+fn count_before(tokens: &[Token<'_>], offset: usize) -> usize {
+    let mut count: usize = 0;
+    for token in tokens {
+        if token.at < offset {
+            count = count.saturating_add(1);
+        }
+    }
+    count
+}
+
+/// What could stand at this place of a text, of which the tokens before begin an interface, if memory isn't
+/// refused.
+pub(crate) fn expected_at(alloc: Global, text: &[u8], offset: usize) -> Option<Expected> {
+    let Ok(mut tokens) = lex(alloc, text) else {
+        return None;
+    };
+    let before = count_before(&tokens.items, offset);
+    tokens.items.truncate(before);
+    tokens.end = usize::MAX;
+    expected_behind(alloc, &mut tokens)
 }

@@ -1,8 +1,8 @@
 //! Sizes of types as a text declares them, also of those that are too big. A sum that no 64 bits hold stays
 //! at the greatest.
 
-use fl_parse::{Argument, Declaration, Field, Name, Number, Shape};
-use std::alloc::{AllocError, Global};
+use fl_parse::{Argument, Declaration, DirectedArgument, Direction, Field, Name, Number, Shape};
+use std::alloc::Global;
 
 /// Bytes of a string without a bound.
 const USUAL_TEXT: u32 = 2_047;
@@ -69,26 +69,41 @@ impl Measure {
     }
 }
 
+// Built-in types of less than 8 bytes.
+const BUILT_IN: &[(&[u8], u64)] = &[
+    (b"uint8", 1),
+    (b"int8", 1),
+    (b"bool", 1),
+    (b"char", 1),
+    (b"uint16", 2),
+    (b"int16", 2),
+    (b"uint32", 4),
+    (b"int32", 4),
+    (b"iref", 4),
+];
+
 // A built-in type's bytes; of a name that is none those of the greatest.
 fn built_in_bytes(name: &[u8]) -> u64 {
-    match name {
-        b"uint8" | b"int8" | b"bool" | b"char" => 1,
-        b"uint16" | b"int16" => 2,
-        b"uint32" | b"int32" | b"iref" => 4,
-        _ => 8,
+    for (known, bytes) in BUILT_IN {
+        if name == *known {
+            return *bytes;
+        }
     }
+    8
 }
 
-/// The types that declarations made so far, by their names.
+/// The types that declarations made so far, by their names; some are missing where memory was refused.
 #[derive(Drop)]
 pub(crate) struct KnownTypes<'a> {
     types: Vec<(Name<'a>, Measure)>,
+    pub is_whole: bool,
 }
 
 impl<'a> KnownTypes<'a> {
     pub(crate) fn new(alloc: Global) -> KnownTypes<'a> {
         KnownTypes {
             types: Vec::new(alloc),
+            is_whole: true,
         }
     }
 
@@ -114,53 +129,42 @@ impl<'a> KnownTypes<'a> {
         all.ended()
     }
 
-    fn add(&mut self, name: Name<'a>, measure: Measure) -> Result<Measure, AllocError> {
-        self.types.push((name, measure))?;
-        Ok(measure)
-    }
-
     /// Takes up a declaration, and tells the measure of the type that it makes, if it makes one.
-    pub(crate) fn declare(&mut self, declaration: &Declaration<'a>) -> Result<Measure, AllocError> {
-        match declaration {
-            Declaration::Alias { new, old } => self.add(*new, self.measure(old)),
-            Declaration::Typedef { old, new, count } => {
-                self.add(*new, self.measure(old).counted(*count))
-            }
-            Declaration::Enumeration { members: _, name } => {
-                self.add(*name, Measure::of_bytes(4))
-            }
-            Declaration::Structure { fields, name } => {
-                self.add(*name, self.measure_fields(fields))
-            }
-            Declaration::Message { .. } | Declaration::Rpc { .. } => Ok(Measure::of_bytes(0)),
-        }
+    pub(crate) fn declare(&mut self, declaration: &Declaration<'a>) -> Option<Measure> {
+        let (name, measure) = match declaration {
+            Declaration::Alias { new, old } => (new, self.measure(old)),
+            Declaration::Typedef { old, new, count } => (new, self.measure(old).counted(*count)),
+            Declaration::Enumeration { members: _, name } => (name, Measure::of_bytes(4)),
+            Declaration::Structure { fields, name } => (name, self.measure_fields(fields)),
+            Declaration::Message { .. } | Declaration::Rpc { .. } => return None,
+        };
+        let is_kept = self.types.push((*name, measure)).is_ok();
+        self.is_whole = self.is_whole && is_kept;
+        Some(measure)
     }
 
     // Where an argument may end at most behind one that may end there, and what its end is aligned to.
     fn end_behind(&self, end: u64, due: u64, argument: &Argument<'_>) -> (u64, u64) {
-        let bounded = |most: u32, size: u64| {
-            let bytes = size.saturating_mul(u64::from(most)).saturating_add(8);
-            (align_up(end, 8).saturating_add(bytes), 8)
-        };
         let element = self.measure(&argument.type_name);
-        match argument.shape {
-            Shape::Plain if argument.type_name.text == b"string".as_slice() => {
-                bounded(USUAL_TEXT, 1)
-            }
-            Shape::Plain => {
+        let is_text = argument.type_name.text == b"string".as_slice();
+        let (most, size) = match argument.shape {
+            Shape::Plain if !is_text => {
                 let start = align_up(end, due.max(element.align));
-                (start.saturating_add(element.size), 1)
+                return (start.saturating_add(element.size), 1);
             }
-            Shape::Bounded(bound) => bounded(bound.value, 1),
+            Shape::Plain => (USUAL_TEXT, 1),
+            Shape::Bounded(bound) => (bound.value, 1),
             Shape::Sized {
                 length: _,
                 bound: Some(bound),
-            } => bounded(bound.value, element.size),
+            } => (bound.value, element.size),
             Shape::Sized {
                 length: _,
                 bound: None,
-            } => bounded(USUAL_ELEMENTS, element.size),
-        }
+            } => (USUAL_ELEMENTS, element.size),
+        };
+        let bytes = size.saturating_mul(u64::from(most)).saturating_add(8);
+        (align_up(end, 8).saturating_add(bytes), 8)
     }
 
     /// The greatest payload of these arguments, in bytes.
@@ -169,6 +173,22 @@ impl<'a> KnownTypes<'a> {
         let mut due = 1;
         for argument in arguments {
             (end, due) = self.end_behind(end, due, argument);
+        }
+        end
+    }
+
+    /// The same of those arguments of an rpc that one of its messages carries.
+    pub(crate) fn half_payload(
+        &self,
+        arguments: &[DirectedArgument<'_>],
+        direction: Direction,
+    ) -> u64 {
+        let mut end = 0;
+        let mut due = 1;
+        for directed in arguments {
+            if directed.direction == direction {
+                (end, due) = self.end_behind(end, due, &directed.argument);
+            }
         }
         end
     }

@@ -3,8 +3,8 @@
 ghost use Rattle.std.specs.Prelude.{◌≡◌, ◌++◌, List, ℕ, IfOk, OnOk};
 ghost use Rattle.flounder_show.specs.Named.{StandsIn};
 
-use fl_lex::lex;
-use fl_parse::{Declaration, DirectedArgument, Direction, Tree, parse};
+use crate::reading::tree_of;
+use fl_parse::{Declaration, DirectedArgument, Direction, Tree};
 use std::alloc::{AllocError, Global};
 
 const MAGIC: &[u8] = b"FLND";
@@ -108,10 +108,7 @@ pub fn name_arguments(alloc: Global, content: &[u8], table: &[u8]) -> Result<Vec
     if content.starts_with(MAGIC) {
         return with_names(alloc, table, &[]);
     }
-    let Ok(tokens) = lex(alloc, content) else {
-        return with_names(alloc, table, &[]);
-    };
-    let Ok(tree) = parse(alloc, &tokens) else {
+    let Some(tree) = tree_of(alloc, content) else {
         return with_names(alloc, table, &[]);
     };
     let names = argument_names(alloc, &tree)?;

@@ -1,13 +1,11 @@
 //! What `show` makes of a file's content.
 
-ghost use Rattle.std.specs.Prelude.{◌≡◌, IfOk, IfErr};
-ghost use Rattle.fl_image.specs.Reading.{FirstFault};
-ghost use Rattle.flounder_show.specs.Content.{is_meant_as_image, ShowsText, ShowsImage, Shows, IsRefusalOf, IsImageRefusalOf, IsRefusedAs};
+ghost use Rattle.std.specs.Prelude.{IfOk, IfErr};
+ghost use Rattle.flounder_show.specs.Content.{ShowsText, ShowsImage, Shows, IsRefusalOf, IsImageRefusalOf, IsRefusedAs};
 
-use crate::fault::{ImageRefusal, ShowFault};
-use crate::reading::accept;
+use crate::fault::ShowFault;
+use crate::reading::{accept, accept_image, starts_as_image};
 use crate::table::plan_table;
-use fl_image::{ImageFault, read_image};
 use fl_layout::plan;
 use fl_value_data::PlanNo;
 use std::alloc::Global;
@@ -26,13 +24,6 @@ pub fn show_content(alloc: Global, content: &[u8]) -> Result<Vec<u8>, ShowFault<
     } else {
         show_text(alloc, content)
     }
-}
-
-// No interface begins so: a text's first word is `interface`.
-fn starts_as_image(content: &[u8]) -> bool
-    ensures exact { result ≡ is_meant_as_image content.now }
-{
-    content.starts_with(b"FLND")
 }
 
 /// The plan table, under plan 2, of the interface that a text stands for.
@@ -59,11 +50,7 @@ pub fn show_image<'a>(alloc: Global, bytes: &[u8]) -> Result<Vec<u8>, ShowFault<
     ensures table { IfOk result (λ t. ShowsImage bytes.now t.items) }
     ensures refused { IfErr result (λ e. IsImageRefusalOf bytes.now e) }
 {
-    let program = match read_image(alloc, bytes) {
-        Ok(program) => program,
-        Err(ImageFault::Refused(fault)) => return Err(ShowFault::NoImage(ImageRefusal { fault })),
-        Err(ImageFault::Memory) => return Err(ShowFault::Memory),
-    };
+    let program = accept_image(alloc, bytes)?;
     let number = program.plan();
     let plans = plan(alloc, program.interface(), number)?;
     let table = plan_table(alloc, &plans)?;

@@ -1,6 +1,7 @@
 use Rattle.std.proofs.Common.{refl}
+use Rattle.std.specs.Prelude.{option_map}
 use Rattle.flounder_commands.specs.Streams.{streams_of}
-use Rattle.flounder.proofs.Doing.{performs_exec, performs_show, performs_compile, performs_cores}
+use Rattle.flounder.proofs.Doing.{performs_exec, performs_show, performs_compile, performs_cores, performs_chart, performs_header}
 use Rattle.flounder.proofs.run.perform.Goals as goal
 
 pub returns-in-Exec : goal.returns-in-Exec
@@ -34,7 +35,25 @@ pub returns-in-Cores : goal.returns-in-Cores
 returns-in-Cores g c =
     rw c.in-Cores.is (record {
       done =
-          performs_cores (g.F.FileStore.effects c.args.files.now) (g.F.FileStore.effects c.cores_file.new.files)
-          (streams_of g.R.Read.remaining g.W.Write.contents c.args.input.now c.args.input.now c.args.output.now c.cores_file.new.output)
-          c.in-Cores.file.now c.in-Cores.turns c.cores_file.result refl c.cores_file.ensures.ran;
+          performs_cores (g.F.FileStore.effects c.args.files.now) (g.F.FileStore.effects c.cores_command.new.files)
+          (streams_of g.R.Read.remaining g.W.Write.contents c.args.input.now c.args.input.now c.args.output.now c.cores_command.new.output)
+          c.in-Cores.file.now c.in-Cores.turns (option_map (λ out. out.now) c.in-Cores.script) c.cores_command.result refl c.cores_command.ensures.ran;
+    })
+
+pub returns-in-Chart : goal.returns-in-Chart
+returns-in-Chart g c =
+    rw c.in-Chart.is (record {
+      done =
+          performs_chart (g.F.FileStore.effects c.args.files.now) (g.F.FileStore.effects c.chart_file.new.files)
+          (streams_of g.R.Read.remaining g.W.Write.contents c.args.input.now c.args.input.now c.args.output.now c.chart_file.new.output)
+          c.in-Chart.file.now (option_map (λ word. word.now) c.in-Chart.lines) c.chart_file.result refl c.chart_file.ensures.charted;
+    })
+
+pub returns-in-Header : goal.returns-in-Header
+returns-in-Header g c =
+    rw c.in-Header.is (record {
+      done =
+          performs_header (g.F.FileStore.effects c.args.files.now) (g.F.FileStore.effects c.header_file.new.files)
+          (streams_of g.R.Read.remaining g.W.Write.contents c.args.input.now c.args.input.now c.args.output.now c.header_file.new.output)
+          c.in-Header.file.now c.header_file.result refl c.header_file.ensures.headed;
     })

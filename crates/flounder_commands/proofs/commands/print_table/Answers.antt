@@ -1,4 +1,4 @@
-use Rattle.std.proofs.Common.{false, refl, rules}
+use Rattle.std.proofs.Common.{false, refl}
 use Rattle.flounder_commands.specs.Streams.{output_of}
 use Rattle.flounder_commands.proofs.Doing.{told_text}
 use Rattle.flounder_commands.proofs.commands.print_table.Goals as goal

@@ -18,7 +18,7 @@ returns-in-Ok-flushed g c = record {
   ran =
       ran c.args.strict (streams_of g.R.Read.remaining g.W.Write.contents c.args.input.now c.exec-outcome.new.reader c.args.output.now c.flush-flushed.new.self)
       (writer_contents g.W.Write.contents c.exec-outcome.new.writer) (writer_buffer c.flush-flushed.new.self) c.end_status.result
-      c.in-Ok.ensures.ok c.flush-flushed.ensures.bytes refl c.in-Ok-flushed.ensures.ok
+      c.in-Ok.ensures.ran c.in-Ok.ensures.ok c.flush-flushed.ensures.bytes refl c.in-Ok-flushed.ensures.ok
       (subst (λ (o : Option (List ℕ)). EndsRun c.args.strict o c.end_status.result) (ap g.W.Write.contents c.get_ref-in-Ok-flushed.ensures) c.end_status.ensures.ends);
 }
 

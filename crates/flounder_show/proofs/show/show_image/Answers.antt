@@ -7,16 +7,16 @@ use Rattle.flounder_show.proofs.show.show_image.Goals as goal
 
 pub returns-clause-table : goal.returns-clause-table
 returns-clause-table c =
-    table_told c.args.bytes.now c.in_ok-table.table.items (program_of c.in-Ok.program) (interface_of c.in_ok-plans.plans.interface) c.in_ok-plans.plans.plan
-    c.in-Ok.ensures.found (c.in_ok-plans.ensures.interface ∙ c.interface.ensures.interface) (c.in_ok-plans.ensures.plan ∙ c.plan-number.ensures.plan)
+    table_told c.args.bytes.now c.in_ok-table.table.items (program_of c.in_ok-program.program) (interface_of c.in_ok-plans.plans.interface) c.in_ok-plans.plans.plan
+    c.in_ok-program.ensures.program (c.in_ok-plans.ensures.interface ∙ c.interface.ensures.interface) (c.in_ok-plans.ensures.plan ∙ c.plan-number.ensures.plan)
     c.in_ok-table.ensures.table
 
 pub returns-in_err-plans-clause-refused : goal.returns-in_err-plans-clause-refused
 returns-in_err-plans-clause-refused c =
-    image_memory c.args.bytes.now c.from_residual.result c.from_residual.ensures.1
-    (image_begins c.args.bytes.now (program_of c.in-Ok.program).plan (program_of c.in-Ok.program).interface c.in-Ok.ensures.found)
+    image_memory c.args.bytes.now c.from_residual-in_err-plans.result c.from_residual-in_err-plans.ensures.1
+    (image_begins c.args.bytes.now (program_of c.in_ok-program.program).plan (program_of c.in_ok-program.program).interface c.in_ok-program.ensures.program)
 
 pub returns-in_err-table-clause-refused : goal.returns-in_err-table-clause-refused
 returns-in_err-table-clause-refused c =
     image_memory c.args.bytes.now c.from_residual-in_err-table.result c.from_residual-in_err-table.ensures.1
-    (image_begins c.args.bytes.now (program_of c.in-Ok.program).plan (program_of c.in-Ok.program).interface c.in-Ok.ensures.found)
+    (image_begins c.args.bytes.now (program_of c.in_ok-program.program).plan (program_of c.in_ok-program.program).interface c.in_ok-program.ensures.program)

@@ -1,8 +1,0 @@
-use Rattle.std.proofs.Common.{◌≡◌}
-use Rattle.flounder_chart.proofs.drawing.element.Given as goal
-
-abbrev pub invariant-words : goal.invariant-words
-invariant-words l = l.start.tag ≡ l.fn.tag
-
-abbrev pub invariant-numbers : goal.invariant-numbers
-invariant-numbers l = l.start.tag ≡ l.fn.tag

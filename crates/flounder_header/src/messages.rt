@@ -1,0 +1,199 @@
+//! The header, message by message.
+
+ghost use Rattle.std.specs.Prelude.{◌≡◌, IfOk, flat_map};
+ghost use Rattle.fl_interface.specs.Interface.{interface_of};
+ghost use Rattle.flounder_header.specs.Header.{IsHeader, IsSection, AreSections, message_name};
+
+use crate::arguments::{declare_argument, move_argument, push_most};
+use crate::page::{Page, Way};
+use fl_interface::{ArgType, Interface, Message};
+use fl_value_data::{PlanNo, RANKS};
+use std::alloc::{AllocError, Global};
+
+// These pieces, one behind another.
+fn joined(alloc: Global, pieces: &[&[u8]]) -> Result<Vec<u8>, AllocError>
+    ensures joined { IfOk result (λ text. text.items ≡ flat_map (λ piece. piece.now) pieces.now) }
+{
+    let mut text = Vec::new(alloc);
+    for piece in pieces {
+        text.extend_from_slice(piece)?;
+    }
+    Ok(text)
+}
+
+// The members of a message's struct.
+fn members(alloc: Global, arguments: &[ArgType]) -> Result<Vec<u8>, AllocError> {
+    let mut page = Page::new(alloc);
+    if arguments.is_empty() {
+        page.push(b"    uint8_t none;\n");
+    }
+    for (number, argument) in arguments.iter().enumerate() {
+        declare_argument(&mut page, argument, number);
+    }
+    page.into_text()
+}
+
+// How many numbers the arguments have at most, to be added.
+fn most(alloc: Global, arguments: &[ArgType]) -> Result<Vec<u8>, AllocError> {
+    let mut page = Page::new(alloc);
+    for argument in arguments {
+        push_most(&mut page, argument);
+    }
+    page.into_text()
+}
+
+// The lines that move the numbers of the arguments of a rank.
+fn move_rank(page: &mut Page, arguments: &[ArgType], plan: PlanNo, rank: u8, way: Way) {
+    for (number, argument) in arguments.iter().enumerate() {
+        if plan.rank_of(argument) == rank {
+            move_argument(page, argument, number, way);
+        }
+    }
+}
+
+// The lines that move the numbers of all arguments, in the plan's order.
+fn moves(
+    alloc: Global,
+    arguments: &[ArgType],
+    plan: PlanNo,
+    way: Way,
+) -> Result<Vec<u8>, AllocError> {
+    let mut page = Page::new(alloc);
+    for rank in 0..RANKS {
+        move_rank(&mut page, arguments, plan, rank, way);
+    }
+    page.into_text()
+}
+
+/// The parts of a message's declarations.
+#[derive(Clone, Copy)]
+struct Parts<'a> {
+    // the message's name in C
+    name: &'a [u8],
+    members: &'a [u8],
+    most: &'a [u8],
+    puts: &'a [u8],
+    gets: &'a [u8],
+}
+
+// A message's declarations, of their parts.
+fn spell(alloc: Global, parts: Parts<'_>, number: usize) -> Result<Vec<u8>, AllocError>
+    ensures spelled { IfOk result (λ text. IsSection parts.entry.name.now number text.items) }
+{
+    let Parts {
+        name,
+        members,
+        most,
+        puts,
+        gets,
+    } = parts;
+    let digits = format!(in alloc; "{number}")?;
+    let number = digits.as_bytes();
+    let pieces: [&[u8]; 30] = [
+        b"\nstruct ",
+        name,
+        b" {\n",
+        members,
+        b"};\nenum { ",
+        name,
+        b"_number = ",
+        number,
+        b", ",
+        name,
+        b"_most = 1",
+        most,
+        b" };\nstatic inline size_t ",
+        name,
+        b"_put(const struct ",
+        name,
+        b" *m, uint64_t *call)\n{\n    size_t n = 0;\n    (void)m;\n    call[n++] = ",
+        name,
+        b"_number;\n",
+        puts,
+        b"    return n;\n}\nstatic inline int ",
+        name,
+        b"_get(struct ",
+        name,
+        b" *m, const uint64_t *call, size_t count)\n{\n    struct fl_tape tape = { call, count, 0 };\n    (void)m;\n",
+        b"    if (fl_next(&tape) != ",
+        name,
+        b"_number) return 0;\n",
+        gets,
+        b"    return !tape.wrong && !tape.left;\n}\n",
+    ];
+    joined(alloc, &pieces)
+}
+
+// A message's declarations.
+fn section(
+    alloc: Global,
+    interface: &[u8],
+    message: &Message,
+    number: usize,
+    plan: PlanNo,
+) -> Result<Vec<u8>, AllocError>
+    ensures section { IfOk result (λ text. IsSection (message_name interface.now message.now.name.bytes.items) number text.items) }
+{
+    let name = joined(alloc, &[interface, b"_", &message.name.bytes])?;
+    let members = members(alloc, &message.args)?;
+    let most = most(alloc, &message.args)?;
+    let puts = moves(alloc, &message.args, plan, Way::Put)?;
+    let gets = moves(alloc, &message.args, plan, Way::Get)?;
+    let parts = Parts {
+        name: &name,
+        members: &members,
+        most: &most,
+        puts: &puts,
+        gets: &gets,
+    };
+    spell(alloc, parts, number)
+}
+
+// The declarations of all messages.
+fn sections(alloc: Global, interface: &Interface, plan: PlanNo) -> Result<Vec<u8>, AllocError>
+    ensures sections { IfOk result (λ text.
+        AreSections (interface_of interface.now).name 0 (interface_of interface.now).messages text.items) }
+{
+    let mut text = Vec::new(alloc);
+    for (number, message) in interface.messages.iter().enumerate() {
+        let section = section(alloc, &interface.name.bytes, message, number, plan)?;
+        text.extend_from_slice(&section)?;
+    }
+    Ok(text)
+}
+
+/// A header in C for an interface whose calls a plan lays out. Of the message M of the interface I it has
+///
+/// - `struct I_M`, with a member for each argument: `a0`, `a1`, ..
+/// - `I_M_number`, and `I_M_most`: how many numbers a call of it has at most
+/// - `size_t I_M_put(const struct I_M *, uint64_t *call)`: the numbers of a call, and how many; 0 where a text or
+///   an array is too long
+/// - `int I_M_get(struct I_M *, const uint64_t *call, size_t count)`: whether these numbers are such a call
+///
+/// # Errors
+/// Out of memory (E99).
+pub fn header(alloc: Global, interface: &Interface, plan: PlanNo) -> Result<Vec<u8>, AllocError>
+    ensures header { IfOk result (λ text. IsHeader (interface_of interface.now) text.items) }
+{
+    let name: &[u8] = &interface.name.bytes;
+    let number: &[u8] = match plan {
+        PlanNo::One => b"1",
+        PlanNo::Two => b"2",
+    };
+    let start = joined(
+        alloc,
+        &[
+            b"/* Interface ",
+            name,
+            b", plan ",
+            number,
+            b". */\n#ifndef FLOUNDER_",
+            name,
+            b"_H\n#define FLOUNDER_",
+            name,
+            b"_H\n#include <flounder.h>\n",
+        ],
+    )?;
+    let sections = sections(alloc, interface, plan)?;
+    joined(alloc, &[&start, &sections, b"\n#endif\n"])
+}
