@@ -1,20 +1,21 @@
-/* The proved rings and ends of fl_c, for C. Link with libfl_c.a, and with liblibc_c.a of the toolchain or three
+/* The proved rings, ends and stubs of fl_c, for C. Link with libfl_c.a, and with liblibc_c.a of the toolchain or three
  * symbols of your own:
  *
- *     struct fl_room rattle_alloc(size_t size, size_t align);
- *     struct fl_room rattle_realloc(void *at, size_t old_size, size_t size, size_t align);
+ *     struct flroom rattle_alloc(size_t size, size_t align);
+ *     struct flroom rattle_realloc(void *at, size_t old_size, size_t size, size_t align);
  *     void rattle_dealloc(void *at, size_t size, size_t align);
  *
  * Who defines them decides where every block lies: docs/C.md.
  *
  * What the caller owes, and nothing here can look at:
- * - A handle comes from a maker below, and was not ended. It isn't copied: a copy is the same thing.
- * - One call at a time at one handle. Two threads that share one handle order their calls themselves. The
- *   two sides of a ring are two handles: each may be in a thread of its own, with no order between them.
+ * - A handle comes from a maker below, and was not freed. It isn't copied: a copy is the same thing.
+ * - One call at a time at one handle. Two threads that share one handle order their calls themselves. Other
+ *   handles each may be in a thread of its own, with no order between them: the sides of a ring, both ends of a
+ *   binding, a program and its runs.
  * - A pointer to numbers leads to as many as the function says, aligned, which nobody else touches during
  *   the call.
- * What it can get wrong and is told: a null pointer, a handle that leads to something else, a ring size that
- * can't be. */
+ * What it can get wrong and is told: a null pointer, an operation that what the handle leads to doesn't have, a
+ * ring size that can't be, a number of numbers that is wrong. */
 #ifndef FLOUNDER_H
 #define FLOUNDER_H
 #include <stddef.h>
@@ -30,10 +31,10 @@ enum {
     FL_BUSY = 40,              /* a call is in transmission: write it first */
     FL_NO_SUCH_MESSAGE = 41,
     FL_MISFIT = 42,            /* the tape is that of no call of the message; of a rule, the types differ */
-    FL_ONLY_ACKNOWLEDGES = 63, /* the fragment isn't one of a call */
+    FL_NOT_ZERO = 63,          /* padding or a reserved bit isn't zero; of a put: it only acknowledges */
     FL_FAILED = 64,            /* the end failed earlier: make new ends */
     FL_NO_MEMORY = 99,
-    FL_NO_SUCH_OPERATION = 101,/* the handle leads to something that has no such operation */
+    FL_NO_SUCH_OPERATION = 101,/* the handle leads to something that has no such operation, or makes no such run */
     FL_NO_SUCH_PLAN = 102,     /* plans are 1 and 2 */
     FL_WRONG_ROOM = 103,       /* too few numbers, or too many */
     FL_NULL = 104,             /* a null pointer */
@@ -46,23 +47,36 @@ enum { FL_NOTHING = 0, FL_FRAGMENT = 1, FL_ACKNOWLEDGEMENT = 2 };
 /* ---- what the archive has */
 
 typedef struct { uint32_t fault, what; uint64_t count; } fl_answer;
-struct fl_room { uint64_t is_there; void *at; };
+struct flroom { uint64_t is_there; void *at; };
 
 uint32_t flounder_make(size_t slots, uint8_t **one, uint8_t **two);
 uint32_t flounder_make_text_ends(const uint8_t *text, size_t length, uint32_t plan, size_t slots, uint8_t **one,
     uint8_t **two, uint64_t *place);
 uint32_t flounder_make_image_ends(const uint8_t *image, size_t length, size_t slots, uint8_t **one,
     uint8_t **two);
+uint32_t flounder_make_text_program(const uint8_t *text, size_t length, uint32_t plan, uint8_t **program,
+    uint64_t *place);
+uint32_t flounder_make_image_program(const uint8_t *image, size_t length, uint8_t **program);
+fl_answer flounder_make_run(uint8_t *program, uint32_t kind, uint8_t **run);
 fl_answer flounder_use(uint8_t *handle, uint32_t what, uint64_t *numbers, size_t count);
 void rattle_dealloc(void *at, size_t size, size_t align);
+
+/* Frees what a handle leads to, and its own block. */
+static inline void fl_free_at(uint8_t **at)
+{
+    if (!*at) return;
+    fl_answer block = flounder_use(*at, 5, (uint64_t *)8, 0);
+    rattle_dealloc(*at, block.count, block.what);
+    *at = 0;
+}
 
 /* ---- rings of two directions */
 
 /* A side of a ring: it puts into one direction and takes from the other. */
 typedef struct { uint8_t *at; } fl_side;
 
-/* Makes a ring with `slots` slots each way (a power of two from 4 to 1024), and its two sides. On a fault
- * both are null. Makers take memory, and ends do for their calls; sides never do. None waits. */
+/* Makes a ring with `slots` slots each way (a power of two from 4 to 1024), and its two sides. On a fault of
+ * the archive both are null; on FL_NULL nothing is written. Makers take memory, and ends do for their calls; sides never do. None waits. */
 static inline unsigned fl_duo(size_t slots, fl_side *one, fl_side *two)
 {
     if (!one || !two || one == two) return FL_NULL;
@@ -104,7 +118,8 @@ static inline unsigned fl_peek(fl_side *side, uint64_t fragment[8], unsigned *si
 }
 
 /* Acknowledges what was taken, where at least half of the slots are taken and not yet acknowledged; else
- * nothing. FL_FULL: there is something to tell, and no slot free for it; ask again later. */
+ * nothing. FL_FULL: there is something to tell, and no slot free for it: ask again later; of a ring
+ * that is spent it stays so. */
 static inline unsigned fl_tell(fl_side *side)
 {
     if (!side || !side->at) return FL_NULL;
@@ -114,10 +129,7 @@ static inline unsigned fl_tell(fl_side *side)
 /* Frees a side. The other one may go on; the ring's words are freed with the second. */
 static inline void fl_free_side(fl_side *side)
 {
-    if (!side || !side->at) return;
-    fl_answer block = flounder_use(side->at, 5, (uint64_t *)8, 0);
-    rattle_dealloc(side->at, block.count, block.what);
-    side->at = 0;
+    if (side) fl_free_at(&side->at);
 }
 
 /* ---- ends of a binding, each over its side of a ring */
@@ -152,8 +164,9 @@ static inline unsigned fl_ends_of_image(const void *image, size_t length, size_t
 }
 
 /* Makes a call. `call` is the message's number, and then its tape: a number for each scalar (two's complement
- * in its bits), a length before each text and array, in the plan's order. Faults: 40 one is in transmission,
- * 41 no such message, 42 the tape fits no call of it, 64 the end failed. */
+ * in its bits) and for each byte of a text, a length before each string and sized array, in the plan's order.
+ * Faults: 103 no number at all, 41 no such message, 42 the tape fits no call of it, 64 the end failed, 40 a call
+ * is in transmission, 99 out of memory. */
 static inline unsigned fl_call(fl_end *end, uint64_t *call, size_t count)
 {
     if (!end || !end->at || !call) return FL_NULL;
@@ -172,21 +185,23 @@ static inline unsigned fl_ask_end(fl_end *end, uint32_t what, unsigned *came, ui
 }
 
 /* Puts the next fragment of the call in transmission, if there is one and it has room. `*left`, unless null,
- * says how many of the call's fragments follow. */
+ * says after FL_WROTE how many of the call's fragments follow; else 0. */
 static inline unsigned fl_write(fl_end *end, unsigned *came, uint64_t *left)
 {
     return fl_ask_end(end, 7, came, left);
 }
 
 /* Takes a fragment. FL_CALL: a call is whole, and is to be read before the next receive (else FL_UNREAD).
- * Faults 60 to 66: what came can't follow what came before, and the end has failed for good. */
+ * Faults 60 to 63, 65, 66: what came can't follow what came before, and the end has failed for good; 64: it failed
+ * earlier; 99: the fragment stays, receive again. */
 static inline unsigned fl_receive(fl_end *end, unsigned *came)
 {
     return fl_ask_end(end, 8, came, 0);
 }
 
 /* Reads the call that was received: its message's number and its tape. `*count` says how many numbers these
- * are; 0: there is no call. FL_WRONG_ROOM: there is room for fewer, and the call stays. */
+ * are; 0 without a fault: there is no call. FL_WRONG_ROOM: there is room for fewer; 99: out of memory; the call
+ * stays then. */
 static inline unsigned fl_read(fl_end *end, uint64_t *call, size_t room, uint64_t *count)
 {
     if (!end || !end->at || !call || !count) return FL_NULL;
@@ -196,7 +211,7 @@ static inline unsigned fl_read(fl_end *end, uint64_t *call, size_t room, uint64_
 }
 
 /* From now on each call of `message` that the end receives is answered by `reply` with the same arguments. */
-static inline unsigned fl_reply_rule(fl_end *end, uint16_t message, uint16_t reply)
+static inline unsigned fl_reply_rule(fl_end *end, uint64_t message, uint64_t reply)
 {
     uint64_t numbers[2] = { message, reply };
     if (!end || !end->at) return FL_NULL;
@@ -219,10 +234,136 @@ static inline unsigned fl_tell_end(fl_end *end)
 /* Frees an end with its side. */
 static inline void fl_free_end(fl_end *end)
 {
-    if (!end || !end->at) return;
-    fl_answer block = flounder_use(end->at, 5, (uint64_t *)8, 0);
-    rattle_dealloc(end->at, block.count, block.what);
-    end->at = 0;
+    if (end) fl_free_at(&end->at);
+}
+
+/* ---- programs and stubs alone, for fragments that go by a transport of one's own */
+
+/* A program: an interface compiled under a plan. */
+typedef struct { uint8_t *at; } fl_program;
+/* A send run of a program: calls go in, and fragments come out. */
+typedef struct { uint8_t *at; } fl_sender;
+/* A receive run of a program: fragments go in, and calls come out. */
+typedef struct { uint8_t *at; } fl_receiver;
+
+/* Makes the program of the interface that a text stands for, laid out by plan 1 or 2, with faults as
+ * `fl_ends_of_text`. */
+static inline unsigned fl_program_of_text(const char *text, size_t length, unsigned plan, fl_program *program,
+    uint64_t *place)
+{
+    uint64_t unwanted;
+    if (!text || !program) return FL_NULL;
+    if (!place) place = &unwanted;
+    *place = 0;
+    program->at = 0;
+    return flounder_make_text_program((const uint8_t *)text, length, plan, &program->at, place);
+}
+
+/* The same of an image, with faults as `fl_ends_of_image`. */
+static inline unsigned fl_program_of_image(const void *image, size_t length, fl_program *program)
+{
+    if (!image || !program) return FL_NULL;
+    program->at = 0;
+    return flounder_make_image_program((const uint8_t *)image, length, &program->at);
+}
+
+/* How many messages a program has: their numbers are 0 to one less. */
+static inline unsigned fl_messages(fl_program *program, uint64_t *count)
+{
+    if (!count) return FL_NULL;
+    *count = 0;
+    if (!program || !program->at) return FL_NULL;
+    fl_answer answer = flounder_use(program->at, 12, (uint64_t *)8, 0);
+    *count = answer.count;
+    return answer.fault;
+}
+
+/* How long the calls of a message are at most: `*numbers` as they are given to `fl_call`, the message's among
+ * them, and `*fragments` on a ring. */
+static inline unsigned fl_sizes(fl_program *program, uint64_t message, uint64_t *numbers, unsigned *fragments)
+{
+    uint64_t number = message;
+    if (!program || !program->at || !numbers || !fragments) return FL_NULL;
+    fl_answer answer = flounder_use(program->at, 13, &number, 1);
+    if (answer.fault) return answer.fault;
+    *numbers = answer.count + 1;
+    *fragments = answer.what ? (answer.what + 55) / 56 : 1;
+    return FL_OK;
+}
+
+/* Makes a send run of a program, which may be freed before it. */
+static inline unsigned fl_send_run(fl_program *program, fl_sender *run)
+{
+    if (!run) return FL_NULL;
+    run->at = 0;
+    if (!program || !program->at) return FL_NULL;
+    return flounder_make_run(program->at, 1, &run->at).fault;
+}
+
+/* The same, a receive run. */
+static inline unsigned fl_receive_run(fl_program *program, fl_receiver *run)
+{
+    if (!run) return FL_NULL;
+    run->at = 0;
+    if (!program || !program->at) return FL_NULL;
+    return flounder_make_run(program->at, 2, &run->at).fault;
+}
+
+/* Begins a call, given as to `fl_call`. FL_BUSY: fragments of another are to be taken first. */
+static inline unsigned fl_start(fl_sender *run, uint64_t *call, size_t count)
+{
+    if (!run || !run->at || !call) return FL_NULL;
+    return flounder_use(run->at, 6, call, count).fault;
+}
+
+/* Writes the call's next fragment, on circuit 0 with epoch 0. `*sight` is FL_FRAGMENT, or FL_NOTHING behind the
+ * last: then `fragment` is left as it is. */
+static inline unsigned fl_next_fragment(fl_sender *run, uint64_t fragment[8], unsigned *sight)
+{
+    if (!sight) return FL_NULL;
+    *sight = FL_NOTHING;
+    if (!run || !run->at || !fragment) return FL_NULL;
+    fl_answer answer = flounder_use(run->at, 14, fragment, 8);
+    *sight = answer.what;
+    return answer.fault;
+}
+
+/* Feeds a fragment, whatever its epoch and what it acknowledges. `*came` is FL_PART, or FL_CALL: a call is whole,
+ * and is to be read before the next feed (else FL_UNREAD). Faults 60 to 63, 65, 66: it can't follow those before
+ * it, and nothing has changed. */
+static inline unsigned fl_feed(fl_receiver *run, uint64_t fragment[8], unsigned *came)
+{
+    if (!came) return FL_NULL;
+    *came = 0;
+    if (!run || !run->at || !fragment) return FL_NULL;
+    fl_answer answer = flounder_use(run->at, 15, fragment, 8);
+    *came = answer.what;
+    return answer.fault;
+}
+
+/* As `fl_read`. */
+static inline unsigned fl_read_fed(fl_receiver *run, uint64_t *call, size_t room, uint64_t *count)
+{
+    if (!run || !run->at || !call || !count) return FL_NULL;
+    fl_answer answer = flounder_use(run->at, 9, call, room);
+    *count = answer.count;
+    return answer.fault;
+}
+
+/* Frees a program; its runs stay. */
+static inline void fl_free_program(fl_program *program)
+{
+    if (program) fl_free_at(&program->at);
+}
+
+static inline void fl_free_send_run(fl_sender *run)
+{
+    if (run) fl_free_at(&run->at);
+}
+
+static inline void fl_free_receive_run(fl_receiver *run)
+{
+    if (run) fl_free_at(&run->at);
 }
 
 /* ---- tapes that come, for headers that are made of interfaces */

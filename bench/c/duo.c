@@ -8,7 +8,8 @@
 /* bench/ffi/flounder_bench.rattle */
 uint64_t flounder_shared_duo(size_t slots, uint64_t rounds, uint64_t batch);
 
-enum { SLOTS = 64, ROUNDS = 20000, BATCH = 16, RUNS = 21 };
+/* Short runs, so that most end before other work takes the processor. */
+enum { SLOTS = 64, ROUNDS = 500, BATCH = 16, RUNS = 901 };
 
 static uint64_t sum_of(const uint64_t fragment[8])
 {

@@ -1,7 +1,8 @@
 /* An rpc between two threads: by ends of the archive, and by a plain C program over a ring of the same steps and with
  * a stub by hand. The two take turns in short stretches, each in a run of its own threads. Prints for each the
- * fastest stretch and the middle of the fastest tenth, in ns an rpc, and the ratio of plain C's time to ours.
- * It takes two processors that are free now and then. */
+ * middle stretch and the middle of the fastest tenth, in ns an rpc, and the ratio of plain C's time to ours.
+ * It takes two processors that are free now and then. `rpc one` has both ends in one thread; `rpc one ours` and
+ * `rpc one plain` do one side alone, whose instructions can be counted. */
 #include <flounder.h>
 #include <pthread.h>
 #include <stdatomic.h>
@@ -96,7 +97,7 @@ static unsigned plain_receive(struct end *e, unsigned *came)
     if (!ring_take(&e->side, words)) return 0;
     uint64_t control = words[7] / 2 % (1ull << 47), message = words[7] / 65536 % 65536, rest = 0;
     for (int k = 1; k < 7; k++) rest |= words[k];
-    if ((control & 0x7fffffff7fffull) != 1 + 32768 * message || message > ANSWER || rest) return e->failed = 1, 63;
+    if (control != 1 + 32768 * message || message > ANSWER || rest) return e->failed = 1, 63;
     e->came[0] = message, e->came[1] = words[0];
     e->whole = 1;
     *came = FL_CALL;
@@ -156,6 +157,20 @@ static unsigned plain_read(struct end *e, uint64_t *call, size_t room, uint64_t 
         call[0] = SQUARE, call[1] = 0; \
         NAME##_send(client, call); \
         pthread_join(thread, 0); \
+    } \
+    static void NAME##_alone(END *client, END *server, double *times) \
+    { \
+        uint64_t call[2]; \
+        for (int s = 0; s < STRETCHES; s++) { \
+            double start = now(); \
+            for (uint64_t k = 1; k <= STRETCH; k++) { \
+                call[0] = SQUARE, call[1] = k; \
+                if (NAME##_send(client, call) || NAME##_take(server, call)) exit(3); \
+                call[0] = ANSWER, call[1] *= call[1]; \
+                if (NAME##_send(server, call) || NAME##_take(client, call) || call[1] != k * k) exit(4); \
+            } \
+            times[s] = (now() - start) / STRETCH; \
+        } \
     }
 
 static double now(void)
@@ -174,24 +189,39 @@ static int by_size(const void *a, const void *b)
     return (x > y) - (x < y);
 }
 
-int main(void)
+/* Both ends, and a run of them. */
+static void ours_both(void (*run)(fl_end *, fl_end *, double *), double *times)
+{
+    fl_end one, two;
+    if (fl_ends_of_text(text, sizeof text - 1, 1, SLOTS, &one, &two, 0)) exit(5);
+    run(&one, &two, times);
+    fl_free_end(&one), fl_free_end(&two);
+}
+
+static void plain_both(void (*run)(struct end *, struct end *, double *), double *times)
+{
+    _Atomic uint64_t *words = aligned_alloc(64, 2 * SLOTS * 64);
+    if (!words) exit(6);
+    memset((void *)words, 0, 2 * SLOTS * 64);
+    struct end one = { .side = { words, words + 8 * SLOTS, 0, 0, 0 } }, two = { .side = { words + 8 * SLOTS, words, 0, 0, 0 } };
+    run(&one, &two, times);
+    free((void *)words);
+}
+
+int main(int argc, char **argv)
 {
     static double ours[ALL], plain[ALL];
+    int alone = argc > 1 && !strcmp(argv[1], "one");
+    const char *side = argc > 2 ? argv[2] : "";
     for (int run = 0; run < RUNS; run++) {
-        fl_end one, two;
-        if (fl_ends_of_text(text, sizeof text - 1, 1, SLOTS, &one, &two, 0)) return 1;
-        ours_run(&one, &two, ours + run * STRETCHES);
-        fl_free_end(&one), fl_free_end(&two);
-        _Atomic uint64_t *words = aligned_alloc(64, 2 * SLOTS * 64);
-        if (!words) return 2;
-        memset((void *)words, 0, 2 * SLOTS * 64);
-        struct end a = { .side = { words, words + 8 * SLOTS, 0, 0, 0 } }, b = { .side = { words + 8 * SLOTS, words, 0, 0, 0 } };
-        plain_run(&a, &b, plain + run * STRETCHES);
-        free((void *)words);
+        if (strcmp(side, "plain")) ours_both(alone ? ours_alone : ours_run, ours + run * STRETCHES);
+        if (strcmp(side, "ours")) plain_both(alone ? plain_alone : plain_run, plain + run * STRETCHES);
     }
+    if (*side) return 0;
     qsort(ours, ALL, sizeof *ours, by_size);
     qsort(plain, ALL, sizeof *plain, by_size);
-    printf("an rpc between two threads: ends %.0f ns (%.0f), plain C %.0f ns (%.0f), ratio %.2f (%.2f)\n", ours[0],
-        ours[ALL / 20], plain[0], plain[ALL / 20], plain[0] / ours[0], plain[ALL / 20] / ours[ALL / 20]);
+    printf("an rpc %s: ends %.0f ns (%.0f), plain C %.0f ns (%.0f), ratio %.2f (%.2f)\n",
+        alone ? "in one thread" : "between two threads", ours[ALL / 2], ours[ALL / 20], plain[ALL / 2], plain[ALL / 20],
+        plain[ALL / 2] / ours[ALL / 2], plain[ALL / 20] / ours[ALL / 20]);
     return 0;
 }

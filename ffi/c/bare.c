@@ -6,13 +6,13 @@
 static _Alignas(64) char arena[1 << 18];
 static size_t used;
 
-struct fl_room rattle_alloc(size_t size, size_t align)
+struct flroom rattle_alloc(size_t size, size_t align)
 {
     size_t room = ((size ? size : align) + 63) / 64 * 64;
-    if (room > sizeof arena - used) return (struct fl_room){ 0, 0 };
+    if (room > sizeof arena - used) return (struct flroom){ 0, 0 };
     void *at = arena + used;
     used += room;
-    return (struct fl_room){ 1, at };
+    return (struct flroom){ 1, at };
 }
 
 void *memcpy(void *to, const void *from, size_t count)
@@ -34,9 +34,9 @@ void *memset(void *to, int byte, size_t count)
     return to;
 }
 
-struct fl_room rattle_realloc(void *old, size_t old_size, size_t size, size_t align)
+struct flroom rattle_realloc(void *old, size_t old_size, size_t size, size_t align)
 {
-    struct fl_room room = rattle_alloc(size, align);
+    struct flroom room = rattle_alloc(size, align);
     if (room.is_there) memcpy(room.at, old, old_size < size ? old_size : size);
     return room;
 }

@@ -1,10 +1,12 @@
 /* Random calls through the header, right and wrong ones: `random SEED LINES SCRIPT TRANSCRIPT` writes a script for
  * `flounder exec`, does the same by the library, and writes what the script's transcript has to be. What a script
- * can't ask is asked between its lines, and has to be refused and change nothing. `ffi/random` compares. */
+ * can't ask is asked between its lines, and has to be refused and change nothing. Each call goes through stubs alone
+ * too. `ffi/random` compares. */
 #include <flounder.h>
 #include <stdarg.h>
 #include <stdio.h>
 #include <stdlib.h>
+#include <string.h>
 
 enum { PLAIN, ECHO, ECHO_AGAIN, LONG, NONE, MOST = 400 };
 static const char *const names[] = { "plain", "echo_call", "echo_response", "long", "nothing" };
@@ -18,6 +20,9 @@ static const char text[] =
 /* An end: its names in scripts, how many fragments of its call are written, how many wait for it. */
 struct party { fl_end end; const char *name, *dispatcher; unsigned written, waiting; };
 static struct party party[2] = { { .name = "p.c", .dispatcher = "d" }, { .name = "p.s", .dispatcher = "e" } };
+static fl_program program;
+static fl_sender sender;
+static fl_receiver receiver;
 static FILE *script, *transcript;
 static uint64_t seed;
 
@@ -90,13 +95,38 @@ static size_t some_call(uint64_t *call)
     return 2 + count;
 }
 
+/* The call by stubs alone: its fragments make it again, and fragments that can't stand between them are told. */
+static void by_stubs(uint64_t *call, size_t count, unsigned wanted)
+{
+    uint64_t fragment[8], wrong[8] = { 0 }, room[MOST], got;
+    unsigned sight, came = FL_PART, parts = 0;
+    wants("a start", fl_start(&sender, call, count), wanted);
+    if (wanted) return;
+    wants("a second start", fl_start(&sender, call, count), FL_BUSY);
+    while (!fl_next_fragment(&sender, fragment, &sight) && sight == FL_FRAGMENT) {
+        /* a first fragment inside the call, or none before it */
+        wrong[7] = parts ? 2 : 0;
+        if (pick(4) == 0) wants("a wrong feed", fl_feed(&receiver, wrong, &came), parts ? 61 : 60);
+        wants("a feed", fl_feed(&receiver, fragment, &came), 0);
+        parts++;
+    }
+    wants("a whole call", came, FL_CALL);
+    wants("a feed before a read", fl_feed(&receiver, wrong, &came), FL_UNREAD);
+    wants("room for one too few", fl_read_fed(&receiver, room, count - 1, &got), FL_WRONG_ROOM);
+    wants("a read", fl_read_fed(&receiver, room, MOST, &got), 0);
+    if (got != count || memcmp(room, call, count * sizeof *call)) stop("another call of fragments");
+    wants("nothing to read", fl_read_fed(&receiver, room, MOST, &got) || got, 0);
+}
+
 static void make_call(struct party *at)
 {
     uint64_t call[MOST];
     size_t count = some_call(call);
     fprintf(script, "call %s ", at->name);
     print_call(script, call, count);
-    tell(fl_call(&at->end, call, count), "accepted");
+    unsigned fault = fl_call(&at->end, call, count);
+    tell(fault, "accepted");
+    by_stubs(call, count, fault == FL_BUSY ? 0 : fault);
 }
 
 static void write_one(struct party *at, struct party *other)
@@ -153,6 +183,31 @@ static void set_rule(struct party *at)
     tell(fl_reply_rule(&at->end, from, to), "ok");
 }
 
+/* A ring of some size, if there may be one: as many fragments as it holds come through in their order. */
+static void by_ring(void)
+{
+    fl_side one, two;
+    uint64_t put = 0, fragment[8];
+    unsigned sight;
+    size_t slots = pick(2) ? (size_t)1 << pick(12) : pick(3000);
+    int may = slots >= 4 && slots <= 1024 && (slots & (slots - 1)) == 0;
+    wants("a ring", fl_duo(slots, &one, &two), may ? 0 : FL_BAD_SIZE);
+    if (!may && (one.at || two.at)) stop("a ring that wasn't made");
+    if (!may) return;
+    while (!fl_put(&one, (uint64_t[8]){ put, ~put, 0, 0, 0, 0, put, 2 })) put++;
+    wants("fragments in a ring", (unsigned)put, (unsigned)slots - 1);
+    wants("a put of none", fl_put(&one, (uint64_t[8]){ [7] = 4 }), FL_NOT_ZERO);
+    wants("a call at a side", fl_call(&(fl_end){ one.at }, fragment, 1), FL_NO_SUCH_OPERATION);
+    for (uint64_t k = 0; k < put; k++) {
+        wants("a take", fl_take(&two, fragment, &sight), 0);
+        if (sight != FL_FRAGMENT || fragment[0] != k || fragment[1] != ~k || fragment[6] != k) stop("another fragment");
+    }
+    wants("a tell", fl_tell(&two), 0);
+    wants("a put after a tell", fl_put(&one, fragment), 0);
+    fl_free_side(&one);
+    fl_free_side(&two);
+}
+
 /* What a script can't ask. */
 static void mistake(struct party *at)
 {
@@ -160,7 +215,7 @@ static void mistake(struct party *at)
     unsigned came;
     fl_end none = { 0 };
     fl_side side = { at->end.at };
-    switch (pick(9)) {
+    switch (pick(15)) {
     case 0: wants("no end", fl_call(&none, numbers, 1), FL_NULL); break;
     case 1: wants("no numbers", fl_call(&at->end, 0, 1), FL_NULL); break;
     case 2: wants("no number", fl_call(&at->end, numbers, 0), FL_WRONG_ROOM); break;
@@ -169,8 +224,15 @@ static void mistake(struct party *at)
     case 5: wants("a take at an end", fl_take(&side, numbers, &came), FL_NO_SUCH_OPERATION); break;
     case 6: wants("no operation", flounder_use(at->end.at, 12 + pick(9), numbers, pick(9)).fault, FL_NO_SUCH_OPERATION); break;
     case 7: wants("a rule of three", flounder_use(at->end.at, 10, numbers, 3).fault, FL_WRONG_ROOM); break;
+    case 8: wants("no such message", fl_sizes(&program, 4 + pick(9), numbers, &came), FL_NO_SUCH_MESSAGE); break;
+    case 9: wants("sizes of nothing", flounder_use(program.at, 13, numbers, 2).fault, FL_WRONG_ROOM); break;
+    case 10: wants("no run", flounder_make_run(program.at, 3 + pick(9), &none.at).fault, FL_NO_SUCH_OPERATION); break;
+    case 11: wants("a run of an end", flounder_make_run(at->end.at, 1, &none.at).fault, FL_NO_SUCH_OPERATION); break;
+    case 12: wants("a short fragment", flounder_use(receiver.at, 15, numbers, pick(8)).fault, FL_WRONG_ROOM); break;
+    case 13: by_ring(); break;
     default: wants("nothing to read", fl_read(&at->end, numbers, pick(9), &count) || count, 0);
     }
+    if (none.at) stop("a handle that wasn't made");
 }
 
 int main(int argc, char **argv)
@@ -180,6 +242,8 @@ int main(int argc, char **argv)
     fprintf(script, "idl\n%s.\ndisp d 0\ndisp e 0\nexport s e i\nbind p d i s local 1024\n", text);
     fputs("ok\nok\nok\nok\nok\n", transcript);
     if (fl_ends_of_text(text, sizeof text - 1, 1, 1024, &party[0].end, &party[1].end, 0)) return 3;
+    if (fl_program_of_text(text, sizeof text - 1, 1, &program, 0)) return 4;
+    if (fl_send_run(&program, &sender) || fl_receive_run(&program, &receiver)) return 5;
     for (long line = strtol(argv[2], 0, 10); line > 0; line--) {
         unsigned which = (unsigned)pick(2);
         struct party *at = &party[which], *other = &party[1 - which];
@@ -193,6 +257,9 @@ int main(int argc, char **argv)
     }
     fl_free_end(&party[0].end);
     fl_free_end(&party[1].end);
+    fl_free_program(&program);
+    fl_free_send_run(&sender);
+    fl_free_receive_run(&receiver);
     fclose(script);
     fclose(transcript);
     return 0;

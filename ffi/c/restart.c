@@ -17,13 +17,13 @@ static char *arena;
 static size_t used;
 static int shared; /* whether blocks are laid in the pages now */
 
-struct fl_room rattle_alloc(size_t size, size_t align)
+struct flroom rattle_alloc(size_t size, size_t align)
 {
     size_t room = ((size ? size : align) + LINE - 1) / LINE * LINE;
     void *at = 0;
     if (!shared) at = malloc(room);
     else if (room <= PAGES - used) at = arena + used, used += room;
-    return (struct fl_room){ at != 0, at };
+    return (struct flroom){ at != 0, at };
 }
 
 void rattle_dealloc(void *at, size_t size, size_t align)
@@ -32,9 +32,9 @@ void rattle_dealloc(void *at, size_t size, size_t align)
     if ((char *)at < arena || (char *)at >= arena + PAGES) free(at);
 }
 
-struct fl_room rattle_realloc(void *old, size_t old_size, size_t size, size_t align)
+struct flroom rattle_realloc(void *old, size_t old_size, size_t size, size_t align)
 {
-    struct fl_room room = rattle_alloc(size, align);
+    struct flroom room = rattle_alloc(size, align);
     if (!room.is_there) return room;
     memcpy(room.at, old, old_size < size ? old_size : size);
     rattle_dealloc(old, old_size, align);

@@ -1,1 +1,6 @@
+mod Gives
+mod HandleSends
 mod HeldSends
+mod Messages
+mod RunSends
+mod Starts

@@ -1,19 +1,14 @@
--- What each operation does at an end, exactly: by cases on what it came to. The end goes from h to t. A call crosses as its
--- message's number and its tape.
-use Rattle.std.specs.Prelude.{◌≡◌, ◌≢◌, ℕ, ◌+◌, ◌-◌, ◌<◌, ◌≤◌, ◌⊎◌, true, false, List, [], ◌∷◌, ◌++◌, length, drop, slice_get, Option, Some, None, IsSome, Result, Ok, Err}
+-- What each operation does at an end, exactly: by cases on what it came to. The end goes from h to t.
+use Rattle.std.specs.Prelude.{◌≡◌, ◌≢◌, ℕ, ◌-◌, ◌≤◌, ◌⊎◌, true, false, List, [], ◌∷◌, length, Option, Some, None, IsSome, Result, Ok, Err}
 use Rattle.fl_ring.specs.SharedSides.{SharedPuts, SharedTakes}
-use Rattle.fl_interface.specs.Interface.{TheInterface}
 use Rattle.fl_value_data.specs.declared.value.Call.{Call}
-use Rattle.fl_value_data.specs.declared.value.PlanNo.{PlanNo}
-use Rattle.fl_value_data.specs.Value.{TheCall, call_of}
-use Rattle.fl_value_data.specs.Tape.{tape_of}
-use Rattle.fl_value_data.specs.Taken.{HasTape}
+use Rattle.fl_value_data.specs.Value.{TheCall}
 use Rattle.fl_endpoint.specs.declared.fault.EndFault.{EndFault}
-use Rattle.fl_endpoint.specs.declared.fault.EndFault.TheVariants.{UnknownMessage, Misfit, Memory}
+use Rattle.fl_endpoint.specs.declared.fault.EndFault.TheVariants.{UnknownMessage, Misfit}
 use Rattle.fl_endpoint.specs.declared.answer.WriteAnswer.TheVariants.{Written, Full, Nothing}
 use Rattle.fl_endpoint.specs.declared.answer.ReceiveAnswer.{ReceiveAnswer}
 use Rattle.fl_endpoint.specs.declared.answer.ReceiveAnswer.TheVariants.{Handle, Part, Quiet, Empty, HeldBack}
-use Rattle.fl_endpoint.specs.View.{TheEnd, is_busy}
+use Rattle.fl_endpoint.specs.View.{is_busy}
 use Rattle.fl_endpoint.specs.Events.{Calls, Writes, SetsRule}
 use Rattle.fl_endpoint.specs.Lent.{receipt, ReceivesAt}
 use Rattle.fl_c.specs.declared.operation.Operation.{Operation}
@@ -21,32 +16,12 @@ use Rattle.fl_c.specs.declared.operation.Operation.TheVariants.{Tell, Call as To
 use Rattle.fl_c.specs.declared.answer.Outcome.{Outcome}
 use Rattle.fl_c.specs.declared.answer.Outcome.TheVariants.{Accepted, Wrote, NoRoom, Idle, Handled, PartTaken, Acknowledgement, Nothing as NothingThere, Held, CallRead, RuleSet, Sending}
 use Rattle.fl_c.specs.declared.answer.UseFault.{UseFault}
-use Rattle.fl_c.specs.declared.answer.UseFault.TheVariants.{NoSuchOperation, WrongRoom, ShortRoom, Unread, End}
+use Rattle.fl_c.specs.declared.answer.UseFault.TheVariants.{NoSuchOperation, WrongRoom, Unread, End}
 use Rattle.fl_c.specs.Sides.{Tells}
-use Rattle.fl_c.specs.View.{TheHeld, interface_of_held, plan_of_held, ChangesEnd}
+use Rattle.fl_c.specs.Calls.{AreCall, RefusesNumbers, PutsCall}
+use Rattle.fl_c.specs.View.{TheHeld, program_of_held, ChangesEnd}
 
 -- ---- a call is made
-
--- the interface has no message of this number
-abbrev pub IsNoMessage : TheInterface → ℕ → Type 0
-IsNoMessage i msg = (65536 ≤ msg) ⊎ (slice_get i.messages msg ≡ None)
-
--- these numbers are a fitting call's
-abbrev pub AreCall : PlanNo → TheInterface → List ℕ → TheCall → Type 0
-AreCall plan i numbers c = (msg : ℕ) × (tape : List ℕ) × (numbers ≡ msg ∷ tape) × HasTape plan i msg tape c
-
--- why numbers are none: there is none, no message has the first (E41), no fitting call of it the others (E42); or memory ran out
-abbrev pub RefusesNumbers : PlanNo → TheInterface → List ℕ → UseFault → Type 0
-RefusesNumbers plan i numbers WrongRoom = numbers ≡ []
-RefusesNumbers plan i numbers (End UnknownMessage) = (msg : ℕ) × (tape : List ℕ) × (numbers ≡ msg ∷ tape) × IsNoMessage i msg
-RefusesNumbers plan i numbers (End Misfit) = (msg : ℕ) × (tape : List ℕ) × (numbers ≡ msg ∷ tape) × ((c : TheCall) → HasTape plan i msg tape c → ⊥)
-RefusesNumbers plan i numbers (End Memory) = Unit {0}
-RefusesNumbers plan i numbers fault = ⊥
-
--- the call of numbers, or why they are none
-abbrev pub ReadsCall : PlanNo → TheInterface → List ℕ → Result Call UseFault → Type 0
-ReadsCall plan i numbers (Ok call) = AreCall plan i numbers (call_of call)
-ReadsCall plan i numbers (Err fault) = RefusesNumbers plan i numbers fault
 
 -- what a call comes to, as it is told
 abbrev pub called_as : Result (Unit {0}) EndFault → Result Outcome UseFault
@@ -56,8 +31,8 @@ called_as (Err fault) = Err (End fault)
 -- numbers that are no call's are refused, and nothing is done; else their call is made
 abbrev pub CallsBy : TheHeld → List ℕ → Result Outcome UseFault → TheHeld → Type 0
 CallsBy h numbers r t =
-    ((fault : UseFault) × (r ≡ Err fault) × RefusesNumbers (plan_of_held h) (interface_of_held h) numbers fault × (t ≡ h))
-    ⊎ ((c : TheCall) × (answer : Result (Unit {0}) EndFault) × AreCall (plan_of_held h) (interface_of_held h) numbers c
+    ((fault : UseFault) × (r ≡ Err fault) × RefusesNumbers (program_of_held h) numbers fault × (t ≡ h))
+    ⊎ ((c : TheCall) × (answer : Result (Unit {0}) EndFault) × AreCall (program_of_held h) numbers c
     × Calls h.end c answer t.end × (r ≡ called_as answer) × ChangesEnd h t)
 
 -- ---- a fragment is written
@@ -99,26 +74,17 @@ ReceivesBy h r t = (IsSome h.handled × (r ≡ Err Unread) × (t ≡ h)) ⊎ ((h
 
 -- ---- the call that was handled is read
 
--- a call's message and tape stand first in a room, or there is no room for them
-abbrev pub PutsCall : PlanNo → TheInterface → Call → List ℕ → Result ℕ UseFault → List ℕ → Type 0
-PutsCall plan i call room (Ok count) written =
-    (count ≡ length (tape_of plan i (call_of call)) + 1) × (written ≡ (call.msg.0 ∷ tape_of plan i (call_of call)) ++ drop count room)
-PutsCall plan i call room (Err (ShortRoom wanted)) written =
-    (wanted ≡ length (tape_of plan i (call_of call)) + 1) × (length room < wanted) × (written ≡ room)
-PutsCall plan i call room (Err (End Memory)) written = written ≡ room
-PutsCall plan i call room (Err fault) written = ⊥
-
 -- a call that is read is let go
 abbrev pub without_handled : TheHeld → TheHeld
 without_handled h = record { end = h.end; side = h.side; calls = h.calls; handled = None }
 
 abbrev pub ReadsBy : TheHeld → List ℕ → Result Outcome UseFault → TheHeld → List ℕ → Type 0
 ReadsBy h room (Ok (CallRead count)) t written =
-    ((call : Call) × (h.handled ≡ Some call) × PutsCall (plan_of_held h) (interface_of_held h) call room (Ok count) written) × (t ≡ without_handled h)
+    ((call : Call) × (h.handled ≡ Some call) × PutsCall (program_of_held h) call room (Ok count) written) × (t ≡ without_handled h)
 ReadsBy h room (Ok NothingThere) t written = (h.handled ≡ None) × (t ≡ h) × (written ≡ room)
 ReadsBy h room (Ok outcome) t written = ⊥
 ReadsBy h room (Err fault) t written =
-    ((call : Call) × (h.handled ≡ Some call) × PutsCall (plan_of_held h) (interface_of_held h) call room (Err fault) written) × (t ≡ h)
+    ((call : Call) × (h.handled ≡ Some call) × PutsCall (program_of_held h) call room (Err fault) written) × (t ≡ h)
 
 -- ---- a reply rule is set
 

@@ -1,18 +1,22 @@
 -- What each operation does at a handle, exactly, and what C is answered.
 use Rattle.std.specs.Prelude.{◌≡◌, ◌≢◌, ℕ, List, Option, Some, None, Result, Ok, Err}
+use denote.RawPtr.{Ptr}
 use Rattle.fl_ring.specs.SharedSides.{TheSide}
 use Rattle.fl_c.specs.declared.operation.Operation.{Operation}
 use Rattle.fl_c.specs.declared.answer.Outcome.{Outcome}
 use Rattle.fl_c.specs.declared.answer.Outcome.TheVariants.{Freed}
 use Rattle.fl_c.specs.declared.answer.UseFault.{UseFault}
-use Rattle.fl_c.specs.declared.answer.UseFault.TheVariants.{NoSuchOperation}
+use Rattle.fl_c.specs.declared.answer.UseFault.TheVariants.{NoSuchOperation, End as FromEnd}
+use Rattle.fl_endpoint.specs.declared.fault.EndFault.TheVariants.{Memory}
+use Rattle.fl_compile.specs.Programs.{TheProgram, program_of}
 use Rattle.fl_c.specs.declared.answer.Answered.{Answered}
 use Rattle.fl_c.specs.declared.handle.Handle.{Handle}
-use Rattle.fl_c.specs.declared.handle.Handle.TheVariants.{Side, End, Ended}
+use Rattle.fl_c.specs.declared.handle.Handle.TheVariants.{Side, End, Program, Sender, Receiver, Ended}
 use Rattle.fl_c.specs.Numbers.{operation_at, answer_of}
 use Rattle.fl_c.specs.View.{TheHeld}
 use Rattle.fl_c.specs.Sides.{UsesSide}
 use Rattle.fl_c.specs.Ends.{UsesEnd}
+use Rattle.fl_c.specs.Runs.{AsksProgram, TheSender, UsesSender, IsNewSender, TheReceiver, UsesReceiver, IsNewReceiver}
 
 -- what the handle led to is freed, and its own block is left
 abbrev pub Frees : List ℕ → Result Outcome UseFault → Handle → List ℕ → Type 0
@@ -27,7 +31,24 @@ abbrev pub UsesKind : Option Operation → Handle → List ℕ → Result Outcom
 UsesKind None s numbers r t written = Refuses s numbers r t written
 UsesKind (Some operation) (Side side) numbers r t written = (after : TheSide) × (t ≡ Side after) × UsesSide side operation numbers r after written
 UsesKind (Some operation) (End end) numbers r t written = (after : TheHeld) × (t ≡ End after) × UsesEnd end operation numbers r after written
+UsesKind (Some operation) (Program held) numbers r t written =
+    AsksProgram (program_of held.program) operation numbers r × (t ≡ Program held) × (written ≡ numbers)
+UsesKind (Some operation) (Sender run) numbers r t written = (after : TheSender) × (t ≡ Sender after) × UsesSender run operation numbers r after written
+UsesKind (Some operation) (Receiver run) numbers r t written = (after : TheReceiver) × (t ≡ Receiver after) × UsesReceiver run operation numbers r after written
 UsesKind (Some operation) Ended numbers r t written = Refuses Ended numbers r t written
+
+-- a new run of a program: its send run is 1, its receive run 2
+abbrev pub MakesRun : TheProgram → ℕ → Result Handle UseFault → Type 0
+MakesRun x kind (Ok (Sender run)) = (kind ≡ 1) × IsNewSender x run
+MakesRun x kind (Ok (Receiver run)) = (kind ≡ 2) × IsNewReceiver x run
+MakesRun x kind (Ok handle) = ⊥
+MakesRun x kind (Err NoSuchOperation) = (kind ≢ 1) × (kind ≢ 2)
+MakesRun x kind (Err (FromEnd Memory)) = Unit {0}
+MakesRun x kind (Err fault) = ⊥
+
+-- a run is made of what a handle leads to, which stays as it is; a fault leaves the pointer as it was
+abbrev pub HandsRun : Handle → Ptr → Answered → Handle → Ptr → Type 0
+HandsRun s at answer t after = (t ≡ s) × (answer.fault ≢ 0 → after ≡ at)
 
 -- a use of a handle: what this number asks for is done on these numbers
 pub record UsesAt (s : Handle) (what : ℕ) (numbers : List ℕ) (r : Result Outcome UseFault) (t : Handle) (written : List ℕ) : Type 0 where

@@ -46,6 +46,20 @@ ReadsText text (Err (Text number offset)) = TextMeans text (text_fault number of
 ReadsText text (Err Memory) = Unit {0}
 ReadsText text (Err fault) = ⊥
 
+-- the program of that interface, or the text's first fault
+abbrev pub CompilesText : PlanNo → List ℕ → Result Program MakeFault → Type 0
+CompilesText plan text (Ok p) = TextMeans text (stands_for (program_of p).interface) × ((program_of p).plan ≡ plan)
+CompilesText plan text (Err (Text number offset)) = TextMeans text (text_fault number offset)
+CompilesText plan text (Err Memory) = Unit {0}
+CompilesText plan text (Err fault) = ⊥
+
+-- the program whose image this is, or why there is none
+abbrev pub ReadsImage : List ℕ → Result Program MakeFault → Type 0
+ReadsImage image (Ok p) = (has_image (program_of p).interface ≡ true) × (image ≡ image_of (program_of p).plan (program_of p).interface)
+ReadsImage image (Err (Image fault)) = FirstFault image fault
+ReadsImage image (Err Memory) = Unit {0}
+ReadsImage image (Err fault) = ⊥
+
 -- of a text
 abbrev pub MakesOfText : PlanNo → List ℕ → ℕ → Result (TheHeld × TheHeld) MakeFault → Type 0
 MakesOfText plan text slots (Ok made) = MayHaveSlots slots

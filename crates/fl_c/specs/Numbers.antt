@@ -3,10 +3,10 @@ use Rattle.std.specs.Prelude.{ℕ, ◌==◌, if◌then◌else◌, Option, Some, 
 use Rattle.fl_link.specs.Faults.{put_number}
 use Rattle.fl_endpoint.specs.Faults.{fault_number}
 use Rattle.fl_c.specs.declared.operation.Operation.{Operation}
-use Rattle.fl_c.specs.declared.operation.Operation.TheVariants.{Put, Take, Peek, Tell, Call, Write, Receive, Read, Rule, Busy}
+use Rattle.fl_c.specs.declared.operation.Operation.TheVariants.{Put, Take, Peek, Tell, Call, Write, Receive, Read, Rule, Busy, Messages, Sizes, Next, Feed}
 use Rattle.fl_c.specs.declared.answer.Outcome.{Outcome}
 use Rattle.fl_c.specs.declared.answer.Outcome.TheVariants.{Fragment, Acknowledgement, Told, Wrote, NoRoom, Sending}
-use Rattle.fl_c.specs.declared.answer.Outcome.TheVariants.{PartTaken, Held, Handled, CallRead, Freed}
+use Rattle.fl_c.specs.declared.answer.Outcome.TheVariants.{PartTaken, Held, Handled, CallRead, Counted, Sized, Freed}
 use Rattle.fl_c.specs.declared.answer.UseFault.{UseFault}
 use Rattle.fl_c.specs.declared.answer.UseFault.TheVariants.{NoSuchOperation, WrongRoom, ShortRoom, Unread, OnlyAcknowledges, Link, End}
 use Rattle.fl_c.specs.declared.answer.Answered.{Answered}
@@ -23,7 +23,11 @@ operation_at n =
     else (if n == 8 then Some Receive
     else (if n == 9 then Some Read
     else (if n == 10 then Some Rule
-    else (if n == 11 then Some Busy else None)))))))))
+    else (if n == 11 then Some Busy
+    else (if n == 12 then Some Messages
+    else (if n == 13 then Some Sizes
+    else (if n == 14 then Some Next
+    else (if n == 15 then Some Feed else None)))))))))))))
 
 abbrev pub fault_of : UseFault → ℕ
 fault_of NoSuchOperation = 101
@@ -39,7 +43,7 @@ abbrev pub wanted_of : UseFault → ℕ
 wanted_of (ShortRoom wanted) = wanted
 wanted_of fault = 0
 
--- which of the things that an operation may come to
+-- which of the things that an operation may come to; of a message, how many bytes its longest payload has
 abbrev pub what_of : Outcome → ℕ
 what_of Fragment = 1
 what_of Told = 1
@@ -51,14 +55,17 @@ what_of Acknowledgement = 2
 what_of NoRoom = 2
 what_of Held = 3
 what_of Handled = 4
+what_of (Sized bytes numbers) = bytes
 what_of (Freed align size) = align
 what_of outcome = 0
 
--- how many numbers there are to read, or fragments left
+-- how many numbers there are to read, or fragments left, or messages, or numbers on the longest tape
 abbrev pub count_of : Outcome → ℕ
 count_of Fragment = 8
 count_of (Wrote left) = left
 count_of (CallRead count) = count
+count_of (Counted count) = count
+count_of (Sized bytes numbers) = numbers
 count_of (Freed align size) = size
 count_of outcome = 0
 

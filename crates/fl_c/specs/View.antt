@@ -1,12 +1,11 @@
 -- An end as a handle holds it.
-use Rattle.std.specs.Prelude.{◌≡◌, ℕ, List, [], Option, Some, None}
+use Rattle.std.specs.Prelude.{◌≡◌, List, [], Option, Some, None}
 use Rattle.fl_ring.specs.SharedSides.{TheSide}
 use Rattle.fl_machine.specs.Reassembling.{TheReassembly}
 use Rattle.fl_value_data.specs.declared.value.Call.{Call}
-use Rattle.fl_value_data.specs.declared.value.PlanNo.{PlanNo}
 use Rattle.fl_compile.specs.declared.program.Program.{Program}
-use Rattle.fl_interface.specs.Interface.{TheInterface}
-use Rattle.fl_endpoint.specs.View.{TheEnd, fresh, interface_in, plan_in}
+use Rattle.fl_compile.specs.Programs.{TheProgram, program_of}
+use Rattle.fl_endpoint.specs.View.{TheEnd, fresh}
 use Rattle.fl_endpoint.specs.Lent.{AddsPlace}
 
 -- an end with its side, the place of the calls that come to it, and the call that it handled last, until that is read
@@ -16,11 +15,8 @@ pub record TheHeld : Type 0 where
   pub calls : List TheReassembly
   pub handled : Option Call
 
-abbrev pub interface_of_held : TheHeld → TheInterface
-interface_of_held h = interface_in h.end
-
-abbrev pub plan_of_held : TheHeld → PlanNo
-plan_of_held h = plan_in h.end
+abbrev pub program_of_held : TheHeld → TheProgram
+program_of_held h = program_of h.end.program
 
 -- a new end of a program over a side, off circuits
 abbrev pub IsNewEnd : Program → TheSide → TheHeld → Type 0

@@ -7,7 +7,7 @@ use fl_endpoint::EndFault;
 use fl_link::PutFault;
 
 /// What an operation came to.
-#[derive(Clone, Copy, Debug, PartialEq, Eq)]
+#[derive(Clone, Copy)]
 pub enum Outcome {
     /// The fragment was put.
     Placed,
@@ -41,14 +41,20 @@ pub enum Outcome {
     CallRead { count: u64 },
     /// The reply rule is set.
     RuleSet,
+    /// So many messages.
+    Counted { count: u64 },
+    /// A payload of the message has at most so many bytes, and a tape so many numbers.
+    Sized { bytes: u32, numbers: u64 },
+    /// A run is made.
+    Made,
     /// What the handle led to is freed. Its own block, of this size and alignment, is the caller's to free.
     Freed { align: u32, size: u64 },
 }
 
 /// Why an operation was refused.
-#[derive(Clone, Copy, Debug, PartialEq, Eq)]
+#[derive(Clone, Copy)]
 pub enum UseFault {
-    /// There is no such operation at a handle of this kind (101).
+    /// There is no such operation at a handle of this kind, or no such run (101).
     NoSuchOperation,
     /// There are too few or too many numbers (103).
     WrongRoom,
@@ -66,13 +72,13 @@ pub enum UseFault {
 
 /// What C is answered. A fault of 100 or more is a caller's mistake: nothing was done then.
 #[repr(C)]
-#[derive(Clone, Copy, Debug, PartialEq, Eq)]
+#[derive(Clone, Copy)]
 pub struct Answered {
     /// The fault's number; 0 where there is none.
     pub fault: u32,
-    /// Which of the things that it may come to.
+    /// Which of the things that it may come to; of a message, how many bytes its longest payload has.
     pub what: u32,
-    /// How many numbers there are to read, or wanted, or fragments left.
+    /// How many numbers there are to read, or wanted, or fragments left, or messages, or numbers on the longest tape.
     pub count: u64,
 }
 
@@ -113,11 +119,13 @@ impl Outcome {
         match self {
             Outcome::Placed | Outcome::Nothing | Outcome::Kept => 0,
             Outcome::Accepted | Outcome::Idle | Outcome::RuleSet => 0,
+            Outcome::Counted { count: _ } | Outcome::Made => 0,
             Outcome::Fragment | Outcome::Told | Outcome::Sending | Outcome::PartTaken => 1,
             Outcome::Wrote { left: _ } | Outcome::CallRead { count: _ } => 1,
             Outcome::Acknowledgement | Outcome::NoRoom => 2,
             Outcome::Held => 3,
             Outcome::Handled => 4,
+            Outcome::Sized { bytes, numbers: _ } => bytes,
             Outcome::Freed { align, size: _ } => align,
         }
     }
@@ -129,6 +137,8 @@ impl Outcome {
     {
         match self {
             Outcome::Fragment => 8,
+            Outcome::Counted { count } => count,
+            Outcome::Sized { bytes: _, numbers } => numbers,
             Outcome::Freed { align: _, size } => size,
             Outcome::Wrote { left } => left,
             Outcome::CallRead { count } => count,

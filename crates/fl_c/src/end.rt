@@ -1,17 +1,13 @@
 //! An end that owns its side and its place, and its operations.
-//!
-//! A call crosses as its message's number and its tape (`fl_value_data::flatten`): one number for each
-//! scalar, a length before each text and array, in the plan's order.
 
-ghost use Rattle.std.specs.Prelude.{◌≡◌, ◌+◌, ◌≤◌, [], ◌∷◌, ◌++◌, length, drop, None, IfOk, IfSome, IfNone};
-ghost use Rattle.fl_compile.specs.Programs.{program_of};
-ghost use Rattle.fl_endpoint.specs.View.{interface_in, plan_in};
+ghost use Rattle.std.specs.Prelude.{◌≡◌, None, IfOk};
 ghost use Rattle.fl_c.specs.Sides.{Tells};
 ghost use Rattle.fl_c.specs.View.{IsNewEnd};
-ghost use Rattle.fl_c.specs.Ends.{ReadsCall, called_as, received_as, handled_in, PutsCall};
+ghost use Rattle.fl_c.specs.Ends.{called_as, received_as, handled_in};
 ghost use Rattle.fl_c.specs.Ends.{CallsBy, WritesBy, ReceivesNext, ReceivesBy, ReadsBy, RulesBy, IsBusyBy, UsesEnd};
 
 use crate::answer::{Outcome, UseFault};
+use crate::calls::{put_numbers, read_numbers};
 use crate::operation::Operation;
 use crate::side::tell;
 use fl_base::{Circuit, MsgNo};
@@ -19,7 +15,7 @@ use fl_compile::Program;
 use fl_endpoint::{End, EndFault, ReceiveAnswer, WriteAnswer};
 use fl_machine::Reassemblies;
 use fl_ring::SharedSide;
-use fl_value_data::{Call, flatten_into, unflatten};
+use fl_value_data::Call;
 use std::alloc::{AllocError, Global};
 use std::marker::Model;
 
@@ -51,39 +47,6 @@ impl Model for HeldEnd {
     ghost invariant = { λ h. IsPlaceOf h.end h.calls 0 };
 }
 
-// The first of some numbers, and the others.
-#[inline]
-fn first_and_rest(numbers: &[u64]) -> Option<(u64, &[u64])>
-    ensures some { IfSome result (λ r. numbers.now ≡ r.0 ∷ r.1.now) }
-    ensures none { IfNone result (numbers.now ≡ []) }
-{
-    match numbers {
-        [] => None,
-        [first, rest @ ..] => Some((*first, rest)),
-    }
-}
-
-// The call of these numbers: its message's, and its tape.
-fn read_numbers(alloc: Global, program: &Program, numbers: &[u64]) -> Result<Call, UseFault>
-    ensures reads { ReadsCall (program_of program.now).plan (program_of program.now).interface numbers.now result }
-{
-    let Some((message, tape)) = first_and_rest(numbers) else {
-        return Err(UseFault::WrongRoom);
-    };
-    let Ok(message) = u16::try_from(message) else {
-        return Err(UseFault::End(EndFault::UnknownMessage));
-    };
-    let interface = program.interface();
-    if usize::from(message) >= interface.messages.len() {
-        return Err(UseFault::End(EndFault::UnknownMessage));
-    }
-    match unflatten(alloc, MsgNo(message), tape, interface, program.plan()) {
-        Err(AllocError) => Err(UseFault::End(EndFault::Memory)),
-        Ok(None) => Err(UseFault::End(EndFault::Misfit)),
-        Ok(Some(call)) => Ok(call),
-    }
-}
-
 // What a call comes to, as it is told.
 #[inline]
 fn called(answer: Result<(), EndFault>) -> Result<Outcome, UseFault>
@@ -109,40 +72,6 @@ fn received(answer: Result<ReceiveAnswer, EndFault>) -> (Result<Outcome, UseFaul
         Ok(ReceiveAnswer::HeldBack) => (Ok(Outcome::Held), None),
         Err(fault) => (Err(UseFault::End(fault)), None),
     }
-}
-
-// Writes a call's message and tape into the first places of a room.
-#[inline]
-fn write_numbers(room: &mut [u64], message: u16, tape: &[u64])
-    requires room { length tape.now + 1 ≤ length room.old }
-    ensures numbers { room.new ≡ (message ∷ tape.now) ++ drop (length tape.now + 1) room.old }
-{
-    let (first, rest) = room.split_at_mut(1);
-    first[0] = u64::from(message);
-    let (rest, _) = rest.split_at_mut(tape.len());
-    rest.copy_from_slice(tape);
-}
-
-// Puts a call's message and tape into the first places of a room, and tells how many numbers these are.
-fn put_numbers(
-    end: &End,
-    call: &Call,
-    spare: &mut Vec<u64>,
-    room: &mut [u64],
-) -> Result<u64, UseFault>
-    ensures puts { PutsCall (plan_in end.now) (interface_in end.now) call.now room.old result room.new }
-{
-    let message = call.msg.0;
-    let program = end.program();
-    let Ok(()) = flatten_into(spare, call, program.interface(), program.plan()) else {
-        return Err(UseFault::End(EndFault::Memory));
-    };
-    let count = spare.len() as u64 + 1;
-    if (room.len() as u64) < count {
-        return Err(UseFault::ShortRoom { wanted: count });
-    }
-    write_numbers(room, message, spare);
-    Ok(count)
 }
 
 impl HeldEnd {
@@ -234,7 +163,7 @@ impl HeldEnd {
         let Some(call) = &self.handled else {
             return Ok(Outcome::Nothing);
         };
-        match put_numbers(&self.end, call, &mut self.spare, room) {
+        match put_numbers(self.end.program(), call, &mut self.spare, room) {
             Err(fault) => Err(fault),
             Ok(count) => {
                 self.handled = None;

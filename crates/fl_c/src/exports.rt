@@ -4,12 +4,14 @@ ghost use Rattle.std.specs.Prelude.{◌≡◌, ◌≢◌, ◌↔◌, ◌⊎◌};
 ghost use types.Logic.{sem};
 ghost use Rattle.std.specs.Ptr.{points_to};
 ghost use Rattle.fl_ring.specs.Duo.{MayHaveSlots};
-ghost use Rattle.fl_c.specs.Handles.{Uses};
+ghost use Rattle.fl_c.specs.Handles.{Uses, HandsRun};
 ghost use Rattle.fl_c.specs.contracts.handle.Handle.{the_row};
 
-use crate::answer::Answered;
-use crate::handle::{Handle, ring_handles, use_handle};
-use crate::making::{image_ends, text_ends};
+use crate::answer::{Answered, Outcome, UseFault};
+use crate::handle::{Handle, new_run, ring_handles, use_handle};
+use crate::making::{image_ends, image_program, text_ends, text_program};
+use crate::program::HeldProgram;
+use fl_endpoint::EndFault;
 use fl_ring::RingFault;
 use fl_value_data::PlanNo;
 use std::alloc::Global;
@@ -31,32 +33,57 @@ pub extern "C" fn flounder_make(
     ensures kept { result ≢ 0 → (one.new ≡ one.old) × (two.new ≡ two.old) }
 {
     match ring_handles(alloc, slots) {
-        Ok((first, second)) => hand_out(alloc, first, second, one, two),
+        Ok((first, second)) => { hand_out(boxed(alloc, first), boxed(alloc, second), one, two) }
         Err(RingFault::BadSize) => 32,
         Err(RingFault::Memory) => 99,
     }
 }
 
-// Two handles for C, or none where memory runs out (99).
+// A handle in a block of its own, where there is memory.
+fn boxed(alloc: Global, handle: Handle) -> Option<Box<Handle>> {
+    Box::new(alloc, handle).ok()
+}
+
+// A handle for C, or none where memory ran out (99).
+fn hand_one(handle: Option<Box<Handle>>, at: &mut *mut u8) -> u32
+    ensures faults { (result ≡ 0) ⊎ (result ≡ 99) }
+    ensures kept { result ≢ 0 → at.new ≡ at.old }
+{
+    let Some(handle) = handle else {
+        return 99;
+    };
+    *at = Box::into_raw(handle) as *mut u8;
+    0
+}
+
+// Two handles for C, or none where memory ran out (99).
 fn hand_out(
-    alloc: Global,
-    first: Handle,
-    second: Handle,
+    first: Option<Box<Handle>>,
+    second: Option<Box<Handle>>,
     one: &mut *mut u8,
     two: &mut *mut u8,
 ) -> u32
     ensures faults { (result ≡ 0) ⊎ (result ≡ 99) }
     ensures kept { result ≢ 0 → (one.new ≡ one.old) × (two.new ≡ two.old) }
 {
-    let Ok(first) = Box::new(alloc, first) else {
+    let Some(first) = first else {
         return 99;
     };
-    let Ok(second) = Box::new(alloc, second) else {
+    let Some(second) = second else {
         return 99;
     };
     *one = Box::into_raw(first) as *mut u8;
     *two = Box::into_raw(second) as *mut u8;
     0
+}
+
+// The plan of a number.
+fn plan_of(number: u32) -> Option<PlanNo> {
+    match number {
+        1 => Some(PlanNo::One),
+        2 => Some(PlanNo::Two),
+        _ => None,
+    }
 }
 
 /// Makes both ends of the interface that a text stands for, compiled under plan 1 or 2, over a new ring
@@ -75,14 +102,14 @@ pub extern "C" fn flounder_make_text_ends(
 ) -> u32
     ensures kept { result ≢ 0 → (one.new ≡ one.old) × (two.new ≡ two.old) }
 {
-    let plan = match plan {
-        1 => PlanNo::One,
-        2 => PlanNo::Two,
-        _ => return NO_SUCH_PLAN,
+    let Some(plan) = plan_of(plan) else {
+        return NO_SUCH_PLAN;
     };
     match text_ends(alloc, text, plan, slots) {
         Ok((first, second)) => {
-            hand_out(alloc, Handle::End(first), Handle::End(second), one, two)
+            let first = boxed(alloc, Handle::End(first));
+            let second = boxed(alloc, Handle::End(second));
+            hand_out(first, second, one, two)
         }
         Err(fault) => {
             *place = fault.place();
@@ -106,10 +133,90 @@ pub extern "C" fn flounder_make_image_ends(
 {
     match image_ends(alloc, image, slots) {
         Ok((first, second)) => {
-            hand_out(alloc, Handle::End(first), Handle::End(second), one, two)
+            let first = boxed(alloc, Handle::End(first));
+            let second = boxed(alloc, Handle::End(second));
+            hand_out(first, second, one, two)
         }
         Err(fault) => fault.number(),
     }
+}
+
+/// Makes the program of the interface that a text stands for, compiled under plan 1 or 2 ([`text_program`]).
+/// Faults: no such plan (102), a fault of the text (1 to 21), whose place is written, out of memory (99); then no
+/// handle was made, and the pointer is as it was.
+#[unsafe(no_mangle)]
+pub extern "C" fn flounder_make_text_program(
+    alloc: Global,
+    text: &[u8],
+    plan: u32,
+    program: &mut *mut u8,
+    place: &mut u64,
+) -> u32
+    ensures kept { result ≢ 0 → program.new ≡ program.old }
+{
+    let Some(plan) = plan_of(plan) else {
+        return NO_SUCH_PLAN;
+    };
+    match text_program(alloc, text, plan) {
+        Ok(made) => {
+            let made = Handle::Program(HeldProgram::new(alloc, made));
+            hand_one(boxed(alloc, made), program)
+        }
+        Err(fault) => {
+            *place = fault.place();
+            fault.number()
+        }
+    }
+}
+
+/// Makes the program of an image ([`image_program`]). Faults: the bytes are no image (80 to 85), out of memory
+/// (99); then no handle was made, and the pointer is as it was.
+#[unsafe(no_mangle)]
+pub extern "C" fn flounder_make_image_program(
+    alloc: Global,
+    image: &[u8],
+    program: &mut *mut u8,
+) -> u32
+    ensures kept { result ≢ 0 → program.new ≡ program.old }
+{
+    match image_program(alloc, image) {
+        Ok(made) => {
+            let made = Handle::Program(HeldProgram::new(alloc, made));
+            hand_one(boxed(alloc, made), program)
+        }
+        Err(fault) => fault.number(),
+    }
+}
+
+// A run of what a handle leads to, for C.
+fn make_run(handle: &mut Handle, kind: u32, run: &mut *mut u8) -> Answered
+    ensures hands { HandsRun handle.old run.old result handle.new run.new }
+{
+    let Handle::Program(program) = handle else {
+        return Answered::of(Err(UseFault::NoSuchOperation));
+    };
+    match new_run(program, kind) {
+        Err(fault) => Answered::of(Err(fault)),
+        Ok(made) => match hand_one(boxed(program.alloc(), made), run) {
+            0 => Answered::of(Ok(Outcome::Made)),
+            _ => Answered::of(Err(UseFault::End(EndFault::Memory))),
+        },
+    }
+}
+
+/// Makes a run of a program: 1 is a send run, 2 a receive run ([`new_run`]). Faults: the handle leads to no program,
+/// or there is no such run (101), out of memory (99); then no handle was made, and the pointer is as it was.
+#[unsafe(no_mangle)]
+pub unsafe extern "C" fn flounder_make_run(
+    handle: *mut u8,
+    kind: u32,
+    run: &mut *mut u8,
+) -> Answered
+    ghost before: { Handle }
+    requires* { sem 𝓛 (points_to the_row handle before) }
+    ensures* { ∃ₛ (λ (after : Handle). sem 𝓛 (points_to the_row handle after) ∗ ⌜ HandsRun before run.old result after run.new ⌝) }
+{
+    make_run(&mut *(handle as *mut Handle), kind, run)
 }
 
 /// Does the operation of this number at a handle, on these numbers ([`use_handle`]). The handle still owns

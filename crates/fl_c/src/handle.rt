@@ -6,18 +6,28 @@ ghost use Rattle.fl_ring.specs.SharedSides.{TheSide, started_side};
 ghost use Rattle.fl_ring.specs.declared.shared.duo_board.SeatHolder.TheVariants.{One, Two};
 ghost use Rattle.fl_c.specs.declared.handle.Handle.TheVariants.{Side};
 ghost use Rattle.fl_c.specs.Numbers.{operation_at};
-ghost use Rattle.fl_c.specs.Handles.{Frees, UsesKind, Uses};
+ghost use Rattle.fl_compile.specs.Programs.{program_of};
+ghost use Rattle.fl_c.specs.Handles.{Frees, UsesKind, Uses, MakesRun};
 
 use crate::answer::{Answered, Outcome, UseFault};
 use crate::end::{HeldEnd, use_end};
 use crate::operation::Operation;
+use crate::program::HeldProgram;
+use crate::receiver::{HeldReceiver, use_receiver};
+use crate::sender::{HeldSender, use_sender};
 use crate::side::use_side;
+use fl_endpoint::EndFault;
 use fl_ring::{RingFault, SharedSide, duo};
-use std::alloc::Global;
+use std::alloc::{AllocError, Global};
 use std::mem::{align_of, size_of};
 
 // The number that frees.
 const FREE: u32 = 5;
+
+// The numbers of runs.
+const SEND_RUN: u32 = 1;
+
+const RECEIVE_RUN: u32 = 2;
 
 /// What a handle leads to.
 #[derive(Drop)]
@@ -26,6 +36,12 @@ pub enum Handle {
     Side(SharedSide),
     /// An end over its side.
     End(HeldEnd),
+    /// A program alone.
+    Program(HeldProgram),
+    /// A send run of a program.
+    Sender(HeldSender),
+    /// A receive run of a program.
+    Receiver(HeldReceiver),
     /// Nothing: what was there is freed.
     Ended,
 }
@@ -43,6 +59,26 @@ pub fn ring_handles(alloc: Global, slots: usize) -> Result<(Handle, Handle), Rin
 {
     let (one, two) = duo(alloc, slots)?;
     Ok((Handle::Side(one), Handle::Side(two)))
+}
+
+/// A new run of a program: 1 is a send run, 2 a receive run.
+///
+/// # Errors
+/// There is no run of another number (101); out of memory (99).
+pub fn new_run(program: &HeldProgram, kind: u32) -> Result<Handle, UseFault>
+    ensures makes { MakesRun (program_of program.now.program) kind result }
+{
+    match kind {
+        SEND_RUN => match program.sender() {
+            Ok(run) => Ok(Handle::Sender(run)),
+            Err(AllocError) => Err(UseFault::End(EndFault::Memory)),
+        },
+        RECEIVE_RUN => match program.receiver() {
+            Ok(run) => Ok(Handle::Receiver(run)),
+            Err(AllocError) => Err(UseFault::End(EndFault::Memory)),
+        },
+        _ => Err(UseFault::NoSuchOperation),
+    }
 }
 
 /// Does the operation of this number at a handle, on these numbers, and answers by numbers. 5 frees
@@ -71,6 +107,9 @@ fn attempt(handle: &mut Handle, what: u32, numbers: &mut [u64]) -> Result<Outcom
     match handle {
         Handle::Side(side) => use_side(side, operation, numbers),
         Handle::End(end) => use_end(end, operation, numbers),
+        Handle::Program(program) => program.ask(operation, numbers),
+        Handle::Sender(run) => use_sender(run, operation, numbers),
+        Handle::Receiver(run) => use_receiver(run, operation, numbers),
         Handle::Ended => Err(UseFault::NoSuchOperation),
     }
 }

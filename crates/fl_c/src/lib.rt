@@ -11,24 +11,38 @@
 //! - `operation.rt`: the operations, by number
 //! - `side.rt`: operations at a side of a ring
 //! - `end.rt`: an end with its side and place, and operations at it (`specs/Ends.antt`)
-//! - `making.rt`: the ends of a text or an image
+//! - `calls.rt`: calls as numbers (`specs/Calls.antt`)
+//! - `program.rt`, `sender.rt`, `receiver.rt`: a program alone, and runs of its stubs alone (`specs/Runs.antt`)
+//! - `making.rt`: the ends, or the program, of a text or an image
 //! - `answer.rt`: what an operation comes to, and its numbers
 #![tactic(auto)]
 
 mod answer;
+mod calls;
 mod end;
 mod exports;
 mod handle;
 mod making;
 mod operation;
+mod program;
+mod receiver;
+mod sender;
 mod sending;
 mod side;
+#[cfg(test)]
+mod tests;
 
 pub use answer::{Answered, Outcome, UseFault};
 pub use end::{HeldEnd, use_end};
-pub use exports::{flounder_make, flounder_make_image_ends, flounder_make_text_ends, flounder_use};
-pub use handle::{Handle, ring_handles, use_handle};
-pub use making::{MakeFault, image_ends, text_ends};
+pub use exports::{
+    flounder_make, flounder_make_image_ends, flounder_make_image_program, flounder_make_run,
+    flounder_make_text_ends, flounder_make_text_program, flounder_use,
+};
+pub use handle::{Handle, new_run, ring_handles, use_handle};
+pub use making::{MakeFault, image_ends, image_program, text_ends, text_program};
 pub use operation::Operation;
+pub use program::HeldProgram;
+pub use receiver::{HeldReceiver, use_receiver};
+pub use sender::{HeldSender, use_sender};
 pub use sending::law_handles_go_to_threads;
 pub use side::{peek, put, take, tell, use_side};

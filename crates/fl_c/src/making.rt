@@ -1,9 +1,9 @@
-//! What makers make: the ends of a program over a new ring.
+//! What makers make: programs, and the ends of one over a new ring.
 
 ghost use Rattle.std.specs.Prelude.{◌≡◌, IfOk};
 ghost use Rattle.fl_ring.specs.SharedSides.{TheSide};
 ghost use Rattle.fl_compile.specs.Programs.{program_of};
-ghost use Rattle.fl_c.specs.Making.{make_number, place_of, AreSides, AreEndsOf, ReadsText, MakesOfText, MakesOfImage};
+ghost use Rattle.fl_c.specs.Making.{make_number, place_of, AreSides, AreEndsOf, ReadsText, CompilesText, ReadsImage, MakesOfText, MakesOfImage};
 
 use crate::end::HeldEnd;
 use fl_check::{Interface, TextRead, read_text};
@@ -12,22 +12,17 @@ use fl_image::{BadImage, ImageFault, read_image};
 use fl_ring::{RingFault, SharedSide, duo};
 use fl_value_data::PlanNo;
 use std::alloc::{AllocError, Global};
-use thiserror::Error;
 
 /// Why nothing was made.
-#[derive(Clone, Copy, Debug, PartialEq, Eq, Error)]
+#[derive(Clone, Copy)]
 pub enum MakeFault {
     /// A ring can't have this number of slots (32).
-    #[error("a ring can't have this number of slots")]
     BadSize,
     /// The text has this fault, so many bytes from its start (1 to 21).
-    #[error("E{number} at byte {offset} of the text")]
     Text { number: u8, offset: usize },
     /// The bytes are no image (80 to 85).
-    #[error("{0}")]
     Image(BadImage),
     /// Out of memory (99).
-    #[error("out of memory")]
     Memory,
 }
 
@@ -66,6 +61,38 @@ fn read_interface(alloc: Global, text: &[u8]) -> Result<Interface, MakeFault>
     }
 }
 
+/// The program of the interface that a text stands for, under a plan.
+///
+/// # Errors
+/// The text has a fault (1 to 21); out of memory (99).
+pub fn text_program(alloc: Global, text: &[u8], plan: PlanNo) -> Result<Program, MakeFault>
+    ensures compiles { CompilesText plan text.now result }
+{
+    let interface = match read_interface(alloc, text) {
+        Ok(interface) => interface,
+        Err(MakeFault::Text { number, offset }) => return Err(MakeFault::Text { number, offset }),
+        Err(_) => return Err(MakeFault::Memory),
+    };
+    match compile(alloc, &interface, plan) {
+        Ok(program) => Ok(program),
+        Err(AllocError) => Err(MakeFault::Memory),
+    }
+}
+
+/// The program of an image.
+///
+/// # Errors
+/// The bytes are no image (80 to 85); out of memory (99).
+pub fn image_program(alloc: Global, image: &[u8]) -> Result<Program, MakeFault>
+    ensures reads { ReadsImage image.now result }
+{
+    match read_image(alloc, image) {
+        Ok(program) => Ok(program),
+        Err(ImageFault::Refused(fault)) => Err(MakeFault::Image(fault)),
+        Err(ImageFault::Memory) => Err(MakeFault::Memory),
+    }
+}
+
 // Both ends of a program over both sides of a ring.
 fn ends_of(
     alloc: Global,
@@ -99,13 +126,10 @@ pub fn text_ends(
         Err(RingFault::BadSize) => return Err(MakeFault::BadSize),
         Err(RingFault::Memory) => return Err(MakeFault::Memory),
     };
-    let interface = match read_interface(alloc, text) {
-        Ok(interface) => interface,
+    let program = match text_program(alloc, text, plan) {
+        Ok(program) => program,
         Err(MakeFault::Text { number, offset }) => return Err(MakeFault::Text { number, offset }),
         Err(_) => return Err(MakeFault::Memory),
-    };
-    let Ok(program) = compile(alloc, &interface, plan) else {
-        return Err(MakeFault::Memory);
     };
     match ends_of(alloc, program, one, two) {
         Ok(ends) => Ok(ends),
@@ -129,10 +153,10 @@ pub fn image_ends(
         Err(RingFault::BadSize) => return Err(MakeFault::BadSize),
         Err(RingFault::Memory) => return Err(MakeFault::Memory),
     };
-    let program = match read_image(alloc, image) {
+    let program = match image_program(alloc, image) {
         Ok(program) => program,
-        Err(ImageFault::Refused(fault)) => return Err(MakeFault::Image(fault)),
-        Err(ImageFault::Memory) => return Err(MakeFault::Memory),
+        Err(MakeFault::Image(fault)) => return Err(MakeFault::Image(fault)),
+        Err(_) => return Err(MakeFault::Memory),
     };
     match ends_of(alloc, program, one, two) {
         Ok(ends) => Ok(ends),

@@ -11,9 +11,9 @@ use fl_base::Frag;
 use fl_link::{PutFault, Sight, Told};
 use fl_ring::SharedSide;
 
-// The fragment of eight numbers.
+/// The fragment of eight numbers.
 #[inline(always)]
-fn fragment_of(numbers: &[u64]) -> Option<Frag>
+pub(crate) fn fragment_of(numbers: &[u64]) -> Option<Frag>
     ensures none { result ≡ None → length numbers.now ≢ 8 }
     ensures frag { (frag : Frag) → result ≡ Some frag → numbers.now ≡ numbers_of frag }
     ensures eight { (frag : Frag) → result ≡ Some frag → length numbers.now ≡ 8 }
@@ -27,9 +27,9 @@ fn fragment_of(numbers: &[u64]) -> Option<Frag>
     })
 }
 
-// Writes a fragment's numbers.
+/// Writes a fragment's numbers.
 #[inline(always)]
-fn write(numbers: &mut [u64], frag: &Frag)
+pub(crate) fn write(numbers: &mut [u64], frag: &Frag)
     requires { length numbers.old ≡ 8 }
     ensures numbers { numbers.new ≡ numbers_of frag.now }
 {

@@ -13,6 +13,15 @@ pub enum Plan {
     Two,
 }
 
+impl Plan {
+    pub(crate) fn number(self) -> u32 {
+        match self {
+            Plan::One => 1,
+            Plan::Two => 2,
+        }
+    }
+}
+
 /// What a write came to.
 #[derive(Clone, Copy, Debug, PartialEq, Eq)]
 pub enum Written {
@@ -58,25 +67,20 @@ pub fn ends_of_text(
     slots: usize,
 ) -> Result<Result<(End, End), TextFault>, Fault> {
     let (mut one, mut two, mut place) = (ptr::null_mut(), ptr::null_mut(), 0);
-    let plan = match plan {
-        Plan::One => 1,
-        Plan::Two => 2,
-    };
     // SAFETY: the text is a slice's, and the places are ours, and differ.
     let number = unsafe {
         flounder_make_text_ends(
             text.as_ptr(),
             text.len(),
-            plan,
+            plan.number(),
             slots,
             &mut one,
             &mut two,
             &mut place,
         )
     };
-    if (1..=21).contains(&number) {
-        let offset = place as usize;
-        return Ok(Err(TextFault { number, offset }));
+    if let Some(fault) = TextFault::of(number, place) {
+        return Ok(Err(fault));
     }
     let (one, two) = Handle::both(number, one, two)?;
     Ok(Ok((End { handle: one }, End { handle: two })))

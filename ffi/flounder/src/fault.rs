@@ -41,6 +41,13 @@ pub struct TextFault {
     pub offset: usize,
 }
 
+impl TextFault {
+    pub(crate) fn of(number: u32, place: u64) -> Option<TextFault> {
+        let offset = place as usize;
+        (1..=21).contains(&number).then_some(TextFault { number, offset })
+    }
+}
+
 impl Fault {
     pub(crate) fn of(number: u32, count: u64) -> Result<(), Fault> {
         Err(match number {

@@ -1,7 +1,7 @@
 //! A handle of the archive's, and what the archive has.
 
 use crate::fault::Fault;
-use core::ptr::NonNull;
+use core::ptr::{self, NonNull};
 
 /// What the archive answers.
 #[repr(C)]
@@ -29,6 +29,19 @@ extern "C" {
         one: &mut *mut u8,
         two: &mut *mut u8,
     ) -> u32;
+    pub(crate) fn flounder_make_text_program(
+        text: *const u8,
+        length: usize,
+        plan: u32,
+        program: &mut *mut u8,
+        place: &mut u64,
+    ) -> u32;
+    pub(crate) fn flounder_make_image_program(
+        image: *const u8,
+        length: usize,
+        program: &mut *mut u8,
+    ) -> u32;
+    fn flounder_make_run(program: *mut u8, kind: u32, run: &mut *mut u8) -> Answer;
     fn flounder_use(handle: *mut u8, what: u32, numbers: *mut u64, count: usize) -> Answer;
     fn rattle_dealloc(at: *mut u8, size: usize, align: usize);
 }
@@ -44,17 +57,29 @@ pub(crate) struct Handle {
 unsafe impl Send for Handle {}
 
 impl Handle {
+    /// The handle that a maker stored, by its answer.
+    pub(crate) fn one(number: u32, at: *mut u8) -> Result<Handle, Fault> {
+        Fault::of(number, 0)?;
+        let at = NonNull::new(at).ok_or(Fault::Other(0))?;
+        Ok(Handle { at })
+    }
+
+    /// A run of the program that the handle leads to: 1 is a send run, 2 a receive run.
+    pub(crate) fn run(&self, kind: u32) -> Result<Handle, Fault> {
+        let mut run = ptr::null_mut();
+        // SAFETY: the handle isn't freed. The program isn't changed, and `Handle` isn't `Sync`, so no other call is
+        // at it.
+        let answer = unsafe { flounder_make_run(self.at.as_ptr(), kind, &mut run) };
+        Handle::one(answer.fault, run)
+    }
+
     /// Both handles that a maker stored, by its answer.
     pub(crate) fn both(
         number: u32,
         one: *mut u8,
         two: *mut u8,
     ) -> Result<(Handle, Handle), Fault> {
-        Fault::of(number, 0)?;
-        match (NonNull::new(one), NonNull::new(two)) {
-            (Some(one), Some(two)) => Ok((Handle { at: one }, Handle { at: two })),
-            _ => Err(Fault::Other(0)),
-        }
+        Ok((Handle::one(number, one)?, Handle::one(number, two)?))
     }
 
     /// What the operation of this number comes to, and its count.

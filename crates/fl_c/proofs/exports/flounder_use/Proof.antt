@@ -1,13 +1,13 @@
 -- `flounder_use` lends what the handle leads to for one call, and has it back.
-use Rattle.std.proofs.Common.{◌≡◌, ℕ, ◌<◌, ◌^◌, List, [], ◌∷◌, length, refl}
+use Rattle.std.proofs.Common.{List, [], ◌∷◌, length, refl}
 use base.Fraction.{full_share}
 use base.Logic.{sep, emp, ex_i, id⊢}
 use types.Logic.{sem}
-use base.Fml.{GName, Lft, ftrue, flft, flent, fres}
-use mir.Syntax.{named, w32, w64}
+use base.Fml.{GName, Lft, ftrue, flft, flent}
+use mir.Syntax.{named, w32}
 use mir.Val.{Val, vptr}
 use prog.Wp.{WpFn}
-use types.Kit.{‵, raw, ◌⊛◌, some, later, prop, ◌$◌, ◌∵◌, !, qed, done, move, keep, drop, use0, use1, use2, use3, split, join, pick, fsplit, fjoin, feq_l, await, regoal, suffices, frame, group}
+use types.Kit.{‵, raw, ◌⊛◌, some, later, prop, ◌$◌, ◌∵◌, !, qed, done, move, keep, drop, use0, use1, use2, use3, split, join, pick, fsplit, fjoin, feq_l, await, regoal, suffices, group}
 use types.Tokens.{lft_new, lft_end}
 use types.SemTy.{Body}
 use types.Run.{enter, of_opd, addr, stop, fld, hop, from, and_then, no_more, returns}
@@ -16,16 +16,15 @@ use types.ByLocal.{alloc_all, pass_all, free_all, look_at, look_in_at, get, get_
 use contract.Monad.{fact, fact_i}
 use contract.Running.{tables}
 use denote.Exit.{yes}
-use denote.RattleType.{owns}
 use denote.Laws.{Is, shows}
 use denote.Builtin.{u32, u64, RawPtr}
 use denote.Memory.{mem, part_at}
 use denote.Plain.{uint_vals, uint_Tells}
 use denote.RawPtr.{Ptr, block_ptr, lies_at, in_a_block, rawptr_vals, rawptr_Tells}
 use denote.Ref.{MutRef}
-use denote.Slice.{MutSlice, Room, slice_val, mut_slice_vals, mut_slice_Tells, finally}
+use denote.Slice.{MutSlice, Room, mut_slice_vals, mut_slice_Tells}
 use denote.Lend.{lends_ref, ref_back}
-use denote.Signature.{plain, types_at}
+use denote.Signature.{plain}
 use denote.Steps.{nothing, peeks, heard}
 use denote.Triple.Call.{calls_at}
 use denote.Triple.Clauses.{Lasts, lasts}

@@ -6,9 +6,9 @@ returns-in-Ok-ends_of c = record {
   makes = (
     c.in-Ok.ensures.sized,
     (
-      program_of c.in-Ok-read_image.program,
-      c.in-Ok-read_image.ensures.found.0,
-      c.in-Ok-read_image.ensures.found.1,
+      program_of c.in-Ok-image_program.program,
+      c.in-Ok-image_program.ensures.reads.0,
+      c.in-Ok-image_program.ensures.reads.1,
       (c.in-Ok.sides.0, c.in-Ok.sides.1, (c.in-Ok.ensures.one, c.in-Ok.ensures.two), c.in-Ok-ends_of.ensures.made),
     ),
   );
