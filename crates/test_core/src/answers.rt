@@ -10,7 +10,7 @@ use std::alloc::{AllocError, Global};
 
 /// What an end or a board answers.
 #[derive(Clone, Copy, PartialEq, Eq)]
-pub enum Said {
+pub enum EndAnswer {
     Done,
     Written(usize, usize),
     Full,
@@ -66,27 +66,27 @@ pub fn make_queue(alloc: Global, size: usize, is_acked: bool) -> Result<QueueLin
     }
 }
 
-pub fn said_of(answer: Result<(), EndFault>) -> Said {
+pub fn said_of(answer: Result<(), EndFault>) -> EndAnswer {
     match answer {
-        Ok(()) => Said::Done,
-        Err(fault) => Said::Refused(fault.number()),
+        Ok(()) => EndAnswer::Done,
+        Err(fault) => EndAnswer::Refused(fault.number()),
     }
 }
 
-pub fn said_of_show(answer: Result<Option<Frag>, EndFault>) -> Said {
+pub fn said_of_show(answer: Result<Option<Frag>, EndFault>) -> EndAnswer {
     match answer {
-        Ok(Some(frag)) => Said::Shown(frag.control, frag.words),
-        Ok(None) => Said::Nothing,
-        Err(fault) => Said::Refused(fault.number()),
+        Ok(Some(frag)) => EndAnswer::Shown(frag.control, frag.words),
+        Ok(None) => EndAnswer::Nothing,
+        Err(fault) => EndAnswer::Refused(fault.number()),
     }
 }
 
-pub fn said_of_write(answer: Result<WriteAnswer, EndFault>) -> Said {
+pub fn said_of_write(answer: Result<WriteAnswer, EndFault>) -> EndAnswer {
     match answer {
-        Ok(WriteAnswer::Written { number, count }) => Said::Written(number, count),
-        Ok(WriteAnswer::Full) => Said::Full,
-        Ok(WriteAnswer::Nothing) => Said::Nothing,
-        Err(fault) => Said::Refused(fault.number()),
+        Ok(WriteAnswer::Written { number, count }) => EndAnswer::Written(number, count),
+        Ok(WriteAnswer::Full) => EndAnswer::Full,
+        Ok(WriteAnswer::Nothing) => EndAnswer::Nothing,
+        Err(fault) => EndAnswer::Refused(fault.number()),
     }
 }
 
@@ -104,13 +104,13 @@ pub fn print(alloc: Global, text: &mut Vec<u8>, end: &End, call: &Call) -> Resul
 }
 
 /// A fragment of these words is put on a queue.
-pub fn put(queue: &mut QueueLink, control: u64, words: &[u64; 7]) -> Said {
+pub fn put(queue: &mut QueueLink, control: u64, words: &[u64; 7]) -> EndAnswer {
     let frag = Frag {
         words: *words,
         control,
     };
     match queue.put(&frag) {
-        Ok(()) => Said::Done,
-        Err(_) => Said::Full,
+        Ok(()) => EndAnswer::Done,
+        Err(_) => EndAnswer::Full,
     }
 }

@@ -5,7 +5,7 @@ use crate::endpoint::forged;
 use crate::monitor::memory_tests::opens;
 use crate::monitor::message_tests::reads_again;
 use crate::monitor::name_tests::{AT_LAST, all_answered};
-use crate::tables::{Row, all_hold};
+use crate::tables::{CheckedRow, all_hold};
 use std::alloc::{AllocError, Global};
 use std::test::Fail;
 
@@ -22,7 +22,7 @@ enum Work {
     Reads,
 }
 
-impl Row for Work {
+impl CheckedRow for Work {
     fn holds(&self, alloc: Global) -> Result<bool, AllocError> {
         let holds = match self {
             Work::Adds => Ok(adds_without_memory(alloc)),

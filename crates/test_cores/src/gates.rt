@@ -20,9 +20,9 @@ fn place(core: CoreId) -> usize {
 }
 
 /// A gate that is always open.
-pub struct Open;
+pub struct OpenGate;
 
-impl Gate for Open {
+impl Gate for OpenGate {
     fn before_turn(&self, _core: CoreId) {}
 }
 

@@ -4,6 +4,7 @@
 //! - `gates.rt`: gates
 //! - `texts.rt`: cores files, and what is told of them
 //! - `rows.rt`: worked examples
+//! - `reports.rt`: whole reports: calls made and handled, turns, refusals
 //! - `openings.rt`: bindings that are opened while cores run
 //!
 //! `rt try --test --fail-alloc N` runs each with its Nth allocation refused: then each ends with its answer or with out of memory.
@@ -13,6 +14,8 @@
 mod gates;
 #[cfg(test)]
 mod openings;
+#[cfg(test)]
+mod reports;
 #[cfg(test)]
 mod rows;
 #[cfg(test)]

@@ -1,7 +1,7 @@
 //! Bindings that are opened while cores run.
 
-use crate::gates::{Held, Open};
-use crate::texts::{add, run};
+use crate::gates::{Held, OpenGate};
+use crate::texts::{add, comes_to};
 use fl_cores::CoresEnd;
 use std::alloc::{AllocError, Global};
 use std::test::Fail;
@@ -28,25 +28,29 @@ fn bindings(alloc: Global, count: u64) -> Result<Vec<u8>, AllocError> {
     Ok(text)
 }
 
-// Core 1 begins when core 0 has taken 200 turns: the circuits are asked for before any is answered, and each call waits for its own.
-#[test]
-fn a_hundred_bindings(rt: HostRuntime) -> Result<(), Fail> {
-    let alloc = rt.alloc();
-    let mut text = bindings(alloc, 100)?;
-    let mut wanted = Vec::new(alloc);
+// Appends a call for each of 100 bindings, and the line that tells that it was handled.
+fn add_calls(alloc: Global, text: &mut Vec<u8>, wanted: &mut Vec<u8>) -> Result<(), AllocError> {
     for number in 0..100 {
         let (tens, ones) = digits(number);
         let call = format!(in alloc; "call p{tens}{ones}.c ping({number})\n")?;
-        add(&mut text, call.as_bytes())?;
+        add(text, call.as_bytes())?;
         let line = format!(in alloc; "handle p{tens}{ones}.s ping({number})\n")?;
-        add(&mut wanted, line.as_bytes())?;
+        add(wanted, line.as_bytes())?;
     }
-    add(&mut wanted, b"complete\n")?;
+    add(wanted, b"complete\n")
+}
+
+// Core 1 begins when core 0 has taken 200 turns: the circuits are asked for before any is answered, and each call waits for its own.
+#[test]
+fn a_hundred_bindings(rt: HostRuntime) -> Result<(), Fail> {
+    let mut text = bindings(rt.alloc(), 100)?;
+    let mut told = Vec::new(rt.alloc());
+    add_calls(rt.alloc(), &mut text, &mut told)?;
     let gate = Held::new(&rt, 200);
-    let told = run(&rt, alloc, &text, MANY, &gate)?;
+    let wanted = (CoresEnd::Complete, told.as_slice());
+    let is_so = comes_to(&rt, rt.alloc(), &text, MANY, &gate, wanted)?;
     assert!(rt; !gate.wait.ran_out());
-    assert_eq!(rt; told.end, CoresEnd::Complete);
-    assert_eq!(rt; told.text.as_slice(), wanted.as_slice());
+    assert!(rt; is_so);
     Ok(())
 }
 
@@ -55,11 +59,10 @@ fn a_hundred_bindings(rt: HostRuntime) -> Result<(), Fail> {
 #[test]
 fn one_binding_too_many(rt: HostRuntime) -> Result<(), Fail> {
     let text = bindings(rt.alloc(), 1_024)?;
-    let told = run(&rt, rt.alloc(), &text, MANY, &Open)?;
-    assert_eq!(rt; told.end, CoresEnd::Complete);
-    assert_eq!(rt;
-        told.text.as_slice(),
-        b"refused E74 p1023.c\ncomplete\n".as_slice()
+    let wanted = (
+        CoresEnd::Complete,
+        b"refused E74 p1023.c\ncomplete\n".as_slice(),
     );
+    assert!(rt; comes_to(&rt, rt.alloc(), &text, MANY, &OpenGate, wanted)?);
     Ok(())
 }

@@ -1,7 +1,8 @@
 //! Worked examples.
 
-use crate::gates::{Held, LockStep, Open, SideBySide};
-use crate::texts::{Told, add, add_lines, run, skip_lines};
+use crate::gates::{Held, LockStep, OpenGate, SideBySide};
+use crate::texts::{TextOutcome, add, add_lines, comes_to, run, skip_lines};
+use fl_core_run::Gate;
 use fl_cores::{CoresEnd, CoresFault, run_cores};
 use fl_model::{DispatcherId, Event};
 use fl_world::Config;
@@ -14,6 +15,9 @@ use std::thread::Threads;
 const MANY: u64 = 1_000_000_000;
 
 const PINGS: &[u8] = b"idl\ninterface i { message ping(uint32 v); }\n.\n";
+
+// The same laid out by plan 1.
+const PINGS_ONE: &[u8] = b"idl 1\ninterface i { message ping(uint32 v); }\n.\n";
 
 // Calls within a core: by its N-th turn it has handled N of them.
 const THREE_CALLS: &[u8] =
@@ -70,7 +74,7 @@ fn refusal_of<R: Threads + Wait + Sync>(
     setup.push(first)?;
     setup.push(second)?;
     let config = Config { cores: 1, setup };
-    match run_cores(rt, alloc, &config, Vec::new(alloc), MANY, &Open) {
+    match run_cores(rt, alloc, &config, Vec::new(alloc), MANY, &OpenGate) {
         Ok(_) => Ok(None),
         Err(fault) => Ok(Some(fault)),
     }
@@ -95,8 +99,8 @@ fn join(alloc: Global, one: &[u8], two: &[u8]) -> Result<Vec<u8>, AllocError> {
 }
 
 // A row with 100 calls each way.
-fn both_ways(alloc: Global, row: &[u8]) -> Result<Vec<u8>, AllocError> {
-    let mut text = join(alloc, PINGS, row)?;
+fn both_ways(alloc: Global, pings: &[u8], row: &[u8]) -> Result<Vec<u8>, AllocError> {
+    let mut text = join(alloc, pings, row)?;
     add_lines(alloc, &mut text, "call p.c", (0, 100))?;
     add_lines(alloc, &mut text, "call p.s", (100, 200))?;
     Ok(text)
@@ -111,74 +115,146 @@ fn all_handled(alloc: Global) -> Result<Vec<u8>, AllocError> {
     Ok(text)
 }
 
+// Whether all calls of such a text are handled.
+fn handles_all<R: Threads + Wait + Sync, G: Gate + Sync>(
+    rt: &R,
+    alloc: Global,
+    text: &[u8],
+    gate: &G,
+) -> Result<bool, CoresFault> {
+    let wanted = all_handled(alloc)?;
+    comes_to(rt, alloc, text, MANY, gate, (CoresEnd::Complete, &wanted))
+}
+
 // How many calls were handled at the client and at the server where turns were used up.
-fn counts(alloc: Global, told: &Told) -> Result<Option<(u64, u64)>, AllocError> {
-    let (client, rest) = skip_lines(alloc, &told.text, "handle p.c", (100, 200))?;
+fn counts(alloc: Global, outcome: &TextOutcome) -> Result<Option<(u64, u64)>, AllocError> {
+    let (client, rest) = skip_lines(alloc, &outcome.text, "handle p.c", (100, 200))?;
     let (server, rest) = skip_lines(alloc, rest, "handle p.s", (0, 100))?;
-    if rest == b"turns out\n".as_slice() && told.end == CoresEnd::TurnsOut {
+    if rest == b"turns out\n".as_slice() && outcome.end == CoresEnd::TurnsOut {
         return Ok(Some((client, server)));
     }
     Ok(None)
 }
 
-#[test]
-fn turns_of_one_core(rt: HostRuntime) -> Result<(), Fail> {
-    let text = join(rt.alloc(), PINGS, THREE_CALLS)?;
-    let told = run(&rt, rt.alloc(), &text, 2, &Open)?;
-    assert_eq!(rt; told.end, CoresEnd::TurnsOut);
-    assert_eq!(rt;
-        told.text.as_slice(),
-        b"handle p.s ping(1)\nhandle p.s ping(2)\nturns out\n".as_slice()
-    );
-    let told = run(&rt, rt.alloc(), &text, 3, &Open)?;
-    assert_eq!(rt; told.end, CoresEnd::Complete);
-    assert_eq!(rt;
-        told.text.as_slice(),
-        b"handle p.s ping(1)\nhandle p.s ping(2)\nhandle p.s ping(3)\ncomplete\n".as_slice()
-    );
+// The two parts of a text, how many turns there are, and what its run comes to and tells.
+struct TextRow(&'static [u8], &'static [u8], u64, CoresEnd, &'static [u8]);
+
+const TWO_HANDLED: &[u8] = b"handle p.s ping(1)\nhandle p.s ping(2)\nturns out\n";
+
+const ALL_HANDLED: &[u8] =
+    b"handle p.s ping(1)\nhandle p.s ping(2)\nhandle p.s ping(3)\ncomplete\n";
+
+const ONE_CORE: &[TextRow] = &[
+    TextRow(PINGS, THREE_CALLS, 2, CoresEnd::TurnsOut, TWO_HANDLED),
+    TextRow(PINGS, THREE_CALLS, 3, CoresEnd::Complete, ALL_HANDLED),
+    TextRow(PINGS_ONE, THREE_CALLS, 2, CoresEnd::TurnsOut, TWO_HANDLED),
+    TextRow(PINGS_ONE, THREE_CALLS, 3, CoresEnd::Complete, ALL_HANDLED),
+];
+
+const REPLIES: &[TextRow] = &[TextRow(ECHO, b"", MANY, CoresEnd::Complete, ECHOED)];
+
+const REFUSED_LINES: &[TextRow] = &[
+    TextRow(
+        RULED,
+        b"call p.s a(1)\n",
+        MANY,
+        CoresEnd::Refused,
+        b"line 9 refused E44\n",
+    ),
+    TextRow(
+        RULED,
+        b"reply p.c a a\n",
+        MANY,
+        CoresEnd::Refused,
+        b"line 9 refused E44\n",
+    ),
+    TextRow(
+        RULED,
+        b"turn d\n",
+        MANY,
+        CoresEnd::Refused,
+        b"line 9 refused E90\n",
+    ),
+];
+
+fn is_so<R: Threads + Wait + Sync>(
+    rt: &R,
+    alloc: Global,
+    row: &TextRow,
+) -> Result<bool, CoresFault> {
+    let text = join(alloc, row.0, row.1)?;
+    comes_to(rt, alloc, &text, row.2, &OpenGate, (row.3, row.4))
+}
+
+// Tells which row is the first that isn't so.
+fn all_are_so<R: Threads + Wait + Sync>(
+    rt: &R,
+    alloc: Global,
+    rows: &[TextRow],
+) -> Result<(), Fail> {
+    for (index, row) in rows.iter().enumerate() {
+        if !is_so(rt, alloc, row)? {
+            return Err(Fail::new(format_args!("row {index}, counted from 0, is wrong")));
+        }
+    }
     Ok(())
 }
 
 #[test]
+fn turns_of_one_core(rt: HostRuntime) -> Result<(), Fail> {
+    all_are_so(&rt, rt.alloc(), ONE_CORE)
+}
+
+#[test]
+fn replies_over_a_ring(rt: HostRuntime) -> Result<(), Fail> {
+    all_are_so(&rt, rt.alloc(), REPLIES)
+}
+
+#[test]
+fn refused_lines(rt: HostRuntime) -> Result<(), Fail> {
+    all_are_so(&rt, rt.alloc(), REFUSED_LINES)
+}
+
+// Whether the first of two events of a set-up is the one that is refused, for the fault of this number.
+fn is_first_refused<R: Threads + Wait + Sync>(
+    rt: &R,
+    alloc: Global,
+    first: Event<'_>,
+    second: Event<'_>,
+    number: u8,
+) -> Result<bool, AllocError> {
+    let refused = CoresFault::Setup { number, place: 1 };
+    Ok(refusal_of(rt, alloc, first, second)? == Some(refused))
+}
+
+#[test]
 fn the_first_event_that_is_refused_is_told(rt: HostRuntime) -> Result<(), Fail> {
-    let told = refusal_of(&rt, rt.alloc(), dispatcher(), turn())?;
-    let refused = CoresFault::Setup {
-        number: 73,
-        place: 1,
-    };
-    assert!(rt; told == Some(refused));
-    let told = refusal_of(&rt, rt.alloc(), turn(), dispatcher())?;
-    let refused = CoresFault::Setup {
-        number: 93,
-        place: 1,
-    };
-    assert!(rt; told == Some(refused));
+    let alloc = rt.alloc();
+    assert!(rt; is_first_refused(&rt, alloc, dispatcher(), turn(), 73)?);
+    assert!(rt; is_first_refused(&rt, alloc, Event::SetCores(1), dispatcher(), 93)?);
+    assert!(rt; is_first_refused(&rt, alloc, turn(), dispatcher(), 93)?);
     Ok(())
 }
 
 #[test]
 fn no_turns(rt: HostRuntime) -> Result<(), Fail> {
-    let text = both_ways(rt.alloc(), ROW)?;
-    let told = run(&rt, rt.alloc(), &text, 0, &Open)?;
-    assert_eq!(rt; told.end, CoresEnd::TurnsOut);
-    assert_eq!(rt; told.text.as_slice(), b"turns out\n".as_slice());
+    let text = both_ways(rt.alloc(), PINGS, ROW)?;
+    let wanted = (CoresEnd::TurnsOut, b"turns out\n".as_slice());
+    assert!(rt; comes_to(&rt, rt.alloc(), &text, 0, &OpenGate, wanted)?);
     Ok(())
 }
 
 #[test]
 fn three_cores_in_step(rt: HostRuntime) -> Result<(), Fail> {
-    let text = both_ways(rt.alloc(), ROW)?;
-    let told = run(&rt, rt.alloc(), &text, MANY, &LockStep::new(&rt))?;
-    assert_eq!(rt; told.end, CoresEnd::Complete);
-    let wanted = all_handled(rt.alloc())?;
-    assert_eq!(rt; told.text.as_slice(), wanted.as_slice());
+    let text = both_ways(rt.alloc(), PINGS_ONE, ROW)?;
+    assert!(rt; handles_all(&rt, rt.alloc(), &text, &LockStep::new(&rt))?);
     Ok(())
 }
 
 #[test]
 fn fifty_turns(rt: HostRuntime) -> Result<(), Fail> {
-    let text = both_ways(rt.alloc(), ROW)?;
-    let told = run(&rt, rt.alloc(), &text, 50, &Open)?;
+    let text = both_ways(rt.alloc(), PINGS, ROW)?;
+    let told = run(&rt, rt.alloc(), &text, 50, &OpenGate)?;
     let few = match counts(rt.alloc(), &told)? {
         Some((client, server)) => client <= 50 && server <= 50,
         None => false,
@@ -190,20 +266,18 @@ fn fifty_turns(rt: HostRuntime) -> Result<(), Fail> {
 // Each of the first two cores waits for the other's first turn, so that one thread for all would never go on. No wait may run out before all is handled.
 #[test]
 fn cores_run_side_by_side(rt: HostRuntime) -> Result<(), Fail> {
-    let text = both_ways(rt.alloc(), ROW)?;
+    let text = both_ways(rt.alloc(), PINGS, ROW)?;
     let gate = SideBySide::new(&rt);
-    let told = run(&rt, rt.alloc(), &text, MANY, &gate)?;
+    let all = handles_all(&rt, rt.alloc(), &text, &gate)?;
     assert!(rt; !gate.wait.ran_out());
-    assert_eq!(rt; told.end, CoresEnd::Complete);
-    let wanted = all_handled(rt.alloc())?;
-    assert_eq!(rt; told.text.as_slice(), wanted.as_slice());
+    assert!(rt; all);
     Ok(())
 }
 
 // Core 1 begins when core 0 has taken nearly all its turns: so next to nothing is handled, and nothing of that is told that wasn't.
 #[test]
 fn a_core_that_begins_late(rt: HostRuntime) -> Result<(), Fail> {
-    let text = both_ways(rt.alloc(), ROW)?;
+    let text = both_ways(rt.alloc(), PINGS, ROW)?;
     let gate = Held::new(&rt, 50);
     let told = run(&rt, rt.alloc(), &text, 50, &gate)?;
     let few = match counts(rt.alloc(), &told)? {
@@ -216,50 +290,26 @@ fn a_core_that_begins_late(rt: HostRuntime) -> Result<(), Fail> {
 }
 
 #[test]
-fn replies_over_a_ring(rt: HostRuntime) -> Result<(), Fail> {
-    let told = run(&rt, rt.alloc(), ECHO, MANY, &Open)?;
-    assert_eq!(rt; told.end, CoresEnd::Complete);
-    assert_eq!(rt; told.text.as_slice(), ECHOED);
-    Ok(())
-}
-
-#[test]
 fn a_route_without_its_second_link(rt: HostRuntime) -> Result<(), Fail> {
-    let text = both_ways(rt.alloc(), BROKEN_ROW)?;
-    let told = run(&rt, rt.alloc(), &text, MANY, &Open)?;
-    assert_eq!(rt; told.end, CoresEnd::Complete);
-    assert_eq!(rt;
-        told.text.as_slice(),
-        b"refused E73 p.c\ncomplete\n".as_slice()
+    let text = both_ways(rt.alloc(), PINGS_ONE, BROKEN_ROW)?;
+    let wanted = (
+        CoresEnd::Complete,
+        b"refused E73 p.c\ncomplete\n".as_slice(),
     );
+    assert!(rt; comes_to(&rt, rt.alloc(), &text, MANY, &OpenGate, wanted)?);
     Ok(())
 }
 
-#[test]
-fn refused_lines(rt: HostRuntime) -> Result<(), Fail> {
-    for (line, wanted) in [
-        (
-            b"call p.s a(1)\n".as_slice(),
-            b"line 9 refused E44\n".as_slice(),
-        ),
-        (
-            b"reply p.c a a\n".as_slice(),
-            b"line 9 refused E44\n".as_slice(),
-        ),
-        (b"turn d\n".as_slice(), b"line 9 refused E90\n".as_slice()),
-    ] {
-        let text = join(rt.alloc(), RULED, line)?;
-        let told = run(&rt, rt.alloc(), &text, MANY, &Open)?;
-        assert_eq!(rt; told.end, CoresEnd::Refused);
-        assert_eq!(rt; told.text.as_slice(), wanted);
+fn have_numbers(faults: &[(CoresFault, u8)]) -> bool {
+    for (fault, number) in faults {
+        if fault.number() != *number {
+            return false;
+        }
     }
-    Ok(())
+    true
 }
 
 #[test]
-fn numbers_of_faults(rt: HostRuntime) -> Result<(), Fail> {
-    for (fault, number) in FAULTS {
-        assert_eq!(rt; fault.number(), *number);
-    }
-    Ok(())
+fn numbers_of_faults(rt: HostRuntime) {
+    assert!(rt; have_numbers(FAULTS));
 }

@@ -8,7 +8,7 @@ use std::thread::Threads;
 
 /// What came of a text.
 #[derive(Drop)]
-pub struct Told {
+pub struct TextOutcome {
     pub end: CoresEnd,
     pub text: Vec<u8>,
 }
@@ -20,10 +20,23 @@ pub fn run<R: Threads + Wait + Sync, G: Gate + Sync>(
     text: &[u8],
     limit: u64,
     gate: &G,
-) -> Result<Told, CoresFault> {
+) -> Result<TextOutcome, CoresFault> {
     let mut out = Vec::new(alloc);
     let end = run_cores_text(rt, alloc, text, limit, gate, &mut out)?;
-    Ok(Told { end, text: out })
+    Ok(TextOutcome { end, text: out })
+}
+
+/// Whether a text's run comes to this end, and tells this.
+pub fn comes_to<R: Threads + Wait + Sync, G: Gate + Sync>(
+    rt: &R,
+    alloc: Global,
+    text: &[u8],
+    limit: u64,
+    gate: &G,
+    wanted: (CoresEnd, &[u8]),
+) -> Result<bool, CoresFault> {
+    let outcome = run(rt, alloc, text, limit, gate)?;
+    Ok(outcome.end == wanted.0 && outcome.text.as_slice() == wanted.1)
 }
 
 /// Appends bytes.

@@ -1,7 +1,7 @@
 //! Examples of lists, waitsets, queues and rings that share no shape with others.
 
 use crate::ring::{links, rings, shared_rings, slow};
-use crate::rows::Row;
+use crate::rows::CheckedRow;
 use fl_lists::Lists;
 use fl_waitset::Waitset;
 use std::alloc::Global;
@@ -9,7 +9,7 @@ use std::test::Fail;
 
 /// An example, by its function.
 #[derive(Clone, Copy)]
-pub enum Example {
+pub enum LinksExample {
     // random calls
     RandomLists,
     RandomWaitsets,
@@ -35,27 +35,27 @@ pub enum Example {
     PassesBetween,
 }
 
-impl Row for Example {
+impl CheckedRow for LinksExample {
     fn holds(&self, alloc: Global) -> Result<bool, Fail> {
         match self {
-            Example::RandomLists => slow::agree::<Lists>(alloc, 7),
-            Example::RandomWaitsets => slow::agree::<Waitset>(alloc, 1),
-            Example::Cursor => Ok(links::goes_round()),
-            Example::PassesOn => links::passes_on(alloc),
-            Example::RingOfTwo => rings::a_ring_of_two(alloc),
-            Example::BeginsWithZeros => rings::begins_with_zeros(alloc),
-            Example::DuoOfFour => rings::a_duo_of_four(alloc),
-            Example::Forgets => rings::forgets_what_a_look_told(alloc),
-            Example::PassesThroughEach => rings::passes_through_each(alloc),
-            Example::LocalQueue => rings::a_local_queue(alloc),
-            Example::AckedQueue => rings::an_acked_queue(alloc),
-            Example::Ring => rings::a_ring(alloc),
-            Example::Duo => rings::a_duo(alloc),
-            Example::SharedRing => shared_rings::a_ring_of_two(alloc),
-            Example::SharedDuo => shared_rings::a_duo_of_four(alloc),
-            Example::LongAgo => shared_rings::a_duo_that_began_long_ago(alloc),
-            Example::AtItsEnd => shared_rings::a_duo_at_its_end(alloc),
-            Example::PassesBetween => shared_rings::passes_between(alloc),
+            LinksExample::RandomLists => slow::agree::<Lists>(alloc, 7),
+            LinksExample::RandomWaitsets => slow::agree::<Waitset>(alloc, 1),
+            LinksExample::Cursor => Ok(links::goes_round()),
+            LinksExample::PassesOn => links::passes_on(alloc),
+            LinksExample::RingOfTwo => rings::a_ring_of_two(alloc),
+            LinksExample::BeginsWithZeros => rings::begins_with_zeros(alloc),
+            LinksExample::DuoOfFour => rings::a_duo_of_four(alloc),
+            LinksExample::Forgets => rings::forgets_what_a_look_told(alloc),
+            LinksExample::PassesThroughEach => rings::passes_through_each(alloc),
+            LinksExample::LocalQueue => rings::a_local_queue(alloc),
+            LinksExample::AckedQueue => rings::an_acked_queue(alloc),
+            LinksExample::Ring => rings::a_ring(alloc),
+            LinksExample::Duo => rings::a_duo(alloc),
+            LinksExample::SharedRing => shared_rings::a_ring_of_two(alloc),
+            LinksExample::SharedDuo => shared_rings::a_duo_of_four(alloc),
+            LinksExample::LongAgo => shared_rings::a_duo_that_began_long_ago(alloc),
+            LinksExample::AtItsEnd => shared_rings::a_duo_at_its_end(alloc),
+            LinksExample::PassesBetween => shared_rings::passes_between(alloc),
         }
     }
 }

@@ -5,14 +5,14 @@
 //! - `outputs.rt`: what commands print, and files that can only be read
 //! - `scripts.rt`: `exec`
 //! - `show.rt`: `show`
-//! - `progress.rt`, `compile.rt`: `compile`, and the files that it is done with
+//! - `store.rt`, `compile.rt`: `compile`, and the files that it is done with
 //!
 //! With a request for memory refused (`rt try --test --fail-alloc N`) the test whose name ends in `without_memory` has
 //! to pass, and the others end with out of memory.
 
 mod compile;
 mod outputs;
-mod progress;
 mod scripts;
 mod show;
+mod store;
 mod words;

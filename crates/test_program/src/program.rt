@@ -3,6 +3,7 @@
 //! - `scripts.rt`: scripts with their transcripts, and the test of all tables
 //! - `examples.rt`: the scripts of `examples/`
 //! - `stuck.rt`, `stuck_queue.rt`: those among them in which bindings with reply rules stick
+//! - `drawings.rt`: examples with their drawings
 //! - `rows.rt`, `core_rows.rt`: worked examples of one core and of several
 //! - `letters.rt`: calls of a text of few letters and of many
 //! - `lines.rt`: lines that ask nothing, and words that are no command
@@ -14,6 +15,7 @@
 //! others end with out of memory. Readers and writers that give and take little, or fail, are tested in `test_scripts`.
 
 mod core_rows;
+mod drawings;
 mod examples;
 mod letters;
 mod limits;

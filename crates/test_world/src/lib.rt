@@ -3,12 +3,15 @@
 //!
 //! - `texts.rt`: interfaces of texts
 //! - `world.rt`: worlds, with events as values
-//! - `hostile.rt`: fragments, images, memory and devices that are against us
+//! - `certified.rt`: scripts that are compared with reports of cores
+//! - `hostile.rt`: images and memory that are against us
 //!
 //! `rt try --test --fail-alloc N` runs each with its Nth allocation refused: then the tests of `world.rt` and of
 //! `hostile/memory.rt` have to pass, and others end with out of memory.
 #![tactic(auto)]
 
+#[cfg(test)]
+mod certified;
 #[cfg(test)]
 mod hostile;
 #[cfg(test)]

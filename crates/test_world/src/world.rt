@@ -1,4 +1,4 @@
-//! Worlds, over their public calls alone, with events as values. The same rows as scripts stand in `program_tests`.
+//! Worlds, over their public calls alone, with events as values. The same rows as scripts stand in `test_program`.
 //!
 //! - `tables.rt`: all tables, of which the test tells the first row that isn't so
 //! - `acts.rt`: what is asked, as plain data, and the events that are made of it

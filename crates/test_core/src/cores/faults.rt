@@ -1,33 +1,33 @@
 //! The numbers and the words of the faults.
 
-use crate::faults::{Fault, Told};
+use crate::faults::{AnyFault, FaultRow};
 use fl_core::BoardFault;
 
-pub const FAULTS: &[Told] = &[
-    Told(
-        Fault::Board(BoardFault::NotBound),
+pub const FAULTS: &[FaultRow] = &[
+    FaultRow(
+        AnyFault::Board(BoardFault::NotBound),
         43,
         "the end isn't bound yet",
     ),
-    Told(
-        Fault::Board(BoardFault::Registered),
+    FaultRow(
+        AnyFault::Board(BoardFault::Registered),
         50,
         "the end's channel is registered already",
     ),
-    Told(
-        Fault::Board(BoardFault::NotRegistered),
+    FaultRow(
+        AnyFault::Board(BoardFault::NotRegistered),
         51,
         "the end's channel is not registered",
     ),
-    Told(
-        Fault::Board(BoardFault::TooManyEnds),
+    FaultRow(
+        AnyFault::Board(BoardFault::TooManyEnds),
         54,
         "the dispatcher has 1,024 ends",
     ),
-    Told(
-        Fault::Board(BoardFault::Failed),
+    FaultRow(
+        AnyFault::Board(BoardFault::Failed),
         64,
         "the end failed earlier",
     ),
-    Told(Fault::Board(BoardFault::Memory), 99, "out of memory"),
+    FaultRow(AnyFault::Board(BoardFault::Memory), 99, "out of memory"),
 ];

@@ -1,9 +1,9 @@
-//! A board with its ends and their queues, driven by log entries whose answers are words.
+//! A board with its ends and their queues, driven by actions whose answers are words.
 
 use crate::answers::{
-    Said, make_end, make_queue, print, put, said_of, said_of_show, said_of_write,
+    EndAnswer, make_end, make_queue, print, put, said_of, said_of_show, said_of_write,
 };
-use crate::tables::Row;
+use crate::tables::CheckedRow;
 use fl_base::{Circuit, MsgNo};
 use fl_core::{AckAnswer, Board, BoardFault, ChannelKind, TurnAnswer};
 use fl_endpoint::End;
@@ -14,7 +14,7 @@ use std::alloc::{AllocError, Global};
 
 /// What is done at an end; `Turn` and `Due` are of a dispatcher.
 #[derive(Clone, Copy)]
-pub enum LogEntry {
+pub enum BoardAction {
     /// A call by its text.
     Call(&'static [u8]),
     /// The same, where memory that runs out once is met by asking again.
@@ -42,11 +42,11 @@ pub enum LogEntry {
 }
 
 /// A place, what is done there, and what is answered.
-pub type Step = (usize, LogEntry, Said);
+pub type BoardStep = (usize, BoardAction, EndAnswer);
 
 /// The two ends of a binding, at two dispatchers, with a queue each way.
 #[derive(Clone, Copy)]
-pub struct Binding {
+pub struct BoardBinding {
     pub text: &'static [u8],
     pub at: [usize; 2],
     /// That of both ends; none where they aren't bound yet.
@@ -59,22 +59,22 @@ pub struct Binding {
 
 /// What is answered at a new board with so many dispatchers and these bindings, whose ends are numbered in order, client first.
 #[derive(Clone, Copy)]
-pub struct Example {
+pub struct BoardExample {
     pub dispatchers: usize,
-    pub bindings: &'static [Binding],
-    pub rows: &'static [Step],
+    pub bindings: &'static [BoardBinding],
+    pub rows: &'static [BoardStep],
 }
 
 // A board, and the queue to which each of its ends puts. An end takes from the queue of its peer: that of end e is end e ^ 1.
 #[derive(Drop)]
-struct Rig {
+struct BoardRig {
     alloc: Global,
     board: Box<Board>,
     queues: Vec<QueueLink>,
 }
 
-/// So many dispatchers more.
-pub fn add_dispatchers(board: &mut Board, count: usize) -> Result<(), AllocError> {
+// So many dispatchers more.
+fn add_dispatchers(board: &mut Board, count: usize) -> Result<(), AllocError> {
     for _ in 0..count {
         board.add_dispatcher()?;
     }
@@ -94,103 +94,103 @@ pub fn add_end(
     board.add_end(dispatcher, end, kind)
 }
 
-fn say_done(answer: Result<(), BoardFault>) -> Said {
+fn say_done(answer: Result<(), BoardFault>) -> EndAnswer {
     match answer {
-        Ok(()) => Said::Done,
-        Err(fault) => Said::Refused(fault.number()),
+        Ok(()) => EndAnswer::Done,
+        Err(fault) => EndAnswer::Refused(fault.number()),
     }
 }
 
-fn say_ack(answer: Result<AckAnswer, BoardFault>) -> Said {
+fn say_ack(answer: Result<AckAnswer, BoardFault>) -> EndAnswer {
     match answer {
-        Ok(AckAnswer::Done) => Said::Done,
-        Ok(AckAnswer::Nothing) => Said::Nothing,
-        Ok(AckAnswer::Full) => Said::Full,
-        Err(fault) => Said::Refused(fault.number()),
+        Ok(AckAnswer::Done) => EndAnswer::Done,
+        Ok(AckAnswer::Nothing) => EndAnswer::Nothing,
+        Ok(AckAnswer::Full) => EndAnswer::Full,
+        Err(fault) => EndAnswer::Refused(fault.number()),
     }
 }
 
 // What a turn at an end answered that handled no call.
-fn say_turn(e: usize, answer: TurnAnswer) -> Said {
+fn say_turn(e: usize, answer: TurnAnswer) -> EndAnswer {
     match answer {
-        TurnAnswer::Handle(_) => Said::Other,
-        TurnAnswer::Part => Said::PartAt(e),
-        TurnAnswer::Ready => Said::ReadyAt(e),
-        TurnAnswer::Quiet => Said::QuietAt(e),
-        TurnAnswer::Full => Said::Full,
-        TurnAnswer::Nothing => Said::Nothing,
-        TurnAnswer::Refused(fault) => Said::RefusedAt(e, fault.number()),
+        TurnAnswer::Handle(_) => EndAnswer::Other,
+        TurnAnswer::Part => EndAnswer::PartAt(e),
+        TurnAnswer::Ready => EndAnswer::ReadyAt(e),
+        TurnAnswer::Quiet => EndAnswer::QuietAt(e),
+        TurnAnswer::Full => EndAnswer::Full,
+        TurnAnswer::Nothing => EndAnswer::Nothing,
+        TurnAnswer::Refused(fault) => EndAnswer::RefusedAt(e, fault.number()),
     }
 }
 
-fn peek(queue: &QueueLink) -> Said {
+fn peek(queue: &QueueLink) -> EndAnswer {
     match queue.peek() {
-        Sight::Data(frag) => Said::Shown(frag.control, frag.words),
-        _ => Said::Nothing,
+        Sight::Data(frag) => EndAnswer::Shown(frag.control, frag.words),
+        _ => EndAnswer::Nothing,
     }
 }
 
-fn call(alloc: Global, board: &mut Board, e: usize, text: &[u8]) -> Said {
+fn call(alloc: Global, board: &mut Board, e: usize, text: &[u8]) -> EndAnswer {
     if e >= board.ends() {
-        return Said::Other;
+        return EndAnswer::Other;
     }
     match read_call(alloc, text, board.end(e).program().interface()) {
         Ok(call) => said_of(board.call(e, &call)),
-        Err(fault) => Said::Refused(fault.number()),
+        Err(fault) => EndAnswer::Refused(fault.number()),
     }
 }
 
-fn call_at_last(alloc: Global, board: &mut Board, e: usize, text: &[u8]) -> Said {
+fn call_at_last(alloc: Global, board: &mut Board, e: usize, text: &[u8]) -> EndAnswer {
     match call(alloc, board, e, text) {
-        Said::Refused(99) => call(alloc, board, e, text),
+        EndAnswer::Refused(99) => call(alloc, board, e, text),
         said => said,
     }
 }
 
-fn trigger(board: &mut Board, e: usize) -> Said {
+fn trigger(board: &mut Board, e: usize) -> EndAnswer {
     if e < board.ends() {
         board.trigger(e);
     }
-    Said::Done
+    EndAnswer::Done
 }
 
 // What is done without a queue.
-fn ask(board: &mut Board, e: usize, log_entry: &LogEntry) -> Said {
+fn ask(board: &mut Board, e: usize, action: &BoardAction) -> EndAnswer {
     if e >= board.ends() {
-        return Said::Other;
+        return EndAnswer::Other;
     }
-    match log_entry {
-        LogEntry::Deregister => say_done(board.deregister(e)),
-        LogEntry::Reply => said_of(board.reply_rule(e, MsgNo(0), MsgNo(1))),
-        LogEntry::Trigger => trigger(board, e),
-        LogEntry::Bind(circuit) => {
+    match action {
+        BoardAction::Deregister => say_done(board.deregister(e)),
+        BoardAction::Reply => said_of(board.reply_rule(e, MsgNo(0), MsgNo(1))),
+        BoardAction::Trigger => trigger(board, e),
+        BoardAction::Bind(circuit) => {
             board.bind(e, *circuit);
-            Said::Done
+            EndAnswer::Done
         }
-        _ => Said::Other,
+        _ => EndAnswer::Other,
     }
 }
 
 // What is done with the queue to which an end puts.
-fn put_at(board: &mut Board, e: usize, out: &mut QueueLink, log_entry: &LogEntry) -> Said {
+fn put_at(board: &mut Board, e: usize, out: &mut QueueLink, action: &BoardAction) -> EndAnswer {
     if e >= board.ends() {
-        return Said::Other;
+        return EndAnswer::Other;
     }
-    match log_entry {
-        LogEntry::Show => said_of_show(board.show(e, out)),
-        LogEntry::Write => said_of_write(board.write(e, out)),
-        LogEntry::Put(control, words) => put(out, *control, words),
+    match action {
+        BoardAction::Show => said_of_show(board.show(e, out)),
+        BoardAction::Write => said_of_write(board.write(e, out)),
+        BoardAction::Put(control, words) => put(out, *control, words),
         _ => peek(out),
     }
 }
 
 // What is done with the queue from which it takes.
-fn take_at(board: &mut Board, e: usize, from: &mut QueueLink, log_entry: &LogEntry) -> Said {
+fn take_at(board: &mut Board, e: usize, from: &mut QueueLink, action: &BoardAction) -> EndAnswer {
     if e >= board.ends() {
-        return Said::Other;
+        return EndAnswer::Other;
     }
-    match log_entry {
-        LogEntry::Ack => say_ack(board.ack(e, from)),
+    match action {
+        BoardAction::Ack => say_ack(board.ack(e, from)),
         _ => say_done(board.register(e, from)),
     }
 }
@@ -202,14 +202,14 @@ fn is_text(alloc: Global, end: &End, call: &Call, text: &[u8]) -> Result<bool, A
     Ok(said.as_slice() == text)
 }
 
-impl Rig {
-    fn add(&mut self, binding: &Binding, dispatcher: usize) -> Result<(), AllocError> {
+impl BoardRig {
+    fn add(&mut self, binding: &BoardBinding, dispatcher: usize) -> Result<(), AllocError> {
         let queue = make_queue(self.alloc, binding.size, binding.is_acked)?;
         self.queues.push(queue)?;
         self.add_end(binding, dispatcher)
     }
 
-    fn add_end(&mut self, binding: &Binding, dispatcher: usize) -> Result<(), AllocError> {
+    fn add_end(&mut self, binding: &BoardBinding, dispatcher: usize) -> Result<(), AllocError> {
         let end = make_end(self.alloc, binding.text, PlanNo::One, binding.circuit)?;
         match add_end(&mut self.board, dispatcher, end, binding.kind) {
             Ok(_) => Ok(()),
@@ -218,42 +218,42 @@ impl Rig {
     }
 
     // Both ends of a binding, which are registered, client first.
-    fn bind(&mut self, binding: &Binding) -> Result<(), AllocError> {
+    fn bind(&mut self, binding: &BoardBinding) -> Result<(), AllocError> {
         let e = self.queues.len();
         let [client, server] = binding.at;
         self.add(binding, client)?;
         self.add(binding, server)?;
-        self.take(e, &LogEntry::Register);
-        self.take(e ^ 1, &LogEntry::Register);
+        self.take(e, &BoardAction::Register);
+        self.take(e ^ 1, &BoardAction::Register);
         Ok(())
     }
 
-    fn put(&mut self, e: usize, log_entry: &LogEntry) -> Said {
+    fn put(&mut self, e: usize, action: &BoardAction) -> EndAnswer {
         match self.queues.get_mut(e) {
-            Some(out) => put_at(&mut self.board, e, out, log_entry),
-            None => Said::Other,
+            Some(out) => put_at(&mut self.board, e, out, action),
+            None => EndAnswer::Other,
         }
     }
 
-    fn take(&mut self, e: usize, log_entry: &LogEntry) -> Said {
+    fn take(&mut self, e: usize, action: &BoardAction) -> EndAnswer {
         match self.queues.get_mut(e ^ 1) {
-            Some(from) => take_at(&mut self.board, e, from, log_entry),
-            None => Said::Other,
+            Some(from) => take_at(&mut self.board, e, from, action),
+            None => EndAnswer::Other,
         }
     }
 
     // A write triggers the channel of the peer. That of a ring is polled, and stays so.
-    fn write(&mut self, e: usize) -> Said {
-        let said = self.put(e, &LogEntry::Write);
-        if matches!(said, Said::Written(_, _)) {
+    fn write(&mut self, e: usize) -> EndAnswer {
+        let said = self.put(e, &BoardAction::Write);
+        if matches!(said, EndAnswer::Written(_, _)) {
             trigger(&mut self.board, e ^ 1);
         }
         said
     }
 
-    fn send(&mut self, e: usize, text: &[u8]) -> Said {
+    fn send(&mut self, e: usize, text: &[u8]) -> EndAnswer {
         let said = call(self.alloc, &mut self.board, e, text);
-        if said != Said::Done {
+        if said != EndAnswer::Done {
             return said;
         }
         self.write(e)
@@ -266,86 +266,88 @@ impl Rig {
         self.board.due(dispatcher)
     }
 
-    fn say_handle(&self, e: usize, call: &Call, text: &[u8]) -> Result<Said, AllocError> {
+    fn say_handle(&self, e: usize, call: &Call, text: &[u8]) -> Result<EndAnswer, AllocError> {
         if e >= self.board.ends() || !is_text(self.alloc, self.board.end(e), call, text)? {
-            return Ok(Said::Other);
+            return Ok(EndAnswer::Other);
         }
-        Ok(Said::HandledAt(e))
+        Ok(EndAnswer::HandledAt(e))
     }
 
-    fn turn(&mut self, dispatcher: usize, text: &[u8]) -> Result<Said, AllocError> {
+    fn turn(&mut self, dispatcher: usize, text: &[u8]) -> Result<EndAnswer, AllocError> {
         if dispatcher >= self.board.dispatchers() {
-            return Ok(Said::Other);
+            return Ok(EndAnswer::Other);
         }
         let Some(e) = self.board.due(dispatcher) else {
-            return Ok(Said::Nothing);
+            return Ok(EndAnswer::Nothing);
         };
         let Some(from) = self.queues.get_mut(e ^ 1) else {
-            return Ok(Said::Other);
+            return Ok(EndAnswer::Other);
         };
         match self.board.turn(dispatcher, e, from) {
             Ok(TurnAnswer::Handle(call)) => self.say_handle(e, &call, text),
             Ok(answer) => Ok(say_turn(e, answer)),
-            Err(AllocError) => Ok(Said::Refused(99)),
+            Err(AllocError) => Ok(EndAnswer::Refused(99)),
         }
     }
 
-    fn turn_at_last(&mut self, dispatcher: usize, text: &[u8]) -> Result<Said, AllocError> {
+    fn turn_at_last(&mut self, dispatcher: usize, text: &[u8]) -> Result<EndAnswer, AllocError> {
         match self.turn(dispatcher, text) {
-            Ok(Said::Refused(99)) => self.turn(dispatcher, text),
+            Ok(EndAnswer::Refused(99)) => self.turn(dispatcher, text),
             said => said,
         }
     }
 
-    // What is answered to a log entry.
-    fn answer(&mut self, place: usize, log_entry: &LogEntry) -> Result<Said, AllocError> {
-        match log_entry {
-            LogEntry::Turn(text) => self.turn(place, text),
-            LogEntry::TurnAtLast(text) => self.turn_at_last(place, text),
-            LogEntry::Due => Ok(Said::Due(self.due(place))),
-            LogEntry::Call(text) => Ok(call(self.alloc, &mut self.board, place, text)),
-            LogEntry::CallAtLast(text) => Ok(call_at_last(
+    // What is answered to an action.
+    fn answer(&mut self, place: usize, action: &BoardAction) -> Result<EndAnswer, AllocError> {
+        match action {
+            BoardAction::Turn(text) => self.turn(place, text),
+            BoardAction::TurnAtLast(text) => self.turn_at_last(place, text),
+            BoardAction::Due => Ok(EndAnswer::Due(self.due(place))),
+            BoardAction::Call(text) => Ok(call(self.alloc, &mut self.board, place, text)),
+            BoardAction::CallAtLast(text) => Ok(call_at_last(
                 self.alloc,
                 &mut self.board,
                 place,
                 text,
             )),
-            LogEntry::Send(text) => Ok(self.send(place, text)),
-            LogEntry::Write => Ok(self.write(place)),
-            LogEntry::Show | LogEntry::Put(_, _) | LogEntry::Peek => Ok(self.put(place, log_entry)),
-            LogEntry::Ack | LogEntry::Register => Ok(self.take(place, log_entry)),
-            _ => Ok(ask(&mut self.board, place, log_entry)),
+            BoardAction::Send(text) => Ok(self.send(place, text)),
+            BoardAction::Write => Ok(self.write(place)),
+            BoardAction::Show | BoardAction::Put(_, _) | BoardAction::Peek => Ok(self.put(
+                place, action,
+            )),
+            BoardAction::Ack | BoardAction::Register => Ok(self.take(place, action)),
+            _ => Ok(ask(&mut self.board, place, action)),
         }
     }
 
     // Whether the rows are answered so, one after another.
-    fn answers(&mut self, rows: &[Step]) -> Result<bool, AllocError> {
-        for (place, log_entry, said) in rows {
-            if self.answer(*place, log_entry)? != *said {
+    fn answers(&mut self, rows: &[BoardStep]) -> Result<bool, AllocError> {
+        for (place, action, said) in rows {
+            if self.answer(*place, action)? != *said {
                 return Ok(false);
             }
         }
         Ok(true)
     }
 
-    fn bind_all(&mut self, bindings: &[Binding]) -> Result<(), AllocError> {
+    fn bind_all(&mut self, bindings: &[BoardBinding]) -> Result<(), AllocError> {
         for binding in bindings {
             self.bind(binding)?;
         }
         Ok(())
     }
 
-    fn goes(&mut self, example: &Example) -> Result<bool, AllocError> {
+    fn goes(&mut self, example: &BoardExample) -> Result<bool, AllocError> {
         add_dispatchers(&mut self.board, example.dispatchers)?;
         self.bind_all(example.bindings)?;
         self.answers(example.rows)
     }
 }
 
-impl Row for Example {
+impl CheckedRow for BoardExample {
     fn holds(&self, alloc: Global) -> Result<bool, AllocError> {
         let board = Box::new(alloc, Board::new(alloc))?;
-        let mut rig = Rig {
+        let mut rig = BoardRig {
             alloc,
             board,
             queues: Vec::new(alloc),

@@ -1,6 +1,6 @@
 //! All tables.
 
-use crate::endpoint::{faults, forged, rows, sides};
+use crate::endpoint::{bytes, faults, forged, rows, sides, streams};
 use crate::tables::all_hold;
 use fl_endpoint::{
     law_accounts_add_up, law_bind_accounts, law_call_accounts, law_handles_in_order,
@@ -29,6 +29,8 @@ fn ends(rt: HostRuntime) -> Result<(), Fail> {
     laws();
     all_hold(rt.alloc(), "faults", faults::FAULTS)?;
     all_hold(rt.alloc(), "worked rows", rows::EXAMPLES)?;
+    all_hold(rt.alloc(), "ends over streams", streams::EXAMPLES)?;
     all_hold(rt.alloc(), "ends not bound at first", sides::EXAMPLES)?;
-    all_hold(rt.alloc(), "forged fragments", forged::EXAMPLES)
+    all_hold(rt.alloc(), "forged fragments", forged::EXAMPLES)?;
+    all_hold(rt.alloc(), "forged bytes", bytes::EXAMPLES)
 }

@@ -1,7 +1,7 @@
 //! Fragments that can't follow those before them, and memory refused where a call becomes whole.
 
-use crate::answers::Said;
-use crate::endpoint::pair::{Example, LogEntry, Step};
+use crate::answers::EndAnswer;
+use crate::endpoint::pair::{EndAction, EndStep, PairExample};
 use fl_base::{Circuit, Side};
 use std::alloc::Global;
 
@@ -19,136 +19,140 @@ const LAST: [u64; 7] = [0x61, 0, 0, 0, 0, 0, 0];
 const LONG: &[u8] = b"blob(\"aaaaaaaaaaaaaaaaaaaaaaaaaaaaaaaaaaaaaaaaaaaaaaaaa\")\n";
 
 // To a new end.
-const FORGED: &[&[Step]] = &[
+const FORGED: &[&[EndStep]] = &[
     &[(
         Side::Server,
-        LogEntry::Take(1, [0, 0, 0, 0, 0, 0, 0]),
-        Said::Refused(60),
+        EndAction::Take(1, [0, 0, 0, 0, 0, 0, 0]),
+        EndAnswer::Refused(60),
     )],
     &[(
         Side::Server,
-        LogEntry::Take(3, [2, 0, 0, 0, 0, 0, 0]),
-        Said::Refused(65),
+        EndAction::Take(3, [2, 0, 0, 0, 0, 0, 0]),
+        EndAnswer::Refused(65),
     )],
     &[(
         Side::Server,
-        LogEntry::Take(3, [1, 3, 0, 0, 0, 0, 0]),
-        Said::Refused(66),
+        EndAction::Take(3, [1, 3, 0, 0, 0, 0, 0]),
+        EndAnswer::Refused(66),
     )],
     &[(
         Side::Server,
-        LogEntry::Take(3, [257, 0, 0, 0, 0, 0, 0]),
-        Said::Refused(63),
+        EndAction::Take(3, [257, 0, 0, 0, 0, 0, 0]),
+        EndAnswer::Refused(63),
     )],
     &[(
         Side::Server,
-        LogEntry::Take(3, [1, 1, 0, 0, 0, 0, 0]),
-        Said::Refused(65),
+        EndAction::Take(3, [1, 1, 0, 0, 0, 0, 0]),
+        EndAnswer::Refused(65),
     )],
     &[(
         Side::Server,
-        LogEntry::Take(11, [0, 0, 0, 0, 0, 0, 0]),
-        Said::Refused(63),
+        EndAction::Take(11, [0, 0, 0, 0, 0, 0, 0]),
+        EndAnswer::Refused(63),
     )],
     &[(
         Side::Server,
-        LogEntry::Take(65_539, [0, 0, 0, 0, 0, 0, 0]),
-        Said::Refused(62),
+        EndAction::Take(65_539, [0, 0, 0, 0, 0, 0, 0]),
+        EndAnswer::Refused(62),
     )],
 ];
 
-const PART: Step = (Side::Server, LogEntry::Take(3, FIRST), Said::Part);
+const PART: EndStep = (Side::Server, EndAction::Take(3, FIRST), EndAnswer::Part);
 
 // Inside a call of two fragments.
-const INSIDE: &[&[Step]] = &[
+const INSIDE: &[&[EndStep]] = &[
     &[
         PART,
         (
             Side::Server,
-            LogEntry::Take(3, [0x61, 0, 0, 0, 0, 0, 0]),
-            Said::Refused(61),
+            EndAction::Take(3, [0x61, 0, 0, 0, 0, 0, 0]),
+            EndAnswer::Refused(61),
         ),
     ],
     &[
         PART,
         (
             Side::Server,
-            LogEntry::Take(65_537, [0x61, 0, 0, 0, 0, 0, 0]),
-            Said::Refused(62),
+            EndAction::Take(65_537, [0x61, 0, 0, 0, 0, 0, 0]),
+            EndAnswer::Refused(62),
         ),
     ],
     &[
         PART,
         (
             Side::Server,
-            LogEntry::Take(1, [0x6161, 0, 0, 0, 0, 0, 0]),
-            Said::Refused(63),
+            EndAction::Take(1, [0x6161, 0, 0, 0, 0, 0, 0]),
+            EndAnswer::Refused(63),
         ),
     ],
     &[
         PART,
         (
             Side::Server,
-            LogEntry::Take(1, [0, 0, 0, 0, 0, 0, 0]),
-            Said::Refused(65),
+            EndAction::Take(1, [0, 0, 0, 0, 0, 0, 0]),
+            EndAnswer::Refused(65),
         ),
     ],
 ];
 
 // A fragment that only acknowledges is of no call, also inside one.
-const QUIET: &[Step] = &[
+const QUIET: &[EndStep] = &[
     PART,
     (
         Side::Server,
-        LogEntry::Take(5, [0, 0, 0, 0, 0, 0, 0]),
-        Said::Quiet,
+        EndAction::Take(5, [0, 0, 0, 0, 0, 0, 0]),
+        EndAnswer::Quiet,
     ),
-    (Side::Server, LogEntry::Take(1, LAST), Said::Handled),
+    (Side::Server, EndAction::Take(1, LAST), EndAnswer::Handled),
 ];
 
-const HAS_FAILED: Said = Said::Seen(Some(Circuit(0)), [true, false, true, false]);
+const HAS_FAILED: EndAnswer = EndAnswer::Seen(Some(Circuit(0)), [true, false, true, false]);
 
 // An end that has failed answers E64 to a receive, a write, a look and a call.
-const RECEIVES: Step = (Side::Server, LogEntry::Receive, Said::Refused(64));
+const RECEIVES: EndStep = (Side::Server, EndAction::Receive, EndAnswer::Refused(64));
 
-const WRITES: Step = (Side::Server, LogEntry::Write, Said::Refused(64));
+const WRITES: EndStep = (Side::Server, EndAction::Write, EndAnswer::Refused(64));
 
-const SHOWS: Step = (Side::Server, LogEntry::Show, Said::Refused(64));
+const SHOWS: EndStep = (Side::Server, EndAction::Show, EndAnswer::Refused(64));
 
-pub const EXAMPLES: &[Example] = &[
-    Example {
+pub const EXAMPLES: &[PairExample] = &[
+    PairExample {
         text: SHORT,
         circuit: Some(Circuit(0)),
         size: 8,
         starts: FORGED,
         rows: &[
-            (Side::Server, LogEntry::Look, HAS_FAILED),
+            (Side::Server, EndAction::Look, HAS_FAILED),
             RECEIVES,
             WRITES,
             SHOWS,
             (
                 Side::Server,
-                LogEntry::Call(b"m(1, \"a\")"),
-                Said::Refused(64),
+                EndAction::Call(b"m(1, \"a\")"),
+                EndAnswer::Refused(64),
             ),
         ],
         handled: b"",
     },
-    Example {
+    PairExample {
         text: BLOB,
         circuit: Some(Circuit(0)),
         size: 8,
         starts: INSIDE,
         rows: &[
-            (Side::Server, LogEntry::Look, HAS_FAILED),
+            (Side::Server, EndAction::Look, HAS_FAILED),
             RECEIVES,
             WRITES,
             SHOWS,
-            (Side::Server, LogEntry::Call(b"nop()"), Said::Refused(64)),
+            (
+                Side::Server,
+                EndAction::Call(b"nop()"),
+                EndAnswer::Refused(64),
+            ),
         ],
         handled: b"",
     },
-    Example {
+    PairExample {
         text: BLOB,
         circuit: Some(Circuit(0)),
         size: 8,
@@ -159,18 +163,18 @@ pub const EXAMPLES: &[Example] = &[
 ];
 
 // Both fragments of a call, of which the first is taken.
-const HALF_TAKEN: &[Step] = &[
-    (Side::Server, LogEntry::Put(3, FIRST), Said::Done),
-    (Side::Server, LogEntry::Put(1, LAST), Said::Done),
-    (Side::Server, LogEntry::Receive, Said::Part),
+const HALF_TAKEN: &[EndStep] = &[
+    (Side::Server, EndAction::Put(3, FIRST), EndAnswer::Done),
+    (Side::Server, EndAction::Put(1, LAST), EndAnswer::Done),
+    (Side::Server, EndAction::Receive, EndAnswer::Part),
 ];
 
 /// A call that becomes whole at last.
-pub const AT_LAST: Example = Example {
+pub const AT_LAST: PairExample = PairExample {
     text: BLOB,
     circuit: Some(Circuit(0)),
     size: 8,
     starts: &[HALF_TAKEN],
-    rows: &[(Side::Server, LogEntry::ReceiveAtLast, Said::Handled)],
+    rows: &[(Side::Server, EndAction::ReceiveAtLast, EndAnswer::Handled)],
     handled: LONG,
 };

@@ -3,10 +3,10 @@
 ghost use Rattle.std.specs.Prelude.{◌≡◌};
 
 use crate::answers::{
-    Said, make_end, make_queue, print, put, said_of, said_of_show, said_of_write,
+    EndAnswer, make_end, make_queue, print, put, said_of, said_of_show, said_of_write,
 };
 use crate::endpoint::sides::Refusing;
-use crate::tables::Row;
+use crate::tables::CheckedRow;
 use crate::texts::program;
 use fl_base::{Circuit, MsgNo, Side};
 use fl_endpoint::{End, ReceiveAnswer};
@@ -19,7 +19,7 @@ use std::marker::Model;
 
 /// What is done at an end.
 #[derive(Clone, Copy)]
-pub enum LogEntry {
+pub enum EndAction {
     /// A call by its text, read by the interface of the ends.
     Call(&'static [u8]),
     /// Such a call, and a write.
@@ -46,33 +46,33 @@ pub enum LogEntry {
     Count,
 }
 
-/// A log entry at an end, and what the end answers.
-pub type Step = (Side, LogEntry, Said);
+/// An action at an end, and what the end answers.
+pub type EndStep = (Side, EndAction, EndAnswer);
 
 /// What the ends of a new binding answer under both plans, and the texts of the calls that they handle, a line each.
 #[derive(Clone, Copy)]
-pub struct Example {
+pub struct PairExample {
     pub text: &'static [u8],
     /// That of both ends; none where they aren't bound yet.
     pub circuit: Option<Circuit>,
     /// How many fragments there is room for each way.
     pub size: usize,
     /// How it begins: each of these is tried with a new binding.
-    pub starts: &'static [&'static [Step]],
+    pub starts: &'static [&'static [EndStep]],
     /// How each goes on.
-    pub rows: &'static [Step],
+    pub rows: &'static [EndStep],
     pub handled: &'static [u8],
 }
 
 // An end, with the place of the calls that come to it, and the queue that it puts to.
 #[derive(Drop)]
-struct Half {
+struct QueueHalf {
     end: End,
     calls: Reassemblies,
     out: QueueLink,
 }
 
-impl Model for Half {
+impl Model for QueueHalf {
     ghost use Rattle.std.specs.Coded.{codes};
     ghost use Rattle.fl_compile.specs.contracts.program.Program.{the_row};
     ghost use Rattle.fl_endpoint.specs.View.{TheEnd};
@@ -91,18 +91,22 @@ impl Model for Half {
 #[derive(Drop)]
 struct Pair {
     alloc: Global,
-    client: Box<Half>,
-    server: Box<Half>,
+    client: Box<QueueHalf>,
+    server: Box<QueueHalf>,
     handled: Vec<u8>,
 }
 
-fn half_of(alloc: Global, end: End, out: QueueLink) -> Result<Box<Half>, AllocError> {
+fn half_of(alloc: Global, end: End, out: QueueLink) -> Result<Box<QueueHalf>, AllocError> {
     let mut calls = Reassemblies::new(alloc);
     end.add_place(&mut calls)?;
-    Ok(Box::new(alloc, Half { end, calls, out })?)
+    Ok(Box::new(alloc, QueueHalf { end, calls, out })?)
 }
 
-fn make_half(alloc: Global, plan: PlanNo, example: &Example) -> Result<Box<Half>, AllocError> {
+fn make_half(
+    alloc: Global,
+    plan: PlanNo,
+    example: &PairExample,
+) -> Result<Box<QueueHalf>, AllocError> {
     let end = make_end(alloc, example.text, plan, example.circuit)?;
     match make_queue(alloc, example.size, false) {
         Ok(out) => half_of(alloc, end, out),
@@ -111,16 +115,17 @@ fn make_half(alloc: Global, plan: PlanNo, example: &Example) -> Result<Box<Half>
 }
 
 // A call as it was read.
-fn say(alloc: Global, end: &mut End, read: Result<Call, ValueFault>) -> Said
+fn say(alloc: Global, end: &mut End, read: Result<Call, ValueFault>) -> EndAnswer
     ensures program { end.new.program ≡ end.old.program }
 {
     match read {
         Ok(call) => said_of(end.call(&call, &mut Vec::new(alloc))),
-        Err(_) => Said::Refused(90),
+        Err(_) => EndAnswer::Refused(90),
     }
 }
 
-fn call(alloc: Global, end: &mut End, text: &[u8]) -> Said
+/// What an end answers to the call of a text.
+pub fn call(alloc: Global, end: &mut End, text: &[u8]) -> EndAnswer
     ensures program { end.new.program ≡ end.old.program }
 {
     let read = read_call(alloc, text, end.program().interface());
@@ -128,7 +133,7 @@ fn call(alloc: Global, end: &mut End, text: &[u8]) -> Said
 }
 
 // The same, read by the interface of another text.
-fn call_by(alloc: Global, end: &mut End, other: &[u8], text: &[u8]) -> Result<Said, AllocError>
+fn call_by(alloc: Global, end: &mut End, other: &[u8], text: &[u8]) -> Result<EndAnswer, AllocError>
     ensures program { end.new.program ≡ end.old.program }
 {
     let program = program(alloc, other, PlanNo::Two)?;
@@ -142,45 +147,45 @@ fn handle(
     handled: &mut Vec<u8>,
     end: &End,
     call: &Call,
-) -> Result<Said, AllocError> {
+) -> Result<EndAnswer, AllocError> {
     print(alloc, handled, end, call)?;
     handled.push(b'\n')?;
-    Ok(Said::Handled)
+    Ok(EndAnswer::Handled)
 }
 
 // What an end answers that takes no memory.
-fn ask(end: &mut End, log_entry: &LogEntry) -> Said
+fn ask(end: &mut End, action: &EndAction) -> EndAnswer
     ensures program { end.new.program ≡ end.old.program }
 {
-    match *log_entry {
-        LogEntry::Rule(msg, reply) => said_of(end.reply_rule(msg, reply)),
-        LogEntry::RuleFor(msg) => Said::Rule(end.rule_for(msg)),
-        LogEntry::ShowRefused(fault) => said_of_show(end.show(&Refusing(fault))),
-        LogEntry::WriteRefused(fault) => said_of_write(end.write(&mut Refusing(fault))),
-        LogEntry::Bind(circuit) => {
+    match *action {
+        EndAction::Rule(msg, reply) => said_of(end.reply_rule(msg, reply)),
+        EndAction::RuleFor(msg) => EndAnswer::Rule(end.rule_for(msg)),
+        EndAction::ShowRefused(fault) => said_of_show(end.show(&Refusing(fault))),
+        EndAction::WriteRefused(fault) => said_of_write(end.write(&mut Refusing(fault))),
+        EndAction::Bind(circuit) => {
             end.bind(circuit);
-            Said::Done
+            EndAnswer::Done
         }
-        LogEntry::Look => {
+        EndAction::Look => {
             let is = [
                 end.is_bound(),
                 end.is_busy(),
                 end.is_failed(),
                 end.has_rules(),
             ];
-            Said::Seen(end.circuit(), is)
+            EndAnswer::Seen(end.circuit(), is)
         }
-        _ => Said::Counts(
+        _ => EndAnswer::Counts(
             end.replies_waiting(),
             end.program().interface().messages.len(),
         ),
     }
 }
 
-impl Half {
-    fn send(&mut self, alloc: Global, text: &[u8]) -> Said {
+impl QueueHalf {
+    fn send(&mut self, alloc: Global, text: &[u8]) -> EndAnswer {
         let said = call(alloc, &mut self.end, text);
-        if said != Said::Done {
+        if said != EndAnswer::Done {
             return said;
         }
         said_of_write(self.end.write(&mut self.out))
@@ -191,14 +196,14 @@ impl Half {
         alloc: Global,
         from: &mut QueueLink,
         handled: &mut Vec<u8>,
-    ) -> Result<Said, AllocError> {
+    ) -> Result<EndAnswer, AllocError> {
         match self.end.receive(from, &mut self.calls, 0) {
             Ok(ReceiveAnswer::Handle(call)) => handle(alloc, handled, &self.end, &call),
-            Ok(ReceiveAnswer::Part) => Ok(Said::Part),
-            Ok(ReceiveAnswer::Quiet) => Ok(Said::Quiet),
-            Ok(ReceiveAnswer::Empty) => Ok(Said::Empty),
-            Ok(ReceiveAnswer::HeldBack) => Ok(Said::HeldBack),
-            Err(fault) => Ok(Said::Refused(fault.number())),
+            Ok(ReceiveAnswer::Part) => Ok(EndAnswer::Part),
+            Ok(ReceiveAnswer::Quiet) => Ok(EndAnswer::Quiet),
+            Ok(ReceiveAnswer::Empty) => Ok(EndAnswer::Empty),
+            Ok(ReceiveAnswer::HeldBack) => Ok(EndAnswer::HeldBack),
+            Err(fault) => Ok(EndAnswer::Refused(fault.number())),
         }
     }
 
@@ -207,9 +212,9 @@ impl Half {
         alloc: Global,
         from: &mut QueueLink,
         handled: &mut Vec<u8>,
-    ) -> Result<Said, AllocError> {
+    ) -> Result<EndAnswer, AllocError> {
         match self.receive(alloc, from, handled) {
-            Ok(Said::Refused(99)) => self.receive(alloc, from, handled),
+            Ok(EndAnswer::Refused(99)) => self.receive(alloc, from, handled),
             said => said,
         }
     }
@@ -217,30 +222,30 @@ impl Half {
     fn answer(
         &mut self,
         alloc: Global,
-        log_entry: &LogEntry,
+        action: &EndAction,
         from: &mut QueueLink,
         handled: &mut Vec<u8>,
-    ) -> Result<Said, AllocError> {
-        match log_entry {
-            LogEntry::Call(text) => Ok(call(alloc, &mut self.end, text)),
-            LogEntry::Send(text) => Ok(self.send(alloc, text)),
-            LogEntry::CallBy(other, text) => call_by(alloc, &mut self.end, other, text),
-            LogEntry::Show => Ok(said_of_show(self.end.show(&self.out))),
-            LogEntry::Write => Ok(said_of_write(self.end.write(&mut self.out))),
-            LogEntry::Receive => self.receive(alloc, from, handled),
-            LogEntry::ReceiveAtLast => self.receive_at_last(alloc, from, handled),
-            LogEntry::Put(control, words) => Ok(put(from, *control, words)),
-            LogEntry::Take(control, words) => {
+    ) -> Result<EndAnswer, AllocError> {
+        match action {
+            EndAction::Call(text) => Ok(call(alloc, &mut self.end, text)),
+            EndAction::Send(text) => Ok(self.send(alloc, text)),
+            EndAction::CallBy(other, text) => call_by(alloc, &mut self.end, other, text),
+            EndAction::Show => Ok(said_of_show(self.end.show(&self.out))),
+            EndAction::Write => Ok(said_of_write(self.end.write(&mut self.out))),
+            EndAction::Receive => self.receive(alloc, from, handled),
+            EndAction::ReceiveAtLast => self.receive_at_last(alloc, from, handled),
+            EndAction::Put(control, words) => Ok(put(from, *control, words)),
+            EndAction::Take(control, words) => {
                 put(from, *control, words);
                 self.receive(alloc, from, handled)
             }
-            _ => Ok(ask(&mut self.end, log_entry)),
+            _ => Ok(ask(&mut self.end, action)),
         }
     }
 }
 
 impl Pair {
-    fn new(alloc: Global, plan: PlanNo, example: &Example) -> Result<Pair, AllocError> {
+    fn new(alloc: Global, plan: PlanNo, example: &PairExample) -> Result<Pair, AllocError> {
         Ok(Pair {
             alloc,
             client: make_half(alloc, plan, example)?,
@@ -249,28 +254,18 @@ impl Pair {
         })
     }
 
-    fn answer(&mut self, side: Side, log_entry: &LogEntry) -> Result<Said, AllocError> {
+    fn answer(&mut self, side: Side, action: &EndAction) -> Result<EndAnswer, AllocError> {
         let (client, server) = (&mut self.client, &mut self.server);
         match side {
-            Side::Client => client.answer(
-                self.alloc,
-                log_entry,
-                &mut server.out,
-                &mut self.handled,
-            ),
-            Side::Server => server.answer(
-                self.alloc,
-                log_entry,
-                &mut client.out,
-                &mut self.handled,
-            ),
+            Side::Client => client.answer(self.alloc, action, &mut server.out, &mut self.handled),
+            Side::Server => server.answer(self.alloc, action, &mut client.out, &mut self.handled),
         }
     }
 
-    // Whether the ends answer so to log entries, one after another.
-    fn answers(&mut self, rows: &[Step]) -> Result<bool, AllocError> {
-        for (side, log_entry, said) in rows {
-            if self.answer(*side, log_entry)? != *said {
+    // Whether the ends answer so to actions, one after another.
+    fn answers(&mut self, rows: &[EndStep]) -> Result<bool, AllocError> {
+        for (side, action, said) in rows {
+            if self.answer(*side, action)? != *said {
                 return Ok(false);
             }
         }
@@ -281,7 +276,7 @@ impl Pair {
         self.handled.as_slice() == text
     }
 
-    fn goes(&mut self, example: &Example, start: &[Step]) -> Result<bool, AllocError> {
+    fn goes(&mut self, example: &PairExample, start: &[EndStep]) -> Result<bool, AllocError> {
         if !self.answers(start)? || !self.answers(example.rows)? {
             return Ok(false);
         }
@@ -293,14 +288,14 @@ impl Pair {
 fn goes(
     alloc: Global,
     plan: PlanNo,
-    example: &Example,
-    start: &[Step],
+    example: &PairExample,
+    start: &[EndStep],
 ) -> Result<bool, AllocError> {
     let mut pair = Pair::new(alloc, plan, example)?;
     pair.goes(example, start)
 }
 
-impl Row for Example {
+impl CheckedRow for PairExample {
     fn holds(&self, alloc: Global) -> Result<bool, AllocError> {
         for start in self.starts {
             if !goes(alloc, PlanNo::One, self, start)? || !goes(alloc, PlanNo::Two, self, start)? {

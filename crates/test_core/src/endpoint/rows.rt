@@ -1,7 +1,7 @@
 //! Worked examples between the two ends of a binding.
 
-use crate::answers::Said;
-use crate::endpoint::pair::{Example, LogEntry, Step};
+use crate::answers::EndAnswer;
+use crate::endpoint::pair::{EndAction, EndStep, PairExample};
 use fl_base::{Circuit, MsgNo, Side};
 
 const PING: &[u8] = b"interface i { message ping(uint32 v); }";
@@ -15,167 +15,183 @@ const ECHO: &[u8] = b"interface i { rpc echo(in uint32 x, out uint32 y); }";
 const LONG: &[u8] = b"blob(\"aaaaaaaaaaaaaaaaaaaaaaaaaaaaaaaaaaaaaaaaaaaaaaaaa\")";
 
 // What is shown: control words of a first fragment, on circuit 0 and with epoch 1.
-const ONE_CALL: &[Step] = &[
-    (Side::Client, LogEntry::Call(b"ping(7)"), Said::Done),
+const ONE_CALL: &[EndStep] = &[
+    (Side::Client, EndAction::Call(b"ping(7)"), EndAnswer::Done),
     (
         Side::Client,
-        LogEntry::Show,
-        Said::Shown(3, [7, 0, 0, 0, 0, 0, 0]),
+        EndAction::Show,
+        EndAnswer::Shown(3, [7, 0, 0, 0, 0, 0, 0]),
     ),
-    (Side::Client, LogEntry::Write, Said::Written(1, 1)),
-    (Side::Server, LogEntry::Receive, Said::Handled),
-    (Side::Server, LogEntry::Receive, Said::Empty),
-    (Side::Client, LogEntry::Show, Said::Nothing),
-    (Side::Client, LogEntry::Write, Said::Nothing),
+    (Side::Client, EndAction::Write, EndAnswer::Written(1, 1)),
+    (Side::Server, EndAction::Receive, EndAnswer::Handled),
+    (Side::Server, EndAction::Receive, EndAnswer::Empty),
+    (Side::Client, EndAction::Show, EndAnswer::Nothing),
+    (Side::Client, EndAction::Write, EndAnswer::Nothing),
 ];
 
-const NO_ARGUMENTS: &[Step] = &[
-    (Side::Client, LogEntry::Call(b"nop()"), Said::Done),
+const NO_ARGUMENTS: &[EndStep] = &[
+    (Side::Client, EndAction::Call(b"nop()"), EndAnswer::Done),
     (
         Side::Client,
-        LogEntry::Show,
-        Said::Shown(3, [0, 0, 0, 0, 0, 0, 0]),
+        EndAction::Show,
+        EndAnswer::Shown(3, [0, 0, 0, 0, 0, 0, 0]),
     ),
-    (Side::Client, LogEntry::Write, Said::Written(1, 1)),
-    (Side::Server, LogEntry::Receive, Said::Handled),
+    (Side::Client, EndAction::Write, EndAnswer::Written(1, 1)),
+    (Side::Server, EndAction::Receive, EndAnswer::Handled),
 ];
 
-const TWO_FRAGMENTS: &[Step] = &[
-    (Side::Client, LogEntry::Call(LONG), Said::Done),
-    (Side::Client, LogEntry::Write, Said::Written(1, 2)),
+const TWO_FRAGMENTS: &[EndStep] = &[
+    (Side::Client, EndAction::Call(LONG), EndAnswer::Done),
+    (Side::Client, EndAction::Write, EndAnswer::Written(1, 2)),
     (
         Side::Client,
-        LogEntry::Call(b"blob(\"x\")"),
-        Said::Refused(40),
+        EndAction::Call(b"blob(\"x\")"),
+        EndAnswer::Refused(40),
     ),
-    (Side::Server, LogEntry::Receive, Said::Part),
-    (Side::Client, LogEntry::Write, Said::Written(2, 2)),
-    (Side::Client, LogEntry::Call(b"blob(\"x\")"), Said::Done),
-    (Side::Server, LogEntry::Receive, Said::Handled),
+    (Side::Server, EndAction::Receive, EndAnswer::Part),
+    (Side::Client, EndAction::Write, EndAnswer::Written(2, 2)),
+    (
+        Side::Client,
+        EndAction::Call(b"blob(\"x\")"),
+        EndAnswer::Done,
+    ),
+    (Side::Server, EndAction::Receive, EndAnswer::Handled),
 ];
 
 // A queue of one fragment: the second is put once the first is taken.
-const FULL: &[Step] = &[
-    (Side::Server, LogEntry::Call(LONG), Said::Done),
-    (Side::Server, LogEntry::Write, Said::Written(1, 2)),
-    (Side::Server, LogEntry::Write, Said::Full),
-    (Side::Client, LogEntry::Receive, Said::Part),
-    (Side::Server, LogEntry::Write, Said::Written(2, 2)),
-    (Side::Client, LogEntry::Receive, Said::Handled),
+const FULL: &[EndStep] = &[
+    (Side::Server, EndAction::Call(LONG), EndAnswer::Done),
+    (Side::Server, EndAction::Write, EndAnswer::Written(1, 2)),
+    (Side::Server, EndAction::Write, EndAnswer::Full),
+    (Side::Client, EndAction::Receive, EndAnswer::Part),
+    (Side::Server, EndAction::Write, EndAnswer::Written(2, 2)),
+    (Side::Client, EndAction::Receive, EndAnswer::Handled),
 ];
 
-const REPLY: &[Step] = &[
-    (Side::Server, LogEntry::Rule(MsgNo(0), MsgNo(1)), Said::Done),
-    (Side::Client, LogEntry::Call(b"echo_call(9)"), Said::Done),
-    (Side::Client, LogEntry::Write, Said::Written(1, 1)),
-    (Side::Server, LogEntry::Receive, Said::Handled),
+const REPLY: &[EndStep] = &[
     (
         Side::Server,
-        LogEntry::Show,
-        Said::Shown(0x1_0003, [9, 0, 0, 0, 0, 0, 0]),
+        EndAction::Rule(MsgNo(0), MsgNo(1)),
+        EndAnswer::Done,
     ),
-    (Side::Server, LogEntry::Write, Said::Written(1, 1)),
-    (Side::Client, LogEntry::Receive, Said::Handled),
+    (
+        Side::Client,
+        EndAction::Call(b"echo_call(9)"),
+        EndAnswer::Done,
+    ),
+    (Side::Client, EndAction::Write, EndAnswer::Written(1, 1)),
+    (Side::Server, EndAction::Receive, EndAnswer::Handled),
+    (
+        Side::Server,
+        EndAction::Show,
+        EndAnswer::Shown(0x1_0003, [9, 0, 0, 0, 0, 0, 0]),
+    ),
+    (Side::Server, EndAction::Write, EndAnswer::Written(1, 1)),
+    (Side::Client, EndAction::Receive, EndAnswer::Handled),
 ];
 
-const RULE: &[Step] = &[(Side::Server, LogEntry::Rule(MsgNo(0), MsgNo(1)), Said::Done)];
+const RULE: &[EndStep] = &[(
+    Side::Server,
+    EndAction::Rule(MsgNo(0), MsgNo(1)),
+    EndAnswer::Done,
+)];
 
-const HANDLED: Step = (Side::Server, LogEntry::Receive, Said::Handled);
+const HANDLED: EndStep = (Side::Server, EndAction::Receive, EndAnswer::Handled);
 
-const SIXTEEN_WAIT: Step = (Side::Server, LogEntry::Count, Said::Counts(16, 2));
+const SIXTEEN_WAIT: EndStep = (Side::Server, EndAction::Count, EndAnswer::Counts(16, 2));
 
 // Eighteen calls are made and written, of which seventeen are handled: one reply is in transmission then, and 16 wait. No fragment is looked
 // at while they do. A write makes room for one, and the first that waited is in transmission.
-const HELD_BACK: &[Step] = &[
+const HELD_BACK: &[EndStep] = &[
     (
         Side::Client,
-        LogEntry::Send(b"echo_call(1)"),
-        Said::Written(1, 1),
+        EndAction::Send(b"echo_call(1)"),
+        EndAnswer::Written(1, 1),
     ),
     (
         Side::Client,
-        LogEntry::Send(b"echo_call(2)"),
-        Said::Written(1, 1),
+        EndAction::Send(b"echo_call(2)"),
+        EndAnswer::Written(1, 1),
     ),
     (
         Side::Client,
-        LogEntry::Send(b"echo_call(3)"),
-        Said::Written(1, 1),
+        EndAction::Send(b"echo_call(3)"),
+        EndAnswer::Written(1, 1),
     ),
     (
         Side::Client,
-        LogEntry::Send(b"echo_call(4)"),
-        Said::Written(1, 1),
+        EndAction::Send(b"echo_call(4)"),
+        EndAnswer::Written(1, 1),
     ),
     (
         Side::Client,
-        LogEntry::Send(b"echo_call(5)"),
-        Said::Written(1, 1),
+        EndAction::Send(b"echo_call(5)"),
+        EndAnswer::Written(1, 1),
     ),
     (
         Side::Client,
-        LogEntry::Send(b"echo_call(6)"),
-        Said::Written(1, 1),
+        EndAction::Send(b"echo_call(6)"),
+        EndAnswer::Written(1, 1),
     ),
     (
         Side::Client,
-        LogEntry::Send(b"echo_call(7)"),
-        Said::Written(1, 1),
+        EndAction::Send(b"echo_call(7)"),
+        EndAnswer::Written(1, 1),
     ),
     (
         Side::Client,
-        LogEntry::Send(b"echo_call(8)"),
-        Said::Written(1, 1),
+        EndAction::Send(b"echo_call(8)"),
+        EndAnswer::Written(1, 1),
     ),
     (
         Side::Client,
-        LogEntry::Send(b"echo_call(9)"),
-        Said::Written(1, 1),
+        EndAction::Send(b"echo_call(9)"),
+        EndAnswer::Written(1, 1),
     ),
     (
         Side::Client,
-        LogEntry::Send(b"echo_call(10)"),
-        Said::Written(1, 1),
+        EndAction::Send(b"echo_call(10)"),
+        EndAnswer::Written(1, 1),
     ),
     (
         Side::Client,
-        LogEntry::Send(b"echo_call(11)"),
-        Said::Written(1, 1),
+        EndAction::Send(b"echo_call(11)"),
+        EndAnswer::Written(1, 1),
     ),
     (
         Side::Client,
-        LogEntry::Send(b"echo_call(12)"),
-        Said::Written(1, 1),
+        EndAction::Send(b"echo_call(12)"),
+        EndAnswer::Written(1, 1),
     ),
     (
         Side::Client,
-        LogEntry::Send(b"echo_call(13)"),
-        Said::Written(1, 1),
+        EndAction::Send(b"echo_call(13)"),
+        EndAnswer::Written(1, 1),
     ),
     (
         Side::Client,
-        LogEntry::Send(b"echo_call(14)"),
-        Said::Written(1, 1),
+        EndAction::Send(b"echo_call(14)"),
+        EndAnswer::Written(1, 1),
     ),
     (
         Side::Client,
-        LogEntry::Send(b"echo_call(15)"),
-        Said::Written(1, 1),
+        EndAction::Send(b"echo_call(15)"),
+        EndAnswer::Written(1, 1),
     ),
     (
         Side::Client,
-        LogEntry::Send(b"echo_call(16)"),
-        Said::Written(1, 1),
+        EndAction::Send(b"echo_call(16)"),
+        EndAnswer::Written(1, 1),
     ),
     (
         Side::Client,
-        LogEntry::Send(b"echo_call(17)"),
-        Said::Written(1, 1),
+        EndAction::Send(b"echo_call(17)"),
+        EndAnswer::Written(1, 1),
     ),
     (
         Side::Client,
-        LogEntry::Send(b"echo_call(18)"),
-        Said::Written(1, 1),
+        EndAction::Send(b"echo_call(18)"),
+        EndAnswer::Written(1, 1),
     ),
     HANDLED,
     HANDLED,
@@ -195,21 +211,21 @@ const HELD_BACK: &[Step] = &[
     HANDLED,
     HANDLED,
     SIXTEEN_WAIT,
-    (Side::Server, LogEntry::Receive, Said::HeldBack),
+    (Side::Server, EndAction::Receive, EndAnswer::HeldBack),
     (
         Side::Server,
-        LogEntry::Show,
-        Said::Shown(0x1_0003, [1, 0, 0, 0, 0, 0, 0]),
+        EndAction::Show,
+        EndAnswer::Shown(0x1_0003, [1, 0, 0, 0, 0, 0, 0]),
     ),
-    (Side::Server, LogEntry::Write, Said::Written(1, 1)),
+    (Side::Server, EndAction::Write, EndAnswer::Written(1, 1)),
     (
         Side::Server,
-        LogEntry::Show,
-        Said::Shown(0x1_0003, [2, 0, 0, 0, 0, 0, 0]),
+        EndAction::Show,
+        EndAnswer::Shown(0x1_0003, [2, 0, 0, 0, 0, 0, 0]),
     ),
-    (Side::Server, LogEntry::Receive, Said::Handled),
-    (Side::Server, LogEntry::Receive, Said::HeldBack),
-    (Side::Client, LogEntry::Receive, Said::Handled),
+    (Side::Server, EndAction::Receive, EndAnswer::Handled),
+    (Side::Server, EndAction::Receive, EndAnswer::HeldBack),
+    (Side::Client, EndAction::Receive, EndAnswer::Handled),
     SIXTEEN_WAIT,
 ];
 
@@ -221,35 +237,43 @@ echo_call(13)\necho_call(14)\necho_call(15)\necho_call(16)\necho_call(17)\necho_
 const RULES: &[u8] =
     b"interface i { message a(uint8 x); message b(uint8 y); message c(uint16 x); message d(uint8 z); }";
 
-const LATER_RULE: &[Step] = &[
+const LATER_RULE: &[EndStep] = &[
     (
         Side::Server,
-        LogEntry::Rule(MsgNo(0), MsgNo(4)),
-        Said::Refused(41),
+        EndAction::Rule(MsgNo(0), MsgNo(4)),
+        EndAnswer::Refused(41),
     ),
     (
         Side::Server,
-        LogEntry::Rule(MsgNo(4), MsgNo(0)),
-        Said::Refused(41),
+        EndAction::Rule(MsgNo(4), MsgNo(0)),
+        EndAnswer::Refused(41),
     ),
     (
         Side::Server,
-        LogEntry::Rule(MsgNo(0), MsgNo(2)),
-        Said::Refused(42),
+        EndAction::Rule(MsgNo(0), MsgNo(2)),
+        EndAnswer::Refused(42),
     ),
-    (Side::Server, LogEntry::Rule(MsgNo(0), MsgNo(1)), Said::Done),
-    (Side::Server, LogEntry::Rule(MsgNo(0), MsgNo(3)), Said::Done),
-    (Side::Client, LogEntry::Call(b"a(5)"), Said::Done),
-    (Side::Client, LogEntry::Write, Said::Written(1, 1)),
-    (Side::Server, LogEntry::Receive, Said::Handled),
-    (Side::Server, LogEntry::Write, Said::Written(1, 1)),
-    (Side::Client, LogEntry::Receive, Said::Handled),
+    (
+        Side::Server,
+        EndAction::Rule(MsgNo(0), MsgNo(1)),
+        EndAnswer::Done,
+    ),
+    (
+        Side::Server,
+        EndAction::Rule(MsgNo(0), MsgNo(3)),
+        EndAnswer::Done,
+    ),
+    (Side::Client, EndAction::Call(b"a(5)"), EndAnswer::Done),
+    (Side::Client, EndAction::Write, EndAnswer::Written(1, 1)),
+    (Side::Server, EndAction::Receive, EndAnswer::Handled),
+    (Side::Server, EndAction::Write, EndAnswer::Written(1, 1)),
+    (Side::Client, EndAction::Receive, EndAnswer::Handled),
 ];
 
 const LONG_LINE: &[u8] = b"blob(\"aaaaaaaaaaaaaaaaaaaaaaaaaaaaaaaaaaaaaaaaaaaaaaaaa\")\n";
 
-pub const EXAMPLES: &[Example] = &[
-    Example {
+pub const EXAMPLES: &[PairExample] = &[
+    PairExample {
         text: PING,
         circuit: Some(Circuit(0)),
         size: 4,
@@ -257,7 +281,7 @@ pub const EXAMPLES: &[Example] = &[
         rows: &[],
         handled: b"ping(7)\n",
     },
-    Example {
+    PairExample {
         text: NOP,
         circuit: Some(Circuit(0)),
         size: 1,
@@ -265,7 +289,7 @@ pub const EXAMPLES: &[Example] = &[
         rows: &[],
         handled: b"nop()\n",
     },
-    Example {
+    PairExample {
         text: BLOB,
         circuit: Some(Circuit(0)),
         size: 4,
@@ -273,7 +297,7 @@ pub const EXAMPLES: &[Example] = &[
         rows: &[],
         handled: LONG_LINE,
     },
-    Example {
+    PairExample {
         text: BLOB,
         circuit: Some(Circuit(0)),
         size: 1,
@@ -281,7 +305,7 @@ pub const EXAMPLES: &[Example] = &[
         rows: &[],
         handled: LONG_LINE,
     },
-    Example {
+    PairExample {
         text: ECHO,
         circuit: Some(Circuit(0)),
         size: 4,
@@ -289,7 +313,7 @@ pub const EXAMPLES: &[Example] = &[
         rows: &[],
         handled: b"echo_call(9)\necho_response(9)\n",
     },
-    Example {
+    PairExample {
         text: ECHO,
         circuit: Some(Circuit(0)),
         size: 32,
@@ -297,7 +321,7 @@ pub const EXAMPLES: &[Example] = &[
         rows: HELD_BACK,
         handled: ECHOES,
     },
-    Example {
+    PairExample {
         text: RULES,
         circuit: Some(Circuit(0)),
         size: 4,

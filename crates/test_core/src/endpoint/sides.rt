@@ -2,8 +2,8 @@
 
 ghost use Rattle.std.specs.Prelude.{true};
 
-use crate::answers::Said;
-use crate::endpoint::pair::{Example, LogEntry, Step};
+use crate::answers::EndAnswer;
+use crate::endpoint::pair::{EndAction, EndStep, PairExample};
 use fl_base::{Circuit, Frag, MsgNo, Side};
 use fl_link::{PutFault, PutSide};
 
@@ -15,90 +15,102 @@ const WIDER: &[u8] = b"interface i { message ping(uint64 v); message pong(uint32
 const TEXT: &[u8] = b"interface i { message ping(string s); }";
 
 // E41 and E42 come before E43, and a rule may be set.
-const UNBOUND: &[Step] = &[
+const UNBOUND: &[EndStep] = &[
     (
         Side::Client,
-        LogEntry::Look,
-        Said::Seen(None, [false, false, false, false]),
+        EndAction::Look,
+        EndAnswer::Seen(None, [false, false, false, false]),
     ),
     (
         Side::Client,
-        LogEntry::CallBy(WIDER, b"pong(1)"),
-        Said::Refused(41),
+        EndAction::CallBy(WIDER, b"pong(1)"),
+        EndAnswer::Refused(41),
     ),
     (
         Side::Client,
-        LogEntry::CallBy(WIDER, b"ping(4294967296)"),
-        Said::Refused(42),
+        EndAction::CallBy(WIDER, b"ping(4294967296)"),
+        EndAnswer::Refused(42),
     ),
     (
         Side::Client,
-        LogEntry::CallBy(TEXT, b"ping(\"x\")"),
-        Said::Refused(42),
-    ),
-    (Side::Client, LogEntry::Call(b"ping(1)"), Said::Refused(43)),
-    (Side::Client, LogEntry::Write, Said::Refused(43)),
-    (Side::Client, LogEntry::Show, Said::Refused(43)),
-    (Side::Client, LogEntry::Receive, Said::Refused(43)),
-    (Side::Client, LogEntry::Rule(MsgNo(0), MsgNo(0)), Said::Done),
-    (
-        Side::Client,
-        LogEntry::Look,
-        Said::Seen(None, [false, false, false, true]),
+        EndAction::CallBy(TEXT, b"ping(\"x\")"),
+        EndAnswer::Refused(42),
     ),
     (
         Side::Client,
-        LogEntry::RuleFor(MsgNo(0)),
-        Said::Rule(Some(MsgNo(0))),
+        EndAction::Call(b"ping(1)"),
+        EndAnswer::Refused(43),
     ),
-    (Side::Client, LogEntry::RuleFor(MsgNo(1)), Said::Rule(None)),
+    (Side::Client, EndAction::Write, EndAnswer::Refused(43)),
+    (Side::Client, EndAction::Show, EndAnswer::Refused(43)),
+    (Side::Client, EndAction::Receive, EndAnswer::Refused(43)),
+    (
+        Side::Client,
+        EndAction::Rule(MsgNo(0), MsgNo(0)),
+        EndAnswer::Done,
+    ),
+    (
+        Side::Client,
+        EndAction::Look,
+        EndAnswer::Seen(None, [false, false, false, true]),
+    ),
+    (
+        Side::Client,
+        EndAction::RuleFor(MsgNo(0)),
+        EndAnswer::Rule(Some(MsgNo(0))),
+    ),
+    (
+        Side::Client,
+        EndAction::RuleFor(MsgNo(1)),
+        EndAnswer::Rule(None),
+    ),
 ];
 
-const BUSY_ON_5: Said = Said::Seen(Some(Circuit(5)), [true, true, false, true]);
+const BUSY_ON_5: EndAnswer = EndAnswer::Seen(Some(Circuit(5)), [true, true, false, true]);
 
-const SHOWN_ON_5: Said = Said::Shown(0x0005_0000_0003, [7, 0, 0, 0, 0, 0, 0]);
+const SHOWN_ON_5: EndAnswer = EndAnswer::Shown(0x0005_0000_0003, [7, 0, 0, 0, 0, 0, 0]);
 
 // Once it is bound: a second binding changes nothing.
-const BOUND: &[Step] = &[
-    (Side::Client, LogEntry::Bind(Circuit(5)), Said::Done),
-    (Side::Client, LogEntry::Bind(Circuit(6)), Said::Done),
-    (Side::Client, LogEntry::Call(b"ping(7)"), Said::Done),
-    (Side::Client, LogEntry::Look, BUSY_ON_5),
-    (Side::Client, LogEntry::Show, SHOWN_ON_5),
-    (Side::Client, LogEntry::Count, Said::Counts(0, 1)),
+const BOUND: &[EndStep] = &[
+    (Side::Client, EndAction::Bind(Circuit(5)), EndAnswer::Done),
+    (Side::Client, EndAction::Bind(Circuit(6)), EndAnswer::Done),
+    (Side::Client, EndAction::Call(b"ping(7)"), EndAnswer::Done),
+    (Side::Client, EndAction::Look, BUSY_ON_5),
+    (Side::Client, EndAction::Show, SHOWN_ON_5),
+    (Side::Client, EndAction::Count, EndAnswer::Counts(0, 1)),
 ];
 
 // What a side would write that tells the number 2, in epoch 1.
-const TOLD: Said = Said::Shown(0x0002_0001_0000_0003, [7, 0, 0, 0, 0, 0, 0]);
+const TOLD: EndAnswer = EndAnswer::Shown(0x0002_0001_0000_0003, [7, 0, 0, 0, 0, 0, 0]);
 
-const BUSY_ON_1: Said = Said::Seen(Some(Circuit(1)), [true, true, false, false]);
+const BUSY_ON_1: EndAnswer = EndAnswer::Seen(Some(Circuit(1)), [true, true, false, false]);
 
 // Neither a spent side nor a full one changes the end; a look has what the side would write.
-const REFUSING: &[Step] = &[
-    (Side::Client, LogEntry::Bind(Circuit(1)), Said::Done),
+const REFUSING: &[EndStep] = &[
+    (Side::Client, EndAction::Bind(Circuit(1)), EndAnswer::Done),
     (
         Side::Client,
-        LogEntry::WriteRefused(PutFault::Spent),
-        Said::Nothing,
+        EndAction::WriteRefused(PutFault::Spent),
+        EndAnswer::Nothing,
     ),
-    (Side::Client, LogEntry::Call(b"ping(7)"), Said::Done),
-    (Side::Client, LogEntry::ShowRefused(PutFault::Spent), TOLD),
+    (Side::Client, EndAction::Call(b"ping(7)"), EndAnswer::Done),
+    (Side::Client, EndAction::ShowRefused(PutFault::Spent), TOLD),
     (
         Side::Client,
-        LogEntry::WriteRefused(PutFault::Spent),
-        Said::Refused(33),
+        EndAction::WriteRefused(PutFault::Spent),
+        EndAnswer::Refused(33),
     ),
     (
         Side::Client,
-        LogEntry::WriteRefused(PutFault::Full),
-        Said::Full,
+        EndAction::WriteRefused(PutFault::Full),
+        EndAnswer::Full,
     ),
-    (Side::Client, LogEntry::Look, BUSY_ON_1),
-    (Side::Client, LogEntry::ShowRefused(PutFault::Full), TOLD),
+    (Side::Client, EndAction::Look, BUSY_ON_1),
+    (Side::Client, EndAction::ShowRefused(PutFault::Full), TOLD),
 ];
 
-pub const EXAMPLES: &[Example] = &[
-    Example {
+pub const EXAMPLES: &[PairExample] = &[
+    PairExample {
         text: PING,
         circuit: None,
         size: 1,
@@ -106,7 +118,7 @@ pub const EXAMPLES: &[Example] = &[
         rows: BOUND,
         handled: b"",
     },
-    Example {
+    PairExample {
         text: PING,
         circuit: None,
         size: 1,

@@ -1,6 +1,8 @@
 //! Scripts of circuits over three cores: opened, and refused at the second and at the third core.
 
-use crate::monitor::monitors::{CROWDED, FIRST, FREE, HOME, LINE, Leg, OUT, SECOND, Step};
+use crate::monitor::monitors::{
+    CROWDED, FIRST, FREE, HOME, LINE, MessageAnswer, MonitorLeg, MonitorStep, OUT, SECOND,
+};
 use fl_base::{Circuit, CoreId, EndId, Side};
 use fl_hop::{Hop, HopTarget};
 use fl_monitor::{MessageOutcome, MonitorFault};
@@ -10,9 +12,9 @@ const ASIDE: &[CoreId] = &[CoreId(0), CoreId(1), CoreId(3)];
 const ONWARD: &[CoreId] = &[CoreId(1), CoreId(2)];
 
 // On from core 1, and back from core 2.
-const ON: Leg = (1, SECOND, 2, FIRST);
+const ON: MonitorLeg = (1, SECOND, 2, FIRST);
 
-const BACK: Leg = (2, FIRST, 1, SECOND);
+const BACK: MonitorLeg = (2, FIRST, 1, SECOND);
 
 // The client's ends of some bindings.
 const CLIENT_0: EndId = EndId {
@@ -30,27 +32,25 @@ const CLIENT_1023: EndId = EndId {
     side: Side::Client,
 };
 
-type Answer = Option<Result<MessageOutcome, MonitorFault>>;
-
-const WENT_ON_0: Answer = Some(Ok(MessageOutcome::OpeningWentOn {
+const WENT_ON_0: Option<MessageAnswer> = Some(Ok(MessageOutcome::OpeningWentOn {
     binding: 0,
     link: SECOND,
     circuit: Circuit(1),
 }));
 
-const MADE_0: Answer = Some(Ok(MessageOutcome::ServerMade {
+const MADE_0: Option<MessageAnswer> = Some(Ok(MessageOutcome::ServerMade {
     binding: 0,
     dispatcher: 5,
     circuit: Circuit(1),
 }));
 
-const WENT_BACK_0: Answer = Some(Ok(MessageOutcome::AnswerWentOn {
+const WENT_BACK_0: Option<MessageAnswer> = Some(Ok(MessageOutcome::AnswerWentOn {
     binding: 0,
     link: FIRST,
     circuit: Circuit(1),
 }));
 
-const OPENED_0: Answer = Some(Ok(MessageOutcome::EndOpened {
+const OPENED_0: Option<MessageAnswer> = Some(Ok(MessageOutcome::EndOpened {
     end: CLIENT_0,
     circuit: Circuit(1),
 }));
@@ -62,101 +62,101 @@ const STANDS_0: Option<Hop> = Some(Hop {
 });
 
 /// A circuit over three cores.
-pub const OPENED: &[Step] = &[
-    Step::Asks(0, FIRST, (0, 1, LINE), Ok(Circuit(1))),
-    Step::Goes(OUT, FREE, WENT_ON_0),
-    Step::Goes(ON, FREE, MADE_0),
-    Step::Goes(BACK, FREE, WENT_BACK_0),
-    Step::Goes(HOME, FREE, OPENED_0),
-    Step::Keeps(1, STANDS_0),
-    Step::Goes(OUT, FREE, None),
-    Step::Goes(HOME, FREE, None),
+pub const OPENED: &[MonitorStep] = &[
+    MonitorStep::Asks(0, FIRST, (0, 1, LINE), Ok(Circuit(1))),
+    MonitorStep::Goes(OUT, FREE, WENT_ON_0),
+    MonitorStep::Goes(ON, FREE, MADE_0),
+    MonitorStep::Goes(BACK, FREE, WENT_BACK_0),
+    MonitorStep::Goes(HOME, FREE, OPENED_0),
+    MonitorStep::Keeps(1, STANDS_0),
+    MonitorStep::Goes(OUT, FREE, None),
+    MonitorStep::Goes(HOME, FREE, None),
 ];
 
-const WENT_ON_7: Answer = Some(Ok(MessageOutcome::OpeningWentOn {
+const WENT_ON_7: Option<MessageAnswer> = Some(Ok(MessageOutcome::OpeningWentOn {
     binding: 7,
     link: SECOND,
     circuit: Circuit(1),
 }));
 
-const WENT_BACK_7: Answer = Some(Ok(MessageOutcome::AnswerWentOn {
+const WENT_BACK_7: Option<MessageAnswer> = Some(Ok(MessageOutcome::AnswerWentOn {
     binding: 7,
     link: FIRST,
     circuit: Circuit(1),
 }));
 
-const FAILED_70: Answer = Some(Ok(MessageOutcome::OpeningFailed {
+const FAILED_70: Option<MessageAnswer> = Some(Ok(MessageOutcome::OpeningFailed {
     binding: 7,
     reason: 70,
 }));
 
-const REFUSED_70: Answer = Some(Ok(MessageOutcome::EndRefused {
+const REFUSED_70: Option<MessageAnswer> = Some(Ok(MessageOutcome::EndRefused {
     end: CLIENT_7,
     reason: 70,
 }));
 
 /// Refused at the third core: no service has this reference.
-pub const UNKNOWN: &[Step] = &[
-    Step::Asks(0, FIRST, (7, 9, LINE), Ok(Circuit(1))),
-    Step::Goes(OUT, FREE, WENT_ON_7),
-    Step::Goes(ON, FREE, FAILED_70),
-    Step::Goes(BACK, FREE, WENT_BACK_7),
-    Step::Goes(HOME, FREE, REFUSED_70),
-    Step::Keeps(1, None),
-    Step::Keeps(0, None),
+pub const UNKNOWN: &[MonitorStep] = &[
+    MonitorStep::Asks(0, FIRST, (7, 9, LINE), Ok(Circuit(1))),
+    MonitorStep::Goes(OUT, FREE, WENT_ON_7),
+    MonitorStep::Goes(ON, FREE, FAILED_70),
+    MonitorStep::Goes(BACK, FREE, WENT_BACK_7),
+    MonitorStep::Goes(HOME, FREE, REFUSED_70),
+    MonitorStep::Keeps(1, None),
+    MonitorStep::Keeps(0, None),
 ];
 
-const FAILED_54: Answer = Some(Ok(MessageOutcome::OpeningFailed {
+const FAILED_54: Option<MessageAnswer> = Some(Ok(MessageOutcome::OpeningFailed {
     binding: 7,
     reason: 54,
 }));
 
-const REFUSED_54: Answer = Some(Ok(MessageOutcome::EndRefused {
+const REFUSED_54: Option<MessageAnswer> = Some(Ok(MessageOutcome::EndRefused {
     end: CLIENT_7,
     reason: 54,
 }));
 
 /// Refused at the third core: the service's dispatcher has no place.
-pub const NO_PLACE: &[Step] = &[
-    Step::Asks(0, FIRST, (7, 1, LINE), Ok(Circuit(1))),
-    Step::Goes(OUT, FREE, WENT_ON_7),
-    Step::Goes(ON, CROWDED, FAILED_54),
-    Step::Goes(BACK, FREE, WENT_BACK_7),
-    Step::Goes(HOME, FREE, REFUSED_54),
-    Step::Keeps(1, None),
-    Step::Keeps(0, None),
+pub const NO_PLACE: &[MonitorStep] = &[
+    MonitorStep::Asks(0, FIRST, (7, 1, LINE), Ok(Circuit(1))),
+    MonitorStep::Goes(OUT, FREE, WENT_ON_7),
+    MonitorStep::Goes(ON, CROWDED, FAILED_54),
+    MonitorStep::Goes(BACK, FREE, WENT_BACK_7),
+    MonitorStep::Goes(HOME, FREE, REFUSED_54),
+    MonitorStep::Keeps(1, None),
+    MonitorStep::Keeps(0, None),
 ];
 
-const FAILED_73: Answer = Some(Ok(MessageOutcome::OpeningFailed {
+const FAILED_73: Option<MessageAnswer> = Some(Ok(MessageOutcome::OpeningFailed {
     binding: 1_023,
     reason: 73,
 }));
 
-const REFUSED_73: Answer = Some(Ok(MessageOutcome::EndRefused {
+const REFUSED_73: Option<MessageAnswer> = Some(Ok(MessageOutcome::EndRefused {
     end: CLIENT_1023,
     reason: 73,
 }));
 
-const FAILED_74: Answer = Some(Ok(MessageOutcome::OpeningFailed {
+const FAILED_74: Option<MessageAnswer> = Some(Ok(MessageOutcome::OpeningFailed {
     binding: 1_023,
     reason: 74,
 }));
 
-const REFUSED_74: Answer = Some(Ok(MessageOutcome::EndRefused {
+const REFUSED_74: Option<MessageAnswer> = Some(Ok(MessageOutcome::EndRefused {
     end: CLIENT_1023,
     reason: 74,
 }));
 
 /// Refused at the second core: it has no link to core 3, and then no circuit left on its link to core 2.
-pub const REFUSALS: &[Step] = &[
-    Step::Asks(0, FIRST, (1_023, 1, ASIDE), Ok(Circuit(1))),
-    Step::Goes(OUT, FREE, FAILED_73),
-    Step::Goes(HOME, FREE, REFUSED_73),
-    Step::Keeps(0, None),
-    Step::AsksForEach(1, SECOND, 1_023, ONWARD, true),
-    Step::Asks(0, FIRST, (1_023, 1, LINE), Ok(Circuit(3))),
-    Step::Goes(OUT, FREE, FAILED_74),
-    Step::Goes(HOME, FREE, REFUSED_74),
-    Step::Keeps(0, None),
-    Step::Asks(1, SECOND, (1_023, 1, ONWARD), Err(MonitorFault::UsedUp)),
+pub const REFUSALS: &[MonitorStep] = &[
+    MonitorStep::Asks(0, FIRST, (1_023, 1, ASIDE), Ok(Circuit(1))),
+    MonitorStep::Goes(OUT, FREE, FAILED_73),
+    MonitorStep::Goes(HOME, FREE, REFUSED_73),
+    MonitorStep::Keeps(0, None),
+    MonitorStep::AsksForEach(1, SECOND, 1_023, ONWARD, true),
+    MonitorStep::Asks(0, FIRST, (1_023, 1, LINE), Ok(Circuit(3))),
+    MonitorStep::Goes(OUT, FREE, FAILED_74),
+    MonitorStep::Goes(HOME, FREE, REFUSED_74),
+    MonitorStep::Keeps(0, None),
+    MonitorStep::Asks(1, SECOND, (1_023, 1, ONWARD), Err(MonitorFault::UsedUp)),
 ];

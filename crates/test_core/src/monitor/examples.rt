@@ -1,9 +1,9 @@
 //! All tables, by name.
 
-use crate::faults::Told;
-use crate::monitor::messages::Claim;
-use crate::monitor::monitors::{Step, run};
-use crate::monitor::name_tests::{Asked, all_answered};
+use crate::faults::FaultRow;
+use crate::monitor::messages::MessageRow;
+use crate::monitor::monitors::{MonitorStep, run};
+use crate::monitor::name_tests::{NamesCall, all_answered};
 use crate::monitor::path_tests::Routes;
 use crate::monitor::{
     circuits, fault_tests, forged, limits, message_tests, name_tests, offer_tests, outbox_tests,
@@ -18,10 +18,10 @@ use std::test::Fail;
 
 // A table.
 enum Table {
-    Script(&'static [Step]),
-    Claims(&'static [Claim]),
-    Names(&'static [Asked]),
-    Faults(&'static [Told]),
+    Script(&'static [MonitorStep]),
+    Claims(&'static [MessageRow]),
+    Names(&'static [NamesCall]),
+    Faults(&'static [FaultRow]),
     Routes,
 }
 

@@ -1,14 +1,14 @@
 //! Messages as fragments, word for word, and back.
 
-use crate::monitor::messages::{Claim, frag, is_read};
-use crate::words::{Words, message};
+use crate::monitor::messages::{MessageRow, frag, is_read};
+use crate::words::{MessageWords, message};
 use fl_base::{CoreId, Frag};
 use fl_monitor::{Messenger, MonitorMessage};
 use fl_wire::WireFault;
 use std::alloc::Global;
 
 /// The monitors' interface, as it is published.
-pub const INTERFACE: &[Claim] = &[Claim::Publishes(
+pub const INTERFACE: &[MessageRow] = &[MessageRow::Publishes(
     b"interface intermon \"between monitors\" {
     message open_circuit(uint16 circuit, uint32 binding, iref service, uint8 path[n, 16]);
     message circuit_opened(uint16 circuit);
@@ -38,13 +38,22 @@ const ALL: &[CoreId] = &[
     CoreId(15),
 ];
 
-const MOST: Words = Words::Open(u16::MAX, u32::MAX, u32::MAX, &[CoreId(255), CoreId(0)]);
+const MOST: MessageWords = MessageWords::Open(
+    u16::MAX,
+    u32::MAX,
+    u32::MAX,
+    &[CoreId(255), CoreId(0)],
+);
 
 /// By hand: circuit at byte 0, binding at 4, service at 8, the route's length at 16 and its cores from 24 on; reason at 4.
-pub const ROWS: &[Claim] = &[
-    Claim::Stands(Words::Open(1, 0, 1, THREE), [1, 1, 3, 0x02_0100, 0], 2),
-    Claim::Stands(
-        Words::Open(2_046, 1_023, 256, ALL),
+pub const ROWS: &[MessageRow] = &[
+    MessageRow::Stands(
+        MessageWords::Open(1, 0, 1, THREE),
+        [1, 1, 3, 0x02_0100, 0],
+        2,
+    ),
+    MessageRow::Stands(
+        MessageWords::Open(2_046, 1_023, 256, ALL),
         [
             0x0000_03ff_0000_07fe,
             0x100,
@@ -54,16 +63,16 @@ pub const ROWS: &[Claim] = &[
         ],
         2,
     ),
-    Claim::Stands(MOST, [0xffff_ffff_0000_ffff, 0xffff_ffff, 2, 0xff, 0], 2),
-    Claim::Stands(Words::Open(0, 0, 0, &[]), [0, 0, 0, 0, 0], 2),
-    Claim::Stands(Words::Opened(2_046), [0x7fe, 0, 0, 0, 0], 0x1_0002),
-    Claim::Stands(
-        Words::Refused(2_046, 70),
+    MessageRow::Stands(MOST, [0xffff_ffff_0000_ffff, 0xffff_ffff, 2, 0xff, 0], 2),
+    MessageRow::Stands(MessageWords::Open(0, 0, 0, &[]), [0, 0, 0, 0, 0], 2),
+    MessageRow::Stands(MessageWords::Opened(2_046), [0x7fe, 0, 0, 0, 0], 0x1_0002),
+    MessageRow::Stands(
+        MessageWords::Refused(2_046, 70),
         [0x46_0000_07fe, 0, 0, 0, 0],
         0x2_0002,
     ),
-    Claim::Stands(
-        Words::Refused(1, u32::MAX),
+    MessageRow::Stands(
+        MessageWords::Refused(1, u32::MAX),
         [0xffff_ffff_0000_0001, 0, 0, 0, 0],
         0x2_0002,
     ),
@@ -83,7 +92,7 @@ fn is_read_twice(messenger: &mut Messenger, frag: &Frag, message: &MonitorMessag
 // A fragment that says a message is refused only where memory runs out, and can be read again; the message is written as that
 // fragment, or memory was refused.
 fn is_read_again(messenger: &mut Messenger) -> bool {
-    let Some(message) = message(Words::Refused(1, 73)) else {
+    let Some(message) = message(MessageWords::Refused(1, 73)) else {
         return false;
     };
     let frag = frag([0x49_0000_0001, 0, 0, 0, 0], 0x2_0002);

@@ -1,20 +1,20 @@
 //! What a messenger writes and reads, row by row, by one messenger.
 
-use crate::monitor::monitors::Line;
+use crate::monitor::monitors::MonitorLine;
 use crate::monitor::outbox_tests::in_order;
 use crate::tables::RowOn;
 use crate::texts::interface;
-use crate::words::{Words, message};
+use crate::words::{MessageWords, message};
 use fl_base::{Circuit, Frag};
 use fl_monitor::{Messenger, MonitorMessage};
 use fl_wire::WireFault;
 use std::alloc::Global;
 
 /// A row.
-pub enum Claim {
+pub enum MessageRow {
     /// A message is written as the fragment of these first words and this control word, and read from it, also with an epoch and with a
     /// count told.
-    Stands(Words, [u64; 5], u64),
+    Stands(MessageWords, [u64; 5], u64),
     /// The fragment of this control word and these first words has its first fault, by number, and the messenger reads on after it.
     Fails(u64, [u64; 4], u8),
     /// The messenger's interface is that of this text.
@@ -43,7 +43,7 @@ pub fn is_read(
 
 fn stands_for(
     messenger: &mut Messenger,
-    words: Words,
+    words: MessageWords,
     first: [u64; 5],
     control: u64,
 ) -> Result<bool, WireFault> {
@@ -88,14 +88,18 @@ fn publishes(alloc: Global, messenger: &Messenger, text: &[u8]) -> Result<bool, 
     }
 }
 
-impl RowOn<Line> for Claim {
-    fn holds_on(&self, line: &mut Line) -> Result<bool, WireFault> {
+impl RowOn<MonitorLine> for MessageRow {
+    fn holds_on(&self, line: &mut MonitorLine) -> Result<bool, WireFault> {
         let (alloc, messenger) = (line.alloc, &mut line.messenger);
         match self {
-            Claim::Stands(words, first, control) => stands_for(messenger, *words, *first, *control),
-            Claim::Fails(control, words, number) => fails(messenger, *control, *words, *number),
-            Claim::Publishes(text) => publishes(alloc, messenger, text),
-            Claim::Queues => in_order(alloc, messenger),
+            MessageRow::Stands(words, first, control) => stands_for(
+                messenger, *words, *first, *control,
+            ),
+            MessageRow::Fails(control, words, number) => fails(
+                messenger, *control, *words, *number,
+            ),
+            MessageRow::Publishes(text) => publishes(alloc, messenger, text),
+            MessageRow::Queues => in_order(alloc, messenger),
         }
     }
 }

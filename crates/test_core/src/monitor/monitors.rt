@@ -3,7 +3,7 @@
 use crate::monitor::offer_tests::SAME;
 use crate::tables::{RowOn, all_hold_on};
 use crate::texts::program;
-use crate::words::{Words, message};
+use crate::words::{MessageWords, message};
 use fl_base::{Circuit, CoreId, IRef, LinkId};
 use fl_compile::Program;
 use fl_hop::{Hop, HopFault};
@@ -38,27 +38,27 @@ pub const SECOND: LinkId = LinkId(1);
 pub const LINE: &[CoreId] = &[CoreId(0), CoreId(1), CoreId(2)];
 
 /// Whose message is heard by whom: a core and its link, the other core and its link back.
-pub type Leg = (u8, LinkId, u8, LinkId);
+pub type MonitorLeg = (u8, LinkId, u8, LinkId);
 
 /// The route from core 0 to core 1.
 pub const ENDS: &[CoreId] = &[CoreId(0), CoreId(1)];
 
 /// Out from core 0, and home from core 1.
-pub const OUT: Leg = (0, FIRST, 1, FIRST);
+pub const OUT: MonitorLeg = (0, FIRST, 1, FIRST);
 
-pub const HOME: Leg = (1, FIRST, 0, FIRST);
+pub const HOME: MonitorLeg = (1, FIRST, 0, FIRST);
 
 /// What a core answers to a message.
-pub type Answer = Result<MessageOutcome, MonitorFault>;
+pub type MessageAnswer = Result<MessageOutcome, MonitorFault>;
 
 /// A step of a script: what is done, and what it has to come to.
-pub enum Step {
+pub enum MonitorStep {
     /// A core asks over a link for a circuit, for a binding and a service, along a route.
     Asks(u8, LinkId, (u32, u32, &'static [CoreId]), Result<Circuit, MonitorFault>),
     /// A core's next message is heard by the other, and is gone then; `None` where nothing waits.
-    Goes(Leg, OpeningFacts, Option<Answer>),
+    Goes(MonitorLeg, OpeningFacts, Option<MessageAnswer>),
     /// Core 1 hears a message, from wherever it may be.
-    Hears(LinkId, OpeningFacts, Words, Answer),
+    Hears(LinkId, OpeningFacts, MessageWords, MessageAnswer),
     /// A core asks over a link for so many circuits along a route, for bindings from 0 on; each opening is sent at once, or all wait.
     AsksForEach(u8, LinkId, u16, &'static [CoreId], bool),
     /// Core 1 refuses openings of so many bindings that end there at no service.
@@ -76,7 +76,7 @@ pub enum Step {
 
 // The three cores, each in a place of its own.
 #[derive(Drop)]
-struct Cores {
+struct MonitorsInLine {
     first: Box<Monitor>,
     middle: Box<Monitor>,
     last: Box<Monitor>,
@@ -84,9 +84,9 @@ struct Cores {
 
 /// The cores, what reads the fragments between them, and the table of names.
 #[derive(Drop)]
-pub struct Line {
+pub struct MonitorLine {
     pub alloc: Global,
-    cores: Cores,
+    cores: MonitorsInLine,
     pub messenger: Messenger,
     names: Names,
 }
@@ -113,8 +113,8 @@ fn monitor(alloc: Global, core: u8, neighbours: &[u8]) -> Result<Box<Monitor>, H
 }
 
 // Cores 0, 1 and 2, each with links to those beside it.
-fn make_cores(alloc: Global) -> Result<Cores, HopFault> {
-    Ok(Cores {
+fn make_cores(alloc: Global) -> Result<MonitorsInLine, HopFault> {
+    Ok(MonitorsInLine {
         first: monitor(alloc, 0, &[1])?,
         middle: monitor(alloc, 1, &[0, 2])?,
         last: monitor(alloc, 2, &[1])?,
@@ -138,7 +138,7 @@ fn register_all(names: &mut Names) -> Result<(), NameFault> {
 }
 
 // The core of a number.
-fn at(cores: &mut Cores, number: u8) -> &mut Monitor {
+fn at(cores: &mut MonitorsInLine, number: u8) -> &mut Monitor {
     match number {
         0 => &mut cores.first,
         1 => &mut cores.middle,
@@ -205,7 +205,7 @@ fn hears(
     names: &Names,
     here: OpeningFacts,
     (link, message): (LinkId, &MonitorMessage),
-    wanted: Answer,
+    wanted: MessageAnswer,
 ) -> Result<bool, WireFault> {
     match monitor.on_message(names, here, link, message) {
         Err(MonitorFault::Memory) => Err(WireFault::Memory),
@@ -227,10 +227,10 @@ fn says(
 
 // Whether the next message of a leg is heard so, and is gone where it was to be taken; none where none is wanted.
 fn goes(
-    line: &mut Line,
-    leg: Leg,
+    line: &mut MonitorLine,
+    leg: MonitorLeg,
     here: OpeningFacts,
-    wanted: Option<Answer>,
+    wanted: Option<MessageAnswer>,
 ) -> Result<bool, WireFault> {
     let (from, there, to, back) = leg;
     let said = says(at(&mut line.cores, from), there, &mut line.messenger)?;
@@ -251,11 +251,11 @@ fn goes(
 
 // Whether core 1 answers so to these words.
 fn is_told(
-    line: &mut Line,
+    line: &mut MonitorLine,
     link: LinkId,
     here: OpeningFacts,
-    words: Words,
-    wanted: Answer,
+    words: MessageWords,
+    wanted: MessageAnswer,
 ) -> Result<bool, WireFault> {
     match message(words) {
         Some(message) => hears(
@@ -270,9 +270,9 @@ fn is_told(
 }
 
 // Whether core 1 refuses openings of so many bindings, for a service that isn't there.
-fn refuses_each(line: &mut Line, count: u16) -> Result<bool, WireFault> {
+fn refuses_each(line: &mut MonitorLine, count: u16) -> Result<bool, WireFault> {
     for turn in 0..count {
-        let words = Words::Open(odd(turn).0, u32::from(turn), 9, ENDS);
+        let words = MessageWords::Open(odd(turn).0, u32::from(turn), 9, ENDS);
         let failed = MessageOutcome::OpeningFailed {
             binding: usize::from(turn),
             reason: 70,
@@ -294,7 +294,7 @@ fn counts(monitor: &Monitor, own: u16, due: u16) -> bool {
 type Offer = (u8, &'static [CoreId], Result<LinkId, MonitorFault>);
 
 fn is_answered(
-    line: &Line,
+    line: &MonitorLine,
     client: &Program,
     text: &[u8],
     plan: PlanNo,
@@ -310,41 +310,45 @@ fn is_answered(
     }
 }
 
-fn offers(line: &Line, text: &[u8], plan: PlanNo, offer: Offer) -> Result<bool, WireFault> {
+fn offers(line: &MonitorLine, text: &[u8], plan: PlanNo, offer: Offer) -> Result<bool, WireFault> {
     match program(line.alloc, SAME, PlanNo::One) {
         Ok(client) => is_answered(line, &client, text, plan, offer),
         Err(_) => Err(WireFault::Memory),
     }
 }
 
-impl RowOn<Line> for Step {
+impl RowOn<MonitorLine> for MonitorStep {
     // Whether it comes to what it has to.
-    fn holds_on(&self, line: &mut Line) -> Result<bool, WireFault> {
+    fn holds_on(&self, line: &mut MonitorLine) -> Result<bool, WireFault> {
         match *self {
-            Step::Asks(core, link, asked, wanted) => {
+            MonitorStep::Asks(core, link, asked, wanted) => {
                 asks(at(&mut line.cores, core), link, asked, wanted)
             }
-            Step::Goes(leg, here, wanted) => goes(line, leg, here, wanted),
-            Step::AsksForEach(core, link, count, cores, sent) => {
+            MonitorStep::Goes(leg, here, wanted) => goes(line, leg, here, wanted),
+            MonitorStep::AsksForEach(core, link, count, cores, sent) => {
                 asks_for_each(at(&mut line.cores, core), link, count, cores, sent)
             }
-            Step::RefusesEach(count) => refuses_each(line, count),
-            Step::Hears(link, here, words, wanted) => is_told(line, link, here, words, wanted),
-            Step::Sends(core, link, wanted) => Ok(sends(at(&mut line.cores, core), link) == wanted),
-            Step::Keeps(core, wanted) => {
+            MonitorStep::RefusesEach(count) => refuses_each(line, count),
+            MonitorStep::Hears(link, here, words, wanted) => is_told(
+                line, link, here, words, wanted,
+            ),
+            MonitorStep::Sends(core, link, wanted) => Ok(
+                sends(at(&mut line.cores, core), link) == wanted,
+            ),
+            MonitorStep::Keeps(core, wanted) => {
                 let circuits = at(&mut line.cores, core).circuits();
                 Ok(circuits.hop_of(FIRST, Circuit(1)) == wanted)
             }
-            Step::Counts(core, own, due) => Ok(counts(at(&mut line.cores, core), own, due)),
-            Step::Offers(text, plan, server, cores, wanted) => {
+            MonitorStep::Counts(core, own, due) => Ok(counts(at(&mut line.cores, core), own, due)),
+            MonitorStep::Offers(text, plan, server, cores, wanted) => {
                 offers(line, text, plan, (server, cores, wanted))
             }
         }
     }
 }
 
-fn make_line(alloc: Global) -> Result<Box<Line>, HopFault> {
-    let line = Line {
+fn make_line(alloc: Global) -> Result<Box<MonitorLine>, HopFault> {
+    let line = MonitorLine {
         alloc,
         cores: make_cores(alloc)?,
         messenger: Messenger::new(alloc)?,
@@ -353,13 +357,17 @@ fn make_line(alloc: Global) -> Result<Box<Line>, HopFault> {
     Ok(Box::new(alloc, line)?)
 }
 
-fn run_on<R: RowOn<Line>>(line: &mut Line, name: &str, rows: &[R]) -> Result<(), Fail> {
+fn run_on<R: RowOn<MonitorLine>>(
+    line: &mut MonitorLine,
+    name: &str,
+    rows: &[R],
+) -> Result<(), Fail> {
     register_all(&mut line.names)?;
     all_hold_on(line, name, rows)
 }
 
 /// Tells which step or row is the first that doesn't come to what it has to, on a new line.
-pub fn run<R: RowOn<Line>>(alloc: Global, name: &str, rows: &[R]) -> Result<(), Fail> {
+pub fn run<R: RowOn<MonitorLine>>(alloc: Global, name: &str, rows: &[R]) -> Result<(), Fail> {
     let mut line = make_line(alloc)?;
     run_on(&mut line, name, rows)
 }

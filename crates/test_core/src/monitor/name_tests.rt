@@ -1,6 +1,6 @@
 //! The table of names: each call where it is answered and where it is refused, and refused memory.
 
-use crate::faults::{Fault, Told};
+use crate::faults::{AnyFault, FaultRow};
 use crate::tables::{RowOn, all_hold_on};
 use fl_base::{CoreId, IRef};
 use fl_nameserv::{NameFault, Names, Registration, Service};
@@ -52,7 +52,7 @@ const SERVICES: &[Registration<'static>] = &[
 ];
 
 /// What is asked of a table of names, and what it has to answer.
-pub enum Asked {
+pub enum NamesCall {
     /// These are registered under their numbers, and are all that the table and a copy of it have.
     Keeps(&'static [Registration<'static>]),
     Registers(Registration<'static>),
@@ -68,11 +68,11 @@ pub enum Asked {
 }
 
 /// What is asked of new tables, one after another.
-pub const NONE: &[Asked] = &[Asked::Keeps(&[])];
+pub const NONE: &[NamesCall] = &[NamesCall::Keeps(&[])];
 
-pub const ONE_NAME: &[Asked] = &[Asked::Keeps(&[S])];
+pub const ONE_NAME: &[NamesCall] = &[NamesCall::Keeps(&[S])];
 
-pub const THREE_NAMES: &[Asked] = &[Asked::Keeps(SERVICES)];
+pub const THREE_NAMES: &[NamesCall] = &[NamesCall::Keeps(SERVICES)];
 
 const T: Registration<'static> = Registration {
     name: b"t",
@@ -80,29 +80,29 @@ const T: Registration<'static> = Registration {
     service: TWO,
 };
 
-pub const REFUSALS: &[Asked] = &[
-    Asked::Unknown(b"s", 1),
-    Asked::Registers(S),
-    Asked::Taken(b"s"),
-    Asked::Finds(S),
-    Asked::Unknown(b"", 0),
-    Asked::Unknown(b"", 2),
-    Asked::Unknown(b"", u32::MAX),
-    Asked::Registers(T),
+pub const REFUSALS: &[NamesCall] = &[
+    NamesCall::Unknown(b"s", 1),
+    NamesCall::Registers(S),
+    NamesCall::Taken(b"s"),
+    NamesCall::Finds(S),
+    NamesCall::Unknown(b"", 0),
+    NamesCall::Unknown(b"", 2),
+    NamesCall::Unknown(b"", u32::MAX),
+    NamesCall::Registers(T),
 ];
 
 /// Nine names, each added at last.
-pub const AT_LAST: &[Asked] = &[
-    Asked::AddsAtLast(b"a"),
-    Asked::AddsAtLast(b"b"),
-    Asked::AddsAtLast(b"c"),
-    Asked::AddsAtLast(b"d"),
-    Asked::AddsAtLast(b"e"),
-    Asked::AddsAtLast(b"f"),
-    Asked::AddsAtLast(b"g"),
-    Asked::AddsAtLast(b"h"),
-    Asked::AddsAtLast(b"i"),
-    Asked::Nine,
+pub const AT_LAST: &[NamesCall] = &[
+    NamesCall::AddsAtLast(b"a"),
+    NamesCall::AddsAtLast(b"b"),
+    NamesCall::AddsAtLast(b"c"),
+    NamesCall::AddsAtLast(b"d"),
+    NamesCall::AddsAtLast(b"e"),
+    NamesCall::AddsAtLast(b"f"),
+    NamesCall::AddsAtLast(b"g"),
+    NamesCall::AddsAtLast(b"h"),
+    NamesCall::AddsAtLast(b"i"),
+    NamesCall::Nine,
 ];
 
 // The nine names, each of the same service.
@@ -225,36 +225,36 @@ fn adds_at_last(names: &mut Names, name: &[u8]) -> bool {
     names.list().len().checked_sub(1) == Some(count)
 }
 
-impl RowOn<Names> for Asked {
+impl RowOn<Names> for NamesCall {
     fn holds_on(&self, names: &mut Names) -> Result<bool, WireFault> {
         match self {
-            Asked::Keeps(all) => keeps(names, all),
-            Asked::Registers(one) => registers(names, one),
-            Asked::Taken(name) => Ok(names.register(name, TWO) == Err(NameFault::Taken)),
-            Asked::Finds(one) => Ok(is_found(names, one)),
-            Asked::Unknown(name, iref) => Ok(is_unknown(names, name, *iref)),
-            Asked::AddsAtLast(name) => Ok(adds_at_last(names, name)),
-            Asked::Nine => Ok(has_all(names, NINE) && has_copy(names, NINE) != Ok(false)),
+            NamesCall::Keeps(all) => keeps(names, all),
+            NamesCall::Registers(one) => registers(names, one),
+            NamesCall::Taken(name) => Ok(names.register(name, TWO) == Err(NameFault::Taken)),
+            NamesCall::Finds(one) => Ok(is_found(names, one)),
+            NamesCall::Unknown(name, iref) => Ok(is_unknown(names, name, *iref)),
+            NamesCall::AddsAtLast(name) => Ok(adds_at_last(names, name)),
+            NamesCall::Nine => Ok(has_all(names, NINE) && has_copy(names, NINE) != Ok(false)),
         }
     }
 }
 
 /// Tells what a new table is the first to answer otherwise.
-pub fn all_answered(alloc: Global, name: &str, script: &[Asked]) -> Result<(), Fail> {
+pub fn all_answered(alloc: Global, name: &str, script: &[NamesCall]) -> Result<(), Fail> {
     let mut names = Names::new(alloc);
     all_hold_on(&mut names, name, script)
 }
 
 /// The numbers and the words of the faults.
-pub const FAULTS: &[Told] = &[
-    Told(
-        Fault::Name(NameFault::Unknown),
+pub const FAULTS: &[FaultRow] = &[
+    FaultRow(
+        AnyFault::Name(NameFault::Unknown),
         70,
         "no service of this name or reference",
     ),
-    Told(Fault::Name(NameFault::Taken), 71, "the name is taken"),
-    Told(
-        Fault::Name(NameFault::Memory),
+    FaultRow(AnyFault::Name(NameFault::Taken), 71, "the name is taken"),
+    FaultRow(
+        AnyFault::Name(NameFault::Memory),
         99,
         "no memory for one more service",
     ),

@@ -1,7 +1,7 @@
 //! What waits in an outbox, in which order, and how much.
 
-use crate::faults::{Fault, Told};
-use crate::monitor::messages::Claim;
+use crate::faults::{AnyFault, FaultRow};
+use crate::monitor::messages::MessageRow;
 use fl_base::{Circuit, Frag};
 use fl_monitor::{MAX_WAITING, Messenger, MonitorFault, MonitorMessage, Outbox};
 use fl_wire::WireFault;
@@ -78,38 +78,42 @@ pub fn in_order(alloc: Global, messenger: &Messenger) -> Result<bool, WireFault>
 }
 
 /// One claim: what is put is sent in order.
-pub const OUTBOX: &[Claim] = &[Claim::Queues];
+pub const OUTBOX: &[MessageRow] = &[MessageRow::Queues];
 
 /// The numbers and the words of the faults.
-pub const FAULTS: &[Told] = &[
-    Told(
-        Fault::Monitor(MonitorFault::Misrouted),
+pub const FAULTS: &[FaultRow] = &[
+    FaultRow(
+        AnyFault::Monitor(MonitorFault::Misrouted),
         67,
         "a monitor's message out of place",
     ),
-    Told(
-        Fault::Monitor(MonitorFault::Differs),
+    FaultRow(
+        AnyFault::Monitor(MonitorFault::Differs),
         72,
         "the service is of another interface",
     ),
-    Told(Fault::Monitor(MonitorFault::NoRoute), 73, "no such route"),
-    Told(
-        Fault::Monitor(MonitorFault::UsedUp),
+    FaultRow(
+        AnyFault::Monitor(MonitorFault::NoRoute),
+        73,
+        "no such route",
+    ),
+    FaultRow(
+        AnyFault::Monitor(MonitorFault::UsedUp),
         74,
         "all circuits of the link are used up",
     ),
-    Told(
-        Fault::Monitor(MonitorFault::OutboxFull),
+    FaultRow(
+        AnyFault::Monitor(MonitorFault::OutboxFull),
         75,
         "64 messages wait to be sent over the link",
     ),
-    Told(
-        Fault::Monitor(MonitorFault::PlansDiffer),
+    FaultRow(
+        AnyFault::Monitor(MonitorFault::PlansDiffer),
         76,
         "the service is compiled under another plan",
     ),
-    Told(
-        Fault::Monitor(MonitorFault::Memory),
+    FaultRow(
+        AnyFault::Monitor(MonitorFault::Memory),
         99,
         "no memory for one more circuit",
     ),

@@ -1,6 +1,6 @@
 //! Routes made of cores, and given back.
 
-use crate::tables::Row;
+use crate::tables::CheckedRow;
 use fl_base::CoreId;
 use fl_monitor::{MAX_ROUTE, Path};
 use std::alloc::{AllocError, Global};
@@ -50,7 +50,7 @@ fn are_kept() -> bool {
 /// Routes of up to 16 cores are kept. A core 0 at the end of a route is told from the place behind a shorter one.
 pub struct Routes;
 
-impl Row for Routes {
+impl CheckedRow for Routes {
     fn holds(&self, _alloc: Global) -> Result<bool, AllocError> {
         Ok(
             are_kept()

@@ -4,20 +4,20 @@ ghost use Rattle.std.specs.Prelude.{◌≡◌};
 ghost use Rattle.fl_endpoint.specs.View.{interface_in};
 
 use crate::node::known::Known;
-use crate::node::words::{Word, refuse};
+use crate::node::words::{StepOutcome, refuse};
 use fl_base::{Circuit, CoreId, EndId, MsgNo, Side};
 use fl_core::{Core, EndAtDispatcher, EndWiring, LocalBinding, WiredEnd};
 use fl_endpoint::End;
 use std::alloc::AllocError;
 
-const NOT_BOUND: Word = Word::Refused(43);
+const NOT_BOUND: StepOutcome = StepOutcome::Refused(43);
 
 fn make_end(known: &Known) -> Result<End, AllocError> {
     End::new(known.alloc, known.program()?, Circuit(0))
 }
 
 // An end more at a core's first dispatcher, over a ring.
-fn add_end(core: &mut Core, end: End, name: EndId) -> Word {
+fn add_end(core: &mut Core, end: End, name: EndId) -> StepOutcome {
     if name.binding >= 1_024 || core.board().dispatchers() == 0 || core.place(name).is_some() {
         return NOT_BOUND;
     }
@@ -26,21 +26,21 @@ fn add_end(core: &mut Core, end: End, name: EndId) -> Word {
         wiring: EndWiring::Ring(0),
     };
     match core.add_end(0, end, wired_end) {
-        Ok(e) => Word::At(Some(e)),
+        Ok(e) => StepOutcome::At(Some(e)),
         Err(fault) => refuse(fault.number()),
     }
 }
 
 /// The same with a new end: its place.
-pub fn adds(core: &mut Core, known: &Known, name: EndId) -> Word {
+pub fn adds(core: &mut Core, known: &Known, name: EndId) -> StepOutcome {
     match make_end(known) {
         Ok(end) => add_end(core, end, name),
-        Err(_) => Word::NoMemory,
+        Err(_) => StepOutcome::NoMemory,
     }
 }
 
 // An end that is added and taken back, if it was added.
-fn pass_through(core: &mut Core, end: End, name: EndId) -> Word {
+fn pass_through(core: &mut Core, end: End, name: EndId) -> StepOutcome {
     if name.binding >= 1_024 || core.board().dispatchers() == 0 || core.place(name).is_some() {
         return NOT_BOUND;
     }
@@ -52,21 +52,21 @@ fn pass_through(core: &mut Core, end: End, name: EndId) -> Word {
     match core.add_end(0, end, wired_end) {
         Ok(_) => {
             core.take_back_end();
-            Word::Done
+            StepOutcome::Done
         }
         Err(fault) => refuse(fault.number()),
     }
 }
 
-pub fn comes_and_goes(core: &mut Core, known: &Known, name: EndId) -> Word {
+pub fn comes_and_goes(core: &mut Core, known: &Known, name: EndId) -> StepOutcome {
     match make_end(known) {
         Ok(end) => pass_through(core, end, name),
-        Err(_) => Word::NoMemory,
+        Err(_) => StepOutcome::NoMemory,
     }
 }
 
 // Both ends of a binding at two dispatchers.
-fn put_both(core: &mut Core, both: LocalBinding) -> Word {
+fn put_both(core: &mut Core, both: LocalBinding) -> StepOutcome {
     let count = core.board().dispatchers();
     if both.client.dispatcher >= count || both.server.dispatcher >= count || both.binding >= 1_024 {
         return NOT_BOUND;
@@ -79,7 +79,7 @@ fn put_both(core: &mut Core, both: LocalBinding) -> Word {
         return NOT_BOUND;
     }
     match core.add_both(both) {
-        Ok(both) => Word::Joined(both.client, both.server),
+        Ok(both) => StepOutcome::Joined(both.client, both.server),
         Err(fault) => refuse(fault.number()),
     }
 }
@@ -91,7 +91,7 @@ fn join_server(
     binding: usize,
     client: EndAtDispatcher,
     at: usize,
-) -> Word {
+) -> StepOutcome {
     match make_end(known) {
         Ok(end) => {
             let server = EndAtDispatcher {
@@ -109,12 +109,18 @@ fn join_server(
                 },
             )
         }
-        Err(_) => Word::NoMemory,
+        Err(_) => StepOutcome::NoMemory,
     }
 }
 
 /// Both ends of a binding at two dispatchers, joined by queues 3 and 4: their places.
-pub fn joins(core: &mut Core, known: &Known, binding: usize, client: usize, server: usize) -> Word {
+pub fn joins(
+    core: &mut Core,
+    known: &Known,
+    binding: usize,
+    client: usize,
+    server: usize,
+) -> StepOutcome {
     match make_end(known) {
         Ok(end) => {
             let client = EndAtDispatcher {
@@ -123,33 +129,33 @@ pub fn joins(core: &mut Core, known: &Known, binding: usize, client: usize, serv
             };
             join_server(core, known, binding, client, server)
         }
-        Err(_) => Word::NoMemory,
+        Err(_) => StepOutcome::NoMemory,
     }
 }
 
 /// The queues to which the end at a place puts and from which it takes.
-pub fn queues_of(core: &Core, e: usize) -> Word {
+pub fn queues_of(core: &Core, e: usize) -> StepOutcome {
     if e >= core.board().ends() {
-        return Word::Other;
+        return StepOutcome::Other;
     }
-    Word::Queues(core.outlet(e), core.inlet(e))
+    StepOutcome::Queues(core.outlet(e), core.inlet(e))
 }
 
 /// A link more, to a core: its number.
-pub fn links(core: &mut Core, neighbour: CoreId, side: usize) -> Word {
+pub fn links(core: &mut Core, neighbour: CoreId, side: usize) -> StepOutcome {
     match core.add_link(neighbour, side) {
-        Ok(link) => Word::Linked(link),
+        Ok(link) => StepOutcome::Linked(link),
         Err(fault) => refuse(fault.number()),
     }
 }
 
 /// A link that is added and taken back: its number.
-pub fn link_comes_and_goes(core: &mut Core, neighbour: CoreId) -> Word {
+pub fn link_comes_and_goes(core: &mut Core, neighbour: CoreId) -> StepOutcome {
     core.sound();
     match core.add_link(neighbour, 9) {
         Ok(link) => {
             core.take_back_link();
-            Word::Linked(link)
+            StepOutcome::Linked(link)
         }
         Err(fault) => refuse(fault.number()),
     }
@@ -170,7 +176,7 @@ fn rule_at(core: &Core, e: usize) -> Option<MsgNo> {
 }
 
 // The rules of a new end and of one that sits nowhere, after they were exchanged.
-fn after_exchange(core: &mut Core, end: End, name: EndId, other: &mut End) -> Word
+fn after_exchange(core: &mut Core, end: End, name: EndId, other: &mut End) -> StepOutcome
     requires { interface_in end ≡ interface_in other.old }
 {
     if name.binding >= 1_024 || core.board().dispatchers() == 0 || core.place(name).is_some() {
@@ -183,26 +189,26 @@ fn after_exchange(core: &mut Core, end: End, name: EndId, other: &mut End) -> Wo
     match core.add_end(0, end, wired_end) {
         Ok(e) => {
             core.exchange_rules(e, other);
-            Word::Rules(rule_at(core, e), other.rule_for(MsgNo(0)))
+            StepOutcome::Rules(rule_at(core, e), other.rule_for(MsgNo(0)))
         }
         Err(fault) => refuse(fault.number()),
     }
 }
 
-fn exchange(core: &mut Core, known: &Known, name: EndId, other: &mut End) -> Word {
+fn exchange(core: &mut Core, known: &Known, name: EndId, other: &mut End) -> StepOutcome {
     let Ok(program) = other.program().duplicate(known.alloc) else {
-        return Word::NoMemory;
+        return StepOutcome::NoMemory;
     };
     match End::new(known.alloc, program, Circuit(0)) {
         Ok(end) => after_exchange(core, end, name, other),
-        Err(_) => Word::NoMemory,
+        Err(_) => StepOutcome::NoMemory,
     }
 }
 
 /// What an end of this name and one that sits nowhere have for rules, after they were exchanged: the other had one before.
-pub fn exchanges(core: &mut Core, known: &Known, name: EndId) -> Word {
+pub fn exchanges(core: &mut Core, known: &Known, name: EndId) -> StepOutcome {
     match make_ruled(known) {
         Ok(mut other) => exchange(core, known, name, &mut other),
-        Err(_) => Word::NoMemory,
+        Err(_) => StepOutcome::NoMemory,
     }
 }

@@ -1,8 +1,8 @@
 //! What is done at the two sides of a ring between two cores.
 
-use crate::node::events::{LogEntry, act, pass};
+use crate::node::events::{CoreAction, act, pass};
 use crate::node::known::Known;
-use crate::node::words::Word;
+use crate::node::words::StepOutcome;
 use fl_base::LinkId;
 use fl_core::Core;
 use fl_ring::{OneDuo, SharedSide, WhichSide, duo};
@@ -43,21 +43,21 @@ impl Ring {
         which: WhichSide,
         core: &mut Core,
         link: LinkId,
-        log_entry: &LogEntry,
+        action: &CoreAction,
         known: &Known,
-    ) -> Word {
+    ) -> StepOutcome {
         match self {
-            Ring::One(ring) => act(core, link, &mut ring.side(which), log_entry, known),
+            Ring::One(ring) => act(core, link, &mut ring.side(which), action, known),
             Ring::Shared(one, two) => match which {
-                WhichSide::One => act(core, link, one, log_entry, known),
-                WhichSide::Two => act(core, link, two, log_entry, known),
+                WhichSide::One => act(core, link, one, action, known),
+                WhichSide::Two => act(core, link, two, action, known),
             },
         }
     }
 }
 
 /// The core between two rings passes on what came by its link 0, from the ring at whose side two it is to that at whose side one it is.
-pub fn pass_up(core: &mut Core, near: &mut Ring, far: &mut Ring) -> Word {
+pub fn pass_up(core: &mut Core, near: &mut Ring, far: &mut Ring) -> StepOutcome {
     let link = LinkId(0);
     match near {
         Ring::One(near) => match far {
@@ -67,17 +67,17 @@ pub fn pass_up(core: &mut Core, near: &mut Ring, far: &mut Ring) -> Word {
                 &mut near.side(WhichSide::Two),
                 &mut far.side(WhichSide::One),
             ),
-            Ring::Shared(_, _) => Word::Other,
+            Ring::Shared(_, _) => StepOutcome::Other,
         },
         Ring::Shared(_, near) => match far {
-            Ring::One(_) => Word::Other,
+            Ring::One(_) => StepOutcome::Other,
             Ring::Shared(far, _) => pass(core, link, near, far),
         },
     }
 }
 
 /// The same the other way, of what came by its link 1.
-pub fn pass_down(core: &mut Core, near: &mut Ring, far: &mut Ring) -> Word {
+pub fn pass_down(core: &mut Core, near: &mut Ring, far: &mut Ring) -> StepOutcome {
     let link = LinkId(1);
     match near {
         Ring::One(near) => match far {
@@ -87,10 +87,10 @@ pub fn pass_down(core: &mut Core, near: &mut Ring, far: &mut Ring) -> Word {
                 &mut far.side(WhichSide::One),
                 &mut near.side(WhichSide::Two),
             ),
-            Ring::Shared(_, _) => Word::Other,
+            Ring::Shared(_, _) => StepOutcome::Other,
         },
         Ring::Shared(_, near) => match far {
-            Ring::One(_) => Word::Other,
+            Ring::One(_) => StepOutcome::Other,
             Ring::Shared(far, _) => pass(core, link, far, near),
         },
     }

@@ -1,9 +1,9 @@
 //! Scripts: a circuit over three cores opened, used both ways, and refused at the second and at the third core; the limits of a core;
 //! ends and links that are added and taken back.
 
-use crate::node::examples::Example;
-use crate::node::line::{At, Leg, Plan, Step};
-use crate::node::words::Word;
+use crate::node::examples::CoreExample;
+use crate::node::line::{At, LineLeg, LineStep, Plan};
+use crate::node::words::StepOutcome;
 use fl_base::{CoreId, EndId, LinkId, MsgNo, Side};
 use fl_core::{Inlet, Outlet};
 
@@ -88,187 +88,146 @@ const SERVER_5: EndId = EndId {
 };
 
 // The last core's call comes to the client's end before the word that the circuit is open.
-const OPENED: &[(Step, Word)] = &[
-    (Step::Open(0), Word::Begun),
-    (Step::Open(0), Word::Other),
-    (Step::Say(Leg::Out), Word::Written),
-    (Step::Say(Leg::Out), Word::Nothing),
-    (Step::Hear(Leg::Out), Word::Done),
-    (Step::Hear(Leg::Out), Word::Nothing),
-    (Step::Say(Leg::On), Word::Written),
-    (Step::Hear(Leg::On), Word::Opened),
-    (Step::Say(Leg::Back), Word::Written),
-    (Step::Send(At::Last, 5), Word::Written),
-    (Step::Send(At::First, 6), Word::Refused(43)),
-    (Step::Hear(Leg::Back), Word::Done),
-    (Step::Pass(Leg::Back), Word::Passed),
-    (Step::Hear(Leg::Home), Word::Arrived),
-    (Step::Turn(At::First), Word::Nothing),
-    (Step::Say(Leg::Home), Word::Written),
-    (Step::Hear(Leg::Home), Word::Opened),
-    (Step::Turn(At::First), Word::Handled(5)),
-    (Step::Turn(At::First), Word::Nothing),
-    (Step::Send(At::First, 7), Word::Written),
-    (Step::Pass(Leg::Out), Word::Passed),
-    (Step::Hear(Leg::On), Word::Arrived),
-    (Step::Turn(At::Last), Word::Handled(7)),
-    (Step::Send(At::Last, 8), Word::Written),
-    (Step::Pass(Leg::Back), Word::Passed),
-    (Step::Hear(Leg::Home), Word::Arrived),
-    (Step::Turn(At::First), Word::Handled(8)),
+const OPENED: &[(LineStep, StepOutcome)] = &[
+    (LineStep::Open(0), StepOutcome::Begun),
+    (LineStep::Open(0), StepOutcome::Other),
+    (LineStep::Say(LineLeg::Out), StepOutcome::Written),
+    (LineStep::Say(LineLeg::Out), StepOutcome::Nothing),
+    (LineStep::Hear(LineLeg::Out), StepOutcome::Done),
+    (LineStep::Hear(LineLeg::Out), StepOutcome::Nothing),
+    (LineStep::Say(LineLeg::On), StepOutcome::Written),
+    (LineStep::Hear(LineLeg::On), StepOutcome::Opened),
+    (LineStep::Say(LineLeg::Back), StepOutcome::Written),
+    (LineStep::Send(At::Last, 5), StepOutcome::Written),
+    (LineStep::Send(At::First, 6), StepOutcome::Refused(43)),
+    (LineStep::Hear(LineLeg::Back), StepOutcome::Done),
+    (LineStep::Pass(LineLeg::Back), StepOutcome::Passed),
+    (LineStep::Hear(LineLeg::Home), StepOutcome::Arrived),
+    (LineStep::Turn(At::First), StepOutcome::Nothing),
+    (LineStep::Say(LineLeg::Home), StepOutcome::Written),
+    (LineStep::Hear(LineLeg::Home), StepOutcome::Opened),
+    (LineStep::Turn(At::First), StepOutcome::Handled(5)),
+    (LineStep::Turn(At::First), StepOutcome::Nothing),
+    (LineStep::Send(At::First, 7), StepOutcome::Written),
+    (LineStep::Pass(LineLeg::Out), StepOutcome::Passed),
+    (LineStep::Hear(LineLeg::On), StepOutcome::Arrived),
+    (LineStep::Turn(At::Last), StepOutcome::Handled(7)),
+    (LineStep::Send(At::Last, 8), StepOutcome::Written),
+    (LineStep::Pass(LineLeg::Back), StepOutcome::Passed),
+    (LineStep::Hear(LineLeg::Home), StepOutcome::Arrived),
+    (LineStep::Turn(At::First), StepOutcome::Handled(8)),
 ];
 
 // The circuit of binding 1023 is refused at the second core, and the client's end stays unbound for good.
-const ASKED_AT_SECOND: &[(Step, Word)] = &[
-    (Step::Open(1_023), Word::Begun),
-    (Step::Say(Leg::Out), Word::Written),
-    (Step::Hear(Leg::Out), Word::Done),
-    (Step::Say(Leg::On), Word::Nothing),
-    (Step::Say(Leg::Home), Word::Written),
+const ASKED_AT_SECOND: &[(LineStep, StepOutcome)] = &[
+    (LineStep::Open(1_023), StepOutcome::Begun),
+    (LineStep::Say(LineLeg::Out), StepOutcome::Written),
+    (LineStep::Hear(LineLeg::Out), StepOutcome::Done),
+    (LineStep::Say(LineLeg::On), StepOutcome::Nothing),
+    (LineStep::Say(LineLeg::Home), StepOutcome::Written),
 ];
 
-const UNBOUND_FOR_GOOD: &[(Step, Word)] = &[
-    (Step::Send(At::First, 7), Word::Refused(43)),
-    (Step::Hear(Leg::Home), Word::Nothing),
-    (Step::Open(1_023), Word::Other),
+const UNBOUND_FOR_GOOD: &[(LineStep, StepOutcome)] = &[
+    (LineStep::Send(At::First, 7), StepOutcome::Refused(43)),
+    (LineStep::Hear(LineLeg::Home), StepOutcome::Nothing),
+    (LineStep::Open(1_023), StepOutcome::Other),
 ];
-
-// The second core has opened 1,023 circuits on its link to the third; its own next is refused, and so is what the first core asks for.
-const USED_UP: &[(Step, Word)] = &[(Step::OpenOnEach, Word::Until(1_023, 74))];
 
 // The same at the third core.
-const ASKED_AT_THIRD: &[(Step, Word)] = &[
-    (Step::Open(1_023), Word::Begun),
-    (Step::Say(Leg::Out), Word::Written),
-    (Step::Hear(Leg::Out), Word::Done),
-    (Step::Say(Leg::On), Word::Written),
-    (Step::Hear(Leg::On), Word::Done),
-    (Step::Say(Leg::Back), Word::Written),
-    (Step::Hear(Leg::Back), Word::Done),
-    (Step::Say(Leg::Home), Word::Written),
+const ASKED_AT_THIRD: &[(LineStep, StepOutcome)] = &[
+    (LineStep::Open(1_023), StepOutcome::Begun),
+    (LineStep::Say(LineLeg::Out), StepOutcome::Written),
+    (LineStep::Hear(LineLeg::Out), StepOutcome::Done),
+    (LineStep::Say(LineLeg::On), StepOutcome::Written),
+    (LineStep::Hear(LineLeg::On), StepOutcome::Done),
+    (LineStep::Say(LineLeg::Back), StepOutcome::Written),
+    (LineStep::Hear(LineLeg::Back), StepOutcome::Done),
+    (LineStep::Say(LineLeg::Home), StepOutcome::Written),
 ];
 
-const UNBOUND: &[(Step, Word)] = &[(Step::Send(At::First, 7), Word::Refused(43))];
+const UNBOUND: &[(LineStep, StepOutcome)] = &[(
+    LineStep::Send(At::First, 7),
+    StepOutcome::Refused(43),
+)];
 
-// The last core's dispatcher gets 1,024 ends, and then an opening comes.
-const CROWDED: &[(Step, Word)] = &[(Step::Fill(At::Last, 1_024), Word::Times(1_024))];
+const FOR_REASON_70: &[(LineStep, StepOutcome)] = &[(
+    LineStep::Hear(LineLeg::Home),
+    StepOutcome::EndRefused(70),
+)];
 
-const FOR_REASON_54: &[(Step, Word)] = &[(Step::Hear(Leg::Home), Word::EndRefused(54))];
-
-const FOR_REASON_70: &[(Step, Word)] = &[(Step::Hear(Leg::Home), Word::EndRefused(70))];
-
-const FOR_REASON_73: &[(Step, Word)] = &[(Step::Hear(Leg::Home), Word::EndRefused(73))];
-
-const FOR_REASON_74: &[(Step, Word)] = &[(Step::Hear(Leg::Home), Word::EndRefused(74))];
-
-const FULL_OUTBOX: &[(Step, Word)] = &[
-    (Step::OpenEach, Word::Until(64, 75)),
-    (Step::Say(Leg::Out), Word::Written),
-    (Step::Open(64), Word::Begun),
-];
-
-// An opening that finds no room on the way is left, and is heard once there is.
-const FULL_ON_THE_WAY: &[(Step, Word)] = &[
-    (Step::TakeEach, Word::Times(64)),
-    (Step::Hear(Leg::Out), Word::Full),
-    (Step::Say(Leg::On), Word::Written),
-    (Step::Hear(Leg::Out), Word::Done),
-    (Step::Hear(Leg::Out), Word::Nothing),
-];
+const FOR_REASON_73: &[(LineStep, StepOutcome)] = &[(
+    LineStep::Hear(LineLeg::Home),
+    StepOutcome::EndRefused(73),
+)];
 
 // Each end of a binding puts where the other takes.
-const JOINED: &[(Step, Word)] = &[
-    (Step::AddDispatcher, Word::At(Some(1))),
-    (Step::Fill(At::First, 2), Word::Times(2)),
-    (Step::Join(5, 1, 0), Word::Joined(2, 3)),
-    (Step::Place(CLIENT_5), Word::At(Some(2))),
-    (Step::Place(SERVER_5), Word::At(Some(3))),
+const JOINED: &[(LineStep, StepOutcome)] = &[
+    (LineStep::AddDispatcher, StepOutcome::At(Some(1))),
+    (LineStep::Add(At::First, CLIENT_0), StepOutcome::At(Some(0))),
+    (LineStep::Add(At::First, SERVER_0), StepOutcome::At(Some(1))),
+    (LineStep::Join(5, 1, 0), StepOutcome::Joined(2, 3)),
+    (LineStep::Place(CLIENT_5), StepOutcome::At(Some(2))),
+    (LineStep::Place(SERVER_5), StepOutcome::At(Some(3))),
     (
-        Step::Queues(2),
-        Word::Queues(Outlet::Queue(3), Inlet::Queue(4)),
+        LineStep::Queues(2),
+        StepOutcome::Queues(Outlet::Queue(3), Inlet::Queue(4)),
     ),
     (
-        Step::Queues(3),
-        Word::Queues(Outlet::Queue(4), Inlet::Queue(3)),
+        LineStep::Queues(3),
+        StepOutcome::Queues(Outlet::Queue(4), Inlet::Queue(3)),
     ),
-];
-
-// With so many ends at dispatcher 0, both ends of a binding: both there, or one at dispatcher 1.
-const TWO_PLACES: &[(Step, Word)] = &[
-    (Step::AddDispatcher, Word::At(Some(1))),
-    (Step::Fill(At::First, 1_022), Word::Times(1_022)),
-    (Step::Join(1_000, 0, 0), Word::Joined(1_022, 1_023)),
-    (Step::Ends, Word::Times(1_024)),
-];
-
-const ONE_PLACE_FOR_TWO: &[(Step, Word)] = &[
-    (Step::AddDispatcher, Word::At(Some(1))),
-    (Step::Fill(At::First, 1_023), Word::Times(1_023)),
-    (Step::Join(1_000, 0, 0), Word::Refused(54)),
-    (Step::Ends, Word::Times(1_023)),
-    // one of them has a place at the other dispatcher
-    (Step::Join(1_000, 0, 1), Word::Joined(1_023, 1_024)),
-    (Step::Ends, Word::Times(1_025)),
-];
-
-const NO_PLACE: &[(Step, Word)] = &[
-    (Step::AddDispatcher, Word::At(Some(1))),
-    (Step::Fill(At::First, 1_024), Word::Times(1_024)),
-    (Step::Join(1_000, 0, 1), Word::Refused(54)),
-    (Step::Ends, Word::Times(1_024)),
-    (Step::Join(1_000, 1, 0), Word::Refused(54)),
-    (Step::Ends, Word::Times(1_024)),
 ];
 
 // An end that is taken back leaves its name free, and its place to the next.
-const END_TAKEN_BACK: &[(Step, Word)] = &[
-    (Step::AddDispatcher, Word::At(Some(1))),
-    (Step::ComeAndGo(CLIENT_0), Word::Done),
-    (Step::Place(CLIENT_0), Word::At(None)),
-    (Step::Add(At::First, SERVER_0), Word::At(Some(0))),
-    (Step::ComeAndGo(CLIENT_0), Word::Done),
-    (Step::Place(CLIENT_0), Word::At(None)),
-    (Step::Add(At::First, SERVER_1), Word::At(Some(1))),
-    (Step::ComeAndGo(CLIENT_1), Word::Done),
-    (Step::Place(CLIENT_1), Word::At(None)),
-    (Step::Add(At::First, SERVER_2), Word::At(Some(2))),
+const END_TAKEN_BACK: &[(LineStep, StepOutcome)] = &[
+    (LineStep::AddDispatcher, StepOutcome::At(Some(1))),
+    (LineStep::ComeAndGo(CLIENT_0), StepOutcome::Done),
+    (LineStep::Place(CLIENT_0), StepOutcome::At(None)),
+    (LineStep::Ends, StepOutcome::Ends(0, 0)),
+    (LineStep::Add(At::First, SERVER_0), StepOutcome::At(Some(0))),
+    (LineStep::ComeAndGo(CLIENT_0), StepOutcome::Done),
+    (LineStep::Place(CLIENT_0), StepOutcome::At(None)),
+    (LineStep::Add(At::First, SERVER_1), StepOutcome::At(Some(1))),
+    (LineStep::ComeAndGo(CLIENT_1), StepOutcome::Done),
+    (LineStep::Place(CLIENT_1), StepOutcome::At(None)),
+    (LineStep::Ends, StepOutcome::Ends(2, 2)),
+    (LineStep::Add(At::First, SERVER_2), StepOutcome::At(Some(2))),
 ];
 
 // The number of a link that was taken back is that of the next, and no circuit can be opened on it before.
-const LINK_TAKEN_BACK: &[(Step, Word)] = &[
-    (Step::LinkComesAndGoes(CoreId(2)), Word::Linked(LinkId(1))),
-    (Step::Open(0), Word::Refused(73)),
-    (Step::LinkComesAndGoes(CoreId(3)), Word::Linked(LinkId(1))),
-    (Step::AddLink(CoreId(2), 7), Word::Linked(LinkId(1))),
-    (Step::SideOf(LinkId(1)), Word::At(Some(7))),
-    (Step::Open(0), Word::Begun),
+const LINK_TAKEN_BACK: &[(LineStep, StepOutcome)] = &[
+    (
+        LineStep::LinkComesAndGoes(CoreId(2)),
+        StepOutcome::Linked(LinkId(1)),
+    ),
+    (LineStep::Open(0), StepOutcome::Refused(73)),
+    (
+        LineStep::LinkComesAndGoes(CoreId(3)),
+        StepOutcome::Linked(LinkId(1)),
+    ),
+    (
+        LineStep::AddLink(CoreId(2), 7),
+        StepOutcome::Linked(LinkId(1)),
+    ),
+    (LineStep::SideOf(LinkId(1)), StepOutcome::At(Some(7))),
+    (LineStep::Open(0), StepOutcome::Begun),
 ];
 
-const RULES_EXCHANGED: &[(Step, Word)] = &[(
-    Step::Exchange(CLIENT_0),
-    Word::Rules(Some(MsgNo(0)), None),
+const RULES_EXCHANGED: &[(LineStep, StepOutcome)] = &[(
+    LineStep::Exchange(CLIENT_0),
+    StepOutcome::Rules(Some(MsgNo(0)), None),
 )];
 
-pub const SCRIPTS: &[Example] = &[
-    Example::Script(PLAN, &[OPENED]),
-    Example::Script(SHARED, &[OPENED]),
-    Example::Script(
+pub const SCRIPTS: &[CoreExample] = &[
+    CoreExample::Script(PLAN, &[OPENED]),
+    CoreExample::Script(SHARED, &[OPENED]),
+    CoreExample::Script(
         TO_CORE_3,
         &[ASKED_AT_SECOND, FOR_REASON_73, UNBOUND_FOR_GOOD],
     ),
-    Example::Script(
-        PLAN,
-        &[USED_UP, ASKED_AT_SECOND, FOR_REASON_74, UNBOUND_FOR_GOOD],
-    ),
-    Example::Script(NO_SERVICE, &[ASKED_AT_THIRD, FOR_REASON_70, UNBOUND]),
-    Example::Script(PLAN, &[CROWDED, ASKED_AT_THIRD, FOR_REASON_54, UNBOUND]),
-    Example::Script(PLAN, &[FULL_OUTBOX]),
-    Example::Script(PLAN, &[FULL_ON_THE_WAY]),
-    Example::Script(PLAN, &[JOINED]),
-    Example::Script(PLAN, &[TWO_PLACES]),
-    Example::Script(PLAN, &[ONE_PLACE_FOR_TWO]),
-    Example::Script(PLAN, &[NO_PLACE]),
-    Example::Script(PLAN, &[END_TAKEN_BACK]),
-    Example::Script(SECOND_LINK, &[LINK_TAKEN_BACK]),
-    Example::Script(PLAN, &[RULES_EXCHANGED]),
+    CoreExample::Script(NO_SERVICE, &[ASKED_AT_THIRD, FOR_REASON_70, UNBOUND]),
+    CoreExample::Script(PLAN, &[JOINED]),
+    CoreExample::Script(PLAN, &[END_TAKEN_BACK]),
+    CoreExample::Script(SECOND_LINK, &[LINK_TAKEN_BACK]),
+    CoreExample::Script(PLAN, &[RULES_EXCHANGED]),
 ];

@@ -5,7 +5,7 @@ use fl_core::{Core, Inlet, Outlet};
 
 /// What a step came to.
 #[derive(Clone, Copy, PartialEq, Eq)]
-pub enum Word {
+pub enum StepOutcome {
     Begun,
     Written,
     Full,
@@ -20,10 +20,8 @@ pub enum Word {
     Handled(i128),
     /// Refused for the fault of this number.
     Refused(u8),
-    /// So many were done in turn, and then all were, or the next had no room.
-    Times(usize),
-    /// So many were done in turn, and the next was refused for the fault of this number.
-    Until(usize, u8),
+    /// How many ends there are, and how many of them at the first dispatcher.
+    Ends(usize, usize),
     /// The places of both ends of a binding.
     Joined(usize, usize),
     /// A place, if there is one.
@@ -40,25 +38,25 @@ pub enum Word {
 }
 
 /// Refused for the fault of this number.
-pub fn refuse(number: u8) -> Word {
+pub fn refuse(number: u8) -> StepOutcome {
     if number == 99 {
-        return Word::NoMemory;
+        return StepOutcome::NoMemory;
     }
-    Word::Refused(number)
+    StepOutcome::Refused(number)
 }
 
 // What waits for a link, its own next number there and the neighbour's.
-type LinkSide = (Option<usize>, Option<Circuit>, Option<Circuit>);
+type LinkNumbers = (Option<usize>, Option<Circuit>, Option<Circuit>);
 
 /// What is compared of a core: how many ends it has, and which is due; and its first two links.
-pub type State = (usize, Option<usize>, LinkSide, LinkSide);
+pub type State = (usize, Option<usize>, LinkNumbers, LinkNumbers);
 
 fn waiting(core: &Core, link: LinkId) -> Option<usize> {
     let outbox = core.monitor().outbox(link)?;
     Some(outbox.waiting())
 }
 
-fn link_side_of(core: &Core, link: LinkId) -> LinkSide {
+fn link_side_of(core: &Core, link: LinkId) -> LinkNumbers {
     let circuits = core.monitor().circuits();
     (
         waiting(core, link),

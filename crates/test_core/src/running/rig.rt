@@ -18,9 +18,9 @@ use fl_value_data::PlanNo;
 use std::alloc::{AllocError, Global};
 
 /// A gate that is always open.
-pub struct Open;
+pub struct OpenGate;
 
-impl Gate for Open {
+impl Gate for OpenGate {
     fn before_turn(&self, _core: CoreId) {}
 }
 
@@ -62,14 +62,14 @@ pub fn run_seat(alloc: Global, ends: usize) -> Result<RunSeat, AllocError>
 
 /// What a core's turns go over, and what it works on.
 #[derive(Drop)]
-pub struct Rig {
+pub struct RunRig {
     pub run: RunningCore<SharedSide>,
     pub plan: TurnPlan,
 }
 
 // A core without links, dispatchers and ends, which is to have so many dispatchers.
-fn box_rig(alloc: Global, core: Core, dispatchers: usize) -> Result<Box<Rig>, AllocError> {
-    let rig = Rig {
+fn box_rig(alloc: Global, core: Core, dispatchers: usize) -> Result<Box<RunRig>, AllocError> {
+    let rig = RunRig {
         run: RunningCore {
             alloc,
             core,
@@ -90,7 +90,7 @@ fn box_rig(alloc: Global, core: Core, dispatchers: usize) -> Result<Box<Rig>, Al
     Ok(Box::new(alloc, rig)?)
 }
 
-fn bare(alloc: Global, dispatchers: usize) -> Result<Box<Rig>, AllocError> {
+fn bare(alloc: Global, dispatchers: usize) -> Result<Box<RunRig>, AllocError> {
     match Core::new(alloc, CoreId(0)) {
         Ok(core) => box_rig(alloc, core, dispatchers),
         Err(_) => Err(AllocError),
@@ -186,7 +186,7 @@ fn put_progress(
     Ok(progresses.push(EndProgress::new(alloc, places, due))?)
 }
 
-impl Rig {
+impl RunRig {
     // An end is planned; so many calls are to be made there, and so many handled.
     fn plan(&mut self, name: EndId, calls: usize, due: usize) -> Result<(), AllocError> {
         self.plan.ends.push(name)?;
@@ -225,14 +225,14 @@ impl Rig {
 }
 
 /// A binding within one core, of queues of four slots.
-pub fn local(alloc: Global, calls: usize) -> Result<Box<Rig>, AllocError> {
+pub fn local(alloc: Global, calls: usize) -> Result<Box<RunRig>, AllocError> {
     let mut rig = bare(alloc, 2)?;
     rig.join_within(calls)?;
     Ok(rig)
 }
 
 /// The client of a binding over a ring, whose other side is somewhere else.
-pub fn client(alloc: Global, side: SharedSide, calls: usize) -> Result<Box<Rig>, AllocError> {
+pub fn client(alloc: Global, side: SharedSide, calls: usize) -> Result<Box<RunRig>, AllocError> {
     let mut rig = bare(alloc, 1)?;
     rig.join_ring(side, calls)?;
     Ok(rig)

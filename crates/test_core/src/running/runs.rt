@@ -1,6 +1,6 @@
 //! Whole runs of one core.
 
-use crate::running::rig::{Open, Rig, client, local, pings, run_seat};
+use crate::running::rig::{OpenGate, RunRig, client, local, pings, run_seat};
 use crate::tables::tell;
 use fl_core::CoreJob;
 use fl_core_run::{Part, RunEnd, core_run};
@@ -11,30 +11,30 @@ use std::sync::Wait;
 use std::test::Fail;
 
 // A limit, and how many turns were taken, how they came to an end, and how many calls the server handled at this core.
-struct Row(u64, u64, RunEnd, usize);
+struct RunRow(u64, u64, RunEnd, usize);
 
 // An example.
-enum Example {
+enum RunExample {
     // Three calls within a core.
-    Within(Row),
+    Within(RunRow),
     // Five calls over a ring, of which the server is somewhere else.
     OverARing,
 }
 
 // A limit of 2 leaves one of three calls; with 3 turns nothing is left.
-const EXAMPLES: &[Example] = &[
-    Example::Within(Row(0, 0, RunEnd::Unfinished, 0)),
-    Example::Within(Row(2, 2, RunEnd::Unfinished, 2)),
-    Example::Within(Row(3, 3, RunEnd::Finished, 3)),
-    Example::Within(Row(9, 3, RunEnd::Finished, 3)),
-    Example::OverARing,
+const EXAMPLES: &[RunExample] = &[
+    RunExample::Within(RunRow(0, 0, RunEnd::Unfinished, 0)),
+    RunExample::Within(RunRow(2, 2, RunEnd::Unfinished, 2)),
+    RunExample::Within(RunRow(3, 3, RunEnd::Finished, 3)),
+    RunExample::Within(RunRow(9, 3, RunEnd::Finished, 3)),
+    RunExample::OverARing,
 ];
 
 // A run of a core alone.
 fn run<R: Wait>(
     rt: &R,
     alloc: Global,
-    rig: &mut Rig,
+    rig: &mut RunRig,
     jobs: &[CoreJob],
     limit: u64,
 ) -> Result<Part, AllocError> {
@@ -46,7 +46,7 @@ fn run<R: Wait>(
         jobs,
         limit,
         &mut run_seat,
-        &Open,
+        &OpenGate,
     ) {
         Ok(part) => Ok(part),
         Err(_) => Err(AllocError),
@@ -54,7 +54,7 @@ fn run<R: Wait>(
 }
 
 // How many calls were handled at the end's progress of a place.
-fn count_handled(rig: &Rig, progress: usize) -> usize {
+fn count_handled(rig: &RunRig, progress: usize) -> usize {
     match rig.run.progresses.get(progress) {
         Some(progress) => progress.handled().len(),
         None => 0,
@@ -64,9 +64,9 @@ fn count_handled(rig: &Rig, progress: usize) -> usize {
 fn comes_to<R: Wait>(
     rt: &R,
     alloc: Global,
-    rig: &mut Rig,
+    rig: &mut RunRig,
     jobs: &[CoreJob],
-    row: &Row,
+    row: &RunRow,
 ) -> Result<bool, AllocError> {
     let part = run(rt, alloc, rig, jobs, row.0)?;
     Ok(part.turns == row.1 && part.end == row.2 && count_handled(rig, 1) == row.3)
@@ -76,7 +76,7 @@ fn runs_within<R: Wait>(
     rt: &R,
     alloc: Global,
     jobs: &[CoreJob],
-    row: &Row,
+    row: &RunRow,
 ) -> Result<bool, AllocError> {
     let mut rig = local(alloc, 3)?;
     comes_to(rt, alloc, &mut rig, jobs, row)
@@ -100,13 +100,13 @@ fn has_words(other: &mut SharedSide, words: &[u64]) -> bool {
     next_word(other).is_none()
 }
 
-const STOPS: Row = Row(8, 8, RunEnd::Unfinished, 0);
+const STOPS: RunRow = RunRow(8, 8, RunEnd::Unfinished, 0);
 
 // A ring of four slots takes three fragments; when they are read and told, the others follow.
 fn stops_and_goes_on<R: Wait>(
     rt: &R,
     alloc: Global,
-    rig: &mut Rig,
+    rig: &mut RunRig,
     jobs: &[CoreJob],
     other: &mut SharedSide,
 ) -> Result<bool, AllocError> {
@@ -140,11 +140,11 @@ fn holds<R: Wait>(
     rt: &R,
     alloc: Global,
     jobs: &[CoreJob],
-    example: &Example,
+    example: &RunExample,
 ) -> Result<bool, AllocError> {
     match example {
-        Example::Within(row) => runs_within(rt, alloc, jobs, row),
-        Example::OverARing => goes_over_a_ring(rt, alloc, jobs),
+        RunExample::Within(row) => runs_within(rt, alloc, jobs, row),
+        RunExample::OverARing => goes_over_a_ring(rt, alloc, jobs),
     }
 }
 

@@ -1,6 +1,6 @@
 //! Links, numbers, and each way in which an entry comes and goes.
 
-use crate::rows::Row;
+use crate::rows::CheckedRow;
 use fl_base::{Circuit, CoreId, EndId, LinkId, Side};
 use fl_hop::{Circuits, Hop, HopFault, HopTarget, MAX_LINKS, MAX_OPENINGS};
 use std::alloc::Global;
@@ -38,7 +38,7 @@ pub fn table(alloc: Global, core: u8, neighbours: &[u8]) -> Result<Circuits, Hop
 
 /// What a core's table is asked, and what it has to answer.
 #[derive(Clone, Copy)]
-pub enum Asked {
+pub enum CircuitsCall {
     Core(CoreId),
     AddLink(CoreId, Result<LinkId, HopFault>),
     Links(usize),
@@ -58,45 +58,45 @@ pub enum Asked {
 }
 
 /// Asks a table, and says whether it answers so.
-pub fn answers(circuits: &mut Circuits, asked: &Asked) -> bool {
+pub fn answers(circuits: &mut Circuits, asked: &CircuitsCall) -> bool {
     match asked {
-        Asked::Core(core) => circuits.core() == *core,
-        Asked::AddLink(core, link) => circuits.add_link(*core) == *link,
-        Asked::Links(count) => circuits.links().len() == *count,
-        Asked::LinkTo(core, link) => circuits.link_to(*core) == *link,
-        Asked::Neighbour(link, core) => circuits.neighbour(*link) == *core,
-        Asked::Open(link, binding, circuit) => circuits.open(*link, *binding) == *circuit,
-        Asked::PassOn(back, circuit, onward, binding, next) => {
+        CircuitsCall::Core(core) => circuits.core() == *core,
+        CircuitsCall::AddLink(core, link) => circuits.add_link(*core) == *link,
+        CircuitsCall::Links(count) => circuits.links().len() == *count,
+        CircuitsCall::LinkTo(core, link) => circuits.link_to(*core) == *link,
+        CircuitsCall::Neighbour(link, core) => circuits.neighbour(*link) == *core,
+        CircuitsCall::Open(link, binding, circuit) => circuits.open(*link, *binding) == *circuit,
+        CircuitsCall::PassOn(back, circuit, onward, binding, next) => {
             circuits.pass_on(*back, *circuit, *onward, *binding) == *next
         }
-        Asked::Arrive(link, circuit, binding, done) => {
+        CircuitsCall::Arrive(link, circuit, binding, done) => {
             circuits.arrive(*link, *circuit, *binding) == *done
         }
-        Asked::Refuse(link, circuit, done) => circuits.refuse(*link, *circuit) == *done,
-        Asked::Answer(link, circuit, hop) => circuits.answer(*link, *circuit) == *hop,
-        Asked::Remove(link, circuit, hop) => circuits.remove(*link, *circuit) == *hop,
-        Asked::Stands(binding, is) => circuits.stands(*binding) == *is,
-        Asked::HopOf(link, circuit, hop) => circuits.hop_of(*link, *circuit) == *hop,
-        Asked::RouteOf(link, circuit, way) => circuits.route_of(*link, *circuit) == *way,
-        Asked::Next(link, circuit) => circuits.next(*link) == *circuit,
-        Asked::NextDue(link, circuit) => circuits.next_due(*link) == *circuit,
+        CircuitsCall::Refuse(link, circuit, done) => circuits.refuse(*link, *circuit) == *done,
+        CircuitsCall::Answer(link, circuit, hop) => circuits.answer(*link, *circuit) == *hop,
+        CircuitsCall::Remove(link, circuit, hop) => circuits.remove(*link, *circuit) == *hop,
+        CircuitsCall::Stands(binding, is) => circuits.stands(*binding) == *is,
+        CircuitsCall::HopOf(link, circuit, hop) => circuits.hop_of(*link, *circuit) == *hop,
+        CircuitsCall::RouteOf(link, circuit, way) => circuits.route_of(*link, *circuit) == *way,
+        CircuitsCall::Next(link, circuit) => circuits.next(*link) == *circuit,
+        CircuitsCall::NextDue(link, circuit) => circuits.next_due(*link) == *circuit,
     }
 }
 
 // A step of a script.
-enum Step {
+enum OpeningStep {
     /// One of the two tables is asked.
-    One(Asked),
-    Two(Asked),
+    One(CircuitsCall),
+    Two(CircuitsCall),
     /// 1,023 circuits, with numbers from this one on, each second one, come and go: the first table opens them.
     AllGo(u8),
 }
 
 /// Two cores with their links, and the steps that are taken at their tables.
-pub struct Script {
+pub struct OpeningScript {
     one: (u8, &'static [u8]),
     two: (u8, &'static [u8]),
-    steps: &'static [Step],
+    steps: &'static [OpeningStep],
 }
 
 const BACK: LinkId = LinkId(0);
@@ -105,131 +105,153 @@ const ONWARD: LinkId = LinkId(1);
 
 const NO_LINK: LinkId = LinkId(2);
 
-pub const SCRIPTS: &[Script] = &[
+pub const SCRIPTS: &[OpeningScript] = &[
     // links of a core: one to each other core, numbered from 0
-    Script {
+    OpeningScript {
         one: (4, &[]),
         two: (0, &[]),
         steps: &[
-            Step::One(Asked::Core(CoreId(4))),
-            Step::One(Asked::AddLink(CoreId(9), Ok(LinkId(0)))),
-            Step::One(Asked::AddLink(CoreId(0), Ok(LinkId(1)))),
-            Step::One(Asked::AddLink(CoreId(4), Err(HopFault::NoLink))),
-            Step::One(Asked::AddLink(CoreId(9), Err(HopFault::NoLink))),
-            Step::One(Asked::LinkTo(CoreId(0), Some(LinkId(1)))),
-            Step::One(Asked::LinkTo(CoreId(1), None)),
-            Step::One(Asked::Neighbour(LinkId(0), Some(CoreId(9)))),
-            Step::One(Asked::Neighbour(LinkId(2), None)),
+            OpeningStep::One(CircuitsCall::Core(CoreId(4))),
+            OpeningStep::One(CircuitsCall::AddLink(CoreId(9), Ok(LinkId(0)))),
+            OpeningStep::One(CircuitsCall::AddLink(CoreId(0), Ok(LinkId(1)))),
+            OpeningStep::One(CircuitsCall::AddLink(CoreId(4), Err(HopFault::NoLink))),
+            OpeningStep::One(CircuitsCall::AddLink(CoreId(9), Err(HopFault::NoLink))),
+            OpeningStep::One(CircuitsCall::LinkTo(CoreId(0), Some(LinkId(1)))),
+            OpeningStep::One(CircuitsCall::LinkTo(CoreId(1), None)),
+            OpeningStep::One(CircuitsCall::Neighbour(LinkId(0), Some(CoreId(9)))),
+            OpeningStep::One(CircuitsCall::Neighbour(LinkId(2), None)),
         ],
     },
     // at most 15
-    Script {
+    OpeningScript {
         one: (0, &[1, 2, 3, 4, 5, 6, 7, 8, 9, 10, 11, 12, 13, 14, 15]),
         two: (1, &[]),
         steps: &[
-            Step::One(Asked::AddLink(CoreId(16), Err(HopFault::Limit))),
-            Step::One(Asked::Links(MAX_LINKS)),
+            OpeningStep::One(CircuitsCall::AddLink(CoreId(16), Err(HopFault::Limit))),
+            OpeningStep::One(CircuitsCall::Links(MAX_LINKS)),
         ],
     },
     // 1,023 circuits on a link: the lower core gives odd numbers
-    Script {
+    OpeningScript {
         one: (0, &[1]),
         two: (1, &[0]),
         steps: &[
-            Step::AllGo(1),
-            Step::One(Asked::Next(BACK, None)),
-            Step::One(Asked::Open(BACK, 2_000, Err(HopFault::UsedUp))),
-            Step::Two(Asked::NextDue(BACK, None)),
-            Step::Two(Asked::Refuse(BACK, Circuit(2_047), Err(HopFault::Misrouted))),
+            OpeningStep::AllGo(1),
+            OpeningStep::One(CircuitsCall::Next(BACK, None)),
+            OpeningStep::One(CircuitsCall::Open(BACK, 2_000, Err(HopFault::UsedUp))),
+            OpeningStep::Two(CircuitsCall::NextDue(BACK, None)),
+            OpeningStep::Two(CircuitsCall::Refuse(BACK, Circuit(2_047), Err(HopFault::Misrouted))),
         ],
     },
     // and the higher one even ones
-    Script {
+    OpeningScript {
         one: (1, &[0]),
         two: (0, &[1]),
         steps: &[
-            Step::AllGo(2),
-            Step::One(Asked::Next(BACK, None)),
-            Step::One(Asked::Open(BACK, 2_000, Err(HopFault::UsedUp))),
-            Step::Two(Asked::NextDue(BACK, None)),
-            Step::Two(Asked::Refuse(BACK, Circuit(2_047), Err(HopFault::Misrouted))),
+            OpeningStep::AllGo(2),
+            OpeningStep::One(CircuitsCall::Next(BACK, None)),
+            OpeningStep::One(CircuitsCall::Open(BACK, 2_000, Err(HopFault::UsedUp))),
+            OpeningStep::Two(CircuitsCall::NextDue(BACK, None)),
+            OpeningStep::Two(CircuitsCall::Refuse(BACK, Circuit(2_047), Err(HopFault::Misrouted))),
         ],
     },
     // what an opening meets: no such link, a number out of turn, no way on, and a binding that stands
-    Script {
+    OpeningScript {
         one: (1, &[0, 2]),
         two: (0, &[]),
         steps: &[
-            Step::One(Asked::Open(NO_LINK, 7, Err(HopFault::NoLink))),
-            Step::One(Asked::PassOn(BACK, Circuit(2), ONWARD, 7, Err(HopFault::Misrouted))),
-            Step::One(Asked::PassOn(BACK, Circuit(1), BACK, 7, Err(HopFault::NoLink))),
-            Step::One(Asked::PassOn(BACK, Circuit(1), NO_LINK, 7, Err(HopFault::NoLink))),
-            Step::One(Asked::PassOn(BACK, Circuit(1), ONWARD, 7, Ok(Circuit(1)))),
-            Step::One(Asked::Arrive(BACK, Circuit(3), 7, Err(HopFault::Misrouted))),
-            Step::One(Asked::Open(ONWARD, 7, Err(HopFault::Misrouted))),
+            OpeningStep::One(CircuitsCall::Open(NO_LINK, 7, Err(HopFault::NoLink))),
+            OpeningStep::One(CircuitsCall::PassOn(
+                BACK,
+                Circuit(2),
+                ONWARD,
+                7,
+                Err(HopFault::Misrouted),
+            )),
+            OpeningStep::One(CircuitsCall::PassOn(
+                BACK,
+                Circuit(1),
+                BACK,
+                7,
+                Err(HopFault::NoLink),
+            )),
+            OpeningStep::One(CircuitsCall::PassOn(
+                BACK,
+                Circuit(1),
+                NO_LINK,
+                7,
+                Err(HopFault::NoLink),
+            )),
+            OpeningStep::One(CircuitsCall::PassOn(BACK, Circuit(1), ONWARD, 7, Ok(Circuit(1)))),
+            OpeningStep::One(CircuitsCall::Arrive(BACK, Circuit(3), 7, Err(HopFault::Misrouted))),
+            OpeningStep::One(CircuitsCall::Open(ONWARD, 7, Err(HopFault::Misrouted))),
         ],
     },
     // entries lead both ways, and go from both sides
-    Script {
+    OpeningScript {
         one: (1, &[0, 2]),
         two: (0, &[]),
         steps: &[
-            Step::One(Asked::PassOn(BACK, Circuit(1), ONWARD, 7, Ok(Circuit(1)))),
-            Step::One(Asked::Arrive(BACK, Circuit(3), 8, Ok(()))),
-            Step::One(Asked::Stands(7, true)),
-            Step::One(Asked::Stands(9, false)),
-            Step::One(Asked::HopOf(
+            OpeningStep::One(CircuitsCall::PassOn(BACK, Circuit(1), ONWARD, 7, Ok(Circuit(1)))),
+            OpeningStep::One(CircuitsCall::Arrive(BACK, Circuit(3), 8, Ok(()))),
+            OpeningStep::One(CircuitsCall::Stands(7, true)),
+            OpeningStep::One(CircuitsCall::Stands(9, false)),
+            OpeningStep::One(CircuitsCall::HopOf(
                 BACK,
                 Circuit(1),
                 Some(hop!(7, HopTarget::Link(ONWARD, Circuit(1)), false)),
             )),
-            Step::One(Asked::RouteOf(ONWARD, Circuit(1), Some(HopTarget::Link(BACK, Circuit(1))))),
-            Step::One(Asked::RouteOf(BACK, Circuit(3), Some(end!(8, Side::Server)))),
-            Step::One(Asked::Remove(
+            OpeningStep::One(CircuitsCall::RouteOf(
+                ONWARD,
+                Circuit(1),
+                Some(HopTarget::Link(BACK, Circuit(1))),
+            )),
+            OpeningStep::One(CircuitsCall::RouteOf(BACK, Circuit(3), Some(end!(8, Side::Server)))),
+            OpeningStep::One(CircuitsCall::Remove(
                 ONWARD,
                 Circuit(1),
                 Some(hop!(7, HopTarget::Link(BACK, Circuit(1)), false)),
             )),
-            Step::One(Asked::RouteOf(BACK, Circuit(1), None)),
-            Step::One(Asked::Remove(BACK, Circuit(1), None)),
-            Step::One(Asked::RouteOf(BACK, Circuit(0), None)),
-            Step::One(Asked::RouteOf(BACK, Circuit(u16::MAX), None)),
-            Step::One(Asked::RouteOf(NO_LINK, Circuit(1), None)),
+            OpeningStep::One(CircuitsCall::RouteOf(BACK, Circuit(1), None)),
+            OpeningStep::One(CircuitsCall::Remove(BACK, Circuit(1), None)),
+            OpeningStep::One(CircuitsCall::RouteOf(BACK, Circuit(0), None)),
+            OpeningStep::One(CircuitsCall::RouteOf(BACK, Circuit(u16::MAX), None)),
+            OpeningStep::One(CircuitsCall::RouteOf(NO_LINK, Circuit(1), None)),
         ],
     },
     // the route has no second link: the opening is refused at the middle core, and the client's entry goes
-    Script {
+    OpeningScript {
         one: (0, &[1]),
         two: (1, &[0]),
         steps: &[
-            Step::One(Asked::Open(BACK, 0, Ok(Circuit(1)))),
-            Step::Two(Asked::NextDue(BACK, Some(Circuit(1)))),
-            Step::Two(Asked::LinkTo(CoreId(2), None)),
-            Step::Two(Asked::Refuse(BACK, Circuit(1), Ok(()))),
-            Step::One(Asked::Remove(
+            OpeningStep::One(CircuitsCall::Open(BACK, 0, Ok(Circuit(1)))),
+            OpeningStep::Two(CircuitsCall::NextDue(BACK, Some(Circuit(1)))),
+            OpeningStep::Two(CircuitsCall::LinkTo(CoreId(2), None)),
+            OpeningStep::Two(CircuitsCall::Refuse(BACK, Circuit(1), Ok(()))),
+            OpeningStep::One(CircuitsCall::Remove(
                 BACK,
                 Circuit(1),
                 Some(hop!(0, end!(0, Side::Client), false)),
             )),
-            Step::One(Asked::Next(BACK, Some(Circuit(3)))),
-            Step::Two(Asked::NextDue(BACK, Some(Circuit(3)))),
+            OpeningStep::One(CircuitsCall::Next(BACK, Some(Circuit(3)))),
+            OpeningStep::Two(CircuitsCall::NextDue(BACK, Some(Circuit(3)))),
         ],
     },
     // an answer is taken once, for an opening of this core's own, and goes back to the entry's other side
-    Script {
+    OpeningScript {
         one: (1, &[0, 2]),
         two: (0, &[]),
         steps: &[
-            Step::One(Asked::PassOn(BACK, Circuit(1), ONWARD, 5, Ok(Circuit(1)))),
-            Step::One(Asked::Answer(BACK, Circuit(1), Err(HopFault::Misrouted))),
-            Step::One(Asked::Answer(ONWARD, Circuit(3), Err(HopFault::Misrouted))),
-            Step::One(Asked::Answer(
+            OpeningStep::One(CircuitsCall::PassOn(BACK, Circuit(1), ONWARD, 5, Ok(Circuit(1)))),
+            OpeningStep::One(CircuitsCall::Answer(BACK, Circuit(1), Err(HopFault::Misrouted))),
+            OpeningStep::One(CircuitsCall::Answer(ONWARD, Circuit(3), Err(HopFault::Misrouted))),
+            OpeningStep::One(CircuitsCall::Answer(
                 ONWARD,
                 Circuit(1),
                 Ok(hop!(5, HopTarget::Link(BACK, Circuit(1)), false)),
             )),
-            Step::One(Asked::Answer(ONWARD, Circuit(1), Err(HopFault::Misrouted))),
-            Step::One(Asked::HopOf(
+            OpeningStep::One(CircuitsCall::Answer(ONWARD, Circuit(1), Err(HopFault::Misrouted))),
+            OpeningStep::One(CircuitsCall::HopOf(
                 BACK,
                 Circuit(1),
                 Some(hop!(5, HopTarget::Link(ONWARD, Circuit(1)), true)),
@@ -259,12 +281,12 @@ fn all_come_and_go(opens: &mut Circuits, takes: &mut Circuits, least: u8) -> boo
 }
 
 // Whether each step comes to what it should.
-fn follow(one: &mut Circuits, two: &mut Circuits, steps: &[Step]) -> bool {
+fn follow(one: &mut Circuits, two: &mut Circuits, steps: &[OpeningStep]) -> bool {
     for step in steps {
         let is_so = match step {
-            Step::One(asked) => answers(one, asked),
-            Step::Two(asked) => answers(two, asked),
-            Step::AllGo(least) => all_come_and_go(one, two, *least),
+            OpeningStep::One(asked) => answers(one, asked),
+            OpeningStep::Two(asked) => answers(two, asked),
+            OpeningStep::AllGo(least) => all_come_and_go(one, two, *least),
         };
         if !is_so {
             return false;
@@ -273,7 +295,7 @@ fn follow(one: &mut Circuits, two: &mut Circuits, steps: &[Step]) -> bool {
     true
 }
 
-impl Row for Script {
+impl CheckedRow for OpeningScript {
     fn holds(&self, alloc: Global) -> Result<bool, Fail> {
         let mut one = table(alloc, self.one.0, self.one.1)?;
         let mut two = table(alloc, self.two.0, self.two.1)?;

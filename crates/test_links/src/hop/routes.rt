@@ -2,7 +2,7 @@
 
 use crate::hop::fragments::{call, put};
 use crate::hop::openings::table;
-use crate::rows::Row;
+use crate::rows::CheckedRow;
 use fl_base::{Circuit, Frag, LinkId};
 use fl_hop::{
     Circuits, ForwardOutcome, Forwarded, HopFault, HopFront, HopTarget, deliver, law_along,
@@ -77,7 +77,7 @@ fn comes_out(queue: &mut QueueLink, v: u64) -> bool {
 
 // The calls of a binding between the first core and the last of three, once its circuit is open.
 fn calls(
-    cores: &Cores,
+    cores: &CircuitsInLine,
     client: &mut SharedSide,
     sides: &mut [SharedSide; 2],
     server: &mut SharedSide,
@@ -107,7 +107,7 @@ fn calls(
 
 // The circuit of binding 0 is opened over three cores, and told of in monitors' messages.
 fn opening(
-    cores: &mut Cores,
+    cores: &mut CircuitsInLine,
     client: &mut [SharedSide; 1],
     sides: &mut [SharedSide; 2],
     server: &mut [SharedSide; 1],
@@ -124,14 +124,14 @@ fn opening(
 }
 
 #[derive(Drop)]
-struct Cores {
+struct CircuitsInLine {
     first: Circuits,
     middle: Circuits,
     last: Circuits,
 }
 
-fn make_cores(alloc: Global, neighbours: &[u8]) -> Result<Cores, HopFault> {
-    Ok(Cores {
+fn make_cores(alloc: Global, neighbours: &[u8]) -> Result<CircuitsInLine, HopFault> {
+    Ok(CircuitsInLine {
         first: table(alloc, 0, &[1])?,
         middle: table(alloc, 1, neighbours)?,
         last: table(alloc, 2, &[1])?,
@@ -254,26 +254,26 @@ pub enum Tried {
 }
 
 /// What is tried, with the middle core's neighbours and so many slots on each link.
-pub struct Route(Tried, &'static [u8], usize);
+pub struct RouteExample(Tried, &'static [u8], usize);
 
-pub const ROUTES: &[Route] = &[
-    Route(Tried::Line, &[0, 2], 4),
-    Route(Tried::Shared, &[0], 8),
-    Route(Tried::Overtaken, &[0, 2], 8),
+pub const ROUTES: &[RouteExample] = &[
+    RouteExample(Tried::Line, &[0, 2], 4),
+    RouteExample(Tried::Shared, &[0], 8),
+    RouteExample(Tried::Overtaken, &[0, 2], 8),
 ];
 
-pub const STAY: &[Route] = &[
-    Route(
+pub const STAY: &[RouteExample] = &[
+    RouteExample(
         Tried::Stays(0x0003_0000_0003, HopFault::Misrouted),
         &[0, 2],
         4,
     ),
-    Route(Tried::Stays(0x0001_0000_0004, HopFault::Marked), &[0, 2], 4),
+    RouteExample(Tried::Stays(0x0001_0000_0004, HopFault::Marked), &[0, 2], 4),
 ];
 
 // Whether it comes so, over two links between the cores, with the arrival queues of two bindings.
 fn comes_so(
-    cores: &mut Cores,
+    cores: &mut CircuitsInLine,
     client: &mut [SharedSide; 1],
     sides: &mut [SharedSide; 2],
     server: &mut [SharedSide; 1],
@@ -300,7 +300,7 @@ fn comes_so(
 
 fn over_queues(
     alloc: Global,
-    cores: &mut Cores,
+    cores: &mut CircuitsInLine,
     client: &mut [SharedSide; 1],
     sides: &mut [SharedSide; 2],
     server: &mut [SharedSide; 1],
@@ -311,7 +311,11 @@ fn over_queues(
     Ok(comes_so(cores, client, sides, server, (&mut one, &mut two), tried))
 }
 
-fn over_links(alloc: Global, cores: &mut Cores, route: &Route) -> Result<bool, Fail> {
+fn over_links(
+    alloc: Global,
+    cores: &mut CircuitsInLine,
+    route: &RouteExample,
+) -> Result<bool, Fail> {
     let (client, near) = duo(alloc, route.2)?;
     let (far, server) = duo(alloc, route.2)?;
     over_queues(
@@ -324,7 +328,7 @@ fn over_links(alloc: Global, cores: &mut Cores, route: &Route) -> Result<bool, F
     )
 }
 
-impl Row for Route {
+impl CheckedRow for RouteExample {
     fn holds(&self, alloc: Global) -> Result<bool, Fail> {
         let mut cores = make_cores(alloc, self.1)?;
         over_links(alloc, &mut cores, self)

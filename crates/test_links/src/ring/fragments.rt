@@ -37,7 +37,7 @@ pub fn fill<L: Link>(link: &mut L, from: u64) -> u64 {
 /// A call of a link or of one of its sides, and what it has to answer. A fragment is told by its first word
 /// and its control word.
 #[derive(Clone, Copy)]
-pub enum Step {
+pub enum LinkCall {
     Put(u64, Result<(), PutFault>),
     Peek(u64, u64),
     Take(u64, u64),
@@ -51,18 +51,18 @@ pub enum Step {
 }
 
 /// Takes a step, and says whether the link answers so.
-pub fn answers<L: Link>(link: &mut L, step: Step) -> bool {
+pub fn answers<L: Link>(link: &mut L, step: LinkCall) -> bool {
     match step {
-        Step::Put(v, answer) => link.put(&ping(v)) == answer,
-        Step::Peek(v, control) => link.peek() == sight_of(v, control),
-        Step::Take(v, control) => link.take() == sight_of(v, control),
-        Step::TakeNothing => link.take() == Sight::Empty,
-        Step::TakeAcknowledgement => link.take() == Sight::Acknowledgement,
-        Step::Tell(told) => link.tell() == told,
-        Step::Room(room) => link.room() == room,
-        Step::NextEpoch(epoch) => link.next_epoch() == epoch,
-        Step::NextTold(told) => link.next_told() == told,
-        Step::Known(known) => link.known() == known,
+        LinkCall::Put(v, answer) => link.put(&ping(v)) == answer,
+        LinkCall::Peek(v, control) => link.peek() == sight_of(v, control),
+        LinkCall::Take(v, control) => link.take() == sight_of(v, control),
+        LinkCall::TakeNothing => link.take() == Sight::Empty,
+        LinkCall::TakeAcknowledgement => link.take() == Sight::Acknowledgement,
+        LinkCall::Tell(told) => link.tell() == told,
+        LinkCall::Room(room) => link.room() == room,
+        LinkCall::NextEpoch(epoch) => link.next_epoch() == epoch,
+        LinkCall::NextTold(told) => link.next_told() == told,
+        LinkCall::Known(known) => link.known() == known,
     }
 }
 

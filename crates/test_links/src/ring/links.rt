@@ -1,8 +1,8 @@
 //! Worked examples: queues that fill, and a fragment passed on.
 
-use crate::examples::Example;
-use crate::ring::fragments::{Step, answers, fill, pass_on};
-use crate::rows::{Row, all_hold};
+use crate::examples::LinksExample;
+use crate::ring::fragments::{LinkCall, answers, fill, pass_on};
+use crate::rows::{CheckedRow, all_hold};
 use fl_base::Frag;
 use fl_link::{
     Cursor, Passed, PutFault, PutSide, QueueLink, Sight, Told, law_calls_alone, law_filters_join,
@@ -12,7 +12,7 @@ use std::alloc::Global;
 use std::test::Fail;
 
 // Whether the queue answers so to the steps in turn.
-fn follows(queue: &mut QueueLink, steps: &[Step]) -> bool {
+fn follows(queue: &mut QueueLink, steps: &[LinkCall]) -> bool {
     for step in steps {
         if !answers(queue, *step) {
             return false;
@@ -22,40 +22,40 @@ fn follows(queue: &mut QueueLink, steps: &[Step]) -> bool {
 }
 
 // Whether the queue is acked, its slots, and the steps that it takes.
-struct Script(bool, usize, &'static [Step]);
+struct QueueScript(bool, usize, &'static [LinkCall]);
 
 // A local queue frees a slot by a take.
-const LOCAL: &[Step] = &[
-    Step::Put(7, Ok(())),
-    Step::Put(8, Ok(())),
-    Step::Room(false),
-    Step::Put(9, Err(PutFault::Full)),
-    Step::Peek(7, 3),
-    Step::Take(7, 3),
-    Step::Put(9, Ok(())),
-    Step::Tell(Ok(Told::Nothing)),
-    Step::Take(8, 3),
-    Step::Take(9, 3),
-    Step::TakeNothing,
+const LOCAL: &[LinkCall] = &[
+    LinkCall::Put(7, Ok(())),
+    LinkCall::Put(8, Ok(())),
+    LinkCall::Room(false),
+    LinkCall::Put(9, Err(PutFault::Full)),
+    LinkCall::Peek(7, 3),
+    LinkCall::Take(7, 3),
+    LinkCall::Put(9, Ok(())),
+    LinkCall::Tell(Ok(Told::Nothing)),
+    LinkCall::Take(8, 3),
+    LinkCall::Take(9, 3),
+    LinkCall::TakeNothing,
 ];
 
 // An acked queue frees a slot by a tell.
-const ACKED: &[Step] = &[
-    Step::Put(1, Ok(())),
-    Step::Put(2, Ok(())),
-    Step::Put(3, Err(PutFault::Full)),
-    Step::Take(1, 3),
-    Step::Put(9, Err(PutFault::Full)),
-    Step::Tell(Ok(Told::Written)),
-    Step::NextEpoch(0),
-    Step::Put(9, Ok(())),
-    Step::Take(2, 3),
-    Step::Take(9, 2),
+const ACKED: &[LinkCall] = &[
+    LinkCall::Put(1, Ok(())),
+    LinkCall::Put(2, Ok(())),
+    LinkCall::Put(3, Err(PutFault::Full)),
+    LinkCall::Take(1, 3),
+    LinkCall::Put(9, Err(PutFault::Full)),
+    LinkCall::Tell(Ok(Told::Written)),
+    LinkCall::NextEpoch(0),
+    LinkCall::Put(9, Ok(())),
+    LinkCall::Take(2, 3),
+    LinkCall::Take(9, 2),
 ];
 
-const SCRIPTS: &[Script] = &[Script(false, 2, LOCAL), Script(true, 2, ACKED)];
+const SCRIPTS: &[QueueScript] = &[QueueScript(false, 2, LOCAL), QueueScript(true, 2, ACKED)];
 
-impl Row for Script {
+impl CheckedRow for QueueScript {
     fn holds(&self, alloc: Global) -> Result<bool, Fail> {
         let mut queue = if self.0 {
             QueueLink::acked(alloc, self.1)?
@@ -107,7 +107,7 @@ fn are_told(queue: &mut QueueLink, forms: &[Form]) -> bool {
     true
 }
 
-impl Row for Forms {
+impl CheckedRow for Forms {
     fn holds(&self, alloc: Global) -> Result<bool, Fail> {
         let mut queue = QueueLink::local(alloc, 1)?;
         Ok(are_told(&mut queue, self.0))
@@ -140,16 +140,23 @@ fn moves_one(from: &mut QueueLink, to: &mut QueueLink) -> bool {
         && fill(from, 5) == 4
         && pass_on(from, to) == Passed::Moved
         && pass_on(from, to) == Passed::Full
-        && follows(to, &[Step::Take(5, 3), Step::NextTold(0), Step::Known(0)])
-        && follows(from, &[Step::Peek(6, 3)])
+        && follows(
+            to,
+            &[
+                LinkCall::Take(5, 3),
+                LinkCall::NextTold(0),
+                LinkCall::Known(0),
+            ],
+        )
+        && follows(from, &[LinkCall::Peek(6, 3)])
 }
 
 // What only acknowledges goes no further.
 fn keeps_acknowledgement(from: &mut QueueLink, to: &mut QueueLink) -> bool {
     from.put(&ACKNOWLEDGEMENT) == Ok(())
         && pass_on(from, to) == Passed::Acknowledged
-        && follows(from, &[Step::TakeNothing])
-        && follows(to, &[Step::TakeNothing])
+        && follows(from, &[LinkCall::TakeNothing])
+        && follows(to, &[LinkCall::TakeNothing])
 }
 
 /// A fragment goes on, and an acknowledgement doesn't.
@@ -171,6 +178,6 @@ fn queues(rt: HostRuntime) -> Result<(), Fail> {
     all_hold(
         rt.alloc(),
         "examples",
-        &[Example::Cursor, Example::PassesOn],
+        &[LinksExample::Cursor, LinksExample::PassesOn],
     )
 }

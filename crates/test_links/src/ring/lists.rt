@@ -1,15 +1,15 @@
 //! Lists: worked examples, and random calls beside slow lists.
 
-use crate::examples::Example;
+use crate::examples::LinksExample;
 use crate::ring::slow::{Fast, Slow, random_place};
-use crate::rows::{Row, all_hold};
+use crate::rows::{CheckedRow, all_hold};
 use fl_lists::{Lists, Place};
 use std::alloc::{AllocError, Global};
 use std::test::Fail;
 
 // What is asked of lists, and what they have to answer.
 #[derive(Clone, Copy)]
-enum Asked {
+enum ListsCall {
     /// To have a node go to the back of a list, or out of all, by the call for it; and where it stood.
     Go(usize, Option<Place>, Option<Place>),
     /// Where a node stands.
@@ -21,38 +21,38 @@ enum Asked {
 }
 
 // Lists of so many nodes are asked these in turn.
-struct Script(usize, &'static [Asked]);
+struct ListsScript(usize, &'static [ListsCall]);
 
-const MOVES: &[Asked] = &[
+const MOVES: &[ListsCall] = &[
     // pushed
-    Asked::Go(0, Some(Place::Polled), None),
-    Asked::Go(1, Some(Place::Polled), None),
-    Asked::Go(2, Some(Place::Polled), None),
+    ListsCall::Go(0, Some(Place::Polled), None),
+    ListsCall::Go(1, Some(Place::Polled), None),
+    ListsCall::Go(2, Some(Place::Polled), None),
     // moved, also to the back of its own list
-    Asked::Go(1, Some(Place::Pending), Some(Place::Polled)),
-    Asked::Go(0, Some(Place::Polled), Some(Place::Polled)),
+    ListsCall::Go(1, Some(Place::Pending), Some(Place::Polled)),
+    ListsCall::Go(0, Some(Place::Polled), Some(Place::Polled)),
     // pushed behind a node that was moved there
-    Asked::Go(3, Some(Place::Pending), None),
+    ListsCall::Go(3, Some(Place::Pending), None),
     // taken out
-    Asked::Go(1, None, Some(Place::Pending)),
+    ListsCall::Go(1, None, Some(Place::Pending)),
     // where they stand then
-    Asked::Stands(0, Some(Place::Polled)),
-    Asked::Stands(1, None),
-    Asked::Stands(3, Some(Place::Pending)),
-    Asked::First(Place::Idle, None),
-    Asked::First(Place::Polled, Some(2)),
+    ListsCall::Stands(0, Some(Place::Polled)),
+    ListsCall::Stands(1, None),
+    ListsCall::Stands(3, Some(Place::Pending)),
+    ListsCall::First(Place::Idle, None),
+    ListsCall::First(Place::Polled, Some(2)),
     // and in which order
-    Asked::Pop(Place::Polled, Some(2)),
-    Asked::Pop(Place::Polled, Some(0)),
-    Asked::Pop(Place::Polled, None),
-    Asked::Pop(Place::Pending, Some(3)),
-    Asked::Pop(Place::Pending, None),
-    Asked::Pop(Place::Idle, None),
+    ListsCall::Pop(Place::Polled, Some(2)),
+    ListsCall::Pop(Place::Polled, Some(0)),
+    ListsCall::Pop(Place::Polled, None),
+    ListsCall::Pop(Place::Pending, Some(3)),
+    ListsCall::Pop(Place::Pending, None),
+    ListsCall::Pop(Place::Idle, None),
 ];
 
-const SCRIPTS: &[Script] = &[
-    Script(4, MOVES),
-    Script(0, &[Asked::Pop(Place::Pending, None)]),
+const SCRIPTS: &[ListsScript] = &[
+    ListsScript(4, MOVES),
+    ListsScript(0, &[ListsCall::Pop(Place::Pending, None)]),
 ];
 
 // What a list says of a node, where there is one.
@@ -79,16 +79,16 @@ fn go(lists: &mut Lists, node: usize, to: Option<Place>) -> Option<Place> {
 }
 
 // Asks, and says whether the lists answer so.
-fn answer(lists: &mut Lists, asked: Asked) -> bool {
+fn answer(lists: &mut Lists, asked: ListsCall) -> bool {
     match asked {
-        Asked::Go(node, to, was) => go(lists, node, to) == was,
-        Asked::Stands(node, place) => place_of(lists, node) == place,
-        Asked::First(place, node) => lists.front(place) == node,
-        Asked::Pop(place, node) => lists.pop_front(place) == node,
+        ListsCall::Go(node, to, was) => go(lists, node, to) == was,
+        ListsCall::Stands(node, place) => place_of(lists, node) == place,
+        ListsCall::First(place, node) => lists.front(place) == node,
+        ListsCall::Pop(place, node) => lists.pop_front(place) == node,
     }
 }
 
-fn all_answer(lists: &mut Lists, rows: &[Asked]) -> bool {
+fn all_answer(lists: &mut Lists, rows: &[ListsCall]) -> bool {
     for asked in rows {
         if !answer(lists, *asked) {
             return false;
@@ -97,7 +97,7 @@ fn all_answer(lists: &mut Lists, rows: &[Asked]) -> bool {
     true
 }
 
-impl Row for Script {
+impl CheckedRow for ListsScript {
     fn holds(&self, alloc: Global) -> Result<bool, Fail> {
         let mut lists = Lists::new(alloc, self.0)?;
         Ok(lists.size() == self.0 && all_answer(&mut lists, self.1))
@@ -167,5 +167,5 @@ impl Fast for Lists {
 #[test]
 fn lists_answer(rt: HostRuntime) -> Result<(), Fail> {
     all_hold(rt.alloc(), "scripts", SCRIPTS)?;
-    all_hold(rt.alloc(), "random calls", &[Example::RandomLists])
+    all_hold(rt.alloc(), "random calls", &[LinksExample::RandomLists])
 }

@@ -5,9 +5,9 @@ ghost use Rattle.fl_base.specs.Control.{is_ack_only, bare};
 ghost use Rattle.fl_link.specs.Looks.{placed, peeked, taken};
 ghost use Rattle.fl_ring.specs.Duo.{DuoPuts, DuoTakes};
 
-use crate::examples::Example;
-use crate::ring::fragments::{Step, answers, fill, pass_on, ping, sight_of};
-use crate::rows::{Row, all_hold};
+use crate::examples::LinksExample;
+use crate::ring::fragments::{LinkCall, answers, fill, pass_on, ping, sight_of};
+use crate::rows::{CheckedRow, all_hold};
 use fl_base::Frag;
 use fl_link::{Link, Passed, PutFault, PutSide, QueueLink, Sight, TakeSide, Told};
 use fl_ring::{
@@ -109,17 +109,17 @@ fn zeros(words: &[u64]) -> Option<usize> {
 }
 
 // A step, and words that stand there then.
-const RING_OF_TWO: &[(Step, &[(usize, u64)])] = &[
-    (Step::Put(7, Ok(())), &[]),
-    (Step::Put(7, Ok(())), &[(7, 3), (15, 3)]),
-    (Step::Put(7, Err(PutFault::Full)), &[]),
-    (Step::Take(7, 3), &[]),
-    (Step::Put(7, Err(PutFault::Full)), &[]),
-    (Step::Tell(Ok(Told::Written)), &[(16, 1)]),
-    (Step::Put(7, Ok(())), &[(7, 2), (15, 3)]),
+const RING_OF_TWO: &[(LinkCall, &[(usize, u64)])] = &[
+    (LinkCall::Put(7, Ok(())), &[]),
+    (LinkCall::Put(7, Ok(())), &[(7, 3), (15, 3)]),
+    (LinkCall::Put(7, Err(PutFault::Full)), &[]),
+    (LinkCall::Take(7, 3), &[]),
+    (LinkCall::Put(7, Err(PutFault::Full)), &[]),
+    (LinkCall::Tell(Ok(Told::Written)), &[(16, 1)]),
+    (LinkCall::Put(7, Ok(())), &[(7, 2), (15, 3)]),
 ];
 
-fn ring_follows(ring: &mut OneRing, rows: &[(Step, &[(usize, u64)])]) -> bool {
+fn ring_follows(ring: &mut OneRing, rows: &[(LinkCall, &[(usize, u64)])]) -> bool {
     for (step, words) in rows {
         if !answers(ring, *step) || !stand(ring.words(), words) {
             return false;
@@ -139,38 +139,38 @@ pub fn begins_with_zeros(alloc: Global) -> Result<bool, Fail> {
 }
 
 // Takes a step at this side, and says whether it answers so.
-fn duo_answers(duo: &mut OneDuo, which: WhichSide, step: Step) -> bool {
+fn duo_answers(duo: &mut OneDuo, which: WhichSide, step: LinkCall) -> bool {
     match step {
-        Step::Put(v, answer) => put_by_side(duo, which, &ping(v)) == answer,
-        Step::Take(v, control) => take_by_side(duo, which) == sight_of(v, control),
-        Step::TakeAcknowledgement => take_by_side(duo, which) == Sight::Acknowledgement,
-        Step::Tell(told) => duo.tell(which) == told,
+        LinkCall::Put(v, answer) => put_by_side(duo, which, &ping(v)) == answer,
+        LinkCall::Take(v, control) => take_by_side(duo, which) == sight_of(v, control),
+        LinkCall::TakeAcknowledgement => take_by_side(duo, which) == Sight::Acknowledgement,
+        LinkCall::Tell(told) => duo.tell(which) == told,
         _ => false,
     }
 }
 
 // Whose step it is, the step, and words that stand there then.
-type DuoRow = (WhichSide, Step, &'static [(usize, u64)]);
+type DuoRow = (WhichSide, LinkCall, &'static [(usize, u64)]);
 
 const DUO_OF_FOUR: &[DuoRow] = &[
-    (WhichSide::One, Step::Put(0, Ok(())), &[]),
-    (WhichSide::One, Step::Put(1, Ok(())), &[]),
-    (WhichSide::One, Step::Put(2, Ok(())), &[]),
-    (WhichSide::One, Step::Put(3, Err(PutFault::Full)), &[]),
-    (WhichSide::Two, Step::Take(0, 3), &[]),
-    (WhichSide::Two, Step::Tell(Ok(Told::Nothing)), &[]),
-    (WhichSide::One, Step::Put(4, Err(PutFault::Full)), &[]),
-    (WhichSide::Two, Step::Take(1, 3), &[]),
+    (WhichSide::One, LinkCall::Put(0, Ok(())), &[]),
+    (WhichSide::One, LinkCall::Put(1, Ok(())), &[]),
+    (WhichSide::One, LinkCall::Put(2, Ok(())), &[]),
+    (WhichSide::One, LinkCall::Put(3, Err(PutFault::Full)), &[]),
+    (WhichSide::Two, LinkCall::Take(0, 3), &[]),
+    (WhichSide::Two, LinkCall::Tell(Ok(Told::Nothing)), &[]),
+    (WhichSide::One, LinkCall::Put(4, Err(PutFault::Full)), &[]),
+    (WhichSide::Two, LinkCall::Take(1, 3), &[]),
     (
         WhichSide::Two,
-        Step::Tell(Ok(Told::Written)),
+        LinkCall::Tell(Ok(Told::Written)),
         &[(39, 0x0002_0000_0000_0005)],
     ),
-    (WhichSide::One, Step::Put(4, Ok(())), &[]),
-    (WhichSide::One, Step::TakeAcknowledgement, &[]),
+    (WhichSide::One, LinkCall::Put(4, Ok(())), &[]),
+    (WhichSide::One, LinkCall::TakeAcknowledgement, &[]),
     (
         WhichSide::One,
-        Step::Put(5, Ok(())),
+        LinkCall::Put(5, Ok(())),
         &[(7, 0x0001_0000_0000_0002)],
     ),
 ];
@@ -192,9 +192,9 @@ pub fn a_duo_of_four(alloc: Global) -> Result<bool, Fail> {
 
 // Side one puts a fragment and side two takes it, and answers with one that tells so.
 const ASKED_AND_ANSWERED: &[DuoRow] = &[
-    (WhichSide::One, Step::Put(7, Ok(())), &[]),
-    (WhichSide::Two, Step::Take(7, 3), &[]),
-    (WhichSide::Two, Step::Put(8, Ok(())), &[]),
+    (WhichSide::One, LinkCall::Put(7, Ok(())), &[]),
+    (WhichSide::Two, LinkCall::Take(7, 3), &[]),
+    (WhichSide::Two, LinkCall::Put(8, Ok(())), &[]),
 ];
 
 // A look tells side one that its fragment was taken; forgotten, it is told again by the next.
@@ -274,10 +274,10 @@ pub fn passes_through_each(alloc: Global) -> Result<bool, Fail> {
 }
 
 // What a link says of itself.
-type Said = (bool, u64, u16, u64);
+type LinkFigures = (bool, u64, u16, u64);
 
 // How many fragments fill the link; what it says then; what a look, a take and a tell do; and what it says then.
-type OfItself = (u64, Said, (Sight, Sight, bool), Said);
+type OfItself = (u64, LinkFigures, (Sight, Sight, bool), LinkFigures);
 
 fn of_itself<L: Link>(link: &mut L) -> OfItself {
     let filled = fill(link, 0);
@@ -287,7 +287,7 @@ fn of_itself<L: Link>(link: &mut L) -> OfItself {
 }
 
 // The same of a duo that is filled by side two and read by side one; and what that one says then.
-fn duo_of_itself(duo: &mut OneDuo) -> (OfItself, Said) {
+fn duo_of_itself(duo: &mut OneDuo) -> (OfItself, LinkFigures) {
     let filled = fill(&mut duo.side(WhichSide::Two), 0);
     let full = say(&duo.side(WhichSide::Two));
     let looked = look_take_tell(&mut duo.side(WhichSide::One));
@@ -335,7 +335,7 @@ const COUNTS: &[Count] = &[
     Count(65_536, 65_535, 131_071),
 ];
 
-impl Row for Count {
+impl CheckedRow for Count {
     // The counts are far from the end of all counts.
     fn holds(&self, _alloc: Global) -> Result<bool, Fail> {
         let known = self.0;
@@ -346,16 +346,16 @@ impl Row for Count {
     }
 }
 
-const EXAMPLES: &[Example] = &[
-    Example::RingOfTwo,
-    Example::BeginsWithZeros,
-    Example::DuoOfFour,
-    Example::Forgets,
-    Example::PassesThroughEach,
-    Example::LocalQueue,
-    Example::AckedQueue,
-    Example::Ring,
-    Example::Duo,
+const EXAMPLES: &[LinksExample] = &[
+    LinksExample::RingOfTwo,
+    LinksExample::BeginsWithZeros,
+    LinksExample::DuoOfFour,
+    LinksExample::Forgets,
+    LinksExample::PassesThroughEach,
+    LinksExample::LocalQueue,
+    LinksExample::AckedQueue,
+    LinksExample::Ring,
+    LinksExample::Duo,
 ];
 
 #[test]

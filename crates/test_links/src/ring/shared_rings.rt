@@ -2,8 +2,8 @@
 
 ghost use Rattle.std.specs.Prelude.{◌≡◌, ◌≤◌, ◌^◌};
 
-use crate::examples::Example;
-use crate::ring::fragments::{Step, answers, pass_on, ping, sight_of};
+use crate::examples::LinksExample;
+use crate::ring::fragments::{LinkCall, answers, pass_on, ping, sight_of};
 use crate::rows::all_hold;
 use fl_link::{Passed, PutFault, Sight, Told};
 use fl_ring::{
@@ -17,39 +17,39 @@ use std::test::Fail;
 use std::thread::{Threads, join};
 
 // Takes a step by the side for it, and says whether it answers so.
-fn ring_answers(tx: &mut RingTx, rx: &mut RingRx, step: Step) -> bool {
+fn ring_answers(tx: &mut RingTx, rx: &mut RingRx, step: LinkCall) -> bool {
     match step {
-        Step::Put(v, answer) => tx.try_put(&ping(v)) == answer,
-        Step::Peek(v, control) => rx.try_peek() == sight_of(v, control),
-        Step::Take(v, control) => rx.try_take() == sight_of(v, control),
-        Step::TakeNothing => rx.try_take() == Sight::Empty,
-        Step::Tell(told) => {
+        LinkCall::Put(v, answer) => tx.try_put(&ping(v)) == answer,
+        LinkCall::Peek(v, control) => rx.try_peek() == sight_of(v, control),
+        LinkCall::Take(v, control) => rx.try_take() == sight_of(v, control),
+        LinkCall::TakeNothing => rx.try_take() == Sight::Empty,
+        LinkCall::Tell(told) => {
             rx.tell();
             told == Ok(Told::Written)
         }
-        Step::NextEpoch(epoch) => tx.next_epoch() == epoch,
-        Step::Known(known) => tx.known() == known,
+        LinkCall::NextEpoch(epoch) => tx.next_epoch() == epoch,
+        LinkCall::Known(known) => tx.known() == known,
         _ => false,
     }
 }
 
-const RING_OF_TWO: &[Step] = &[
-    Step::Put(5, Ok(())),
-    Step::Put(6, Ok(())),
-    Step::Put(7, Err(PutFault::Full)),
-    Step::Peek(5, 3),
-    Step::Take(5, 3),
-    Step::Put(7, Err(PutFault::Full)),
-    Step::Tell(Ok(Told::Written)),
-    Step::Put(7, Ok(())),
-    Step::Known(1),
-    Step::NextEpoch(0),
-    Step::Take(6, 3),
-    Step::Take(7, 2),
-    Step::TakeNothing,
+const RING_OF_TWO: &[LinkCall] = &[
+    LinkCall::Put(5, Ok(())),
+    LinkCall::Put(6, Ok(())),
+    LinkCall::Put(7, Err(PutFault::Full)),
+    LinkCall::Peek(5, 3),
+    LinkCall::Take(5, 3),
+    LinkCall::Put(7, Err(PutFault::Full)),
+    LinkCall::Tell(Ok(Told::Written)),
+    LinkCall::Put(7, Ok(())),
+    LinkCall::Known(1),
+    LinkCall::NextEpoch(0),
+    LinkCall::Take(6, 3),
+    LinkCall::Take(7, 2),
+    LinkCall::TakeNothing,
 ];
 
-fn ring_follows(tx: &mut RingTx, rx: &mut RingRx, steps: &[Step]) -> bool {
+fn ring_follows(tx: &mut RingTx, rx: &mut RingRx, steps: &[LinkCall]) -> bool {
     for step in steps {
         if !ring_answers(tx, rx, *step) {
             return false;
@@ -63,7 +63,11 @@ pub fn a_ring_of_two(alloc: Global) -> Result<bool, Fail> {
     Ok(ring_follows(&mut tx, &mut rx, RING_OF_TWO))
 }
 
-fn sides_follow(one: &mut SharedSide, two: &mut SharedSide, rows: &[(WhichSide, Step)]) -> bool {
+fn sides_follow(
+    one: &mut SharedSide,
+    two: &mut SharedSide,
+    rows: &[(WhichSide, LinkCall)],
+) -> bool {
     for (which, step) in rows {
         let answers = match which {
             WhichSide::One => answers(one, *step),
@@ -77,23 +81,23 @@ fn sides_follow(one: &mut SharedSide, two: &mut SharedSide, rows: &[(WhichSide, 
 }
 
 // Whose step it is, and the step.
-const DUO_OF_FOUR: &[(WhichSide, Step)] = &[
-    (WhichSide::One, Step::Put(5, Ok(()))),
-    (WhichSide::One, Step::Put(6, Ok(()))),
-    (WhichSide::One, Step::Put(7, Ok(()))),
-    (WhichSide::One, Step::Put(8, Err(PutFault::Full))),
-    (WhichSide::Two, Step::Peek(5, 3)),
-    (WhichSide::Two, Step::Take(5, 3)),
-    (WhichSide::Two, Step::Tell(Ok(Told::Nothing))),
-    (WhichSide::Two, Step::Take(6, 3)),
-    (WhichSide::Two, Step::Tell(Ok(Told::Written))),
-    (WhichSide::One, Step::Known(0)),
-    (WhichSide::One, Step::Put(8, Ok(()))),
-    (WhichSide::One, Step::Known(2)),
-    (WhichSide::One, Step::TakeAcknowledgement),
-    (WhichSide::One, Step::TakeNothing),
-    (WhichSide::One, Step::NextEpoch(0)),
-    (WhichSide::One, Step::NextTold(1)),
+const DUO_OF_FOUR: &[(WhichSide, LinkCall)] = &[
+    (WhichSide::One, LinkCall::Put(5, Ok(()))),
+    (WhichSide::One, LinkCall::Put(6, Ok(()))),
+    (WhichSide::One, LinkCall::Put(7, Ok(()))),
+    (WhichSide::One, LinkCall::Put(8, Err(PutFault::Full))),
+    (WhichSide::Two, LinkCall::Peek(5, 3)),
+    (WhichSide::Two, LinkCall::Take(5, 3)),
+    (WhichSide::Two, LinkCall::Tell(Ok(Told::Nothing))),
+    (WhichSide::Two, LinkCall::Take(6, 3)),
+    (WhichSide::Two, LinkCall::Tell(Ok(Told::Written))),
+    (WhichSide::One, LinkCall::Known(0)),
+    (WhichSide::One, LinkCall::Put(8, Ok(()))),
+    (WhichSide::One, LinkCall::Known(2)),
+    (WhichSide::One, LinkCall::TakeAcknowledgement),
+    (WhichSide::One, LinkCall::TakeNothing),
+    (WhichSide::One, LinkCall::NextEpoch(0)),
+    (WhichSide::One, LinkCall::NextTold(1)),
 ];
 
 pub fn a_duo_of_four(alloc: Global) -> Result<bool, Fail> {
@@ -145,22 +149,22 @@ pub fn a_duo_that_began_long_ago(alloc: Global) -> Result<bool, Fail> {
 
 // Whose step it is, and the step: through this ring 2^62 fragments less two have passed each way. A side puts two more, and
 // no more after them; nor can it tell what it took since.
-const DUO_AT_ITS_END: &[(WhichSide, Step)] = &[
-    (WhichSide::One, Step::NextEpoch(0)),
-    (WhichSide::One, Step::Put(5, Ok(()))),
-    (WhichSide::One, Step::Room(true)),
-    (WhichSide::One, Step::Put(6, Ok(()))),
-    (WhichSide::One, Step::Room(false)),
-    (WhichSide::One, Step::Put(7, Err(PutFault::Spent))),
-    (WhichSide::Two, Step::Put(8, Ok(()))),
-    (WhichSide::Two, Step::Put(9, Ok(()))),
-    (WhichSide::Two, Step::Put(9, Err(PutFault::Spent))),
-    (WhichSide::One, Step::Take(8, 0xfffe_0000_0000_0002)),
-    (WhichSide::One, Step::Tell(Ok(Told::Nothing))),
-    (WhichSide::One, Step::Take(9, 0xfffe_0000_0000_0002)),
-    (WhichSide::One, Step::Tell(Err(PutFault::Full))),
-    (WhichSide::One, Step::Put(7, Err(PutFault::Spent))),
-    (WhichSide::Two, Step::Take(5, 0xfffe_0000_0000_0002)),
+const DUO_AT_ITS_END: &[(WhichSide, LinkCall)] = &[
+    (WhichSide::One, LinkCall::NextEpoch(0)),
+    (WhichSide::One, LinkCall::Put(5, Ok(()))),
+    (WhichSide::One, LinkCall::Room(true)),
+    (WhichSide::One, LinkCall::Put(6, Ok(()))),
+    (WhichSide::One, LinkCall::Room(false)),
+    (WhichSide::One, LinkCall::Put(7, Err(PutFault::Spent))),
+    (WhichSide::Two, LinkCall::Put(8, Ok(()))),
+    (WhichSide::Two, LinkCall::Put(9, Ok(()))),
+    (WhichSide::Two, LinkCall::Put(9, Err(PutFault::Spent))),
+    (WhichSide::One, LinkCall::Take(8, 0xfffe_0000_0000_0002)),
+    (WhichSide::One, LinkCall::Tell(Ok(Told::Nothing))),
+    (WhichSide::One, LinkCall::Take(9, 0xfffe_0000_0000_0002)),
+    (WhichSide::One, LinkCall::Tell(Err(PutFault::Full))),
+    (WhichSide::One, LinkCall::Put(7, Err(PutFault::Spent))),
+    (WhichSide::Two, LinkCall::Take(5, 0xfffe_0000_0000_0002)),
 ];
 
 pub fn a_duo_at_its_end(alloc: Global) -> Result<bool, Fail> {
@@ -175,10 +179,10 @@ fn goes_round(
     one: &mut SharedSide,
     two: &mut SharedSide,
 ) -> bool {
-    ring_answers(tx, rx, Step::Put(5, Ok(())))
+    ring_answers(tx, rx, LinkCall::Put(5, Ok(())))
         && pass_on(rx, one) == Passed::Moved
         && pass_on(two, tx) == Passed::Moved
-        && ring_answers(tx, rx, Step::Take(5, 3))
+        && ring_answers(tx, rx, LinkCall::Take(5, 3))
         && pass_on(rx, one) == Passed::Nothing
 }
 
@@ -188,12 +192,12 @@ pub fn passes_between(alloc: Global) -> Result<bool, Fail> {
     Ok(goes_round(&mut tx, &mut rx, &mut one, &mut two))
 }
 
-const EXAMPLES: &[Example] = &[
-    Example::SharedRing,
-    Example::SharedDuo,
-    Example::LongAgo,
-    Example::AtItsEnd,
-    Example::PassesBetween,
+const EXAMPLES: &[LinksExample] = &[
+    LinksExample::SharedRing,
+    LinksExample::SharedDuo,
+    LinksExample::LongAgo,
+    LinksExample::AtItsEnd,
+    LinksExample::PassesBetween,
 ];
 
 #[test]

@@ -1,8 +1,8 @@
 //! Waitsets: worked examples, and random calls beside slow lists.
 
-use crate::examples::Example;
+use crate::examples::LinksExample;
 use crate::ring::slow::{Fast, Slow, random_place};
-use crate::rows::{Row, all_hold};
+use crate::rows::{CheckedRow, all_hold};
 use fl_base::ChanId;
 use fl_waitset::{Pick, Place, WaitFault, Waitset};
 use std::alloc::{AllocError, Global};
@@ -10,7 +10,7 @@ use std::test::Fail;
 
 // A call of a waitset.
 #[derive(Clone, Copy)]
-enum Asked {
+enum WaitsetCall {
     Register(ChanId),
     RegisterPolled(ChanId),
     Deregister(ChanId),
@@ -20,16 +20,16 @@ enum Asked {
 }
 
 // A pick where it is asked for the next event, else nothing.
-type Answer = Result<Option<Pick>, WaitFault>;
+type WaitsetAnswer = Result<Option<Pick>, WaitFault>;
 
-fn say_done(answer: Result<(), WaitFault>) -> Answer {
+fn say_done(answer: Result<(), WaitFault>) -> WaitsetAnswer {
     match answer {
         Ok(()) => Ok(None),
         Err(fault) => Err(fault),
     }
 }
 
-fn say_pick(answer: Result<Pick, WaitFault>) -> Answer {
+fn say_pick(answer: Result<Pick, WaitFault>) -> WaitsetAnswer {
     match answer {
         Ok(pick) => Ok(Some(pick)),
         Err(fault) => Err(fault),
@@ -37,14 +37,14 @@ fn say_pick(answer: Result<Pick, WaitFault>) -> Answer {
 }
 
 // What the waitset answers.
-fn ask(waitset: &mut Waitset, asked: Asked) -> Answer {
+fn ask(waitset: &mut Waitset, asked: WaitsetCall) -> WaitsetAnswer {
     match asked {
-        Asked::Register(c) => say_done(waitset.register(c)),
-        Asked::RegisterPolled(c) => say_done(waitset.register_polled(c)),
-        Asked::Deregister(c) => say_done(waitset.deregister(c)),
-        Asked::Trigger(c) => say_done(waitset.trigger(c)),
-        Asked::PutBack(c, place) => say_done(waitset.put_back(c, place)),
-        Asked::NextEvent => say_pick(waitset.next_event()),
+        WaitsetCall::Register(c) => say_done(waitset.register(c)),
+        WaitsetCall::RegisterPolled(c) => say_done(waitset.register_polled(c)),
+        WaitsetCall::Deregister(c) => say_done(waitset.deregister(c)),
+        WaitsetCall::Trigger(c) => say_done(waitset.trigger(c)),
+        WaitsetCall::PutBack(c, place) => say_done(waitset.put_back(c, place)),
+        WaitsetCall::NextEvent => say_pick(waitset.next_event()),
     }
 }
 
@@ -57,34 +57,34 @@ const B: ChanId = ChanId(1);
 const NONE: ChanId = ChanId(2);
 
 // A waitset of two channels is asked these in turn.
-struct Script(&'static [(Asked, Answer)]);
+struct WaitsetScript(&'static [(WaitsetCall, WaitsetAnswer)]);
 
-const ANSWERS: &[(Asked, Answer)] = &[
-    (Asked::NextEvent, Err(WaitFault::NoEvent)),
-    (Asked::Register(NONE), Err(WaitFault::NoChannel)),
-    (Asked::Trigger(A), Ok(None)),
+const ANSWERS: &[(WaitsetCall, WaitsetAnswer)] = &[
+    (WaitsetCall::NextEvent, Err(WaitFault::NoEvent)),
+    (WaitsetCall::Register(NONE), Err(WaitFault::NoChannel)),
+    (WaitsetCall::Trigger(A), Ok(None)),
     (
-        Asked::PutBack(A, Place::Idle),
+        WaitsetCall::PutBack(A, Place::Idle),
         Err(WaitFault::NotRegistered),
     ),
-    (Asked::Register(A), Ok(None)),
-    (Asked::RegisterPolled(A), Err(WaitFault::Registered)),
-    (Asked::RegisterPolled(B), Ok(None)),
-    (Asked::NextEvent, Ok(Some(Pick::Polled(B)))),
-    (Asked::Trigger(A), Ok(None)),
-    (Asked::Trigger(A), Ok(None)),
-    (Asked::Trigger(B), Ok(None)),
-    (Asked::NextEvent, Ok(Some(Pick::Pending(A)))),
-    (Asked::PutBack(B, Place::Pending), Ok(None)),
-    (Asked::PutBack(A, Place::Pending), Ok(None)),
-    (Asked::NextEvent, Ok(Some(Pick::Pending(B)))),
-    (Asked::Deregister(B), Ok(None)),
-    (Asked::Deregister(B), Err(WaitFault::NotRegistered)),
-    (Asked::NextEvent, Ok(Some(Pick::Pending(A)))),
-    (Asked::Deregister(NONE), Err(WaitFault::NoChannel)),
+    (WaitsetCall::Register(A), Ok(None)),
+    (WaitsetCall::RegisterPolled(A), Err(WaitFault::Registered)),
+    (WaitsetCall::RegisterPolled(B), Ok(None)),
+    (WaitsetCall::NextEvent, Ok(Some(Pick::Polled(B)))),
+    (WaitsetCall::Trigger(A), Ok(None)),
+    (WaitsetCall::Trigger(A), Ok(None)),
+    (WaitsetCall::Trigger(B), Ok(None)),
+    (WaitsetCall::NextEvent, Ok(Some(Pick::Pending(A)))),
+    (WaitsetCall::PutBack(B, Place::Pending), Ok(None)),
+    (WaitsetCall::PutBack(A, Place::Pending), Ok(None)),
+    (WaitsetCall::NextEvent, Ok(Some(Pick::Pending(B)))),
+    (WaitsetCall::Deregister(B), Ok(None)),
+    (WaitsetCall::Deregister(B), Err(WaitFault::NotRegistered)),
+    (WaitsetCall::NextEvent, Ok(Some(Pick::Pending(A)))),
+    (WaitsetCall::Deregister(NONE), Err(WaitFault::NoChannel)),
 ];
 
-fn answers(waitset: &mut Waitset, rows: &[(Asked, Answer)]) -> bool {
+fn answers(waitset: &mut Waitset, rows: &[(WaitsetCall, WaitsetAnswer)]) -> bool {
     for (asked, answer) in rows {
         if ask(waitset, *asked) != *answer {
             return false;
@@ -93,7 +93,7 @@ fn answers(waitset: &mut Waitset, rows: &[(Asked, Answer)]) -> bool {
     true
 }
 
-impl Row for Script {
+impl CheckedRow for WaitsetScript {
     fn holds(&self, alloc: Global) -> Result<bool, Fail> {
         let mut waitset = Waitset::new(alloc, 2)?;
         Ok(answers(&mut waitset, self.0))
@@ -103,7 +103,7 @@ impl Row for Script {
 const CHANNELS: u16 = 6;
 
 // What the slow lists answer to a call for a channel that has to be registered, or has not to be.
-fn slow_answer(slow: &Slow, c: ChanId, registered: bool) -> Answer {
+fn slow_answer(slow: &Slow, c: ChanId, registered: bool) -> WaitsetAnswer {
     if c.0 >= CHANNELS {
         return Err(WaitFault::NoChannel);
     }
@@ -131,7 +131,7 @@ fn go(slow: &mut Slow, c: ChanId, to: Option<Place>) -> Result<(), AllocError> {
 }
 
 // A trigger moves a channel that is idle, and is heard by none that isn't registered.
-fn slow_trigger(slow: &mut Slow, c: ChanId) -> Result<Answer, AllocError> {
+fn slow_trigger(slow: &mut Slow, c: ChanId) -> Result<WaitsetAnswer, AllocError> {
     if c.0 >= CHANNELS {
         return Ok(Err(WaitFault::NoChannel));
     }
@@ -141,7 +141,7 @@ fn slow_trigger(slow: &mut Slow, c: ChanId) -> Result<Answer, AllocError> {
     Ok(Ok(None))
 }
 
-fn slow_next(slow: &Slow) -> Answer {
+fn slow_next(slow: &Slow) -> WaitsetAnswer {
     if let Some(c) = slow.first(Place::Pending) {
         return Ok(Some(Pick::Pending(ChanId(c))));
     }
@@ -156,7 +156,7 @@ fn slow_move(
     c: ChanId,
     registered: bool,
     to: Option<Place>,
-) -> Result<Answer, AllocError> {
+) -> Result<WaitsetAnswer, AllocError> {
     let answer = slow_answer(slow, c, registered);
     if answer.is_ok() {
         go(slow, c, to)?;
@@ -165,34 +165,34 @@ fn slow_move(
 }
 
 // What the slow lists answer.
-fn ask_slow(slow: &mut Slow, asked: Asked) -> Result<Answer, AllocError> {
+fn ask_slow(slow: &mut Slow, asked: WaitsetCall) -> Result<WaitsetAnswer, AllocError> {
     match asked {
-        Asked::Register(c) => slow_move(slow, c, false, Some(Place::Idle)),
-        Asked::RegisterPolled(c) => slow_move(slow, c, false, Some(Place::Polled)),
-        Asked::Deregister(c) => slow_move(slow, c, true, None),
-        Asked::Trigger(c) => slow_trigger(slow, c),
-        Asked::PutBack(c, place) => slow_move(slow, c, true, Some(place)),
-        Asked::NextEvent => Ok(slow_next(slow)),
+        WaitsetCall::Register(c) => slow_move(slow, c, false, Some(Place::Idle)),
+        WaitsetCall::RegisterPolled(c) => slow_move(slow, c, false, Some(Place::Polled)),
+        WaitsetCall::Deregister(c) => slow_move(slow, c, true, None),
+        WaitsetCall::Trigger(c) => slow_trigger(slow, c),
+        WaitsetCall::PutBack(c, place) => slow_move(slow, c, true, Some(place)),
+        WaitsetCall::NextEvent => Ok(slow_next(slow)),
     }
 }
 
-fn random_call(random: u64) -> Asked {
+fn random_call(random: u64) -> WaitsetCall {
     let c = ChanId(((random >> 40) % 7) as u16);
     match (random >> 33) % 6 {
-        0 => Asked::Register(c),
-        1 => Asked::RegisterPolled(c),
-        2 => Asked::Deregister(c),
-        3 | 4 => Asked::Trigger(c),
-        _ => Asked::PutBack(c, random_place(random)),
+        0 => WaitsetCall::Register(c),
+        1 => WaitsetCall::RegisterPolled(c),
+        2 => WaitsetCall::Deregister(c),
+        3 | 4 => WaitsetCall::Trigger(c),
+        _ => WaitsetCall::PutBack(c, random_place(random)),
     }
 }
 
 // Whether the two answer alike to a call, and to the question for the next event after it.
-fn alike(fast: &mut Waitset, slow: &mut Slow, asked: Asked) -> Result<bool, AllocError> {
+fn alike(fast: &mut Waitset, slow: &mut Slow, asked: WaitsetCall) -> Result<bool, AllocError> {
     Ok(ask(fast, asked) == ask_slow(slow, asked)? && say_pick(fast.next_event()) == slow_next(slow))
 }
 
-fn pick_of(answer: Answer) -> Option<ChanId> {
+fn pick_of(answer: WaitsetAnswer) -> Option<ChanId> {
     match answer {
         Ok(Some(Pick::Pending(c) | Pick::Polled(c))) => Some(c),
         _ => None,
@@ -205,7 +205,7 @@ fn drain(fast: &mut Waitset, slow: &mut Slow) -> Result<bool, AllocError> {
         let Some(c) = pick_of(slow_next(slow)) else {
             break;
         };
-        if !alike(fast, slow, Asked::Deregister(c))? {
+        if !alike(fast, slow, WaitsetCall::Deregister(c))? {
             return Ok(false);
         }
     }
@@ -215,7 +215,7 @@ fn drain(fast: &mut Waitset, slow: &mut Slow) -> Result<bool, AllocError> {
 // Whether the same channels are idle: no call shows in which order they stood, so each in turn is triggered.
 fn drain_idle(fast: &mut Waitset, slow: &mut Slow) -> Result<bool, AllocError> {
     for c in 0..CHANNELS {
-        if !alike(fast, slow, Asked::Trigger(ChanId(c)))? {
+        if !alike(fast, slow, WaitsetCall::Trigger(ChanId(c)))? {
             return Ok(false);
         }
     }
@@ -239,6 +239,6 @@ impl Fast for Waitset {
 
 #[test]
 fn waitsets_answer(rt: HostRuntime) -> Result<(), Fail> {
-    all_hold(rt.alloc(), "scripts", &[Script(ANSWERS)])?;
-    all_hold(rt.alloc(), "random calls", &[Example::RandomWaitsets])
+    all_hold(rt.alloc(), "scripts", &[WaitsetScript(ANSWERS)])?;
+    all_hold(rt.alloc(), "random calls", &[LinksExample::RandomWaitsets])
 }

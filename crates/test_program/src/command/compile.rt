@@ -1,7 +1,7 @@
 //! `compile`.
 
-use crate::command::progress::EndProgress;
-use crate::rows::{Row, all_hold};
+use crate::command::store::TellingStore;
+use crate::rows::{CheckedRow, all_hold};
 use flounder_commands::compile_file;
 use std::alloc::Global;
 use std::io;
@@ -125,26 +125,26 @@ fn is_told(errors: &[u8], told: Option<&[u8]>) -> bool {
     }
 }
 
-fn ends_so(alloc: Global, progress: &mut EndProgress, row: &CompileRow) -> bool {
+fn ends_so(alloc: Global, store: &mut TellingStore, row: &CompileRow) -> bool {
     let mut errors = Vec::new(alloc);
-    let status = compile_file(alloc, "in.if", "out", progress, &mut errors);
-    status == row.ends.0 && progress.writes == row.ends.1 && is_told(&errors, row.told)
+    let status = compile_file(alloc, "in.if", "out", store, &mut errors);
+    status == row.ends.0 && store.writes == row.ends.1 && is_told(&errors, row.told)
 }
 
 fn is_compiled(alloc: Global, row: &CompileRow) -> bool {
-    let mut progress = EndProgress::new(alloc, row.content, row.unread, row.unwritten);
-    ends_so(alloc, &mut progress, row)
+    let mut store = TellingStore::new(alloc, row.content, row.unread, row.unwritten);
+    ends_so(alloc, &mut store, row)
 }
 
-impl Row for CompileRow {
+impl CheckedRow for CompileRow {
     fn holds(&self, alloc: Global) -> Result<bool, Fail> {
         Ok(is_compiled(alloc, self))
     }
 }
 
 fn is_written(alloc: Global) -> bool {
-    let mut progress = EndProgress::new(alloc, PING, None, None);
-    ends_so(alloc, &mut progress, &WRITTEN) && progress.written() == IMAGE
+    let mut store = TellingStore::new(alloc, PING, None, None);
+    ends_so(alloc, &mut store, &WRITTEN) && store.written() == IMAGE
 }
 
 #[test]
@@ -167,17 +167,17 @@ fn the_first_fault_of_compile_counts(rt: HostRuntime) -> Result<(), Fail> {
     all_hold(rt.alloc(), "first faults", FIRST_FAULTS)
 }
 
-fn ends_well_or_full(alloc: Global, progress: &mut EndProgress) -> bool {
+fn ends_well_or_full(alloc: Global, store: &mut TellingStore) -> bool {
     let mut errors = Vec::new(alloc);
-    match compile_file(alloc, "in.if", "out", progress, &mut errors) {
-        0 => progress.written() == IMAGE,
-        status => status == 3 && progress.writes == 0,
+    match compile_file(alloc, "in.if", "out", store, &mut errors) {
+        0 => store.written() == IMAGE,
+        status => status == 3 && store.writes == 0,
     }
 }
 
 fn is_compiled_or_full(alloc: Global) -> bool {
-    let mut progress = EndProgress::new(alloc, PING, None, None);
-    ends_well_or_full(alloc, &mut progress)
+    let mut store = TellingStore::new(alloc, PING, None, None);
+    ends_well_or_full(alloc, &mut store)
 }
 
 // The image, or out of memory and nothing written.

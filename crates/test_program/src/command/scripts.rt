@@ -1,7 +1,7 @@
 //! `exec`.
 
 use crate::command::outputs::{Closed, Narrow, Ran};
-use crate::rows::{Row, all_hold};
+use crate::rows::{CheckedRow, all_hold};
 use flounder_commands::{Fault, Watched, finish, run_script};
 use std::alloc::{AllocError, Global};
 use std::io;
@@ -72,12 +72,12 @@ fn scripts_are_run(rt: HostRuntime) {
 }
 
 // A script, its status with `--strict`, and what `--explain` tells.
-struct Explained(&'static [u8], u8, &'static [u8]);
+struct ExplainedRow(&'static [u8], u8, &'static [u8]);
 
 // A block is one item, a refused opening no refused line; the number after `at` counts from the block's first byte.
-const EXPLAINED: &[Explained] = &[
-    Explained(b"disp d 0\n# nothing\n\ndisp e 0\n", 0, b""),
-    Explained(
+const EXPLAINED: &[ExplainedRow] = &[
+    ExplainedRow(b"disp d 0\n# nothing\n\ndisp e 0\n", 0, b""),
+    ExplainedRow(
         b"disp d 0\n\r\ndisp d 0\r\nnope 1\n",
         2,
         b"\
@@ -89,7 +89,7 @@ line 4: E90: this is no line that is read here
 help: docs/SCRIPTS.md lists all commands, docs/CORES.md those of a cores file
 ",
     ),
-    Explained(
+    ExplainedRow(
         b"idl\ninterface i {\n  message m(cap c);\n}\n.\ncores 17\nidl\n",
         2,
         b"\
@@ -105,7 +105,7 @@ line 7: E90: this is no line that is read here
 help: a block begins with a line that is idl or idl 1, and ends with one that is . alone
 ",
     ),
-    Explained(
+    ExplainedRow(
         b"idl\ninterface i { }\n.\nidl 1\ninterface i { }\n.\n",
         2,
         b"\
@@ -116,7 +116,7 @@ help: choose another name in the text
     ),
 ];
 
-impl Row for Explained {
+impl CheckedRow for ExplainedRow {
     fn holds(&self, alloc: Global) -> Result<bool, Fail> {
         let told = exec_so(alloc, (true, false), self.0);
         let strict = exec_so(alloc, (false, true), self.0);
@@ -208,7 +208,7 @@ fn is_long(alloc: Global, script: &[u8], row: &Long) -> Result<bool, Fail> {
     )
 }
 
-impl Row for Long {
+impl CheckedRow for Long {
     fn holds(&self, alloc: Global) -> Result<bool, Fail> {
         let script = lines(alloc, self.0)?;
         is_long(alloc, &script, self)

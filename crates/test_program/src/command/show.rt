@@ -1,7 +1,7 @@
 //! `show`.
 
 use crate::command::outputs::{Narrow, Ran, Shelf};
-use crate::rows::{Row, all_hold};
+use crate::rows::{CheckedRow, all_hold};
 use flounder_commands::{Fault, finish, show_file};
 use std::alloc::Global;
 use std::io;
@@ -258,7 +258,7 @@ const CAUSES: &[ShowRow] = &[
     ),
 ];
 
-impl Row for ShowRow {
+impl CheckedRow for ShowRow {
     fn holds(&self, alloc: Global) -> Result<bool, Fail> {
         Ok(show(alloc, self.0, false, self.1).is(self.2, self.3, self.4))
     }
@@ -338,7 +338,7 @@ const FIRST_FAULTS: &[First] = &[
     First("mixed.if", MIXED, 132, 0),
 ];
 
-impl Row for First {
+impl CheckedRow for First {
     fn holds(&self, alloc: Global) -> Result<bool, Fail> {
         let mut errors = Vec::new(alloc);
         let status = show_into(alloc, self.0, false, self.1, Narrow(self.2), &mut errors);

@@ -1,7 +1,7 @@
 //! What words ask for, words that are no command, and help.
 
 use crate::command::outputs::{Narrow, Ran};
-use crate::rows::{Row, all_hold};
+use crate::rows::{CheckedRow, all_hold};
 use flounder_args::{Request, hint, read_words};
 use flounder_commands::{Fault, finish, no_words, tell_usage};
 use std::alloc::Global;
@@ -58,6 +58,15 @@ const NO_COMMANDS: &[Words] = &[
         Asked::Nothing,
         &["flounder", "compile", "cap.if", "out", "more"],
     ),
+    Words(Asked::Nothing, &["flounder", "chart"]),
+    Words(Asked::Nothing, &["flounder", "chart", "x", "--lines"]),
+    Words(
+        Asked::Nothing,
+        &["flounder", "chart", "x", "--lines", "-1-2"],
+    ),
+    Words(Asked::Nothing, &["flounder", "chart", "x", "more"]),
+    Words(Asked::Nothing, &["flounder", "header"]),
+    Words(Asked::Nothing, &["flounder", "header", "x", "more"]),
     Words(Asked::Nothing, &["flounder", "cores"]),
     Words(Asked::Nothing, &["flounder", "cores", "x"]),
     Words(Asked::Nothing, &["flounder", "cores", "--turns", "2"]),
@@ -79,6 +88,10 @@ const NO_COMMANDS: &[Words] = &[
     ),
     Words(
         Asked::Nothing,
+        &["flounder", "cores", "x", "--turns", "2", "--script"],
+    ),
+    Words(
+        Asked::Nothing,
         &["flounder", "cores", "x", "--turns", "2", "--turns", "2"],
     ),
 ];
@@ -89,6 +102,8 @@ const HELPS: &[Words] = &[
     Words(Asked::Help, &["flounder", "show", "--help"]),
     Words(Asked::Help, &["flounder", "compile", "--help"]),
     Words(Asked::Help, &["flounder", "cores", "--help"]),
+    Words(Asked::Help, &["flounder", "chart", "--help"]),
+    Words(Asked::Help, &["flounder", "header", "--help"]),
 ];
 
 fn are_two_turns(alloc: Global, words: &[&str]) -> bool {
@@ -97,7 +112,8 @@ fn are_two_turns(alloc: Global, words: &[&str]) -> bool {
         &asked,
         Ok(Request::Cores {
             file: "x",
-            turns: 2
+            turns: 2,
+            script: None
         })
     )
 }
@@ -159,7 +175,7 @@ fn are_lost(alloc: Global, words: &[&str]) -> bool {
     tell_into(alloc, words, Narrow(10), &mut err) == 4
 }
 
-impl Row for Words {
+impl CheckedRow for Words {
     fn holds(&self, alloc: Global) -> Result<bool, Fail> {
         Ok(match self.0 {
             Asked::TwoTurns => are_two_turns(alloc, self.1),
@@ -197,7 +213,7 @@ const HINTS: &[Hint] = &[
     Hint(&["flounder", "--nope"], false),
 ];
 
-impl Row for Hint {
+impl CheckedRow for Hint {
     fn holds(&self, alloc: Global) -> Result<bool, Fail> {
         let err = tell(alloc, self.0).err;
         Ok(err.ends_with(b"flounder exec < FILE\n") == self.1)

@@ -1,8 +1,9 @@
 //! The scripts of `examples/` and their transcripts, as they stand there: `examples/check` tells where they differ.
 
-use crate::program::scripts::Script;
+use crate::program::drawings::{Drawing, Example};
+use crate::program::scripts::ScriptRow;
 
-const CIRCUIT: Script = Script(
+const CIRCUIT: ScriptRow = ScriptRow(
     b"\
 # A circuit over three cores: the monitors open it by messages of their own, and then fragments are forwarded link by link.
 idl
@@ -140,7 +141,7 @@ handle p.s write(11, \"d\")
 ",
 );
 
-const ECHO: Script = Script(
+const ECHO: ScriptRow = ScriptRow(
     b"\
 # An rpc that is answered by a reply rule: whatever the echo server is asked, it answers with the same number.
 idl
@@ -222,7 +223,7 @@ nothing
 ",
 );
 
-const HELLO: Script = Script(
+const HELLO: ScriptRow = ScriptRow(
     b"\
 idl
 interface i { message ping(uint32 v); }
@@ -251,7 +252,7 @@ nothing
 ",
 );
 
-const MEMORY: Script = Script(
+const MEMORY: ScriptRow = ScriptRow(
     b"\
 # the memory server of docs/SCRIPTS.md, and its client
 idl
@@ -320,7 +321,7 @@ nothing
 ",
 );
 
-const NAMES: Script = Script(
+const NAMES: ScriptRow = ScriptRow(
     b"\
 # A name service with two services: a memory server and a block device, each under a name of its own. A binding names the
 # service, and the interface under which it wants to speak to it.
@@ -403,7 +404,7 @@ refused E41
 ",
 );
 
-const REFUSED: Script = Script(
+const REFUSED: ScriptRow = ScriptRow(
     b"\
 # A route that is refused: the first link is there, so the client's monitor asks; the next core has no link to go on by.
 idl
@@ -487,7 +488,7 @@ accepted
 ",
 );
 
-const RING: Script = Script(
+const RING: ScriptRow = ScriptRow(
     b"\
 # A ring between two cores that fills and is acknowledged. Of its four slots one direction can use three here: each put
 # wants two free slots, so that the last is always free for an acknowledgement.
@@ -586,7 +587,7 @@ handle p.c input(13)
 ",
 );
 
-const STUCK: Script = Script(
+const STUCK: ScriptRow = ScriptRow(
     b"\
 # A circuit with calls both ways that sticks, since its links have only four slots and both ends call without
 # waiting. With eight slots the same lines go through. How to choose N: docs/WIRE.md, \"Choosing N\".
@@ -720,9 +721,20 @@ full
 );
 
 /// Those that call in turn.
-pub const CALLS: &[Script] = &[ECHO, HELLO, MEMORY, NAMES];
+pub const CALLS: &[Example] = &[
+    Example(ECHO, Drawing(0, 0, 4058279369, 14487)),
+    Example(HELLO, Drawing(0, 0, 662904997, 6135)),
+    Example(MEMORY, Drawing(0, 0, 2321216848, 12182)),
+    Example(NAMES, Drawing(0, 0, 2081026271, 13909)),
+];
 
 /// Those of links and rings.
-pub const LINKS: &[Script] = &[CIRCUIT, REFUSED];
+pub const LINKS: &[Example] = &[
+    Example(CIRCUIT, Drawing(0, 0, 1017331811, 25274)),
+    Example(REFUSED, Drawing(0, 0, 4230324452, 15059)),
+];
 
-pub const RINGS: &[Script] = &[RING, STUCK];
+pub const RINGS: &[Example] = &[
+    Example(RING, Drawing(0, 0, 1313997335, 17366)),
+    Example(STUCK, Drawing(0, 0, 351664352, 23550)),
+];

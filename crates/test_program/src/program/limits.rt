@@ -1,27 +1,27 @@
 //! One thing more than a world holds: what the last line of each script asks is refused. And the longest script.
 
-use crate::program::scripts::{Script, is_transcript};
-use crate::rows::Row;
+use crate::program::scripts::{ScriptRow, is_transcript};
+use crate::rows::CheckedRow;
 use std::alloc::{AllocError, Global};
 use std::test::Fail;
 
 /// A script and its transcript: how they begin, lines that stand there so many times with their number in the place of `@`, and how they end.
 pub struct Limit {
-    first: Script,
+    first: ScriptRow,
     times: u32,
-    lines: Script,
-    last: Script,
+    lines: ScriptRow,
+    last: ScriptRow,
 }
 
-const NOTHING: Script = Script(b"", b"");
+const NOTHING: ScriptRow = ScriptRow(b"", b"");
 
-const LINKED: Script = Script(
+const LINKED: ScriptRow = ScriptRow(
     b"idl\ninterface i { message ping(uint32 v); }\n.\ncores 2\nlink 0 1 4\ndisp d 0\ndisp e 1\nexport s e i\n",
     b"ok\nok\nok\nok\nok\nok\n",
 );
 
 // The lines of this limit fill dispatcher d; e, at the other core, and f have no ends.
-const CROWDED: Script = Script(
+const CROWDED: ScriptRow = ScriptRow(
     b"\
 idl
 interface i { message m(); }
@@ -42,52 +42,52 @@ pub const LIMITS: &[Limit] = &[
     Limit {
         first: NOTHING,
         times: 64,
-        lines: Script(b"idl\ninterface i@ { message m(); }\n.\n", b"ok\n"),
-        last: Script(b"idl\ninterface j { message m(); }\n.\n", b"refused E94\n"),
+        lines: ScriptRow(b"idl\ninterface i@ { message m(); }\n.\n", b"ok\n"),
+        last: ScriptRow(b"idl\ninterface j { message m(); }\n.\n", b"refused E94\n"),
     },
     // dispatchers
     Limit {
         first: NOTHING,
         times: 256,
-        lines: Script(b"disp d@ 0\n", b"ok\n"),
-        last: Script(b"disp e 0\n", b"refused E94\n"),
+        lines: ScriptRow(b"disp d@ 0\n", b"ok\n"),
+        last: ScriptRow(b"disp e 0\n", b"refused E94\n"),
     },
     // services
     Limit {
-        first: Script(
+        first: ScriptRow(
             b"idl\ninterface i { message m(); }\n.\ndisp d 0\n",
             b"ok\nok\n",
         ),
         times: 256,
-        lines: Script(b"export s@ d i\n", b"ok\n"),
-        last: Script(b"export t d i\n", b"refused E94\n"),
+        lines: ScriptRow(b"export s@ d i\n", b"ok\n"),
+        last: ScriptRow(b"export t d i\n", b"refused E94\n"),
     },
     // bindings: their limit is told before those of a dispatcher's ends, which are used up as well
     Limit {
-        first: Script(
+        first: ScriptRow(
             b"idl\ninterface i { message m(); }\n.\ndisp d 0\ndisp e 0\nexport s e i\n",
             b"ok\nok\nok\nok\n",
         ),
         times: 1024,
-        lines: Script(b"bind p@ d i s local 1\n", b"ok\n"),
-        last: Script(b"bind q d i s local 1\n", b"refused E94\n"),
+        lines: ScriptRow(b"bind p@ d i s local 1\n", b"ok\n"),
+        last: ScriptRow(b"bind q d i s local 1\n", b"refused E94\n"),
     },
     // ends: a dispatcher has 1,024 at most, and a binding to itself takes two of them
     Limit {
-        first: Script(
+        first: ScriptRow(
             b"idl\ninterface i { message m(); }\n.\ndisp d 0\nexport s d i\n",
             b"ok\nok\nok\n",
         ),
         times: 512,
-        lines: Script(b"bind p@ d i s local 1\n", b"ok\n"),
-        last: Script(b"bind q d i s local 1\n", b"refused E54\n"),
+        lines: ScriptRow(b"bind p@ d i s local 1\n", b"ok\n"),
+        last: ScriptRow(b"bind q d i s local 1\n", b"refused E54\n"),
     },
     // ends of bindings over rings, at either dispatcher, and of circuits: the same
     Limit {
         first: CROWDED,
         times: 512,
-        lines: Script(b"bind p@ d i s local 1\n", b"ok\n"),
-        last: Script(
+        lines: ScriptRow(b"bind p@ d i s local 1\n", b"ok\n"),
+        last: ScriptRow(
             b"bind q d i t ump 4\nbind q e i s ump 4\nbind q d i t hop 0 1\nbind q f i t ump 4\n",
             b"refused E54\nrefused E54\nrefused E54\nok\n",
         ),
@@ -96,7 +96,7 @@ pub const LIMITS: &[Limit] = &[
     Limit {
         first: LINKED,
         times: 1023,
-        lines: Script(
+        lines: ScriptRow(
             b"\
 bind p@ d i s hop 0 1
 mwrite 0 1
@@ -116,14 +116,14 @@ opened p@.c
 nothing
 ",
         ),
-        last: Script(b"bind q d i s hop 0 1\n", b"refused E74\n"),
+        last: ScriptRow(b"bind q d i s hop 0 1\n", b"refused E74\n"),
     },
     // messages: a link's outbox holds 64; one that was written makes room
     Limit {
         first: LINKED,
         times: 64,
-        lines: Script(b"bind p@ d i s hop 0 1\n", b"ok\n"),
-        last: Script(
+        lines: ScriptRow(b"bind p@ d i s hop 0 1\n", b"ok\n"),
+        last: ScriptRow(
             b"bind q d i s hop 0 1\nmwrite 0 1\nbind q d i s hop 0 1\n",
             b"refused E75\nwritten 1 of 1\nok\n",
         ),
@@ -132,15 +132,15 @@ nothing
     Limit {
         first: NOTHING,
         times: 1_048_576,
-        lines: Script(b"\n", b""),
+        lines: ScriptRow(b"\n", b""),
         last: NOTHING,
     },
     // one byte more is refused whole
     Limit {
         first: NOTHING,
         times: 1_048_576,
-        lines: Script(b"\n", b""),
-        last: Script(b"\n", b"refused E91\n"),
+        lines: ScriptRow(b"\n", b""),
+        last: ScriptRow(b"\n", b"refused E91\n"),
     },
 ];
 
@@ -203,7 +203,7 @@ fn is_limit(alloc: Global, limit: &Limit, script: &[u8]) -> Result<bool, Fail> {
     Ok(is_transcript(alloc, script, &wanted)?)
 }
 
-impl Row for Limit {
+impl CheckedRow for Limit {
     fn holds(&self, alloc: Global) -> Result<bool, Fail> {
         let script = text_of(alloc, self.first.0, self.times, self.lines.0, self.last.0)?;
         is_limit(alloc, self, &script)

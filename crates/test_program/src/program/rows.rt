@@ -1,7 +1,7 @@
 //! Worked examples, each a script and its transcript, worked out apart from this repository: queues within a core, reply rules, waitsets, and
 //! what is refused.
 
-use crate::program::scripts::{Script, UnderBoth};
+use crate::program::scripts::{ScriptRow, UnderBoth};
 
 /// Those whose fragments both plans lay out alike.
 pub const ROWS: &[UnderBoth] = &[
@@ -459,8 +459,8 @@ handle p.s echo_call(18)
 ];
 
 /// Those whose fragments the two plans lay out otherwise.
-pub const OF_ONE_PLAN: &[Script] = &[
-    Script(
+pub const OF_ONE_PLAN: &[ScriptRow] = &[
+    ScriptRow(
         b"\
 idl 1
 interface i { message m(uint8 a, string s, uint16 b); }
@@ -482,7 +482,7 @@ accepted
 0000000000000001 0000000000000002 0000000000006968 0000000000000005 0000000000000000 0000000000000000 0000000000000000 0000000000000003
 ",
     ),
-    Script(
+    ScriptRow(
         b"\
 idl
 interface i { message m(uint8 a, string s, uint16 b); }
@@ -504,7 +504,7 @@ accepted
 0000000000010005 0000000000000002 0000000000006968 0000000000000000 0000000000000000 0000000000000000 0000000000000000 0000000000000003
 ",
     ),
-    Script(
+    ScriptRow(
         b"\
 idl 1
 interface i { message m(int8 a, int64 b, uint8 c); }
@@ -526,7 +526,7 @@ accepted
 0000000000000080 ffffffffffffffff 00000000000000ff 0000000000000000 0000000000000000 0000000000000000 0000000000000000 0000000000000003
 ",
     ),
-    Script(
+    ScriptRow(
         b"\
 idl
 interface i { message m(int8 a, int64 b, uint8 c); }

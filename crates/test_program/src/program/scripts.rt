@@ -3,14 +3,14 @@
 use crate::program::{
     core_rows, examples, letters, limits, lines, rows, stuck, stuck_queue, tables,
 };
-use crate::rows::{Row, all_hold};
+use crate::rows::{CheckedRow, all_hold};
 use fl_script_exec::{ExecFault, exec};
 use fl_world::World;
 use std::alloc::{AllocError, Global};
 use std::test::Fail;
 
 /// A script and its transcript.
-pub struct Script(pub &'static [u8], pub &'static [u8]);
+pub struct ScriptRow(pub &'static [u8], pub &'static [u8]);
 
 /// Whether a script has this transcript.
 pub fn is_transcript(alloc: Global, script: &[u8], wanted: &[u8]) -> Result<bool, ExecFault> {
@@ -20,7 +20,7 @@ pub fn is_transcript(alloc: Global, script: &[u8], wanted: &[u8]) -> Result<bool
     Ok(out.as_slice() == wanted)
 }
 
-impl Row for Script {
+impl CheckedRow for ScriptRow {
     fn holds(&self, alloc: Global) -> Result<bool, Fail> {
         Ok(is_transcript(alloc, self.0, self.1)?)
     }
@@ -40,7 +40,7 @@ pub fn join(alloc: Global, first: &[u8], rest: &[u8]) -> Result<Vec<u8>, AllocEr
     Ok(text)
 }
 
-impl Row for UnderBoth {
+impl CheckedRow for UnderBoth {
     fn holds(&self, alloc: Global) -> Result<bool, Fail> {
         for first in FIRST_LINES {
             let script = join(alloc, first, self.0)?;

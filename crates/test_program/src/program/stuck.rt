@@ -1,9 +1,10 @@
 //! The script of `examples/` in which a binding over a ring with a reply rule sticks, as it stands there:
 //! `examples/check` tells where they differ. That of a circuit stands in `examples.rt`.
 
-use crate::program::scripts::Script;
+use crate::program::drawings::{Drawing, Example};
+use crate::program::scripts::ScriptRow;
 
-const STUCK: Script = Script(
+const STUCK: ScriptRow = ScriptRow(
     b"\
 # A binding over a ring that sticks, with one reply rule. An end at which 16 replies wait takes nothing before
 # one is written. To write one it wants room on the ring, and for that it looks at the first call that it
@@ -293,4 +294,4 @@ full
 );
 
 /// The one script.
-pub const RING: &[Script] = &[STUCK];
+pub const RING: &[Example] = &[Example(STUCK, Drawing(97, 149, 3704780212, 17759))];

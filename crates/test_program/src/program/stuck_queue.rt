@@ -1,8 +1,9 @@
 //! The script of `examples/` in which a binding within a core with reply rules sticks, as it stands there.
 
-use crate::program::scripts::Script;
+use crate::program::drawings::{Drawing, Example};
+use crate::program::scripts::ScriptRow;
 
-const STUCK: Script = Script(
+const STUCK: ScriptRow = ScriptRow(
     b"\
 # A binding within a core that sticks, with reply rules at both ends. An end at which 16 replies wait takes
 # nothing before one is written, and here both queues are full of what both ends hold back. How to choose N:
@@ -613,4 +614,4 @@ full
 );
 
 /// The one script.
-pub const QUEUE: &[Script] = &[STUCK];
+pub const QUEUE: &[Example] = &[Example(STUCK, Drawing(280, 310, 3036537117, 16218))];

@@ -1,6 +1,6 @@
 //! What accepted cores files come to.
 
-use crate::rows::{Row, all_hold};
+use crate::rows::{CheckedRow, all_hold};
 use fl_base::{EndId, Side};
 use fl_cores_file::{CoresFile, CoresText, Job, read_cores_text};
 use fl_model::Event;
@@ -8,7 +8,7 @@ use std::alloc::{AllocError, Global};
 use std::test::Fail;
 
 // A text, and what it comes to: how many cores, its set-up and its jobs as letters, and the numbers of its bindings.
-struct Accepted {
+struct AcceptedFile {
     text: &'static [u8],
     cores: u32,
     letters: &'static [u8],
@@ -17,7 +17,7 @@ struct Accepted {
 
 // A binding that is opened stands before one that is set up, and between two others: p and r are set up, so they are bindings 0 and 1;
 // q and t are opened, 2 and 3.
-const MIXED: &[Accepted] = &[Accepted {
+const MIXED: &[AcceptedFile] = &[AcceptedFile {
     text: b"idl\ninterface i { message a(uint32 v); }\n.\ncores 2\nlink 0 1 4\ndisp d 0\ndisp e 1\nexport s e i\n\
         bind p d i s ump 8\nbind q d i s hop 0 1\nbind r d i s ump 4\nbind t d i s hop 0 1\n\
         reply r.s a a\ncall q.c a(7)\ncall r.c a(8)\ncall t.s a(9)\n",
@@ -26,7 +26,7 @@ const MIXED: &[Accepted] = &[Accepted {
     numbers: &[0, 2, 1, 3],
 }];
 
-const NO_LINES: &[Accepted] = &[Accepted {
+const NO_LINES: &[AcceptedFile] = &[AcceptedFile {
     text: b"# nothing\n",
     cores: 1,
     letters: b"",
@@ -86,7 +86,7 @@ fn put_letters(out: &mut Vec<u8>, file: &CoresFile<'_>) -> Result<(), AllocError
     Ok(())
 }
 
-fn comes_to(alloc: Global, file: &CoresFile<'_>, row: &Accepted) -> Result<bool, Fail> {
+fn comes_to(alloc: Global, file: &CoresFile<'_>, row: &AcceptedFile) -> Result<bool, Fail> {
     let mut out = Vec::new(alloc);
     put_letters(&mut out, file)?;
     Ok(
@@ -96,7 +96,7 @@ fn comes_to(alloc: Global, file: &CoresFile<'_>, row: &Accepted) -> Result<bool,
     )
 }
 
-impl Row for Accepted {
+impl CheckedRow for AcceptedFile {
     fn holds(&self, alloc: Global) -> Result<bool, Fail> {
         match read_cores_text(alloc, self.text)? {
             CoresText::Refused { .. } => Ok(false),

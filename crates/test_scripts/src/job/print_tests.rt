@@ -1,6 +1,6 @@
 //! Refusals and reports as text.
 
-use crate::rows::{Row, all_hold};
+use crate::rows::{CheckedRow, all_hold};
 use fl_base::MsgNo;
 use fl_cores_file::{
     CallsByEnd, CoresFile, CoresText, Ending, Report, print_refusal, print_report, read_cores_text,
@@ -120,36 +120,36 @@ fn is_refusal(alloc: Global, line: usize, number: u8, wanted: &[u8]) -> Result<b
 }
 
 // What is printed, and how.
-enum Printed {
+enum PrintedRow {
     /// The report of a file's text that ended so.
     Report(&'static [u8], Ending, &'static [u8]),
     /// A line that is refused, and the fault.
     Refusal(usize, u8, &'static [u8]),
 }
 
-impl Row for Printed {
+impl CheckedRow for PrintedRow {
     fn holds(&self, alloc: Global) -> Result<bool, Fail> {
         match self {
-            Printed::Report(text, ending, wanted) => is_reported(alloc, text, *ending, wanted),
-            Printed::Refusal(line, number, wanted) => is_refusal(alloc, *line, *number, wanted),
+            PrintedRow::Report(text, ending, wanted) => is_reported(alloc, text, *ending, wanted),
+            PrintedRow::Refusal(line, number, wanted) => is_refusal(alloc, *line, *number, wanted),
         }
     }
 }
 
 #[test]
 fn a_report_goes_by_names(rt: HostRuntime) -> Result<(), Fail> {
-    let rows = &[Printed::Report(FILE, Ending::Complete, WANTED)];
+    let rows = &[PrintedRow::Report(FILE, Ending::Complete, WANTED)];
     all_hold(rt.alloc(), "reports", rows)
 }
 
 #[test]
 fn a_report_of_nothing_tells_its_end(rt: HostRuntime) -> Result<(), Fail> {
-    let rows = &[Printed::Report(b"", Ending::TurnsOut, b"turns out\n")];
+    let rows = &[PrintedRow::Report(b"", Ending::TurnsOut, b"turns out\n")];
     all_hold(rt.alloc(), "reports of nothing", rows)
 }
 
 #[test]
 fn a_refusal_names_its_line(rt: HostRuntime) -> Result<(), Fail> {
-    let rows = &[Printed::Refusal(227, 90, b"line 227 refused E90\n")];
+    let rows = &[PrintedRow::Refusal(227, 90, b"line 227 refused E90\n")];
     all_hold(rt.alloc(), "refusals", rows)
 }

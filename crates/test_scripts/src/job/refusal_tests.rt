@@ -1,6 +1,6 @@
 //! Lines of cores files that are refused.
 
-use crate::rows::{Row, all_hold};
+use crate::rows::{CheckedRow, all_hold};
 use fl_cores_file::{CoresText, read_cores_text};
 use std::alloc::{AllocError, Global};
 use std::test::Fail;
@@ -33,37 +33,37 @@ fn lines_of(start: Start) -> &'static [u8] {
 }
 
 // Lines behind those, and the first of all that is refused, with the fault; 0 and 0 where none is.
-struct Refused(Start, &'static [u8], usize, u8);
+struct RefusedSetUp(Start, &'static [u8], usize, u8);
 
 // Lines behind those eight.
-const BEHIND_LOCAL: &[Refused] = &[
-    Refused(Start::Local, b"", 0, 0),
-    Refused(Start::Local, b"call p.c a(1)\n", 0, 0),
+const BEHIND_LOCAL: &[RefusedSetUp] = &[
+    RefusedSetUp(Start::Local, b"", 0, 0),
+    RefusedSetUp(Start::Local, b"call p.c a(1)\n", 0, 0),
     // an end with rules makes no calls, and only one end has rules
-    Refused(Start::Local, b"call p.s a(1)\n", 9, 44),
-    Refused(Start::Local, b"reply p.c a a\n", 9, 44),
-    Refused(Start::Local, b"reply p.s b b\n", 0, 0),
-    Refused(Start::Local, b"call p.c a(1)\nreply p.c a a\n", 10, 44),
+    RefusedSetUp(Start::Local, b"call p.s a(1)\n", 9, 44),
+    RefusedSetUp(Start::Local, b"reply p.c a a\n", 9, 44),
+    RefusedSetUp(Start::Local, b"reply p.s b b\n", 0, 0),
+    RefusedSetUp(Start::Local, b"call p.c a(1)\nreply p.c a a\n", 10, 44),
     // after all other refusals of the line
-    Refused(Start::Local, b"call p.s c(1)\n", 9, 41),
-    Refused(Start::Local, b"call p.s a(4294967296)\n", 9, 42),
-    Refused(Start::Local, b"reply p.c a c\n", 9, 41),
-    Refused(Start::Local, b"reply p.c a b\n", 9, 42),
+    RefusedSetUp(Start::Local, b"call p.s c(1)\n", 9, 41),
+    RefusedSetUp(Start::Local, b"call p.s a(4294967296)\n", 9, 42),
+    RefusedSetUp(Start::Local, b"reply p.c a c\n", 9, 41),
+    RefusedSetUp(Start::Local, b"reply p.c a b\n", 9, 42),
     // a command of scripts alone, whatever it names
-    Refused(Start::Local, b"turn d\n", 9, 90),
-    Refused(Start::Local, b"write q.c\n", 9, 90),
-    Refused(Start::Local, b"mack 5 6\n", 9, 90),
+    RefusedSetUp(Start::Local, b"turn d\n", 9, 90),
+    RefusedSetUp(Start::Local, b"write q.c\n", 9, 90),
+    RefusedSetUp(Start::Local, b"mack 5 6\n", 9, 90),
     // a call's text is read before its end is looked up
-    Refused(Start::Local, b"call q.c a(1\n", 9, 90),
-    Refused(Start::Local, b"call q.c a(1)\n", 9, 92),
-    Refused(Start::Local, b"cores 2\n", 9, 93),
-    Refused(Start::Local, b"bind p d i s local 4\n", 9, 92),
-    Refused(Start::Local, b"bind q d i t local 4\n", 9, 70),
-    Refused(Start::Local, b"bind q d i s local 0\n", 9, 32),
-    Refused(Start::Local, b"bind q d i s ump 4\n", 9, 73),
+    RefusedSetUp(Start::Local, b"call q.c a(1\n", 9, 90),
+    RefusedSetUp(Start::Local, b"call q.c a(1)\n", 9, 92),
+    RefusedSetUp(Start::Local, b"cores 2\n", 9, 93),
+    RefusedSetUp(Start::Local, b"bind p d i s local 4\n", 9, 92),
+    RefusedSetUp(Start::Local, b"bind q d i t local 4\n", 9, 70),
+    RefusedSetUp(Start::Local, b"bind q d i s local 0\n", 9, 32),
+    RefusedSetUp(Start::Local, b"bind q d i s ump 4\n", 9, 73),
     // blank lines and comments count, and blocks all their lines
-    Refused(Start::Local, b"\n# x\n\t \nwhat\n", 12, 90),
-    Refused(
+    RefusedSetUp(Start::Local, b"\n# x\n\t \nwhat\n", 12, 90),
+    RefusedSetUp(
         Start::Local,
         b"idl\ninterface j { }\n.\nidl\ninterface i { }\n.\n",
         12,
@@ -72,28 +72,28 @@ const BEHIND_LOCAL: &[Refused] = &[
 ];
 
 // Lines behind those eight.
-const BEHIND_CORES: &[Refused] = &[
-    Refused(Start::Cores, b"bind p d i s hop 0 1 2\n", 0, 0),
+const BEHIND_CORES: &[RefusedSetUp] = &[
+    RefusedSetUp(Start::Cores, b"bind p d i s hop 0 1 2\n", 0, 0),
     // only the first link of a route has to be there, on an earlier line
-    Refused(Start::Cores, b"bind p d i s hop 0 2\n", 9, 73),
-    Refused(Start::Cores, b"bind p d i s hop 0 2\nlink 0 2 4\n", 9, 73),
-    Refused(Start::Cores, b"link 0 2 4\nbind p d i s hop 0 2\n", 0, 0),
-    Refused(Start::Cores, b"bind p d i s hop 1 2\n", 9, 73),
-    Refused(Start::Cores, b"bind p d i s hop 0 1\n", 9, 73),
-    Refused(Start::Cores, b"bind p d i s hop 0 1 0 1 2\n", 9, 73),
-    Refused(Start::Cores, b"bind p d i s hop 0 3 2\n", 9, 73),
-    Refused(Start::Cores, b"bind p d i s hop 0\n", 9, 73),
-    Refused(Start::Cores, b"bind p d i s hop\n", 9, 90),
-    Refused(Start::Cores, b"link 1 0 4\n", 9, 73),
-    Refused(Start::Cores, b"link 1 1 4\n", 9, 73),
-    Refused(Start::Cores, b"link 1 3 4\n", 9, 73),
-    Refused(Start::Cores, b"link 1 2 5\n", 9, 32),
-    Refused(Start::Cores, b"link 1 2 2\n", 9, 32),
-    Refused(Start::Cores, b"disp f 3\n", 9, 73),
-    Refused(Start::Cores, b"disp d 1\n", 9, 92),
-    Refused(Start::Cores, b"export s d i\n", 9, 71),
-    Refused(Start::Cores, b"export t f i\n", 9, 92),
-    Refused(
+    RefusedSetUp(Start::Cores, b"bind p d i s hop 0 2\n", 9, 73),
+    RefusedSetUp(Start::Cores, b"bind p d i s hop 0 2\nlink 0 2 4\n", 9, 73),
+    RefusedSetUp(Start::Cores, b"link 0 2 4\nbind p d i s hop 0 2\n", 0, 0),
+    RefusedSetUp(Start::Cores, b"bind p d i s hop 1 2\n", 9, 73),
+    RefusedSetUp(Start::Cores, b"bind p d i s hop 0 1\n", 9, 73),
+    RefusedSetUp(Start::Cores, b"bind p d i s hop 0 1 0 1 2\n", 9, 73),
+    RefusedSetUp(Start::Cores, b"bind p d i s hop 0 3 2\n", 9, 73),
+    RefusedSetUp(Start::Cores, b"bind p d i s hop 0\n", 9, 73),
+    RefusedSetUp(Start::Cores, b"bind p d i s hop\n", 9, 90),
+    RefusedSetUp(Start::Cores, b"link 1 0 4\n", 9, 73),
+    RefusedSetUp(Start::Cores, b"link 1 1 4\n", 9, 73),
+    RefusedSetUp(Start::Cores, b"link 1 3 4\n", 9, 73),
+    RefusedSetUp(Start::Cores, b"link 1 2 5\n", 9, 32),
+    RefusedSetUp(Start::Cores, b"link 1 2 2\n", 9, 32),
+    RefusedSetUp(Start::Cores, b"disp f 3\n", 9, 73),
+    RefusedSetUp(Start::Cores, b"disp d 1\n", 9, 92),
+    RefusedSetUp(Start::Cores, b"export s d i\n", 9, 71),
+    RefusedSetUp(Start::Cores, b"export t f i\n", 9, 92),
+    RefusedSetUp(
         Start::Cores,
         b"idl\ninterface j { }\n.\nbind p d j s hop 0 1 2\n",
         12,
@@ -102,23 +102,23 @@ const BEHIND_CORES: &[Refused] = &[
 ];
 
 // Whole texts.
-const WHOLE: &[Refused] = &[
-    Refused(Start::Nothing, b"", 0, 0),
-    Refused(Start::Nothing, b"\n# no line\n", 0, 0),
-    Refused(Start::Nothing, b"cores 0\n", 1, 94),
-    Refused(Start::Nothing, b"cores 17\n", 1, 94),
-    Refused(Start::Nothing, b"cores 2\ncores 2\n", 2, 93),
-    Refused(Start::Nothing, b"disp d 0", 0, 0),
+const WHOLE: &[RefusedSetUp] = &[
+    RefusedSetUp(Start::Nothing, b"", 0, 0),
+    RefusedSetUp(Start::Nothing, b"\n# no line\n", 0, 0),
+    RefusedSetUp(Start::Nothing, b"cores 0\n", 1, 94),
+    RefusedSetUp(Start::Nothing, b"cores 17\n", 1, 94),
+    RefusedSetUp(Start::Nothing, b"cores 2\ncores 2\n", 2, 93),
+    RefusedSetUp(Start::Nothing, b"disp d 0", 0, 0),
     // of a text's fault the offset isn't told
-    Refused(
+    RefusedSetUp(
         Start::Nothing,
         b"\nidl\ninterface i { message m(cap c); }\n.\n",
         2,
         14,
     ),
     // an open block is refused at its head
-    Refused(Start::Nothing, b"\nidl\ninterface i { }\n", 2, 90),
-    Refused(Start::Nothing, b"idl 2\n", 1, 90),
+    RefusedSetUp(Start::Nothing, b"\nidl\ninterface i { }\n", 2, 90),
+    RefusedSetUp(Start::Nothing, b"idl 2\n", 1, 90),
 ];
 
 // Whether this line is refused with this fault.
@@ -137,7 +137,7 @@ fn push_all(text: &mut Vec<u8>, pieces: &[&[u8]]) -> Result<(), AllocError> {
     Ok(())
 }
 
-impl Row for Refused {
+impl CheckedRow for RefusedSetUp {
     fn holds(&self, alloc: Global) -> Result<bool, Fail> {
         let mut text = Vec::new(alloc);
         push_all(&mut text, &[lines_of(self.0), self.1])?;
@@ -178,7 +178,7 @@ fn push_bindings(alloc: Global, text: &mut Vec<u8>, row: &Bindings) -> Result<()
     Ok(())
 }
 
-impl Row for Bindings {
+impl CheckedRow for Bindings {
     fn holds(&self, alloc: Global) -> Result<bool, Fail> {
         let mut text = Vec::new(alloc);
         push_bindings(alloc, &mut text, self)?;
@@ -215,12 +215,15 @@ fn a_world_has_bindings(rt: HostRuntime) -> Result<(), Fail> {
 }
 
 // So many line feeds, and the line that is refused, with the fault.
-struct Feeds(usize, usize, u8);
+struct FeedsRefused(usize, usize, u8);
 
 // A text of more than 1 MiB is refused at its first line, whatever stands there.
-const FEEDS: &[Feeds] = &[Feeds(1_048_576, 0, 0), Feeds(1_048_577, 1, 91)];
+const FEEDS: &[FeedsRefused] = &[
+    FeedsRefused(1_048_576, 0, 0),
+    FeedsRefused(1_048_577, 1, 91),
+];
 
-impl Row for Feeds {
+impl CheckedRow for FeedsRefused {
     fn holds(&self, alloc: Global) -> Result<bool, Fail> {
         let text = vec![in alloc; b'\n'; self.0]?;
         is_refused(alloc, &text, self.1, self.2)

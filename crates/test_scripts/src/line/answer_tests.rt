@@ -1,7 +1,7 @@
 //! Answers' texts.
 
 use crate::line::names::names_of;
-use crate::rows::{Row, all_hold};
+use crate::rows::{CheckedRow, all_hold};
 use fl_base::{EndId, Frag, MsgNo, Side};
 use fl_model::Answer;
 use fl_script_lines::{Naming, ScriptNames, print_answer, print_fault};
@@ -77,25 +77,25 @@ fn answer(number: usize) -> Answer {
 }
 
 // The number of an answer, and its text.
-struct Printed(usize, &'static [u8]);
+struct PrintedAnswer(usize, &'static [u8]);
 
-const PRINTED: &[Printed] = &[
-    Printed(0, b"ok"),
-    Printed(1, b"accepted"),
-    Printed(2, b"nothing"),
-    Printed(3, b"full"),
-    Printed(4, b"written 2 of 586"),
-    Printed(5, b"part p.s"),
-    Printed(6, b"ready p.c"),
-    Printed(7, b"quiet q2.c"),
-    Printed(8, b"forwarded"),
-    Printed(9, b"opened q2.s"),
-    Printed(10, b"refused E73 p.c"),
-    Printed(
+const PRINTED: &[PrintedAnswer] = &[
+    PrintedAnswer(0, b"ok"),
+    PrintedAnswer(1, b"accepted"),
+    PrintedAnswer(2, b"nothing"),
+    PrintedAnswer(3, b"full"),
+    PrintedAnswer(4, b"written 2 of 586"),
+    PrintedAnswer(5, b"part p.s"),
+    PrintedAnswer(6, b"ready p.c"),
+    PrintedAnswer(7, b"quiet q2.c"),
+    PrintedAnswer(8, b"forwarded"),
+    PrintedAnswer(9, b"opened q2.s"),
+    PrintedAnswer(10, b"refused E73 p.c"),
+    PrintedAnswer(
         11,
         b"0000000000000007 0000000000000000 0000000000000000 0000000000000000 0000000000000000 0000000000000000 fedcba9876543210 0002000100000003",
     ),
-    Printed(12, b"refused E92"),
+    PrintedAnswer(12, b"refused E92"),
 ];
 
 fn is_text(
@@ -115,7 +115,7 @@ fn has_text(alloc: Global, answer: &Answer, wanted: &[u8]) -> Result<bool, Fail>
     Ok(is_text(alloc, &names, answer, wanted)?)
 }
 
-impl Row for Printed {
+impl CheckedRow for PrintedAnswer {
     fn holds(&self, alloc: Global) -> Result<bool, Fail> {
         has_text(alloc, &answer(self.0), self.1)
     }
@@ -148,16 +148,16 @@ fn has_offset(alloc: Global) -> Result<bool, Fail> {
 }
 
 #[derive(Clone, Copy)]
-enum Example {
+enum AnswerExample {
     Handled,
     Fault,
 }
 
-impl Row for Example {
+impl CheckedRow for AnswerExample {
     fn holds(&self, alloc: Global) -> Result<bool, Fail> {
         match self {
-            Example::Handled => is_handled(alloc),
-            Example::Fault => has_offset(alloc),
+            AnswerExample::Handled => is_handled(alloc),
+            AnswerExample::Fault => has_offset(alloc),
         }
     }
 }
@@ -165,5 +165,9 @@ impl Row for Example {
 #[test]
 fn answers_have_their_texts(rt: HostRuntime) -> Result<(), Fail> {
     all_hold(rt.alloc(), "answers", PRINTED)?;
-    all_hold(rt.alloc(), "examples", &[Example::Handled, Example::Fault])
+    all_hold(
+        rt.alloc(),
+        "examples",
+        &[AnswerExample::Handled, AnswerExample::Fault],
+    )
 }

@@ -1,7 +1,7 @@
 //! What commands ask by the names so far, and in which order they are refused.
 
 use crate::line::names::{interface, names_of};
-use crate::rows::{Row, all_hold};
+use crate::rows::{CheckedRow, all_hold};
 use fl_base::{EndId, Side};
 use fl_interface::Interface;
 use fl_model::{Answer, BackEnd, DispatcherId, Event};
@@ -14,66 +14,66 @@ const TEXT: &[u8] = b"interface i { message ping(uint32 v); rpc echo(in uint32 x
 
 // A line, and what it asks by the names that those before it gave, were each answered `ok`: a word, numbers and a name; or the number of its
 // fault.
-struct Asked(
+struct AskedLine(
     &'static [u8],
     &'static [u8],
     &'static [usize],
     &'static [u8],
 );
 
-const ASKED: &[Asked] = &[
-    Asked(b"cores 2", b"cores", &[2], b""),
-    Asked(b"link 0 1 4", b"link", &[0, 1, 4], b""),
-    Asked(b"disp d 0", b"disp", &[0], b""),
-    Asked(b"disp d 1", b"refused", &[92], b""),
-    Asked(b"disp e 1", b"disp", &[1], b""),
-    Asked(b"disp f 0", b"disp", &[0], b""),
-    Asked(b"disp g 999999999", b"disp", &[999_999_999], b""),
-    Asked(b"export s e i", b"export", &[1, 0, 0], b"s"),
-    Asked(b"export s f i", b"export", &[0, 1, 0], b"s"),
-    Asked(b"export s x i", b"refused", &[92], b""),
-    Asked(b"export s e j", b"refused", &[92], b""),
-    Asked(b"bind p d i s local 4", b"bind", &[0, 0, 0, 0, 4], b"s"),
-    Asked(b"bind p d i s local 4", b"refused", &[92], b""),
-    Asked(b"bind q f i t ump 8", b"bind", &[0, 1, 0, 1, 8], b"t"),
-    Asked(b"bind r d i s hop 0 1", b"bind", &[0, 0, 0, 2, 0], b"s"),
-    Asked(b"bind t x i s ump 4", b"refused", &[92], b""),
-    Asked(b"bind t d x s ump 4", b"refused", &[92], b""),
-    Asked(b"call p.c ping(7)", b"call", &[0, 0, 0, 1], b""),
-    Asked(
+const ASKED: &[AskedLine] = &[
+    AskedLine(b"cores 2", b"cores", &[2], b""),
+    AskedLine(b"link 0 1 4", b"link", &[0, 1, 4], b""),
+    AskedLine(b"disp d 0", b"disp", &[0], b""),
+    AskedLine(b"disp d 1", b"refused", &[92], b""),
+    AskedLine(b"disp e 1", b"disp", &[1], b""),
+    AskedLine(b"disp f 0", b"disp", &[0], b""),
+    AskedLine(b"disp g 999999999", b"disp", &[999_999_999], b""),
+    AskedLine(b"export s e i", b"export", &[1, 0, 0], b"s"),
+    AskedLine(b"export s f i", b"export", &[0, 1, 0], b"s"),
+    AskedLine(b"export s x i", b"refused", &[92], b""),
+    AskedLine(b"export s e j", b"refused", &[92], b""),
+    AskedLine(b"bind p d i s local 4", b"bind", &[0, 0, 0, 0, 4], b"s"),
+    AskedLine(b"bind p d i s local 4", b"refused", &[92], b""),
+    AskedLine(b"bind q f i t ump 8", b"bind", &[0, 1, 0, 1, 8], b"t"),
+    AskedLine(b"bind r d i s hop 0 1", b"bind", &[0, 0, 0, 2, 0], b"s"),
+    AskedLine(b"bind t x i s ump 4", b"refused", &[92], b""),
+    AskedLine(b"bind t d x s ump 4", b"refused", &[92], b""),
+    AskedLine(b"call p.c ping(7)", b"call", &[0, 0, 0, 1], b""),
+    AskedLine(
         b"call q.s echo_response(1, 2, 3)",
         b"call",
         &[1, 1, 2, 3],
         b"",
     ),
     // no call's text comes before an unknown end, and that before an unknown message
-    Asked(b"call x.c ping(7", b"refused", &[90], b""),
-    Asked(b"call p.c", b"refused", &[90], b""),
-    Asked(b"call x.c pong(7)", b"refused", &[92], b""),
-    Asked(b"call p.c pong(7)", b"refused", &[41], b""),
-    Asked(b"call p.c echo(7)", b"refused", &[41], b""),
-    Asked(b"show r.c", b"show", &[2, 0], b""),
-    Asked(b"write q.s", b"write", &[1, 1], b""),
-    Asked(b"turn e", b"turn", &[1, 0], b""),
-    Asked(b"turn p", b"refused", &[92], b""),
-    Asked(b"ack p.s", b"ack", &[0, 1], b""),
-    Asked(b"register p.c", b"register", &[0, 0], b""),
-    Asked(b"deregister t.c", b"refused", &[92], b""),
-    Asked(
+    AskedLine(b"call x.c ping(7", b"refused", &[90], b""),
+    AskedLine(b"call p.c", b"refused", &[90], b""),
+    AskedLine(b"call x.c pong(7)", b"refused", &[92], b""),
+    AskedLine(b"call p.c pong(7)", b"refused", &[41], b""),
+    AskedLine(b"call p.c echo(7)", b"refused", &[41], b""),
+    AskedLine(b"show r.c", b"show", &[2, 0], b""),
+    AskedLine(b"write q.s", b"write", &[1, 1], b""),
+    AskedLine(b"turn e", b"turn", &[1, 0], b""),
+    AskedLine(b"turn p", b"refused", &[92], b""),
+    AskedLine(b"ack p.s", b"ack", &[0, 1], b""),
+    AskedLine(b"register p.c", b"register", &[0, 0], b""),
+    AskedLine(b"deregister t.c", b"refused", &[92], b""),
+    AskedLine(
         b"reply p.s echo_call echo_response",
         b"reply",
         &[0, 1, 1, 2],
         b"",
     ),
-    Asked(b"reply x.s pong ping", b"refused", &[92], b""),
-    Asked(b"reply p.s pong ping", b"refused", &[41], b""),
-    Asked(b"reply p.s ping pong", b"refused", &[41], b""),
-    Asked(b"mwrite 0 1", b"mwrite", &[0, 1], b""),
-    Asked(b"forward 1 0", b"forward", &[1, 0], b""),
-    Asked(b"mack 2 1", b"mack", &[2, 1], b""),
+    AskedLine(b"reply x.s pong ping", b"refused", &[92], b""),
+    AskedLine(b"reply p.s pong ping", b"refused", &[41], b""),
+    AskedLine(b"reply p.s ping pong", b"refused", &[41], b""),
+    AskedLine(b"mwrite 0 1", b"mwrite", &[0, 1], b""),
+    AskedLine(b"forward 1 0", b"forward", &[1, 0], b""),
+    AskedLine(b"mack 2 1", b"mack", &[2, 1], b""),
 ];
 
-impl Asked {
+impl AskedLine {
     fn is(&self, word: &[u8], numbers: &[usize], name: &[u8]) -> bool {
         self.1 == word && self.2 == numbers && self.3 == name
     }
@@ -180,7 +180,7 @@ fn numbers_of(back_end: BackEnd) -> (usize, usize) {
 }
 
 // Whether a line asks so; its name is taken up, as after `ok`.
-fn asks_so(names: &mut ScriptNames, row: &Asked) -> Result<bool, AllocError> {
+fn asks_so(names: &mut ScriptNames, row: &AskedLine) -> Result<bool, AllocError> {
     let Line::Command(command) = parse_line(row.0) else {
         return Ok(false);
     };
@@ -195,7 +195,7 @@ fn asks_so(names: &mut ScriptNames, row: &Asked) -> Result<bool, AllocError> {
 }
 
 // Tells which line is the first that doesn't ask so, one after another.
-fn ask_so(names: &mut ScriptNames, rows: &[Asked]) -> Result<(), Fail> {
+fn ask_so(names: &mut ScriptNames, rows: &[AskedLine]) -> Result<(), Fail> {
     for (index, row) in rows.iter().enumerate() {
         if !asks_so(names, row)? {
             return Err(Fail::new(format_args!(
@@ -240,7 +240,7 @@ fn answers(alloc: Global, names: &ScriptNames, row: &Named) -> Result<bool, Fail
     Ok(fault_of(names, other) == row.2)
 }
 
-impl Row for Named {
+impl CheckedRow for Named {
     fn holds(&self, alloc: Global) -> Result<bool, Fail> {
         let names = names_before(alloc, self.0)?;
         answers(alloc, &names, self)
@@ -248,16 +248,16 @@ impl Row for Named {
 }
 
 // A fault and its number.
-struct Numbered(LineFault, u8);
+struct NumberedFault(LineFault, u8);
 
-const NUMBERED: &[Numbered] = &[
-    Numbered(LineFault::NotACall, 90),
-    Numbered(LineFault::Name, 92),
-    Numbered(LineFault::NoSuchMessage, 41),
-    Numbered(LineFault::Memory, 99),
+const NUMBERED: &[NumberedFault] = &[
+    NumberedFault(LineFault::NotACall, 90),
+    NumberedFault(LineFault::Name, 92),
+    NumberedFault(LineFault::NoSuchMessage, 41),
+    NumberedFault(LineFault::Memory, 99),
 ];
 
-impl Row for Numbered {
+impl CheckedRow for NumberedFault {
     fn holds(&self, _alloc: Global) -> Result<bool, Fail> {
         Ok(self.0.number() == self.1)
     }

@@ -1,6 +1,6 @@
 //! What lines spell, and which are not read.
 
-use crate::rows::{Row, all_hold};
+use crate::rows::{CheckedRow, all_hold};
 use fl_script_lines::{
     BackEndText, Command, Line, law_one_line, law_printed_reads, law_spelled_reads, parse_line,
     print_command,
@@ -10,42 +10,42 @@ use std::alloc::{AllocError, Global};
 use std::test::Fail;
 
 // A line, and its command as it is printed.
-struct Spelled(&'static [u8], &'static [u8]);
+struct SpelledLine(&'static [u8], &'static [u8]);
 
-const SPELLED: &[Spelled] = &[
-    Spelled(b"cores 2", b"cores 2"),
-    Spelled(b"cores 999999999", b"cores 999999999"),
-    Spelled(b"  link\t0 1   4 ", b"link 0 1 4"),
-    Spelled(b"disp d 007", b"disp d 7"),
-    Spelled(b"disp _9 000000000", b"disp _9 0"),
-    Spelled(b"export s d i", b"export s d i"),
-    Spelled(b"export idl disp call", b"export idl disp call"),
-    Spelled(b"bind p d i s local 4", b"bind p d i s local 4"),
-    Spelled(b"bind p d i s ump 8", b"bind p d i s ump 8"),
-    Spelled(b"bind p d i s hop 0 1 2", b"bind p d i s hop 0 1 2"),
-    Spelled(b"bind p d i s  hop\t3", b"bind p d i s hop 3"),
-    Spelled(
+const SPELLED: &[SpelledLine] = &[
+    SpelledLine(b"cores 2", b"cores 2"),
+    SpelledLine(b"cores 999999999", b"cores 999999999"),
+    SpelledLine(b"  link\t0 1   4 ", b"link 0 1 4"),
+    SpelledLine(b"disp d 007", b"disp d 7"),
+    SpelledLine(b"disp _9 000000000", b"disp _9 0"),
+    SpelledLine(b"export s d i", b"export s d i"),
+    SpelledLine(b"export idl disp call", b"export idl disp call"),
+    SpelledLine(b"bind p d i s local 4", b"bind p d i s local 4"),
+    SpelledLine(b"bind p d i s ump 8", b"bind p d i s ump 8"),
+    SpelledLine(b"bind p d i s hop 0 1 2", b"bind p d i s hop 0 1 2"),
+    SpelledLine(b"bind p d i s  hop\t3", b"bind p d i s hop 3"),
+    SpelledLine(
         b"bind local ump hop s hop 00 01 ",
         b"bind local ump hop s hop 0 1",
     ),
-    Spelled(b"call p.c ping(7)", b"call p.c ping(7)"),
+    SpelledLine(b"call p.c ping(7)", b"call p.c ping(7)"),
     // a call's text is what stands behind its end, and is looked at later
-    Spelled(b"call p.s   ping( 7", b"call p.s ping( 7"),
-    Spelled(b"call p.s", b"call p.s "),
-    Spelled(b"show p.c", b"show p.c"),
-    Spelled(b"write c.s\t", b"write c.s"),
-    Spelled(b"turn d", b"turn d"),
-    Spelled(b"ack p.s", b"ack p.s"),
-    Spelled(b"register p.c", b"register p.c"),
-    Spelled(b"deregister p.c", b"deregister p.c"),
-    Spelled(
+    SpelledLine(b"call p.s   ping( 7", b"call p.s ping( 7"),
+    SpelledLine(b"call p.s", b"call p.s "),
+    SpelledLine(b"show p.c", b"show p.c"),
+    SpelledLine(b"write c.s\t", b"write c.s"),
+    SpelledLine(b"turn d", b"turn d"),
+    SpelledLine(b"ack p.s", b"ack p.s"),
+    SpelledLine(b"register p.c", b"register p.c"),
+    SpelledLine(b"deregister p.c", b"deregister p.c"),
+    SpelledLine(
         b"reply p.s echo_call echo_response",
         b"reply p.s echo_call echo_response",
     ),
-    Spelled(b"mwrite 0 1", b"mwrite 0 1"),
-    Spelled(b"forward 15 0", b"forward 15 0"),
-    Spelled(b"mack 2 1", b"mack 2 1"),
-    Spelled(
+    SpelledLine(b"mwrite 0 1", b"mwrite 0 1"),
+    SpelledLine(b"forward 15 0", b"forward 15 0"),
+    SpelledLine(b"mack 2 1", b"mack 2 1"),
+    SpelledLine(
         b"turn aaaaaaaaaaaaaaaaaaaaaaaaaaaaaaaaaaaaaaaaaaaaaaaaaaaaaaaaaaaaaaaa",
         b"turn aaaaaaaaaaaaaaaaaaaaaaaaaaaaaaaaaaaaaaaaaaaaaaaaaaaaaaaaaaaaaaaa",
     ),
@@ -116,7 +116,7 @@ fn is_printed(alloc: Global, line: &[u8], text: &[u8]) -> Result<bool, AllocErro
 }
 
 // The printed command is printed as it is.
-impl Row for Spelled {
+impl CheckedRow for SpelledLine {
     fn holds(&self, alloc: Global) -> Result<bool, Fail> {
         Ok(is_printed(alloc, self.0, self.1)? && is_printed(alloc, self.1, self.1)?)
     }
@@ -144,21 +144,21 @@ fn cores_of(alloc: Global, line: &[u8]) -> Result<Vec<u32>, AllocError> {
     }
 }
 
-impl Row for Kind {
+impl CheckedRow for Kind {
     fn holds(&self, _alloc: Global) -> Result<bool, Fail> {
         Ok(kind_of(self.0) == self.1)
     }
 }
 
 // A line, and the cores of its route.
-struct Route(&'static [u8], &'static [u32]);
+struct RouteLine(&'static [u8], &'static [u32]);
 
-const ROUTES: &[Route] = &[
-    Route(b"bind p d i s hop 0 12 345678901", &[0, 12, 345_678_901]),
-    Route(b"bind p d i s hop 7 ", &[7]),
+const ROUTES: &[RouteLine] = &[
+    RouteLine(b"bind p d i s hop 0 12 345678901", &[0, 12, 345_678_901]),
+    RouteLine(b"bind p d i s hop 7 ", &[7]),
 ];
 
-impl Row for Route {
+impl CheckedRow for RouteLine {
     fn holds(&self, alloc: Global) -> Result<bool, Fail> {
         let cores = cores_of(alloc, self.0)?;
         Ok(cores.as_slice() == self.1)

@@ -1,6 +1,6 @@
 //! A script's items.
 
-use crate::rows::{Row, all_hold};
+use crate::rows::{CheckedRow, all_hold};
 use fl_script_lines::{Item, Line, law_one_items, next_item};
 use fl_value_data::PlanNo;
 use std::alloc::{AllocError, Global};
@@ -8,30 +8,30 @@ use std::test::Fail;
 
 // Scripts, and their items: s without an answer, c a command, u unread, 1 and 2 a block under a plan with its text
 // behind it, o an open block.
-struct Script(&'static [u8], &'static [u8]);
+struct ItemsRow(&'static [u8], &'static [u8]);
 
-const SCRIPTS: &[Script] = &[
-    Script(b"", b""),
-    Script(b"\n\n", b"ss"),
-    Script(b"# c\n \t\nturn d", b"ssc"),
-    Script(b"turn d\n", b"c"),
-    Script(b"turn d\r\nturn d\r\r\n", b"cu"),
+const SCRIPTS: &[ItemsRow] = &[
+    ItemsRow(b"", b""),
+    ItemsRow(b"\n\n", b"ss"),
+    ItemsRow(b"# c\n \t\nturn d", b"ssc"),
+    ItemsRow(b"turn d\n", b"c"),
+    ItemsRow(b"turn d\r\nturn d\r\r\n", b"cu"),
     // a carriage return is dropped only directly before a line feed
-    Script(b"turn d\r", b"u"),
-    Script(
+    ItemsRow(b"turn d\r", b"u"),
+    ItemsRow(
         b"idl\ninterface i {\n}\n.\nturn d\n",
         b"2(interface i {\n}\n)c",
     ),
-    Script(
+    ItemsRow(
         b"idl 1\r\ninterface i { }\r\n.\r\n",
         b"1(interface i { }\r\n)",
     ),
-    Script(b"idl\n.\n.\n", b"2()u"),
-    Script(b"idl\n .\n..\n.", b"2( .\n..\n)"),
-    Script(b"idl\n.\r", b"o"),
-    Script(b"idl", b"o"),
-    Script(b"idl\ninterface i { }\nturn d\n", b"o"),
-    Script(b"idl 2\ninterface i { }\n.\n", b"uuu"),
+    ItemsRow(b"idl\n.\n.\n", b"2()u"),
+    ItemsRow(b"idl\n .\n..\n.", b"2( .\n..\n)"),
+    ItemsRow(b"idl\n.\r", b"o"),
+    ItemsRow(b"idl", b"o"),
+    ItemsRow(b"idl\ninterface i { }\nturn d\n", b"o"),
+    ItemsRow(b"idl 2\ninterface i { }\n.\n", b"uuu"),
 ];
 
 fn push_item(told: &mut Vec<u8>, item: Item<'_>) -> Result<(), AllocError> {
@@ -66,7 +66,7 @@ fn items(alloc: Global, script: &[u8]) -> Result<Vec<u8>, AllocError> {
     Ok(told)
 }
 
-impl Row for Script {
+impl CheckedRow for ItemsRow {
     fn holds(&self, alloc: Global) -> Result<bool, Fail> {
         let told = items(alloc, self.0)?;
         Ok(told.as_slice() == self.1)

@@ -2,12 +2,12 @@
 
 ghost use Rattle.std.specs.Prelude.{◌≤◌, IfSome};
 
-use crate::rows::{Row, all_hold};
+use crate::rows::{CheckedRow, all_hold};
 use crate::transcript::still::Still;
 use fl_script_exec::{ExecFault, ScriptReader, exec};
 use std::alloc::Global;
 use std::io;
-use std::io::{Read, Write};
+use std::io::{ErrorKind, Read, Write};
 use std::test::Fail;
 
 const SCRIPT: &[u8] =
@@ -16,31 +16,49 @@ const SCRIPT: &[u8] =
 const TRANSCRIPT: &[u8] =
     b"refused E92\nrefused E14 at 24\nrefused E90\nrefused E92\nrefused E90\n";
 
+// How many lines that has.
+const LINES: usize = 5;
+
+// At which call, from 1, a reader or writer fails, and how; 0 for never.
+#[derive(Clone, Copy)]
+struct Failing {
+    at: usize,
+    kind: ErrorKind,
+}
+
+const NEVER: Failing = Failing {
+    at: 0,
+    kind: ErrorKind::Other,
+};
+
+// Each is a fault, also the one that asks to try again.
+const KINDS: [ErrorKind; 2] = [ErrorKind::Other, ErrorKind::Interrupted];
+
 // Bytes that are read by at most so many a call; one of the calls may fail.
 #[derive(Drop)]
-struct Source<'a> {
+struct LimitedReader<'a> {
     rest: &'a [u8],
     step: usize,
     calls: usize,
-    fails_at: usize,
+    failing: Failing,
 }
 
-impl<'a> Source<'a> {
-    fn new(rest: &'a [u8], step: usize, fails_at: usize) -> Source<'a> {
-        Source {
+impl<'a> LimitedReader<'a> {
+    fn new(rest: &'a [u8], step: usize, failing: Failing) -> LimitedReader<'a> {
+        LimitedReader {
             rest,
             step,
             calls: 0,
-            fails_at,
+            failing,
         }
     }
 }
 
-impl Read for Source<'_> {
+impl Read for LimitedReader<'_> {
     fn read(&mut self, buf: &mut [u8]) -> io::Result<usize> {
         self.calls = self.calls.saturating_add(1);
-        if self.calls == self.fails_at {
-            return Err(io::Error::from(io::ErrorKind::Other));
+        if self.calls == self.failing.at {
+            return Err(io::Error::from(self.failing.kind));
         }
         let n = self.rest.len().min(buf.len()).min(self.step);
         buf[..n].copy_from_slice(&self.rest[..n]);
@@ -51,12 +69,12 @@ impl Read for Source<'_> {
 
 // Bytes that are read one a call, with a count of the calls.
 #[derive(Drop)]
-struct Counter<'a> {
+struct CountingReader<'a> {
     rest: &'a [u8],
     calls: Option<usize>,
 }
 
-impl ScriptReader for Counter<'_> {
+impl ScriptReader for CountingReader<'_> {
     ghost reads = { λ r. r.calls };
 
     fn read(&mut self, buf: &mut [u8]) -> io::Result<usize> {
@@ -74,23 +92,23 @@ impl ScriptReader for Counter<'_> {
 // What was written, by at most so many bytes a call; one of the calls may fail, another take nothing.
 // It takes no memory.
 #[derive(Drop)]
-struct Sheet {
+struct LimitedWriter {
     bytes: [u8; 512],
     len: usize,
     step: usize,
     calls: usize,
-    fails_at: usize,
+    failing: Failing,
     stalls_at: usize,
 }
 
-impl Sheet {
-    fn new(step: usize, fails_at: usize, stalls_at: usize) -> Sheet {
-        Sheet {
+impl LimitedWriter {
+    fn new(step: usize, failing: Failing, stalls_at: usize) -> LimitedWriter {
+        LimitedWriter {
             bytes: [0; 512],
             len: 0,
             step,
             calls: 0,
-            fails_at,
+            failing,
             stalls_at,
         }
     }
@@ -100,11 +118,11 @@ impl Sheet {
     }
 }
 
-impl Write for Sheet {
+impl Write for LimitedWriter {
     fn write(&mut self, buf: &[u8]) -> io::Result<usize> {
         self.calls = self.calls.saturating_add(1);
-        if self.calls == self.fails_at {
-            return Err(io::Error::from(io::ErrorKind::Other));
+        if self.calls == self.failing.at {
+            return Err(io::Error::from(self.failing.kind));
         }
         if self.calls == self.stalls_at {
             return Ok(0);
@@ -121,15 +139,19 @@ impl Write for Sheet {
     }
 }
 
-fn run(alloc: Global, reader: &mut Source<'_>, writer: &mut Sheet) -> Result<(), ExecFault> {
+fn run(
+    alloc: Global,
+    reader: &mut LimitedReader<'_>,
+    writer: &mut LimitedWriter,
+) -> Result<(), ExecFault> {
     exec::<Still, _, _>(alloc, reader, writer)
 }
 
 // How often a script is read: a count that `exec` bounds, whatever the script is.
-fn reads_of(alloc: Global, script: &[u8], writer: &mut Sheet) -> Option<usize>
+fn reads_of(alloc: Global, script: &[u8], writer: &mut LimitedWriter) -> Option<usize>
     ensures { IfSome result (λ calls. calls ≤ 1048577) }
 {
-    let mut reader = Counter {
+    let mut reader = CountingReader {
         rest: script,
         calls: Some(0),
     };
@@ -144,7 +166,7 @@ fn has_stopped(
     outcome: Result<(), ExecFault>,
     fault: ExecFault,
     status: u8,
-    writer: &Sheet,
+    writer: &LimitedWriter,
 ) -> bool {
     outcome == Err(fault)
         && fault.number() == status
@@ -152,32 +174,39 @@ fn has_stopped(
         && writer.written().len() < TRANSCRIPT.len()
 }
 
-// Whether all is written by steps of this size, with so many calls.
-fn is_written(alloc: Global, step: usize, calls: usize) -> bool {
-    let mut reader = Source::new(SCRIPT, step, 0);
-    let mut writer = Sheet::new(step, 0, 0);
+// Whether all is written by steps of this size, with so many reads and writes.
+fn is_written(alloc: Global, step: usize, reads: usize, writes: usize) -> bool {
+    let mut reader = LimitedReader::new(SCRIPT, step, NEVER);
+    let mut writer = LimitedWriter::new(step, NEVER, 0);
     run(alloc, &mut reader, &mut writer) == Ok(())
         && writer.written() == TRANSCRIPT
-        && writer.calls == calls
+        && reader.calls == reads
+        && writer.calls == writes
 }
 
-// A byte at a time each way.
+// A byte at a time each way; then all that there is, a line a write.
+fn are_written(alloc: Global) -> bool {
+    is_written(alloc, 1, SCRIPT.len() + 1, TRANSCRIPT.len()) && is_written(alloc, 512, 2, LINES)
+}
+
 #[test]
-fn a_byte_at_a_time(rt: HostRuntime) {
-    assert!(rt; is_written(rt.alloc(), 1, TRANSCRIPT.len()));
+fn little_and_much_at_a_time(rt: HostRuntime) {
+    assert!(rt; are_written(rt.alloc()));
 }
 
-fn stops_at_read(alloc: Global, at: usize) -> bool {
-    let mut reader = Source::new(SCRIPT, 1, at);
-    let mut writer = Sheet::new(512, 0, 0);
+fn stops_at_read(alloc: Global, at: usize, kind: ErrorKind) -> bool {
+    let mut reader = LimitedReader::new(SCRIPT, 1, Failing { at, kind });
+    let mut writer = LimitedWriter::new(512, NEVER, 0);
     let outcome = run(alloc, &mut reader, &mut writer);
-    has_stopped(outcome, ExecFault::Read, 4, &writer) && writer.calls == 0
+    has_stopped(outcome, ExecFault::Read, 4, &writer) && reader.calls == at && writer.calls == 0
 }
 
 fn stops_at_each_read(alloc: Global) -> bool {
     for at in 1..SCRIPT.len() + 2 {
-        if !stops_at_read(alloc, at) {
-            return false;
+        for kind in KINDS {
+            if !stops_at_read(alloc, at, kind) {
+                return false;
+            }
         }
     }
     true
@@ -190,44 +219,44 @@ fn a_read_fails(rt: HostRuntime) {
 }
 
 // Whether this call is the last, and what went before is there.
-fn stops_at_write(alloc: Global, writer: &mut Sheet, at: usize) -> bool {
-    let mut reader = Source::new(SCRIPT, 4096, 0);
+fn stops_at_write(alloc: Global, writer: &mut LimitedWriter, at: usize) -> bool {
+    let mut reader = LimitedReader::new(SCRIPT, 4096, NEVER);
     let outcome = run(alloc, &mut reader, writer);
     has_stopped(outcome, ExecFault::Write, 4, writer)
         && writer.calls == at
         && writer.written().len() == at.saturating_sub(1)
 }
 
-// Whether each write stops it in turn, where it takes nothing or fails.
-fn stops_at_each_write(alloc: Global, stalls: bool) -> bool {
-    for at in 1..TRANSCRIPT.len() + 1 {
-        let mut writer = if stalls {
-            Sheet::new(1, 0, at)
-        } else {
-            Sheet::new(1, at, 0)
-        };
+// Whether a write that fails stops it, and one that takes nothing.
+fn stops_at_each(alloc: Global, at: usize) -> bool {
+    for kind in KINDS {
+        let mut writer = LimitedWriter::new(1, Failing { at, kind }, 0);
         if !stops_at_write(alloc, &mut writer, at) {
+            return false;
+        }
+    }
+    let mut writer = LimitedWriter::new(1, NEVER, at);
+    stops_at_write(alloc, &mut writer, at)
+}
+
+fn stops_at_each_write(alloc: Global) -> bool {
+    for at in 1..TRANSCRIPT.len() + 1 {
+        if !stops_at_each(alloc, at) {
             return false;
         }
     }
     true
 }
 
-// Each write fails in turn: it is the last, and what went before is there.
+// Each write fails in turn, or takes no byte, a fault like one that fails: it is the last, and what went before is there.
 #[test]
 fn a_write_fails(rt: HostRuntime) {
-    assert!(rt; stops_at_each_write(rt.alloc(), false));
-}
-
-// A write that takes no byte is a fault.
-#[test]
-fn a_write_takes_nothing(rt: HostRuntime) {
-    assert!(rt; stops_at_each_write(rt.alloc(), true));
+    assert!(rt; stops_at_each_write(rt.alloc()));
 }
 
 fn is_written_or_stopped(alloc: Global) -> bool {
-    let mut reader = Source::new(SCRIPT, 16, 0);
-    let mut writer = Sheet::new(16, 0, 0);
+    let mut reader = LimitedReader::new(SCRIPT, 16, NEVER);
+    let mut writer = LimitedWriter::new(16, NEVER, 0);
     match run(alloc, &mut reader, &mut writer) {
         Ok(()) => writer.written() == TRANSCRIPT,
         outcome => has_stopped(outcome, ExecFault::Memory, 3, &writer),
@@ -241,7 +270,7 @@ fn memory_is_refused(rt: HostRuntime) {
 }
 
 fn is_counted(alloc: Global) -> bool {
-    let mut writer = Sheet::new(512, 0, 0);
+    let mut writer = LimitedWriter::new(512, NEVER, 0);
     reads_of(alloc, SCRIPT, &mut writer) == Some(SCRIPT.len() + 1) && writer.written() == TRANSCRIPT
 }
 
@@ -252,19 +281,22 @@ fn reads_are_counted(rt: HostRuntime) {
 }
 
 // So many line feeds, and what is written of them.
-struct Feeds(usize, &'static [u8]);
+struct FeedsAnswered(usize, &'static [u8]);
 
-const FEEDS: &[Feeds] = &[Feeds(1_048_576, b""), Feeds(1_048_600, b"refused E91\n")];
+const FEEDS: &[FeedsAnswered] = &[
+    FeedsAnswered(1_048_576, b""),
+    FeedsAnswered(1_048_600, b"refused E91\n"),
+];
 
 fn has_few_reads(alloc: Global, script: &[u8], wanted: &[u8]) -> bool {
-    let mut reader = Source::new(script, 1, 0);
-    let mut writer = Sheet::new(16, 0, 0);
+    let mut reader = LimitedReader::new(script, 1, NEVER);
+    let mut writer = LimitedWriter::new(16, NEVER, 0);
     run(alloc, &mut reader, &mut writer) == Ok(())
         && writer.written() == wanted
         && reader.calls <= 1_048_577
 }
 
-impl Row for Feeds {
+impl CheckedRow for FeedsAnswered {
     fn holds(&self, alloc: Global) -> Result<bool, Fail> {
         let script = vec![in alloc; b'\n'; self.0]?;
         Ok(has_few_reads(alloc, &script, self.1))

@@ -1,18 +1,33 @@
-//! Images are read and written, or memory was refused: nothing else is answered.
+//! Images are read and written, or memory was refused, and then they are at the second try.
 
 use crate::image::images::PING_TWO;
-use fl_image::{ImageFault, read_image, write_image};
+use fl_compile::Program;
+use fl_image::{ImageFault, is_writable, read_image, write_image};
 use std::alloc::Global;
 
-// Whether the image of `ping` is read and written again, or memory was refused.
+// Whether the image of `ping` is read and written again; where memory is refused, at the second try.
 fn is_read_and_written(alloc: Global) -> bool {
     let program = match read_image(alloc, &PING_TWO) {
-        Ok(program) => program,
-        Err(fault) => return fault == ImageFault::Memory,
+        Err(ImageFault::Memory) => read_image(alloc, &PING_TWO),
+        outcome => outcome,
     };
-    match write_image(alloc, &program) {
+    match program {
+        Ok(program) => is_written(alloc, &program),
+        Err(_) => false,
+    }
+}
+
+fn is_written(alloc: Global, program: &Program) -> bool {
+    if !is_writable(program.interface()) {
+        return false;
+    }
+    let image = match write_image(alloc, program) {
+        Err(_no_memory) => write_image(alloc, program),
+        image => image,
+    };
+    match image {
         Ok(image) => image.as_slice() == PING_TWO.as_slice(),
-        Err(_no_memory) => true,
+        Err(_no_memory) => false,
     }
 }
 

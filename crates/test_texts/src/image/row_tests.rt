@@ -1,7 +1,7 @@
 //! Images that are cut, changed or grown, and their faults.
 
 use crate::image::images::{PING, answer, answer_to_change};
-use crate::rows::{Row, all_hold};
+use crate::rows::{CheckedRow, all_hold};
 use fl_image::{
     law_cut_images_end_early, law_field_faults_stay, law_longer_images_have_more, law_one_image,
 };
@@ -22,44 +22,44 @@ enum Spoiled {
 }
 
 // Such bytes, and their fault: 0 where they are an image.
-struct Answered(Spoiled, u8);
+struct ImageRow(Spoiled, u8);
 
-const ENDED: &[Answered] = &[
-    Answered(Spoiled::Cut, 82),
-    Answered(Spoiled::Bytes(b"XYZ"), 82),
-    Answered(Spoiled::Bytes(b"XYZA"), 80),
+const ENDED: &[ImageRow] = &[
+    ImageRow(Spoiled::Cut, 82),
+    ImageRow(Spoiled::Bytes(b"XYZ"), 82),
+    ImageRow(Spoiled::Bytes(b"XYZA"), 80),
 ];
 
-const CHANGES: &[Answered] = &[
-    Answered(Spoiled::Changed(4, 2), 0),
-    Answered(Spoiled::Changed(4, 3), 81),
-    Answered(Spoiled::Changed(5, 1), 81),
-    Answered(Spoiled::Changed(7, 0x6a), 0),
-    Answered(Spoiled::Changed(7, 0x30), 83),
-    Answered(Spoiled::Changed(8, 0), 85),
-    Answered(Spoiled::Changed(8, 2), 83),
-    Answered(Spoiled::Changed(15, 0), 83),
-    Answered(Spoiled::Changed(16, 0), 83),
-    Answered(Spoiled::Changed(16, 8), 0),
-    Answered(Spoiled::Changed(16, 9), 0),
-    Answered(Spoiled::Changed(16, 0x0a), 84),
-    Answered(Spoiled::Changed(16, 3), 84),
-    Answered(Spoiled::Changed(17, 3), 83),
-    Answered(Spoiled::Changed(22, 3), 83),
-    Answered(Spoiled::Changed(22, 8), 84),
+const CHANGES: &[ImageRow] = &[
+    ImageRow(Spoiled::Changed(4, 2), 0),
+    ImageRow(Spoiled::Changed(4, 3), 81),
+    ImageRow(Spoiled::Changed(5, 1), 81),
+    ImageRow(Spoiled::Changed(7, 0x6a), 0),
+    ImageRow(Spoiled::Changed(7, 0x30), 83),
+    ImageRow(Spoiled::Changed(8, 0), 85),
+    ImageRow(Spoiled::Changed(8, 2), 83),
+    ImageRow(Spoiled::Changed(15, 0), 83),
+    ImageRow(Spoiled::Changed(16, 0), 83),
+    ImageRow(Spoiled::Changed(16, 8), 0),
+    ImageRow(Spoiled::Changed(16, 9), 0),
+    ImageRow(Spoiled::Changed(16, 0x0a), 84),
+    ImageRow(Spoiled::Changed(16, 3), 84),
+    ImageRow(Spoiled::Changed(17, 3), 83),
+    ImageRow(Spoiled::Changed(22, 3), 83),
+    ImageRow(Spoiled::Changed(22, 8), 84),
     // no other fault is told than those of images
-    Answered(Spoiled::ChangedAnyhow, 0),
+    ImageRow(Spoiled::ChangedAnyhow, 0),
 ];
 
 // The eighth array is found at the message's end, the nineteenth type at its first byte.
-const NESTED: &[Answered] = &[
-    Answered(Spoiled::Nested(0, &[7]), 82),
-    Answered(Spoiled::Nested(7, &[7]), 82),
-    Answered(Spoiled::Nested(8, &[7]), 83),
-    Answered(Spoiled::Nested(17, &[7]), 83),
-    Answered(Spoiled::Nested(18, &[7]), 83),
-    Answered(Spoiled::Nested(0, &[0x12, 0, 0]), 82),
-    Answered(Spoiled::Nested(0, &[0x12, 0, 0, 0x20]), 83),
+const NESTED: &[ImageRow] = &[
+    ImageRow(Spoiled::Nested(0, &[7]), 82),
+    ImageRow(Spoiled::Nested(7, &[7]), 82),
+    ImageRow(Spoiled::Nested(8, &[7]), 83),
+    ImageRow(Spoiled::Nested(17, &[7]), 83),
+    ImageRow(Spoiled::Nested(18, &[7]), 83),
+    ImageRow(Spoiled::Nested(0, &[0x12, 0, 0]), 82),
+    ImageRow(Spoiled::Nested(0, &[0x12, 0, 0, 0x20]), 83),
 ];
 
 // The answer to each beginning of the image, where all have the same; else 0.
@@ -115,7 +115,7 @@ fn answer_to(alloc: Global, spoiled: &Spoiled) -> Result<u8, AllocError> {
     }
 }
 
-impl Row for Answered {
+impl CheckedRow for ImageRow {
     fn holds(&self, alloc: Global) -> Result<bool, Fail> {
         Ok(answer_to(alloc, &self.0)? == self.1)
     }

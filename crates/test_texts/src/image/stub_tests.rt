@@ -1,7 +1,7 @@
 //! The stubs of programs that were read from images give the fragments of their image's plan.
 
 use crate::image::images::{MIXED, image_of};
-use crate::rows::{Row, all_hold};
+use crate::rows::{CheckedRow, all_hold};
 use fl_base::{Circuit, Frag, MsgNo};
 use fl_compile::Program;
 use fl_image::read_image;
@@ -11,18 +11,18 @@ use std::alloc::Global;
 use std::test::Fail;
 
 // A plan, a tape, and the words of the one fragment that is sent of it.
-struct Sent(PlanNo, &'static [u64], [u64; 7]);
+struct OneFragment(PlanNo, &'static [u64], [u64; 7]);
 
 // m(1, "hi", 5)
-const SENT: &[Sent] = &[
+const SENT: &[OneFragment] = &[
     // in declared order, the string at a multiple of 8 and what follows it at the next
-    Sent(
+    OneFragment(
         PlanNo::One,
         &[1, 2, 104, 105, 5],
         [1, 2, 0x6968, 5, 0, 0, 0],
     ),
     // the numbers first, the greater one before the smaller
-    Sent(
+    OneFragment(
         PlanNo::Two,
         &[5, 1, 2, 104, 105],
         [0x0001_0005, 2, 0x6968, 0, 0, 0, 0],
@@ -30,7 +30,7 @@ const SENT: &[Sent] = &[
 ];
 
 // Whether a program's send code gives the row's fragment of its tape, and nothing behind it.
-fn is_sent(alloc: Global, program: &Program, row: &Sent) -> Result<bool, Fail> {
+fn is_sent(alloc: Global, program: &Program, row: &OneFragment) -> Result<bool, Fail> {
     let Some(code) = program.send_code(MsgNo(0)) else {
         return Ok(false);
     };
@@ -44,7 +44,7 @@ fn is_sent(alloc: Global, program: &Program, row: &Sent) -> Result<bool, Fail> {
 }
 
 // The program of the text goes by way of its image under the plan.
-impl Row for Sent {
+impl CheckedRow for OneFragment {
     fn holds(&self, alloc: Global) -> Result<bool, Fail> {
         let image = image_of(alloc, MIXED, self.0)?;
         let program = read_image(alloc, &image)?;

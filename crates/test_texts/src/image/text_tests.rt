@@ -1,14 +1,14 @@
 //! Images of texts, as they are and with one mistake.
 
 use crate::image::images::{MIXED, PING, answer, answer_to_change, change, image_of};
-use crate::rows::{Row, all_hold};
+use crate::rows::{CheckedRow, all_hold};
 use fl_image::read_image;
 use fl_value_data::PlanNo;
 use std::alloc::{AllocError, Global};
 use std::test::Fail;
 
 // What is tried with images of texts.
-enum Example {
+enum ImageExample {
     /// The image of `ping` under a plan of this number has the bytes that are written by hand, and is read.
     Ping(PlanNo, u8),
     /// The padding of a struct.
@@ -17,11 +17,14 @@ enum Example {
     Plan(PlanNo, u8, u8),
 }
 
-const PINGS: &[Example] = &[Example::Ping(PlanNo::One, 1), Example::Ping(PlanNo::Two, 2)];
+const PINGS: &[ImageExample] = &[
+    ImageExample::Ping(PlanNo::One, 1),
+    ImageExample::Ping(PlanNo::Two, 2),
+];
 
-const PLANS: &[Example] = &[
-    Example::Plan(PlanNo::One, 2, 84),
-    Example::Plan(PlanNo::Two, 2, 0),
+const PLANS: &[ImageExample] = &[
+    ImageExample::Plan(PlanNo::One, 2, 84),
+    ImageExample::Plan(PlanNo::Two, 2, 0),
 ];
 
 // Whether an image has the bytes written by hand, with the plan's number, and is read.
@@ -89,12 +92,12 @@ fn has_plan(alloc: Global, plan: PlanNo, number: u8, wanted: u8) -> Result<bool,
     is_under(alloc, &image, plan, number, wanted)
 }
 
-impl Row for Example {
+impl CheckedRow for ImageExample {
     fn holds(&self, alloc: Global) -> Result<bool, Fail> {
         match self {
-            Example::Ping(plan, number) => has_image(alloc, *plan, *number),
-            Example::Padded => is_padded(alloc),
-            Example::Plan(plan, number, wanted) => has_plan(alloc, *plan, *number, *wanted),
+            ImageExample::Ping(plan, number) => has_image(alloc, *plan, *number),
+            ImageExample::Padded => is_padded(alloc),
+            ImageExample::Plan(plan, number, wanted) => has_plan(alloc, *plan, *number, *wanted),
         }
     }
 }
@@ -106,7 +109,7 @@ fn the_image_of_ping(rt: HostRuntime) -> Result<(), Fail> {
 
 #[test]
 fn padding_of_a_struct(rt: HostRuntime) -> Result<(), Fail> {
-    all_hold(rt.alloc(), "padding", &[Example::Padded])
+    all_hold(rt.alloc(), "padding", &[ImageExample::Padded])
 }
 
 #[test]

@@ -2,7 +2,7 @@
 
 ghost use Rattle.std.specs.Prelude.{◌≤◌};
 
-use crate::rows::{Row, all_hold};
+use crate::rows::{CheckedRow, all_hold};
 use fl_image::is_writable;
 use fl_interface::{ArgType, FixedType, Interface, Message, Word, counts_fit};
 use std::alloc::{AllocError, Global};
@@ -13,7 +13,7 @@ fn word(alloc: Global, bytes: &[u8]) -> Result<Word, AllocError> {
     Ok(Word { bytes })
 }
 
-enum Made {
+enum MadeInterface {
     /// An interface of this name, without messages.
     Name(&'static [u8]),
     /// One with an enum of so many enumerators.
@@ -21,25 +21,25 @@ enum Made {
 }
 
 // An interface, and whether an image can spell it.
-struct Spelled(Made, bool);
+struct WritableRow(MadeInterface, bool);
 
-const SPELLED: &[Spelled] = &[
-    Spelled(Made::Name(b"i"), true),
-    Spelled(Made::Name(b"_4"), true),
-    Spelled(Made::Name(b""), false),
-    Spelled(Made::Name(b"4x"), false),
-    Spelled(Made::Name(b"a b"), false),
-    Spelled(
-        Made::Name(b"a_name_of_64_bytes_which_is_as_long_as_a_name_in_an_image_may_be"),
+const SPELLED: &[WritableRow] = &[
+    WritableRow(MadeInterface::Name(b"i"), true),
+    WritableRow(MadeInterface::Name(b"_4"), true),
+    WritableRow(MadeInterface::Name(b""), false),
+    WritableRow(MadeInterface::Name(b"4x"), false),
+    WritableRow(MadeInterface::Name(b"a b"), false),
+    WritableRow(
+        MadeInterface::Name(b"a_name_of_64_bytes_which_is_as_long_as_a_name_in_an_image_may_be"),
         true,
     ),
-    Spelled(
-        Made::Name(b"a_name_of_65_bytes_which_is_longer_than_a_name_in_an_image_may_be"),
+    WritableRow(
+        MadeInterface::Name(b"a_name_of_65_bytes_which_is_longer_than_a_name_in_an_image_may_be"),
         false,
     ),
-    Spelled(Made::Enum(65_535), true),
-    Spelled(Made::Enum(65_536), false),
-    Spelled(Made::Enum(65_541), false),
+    WritableRow(MadeInterface::Enum(65_535), true),
+    WritableRow(MadeInterface::Enum(65_536), false),
+    WritableRow(MadeInterface::Enum(65_541), false),
 ];
 
 fn of_name(alloc: Global, name: &[u8]) -> Result<Interface, AllocError> {
@@ -62,10 +62,10 @@ fn of_enum(alloc: Global, count: u32) -> Result<Interface, AllocError>
     Ok(Interface { name, messages })
 }
 
-fn make(alloc: Global, made: &Made) -> Result<Interface, AllocError> {
+fn make(alloc: Global, made: &MadeInterface) -> Result<Interface, AllocError> {
     match made {
-        Made::Name(name) => of_name(alloc, name),
-        Made::Enum(count) => {
+        MadeInterface::Name(name) => of_name(alloc, name),
+        MadeInterface::Enum(count) => {
             let count = *count;
             if count == 0 {
                 return Err(AllocError);
@@ -75,7 +75,7 @@ fn make(alloc: Global, made: &Made) -> Result<Interface, AllocError> {
     }
 }
 
-impl Row for Spelled {
+impl CheckedRow for WritableRow {
     fn holds(&self, alloc: Global) -> Result<bool, Fail> {
         let interface = make(alloc, &self.0)?;
         Ok(is_writable(&interface) == self.1)

@@ -2,7 +2,7 @@
 
 use crate::image::images::PING_TWO;
 use crate::rows::all_hold;
-use crate::show::shown::Shown;
+use crate::show::shown::ShownCase;
 use flounder_show::{ShowFault, compile_text, show_content};
 use std::alloc::Global;
 use std::test::Fail;
@@ -11,7 +11,7 @@ const TEXT: &[u8] = b"interface i { message ping(uint32 v); }";
 
 #[test]
 fn the_image_of_a_text(rt: HostRuntime) -> Result<(), Fail> {
-    all_hold(rt.alloc(), "texts", &[Shown::Compiled(TEXT)])
+    all_hold(rt.alloc(), "texts", &[ShownCase::Compiled(TEXT)])
 }
 
 // Names as long as they may be, types of all kinds, two messages of an rpc.
@@ -27,17 +27,17 @@ interface a_name_of_64_bytes_which_is_as_long_as_a_name_in_a_text_may_be__ \"des
 // The image shows what the text shows.
 #[test]
 fn an_image_shows_what_its_text_shows(rt: HostRuntime) -> Result<(), Fail> {
-    all_hold(rt.alloc(), "texts", &[Shown::Alike(ALL_KINDS)])
+    all_hold(rt.alloc(), "texts", &[ShownCase::Alike(ALL_KINDS)])
 }
 
 // A file that is compiled is always read as a text.
-const REFUSED: &[Shown] = &[
-    Shown::Uncompiled(
+const REFUSED: &[ShownCase] = &[
+    ShownCase::Uncompiled(
         b"interface i { message m(cap c); }",
         "E14 at 24\nline 1, column 25: messages carry no capabilities\nfound there: cap c); }",
     ),
-    Shown::Uncompiled(b"", "E7 at 0\nline 1, column 1: this isn't expected here"),
-    Shown::Uncompiled(
+    ShownCase::Uncompiled(b"", "E7 at 0\nline 1, column 1: this isn't expected here"),
+    ShownCase::Uncompiled(
         b"FLND\x02\x00",
         "E1 at 4\nline 1, column 5: no token begins with this byte\nfound there: \\x02\\x00",
     ),

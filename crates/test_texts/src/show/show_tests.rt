@@ -1,7 +1,7 @@
 //! Tables of texts and of their images, and refusals as they are told.
 
 use crate::rows::all_hold;
-use crate::show::shown::Shown;
+use crate::show::shown::ShownCase;
 use fl_value_data::PlanNo;
 use std::test::Fail;
 
@@ -22,10 +22,10 @@ arg 2 at 0 fixed 2
 ";
 
 // A text is shown under plan 2, an image under its own plan.
-const SHOWN: &[Shown] = &[
-    Shown::Text(PLAN_TWO),
-    Shown::Image(PlanNo::One, PLAN_ONE),
-    Shown::Image(PlanNo::Two, PLAN_TWO),
+const SHOWN: &[ShownCase] = &[
+    ShownCase::Text(PLAN_TWO),
+    ShownCase::Image(PlanNo::One, PLAN_ONE),
+    ShownCase::Image(PlanNo::Two, PLAN_TWO),
 ];
 
 #[test]
@@ -34,14 +34,14 @@ fn a_text_and_its_images(rt: HostRuntime) -> Result<(), Fail> {
 }
 
 // An image's magic alone tells that it is meant as one.
-const CHANGES: &[Shown] = &[
-    Shown::Changed(4, 2, "shown"),
-    Shown::Changed(4, 3, "E81"),
-    Shown::Changed(7, 0x30, "E83"),
-    Shown::Changed(8, 0, "E85"),
-    Shown::Changed(16, 0x0a, "E84"),
-    Shown::Changed(0, 0x45, "E1 at 4"),
-    Shown::Changed(3, 0x20, "E1 at 4"),
+const CHANGES: &[ShownCase] = &[
+    ShownCase::Changed(4, 2, "shown"),
+    ShownCase::Changed(4, 3, "E81"),
+    ShownCase::Changed(7, 0x30, "E83"),
+    ShownCase::Changed(8, 0, "E85"),
+    ShownCase::Changed(16, 0x0a, "E84"),
+    ShownCase::Changed(0, 0x45, "E1 at 4"),
+    ShownCase::Changed(3, 0x20, "E1 at 4"),
 ];
 
 #[test]
@@ -51,10 +51,10 @@ fn the_first_line_is_the_fault_alone(rt: HostRuntime) -> Result<(), Fail> {
 
 #[test]
 fn images_cut_short(rt: HostRuntime) -> Result<(), Fail> {
-    all_hold(rt.alloc(), "beginnings", &[Shown::Cut])
+    all_hold(rt.alloc(), "beginnings", &[ShownCase::Cut])
 }
 
-const REFUSED: &[Shown] = &[Shown::Unshown(
+const REFUSED: &[ShownCase] = &[ShownCase::Unshown(
     b"FLND\x03\x00",
     "E81\nan image of another version: only versions 1 and 2 are known",
 )];

@@ -1,7 +1,7 @@
 //! What is shown of texts and images, and what is told of them where they are refused.
 
 use crate::image::images::{MIXED, PING, PING_TWO, change, image_of};
-use crate::rows::Row;
+use crate::rows::CheckedRow;
 use fl_image::read_image;
 use fl_value_data::PlanNo;
 use flounder_show::{ShowFault, compile_text, show_content, show_text};
@@ -30,7 +30,7 @@ fn is_first_line(alloc: Global, fault: ShowFault<'_>, wanted: &str) -> Result<bo
 }
 
 /// What is made of texts and images, and what has to come of it.
-pub enum Shown {
+pub enum ShownCase {
     /// The table of the text between numbers and a string.
     Text(&'static [u8]),
     /// The table of its image under a plan.
@@ -111,17 +111,17 @@ fn is_compiled(alloc: Global, text: &[u8]) -> Result<bool, Fail> {
     is_ping(alloc, &image)
 }
 
-impl Row for Shown {
+impl CheckedRow for ShownCase {
     fn holds(&self, alloc: Global) -> Result<bool, Fail> {
         match self {
-            Shown::Text(table) => has_table(alloc, MIXED, table),
-            Shown::Image(plan, table) => is_image(alloc, *plan, table),
-            Shown::Uncompiled(text, words) => is_uncompiled(alloc, text, words),
-            Shown::Unshown(content, words) => is_unshown(alloc, content, words),
-            Shown::Changed(at, to, line) => is_changed(alloc, *at, *to, line),
-            Shown::Cut => are_cut(alloc),
-            Shown::Alike(text) => are_alike(alloc, text),
-            Shown::Compiled(text) => is_compiled(alloc, text),
+            ShownCase::Text(table) => has_table(alloc, MIXED, table),
+            ShownCase::Image(plan, table) => is_image(alloc, *plan, table),
+            ShownCase::Uncompiled(text, words) => is_uncompiled(alloc, text, words),
+            ShownCase::Unshown(content, words) => is_unshown(alloc, content, words),
+            ShownCase::Changed(at, to, line) => is_changed(alloc, *at, *to, line),
+            ShownCase::Cut => are_cut(alloc),
+            ShownCase::Alike(text) => are_alike(alloc, text),
+            ShownCase::Compiled(text) => is_compiled(alloc, text),
         }
     }
 }

@@ -5,7 +5,7 @@ ghost use Rattle.fl_interface.specs.Interface.{interface_of};
 ghost use Rattle.fl_machine.specs.Receiving.{HoldsParts, HoldsTapes};
 
 use crate::interfaces::interface;
-use crate::rows::{Row, all_hold};
+use crate::rows::{CheckedRow, all_hold};
 use fl_base::{Frag, MsgNo};
 use fl_compile::compile;
 use fl_layout::{Plans, fragment_count};
@@ -92,9 +92,9 @@ fn run(alloc: Global, text: &[u8], plan: PlanNo) -> Result<RecvRun, AllocError> 
 }
 
 // What a run answers: how far the call is, or the fault's number.
-type Answer = Result<Fed, u8>;
+type FeedAnswer = Result<Fed, u8>;
 
-fn answer(run: &mut RecvRun, frag: &Frag) -> Answer {
+fn answer(run: &mut RecvRun, frag: &Frag) -> FeedAnswer {
     match run.feed(frag) {
         Ok(fed) => Ok(fed),
         Err(fault) => Err(fault.number()),
@@ -102,10 +102,10 @@ fn answer(run: &mut RecvRun, frag: &Frag) -> Answer {
 }
 
 // A fragment that is fed, its answer, and whether that is undone.
-type Step = (Frag, Answer, bool);
+type FeedStep = (Frag, FeedAnswer, bool);
 
 // Whether a run answers so to fragments, one after another.
-fn answers(run: &mut RecvRun, steps: &[Step]) -> bool {
+fn answers(run: &mut RecvRun, steps: &[FeedStep]) -> bool {
     for (frag, wanted, undone) in steps {
         if answer(run, frag) != *wanted {
             return false;
@@ -121,14 +121,14 @@ fn takes_under(
     alloc: Global,
     text: &[u8],
     plan: PlanNo,
-    steps: &[Step],
+    steps: &[FeedStep],
 ) -> Result<bool, AllocError> {
     let mut run = run(alloc, text, plan)?;
     Ok(answers(&mut run, steps))
 }
 
 // Whether a new run answers so, under both plans.
-fn takes(alloc: Global, text: &[u8], steps: &[Step]) -> Result<bool, AllocError> {
+fn takes(alloc: Global, text: &[u8], steps: &[FeedStep]) -> Result<bool, AllocError> {
     Ok(
         takes_under(alloc, text, PlanNo::One, steps)?
             && takes_under(alloc, text, PlanNo::Two, steps)?,
@@ -136,7 +136,7 @@ fn takes(alloc: Global, text: &[u8], steps: &[Step]) -> Result<bool, AllocError>
 }
 
 // Each is refused inside the call, which then goes on; an epoch and a count told change nothing.
-const INSIDE: &[Step] = &[
+const INSIDE: &[FeedStep] = &[
     (FIRST, Ok(Fed::Part), false),
     (frag!(3; 0x61, 0, 0), Err(61), false),
     (frag!(65_537; 0x61, 0, 0), Err(62), false),
@@ -152,7 +152,7 @@ const INSIDE: &[Step] = &[
 ];
 
 // An undone feed leaves the run as before it, and a refused one after it too.
-const UNDONE: &[Step] = &[
+const UNDONE: &[FeedStep] = &[
     (LAST, Err(60), true),
     (FIRST, Ok(Fed::Part), true),
     (LAST, Err(60), false),
@@ -168,7 +168,7 @@ const UNDONE: &[Step] = &[
 ];
 
 // An interface's text, and what a new run of it is fed and answers under either plan.
-struct Fresh(&'static [u8], &'static [Step]);
+struct Fresh(&'static [u8], &'static [FeedStep]);
 
 const FRESH: &[Fresh] = &[
     Fresh(SHORT, &[(frag!(1; 0, 0, 0), Err(60), false)]),
@@ -184,7 +184,7 @@ const FRESH: &[Fresh] = &[
     Fresh(NOTHING, &[(FIRST, Err(62), true), (LAST, Err(60), true)]),
 ];
 
-impl Row for Fresh {
+impl CheckedRow for Fresh {
     fn holds(&self, alloc: Global) -> Result<bool, Fail> {
         Ok(takes(alloc, self.0, self.1)?)
     }
@@ -197,7 +197,7 @@ fn fragments_fed_to_new_runs(rt: HostRuntime) -> Result<(), Fail> {
 }
 
 // What is answered to a fragment at a place.
-fn take(calls: &mut Reassemblies, place: usize, frag: &Frag) -> Result<Answer, AllocError> {
+fn take(calls: &mut Reassemblies, place: usize, frag: &Frag) -> Result<FeedAnswer, AllocError> {
     if place >= calls.len() {
         return Ok(Err(0));
     }
@@ -237,7 +237,7 @@ fn places(alloc: Global, text: &[u8]) -> Result<Reassemblies, AllocError> {
 
 // Whether two of three new places answer so to fragments, of which none is undone. Each fragment comes to both, so that their
 // calls are under way together.
-fn reassembles(alloc: Global, text: &[u8], steps: &[Step]) -> Result<bool, AllocError> {
+fn reassembles(alloc: Global, text: &[u8], steps: &[FeedStep]) -> Result<bool, AllocError> {
     let mut calls = places(alloc, text)?;
     for (frag, wanted, _) in steps {
         if take(&mut calls, 1, frag)? != *wanted || take(&mut calls, 2, frag)? != *wanted {
@@ -248,9 +248,9 @@ fn reassembles(alloc: Global, text: &[u8], steps: &[Step]) -> Result<bool, Alloc
 }
 
 // What two places answer to fragments of `blob` and `nop`.
-struct Together(&'static [Step]);
+struct Together(&'static [FeedStep]);
 
-impl Row for Together {
+impl CheckedRow for Together {
     fn holds(&self, alloc: Global) -> Result<bool, Fail> {
         Ok(reassembles(alloc, BLOB, self.0)?)
     }
@@ -354,7 +354,7 @@ const MIXED_TWO: Whole = Whole {
 };
 
 // The last are first fragments whose second letter can't be one, and one inside no call.
-const REFUSED_AFTER_WHOLE: &[Step] = &[
+const REFUSED_AFTER_WHOLE: &[FeedStep] = &[
     (FIRST, Ok(Fed::Part), false),
     (LAST, Ok(Fed::Whole), false),
     (NOP, Ok(Fed::Whole), false),
@@ -364,7 +364,7 @@ const REFUSED_AFTER_WHOLE: &[Step] = &[
 ];
 
 // An interface's text, a plan, what one run is fed and answers, and the calls that it is fed then.
-struct Course(&'static [u8], PlanNo, &'static [Step], &'static [Whole]);
+struct Course(&'static [u8], PlanNo, &'static [FeedStep], &'static [Whole]);
 
 const WHOLES: &[Course] = &[
     Course(MIXED, PlanNo::One, &[], &[MIXED_ONE]),
@@ -381,7 +381,7 @@ const WHOLES: &[Course] = &[
 fn gives_all(
     alloc: Global,
     run: &mut RecvRun,
-    steps: &[Step],
+    steps: &[FeedStep],
     wholes: &[Whole],
 ) -> Result<bool, AllocError> {
     if !answers(run, steps) {
@@ -395,7 +395,7 @@ fn gives_all(
     Ok(true)
 }
 
-impl Row for Course {
+impl CheckedRow for Course {
     fn holds(&self, alloc: Global) -> Result<bool, Fail> {
         let mut run = run(alloc, self.0, self.1)?;
         Ok(gives_all(alloc, &mut run, self.2, self.3)?)

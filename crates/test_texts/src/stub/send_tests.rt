@@ -1,6 +1,8 @@
 //! The fragments that runs of send code give.
 
-use crate::rows::{Row, all_hold};
+ghost use Rattle.fl_machine.specs.Sending.{RunsOn};
+
+use crate::rows::{CheckedRow, all_hold};
 use crate::stub::verify_tests::verify_ops;
 use fl_base::{Circuit, Frag, MsgNo};
 use fl_machine::SendRun;
@@ -9,7 +11,7 @@ use std::alloc::Global;
 use std::test::Fail;
 
 // Send code, a tape, and the fragments that its run gives: one or two.
-struct Sent {
+struct SendRow {
     ops: &'static [Op],
     tape: &'static [u64],
     first: Frag,
@@ -34,8 +36,8 @@ const STRING: &[Op] = &[
     Op::End,
 ];
 
-const SENT: &[Sent] = &[
-    Sent {
+const SENT: &[SendRow] = &[
+    SendRow {
         ops: STRING,
         tape: &[7, 3, 97, 98, 99, 0x1234],
         first: Frag {
@@ -44,7 +46,7 @@ const SENT: &[Sent] = &[
         },
         second: None,
     },
-    Sent {
+    SendRow {
         ops: STRING,
         tape: &[255, 0, 0xffff],
         first: Frag {
@@ -54,7 +56,7 @@ const SENT: &[Sent] = &[
         second: None,
     },
     // a call without arguments is one fragment
-    Sent {
+    SendRow {
         ops: &[Op::End],
         tape: &[],
         first: Frag {
@@ -64,7 +66,7 @@ const SENT: &[Sent] = &[
         second: None,
     },
     // one that ends where a fragment ends has no more
-    Sent {
+    SendRow {
         ops: &[Op::Times(7), Op::Emit(8), Op::Back, Op::Align, Op::End],
         tape: &[1, 2, 3, 4, 5, 6, u64::MAX],
         first: Frag {
@@ -74,7 +76,7 @@ const SENT: &[Sent] = &[
         second: None,
     },
     // a loop goes on in the next fragment
-    Sent {
+    SendRow {
         ops: &[Op::Times(60), Op::Emit(1), Op::Back, Op::End],
         tape: &[
             1, 2, 3, 4, 5, 6, 7, 8, 9, 10, 11, 12, 13, 14, 15, 16, 17, 18, 19, 20, 21, 22, 23, 24,
@@ -99,7 +101,7 @@ const SENT: &[Sent] = &[
         }),
     },
     // and so do a number and zeros that don't fit
-    Sent {
+    SendRow {
         ops: &[
             Op::Times(6),
             Op::Emit(8),
@@ -121,7 +123,7 @@ const SENT: &[Sent] = &[
         }),
     },
     // loops in loops, one of them counted and empty in its second turn
-    Sent {
+    SendRow {
         ops: &[
             Op::Times(2),
             Op::Length(4),
@@ -145,7 +147,7 @@ const SENT: &[Sent] = &[
 ];
 
 // Whether a run of message 2 on circuit 5 gives the row's fragments, the first one also by a look. Nothing is sent by receive code.
-fn is_sent(code: &VerifiedCode, tape: Vec<u64>, row: &Sent) -> bool {
+fn is_sent(code: &VerifiedCode, tape: Vec<u64>, row: &SendRow) -> bool {
     match code.column() {
         Column::Send => {}
         Column::Receive => return false,
@@ -157,7 +159,7 @@ fn is_sent(code: &VerifiedCode, tape: Vec<u64>, row: &Sent) -> bool {
         && run.next_frag(code).is_none()
 }
 
-impl Row for Sent {
+impl CheckedRow for SendRow {
     fn holds(&self, alloc: Global) -> Result<bool, Fail> {
         let Some(code) = verify_ops(alloc, self.ops)? else {
             return Ok(false);
@@ -167,7 +169,56 @@ impl Row for Sent {
     }
 }
 
+// A text of so many letters, and how many fragments its call has.
+struct LettersSent(usize, usize);
+
+const OF_LETTERS: &[LettersSent] = &[
+    LettersSent(0, 1),
+    LettersSent(48, 1),
+    LettersSent(49, 2),
+    LettersSent(4_096, 74),
+];
+
+// A text alone.
+const TEXT: &[Op] = &[Op::Length(4_096), Op::Each, Op::Emit(1), Op::Back, Op::End];
+
+// How many fragments a run gives, a hundred at most.
+fn count_frags(code: &VerifiedCode, run: SendRun) -> usize
+    requires runs { RunsOn code.now run }
+{
+    let mut run = run;
+    for number in 0..100 {
+        if run.next_frag(code).is_none() {
+            return number;
+        }
+    }
+    100
+}
+
+// Whether a run gives so many fragments of a tape.
+fn gives(code: &VerifiedCode, tape: Vec<u64>, frags: usize) -> bool {
+    match code.column() {
+        Column::Send => {}
+        Column::Receive => return false,
+    }
+    count_frags(code, SendRun::start(code, MsgNo(2), Circuit(5), tape)) == frags
+}
+
+impl CheckedRow for LettersSent {
+    fn holds(&self, alloc: Global) -> Result<bool, Fail> {
+        let Some(code) = verify_ops(alloc, TEXT)? else {
+            return Ok(false);
+        };
+        let mut tape = Vec::from_slice(alloc, &[self.0 as u64])?;
+        for _ in 0..self.0 {
+            tape.push(97)?;
+        }
+        Ok(gives(&code, tape, self.1))
+    }
+}
+
 #[test]
 fn runs_give_their_fragments(rt: HostRuntime) -> Result<(), Fail> {
-    all_hold(rt.alloc(), "rows", SENT)
+    all_hold(rt.alloc(), "rows", SENT)?;
+    all_hold(rt.alloc(), "texts of many letters", OF_LETTERS)
 }

@@ -1,6 +1,6 @@
 //! What each text is refused for and where, or that it is accepted.
 
-use crate::rows::{Row, all_hold};
+use crate::rows::{CheckedRow, all_hold};
 use fl_check::{TextFault, check};
 use fl_interface::{ArgType, Interface, Message, Scalar, same_args};
 use fl_lex::lex;
@@ -23,100 +23,100 @@ fn fault(alloc: Global, text: &[u8]) -> Option<(u8, Option<usize>)> {
 }
 
 // A text, and the number and the offset of its fault.
-struct Refused(&'static str, u8, usize);
+struct FaultyText(&'static str, u8, usize);
 
-const REFUSED: &[Refused] = &[
+const REFUSED: &[FaultyText] = &[
     // E10: a built-in name, whatever else is wrong there
-    Refused("interface i { alias uint8 uint16; }", 10, 20),
-    Refused("interface i { alias give_away_cap nope; }", 10, 20),
-    Refused("interface i { alias u uint8; typedef enum { } u; }", 10, 46),
+    FaultyText("interface i { alias uint8 uint16; }", 10, 20),
+    FaultyText("interface i { alias give_away_cap nope; }", 10, 20),
+    FaultyText("interface i { alias u uint8; typedef enum { } u; }", 10, 46),
     // E11
-    Refused("interface i { alias u v; }", 11, 22),
-    Refused("interface i { message m(t x); alias t uint8; }", 11, 24),
-    Refused("interface i { typedef struct { t a; } t; }", 11, 31),
-    Refused("interface i { message m(u x, cap c, nope y); }", 11, 24),
-    Refused("interface i { typedef nope uint8[0]; }", 11, 22),
+    FaultyText("interface i { alias u v; }", 11, 22),
+    FaultyText("interface i { message m(t x); alias t uint8; }", 11, 24),
+    FaultyText("interface i { typedef struct { t a; } t; }", 11, 31),
+    FaultyText("interface i { message m(u x, cap c, nope y); }", 11, 24),
+    FaultyText("interface i { typedef nope uint8[0]; }", 11, 22),
     // E12: one of an rpc's two names, too
-    Refused("interface i { call m(); message m(cap c); }", 12, 32),
-    Refused("interface i { message f_response(); rpc f(); }", 12, 40),
-    Refused("interface i { rpc f(); response f_call(); }", 12, 32),
+    FaultyText("interface i { call m(); message m(cap c); }", 12, 32),
+    FaultyText("interface i { message f_response(); rpc f(); }", 12, 40),
+    FaultyText("interface i { rpc f(); response f_call(); }", 12, 32),
     // E13: a length's name, too
-    Refused(
+    FaultyText(
         "interface i { typedef struct { uint8 a; uint8 a; } t; }",
         13,
         46,
     ),
-    Refused("interface i { typedef enum { a, b, a } e; }", 13, 35),
-    Refused("interface i { message m(uint8 n[n]); }", 13, 32),
-    Refused("interface i { rpc f(in uint8 x, out uint8 x); }", 13, 42),
+    FaultyText("interface i { typedef enum { a, b, a } e; }", 13, 35),
+    FaultyText("interface i { message m(uint8 n[n]); }", 13, 32),
+    FaultyText("interface i { rpc f(in uint8 x, out uint8 x); }", 13, 42),
     // E14
-    Refused("interface i { message m(cap c); }", 14, 24),
-    Refused("interface i { rpc f(in cap c); }", 14, 23),
-    Refused("interface i { typedef give_away_cap c; }", 14, 22),
+    FaultyText("interface i { message m(cap c); }", 14, 24),
+    FaultyText("interface i { rpc f(in cap c); }", 14, 23),
+    FaultyText("interface i { typedef give_away_cap c; }", 14, 22),
     // E15
-    Refused("interface i { typedef enum { } c; }", 15, 31),
-    Refused("interface i { typedef struct { } c; }", 15, 33),
+    FaultyText("interface i { typedef enum { } c; }", 15, 31),
+    FaultyText("interface i { typedef struct { } c; }", 15, 33),
     // E16, before the whole type's E17
-    Refused("interface i { typedef uint8 t[0]; }", 16, 30),
-    Refused("interface i { typedef uint64 t[1025]; }", 16, 31),
-    Refused(
+    FaultyText("interface i { typedef uint8 t[0]; }", 16, 30),
+    FaultyText("interface i { typedef uint64 t[1025]; }", 16, 31),
+    FaultyText(
         "interface i { typedef struct { uint8 a[1025]; } t; }",
         16,
         39,
     ),
     // E17: 4,097 bytes, and 4,104
-    Refused(
+    FaultyText(
         "interface i { typedef uint8 k[1024]; typedef struct { k a[4]; uint8 b; } t; }",
         17,
         73,
     ),
-    Refused("interface i { typedef uint64 t[513]; }", 17, 29),
+    FaultyText("interface i { typedef uint64 t[513]; }", 17, 29),
     // E18
-    Refused("interface i { message m(string s[n, 4]); }", 18, 24),
-    Refused("interface i { alias s string; }", 18, 22),
+    FaultyText("interface i { message m(string s[n, 4]); }", 18, 24),
+    FaultyText("interface i { alias s string; }", 18, 22),
     // E19: an rpc's name of 56 bytes
-    Refused(
+    FaultyText(
         "interface i { rpc a123456789b123456789c123456789d123456789e123456789f12345(); }",
         19,
         18,
     ),
     // E20
-    Refused("interface i { message m(string s[4097]); }", 20, 33),
-    Refused("interface i { message m(string s[0]); }", 20, 33),
-    Refused("interface i { message m(uint8 s[n, 4097]); }", 20, 35),
+    FaultyText("interface i { message m(string s[4097]); }", 20, 33),
+    FaultyText("interface i { message m(string s[0]); }", 20, 33),
+    FaultyText("interface i { message m(uint8 s[n, 4097]); }", 20, 35),
     // E21, after the parts; for an rpc in either half
-    Refused("interface i { message m(uint64 x[n, 4096]); }", 21, 22),
-    Refused(
+    FaultyText("interface i { message m(uint64 x[n, 4096]); }", 21, 22),
+    FaultyText(
         "interface i { rpc f(in uint8 a, out uint64 x[n, 4096]); }",
         21,
         18,
     ),
-    Refused(
+    FaultyText(
         "interface i { message m(uint64 x[n, 4096], cap c); }",
         14,
         43,
     ),
 ];
 
-impl Row for Refused {
+impl CheckedRow for FaultyText {
     fn holds(&self, alloc: Global) -> Result<bool, Fail> {
         Ok(fault(alloc, self.0.as_bytes()) == Some((self.1, Some(self.2))))
     }
 }
 
-struct Accepted(&'static str);
+struct AcceptedText(&'static str);
 
-const ACCEPTED: &[Accepted] = &[
-    Accepted("interface i { typedef uint8 k[1024]; typedef struct { k a[4]; } t; }"),
-    Accepted(
+const ACCEPTED: &[AcceptedText] = &[
+    AcceptedText("interface i { typedef uint8 k[1024]; typedef struct { k a[4]; } t; }"),
+    AcceptedText(
         "interface i { rpc a123456789b123456789c123456789d123456789e123456789f1234(); message a123456789b123456789c123456789d123456789e123456789f1234(); }",
     ),
-    Accepted("interface i { message m(string s[4096], uint8 n[l, 4096], uint8 k[j, 1]); }"),
-    Accepted("interface i { message m(uint64 x[n, 4095]); }"),
-    Accepted("interface i { alias size_ size; alias i size_; message i(i i); }"),
+    AcceptedText("interface i { message m(string s[4096], uint8 n[l, 4096], uint8 k[j, 1]); }"),
+    AcceptedText("interface i { message m(uint64 x[n, 4095]); }"),
+    AcceptedText("interface i { alias size_ size; alias i size_; message i(i i); }"),
 ];
 
-impl Row for Accepted {
+impl CheckedRow for AcceptedText {
     fn holds(&self, alloc: Global) -> Result<bool, Fail> {
         Ok(fault(alloc, self.0.as_bytes()).is_none())
     }
@@ -261,7 +261,7 @@ fn fault_at(number: u8, offset: Option<usize>) -> Option<(u8, Option<usize>)> {
     }
 }
 
-impl Row for Repeated {
+impl CheckedRow for Repeated {
     fn holds(&self, alloc: Global) -> Result<bool, Fail> {
         let mut text = Vec::new(alloc);
         push_items(alloc, &mut text, self)?;
@@ -304,7 +304,7 @@ fn push_types(text: &mut Vec<u8>, kinds: &str) -> Result<(), AllocError> {
     push_all(text, &[b"}"])
 }
 
-impl Row for Nested {
+impl CheckedRow for Nested {
     fn holds(&self, alloc: Global) -> Result<bool, Fail> {
         let mut text = Vec::new(alloc);
         push_types(&mut text, self.0)?;
@@ -312,22 +312,22 @@ impl Row for Nested {
     }
 }
 
-struct Explained(&'static str, &'static str);
+struct ExplainedText(&'static str, &'static str);
 
-const EXPLAINED: &[Explained] = &[
-    Explained(
+const EXPLAINED: &[ExplainedText] = &[
+    ExplainedText(
         "interface i { message m(cap c); }",
         "line 1, column 25: messages carry no capabilities",
     ),
-    Explained(
+    ExplainedText(
         "interface i {\n\tmessage m(uint8 x,\n\t\tuint8 x);\n}\n",
         "line 3, column 9: this name stands twice in one list",
     ),
-    Explained(
+    ExplainedText(
         "interface i {\n",
         "line 2, column 1: this isn't expected here",
     ),
-    Explained(
+    ExplainedText(
         "interface i { }\r\n/*",
         "line 2, column 1: this comment isn't closed",
     ),
@@ -340,7 +340,7 @@ fn explanation(alloc: Global, text: &[u8]) -> Result<String, AllocError> {
     }
 }
 
-impl Row for Explained {
+impl CheckedRow for ExplainedText {
     fn holds(&self, alloc: Global) -> Result<bool, Fail> {
         let words = explanation(alloc, self.0.as_bytes())?;
         Ok(words.as_str() == self.1)
@@ -357,7 +357,7 @@ const SIZES: &[Bytes] = &[
     Bytes(Scalar::Errval, 8),
 ];
 
-impl Row for Bytes {
+impl CheckedRow for Bytes {
     fn holds(&self, _alloc: Global) -> Result<bool, Fail> {
         Ok(self.0.size() == self.1)
     }
@@ -391,16 +391,16 @@ fn is_aligned(alloc: Global) -> Result<bool, Fail> {
 }
 
 #[derive(Clone, Copy)]
-enum Example {
+enum CheckingExample {
     LongText,
     Aligned,
 }
 
-impl Row for Example {
+impl CheckedRow for CheckingExample {
     fn holds(&self, alloc: Global) -> Result<bool, Fail> {
         match self {
-            Example::LongText => long_text(alloc),
-            Example::Aligned => is_aligned(alloc),
+            CheckingExample::LongText => long_text(alloc),
+            CheckingExample::Aligned => is_aligned(alloc),
         }
     }
 }
@@ -416,6 +416,6 @@ fn checking(rt: HostRuntime) -> Result<(), Fail> {
     all_hold(
         rt.alloc(),
         "examples",
-        &[Example::LongText, Example::Aligned],
+        &[CheckingExample::LongText, CheckingExample::Aligned],
     )
 }

@@ -1,6 +1,6 @@
 //! What is a token, which fault of the bytes stands where, and the limits.
 
-use crate::rows::{Row, all_hold};
+use crate::rows::{CheckedRow, all_hold};
 use fl_lex::{MAX_TEXT, Mark, TokenKind, Tokens, is_name, is_word, lex};
 use std::alloc::Global;
 use std::test::Fail;
@@ -14,35 +14,35 @@ fn fault_of(alloc: Global, text: &[u8]) -> (u8, Option<usize>) {
 }
 
 // A text, and the number and the place of its fault.
-struct Faulty(&'static [u8], u8, usize);
+struct LexFaultRow(&'static [u8], u8, usize);
 
-const FAULTS: &[Faulty] = &[
-    Faulty(b"a / b", 1, 2),
-    Faulty(b"a /", 1, 2),
-    Faulty(b"a\x80", 1, 1),
-    Faulty(b"a\x00", 1, 1),
-    Faulty(b"a//b\x80\n\x80", 1, 6),
-    Faulty(b"interface i { /* }", 2, 14),
-    Faulty(b"/*/", 2, 0),
-    Faulty(b"// /* \n /*", 2, 8),
-    Faulty(b"/**", 2, 0),
-    Faulty(b"/*/ */ /*", 2, 7),
-    Faulty(b"/* * /", 2, 0),
-    Faulty(b"x \"abc", 3, 2),
-    Faulty(b"\"a\nb\"", 3, 0),
-    Faulty(b"\"a\"\"", 3, 3),
-    Faulty(b"\"a\\\" b\"", 3, 6),
-    Faulty(b"4x 1000001y", 5, 3),
-    Faulty(b"00001000001", 5, 0),
-    Faulty(b"99999999999999999999999999", 5, 0),
+const FAULTS: &[LexFaultRow] = &[
+    LexFaultRow(b"a / b", 1, 2),
+    LexFaultRow(b"a /", 1, 2),
+    LexFaultRow(b"a\x80", 1, 1),
+    LexFaultRow(b"a\x00", 1, 1),
+    LexFaultRow(b"a//b\x80\n\x80", 1, 6),
+    LexFaultRow(b"interface i { /* }", 2, 14),
+    LexFaultRow(b"/*/", 2, 0),
+    LexFaultRow(b"// /* \n /*", 2, 8),
+    LexFaultRow(b"/**", 2, 0),
+    LexFaultRow(b"/*/ */ /*", 2, 7),
+    LexFaultRow(b"/* * /", 2, 0),
+    LexFaultRow(b"x \"abc", 3, 2),
+    LexFaultRow(b"\"a\nb\"", 3, 0),
+    LexFaultRow(b"\"a\"\"", 3, 3),
+    LexFaultRow(b"\"a\\\" b\"", 3, 6),
+    LexFaultRow(b"4x 1000001y", 5, 3),
+    LexFaultRow(b"00001000001", 5, 0),
+    LexFaultRow(b"99999999999999999999999999", 5, 0),
     // the first fault of two
-    Faulty(b"1000001 - \"", 5, 0),
-    Faulty(b"\"open\n 1000001", 3, 0),
-    Faulty(b"- /*", 1, 0),
-    Faulty(b"\"/*\" /*", 2, 5),
+    LexFaultRow(b"1000001 - \"", 5, 0),
+    LexFaultRow(b"\"open\n 1000001", 3, 0),
+    LexFaultRow(b"- /*", 1, 0),
+    LexFaultRow(b"\"/*\" /*", 2, 5),
 ];
 
-impl Row for Faulty {
+impl CheckedRow for LexFaultRow {
     fn holds(&self, alloc: Global) -> Result<bool, Fail> {
         Ok(fault_of(alloc, self.0) == (self.1, Some(self.2)))
     }
@@ -99,7 +99,7 @@ const WORDS: &[Worded] = &[
     Worded(b"\xc3\xbc", false),
 ];
 
-impl Row for Worded {
+impl CheckedRow for Worded {
     fn holds(&self, _alloc: Global) -> Result<bool, Fail> {
         Ok(is_word(self.0) == self.1 && is_name(self.0) == self.1)
     }
@@ -123,7 +123,7 @@ const FILLED: &[Filled] = &[
     Filled(b'-', MAX_TEXT + 1, 6, Some(65_536)),
 ];
 
-impl Row for Filled {
+impl CheckedRow for Filled {
     fn holds(&self, alloc: Global) -> Result<bool, Fail> {
         let text = vec![in alloc; self.0; self.1]?;
         Ok(fault_of(alloc, &text) == (self.2, self.3))
@@ -131,16 +131,16 @@ impl Row for Filled {
 }
 
 #[derive(Clone, Copy)]
-enum Example {
+enum LexingExample {
     Tokens,
     Names,
 }
 
-impl Row for Example {
+impl CheckedRow for LexingExample {
     fn holds(&self, alloc: Global) -> Result<bool, Fail> {
         match self {
-            Example::Tokens => has_tokens(alloc),
-            Example::Names => Ok(names_end_at_64_bytes()),
+            LexingExample::Tokens => has_tokens(alloc),
+            LexingExample::Names => Ok(names_end_at_64_bytes()),
         }
     }
 }
@@ -150,5 +150,9 @@ fn lexing(rt: HostRuntime) -> Result<(), Fail> {
     all_hold(rt.alloc(), "faults", FAULTS)?;
     all_hold(rt.alloc(), "words", WORDS)?;
     all_hold(rt.alloc(), "one byte many times", FILLED)?;
-    all_hold(rt.alloc(), "examples", &[Example::Tokens, Example::Names])
+    all_hold(
+        rt.alloc(),
+        "examples",
+        &[LexingExample::Tokens, LexingExample::Names],
+    )
 }

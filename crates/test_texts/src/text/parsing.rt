@@ -1,6 +1,6 @@
 //! Each production, which fault of the tokens stands where, and printed trees.
 
-use crate::rows::{Row, all_hold};
+use crate::rows::{CheckedRow, all_hold};
 use fl_lex::lex;
 use fl_parse::{parse, print};
 use std::alloc::Global;
@@ -27,89 +27,89 @@ fn fault_of(alloc: Global, text: &[u8]) -> (u8, Option<usize>) {
 }
 
 // A text, and the number and the place of its fault.
-struct Faulty(&'static str, u8, usize);
+struct ParseFaultRow(&'static str, u8, usize);
 
-const FAULTS: &[Faulty] = &[
-    Faulty("interface i { } ; x", 8, 18),
-    Faulty("interface i {", 7, 13),
-    Faulty("interface i { } x", 8, 16),
-    Faulty("interface i { } ; ;", 8, 18),
-    Faulty("interfaces i { }", 7, 0),
-    Faulty("interface 7 { }", 7, 10),
-    Faulty("interface i \"d\" \"e\" { }", 7, 16),
-    Faulty("interface i { ;", 7, 14),
-    Faulty("interface i { Alias u v ; }", 7, 14),
-    Faulty("interface i { alias u ; }", 7, 22),
-    Faulty("interface i { typedef enum t ; }", 7, 27),
-    Faulty("interface i { typedef enum { , } c ; }", 7, 29),
-    Faulty("interface i { typedef enum { a , , } c ; }", 7, 33),
-    Faulty("interface i { typedef struct { u a , } t ; }", 7, 35),
-    Faulty("interface i { typedef u t [ n ] ; }", 7, 28),
-    Faulty("interface i { message m ( u x , ) ; }", 7, 32),
-    Faulty("interface i { message m ( u x [ 4 ] ) ; }", 7, 32),
-    Faulty("interface i { message m ( string s [ 4 , 5 ] ) ; }", 7, 39),
-    Faulty("interface i { message m ( u x [ n , m ] ) ; }", 7, 36),
-    Faulty("interface i { rpc f ( u x ) ; }", 7, 22),
-    Faulty("interface i { call q (", 7, 22),
+const FAULTS: &[ParseFaultRow] = &[
+    ParseFaultRow("interface i { } ; x", 8, 18),
+    ParseFaultRow("interface i {", 7, 13),
+    ParseFaultRow("interface i { } x", 8, 16),
+    ParseFaultRow("interface i { } ; ;", 8, 18),
+    ParseFaultRow("interfaces i { }", 7, 0),
+    ParseFaultRow("interface 7 { }", 7, 10),
+    ParseFaultRow("interface i \"d\" \"e\" { }", 7, 16),
+    ParseFaultRow("interface i { ;", 7, 14),
+    ParseFaultRow("interface i { Alias u v ; }", 7, 14),
+    ParseFaultRow("interface i { alias u ; }", 7, 22),
+    ParseFaultRow("interface i { typedef enum t ; }", 7, 27),
+    ParseFaultRow("interface i { typedef enum { , } c ; }", 7, 29),
+    ParseFaultRow("interface i { typedef enum { a , , } c ; }", 7, 33),
+    ParseFaultRow("interface i { typedef struct { u a , } t ; }", 7, 35),
+    ParseFaultRow("interface i { typedef u t [ n ] ; }", 7, 28),
+    ParseFaultRow("interface i { message m ( u x , ) ; }", 7, 32),
+    ParseFaultRow("interface i { message m ( u x [ 4 ] ) ; }", 7, 32),
+    ParseFaultRow("interface i { message m ( string s [ 4 , 5 ] ) ; }", 7, 39),
+    ParseFaultRow("interface i { message m ( u x [ n , m ] ) ; }", 7, 36),
+    ParseFaultRow("interface i { rpc f ( u x ) ; }", 7, 22),
+    ParseFaultRow("interface i { call q (", 7, 22),
     // a number ends before a letter
-    Faulty("interface i { typedef u t[4x]; }", 7, 27),
+    ParseFaultRow("interface i { typedef u t[4x]; }", 7, 27),
     // the places of tokens behind comments, and the text's end
-    Faulty("// interface\ninterface i {} /* ; */ ;; ", 8, 37),
-    Faulty("interface i{ // }", 7, 17),
-    Faulty("", 7, 0),
-    Faulty(" \t\n", 7, 3),
+    ParseFaultRow("// interface\ninterface i {} /* ; */ ;; ", 8, 37),
+    ParseFaultRow("interface i{ // }", 7, 17),
+    ParseFaultRow("", 7, 0),
+    ParseFaultRow(" \t\n", 7, 3),
     // the bytes come before the tokens, and the first token at fault before later ones
-    Faulty("interface i { ; - }", 1, 16),
-    Faulty("interface i { } x \"open", 3, 18),
-    Faulty("interface i { alias u; call (); }", 7, 21),
-    Faulty("interface i { message m(u x[4]); } x", 7, 28),
-    Faulty("interface i { } ; ; -", 1, 20),
+    ParseFaultRow("interface i { ; - }", 1, 16),
+    ParseFaultRow("interface i { } x \"open", 3, 18),
+    ParseFaultRow("interface i { alias u; call (); }", 7, 21),
+    ParseFaultRow("interface i { message m(u x[4]); } x", 7, 28),
+    ParseFaultRow("interface i { } ; ; -", 1, 20),
 ];
 
-impl Row for Faulty {
+impl CheckedRow for ParseFaultRow {
     fn holds(&self, alloc: Global) -> Result<bool, Fail> {
         Ok(fault_of(alloc, self.0.as_bytes()) == (self.1, Some(self.2)))
     }
 }
 
 // A text, and its tree as it is printed, which is printed as it is.
-struct Printed(&'static str, &'static str);
+struct PrintedText(&'static str, &'static str);
 
-const PRINTED: &[Printed] = &[
-    Printed("interface i { alias u v; }", "interface i{alias u v;}"),
-    Printed(
+const PRINTED: &[PrintedText] = &[
+    PrintedText("interface i { alias u v; }", "interface i{alias u v;}"),
+    PrintedText(
         "interface i \"a \\ b\" { typedef enum { x, y, } c; alias u uint32; typedef struct { u a; c b[2]; } t; call q(t x); rpc f(in u x, out string s[9]); };",
         "interface i\"a \\ b\"{typedef enum{x,y}c;alias u uint32;typedef struct{u a;c b[2];}t;call q(t x);rpc f(in u x,out string s[9]);}",
     ),
-    Printed(
+    PrintedText(
         "interface i { typedef u t ; typedef t s [ 007 ] ; }",
         "interface i{typedef u t;typedef t s[7];}",
     ),
-    Printed(
+    PrintedText(
         "interface i { typedef enum { } c ; typedef struct { } s ; }",
         "interface i{typedef enum{}c;typedef struct{}s;}",
     ),
-    Printed(
+    PrintedText(
         "interface i { message m ( ) ; response r ( t x , string w [ n ] ) ; }",
         "interface i{message m();response r(t x,string w[n]);}",
     ),
-    Printed(
+    PrintedText(
         "interface i { rpc g ( ) ; rpc f ( in u x [ n , 1000000 ] , out string s ) ; }",
         "interface i{rpc g();rpc f(in u x[n,1000000],out string s);}",
     ),
     // no word is reserved
-    Printed(
+    PrintedText(
         "interface interface { alias alias enum ; message message ( in out ) ; rpc rpc ( in in in ) ; }",
         "interface interface{alias alias enum;message message(in out);rpc rpc(in in in);}",
     ),
     // shorter is none: nothing is taken away
-    Printed(
+    PrintedText(
         "interface i{response r(u x[n,7],string s);}",
         "interface i{response r(u x[n,7],string s);}",
     ),
 ];
 
-impl Row for Printed {
+impl CheckedRow for PrintedText {
     fn holds(&self, alloc: Global) -> Result<bool, Fail> {
         let wanted = self.1.as_bytes();
         Ok(is_printed(alloc, self.0.as_bytes(), wanted)? && is_printed(alloc, wanted, wanted)?)

@@ -1,7 +1,7 @@
 //! What lists of fragments read as, under both plans: whole calls and a rest, and of forged ones the first fault.
 
 use crate::interfaces::interface;
-use crate::rows::{Row, all_hold};
+use crate::rows::{CheckedRow, all_hold};
 use fl_base::Frag;
 use fl_interface::Interface;
 use fl_value::print_call;
@@ -20,7 +20,7 @@ const COLOURS: &[u8] =
     b"interface i { typedef enum { a, b, c } e; message m(e x, uint16 y, e z[n, 300]); }";
 
 // How many calls fragments read as, and how many fragments are left over; or the number of their first fault.
-type Outcome = Result<(usize, usize), u8>;
+type ReadOutcome = Result<(usize, usize), u8>;
 
 // Where a fragment stands.
 #[derive(Clone, Copy)]
@@ -36,7 +36,7 @@ enum Subject {
 }
 
 // Its control word, its first three words, and what it reads as.
-struct Fragment(Subject, u64, [u64; 3], Outcome);
+struct Fragment(Subject, u64, [u64; 3], ReadOutcome);
 
 const FRAGMENTS: &[Fragment] = &[
     Fragment(Subject::Short, 1, [0, 0, 0], Err(60)),
@@ -113,7 +113,7 @@ const NO_FIRST_NOP: Frag = Frag {
 };
 
 // Fragments of `blob` and `nop`, one behind another.
-struct List(&'static [Frag], Outcome);
+struct List(&'static [Frag], ReadOutcome);
 
 const LISTS: &[List] = &[
     List(&[], Ok((0, 0))),
@@ -136,7 +136,7 @@ fn starting(control: u64, words: [u64; 3]) -> Frag {
     }
 }
 
-fn outcome(alloc: Global, interface: &Interface, plan: PlanNo, frags: &[Frag]) -> Outcome {
+fn outcome(alloc: Global, interface: &Interface, plan: PlanNo, frags: &[Frag]) -> ReadOutcome {
     match read_frags(alloc, interface, frags, plan) {
         Ok(reading) => Ok((reading.calls.len(), reading.rest)),
         Err(fault) => Err(fault.number()),
@@ -144,7 +144,7 @@ fn outcome(alloc: Global, interface: &Interface, plan: PlanNo, frags: &[Frag]) -
 }
 
 // Whether fragments have that outcome under both plans.
-fn is_read(alloc: Global, interface: &Interface, frags: &[Frag], wanted: Outcome) -> bool {
+fn is_read(alloc: Global, interface: &Interface, frags: &[Frag], wanted: ReadOutcome) -> bool {
     outcome(alloc, interface, PlanNo::One, frags) == wanted
         && outcome(alloc, interface, PlanNo::Two, frags) == wanted
 }
@@ -158,7 +158,7 @@ fn text_at(place: Subject) -> &'static [u8] {
     }
 }
 
-impl Row for Fragment {
+impl CheckedRow for Fragment {
     fn holds(&self, alloc: Global) -> Result<bool, Fail> {
         let interface = interface(alloc, text_at(self.0))?;
         let frags = [FIRST, starting(self.1, self.2)];
@@ -171,7 +171,7 @@ impl Row for Fragment {
     }
 }
 
-impl Row for List {
+impl CheckedRow for List {
     fn holds(&self, alloc: Global) -> Result<bool, Fail> {
         let interface = interface(alloc, BLOB)?;
         Ok(is_read(alloc, &interface, self.0, self.1))
@@ -205,7 +205,7 @@ fn is_a_call_and_a_rest(
 // Whether a call and a part of another are read so, under a plan.
 struct CallAndRest(PlanNo);
 
-impl Row for CallAndRest {
+impl CheckedRow for CallAndRest {
     fn holds(&self, alloc: Global) -> Result<bool, Fail> {
         let interface = interface(alloc, BLOB)?;
         Ok(is_a_call_and_a_rest(alloc, &interface, self.0, &[FIRST, LAST, FIRST])?)

@@ -2,7 +2,7 @@
 //! arguments.
 
 use crate::interfaces::interface;
-use crate::rows::{Row, all_hold};
+use crate::rows::{CheckedRow, all_hold};
 use crate::wire::payload_tests::send;
 use crate::wire::strings::{STRING, letters};
 use fl_base::MsgNo;
@@ -15,7 +15,7 @@ use std::test::Fail;
 
 // An interface's text, a plan, a message's number, and what is told of it and of its arguments: the least payload, the
 // greatest, its fragments, and the longest tape, if there is such a message; then a place and a size each.
-struct Told {
+struct MessageFigures {
     text: &'static [u8],
     plan: PlanNo,
     msg: MsgNo,
@@ -52,92 +52,92 @@ const DYNAMIC: &[u8] = b"interface i { message m(string s[3], uint8 b[n, 2], uin
 const STRUCTS: &[u8] =
     b"interface i { typedef struct { uint8 a; uint64 b; } t; message m(t x[n]); }";
 
-const TOLD: &[Told] = &[
-    Told {
+const TOLD: &[MessageFigures] = &[
+    MessageFigures {
         text: BETWEEN,
         plan: PlanNo::One,
         msg: MsgNo(0),
         figures: Some([18, 2066, 37, 2050]),
         arguments: &[(Some(0), 1), (Some(8), 1), (None, 2)],
     },
-    Told {
+    MessageFigures {
         text: BETWEEN,
         plan: PlanNo::Two,
         msg: MsgNo(0),
         figures: Some([16, 2063, 37, 2050]),
         arguments: &[(Some(2), 1), (Some(8), 1), (Some(0), 2)],
     },
-    Told {
+    MessageFigures {
         text: LONGEST,
         plan: PlanNo::One,
         msg: MsgNo(0),
         figures: Some([8, 32768, 586, 4096]),
         arguments: &[(Some(0), 8)],
     },
-    Told {
+    MessageFigures {
         text: LONGEST,
         plan: PlanNo::Two,
         msg: MsgNo(0),
         figures: Some([8, 32768, 586, 4096]),
         arguments: &[(Some(0), 8)],
     },
-    Told {
+    MessageFigures {
         text: LONGER,
         plan: PlanNo::One,
         msg: MsgNo(0),
         figures: Some([9, 32761, 586, 4096]),
         arguments: &[(Some(0), 8), (None, 1)],
     },
-    Told {
+    MessageFigures {
         text: LONGER,
         plan: PlanNo::Two,
         msg: MsgNo(0),
         figures: Some([16, 32768, 586, 4096]),
         arguments: &[(Some(8), 8), (Some(0), 1)],
     },
-    Told {
+    MessageFigures {
         text: BLOCK,
         plan: PlanNo::One,
         msg: MsgNo(0),
         figures: Some([0, 0, 1, 0]),
         arguments: &[],
     },
-    Told {
+    MessageFigures {
         text: BLOCK,
         plan: PlanNo::Two,
         msg: MsgNo(0),
         figures: Some([0, 0, 1, 0]),
         arguments: &[],
     },
-    Told {
+    MessageFigures {
         text: BLOCK,
         plan: PlanNo::One,
         msg: MsgNo(1),
         figures: Some([50, 50, 1, 21]),
         arguments: &[(Some(0), 1), (Some(8), 40), (Some(48), 2)],
     },
-    Told {
+    MessageFigures {
         text: BLOCK,
         plan: PlanNo::Two,
         msg: MsgNo(1),
         figures: Some([43, 43, 1, 21]),
         arguments: &[(Some(42), 1), (Some(0), 40), (Some(40), 2)],
     },
-    Told {
+    MessageFigures {
         text: BLOCK,
         plan: PlanNo::One,
         msg: MsgNo(2),
         figures: Some([9, 129, 3, 59]),
         arguments: &[(Some(0), 40), (None, 1)],
     },
-    Told {
+    MessageFigures {
         text: BLOCK,
         plan: PlanNo::Two,
         msg: MsgNo(2),
         figures: Some([16, 136, 3, 59]),
         arguments: &[(Some(8), 40), (Some(0), 1)],
     },
-    Told {
+    MessageFigures {
         text: MIXED,
         plan: PlanNo::One,
         msg: MsgNo(0),
@@ -150,7 +150,7 @@ const TOLD: &[Told] = &[
             (None, 4),
         ],
     },
-    Told {
+    MessageFigures {
         text: MIXED,
         plan: PlanNo::Two,
         msg: MsgNo(0),
@@ -163,14 +163,14 @@ const TOLD: &[Told] = &[
             (Some(12), 4),
         ],
     },
-    Told {
+    MessageFigures {
         text: DYNAMIC,
         plan: PlanNo::One,
         msg: MsgNo(0),
         figures: Some([18, 34, 1, 8]),
         arguments: &[(Some(0), 1), (None, 1), (None, 2)],
     },
-    Told {
+    MessageFigures {
         text: DYNAMIC,
         plan: PlanNo::Two,
         msg: MsgNo(0),
@@ -178,7 +178,7 @@ const TOLD: &[Told] = &[
         arguments: &[(Some(8), 1), (None, 1), (Some(0), 2)],
     },
     // a message that isn't there
-    Told {
+    MessageFigures {
         text: BETWEEN,
         plan: PlanNo::Two,
         msg: MsgNo(1),
@@ -222,7 +222,7 @@ fn has_arguments(plans: &Plans, msg: MsgNo, wanted: &[(Option<usize>, usize)]) -
     argument(plans, msg, wanted.len()) == (None, 0)
 }
 
-impl Row for Told {
+impl CheckedRow for MessageFigures {
     fn holds(&self, alloc: Global) -> Result<bool, Fail> {
         let plans = make_plans(alloc, self.text, self.plan)?;
         Ok(
@@ -233,45 +233,45 @@ impl Row for Told {
 }
 
 // An interface's text, a call of it, and the bytes and fragments that it has under each plan.
-struct Extent {
+struct CallFigures {
     text: &'static [u8],
     call: &'static [u8],
     one: (usize, usize),
     two: (usize, usize),
 }
 
-const EXTENTS: &[Extent] = &[
-    Extent {
+const EXTENTS: &[CallFigures] = &[
+    CallFigures {
         text: BETWEEN,
         call: b"m(1, \"hi\", 5)",
         one: (26, 1),
         two: (18, 1),
     },
-    Extent {
+    CallFigures {
         text: BETWEEN,
         call: b"m(1, \"\", 5)",
         one: (18, 1),
         two: (16, 1),
     },
-    Extent {
+    CallFigures {
         text: BLOCK,
         call: b"nop()",
         one: (0, 1),
         two: (0, 1),
     },
-    Extent {
+    CallFigures {
         text: MIXED,
         call: b"m(-1, [0, 1, 0], [-2, 3], \"four\", 5)",
         one: (44, 1),
         two: (36, 1),
     },
-    Extent {
+    CallFigures {
         text: DYNAMIC,
         call: b"m(\"\", [], 7)",
         one: (18, 1),
         two: (24, 1),
     },
-    Extent {
+    CallFigures {
         text: STRUCTS,
         call: b"m([{1, 11}, {2, 12}, {3, 13}, {4, 14}, {5, 15}, {6, 16}, {7, 17}])",
         one: (120, 3),
@@ -314,7 +314,7 @@ fn is_sent(
     Ok(measures(alloc, &plans, call, wanted)?)
 }
 
-impl Row for Extent {
+impl CheckedRow for CallFigures {
     fn holds(&self, alloc: Global) -> Result<bool, Fail> {
         Ok(
             is_sent(alloc, self.text, self.call, PlanNo::One, self.one)?
@@ -324,16 +324,16 @@ impl Row for Extent {
 }
 
 // A call of so many letters, the length of its payload and the number of its fragments under either plan.
-struct OfLetters(usize, (usize, usize));
+struct LettersPayload(usize, (usize, usize));
 
-const OF_LETTERS: &[OfLetters] = &[
-    OfLetters(0, (8, 1)),
-    OfLetters(48, (56, 1)),
-    OfLetters(49, (57, 2)),
-    OfLetters(4096, (4104, 74)),
+const OF_LETTERS: &[LettersPayload] = &[
+    LettersPayload(0, (8, 1)),
+    LettersPayload(48, (56, 1)),
+    LettersPayload(49, (57, 2)),
+    LettersPayload(4096, (4104, 74)),
 ];
 
-impl Row for OfLetters {
+impl CheckedRow for LettersPayload {
     fn holds(&self, alloc: Global) -> Result<bool, Fail> {
         let call = letters(alloc, self.0)?;
         Ok(

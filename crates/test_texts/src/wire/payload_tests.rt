@@ -3,7 +3,7 @@
 //! epoch that a local queue sets.
 
 use crate::interfaces::interface;
-use crate::rows::{Row, all_hold};
+use crate::rows::{CheckedRow, all_hold};
 use fl_base::{Frag, MsgNo};
 use fl_interface::Interface;
 use fl_value::{ValueFault, print_call, read_call};
@@ -17,7 +17,7 @@ use std::test::Fail;
 
 // An interface's text, a call of its message `m` as it is printed, and under each of these plans the length of the
 // call's payload, and its fragments.
-struct Carried {
+struct PayloadRow {
     text: &'static [u8],
     call: &'static [u8],
     plans: &'static [PlanNo],
@@ -53,8 +53,8 @@ const BY_TURNS: &[u8] =
 // Eight letters `a`.
 const LETTERS: u64 = 0x6161_6161_6161_6161;
 
-const CARRIED: &[Carried] = &[
-    Carried {
+const CARRIED: &[PayloadRow] = &[
+    PayloadRow {
         text: b"interface i { message m(uint32 v); }",
         call: b"m(7)",
         plans: BOTH,
@@ -64,7 +64,7 @@ const CARRIED: &[Carried] = &[
             control: 2,
         }],
     },
-    Carried {
+    PayloadRow {
         text: b"interface i { message m(); }",
         call: b"m()",
         plans: BOTH,
@@ -74,7 +74,7 @@ const CARRIED: &[Carried] = &[
             control: 2,
         }],
     },
-    Carried {
+    PayloadRow {
         text: b"interface i { message m(uint8 a, uint64 b); }",
         call: b"m(1, 2)",
         plans: TWO,
@@ -84,7 +84,7 @@ const CARRIED: &[Carried] = &[
             control: 2,
         }],
     },
-    Carried {
+    PayloadRow {
         text: b"interface i {
             message m(uint64 a, uint64 b, uint64 c, uint64 d, uint64 e, uint64 f, uint64 g, uint64 h);
         }",
@@ -102,7 +102,7 @@ const CARRIED: &[Carried] = &[
             },
         ],
     },
-    Carried {
+    PayloadRow {
         text: NUMBERS,
         call: b"m(-128, -1, 255)",
         plans: ONE,
@@ -112,7 +112,7 @@ const CARRIED: &[Carried] = &[
             control: 2,
         }],
     },
-    Carried {
+    PayloadRow {
         text: NUMBERS,
         call: b"m(-128, -1, 255)",
         plans: TWO,
@@ -122,7 +122,7 @@ const CARRIED: &[Carried] = &[
             control: 2,
         }],
     },
-    Carried {
+    PayloadRow {
         text: BETWEEN,
         call: b"m(1, \"hi\", 5)",
         plans: ONE,
@@ -132,7 +132,7 @@ const CARRIED: &[Carried] = &[
             control: 2,
         }],
     },
-    Carried {
+    PayloadRow {
         text: BETWEEN,
         call: b"m(1, \"hi\", 5)",
         plans: TWO,
@@ -142,7 +142,7 @@ const CARRIED: &[Carried] = &[
             control: 2,
         }],
     },
-    Carried {
+    PayloadRow {
         text: STRUCTS,
         call: SEVEN,
         plans: BOTH,
@@ -162,7 +162,7 @@ const CARRIED: &[Carried] = &[
             },
         ],
     },
-    Carried {
+    PayloadRow {
         text: b"interface i { typedef struct { uint8 a; uint64 b; } t; message m(t x[n, 1024]); }",
         call: SEVEN,
         plans: BOTH,
@@ -182,7 +182,7 @@ const CARRIED: &[Carried] = &[
             },
         ],
     },
-    Carried {
+    PayloadRow {
         text: b"interface i { message m(string s); }",
         call: b"m(\"aaaaaaaaaaaaaaaaaaaaaaaaaaaaaaaaaaaaaaaaaaaaaaaaa\")",
         plans: BOTH,
@@ -198,7 +198,7 @@ const CARRIED: &[Carried] = &[
             },
         ],
     },
-    Carried {
+    PayloadRow {
         text: NESTED,
         call: b"m(9, {1, [{2, 3}, {4, 5}], 6}, 7)",
         plans: ONE,
@@ -216,7 +216,7 @@ const CARRIED: &[Carried] = &[
             control: 2,
         }],
     },
-    Carried {
+    PayloadRow {
         text: NESTED,
         call: b"m(9, {1, [{2, 3}, {4, 5}], 6}, 7)",
         plans: TWO,
@@ -226,7 +226,7 @@ const CARRIED: &[Carried] = &[
             control: 2,
         }],
     },
-    Carried {
+    PayloadRow {
         text: BY_TURNS,
         call: b"m(\"a\", [], 3, \"bc\")",
         plans: ONE,
@@ -236,7 +236,7 @@ const CARRIED: &[Carried] = &[
             control: 2,
         }],
     },
-    Carried {
+    PayloadRow {
         text: BY_TURNS,
         call: b"m(\"a\", [], 3, \"bc\")",
         plans: TWO,
@@ -246,7 +246,7 @@ const CARRIED: &[Carried] = &[
             control: 2,
         }],
     },
-    Carried {
+    PayloadRow {
         text: b"interface i { typedef enum { a, b, c } e; typedef e es[2]; message m(es x, int16 z); }",
         call: b"m([2, 1], -2)",
         plans: BOTH,
@@ -361,7 +361,7 @@ fn is_sent(
     alloc: Global,
     plan: PlanNo,
     interface: &Interface,
-    row: &Carried,
+    row: &PayloadRow,
 ) -> Result<bool, ValueFault> {
     let call = read_call(alloc, row.call, interface)?;
     match send(alloc, plan, interface, &call)? {
@@ -371,7 +371,7 @@ fn is_sent(
 }
 
 // It is so under each of the plans, and the fragments are read back.
-impl Row for Carried {
+impl CheckedRow for PayloadRow {
     fn holds(&self, alloc: Global) -> Result<bool, Fail> {
         let interface = interface(alloc, self.text)?;
         law_numbers_fit_words(&interface);

@@ -1,7 +1,7 @@
 //! Tapes: the numbers of calls in each plan's order, and lists of numbers that are no call's.
 
 use crate::interfaces::interface;
-use crate::rows::{Row, all_hold};
+use crate::rows::{CheckedRow, all_hold};
 use fl_base::MsgNo;
 use fl_interface::Interface;
 use fl_value::{ValueFault, read_call};
@@ -46,86 +46,86 @@ const BOOLS: &[u8] = b"interface i { message m(bool x[n, 2]); }";
 const BOOL: &[u8] = b"interface i { message m(bool x); }";
 
 // An interface's text, a message, a list of numbers, and whether it is a tape of the message, under either plan.
-struct Tape(&'static [u8], MsgNo, &'static [u64], bool);
+struct TapeRow(&'static [u8], MsgNo, &'static [u64], bool);
 
-const TAPES: &[Tape] = &[
-    Tape(BOOL, MsgNo(0), &[2], false),
-    Tape(
+const TAPES: &[TapeRow] = &[
+    TapeRow(BOOL, MsgNo(0), &[2], false),
+    TapeRow(
         b"interface i { message m(uint8 x); }",
         MsgNo(0),
         &[256],
         false,
     ),
-    Tape(
+    TapeRow(
         b"interface i { message m(char x); }",
         MsgNo(0),
         &[256],
         false,
     ),
-    Tape(
+    TapeRow(
         b"interface i { message m(int8 x); }",
         MsgNo(0),
         &[256],
         false,
     ),
-    Tape(
+    TapeRow(
         b"interface i { message m(uint16 x); }",
         MsgNo(0),
         &[0x1_0000],
         false,
     ),
-    Tape(
+    TapeRow(
         b"interface i { message m(int16 x); }",
         MsgNo(0),
         &[0x1_0000],
         false,
     ),
-    Tape(
+    TapeRow(
         b"interface i { message m(uint32 x); }",
         MsgNo(0),
         &[0x1_0000_0000],
         false,
     ),
-    Tape(
+    TapeRow(
         b"interface i { message m(int32 x); }",
         MsgNo(0),
         &[0xffff_ffff_8000_0000],
         false,
     ),
-    Tape(
+    TapeRow(
         b"interface i { message m(uint64 x); }",
         MsgNo(0),
         &[],
         false,
     ),
-    Tape(
+    TapeRow(
         b"interface i { message m(uint64 x); }",
         MsgNo(0),
         &[1, 2],
         false,
     ),
-    Tape(
+    TapeRow(
         b"interface i { typedef enum { a, b, c } e; message m(e x); }",
         MsgNo(0),
         &[3],
         false,
     ),
-    Tape(POINT, MsgNo(0), &[1], false),
-    Tape(POINT, MsgNo(0), &[1, 2, 3], false),
-    Tape(TEXT, MsgNo(0), &[], false),
-    Tape(TEXT, MsgNo(0), &[2, 104], false),
-    Tape(TEXT, MsgNo(0), &[3, 104, 105, 112], false),
-    Tape(TEXT, MsgNo(0), &[1, 0], false),
-    Tape(TEXT, MsgNo(0), &[1, 256], false),
-    Tape(TEXT, MsgNo(0), &[0xffff_ffff_ffff_ffff, 104], false),
-    Tape(BOOLS, MsgNo(0), &[3, 0, 1, 0], false),
-    Tape(BOOLS, MsgNo(0), &[2, 0], false),
-    Tape(BOOLS, MsgNo(0), &[2, 0, 2], false),
-    Tape(BOOLS, MsgNo(0), &[1, 0, 1], false),
-    Tape(BOOL, MsgNo(0), &[1], true),
+    TapeRow(POINT, MsgNo(0), &[1], false),
+    TapeRow(POINT, MsgNo(0), &[1, 2, 3], false),
+    TapeRow(TEXT, MsgNo(0), &[], false),
+    TapeRow(TEXT, MsgNo(0), &[2, 104], false),
+    TapeRow(TEXT, MsgNo(0), &[3, 104, 105, 112], false),
+    TapeRow(TEXT, MsgNo(0), &[1, 0], false),
+    TapeRow(TEXT, MsgNo(0), &[1, 256], false),
+    TapeRow(TEXT, MsgNo(0), &[0xffff_ffff_ffff_ffff, 104], false),
+    TapeRow(BOOLS, MsgNo(0), &[3, 0, 1, 0], false),
+    TapeRow(BOOLS, MsgNo(0), &[2, 0], false),
+    TapeRow(BOOLS, MsgNo(0), &[2, 0, 2], false),
+    TapeRow(BOOLS, MsgNo(0), &[1, 0, 1], false),
+    TapeRow(BOOL, MsgNo(0), &[1], true),
     // a message that isn't there
-    Tape(BOOL, MsgNo(1), &[1], false),
-    Tape(BOOL, MsgNo(65535), &[], false),
+    TapeRow(BOOL, MsgNo(1), &[1], false),
+    TapeRow(BOOL, MsgNo(65535), &[], false),
 ];
 
 // Whether a call that stands as text has this tape.
@@ -140,7 +140,7 @@ fn has_tape(
     Ok(flatten(alloc, &call, interface, plan)?.as_slice() == tape)
 }
 
-impl Row for Flat {
+impl CheckedRow for Flat {
     fn holds(&self, alloc: Global) -> Result<bool, Fail> {
         let interface = interface(alloc, self.text)?;
         Ok(
@@ -161,7 +161,7 @@ fn is_tape(
     Ok(unflatten(alloc, msg, tape, interface, plan)?.is_some())
 }
 
-impl Row for Tape {
+impl CheckedRow for TapeRow {
     fn holds(&self, alloc: Global) -> Result<bool, Fail> {
         let interface = interface(alloc, self.0)?;
         Ok(

@@ -2,7 +2,7 @@
 //! tapes.
 
 use crate::interfaces::interface;
-use crate::rows::{Row, all_hold};
+use crate::rows::{CheckedRow, all_hold};
 use fl_base::MsgNo;
 use fl_interface::Interface;
 use fl_value::{
@@ -47,145 +47,145 @@ const TYPES: &[u8] = b"interface types {
 }";
 
 // Calls in their printed form, among them the least and the greatest value of each type.
-struct Printed(&'static [u8]);
+struct PrintedCall(&'static [u8]);
 
-const PRINTED: &[Printed] = &[
-    Printed(b"u8(0)"),
-    Printed(b"u8(1)"),
-    Printed(b"u8(255)"),
-    Printed(b"i8(-128)"),
-    Printed(b"i8(127)"),
-    Printed(b"b(0)"),
-    Printed(b"b(1)"),
-    Printed(b"c(0)"),
-    Printed(b"c(1)"),
-    Printed(b"c(255)"),
-    Printed(b"u16(0)"),
-    Printed(b"u16(1)"),
-    Printed(b"u16(65535)"),
-    Printed(b"i16(-32768)"),
-    Printed(b"i16(-128)"),
-    Printed(b"i16(127)"),
-    Printed(b"i16(32767)"),
-    Printed(b"u32(0)"),
-    Printed(b"u32(1)"),
-    Printed(b"u32(4294967295)"),
-    Printed(b"i32(-2147483648)"),
-    Printed(b"i32(-128)"),
-    Printed(b"i32(127)"),
-    Printed(b"i32(2147483647)"),
-    Printed(b"ir(0)"),
-    Printed(b"ir(1)"),
-    Printed(b"ir(4294967295)"),
-    Printed(b"u64(0)"),
-    Printed(b"u64(1)"),
-    Printed(b"u64(18446744073709551615)"),
-    Printed(b"i64(-9223372036854775808)"),
-    Printed(b"i64(-128)"),
-    Printed(b"i64(127)"),
-    Printed(b"i64(9223372036854775807)"),
-    Printed(b"up(0)"),
-    Printed(b"up(1)"),
-    Printed(b"up(18446744073709551615)"),
-    Printed(b"ip(-9223372036854775808)"),
-    Printed(b"ip(-128)"),
-    Printed(b"ip(127)"),
-    Printed(b"ip(9223372036854775807)"),
-    Printed(b"sz(0)"),
-    Printed(b"sz(1)"),
-    Printed(b"sz(18446744073709551615)"),
-    Printed(b"ev(0)"),
-    Printed(b"ev(1)"),
-    Printed(b"ev(18446744073709551615)"),
-    Printed(b"enumerator(0)"),
-    Printed(b"enumerator(2)"),
-    Printed(b"array([0, 0])"),
-    Printed(b"array([255, 255])"),
-    Printed(b"structure({0, 1})"),
-    Printed(b"structure({1, 0})"),
-    Printed(b"two(\"\")"),
-    Printed(b"two(\"hi\")"),
-    Printed(b"four(\"\")"),
-    Printed(b"four(\"\\x01\\xffab\")"),
-    Printed(b"sized([])"),
-    Printed(b"sized([1, 2])"),
-    Printed(b"arrays([[0, 2], [1, 1]])"),
-    Printed(b"structures([{1, 7}, {0, 255}])"),
-    Printed(b"six(1, \"hi\", 5, [1, 2], [7, 8, 9], -1)"),
+const PRINTED: &[PrintedCall] = &[
+    PrintedCall(b"u8(0)"),
+    PrintedCall(b"u8(1)"),
+    PrintedCall(b"u8(255)"),
+    PrintedCall(b"i8(-128)"),
+    PrintedCall(b"i8(127)"),
+    PrintedCall(b"b(0)"),
+    PrintedCall(b"b(1)"),
+    PrintedCall(b"c(0)"),
+    PrintedCall(b"c(1)"),
+    PrintedCall(b"c(255)"),
+    PrintedCall(b"u16(0)"),
+    PrintedCall(b"u16(1)"),
+    PrintedCall(b"u16(65535)"),
+    PrintedCall(b"i16(-32768)"),
+    PrintedCall(b"i16(-128)"),
+    PrintedCall(b"i16(127)"),
+    PrintedCall(b"i16(32767)"),
+    PrintedCall(b"u32(0)"),
+    PrintedCall(b"u32(1)"),
+    PrintedCall(b"u32(4294967295)"),
+    PrintedCall(b"i32(-2147483648)"),
+    PrintedCall(b"i32(-128)"),
+    PrintedCall(b"i32(127)"),
+    PrintedCall(b"i32(2147483647)"),
+    PrintedCall(b"ir(0)"),
+    PrintedCall(b"ir(1)"),
+    PrintedCall(b"ir(4294967295)"),
+    PrintedCall(b"u64(0)"),
+    PrintedCall(b"u64(1)"),
+    PrintedCall(b"u64(18446744073709551615)"),
+    PrintedCall(b"i64(-9223372036854775808)"),
+    PrintedCall(b"i64(-128)"),
+    PrintedCall(b"i64(127)"),
+    PrintedCall(b"i64(9223372036854775807)"),
+    PrintedCall(b"up(0)"),
+    PrintedCall(b"up(1)"),
+    PrintedCall(b"up(18446744073709551615)"),
+    PrintedCall(b"ip(-9223372036854775808)"),
+    PrintedCall(b"ip(-128)"),
+    PrintedCall(b"ip(127)"),
+    PrintedCall(b"ip(9223372036854775807)"),
+    PrintedCall(b"sz(0)"),
+    PrintedCall(b"sz(1)"),
+    PrintedCall(b"sz(18446744073709551615)"),
+    PrintedCall(b"ev(0)"),
+    PrintedCall(b"ev(1)"),
+    PrintedCall(b"ev(18446744073709551615)"),
+    PrintedCall(b"enumerator(0)"),
+    PrintedCall(b"enumerator(2)"),
+    PrintedCall(b"array([0, 0])"),
+    PrintedCall(b"array([255, 255])"),
+    PrintedCall(b"structure({0, 1})"),
+    PrintedCall(b"structure({1, 0})"),
+    PrintedCall(b"two(\"\")"),
+    PrintedCall(b"two(\"hi\")"),
+    PrintedCall(b"four(\"\")"),
+    PrintedCall(b"four(\"\\x01\\xffab\")"),
+    PrintedCall(b"sized([])"),
+    PrintedCall(b"sized([1, 2])"),
+    PrintedCall(b"arrays([[0, 2], [1, 1]])"),
+    PrintedCall(b"structures([{1, 7}, {0, 255}])"),
+    PrintedCall(b"six(1, \"hi\", 5, [1, 2], [7, 8, 9], -1)"),
 ];
 
 // Other spellings of calls, and their printed form.
-struct Spelled(&'static [u8], &'static [u8]);
+struct SpelledCall(&'static [u8], &'static [u8]);
 
-const SPELLED: &[Spelled] = &[
-    Spelled(b"u8( 007 )", b"u8(7)"),
-    Spelled(b"u8(-0)", b"u8(0)"),
-    Spelled(b"text(\"\\x41\\xE9\")", b"text(\"A\\xe9\")"),
-    Spelled(b" arrays ([[0, 2],[1,1]]) ", b"arrays([[0, 2], [1, 1]])"),
+const SPELLED: &[SpelledCall] = &[
+    SpelledCall(b"u8( 007 )", b"u8(7)"),
+    SpelledCall(b"u8(-0)", b"u8(0)"),
+    SpelledCall(b"text(\"\\x41\\xE9\")", b"text(\"A\\xe9\")"),
+    SpelledCall(b" arrays ([[0, 2],[1,1]]) ", b"arrays([[0, 2], [1, 1]])"),
 ];
 
 // Texts that are no call (90), of no message (41), or whose arguments don't fit (42).
-struct Refused(&'static [u8], u8);
+struct RefusedCall(&'static [u8], u8);
 
-const REFUSED: &[Refused] = &[
-    Refused(b"u8(-1)", 42),
-    Refused(b"u8(256)", 42),
-    Refused(b"i8(-129)", 42),
-    Refused(b"i8(128)", 42),
-    Refused(b"b(-1)", 42),
-    Refused(b"b(2)", 42),
-    Refused(b"c(-1)", 42),
-    Refused(b"c(256)", 42),
-    Refused(b"u16(-1)", 42),
-    Refused(b"u16(65536)", 42),
-    Refused(b"i16(-32769)", 42),
-    Refused(b"i16(32768)", 42),
-    Refused(b"u32(-1)", 42),
-    Refused(b"u32(4294967296)", 42),
-    Refused(b"i32(-2147483649)", 42),
-    Refused(b"i32(2147483648)", 42),
-    Refused(b"ir(-1)", 42),
-    Refused(b"ir(4294967296)", 42),
-    Refused(b"u64(-1)", 42),
-    Refused(b"u64(18446744073709551616)", 42),
-    Refused(b"i64(-9223372036854775809)", 42),
-    Refused(b"i64(9223372036854775808)", 42),
-    Refused(b"up(-1)", 42),
-    Refused(b"up(18446744073709551616)", 42),
-    Refused(b"ip(-9223372036854775809)", 42),
-    Refused(b"ip(9223372036854775808)", 42),
-    Refused(b"sz(-1)", 42),
-    Refused(b"sz(18446744073709551616)", 42),
-    Refused(b"ev(-1)", 42),
-    Refused(b"ev(18446744073709551616)", 42),
-    Refused(b"enumerator(-1)", 42),
-    Refused(b"enumerator(3)", 42),
-    Refused(b"array([1])", 42),
-    Refused(b"array({1, 2})", 42),
-    Refused(b"structure({1})", 42),
-    Refused(b"structure([1, 2])", 42),
-    Refused(b"two(\"hip\")", 42),
-    Refused(b"two(\"\\x00\")", 42),
-    Refused(b"sized([1, 2, 3])", 42),
-    Refused(b"sized([256])", 42),
-    Refused(b"arrays([[0, 3]])", 42),
-    Refused(b"text(\"\\x00\")", 42),
+const REFUSED: &[RefusedCall] = &[
+    RefusedCall(b"u8(-1)", 42),
+    RefusedCall(b"u8(256)", 42),
+    RefusedCall(b"i8(-129)", 42),
+    RefusedCall(b"i8(128)", 42),
+    RefusedCall(b"b(-1)", 42),
+    RefusedCall(b"b(2)", 42),
+    RefusedCall(b"c(-1)", 42),
+    RefusedCall(b"c(256)", 42),
+    RefusedCall(b"u16(-1)", 42),
+    RefusedCall(b"u16(65536)", 42),
+    RefusedCall(b"i16(-32769)", 42),
+    RefusedCall(b"i16(32768)", 42),
+    RefusedCall(b"u32(-1)", 42),
+    RefusedCall(b"u32(4294967296)", 42),
+    RefusedCall(b"i32(-2147483649)", 42),
+    RefusedCall(b"i32(2147483648)", 42),
+    RefusedCall(b"ir(-1)", 42),
+    RefusedCall(b"ir(4294967296)", 42),
+    RefusedCall(b"u64(-1)", 42),
+    RefusedCall(b"u64(18446744073709551616)", 42),
+    RefusedCall(b"i64(-9223372036854775809)", 42),
+    RefusedCall(b"i64(9223372036854775808)", 42),
+    RefusedCall(b"up(-1)", 42),
+    RefusedCall(b"up(18446744073709551616)", 42),
+    RefusedCall(b"ip(-9223372036854775809)", 42),
+    RefusedCall(b"ip(9223372036854775808)", 42),
+    RefusedCall(b"sz(-1)", 42),
+    RefusedCall(b"sz(18446744073709551616)", 42),
+    RefusedCall(b"ev(-1)", 42),
+    RefusedCall(b"ev(18446744073709551616)", 42),
+    RefusedCall(b"enumerator(-1)", 42),
+    RefusedCall(b"enumerator(3)", 42),
+    RefusedCall(b"array([1])", 42),
+    RefusedCall(b"array({1, 2})", 42),
+    RefusedCall(b"structure({1})", 42),
+    RefusedCall(b"structure([1, 2])", 42),
+    RefusedCall(b"two(\"hip\")", 42),
+    RefusedCall(b"two(\"\\x00\")", 42),
+    RefusedCall(b"sized([1, 2, 3])", 42),
+    RefusedCall(b"sized([256])", 42),
+    RefusedCall(b"arrays([[0, 3]])", 42),
+    RefusedCall(b"text(\"\\x00\")", 42),
     // 20 brackets, and 21
-    Refused(b"text([[[[[[[[[[[[[[[[[[[[]]]]]]]]]]]]]]]]]]]])", 42),
-    Refused(b"text([[[[[[[[[[[[[[[[[[[[[]]]]]]]]]]]]]]]]]]]]])", 90),
-    Refused(b"text(\"\\x4g\")", 90),
-    Refused(b"text(\"a\tb\")", 90),
-    Refused(b"u8(000000000000000000001)", 90),
-    Refused(b"u8(- 5)", 90),
-    Refused(b"", 90),
+    RefusedCall(b"text([[[[[[[[[[[[[[[[[[[[]]]]]]]]]]]]]]]]]]]])", 42),
+    RefusedCall(b"text([[[[[[[[[[[[[[[[[[[[[]]]]]]]]]]]]]]]]]]]]])", 90),
+    RefusedCall(b"text(\"\\x4g\")", 90),
+    RefusedCall(b"text(\"a\tb\")", 90),
+    RefusedCall(b"u8(000000000000000000001)", 90),
+    RefusedCall(b"u8(- 5)", 90),
+    RefusedCall(b"", 90),
     // what is no call comes first, then the name, then the arguments
-    Refused(b"ping(7", 90),
-    Refused(b"u32(7) 8", 90),
-    Refused(b"ping(1)", 41),
-    Refused(b"ping(\"x\")", 41),
-    Refused(b"u32(\"x\")", 42),
-    Refused(b"u32(1, 2)", 42),
-    Refused(b"u32()", 42),
+    RefusedCall(b"ping(7", 90),
+    RefusedCall(b"u32(7) 8", 90),
+    RefusedCall(b"ping(1)", 41),
+    RefusedCall(b"ping(\"x\")", 41),
+    RefusedCall(b"u32(\"x\")", 42),
+    RefusedCall(b"u32(1, 2)", 42),
+    RefusedCall(b"u32()", 42),
 ];
 
 fn name_of(alloc: Global, text: &[u8]) -> Result<&[u8], ValueFault> {
@@ -232,7 +232,7 @@ fn is_back(
 }
 
 // It fits, and comes back from its tape, under both plans.
-impl Row for Printed {
+impl CheckedRow for PrintedCall {
     fn holds(&self, alloc: Global) -> Result<bool, Fail> {
         let types = interface(alloc, TYPES)?;
         let call = read_call(alloc, self.0, &types)?;
@@ -244,7 +244,7 @@ impl Row for Printed {
     }
 }
 
-impl Row for Spelled {
+impl CheckedRow for SpelledCall {
     fn holds(&self, alloc: Global) -> Result<bool, Fail> {
         let types = interface(alloc, TYPES)?;
         let call = read_and_resolve(alloc, &types, self.0)?;
@@ -260,7 +260,7 @@ fn fault_of(alloc: Global, interface: &Interface, text: &[u8]) -> Option<u8> {
     }
 }
 
-impl Row for Refused {
+impl CheckedRow for RefusedCall {
     fn holds(&self, alloc: Global) -> Result<bool, Fail> {
         let types = interface(alloc, TYPES)?;
         Ok(fault_of(alloc, &types, self.0) == Some(self.1))
@@ -268,15 +268,15 @@ impl Row for Refused {
 }
 
 // A message, and whether the arguments of `m(1)` fit it.
-struct Numbered(MsgNo, bool);
+struct FitRow(MsgNo, bool);
 
-const NUMBERED: &[Numbered] = &[
-    Numbered(MsgNo(0), true),
+const NUMBERED: &[FitRow] = &[
+    FitRow(MsgNo(0), true),
     // an interface of one message has no other
-    Numbered(MsgNo(1), false),
+    FitRow(MsgNo(1), false),
 ];
 
-impl Row for Numbered {
+impl CheckedRow for FitRow {
     fn holds(&self, alloc: Global) -> Result<bool, Fail> {
         let one = interface(alloc, b"interface i { message m(uint8 x); }")?;
         let mut call = read_call(alloc, b"m(1)", &one)?;

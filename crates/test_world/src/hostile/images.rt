@@ -1,7 +1,7 @@
 //! Images with random edits: each is refused by number, or read, and then it is the image that would be written. (The 37 bytes of an
-//! image with each byte set to each value are in `text_tests`.)
+//! image with each byte set to each value are in `test_texts`.)
 
-use crate::hostile::takers::program;
+use crate::texts::program;
 use fl_compile::Program;
 use fl_image::{ImageFault, is_writable, read_image, write_image};
 use fl_value_data::PlanNo;
@@ -135,11 +135,11 @@ fn answer(alloc: Global, bytes: &[u8]) -> Result<u8, AllocError> {
 
 // How often an acceptance and each of the faults 80 to 85 came.
 #[derive(Drop)]
-struct Counter {
+struct AnswerCounts {
     counts: [u32; 7],
 }
 
-impl Counter {
+impl AnswerCounts {
     // Counts an answer; whether it is one of these.
     fn counts(&mut self, number: u8) -> bool {
         let place = match number {
@@ -165,7 +165,7 @@ fn is_told(
     alloc: Global,
     image: &[u8],
     numbers: &mut Numbers,
-    counter: &mut Counter,
+    counter: &mut AnswerCounts,
 ) -> Result<bool, AllocError> {
     let bytes = edit(alloc, image, numbers)?;
     Ok(counter.counts(answer(alloc, &bytes)?))
@@ -176,7 +176,7 @@ fn edits_are_told(
     alloc: Global,
     image: &[u8],
     numbers: &mut Numbers,
-    counter: &mut Counter,
+    counter: &mut AnswerCounts,
 ) -> Result<(), Fail> {
     if answer(alloc, image)? != 0 {
         return Err(Fail::new("an image isn't read as it was written"));
@@ -204,13 +204,13 @@ fn edits_of(
     alloc: Global,
     program: &Program,
     numbers: &mut Numbers,
-    counter: &mut Counter,
+    counter: &mut AnswerCounts,
 ) -> Result<(), Fail> {
     let image = image_of(alloc, program)?;
     edits_are_told(alloc, &image, numbers, counter)
 }
 
-fn all_edits(alloc: Global, numbers: &mut Numbers, counter: &mut Counter) -> Result<(), Fail> {
+fn all_edits(alloc: Global, numbers: &mut Numbers, counter: &mut AnswerCounts) -> Result<(), Fail> {
     for (text, plan) in TEXTS {
         let program = program(alloc, text, *plan)?;
         edits_of(alloc, &program, numbers, counter)?;
@@ -222,7 +222,7 @@ fn all_edits(alloc: Global, numbers: &mut Numbers, counter: &mut Counter) -> Res
 #[test]
 fn random_edits(rt: HostRuntime) -> Result<(), Fail> {
     let mut numbers = Numbers(23);
-    let mut counter = Counter { counts: [0; 7] };
+    let mut counter = AnswerCounts { counts: [0; 7] };
     all_edits(rt.alloc(), &mut numbers, &mut counter)?;
     assert!(rt; counter.has_all());
     Ok(())

@@ -1,22 +1,25 @@
 //! Rows asked one after another, by events that are given, by events that are lent and as lists; and memory that is refused in the midst of a list.
 
 use crate::world::acts::{Act, event, events};
-use crate::world::tables::Claim;
-use crate::world::words::{Word, is};
-use crate::world::worlds::{Way, answers, answers_all, make};
+use crate::world::tables::CheckedRow;
+use crate::world::words::{WantedAnswer, is};
+use crate::world::worlds::{Asking, answers, answers_all, make};
 use fl_model::{Answer, DispatcherId, Event};
 use fl_world::World;
 use std::alloc::{AllocError, Global};
 
 /// An example: a world of so many cores after a set-up, what is asked of it, and what it has to answer.
-pub struct Row {
+pub struct WorldRow {
     pub cores: u8,
     pub set_up: &'static [Act],
-    pub asked: &'static [(Act, Word)],
+    pub asked: &'static [(Act, WantedAnswer)],
 }
 
 // What is asked, as a list.
-fn events_in(alloc: Global, asked: &[(Act, Word)]) -> Result<Vec<Event<'static>>, AllocError> {
+fn events_in(
+    alloc: Global,
+    asked: &[(Act, WantedAnswer)],
+) -> Result<Vec<Event<'static>>, AllocError> {
     let mut events = Vec::with_capacity(alloc, asked.len())?;
     for (act, _) in asked {
         events.push(event(alloc, *act)?)?;
@@ -27,7 +30,7 @@ fn events_in(alloc: Global, asked: &[(Act, Word)]) -> Result<Vec<Event<'static>>
 fn are_wanted(
     alloc: Global,
     answers: &[Answer],
-    asked: &[(Act, Word)],
+    asked: &[(Act, WantedAnswer)],
 ) -> Result<bool, AllocError> {
     for (answer, (_, wanted)) in answers.iter().zip(asked) {
         if !is(alloc, answer, *wanted)? {
@@ -42,7 +45,7 @@ fn runs(
     alloc: Global,
     world: &mut World,
     events: &[Event<'_>],
-    asked: &[(Act, Word)],
+    asked: &[(Act, WantedAnswer)],
 ) -> Result<bool, AllocError> {
     let answers = world.run(events)?;
     are_wanted(alloc, &answers, asked)
@@ -51,30 +54,35 @@ fn runs(
 fn answers_list(
     alloc: Global,
     world: &mut World,
-    asked: &[(Act, Word)],
+    asked: &[(Act, WantedAnswer)],
 ) -> Result<bool, AllocError> {
     let events = events_in(alloc, asked)?;
     runs(alloc, world, &events, asked)
 }
 
-fn holds_on(alloc: Global, world: &mut World, row: &Row, way: Way) -> Result<bool, AllocError> {
+fn holds_on(
+    alloc: Global,
+    world: &mut World,
+    row: &WorldRow,
+    way: Asking,
+) -> Result<bool, AllocError> {
     match way {
-        Way::Listed => answers_list(alloc, world, row.asked),
+        Asking::Listed => answers_list(alloc, world, row.asked),
         _ => answers_all(alloc, world, row.asked, way, 0),
     }
 }
 
-fn holds_by(alloc: Global, row: &Row, way: Way) -> Result<bool, AllocError> {
+fn holds_by(alloc: Global, row: &WorldRow, way: Asking) -> Result<bool, AllocError> {
     let mut world = make(alloc, row.cores, row.set_up)?;
     holds_on(alloc, &mut world, row, way)
 }
 
-impl Claim for Row {
+impl CheckedRow for WorldRow {
     fn holds(&self, alloc: Global) -> Result<bool, AllocError> {
         Ok(
-            holds_by(alloc, self, Way::Given)?
-                && holds_by(alloc, self, Way::Lent)?
-                && holds_by(alloc, self, Way::Listed)?,
+            holds_by(alloc, self, Asking::Given)?
+                && holds_by(alloc, self, Asking::Lent)?
+                && holds_by(alloc, self, Asking::Listed)?,
         )
     }
 }
@@ -87,7 +95,7 @@ const DISPATCHERS: &[Act] = &[Act::Dispatcher(0); 12];
 fn count(alloc: Global, world: &mut World) -> Result<usize, AllocError> {
     for place in 0..=SO_MANY {
         let turn = Act::Turn(DispatcherId { core: 0, place });
-        if !answers(alloc, world, turn, Word::Nothing, Way::Given)? {
+        if !answers(alloc, world, turn, WantedAnswer::Nothing, Asking::Given)? {
             return Ok(place);
         }
     }

@@ -6,7 +6,7 @@ use std::alloc::{AllocError, Global};
 use std::test::Fail;
 
 /// A row of a table.
-pub trait Claim {
+pub trait CheckedRow {
     /// Whether what it says is so.
     ///
     /// # Errors
@@ -15,14 +15,14 @@ pub trait Claim {
 }
 
 // The same, asked once more where memory is wanting.
-fn holds_at_last<R: Claim>(alloc: Global, row: &R) -> Result<bool, AllocError> {
+fn holds_at_last<R: CheckedRow>(alloc: Global, row: &R) -> Result<bool, AllocError> {
     match row.holds(alloc) {
         Ok(holds) => Ok(holds),
         Err(_) => row.holds(alloc),
     }
 }
 
-fn all_hold<R: Claim>(alloc: Global, table: &str, rows: &[R]) -> Result<(), Fail> {
+fn all_hold<R: CheckedRow>(alloc: Global, table: &str, rows: &[R]) -> Result<(), Fail> {
     for (index, row) in rows.iter().enumerate() {
         if !holds_at_last(alloc, row)? {
             return Err(Fail::new(format_args!("row {index} of {table}, counted from 0, is wrong")));
@@ -33,29 +33,29 @@ fn all_hold<R: Claim>(alloc: Global, table: &str, rows: &[R]) -> Result<(), Fail
 
 // What is no row of another table.
 #[derive(Clone, Copy)]
-enum Example {
+enum WorldExample {
     Memory,
     NewWorld,
     Parts,
     Run,
 }
 
-impl Claim for Example {
+impl CheckedRow for WorldExample {
     fn holds(&self, alloc: Global) -> Result<bool, AllocError> {
         match self {
-            Example::Memory => Ok(BootFault::Memory.number() == 99),
-            Example::NewWorld => boots::new_world(alloc),
-            Example::Parts => apart::parts(alloc),
-            Example::Run => runs::adds_all(alloc),
+            WorldExample::Memory => Ok(BootFault::Memory.number() == 99),
+            WorldExample::NewWorld => boots::new_world(alloc),
+            WorldExample::Parts => apart::parts(alloc),
+            WorldExample::Run => runs::adds_all(alloc),
         }
     }
 }
 
-const EXAMPLES: &[Example] = &[
-    Example::Memory,
-    Example::NewWorld,
-    Example::Parts,
-    Example::Run,
+const EXAMPLES: &[WorldExample] = &[
+    WorldExample::Memory,
+    WorldExample::NewWorld,
+    WorldExample::Parts,
+    WorldExample::Run,
 ];
 
 #[test]

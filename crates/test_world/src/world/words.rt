@@ -8,7 +8,7 @@ use std::alloc::{AllocError, Global};
 
 /// An answer that is wanted.
 #[derive(Clone, Copy)]
-pub enum Word {
+pub enum WantedAnswer {
     Done,
     Accepted,
     Nothing,
@@ -39,66 +39,78 @@ fn is_printed(alloc: Global, args: &[Value], text: &[u8]) -> Result<bool, AllocE
     Ok(out.as_slice() == text)
 }
 
-fn is_handled(alloc: Global, end: EndId, call: &Call, wanted: Word) -> Result<bool, AllocError> {
+fn is_handled(
+    alloc: Global,
+    end: EndId,
+    call: &Call,
+    wanted: WantedAnswer,
+) -> Result<bool, AllocError> {
     match wanted {
-        Word::Handle(at, msg, text) => {
+        WantedAnswer::Handle(at, msg, text) => {
             Ok(at == end && msg == call.msg.0 && is_printed(alloc, &call.args, text)?)
         }
         _ => Ok(false),
     }
 }
 
-fn is_written(k: usize, n: usize, wanted: Word) -> bool {
+fn is_written(k: usize, n: usize, wanted: WantedAnswer) -> bool {
     match wanted {
-        Word::Written(i, m) => i == k && m == n,
+        WantedAnswer::Written(i, m) => i == k && m == n,
         _ => false,
     }
 }
 
-fn is_shown(frag: &Frag, wanted: Word) -> bool {
+fn is_shown(frag: &Frag, wanted: WantedAnswer) -> bool {
     match wanted {
-        Word::Words(words, control) => frag.words == words && frag.control == control,
-        Word::Begins(first, control) => frag.words[0] == first && frag.control == control,
+        WantedAnswer::Words(words, control) => frag.words == words && frag.control == control,
+        WantedAnswer::Begins(first, control) => frag.words[0] == first && frag.control == control,
         _ => false,
     }
 }
 
-fn is_refused(number: u8, wanted: Word) -> bool {
+fn is_refused(number: u8, wanted: WantedAnswer) -> bool {
     match wanted {
-        Word::Refused(n) => n == number,
+        WantedAnswer::Refused(n) => n == number,
         _ => false,
     }
 }
 
 // The end that an answer names, and nothing more.
-fn end_in(wanted: Word) -> Option<EndId> {
+fn end_in(wanted: WantedAnswer) -> Option<EndId> {
     match wanted {
-        Word::Part(end) | Word::Ready(end) | Word::Quiet(end) | Word::Opened(end) => Some(end),
+        WantedAnswer::Part(end)
+        | WantedAnswer::Ready(end)
+        | WantedAnswer::Quiet(end)
+        | WantedAnswer::Opened(end) => Some(end),
         _ => None,
     }
 }
 
-fn is_opening_refused(number: u32, end: EndId, wanted: Word) -> bool {
+fn is_opening_refused(number: u32, end: EndId, wanted: WantedAnswer) -> bool {
     match wanted {
-        Word::OpeningRefused(n, at) => n == number && at == end,
+        WantedAnswer::OpeningRefused(n, at) => n == number && at == end,
         _ => false,
     }
 }
 
 // The same of an answer that tells of no call.
-fn is_word(answer: &Answer, wanted: Word) -> bool {
+fn is_word(answer: &Answer, wanted: WantedAnswer) -> bool {
     match answer {
-        Answer::Done => matches!(wanted, Word::Done),
-        Answer::Accepted => matches!(wanted, Word::Accepted),
-        Answer::Nothing => matches!(wanted, Word::Nothing),
-        Answer::Full => matches!(wanted, Word::Full),
-        Answer::Forwarded => matches!(wanted, Word::Forwarded),
+        Answer::Done => matches!(wanted, WantedAnswer::Done),
+        Answer::Accepted => matches!(wanted, WantedAnswer::Accepted),
+        Answer::Nothing => matches!(wanted, WantedAnswer::Nothing),
+        Answer::Full => matches!(wanted, WantedAnswer::Full),
+        Answer::Forwarded => matches!(wanted, WantedAnswer::Forwarded),
         Answer::Written { k, n } => is_written(*k, *n, wanted),
         Answer::Handle { .. } => false,
-        Answer::Part(end) => matches!(wanted, Word::Part(_)) && end_in(wanted) == Some(*end),
-        Answer::Ready(end) => matches!(wanted, Word::Ready(_)) && end_in(wanted) == Some(*end),
-        Answer::Quiet(end) => matches!(wanted, Word::Quiet(_)) && end_in(wanted) == Some(*end),
-        Answer::Opened(end) => matches!(wanted, Word::Opened(_)) && end_in(wanted) == Some(*end),
+        Answer::Part(end) => matches!(wanted, WantedAnswer::Part(_))
+            && end_in(wanted) == Some(*end),
+        Answer::Ready(end) => matches!(wanted, WantedAnswer::Ready(_))
+            && end_in(wanted) == Some(*end),
+        Answer::Quiet(end) => matches!(wanted, WantedAnswer::Quiet(_))
+            && end_in(wanted) == Some(*end),
+        Answer::Opened(end) => matches!(wanted, WantedAnswer::Opened(_))
+            && end_in(wanted) == Some(*end),
         Answer::OpeningRefused { number, end } => is_opening_refused(*number, *end, wanted),
         Answer::Words(frag) => is_shown(frag, wanted),
         Answer::Refused(number) => is_refused(*number, wanted),
@@ -109,7 +121,7 @@ fn is_word(answer: &Answer, wanted: Word) -> bool {
 ///
 /// # Errors
 /// Out of memory.
-pub fn is(alloc: Global, answer: &Answer, wanted: Word) -> Result<bool, AllocError> {
+pub fn is(alloc: Global, answer: &Answer, wanted: WantedAnswer) -> Result<bool, AllocError> {
     match answer {
         Answer::Handle { end, call } => is_handled(alloc, *end, call, wanted),
         _ => Ok(is_word(answer, wanted)),
@@ -117,9 +129,9 @@ pub fn is(alloc: Global, answer: &Answer, wanted: Word) -> Result<bool, AllocErr
 }
 
 /// The wanted answer of a round, by its number.
-pub fn in_round(round: usize, wanted: Word) -> Word {
+pub fn in_round(round: usize, wanted: WantedAnswer) -> WantedAnswer {
     match wanted {
-        Word::OpenedNow(side) => Word::Opened(EndId {
+        WantedAnswer::OpenedNow(side) => WantedAnswer::Opened(EndId {
             binding: round,
             side,
         }),

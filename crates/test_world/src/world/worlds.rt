@@ -1,14 +1,14 @@
 //! Worlds that are booted and driven. What is refused as out of memory is asked again, once: the world has to be as it was.
 
 use crate::world::acts::{Act, event, events};
-use crate::world::words::{Word, in_round, is};
+use crate::world::words::{WantedAnswer, in_round, is};
 use fl_model::Answer;
 use fl_world::{BootFault, Config, World};
 use std::alloc::{AllocError, Global};
 
 /// How events are asked.
 #[derive(Clone, Copy)]
-pub enum Way {
+pub enum Asking {
     Given,
     Lent,
     /// All of them as one list.
@@ -46,15 +46,15 @@ pub fn make(alloc: Global, cores: u8, acts: &[Act]) -> Result<World, AllocError>
     }
 }
 
-fn ask_once(alloc: Global, world: &mut World, act: Act, way: Way) -> Result<Answer, AllocError> {
+fn ask_once(alloc: Global, world: &mut World, act: Act, way: Asking) -> Result<Answer, AllocError> {
     let event = event(alloc, act)?;
     match way {
-        Way::Lent => world.replay(&event),
+        Asking::Lent => world.replay(&event),
         _ => world.step(event),
     }
 }
 
-fn ask(alloc: Global, world: &mut World, act: Act, way: Way) -> Result<Answer, AllocError> {
+fn ask(alloc: Global, world: &mut World, act: Act, way: Asking) -> Result<Answer, AllocError> {
     match ask_once(alloc, world, act, way) {
         Ok(answer) => Ok(answer),
         Err(_) => ask_once(alloc, world, act, way),
@@ -69,8 +69,8 @@ pub fn answers(
     alloc: Global,
     world: &mut World,
     act: Act,
-    wanted: Word,
-    way: Way,
+    wanted: WantedAnswer,
+    way: Asking,
 ) -> Result<bool, AllocError> {
     match ask(alloc, world, act, way) {
         Ok(answer) => is(alloc, &answer, wanted),
@@ -85,8 +85,8 @@ pub fn answers(
 pub fn answers_all(
     alloc: Global,
     world: &mut World,
-    asked: &[(Act, Word)],
-    way: Way,
+    asked: &[(Act, WantedAnswer)],
+    way: Asking,
     round: usize,
 ) -> Result<bool, AllocError> {
     for (act, wanted) in asked {

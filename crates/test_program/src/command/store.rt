@@ -1,4 +1,4 @@
-//! An end's progress with two files, which tells what is done with them.
+//! A store of two files, which tells what is done with them.
 
 ghost use Rattle.std.specs.Prelude.{◌≡◌, ◌++◌, ◌∷◌, [], map, option_map, IfOk, IfSome};
 ghost use Rattle.flounder_commands.specs.FileEffects.{Adds, effect_of};
@@ -7,27 +7,27 @@ use flounder_commands::{FileKind, FileStore};
 use std::alloc::{AllocError, Global};
 use std::io;
 
-// A log entry, as the end's progress writes it down.
+// What was done with a file, as the store writes it down.
 #[derive(Drop)]
-struct Entry {
+struct FileEffect {
     is_read: bool,
     path: Vec<u8>,
     bytes: Vec<u8>,
     failed: Option<io::ErrorKind>,
 }
 
-fn new_entry(
+fn new_effect(
     alloc: Global,
     is_read: bool,
     path: &[u8],
     bytes: &[u8],
     failed: Option<io::ErrorKind>,
-) -> Result<Entry, AllocError>
+) -> Result<FileEffect, AllocError>
     ensures effect { IfOk result (λ e. effect_of e.is_read e.path.items e.bytes.items e.failed ≡ effect_of is_read path.now bytes.now failed) }
 {
     let path = Vec::from_slice(alloc, path)?;
     let bytes = Vec::from_slice(alloc, bytes)?;
-    Ok(Entry {
+    Ok(FileEffect {
         is_read,
         path,
         bytes,
@@ -35,23 +35,23 @@ fn new_entry(
     })
 }
 
-// The log entries with one more, as far as there is memory for them.
-fn with_entry(effects: Vec<Entry>, entry: Entry) -> Option<Vec<Entry>>
+// The effects with one more, as far as there is memory for them.
+fn with_effect(effects: Vec<FileEffect>, effect: FileEffect) -> Option<Vec<FileEffect>>
     ensures told { IfSome result (λ all. map (λ e. effect_of e.is_read e.path.items e.bytes.items e.failed) all.items
         ≡ map (λ e. effect_of e.is_read e.path.items e.bytes.items e.failed) effects.items
-        ++ effect_of entry.is_read entry.path.items entry.bytes.items entry.failed ∷ []) }
+        ++ effect_of effect.is_read effect.path.items effect.bytes.items effect.failed ∷ []) }
 {
     let mut effects = effects;
-    match effects.push(entry) {
+    match effects.push(effect) {
         Ok(()) => Some(effects),
         Err(_) => None,
     }
 }
 
-/// The file `in.if`, which may not be read; and `out`, which may not be written. It tells its log entries while it has memory to write
+/// The file `in.if`, which may not be read; and `out`, which may not be written. It tells its effects while it has memory to write
 /// them down.
 #[derive(Drop)]
-pub struct EndProgress {
+pub struct TellingStore {
     content: &'static [u8],
     unread: Option<io::ErrorKind>,
     unwritten: Option<io::ErrorKind>,
@@ -59,18 +59,18 @@ pub struct EndProgress {
     len: usize,
     pub writes: usize,
     alloc: Global,
-    effects: Option<Vec<Entry>>,
+    effects: Option<Vec<FileEffect>>,
 }
 
-impl EndProgress {
+impl TellingStore {
     /// A file of this content, and errors of these kinds.
     pub fn new(
         alloc: Global,
         content: &'static [u8],
         unread: Option<io::ErrorKind>,
         unwritten: Option<io::ErrorKind>,
-    ) -> EndProgress {
-        EndProgress {
+    ) -> TellingStore {
+        TellingStore {
             content,
             unread,
             unwritten,
@@ -104,29 +104,29 @@ impl EndProgress {
     }
 }
 
-// What was done so far, and one log entry more.
+// What was done so far, and one effect more.
 fn note(
     alloc: Global,
-    effects: Option<Vec<Entry>>,
+    effects: Option<Vec<FileEffect>>,
     is_read: bool,
     path: &[u8],
     bytes: &[u8],
     failed: Option<io::ErrorKind>,
-) -> Option<Vec<Entry>>
+) -> Option<Vec<FileEffect>>
     ensures told { Adds
         (option_map (λ all. map (λ e. effect_of e.is_read e.path.items e.bytes.items e.failed) all.items) effects)
         (option_map (λ all. map (λ e. effect_of e.is_read e.path.items e.bytes.items e.failed) all.items) result)
         (effect_of is_read path.now bytes.now failed) }
 {
     let effects = effects?;
-    match new_entry(alloc, is_read, path, bytes, failed) {
-        Ok(entry) => with_entry(effects, entry),
+    match new_effect(alloc, is_read, path, bytes, failed) {
+        Ok(effect) => with_effect(effects, effect),
         Err(_) => None,
     }
 }
 
-impl FileStore for EndProgress {
-    ghost effects = { λ progress. option_map (λ all. map (λ e. effect_of e.is_read e.path.items e.bytes.items e.failed) all.items) progress.effects };
+impl FileStore for TellingStore {
+    ghost effects = { λ store. option_map (λ all. map (λ e. effect_of e.is_read e.path.items e.bytes.items e.failed) all.items) store.effects };
 
     fn read(&mut self, alloc: Global, path: &str, kind: FileKind) -> io::Result<Vec<u8>> {
         let most = self.content.len().min(kind.most());
