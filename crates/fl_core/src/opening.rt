@@ -13,8 +13,8 @@ use fl_compile::Program;
 use fl_monitor::{Monitor, Opening};
 use std::alloc::Global;
 
-// Adds an end that isn't bound, and begins its circuit. Where that is refused the end is taken back.
-fn begin(
+// Adds the client's end, not bound yet, and starts the opening of its circuit. Where that is refused the end is taken back.
+fn add_client_end(
     alloc: Global,
     board: &mut Board,
     monitor: &mut Monitor,
@@ -87,7 +87,7 @@ impl Core {
         ) {
             Err(fault) => Err(OpenFault::Board(fault)),
             Ok(queue) => {
-                match begin(
+                match add_client_end(
                     self.alloc,
                     &mut self.board,
                     &mut self.monitor,

@@ -18,7 +18,7 @@ use Rattle.fl_endpoint.specs.declared.outgoing.QueuedCall.{QueuedCall}
 use Rattle.fl_endpoint.specs.declared.outgoing.SendingCall.{SendingCall}
 use Rattle.fl_endpoint.specs.declared.outgoing.Outgoing.{Outgoing}
 use Rattle.fl_endpoint.specs.declared.rules.ReplyRules.{ReplyRules}
-use Rattle.fl_endpoint.specs.declared.parts.EndParts.TheInside.{Inside}
+use Rattle.fl_endpoint.specs.declared.end.End.TheInside.{Inside}
 use Rattle.fl_endpoint.specs.Stored.{queued_frags, sending_frags, count_in, outgoing_of, IsOwn, IsQueued, AreQueued, Queues, QueuesReply, IsInTransmission, IsOutgoing}
 use Rattle.fl_endpoint.specs.Inside.{circuit_of, program_in, end_of, IsEnd}
 use Rattle.fl_endpoint.proofs.Sounds.{has_room, sound_exchanged}

@@ -7,7 +7,7 @@ use Rattle.fl_endpoint.specs.View.{TheEnd, number_or_0}
 use Rattle.fl_endpoint.specs.Accounts.{Sound}
 use Rattle.fl_endpoint.specs.Rules.{rules_of}
 use Rattle.fl_endpoint.specs.Stored.{outgoing_of, IsOutgoing}
-use Rattle.fl_endpoint.specs.declared.parts.EndParts.TheInside.{Inside}
+use Rattle.fl_endpoint.specs.declared.end.End.TheInside.{Inside}
 
 abbrev pub circuit_of : Option Circuit → Option ℕ
 circuit_of circuit = option_map (λ (c : Circuit). c.0) circuit

@@ -10,8 +10,7 @@
 //! stretch of events the accounts add up (`specs/Accounts.antt`, `specs/Laws.antt`): what was put is what was accepted, in
 //! order, and what was taken is what was handled and a rest.
 //!
-//! - `end.rt`: `End`
-//! - `parts.rt`: what an end has, and what it does
+//! - `end.rt`: `End`, what it has and what it does
 //! - `outgoing.rt`: the call in transmission, and the replies that wait
 //! - `incoming.rt`: what an end takes, and the replies by rule
 //! - `rules.rt`: reply rules
@@ -26,7 +25,6 @@ mod fault;
 mod incoming;
 mod law;
 mod outgoing;
-mod parts;
 mod rules;
 
 pub use answer::{ReceiveAnswer, WriteAnswer};

@@ -1,9 +1,11 @@
 -- Seven words and then the control word make a slot.
-use Rattle.std.proofs.Common.{ℕ, ◌≡◌, ◌≢◌, ◌<◌, ◌≤◌, ◌+◌, ◌⊎◌, inl, inr, List, ◌++◌, length, take, drop, get_or, set, ◌∙◌, sym, subst, arith, length-set, get_or-set_same, get_or-set_other}
+use Rattle.std.proofs.Common.{ℕ, ◌≡◌, ◌≢◌, ◌<◌, ◌≤◌, ◌+◌, ◌*◌, ◌%◌, ◌⊎◌, inl, inr, List, ◌++◌, length, take, drop, get_or, set, ◌∙◌, sym, subst, arith, length-set, get_or-set_same, get_or-set_other}
 use Rattle.std.proofs.lemmas.List.FromFn.{fill_by_all}
 use Rattle.std.proofs.lemmas.List.{take_at}
 use Rattle.fl_base.specs.declared.fragment.Frag.{Frag}
-use Rattle.fl_ring.specs.Way.{frag_at, WritesSlot}
+use Rattle.fl_base.specs.Control.{stamped}
+use Rattle.fl_link.specs.Cursor.{epoch_at}
+use Rattle.fl_ring.specs.Way.{slot, frag_at, WritesSlot}
 
 apart : (s i : ℕ) → (i < s) ⊎ (s + 8 ≤ i) → i ≢ s + 7
 apart s i (inl h) e = omega arith
@@ -36,3 +38,11 @@ written_back len s f old lent new long same w =
     let size = w.same_length in
     let whole : take len (new ++ drop (length new) old) ≡ new = grind (arith, take_at new (drop (length new) old) len) in
     subst (λ (xs : List ℕ). WritesSlot s f old xs) (sym whole) (subst (λ (xs : List ℕ). WritesSlot s f xs new) same w)
+
+-- the slot is that of the next index, and the fragment has its epoch
+pub next_written : (base place size index e told : ℕ) (frag g : Frag) (old new : List ℕ) → place ≡ index % size → e ≡ epoch_at size index → g ≡ stamped frag e told
+    → WritesSlot (base + 8 * place) g old new → WritesSlot (slot base size index) (stamped frag (epoch_at size index) told) old new
+next_written base place size index e told frag g old new at turn item w =
+    let here : WritesSlot (base + 8 * place) (stamped frag e told) old new = subst (λ (x : Frag). WritesSlot (base + 8 * place) x old new) item w in
+    let due : WritesSlot (base + 8 * place) (stamped frag (epoch_at size index) told) old new = subst (λ (x : ℕ). WritesSlot (base + 8 * place) (stamped frag x told) old new) turn here in
+    subst (λ (x : ℕ). WritesSlot (base + 8 * x) (stamped frag (epoch_at size index) told) old new) at due

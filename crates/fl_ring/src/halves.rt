@@ -8,12 +8,12 @@ ghost use Rattle.fl_link.specs.Cursor.{TheCursor};
 ghost use Rattle.fl_link.specs.Looks.{Look, placed, no_room, spent, peeked, taken, tells};
 ghost use Rattle.fl_link.specs.Queue.{BeginsWith};
 ghost use Rattle.fl_ring.specs.Counts.{count_from};
-ghost use Rattle.fl_ring.specs.Duo.{HalfPuts, HalfTakes, counts_by, free, looked, with_written, with_arrived, written};
+ghost use Rattle.fl_ring.specs.Duo.{HalfPuts, HalfTakes, counts_by, free, looked};
 ghost use Rattle.fl_ring.specs.Halves.{InStep, half_of, Goes};
 ghost use Rattle.fl_ring.specs.declared.halves.DuoHalf.{DuoHalf};
 
 use crate::counts::count_from;
-use crate::slots::{look, write_slot};
+use crate::slots::{look, write_next};
 use fl_base::Frag;
 use fl_link::{Cursor, PutFault, SPENT, Sight, Told};
 
@@ -53,6 +53,16 @@ impl DuoHalf {
             known: 0,
             told: 0,
         }
+    }
+
+    // Notes that the next fragment tells all that was taken, and gives the count that it tells.
+    #[inline]
+    fn tell_taken(&mut self) -> u16
+        ensures count { result ≡ self.old.take.index % 65536 }
+        ensures told { self.new ≡ record self.old { told = self.old.take.index } }
+    {
+        self.told = self.take.index();
+        (self.told % 65_536) as u16
     }
 }
 
@@ -108,27 +118,6 @@ fn has_free(words: &[u64], mine: &mut DuoHalf, need: u64) -> bool
     known_free(mine) >= need
 }
 
-// Writes a fragment into the next slot. Its control word tells all that was taken.
-#[inline]
-fn write(words: &mut Vec<u64>, mine: &mut DuoHalf, frag: &Frag)
-    requires { (n : ℕ) × (theirs : DuoHalf) × InStep n words.old.items mine.old theirs
-        × (mine.old.put.index < 2 ^ 62) × (mine.old.put.index + 1 ≤ mine.old.known + n) }
-    ensures steps { (n : ℕ) (theirs : DuoHalf) → InStep n words.old.items mine.old theirs
-        → mine.old.put.index < 2 ^ 62 → mine.old.put.index + 1 ≤ mine.old.known + n
-        → InStep n words.new.items mine.new theirs
-        × (half_of n words.new.items mine.new theirs ≡ with_written (half_of n words.old.items mine.old theirs))
-        × (half_of n words.new.items theirs mine.new
-        ≡ with_arrived (half_of n words.old.items theirs mine.old) (written n (half_of n words.old.items mine.old theirs) frag.now)) }
-    ensures place { mine.new.base ≡ mine.old.base }
-{
-    let taken = mine.take.index();
-    let stamped = frag.stamp(mine.put.epoch(), (taken % 65_536) as u16);
-    let slot = mine.base + 8 * mine.put.place();
-    write_slot(words, slot, &stamped);
-    mine.put.advance();
-    mine.told = taken;
-}
-
 // A fragment that only acknowledges: bit 2 is set and nothing else.
 const ACKNOWLEDGEMENT: Frag = Frag {
     words: [0; 7],
@@ -150,7 +139,8 @@ pub(crate) fn put_at(words: &mut Vec<u64>, mine: &mut DuoHalf, frag: &Frag) -> R
     if !has_free(words, mine, 2) {
         return Err(PutFault::Full);
     }
-    write(words, mine, frag);
+    let told = mine.tell_taken();
+    write_next(words, mine.base, &mut mine.put, frag, told);
     Ok(())
 }
 
@@ -205,6 +195,7 @@ pub(crate) fn tell_at(words: &mut Vec<u64>, mine: &mut DuoHalf) -> Result<Told, 
     if !has_free(words, mine, 1) {
         return Err(PutFault::Full);
     }
-    write(words, mine, &ACKNOWLEDGEMENT);
+    let told = mine.tell_taken();
+    write_next(words, mine.base, &mut mine.put, &ACKNOWLEDGEMENT, told);
     Ok(Told::Written)
 }

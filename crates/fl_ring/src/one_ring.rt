@@ -9,7 +9,7 @@ ghost use Rattle.fl_link.specs.Queue.{next_epoch_of, has_room, front_of, BeginsW
 ghost use Rattle.fl_ring.specs.Ring.{TheRing, queue_of, RingGains, RingPuts, RingTakes, RingStands};
 
 use crate::fault::RingFault;
-use crate::slots::{look, write_slot};
+use crate::slots::{look, write_next};
 use fl_base::{Frag, MAX_QUEUE};
 use fl_link::{Cursor, PutFault, PutSide, SPENT, Sight, TakeSide, Told};
 use std::alloc::Global;
@@ -82,9 +82,7 @@ impl OneRing {
         if sent - self.words[8 * size] == size as u64 {
             return Err(PutFault::Full);
         }
-        let stamped = frag.stamp(self.put.epoch(), 0);
-        write_slot(&mut self.words, 8 * self.put.place(), &stamped);
-        self.put.advance();
+        write_next(&mut self.words, 0, &mut self.put, frag, 0);
         Ok(())
     }
 

@@ -1,33 +1,30 @@
 -- What was read of a core, a queue or a ring before it is lent to an event: w is the world before, and base the same by its fields.
-use Rattle.std.proofs.Common.{◌≡◌, refl, sym, ap, ◌∙◌, subst, ℕ, ◌<◌, ◌≤◌, length, slice_get, slice_index_or, List, Option, Some, None, is_some, Result, Ok, Err, IfOk, inl, inr, true, false, zero, suc, arith}
+use Rattle.std.proofs.Common.{◌≡◌, refl, sym, ap, ◌∙◌, subst, ℕ, ◌<◌, ◌≤◌, length, slice_get, slice_index_or, List, Option, Some, None, is_some, inl, inr, true, false, zero, suc, arith}
 use Rattle.std.proofs.lemmas.Option.{none-some, slice_get_past, slice_get_within, same_Some}
 use Rattle.std.proofs.lemmas.Bool.{false≢true}
-use Rattle.std.specs.declared.alloc.AllocError.{AllocError}
-use Rattle.fl_base.specs.declared.identity.EndId.{EndId}
 use Rattle.fl_base.specs.declared.fragment.Frag.{Frag}
 use Rattle.fl_base.specs.Given.{given}
 use Rattle.fl_ring.specs.Duo.{TheDuo}
-use Rattle.fl_core.specs.BoardEvents.{Holds}
 use Rattle.fl_core.specs.BoardView.{due}
 use Rattle.fl_core.specs.declared.wiring.Inlet.{Inlet}
 use Rattle.fl_core.specs.declared.wiring.Inlet.TheVariants as inlet
 use Rattle.fl_core.specs.declared.wiring.WiredEnd.{WiredEnd}
 use Rattle.fl_core.specs.declared.wiring.EndWiring.{EndWiring}
 use Rattle.fl_core.specs.declared.wiring.EndWiring.TheVariants.{Queues, Ring, Circuit}
-use Rattle.fl_core.specs.View.{TheCore, place_of, inlet_of, inlet_by, arrivals_of, arrivals_by}
-use Rattle.fl_model.specs.Events.{Answer, DispatcherId, nothing}
+use Rattle.fl_core.specs.declared.wiring.Outlet.{Outlet}
+use Rattle.fl_core.specs.View.{TheCore, outlet_of, inlet_of, inlet_by, arrivals_of, arrivals_by}
+use Rattle.fl_model.specs.Events.{Answer, nothing}
 use Rattle.fl_world_refines.specs.View.{TheWorld, made, ring_at}
 use Rattle.fl_world_refines.specs.Lending.{IsStray, answer_at}
-use Rattle.fl_world_refines.specs.Taking.{TurnsAt, HasInlet, AcksOver, AcksAt, TellsNothing, RegistersOver, RegistersBy}
-use Rattle.fl_model.specs.declared.answer.Answer.{Answer as RustAnswer}
-use Rattle.fl_model.specs.Views.{answer_of}
+use Rattle.fl_world_refines.specs.Sending.{WritesOver, WritesBy}
+use Rattle.fl_world_refines.specs.Taking.{HasInlet, AcksOver, AcksAt, RegistersOver, RegistersBy}
 use Rattle.fl_world_events.specs.declared.taking.DueEnd.{DueEnd}
 use Rattle.fl_world_events.specs.declared.moving.ForwardFrag.{ForwardFrag}
 use Rattle.fl_world_events.specs.Passing.{StandsAt}
 use Rattle.fl_world_events.specs.Places.{HasEnd}
 use Rattle.fl_world_events.proofs.Lifts.{stands}
 use Rattle.fl_world.specs.Following.{GoesOn, TakesRulesOrNone}
-use Rattle.fl_world.specs.Places.{HasDue, IsDueOver, TurnsFrom}
+use Rattle.fl_world.specs.Places.{IsDueOver}
 
 -- ---- nothing is there
 
@@ -46,6 +43,15 @@ stray w base same list n past =
 pub stray_ring : (w base : TheWorld) → base ≡ w → (m i : ℕ) → i ≡ ring_at m → length base.rings ≤ i → IsStray w.rings (ring_at m) w nothing base
 stray_ring w base same m i at past =
     stray w base same (λ (x : TheWorld). x.rings) (ring_at m) (subst (λ (j : ℕ). length base.rings ≤ j) at past)
+
+-- where what was lent of the world has come back as it was
+pub stray_after : {X : Type 0} (w base : TheWorld) → base ≡ w → (list : TheWorld → List X) (n : ℕ) → length (list base) ≤ n → (w2 : TheWorld) → w2 ≡ w
+    → IsStray (list w) n w nothing w2
+stray_after w base same list n past w2 back = ((stray w base same list n past).0, (refl, back))
+
+pub stray_ring_after : (w base : TheWorld) → base ≡ w → (m i : ℕ) → i ≡ ring_at m → length base.rings ≤ i → (w2 : TheWorld) → w2 ≡ w
+    → IsStray w.rings (ring_at m) w nothing w2
+stray_ring_after w base same m i at past w2 back = ((stray_ring w base same m i at past).0, (refl, back))
 
 pub ring_here : (w base : TheWorld) → base ≡ w → (m i : ℕ) → i ≡ ring_at m → i < length base.rings → ring_at m < length w.rings
 ring_here w base same m i at there =
@@ -120,6 +126,13 @@ read_is w base same n place h read value =
     = subst (λ (x : TheWorld). n < length x.cores) (sym same) (slice_get_within w.cores n h.core h.core_is) in
     sym (ap (λ (x : TheWorld). slice_get x.cores n) same) ∙ stands base.cores n read read below value refl
 
+-- ---- where an end that is made puts
+
+pub writes_by : (w base : TheWorld) → base ≡ w → (n place : ℕ) → HasEnd w.cores n place → (read : TheCore) → read ≡ slice_index_or base.cores n read
+    → (o : Outlet) → outlet_of read place ≡ Some o → (a : Answer) (w2 : TheWorld) → WritesOver o n place w a w2 → WritesBy (made n place) w a w2
+writes_by w base same n place h read value o puts a w2 r =
+    (o, record { core = read; core_is = read_is w base same n place h read value; outlet_is = puts }, r)
+
 -- ---- what is due
 
 module _ (w base : TheWorld) (same : base ≡ w) (n : ℕ) (at : DueEnd) (i : Inlet) (h : IsDueOver w.cores n at i) (read : TheCore)
@@ -148,36 +161,6 @@ module _ (w base : TheWorld) (same : base ≡ w) (n : ℕ) (at : DueEnd) (i : In
   pub lent_to_side : (m : ℕ) → i ≡ inlet.Side m → arrivals_of read at.end ≡ None
   lent_to_side m is = lent_side read at.end m (due_inlet ∙ ap Some is)
 
-pub due_below : (w base : TheWorld) → base ≡ w → (d : DispatcherId) (e : ℕ) → HasDue w.cores d e → d.core < length base.cores
-due_below w base same d e h = subst (λ (x : TheWorld). d.core < length x.cores) (sym same) (slice_get_within w.cores d.core h.core h.core_is)
-
--- the end at place e of a dispatcher's core, which was read twice: for the end's name, and for where it takes from
-module _ (w base : TheWorld) (same : base ≡ w) (d : DispatcherId) (e : ℕ) (h : HasDue w.cores d e) where
-  read_core : (read : TheCore) → read ≡ slice_index_or base.cores d.core read → h.core ≡ read
-  read_core read value =
-      same_Some h.core read (sym h.core_is ∙ sym (ap (λ (x : TheWorld). slice_get x.cores d.core) same)
-      ∙ stands base.cores d.core read read (due_below w base same d e h) value refl)
-
-  pub due_seat : (read : TheCore) → read ≡ slice_index_or base.cores d.core read → e < length read.board.seats
-  due_seat read value = subst (λ (k : TheCore). e < length k.board.seats) (read_core read value) h.within
-
-  module _ (name : EndId) (read : TheCore) (value : read ≡ slice_index_or base.cores d.core read) (i : Inlet) (takes : inlet_of read e ≡ Some i) where
-    inlet_is : inlet_of h.core e ≡ Some i
-    inlet_is = subst (λ (k : TheCore). inlet_of k e ≡ Some i) (sym (read_core read value)) takes
-
-    pub due_over : IsDueOver w.cores d.core (record { dispatcher = d.place; end = e; name = name }) i
-    due_over = record { core = h.core; core_is = h.core_is; there = h.there; due_is = h.due_is; within = h.within; inlet_is = inlet_is }
-
-    pub turns_at : (named : TheCore) → named ≡ slice_index_or base.cores d.core named → place_of named name ≡ Some e
-        → (o : Result RustAnswer AllocError) (w2 : TheWorld)
-        → IfOk o (λ a. TurnsFrom i d.core (record { dispatcher = d.place; end = e; name = name }) w (answer_of a) w2)
-        → IfOk o (λ a. TurnsAt d e w (answer_of a) w2)
-    turns_at named nvalue at (Err error) w2 t = tt
-    turns_at named nvalue at (Ok a) w2 t =
-        let name_is : place_of h.core name ≡ Some e
-        = subst (λ (k : TheCore). place_of k name ≡ Some e) (sym (read_core named nvalue)) at in
-        (name, i, record { core = h.core; core_is = h.core_is; due_is = h.due_is; name_is = name_is; inlet_is = inlet_is }, t)
-
 -- ---- where an end that is made takes from
 
 module _ (w base : TheWorld) (same : base ≡ w) (n place : ℕ) (h : HasEnd w.cores n place) (read : TheCore)
@@ -191,15 +174,8 @@ module _ (w base : TheWorld) (same : base ≡ w) (n place : ℕ) (h : HasEnd w.c
   pub registers_by : (a : Answer) (w2 : TheWorld) → RegistersOver i n place w a w2 → RegistersBy (made n place) w a w2
   registers_by a w2 r = (i, record { core = read; core_is = core_is; inlet_is = takes }, r)
 
-  -- and where it has nothing to tell
   pub has_inlet : HasInlet w n place i
   has_inlet = record { core = read; core_is = core_is; inlet_is = takes }
-
-  pub nothing_told : (again : TheCore) → again ≡ slice_index_or base.cores n again → (a : Answer) → Holds again.board place (λ s. TellsNothing s.end a)
-      → Holds read.board place (λ s. TellsNothing s.end a)
-  nothing_told again avalue a told =
-      let one : again ≡ read = same_Some again read (sym (read_is w base same n place h again avalue) ∙ core_is) in
-      subst (λ (k : TheCore). Holds k.board place (λ s. TellsNothing s.end a)) one told
 
   pub acks_by : (a : Answer) (w2 : TheWorld) → AcksOver i read n (answer_at place a) w w2 → AcksAt (made n place) w a w2
   acks_by a w2 r = (i, (record { core = read; core_is = core_is; inlet_is = takes }, r))

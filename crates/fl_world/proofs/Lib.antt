@@ -14,3 +14,4 @@ pub mod Routes
 pub mod Runs
 pub mod Unused
 pub mod Stepped
+pub mod Turned

@@ -1,9 +1,9 @@
 -- What a look at one of a world's lists tells, as it is lent: w is the world, and base the same by its fields.
 use Rattle.std.proofs.Common.{◌≡◌, refl, sym, ap, ◌∙◌, subst, ℕ, ◌<◌, ◌≤◌, length, nat_lt, slice_get, slice_index_or, Bool, true, false, List, Option, Some, None}
+use Rattle.std.proofs.lemmas.Bool.{lt-ltb, le-ltb}
 use Rattle.std.proofs.lemmas.Option.{slice_get_past}
-use Rattle.std.specs.Prelude.{IfSome}
 use Rattle.fl_base.specs.Given.{given}
-use Rattle.fl_core.specs.BoardView.{TheBoard, due, due_in}
+use Rattle.fl_core.specs.BoardView.{TheBoard, due}
 use Rattle.fl_core.specs.View.{TheCore}
 use Rattle.fl_model.specs.Events.{DispatcherId}
 use Rattle.fl_world_refines.specs.View.{TheWorld, has_dispatcher}
@@ -11,7 +11,6 @@ use Rattle.fl_world_refines.specs.Taking.{due_at}
 use Rattle.fl_world_refines.specs.Binding.{has_places}
 use Rattle.fl_world_events.specs.Requests.{has_end_in, places_in}
 use Rattle.fl_world_events.proofs.Lifts.{stands}
-use Rattle.fl_world.specs.Places.{HasDue}
 use Rattle.fl_world.specs.Requests.{has_end_of}
 
 -- ---- what stands at a place
@@ -45,35 +44,25 @@ module _ (w : TheWorld) (d : DispatcherId) (none : slice_get w.cores d.core ≡ 
   pub no_places_at : (n : ℕ) → false ≡ has_places d n w
   no_places_at n = sym (ap (λ (o : Option TheCore). given o false (λ k. places_in k.board d.place n)) none)
 
-  pub none_due : None ≡ due_at w d
-  none_due = sym (ap (λ (o : Option TheCore). given o None (λ k. due k.board d.place)) none)
-
 -- ---- and where it is
 
 module _ (w : TheWorld) (d : DispatcherId) (k : TheCore) (is : slice_get w.cores d.core ≡ Some k) where
   pub dispatcher_at : (n : ℕ) → n ≡ length k.board.dispatchers → nat_lt d.place n ≡ has_dispatcher w d
   dispatcher_at n all = ap (nat_lt d.place) all ∙ sym (ap (λ (o : Option TheCore). given o false (λ c. nat_lt d.place (length c.board.dispatchers))) is)
 
+  module _ (board : TheBoard) (same : board ≡ k.board) (n : ℕ) (all : n ≡ length board.dispatchers) where
+    pub lacks_dispatcher : n ≤ d.place → has_dispatcher w d ≡ false
+    lacks_dispatcher past = sym (dispatcher_at n (all ∙ ap (λ (b : TheBoard). length b.dispatchers) same)) ∙ le-ltb d.place n past
+
+    pub holds_dispatcher : d.place < n → has_dispatcher w d ≡ true
+    holds_dispatcher there = sym (dispatcher_at n (all ∙ ap (λ (b : TheBoard). length b.dispatchers) same)) ∙ lt-ltb d.place n there
+
+    pub dispatcher_below : d.place < n → d.place < length k.board.dispatchers
+    dispatcher_below there = subst (λ (x : ℕ). d.place < x) (all ∙ ap (λ (b : TheBoard). length b.dispatchers) same) there
+
   pub places_at : (n : ℕ) (board : TheBoard) → board ≡ k.board → (b : Bool) → b ≡ places_in board d.place n → b ≡ has_places d n w
   places_at n board same b h =
       h ∙ ap (λ (x : TheBoard). places_in x d.place n) same ∙ sym (ap (λ (o : Option TheCore). given o false (λ c. places_in c.board d.place n)) is)
 
-  due_is_at : due_at w d ≡ due k.board d.place
+  pub due_is_at : due_at w d ≡ due k.board d.place
   due_is_at = ap (λ (o : Option TheCore). given o None (λ c. due c.board d.place)) is
-
-  pub past_due : length k.board.dispatchers ≤ d.place → None ≡ due_at w d
-  past_due past = sym (due_is_at ∙ ap due_in (slice_get_past k.board.dispatchers d.place past))
-
-  pub due_told : (board : TheBoard) → board ≡ k.board → (o : Option ℕ) → o ≡ due board d.place → o ≡ due_at w d
-  due_told board same o h = h ∙ ap (λ (x : TheBoard). due x d.place) same ∙ sym due_is_at
-
-  pub has_due : d.place < length k.board.dispatchers → (board : TheBoard) → board ≡ k.board → (o : Option ℕ) → o ≡ due board d.place
-      → IfSome o (λ e. e < length board.seats) → IfSome o (λ e. HasDue w.cores d e)
-  has_due there board same None h within = tt
-  has_due there board same (Some e) h within = record {
-    core = k;
-    core_is = is;
-    there = there;
-    due_is = sym (h ∙ ap (λ (x : TheBoard). due x d.place) same);
-    within = subst (λ (x : TheBoard). e < length x.seats) same within;
-  }

@@ -3,20 +3,12 @@ use Rattle.std.specs.Prelude.{ℕ, ◌≡◌, ◌<◌, List, length, slice_get, 
 use Rattle.fl_core.specs.BoardView.{due}
 use Rattle.fl_core.specs.declared.wiring.Inlet.{Inlet}
 use Rattle.fl_core.specs.View.{TheCore, inlet_of}
-use Rattle.fl_model.specs.Events.{DispatcherId, Answer}
+use Rattle.fl_model.specs.Events.{Answer}
 use Rattle.fl_world_refines.specs.View.{TheWorld}
 use Rattle.fl_world_refines.specs.Taking.{as_turn, TurnsOver}
 use Rattle.fl_world_events.specs.declared.taking.DueEnd.{DueEnd}
 
--- the end at place e is due at a dispatcher
-pub record HasDue (cores : List TheCore) (d : DispatcherId) (e : ℕ) : Type 0 where
-  pub core : TheCore
-  pub core_is : slice_get cores d.core ≡ Some core
-  pub there : d.place < length core.board.dispatchers
-  pub due_is : due core.board d.place ≡ Some e
-  pub within : e < length core.board.seats
-
--- the same of what is noted of it, with where it takes from
+-- the end that is noted is due at a dispatcher of core n, and takes from there
 pub record IsDueOver (cores : List TheCore) (n : ℕ) (at : DueEnd) (i : Inlet) : Type 0 where
   pub core : TheCore
   pub core_is : slice_get cores n ≡ Some core

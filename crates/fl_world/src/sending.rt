@@ -3,9 +3,7 @@
 ghost use Rattle.std.specs.Prelude.{◌≡◌, ◌<◌, length, slice_get, Some, IfOk, OnErr};
 ghost use Rattle.fl_value_data.specs.Value.{call_of};
 ghost use Rattle.fl_core.specs.View.{TheCore};
-ghost use Rattle.fl_world_refines.specs.View.{made};
-ghost use Rattle.fl_world_refines.specs.Sending.{MakesCall, PreviewsOver, PreviewsAt, Previews, HasOutlet};
-ghost use Rattle.fl_world_refines.specs.Sending.{WritesOver, WritesBy, WritesFragment};
+ghost use Rattle.fl_world_refines.specs.Sending.{MakesCall, PreviewsOver, Previews, HasOutlet, WritesFragment};
 ghost use Rattle.fl_model.specs.Views.{answer_of};
 ghost use Rattle.fl_world_events.specs.Places.{HasEnd};
 ghost use Rattle.fl_world_events.specs.Last.{NotRefused};
@@ -68,17 +66,10 @@ impl World {
         match self.location(e) {
             EndLocation::Nowhere => Answer::Refused(faults::WRONG_NAME),
             EndLocation::Unmade => Answer::Refused(faults::NOT_BOUND),
-            EndLocation::Made(n, place) => self.show_made(n, place),
-        }
-    }
-
-    fn show_made(&mut self, n: usize, place: usize) -> Answer
-        requires end { HasEnd self.old.cores n place }
-        ensures shows { PreviewsAt (made n place) self.old (answer_of result) self.new }
-    {
-        match self.outlet(n, place) {
-            Outlet::Queue(q) => self.show_over_queue(n, place, q),
-            Outlet::Side(m) => self.show_over_side(n, place, m),
+            EndLocation::Made(n, place) => match self.outlet(n, place) {
+                Outlet::Queue(q) => self.show_over_queue(n, place, q),
+                Outlet::Side(m) => self.show_over_side(n, place, m),
+            },
         }
     }
 
@@ -123,40 +114,16 @@ impl World {
         match self.location(e) {
             EndLocation::Nowhere => Answer::Refused(faults::WRONG_NAME),
             EndLocation::Unmade => Answer::Refused(faults::NOT_BOUND),
-            EndLocation::Made(n, place) => self.write_made(n, place),
-        }
-    }
-
-    #[inline(always)]
-    fn write_made(&mut self, n: usize, place: usize) -> Answer
-        requires end { HasEnd self.old.cores n place }
-        ensures writes { WritesBy (made n place) self.old (answer_of result) self.new }
-    {
-        match self.outlet(n, place) {
-            Outlet::Queue(q) => self.write_over_queue(n, place, q),
-            Outlet::Side(m) => self.write_over_side(n, place, m),
-        }
-    }
-
-    #[inline(always)]
-    fn write_over_queue(&mut self, n: usize, place: usize, q: usize) -> Answer
-        requires end { HasEnd self.old.cores n place }
-        ensures writes { WritesOver (Outlet.Queue q) n place self.old (answer_of result) self.new }
-    {
-        match self.queues.get_mut(q) {
-            None => Answer::Nothing,
-            Some(queue) => write_by_queue(&mut self.cores[n], place, queue),
-        }
-    }
-
-    #[inline(always)]
-    fn write_over_side(&mut self, n: usize, place: usize, m: usize) -> Answer
-        requires end { HasEnd self.old.cores n place }
-        ensures writes { WritesOver (Outlet.Side m) n place self.old (answer_of result) self.new }
-    {
-        match self.rings.get_mut(ring_at(m)) {
-            None => Answer::Nothing,
-            Some(ring) => write_by_ring(&mut self.cores[n], place, ring, m),
+            EndLocation::Made(n, place) => match self.outlet(n, place) {
+                Outlet::Queue(q) => match self.queues.get_mut(q) {
+                    None => Answer::Nothing,
+                    Some(queue) => write_by_queue(&mut self.cores[n], place, queue),
+                },
+                Outlet::Side(m) => match self.rings.get_mut(ring_at(m)) {
+                    None => Answer::Nothing,
+                    Some(ring) => write_by_ring(&mut self.cores[n], place, ring, m),
+                },
+            },
         }
     }
 }

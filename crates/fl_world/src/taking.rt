@@ -1,17 +1,15 @@
 //! Turns of dispatchers, and what ends say of themselves.
 
-ghost use Rattle.std.specs.Prelude.{◌≡◌, ◌<◌, true, slice_get, Some, IfOk, IfSome, OnErr};
-ghost use Rattle.fl_core.specs.BoardView.{due};
+ghost use Rattle.std.specs.Prelude.{◌≡◌, ◌<◌, true, slice_get, Some, IfOk, OnErr};
 ghost use Rattle.fl_core.specs.View.{TheCore, inlet_of};
-ghost use Rattle.fl_world_refines.specs.View.{made, has_dispatcher};
+ghost use Rattle.fl_world_refines.specs.View.{has_dispatcher};
 ghost use Rattle.fl_world_refines.specs.Lending.{answer_at};
-ghost use Rattle.fl_world_refines.specs.Taking.{TurnsAt, due_at, HasTurn};
-ghost use Rattle.fl_world_refines.specs.Taking.{AcksOver, AcksAt, Acknowledges, HasInlet};
-ghost use Rattle.fl_world_refines.specs.Taking.{RegistersOver, RegistersBy, RegistersChannel};
+ghost use Rattle.fl_world_refines.specs.Taking.{HasTurn, AcksOver, Acknowledges, HasInlet};
+ghost use Rattle.fl_world_refines.specs.Taking.{RegistersOver, RegistersChannel};
 ghost use Rattle.fl_world_refines.specs.Taking.{DeregistersChannel, SetsReply};
 ghost use Rattle.fl_model.specs.Views.{answer_of, id_of};
 ghost use Rattle.fl_world_events.specs.Places.{HasEnd};
-ghost use Rattle.fl_world.specs.Places.{HasDue, IsDueOver, TurnsFrom};
+ghost use Rattle.fl_world.specs.Places.{IsDueOver, TurnsFrom};
 
 use crate::world::World;
 use fl_base::{EndId, MsgNo, faults};
@@ -26,21 +24,6 @@ use std::alloc::AllocError;
 // ---- turns
 
 impl World {
-    // The end that is due at a dispatcher, by its place.
-    #[inline(always)]
-    fn due(&self, d: DispatcherId) -> Option<usize>
-        ensures due { result ≡ due_at self.now (id_of d) }
-        ensures there { IfSome result (λ e. HasDue self.now.cores (id_of d) e) }
-    {
-        let Some(core) = self.cores.get(d.core as usize) else {
-            return None;
-        };
-        if d.place >= core.board().dispatchers() {
-            return None;
-        }
-        core.board().due(d.place)
-    }
-
     /// A dispatcher has a turn.
     ///
     /// # Errors
@@ -51,29 +34,23 @@ impl World {
         ensures kept { OnErr result (self.new ≡ self.old) }
         ensures last { OnErr result (has_dispatcher self.old (id_of d) ≡ true) }
     {
-        if !self.has_dispatcher(d) {
+        let Some(core) = self.cores.get(d.core as usize) else {
+            return Ok(Answer::Refused(faults::WRONG_NAME));
+        };
+        let board = core.board();
+        if d.place >= board.dispatchers() {
             return Ok(Answer::Refused(faults::WRONG_NAME));
         }
-        match self.due(d) {
-            None => Ok(Answer::Nothing),
-            Some(e) => self.turn_at(d, e),
-        }
-    }
-
-    // The end at a place, which is due, has the turn.
-    #[inline(always)]
-    fn turn_at(&mut self, d: DispatcherId, e: usize) -> Result<Answer, AllocError>
-        requires due { HasDue self.old.cores (id_of d) e }
-        ensures turns { IfOk result (λ a. TurnsAt (id_of d) e self.old (answer_of a) self.new) }
-        ensures kept { OnErr result (self.new ≡ self.old) }
-    {
+        let Some(e) = board.due(d.place) else {
+            return Ok(Answer::Nothing);
+        };
         let n = d.core as usize;
         let at = DueEnd {
             dispatcher: d.place,
             end: e,
-            name: self.cores[n].name(e),
+            name: core.name(e),
         };
-        match self.cores[n].inlet(e) {
+        match core.inlet(e) {
             Inlet::Queue(q) => self.turn_over_queue(n, at, q),
             Inlet::Side(m) => self.turn_over_side(n, at, m),
             Inlet::Arrivals => self.turn_over_arrivals(n, at),
@@ -126,18 +103,14 @@ impl World {
         match self.location(e) {
             EndLocation::Nowhere => Answer::Refused(faults::WRONG_NAME),
             EndLocation::Unmade => Answer::Refused(faults::NOT_BOUND),
-            EndLocation::Made(n, place) => self.ack_made(n, place),
-        }
-    }
-
-    fn ack_made(&mut self, n: usize, place: usize) -> Answer
-        requires end { HasEnd self.old.cores n place }
-        ensures acks { AcksAt (made n place) self.old (answer_of result) self.new }
-    {
-        match self.cores[n].inlet(place) {
-            Inlet::Side(m) => self.ack_over_side(n, place, m),
-            Inlet::Queue(_) => tell_nothing(&self.cores[n], place),
-            Inlet::Arrivals => tell_nothing(&self.cores[n], place),
+            EndLocation::Made(n, place) => {
+                let core = &self.cores[n];
+                match core.inlet(place) {
+                    Inlet::Side(m) => self.ack_over_side(n, place, m),
+                    Inlet::Queue(_) => tell_nothing(core, place),
+                    Inlet::Arrivals => tell_nothing(core, place),
+                }
+            }
         }
     }
 
@@ -164,18 +137,11 @@ impl World {
         match self.location(e) {
             EndLocation::Nowhere => Answer::Refused(faults::WRONG_NAME),
             EndLocation::Unmade => Answer::Refused(faults::NOT_BOUND),
-            EndLocation::Made(n, place) => self.register_made(n, place),
-        }
-    }
-
-    fn register_made(&mut self, n: usize, place: usize) -> Answer
-        requires end { HasEnd self.old.cores n place }
-        ensures registers { RegistersBy (made n place) self.old (answer_of result) self.new }
-    {
-        match self.cores[n].inlet(place) {
-            Inlet::Queue(q) => self.register_over_queue(n, place, q),
-            Inlet::Side(m) => self.register_over_side(n, place, m),
-            Inlet::Arrivals => register_in(&mut self.cores[n], place),
+            EndLocation::Made(n, place) => match self.cores[n].inlet(place) {
+                Inlet::Queue(q) => self.register_over_queue(n, place, q),
+                Inlet::Side(m) => self.register_over_side(n, place, m),
+                Inlet::Arrivals => register_in(&mut self.cores[n], place),
+            },
         }
     }
 

@@ -158,31 +158,8 @@ fn answer_at(
     answer_in(&cores[client.core as usize], client.place, link, opening)
 }
 
-// A core begins a circuit for a binding of which it has no end.
+// A core opens a circuit for a binding, unless it has an end of that.
 fn open_in(
-    core: &mut Core,
-    dispatcher: usize,
-    program: Program,
-    link: LinkId,
-    opening: &Opening,
-) -> Result<OpenOutcome, AllocError>
-    requires dispatcher { dispatcher < length core.old.board.dispatchers }
-    requires few { opening.now.binding < 1024 }
-    requires new { place_of core.old (client_of opening.now.binding) ≡ None }
-    ensures begins { IfOk result (λ o. InCore (BeginsIn (asked dispatcher program link opening.now) o) core.old core.new) }
-    ensures kept { OnErr result (core.new ≡ core.old) }
-{
-    whole(core);
-    let outcome = core.open(dispatcher, program, link, opening);
-    whole(core);
-    match outcome {
-        Ok(_) => Ok(OpenOutcome::Waits),
-        Err(fault) => Ok(OpenOutcome::Refused(number_of(fault)?)),
-    }
-}
-
-// The same where it may have one.
-fn begin(
     core: &mut Core,
     dispatcher: usize,
     program: Program,
@@ -198,33 +175,16 @@ fn begin(
     if has_end(core, opening.binding as usize) {
         return Ok(OpenOutcome::There);
     }
-    open_in(core, dispatcher, program, link, opening)
+    let outcome = core.open(dispatcher, program, link, opening);
+    whole(core);
+    match outcome {
+        Ok(_) => Ok(OpenOutcome::Waits),
+        Err(fault) => Ok(OpenOutcome::Refused(number_of(fault)?)),
+    }
 }
 
-// A dispatcher's core, among all cores, begins a circuit for a binding, unless it has an end of that.
-fn begin_at(
-    cores: &mut [Core],
-    client: DispatcherId,
-    program: Program,
-    link: LinkId,
-    opening: &Opening,
-) -> Result<OpenOutcome, AllocError>
-    requires client { HasDispatcher cores.old (id_of client) }
-    requires few { opening.now.binding < 1024 }
-    ensures begins { IfOk result (λ o. AtOne cores.old client.core (BeginsIn (asked client.place program link opening.now) o) cores.new) }
-    ensures kept { OnErr result (cores.new ≡ cores.old) }
-{
-    begin(
-        &mut cores[client.core as usize],
-        client.place,
-        program,
-        link,
-        opening,
-    )
-}
-
-// The same with a copy of a program for the client's end.
-fn begin_with(
+// The same for a dispatcher's core, among all cores, with a copy of a program for the client's end.
+fn open_client(
     cores: &mut [Core],
     client: DispatcherId,
     alloc: Global,
@@ -238,7 +198,13 @@ fn begin_with(
     ensures kept { OnErr result (cores.new ≡ cores.old) }
 {
     let own = program.duplicate(alloc)?;
-    begin_at(cores, client, own, link, opening)
+    open_in(
+        &mut cores[client.core as usize],
+        client.place,
+        own,
+        link,
+        opening,
+    )
 }
 
 // ---- among the bindings
@@ -262,11 +228,11 @@ fn unmade_binding(
 }
 
 // A binding comes behind the others where its opening waits.
-fn keep(bindings: &mut Vec<Binding>, begun: OpenOutcome, binding: Binding) -> Answer
+fn keep(bindings: &mut Vec<Binding>, opened: OpenOutcome, binding: Binding) -> Answer
     requires room { vec_len bindings.old < vec_capacity bindings.old }
-    ensures follows { Follows begun binding bindings.old.items (answer_of result) bindings.new.items }
+    ensures follows { Follows opened binding bindings.old.items (answer_of result) bindings.new.items }
 {
-    match begun {
+    match opened {
         OpenOutcome::There => Answer::Nothing,
         OpenOutcome::Refused(number) => Answer::Refused(number),
         OpenOutcome::Waits => {
@@ -276,8 +242,8 @@ fn keep(bindings: &mut Vec<Binding>, begun: OpenOutcome, binding: Binding) -> An
     }
 }
 
-// A circuit is begun for a binding, whatever stands in its way.
-fn begin_over(
+// A binding is made for a circuit that is opened: the client's end at its core, and the server's kept.
+fn open_both(
     cores: &mut [Core],
     bindings: &mut Vec<Binding>,
     alloc: Global,
@@ -294,8 +260,8 @@ fn begin_over(
 {
     bindings.reserve(1)?;
     let binding = unmade_binding(alloc, program, between)?;
-    let begun = begin_with(cores, between.client, alloc, program, link, opening)?;
-    Ok(keep(bindings, begun, binding))
+    let opened = open_client(cores, between.client, alloc, program, link, opening)?;
+    Ok(keep(bindings, opened, binding))
 }
 
 /// A circuit is begun for a binding, which keeps the server's end until it is made; copies of a program are for both ends.
@@ -320,6 +286,6 @@ pub fn open_over(
 {
     match answer_at(cores, between.client, link, opening) {
         Some(answer) => Ok(answer),
-        None => begin_over(cores, bindings, alloc, program, between, link, opening),
+        None => open_both(cores, bindings, alloc, program, between, link, opening),
     }
 }

@@ -1,7 +1,6 @@
 //! Events of links.
 
 ghost use Rattle.std.specs.Prelude.{◌≡◌, ◌<◌, length};
-ghost use Rattle.fl_ring.specs.Side.{SameSide};
 ghost use Rattle.fl_world_refines.specs.Linking.{write_answer, MonitorWritesWith, AcksLinkWith};
 ghost use Rattle.fl_model.specs.Views.{answer_of};
 ghost use Rattle.fl_world_events.specs.Parts.{ByRing};
@@ -11,7 +10,7 @@ use crate::taking::answer_ack;
 use fl_base::LinkId;
 use fl_core::{Core, MonitorWrite};
 use fl_model::Answer;
-use fl_ring::{DuoSide, OneDuo};
+use fl_ring::OneDuo;
 
 // ---- the monitor writes
 
@@ -26,32 +25,15 @@ fn answer_write(answer: MonitorWrite) -> Answer
     }
 }
 
-// A core's monitor writes, over a side that is lent.
-fn write_by_side(core: &mut Core, link: LinkId, side: &mut DuoSide<'_>) -> Answer
-    ensures same { SameSide side.old side.new }
-    ensures writes { MonitorWritesWith link.0 (answer_of result) core.old side.old core.new side.new }
-{
-    answer_write(core.monitor_write(link, side))
-}
-
 /// A core's monitor writes, over side m of a ring.
 pub fn monitor_write_by_ring(core: &mut Core, link: LinkId, ring: &mut OneDuo, m: usize) -> Answer
     ensures writes { ByRing m (MonitorWritesWith link.0 (answer_of result)) core.old ring.old core.new ring.new }
 {
     whole(core);
     let mut side = ring.side(which_at(m));
-    let answer = write_by_side(core, link, &mut side);
+    let outcome = core.monitor_write(link, &mut side);
     whole(core);
-    answer
-}
-
-// A core acknowledges, over a side that is lent.
-fn ack_by_side(core: &Core, link: LinkId, side: &mut DuoSide<'_>) -> Answer
-    requires link { link.0 < length core.now.link_sides }
-    ensures same { SameSide side.old side.new }
-    ensures acks { AcksLinkWith (answer_of result) core.now side.old core.now side.new }
-{
-    answer_ack(core.monitor_ack(link, side))
+    answer_write(outcome)
 }
 
 /// A core acknowledges what it took on a link, over side m of a ring.
@@ -61,5 +43,5 @@ pub fn monitor_ack_by_ring(core: &Core, link: LinkId, ring: &mut OneDuo, m: usiz
 {
     whole(core);
     let mut side = ring.side(which_at(m));
-    ack_by_side(core, link, &mut side)
+    answer_ack(core.monitor_ack(link, &mut side))
 }

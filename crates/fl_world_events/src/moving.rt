@@ -2,14 +2,11 @@
 
 ghost use Rattle.std.specs.Prelude.{◌≡◌, ◌<◌, false, length};
 ghost use Rattle.fl_base.specs.Control.{is_ack_only, with_circuit, bare};
-ghost use Rattle.fl_hop.specs.Forward.{put_label, Leaves};
 ghost use Rattle.fl_link.specs.Looks.{saw};
 ghost use Rattle.fl_link.specs.Queue.{front_of};
 ghost use Rattle.fl_ring.specs.Duo.{side_of};
-ghost use Rattle.fl_ring.specs.Side.{SameSide, SidePuts, SideTakes};
 ghost use Rattle.fl_world_refines.specs.View.{which_at};
-ghost use Rattle.fl_world_refines.specs.Lending.{front_for};
-ghost use Rattle.fl_world_refines.specs.Linking.{LooksWith, incoming, HearsWith, ArrivesWith, moved_answer};
+ghost use Rattle.fl_world_refines.specs.Linking.{LooksWith, incoming, HearsWith, ArrivesWith, IsMoved, moved_answer};
 ghost use Rattle.fl_model.specs.Views.{answer_of};
 ghost use Rattle.fl_world_events.specs.Parts.{ByRing};
 ghost use Rattle.fl_world_events.specs.Passing.{Passes};
@@ -23,22 +20,9 @@ use fl_core::{Core, LinkFront, LinkReceiveFault, MonitorAnswer};
 use fl_hop::{ForwardOutcome, move_on};
 use fl_model::Answer;
 use fl_nameserv::Names;
-use fl_ring::{DuoSide, OneDuo};
+use fl_ring::OneDuo;
 
 // ---- a look
-
-// A core looks at what stands first on a link, over a side that is lent.
-fn look_by_side(
-    core: &mut Core,
-    at: LinkWithSide,
-    side: &mut DuoSide<'_>,
-) -> Result<LinkFront, LinkReceiveFault>
-    requires link { at.link.0 < length core.old.link_sides }
-    ensures same { SameSide side.old side.new }
-    ensures looks { LooksWith at.link.0 result core.old side.old core.new side.new }
-{
-    core.look(at.link, side)
-}
 
 /// A core looks at what stands first on a link, over the link's side of a ring.
 ///
@@ -54,29 +38,12 @@ pub fn look_by_ring(
 {
     whole(core);
     let mut side = ring.side(which_at(at.side));
-    let ahead = look_by_side(core, at, &mut side);
+    let ahead = core.look(at.link, &mut side);
     whole(core);
     ahead
 }
 
 // ---- a message is heard
-
-// A core hears what stands first on a link, over a side that is lent.
-fn hear_by_side(
-    core: &mut Core,
-    at: LinkWithSide,
-    side: &mut DuoSide<'_>,
-    frag: &Frag,
-    names: &Names,
-    programs: &[Program],
-) -> Result<MonitorAnswer, LinkReceiveFault>
-    requires link { at.link.0 < length core.old.link_sides }
-    requires seen { front_for side.old ≡ saw (bare frag.now) }
-    ensures same { SameSide side.old side.new }
-    ensures hears { HearsWith (incoming (record { names = names.now; programs = programs.now }) at.link frag.now) result core.old side.old core.new side.new }
-{
-    core.hear(at.link, side, frag, names, programs)
-}
 
 /// A core hears what stands first on a link, over the link's side of a ring.
 ///
@@ -97,7 +64,7 @@ pub fn hear_by_ring(
 {
     whole(core);
     let mut side = ring.side(which_at(at.side));
-    let answer = hear_by_side(core, at, &mut side, frag, names, programs);
+    let answer = core.hear(at.link, &mut side, frag, names, programs);
     whole(core);
     answer
 }
@@ -114,21 +81,11 @@ fn answer_move(outcome: ForwardOutcome) -> Answer
     }
 }
 
-// What stands first on a link arrives for an end of the core, over a side that is lent.
-fn arrive_by_side(
-    core: &mut Core,
-    at: LinkWithSide,
-    side: &mut DuoSide<'_>,
-    frag: &Frag,
-    name: EndId,
-) -> Answer
-    requires link { at.link.0 < length core.old.link_sides }
-    requires seen { front_for side.old ≡ saw (bare frag.now) }
-    requires call { is_ack_only (with_circuit 0 frag.now) ≡ false }
-    ensures same { SameSide side.old side.new }
-    ensures arrives { ArrivesWith (inbound at.link.0 frag.now name) (answer_of result) core.old side.old core.new side.new }
+// What is answered for a fragment that was to arrive.
+fn answer_arrival(outcome: Result<ForwardOutcome, LinkReceiveFault>) -> Answer
+    ensures moved { IsMoved outcome (answer_of result) }
 {
-    match core.arrive(at.link, side, frag, name) {
+    match outcome {
         Ok(outcome) => answer_move(outcome),
         Err(fault) => Answer::Refused(fault.number()),
     }
@@ -149,9 +106,9 @@ pub fn arrive_by_ring(
 {
     whole(core);
     let mut side = ring.side(which_at(at.side));
-    let answer = arrive_by_side(core, at, &mut side, frag, name);
+    let outcome = core.arrive(at.link, &mut side, frag, name);
     whole(core);
-    answer
+    answer_arrival(outcome)
 }
 
 /// A fragment that is to move on: from one side of a ring to a side of another, with this circuit's number there.
@@ -167,22 +124,6 @@ pub struct ForwardFrag {
     pub circuit: Circuit,
 }
 
-// It moves over sides that are lent.
-fn move_by_sides(
-    passing: &ForwardFrag,
-    from: &mut DuoSide<'_>,
-    onto: &mut DuoSide<'_>,
-) -> ForwardOutcome
-    requires seen { front_for from.old ≡ saw (bare passing.now.frag) }
-    requires call { is_ack_only (with_circuit passing.now.circuit.0 passing.now.frag) ≡ false }
-    ensures same_from { SameSide from.old from.new }
-    ensures same_onto { SameSide onto.old onto.new }
-    ensures put { SidePuts onto.old (put_label result (bare (with_circuit passing.now.circuit.0 passing.now.frag))) onto.new }
-    ensures left { Leaves SideTakes result (bare passing.now.frag) (record { before = from.old; after = from.new }) }
-{
-    move_on(from, onto, &passing.frag, passing.circuit)
-}
-
 // It moves over two rings. In line, as what calls it: an answer that is made out of line is moved on, and each move waits for the
 // stores of the one before.
 #[inline(always)]
@@ -193,5 +134,5 @@ pub(crate) fn move_between(passing: &ForwardFrag, from: &mut OneDuo, onto: &mut 
 {
     let mut side = from.side(which_at(passing.from));
     let mut next = onto.side(which_at(passing.onto));
-    answer_move(move_by_sides(passing, &mut side, &mut next))
+    answer_move(move_on(&mut side, &mut next, &passing.frag, passing.circuit))
 }

@@ -5,7 +5,7 @@ ghost use Rattle.fl_value_data.specs.Value.{call_of};
 ghost use Rattle.fl_link.specs.Queue.{QueuePuts, next_epoch_of};
 ghost use Rattle.fl_link.specs.Cursor.{epoch_at};
 ghost use Rattle.fl_ring.specs.Duo.{side_of, got};
-ghost use Rattle.fl_ring.specs.Side.{SameSide, SidePuts};
+ghost use Rattle.fl_ring.specs.Side.{SidePuts};
 ghost use Rattle.fl_world_refines.specs.View.{which_at};
 ghost use Rattle.fl_world_refines.specs.Lending.{answer_at};
 ghost use Rattle.fl_world_refines.specs.Sending.{IsCalled, IsShown, PreviewsWith};
@@ -20,7 +20,7 @@ use fl_core::Core;
 use fl_endpoint::{EndFault, WriteAnswer};
 use fl_link::QueueLink;
 use fl_model::Answer;
-use fl_ring::{DuoSide, OneDuo};
+use fl_ring::OneDuo;
 use fl_value_data::Call;
 use fl_world_refines::Binding;
 use std::alloc::AllocError;
@@ -153,16 +153,6 @@ pub fn write_by_queue(core: &mut Core, place: usize, queue: &mut QueueLink) -> A
     wrote(outcome)
 }
 
-// The same over a side that is lent.
-#[inline(always)]
-fn write_by_side(core: &mut Core, place: usize, side: &mut DuoSide<'_>) -> Answer
-    requires place { place < length core.old.board.seats }
-    ensures same { SameSide side.old side.new }
-    ensures writes { WritesWith SidePuts (answer_at place (answer_of result)) core.old side.old core.new side.new }
-{
-    wrote(core.write(place, side))
-}
-
 /// The end at a place of a core's board writes, over side m of a ring.
 #[inline(always)]
 pub fn write_by_ring(core: &mut Core, place: usize, ring: &mut OneDuo, m: usize) -> Answer
@@ -171,7 +161,7 @@ pub fn write_by_ring(core: &mut Core, place: usize, ring: &mut OneDuo, m: usize)
 {
     whole(core);
     let mut side = ring.side(which_at(m));
-    let answer = write_by_side(core, place, &mut side);
+    let outcome = core.write(place, &mut side);
     whole(core);
-    answer
+    wrote(outcome)
 }

@@ -2,7 +2,7 @@
 
 ghost use Rattle.std.specs.Prelude.{◌≡◌, ◌<◌, length, Some, None, IsSome, IfOk, OnErr};
 ghost use Rattle.fl_link.specs.Queue.{QueueTakes};
-ghost use Rattle.fl_ring.specs.Side.{SameSide, SideTakes};
+ghost use Rattle.fl_ring.specs.Side.{SideTakes};
 ghost use Rattle.fl_endpoint.specs.Accounts.{Sound};
 ghost use Rattle.fl_core.specs.BoardView.{due};
 ghost use Rattle.fl_core.specs.BoardEvents.{Holds, Acks};
@@ -24,7 +24,7 @@ use fl_core::{AckAnswer, BoardFault, Core, TurnAnswer};
 use fl_endpoint::EndFault;
 use fl_link::QueueLink;
 use fl_model::Answer;
-use fl_ring::{DuoSide, OneDuo, law_forgets_looks};
+use fl_ring::{OneDuo, law_forgets_looks};
 use fl_world_refines::Binding;
 use std::alloc::AllocError;
 
@@ -95,24 +95,6 @@ pub fn turn_by_queue(
     }
 }
 
-// The same over a side that is lent.
-#[inline(always)]
-fn turn_by_side(
-    core: &mut Core,
-    at: DueEnd,
-    side: &mut DuoSide<'_>,
-) -> Result<TurnAnswer, AllocError>
-    requires there { at.dispatcher < length core.old.board.dispatchers }
-    requires due { due core.old.board at.dispatcher ≡ Some at.end }
-    requires end { at.end < length core.old.board.seats }
-    requires lent { arrivals_of core.old at.end ≡ None }
-    ensures same { SameSide side.old side.new }
-    ensures turns { OnBoard core.old (λ b c. Turns SideTakes at.dispatcher at.end (over b side.old) result (over c side.new)) core.new }
-    ensures kept { OnErr result (core.new ≡ core.old) }
-{
-    core.turn(at.dispatcher, at.end, side)
-}
-
 // The same over side m of a ring. Where memory is refused the side knows what its look told it.
 #[inline(always)]
 fn turn_over(
@@ -131,7 +113,7 @@ fn turn_over(
 {
     whole(core);
     let mut side = ring.side(which_at(m));
-    let answer = turn_by_side(core, at, &mut side);
+    let answer = core.turn(at.dispatcher, at.end, &mut side);
     whole(core);
     answer
 }
@@ -202,16 +184,6 @@ pub(crate) fn answer_ack(answer: AckAnswer) -> Answer
     }
 }
 
-// The end at a place of a core's board acknowledges, over a side that is lent.
-fn ack_by_side(core: &Core, place: usize, side: &mut DuoSide<'_>) -> Result<AckAnswer, BoardFault>
-    requires place { place < length core.now.board.seats }
-    requires lent { arrivals_of core.now place ≡ None }
-    ensures same { SameSide side.old side.new }
-    ensures acks { Holds core.now.board place (λ s. Acks SideTakes s.kind s.end side.old result side.new) }
-{
-    core.ack(place, side)
-}
-
 /// The end at a place of a core's board acknowledges, over side m of a ring.
 pub fn ack_by_ring(core: &Core, place: usize, ring: &mut OneDuo, m: usize) -> Answer
     requires place { place < length core.now.board.seats }
@@ -220,7 +192,7 @@ pub fn ack_by_ring(core: &Core, place: usize, ring: &mut OneDuo, m: usize) -> An
 {
     whole(core);
     let mut side = ring.side(which_at(m));
-    match ack_by_side(core, place, &mut side) {
+    match core.ack(place, &mut side) {
         Ok(answer) => answer_ack(answer),
         Err(fault) => Answer::Refused(fault.number()),
     }
@@ -262,16 +234,6 @@ pub fn register_by_queue(core: &mut Core, place: usize, queue: &mut QueueLink) -
     answer_register(outcome)
 }
 
-// The same over a side that is lent.
-fn register_by_side(core: &mut Core, place: usize, side: &mut DuoSide<'_>) -> Answer
-    requires place { place < length core.old.board.seats }
-    requires lent { arrivals_of core.old place ≡ None }
-    ensures same { SameSide side.old side.new }
-    ensures registers { RegistersWith SideTakes (answer_at place (answer_of result)) core.old side.old core.new side.new }
-{
-    answer_register(core.register(place, side))
-}
-
 /// The channel of the end at a place of a core's board is registered, over side m of a ring.
 pub fn register_by_ring(core: &mut Core, place: usize, ring: &mut OneDuo, m: usize) -> Answer
     requires place { place < length core.old.board.seats }
@@ -280,9 +242,9 @@ pub fn register_by_ring(core: &mut Core, place: usize, ring: &mut OneDuo, m: usi
 {
     whole(core);
     let mut side = ring.side(which_at(m));
-    let answer = register_by_side(core, place, &mut side);
+    let outcome = core.register(place, &mut side);
     whole(core);
-    answer
+    answer_register(outcome)
 }
 
 /// The channel of an end that has an arrival queue is registered.

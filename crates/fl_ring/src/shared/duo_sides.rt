@@ -83,6 +83,7 @@ impl SharedSide {
     }
 
     // Writes a fragment into the next slot. Its control word tells all that was taken.
+    #[inline(always)]
     fn write(&mut self, frag: &Frag)
         requires room { 1 ≤ free_of self.old }
         requires unspent { length self.old.sent < 2 ^ 62 }
@@ -103,7 +104,7 @@ impl SharedSide {
     /// The side has put 2^62 fragments (E33). Else fewer than two slots are known to be free, also after a
     /// look at the other direction's next control word (E30): nothing was put, and the side knows what it saw
     /// there.
-    #[inline]
+    #[inline(always)]
     pub fn try_put(&mut self, frag: &Frag) -> Result<(), PutFault>
         requires { is_ack_only frag.now ≡ false }
         ensures placed { OnOk result (SharedPuts self.old (placed (bare frag.now)) self.new) }
@@ -149,7 +150,7 @@ impl SharedSide {
 
     /// Takes the other side's next fragment, the one that was peeked if one was. Its slot isn't free
     /// before it is told. It is `Empty` only where this call's load found the other epoch.
-    #[inline]
+    #[inline(always)]
     pub fn try_take(&mut self) -> Sight
         ensures look { SharedTakes self.old (taken result) self.new }
         ensures exact { (frag : Frag) → result ≡ Sight.Data frag → self.new.got ≡ self.old.got ++ frag ∷ [] }

@@ -10,13 +10,13 @@ returns-in-Some c = record {
 }
 
 pub returns-in-None-clause-opens : goal.returns-in-None-clause-opens
-returns-in-None-clause-opens c = c.begin_over.ensures.opens
+returns-in-None-clause-opens c = c.open_both.ensures.opens
 
 pub returns-in-None-clause-kept : goal.returns-in-None-clause-kept
-returns-in-None-clause-kept c = c.begin_over.ensures.kept
+returns-in-None-clause-kept c = c.open_both.ensures.kept
 
 pub returns-in-None-clause-same : goal.returns-in-None-clause-same
-returns-in-None-clause-same c = c.begin_over.ensures.same
+returns-in-None-clause-same c = c.open_both.ensures.same
 
 pub returns-in-None-clause-last : goal.returns-in-None-clause-last
-returns-in-None-clause-last c = always c.begin_over.result c.in-None.ensures.may
+returns-in-None-clause-last c = always c.open_both.result c.in-None.ensures.may

@@ -1,4 +1,4 @@
-use Rattle.std.proofs.Common.{◌∙◌, rules}
+use Rattle.std.proofs.Common.{◌∙◌, rules, refl}
 use Rattle.fl_world_events.proofs.linking.monitor_ack_by_ring.Goals as goal
 
 pub returns : goal.returns
@@ -9,8 +9,8 @@ returns c = record {
     over = record {
       side = c.side-side.result;
       lent = record { ring = c.side-side.ensures.ring; which = c.side-side.ensures.side ∙ c.which_at.ensures.which };
-      left = c.ack_by_side.new.side;
-      event = c.ack_by_side.ensures.acks;
+      left = c.monitor_ack.new.from;
+      event = (c.monitor_ack.result, c.monitor_ack.ensures.acks, refl, c.answer_ack.ensures.acked);
       rest = search rules;
     };
   };

@@ -9,8 +9,8 @@ returns c = record {
     over = record {
       side = c.side-side.result;
       lent = record { ring = c.side-side.ensures.ring; which = c.side-side.ensures.side ∙ c.which_at.ensures.which };
-      left = c.write_by_side-answer.new.side;
-      event = c.write_by_side-answer.ensures.writes;
+      left = c.monitor_write-outcome.new.out;
+      event = (c.monitor_write-outcome.result, c.monitor_write-outcome.ensures.writes, c.answer_write.ensures.told);
       rest = search rules;
     };
   };

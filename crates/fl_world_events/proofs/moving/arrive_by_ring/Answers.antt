@@ -9,8 +9,8 @@ returns c = record {
     over = record {
       side = c.side-side.result;
       lent = record { ring = c.side-side.ensures.ring; which = c.side-side.ensures.side ∙ c.which_at.ensures.which };
-      left = c.arrive_by_side-answer.new.side;
-      event = c.arrive_by_side-answer.ensures.arrives;
+      left = c.arrive-outcome.new.from;
+      event = (c.arrive-outcome.result, c.arrive-outcome.ensures.arrives, c.answer_arrival.ensures.moved);
       rest = search rules;
     };
   };

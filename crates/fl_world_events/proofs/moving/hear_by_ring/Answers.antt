@@ -9,8 +9,8 @@ returns c = record {
     over = record {
       side = c.side-side.result;
       lent = record { ring = c.side-side.ensures.ring; which = c.side-side.ensures.side ∙ c.which_at.ensures.which };
-      left = c.hear_by_side-answer.new.side;
-      event = c.hear_by_side-answer.ensures.hears;
+      left = c.hear-answer.new.from;
+      event = (c.hear-answer.ensures.hears, c.hear-answer.ensures.takes);
       rest = search rules;
     };
   };

@@ -9,8 +9,8 @@ returns c = record {
     over = record {
       side = c.side-side.result;
       lent = record { ring = c.side-side.ensures.ring; which = c.side-side.ensures.side ∙ c.which_at.ensures.which };
-      left = c.look_by_side-ahead.new.side;
-      event = c.look_by_side-ahead.ensures.looks;
+      left = c.look-ahead.new.from;
+      event = c.look-ahead.ensures.looks;
       rest = search rules;
     };
   };

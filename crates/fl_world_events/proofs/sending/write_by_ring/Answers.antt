@@ -9,8 +9,8 @@ returns c = record {
     over = record {
       side = c.side-side.result;
       lent = record { ring = c.side-side.ensures.ring; which = c.side-side.ensures.side ∙ c.which_at.ensures.which };
-      left = c.write_by_side-answer.new.side;
-      event = c.write_by_side-answer.ensures.writes;
+      left = c.write-outcome.new.out;
+      event = (c.write-outcome.result, c.write-outcome.ensures.writes, c.wrote.ensures.wrote);
       rest = search rules;
     };
   };

@@ -9,8 +9,8 @@ returns c = record {
     over = record {
       side = c.side-side.result;
       lent = record { ring = c.side-side.ensures.ring; which = c.side-side.ensures.side ∙ c.which_at.ensures.which };
-      left = c.register_by_side-answer.new.side;
-      event = c.register_by_side-answer.ensures.registers;
+      left = c.register-outcome.new.from;
+      event = (c.register-outcome.result, c.register-outcome.ensures.registers, c.answer_register.ensures.registered);
       rest = search rules;
     };
   };

@@ -8,11 +8,11 @@ returns-clause-turns c = record {
   over = record {
     side = c.side-side.result;
     lent = record { ring = c.side-side.ensures.ring; which = c.side-side.ensures.side ∙ c.which_at.ensures.which };
-    left = c.turn_by_side-answer.new.side;
-    event = c.turn_by_side-answer.ensures.turns;
+    left = c.turn-answer.new.from;
+    event = c.turn-answer.ensures.turns;
     rest = search rules;
   };
 }
 
 pub returns-clause-kept : goal.returns-clause-kept
-returns-clause-kept c = c.turn_by_side-answer.ensures.kept
+returns-clause-kept c = c.turn-answer.ensures.kept

@@ -1,15 +1,19 @@
-use Rattle.std.proofs.Common.{◌≡◌, length, subst, rules}
+use Rattle.std.proofs.Common.{List, length, refl, ap, ◌∙◌, rules}
+use Rattle.std.specs.Prelude.{slice_get}
 use Rattle.std.proofs.lemmas.Result.{on_ok_weaker}
-use Rattle.fl_endpoint.specs.View.{TheEnd}
-use Rattle.fl_endpoint.specs.Lent.{IsPlaceOf, AddsPlace}
+use Rattle.fl_machine.specs.Reassembling.{TheReassembly, new_reassembly}
+use Rattle.fl_endpoint.specs.Lent.{IsOf}
+use Rattle.fl_endpoint.proofs.Lendings.{push_last, as_place}
 use Rattle.fl_endpoint.proofs.end.End.add_place.Goals as goal
 
 pub returns-clause-added : goal.returns-clause-added
 returns-clause-added c =
-    let same : c.deref.result.now ≡ c.args.self.now = search rules in
-    on_ok_weaker c.add_place.result (λ h. subst (λ (s : TheEnd). AddsPlace s c.args.calls.now c.add_place.new.calls) same h) c.add_place.ensures.added
+    let of : IsOf c.args.self.now (new_reassembly c.in_ok-program.program) = record { program = search rules; are_bare = refl } in
+    on_ok_weaker c.add.result (λ is. (new_reassembly c.in_ok-program.program, of, refl, is)) c.add.ensures.added
 
 pub returns-clause-place : goal.returns-clause-place
 returns-clause-place c =
-    let same : c.deref.result.now ≡ c.args.self.now = search rules in
-    on_ok_weaker c.add_place.result (λ h. subst (λ (s : TheEnd). IsPlaceOf s c.add_place.new.calls (length c.args.calls.now)) same h) c.add_place.ensures.place
+    let of : IsOf c.args.self.now (new_reassembly c.in_ok-program.program) = record { program = search rules; are_bare = refl } in
+    on_ok_weaker c.add.result
+    (λ is. as_place c.args.self.now c.add.new.self (length c.args.calls.now) (new_reassembly c.in_ok-program.program) (ap (λ (x : List TheReassembly). slice_get x (length c.args.calls.now)) is ∙ push_last c.args.calls.now (new_reassembly c.in_ok-program.program)) of)
+    c.add.ensures.added
