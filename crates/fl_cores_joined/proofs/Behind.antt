@@ -29,7 +29,7 @@ use Rattle.fl_cores_joined.specs.Joined.{JoinedCore, IsJoined, AreWhole}
 use Rattle.fl_cores_joined.specs.Steps.{HappensAt, neighbour_on}
 use Rattle.fl_cores_joined.specs.Laws.{TheyShow, MachineDoes}
 use Rattle.fl_cores_joined.proofs.Linking.{side_lent, across, side_found}
-use Rattle.fl_cores_joined.proofs.Stepping.{begun, begun_is, ended, ended_all, there_is, finish, settled_same, lent_side, IsGood}
+use Rattle.fl_cores_joined.proofs.Stepping.{begun, begun_is, ended, ended_all, there_is, finish, lent_side, IsGood}
 use Rattle.fl_cores_joined.proofs.Over.{ring_over, OverRing}
 
 -- core n looked over side i, and found this; over the ring, and under the world's numbers, it found that
@@ -103,5 +103,4 @@ module _ {jobs : List CoreJob} {n i : ℕ} {l : LinkId} {found there : Result Li
         ForwardsFirst n z b.show.world answer w2 ⊎ IsStray b.show.world.rings (ring_at z.side) b.show.world answer w2))
         (sym places) (inl (record { ahead = there; looked = seen.world; looks = seen.over; follows = follows })) in
         subst (λ (c : ℕ). MachineDoes (forward n c) answer s ys) (ap (λ (t : TheRun TheSide). neighbour_on t.core l) h.beside_is.own)
-        (finish jobs n log_entry ms ys g law (forward n (neighbour_on h.beside.core l)) answer s b.show.world w2 last b.show.shows noted joined
-        does (sym (settled_same w2 answer joined.settled)))
+        (finish jobs n log_entry ms ys g law (forward n (neighbour_on h.beside.core l)) answer s b.show.world w2 last b.show.shows noted joined does)

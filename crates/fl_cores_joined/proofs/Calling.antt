@@ -20,7 +20,7 @@ use Rattle.fl_world_refines.specs.Laws.{StepsAgree}
 use Rattle.fl_cores_joined.specs.Joined.{in_world}
 use Rattle.fl_cores_joined.specs.Steps.{call_answer, rule_answer}
 use Rattle.fl_cores_joined.specs.Laws.{Is}
-use Rattle.fl_cores_joined.proofs.Stepping.{begun, ended_whole, there_is, finish, settled_same, located, call_noted}
+use Rattle.fl_cores_joined.proofs.Stepping.{begun, ended_whole, there_is, finish, located, call_noted}
 use Rattle.fl_cores_joined.proofs.Over.{core_over}
 
 -- ---- a call
@@ -53,7 +53,7 @@ calls_are law n name c answer some jobs xs ys s show whole still h =
     subst (λ (location : WhereEnd). CallsAt location name c show.world (call_answer answer) it.world)
     (sym (located show.world s name n e (in_world x) show.shows core_is found)) it.over in
     finish jobs n (called name c answer) xs ys h law (call name c) (call_answer answer) s show.world it.world m show.shows same it.they_make
-    does (sym (settled_same it.world (call_answer answer) it.they_make.settled))
+    does
 
 -- ---- a reply rule
 
@@ -77,4 +77,4 @@ rules_are law n name msg answer r jobs xs ys s show whole still h =
     subst (λ (location : WhereEnd). RulesAt location (reply_rule name msg.0 answer.0) show.world (rule_answer r) it.world)
     (sym (located show.world s name n e (in_world x) show.shows core_is found)) it.over in
     finish jobs n (ruled name msg answer r) xs ys h law (reply name msg.0 answer.0) (rule_answer r) s show.world it.world m show.shows notes.rest it.they_make
-    does (sym (settled_same it.world (rule_answer r) it.they_make.settled))
+    does

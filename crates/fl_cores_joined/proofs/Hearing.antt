@@ -515,7 +515,6 @@ module _ (law : StepsAgree) (n i : ℕ) (l : LinkId) (frag : Frag) (answer : Res
       let then_rules = ruled answer over.event.0 in
       let j = come.they_make in
       let joined : IsJoined (record come.world { bindings = then_rules.left }) (slice_set ms n (ended jobs n log_entry ms ys g last)) = record {
-        settled = j.settled;
         cores = j.cores;
         rings = j.rings;
         sides = j.sides;

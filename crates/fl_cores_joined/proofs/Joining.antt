@@ -306,7 +306,6 @@ module _ (w : TheWorld) (xs : List JoinedCore) (joined : IsJoined w xs) (n : ℕ
   -- the core alone has changed
   pub core_joined : t.rings ≡ x.run.rings → t.queues ≡ x.run.queues → IsJoined (with_core w n (in_world gone_on)) then_all
   core_joined rings queues = record {
-    settled = joined.settled;
     cores = still_cores;
     rings = λ m d e.
         let r = joined.rings m d e in
@@ -330,7 +329,6 @@ module _ (w : TheWorld) (xs : List JoinedCore) (joined : IsJoined w xs) (n : ℕ
       → t.rings ≡ x.run.rings → t.queues ≡ slice_set x.run.queues i after
       → IsJoined (with_queue (with_core w n (in_world gone_on)) k after) then_all
   queue_joined i k before after number_is before_is rings queues = record {
-    settled = joined.settled;
     cores = still_cores;
     rings = λ m d e.
         let r = joined.rings m d e in
@@ -449,7 +447,6 @@ module _ (w : TheWorld) (xs : List JoinedCore) (joined : IsJoined w xs) (n : ℕ
 
     pub ring_joined : IsJoined (with_ring (with_core w n (in_world gone_on)) (ring_at number) dq) then_all
     ring_joined = record {
-      settled = joined.settled;
       cores = still_cores;
       rings = λ j d e.
           elim (set_cases w.rings (ring_at number) dq j d e) [

@@ -8,6 +8,7 @@ pub mod Writing
 pub mod Turning
 pub mod Calling
 pub mod Telling
+pub mod Earlier
 pub mod Runs
 pub mod Linking
 pub mod Looking
@@ -19,3 +20,5 @@ pub mod Seated
 pub mod Hearing
 pub mod Opening
 pub mod Happening
+pub mod Facing
+pub mod Delaying

@@ -39,7 +39,7 @@ use Rattle.fl_cores_joined.specs.Laws.{TheyShow, MachineDoes, IsOnLink}
 use Rattle.fl_cores_joined.proofs.Mapped.{monitor_writes, acknowledges}
 use Rattle.fl_cores_joined.proofs.Renumbered.{side_moved}
 use Rattle.fl_cores_joined.proofs.Joining.{moved_to}
-use Rattle.fl_cores_joined.proofs.Stepping.{begun, ended_whole, there_is, finish, settled_same, lent_side, nothing_noted, IsGood, puts_map, takes_map}
+use Rattle.fl_cores_joined.proofs.Stepping.{begun, ended_whole, there_is, finish, lent_side, nothing_noted, IsGood, puts_map, takes_map}
 use Rattle.fl_cores_joined.proofs.Over.{ring_over}
 
 -- ---- the side of a link
@@ -161,7 +161,7 @@ module _ (law : StepsAgree) (n i : ℕ) (l : LinkId) (jobs : List CoreJob) (xs y
       (sym found) (inl it.over) in
       subst (λ (c : ℕ). MachineDoes (monitor_write n c) (write_answer answer) s ys) (neighbour_is (said i l answer) h)
       (finish jobs n (said i l answer) xs ys h law (monitor_write n (neighbour_on h.beside.core l)) (write_answer answer) s w it.world m show.shows noted it.they_make
-      does (sym (settled_same it.world (write_answer answer) it.they_make.settled)))
+      does)
 
   pub tells_so : (answer : AckAnswer) (h : HappensAt jobs n (told i l answer) xs ys)
       → MachineDoes (monitor_ack n (neighbour_on h.before.run.core l)) (ack_answer answer) s ys
@@ -186,7 +186,7 @@ module _ (law : StepsAgree) (n i : ℕ) (l : LinkId) (jobs : List CoreJob) (xs y
       (sym found) (inl it.over) in
       subst (λ (c : ℕ). MachineDoes (monitor_ack n c) (ack_answer answer) s ys) (neighbour_is (told i l answer) h)
       (finish jobs n (told i l answer) xs ys h law (monitor_ack n (neighbour_on h.beside.core l)) (ack_answer answer) s w it.world m show.shows noted it.they_make
-      does (sym (settled_same it.world (ack_answer answer) it.they_make.settled)))
+      does)
 
 pub says_are : StepsAgree → (n i : ℕ) (l : LinkId) (answer : MonitorWrite) → IsOnLink (said i l answer) n l (monitor_write n) (write_answer answer)
 says_are law n i l answer jobs xs ys s show whole still h = says_so law n i l jobs xs ys s show whole still answer h

@@ -49,7 +49,7 @@ use Rattle.fl_cores_joined.proofs.Mapped.{Maps}
 use Rattle.fl_cores_joined.proofs.Renumbered.{get_image, side_moved}
 use Rattle.fl_cores_joined.proofs.Joining.{map_set}
 use Rattle.fl_cores_joined.proofs.Linking.{side_lent, across, side_found}
-use Rattle.fl_cores_joined.proofs.Stepping.{begun, ended_whole, there_is, finish, settled_same, lent_side, nothing_noted, IsGood, takes_map}
+use Rattle.fl_cores_joined.proofs.Stepping.{begun, ended_whole, there_is, finish, lent_side, nothing_noted, IsGood, takes_map}
 use Rattle.fl_cores_joined.proofs.Over.{ring_over}
 
 -- ---- under the world's numbers
@@ -207,7 +207,7 @@ module _ (law : StepsAgree) (n i : ℕ) (l : LinkId) (jobs : List CoreJob) (xs y
       (sym places) (inl (record { ahead = found; looked = it.world; looks = it.over; follows = follows at it.world })) in
       subst (λ (c : ℕ). MachineDoes (forward n c) answer s ys) (ap (λ (t : TheRun TheSide). neighbour_on t.core l) h.beside_is.own)
       (finish jobs n (looked i l found) xs ys h law (forward n (neighbour_on h.beside.core l)) answer s w it.world m show.shows noted it.they_make
-      does (sym (settled_same it.world answer it.they_make.settled)))
+      does)
 
   fronts : (which : WhichSide) (x y : FacingSide) (f : Frag) → SideTakes (lent_side which x) (saw f) (lent_side which y) → front_for (lent_side which y) ≡ saw f
   fronts which x y f h = fronts_by which (lent_side which x).duo.now (lent_side which y).duo.now f h.1

@@ -50,7 +50,7 @@ use Rattle.fl_cores_joined.proofs.Hearing.{copy_there}
 use Rattle.fl_cores_joined.proofs.Over.{core_over, OverNone}
 use Rattle.fl_cores_joined.proofs.Passing.{long_map}
 use Rattle.fl_cores_joined.proofs.Renumbered.{wired_more}
-use Rattle.fl_cores_joined.proofs.Stepping.{begun, begun_is, ended, ended_whole, there_is, finish, settled_same, nothing_noted}
+use Rattle.fl_cores_joined.proofs.Stepping.{begun, begun_is, ended, ended_whole, there_is, finish, nothing_noted}
 
 -- ---- what is to be shown, by cases
 
@@ -65,7 +65,7 @@ if_no true A B h x = absurd (cc)
 given_so : {X : Type 0} (o : Option X) (A : Type 0) (B : X → Type 0) (x : X) → o ≡ Some x → B x → Given o A B
 given_so {X} o A B x h y = subst (λ (p : Option X). Given p A B) (sym h) y
 
-find_holds : {X : Type 0} (p : X → Bool) (xs : List X) (x : X) → find p xs ≡ Some x → p x ≡ true
+pub find_holds : {X : Type 0} (p : X → Bool) (xs : List X) (x : X) → find p xs ≡ Some x → p x ≡ true
 find_holds p [] x h = absurd (cc)
 find_holds {X} p (y ∷ xs) x h = by (p y) refl (find_holds p xs x) h
   where
@@ -279,8 +279,7 @@ module _ (law : StepsAgree) (n : ℕ) (name : EndId) (request : OpenRequest) (an
 
     event_is : IsJoined w2 (slice_set xs n (ended jobs n log_entry xs ys h m)) → MachineDoes (opening_event n h.before.run request) (opened_answer answer) s ys
     event_is joined =
-        finish jobs n log_entry xs ys h law (opening_event n h.before.run request) (opened_answer answer) s w w2 m show.shows noted joined
-        binds_it (sym (settled_same w2 (opened_answer answer) joined.settled))
+        finish jobs n log_entry xs ys h law (opening_event n h.before.run request) (opened_answer answer) s w w2 m show.shows noted joined binds_it
 
   -- a binding more, whose server's end is kept until it is made
   abbrev begun_binding : Binding
@@ -296,7 +295,6 @@ module _ (law : StepsAgree) (n : ℕ) (name : EndId) (request : OpenRequest) (an
   more_joined =
       let j = it.they_make in
       record {
-        settled = j.settled;
         cores = j.cores;
         rings = j.rings;
         sides = j.sides;

@@ -161,7 +161,6 @@ module _ {xs : List JoinedCore} {s : State} (show : TheyShow xs s) where
       record {
         world = seated_world;
         joined = record {
-          settled = j.settled;
           cores = j.cores;
           rings = j.rings;
           sides = j.sides;

@@ -18,7 +18,7 @@ use Rattle.fl_core.specs.declared.core_job.CoreJob.{CoreJob}
 use Rattle.fl_core_run.specs.Run.{TheRun}
 use Rattle.fl_core_run.specs.EndProgress.{TheEndProgress}
 use Rattle.fl_core_run.specs.LogEntries.{LogEntry, NotesCalled, NotesTurned}
-use Rattle.fl_model.specs.Events.{Event, Answer, refused}
+use Rattle.fl_model.specs.Events.{Event, add_interface, Answer, refused}
 use Rattle.fl_model.specs.State.{State}
 use Rattle.fl_world_refines.specs.View.{TheWorld, IsWhole, nowhere, made, location_at, location_of, core_in, with_core}
 use Rattle.fl_world_refines.specs.ShowsState.{ShowsState, Shows}
@@ -36,6 +36,28 @@ use Rattle.fl_cores_joined.proofs.Joining.{core_joined}
 use Rattle.fl_cores_joined.proofs.Mapped.{Maps}
 use Rattle.fl_cores_joined.proofs.Renumbered.{still_whole}
 use Rattle.fl_cores_joined.proofs.Rings.{puts_are, takes_are}
+
+-- ---- whether the number of cores stands is no core's
+
+module _ (w : TheWorld) (xs : List JoinedCore) (joined : IsJoined w xs) where
+  stood : (b : Bool) → IsJoined (record w { may_set_cores = b }) xs
+  stood b = record {
+    cores = joined.cores;
+    rings = joined.rings;
+    sides = joined.sides;
+    queues = joined.queues;
+    offers = λ n x x_is. let o = joined.offers n x x_is in record { names = o.names; programs = o.programs };
+    numbered = joined.numbered;
+    unruled = joined.unruled;
+  }
+
+  by_answer : (a : Answer) → IsJoined (settled_by a w) xs
+  by_answer (refused fault) = joined
+  by_answer a = stood false
+
+  settled_joined : (event : Event) (a : Answer) → IsJoined (settled event a w) xs
+  settled_joined (add_interface i plan) a = joined
+  settled_joined event a = by_answer a
 
 -- ---- the core that does it
 
@@ -84,12 +106,17 @@ module _ (jobs : List CoreJob) (n : ℕ) (log_entry : LogEntry) (xs ys : List Jo
   -- ---- the step of the world is the machine's
 
   pub finish : StepsAgree → (event : Event) (answer : Answer) (s : State) (w w2 : TheWorld) (m : TheRun FacingSide) → Shows w s → h.after ≡ noted m
-      → IsJoined w2 (slice_set xs n (ended m)) → Does event w answer w2 → w2 ≡ settled event answer w2 → MachineDoes event answer s ys
-  finish law event answer s w w2 m shows same joined does settles =
-      let agrees : StepAgrees event s answer w2 = law event w w2 s answer shows (record { made = w2; does = does; rest = settles }) in
+      → IsJoined w2 (slice_set xs n (ended m)) → Does event w answer w2 → MachineDoes event answer s ys
+  finish law event answer s w w2 m shows same joined does =
+      let agrees : StepAgrees event s answer (settled event answer w2) =
+      law event w (settled event answer w2) s answer shows (record { made = w2; does = does; rest = refl }) in
       record {
         answers = agrees.answer;
-        shows = record { world = w2; joined = subst (IsJoined w2) (sym (ended_all (noted m) same)) (progress_joined w2 m joined); shows = agrees.shows };
+        shows = record {
+          world = settled event answer w2;
+          joined = settled_joined w2 ys (subst (IsJoined w2) (sym (ended_all (noted m) same)) (progress_joined w2 m joined)) event answer;
+          shows = agrees.shows;
+        };
       }
 
 -- what is noted
@@ -110,12 +137,6 @@ pub call_noted : (name : EndId) (answer : Result (Unit {0}) EndFault) (m t : The
     → t ≡ record m { progresses = t.progresses }
 call_noted name (Ok unit) m t h = h.rest
 call_noted name (Err fault) m t h = nothing_noted t m h
-
--- ---- where the number of cores stands, it stands
-
-pub settled_same : (w : TheWorld) (a : Answer) → w.may_set_cores ≡ false → settled_by a w ≡ w
-settled_same w (refused fault) h = refl
-settled_same w a h = ap (λ (b : Bool). record w { may_set_cores = b }) (sym h)
 
 -- ---- where an end is
 

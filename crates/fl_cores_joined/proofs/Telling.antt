@@ -28,7 +28,7 @@ use Rattle.fl_cores_joined.specs.Laws.{Is}
 use Rattle.fl_cores_joined.proofs.Mapped.{acks}
 use Rattle.fl_cores_joined.proofs.Renumbered.{inlet_is}
 use Rattle.fl_cores_joined.proofs.Joining.{moved_to}
-use Rattle.fl_cores_joined.proofs.Stepping.{begun, ended_whole, there_is, finish, settled_same, located, lent_side, nothing_noted, IsGood, takes_map}
+use Rattle.fl_cores_joined.proofs.Stepping.{begun, ended_whole, there_is, finish, located, lent_side, nothing_noted, IsGood, takes_map}
 use Rattle.fl_cores_joined.proofs.Over.{ring_over}
 
 -- ---- the side of a ring from which the end takes
@@ -84,4 +84,4 @@ acks_are law n name i answer jobs xs ys s show whole still h =
     (sym (located show.world s name n e (in_world x) show.shows core_is found))
     (inlet.Side it.number, (record { core = in_world x; core_is = core_is; inlet_is = there }, inl it.over)) in
     finish jobs n (acked name i answer) xs ys h law (acks_event name) (acked_answer answer) s show.world it.world m show.shows noted it.they_make
-    does (sym (settled_same it.world (acked_answer answer) it.they_make.settled))
+    does

@@ -38,7 +38,7 @@ use Rattle.fl_cores_joined.specs.Laws.{MachineDoes, Is}
 use Rattle.fl_cores_joined.proofs.Mapped.{turns}
 use Rattle.fl_cores_joined.proofs.Renumbered.{inlet_is, arrivals_same}
 use Rattle.fl_cores_joined.proofs.Joining.{moved_to}
-use Rattle.fl_cores_joined.proofs.Stepping.{begun, ended_whole, there_is, finish, settled_same, lent_side, noted, turn_noted, IsGood, takes_map}
+use Rattle.fl_cores_joined.proofs.Stepping.{begun, ended_whole, there_is, finish, lent_side, noted, turn_noted, IsGood, takes_map}
 use Rattle.fl_cores_joined.proofs.Over.{ring_over, queue_over, core_over}
 
 abbrev at : ℕ → ℕ → DispatcherId
@@ -101,7 +101,7 @@ module _ (law : StepsAgree) (d : ℕ) (name : EndId) (from : Inlet) (answer : Tu
       let there = inlet_is x.sides x.queues h.beside.core e (inlet.Side i) takes
       ∙ ap (λ (j : ℕ). Some (inlet.Side j)) (moved_to x.sides i it.number it.number_is) in
       finish jobs n (turned d name from answer) xs ys h law (turn (at n d)) (turn_answer name answer) s w it.world m shows same it.they_make
-      (does_over it.world (inlet.Side it.number) there (inl it.over)) (sym (settled_same it.world (turn_answer name answer) it.they_make.settled))
+      (does_over it.world (inlet.Side it.number) there (inl it.over))
 
   over_queue : (i : ℕ) → inlet_of h.beside.core e ≡ Some (inlet.Queue i)
       → OnQueue i h.beside (λ k p k2 q. OnBoard k (λ b c. Turns QueueTakes d e (over b p) (Ok answer) (over c q)) k2) m
@@ -121,7 +121,7 @@ module _ (law : StepsAgree) (d : ℕ) (name : EndId) (from : Inlet) (answer : Tu
       let there = inlet_is x.sides x.queues h.beside.core e (inlet.Queue i) takes
       ∙ ap (λ (j : ℕ). Some (inlet.Queue j)) (moved_to x.queues i it.number it.number_is) in
       finish jobs n (turned d name from answer) xs ys h law (turn (at n d)) (turn_answer name answer) s w it.world m shows same it.they_make
-      (does_over it.world (inlet.Queue it.number) there (inl it.over)) (sym (settled_same it.world (turn_answer name answer) it.they_make.settled))
+      (does_over it.world (inlet.Queue it.number) there (inl it.over))
 
   over_arrivals : inlet_of h.beside.core e ≡ Some inlet.Arrivals
       → OnCore h.beside (λ k k2. OverArrivals k e (λ b p c q. Turns QueueTakes d e (over b p) (Ok answer) (over c q)) k2) m
@@ -148,7 +148,6 @@ module _ (law : StepsAgree) (d : ℕ) (name : EndId) (from : Inlet) (answer : Tu
       on in
       finish jobs n (turned d name from answer) xs ys h law (turn (at n d)) (turn_answer name answer) s w it.world m shows same it.they_make
       (does_over it.world inlet.Arrivals (inlet_is x.sides x.queues h.beside.core e inlet.Arrivals takes) it.over)
-      (sym (settled_same it.world (turn_answer name answer) it.they_make.settled))
 
 pub turns_are : StepsAgree → (n d : ℕ) (name : EndId) (from : Inlet) (answer : TurnAnswer)
     → Is (turned d name from answer) n (turn (at n d)) (turn_answer name answer)

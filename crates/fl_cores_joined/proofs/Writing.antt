@@ -32,7 +32,7 @@ use Rattle.fl_cores_joined.specs.Laws.{MachineDoes, Is}
 use Rattle.fl_cores_joined.proofs.Mapped.{writes_at}
 use Rattle.fl_cores_joined.proofs.Renumbered.{outlet_is, woken_same}
 use Rattle.fl_cores_joined.proofs.Joining.{moved_to}
-use Rattle.fl_cores_joined.proofs.Stepping.{begun, ended_whole, there_is, finish, settled_same, located, lent_side, noted, nothing_noted, IsGood, puts_map}
+use Rattle.fl_cores_joined.proofs.Stepping.{begun, ended_whole, there_is, finish, located, lent_side, noted, nothing_noted, IsGood, puts_map}
 use Rattle.fl_cores_joined.proofs.Over.{ring_over, queue_over}
 
 is_written : (r : Result WriteAnswer EndFault) → IsWritten r (write_answer r)
@@ -79,7 +79,7 @@ module _ (law : StepsAgree) (name : EndId) (out : Outlet) (answer : Result Write
       let there = outlet_is x.sides x.queues h.beside.core e (outlet.Side i) puts
       ∙ ap (λ (j : ℕ). Some (outlet.Side j)) (moved_to x.sides i it.number it.number_is) in
       finish jobs n (wrote name out answer) xs ys h law (write name) (write_answer answer) s w it.world m shows same it.they_make
-      (does_over it.world (outlet.Side it.number) there (inl it.over)) (sym (settled_same it.world (write_answer answer) it.they_make.settled))
+      (does_over it.world (outlet.Side it.number) there (inl it.over))
 
   over_queue : (i : ℕ) → outlet_of h.beside.core e ≡ Some (outlet.Queue i)
       → OnQueue i h.beside (λ k p k2 q. WritesAt QueuePuts e (at_side k p) answer (at_side k2 q)) m
@@ -92,7 +92,7 @@ module _ (law : StepsAgree) (name : EndId) (out : Outlet) (answer : Result Write
       let there = outlet_is x.sides x.queues h.beside.core e (outlet.Queue i) puts
       ∙ ap (λ (j : ℕ). Some (outlet.Queue j)) (moved_to x.queues i it.number it.number_is) in
       finish jobs n (wrote name out answer) xs ys h law (write name) (write_answer answer) s w it.world m shows same it.they_make
-      (does_over it.world (outlet.Queue it.number) there (inl it.over)) (sym (settled_same it.world (write_answer answer) it.they_make.settled))
+      (does_over it.world (outlet.Queue it.number) there (inl it.over))
 
 pub writes_are : StepsAgree → (n : ℕ) (name : EndId) (out : Outlet) (answer : Result WriteAnswer EndFault)
     → Is (wrote name out answer) n (write name) (write_answer answer)

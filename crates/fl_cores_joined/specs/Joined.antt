@@ -1,6 +1,6 @@
 -- Running cores, each with the sides of rings and the queues in its hands, and the one world that they make.
 -- A core names its sides and queues by their places with it; in the world they have numbers.
-use Rattle.std.specs.Prelude.{ℕ, ◌≡◌, ◌+◌, ◌-◌, ◌*◌, ◌%◌, ◌==◌, ◌<◌, if◌then◌else◌, false, List, length, map}
+use Rattle.std.specs.Prelude.{ℕ, ◌≡◌, ◌+◌, ◌-◌, ◌*◌, ◌%◌, ◌==◌, ◌<◌, if◌then◌else◌, List, length, map}
 use Rattle.std.specs.Prelude.{slice_get, Some}
 use Rattle.fl_compile.specs.Programs.{program_of}
 use Rattle.fl_link.specs.Queue.{TheQueue}
@@ -85,8 +85,6 @@ pub record AreNumbered (xs : List JoinedCore) : Type 0 where
 -- ---- the whole
 
 pub record IsJoined (w : TheWorld) (xs : List JoinedCore) : Type 0 where
-  -- the number of cores stands
-  pub settled : w.may_set_cores ≡ false
   pub cores : w.cores ≡ map in_world xs
   -- each ring is that of its two sides, and each side is of one of them
   pub rings : (n : ℕ) (d : TheDuo) → slice_get w.rings n ≡ Some d → IsRingOf xs n d

@@ -3,3 +3,4 @@ pub mod Joined
 pub mod Steps
 pub mod Laws
 pub mod Runs
+pub mod Entries

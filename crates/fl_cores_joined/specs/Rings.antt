@@ -1,17 +1,18 @@
 -- A ring as its two sides make it, while each is in the hands of a core of its own; and when a step of one
 -- side finds what stands there. Law.
-use Rattle.std.specs.Prelude.{◌≡◌, ◌⊎◌, ◌^◌, ◌<◌, ◌≤◌, false, List, [], ◌∷◌, ◌++◌, length, drop, Some, None}
+use Rattle.std.specs.Prelude.{◌≡◌, ◌⊎◌, ◌/◌, ◌^◌, ◌<◌, ◌≤◌, false, List, [], ◌∷◌, ◌++◌, length, drop, Some, None}
 use Rattle.fl_base.specs.declared.fragment.Frag.{Frag}
 use Rattle.fl_base.specs.Control.{told_of, is_ack_only}
 use Rattle.fl_base.specs.Prefix.{IsPrefix}
-use Rattle.fl_link.specs.Looks.{Look, placed, saw, found, missed}
+use Rattle.fl_link.specs.Looks.{Look, placed, no_room, saw, found, missed, told}
 use Rattle.fl_link.specs.Queue.{look_at}
 use Rattle.fl_ring.specs.Counts.{count_from}
 use Rattle.fl_ring.specs.declared.one_duo.WhichSide.{WhichSide}
 use Rattle.fl_ring.specs.declared.one_duo.WhichSide.TheVariants.{One, Two}
-use Rattle.fl_ring.specs.Duo.{TheHalf, TheDuo, DuoPuts, DuoTakes}
-use Rattle.fl_ring.specs.SharedSides.{TheSide, SharedPuts, SharedTakes, SideMayCome, KnowsSent, free_of}
-use Rattle.fl_ring.specs.SharedSides.{side_written, side_taken, side_missed}
+use Rattle.fl_ring.specs.Duo.{TheHalf, TheDuo, DuoPuts, DuoTakes, acknowledgement}
+use Rattle.fl_ring.specs.SharedSides.{TheSide, SharedPuts, SharedTakes, SideMayCome, MayStand, KnowsSent}
+use Rattle.fl_ring.specs.SharedSides.{free_of, unacknowledged_of, side_written, side_taken, side_missed}
+use Rattle.fl_ring.specs.SharedSides.{side_counted}
 
 -- ---- the ring of two sides
 
@@ -90,14 +91,30 @@ pub record TrueStepsAreTheRings : Type 0 where
 
 -- ---- law: there are such steps
 
--- A side that knows of room puts; what stands first is taken, unless it would tell more than was put; and
--- where nothing stands, a look misses.
+-- a side that has loaded the first fragment's control word, and knows what that tells
+abbrev pub told_by : TheSide → Frag → TheSide
+told_by side first = side_counted side (count_from side.known (told_of first.control))
+
+-- A side that knows of room puts; where it knows of none it looks first, and puts, or finds no room; what
+-- stands first is taken, unless it would tell more than was put; where nothing stands, a look misses; and
+-- what was taken is told.
 pub record TrueStepsHappen : Type 0 where
   pub puts : (x : FacingSide) (frag : Frag) → is_ack_only frag ≡ false → length x.side.sent < 2 ^ 62
       → 2 ≤ free_of x.side → Truly SharedPuts x (placed frag) (record x { side = side_written x.side frag })
+  pub looks_and_puts : (x : FacingSide) (first frag : Frag) (rest : List Frag) → is_ack_only frag ≡ false
+      → length x.side.sent < 2 ^ 62 → free_of x.side < 2 → standing_for x.side x.across ≡ first ∷ rest
+      → SideMayCome x.side first → MayStand x.side first.control → KnowsSent (told_by x.side first)
+      → 2 ≤ free_of (told_by x.side first)
+      → Truly SharedPuts x (placed frag) (record x { side = side_written (told_by x.side first) frag })
+  pub finds_no_room : (x : FacingSide) → length x.side.sent < 2 ^ 62 → free_of x.side < 2
+      → standing_for x.side x.across ≡ [] → x.side.peeked ≡ None
+      → Truly SharedPuts x no_room (record x { side = side_missed x.side })
   pub takes : (x : FacingSide) (first frag : Frag) (rest : List Frag)
       → standing_for x.side x.across ≡ first ∷ rest → look_at first ≡ saw frag
       → SideMayCome x.side first → KnowsSent (side_taken x.side first)
       → Truly SharedTakes x (found frag) (record x { side = side_taken x.side first })
   pub misses : (x : FacingSide) → standing_for x.side x.across ≡ [] → x.side.peeked ≡ None
       → Truly SharedTakes x missed (record x { side = side_missed x.side })
+  pub tells : (x : FacingSide) → x.side.size / 2 ≤ unacknowledged_of x.side → length x.side.sent < 2 ^ 62
+      → 1 ≤ free_of x.side
+      → Truly SharedTakes x told (record x { side = side_written x.side acknowledgement })

@@ -1,6 +1,6 @@
 -- What an interleaving of the cores' logs comes to: a run of the machine, where circuits are asked for in the
 -- order of their numbers.
-use Rattle.std.specs.Prelude.{ℕ, ◌≡◌, List, [], ◌∷◌, ◌++◌, length, map}
+use Rattle.std.specs.Prelude.{◌≡◌, List, [], ◌∷◌, ◌++◌, length, map}
 use Rattle.fl_ring.specs.SharedSides.{TheSide}
 use Rattle.fl_core.specs.declared.core_job.CoreJob.{CoreJob}
 use Rattle.fl_core_run.specs.LogEntries.{LogEntry, opened}
@@ -17,9 +17,9 @@ abbrev pub asked_in : (jobs : List CoreJob) (xs : List JoinedCore) (moments : Li
     (ys : List JoinedCore) → Interleaves jobs xs moments ys → List Exchange
 asked_in jobs xs [] ys h = []
 asked_in jobs xs (does n log_entry ∷ moments) ys h =
-    asks n h.1.1.before.run log_entry ++ asked_in jobs h.0 moments ys h.3
+    asks n h.1.1.before.run log_entry ++ asked_in jobs h.0 moments ys h.2
 asked_in jobs xs (forwards n look follows ∷ moments) ys h =
-    forward_asks n h.1.1.1.before.run look follows ++ asked_in jobs h.0 moments ys h.3
+    forward_asks n h.1.1.1.before.run look follows ++ asked_in jobs h.0 moments ys h.2
 
 abbrev pub events_of : List Exchange → List Event
 events_of xs = map (λ (x : Exchange). x.event) xs
@@ -31,28 +31,42 @@ pub record MachineRuns (exchanges : List Exchange) (s : State) (ys : List Joined
 
 -- ---- circuits
 
--- a circuit that is asked for by it, at one of so many cores, is asked for rightly, and for the binding that
--- the machine makes next
-abbrev pub OpensNext : ℕ → TheRun TheSide → State → LogEntry → Type 0
-OpensNext cores r s (opened name request answer) =
-    AsksRightly cores r request × (request.opening.binding ≡ length s.bindings)
-OpensNext cores r s log_entry = Unit {0}
+-- of each event that is whole in itself: of the cores before it, the one that does it, and where the machine
+-- has come by then
+abbrev pub AtEach : (List JoinedCore → TheRun TheSide → State → LogEntry → Type 0) → (jobs : List CoreJob)
+    (s : State) (xs : List JoinedCore) (moments : List Moment) (ys : List JoinedCore)
+    → Interleaves jobs xs moments ys → Type 0
+AtEach Holds jobs s xs [] ys h = Unit {0}
+AtEach Holds jobs s xs (does n log_entry ∷ moments) ys h =
+    Holds xs h.1.1.before.run s log_entry
+    × AtEach Holds jobs (reached s (events_of (asks n h.1.1.before.run log_entry))) h.0 moments ys h.2
+AtEach Holds jobs s xs (forwards n look follows ∷ moments) ys h =
+    AtEach Holds jobs (reached s (events_of (forward_asks n h.1.1.1.before.run look follows))) h.0 moments
+    ys h.2
 
--- so it is of each, where the machine has come by then
+-- a circuit is asked for as a job does that was accepted
+abbrev pub OpensRightly : List JoinedCore → TheRun TheSide → State → LogEntry → Type 0
+OpensRightly xs r s (opened name request answer) = AsksRightly (length xs) r request
+OpensRightly xs r s log_entry = Unit {0}
+
+-- and for the binding that the machine makes next
+abbrev pub OpensNext : List JoinedCore → TheRun TheSide → State → LogEntry → Type 0
+OpensNext xs r s (opened name request answer) = request.opening.binding ≡ length s.bindings
+OpensNext xs r s log_entry = Unit {0}
+
+-- so is each, in an interleaving
+abbrev pub OpenRightly : (jobs : List CoreJob) (s : State) (xs : List JoinedCore) (moments : List Moment)
+    (ys : List JoinedCore) → Interleaves jobs xs moments ys → Type 0
+OpenRightly jobs s xs moments ys h = AtEach OpensRightly jobs s xs moments ys h
+
 abbrev pub OpenInTurn : (jobs : List CoreJob) (s : State) (xs : List JoinedCore) (moments : List Moment)
     (ys : List JoinedCore) → Interleaves jobs xs moments ys → Type 0
-OpenInTurn jobs s xs [] ys h = Unit {0}
-OpenInTurn jobs s xs (does n log_entry ∷ moments) ys h =
-    OpensNext (length xs) h.1.1.before.run s log_entry
-    × OpenInTurn jobs (reached s (events_of (asks n h.1.1.before.run log_entry))) h.0 moments ys h.3
-OpenInTurn jobs s xs (forwards n look follows ∷ moments) ys h =
-    OpenInTurn jobs (reached s (events_of (forward_asks n h.1.1.1.before.run look follows))) h.0 moments ys
-    h.3
+OpenInTurn jobs s xs moments ys h = AtEach OpensNext jobs s xs moments ys h
 
 -- cores that show a state of the machine, in an interleaving in which each look finds what stands in its
 -- ring: the machine's run
 abbrev pub RunsJoin : Type 0
 RunsJoin = (jobs : List CoreJob) (xs ys : List JoinedCore) (moments : List Moment) (s : State)
-    → TheyShow xs s → AreWhole xs
-    → (h : Interleaves jobs xs moments ys) → OpenInTurn jobs s xs moments ys h
+    → TheyShow xs s → (h : Interleaves jobs xs moments ys) → AreWhole ys → OpenRightly jobs s xs moments ys h
+    → OpenInTurn jobs s xs moments ys h
     → MachineRuns (asked_in jobs xs moments ys h) s ys

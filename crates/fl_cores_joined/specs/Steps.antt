@@ -1,6 +1,6 @@
 -- What the cores do together, one after another, where each look finds what stands in its ring at that
 -- moment; and what of it is asked of the machine.
-use Rattle.std.specs.Prelude.{ℕ, ◌≡◌, ◌==◌, if◌then◌else◌, false, List, [], ◌∷◌, ◌++◌, map}
+use Rattle.std.specs.Prelude.{ℕ, ◌≡◌, false, List, [], ◌∷◌, map}
 use Rattle.std.specs.Prelude.{slice_get, slice_set, Option, Some, None}
 use Rattle.std.specs.Prelude.{Result, Ok, Err}
 use Rattle.fl_base.specs.declared.identity.CoreId.{CoreId}
@@ -43,7 +43,7 @@ use Rattle.fl_model.specs.Runs.{Exchange}
 use Rattle.fl_world_refines.specs.Taking.{turn_answer}
 use Rattle.fl_world_refines.specs.Linking.{write_answer as monitor_answer, ack_answer, moved_answer}
 use Rattle.fl_cores_joined.specs.Rings.{FacingSide, Truly}
-use Rattle.fl_cores_joined.specs.Joined.{JoinedCore, AreWhole, alone, IsBeside}
+use Rattle.fl_cores_joined.specs.Joined.{JoinedCore, alone, IsBeside}
 
 -- ---- one event of one core
 
@@ -100,20 +100,11 @@ Passes jobs (forwards n look follows) xs ys =
     Follows look follows × ((ms : List JoinedCore) × HappensAt jobs n look xs ms
     × HappensAt jobs n follows ms ys)
 
--- moments one after another; what is known of each core at any time is known of it behind each
+-- moments one after another
 abbrev pub Interleaves : List CoreJob → List JoinedCore → List Moment → List JoinedCore → Type 0
 Interleaves jobs xs [] ys = ys ≡ xs
-Interleaves jobs xs (x ∷ moments) ys = (ms : List JoinedCore) × Passes jobs x xs ms × AreWhole ms
+Interleaves jobs xs (x ∷ moments) ys = (ms : List JoinedCore) × Passes jobs x xs ms
     × Interleaves jobs ms moments ys
-
--- the log of core n in it
-abbrev pub entries_in : ℕ → Moment → List LogEntry
-entries_in n (does m log_entry) = if m == n then log_entry ∷ [] else []
-entries_in n (forwards m look follows) = if m == n then look ∷ follows ∷ [] else []
-
-abbrev pub log_of : ℕ → List Moment → List LogEntry
-log_of n [] = []
-log_of n (x ∷ moments) = entries_in n x ++ log_of n moments
 
 -- ---- what is asked of the machine, and how it answers
 

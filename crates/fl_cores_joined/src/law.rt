@@ -5,13 +5,14 @@ ghost use Rattle.fl_cores_joined.specs.Laws.{WritesJoin, TurnsJoin, AcksJoin};
 ghost use Rattle.fl_cores_joined.specs.Laws.{CallsJoin, RulesJoin, OpensJoin};
 ghost use Rattle.fl_cores_joined.specs.Laws.{MonitorsJoin, TellsJoin, LooksJoin};
 ghost use Rattle.fl_cores_joined.specs.Laws.{ArrivalsJoin, PassesJoin, HearsJoin};
+ghost use Rattle.fl_cores_joined.specs.Entries.{StepsInterleave};
 ghost use Rattle.fl_cores_joined.specs.Runs.{RunsJoin};
 
 use fl_world_refines::law_steps_agree;
 
 /// A step of a side over shared words whose loads find what stands there is the same step of the ring that
 /// its two sides make, and what each side took is still the first of what the other put. There are such
-/// steps.
+/// steps: puts, with a look or without, that find room or none; takes, misses and tells.
 pub fn law_true_steps()
     ensures rings { TrueStepsAreTheRings }
     ensures happen { TrueStepsHappen }
@@ -53,10 +54,16 @@ pub fn law_links_join()
 }
 
 /// Where cores do one thing after another, each look finds what stands in its ring at that moment, and
-/// circuits are asked for in the order of their numbers, that is a run of the machine, with the cores'
-/// answers, to a state that the cores show.
+/// circuits are asked for as accepted jobs do, in the order of their numbers, that is a run of the machine,
+/// with the cores' answers, to a state that the cores show, as long as each core is whole in the end.
 pub fn law_runs_join()
     ensures runs { RunsJoin }
 {
     law_steps_agree();
 }
+
+/// What cores do entry by entry, where others' entries may come between a look and what follows it, comes to
+/// the same where each look happens at the moment of what follows it.
+pub fn law_steps_interleave()
+    ensures steps { StepsInterleave }
+{}

@@ -74,13 +74,13 @@ thread_at c n (suc i) (k ∷ cores) (t ∷ threads) s h at =
     let sum : suc n + i ≡ n + suc i = omega arith in
     record { core = it.core; core_is = it.core_is; is = subst (λ (m : ℕ). IsCoreThread c m it.core s) sum it.is }
 
-threads_long : (c : TheCoreInputs) (n : ℕ) (cores : List TheCore) (threads : List TheCoreThread) → AreCoreThreads c n cores threads → length cores ≡ length threads
+pub threads_long : (c : TheCoreInputs) (n : ℕ) (cores : List TheCore) (threads : List TheCoreThread) → AreCoreThreads c n cores threads → length cores ≡ length threads
 threads_long c n [] [] h = refl
 threads_long c n [] (t ∷ threads) h = absurd h
 threads_long c n (k ∷ cores) [] h = absurd h
 threads_long c n (k ∷ cores) (t ∷ threads) h = let e = threads_long c (suc n) cores threads h.1 in omega (arith, e)
 
-abbrev joined_one : Owners → ℕ → TheCoreThread → JoinedCore
+abbrev pub joined_one : Owners → ℕ → TheCoreThread → JoinedCore
 joined_one owners n s = record { run = s.run; sides = numbers_of n owners.sides; queues = numbers_of n owners.queues }
 
 record JoinedAt (owners : Owners) (n i : ℕ) (threads : List TheCoreThread) (x : JoinedCore) : Type 0 where
@@ -111,36 +111,36 @@ at_joined owners n (suc i) (s ∷ threads) t h =
     let sum : suc n + i ≡ n + suc i = omega arith in
     at_joined owners (suc n) i threads t h ∙ ap (λ (m : ℕ). Some (joined_one owners m t)) sum
 
-joined_long : (owners : Owners) (n : ℕ) (threads : List TheCoreThread) → length (joined_from owners n threads) ≡ length threads
+pub joined_long : (owners : Owners) (n : ℕ) (threads : List TheCoreThread) → length (joined_from owners n threads) ≡ length threads
 joined_long owners n [] = refl
 joined_long owners n (t ∷ threads) = let e = joined_long owners (suc n) threads in omega (arith, e)
 
 -- the same from the first on
-record FirstThread (c : TheCoreInputs) (i : ℕ) (cores : List TheCore) (s : TheCoreThread) : Type 0 where
+pub record FirstThread (c : TheCoreInputs) (i : ℕ) (cores : List TheCore) (s : TheCoreThread) : Type 0 where
   pub core : TheCore
   pub core_is : slice_get cores i ≡ Some core
   pub is : IsCoreThread c i core s
 
-first_thread : (c : TheCoreInputs) (i : ℕ) (cores : List TheCore) (threads : List TheCoreThread) (s : TheCoreThread) → AreCoreThreads c 0 cores threads
+pub first_thread : (c : TheCoreInputs) (i : ℕ) (cores : List TheCore) (threads : List TheCoreThread) (s : TheCoreThread) → AreCoreThreads c 0 cores threads
     → slice_get threads i ≡ Some s → FirstThread c i cores s
 first_thread c i cores threads s h at =
     let it = thread_at c 0 i cores threads s h at in
     let sum : 0 + i ≡ i = omega arith in
     record { core = it.core; core_is = it.core_is; is = subst (λ (m : ℕ). IsCoreThread c m it.core s) sum it.is }
 
-record FirstJoined (owners : Owners) (i : ℕ) (threads : List TheCoreThread) (x : JoinedCore) : Type 0 where
+pub record FirstJoined (owners : Owners) (i : ℕ) (threads : List TheCoreThread) (x : JoinedCore) : Type 0 where
   pub thread : TheCoreThread
   pub thread_is : slice_get threads i ≡ Some thread
   pub is : x ≡ joined_one owners i thread
 
-first_joined : (owners : Owners) (i : ℕ) (threads : List TheCoreThread) (x : JoinedCore) → slice_get (joined_from owners 0 threads) i ≡ Some x
+pub first_joined : (owners : Owners) (i : ℕ) (threads : List TheCoreThread) (x : JoinedCore) → slice_get (joined_from owners 0 threads) i ≡ Some x
     → FirstJoined owners i threads x
 first_joined owners i threads x h =
     let it = joined_at owners 0 i threads x h in
     let sum : 0 + i ≡ i = omega arith in
     record { thread = it.thread; thread_is = it.thread_is; is = it.is ∙ ap (λ (m : ℕ). joined_one owners m it.thread) sum }
 
-at_first : (owners : Owners) (i : ℕ) (threads : List TheCoreThread) (t : TheCoreThread) → slice_get threads i ≡ Some t
+pub at_first : (owners : Owners) (i : ℕ) (threads : List TheCoreThread) (t : TheCoreThread) → slice_get threads i ≡ Some t
     → slice_get (joined_from owners 0 threads) i ≡ Some (joined_one owners i t)
 at_first owners i threads t h =
     let sum : 0 + i ≡ i = omega arith in
@@ -187,12 +187,6 @@ pair_at (r ∷ rings) (p ∷ pairs) (suc n) d h at =
       two_is = ap (slice_get (p.one ∷ p.two ∷ sides_of pairs)) (sym odd) ∙ it.two_is;
     }
 
-sides_long : (rings : List TheDuo) (pairs : List TwoSides) → AreNewRings rings pairs → length (sides_of pairs) ≡ 2 * length rings
-sides_long [] [] h = refl
-sides_long [] (p ∷ pairs) h = absurd h
-sides_long (r ∷ rings) [] h = absurd h
-sides_long (r ∷ rings) (p ∷ pairs) h = let e = sides_long rings pairs h.1 in omega (arith, e)
-
 -- ---- the law
 
 module _ (w : TheWorld) (p : Parts) (j : TheJoinedJobs) (at : Places) (threads : List TheCoreThread) (outcomes : List TheFinishedCore)
@@ -203,6 +197,9 @@ module _ (w : TheWorld) (p : Parts) (j : TheJoinedJobs) (at : Places) (threads :
 
   abbrev xs : List JoinedCore
   xs = joined_from owners 0 threads
+
+  rings_long : length p.rings.items ≡ length w.rings
+  rings_long = sym (ap length behind.parts.rings ∙ map_long (λ (d : TheDuo). new_duo d.size) p.rings.items)
 
   -- the place of a number among a core's own
   place_back : (owned places : List ℕ) (n m : ℕ) → ((k o : ℕ) → slice_get owned k ≡ Some o → slice_get places k ≡ Some (own_before o k owned))
@@ -222,7 +219,7 @@ module _ (w : TheWorld) (p : Parts) (j : TheJoinedJobs) (at : Places) (threads :
     side_owner : (m : ℕ) → NamesSide k m → slice_get h.side_owners m ≡ Some n
     side_owner m names =
         let less = behind.sides n m k k_is names in
-        let rings : length p.rings.items ≡ length w.rings = ap length behind.parts.rings in
+        let rings = rings_long in
         h.sides_named.each n m k there names (omega (arith, less, rings))
         (λ i d d_is other. behind.side_cores i n m d k (ap (λ (l : List TheCore). slice_get l i) (sym behind.parts.cores) ∙ d_is) k_is other names)
 
@@ -295,7 +292,7 @@ module _ (w : TheWorld) (p : Parts) (j : TheJoinedJobs) (at : Places) (threads :
   -- ---- sides
 
   owners_long : length h.side_owners ≡ 2 * length w.rings
-  owners_long = h.sides_named.count ∙ ap (λ (l : List TheDuo). 2 * length l) behind.parts.rings
+  owners_long = h.sides_named.count ∙ ap (λ (many : ℕ). 2 * many) rings_long
 
   side_there : (m : ℕ) (side : TheSide) → m < 2 * length w.rings → slice_get (sides_of h.pairs) m ≡ Some side → HasSide xs m side
   side_there m side less side_is =
@@ -314,26 +311,30 @@ module _ (w : TheWorld) (p : Parts) (j : TheJoinedJobs) (at : Places) (threads :
         side_is = th.2;
       }
 
+  -- a ring of these two new sides
+  ring_is : (n : ℕ) (d : TheDuo) (size : ℕ) (one two : TheSide) → n < length w.rings → d ≡ new_duo size → AreNew size one two
+      → slice_get (sides_of h.pairs) (2 * n) ≡ Some one → slice_get (sides_of h.pairs) (2 * n + 1) ≡ Some two → IsRingOf xs n d
+  ring_is n d size one two less made new one_at two_at =
+      let one_is = new.one_is in
+      let two_is = new.two_is in
+      record {
+        one = one;
+        one_is = side_there (2 * n) one (omega (arith, less)) one_at;
+        two = two;
+        two_is = side_there (2 * n + 1) two (omega (arith, less)) two_at;
+        facing = record {
+          size = ap (λ (s : TheSide). s.size) two_is ∙ sym (ap (λ (s : TheSide). s.size) one_is);
+          here = subst (λ (s : TheSide). IsFacedBy s two) (sym one_is) (record { took = (two.sent, refl); told = omega arith });
+          there = subst (λ (s : TheSide). IsFacedBy s one) (sym two_is) (record { took = (one.sent, refl); told = omega arith });
+        };
+        made = made ∙ sym (λ i. ring_of (one_is i) (two_is i));
+      }
+
   rings_are : (n : ℕ) (d : TheDuo) → slice_get w.rings n ≡ Some d → IsRingOf xs n d
   rings_are n d d_is =
-      let rings : slice_get p.rings.items n ≡ Some d = ap (λ (l : List TheDuo). slice_get l n) behind.parts.rings ∙ d_is in
-      let it = pair_at p.rings.items h.pairs n d h.new rings in
-      let less = within w.rings n d d_is in
-      let one = it.new.one_is in
-      let two = it.new.two_is in
-      let new : d ≡ new_duo d.size = behind.unused n d d_is in
-      record {
-        one = it.pair.one;
-        one_is = side_there (2 * n) it.pair.one (omega (arith, less)) it.one_is;
-        two = it.pair.two;
-        two_is = side_there (2 * n + 1) it.pair.two (omega (arith, less)) it.two_is;
-        facing = record {
-          size = ap (λ (s : TheSide). s.size) two ∙ sym (ap (λ (s : TheSide). s.size) one);
-          here = subst (λ (s : TheSide). IsFacedBy s it.pair.two) (sym one) (record { took = (it.pair.two.sent, refl); told = omega arith });
-          there = subst (λ (s : TheSide). IsFacedBy s it.pair.one) (sym two) (record { took = (it.pair.one.sent, refl); told = omega arith });
-        };
-        made = new ∙ sym ((λ i. ring_of (one i) (two i)));
-      }
+      let was = came_from (λ (z : TheDuo). new_duo z.size) p.rings.items n d (ap (λ (l : List TheDuo). slice_get l n) (sym behind.parts.rings) ∙ d_is) in
+      let it = pair_at p.rings.items h.pairs n was.first h.new was.first_is in
+      ring_is n d was.first.size it.pair.one it.pair.two (within w.rings n d d_is) was.same it.new it.one_is it.two_is
 
   -- ---- numbers
 
@@ -342,7 +343,6 @@ module _ (w : TheWorld) (p : Parts) (j : TheJoinedJobs) (at : Places) (threads :
 
   are_joined : IsJoined w xs
   are_joined = record {
-    settled = behind.settled;
     unruled = behind.unruled;
     cores = cores_are;
     rings = rings_are;

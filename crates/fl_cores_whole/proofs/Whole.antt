@@ -1,5 +1,5 @@
 -- The cores of a reported run begin as a world that shows the machine; so what they do is its run.
-use Rattle.std.proofs.Common.{◌≡◌, inl, inr, refl, sym, ◌∙◌, ap, subst, ℕ, ◌+◌, ◌*◌, ◌<◌, false, List, length, slice_get, Option, Some}
+use Rattle.std.proofs.Common.{◌≡◌, inl, inr, refl, sym, ◌∙◌, ap, subst, ℕ, ◌+◌, ◌*◌, ◌<◌, List, length, slice_get, Option, Some}
 use Rattle.fl_base.specs.declared.identity.EndId.{EndId}
 use Rattle.fl_compile.specs.declared.program.Program.{Program}
 use Rattle.fl_core.specs.declared.wiring.EndWiring.{EndWiring}
@@ -20,7 +20,7 @@ use Rattle.fl_cores_jobs.specs.Rules.{RulesOf}
 use Rattle.fl_link.specs.Queue.{TheQueue}
 use Rattle.fl_ring.specs.Duo.{TheDuo}
 use Rattle.fl_world.specs.Booting.{TheConfig}
-use Rattle.fl_world_refines.specs.Apart.{AllUnused}
+use Rattle.fl_world_refines.specs.Making.{new_duo}
 use Rattle.fl_world_refines.specs.declared.binding.Binding.{Binding}
 use Rattle.fl_world_refines.specs.declared.parts.Parts.{Parts}
 use Rattle.fl_world_refines.specs.View.{TheWorld, ring_at}
@@ -28,8 +28,13 @@ use Rattle.fl_world_refines.proofs.FramesBase.{gets, same_some}
 use Rattle.fl_cores_joined.specs.Joined.{UnmadeHaveNoRules, IsJoined}
 use Rattle.fl_cores_joined.specs.Runs.{RunsJoin}
 use Rattle.fl_cores_joined.proofs.Seated.{closed_world, closed_shows, binding_there, none_kept}
-use Rattle.fl_cores_whole.specs.Begin.{IsBehind, HandedOutJoin}
-use Rattle.fl_cores_whole.specs.Whole.{begun, ReportsJoin}
+use Rattle.fl_world_refines.specs.ShowsState.{Shows}
+use Rattle.fl_cores_joined.proofs.Passing.{long_map}
+use Rattle.fl_cores_whole.specs.Begin.{renewed, IsBehind, HandedOutJoin}
+use Rattle.fl_cores_joined.specs.Entries.{moments_of, StepsInterleave}
+use Rattle.fl_cores_whole.specs.Whole.{begun, ReportsJoin, StepsOfReportsJoin}
+use Rattle.fl_cores_whole.proofs.Asking.{open_rightly}
+use Rattle.fl_cores_whole.proofs.Renewed.{RingsAreFresh, begins_fresh, renewed_world, renewed_shows}
 
 module _ (fresh : SetUpsStartFresh) (c : TheConfig) (jobs : List Job) (limit : ℕ) (r : TheReport) (w : Reports c jobs limit r) where
   abbrev made : TheWorld
@@ -59,9 +64,18 @@ module _ (fresh : SetUpsStartFresh) (c : TheConfig) (jobs : List Job) (limit : �
   core_then : (n : ℕ) (k : TheCore) → slice_get shown.world.cores n ≡ Some k → slice_get parts.cores.items n ≡ Some k
   core_then n k is = ap (λ (ks : List TheCore). slice_get ks n) (sym shown.cores_are) ∙ is
 
-  -- its world, where no end that is made is kept at its binding
+  -- its world, where no end that is made is kept at its binding, with new rings
+  abbrev closed : TheWorld
+  closed = closed_world shown.world (begins c jobs) shown.shows
+
+  pub fresh_rings : RingsAreFresh (begins c jobs)
+  fresh_rings = begins_fresh c.cores c.setup jobs (all_making c.setup w.accepted.making)
+
   abbrev pub world : TheWorld
-  world = closed_world shown.world (begins c jobs) shown.shows
+  world = renewed_world closed (begins c jobs) (closed_shows shown.world (begins c jobs) shown.shows) fresh_rings
+
+  pub world_shows : Shows world (begins c jobs)
+  world_shows = renewed_shows closed (begins c jobs) (closed_shows shown.world (begins c jobs) shown.shows) fresh_rings
 
   -- each binding of a set-up has its server's end at a core; so none is kept
   on : OnBoards made.cores parts.cores.items
@@ -92,36 +106,37 @@ module _ (fresh : SetUpsStartFresh) (c : TheConfig) (jobs : List Job) (limit : �
             absurd (none_kept shown.world (begins c jobs) shown.shows (server_of n) there.server sides.server.place k now end refl k_is place now_is end_is))
       ]
 
-  pub is_behind : AllUnused made.rings → (begins c jobs).may_set_cores ≡ false → IsBehind world parts
-  is_behind unused settled = record {
-    settled = shown.shows.showing.may_set_cores ∙ settled;
+  pub is_behind : IsBehind world parts
+  is_behind = record {
     unruled = unruled;
     parts = record {
       cores = sym shown.cores_are;
-      rings = w.ran.ran.beside.rings ∙ w.ran.made.parts.rings ∙ sym shown.rings;
+      rings = ap renewed (shown.rings ∙ sym (w.ran.ran.beside.rings ∙ w.ran.made.parts.rings));
       queues = w.ran.ran.beside.queues ∙ w.ran.made.parts.queues ∙ sym shown.queues;
       programs = w.ran.ran.beside.programs ∙ w.ran.made.parts.programs ∙ sym shown.programs;
       names = w.ran.ran.beside.names ∙ w.ran.made.parts.names ∙ sym shown.names;
     };
-    unused = subst AllUnused (sym shown.rings) unused;
     side_cores = λ n m side k l k_is l_is a b. ready.side_cores n m side k l (core_then n k k_is) (core_then m l l_is) a b;
     queue_cores = λ n m queue k l k_is l_is a b. ready.queue_cores n m queue k l (core_then n k k_is) (core_then m l l_is) a b;
     sides = λ n side k k_is a.
-        subst (λ (rings : List TheDuo). ring_at side < length rings) (sym shown.rings) (ready.there n side k (core_then n k k_is) a);
+        subst (λ (many : ℕ). ring_at side < many) (sym (long_map (λ (d : TheDuo). new_duo d.size) shown.world.rings ∙ ap length shown.rings))
+        (ready.there n side k (core_then n k k_is) a);
     queues = λ n queue k k_is a.
         let it = ready.new n queue k (core_then n k k_is) a in
         (it.0, ap (λ (qs : List TheQueue). slice_get qs queue) shown.queues ∙ it.1);
   }
 
 pub reports_join : SetUpsStartFresh → HandedOutJoin → RunsJoin → ReportsJoin
-reports_join fresh handed runs c jobs limit r w moments ys unused whole settled h in_turn =
+reports_join fresh handed runs c jobs limit r w moments ys h still in_turn =
     let there = world fresh c jobs limit r w in
     let joined : IsJoined there (begun w) =
     handed there w.ran.ran.parts (joined_in w) w.ran.ran.ran.places w.ran.ran.ran.core_threads w.ran.ran.ran.outcomes
-    (is_behind fresh c jobs limit r w unused settled) w.ran.ran.ran.sound.begin w.ran.ran.ran.begin w.ran.ran.ran.shares in
+    (is_behind fresh c jobs limit r w) w.ran.ran.ran.sound.begin w.ran.ran.ran.begin w.ran.ran.ran.shares in
     runs (joined_in w).jobs (begun w) ys moments (begins c jobs)
-    (record {
-      world = there;
-      joined = joined;
-      shows = closed_shows (shown fresh c jobs limit r w).world (begins c jobs) (shown fresh c jobs limit r w).shows;
-    }) whole h in_turn
+    (record { world = there; joined = joined; shows = world_shows fresh c jobs limit r w }) h still
+    (open_rightly c jobs limit r w moments (begins c jobs) ys h) in_turn
+
+pub steps_join : StepsInterleave → ReportsJoin → StepsOfReportsJoin
+steps_join interleave join c jobs limit r w steps ys h still =
+    let moments = interleave (joined_in w).jobs (begun w) ys steps h in
+    (moments, λ in_turn. join c jobs limit r w (moments_of steps) ys moments still in_turn)

@@ -1,14 +1,15 @@
 -- The cores of a run as they begin: what a set-up made, handed out to them, is one world again. Law.
-use Rattle.std.specs.Prelude.{ℕ, ◌≡◌, suc, false, List, [], ◌∷◌, length, slice_get, Some}
+use Rattle.std.specs.Prelude.{ℕ, ◌≡◌, suc, List, [], ◌∷◌, length, map, slice_get, Some}
 use Rattle.std.specs.List.{range_with_len}
 use Rattle.fl_core.specs.Sound.{IsCore}
+use Rattle.fl_ring.specs.Duo.{TheDuo}
 use Rattle.fl_cores_fork.specs.Runs.{TheCoreThread, TheFinishedCore}
 use Rattle.fl_cores_jobs.specs.State.{TheJoinedJobs}
 use Rattle.fl_cores_parts.specs.Begins.{Places, common_in, AreCoreThreads}
 use Rattle.fl_cores_parts.specs.Shares.{Shares}
 use Rattle.fl_cores_shares.specs.Shares.{own_things}
 use Rattle.fl_core_refines.specs.SetUpStart.{SidesHaveOneCore, QueuesHaveOneCore, SidesAreThere, QueuesAreNew}
-use Rattle.fl_world_refines.specs.Apart.{AllUnused}
+use Rattle.fl_world_refines.specs.Making.{new_duo}
 use Rattle.fl_world_refines.specs.declared.parts.Parts.{Parts}
 use Rattle.fl_world_refines.specs.View.{TheWorld}
 use Rattle.fl_cores_joined.specs.Joined.{JoinedCore, UnmadeHaveNoRules, IsJoined}
@@ -34,20 +35,23 @@ abbrev pub owners_in : {p : Parts} {at : Places} {core_threads : List TheCoreThr
     → Shares p at core_threads outcomes → Owners
 owners_in h = record { sides = h.side_owners; queues = h.queue_owners }
 
--- these are a world's cores, rings, queues, programs and names; threads are given nothing of its bindings
+-- new rings of the sizes of these, which threads are given for them
+abbrev pub renewed : List TheDuo → List TheDuo
+renewed rings = map (λ (d : TheDuo). new_duo d.size) rings
+
+-- these are a world's cores, queues, programs and names, and its rings are new ones of these sizes; threads
+-- are given nothing of its bindings
 pub record AreTaken (w : TheWorld) (p : Parts) : Type 0 where
   pub cores : p.cores.items ≡ w.cores
-  pub rings : p.rings.items ≡ w.rings
+  pub rings : w.rings ≡ renewed p.rings.items
   pub queues : p.queues.items ≡ w.queues
   pub programs : p.programs.items ≡ w.programs
   pub names : p.names ≡ w.names
 
--- a world behind a set-up: the number of its cores stands, nothing was put on a ring, an end that isn't made
--- yet has no reply rule, and what a core names is there and no other core's
+-- a world behind a set-up: an end that isn't made yet has no reply rule, and what a core names is there and no
+-- other core's
 pub record IsBehind (w : TheWorld) (p : Parts) : Type 0 where
-  pub settled : w.may_set_cores ≡ false
   pub parts : AreTaken w p
-  pub unused : AllUnused w.rings
   pub unruled : UnmadeHaveNoRules w
   pub side_cores : SidesHaveOneCore w
   pub queue_cores : QueuesHaveOneCore w

@@ -1,2 +1,3 @@
 pub mod Begin
 pub mod Whole
+pub mod Holds

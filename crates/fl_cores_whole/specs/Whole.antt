@@ -1,14 +1,20 @@
--- A reported run of cores, as a run of the one machine. Law.
-use Rattle.std.specs.Prelude.{ℕ, ◌≡◌, false, List}
+-- A reported run of cores, as a run of the one machine. Laws.
+use Rattle.std.specs.Prelude.{ℕ, ◌≡◌, ◌==◌, if◌then◌else◌, List, [], ◌∷◌, ◌++◌, slice_get, Some}
+use Rattle.fl_base.specs.Prefix.{IsPrefix}
+use Rattle.fl_ring.specs.SharedSides.{TheSide}
+use Rattle.fl_core.specs.declared.core_job.CoreJob.{CoreJob}
+use Rattle.fl_core_turned.specs.TurnEvents.{Event as TurnEvent, event}
+use Rattle.fl_cores_fork.specs.Runs.{TheCoreThread, TheFinishedCore}
 use Rattle.fl_cores.specs.Behind.{joined_in}
+use Rattle.fl_cores.specs.Follows.{CoresFollow}
 use Rattle.fl_cores.specs.OneCore.{begins}
 use Rattle.fl_cores.specs.Promised.{Reports}
 use Rattle.fl_cores_file.specs.Jobs.{Job}
 use Rattle.fl_cores_file.specs.Report.{TheReport}
 use Rattle.fl_world.specs.Booting.{TheConfig}
-use Rattle.fl_world_refines.specs.Apart.{AllUnused}
-use Rattle.fl_cores_joined.specs.Joined.{JoinedCore, AreWhole}
-use Rattle.fl_cores_joined.specs.Steps.{Moment, Interleaves}
+use Rattle.fl_cores_joined.specs.Joined.{JoinedCore, AreWhole, alone}
+use Rattle.fl_cores_joined.specs.Entries.{CoreStep, none_open, StepByStep, moments_of}
+use Rattle.fl_cores_joined.specs.Steps.{Moment, does, forwards, Interleaves}
 use Rattle.fl_cores_joined.specs.Runs.{asked_in, MachineRuns, OpenInTurn}
 use Rattle.fl_cores_whole.specs.Begin.{joined_from, owners_in}
 
@@ -19,12 +25,72 @@ begun w = joined_from (owners_in w.ran.ran.ran.shares) 0 w.ran.ran.ran.core_thre
 
 -- Whatever they do one after another, where each look finds what stands in its ring and circuits are asked
 -- for in the order of their numbers, is a run of the machine, from where the set-up and the jobs' rules have
--- brought it. Asked of the set-up: it put nothing on a ring, each core is whole, and the number of cores
--- stands, as behind any binding.
+-- brought it, as long as each core is whole behind it.
 abbrev pub ReportsJoin : Type 0
 ReportsJoin = (c : TheConfig) (jobs : List Job) (limit : ℕ) (r : TheReport) (w : Reports c jobs limit r)
     (moments : List Moment) (ys : List JoinedCore)
-    → AllUnused w.ran.made.world.rings → AreWhole (begun w) → (begins c jobs).may_set_cores ≡ false
-    → (h : Interleaves (joined_in w).jobs (begun w) moments ys)
+    → (h : Interleaves (joined_in w).jobs (begun w) moments ys) → AreWhole ys
     → OpenInTurn (joined_in w).jobs (begins c jobs) (begun w) moments ys h
     → MachineRuns (asked_in (joined_in w).jobs (begun w) moments ys h) (begins c jobs) ys
+
+-- The same entry by entry, where entries of others may come between a look and what follows it: it comes to
+-- the same as with each look at the moment of what follows it, and so it is a run of the machine.
+abbrev pub StepsOfReportsJoin : Type 0
+StepsOfReportsJoin = (c : TheConfig) (jobs : List Job) (limit : ℕ) (r : TheReport) (w : Reports c jobs limit r)
+    (steps : List CoreStep) (ys : List JoinedCore)
+    → StepByStep (joined_in w).jobs none_open (begun w) steps ys → AreWhole ys
+    → (h : Interleaves (joined_in w).jobs (begun w) (moments_of steps) ys)
+    × (OpenInTurn (joined_in w).jobs (begins c jobs) (begun w) (moments_of steps) ys h
+    → MachineRuns (asked_in (joined_in w).jobs (begun w) (moments_of steps) ys h) (begins c jobs) ys)
+
+-- ---- what the threads did
+
+-- the events of core n in an interleaving, each with the core behind it
+abbrev pub events_at : ℕ → (jobs : List CoreJob) (xs : List JoinedCore) (moments : List Moment)
+    (ys : List JoinedCore) → Interleaves jobs xs moments ys → List (TurnEvent TheSide)
+events_at n jobs xs [] ys h = []
+events_at n jobs xs (does m log_entry ∷ moments) ys h =
+    (if m == n then event log_entry (alone h.1.1.after) ∷ [] else []) ++ events_at n jobs h.0 moments ys h.2
+events_at n jobs xs (forwards m look follows ∷ moments) ys h =
+    (if m == n then event look (alone h.1.1.1.after) ∷ event follows (alone h.1.1.2.after) ∷ [] else [])
+    ++ events_at n jobs h.0 moments ys h.2
+
+module _ {c : TheConfig} {jobs : List Job} {limit : ℕ} {r : TheReport} (w : Reports c jobs limit r)
+    (follow : CoresFollow w) where
+  -- an interleaving of what the cores did: of each core's turns the first events, up to some moment
+  abbrev pub AreTheirTurns : (moments : List Moment) (ys : List JoinedCore)
+      → Interleaves (joined_in w).jobs (begun w) moments ys → Type 0
+  AreTheirTurns moments ys h = (n : ℕ) (s : TheCoreThread) (o : TheFinishedCore)
+      → (given_is : slice_get w.ran.ran.ran.core_threads n ≡ Some s)
+      → (left_is : slice_get w.ran.ran.ran.outcomes n ≡ Some o)
+      → IsPrefix (events_at n (joined_in w).jobs (begun w) moments ys h)
+      (follow n s o given_is left_is).turned.events
+
+  -- of all that they did
+  abbrev pub AreAllTheirTurns : (moments : List Moment) (ys : List JoinedCore)
+      → Interleaves (joined_in w).jobs (begun w) moments ys → Type 0
+  AreAllTheirTurns moments ys h = (n : ℕ) (s : TheCoreThread) (o : TheFinishedCore)
+      → (given_is : slice_get w.ran.ran.ran.core_threads n ≡ Some s)
+      → (left_is : slice_get w.ran.ran.ran.outcomes n ≡ Some o)
+      → events_at n (joined_in w).jobs (begun w) moments ys h ≡ (follow n s o given_is left_is).turned.events
+
+module _ {c : TheConfig} {jobs : List Job} {limit : ℕ} {r : TheReport} (w : Reports c jobs limit r) where
+  -- these are the cores as they were left, of which the report tells
+  abbrev pub AreLeft : List JoinedCore → Type 0
+  AreLeft ys = (n : ℕ) (o : TheFinishedCore) → slice_get w.ran.ran.ran.outcomes n ≡ Some o
+      → (y : JoinedCore) × (slice_get ys n ≡ Some y) × (y.run ≡ o.run)
+
+-- So is an interleaving of what they did up to any moment of the run
+abbrev pub TheirTurnsJoin : Type 0
+TheirTurnsJoin = (c : TheConfig) (jobs : List Job) (limit : ℕ) (r : TheReport) (w : Reports c jobs limit r)
+    (follow : CoresFollow w) (moments : List Moment) (ys : List JoinedCore)
+    → (h : Interleaves (joined_in w).jobs (begun w) moments ys) → AreTheirTurns w follow moments ys h
+    → OpenInTurn (joined_in w).jobs (begins c jobs) (begun w) moments ys h
+    → MachineRuns (asked_in (joined_in w).jobs (begun w) moments ys h) (begins c jobs) ys
+
+-- and one of all that they did ends with the cores as they were left.
+abbrev pub TheirTurnsEnd : Type 0
+TheirTurnsEnd = (c : TheConfig) (jobs : List Job) (limit : ℕ) (r : TheReport) (w : Reports c jobs limit r)
+    (follow : CoresFollow w) (moments : List Moment) (ys : List JoinedCore)
+    → (h : Interleaves (joined_in w).jobs (begun w) moments ys) → AreAllTheirTurns w follow moments ys h
+    → AreLeft w ys

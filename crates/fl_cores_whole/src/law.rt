@@ -1,10 +1,13 @@
 //! What a run of cores is of the one machine: laws, as the contracts of functions that do nothing.
 
 ghost use Rattle.fl_cores_whole.specs.Begin.{HandedOutJoin};
-ghost use Rattle.fl_cores_whole.specs.Whole.{ReportsJoin};
+ghost use Rattle.fl_cores_whole.specs.Holds.{ReportsHold};
+ghost use Rattle.fl_cores_whole.specs.Whole.{ReportsJoin, StepsOfReportsJoin, TheirTurnsEnd, TheirTurnsJoin};
 
 use fl_core_refines::law_set_ups_start_fresh;
-use fl_cores_joined::law_runs_join;
+use fl_cores_joined::{law_runs_join, law_steps_interleave};
+use fl_model_laws::{law_no_wire_faults, law_numbers_are_once_both_ways};
+use fl_world_laws::law_handled_is_ever_a_prefix;
 
 /// What a set-up made, once its cores, rings and queues are handed out to threads, is the world that these
 /// cores make.
@@ -14,10 +17,38 @@ pub fn law_handed_out_join()
 
 /// What the cores of a reported run do one after another, where each look finds what stands in its ring at
 /// that moment and circuits are asked for in the order of their numbers, is a run of the machine from behind
-/// the set-up, with the cores' answers, to a state that the cores show.
+/// the set-up, with the cores' answers, to a state that the cores show, as long as each is whole then.
 pub fn law_reports_join()
     ensures runs { ReportsJoin }
 {
     law_set_ups_start_fresh();
     law_runs_join();
+}
+
+/// So it is where entries of others come between a look and what follows it.
+pub fn law_steps_join()
+    ensures steps { StepsOfReportsJoin }
+{
+    law_steps_interleave();
+    law_reports_join();
+}
+
+/// So is such an order of what they did in their turns, up to any moment of the run; and one of all that they
+/// did ends with the cores of which the report tells.
+pub fn law_their_turns_join()
+    ensures runs { TheirTurnsJoin }
+    ensures end { TheirTurnsEnd }
+{
+    law_reports_join();
+}
+
+/// In all of it no core meets a fault of received fragments, or a circuit without an entry; what an end handled is a
+/// prefix of what the other end accepted; and a circuit's number on a link was given once.
+pub fn law_reports_hold()
+    ensures hold { ReportsHold }
+{
+    law_no_wire_faults();
+    law_handled_is_ever_a_prefix();
+    law_numbers_are_once_both_ways();
+    law_reports_join();
 }

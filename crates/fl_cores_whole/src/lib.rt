@@ -1,12 +1,15 @@
 //! The cores of a run that `run_cores` reports, joined to one world: what they do together is a run of the
 //! machine.
 //!
-//! Contract for the layers above: [`law_handed_out_join`] (`specs/Begin.antt`), [`law_reports_join`]
-//! (`specs/Whole.antt`), over interleavings as `fl_cores_joined` has them.
+//! Contract for the layers above: [`law_handed_out_join`] (`specs/Begin.antt`), [`law_reports_join`],
+//! [`law_steps_join`] and [`law_their_turns_join`] (`specs/Whole.antt`), over interleavings as `fl_cores_joined` has them, and
+//! what holds of them by the machine's laws, [`law_reports_hold`] (`specs/Holds.antt`).
 //!
 //! - `law.rt`: the laws
 #![tactic(auto)]
 
 mod law;
 
-pub use law::{law_handed_out_join, law_reports_join};
+pub use law::{
+    law_handed_out_join, law_reports_hold, law_reports_join, law_steps_join, law_their_turns_join,
+};

@@ -1,0 +1,5 @@
+use Rattle.fl_cores_whole.proofs.Turned.{their_turns_join, their_turns_end}
+use Rattle.fl_cores_whole.proofs.law.law_their_turns_join.Goals as goal
+
+pub returns : goal.returns
+returns c = record { runs = their_turns_join c.law_reports_join.ensures.runs; end = their_turns_end }
