@@ -59,6 +59,13 @@ uint32_t flounder_make_text_program(const uint8_t *text, size_t length, uint32_t
 uint32_t flounder_make_image_program(const uint8_t *image, size_t length, uint8_t **program);
 fl_answer flounder_make_run(uint8_t *program, uint32_t kind, uint8_t **run);
 fl_answer flounder_use(uint8_t *handle, uint32_t what, uint64_t *numbers, size_t count);
+/* What flounder_use does for 1, 2, 6, 7, 8 and 9. */
+fl_answer flounder_put(uint8_t *handle, uint64_t *numbers, size_t count);
+fl_answer flounder_take(uint8_t *handle, uint64_t *numbers, size_t count);
+fl_answer flounder_call(uint8_t *handle, uint64_t *numbers, size_t count);
+fl_answer flounder_write(uint8_t *handle, uint64_t *numbers, size_t count);
+fl_answer flounder_receive(uint8_t *handle, uint64_t *numbers, size_t count);
+fl_answer flounder_read(uint8_t *handle, uint64_t *numbers, size_t count);
 void rattle_dealloc(void *at, size_t size, size_t align);
 
 /* Frees what a handle leads to, and its own block. */
@@ -90,17 +97,7 @@ static inline unsigned fl_duo(size_t slots, fl_side *one, fl_side *two)
 static inline unsigned fl_put(fl_side *side, uint64_t fragment[8])
 {
     if (!side || !side->at || !fragment) return FL_NULL;
-    return flounder_use(side->at, 1, fragment, 8).fault;
-}
-
-static inline unsigned fl_look_by(fl_side *side, uint32_t what, uint64_t fragment[8], unsigned *sight)
-{
-    if (!sight) return FL_NULL;
-    *sight = FL_NOTHING;
-    if (!side || !side->at || !fragment) return FL_NULL;
-    fl_answer answer = flounder_use(side->at, what, fragment, 8);
-    *sight = answer.what;
-    return answer.fault;
+    return flounder_put(side->at, fragment, 8).fault;
 }
 
 /* Takes what stands first. `*sight` says what that was: a fragment, which is written; one that only
@@ -108,13 +105,23 @@ static inline unsigned fl_look_by(fl_side *side, uint32_t what, uint64_t fragmen
  * before it is acknowledged: every put back does that, and `fl_tell`. */
 static inline unsigned fl_take(fl_side *side, uint64_t fragment[8], unsigned *sight)
 {
-    return fl_look_by(side, 2, fragment, sight);
+    if (!sight) return FL_NULL;
+    *sight = FL_NOTHING;
+    if (!side || !side->at || !fragment) return FL_NULL;
+    fl_answer answer = flounder_take(side->at, fragment, 8);
+    *sight = answer.what;
+    return answer.fault;
 }
 
 /* What `fl_take` would take, which is left there. */
 static inline unsigned fl_peek(fl_side *side, uint64_t fragment[8], unsigned *sight)
 {
-    return fl_look_by(side, 3, fragment, sight);
+    if (!sight) return FL_NULL;
+    *sight = FL_NOTHING;
+    if (!side || !side->at || !fragment) return FL_NULL;
+    fl_answer answer = flounder_use(side->at, 3, fragment, 8);
+    *sight = answer.what;
+    return answer.fault;
 }
 
 /* Acknowledges what was taken, where at least half of the slots are taken and not yet acknowledged; else
@@ -170,25 +177,20 @@ static inline unsigned fl_ends_of_image(const void *image, size_t length, size_t
 static inline unsigned fl_call(fl_end *end, uint64_t *call, size_t count)
 {
     if (!end || !end->at || !call) return FL_NULL;
-    return flounder_use(end->at, 6, call, count).fault;
-}
-
-static inline unsigned fl_ask_end(fl_end *end, uint32_t what, unsigned *came, uint64_t *count)
-{
-    if (!came) return FL_NULL;
-    *came = 0;
-    if (!end || !end->at) return FL_NULL;
-    fl_answer answer = flounder_use(end->at, what, (uint64_t *)8, 0);
-    *came = answer.what;
-    if (count) *count = answer.count;
-    return answer.fault;
+    return flounder_call(end->at, call, count).fault;
 }
 
 /* Puts the next fragment of the call in transmission, if there is one and it has room. `*left`, unless null,
  * says after FL_WROTE how many of the call's fragments follow; else 0. */
 static inline unsigned fl_write(fl_end *end, unsigned *came, uint64_t *left)
 {
-    return fl_ask_end(end, 7, came, left);
+    if (!came) return FL_NULL;
+    *came = FL_IDLE;
+    if (!end || !end->at) return FL_NULL;
+    fl_answer answer = flounder_write(end->at, (uint64_t *)8, 0);
+    *came = answer.what;
+    if (left) *left = answer.count;
+    return answer.fault;
 }
 
 /* Takes a fragment. FL_CALL: a call is whole, and is to be read before the next receive (else FL_UNREAD).
@@ -196,7 +198,12 @@ static inline unsigned fl_write(fl_end *end, unsigned *came, uint64_t *left)
  * earlier; 99: the fragment stays, receive again. */
 static inline unsigned fl_receive(fl_end *end, unsigned *came)
 {
-    return fl_ask_end(end, 8, came, 0);
+    if (!came) return FL_NULL;
+    *came = FL_EMPTY;
+    if (!end || !end->at) return FL_NULL;
+    fl_answer answer = flounder_receive(end->at, (uint64_t *)8, 0);
+    *came = answer.what;
+    return answer.fault;
 }
 
 /* Reads the call that was received: its message's number and its tape. `*count` says how many numbers these
@@ -205,7 +212,7 @@ static inline unsigned fl_receive(fl_end *end, unsigned *came)
 static inline unsigned fl_read(fl_end *end, uint64_t *call, size_t room, uint64_t *count)
 {
     if (!end || !end->at || !call || !count) return FL_NULL;
-    fl_answer answer = flounder_use(end->at, 9, call, room);
+    fl_answer answer = flounder_read(end->at, call, room);
     *count = answer.count;
     return answer.fault;
 }
@@ -221,7 +228,12 @@ static inline unsigned fl_reply_rule(fl_end *end, uint64_t message, uint64_t rep
 /* Whether a call is in transmission: 1 or 0. */
 static inline unsigned fl_is_busy(fl_end *end, unsigned *busy)
 {
-    return fl_ask_end(end, 11, busy, 0);
+    if (!busy) return FL_NULL;
+    *busy = 0;
+    if (!end || !end->at) return FL_NULL;
+    fl_answer answer = flounder_use(end->at, 11, (uint64_t *)8, 0);
+    *busy = answer.what;
+    return answer.fault;
 }
 
 /* As fl_tell, at the end's side: call it where nothing is to be written back. */
@@ -313,7 +325,7 @@ static inline unsigned fl_receive_run(fl_program *program, fl_receiver *run)
 static inline unsigned fl_start(fl_sender *run, uint64_t *call, size_t count)
 {
     if (!run || !run->at || !call) return FL_NULL;
-    return flounder_use(run->at, 6, call, count).fault;
+    return flounder_call(run->at, call, count).fault;
 }
 
 /* Writes the call's next fragment, on circuit 0 with epoch 0. `*sight` is FL_FRAGMENT, or FL_NOTHING behind the
@@ -345,7 +357,7 @@ static inline unsigned fl_feed(fl_receiver *run, uint64_t fragment[8], unsigned 
 static inline unsigned fl_read_fed(fl_receiver *run, uint64_t *call, size_t room, uint64_t *count)
 {
     if (!run || !run->at || !call || !count) return FL_NULL;
-    fl_answer answer = flounder_use(run->at, 9, call, room);
+    fl_answer answer = flounder_read(run->at, call, room);
     *count = answer.count;
     return answer.fault;
 }

@@ -1,8 +1,10 @@
 /* A ring of two directions in one thread: puts and takes from C, and the same loop within the archive, in
- * turn. Prints the medians of a put with its take, in ns, and their ratio. */
+ * turn. Prints the medians of a put with its take, in ns, and their ratio. `duo ours` does ten runs from C alone, whose
+ * instructions can be counted. */
 #include <flounder.h>
 #include <stdio.h>
 #include <stdlib.h>
+#include <string.h>
 #include <time.h>
 
 /* bench/ffi/flounder_bench.rattle */
@@ -59,8 +61,13 @@ static int by_size(const void *a, const void *b)
     return (x > y) - (x < y);
 }
 
-int main(void)
+int main(int argc, char **argv)
 {
+    if (argc > 1 && !strcmp(argv[1], "ours")) {
+        for (int run = 0; run < 10; run++)
+            if (!from_c()) return 1;
+        return 0;
+    }
     double c[RUNS], rattle[RUNS], each = 2.0 * ROUNDS * BATCH;
     for (int run = 0; run < RUNS; run++) {
         double start = now();

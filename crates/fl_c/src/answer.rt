@@ -84,7 +84,7 @@ pub struct Answered {
 
 impl UseFault {
     /// The fault's number.
-    #[inline]
+    #[inline(always)]
     pub fn number(self) -> u32
         ensures number { result ≡ fault_of self }
     {
@@ -99,7 +99,7 @@ impl UseFault {
     }
 
     /// How many numbers are wanted, where there are too few.
-    #[inline]
+    #[inline(always)]
     pub fn wanted(self) -> u64
         ensures wanted { result ≡ wanted_of self }
     {
@@ -112,7 +112,7 @@ impl UseFault {
 
 impl Outcome {
     /// Its number, among what the operation may come to.
-    #[inline]
+    #[inline(always)]
     pub fn what(self) -> u32
         ensures what { result ≡ what_of self }
     {
@@ -131,7 +131,7 @@ impl Outcome {
     }
 
     /// How many numbers there are to read, or fragments left.
-    #[inline]
+    #[inline(always)]
     pub fn count(self) -> u64
         ensures count { result ≡ count_of self }
     {
@@ -149,7 +149,7 @@ impl Outcome {
 
 impl Answered {
     /// The numbers of what an operation came to.
-    #[inline]
+    #[inline(always)]
     pub fn of(outcome: Result<Outcome, UseFault>) -> Answered
         ensures numbers { result ≡ answer_of outcome }
     {

@@ -100,6 +100,7 @@ impl HeldEnd {
     /// # Errors
     /// There is no number (103); no such message (41); the tape is that of no fitting call (42); and those of
     /// `End::call`.
+    #[inline(never)]
     pub fn call(&mut self, numbers: &[u64]) -> Result<Outcome, UseFault>
         ensures calls { CallsBy self.old numbers.now result self.new }
     {
@@ -114,6 +115,7 @@ impl HeldEnd {
     ///
     /// # Errors
     /// Those of `End::write`.
+    #[inline(never)]
     pub fn write(&mut self) -> Result<Outcome, UseFault>
         ensures writes { WritesBy self.old result self.new }
     {
@@ -132,6 +134,7 @@ impl HeldEnd {
     ///
     /// # Errors
     /// A call is to be read first (105); those of `End::receive`.
+    #[inline(never)]
     pub fn receive(&mut self) -> Result<Outcome, UseFault>
         ensures receives { ReceivesBy self.old result self.new }
     {
@@ -142,6 +145,7 @@ impl HeldEnd {
     }
 
     // Takes what stands first, where no call is unread.
+    #[inline(always)]
     fn receive_next(&mut self) -> Result<Outcome, UseFault>
         requires read { self.old.handled ≡ None }
         ensures receives { ReceivesNext self.old result self.new }
@@ -157,6 +161,7 @@ impl HeldEnd {
     /// # Errors
     /// There are too few numbers (103), and the answer tells how many are wanted; out of memory (99). The call
     /// stays then.
+    #[inline(never)]
     pub fn read(&mut self, room: &mut [u64]) -> Result<Outcome, UseFault>
         ensures reads { ReadsBy self.old room.old result self.new room.new }
     {
@@ -221,7 +226,7 @@ impl HeldEnd {
 ///
 /// # Errors
 /// Those of the operation; an end has no such operation (101).
-#[inline(never)]
+#[inline(always)]
 pub fn use_end(
     end: &mut HeldEnd,
     operation: Operation,

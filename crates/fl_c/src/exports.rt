@@ -5,6 +5,7 @@ ghost use types.Logic.{sem};
 ghost use Rattle.std.specs.Ptr.{points_to};
 ghost use Rattle.fl_ring.specs.Duo.{MayHaveSlots};
 ghost use Rattle.fl_c.specs.Handles.{Uses, HandsRun};
+ghost use Rattle.fl_c.specs.Making.{plan_at, AnswersTextEnds, AnswersImageEnds, AnswersTextProgram, AnswersImageProgram};
 ghost use Rattle.fl_c.specs.contracts.handle.Handle.{the_row};
 
 use crate::answer::{Answered, Outcome, UseFault};
@@ -78,7 +79,9 @@ fn hand_out(
 }
 
 // The plan of a number.
-fn plan_of(number: u32) -> Option<PlanNo> {
+fn plan_of(number: u32) -> Option<PlanNo>
+    ensures exact { result ≡ plan_at number }
+{
     match number {
         1 => Some(PlanNo::One),
         2 => Some(PlanNo::Two),
@@ -100,6 +103,7 @@ pub extern "C" fn flounder_make_text_ends(
     two: &mut *mut u8,
     place: &mut u64,
 ) -> u32
+    ensures answers { AnswersTextEnds (plan_at plan) text.now slots result place.old place.new }
     ensures kept { result ≢ 0 → (one.new ≡ one.old) × (two.new ≡ two.old) }
 {
     let Some(plan) = plan_of(plan) else {
@@ -129,6 +133,7 @@ pub extern "C" fn flounder_make_image_ends(
     one: &mut *mut u8,
     two: &mut *mut u8,
 ) -> u32
+    ensures answers { AnswersImageEnds image.now slots result }
     ensures kept { result ≢ 0 → (one.new ≡ one.old) × (two.new ≡ two.old) }
 {
     match image_ends(alloc, image, slots) {
@@ -152,6 +157,7 @@ pub extern "C" fn flounder_make_text_program(
     program: &mut *mut u8,
     place: &mut u64,
 ) -> u32
+    ensures answers { AnswersTextProgram (plan_at plan) text.now result place.old place.new }
     ensures kept { result ≢ 0 → program.new ≡ program.old }
 {
     let Some(plan) = plan_of(plan) else {
@@ -177,6 +183,7 @@ pub extern "C" fn flounder_make_image_program(
     image: &[u8],
     program: &mut *mut u8,
 ) -> u32
+    ensures answers { AnswersImageProgram image.now result }
     ensures kept { result ≢ 0 → program.new ≡ program.old }
 {
     match image_program(alloc, image) {
@@ -190,7 +197,7 @@ pub extern "C" fn flounder_make_image_program(
 
 // A run of what a handle leads to, for C.
 fn make_run(handle: &mut Handle, kind: u32, run: &mut *mut u8) -> Answered
-    ensures hands { HandsRun handle.old run.old result handle.new run.new }
+    ensures hands { HandsRun handle.old kind run.old result handle.new run.new }
 {
     let Handle::Program(program) = handle else {
         return Answered::of(Err(UseFault::NoSuchOperation));
@@ -214,13 +221,14 @@ pub unsafe extern "C" fn flounder_make_run(
 ) -> Answered
     ghost before: { Handle }
     requires* { sem 𝓛 (points_to the_row handle before) }
-    ensures* { ∃ₛ (λ (after : Handle). sem 𝓛 (points_to the_row handle after) ∗ ⌜ HandsRun before run.old result after run.new ⌝) }
+    ensures* { ∃ₛ (λ (after : Handle). sem 𝓛 (points_to the_row handle after) ∗ ⌜ HandsRun before kind run.old result after run.new ⌝) }
 {
     make_run(&mut *(handle as *mut Handle), kind, run)
 }
 
 /// Does the operation of this number at a handle, on these numbers ([`use_handle`]). The handle still owns
 /// what it leads to.
+#[inline(always)]
 #[unsafe(no_mangle)]
 pub unsafe extern "C" fn flounder_use(handle: *mut u8, what: u32, numbers: &mut [u64]) -> Answered
     ghost before: { Handle }

@@ -82,22 +82,23 @@ pub fn new_run(program: &HeldProgram, kind: u32) -> Result<Handle, UseFault>
 }
 
 /// Does the operation of this number at a handle, on these numbers, and answers by numbers. 5 frees
-/// what the handle leads to, but for the handle's own block, and answers its alignment and size.
-#[inline]
+/// what the handle leads to, but for the handle's own block, and answers its alignment and size. In line, so that
+/// an export of one operation alone has nothing of the others.
+#[inline(always)]
 pub fn use_handle(handle: &mut Handle, what: u32, numbers: &mut [u64]) -> Answered
     ensures uses { Uses handle.old what numbers.old result handle.new numbers.new }
 {
     Answered::of(attempt(handle, what, numbers))
 }
 
-#[inline]
+#[inline(always)]
 fn attempt(handle: &mut Handle, what: u32, numbers: &mut [u64]) -> Result<Outcome, UseFault>
     ensures frees { what ≡ 5 → Frees numbers.old result handle.new numbers.new }
     ensures uses { what ≢ 5 → UsesKind (operation_at what) handle.old numbers.old result handle.new numbers.new }
 {
     if what == FREE {
         *handle = Handle::Ended;
-        let align = u32::try_from(align_of::<Handle>()).unwrap_or(8);
+        let align = align_of::<Handle>() as u32;
         let size = size_of::<Handle>() as u64;
         return Ok(Outcome::Freed { align, size });
     }

@@ -1,11 +1,11 @@
 //! The proved parts as C functions: exports over one type of handle.
 //!
-//! C makes handles (`flounder_make`) and asks operations of them by number (`flounder_use`). Each operation
-//! is an ordinary function here, whose contract says exactly what it does (`specs/Sides.antt`); what a
-//! caller can get wrong is answered by a number of 100 or more, and nothing is done. `ffi/flounder.h` has a C
-//! function for each operation.
+//! C makes handles (`flounder_make`) and asks operations of them by number (`flounder_use`), or by name
+//! (`flounder_put`). Each operation is an ordinary function here, whose contract says exactly what it does
+//! (`specs/Sides.antt`); what a caller can get wrong is answered by a number of 100 or more, and nothing is done.
+//! `ffi/flounder.h` has a C function for each operation.
 //!
-//! - `exports.rt`: what C calls
+//! - `exports.rt`: what C calls; `shortcuts.rt`: what it calls most often
 //! - `handle.rt`: what a handle leads to
 //! - `sending.rt`: handles may go to other threads
 //! - `operation.rt`: the operations, by number
@@ -28,6 +28,7 @@ mod program;
 mod receiver;
 mod sender;
 mod sending;
+mod shortcuts;
 mod side;
 #[cfg(test)]
 mod tests;
@@ -45,4 +46,7 @@ pub use program::HeldProgram;
 pub use receiver::{HeldReceiver, use_receiver};
 pub use sender::{HeldSender, use_sender};
 pub use sending::law_handles_go_to_threads;
+pub use shortcuts::{
+    flounder_call, flounder_put, flounder_read, flounder_receive, flounder_take, flounder_write,
+};
 pub use side::{peek, put, take, tell, use_side};

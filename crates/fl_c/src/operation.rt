@@ -38,7 +38,7 @@ pub enum Operation {
 
 impl Operation {
     /// The operation of this number.
-    #[inline]
+    #[inline(always)]
     pub fn at(number: u32) -> Option<Operation>
         ensures exact { result ≡ operation_at number }
     {

@@ -43,7 +43,7 @@ pub(crate) fn write(numbers: &mut [u64], frag: &Frag)
 /// # Errors
 /// There are other than eight numbers (103); the fragment only acknowledges (63); too few slots are free (30);
 /// the ring has carried all that it ever will (33).
-#[inline]
+#[inline(always)]
 pub fn put(side: &mut SharedSide, numbers: &[u64]) -> Result<Outcome, UseFault>
     ensures puts { Puts side.old numbers.now result side.new }
 {
@@ -64,7 +64,7 @@ pub fn put(side: &mut SharedSide, numbers: &[u64]) -> Result<Outcome, UseFault>
 ///
 /// # Errors
 /// There is other room than for eight numbers (103).
-#[inline]
+#[inline(always)]
 pub fn take(side: &mut SharedSide, numbers: &mut [u64]) -> Result<Outcome, UseFault>
     ensures takes { Takes side.old numbers.old result side.new numbers.new }
 {
@@ -121,7 +121,7 @@ pub fn tell(side: &mut SharedSide) -> Result<Outcome, UseFault>
 ///
 /// # Errors
 /// Those of the operation; a side has no such operation (101).
-#[inline]
+#[inline(always)]
 pub fn use_side(
     side: &mut SharedSide,
     operation: Operation,

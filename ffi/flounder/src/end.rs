@@ -1,7 +1,10 @@
 //! Ends of a binding.
 
 use crate::fault::{Fault, TextFault};
-use crate::handle::{flounder_make_image_ends, flounder_make_text_ends, Handle};
+use crate::handle::{
+    flounder_call, flounder_make_image_ends, flounder_make_text_ends, flounder_read,
+    flounder_receive, flounder_write, Handle,
+};
 use core::ptr;
 
 /// Which of the two plans lays calls out.
@@ -106,7 +109,7 @@ impl End {
     /// # Errors
     /// [`Fault::UnknownMessage`], [`Fault::Misfit`], [`Fault::Busy`], [`Fault::Failed`], [`Fault::Memory`].
     pub fn call(&mut self, call: &mut [u64]) -> Result<(), Fault> {
-        self.handle.ask(6, call)?;
+        self.handle.ask_by(flounder_call, call)?;
         Ok(())
     }
 
@@ -115,7 +118,7 @@ impl End {
     /// # Errors
     /// [`Fault::Spent`], [`Fault::Failed`].
     pub fn write(&mut self) -> Result<Written, Fault> {
-        Ok(match self.handle.ask(7, &mut [])? {
+        Ok(match self.handle.ask_by(flounder_write, &mut [])? {
             (0, _) => Written::Nothing,
             (1, left) => Written::Fragment { left },
             _ => Written::Full,
@@ -127,7 +130,7 @@ impl End {
     /// # Errors
     /// [`Fault::Unread`], [`Fault::Failed`], [`Fault::Memory`]: then ask again.
     pub fn receive(&mut self) -> Result<Received, Fault> {
-        Ok(match self.handle.ask(8, &mut [])? {
+        Ok(match self.handle.ask_by(flounder_receive, &mut [])? {
             (0, _) => Received::Empty,
             (1, _) => Received::Part,
             (2, _) => Received::Acknowledgement,
@@ -142,7 +145,7 @@ impl End {
     /// # Errors
     /// [`Fault::ShortRoom`], [`Fault::Memory`]: the call stays.
     pub fn read<'a>(&mut self, room: &'a mut [u64]) -> Result<Option<&'a [u64]>, Fault> {
-        match self.handle.ask(9, room)? {
+        match self.handle.ask_by(flounder_read, room)? {
             (1, count) => Ok(room.get(..count as usize)),
             _ => Ok(None),
         }

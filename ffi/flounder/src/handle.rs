@@ -43,8 +43,17 @@ extern "C" {
     ) -> u32;
     fn flounder_make_run(program: *mut u8, kind: u32, run: &mut *mut u8) -> Answer;
     fn flounder_use(handle: *mut u8, what: u32, numbers: *mut u64, count: usize) -> Answer;
+    pub(crate) fn flounder_put(handle: *mut u8, numbers: *mut u64, count: usize) -> Answer;
+    pub(crate) fn flounder_take(handle: *mut u8, numbers: *mut u64, count: usize) -> Answer;
+    pub(crate) fn flounder_call(handle: *mut u8, numbers: *mut u64, count: usize) -> Answer;
+    pub(crate) fn flounder_write(handle: *mut u8, numbers: *mut u64, count: usize) -> Answer;
+    pub(crate) fn flounder_receive(handle: *mut u8, numbers: *mut u64, count: usize) -> Answer;
+    pub(crate) fn flounder_read(handle: *mut u8, numbers: *mut u64, count: usize) -> Answer;
     fn rattle_dealloc(at: *mut u8, size: usize, align: usize);
 }
+
+/// An operation that the archive has by a name too.
+pub(crate) type Operation = unsafe extern "C" fn(*mut u8, *mut u64, usize) -> Answer;
 
 /// A handle that nobody else has.
 #[derive(Debug)]
@@ -87,6 +96,19 @@ impl Handle {
         // SAFETY: the handle is ours alone and not freed, and the numbers are a slice's.
         let answer =
             unsafe { flounder_use(self.at.as_ptr(), what, numbers.as_mut_ptr(), numbers.len()) };
+        Fault::of(answer.fault, answer.count)?;
+        Ok((answer.what, answer.count))
+    }
+
+    /// The same of an operation that has a name: one of those above.
+    #[inline]
+    pub(crate) fn ask_by(
+        &mut self,
+        operation: Operation,
+        numbers: &mut [u64],
+    ) -> Result<(u32, u64), Fault> {
+        // SAFETY: as of `ask`.
+        let answer = unsafe { operation(self.at.as_ptr(), numbers.as_mut_ptr(), numbers.len()) };
         Fault::of(answer.fault, answer.count)?;
         Ok((answer.what, answer.count))
     }

@@ -2,7 +2,9 @@
 
 use crate::end::Plan;
 use crate::fault::{Fault, TextFault};
-use crate::handle::{flounder_make_image_program, flounder_make_text_program, Handle};
+use crate::handle::{
+    flounder_call, flounder_make_image_program, flounder_make_text_program, flounder_read, Handle,
+};
 use crate::side::Fragment;
 use core::ptr;
 
@@ -116,7 +118,7 @@ impl Sender {
     /// [`Fault::Busy`]: fragments of another are left. [`Fault::UnknownMessage`], [`Fault::Misfit`],
     /// [`Fault::Memory`].
     pub fn start(&mut self, call: &mut [u64]) -> Result<(), Fault> {
-        self.handle.ask(6, call)?;
+        self.handle.ask_by(flounder_call, call)?;
         Ok(())
     }
 }
@@ -152,7 +154,7 @@ impl Receiver {
     /// # Errors
     /// [`Fault::ShortRoom`], [`Fault::Memory`]: the call stays.
     pub fn read<'a>(&mut self, room: &'a mut [u64]) -> Result<Option<&'a [u64]>, Fault> {
-        match self.handle.ask(9, room)? {
+        match self.handle.ask_by(flounder_read, room)? {
             (1, count) => Ok(room.get(..count as usize)),
             _ => Ok(None),
         }

@@ -1,7 +1,7 @@
 //! Sides of rings.
 
 use crate::fault::Fault;
-use crate::handle::{flounder_make, Handle};
+use crate::handle::{flounder_make, flounder_put, flounder_take, Handle};
 use core::ptr;
 
 /// Seven words and a control word, whose bits 0 and 48 to 63 the ring writes anew.
@@ -36,35 +36,39 @@ pub fn duo(slots: usize) -> Result<(Side, Side), Fault> {
     Ok((Side { handle: one }, Side { handle: two }))
 }
 
-impl Side {
-    fn look(&mut self, what: u32) -> Sight {
-        let mut fragment = [0; 8];
-        match self.handle.ask(what, &mut fragment) {
-            Ok((1, _)) => Sight::Data(fragment),
-            Ok((2, _)) => Sight::Acknowledgement,
-            _ => Sight::Empty,
-        }
+/// What a look came to, which wrote a fragment's numbers if it found one.
+fn sight(answer: Result<(u32, u64), Fault>, fragment: Fragment) -> Sight {
+    match answer {
+        Ok((1, _)) => Sight::Data(fragment),
+        Ok((2, _)) => Sight::Acknowledgement,
+        _ => Sight::Empty,
     }
+}
 
+impl Side {
     /// Puts a fragment.
     ///
     /// # Errors
     /// [`Fault::Full`], [`Fault::Spent`]; [`Fault::Failed`] (E63) where the fragment only acknowledges.
     pub fn put(&mut self, fragment: &Fragment) -> Result<(), Fault> {
         let mut numbers = *fragment;
-        self.handle.ask(1, &mut numbers)?;
+        self.handle.ask_by(flounder_put, &mut numbers)?;
         Ok(())
     }
 
     /// Takes what stands first. Its slot is free for the other side once it is acknowledged: by a put back,
     /// or by [`Side::tell`].
     pub fn take(&mut self) -> Sight {
-        self.look(2)
+        let mut fragment = [0; 8];
+        let answer = self.handle.ask_by(flounder_take, &mut fragment);
+        sight(answer, fragment)
     }
 
     /// What [`Side::take`] would take, which is left there.
     pub fn peek(&mut self) -> Sight {
-        self.look(3)
+        let mut fragment = [0; 8];
+        let answer = self.handle.ask(3, &mut fragment);
+        sight(answer, fragment)
     }
 
     /// Acknowledges what was taken, where at least half of the slots are taken and not acknowledged; says

@@ -74,14 +74,14 @@ flounder_make_run_spec 𝓤 𝓛 𝓜 𝓡 wired =
     calls_at ! (framed 𝓤 𝓛.H 𝓜 (tables 𝓤 𝓛.H 𝓜 𝓡 𝓡.env)) G (met 𝓤 𝓛 𝓜 𝓡 (code.calls-fl_c::exports::make_run 𝓡.env wired)) z
     (and_then ! (get ! refl) (and_then ! (get ! refl) (and_then ! (get ! refl) (no_more !)))) (λ v.
     use1 𝓛 (later (some (λ (r : A.Denot). ((‵ (flft κ' full_share) ⊛ ‵ (flft κ q) ⊛ ‵ ftrue) ⊛ ‵ (A.own_val r (v ∷ []))) ⊛
-    some (λ (ws : Lasts g.ended z.0.0 z.0.3). ‵ (lasts g.ended z.0.0 z.0.3 ws) ⊛ raw (fact 𝓤 (HandsRun before s.now r ws.0 ws.1.1.0)))))) (id⊢ 𝓤 _) $
+    some (λ (ws : Lasts g.ended z.0.0 z.0.3). ‵ (lasts g.ended z.0.0 z.0.3 ws) ⊛ raw (fact 𝓤 (HandsRun before what s.now r ws.0 ws.1.1.0)))))) (id⊢ 𝓤 _) $
     await ! tt $ pick ! (λ r. split ! $ move ! (1 ∷ []) $ pick ! (λ ws. split ! $ move ! (1 ∷ []) $ heard ! _ (λ did.
     fsplit ! $ fsplit ! $ move ! (1 ∷ []) $ drop ! $ move ! (1 ∷ []) $ fsplit ! $ drop ! $ fsplit ! $
     -- [the pointer's last; nothing; the loan's last; the tokens and the result; the lender's part]
     move ! (3 ∷ []) $ split ! $ split ! $ lft_end ! tt $ move ! (0 ∷ 6 ∷ 5 ∷ []) $ use3 𝓛 (later (‵ (part_at R full_share ws.0 b o))) (ref_back 𝓛 R κ' γ ws.0 b o) $ await ! tt $
-    use0 𝓛 (raw (fact 𝓤 (HandsRun before s.now r ws.0 ws.1.1.0))) (fact_i 𝓤 (HandsRun before s.now r ws.0 ws.1.1.0) (emp 𝓤) did) $ move ! (1 ∷ []) $ join ! $
-    use1 𝓛 (some (λ (x : R.Denot). ‵ (part_at R full_share x b o) ⊛ raw (fact 𝓤 (HandsRun before s.now r x ws.1.1.0))))
-    (ex_i 𝓤 (λ (x : R.Denot). sep 𝓤 (sem 𝓛 (part_at R full_share x b o)) (fact 𝓤 (HandsRun before s.now r x ws.1.1.0))) ws.0) $
+    use0 𝓛 (raw (fact 𝓤 (HandsRun before what s.now r ws.0 ws.1.1.0))) (fact_i 𝓤 (HandsRun before what s.now r ws.0 ws.1.1.0) (emp 𝓤) did) $ move ! (1 ∷ []) $ join ! $
+    use1 𝓛 (some (λ (x : R.Denot). ‵ (part_at R full_share x b o) ⊛ raw (fact 𝓤 (HandsRun before what s.now r x ws.1.1.0))))
+    (ex_i 𝓤 (λ (x : R.Denot). sep 𝓤 (sem 𝓛 (part_at R full_share x b o)) (fact 𝓤 (HandsRun before what s.now r x ws.1.1.0))) ws.0) $
     -- [what lies there, and what was done; the token of κ; the result; the pointer's last; nothing]
     move ! (2 ∷ []) $ peeks ! A (Is A) (shows 𝓛 A) r (v ∷ []) (λ is. lands_as ! refl refl ((answer_laws.lawful 𝓛).typed r (v ∷ []) is).0 $
     returns ! (look_at ! 0 refl) $ free_all ! refl $
