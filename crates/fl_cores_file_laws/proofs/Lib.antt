@@ -5,3 +5,17 @@ pub mod Making
 pub mod Binding
 pub mod Lines
 pub mod Texts
+pub mod Lists
+pub mod Adding
+pub mod Changes
+pub mod Uses
+pub mod Standing
+pub mod Numbers
+pub mod Joining
+pub mod BoundKinds
+pub mod Seated
+pub mod Asking
+pub mod Requests
+pub mod Accepted
+pub mod OfLines
+pub mod AtEnds

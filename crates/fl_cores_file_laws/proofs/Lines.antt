@@ -43,7 +43,7 @@ does_agrees (bind client i name (by_ring size)) d s h e = bind_agrees client i n
 does_agrees (bind client i name (by_route route)) d s h e = absurd (cc)
 does_agrees v d s h e = absurd (cc)
 
-same_answer : (v : Event) (s : State) → (step s v).answer ≡ (does v s).answer
+pub same_answer : (v : Event) (s : State) → (step s v).answer ≡ (does v s).answer
 same_answer (add_interface i plan) s = refl
 same_answer v s = refl
 
@@ -388,6 +388,10 @@ line_fits v c d h is = absurd (cc)
 lines_fit : (lines : List Event) (d : Draft) → ComeTo lines d → Fits d
 lines_fit [] d is = subst Fits (sym is) nothing_fits
 lines_fit (v ∷ lines) d (c, before, is) = line_fits v c d (lines_fit lines c before) is
+
+-- so the machine behind the draft is what the draft mirrors
+pub mirrored : (lines : List Event) (d : Draft) → ComeTo lines d → Mirrors d (view_of (behind d))
+mirrored lines d come = let h = lines_fit lines d come in let x = h.fits d.cores (λ e. refl) in x.mirrors
 
 -- ---- the law
 

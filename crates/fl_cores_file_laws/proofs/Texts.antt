@@ -8,7 +8,7 @@ use Rattle.fl_script_lines.specs.Commands.{Command}
 use Rattle.fl_script_lines.specs.Grammar.{silent, heading, command, unread}
 use Rattle.fl_script_lines.specs.Items.{Item, a_line, a_block, open_block, is_too_long}
 use Rattle.fl_script_lines.specs.Names.{Names}
-use Rattle.fl_cores_file.specs.CoresFile.{Reading, FileOutcome, is_file, refused_at, beginning, belongs, named_by, does, does_block, DoesCommand, Does}
+use Rattle.fl_cores_file.specs.CoresFile.{Reading, CoresFile, file_of, Reads, FileOutcome, is_file, refused_at, beginning, belongs, named_by, does, does_block, DoesCommand, Does}
 use Rattle.fl_cores_file.specs.CoresFile.{lines_in, Behind, Follows, ReadsFrom}
 use Rattle.fl_cores_file.specs.Draft.{Draft, takes}
 use Rattle.fl_cores_file.specs.Verdicts.{LineVerdict, stops, goes_on}
@@ -16,7 +16,7 @@ use Rattle.fl_cores_file_laws.specs.SetUps.{ComeTo, Passes, FilesPass}
 use Rattle.fl_cores_file_laws.proofs.Lines.{the_machines}
 
 -- some lines came to this draft
-abbrev IsReached : Draft → Type 0
+abbrev pub IsReached : Draft → Type 0
 IsReached d = (lines : List Event) × ComeTo lines d
 
 abbrev StaysRead : LineVerdict Reading → Type 0
@@ -69,3 +69,31 @@ files_pass text file reads = by (is_too_long text) reads where
   by : (t : Bool) → MatchBool t (is_file file ≡ refused_at 1 91) (ReadsFrom beginning 1 text (is_file file)) → Passes file.cores file.setup
   by true is = let same : is_file file ≡ refused_at 1 91 = is in absurd (cc)
   by false (items, spelled, follows) = items_pass items 1 beginning (is_file file) ([], refl) follows
+
+-- ---- the reading of a file
+
+pub record IsFrom (file : CoresFile) : Type 0 where
+  pub reading : Reading
+  pub reached : IsReached reading.draft
+  pub is : file ≡ file_of reading
+
+abbrev ComesFrom : FileOutcome → Type 0
+ComesFrom (is_file file) = IsFrom file
+ComesFrom (refused_at line number) = Unit {0}
+
+from_behind : (line : ℕ) (v : LineVerdict Reading) (further : Reading → FileOutcome → Type 0) (o : FileOutcome) → StaysRead v
+    → ((r : Reading) (a : FileOutcome) → IsReached r.draft → further r a → ComesFrom a) → Behind line v further o → ComesFrom o
+from_behind line (stops fault) further o h more is = subst ComesFrom (sym is) tt
+from_behind line (goes_on r) further o h more is = more r o h is
+
+items_from : (items : List Item) (line : ℕ) (r : Reading) (o : FileOutcome) → IsReached r.draft → Follows items line r o → ComesFrom o
+items_from [] line r o h is = subst ComesFrom (sym is) (record { reading = r; reached = h; is = refl })
+items_from (item ∷ items) line r o h (v, does_it, is) =
+    from_behind line v (Follows items (line + lines_in item)) o (item_stays r item v h does_it)
+    (items_from items (line + lines_in item)) is
+
+pub file_from : (text : List ℕ) (file : CoresFile) → Reads text (is_file file) → IsFrom file
+file_from text file reads = by (is_too_long text) reads where
+  by : (t : Bool) → MatchBool t (is_file file ≡ refused_at 1 91) (ReadsFrom beginning 1 text (is_file file)) → IsFrom file
+  by true is = let same : is_file file ≡ refused_at 1 91 = is in absurd (cc)
+  by false (items, spelled, follows) = items_from items 1 beginning (is_file file) ([], refl) follows

@@ -1,1 +1,4 @@
 pub mod SetUps
+pub mod JobsJoin
+pub mod OfLines
+pub mod AtEnds

@@ -14,8 +14,8 @@ use Rattle.fl_cores_file.specs.Verdicts.{LineVerdict, stops, goes_on}
 
 -- ---- lines
 
--- a line asks for something that is set up before the cores run, beside their number: an interface, a link,
--- a dispatcher, a service, or a binding by queues or by a ring
+-- a line sets something up before the cores run: an interface, a link, a dispatcher, a service, or a binding
+-- by queues or by a ring; the number of cores is a matter of its own
 abbrev pub sets_up : Event → Bool
 sets_up (add_interface i plan) = true
 sets_up (add_link a b size) = true
@@ -55,8 +55,8 @@ abbrev pub is_binding : Event → Bool
 is_binding (bind client i name kind) = true
 is_binding event = false
 
--- a binding is refused since there are 1,024 (E94), those among them that jobs open, of which the machine
--- knows nothing yet; its names are right
+-- a binding is refused since there are 1,024 already (E94); jobs open some of these, and the machine doesn't
+-- have them yet. The machine doesn't refuse the binding for its names (E92)
 pub record IsOneTooMany (v : Event) (d : Draft) : Type 0 where
   pub binding : is_binding v ≡ true
   pub too_many : most_bindings ≤ length d.bindings
