@@ -1,9 +1,9 @@
 //! Cores on threads: `flounder cores` beside a plain program that runs the same files with the same rings and turns, a thread for each core.
 //!
 //! `cargo run --release -- FLOUNDER` runs all kinds of files with the built program FLOUNDER; a word behind it (`ring`, `circuit`, `hops`, `rule`) runs one.
-//! Each run is a process: the sides take turns, each first as often as the others, and have to write the same report. The time of the turns is that of a
-//! whole run less that of a run of the same file without turns, which reads it and wires the cores. With the word `instructions` those of turns over a ring
-//! are counted in place of time, by valgrind.
+//! Each run is a process: the sides take turns, each first as often as the others, and have to write the same report. A run's time ends with its report: one
+//! that is recorded makes a script behind that. The time of the turns is that of a whole run less that of a run of the same file without turns, which reads it
+//! and wires the cores. With the word `instructions` those of turns over a ring are counted in place of time, by valgrind.
 
 #[allow(dead_code)]
 #[path = "../../calls/src/plain.rs"]
@@ -37,8 +37,9 @@ use files::{KINDS, Kind};
 use run::Plan;
 use std::env;
 use std::fs;
+use std::io::Read;
 use std::path::{Path, PathBuf};
-use std::process::{Command, exit};
+use std::process::{Command, Stdio, exit};
 use std::time::Instant;
 
 /// How many calls a file has, and how often each side runs it: short runs, since other work on the machine takes a thread its processor now and then, and
@@ -52,9 +53,13 @@ const MANY: u64 = 1_000_000_000_000;
 /// How often a plain core pauses that found nothing to do.
 const PAUSES: [u64; 2] = [0, 20];
 
+/// The last line of a report.
+const ENDS: [&[u8]; 2] = [b"complete\n", b"turns out\n"];
+
 /// A program that runs cores files.
 enum Side {
     Proved(PathBuf),
+    Recorded(PathBuf),
     Plain(u64),
 }
 
@@ -62,6 +67,7 @@ impl Side {
     fn name(&self) -> String {
         match self {
             Side::Proved(_) => "flounder".to_string(),
+            Side::Recorded(_) => "recorded".to_string(),
             Side::Plain(0) => "plain".to_string(),
             Side::Plain(pauses) => format!("plain, {pauses} pauses"),
         }
@@ -74,6 +80,11 @@ impl Side {
                 command.arg("cores").arg(file).args(["--turns".to_string(), turns.to_string()]);
                 command
             }
+            Side::Recorded(program) => {
+                let mut command = Side::Proved(program.clone()).command(file, turns);
+                command.arg("--script").arg(file.with_extension("flounder"));
+                command
+            }
             Side::Plain(pauses) => {
                 let mut command = Command::new(env::current_exe().expect("this program"));
                 command.arg("plain").arg(file).args([turns.to_string(), pauses.to_string()]);
@@ -82,11 +93,21 @@ impl Side {
         }
     }
 
-    // The milliseconds of a run, and its report.
+    // The milliseconds until a run's report was written, and the report.
     fn run(&self, file: &Path, turns: u64) -> (f64, Vec<u8>) {
         let start = Instant::now();
-        let output = self.command(file, turns).output().expect("the program runs");
-        (start.elapsed().as_secs_f64() * 1e3, output.stdout)
+        let mut child = self.command(file, turns).stdout(Stdio::piped()).stderr(Stdio::null()).spawn().expect("the program runs");
+        let mut output = child.stdout.take().expect("its output");
+        let (mut report, mut part) = (Vec::new(), [0; 65_536]);
+        while !ENDS.iter().any(|end| report.ends_with(end)) {
+            match output.read(&mut part).expect("its report") {
+                0 => break,
+                count => report.extend_from_slice(&part[..count]),
+            }
+        }
+        let time = start.elapsed().as_secs_f64() * 1e3;
+        child.wait().expect("its end");
+        (time, report)
     }
 }
 
@@ -125,7 +146,7 @@ fn round(sides: &[Side], file: &Path, first: usize, times: &mut [Times]) {
 
 fn sides(program: &Path, pauses: &[u64]) -> Vec<Side> {
     let plain = pauses.iter().map(|pauses| Side::Plain(*pauses));
-    [Side::Proved(program.to_path_buf())].into_iter().chain(plain).collect()
+    [Side::Proved(program.to_path_buf()), Side::Recorded(program.to_path_buf())].into_iter().chain(plain).collect()
 }
 
 // A file of this kind, for as long as it is needed.
@@ -133,7 +154,8 @@ fn with_file(kind: &Kind, run: impl FnOnce(&Path)) {
     let file = env::temp_dir().join(format!("threads-bench-{}.cores", kind.word));
     fs::write(&file, (kind.text)(CALLS)).expect("a file");
     run(&file);
-    fs::remove_file(file).expect("the file");
+    fs::remove_file(&file).expect("the file");
+    let _ = fs::remove_file(file.with_extension("flounder"));
 }
 
 // The least times of each side, and the middle ones; each time with the ratio of it and ours.
@@ -182,8 +204,8 @@ const STRETCHES: [(&str, u64, u64); 2] = [
 
 fn count_instructions(program: &Path, file: &Path) {
     for (name, from, to) in STRETCHES {
-        let counts = sides(program, &[0]).iter().map(|side| instructions(side, file, to) - instructions(side, file, from)).collect::<Vec<f64>>();
-        let [ours, theirs] = [0, 1].map(|side| counts[side] / (2 * (to - from)) as f64);
+        let sides = [Side::Proved(program.to_path_buf()), Side::Plain(0)];
+        let [ours, theirs] = sides.map(|side| (instructions(&side, file, to) - instructions(&side, file, from)) / (2 * (to - from)) as f64);
         println!("{name}: proved {ours:5.0} instructions, plain {theirs:5.0}, ratio {:.2}", theirs / ours);
     }
 }

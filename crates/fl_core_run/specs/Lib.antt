@@ -8,5 +8,6 @@ pub mod OpeningStatus
 pub mod Finished
 pub mod Ran
 pub mod Stops
+pub mod Single
 -- This one only the proofs need.
 pub mod Inside

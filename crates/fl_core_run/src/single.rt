@@ -1,8 +1,10 @@
 //! What a turn is made of, one by one; and a core over other sides.
 
-ghost use Rattle.std.specs.Prelude.{◌≡◌, Some, IfSome, OnOk};
-ghost use Rattle.fl_core_run.specs.Run.{ways, run_of, over, next_job, lent_link_side, lent_post, lent_due};
+ghost use Rattle.std.specs.Prelude.{◌≡◌, OnOk, OnErr};
+ghost use Rattle.fl_core_run.specs.Run.{ways, run_of, over, next_job, lent_link_side, lent_post};
+ghost use Rattle.fl_core_run.specs.Single.{TellsDue};
 ghost use Rattle.fl_core_run.specs.Steps.{Forwards, Says, Tells, Tries, WritesFrom, TakesTurn, Acknowledges};
+ghost use Rattle.fl_core_run.specs.Stops.{LeavesMessage, LeavesTurn};
 
 use crate::dispatchers::{awaits, turn};
 use crate::ends::{ack, try_job, write};
@@ -45,10 +47,13 @@ impl<S: PutSide + TakeSide + Drop> RunningCore<S> {
     /// The end at which a dispatcher's turn looks, and where that takes; none where no end is due or it is to
     /// wait.
     pub fn due(&self, jobs: &[CoreJob], dispatcher: usize) -> Option<LentTakeEnd>
-        ensures due { IfSome result (λ at. lent_due (run_of self.now) dispatcher ≡ Some at) }
+        ensures due { TellsDue jobs.now (run_of self.now) dispatcher result }
     {
-        let at = lent_due(self, dispatcher)?;
-        if awaits(self, jobs, self.core.name(at.end)) {
+        let Some(at) = lent_due(self, dispatcher) else {
+            return None;
+        };
+        let name = self.core.name(at.end);
+        if awaits(self, jobs, name) {
             return None;
         }
         Some(at)
@@ -57,9 +62,11 @@ impl<S: PutSide + TakeSide + Drop> RunningCore<S> {
     /// A forward for a link.
     ///
     /// # Errors
-    /// Out of memory.
+    /// Out of memory. The monitors' message that stands first is left there.
     pub fn forward(&mut self, link: LinkId) -> Result<(), AllocError>
         ensures forwards { OnOk result (Forwards (ways S.puts S.takes S.front) link
+            (run_of self.old) (run_of self.new)) }
+        ensures left { OnErr result (LeavesMessage (ways S.puts S.takes S.front) link
             (run_of self.old) (run_of self.new)) }
     {
         forward(self, link)
@@ -75,10 +82,11 @@ impl<S: PutSide + TakeSide + Drop> RunningCore<S> {
     /// The next job of an end, where that can be done.
     ///
     /// # Errors
-    /// Out of memory.
+    /// Out of memory. Nothing has happened then.
     pub fn try_job(&mut self, jobs: &[CoreJob], name: EndId) -> Result<(), AllocError>
         ensures tries { OnOk result (Tries (ways S.puts S.takes S.front) name
             (next_job jobs.now (run_of self.old) name) (run_of self.old) (run_of self.new)) }
+        ensures kept { OnErr result (run_of self.new ≡ run_of self.old) }
     {
         try_job(self, jobs, name)
     }
@@ -94,9 +102,11 @@ impl<S: PutSide + TakeSide + Drop> RunningCore<S> {
     /// A turn of a dispatcher.
     ///
     /// # Errors
-    /// Out of memory.
+    /// Out of memory. The end that is due left the fragment that it saw, or handled a call that its progress doesn't have.
     pub fn turn_of(&mut self, jobs: &[CoreJob], dispatcher: usize) -> Result<(), AllocError>
         ensures turns { OnOk result (TakesTurn (ways S.puts S.takes S.front) jobs.now dispatcher
+            (run_of self.old) (run_of self.new)) }
+        ensures left { OnErr result (LeavesTurn (ways S.puts S.takes S.front) jobs.now dispatcher
             (run_of self.old) (run_of self.new)) }
     {
         turn(self, jobs, dispatcher)

@@ -13,3 +13,4 @@ pub mod OneCore
 pub mod Follows
 pub mod Honesty
 pub mod Again
+pub mod Wired

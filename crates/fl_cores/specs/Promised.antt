@@ -87,15 +87,15 @@ IsRefusedAt c number place (Some n) = IsFaultOf (front_of c n) (boot.Refused num
 abbrev pub IsRefused : TheConfig → ℕ → ℕ → Type 0
 IsRefused c number place = IsRefusedAt c number place (position is_other c.setup)
 
--- the set-up is accepted, and by what it makes the job at this place, from 1, is the first of these that has a fault; or, at place 0, it is the
--- first of its own bindings that can't be joined
+-- the set-up is accepted, and by what it makes the job at this place, from 1, is the first of these that has a fault (at place 0 it would be a
+-- binding of the set-up: of one that is accepted none has a fault, by `SetUpsJoin` of fl_cores_file_laws)
 pub record RefusesJob (c : TheConfig) (jobs : List Job) (number place : ℕ) : Type 0 where
   pub accepted : IsAccepted c
   pub parts : Parts
   pub made : Made c parts
   pub refused : IsRunFault parts jobs (run.Refused number place)
 
--- the set-up is accepted, and by what it makes none of these jobs has a fault; but a thread doesn't start
+-- the set-up is accepted, and by what it makes none of these jobs has a fault: what may be told where a thread doesn't start
 pub record LacksThread (c : TheConfig) (jobs : List Job) : Type 0 where
   pub accepted : IsAccepted c
   pub parts : Parts
@@ -150,20 +150,16 @@ pub record Appends (text : List ℕ) (limit : ℕ) (e : CoresEnd) (before after 
 
 -- ---- why nothing is told of a text
 
--- a fault of none of the events of a set-up
-abbrev pub IsBehindSetUp : CoresFault → Type 0
-IsBehindSetUp (fault.Setup number place) = ⊥
-IsBehindSetUp f = Unit {0}
-
--- it is a cores file, whose jobs have this fault, or the run of them: so many cores there may be, each event is of a set-up, and the machine refuses none
-pub record FileHasFault (text : List ℕ) (f : CoresFault) : Type 0 where
+-- it is a cores file, of which this is what may be told where a thread doesn't start
+pub record FileLacksThread (text : List ℕ) : Type 0 where
   pub file : CoresFile
   pub reads : Reads text (is_file file)
-  pub counted : has_bad_cores (config_in file) ≡ false
-  pub making : position is_other file.setup ≡ None
-  pub accepted : IsBehindSetUp f
-  pub is_fault : IsFault (config_in file) file.jobs f
+  pub lacks : LacksThread (config_in file) file.jobs
 
--- out of memory may be told of any text, since memory is wanted to read it and to print what is told of it; each other fault is one of the file that it is
+-- out of memory may be told of any text, since memory is wanted to read it and to print what is told of it; of a cores file no event of the set-up is
+-- refused, and no job
 abbrev pub IsFaultOfText : List ℕ → CoresFault → Type 0
-IsFaultOfText text f = (f ≡ fault.Memory) ⊎ FileHasFault text f
+IsFaultOfText text (fault.Setup number place) = ⊥
+IsFaultOfText text (fault.Job number place) = ⊥
+IsFaultOfText text fault.Memory = Unit {0}
+IsFaultOfText text fault.Thread = FileLacksThread text

@@ -14,6 +14,7 @@
 //! its laws from what a run tells (`specs/Promised.antt`).
 //!
 //! - `run.rt`: a set-up with jobs run; `text.rt`: a cores file run; `fault.rt`: why there is no report
+//! - `wired.rt`: the cores of a file, wired once more without threads
 //! - `reports.rt`: the same, with what is promised of reports
 //! - `law_outcomes.rt`: which cores stand behind a report, and what of the laws of endings holds of it
 //! - `law_reports.rt`: each report is honest, and tells how the run ended, and why bindings were refused;
@@ -28,11 +29,12 @@ mod law_reports;
 mod reports;
 mod run;
 mod text;
+mod wired;
 
 pub use fault::CoresFault;
 pub use fl_core_run::{Gate, Part, core_run};
 pub use fl_cores_file::{Job, Report};
-pub use fl_cores_parts::{Recording, WiredCores};
+pub use fl_cores_parts::{CoreOver, CoresOver, Recording, RunRecord, WiredCores};
 pub use fl_cores_table::EndSeat;
 pub use law_following::law_runs_follow;
 pub use law_outcomes::{
@@ -44,5 +46,5 @@ pub use law_reports::{
     law_runs_report_honestly, law_spent_links_are_led_over, law_wanted_handle_few,
 };
 pub use reports::{run_cores, run_cores_text, run_cores_text_recorded};
-pub use run::wire_cores;
 pub use text::CoresEnd;
+pub use wired::{FileLayout, WiredFile, wire_cores_text};

@@ -51,9 +51,8 @@ pub fn run_cores<R: Threads + Wait + Sync, G: Gate + Sync>(
 /// Runs a cores file, and appends what is told of that: an honest report, or the line that is refused.
 ///
 /// # Errors
-/// Out of memory, whatever the text is; else the text is a cores file, whose set-up nothing refuses, and the fault is
-/// one of its jobs or of their run, as [`run_cores`] tells them: a thread doesn't start, or a job is refused. (No clause
-/// rules out a refused job of an accepted file; no such file is known.) Nothing is appended then.
+/// Out of memory, whatever the text is; else the text is a cores file, and a thread of its run doesn't start. Nothing is
+/// appended then.
 pub fn run_cores_text<R: Threads + Wait + Sync, G: Gate + Sync>(
     rt: &R,
     alloc: Global,
@@ -66,7 +65,7 @@ pub fn run_cores_text<R: Threads + Wait + Sync, G: Gate + Sync>(
     ensures kept { OnErr result (out.new.items ≡ out.old.items) }
     ensures fault { IfErr result (λ fault. IsFaultOfText text.now fault) }
 {
-    let mut recording = Recording::new(alloc, false);
+    let mut recording = Recording::new(false);
     run_cores_text_recorded(rt, alloc, text, limit, gate, out, &mut recording)
 }
 

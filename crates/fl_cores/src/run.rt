@@ -8,6 +8,8 @@ ghost use Rattle.fl_cores_file.specs.Jobs.{Job as TheJob};
 ghost use Rattle.fl_cores_file.specs.Views.{job_of};
 ghost use Rattle.fl_cores.specs.Promised.{is_of_set_up, is_other, asks_other, cores_by, IsAccepted, Made, Reports, IsFault, IsLater};
 ghost use Rattle.fl_cores_parts.specs.Ran.{Keeps, RanFrom};
+ghost use Rattle.fl_cores_parts.specs.Wired.{WiredFrom};
+ghost use Rattle.fl_cores.specs.Wired.{Wires};
 
 use crate::fault::CoresFault;
 use fl_base::faults;
@@ -157,22 +159,36 @@ pub(crate) fn run_jobs<R: Threads + Wait + Sync, G: Gate + Sync>(
     ensures reports { IfOk result (λ r. Reports (config_of config.now) (map job_of jobs.entry.items) limit (report_of r)) }
     ensures refused { IfErr result (λ fault. IsFault (config_of config.now) (map job_of jobs.entry.items) fault) }
 {
-    let mut recording = Recording::new(alloc, false);
+    let mut recording = Recording::new(false);
     run_recorded(rt, alloc, config, jobs, limit, gate, &mut recording)
 }
 
-/// What the cores of a run begin with, as [`run_cores`](crate::run_cores) starts their threads: no thread is started.
-///
-/// # Errors
-/// [`CoresFault`]: an event of the set-up is refused, or a job; or out of memory.
-pub fn wire_cores(
+// What the cores of a run begin with, as its threads would have them; the fault is that of the run but for threads.
+#[tactic(auto, using(crate::proofs::Booted::not_booted, crate::proofs::Booted::late_fault))]
+pub(crate) fn wire_cores(
     alloc: Global,
     config: &Config<'_>,
     jobs: Vec<Job<'_>>,
-) -> Result<WiredCores, CoresFault> {
+) -> Result<WiredCores, CoresFault>
+    ensures wires { IfOk result (λ w. Wires (config_of config.now) (map job_of jobs.entry.items) w) }
+    ensures refused { IfErr result (λ fault. IsFault (config_of config.now) (map job_of jobs.entry.items) fault) }
+{
     if let Some(place) = first_other(&config.setup) {
         return Err(refuse_other(alloc, config, place));
     }
     let parts = boot(alloc, config)?;
-    Ok(wire_parts(alloc, parts, jobs)?)
+    wire_made(alloc, parts, jobs)
+}
+
+// The same of what a set-up made.
+#[tactic(auto, using(crate::proofs::Booted::later_fault))]
+fn wire_made(alloc: Global, parts: Parts, jobs: Vec<Job<'_>>) -> Result<WiredCores, CoresFault>
+    requires few { length parts.cores.items ≤ 16 }
+    ensures wired { IfOk result (λ w. WiredFrom parts (map job_of jobs.entry.items) w) }
+    ensures later { IfErr result (λ fault. IsLater parts (map job_of jobs.entry.items) fault) }
+{
+    match wire_parts(alloc, parts, jobs) {
+        Ok(wired) => Ok(wired),
+        Err(refusal) => Err(CoresFault::from(refusal)),
+    }
 }

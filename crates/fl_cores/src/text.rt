@@ -8,6 +8,7 @@ use crate::fault::CoresFault;
 use crate::run::run_recorded;
 use fl_core_run::Gate;
 use fl_cores_file::{CoresFile, CoresText, Ending, print_refusal, print_report, read_cores_text};
+use fl_cores_file_laws::{law_files_join, law_set_ups_are_the_machines};
 use fl_cores_parts::Recording;
 use fl_world::Config;
 use std::alloc::Global;
@@ -81,6 +82,8 @@ pub(crate) fn run_text<R: Threads + Wait + Sync, G: Gate + Sync>(
     ensures kept { OnErr result (out.new.items ≡ out.old.items) }
     ensures fault { IfErr result (λ fault. IsFaultOfText text.now fault) }
 {
+    law_set_ups_are_the_machines();
+    law_files_join();
     match read_cores_text(alloc, text)? {
         CoresText::File(file) => run_file(rt, alloc, file, limit, gate, out, recording),
         CoresText::Refused { line, number } => {

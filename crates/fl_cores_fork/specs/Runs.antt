@@ -5,7 +5,10 @@ use Rattle.fl_ring.specs.SharedSeats.{front_seen}
 use Rattle.fl_ring.specs.SharedSides.{TheSide, SharedPuts, SharedTakes}
 use Rattle.fl_hop.specs.Joined.{Sound as IsTable}
 use Rattle.fl_endpoint.specs.Accounts.{Sound as IsEnd}
+use Rattle.fl_monitor.specs.Monitors.{HasOutboxes}
+use Rattle.fl_core.specs.BoardSound.{IsBoard}
 use Rattle.fl_core.specs.BoardView.{TheEndAtChannel}
+use Rattle.fl_core.specs.Sound.{IsCore}
 use Rattle.fl_core.specs.declared.core_job.CoreJob.{CoreJob}
 use Rattle.fl_core_run.specs.declared.plan.TurnPlan.{TurnPlan}
 use Rattle.fl_core_run.specs.declared.run.Part.{Part}
@@ -33,8 +36,11 @@ shared_ways = ways SharedPuts SharedTakes (λ (s : TheSide). front_seen s.peeked
 abbrev pub RanTo : List CoreJob → ℕ → TheCoreThread → TheFinishedCore → Type 0
 RanTo jobs limit s o = CoreRan shared_ways (task s.plan jobs limit) (moment s.run s.run_seat) o.part (moment o.run o.run_seat)
 
--- in the end each of its ends is sound, and so is its table of circuits
+-- in the end it is sound: the core, its board, each of its ends and its table of circuits; and each link has its outbox
 pub record IsLeftSound (o : TheFinishedCore) : Type 0 where
+  pub core : IsCore o.run.core
+  pub board : IsBoard o.run.core.board
+  pub outboxes : HasOutboxes o.run.core.monitor
   pub ends : (place : ℕ) (seat : TheEndAtChannel) → slice_get o.run.core.board.seats place ≡ Some seat → IsEnd seat.end
   pub table : IsTable o.run.core.monitor.circuits
 

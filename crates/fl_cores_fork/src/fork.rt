@@ -5,7 +5,10 @@ ghost use Rattle.std.specs.Thread.{IsSync};
 ghost use Rattle.std.specs.List.{AllZip};
 ghost use Rattle.fl_hop.specs.Joined.{Sound as IsTable};
 ghost use Rattle.fl_endpoint.specs.Accounts.{Sound as IsEnd};
+ghost use Rattle.fl_monitor.specs.Monitors.{HasOutboxes};
+ghost use Rattle.fl_core.specs.BoardSound.{IsBoard};
 ghost use Rattle.fl_core.specs.BoardView.{TheEndAtChannel};
+ghost use Rattle.fl_core.specs.Sound.{IsCore};
 ghost use Rattle.fl_cores_fork.specs.declared.no_report.NoReport.TheVariants as stop;
 ghost use Rattle.fl_cores_fork.specs.CoreThreads.{IsReady, AllReady, CoreThreadRan};
 
@@ -43,11 +46,15 @@ fn sound_at(core: &Core, e: usize)
     core.board().end_sound(e);
 }
 
-// What is known of each end of a core, and of its circuits. It does nothing.
+// What is known of a core, of each of its ends, and of its circuits. It does nothing.
 pub(crate) fn sound(core: &Core)
+    ensures core { IsCore core.now }
+    ensures board { IsBoard core.now.board }
+    ensures outboxes { HasOutboxes core.now.monitor }
     ensures ends { (place : ℕ) (seat : TheEndAtChannel) → slice_get core.now.board.seats place ≡ Some seat → IsEnd seat.end }
     ensures table { IsTable core.now.monitor.circuits }
 {
+    core.sound();
     never_shared(core.monitor().circuits());
     for e in 0..core.board().ends() {
         sound_at(core, e);

@@ -10,12 +10,31 @@ ghost use Rattle.fl_cores_fork.specs.CoreThreads.{outcome_of, came_to, IsReady, 
 
 use crate::core_thread::{CoreThread, FinishedCore};
 use crate::fork::{run_one, sound};
-use fl_core::CoreJob;
+use fl_base::CoreId;
+use fl_core::{Core, CoreJob};
 use fl_core_run::{Gate, Part, RunSeat, RunningCore, TurnPlan, core_run};
 use fl_cores_shares::{RecordedSide, SideRecord};
+use fl_nameserv::Names;
 use fl_ring::SharedSide;
 use std::alloc::{AllocError, Global};
 use std::sync::Wait;
+
+// All that a recorded run wants memory for beside what its sides note. It is there before the run begins, so that
+// want of memory costs the record, and not the report.
+#[derive(Drop)]
+struct NotingRoom {
+    // for the sides that note
+    sides: Vec<RecordedSide>,
+    behind: RoomBehind,
+}
+
+// For what there is behind the run: the core, its sides, and what each noted.
+#[derive(Drop)]
+struct RoomBehind {
+    core: Box<RunningCore<SharedSide>>,
+    sides: Vec<SharedSide>,
+    records: Vec<SideRecord>,
+}
 
 // Sides that note what they do from here on.
 fn noting(alloc: Global, rings: Vec<SharedSide>, room: Vec<RecordedSide>) -> Vec<RecordedSide>
@@ -30,17 +49,19 @@ fn noting(alloc: Global, rings: Vec<SharedSide>, room: Vec<RecordedSide>) -> Vec
     sides
 }
 
-// The sides, and what each noted.
+// The sides, and what each noted, put where there is room for both.
 fn noted(
-    alloc: Global,
     rings: Vec<RecordedSide>,
+    sides: Vec<SharedSide>,
+    records: Vec<SideRecord>,
 ) -> Result<(Vec<SharedSide>, Vec<SideRecord>), AllocError>
+    requires none { sides.items ≡ [] }
     ensures same { IfOk result (λ r. r.0.items ≡ rings.items) }
 {
-    let mut sides = Vec::new(alloc);
-    let mut records = Vec::new(alloc);
-    for side in rings {
-        let (side, record) = side.into_parts();
+    let mut sides = sides;
+    let mut records = records;
+    for ring in rings {
+        let (side, record) = ring.into_parts();
         sides.push(side)?;
         records.push(record)?;
     }
@@ -64,18 +85,26 @@ fn over_noting(
     running
 }
 
-// And over its own again, with what these noted.
+// And over its own again, with what these noted. Takes no memory where the room is enough.
 fn over_shared(
     running: RunningCore<RecordedSide>,
+    room: RoomBehind,
 ) -> Result<(Box<RunningCore<SharedSide>>, Vec<SideRecord>), AllocError>
+    requires none { room.sides.items ≡ [] }
     ensures same { IfOk result (λ r. run_of r.0.value ≡ run_of running) }
 {
-    let alloc = running.alloc;
-    let none: Vec<SharedSide> = Vec::new(alloc);
+    let RoomBehind {
+        core,
+        sides,
+        records,
+    } = room;
+    let none: Vec<SharedSide> = Vec::new(running.alloc);
     let (running, rings) = running.with_rings(none);
-    let (rings, records) = noted(alloc, rings)?;
-    let (running, _) = running.with_rings(rings);
-    Ok((Box::new(alloc, running)?, records))
+    let (sides, records) = noted(rings, sides, records)?;
+    let (running, _) = running.with_rings(sides);
+    let mut core = core;
+    let _ = Box::replace(&mut core, running);
+    Ok((core, records))
 }
 
 // The core's run, over such sides.
@@ -110,10 +139,12 @@ fn finished(
     plan: TurnPlan,
     run_seat: RunSeat,
     part: Part,
+    room: RoomBehind,
 ) -> Result<FinishedCore, AllocError>
+    requires none { room.sides.items ≡ [] }
     ensures outcome { IfOk result (λ d. outcome_of d ≡ came_to (run_of running) run_seat part) }
 {
-    let (running, records) = over_shared(running)?;
+    let (running, records) = over_shared(running, room)?;
     Ok(FinishedCore {
         core_thread: CoreThread {
             running,
@@ -130,13 +161,14 @@ fn run_noting<R: Wait, G: Gate>(
     rt: &R,
     gate: &G,
     core_thread: CoreThread,
-    room: Vec<RecordedSide>,
+    room: NotingRoom,
     jobs: &[CoreJob],
     limit: u64,
 ) -> Result<FinishedCore, AllocError>
     requires ready { IsReady core_thread }
-    requires none { room.items ≡ [] }
-    requires fits { length core_thread.running.value.rings.items ≤ vec_capacity room }
+    requires none { room.sides.items ≡ [] }
+    requires fits { length core_thread.running.value.rings.items ≤ vec_capacity room.sides }
+    requires behind { room.behind.sides.items ≡ [] }
     ensures ran { IfOk result (λ d. CoreThreadRan jobs.now limit core_thread d) }
 {
     let CoreThread {
@@ -144,22 +176,57 @@ fn run_noting<R: Wait, G: Gate>(
         plan,
         run_seat,
     } = core_thread;
+    let NotingRoom { sides, behind } = room;
     let mut run_seat = run_seat;
-    let mut running = over_noting(running, room);
+    let mut running = over_noting(running, sides);
     match run_over(rt, gate, &mut running, &plan, jobs, limit, &mut run_seat) {
-        Ok(part) => finished(running, plan, run_seat, part),
+        Ok(part) => finished(running, plan, run_seat, part, behind),
         Err(_) => Err(AllocError),
     }
 }
 
-// Room for as many sides as a core has.
-fn room_for(core_thread: &CoreThread) -> Result<Vec<RecordedSide>, AllocError>
-    ensures none { IfOk result (λ room. room.items ≡ []) }
-    ensures fits { IfOk result (λ room. length core_thread.now.running.value.rings.items ≤ vec_capacity room) }
+// A place for a core, which an empty one keeps until then.
+fn place_for_core(alloc: Global) -> Result<Box<RunningCore<SharedSide>>, AllocError> {
+    let running = RunningCore {
+        alloc,
+        core: Core::new(alloc, CoreId(0))?,
+        rings: Vec::new(alloc),
+        queues: Vec::new(alloc),
+        progresses: Vec::new(alloc),
+        names: Names::new(alloc),
+        programs: Vec::new(alloc),
+        idle: 0,
+    };
+    Ok(Box::new(alloc, running)?)
+}
+
+// Room for a core that has run over so many sides.
+fn room_behind(alloc: Global, count: usize) -> Result<RoomBehind, AllocError>
+    ensures none { IfOk result (λ room. room.sides.items ≡ []) }
 {
-    let mut room = Vec::new(core_thread.running.alloc);
-    room.reserve(core_thread.running.rings.as_slice().len())?;
-    Ok(room)
+    let mut sides = Vec::new(alloc);
+    sides.reserve(count)?;
+    let mut records = Vec::new(alloc);
+    records.reserve(count)?;
+    Ok(RoomBehind {
+        core: place_for_core(alloc)?,
+        sides,
+        records,
+    })
+}
+
+// Room for as many sides as a core has, before its run and behind it.
+fn room_for(core_thread: &CoreThread) -> Result<NotingRoom, AllocError>
+    ensures none { IfOk result (λ room. room.sides.items ≡ []) }
+    ensures fits { IfOk result (λ room. length core_thread.now.running.value.rings.items ≤ vec_capacity room.sides) }
+    ensures behind { IfOk result (λ room. room.behind.sides.items ≡ []) }
+{
+    let alloc = core_thread.running.alloc;
+    let count = core_thread.running.rings.as_slice().len();
+    let behind = room_behind(alloc, count)?;
+    let mut sides = Vec::new(alloc);
+    sides.reserve(count)?;
+    Ok(NotingRoom { sides, behind })
 }
 
 /// A core's whole run on its thread: over sides that note what they do, where that is wanted and there is

@@ -6,3 +6,5 @@ pub mod Shares
 pub mod CoreThreads
 pub mod Dealing
 pub mod Ran
+pub mod Recorded
+pub mod Wired

@@ -23,7 +23,7 @@ mod settling;
 mod sharing;
 mod wiring;
 
-pub use again::{WiredCores, wire_parts};
+pub use again::{CoreOver, CoresOver, WiredCores, wire_parts};
 pub use fault::RunFault;
-pub use recording::Recording;
+pub use recording::{Recording, RunRecord};
 pub use run::run_parts;

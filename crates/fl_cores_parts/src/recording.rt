@@ -1,72 +1,82 @@
 //! What the sides of a run noted.
 
-ghost use Rattle.std.specs.Prelude.{◌≡◌};
+ghost use Rattle.std.specs.Prelude.{◌≡◌, true, IfOk, IfSome};
+ghost use Rattle.std.specs.List.{All};
+ghost use Rattle.fl_cores_parts.specs.Recorded.{IsRecordOf};
 
 use fl_cores_fork::FinishedCore;
 use fl_cores_shares::SideRecord;
 use std::alloc::{AllocError, Global};
 
-/// What a run of cores notes, where it is to: enough to tell again which events its cores did, and in which
-/// order.
+/// What the cores of a run noted: enough to tell again which events they did, and in which order.
 #[derive(Drop)]
-pub struct Recording {
-    /// Whether a run is to note; and after the run, whether it noted all.
-    pub is_on: bool,
+pub struct RunRecord {
     /// By core, how many turns were counted.
     pub turns: Vec<u64>,
-    /// By side of a ring, its core: the sides of ring n are number 2 n and 2 n + 1.
-    pub owners: Vec<usize>,
     /// By core, what its sides noted, in the order of their numbers.
     pub sides: Vec<Vec<SideRecord>>,
 }
 
-// What the sides of a core noted, once more. Where they had no memory for it that is told as no memory here.
-fn records_of(alloc: Global, core: &FinishedCore) -> Result<Vec<SideRecord>, AllocError> {
+/// Whether runs note what they do, and what the last one noted.
+#[derive(Drop)]
+pub struct Recording {
+    /// Whether a run is to note what it does.
+    pub is_on: bool,
+    /// What the last run that came to a report noted. There is none where it wasn't to note, or where there was no memory to
+    /// note all.
+    pub record: Option<RunRecord>,
+}
+
+// What the sides of a core noted, once more. Where they hadn't the memory to note all, that is told as no memory here.
+fn records_of(alloc: Global, core: &FinishedCore) -> Result<Vec<SideRecord>, AllocError>
+    ensures whole { IfOk result (λ v. All (λ r. r.is_whole ≡ true) v.items) }
+{
     let Some(noted) = &core.records else {
         return Err(AllocError);
     };
     let mut records = Vec::new(alloc);
     for record in noted.iter() {
-        if !record.is_whole {
+        let copy = record.duplicate(alloc)?;
+        if !copy.is_whole {
             return Err(AllocError);
         }
-        records.push(record.duplicate(alloc)?)?;
+        records.push(copy)?;
     }
     Ok(records)
 }
 
+// What cores that ran noted, once more.
+fn record_of(alloc: Global, done: &[FinishedCore]) -> Result<RunRecord, AllocError>
+    ensures record { IfOk result (IsRecordOf done.now) }
+{
+    let mut turns = Vec::new(alloc);
+    let mut sides = Vec::new(alloc);
+    for core in done {
+        turns.push(core.part.turns)?;
+        sides.push(records_of(alloc, core)?)?;
+    }
+    Ok(RunRecord { turns, sides })
+}
+
 impl Recording {
-    /// Nothing is noted yet. Takes no memory.
-    pub fn new(alloc: Global, is_on: bool) -> Recording
+    /// Nothing is noted yet.
+    pub fn new(is_on: bool) -> Recording
         ensures on { result.is_on ≡ is_on }
     {
         Recording {
             is_on,
-            turns: Vec::new(alloc),
-            owners: Vec::new(alloc),
-            sides: Vec::new(alloc),
+            record: None,
         }
     }
 
-    // Keeps what was noted, or as much of it as finds memory.
-    fn copy(
-        &mut self,
-        alloc: Global,
-        done: &[FinishedCore],
-        owners: &[usize],
-    ) -> Result<(), AllocError> {
-        self.owners = Vec::from_slice(alloc, owners)?;
-        for core in done {
-            self.turns.push(core.part.turns)?;
-            self.sides.push(records_of(alloc, core)?)?;
-        }
-        Ok(())
-    }
-
-    /// Keeps what the sides of cores that ran noted. Where memory is refused, it is off from then on.
-    pub(crate) fn keep(&mut self, alloc: Global, done: &[FinishedCore], owners: &[usize]) {
+    /// Keeps what the sides of cores that ran noted, in place of what an earlier run noted.
+    pub(crate) fn keep(&mut self, alloc: Global, done: &[FinishedCore])
+        ensures on { self.new.is_on ≡ self.old.is_on }
+        ensures record { IfSome self.new.record (IsRecordOf done.now) }
+    {
+        self.record = None;
         if self.is_on {
-            self.is_on = self.copy(alloc, done, owners).is_ok();
+            self.record = record_of(alloc, done).ok();
         }
     }
 }

@@ -116,7 +116,7 @@ fn run_joined<R: Threads + Wait + Sync, G: Gate + Sync>(
         recording.is_on,
     );
     let done = ran?;
-    recording.keep(alloc, &done, &wired.owners);
+    recording.keep(alloc, &done);
     Ok(report_on(alloc, &mut joined, own, wired.owners, done)?)
 }
 

@@ -1,6 +1,5 @@
 //! The lines of a cores file, apart by what they come to.
 
-use fl_cores_file::Job;
 use fl_script_lines::{BackEndText, Command, Item, Line, next_item};
 use std::alloc::{AllocError, Global};
 
@@ -39,11 +38,11 @@ fn kind_of_item(item: &Item<'_>) -> LineKind {
     }
 }
 
-// Whether a job is a reply rule that is set before the cores run, as so many bindings are set up.
-fn is_set_before(job: Option<&Job<'_>>, set_up: usize) -> bool {
-    match job {
-        Some(Job::Reply { end, .. }) => end.binding < set_up,
-        _ => false,
+// Whether the job of a place is done before the cores run.
+fn is_done_before(done_before: &[bool], job: usize) -> bool {
+    match done_before.get(job) {
+        None => false,
+        Some(is_done) => *is_done,
     }
 }
 
@@ -56,12 +55,11 @@ pub(crate) fn put_line(out: &mut Vec<u8>, line: &[u8]) -> Result<(), AllocError>
     Ok(())
 }
 
-/// The lines of a cores file that has these jobs, and whose first bindings, so many, are set up.
+/// The lines of a cores file, of whose jobs these are done before the cores run.
 pub(crate) fn split_file<'a>(
     alloc: Global,
     text: &'a [u8],
-    jobs: &[Job<'_>],
-    set_up: usize,
+    done_before: &[bool],
 ) -> Result<FileLines<'a>, AllocError> {
     let mut lines = FileLines {
         setup: Vec::new(alloc),
@@ -76,7 +74,7 @@ pub(crate) fn split_file<'a>(
             LineKind::Nothing => {}
             LineKind::Setup => put_line(&mut lines.setup, line)?,
             LineKind::Job => {
-                if is_set_before(jobs.get(job), set_up) {
+                if is_done_before(done_before, job) {
                     put_line(&mut lines.setup, line)?;
                 } else {
                     lines.jobs.push(line)?;

@@ -1,7 +1,9 @@
 //! The events of cores in one order.
 
-use crate::replay::Replay;
+use crate::no_script::NoScript;
+use crate::replay::Replayed;
 use crate::replayed_core::{CoreEvent, CoreStep};
+use crate::replayed_side::{ReplayedPut, ReplayedSight};
 use std::alloc::{AllocError, Global};
 use std::collections::VecDeque;
 
@@ -38,6 +40,16 @@ struct Order {
 }
 
 impl SideState {
+    fn new(alloc: Global, size: usize) -> SideState {
+        SideState {
+            size,
+            sent: 0,
+            taken: 0,
+            known: 0,
+            told: VecDeque::new(alloc),
+        }
+    }
+
     // Whether so many slots are free, by what it knows, or would find at once.
     fn has_room(&self, need: usize) -> bool {
         let wanted = self.sent.saturating_add(need);
@@ -58,24 +70,21 @@ impl SideState {
     }
 }
 
+// The sides of rings of these sizes.
+fn all_sides(alloc: Global, sizes: &[usize]) -> Result<Vec<SideState>, AllocError> {
+    let mut sides = Vec::new(alloc);
+    for size in sizes {
+        sides.reserve(2)?;
+        sides.push_reserved(SideState::new(alloc, *size));
+        sides.push_reserved(SideState::new(alloc, *size));
+    }
+    Ok(sides)
+}
+
 impl Order {
     fn new(alloc: Global, cores: usize, sizes: &[usize]) -> Result<Order, AllocError> {
-        let mut sides = Vec::new(alloc);
-        for size in sizes {
-            for _ in 0..2 {
-                sides.push(SideState {
-                    size: *size,
-                    sent: 0,
-                    taken: 0,
-                    known: 0,
-                    told: VecDeque::new(alloc),
-                })?;
-            }
-        }
-        let mut done = Vec::new(alloc);
-        for _ in 0..cores {
-            done.push(0)?;
-        }
+        let sides = all_sides(alloc, sizes)?;
+        let done = vec![in alloc; 0; cores]?;
         Ok(Order {
             sides,
             done,
@@ -85,36 +94,43 @@ impl Order {
 
     // Whether the core of the side across is behind all its looks that found nothing where the side's next
     // fragment will stand.
-    fn is_looked_for(&self, replay: &Replay, side: usize) -> bool {
+    fn is_looked_for(&self, replayed: &Replayed<'_>, side: usize) -> bool {
         let Some(state) = self.sides.get(side) else {
             return false;
         };
-        let Some((core, behind)) = replay.missed_behind(across(side), state.sent) else {
+        let Some(missed) = replayed.missed_behind(across(side), state.sent) else {
             return false;
         };
-        match self.done.get(core) {
+        match self.done.get(missed.core) {
             None => false,
-            Some(done) => *done >= behind,
+            Some(done) => *done >= missed.steps,
         }
     }
 
-    fn may_come(&self, replay: &Replay, step: &CoreStep) -> bool {
+    // Whether a fragment stands there to be seen.
+    fn may_see(&self, sight: ReplayedSight) -> bool {
+        match self.sides.get(sight.side) {
+            None => false,
+            Some(state) => !state.told.is_empty(),
+        }
+    }
+
+    fn may_put(&self, replayed: &Replayed<'_>, put: ReplayedPut) -> bool {
+        match self.sides.get(put.side) {
+            None => false,
+            Some(state) => state.has_room(put.need) && self.is_looked_for(replayed, put.side),
+        }
+    }
+
+    fn may_come(&self, replayed: &Replayed<'_>, step: &CoreStep) -> bool {
         if let Some(sight) = step.sight {
-            match self.sides.get(sight.side) {
-                None => return false,
-                Some(state) => {
-                    if state.told.is_empty() {
-                        return false;
-                    }
-                }
+            if !self.may_see(sight) {
+                return false;
             }
         }
         match step.put {
             None => true,
-            Some(put) => match self.sides.get(put.side) {
-                None => false,
-                Some(state) => state.has_room(put.need) && self.is_looked_for(replay, put.side),
-            },
+            Some(put) => self.may_put(replayed, put),
         }
     }
 
@@ -146,41 +162,54 @@ impl Order {
         }
     }
 
-    // Does the next event of a core, if it may come now.
-    fn next(&mut self, replay: &Replay, core: usize) -> Result<bool, AllocError> {
-        let Some(done) = self.done.get(core) else {
-            return Ok(false);
-        };
-        let Some(step) = replay.step(core, *done) else {
-            return Ok(false);
-        };
-        if !step.is_left_out {
-            if !self.may_come(replay, &step) {
-                return Ok(false);
-            }
-            if let Some(put) = step.put {
-                self.put(put.side, put.need)?;
-            }
-            if let Some(sight) = step.sight {
-                self.see(sight.side, sight.is_taken);
-            }
-            self.events.push(OrderedEvent {
-                core,
-                event: step.event,
-            })?;
+    // Does an event, and tells it.
+    fn tell(&mut self, core: usize, step: &CoreStep) -> Result<(), AllocError> {
+        if let Some(put) = step.put {
+            self.put(put.side, put.need)?;
         }
+        if let Some(sight) = step.sight {
+            self.see(sight.side, sight.is_taken);
+        }
+        let event = step.event;
+        self.events.push(OrderedEvent { core, event })?;
+        Ok(())
+    }
+
+    // The next event of a core.
+    fn next_step(&self, replayed: &Replayed<'_>, core: usize) -> Option<CoreStep> {
+        match self.done.get(core) {
+            None => None,
+            Some(done) => replayed.step(core, *done),
+        }
+    }
+
+    fn pass(&mut self, core: usize) {
         if let Some(done) = self.done.get_mut(core) {
             *done = done.saturating_add(1);
         }
+    }
+
+    // Does the next event of a core, if it may come now.
+    fn next(&mut self, replayed: &Replayed<'_>, core: usize) -> Result<bool, AllocError> {
+        let Some(step) = self.next_step(replayed, core) else {
+            return Ok(false);
+        };
+        if !step.is_left_out {
+            if !self.may_come(replayed, &step) {
+                return Ok(false);
+            }
+            self.tell(core, &step)?;
+        }
+        self.pass(core);
         Ok(true)
     }
 
     // The events of each core in turn, as many as may come.
-    fn round(&mut self, replay: &Replay, cores: usize) -> Result<bool, AllocError> {
+    fn round(&mut self, replayed: &Replayed<'_>, cores: usize) -> Result<bool, AllocError> {
         let mut moved = false;
         for core in 0..cores {
             for _ in 0..u64::MAX {
-                if !self.next(replay, core)? {
+                if !self.next(replayed, core)? {
                     break;
                 }
                 moved = true;
@@ -189,9 +218,9 @@ impl Order {
         Ok(moved)
     }
 
-    fn is_whole(&self, replay: &Replay) -> bool {
+    fn is_whole(&self, replayed: &Replayed<'_>) -> bool {
         for (core, done) in self.done.iter().enumerate() {
-            if replay.step(core, *done).is_some() {
+            if replayed.step(core, *done).is_some() {
                 return false;
             }
         }
@@ -199,21 +228,21 @@ impl Order {
     }
 }
 
-/// The events of cores in an order in which each finds what it found, if there is one.
+/// The events of cores in an order in which each finds what it found.
 pub(crate) fn order_events(
     alloc: Global,
-    replay: &Replay,
+    replayed: &Replayed<'_>,
     sizes: &[usize],
-) -> Result<Option<Vec<OrderedEvent>>, AllocError> {
-    let cores = replay.count();
+) -> Result<Vec<OrderedEvent>, NoScript> {
+    let cores = replayed.count();
     let mut order = Order::new(alloc, cores, sizes)?;
     for _ in 0..u64::MAX {
-        if !order.round(replay, cores)? {
+        if !order.round(replayed, cores)? {
             break;
         }
     }
-    if order.is_whole(replay) {
-        return Ok(Some(order.events));
+    if order.is_whole(replayed) {
+        return Ok(order.events);
     }
-    Ok(None)
+    Err(NoScript::NoOrder)
 }

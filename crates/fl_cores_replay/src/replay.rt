@@ -1,164 +1,276 @@
 //! All cores of a run, once more.
 
-use crate::replayed_core::{Advance, CoreStep, ReplayedCore};
-use crate::replayed_side::ReplayedSide;
+use crate::no_script::NoScript;
+use crate::replayed_core::{Advance, CoreReplay, CoreStep};
+use crate::replayed_side::{ReplayedSide, SentFrag};
 use fl_base::LinkId;
-use fl_core::CoreJob;
-use fl_cores::{Recording, WiredCores};
-use fl_cores_fork::CoreThread;
-use fl_cores_jobs::{EndWork, JoinedJobs};
+use fl_cores::{CoreOver, CoresOver, RunRecord, WiredCores};
 use std::alloc::{AllocError, Global};
-use std::mem;
+
+// ---- sides
 
 /// A side of a ring, by its core and its place there.
 #[derive(Clone, Copy)]
-struct SidePlace {
+pub(crate) struct SidePlace {
     core: usize,
     place: usize,
 }
 
-/// All cores of a run, run once more.
+/// The sides of all cores, as the record says.
 #[derive(Drop)]
-pub(crate) struct Replay {
-    cores: Vec<ReplayedCore>,
-    // by side of a ring
-    places: Vec<SidePlace>,
-    pub(crate) joined: JoinedJobs,
+pub(crate) struct ReplayedSides {
+    /// By side of a ring.
+    pub(crate) places: Vec<SidePlace>,
+    /// By core.
+    pub(crate) sides: Vec<Vec<ReplayedSide>>,
 }
 
-// How many events of a core are done before another core's turn comes.
-const MANY: u32 = 1_000_000;
-
-// By core the numbers of its sides, and by side its place.
-fn number_sides(
-    alloc: Global,
-    cores: usize,
-    owners: &[usize],
-) -> Result<(Vec<Vec<usize>>, Vec<SidePlace>), AllocError> {
-    let mut numbers = Vec::new(alloc);
-    for _ in 0..cores {
-        numbers.push(Vec::new(alloc))?;
-    }
+// The places of sides that have these owners, among so many cores.
+fn places_of(alloc: Global, cores: usize, owners: &[usize]) -> Result<Vec<SidePlace>, AllocError> {
+    let mut counts: Vec<usize> = vec![in alloc; 0; cores]?;
     let mut places = Vec::new(alloc);
-    for (number, owner) in owners.iter().enumerate() {
+    for owner in owners {
         let mut place = 0;
-        if let Some(own) = numbers.get_mut(*owner) {
-            place = own.as_slice().len();
-            own.push(number)?;
+        if let Some(count) = counts.get_mut(*owner) {
+            place = *count;
+            *count = place.wrapping_add(1);
         }
         places.push(SidePlace {
             core: *owner,
             place,
         })?;
     }
-    Ok((numbers, places))
+    Ok(places)
 }
 
-// The sides of a core, as its record says, or none where that has others.
+// A side of this number, which answers as its record says.
+fn side_at(
+    alloc: Global,
+    record: &RunRecord,
+    at: SidePlace,
+    number: usize,
+    slots: &[usize],
+) -> Result<ReplayedSide, NoScript> {
+    let Some(own) = record.sides.get(at.core) else {
+        return Err(NoScript::OtherFile);
+    };
+    let Some(noted) = own.get(at.place) else {
+        return Err(NoScript::OtherFile);
+    };
+    let Some(slots) = slots.get(number / 2) else {
+        return Err(NoScript::OtherFile);
+    };
+    let noted = noted.duplicate(alloc)?;
+    Ok(ReplayedSide::new(alloc, noted, number, *slots))
+}
+
+// The sides of a core.
 fn sides_of(
     alloc: Global,
-    recording: &Recording,
+    record: &RunRecord,
+    places: &[SidePlace],
     core: usize,
-    numbers: &[usize],
-    sizes: &[usize],
-) -> Result<Option<Vec<ReplayedSide>>, AllocError> {
-    let Some(records) = recording.sides.get(core) else {
-        return Ok(None);
-    };
-    if records.as_slice().len() != numbers.len() {
-        return Ok(None);
-    }
+    slots: &[usize],
+) -> Result<Vec<ReplayedSide>, NoScript> {
     let mut sides = Vec::new(alloc);
-    for (place, record) in records.iter().enumerate() {
-        let number = match numbers.get(place) {
-            None => return Ok(None),
-            Some(number) => *number,
-        };
-        let Some(size) = sizes.get(number / 2) else {
-            return Ok(None);
-        };
-        sides.push(ReplayedSide::new(alloc, record.duplicate(alloc)?, *size))?;
+    for (number, at) in places.iter().enumerate() {
+        if at.core == core {
+            sides.reserve(1)?;
+            sides.push_reserved(side_at(alloc, record, *at, number, slots)?);
+        }
     }
-    Ok(Some(sides))
+    Ok(sides)
 }
 
-// A core over such sides, or none where its record has others.
-fn replayed(
-    alloc: Global,
-    thread: CoreThread,
-    recording: &Recording,
-    core: usize,
-    numbers: Vec<usize>,
-    sizes: &[usize],
-) -> Result<Option<ReplayedCore>, AllocError> {
-    let turns = match recording.turns.get(core) {
-        None => return Ok(None),
-        Some(turns) => *turns,
-    };
-    let Some(sides) = sides_of(alloc, recording, core, &numbers, sizes)? else {
-        return Ok(None);
-    };
-    Ok(Some(ReplayedCore::new(alloc, thread, sides, numbers, turns)?))
+impl ReplayedSides {
+    /// Those of all cores of a run that is wired once more, whose rings have so many slots.
+    pub(crate) fn new(
+        alloc: Global,
+        wired: &WiredCores,
+        slots: &[usize],
+        record: &RunRecord,
+    ) -> Result<ReplayedSides, NoScript> {
+        let cores = wired.core_threads.as_slice().len();
+        let places = places_of(alloc, cores, &wired.owners)?;
+        let mut sides = Vec::new(alloc);
+        for core in 0..cores {
+            sides.reserve(1)?;
+            sides.push_reserved(sides_of(alloc, record, &places, core, slots)?);
+        }
+        Ok(ReplayedSides { places, sides })
+    }
 }
 
-// The cores at their start, or none where the record has others.
-fn all_replayed(
-    alloc: Global,
-    threads: Vec<CoreThread>,
-    recording: &Recording,
-    numbers: Vec<Vec<usize>>,
-    sizes: &[usize],
-) -> Result<Option<Vec<ReplayedCore>>, AllocError> {
-    let mut cores = Vec::new(alloc);
-    let mut numbers = numbers;
-    let mut core: usize = 0;
-    for thread in threads {
-        let own = match numbers.get_mut(core) {
-            None => return Ok(None),
-            Some(own) => mem::replace(own, Vec::new(alloc)),
-        };
-        let Some(one) = replayed(alloc, thread, recording, core, own, sizes)? else {
-            return Ok(None);
-        };
-        cores.push(one)?;
-        core = core.wrapping_add(1);
+// ---- cores
+
+/// How far all cores have come that are run once more.
+#[derive(Drop)]
+pub(crate) struct Replay {
+    cores: Vec<CoreReplay>,
+    // by side of a ring
+    places: Vec<SidePlace>,
+}
+
+// How many events of a core are done before another core's turn comes.
+const MANY: u32 = 1_000_000;
+
+// How far a core came while it had its turn.
+#[derive(Clone, Copy)]
+struct Progress {
+    moved: bool,
+    is_done: bool,
+}
+
+// Hands over what was put at a side.
+fn deliver(cores: &mut [CoreOver<ReplayedSide>], places: &[SidePlace], sent: SentFrag) {
+    let Some(at) = places.get(sent.side ^ 1) else {
+        return;
+    };
+    let Some(core) = cores.get_mut(at.core) else {
+        return;
+    };
+    if let Some(side) = core.running.rings.get_mut(at.place) {
+        side.receive(sent.frag);
     }
-    Ok(Some(cores))
+}
+
+// Whether memory was refused to a side of a core.
+fn is_core_lost(core: &CoreOver<ReplayedSide>) -> bool {
+    for side in core.running.rings.iter() {
+        if side.is_lost() {
+            return true;
+        }
+    }
+    false
+}
+
+fn is_lost(cores: &[CoreOver<ReplayedSide>]) -> bool {
+    for core in cores {
+        if is_core_lost(core) {
+            return true;
+        }
+    }
+    false
 }
 
 impl Replay {
-    /// The cores at their start, or none where the record has others.
+    /// All cores at their start, over sides of these places.
     pub(crate) fn new(
         alloc: Global,
-        wired: WiredCores,
-        recording: &Recording,
-        sizes: &[usize],
-    ) -> Result<Option<Replay>, AllocError> {
-        let WiredCores {
-            core_threads,
-            joined,
-            owners,
-        } = wired;
-        let count = core_threads.as_slice().len();
-        let (numbers, places) = number_sides(alloc, count, &owners)?;
-        let Some(cores) = all_replayed(alloc, core_threads, recording, numbers, sizes)? else {
-            return Ok(None);
-        };
-        Ok(Some(Replay {
-            cores,
-            places,
-            joined,
-        }))
+        cores: &[CoreOver<ReplayedSide>],
+        places: Vec<SidePlace>,
+        record: &RunRecord,
+    ) -> Result<Replay, NoScript> {
+        let mut all = Vec::new(alloc);
+        for (number, core) in cores.iter().enumerate() {
+            let Some(turns) = record.turns.get(number) else {
+                return Err(NoScript::OtherFile);
+            };
+            all.reserve(1)?;
+            all.push_reserved(CoreReplay::new(alloc, core.plan.dispatchers, *turns)?);
+        }
+        Ok(Replay { cores: all, places })
     }
 
+    // The events of a core, until it waits or is done.
+    fn go(
+        &mut self,
+        over: &mut CoresOver<ReplayedSide>,
+        core: usize,
+    ) -> Result<Progress, AllocError> {
+        let mut moved = false;
+        for _ in 0..MANY {
+            let is_done = true;
+            let Some(replay) = self.cores.get_mut(core) else {
+                return Ok(Progress { moved, is_done });
+            };
+            let Some(one) = over.cores.get_mut(core) else {
+                return Ok(Progress { moved, is_done });
+            };
+            match replay.advance(one, &over.joined)? {
+                Advance::Waits => {
+                    return Ok(Progress {
+                        moved,
+                        is_done: false,
+                    });
+                }
+                Advance::Done => return Ok(Progress { moved, is_done }),
+                Advance::Went => {}
+            }
+            moved = true;
+            if let Some(sent) = replay.sent {
+                deliver(&mut over.cores, &self.places, sent);
+            }
+        }
+        Ok(Progress {
+            moved,
+            is_done: false,
+        })
+    }
+
+    // The events of each core in turn, as many as may come.
+    fn round(&mut self, over: &mut CoresOver<ReplayedSide>) -> Result<Progress, AllocError> {
+        let mut all = Progress {
+            moved: false,
+            is_done: true,
+        };
+        for core in 0..over.cores.as_slice().len() {
+            let one = self.go(over, core)?;
+            all.moved = all.moved || one.moved;
+            all.is_done = all.is_done && one.is_done;
+        }
+        Ok(all)
+    }
+
+    /// Runs all cores to their ends, which all of them have to come to.
+    pub(crate) fn run(&mut self, over: &mut CoresOver<ReplayedSide>) -> Result<(), NoScript> {
+        for _ in 0..u64::MAX {
+            let all = self.round(over)?;
+            if is_lost(&over.cores) {
+                return Err(NoScript::Memory);
+            }
+            if all.is_done {
+                return Ok(());
+            }
+            if !all.moved {
+                return Err(NoScript::Strays);
+            }
+        }
+        Err(NoScript::Strays)
+    }
+}
+
+// ---- what they did
+
+/// All cores of a run, behind it.
+#[derive(Clone, Copy)]
+pub(crate) struct Replayed<'a> {
+    replay: &'a Replay,
+    cores: &'a [CoreOver<ReplayedSide>],
+}
+
+/// Behind how many of its core's events a side's looks stand that found nothing.
+#[derive(Clone, Copy)]
+pub(crate) struct MissedBehind {
+    pub(crate) core: usize,
+    pub(crate) steps: usize,
+}
+
+impl<'a> Replayed<'a> {
+    pub(crate) fn new(replay: &'a Replay, cores: &'a [CoreOver<ReplayedSide>]) -> Replayed<'a> {
+        Replayed { replay, cores }
+    }
+}
+
+impl Replayed<'_> {
     /// How many cores there are.
     pub(crate) fn count(&self) -> usize {
-        self.cores.as_slice().len()
+        self.cores.len()
     }
 
     /// An event of a core.
     pub(crate) fn step(&self, core: usize, step: usize) -> Option<CoreStep> {
-        let core = self.cores.get(core)?;
+        let core = self.replay.cores.get(core)?;
         match core.steps.get(step) {
             None => None,
             Some(step) => Some(*step),
@@ -167,79 +279,19 @@ impl Replay {
 
     /// The neighbour of a core on a link.
     pub(crate) fn neighbour(&self, core: usize, link: LinkId) -> Option<u8> {
-        self.cores.get(core)?.neighbour(link)
+        let core = self.cores.get(core)?;
+        let neighbour = core.running.core.monitor().circuits().neighbour(link)?;
+        Some(neighbour.0)
     }
 
-    /// The core of a side, and behind how many of its events its looks stand that found nothing at this
-    /// fragment.
-    pub(crate) fn missed_behind(&self, side: usize, fragment: usize) -> Option<(usize, usize)> {
-        let at = *self.places.get(side)?;
-        let side = self.cores.get(at.core)?.side(at.place)?;
-        match side.behind.get(fragment) {
-            None => Some((at.core, side.missed_behind)),
-            Some(behind) => Some((at.core, *behind)),
-        }
-    }
-
-    // Hands over what the last event of a core put.
-    fn deliver(&mut self, core: usize) {
-        let Some(from) = self.cores.get(core) else {
-            return;
-        };
-        let Some((side, frag)) = from.sent else {
-            return;
-        };
-        let Some(at) = self.places.get(side ^ 1) else {
-            return;
-        };
-        let at = *at;
-        if let Some(to) = self.cores.get_mut(at.core) {
-            to.receive(at.place, frag);
-        }
-    }
-
-    // The events of a core, until it waits or is done. Whether there was one, and whether it is done.
-    fn go(&mut self, core: usize) -> Result<(bool, bool), AllocError> {
-        let mut moved = false;
-        for _ in 0..MANY {
-            let Some(one) = self.cores.get_mut(core) else {
-                return Ok((false, true));
-            };
-            match one.advance(&self.joined.jobs, &self.joined.end_works)? {
-                Advance::Waits => return Ok((moved, false)),
-                Advance::Done => return Ok((moved, true)),
-                Advance::Went => {}
-            }
-            moved = true;
-            self.deliver(core);
-        }
-        Ok((moved, false))
-    }
-
-    // Whether memory was refused to a side.
-    fn is_lost(&self) -> bool {
-        for core in self.cores.iter() {
-            if core.is_lost() {
-                return true;
-            }
-        }
-        false
-    }
-
-    /// Runs all cores to their ends. Whether they came there.
-    pub(crate) fn run(&mut self) -> Result<bool, AllocError> {
-        for _ in 0..u64::MAX {
-            let mut moved = false;
-            let mut all_done = true;
-            for core in 0..self.count() {
-                let (went, done) = self.go(core)?;
-                moved = moved || went;
-                all_done = all_done && done;
-            }
-            if all_done || !moved {
-                return Ok(all_done && !self.is_lost());
-            }
-        }
-        Ok(false)
+    /// Where the looks of a side stand that found nothing at this fragment.
+    pub(crate) fn missed_behind(&self, side: usize, fragment: usize) -> Option<MissedBehind> {
+        let at = *self.replay.places.get(side)?;
+        let core = self.cores.get(at.core)?;
+        let side = core.running.rings.get(at.place)?;
+        Some(MissedBehind {
+            core: at.core,
+            steps: side.missed_behind(fragment),
+        })
     }
 }

@@ -1,14 +1,16 @@
 //! A core that is run once more, event by event.
 
-use crate::replayed_side::{NO_EFFECT, ReplayedSide};
-use fl_base::{EndId, Frag, LinkId};
+use crate::replayed_side::{
+    NO_RING_EFFECT, ReplayedPut, ReplayedSide, ReplayedSight, RingEffect, SentFrag,
+};
+use fl_base::{EndId, LinkId, Side};
 use fl_core::{CoreJob, Inlet};
 use fl_core_run::{RunningCore, TurnPlan};
-use fl_cores_fork::CoreThread;
-use fl_cores_jobs::EndWork;
+use fl_cores::CoreOver;
+use fl_cores_jobs::JoinedJobs;
 use std::alloc::{AllocError, Global};
 
-/// What a turn is made of, in order.
+/// What a turn is made of.
 #[derive(Clone, Copy)]
 enum Task {
     Forward(LinkId),
@@ -28,24 +30,10 @@ pub(crate) enum CoreEvent {
     /// A job, by its place among all.
     Job(usize),
     Write(EndId),
-    /// A dispatcher's turn, by its place at the core.
-    Turn(usize),
+    /// A turn of a dispatcher, by its place at the core, at the end of this place.
+    Turn { dispatcher: usize, end: usize },
     Tell(LinkId),
     Ack(EndId),
-}
-
-/// A fragment that is put: at a side, by its number, where so many slots are to be free.
-#[derive(Clone, Copy)]
-pub(crate) struct ReplayedPut {
-    pub(crate) side: usize,
-    pub(crate) need: usize,
-}
-
-/// A fragment that is seen at a side, by its number, and taken or left.
-#[derive(Clone, Copy)]
-pub(crate) struct ReplayedSight {
-    pub(crate) side: usize,
-    pub(crate) is_taken: bool,
 }
 
 /// An event, and what it did at rings.
@@ -59,7 +47,7 @@ pub(crate) struct CoreStep {
 }
 
 /// How a core goes on.
-#[derive(Clone, Copy, PartialEq, Eq)]
+#[derive(Clone, Copy)]
 pub(crate) enum Advance {
     /// An event was done, or passed by.
     Went,
@@ -80,226 +68,300 @@ struct Rounds {
     count: usize,
 }
 
-/// A core that is run once more.
+/// How far a core has come that is run once more.
 #[derive(Drop)]
-pub(crate) struct ReplayedCore {
-    running: RunningCore<ReplayedSide>,
-    // by side its number among all
-    pub(crate) numbers: Vec<usize>,
-    tasks: Vec<Task>,
+pub(crate) struct CoreReplay {
+    // the place of the next task of its turn
     at: usize,
     // how many turns are still counted, and how many on end found nothing that was noted
     left: u64,
     stale: u32,
+    // by dispatcher
     rounds: Vec<Rounds>,
     /// Its events, in order.
     pub(crate) steps: Vec<CoreStep>,
-    /// The side, by its number, and the fragment that the last event put.
-    pub(crate) sent: Option<(usize, Frag)>,
+    /// What the last event put.
+    pub(crate) sent: Option<SentFrag>,
 }
 
 // A core that takes so many turns on end that find nothing of what was noted has left the record.
 const MOST_STALE: u32 = 100_000;
 
-fn tasks_of(alloc: Global, plan: &TurnPlan) -> Result<Vec<Task>, AllocError> {
-    let mut tasks = Vec::new(alloc);
-    for link in plan.links.iter() {
-        tasks.push(Task::Forward(*link))?;
+// ---- what a turn is made of
+
+// The task at a place of a turn, in order: forwards, monitor writes, jobs and writes, dispatchers' turns, and
+// acknowledgements.
+fn task_at(plan: &TurnPlan, place: usize) -> Option<Task> {
+    let links = plan.links.as_slice();
+    let ends = plan.ends.as_slice();
+    if let Some(link) = links.get(place) {
+        return Some(Task::Forward(*link));
     }
-    for link in plan.links.iter() {
-        tasks.push(Task::Say(*link))?;
+    let place = place.wrapping_sub(links.len());
+    if let Some(link) = links.get(place) {
+        return Some(Task::Say(*link));
     }
-    for end in plan.ends.iter() {
-        tasks.push(Task::Job(*end))?;
-        tasks.push(Task::Write(*end))?;
+    let place = place.wrapping_sub(links.len());
+    if let Some(end) = ends.get(place / 2) {
+        if place % 2 == 0 {
+            return Some(Task::Job(*end));
+        }
+        return Some(Task::Write(*end));
     }
-    for dispatcher in 0..plan.dispatchers {
-        tasks.push(Task::Turn(dispatcher))?;
+    let place = place.wrapping_sub(ends.len()).wrapping_sub(ends.len());
+    if place < plan.dispatchers {
+        return Some(Task::Turn(place));
     }
-    for link in plan.links.iter() {
-        tasks.push(Task::Tell(*link))?;
-    }
-    for end in plan.ends.iter() {
-        tasks.push(Task::Ack(*end))?;
-    }
-    Ok(tasks)
+    last_task_at(links, ends, place.wrapping_sub(plan.dispatchers))
 }
 
-fn rounds_of(alloc: Global, dispatchers: usize) -> Result<Vec<Rounds>, AllocError> {
-    let mut rounds = Vec::new(alloc);
-    for _ in 0..dispatchers {
-        rounds.push(Rounds {
-            ends: Vec::new(alloc),
-            steps: Vec::new(alloc),
-            is_closed: false,
-            count: 0,
-        })?;
+fn last_task_at(links: &[LinkId], ends: &[EndId], place: usize) -> Option<Task> {
+    if let Some(link) = links.get(place) {
+        return Some(Task::Tell(*link));
     }
-    Ok(rounds)
+    match ends.get(place.wrapping_sub(links.len())) {
+        None => None,
+        Some(end) => Some(Task::Ack(*end)),
+    }
 }
+
+// ---- the core, over its sides
 
 // The place of an end's work.
 fn slot_of(end: EndId) -> usize {
     let side = match end.side {
-        fl_base::Side::Client => 0,
-        fl_base::Side::Server => 1,
+        Side::Client => 0,
+        Side::Server => 1,
     };
     end.binding.wrapping_mul(2).wrapping_add(side)
 }
 
-impl ReplayedCore {
-    /// A core at its start, over these sides, with their numbers, which counts so many turns.
+// How many jobs of an end are done.
+fn jobs_done(core: &RunningCore<ReplayedSide>, end: EndId) -> usize {
+    match core.progresses.get(slot_of(end)) {
+        None => 0,
+        Some(progress) => progress.done(),
+    }
+}
+
+// Whether all that its sides noted came again.
+fn is_done(core: &RunningCore<ReplayedSide>) -> bool {
+    for side in core.rings.iter() {
+        if !side.is_done() {
+            return false;
+        }
+    }
+    true
+}
+
+fn is_ready(core: &RunningCore<ReplayedSide>, place: usize) -> bool {
+    match core.rings.get(place) {
+        None => true,
+        Some(side) => side.is_ready(),
+    }
+}
+
+fn may_forward(core: &RunningCore<ReplayedSide>, link: LinkId) -> bool {
+    match core.side_of(link) {
+        None => true,
+        Some(place) => is_ready(core, place),
+    }
+}
+
+fn may_turn(core: &RunningCore<ReplayedSide>, jobs: &[CoreJob], dispatcher: usize) -> bool {
+    match core.due(jobs, dispatcher) {
+        None => true,
+        Some(at) => match at.inlet {
+            Inlet::Side(place) => is_ready(core, place),
+            Inlet::Queue(_) | Inlet::Arrivals => true,
+        },
+    }
+}
+
+// Whether what a task's look is to find is there.
+fn may_go(core: &RunningCore<ReplayedSide>, jobs: &[CoreJob], task: Task) -> bool {
+    match task {
+        Task::Forward(link) => may_forward(core, link),
+        Task::Turn(dispatcher) => may_turn(core, jobs, dispatcher),
+        _ => true,
+    }
+}
+
+// What the event at hand did at sides.
+fn end_event(core: &mut RunningCore<ReplayedSide>) -> RingEffect {
+    let mut effect = NO_RING_EFFECT;
+    for side in core.rings.iter_mut() {
+        side.end_event(&mut effect);
+    }
+    effect
+}
+
+// Sides whose look found nothing stand behind so many events.
+fn mark_missed(core: &mut RunningCore<ReplayedSide>, steps: usize) {
+    for side in core.rings.iter_mut() {
+        side.mark_missed(steps);
+    }
+}
+
+// ---- tasks, and the event that is told of each, if one is
+
+fn forward(
+    core: &mut RunningCore<ReplayedSide>,
+    link: LinkId,
+) -> Result<Option<CoreEvent>, AllocError> {
+    core.forward(link)?;
+    Ok(Some(CoreEvent::Forward(link)))
+}
+
+fn say(core: &mut RunningCore<ReplayedSide>, link: LinkId) -> Option<CoreEvent> {
+    core.say(link);
+    Some(CoreEvent::Say(link))
+}
+
+fn job_at(joined: &JoinedJobs, end: EndId, done: usize) -> Option<CoreEvent> {
+    let work = joined.end_works.get(slot_of(end))?;
+    match work.jobs.get(done) {
+        None => None,
+        Some(job) => Some(CoreEvent::Job(*job)),
+    }
+}
+
+fn do_job(
+    core: &mut RunningCore<ReplayedSide>,
+    joined: &JoinedJobs,
+    end: EndId,
+) -> Result<Option<CoreEvent>, AllocError> {
+    let before = jobs_done(core, end);
+    core.try_job(&joined.jobs, end)?;
+    if jobs_done(core, end) == before {
+        return Ok(None);
+    }
+    Ok(job_at(joined, end, before))
+}
+
+fn write(core: &mut RunningCore<ReplayedSide>, end: EndId) -> Option<CoreEvent> {
+    core.write(end);
+    Some(CoreEvent::Write(end))
+}
+
+fn turn(
+    core: &mut RunningCore<ReplayedSide>,
+    jobs: &[CoreJob],
+    dispatcher: usize,
+) -> Result<Option<CoreEvent>, AllocError> {
+    let end = match core.due(jobs, dispatcher) {
+        None => return Ok(None),
+        Some(at) => at.end,
+    };
+    core.turn_of(jobs, dispatcher)?;
+    Ok(Some(CoreEvent::Turn { dispatcher, end }))
+}
+
+fn tell(core: &mut RunningCore<ReplayedSide>, link: LinkId) -> Option<CoreEvent> {
+    core.tell(link);
+    Some(CoreEvent::Tell(link))
+}
+
+fn ack(core: &mut RunningCore<ReplayedSide>, end: EndId) -> Option<CoreEvent> {
+    core.ack(end);
+    Some(CoreEvent::Ack(end))
+}
+
+fn perform(
+    core: &mut RunningCore<ReplayedSide>,
+    joined: &JoinedJobs,
+    task: Task,
+) -> Result<Option<CoreEvent>, AllocError> {
+    match task {
+        Task::Forward(link) => forward(core, link),
+        Task::Say(link) => Ok(say(core, link)),
+        Task::Job(end) => do_job(core, joined, end),
+        Task::Write(end) => Ok(write(core, end)),
+        Task::Turn(dispatcher) => turn(core, &joined.jobs, dispatcher),
+        Task::Tell(link) => Ok(tell(core, link)),
+        Task::Ack(end) => Ok(ack(core, end)),
+    }
+}
+
+// ---- what is told of events
+
+impl CoreStep {
+    fn is_take(&self) -> bool {
+        match self.sight {
+            None => false,
+            Some(sight) => sight.is_taken,
+        }
+    }
+}
+
+impl Rounds {
+    // Whether the turn at this end is of the first round.
+    fn is_first(&mut self, end: usize) -> bool {
+        self.count = self.count.wrapping_add(1);
+        if let Some(first) = self.ends.get(0) {
+            self.is_closed = self.is_closed || *first == end;
+        }
+        !self.is_closed
+    }
+
+    // Turns of whole rounds are told no more; the next turn begins the next round.
+    fn end(&mut self, told: &mut [CoreStep]) {
+        let count = self.ends.as_slice().len();
+        if self.is_closed && count > 0 {
+            for k in self.count % count..count {
+                if let Some(at) = self.steps.get(k) {
+                    leave_out(told, *at);
+                }
+            }
+        }
+        self.ends.clear();
+        self.steps.clear();
+        self.is_closed = false;
+        self.count = 0;
+    }
+}
+
+fn leave_out(steps: &mut [CoreStep], at: usize) {
+    if let Some(step) = steps.get_mut(at) {
+        step.is_left_out = true;
+    }
+}
+
+fn all_rounds(alloc: Global, dispatchers: usize) -> Result<Vec<Rounds>, AllocError> {
+    let mut rounds = Vec::new(alloc);
+    for _ in 0..dispatchers {
+        rounds.reserve(1)?;
+        rounds.push_reserved(Rounds {
+            ends: Vec::new(alloc),
+            steps: Vec::new(alloc),
+            is_closed: false,
+            count: 0,
+        });
+    }
+    Ok(rounds)
+}
+
+impl CoreReplay {
+    /// A core at its start, with so many dispatchers, which counts so many turns.
     pub(crate) fn new(
         alloc: Global,
-        thread: CoreThread,
-        sides: Vec<ReplayedSide>,
-        numbers: Vec<usize>,
+        dispatchers: usize,
         turns: u64,
-    ) -> Result<ReplayedCore, AllocError> {
-        let tasks = tasks_of(alloc, &thread.plan)?;
-        let rounds = rounds_of(alloc, thread.plan.dispatchers)?;
-        let (running, _) = Box::into_inner(thread.running).with_rings(sides);
-        Ok(ReplayedCore {
-            running,
-            numbers,
-            tasks,
+    ) -> Result<CoreReplay, AllocError> {
+        Ok(CoreReplay {
             at: 0,
             left: turns,
             stale: 0,
-            rounds,
+            rounds: all_rounds(alloc, dispatchers)?,
             steps: Vec::new(alloc),
             sent: None,
         })
     }
 
-    /// The core of its neighbour on a link.
-    pub(crate) fn neighbour(&self, link: LinkId) -> Option<u8> {
-        let neighbour = self.running.core.monitor().circuits().neighbour(link)?;
-        Some(neighbour.0)
-    }
-
-    /// The side at a place.
-    pub(crate) fn side(&self, place: usize) -> Option<&ReplayedSide> {
-        self.running.rings.get(place)
-    }
-
-    /// A fragment is put where a side finds it.
-    pub(crate) fn receive(&mut self, place: usize, frag: Frag) {
-        if let Some(side) = self.running.rings.get_mut(place) {
-            side.receive(frag);
-        }
-    }
-
-    /// Whether memory was refused to one of its sides.
-    pub(crate) fn is_lost(&self) -> bool {
-        for side in self.running.rings.iter() {
-            if side.is_lost {
-                return true;
-            }
-        }
-        false
-    }
-
-    // Whether all that its sides noted came again.
-    fn is_done(&self) -> bool {
-        for side in self.running.rings.iter() {
-            if !side.is_done() {
-                return false;
-            }
-        }
-        true
-    }
-
-    fn is_ready(&self, place: usize) -> bool {
-        match self.running.rings.get(place) {
-            None => true,
-            Some(side) => side.is_ready(),
-        }
-    }
-
-    // Whether what a task's look is to find is there.
-    fn may_go(&self, jobs: &[CoreJob], task: Task) -> bool {
-        match task {
-            Task::Forward(link) => match self.running.side_of(link) {
-                None => true,
-                Some(place) => self.is_ready(place),
-            },
-            Task::Turn(dispatcher) => match self.running.due(jobs, dispatcher) {
-                None => true,
-                Some(at) => match at.inlet {
-                    Inlet::Side(place) => self.is_ready(place),
-                    Inlet::Queue(_) | Inlet::Arrivals => true,
-                },
-            },
-            _ => true,
-        }
-    }
-}
-
-// ---- what an event did
-
-impl ReplayedCore {
-    // What the event at hand did at sides. Whether anything that was noted came again.
-    fn collect(&mut self, step: &mut CoreStep) -> bool {
-        let mut is_noted = false;
-        let mut place = 0;
-        for side in self.running.rings.iter_mut() {
-            let number = match self.numbers.get(place) {
-                None => 0,
-                Some(number) => *number,
-            };
-            place = usize::wrapping_add(place, 1);
-            let effect = side.effect;
-            side.effect = NO_EFFECT;
-            if effect.saw || effect.took {
-                step.sight = Some(ReplayedSight {
-                    side: number,
-                    is_taken: effect.took,
-                });
-            }
-            if let Some(need) = effect.put {
-                step.put = Some(ReplayedPut { side: number, need });
-                if let Some(frag) = side.outbox.pop() {
-                    self.sent = Some((number, frag));
-                }
-            }
-            is_noted = is_noted
-                || effect.missed
-                || effect.saw
-                || effect.took
-                || effect.put.is_some();
-            side.is_missing = effect.missed;
-        }
-        is_noted
-    }
-
-    // Sides whose look found nothing stand behind so many events.
-    fn mark_missed(&mut self) {
-        let count = self.steps.as_slice().len();
-        for side in self.running.rings.iter_mut() {
-            if side.is_missing {
-                side.missed_behind = count;
-            }
-        }
-    }
-
-    // Turns that did nothing are told no more where they make whole rounds.
+    // What happens next isn't a turn that does nothing.
     fn end_rounds(&mut self) {
         for rounds in self.rounds.iter_mut() {
-            let count = rounds.ends.as_slice().len();
-            if rounds.is_closed && count > 0 {
-                for k in rounds.count % count..count {
-                    if let Some(at) = rounds.steps.get(k) {
-                        if let Some(step) = self.steps.get_mut(*at) {
-                            step.is_left_out = true;
-                        }
-                    }
-                }
-            }
-            rounds.ends.clear();
-            rounds.steps.clear();
-            rounds.is_closed = false;
-            rounds.count = 0;
+            rounds.end(&mut self.steps);
         }
     }
 
@@ -311,155 +373,67 @@ impl ReplayedCore {
         step: CoreStep,
     ) -> Result<(), AllocError> {
         let here = self.steps.as_slice().len();
-        let Some(rounds) = self.rounds.get_mut(dispatcher) else {
-            self.steps.push(step)?;
-            return Ok(());
-        };
-        rounds.count = rounds.count.wrapping_add(1);
-        if let Some(first) = rounds.ends.get(0) {
-            rounds.is_closed = rounds.is_closed || *first == end;
-        }
-        if !rounds.is_closed {
+        if let Some(rounds) = self.rounds.get_mut(dispatcher) {
+            if !rounds.is_first(end) {
+                return Ok(());
+            }
             rounds.ends.push(end)?;
             rounds.steps.push(here)?;
+        }
+        self.steps.push(step)?;
+        Ok(())
+    }
+
+    // Keeps an event, if it is to be told: one that did something.
+    fn keep(&mut self, step: CoreStep, moved: bool) -> Result<(), AllocError> {
+        let is_told = match step.event {
+            CoreEvent::Forward(_) => step.is_take(),
+            CoreEvent::Say(_) | CoreEvent::Tell(_) | CoreEvent::Ack(_) => step.put.is_some(),
+            CoreEvent::Job(_) => true,
+            CoreEvent::Write(_) => moved,
+            CoreEvent::Turn { dispatcher, end } => {
+                if !moved && !step.is_take() {
+                    return self.idle_turn(dispatcher, end, step);
+                }
+                true
+            }
+        };
+        if is_told {
+            self.end_rounds();
             self.steps.push(step)?;
         }
         Ok(())
     }
 
-    // An event that did something.
-    fn add(&mut self, step: CoreStep) -> Result<(), AllocError> {
-        self.end_rounds();
-        self.steps.push(step)?;
+    // Notes an event.
+    fn note(
+        &mut self,
+        core: &mut RunningCore<ReplayedSide>,
+        event: CoreEvent,
+    ) -> Result<(), AllocError> {
+        let effect = end_event(core);
+        self.sent = effect.sent;
+        if effect.is_noted {
+            self.stale = 0;
+        }
+        let step = CoreStep {
+            event,
+            sight: effect.sight,
+            put: effect.put,
+            is_left_out: false,
+        };
+        self.keep(step, core.idle == 0)?;
+        mark_missed(core, self.steps.as_slice().len());
         Ok(())
     }
 }
 
 // ---- its turns
 
-impl ReplayedCore {
-    // How many jobs of an end are done.
-    fn done_at(&self, end: EndId) -> usize {
-        match self.running.progresses.get(slot_of(end)) {
-            None => 0,
-            Some(progress) => progress.done(),
-        }
-    }
-
-    // A job of an end, if one can be done: its place among all.
-    fn do_job(
-        &mut self,
-        jobs: &[CoreJob],
-        works: &[EndWork],
-        end: EndId,
-    ) -> Result<Option<usize>, AllocError> {
-        let before = self.done_at(end);
-        self.running.try_job(jobs, end)?;
-        if self.done_at(end) == before {
-            return Ok(None);
-        }
-        let Some(work) = works.get(slot_of(end)) else {
-            return Ok(None);
-        };
-        match work.jobs.get(before) {
-            None => Ok(None),
-            Some(job) => Ok(Some(*job)),
-        }
-    }
-
-    // Does a task. What is told of it: the event, and of a dispatcher's turn at which end it was.
-    fn perform(
-        &mut self,
-        jobs: &[CoreJob],
-        works: &[EndWork],
-        task: Task,
-    ) -> Result<Option<(CoreEvent, usize)>, AllocError> {
-        match task {
-            Task::Forward(link) => {
-                self.running.forward(link)?;
-                Ok(Some((CoreEvent::Forward(link), 0)))
-            }
-            Task::Say(link) => {
-                self.running.say(link);
-                Ok(Some((CoreEvent::Say(link), 0)))
-            }
-            Task::Job(end) => match self.do_job(jobs, works, end)? {
-                None => Ok(None),
-                Some(job) => Ok(Some((CoreEvent::Job(job), 0))),
-            },
-            Task::Write(end) => {
-                self.running.write(end);
-                Ok(Some((CoreEvent::Write(end), 0)))
-            }
-            Task::Turn(dispatcher) => match self.running.due(jobs, dispatcher) {
-                None => Ok(None),
-                Some(at) => {
-                    self.running.turn_of(jobs, dispatcher)?;
-                    Ok(Some((CoreEvent::Turn(dispatcher), at.end)))
-                }
-            },
-            Task::Tell(link) => {
-                self.running.tell(link);
-                Ok(Some((CoreEvent::Tell(link), 0)))
-            }
-            Task::Ack(end) => {
-                self.running.ack(end);
-                Ok(Some((CoreEvent::Ack(end), 0)))
-            }
-        }
-    }
-
-    // Notes an event, if it is to be told.
-    fn note(&mut self, event: CoreEvent, end: usize) -> Result<(), AllocError> {
-        let mut step = CoreStep {
-            event,
-            sight: None,
-            put: None,
-            is_left_out: false,
-        };
-        if self.collect(&mut step) {
-            self.stale = 0;
-        }
-        let took = match step.sight {
-            None => false,
-            Some(sight) => sight.is_taken,
-        };
-        let moved = self.running.idle == 0;
-        match event {
-            CoreEvent::Forward(_) => {
-                if took {
-                    self.add(step)?;
-                }
-            }
-            CoreEvent::Say(_) | CoreEvent::Tell(_) | CoreEvent::Ack(_) => {
-                if step.put.is_some() {
-                    self.add(step)?;
-                }
-            }
-            CoreEvent::Job(_) => self.add(step)?,
-            CoreEvent::Write(_) => {
-                if moved {
-                    self.add(step)?;
-                }
-            }
-            CoreEvent::Turn(dispatcher) => {
-                if moved || took {
-                    self.add(step)?;
-                } else {
-                    self.idle_turn(dispatcher, end, step)?;
-                }
-            }
-        }
-        self.mark_missed();
-        Ok(())
-    }
-
+impl CoreReplay {
     // Whether the core takes another turn.
-    fn takes_another(&self) -> bool {
-        if self.tasks.is_empty() {
-            return false;
-        }
-        self.left > 0 || self.stale < MOST_STALE && !self.is_done()
+    fn takes_another(&self, core: &RunningCore<ReplayedSide>) -> bool {
+        self.left > 0 || self.stale < MOST_STALE && !is_done(core)
     }
 
     // A turn begins.
@@ -471,33 +445,51 @@ impl ReplayedCore {
         self.stale = self.stale.saturating_add(1);
     }
 
-    /// The next event, or what is in place of it.
-    pub(crate) fn advance(
+    // A turn ends, if it has begun.
+    fn end_turn(&mut self) -> Advance {
+        if self.at == 0 {
+            return Advance::Done;
+        }
+        self.at = 0;
+        Advance::Went
+    }
+
+    // Does a task.
+    fn go(
         &mut self,
-        jobs: &[CoreJob],
-        works: &[EndWork],
-    ) -> Result<Advance, AllocError> {
-        self.sent = None;
-        if self.at == 0 && !self.takes_another() {
-            self.end_rounds();
-            return Ok(Advance::Done);
-        }
-        let Some(task) = self.tasks.get(self.at) else {
-            self.at = 0;
-            return Ok(Advance::Went);
-        };
-        let task = *task;
-        if !self.may_go(jobs, task) {
-            return Ok(Advance::Waits);
-        }
+        core: &mut RunningCore<ReplayedSide>,
+        joined: &JoinedJobs,
+        task: Task,
+    ) -> Result<(), AllocError> {
         if self.at == 0 {
             self.begin_turn();
         }
         self.at = self.at.wrapping_add(1);
-        self.running.idle = 1;
-        if let Some((event, end)) = self.perform(jobs, works, task)? {
-            self.note(event, end)?;
+        core.idle = 1;
+        match perform(core, joined, task)? {
+            None => Ok(()),
+            Some(event) => self.note(core, event),
         }
+    }
+
+    /// The next event, or what is in place of it.
+    pub(crate) fn advance(
+        &mut self,
+        over: &mut CoreOver<ReplayedSide>,
+        joined: &JoinedJobs,
+    ) -> Result<Advance, AllocError> {
+        self.sent = None;
+        if self.at == 0 && !self.takes_another(&over.running) {
+            self.end_rounds();
+            return Ok(Advance::Done);
+        }
+        let Some(task) = task_at(&over.plan, self.at) else {
+            return Ok(self.end_turn());
+        };
+        if !may_go(&over.running, &joined.jobs, task) {
+            return Ok(Advance::Waits);
+        }
+        self.go(&mut over.running, joined, task)?;
         Ok(Advance::Went)
     }
 }

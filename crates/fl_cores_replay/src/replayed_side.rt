@@ -10,30 +10,77 @@ use fl_link::{PutFault, PutSide, Sight, TakeSide, Told};
 use std::alloc::Global;
 use std::collections::VecDeque;
 
-/// What an event did at a side.
+// What an event did at a side.
 #[derive(Clone, Copy)]
-pub(crate) struct SideEffect {
-    /// A look found nothing.
-    pub(crate) missed: bool,
-    /// A look saw a fragment.
-    pub(crate) saw: bool,
-    /// One was taken.
-    pub(crate) took: bool,
-    /// One was put, which needed so many free slots.
-    pub(crate) put: Option<usize>,
+struct SideEffect {
+    // a look found nothing
+    missed: bool,
+    // a look saw a fragment
+    saw: bool,
+    // one was taken
+    took: bool,
+    // one was put, which needed so many free slots
+    put: Option<SidePut>,
 }
 
-pub(crate) const NO_EFFECT: SideEffect = SideEffect {
+#[derive(Clone, Copy)]
+struct SidePut {
+    frag: Frag,
+    need: usize,
+}
+
+const NO_EFFECT: SideEffect = SideEffect {
     missed: false,
     saw: false,
     took: false,
     put: None,
 };
 
+/// A fragment that is put: at a side, by its number, where so many slots are to be free.
+#[derive(Clone, Copy)]
+pub(crate) struct ReplayedPut {
+    pub(crate) side: usize,
+    pub(crate) need: usize,
+}
+
+/// A fragment that was put at a side, by its number, and isn't at the other side yet.
+#[derive(Clone, Copy)]
+pub(crate) struct SentFrag {
+    pub(crate) side: usize,
+    pub(crate) frag: Frag,
+}
+
+/// A fragment that is seen at a side, by its number, and taken or left.
+#[derive(Clone, Copy)]
+pub(crate) struct ReplayedSight {
+    pub(crate) side: usize,
+    pub(crate) is_taken: bool,
+}
+
+/// What an event did at all sides of its core.
+#[derive(Clone, Copy)]
+pub(crate) struct RingEffect {
+    pub(crate) sight: Option<ReplayedSight>,
+    pub(crate) put: Option<ReplayedPut>,
+    pub(crate) sent: Option<SentFrag>,
+    /// It did something that was noted when the core ran.
+    pub(crate) is_noted: bool,
+}
+
+/// An event that did nothing at any side.
+pub(crate) const NO_RING_EFFECT: RingEffect = RingEffect {
+    sight: None,
+    put: None,
+    sent: None,
+    is_noted: false,
+};
+
 /// A side of a ring that answers as a record says.
 #[derive(Drop)]
 pub(crate) struct ReplayedSide {
     record: SideRecord,
+    // its number among all sides
+    number: usize,
     // so many that are taken and not told are acknowledged
     half: usize,
     // what the other side put and this one didn't take, and what the last look saw
@@ -45,17 +92,15 @@ pub(crate) struct ReplayedSide {
     taken: usize,
     told: usize,
     placed: usize,
-    // what was put and isn't in the other side's inbox yet
-    pub(crate) outbox: Vec<Frag>,
-    pub(crate) effect: SideEffect,
-    // whether the last event's look found nothing
-    pub(crate) is_missing: bool,
+    // what the event at hand did, and whether the last one's look found nothing
+    effect: SideEffect,
+    is_missing: bool,
     // behind how many of its core's events the last look stands that found nothing; and that of each fragment
     // that was seen
-    pub(crate) missed_behind: usize,
-    pub(crate) behind: Vec<usize>,
+    missed_behind: usize,
+    behind: Vec<usize>,
     // memory was refused
-    pub(crate) is_lost: bool,
+    is_lost: bool,
 }
 
 // A fragment that only acknowledges.
@@ -74,11 +119,17 @@ fn sight_of(frag: Frag) -> Sight
 }
 
 impl ReplayedSide {
-    /// A side that has done nothing yet.
-    pub(crate) fn new(alloc: Global, record: SideRecord, size: usize) -> ReplayedSide {
+    /// A side of this number, of a ring with so many slots each way, that has done nothing yet.
+    pub(crate) fn new(
+        alloc: Global,
+        record: SideRecord,
+        number: usize,
+        slots: usize,
+    ) -> ReplayedSide {
         ReplayedSide {
             record,
-            half: size / 2,
+            number,
+            half: slots / 2,
             inbox: VecDeque::new(alloc),
             sighted: None,
             missing: 0,
@@ -86,7 +137,6 @@ impl ReplayedSide {
             taken: 0,
             told: 0,
             placed: 0,
-            outbox: Vec::new(alloc),
             effect: NO_EFFECT,
             is_missing: false,
             missed_behind: 0,
@@ -105,6 +155,11 @@ impl ReplayedSide {
             || !self.inbox.is_empty()
     }
 
+    /// Whether memory was refused to it.
+    pub(crate) fn is_lost(&self) -> bool {
+        self.is_lost
+    }
+
     /// Whether all that was noted came again.
     pub(crate) fn is_done(&self) -> bool {
         self.behind.as_slice().len() >= self.record.missed.as_slice().len()
@@ -115,6 +170,50 @@ impl ReplayedSide {
     pub(crate) fn receive(&mut self, frag: Frag) {
         if self.inbox.push_back(frag).is_err() {
             self.is_lost = true;
+        }
+    }
+
+    /// Adds what the event at hand did here; the next one has done nothing yet.
+    pub(crate) fn end_event(&mut self, all: &mut RingEffect) {
+        let effect = self.effect;
+        self.effect = NO_EFFECT;
+        self.is_missing = effect.missed;
+        if effect.missed {
+            all.is_noted = true;
+        }
+        if effect.saw || effect.took {
+            all.is_noted = true;
+            all.sight = Some(ReplayedSight {
+                side: self.number,
+                is_taken: effect.took,
+            });
+        }
+        if let Some(put) = effect.put {
+            let side = self.number;
+            all.is_noted = true;
+            all.put = Some(ReplayedPut {
+                side,
+                need: put.need,
+            });
+            all.sent = Some(SentFrag {
+                side,
+                frag: put.frag,
+            });
+        }
+    }
+
+    /// The event's look stands behind so many of the core's events, if it found nothing.
+    pub(crate) fn mark_missed(&mut self, steps: usize) {
+        if self.is_missing {
+            self.missed_behind = steps;
+        }
+    }
+
+    /// Behind how many of the core's events all looks stand that found nothing at this fragment.
+    pub(crate) fn missed_behind(&self, fragment: usize) -> usize {
+        match self.behind.get(fragment) {
+            None => self.missed_behind,
+            Some(behind) => *behind,
         }
     }
 
@@ -148,13 +247,10 @@ impl ReplayedSide {
             self.refusing = self.refusing.saturating_add(1);
             return Err(PutFault::Full);
         }
-        if self.outbox.push(*frag).is_err() {
-            self.is_lost = true;
-        }
         self.placed = self.placed.wrapping_add(1);
         self.refusing = 0;
         self.told = self.taken;
-        self.effect.put = Some(need);
+        self.effect.put = Some(SidePut { frag: *frag, need });
         Ok(())
     }
 }

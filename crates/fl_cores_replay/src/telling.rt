@@ -1,69 +1,31 @@
 //! A recorded run, told as a script.
 
-ghost use Rattle.std.specs.Prelude.{IfOk, IfSome};
+ghost use Rattle.std.specs.Prelude.{IfOk};
+ghost use Rattle.fl_cores_script.specs.Kept.{KeepsToFile};
 ghost use Rattle.fl_cores_script.specs.Replays.{Replays};
 
 use crate::lines::{FileLines, put_line, split_file};
+use crate::no_script::NoScript;
 use crate::order::{OrderedEvent, order_events};
-use crate::replay::Replay;
+use crate::replay::{Replay, Replayed, ReplayedSides};
 use crate::replayed_core::CoreEvent;
-use fl_base::{EndId, LinkId};
-use fl_cores::{CoresFault, Recording, WiredCores, wire_cores};
-use fl_cores_file::{CoresFile, CoresText, read_cores_text};
-use fl_cores_script::certify;
-use fl_model::{BackEnd, Event};
-use fl_script_lines::{ScriptNames, put_end};
-use fl_world::Config;
+use crate::replayed_side::ReplayedSide;
+use fl_base::{EndId, LinkId, Side};
+use fl_cores::{
+    CoresFault, CoresOver, FileLayout, Recording, RunRecord, WiredCores, WiredFile, wire_cores_text,
+};
+use fl_cores_script::{MAX_SCRIPT, certify, keeps_to_file};
 use std::alloc::{AllocError, Global};
 
-// The slots of each ring, in order of making.
-fn ring_sizes(alloc: Global, setup: &[Event<'_>]) -> Result<Vec<usize>, AllocError> {
-    let mut sizes = Vec::new(alloc);
-    for event in setup {
-        match event {
-            Event::AddLink { slots, .. } => sizes.push(*slots as usize)?,
-            Event::Bind { back_end, .. } => {
-                if let BackEnd::Ump(slots) = back_end {
-                    sizes.push(*slots as usize)?;
-                }
-            }
-            _ => {}
-        }
-    }
-    Ok(sizes)
-}
-
-// How many bindings are set up.
-fn count_set_up(setup: &[Event<'_>]) -> usize {
-    let mut count: usize = 0;
-    for event in setup {
-        if matches!(event, Event::Bind { .. }) {
-            count = count.wrapping_add(1);
-        }
-    }
-    count
-}
+// ---- lines of events
 
 // What events are told by.
-#[derive(Drop)]
+#[derive(Clone, Copy)]
 struct Teller<'a> {
     alloc: Global,
-    names: &'a ScriptNames,
-    // by binding, the place of its line
-    places: Vec<usize>,
-    replay: &'a Replay,
+    layout: &'a FileLayout,
+    replayed: &'a Replayed<'a>,
     jobs: &'a [&'a [u8]],
-}
-
-// By binding the place of its line.
-fn places_of(alloc: Global, numbers: &[usize]) -> Result<Vec<usize>, AllocError> {
-    let mut places = vec![in alloc; 0; numbers.len()]?;
-    for (place, number) in numbers.iter().enumerate() {
-        if let Some(found) = places.get_mut(*number) {
-            *found = place;
-        }
-    }
-    Ok(places)
 }
 
 impl Teller<'_> {
@@ -74,26 +36,20 @@ impl Teller<'_> {
         core: usize,
         link: LinkId,
     ) -> Result<(), AllocError> {
-        let neighbour = self.replay.neighbour(core, link).unwrap_or(0);
+        let neighbour = self.replayed.neighbour(core, link).unwrap_or(0);
         let text = format!(in self.alloc; "{verb} {core} {neighbour}\n")?;
         out.extend_from_slice(text.as_bytes())
     }
 
     fn put_end(&self, out: &mut Vec<u8>, verb: &[u8], end: EndId) -> Result<(), AllocError> {
-        let place = match self.places.get(end.binding) {
-            None => end.binding,
-            Some(place) => *place,
-        };
         out.extend_from_slice(verb)?;
-        put_end(
-            out,
-            self.names,
-            EndId {
-                binding: place,
-                side: end.side,
-            },
-        )?;
-        out.extend_from_slice(b"\n")
+        if let Some(name) = self.layout.bindings.get(end.binding) {
+            out.extend_from_slice(name)?;
+        }
+        match end.side {
+            Side::Client => out.extend_from_slice(b".c\n"),
+            Side::Server => out.extend_from_slice(b".s\n"),
+        }
     }
 
     fn put_turn(
@@ -102,14 +58,20 @@ impl Teller<'_> {
         core: usize,
         dispatcher: usize,
     ) -> Result<(), AllocError> {
-        for (k, at) in self.names.placed.iter().enumerate() {
-            if at.core as usize == core && at.place == dispatcher {
-                out.extend_from_slice(b"turn ")?;
-                out.extend_from_slice(self.names.dispatchers.get(k).unwrap_or(&[]))?;
-                return out.extend_from_slice(b"\n");
+        out.extend_from_slice(b"turn ")?;
+        if let Some(names) = self.layout.dispatchers.get(core) {
+            if let Some(name) = names.get(dispatcher) {
+                out.extend_from_slice(name)?;
             }
         }
-        Ok(())
+        out.extend_from_slice(b"\n")
+    }
+
+    fn put_job(&self, out: &mut Vec<u8>, job: usize) -> Result<(), AllocError> {
+        match self.jobs.get(job) {
+            None => Ok(()),
+            Some(line) => put_line(out, *line),
+        }
     }
 
     fn put_event(&self, out: &mut Vec<u8>, at: OrderedEvent) -> Result<(), AllocError> {
@@ -118,128 +80,146 @@ impl Teller<'_> {
             CoreEvent::Forward(link) => self.put_link(out, "forward", core, link),
             CoreEvent::Say(link) => self.put_link(out, "mwrite", core, link),
             CoreEvent::Tell(link) => self.put_link(out, "mack", core, link),
-            CoreEvent::Job(job) => match self.jobs.get(job) {
-                None => Ok(()),
-                Some(line) => put_line(out, *line),
-            },
+            CoreEvent::Job(job) => self.put_job(out, job),
             CoreEvent::Write(end) => self.put_end(out, b"write ", end),
             CoreEvent::Ack(end) => self.put_end(out, b"ack ", end),
-            CoreEvent::Turn(dispatcher) => self.put_turn(out, core, dispatcher),
+            CoreEvent::Turn { dispatcher, .. } => self.put_turn(out, core, dispatcher),
         }
+    }
+
+    fn put_events(&self, out: &mut Vec<u8>, events: &[OrderedEvent]) -> Result<(), AllocError> {
+        for event in events {
+            self.put_event(out, *event)?;
+        }
+        Ok(())
     }
 }
 
-// The script of cores that run once more: the lines that set up, and then those of their events.
-fn put_events(
+// ---- the script
+
+// The script of cores that ran once more: the lines that set up, and then those of their events.
+fn tell_replayed<'a>(
     alloc: Global,
-    lines: FileLines<'_>,
-    names: &ScriptNames,
-    numbers: &[usize],
-    replay: &mut Replay,
-    sizes: &[usize],
-) -> Result<Option<Vec<u8>>, AllocError> {
-    if !replay.run()? {
-        return Ok(None);
-    }
-    let Some(events) = order_events(alloc, replay, sizes)? else {
-        return Ok(None);
-    };
-    let FileLines { setup, jobs } = lines;
+    text: &'a [u8],
+    layout: &'a FileLayout,
+    replayed: &'a Replayed<'a>,
+) -> Result<Vec<u8>, NoScript> {
+    let events = order_events(alloc, replayed, &layout.slots)?;
+    let FileLines { setup, jobs } = split_file(alloc, text, &layout.done_before)?;
     let teller = Teller {
         alloc,
-        names,
-        places: places_of(alloc, numbers)?,
-        replay,
+        layout,
+        replayed,
         jobs: &jobs,
     };
     let mut out = setup;
-    for event in events.iter() {
-        teller.put_event(&mut out, *event)?;
-    }
-    Ok(Some(out))
+    teller.put_events(&mut out, &events)?;
+    Ok(out)
 }
 
-// The same from what they begin with.
-fn put_script(
+// The same of cores that are to run.
+fn tell_cores(
     alloc: Global,
-    lines: FileLines<'_>,
-    names: &ScriptNames,
-    numbers: &[usize],
+    text: &[u8],
+    layout: &FileLayout,
+    replay: Replay,
+    over: &mut CoresOver<ReplayedSide>,
+) -> Result<Vec<u8>, NoScript> {
+    let mut replay = replay;
+    replay.run(over)?;
+    tell_replayed(alloc, text, layout, &Replayed::new(&replay, &over.cores))
+}
+
+// The same of cores that are wired, over these sides.
+fn tell_wired(
+    alloc: Global,
+    text: &[u8],
+    layout: &FileLayout,
+    record: &RunRecord,
     wired: WiredCores,
-    recording: &Recording,
-    sizes: &[usize],
-) -> Result<Option<Vec<u8>>, AllocError> {
-    match Replay::new(alloc, wired, recording, sizes)? {
-        None => Ok(None),
-        Some(replay) => {
-            let mut replay = replay;
-            put_events(alloc, lines, names, numbers, &mut replay, sizes)
+    sides: ReplayedSides,
+) -> Result<Vec<u8>, NoScript> {
+    let ReplayedSides { places, sides } = sides;
+    let Ok(over) = wired.over(alloc, sides) else {
+        return Err(NoScript::Memory);
+    };
+    let mut over = over;
+    let told = match Replay::new(alloc, &over.cores, places, record) {
+        Ok(replay) => tell_cores(alloc, text, layout, replay, &mut over),
+        Err(reason) => Err(reason),
+    };
+    over.let_go();
+    told
+}
+
+// The same of a cores file that is wired.
+fn tell_file(
+    alloc: Global,
+    text: &[u8],
+    file: WiredFile,
+    record: &RunRecord,
+) -> Result<Vec<u8>, NoScript> {
+    let WiredFile { wired, layout } = file;
+    match ReplayedSides::new(alloc, &wired, &layout.slots, record) {
+        Ok(sides) => tell_wired(alloc, text, &layout, record, wired, sides),
+        Err(reason) => {
+            wired.let_go();
+            Err(reason)
         }
     }
 }
 
-// The same of a cores file with this text.
-fn tell_file(
-    alloc: Global,
-    text: &[u8],
-    file: CoresFile<'_>,
-    recording: &Recording,
-) -> Result<Option<Vec<u8>>, AllocError> {
-    let CoresFile {
-        cores,
-        setup,
-        jobs,
-        names,
-        numbers,
-    } = file;
-    if cores > 16 {
-        return Ok(None);
-    }
-    let sizes = ring_sizes(alloc, &setup)?;
-    let lines = split_file(alloc, text, &jobs, count_set_up(&setup))?;
-    let config = Config {
-        cores: cores as u8,
-        setup,
+// A script of what the cores of a file did in a run that was recorded.
+fn tell_script(alloc: Global, text: &[u8], recording: &Recording) -> Result<Vec<u8>, NoScript> {
+    let Some(record) = &recording.record else {
+        return Err(NoScript::Unrecorded);
     };
-    match wire_cores(alloc, &config, jobs) {
-        Ok(wired) => put_script(alloc, lines, &names, &numbers, wired, recording, &sizes),
-        Err(CoresFault::Memory) => Err(AllocError),
-        Err(_) => Ok(None),
+    match wire_cores_text(alloc, text) {
+        Ok(Some(file)) => tell_file(alloc, text, file, record),
+        Ok(None) => Err(NoScript::OtherFile),
+        Err(CoresFault::Memory) => Err(NoScript::Memory),
+        Err(_) => Err(NoScript::OtherFile),
     }
 }
 
-// A script of what the cores of a file did in a run that was recorded, if an order of their events is found.
-fn tell_script(
+// The same script, if its lines are the file's and events', and its transcript tells the report's calls.
+fn certified(
     alloc: Global,
-    text: &[u8],
-    recording: &Recording,
-) -> Result<Option<Vec<u8>>, AllocError> {
-    if !recording.is_on {
-        return Ok(None);
+    script: Vec<u8>,
+    file: &[u8],
+    report: &[u8],
+) -> Result<Vec<u8>, NoScript>
+    ensures replays { IfOk result (λ script. Replays script.items report.now) }
+    ensures keeps { IfOk result (λ script. KeepsToFile script.items file.now) }
+{
+    let bytes = script.as_slice().len();
+    if bytes > MAX_SCRIPT {
+        return Err(NoScript::TooLong { bytes });
     }
-    match read_cores_text(alloc, text)? {
-        CoresText::File(file) => tell_file(alloc, text, file, recording),
-        CoresText::Refused { .. } => Ok(None),
+    if !keeps_to_file(alloc, &script, file)? {
+        return Err(NoScript::OtherLines);
+    }
+    match certify(alloc, script, report)? {
+        Some(script) => Ok(script),
+        None => Err(NoScript::OtherCalls),
     }
 }
 
-/// A script that does what the cores of a file did in a run that was recorded, if one is found: run by `exec`
-/// it has a transcript that tells, at each end, just the calls that the run's report tells, in order. None is
-/// found where nothing was recorded, where the script would be too long for `exec`, or where it tells other
-/// calls.
+/// A script that does what the cores of a file did in a run that was recorded: run by `exec` it has a transcript that
+/// tells, at each end, just the calls that the run's report tells, in order. Each of its lines stands in the file, or
+/// asks for an event of a core.
 ///
 /// # Errors
-/// Out of memory.
+/// [`NoScript`]: why there is none.
 pub fn script_of(
     alloc: Global,
     file: &[u8],
     recording: &Recording,
     report: &[u8],
-) -> Result<Option<Vec<u8>>, AllocError>
-    ensures replays { IfOk result (λ found. IfSome found (λ script. Replays script.items report.now)) }
+) -> Result<Vec<u8>, NoScript>
+    ensures replays { IfOk result (λ script. Replays script.items report.now) }
+    ensures keeps { IfOk result (λ script. KeepsToFile script.items file.now) }
 {
-    match tell_script(alloc, file, recording)? {
-        None => Ok(None),
-        Some(script) => certify(alloc, script, report),
-    }
+    let script = tell_script(alloc, file, recording)?;
+    certified(alloc, script, file, report)
 }

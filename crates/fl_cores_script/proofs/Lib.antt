@@ -1,2 +1,3 @@
 -- Lemmas.
 pub mod Lines
+pub mod Sorting

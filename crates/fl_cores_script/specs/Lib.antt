@@ -1,3 +1,4 @@
 -- The promises rest on these.
 pub mod Replays
 pub mod Alike
+pub mod Kept

@@ -11,7 +11,7 @@ use std::alloc::{AllocError, Global};
 // ---- a line
 
 // What stands behind these bytes.
-fn behind<'a>(bytes: &[u8], text: &'a [u8]) -> Option<&'a [u8]>
+pub(crate) fn behind<'a>(bytes: &[u8], text: &'a [u8]) -> Option<&'a [u8]>
     ensures behind { option_map (λ r. r.now) result ≡ behind bytes.now text.now }
 {
     let [b, others @ ..] = bytes else {
@@ -98,7 +98,10 @@ fn next_line(text: &[u8]) -> Option<(&[u8], &[u8])>
 
 // The lines of a text, if it is one of whole lines.
 #[tactic(auto, using(crate::proofs::Lines::one_more))]
-fn lines_of<'a>(alloc: Global, text: &'a [u8]) -> Result<Option<Vec<&'a [u8]>>, AllocError>
+pub(crate) fn lines_of<'a>(
+    alloc: Global,
+    text: &'a [u8],
+) -> Result<Option<Vec<&'a [u8]>>, AllocError>
     ensures lines { IfOk result (λ found. IfSome found (λ v. AreLines text.now (map (λ l. l.now) v.items))) }
 {
     let mut lines = Vec::new(alloc);
@@ -130,7 +133,7 @@ fn handled_at<'a>(
     Ok(handled)
 }
 
-fn is_same(line: &[u8], other: &[u8]) -> bool
+pub(crate) fn is_same(line: &[u8], other: &[u8]) -> bool
     ensures same { result ≡ true → line.now ≡ other.now }
 {
     line == other

@@ -32,13 +32,14 @@ fn replays(alloc: Global, script: &[u8], report: &[u8]) -> Result<bool, AllocErr
     handle_alike(alloc, &transcript, report)
 }
 
-/// The script, if it does what the report tells: run by `exec` it has a transcript that tells, at each end, just
+/// The same script, if it does what the report tells: run by `exec` it has a transcript that tells, at each end, just
 /// the report's calls, in order. One that is too long for `exec` isn't given back.
 ///
 /// # Errors
 /// Out of memory.
 pub fn certify(alloc: Global, script: Vec<u8>, report: &[u8]) -> Result<Option<Vec<u8>>, AllocError>
-    ensures replays { IfOk result (λ found. IfSome found (λ script. Replays script.items report.now)) }
+    ensures replays { IfOk result (λ found. IfSome found (λ given. Replays given.items report.now)) }
+    ensures same { IfOk result (λ found. IfSome found (λ given. given.items ≡ script.items)) }
 {
     if replays(alloc, &script, report)? {
         return Ok(Some(script));

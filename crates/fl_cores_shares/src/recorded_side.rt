@@ -1,6 +1,6 @@
 //! A side of a ring that notes what its looks and puts come to.
 
-ghost use Rattle.std.specs.Prelude.{◌≡◌, ◌%◌, length};
+ghost use Rattle.std.specs.Prelude.{◌≡◌, ◌%◌, length, IfOk};
 ghost use Rattle.fl_link.specs.Cursor.{epoch_at};
 ghost use Rattle.fl_ring.specs.SharedSeats.{front_seen};
 ghost use Rattle.fl_ring.specs.SharedSides.{SharedPuts, SharedTakes, side_has_room};
@@ -23,7 +23,7 @@ pub struct SideRecord {
     refusing: u32,
     // how many fragments were taken
     taken: usize,
-    /// Whether all is noted: memory for it was never refused.
+    /// Whether all is noted: memory for it was never refused, and each count has its place in 32 bits.
     pub is_whole: bool,
 }
 
@@ -53,7 +53,11 @@ impl SideRecord {
     ///
     /// # Errors
     /// Out of memory.
-    pub fn duplicate(&self, alloc: Global) -> Result<SideRecord, AllocError> {
+    pub fn duplicate(&self, alloc: Global) -> Result<SideRecord, AllocError>
+        ensures missed { IfOk result (λ r. r.missed.items ≡ self.now.missed.items) }
+        ensures refused { IfOk result (λ r. r.refused.items ≡ self.now.refused.items) }
+        ensures whole { IfOk result (λ r. r.is_whole ≡ self.now.is_whole) }
+    {
         Ok(SideRecord {
             missed: Vec::from_slice(alloc, &self.missed)?,
             refused: Vec::from_slice(alloc, &self.refused)?,
@@ -70,6 +74,7 @@ impl SideRecord {
             return;
         }
         if !found {
+            self.is_whole = self.missing < u32::MAX;
             self.missing = self.missing.saturating_add(1);
             return;
         }
@@ -91,6 +96,7 @@ impl SideRecord {
             return;
         }
         if !placed {
+            self.is_whole = self.refusing < u32::MAX;
             self.refusing = self.refusing.saturating_add(1);
             return;
         }

@@ -18,7 +18,8 @@ returns-in-File-clause-fault g c =
     let reads = rw c.in-File.is at c.in_ok-file.ensures.reads in
     let text = c.args.text.now in
     let file = file_from c.in-File.file in
-    fault_of_file text file c.run_file.result reads (counted text file reads) (making text file reads) c.run_file.ensures.fault
+    let pass = c.law_set_ups_are_the_machines.ensures.files in
+    fault_of_file pass c.law_files_join.ensures.none text file c.run_file.result reads (counted text file reads) (making text file reads) c.run_file.ensures.fault
 
 pub returns-in_err-print_refusal-in-Refused-clause-fault : goal.returns-in_err-print_refusal-in-Refused-clause-fault
 returns-in_err-print_refusal-in-Refused-clause-fault g c =

@@ -14,6 +14,12 @@ returns-in-Ok g c = record {
         c.deref_mut.ensures.value c.in-Ok.ensures.ran;
     left = subst (λ (run : RunningCore SharedSide).
         IsLeftSound (let o : TheFinishedCore = record { run = run_of run; run_seat = run_seat_of c.core_run.new.run_seat; part = c.in-Ok.part } in o))
-        c.deref.ensures (record { ends = c.sound.ensures.ends; table = c.sound.ensures.table });
+        c.deref.ensures (record {
+          core = c.sound.ensures.core;
+          board = c.sound.ensures.board;
+          outboxes = c.sound.ensures.outboxes;
+          ends = c.sound.ensures.ends;
+          table = c.sound.ensures.table;
+        });
   };
 }

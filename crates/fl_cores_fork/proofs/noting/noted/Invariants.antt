@@ -3,5 +3,5 @@ use Rattle.std.specs.Vec.Iter.{into_iter_items}
 use Rattle.fl_cores_fork.proofs.noting.noted.Given as goal
 
 -- the sides so far, and those that are left
-abbrev pub invariant-loop-side : goal.invariant-loop-side
-invariant-loop-side l = l.sides.items ++ into_iter_items l.side-iterator ≡ l.fn.rings.items
+abbrev pub invariant-loop-ring : goal.invariant-loop-ring
+invariant-loop-ring l = l.sides.items ++ into_iter_items l.ring-iterator ≡ l.fn.rings.items
