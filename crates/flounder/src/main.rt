@@ -6,22 +6,14 @@
 //! text or of an image.
 #![tactic(auto)]
 
-mod chart;
-mod cores;
 mod progress;
-mod run;
 
 use crate::progress::Progress;
-use crate::run::run;
 use flounder_commands::{Disk, Fault, Watched, finish, no_words};
+use flounder_run::run;
 use std::env;
 use std::io::{BufWriter, IsTerminal};
 use std::process::ExitCode;
-
-#[cfg(test)]
-mod cores_tests;
-#[cfg(test)]
-mod tests;
 
 fn main(rt: HostRuntime) -> ExitCode {
     let alloc = rt.alloc();

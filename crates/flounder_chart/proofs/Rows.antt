@@ -1,5 +1,5 @@
 -- A script's rows so far are no more than the items that were read.
-use Rattle.std.proofs.Common.{◌≡◌, ℕ, suc, ◌+◌, ◌≤◌, List, [], ◌∷◌, length, refl, arith}
+use Rattle.std.proofs.Common.{◌≡◌, ℕ, suc, ◌+◌, ◌≤◌, List, [], ◌∷◌, Option, length, refl, arith}
 use Rattle.std.specs.Prelude.{◌<◌, IfErr, Result, Ok, Err}
 use Rattle.fl_script_lines.specs.Items.{Item, ItemsOf}
 use Rattle.flounder_chart.specs.declared.fault.ChartFault.{ChartFault}
@@ -30,15 +30,16 @@ all_read script [] rows so_far e =
 all_read script (b ∷ rest) rows so_far e = absurd (omega (arith, e))
 
 -- a fault of a script's rows is one of the script
-fault_of_rows : (script : List ℕ) (rows : ℕ) (fault : ChartFault) → (items : List Item) × (ItemsOf script items × (rows ≤ length items))
-    → IsFaultOfRows rows fault → IsFaultOf script fault
-fault_of_rows script rows TooLong all is = absurd is
-fault_of_rows script rows TooManyRows all is =
+fault_of_rows : (script : List ℕ) (rows : ℕ) (count : Option ℕ) (fault : ChartFault) → length script ≤ 1048576
+    → (items : List Item) × (ItemsOf script items × (rows ≤ length items)) → IsFaultOfRows rows count fault → IsFaultOf script count fault
+fault_of_rows script rows count TooLong fits all is = absurd is
+fault_of_rows script rows count TooManyRows fits all is =
     let few : rows ≤ length all.0 = all.1.1 in
-    (all.0, (all.1.0, omega (arith, few, is)))
-fault_of_rows script rows Memory all is = tt
+    let many : 5000 < rows = is.1 in
+    (fits, is.0, all.0, all.1.0, omega (arith, few, many))
+fault_of_rows script rows count Memory fits all is = fits
 
-pub faults_of_rows : {A : Type 0} (r : Result A ChartFault) (script : List ℕ) (rows : ℕ) → (items : List Item) × (ItemsOf script items × (rows ≤ length items))
-    → IfErr r (λ fault. IsFaultOfRows rows fault) → IfErr r (λ fault. IsFaultOf script fault)
-faults_of_rows (Ok x) script rows all is = tt
-faults_of_rows (Err fault) script rows all is = fault_of_rows script rows fault all is
+pub faults_of_rows : {A : Type 0} (r : Result A ChartFault) (script : List ℕ) (rows : ℕ) (count : Option ℕ) → length script ≤ 1048576
+    → (items : List Item) × (ItemsOf script items × (rows ≤ length items)) → IfErr r (λ fault. IsFaultOfRows rows count fault) → IfErr r (λ fault. IsFaultOf script count fault)
+faults_of_rows (Ok x) script rows count fits all is = tt
+faults_of_rows (Err fault) script rows count fits all is = fault_of_rows script rows count fault fits all is

@@ -1,8 +1,9 @@
 //! A script's drawing.
 
-ghost use Rattle.std.specs.Prelude.{◌≡◌, ◌<◌, ◌≤◌, length, Err, IfOk, IfErr};
+ghost use Rattle.std.specs.Prelude.{◌≡◌, ◌<◌, ◌≤◌, ◌+◌, length, option_map, OnOk, IfOk, IfErr};
 ghost use Rattle.flounder_svg.specs.Xml.{IsDocument};
 ghost use Rattle.flounder_chart.specs.Faults.{IsFaultOf, IsFaultOfRows};
+ghost use Rattle.flounder_chart.specs.Lines.{count_of, IsWithin};
 
 use crate::chosen::Lines;
 use crate::drawing::{Shown, draw};
@@ -28,8 +29,8 @@ pub fn chart_script<M: Machine + Drop>(
     lines: Option<Lines>,
 ) -> Result<Vec<u8>, ChartFault>
     ensures document { IfOk result (λ drawing. IsDocument drawing.items) }
-    ensures fault { IfErr result (λ fault. IsFaultOf script.now fault) }
-    ensures long { 1048576 < length script.now → result ≡ Err ChartFault.TooLong }
+    ensures fits { OnOk result (length script.now ≤ 1048576) }
+    ensures fault { IfErr result (λ fault. IsFaultOf script.now (option_map (λ l. count_of l.first l.last) lines) fault) }
 {
     if script.len() > MAX_SCRIPT {
         return Err(ChartFault::TooLong);
@@ -47,8 +48,9 @@ fn chart_transcript(
     transcript: &[u8],
     lines: Option<Lines>,
 ) -> Result<Vec<u8>, ChartFault>
+    requires fits { length script.now ≤ 1048576 }
     ensures document { IfOk result (λ drawing. IsDocument drawing.items) }
-    ensures fault { IfErr result (λ fault. IsFaultOf script.now fault) }
+    ensures fault { IfErr result (λ fault. IsFaultOf script.now (option_map (λ l. count_of l.first l.last) lines) fault) }
 {
     match read_run(alloc, script, transcript) {
         Ok(run) => chart_run(alloc, &run, lines),
@@ -59,7 +61,7 @@ fn chart_transcript(
 // The same for a run.
 fn chart_run(alloc: Global, run: &Run<'_>, lines: Option<Lines>) -> Result<Vec<u8>, ChartFault>
     ensures document { IfOk result (λ drawing. IsDocument drawing.items) }
-    ensures fault { IfErr result (λ fault. IsFaultOfRows (length run.now.rows.items) fault) }
+    ensures fault { IfErr result (λ fault. IsFaultOfRows (length run.now.rows.items) (option_map (λ l. count_of l.first l.last) lines) fault) }
 {
     let shown = shown_rows(&run.rows, lines);
     if shown.end.saturating_sub(shown.first) > MAX_ROWS {
@@ -88,24 +90,34 @@ fn transcript_of<M: Machine + Drop>(alloc: Global, script: &[u8]) -> Result<Vec<
 // The rows of these lines, or all.
 fn shown_rows(rows: &[Row<'_>], lines: Option<Lines>) -> Shown
     ensures few { result.end ≤ length rows.now }
+    ensures within { IsWithin result.first result.end (option_map (λ l. count_of l.first l.last) lines) }
 {
-    let Some(Lines { first, last, .. }) = lines else {
+    let Some(lines) = lines else {
         return Shown {
             first: 0,
             end: rows.len(),
         };
     };
+    rows_within(rows, lines)
+}
+
+// The rows of these lines. There are no more rows than lines, since each begins on a line of its own.
+fn rows_within(rows: &[Row<'_>], lines: Lines) -> Shown
+    ensures few { result.end ≤ length rows.now }
+    ensures within { result.end ≤ result.first + count_of lines.first lines.last }
+{
     let mut shown = Shown { first: 0, end: 0 };
     for row in rows {
-        if row.number < first {
+        if row.number < lines.first {
             shown.first = shown.first.saturating_add(1);
         }
-        if row.number <= last {
+        if row.number <= lines.last {
             shown.end = shown.end.saturating_add(1);
         }
     }
+    let most = shown.first.saturating_add(lines.count());
     Shown {
         first: shown.first,
-        end: shown.end.min(rows.len()),
+        end: shown.end.min(rows.len()).min(most),
     }
 }

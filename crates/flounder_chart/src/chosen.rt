@@ -1,7 +1,7 @@
 //! The lines of a script that are drawn.
 
 ghost use Rattle.std.specs.Prelude.{◌≡◌, ◌<◌, ◌≤◌, ◌↔◌, SomeIff, IsNone, IfSome};
-ghost use Rattle.flounder_chart.specs.Lines.{AreNone, IsNumber, TellsLines, first_word, last_word, number_of};
+ghost use Rattle.flounder_chart.specs.Lines.{AreNone, IsNumber, TellsLines, count_of, first_word, last_word, number_of};
 
 /// Some lines of a script, by the numbers of the first and the last, from 1.
 #[derive(Clone, Copy)]
@@ -20,6 +20,13 @@ fn number(word: &str) -> Option<usize>
 }
 
 impl Lines {
+    /// How many lines these are.
+    pub fn count(self) -> usize
+        ensures count { result ≡ count_of self.first self.last }
+    {
+        self.last - self.first + 1
+    }
+
     /// The lines from the one to the other, where there are such.
     pub fn new(first: usize, last: usize) -> Option<Lines>
         ensures none { IsNone result ↔ AreNone first last }

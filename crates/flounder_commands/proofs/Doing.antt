@@ -12,7 +12,7 @@ use Rattle.fl_script_exec.specs.Transcript.{Transcript}
 use Rattle.fl_script_exec.specs.CutShort.{LeavesWritten}
 use Rattle.fl_script_exec.specs.Reading as script
 use Rattle.fl_script_exec.specs.Written as written
-use Rattle.fl_world_refines.specs.ShowsState.{Shows as WorldShows}
+use Rattle.fl_model.specs.State.{State}
 use Rattle.flounder_show.specs.declared.fault.ShowFault.{ShowFault}
 use Rattle.flounder_show.specs.Content.{StandsFor, IsImageOf, IsRefusalOf, Shows, IsRefusedAs, status_of}
 use Rattle.flounder_commands.specs.declared.fault.Fault.{Fault}
@@ -184,12 +184,12 @@ all_put u v text rest e p = subst (λ (t : List ℕ). Appends u v t) (sym (p.par
 
 -- ---- exec
 
-pub ran : (strict : Bool) (io : Streams) (v : Option (List ℕ)) (buffer : List ℕ) (status : ℕ)
-    → IfSome io.input (written.Ran WorldShows)
+pub ran : {M : Type 0} (shows : M → State → Type 0) (strict : Bool) (io : Streams) (v : Option (List ℕ)) (buffer : List ℕ) (status : ℕ)
+    → IfSome io.input (written.Ran shows)
     → IfSome io.input (λ bytes. (out : List ℕ) × Transcript bytes out × Appends io.output.before v out)
-    → Keeps v io.output.put → io.output.put ≡ append_known io.output.reached buffer → buffer ≡ [] → EndsRun strict io.output.reached status → Execs strict io status
-ran strict io v buffer status w t k same e z = inl record {
-  world = w;
+    → Keeps v io.output.put → io.output.put ≡ append_known io.output.reached buffer → buffer ≡ [] → EndsRun strict io.output.reached status → Execs shows strict io status
+ran shows strict io v buffer status w t k same e z = inl record {
+  machine = w;
   transcript = at_input io.input t;
   ends = z;
 }
@@ -199,10 +199,10 @@ ran strict io v buffer status w t k same e z = inl record {
     at_input None t = tt
     at_input (Some bytes) (out, is, a) = (out, is, prints io.output v buffer out a k same e)
 
-pub not_flushed : (strict : Bool) (io : Streams) (v : Option (List ℕ)) (status : ℕ)
+pub not_flushed : {M : Type 0} (shows : M → State → Type 0) (strict : Bool) (io : Streams) (v : Option (List ℕ)) (status : ℕ)
     → IfSome io.input (λ bytes. (out : List ℕ) × Transcript bytes out × Appends io.output.before v out)
-    → Keeps v io.output.put → status ≡ 4 → Execs strict io status
-not_flushed strict io v status t k z = inr (inr record {
+    → Keeps v io.output.put → status ≡ 4 → Execs shows strict io status
+not_flushed shows strict io v status t k z = inr (inr record {
   transcript = at_input io.input t;
   ends = z;
 })
@@ -212,10 +212,10 @@ not_flushed strict io v status t k z = inr (inr record {
     at_input None t = tt
     at_input (Some bytes) (out, is, a) = (out, is, puts_kept io.output.before v io.output.put out a k)
 
-pub cut_short : (strict : Bool) (io : Streams) (v : Option (List ℕ)) (fault : ExecFault) (status : ℕ)
+pub cut_short : {M : Type 0} (shows : M → State → Type 0) (strict : Bool) (io : Streams) (v : Option (List ℕ)) (fault : ExecFault) (status : ℕ)
     → IfSome io.input (λ bytes. (out : List ℕ) × LeavesWritten fault bytes out × Appends io.output.before v out)
-    → Keeps v io.output.put → status ≡ script.status_of fault → Execs strict io status
-cut_short strict io v fault status t k z = inr (inl record {
+    → Keeps v io.output.put → status ≡ script.status_of fault → Execs shows strict io status
+cut_short shows strict io v fault status t k z = inr (inl record {
   fault = fault;
   prefix = at_input io.input t;
   ends = z;

@@ -12,7 +12,7 @@ use Rattle.fl_script_exec.specs.Transcript.{Transcript}
 use Rattle.fl_script_exec.specs.CutShort.{LeavesWritten}
 use Rattle.fl_script_exec.specs.Reading as script
 use Rattle.fl_script_exec.specs.Written as written
-use Rattle.fl_world_refines.specs.ShowsState.{Shows as WorldShows}
+use Rattle.fl_model.specs.State.{State}
 use Rattle.flounder_show.specs.declared.fault.ShowFault.{ShowFault}
 use Rattle.flounder_show.specs.Content as content
 use Rattle.flounder_show.specs.Named.{StandsIn}
@@ -133,9 +133,9 @@ abbrev pub EndsRun : Bool → Option (List ℕ) → ℕ → Type 0
 EndsRun strict reached status =
     (is_refused : Bool) × IfSome reached (λ all. is_refused ≡ has_refusal all) × (status ≡ (if strict && is_refused then 2 else 0))
 
--- a world ran standard input, and shows the machine's state behind it; its transcript was printed
-pub record Ran (strict : Bool) (io : Streams) (status : ℕ) : Type 0 where
-  pub world : IfSome io.input (written.Ran WorldShows)
+-- a machine of a kind ran standard input, and shows the state behind it; its transcript was printed
+pub record Ran {M : Type 0} (shows : M → State → Type 0) (strict : Bool) (io : Streams) (status : ℕ) : Type 0 where
+  pub machine : IfSome io.input (written.Ran shows)
   pub transcript : IfSome io.input (λ bytes. (out : List ℕ) × Transcript bytes out × Prints io.output out)
   pub ends : EndsRun strict io.output.reached status
 
@@ -150,8 +150,8 @@ pub record NotFlushed (io : Streams) (status : ℕ) : Type 0 where
   pub transcript : IfSome io.input (λ bytes. (out : List ℕ) × Transcript bytes out × Puts io.output out)
   pub ends : status ≡ 4
 
-abbrev pub Execs : Bool → Streams → ℕ → Type 0
-Execs strict io status = Ran strict io status ⊎ (CutShort io status ⊎ NotFlushed io status)
+abbrev pub Execs : {M : Type 0} → (M → State → Type 0) → Bool → Streams → ℕ → Type 0
+Execs shows strict io status = Ran shows strict io status ⊎ (CutShort io status ⊎ NotFlushed io status)
 
 -- ---- no command
 

@@ -13,8 +13,8 @@ use crate::fault::{Fault, Reason, fault_of_content, fault_of_reading, fault_of_w
 use crate::files::{FileKind, FileStore};
 use crate::output::print;
 use crate::watched::{FindsRefusals, Watch};
+use fl_model::Machine;
 use fl_script_exec::{ExecFault, exec};
-use fl_world::World;
 use flounder_show::{compile_text, name_arguments, show_content};
 use std::alloc::Global;
 use std::io;
@@ -76,9 +76,9 @@ fn cut_short<'a, R: Watch, W: Watch>(fault: ExecFault, input: &R, output: &W) ->
     }
 }
 
-/// `exec`: runs the script on `input`, and prints its transcript. What a script that was cut short left in the
-/// buffer is written out, too. `explain` tells its refused lines on `errors`; `strict` gives them a status.
-pub fn run_script<R: Read + Watch, W: FindsRefusals + Watch + Drop, E: Write>(
+/// `exec`: runs the script on `input` on a new machine, and prints its transcript. What a script that was cut short left in
+/// the buffer is written out, too. `explain` tells its refused lines on `errors`; `strict` gives them a status.
+pub fn run_script<M: Machine + Drop, R: Read + Watch, W: FindsRefusals + Watch + Drop, E: Write>(
     alloc: Global,
     explain: bool,
     strict: bool,
@@ -86,10 +86,10 @@ pub fn run_script<R: Read + Watch, W: FindsRefusals + Watch + Drop, E: Write>(
     output: &mut BufWriter<W>,
     errors: &mut E,
 ) -> u8
-    ensures ran { Execs strict (streams_of R.remaining W.contents input.old input.new output.old output.new) result }
+    ensures ran { Execs M.shows strict (streams_of R.remaining W.contents input.old input.new output.old output.new) result }
 {
     start(explain, input, output.get_ref(), errors);
-    let outcome = exec::<World, _, _>(alloc, input, output);
+    let outcome = exec::<M, _, _>(alloc, input, output);
     let flushed = output.flush();
     tell_refused(alloc, explain, input, output.get_ref(), errors);
     match outcome {

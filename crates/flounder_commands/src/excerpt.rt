@@ -66,12 +66,15 @@ fn space<W: fmt::Write>(bytes: &[u8], f: &mut fmt::Formatter<W>) -> fmt::Result 
     Ok(())
 }
 
-/// A whole line, its first 104 bytes, behind a line feed.
+/// A whole line, its first 104 bytes, behind a line feed; of an empty line nothing is printed.
 #[derive(Clone, Copy)]
 pub struct LineShown<'a>(pub &'a [u8]);
 
 impl fmt::Display for LineShown<'_> {
     fn fmt<W: fmt::Write>(&self, f: &mut fmt::Formatter<W>) -> fmt::Result {
+        if self.0.is_empty() {
+            return Ok(());
+        }
         f.write_str("\n    ")?;
         show(&self.0[..self.0.len().min(MOST_BEFORE + MOST_BEHIND)], f)
     }

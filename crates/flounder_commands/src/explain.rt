@@ -171,7 +171,7 @@ fn number_at_start(text: &[u8]) -> (usize, &[u8]) {
     (value, behind)
 }
 
-/// Tells the line of a cores file that is refused, from what is told of that on standard output, `line K
+/// Tells the line of a cores file that is refused, from what is told of that for standard output, `line K
 /// refused En`: where it stands, what is wrong, and what to do.
 pub fn explain_line<E: Write>(
     alloc: Global,
@@ -185,12 +185,17 @@ pub fn explain_line<E: Write>(
     let Some(number) = refused_number(answer) else {
         return;
     };
-    if let Some(item) = item_at(content, line) {
-        tell_item(alloc, Source::File(file), item, number, errors);
-    }
+    let item = item_at(content, line).unwrap_or(ItemAt {
+        line,
+        verb: Verb::Unknown,
+        text: b"",
+        is_block: false,
+        opening: b"",
+    });
+    tell_item(alloc, Source::File(file), item, number, errors);
 }
 
-// The item that begins on a line.
+// The item that begins on a line, if one does: of a file that is too long (E91) the first line may be blank.
 fn item_at(text: &[u8], wanted: usize) -> Option<ItemAt<'_>> {
     let mut items = Items::new(text);
     for line in text.split_inclusive(|byte| *byte == b'\n') {

@@ -43,7 +43,7 @@ pub enum Fault<'a> {
         fault: ExecFault,
         reason: Reason,
     },
-    /// A line of the cores file is refused. Standard output names it.
+    /// A line of the cores file is refused. [`crate::explain_line`] tells which.
     Line {
         file: FileName<'a>,
     },
@@ -75,7 +75,7 @@ impl fmt::Display for Fault<'_> {
             Fault::Exec { fault, reason } => write!(f, "{fault}{reason}\n"),
             Fault::Line { file } => write!(
                 f,
-                "{file}: nothing was run, since a line is refused, which standard output tells; docs/FAULTS.md says of its fault what to do\n"
+                "{file}: nothing was run, since a line is refused; docs/FAULTS.md says of its fault what to do\n"
             ),
             Fault::TurnsOut { turns } => write!(
                 f,

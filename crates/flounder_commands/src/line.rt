@@ -144,7 +144,9 @@ pub(crate) fn tell_item<E: Write>(
         None
     };
     match refusal {
-        Some(refusal) => tell_block(alloc, source, item, refusal, errors),
-        None => tell_line(source, item, number, errors),
+        Some(refusal) if u32::from(refusal.explained.fault.number()) == number => {
+            tell_block(alloc, source, item, refusal, errors)
+        }
+        _ => tell_line(source, item, number, errors),
     }
 }

@@ -1,8 +1,8 @@
 //! Readers and writers that remember why they failed, and what passed through them.
 
-ghost use Rattle.std.specs.Prelude.{◌≡◌, IfSome};
+ghost use Rattle.std.specs.Prelude.{◌≡◌, [], None, IfSome};
 ghost use Rattle.flounder_commands.specs.Refusals.{has_refusal};
-ghost use Rattle.flounder_commands.specs.Scan.{told_by};
+ghost use Rattle.flounder_commands.specs.Scan.{at_start, told_by};
 ghost use Rattle.flounder_commands.specs.ScanView.{scanned};
 
 use crate::refusals::Scan;
@@ -46,8 +46,13 @@ pub struct Watched<T> {
 }
 
 impl<T> Watched<T> {
-    /// The same reader or writer, of which nothing is remembered yet.
-    pub fn new(alloc: Global, inner: T) -> Watched<T> {
+    /// The same reader or writer, of which nothing is remembered yet. A writer that was given nothing tells what it holds from here on.
+    pub fn new(alloc: Global, inner: T) -> Watched<T>
+        ensures same { result.inner ≡ inner }
+        ensures unread { scanned result.scan ≡ at_start }
+        ensures none { result.failure ≡ None }
+        ensures empty { result.kept.items ≡ [] }
+    {
         Watched {
             inner,
             is_typed: false,
@@ -60,7 +65,11 @@ impl<T> Watched<T> {
     }
 
     /// The same, of which it is known whether a person types what is read.
-    pub fn typed(mut self, is_typed: bool) -> Watched<T> {
+    pub fn typed(mut self, is_typed: bool) -> Watched<T>
+        ensures same { result.inner ≡ self.inner }
+        ensures unread { result.scan ≡ self.scan }
+        ensures typed { result.is_typed ≡ is_typed }
+    {
         self.is_typed = is_typed;
         self
     }

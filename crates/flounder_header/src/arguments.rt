@@ -1,7 +1,7 @@
 //! Arguments in C: a member, and the lines that move its numbers.
 
 use crate::page::{Page, Way};
-use crate::types::{declare, declare_items, move_number, move_value, push_count};
+use crate::types::{declare, declare_items, move_number, move_value};
 use fl_interface::ArgType;
 
 /// An argument's member.
@@ -21,22 +21,6 @@ pub(crate) fn declare_argument(page: &mut Page, argument: &ArgType, number: usiz
             page.close();
             page.push_numbered(b"    } a", number);
             page.push(b";\n");
-        }
-    }
-}
-
-/// How many numbers an argument has at most, as an expression in C.
-pub(crate) fn push_most(page: &mut Page, argument: &ArgType) {
-    match argument {
-        ArgType::Fixed(fixed) => {
-            page.push(b" + ");
-            push_count(page, fixed);
-        }
-        ArgType::Text(most) => page.push_numbered(b" + 1 + ", *most as usize),
-        ArgType::Sized(most, element) => {
-            page.push_numbered(b" + 1 + ", *most as usize);
-            page.push(b" * ");
-            push_count(page, element);
         }
     }
 }

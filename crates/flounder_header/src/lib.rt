@@ -2,8 +2,9 @@
 //! them back, for callers of `ffi/flounder.h`.
 //!
 //! The names of arguments and fields are gone in an interface, so they are `a0`, `a1`, .. and `f0`, `f1`, .. here.
-//! What is promised: the declarations of all messages stand there in their order (`specs/Header.antt`). What the
-//! functions do isn't: numbers that don't fit are refused where they are given (E42).
+//! What is promised: the preface, and the declarations of all messages in their order, with each one's number and how many
+//! numbers a call of it has at most (`specs/Header.antt`). What the functions do isn't: numbers that don't fit are refused
+//! where they are given (E42).
 //!
 //! - `messages.rt`: [`header`], message by message
 //! - `arguments.rt`: an argument's member, and the lines that move its numbers

@@ -1,12 +1,15 @@
 //! The header, message by message.
 
-ghost use Rattle.std.specs.Prelude.{◌≡◌, IfOk, flat_map};
-ghost use Rattle.fl_interface.specs.Interface.{interface_of};
-ghost use Rattle.flounder_header.specs.Header.{IsHeader, IsSection, AreSections, message_name};
+ghost use Rattle.std.specs.Prelude.{◌≡◌, ◌<◌, IfOk, length, flat_map};
+ghost use Rattle.std.specs.Fmt.{decimal};
+ghost use Rattle.fl_interface.specs.Interface.{interface_of, message_of};
+ghost use Rattle.flounder_header.specs.Header.{IsHeader, IsSection, AreSections, plan_text, preface, section_text};
 
-use crate::arguments::{declare_argument, move_argument, push_most};
+use crate::arguments::{declare_argument, move_argument};
 use crate::page::{Page, Way};
+use fl_base::MsgNo;
 use fl_interface::{ArgType, Interface, Message};
+use fl_layout::Plans;
 use fl_value_data::{PlanNo, RANKS};
 use std::alloc::{AllocError, Global};
 
@@ -29,15 +32,6 @@ fn members(alloc: Global, arguments: &[ArgType]) -> Result<Vec<u8>, AllocError> 
     }
     for (number, argument) in arguments.iter().enumerate() {
         declare_argument(&mut page, argument, number);
-    }
-    page.into_text()
-}
-
-// How many numbers the arguments have at most, to be added.
-fn most(alloc: Global, arguments: &[ArgType]) -> Result<Vec<u8>, AllocError> {
-    let mut page = Page::new(alloc);
-    for argument in arguments {
-        push_most(&mut page, argument);
     }
     page.into_text()
 }
@@ -71,24 +65,25 @@ struct Parts<'a> {
     // the message's name in C
     name: &'a [u8],
     members: &'a [u8],
-    most: &'a [u8],
     puts: &'a [u8],
     gets: &'a [u8],
 }
 
-// A message's declarations, of their parts.
-fn spell(alloc: Global, parts: Parts<'_>, number: usize) -> Result<Vec<u8>, AllocError>
-    ensures spelled { IfOk result (λ text. IsSection parts.entry.name.now number text.items) }
+// A message's declarations, of their parts, its number and how many numbers its tapes have at most.
+fn spell(alloc: Global, parts: Parts<'_>, number: u16, most: usize) -> Result<Vec<u8>, AllocError>
+    ensures spelled { IfOk result (λ text. text.items ≡ section_text parts.entry.name.now (decimal number) parts.entry.members.now (decimal most)
+        parts.entry.puts.now parts.entry.gets.now) }
 {
     let Parts {
         name,
         members,
-        most,
         puts,
         gets,
     } = parts;
     let digits = format!(in alloc; "{number}")?;
+    let digits_of_most = format!(in alloc; "{most}")?;
     let number = digits.as_bytes();
+    let most = digits_of_most.as_bytes();
     let pieces: [&[u8]; 30] = [
         b"\nstruct ",
         name,
@@ -100,7 +95,7 @@ fn spell(alloc: Global, parts: Parts<'_>, number: usize) -> Result<Vec<u8>, Allo
         number,
         b", ",
         name,
-        b"_most = 1",
+        b"_most = 1 + ",
         most,
         b" };\nstatic inline size_t ",
         name,
@@ -127,39 +122,71 @@ fn spell(alloc: Global, parts: Parts<'_>, number: usize) -> Result<Vec<u8>, Allo
 // A message's declarations.
 fn section(
     alloc: Global,
-    interface: &[u8],
+    plans: &Plans,
+    msg: MsgNo,
     message: &Message,
-    number: usize,
-    plan: PlanNo,
 ) -> Result<Vec<u8>, AllocError>
-    ensures section { IfOk result (λ text. IsSection (message_name interface.now message.now.name.bytes.items) number text.items) }
+    requires exists { msg.0 < length plans.now.interface.messages.items }
+    ensures section { IfOk result (λ text. IsSection plans.now.plan (interface_of plans.now.interface) msg.0 (message_of message.now) text.items) }
 {
-    let name = joined(alloc, &[interface, b"_", &message.name.bytes])?;
+    let most = plans.tape_capacity(msg);
+    let name = joined(
+        alloc,
+        &[&plans.interface.name.bytes, b"_", &message.name.bytes],
+    )?;
     let members = members(alloc, &message.args)?;
-    let most = most(alloc, &message.args)?;
-    let puts = moves(alloc, &message.args, plan, Way::Put)?;
-    let gets = moves(alloc, &message.args, plan, Way::Get)?;
+    let puts = moves(alloc, &message.args, plans.plan, Way::Put)?;
+    let gets = moves(alloc, &message.args, plans.plan, Way::Get)?;
     let parts = Parts {
         name: &name,
         members: &members,
-        most: &most,
         puts: &puts,
         gets: &gets,
     };
-    spell(alloc, parts, number)
+    spell(alloc, parts, msg.0, most)
 }
 
 // The declarations of all messages.
-fn sections(alloc: Global, interface: &Interface, plan: PlanNo) -> Result<Vec<u8>, AllocError>
+fn sections(alloc: Global, plans: &Plans) -> Result<Vec<u8>, AllocError>
     ensures sections { IfOk result (λ text.
-        AreSections (interface_of interface.now).name 0 (interface_of interface.now).messages text.items) }
+        AreSections plans.now.plan (interface_of plans.now.interface) 0 (interface_of plans.now.interface).messages text.items) }
 {
     let mut text = Vec::new(alloc);
-    for (number, message) in interface.messages.iter().enumerate() {
-        let section = section(alloc, &interface.name.bytes, message, number, plan)?;
+    for (number, message) in plans.interface.messages.iter().enumerate() {
+        let section = section(alloc, plans, MsgNo(number as u16), message)?;
         text.extend_from_slice(&section)?;
     }
     Ok(text)
+}
+
+// A plan's number.
+fn digit_of(plan: PlanNo) -> &'static [u8]
+    ensures digit { result.now ≡ plan_text plan }
+{
+    match plan {
+        PlanNo::One => b"1",
+        PlanNo::Two => b"2",
+    }
+}
+
+// What stands before all declarations, of the interface's name and the plan's number.
+fn preface_of<'a>(alloc: Global, name: &'a [u8], plan: &'a [u8]) -> Result<Vec<u8>, AllocError>
+    ensures preface { IfOk result (λ text. text.items ≡ preface name.now plan.now) }
+{
+    joined(
+        alloc,
+        &[
+            b"/* Interface ",
+            name,
+            b", plan ",
+            plan,
+            b". */\n#ifndef FLOUNDER_",
+            name,
+            b"_H\n#define FLOUNDER_",
+            name,
+            b"_H\n#include <flounder.h>\n",
+        ],
+    )
 }
 
 /// A header in C for an interface whose calls a plan lays out. Of the message M of the interface I it has
@@ -173,27 +200,17 @@ fn sections(alloc: Global, interface: &Interface, plan: PlanNo) -> Result<Vec<u8
 /// # Errors
 /// Out of memory (E99).
 pub fn header(alloc: Global, interface: &Interface, plan: PlanNo) -> Result<Vec<u8>, AllocError>
-    ensures header { IfOk result (λ text. IsHeader (interface_of interface.now) text.items) }
+    ensures header { IfOk result (λ text. IsHeader plan (interface_of interface.now) text.items) }
 {
-    let name: &[u8] = &interface.name.bytes;
-    let number: &[u8] = match plan {
-        PlanNo::One => b"1",
-        PlanNo::Two => b"2",
-    };
-    let start = joined(
-        alloc,
-        &[
-            b"/* Interface ",
-            name,
-            b", plan ",
-            number,
-            b". */\n#ifndef FLOUNDER_",
-            name,
-            b"_H\n#define FLOUNDER_",
-            name,
-            b"_H\n#include <flounder.h>\n",
-        ],
-    )?;
-    let sections = sections(alloc, interface, plan)?;
+    let plans = fl_layout::plan(alloc, interface, plan)?;
+    header_by(alloc, &plans)
+}
+
+// The same, once calls are laid out.
+fn header_by(alloc: Global, plans: &Plans) -> Result<Vec<u8>, AllocError>
+    ensures header { IfOk result (λ text. IsHeader plans.now.plan (interface_of plans.now.interface) text.items) }
+{
+    let start = preface_of(alloc, &plans.interface.name.bytes, digit_of(plans.plan))?;
+    let sections = sections(alloc, plans)?;
     joined(alloc, &[&start, &sections, b"\n#endif\n"])
 }

@@ -25,7 +25,7 @@ struct i_m {
         int8_t f0[2];
     } a2;
 };
-enum { i_m_number = 0, i_m_most = 1 + 1 + 5 + 1 + (0 + 2 * 1) };
+enum { i_m_number = 0, i_m_most = 1 + 9 };
 static inline size_t i_m_put(const struct i_m *m, uint64_t *call)
 {
     size_t n = 0;

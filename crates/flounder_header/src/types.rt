@@ -80,32 +80,6 @@ fn declare_counts(page: &mut Page, fixed: &FixedType) {
     }
 }
 
-/// How many numbers a value has, as an expression in C.
-#[cycle(counting)]
-pub(crate) fn push_count(page: &mut Page, fixed: &FixedType) {
-    match fixed {
-        FixedType::Scalar(_) | FixedType::Enumeration(_) => page.push(b"1"),
-        FixedType::Structure(fields) => {
-            page.push(b"(0");
-            push_field_counts(page, fields);
-            page.push(b")");
-        }
-        FixedType::Array(count, element) => {
-            page.push_numbered(b"", *count as usize);
-            page.push(b" * ");
-            push_count(page, element);
-        }
-    }
-}
-
-#[cycle(counting)]
-fn push_field_counts(page: &mut Page, fields: &[FixedType]) {
-    for field in fields {
-        page.push(b" + ");
-        push_count(page, field);
-    }
-}
-
 /// The line that moves a number, by a cast to the type in C, or to that of its bits.
 pub(crate) fn move_number(page: &mut Page, kind: &[u8], bits: &[u8], way: Way) {
     page.indent();

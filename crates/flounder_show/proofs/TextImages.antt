@@ -56,11 +56,11 @@ table_told bytes table p i plan found e same t = (
 )
 
 -- the header of a program that was read from an image
-pub header_told : (bytes header : List ℕ) (p : TheProgram) (i : TheInterface) → (has_image p.interface ≡ true) × (bytes ≡ image_of p.plan p.interface)
-    → i ≡ p.interface → IsHeader i header → HeadsImage bytes header
-header_told bytes header p i found e h = (
+pub header_told : (bytes header : List ℕ) (p : TheProgram) (i : TheInterface) (plan : PlanNo) → (has_image p.interface ≡ true) × (bytes ≡ image_of p.plan p.interface)
+    → i ≡ p.interface → plan ≡ p.plan → IsHeader plan i header → HeadsImage bytes header
+header_told bytes header p i plan found e same h = (
   p.plan,
   p.interface,
   record { has = found.0; spelled = found.1 },
-  subst (λ (x : TheInterface). IsHeader x header) e h,
+  subst (λ (q : PlanNo). IsHeader q p.interface header) same (subst (λ (x : TheInterface). IsHeader plan x header) e h),
 )

@@ -96,12 +96,12 @@ is_meant_as_image bytes = bytes_eq magic (take 4 bytes)
 abbrev pub Shows : List ℕ → List ℕ → Type 0
 Shows bytes table = ((is_meant_as_image bytes ≡ true) × ShowsImage bytes table) ⊎ ((is_meant_as_image bytes ≡ false) × ShowsText bytes table)
 
--- a file's header is that of the interface which its text stands for, or which it is an image of
+-- a text's header is that of its interface under plan 2, an image's that of its interface under its plan
 abbrev pub HeadsText : List ℕ → List ℕ → Type 0
-HeadsText bytes header = (i : TheInterface) × StandsFor bytes i × IsHeader i header
+HeadsText bytes header = (i : TheInterface) × StandsFor bytes i × IsHeader Two i header
 
 abbrev pub HeadsImage : List ℕ → List ℕ → Type 0
-HeadsImage bytes header = (plan : PlanNo) × (i : TheInterface) × IsImageOf bytes plan i × IsHeader i header
+HeadsImage bytes header = (plan : PlanNo) × (i : TheInterface) × IsImageOf bytes plan i × IsHeader plan i header
 
 abbrev pub HasHeader : List ℕ → List ℕ → Type 0
 HasHeader bytes header = ((is_meant_as_image bytes ≡ true) × HeadsImage bytes header) ⊎ ((is_meant_as_image bytes ≡ false) × HeadsText bytes header)

@@ -6,10 +6,16 @@
 //! - `rows.rt`: worked examples
 //! - `reports.rt`: whole reports: calls made and handled, turns, refusals
 //! - `openings.rt`: bindings that are opened while cores run
+//! - `commands.rt`: the program's commands, by whole runs
+//! - `cores_command.rt`: the command `cores`, by whole runs
 //!
 //! `rt try --test --fail-alloc N` runs each with its Nth allocation refused: then each ends with its answer or with out of memory.
 #![tactic(auto)]
 
+#[cfg(test)]
+mod commands;
+#[cfg(test)]
+mod cores_command;
 #[cfg(test)]
 mod gates;
 #[cfg(test)]
@@ -21,5 +27,5 @@ mod rows;
 #[cfg(test)]
 mod texts;
 
-// A program that does nothing, since a library so high costs the gate minutes before its proof begins (docs/GATE.md).
+// A program that does nothing, since a library so high costs the gate minutes before its proof begins.
 fn main() {}

@@ -2,6 +2,7 @@
 
 use crate::command::outputs::{Closed, Narrow, Ran};
 use crate::rows::{CheckedRow, all_hold};
+use fl_world::World;
 use flounder_commands::{Fault, Watched, finish, run_script};
 use std::alloc::{AllocError, Global};
 use std::io;
@@ -31,7 +32,14 @@ fn exec_with<R: Read + Drop, W: Write + Drop>(
     let Ok(mut output) = BufWriter::new(alloc, Watched::new(alloc, output)) else {
         return finish(Err(Fault::Memory), errors);
     };
-    let status = run_script(alloc, explain, strict, &mut input, &mut output, errors);
+    let status = run_script::<World, _, _, _>(
+        alloc,
+        explain,
+        strict,
+        &mut input,
+        &mut output,
+        errors,
+    );
     let _left = output.into_parts();
     status
 }

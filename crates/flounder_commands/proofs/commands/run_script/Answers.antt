@@ -8,7 +8,7 @@ use Rattle.flounder_commands.proofs.commands.run_script.Goals as goal
 pub returns-in-Err : goal.returns-in-Err
 returns-in-Err g c = record {
   ran =
-      cut_short c.args.strict (streams_of g.R.Read.remaining g.W.Write.contents c.args.input.now c.exec-outcome.new.reader c.args.output.now c.flush-flushed.new.self)
+      cut_short g.M.Machine.shows c.args.strict (streams_of g.R.Read.remaining g.W.Write.contents c.args.input.now c.exec-outcome.new.reader c.args.output.now c.flush-flushed.new.self)
       (writer_contents g.W.Write.contents c.exec-outcome.new.writer) c.in-Err.fault c.finish.result
       c.in-Err.ensures.err c.flush-flushed.ensures.bytes (c.finish.ensures.fault ∙ c.cut_short.ensures.fault);
 }
@@ -16,7 +16,7 @@ returns-in-Err g c = record {
 pub returns-in-Ok-flushed : goal.returns-in-Ok-flushed
 returns-in-Ok-flushed g c = record {
   ran =
-      ran c.args.strict (streams_of g.R.Read.remaining g.W.Write.contents c.args.input.now c.exec-outcome.new.reader c.args.output.now c.flush-flushed.new.self)
+      ran g.M.Machine.shows c.args.strict (streams_of g.R.Read.remaining g.W.Write.contents c.args.input.now c.exec-outcome.new.reader c.args.output.now c.flush-flushed.new.self)
       (writer_contents g.W.Write.contents c.exec-outcome.new.writer) (writer_buffer c.flush-flushed.new.self) c.end_status.result
       c.in-Ok.ensures.ran c.in-Ok.ensures.ok c.flush-flushed.ensures.bytes refl c.in-Ok-flushed.ensures.ok
       (subst (λ (o : Option (List ℕ)). EndsRun c.args.strict o c.end_status.result) (ap g.W.Write.contents c.get_ref-in-Ok-flushed.ensures) c.end_status.ensures.ends);
@@ -25,7 +25,7 @@ returns-in-Ok-flushed g c = record {
 pub returns-in-Err-flushed : goal.returns-in-Err-flushed
 returns-in-Err-flushed g c = record {
   ran =
-      not_flushed c.args.strict (streams_of g.R.Read.remaining g.W.Write.contents c.args.input.now c.exec-outcome.new.reader c.args.output.now c.flush-flushed.new.self)
+      not_flushed g.M.Machine.shows c.args.strict (streams_of g.R.Read.remaining g.W.Write.contents c.args.input.now c.exec-outcome.new.reader c.args.output.now c.flush-flushed.new.self)
       (writer_contents g.W.Write.contents c.exec-outcome.new.writer) c.finish-in-Err-flushed.result
       c.in-Ok.ensures.ok c.flush-flushed.ensures.bytes (c.finish-in-Err-flushed.ensures.fault ∙ c.unflushed.ensures.status);
 }

@@ -5,5 +5,5 @@ use Rattle.flounder_header.proofs.messages.sections.Given as goal
 
 abbrev pub invariant-loop-number : goal.invariant-loop-number
 invariant-loop-number l =
-    SoFar (interface_of l.interface).name (map message_of l.interface.messages.items)
-    l.number (map message_of (drop l.number l.interface.messages.items)) l.text.items
+    SoFar l.plans.plan (interface_of l.plans.interface) (map message_of l.plans.interface.messages.items)
+    l.number (map message_of (drop l.number l.plans.interface.messages.items)) l.text.items

@@ -6,8 +6,8 @@ use Rattle.flounder_show.proofs.header.header_of_image.Goals as goal
 
 pub returns-clause-header : goal.returns-clause-header
 returns-clause-header c =
-    header_told c.args.bytes.now c.in_ok-made.made.items (program_of c.in_ok-program.program) (interface_of c.interface.result.now)
-    c.in_ok-program.ensures.program c.interface.ensures.interface c.in_ok-made.ensures.header
+    header_told c.args.bytes.now c.in_ok-made.made.items (program_of c.in_ok-program.program) (interface_of c.interface.result.now) c.plan-number.result
+    c.in_ok-program.ensures.program c.interface.ensures.interface c.plan-number.ensures.plan c.in_ok-made.ensures.header
 
 pub returns-in_err-made-clause-refused : goal.returns-in_err-made-clause-refused
 returns-in_err-made-clause-refused c =
