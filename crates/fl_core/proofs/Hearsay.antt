@@ -1,5 +1,5 @@
 -- A message is heard: k is the core before, and base the same by its fields.
-use Rattle.std.proofs.Common.{◌≡◌, refl, sym, ap, ◌∙◌, subst, true, ℕ, ◌<◌, List, length, length-set, slice_get, slice_set, Option, Some, None, Result, Ok, Err, IfErr}
+use Rattle.std.proofs.Common.{◌≡◌, sym, ap, ◌∙◌, subst, ℕ, ◌<◌, List, length, Option, Some, None, IsSome, Result, Ok, Err, IfErr}
 use Rattle.fl_base.specs.declared.identity.LinkId.{LinkId}
 use Rattle.fl_compile.specs.declared.program.Program.{Program}
 use Rattle.fl_compile.specs.Programs.{TheProgram, program_of}
@@ -13,12 +13,14 @@ use Rattle.fl_monitor.specs.declared.decision.OpeningFacts.{OpeningFacts}
 use Rattle.fl_monitor.specs.declared.heard.MessageOutcome.{MessageOutcome}
 use Rattle.fl_monitor.specs.declared.heard.MessageOutcome.TheVariants as heard
 use Rattle.fl_monitor.specs.declared.message.MonitorMessage.{MonitorMessage}
+use Rattle.fl_monitor.specs.declared.message.MonitorMessage.TheVariants.{OpenCircuit, CircuitOpened, CircuitRefused}
 use Rattle.fl_monitor.specs.declared.fault.MonitorFault.{MonitorFault}
 use Rattle.fl_monitor.specs.declared.fault.MonitorFault.TheVariants as fault
 use Rattle.fl_monitor.specs.Fates.{Known}
-use Rattle.fl_monitor.specs.Hearing.{ComesTo, circuit_in}
+use Rattle.fl_monitor.specs.Hearing.{ComesTo, circuit_in, says}
 use Rattle.fl_monitor.specs.Monitors.{TheMonitor, Hears, MayHear, NotHeard}
 use Rattle.fl_monitor.proofs.Tables.{table_length}
+use Rattle.fl_monitor.proofs.Outcomes.{opening_says}
 use Rattle.fl_core.specs.declared.wiring.WiredEnd.{WiredEnd}
 use Rattle.fl_core.specs.declared.wiring.LinkSide.{LinkSide}
 use Rattle.fl_core.specs.declared.hearing.MadeServer.{MadeServer}
@@ -28,11 +30,12 @@ use Rattle.fl_core.specs.declared.answer.MonitorAnswer.TheVariants.{Full, Done, 
 use Rattle.fl_core.specs.declared.fault.LinkReceiveFault.{LinkReceiveFault}
 use Rattle.fl_core.specs.declared.fault.LinkReceiveFault.TheVariants as link
 use Rattle.fl_base.specs.declared.fragment.Frag.{Frag}
-use Rattle.fl_base.specs.Given.{given}
-use Rattle.fl_monitor.specs.Saying.{Says}
-use Rattle.fl_core.specs.View.{TheCore, with_monitor, server_of, place_of}
+use Rattle.fl_monitor.specs.Saying.{Says, Refuses}
+use Rattle.fl_wire.specs.declared.fault.WireFault.{WireFault}
+use Rattle.fl_wire.specs.declared.fault.WireFault.TheVariants as wire
+use Rattle.fl_core.specs.View.{TheCore, with_monitor, with_failed, server_of, place_of}
 use Rattle.fl_core.specs.Sound.{IsCore, kinds_seated}
-use Rattle.fl_core.specs.Hearing.{Offers, here_for, known_for, offer_for, offering, Follows, MakesServer, HearsAll, HearsMessage, HearsLast, HearsFrag}
+use Rattle.fl_core.specs.Hearing.{Offers, here_for, known_for, offer_for, offering, Follows, MakesServer, HearsAll, HearsMessage, HearsLast, HearsFrag, HearsFragLast}
 use Rattle.fl_core.specs.Inside.{server_in, LeadsTo, EndFor, for_message, core_parts, HearsWith, Unheard}
 use Rattle.fl_core.proofs.Kept.{parts_kept, failed_long}
 use Rattle.fl_core.proofs.Offers.{offer_found, offer_leads, made_for, made_new, none_made}
@@ -93,7 +96,7 @@ last_by : (o : Offers) (l : LinkId) (m : MonitorMessage) (k : TheCore) (f : Moni
 last_by o l m k fault.Misrouted n2 answer link_sides lanes2 h u = subst (λ (r : Result MonitorAnswer LinkReceiveFault). IfErr r (HearsLast o l m k)) (sym u.0) tt
 last_by o l m k fault.OutboxFull n2 answer link_sides lanes2 h u = subst (λ (r : Result MonitorAnswer LinkReceiveFault). IfErr r (HearsLast o l m k)) (sym u.0) tt
 last_by o l m k fault.Memory n2 answer link_sides lanes2 h u =
-    subst (λ (r : Result MonitorAnswer LinkReceiveFault). IfErr r (HearsLast o l m k)) (sym u.0) (h.0, (h.1, h.2))
+    subst (λ (r : Result MonitorAnswer LinkReceiveFault). IfErr r (HearsLast o l m k)) (sym u.0) (h.0, (h.1, h.2), h.4)
 last_by o l m k fault.Differs n2 answer link_sides lanes2 h u = absurd h
 last_by o l m k fault.NoRoute n2 answer link_sides lanes2 h u = absurd h
 last_by o l m k fault.UsedUp n2 answer link_sides lanes2 h u = absurd h
@@ -109,12 +112,19 @@ hears_not kn l m n fault.NoRoute h = absurd h
 hears_not kn l m n fault.UsedUp h = absurd h
 hears_not kn l m n fault.PlansDiffer h = absurd h
 
-last_for : (o : Offers) (l : LinkId) (m : MonitorMessage) (k : TheCore) (h : MessageOutcome) → MayHear (known_for o k m) l m k.monitor h → (f : LinkReceiveFault) → HearsLast o l m k f
-last_for o l m k h may link.Marked = tt
-last_for o l m k h may link.Failed = tt
-last_for o l m k h may link.Misrouted = tt
-last_for o l m k h may (link.Wire why) = tt
-last_for o l m k h may link.Memory = (h, may)
+last_for : (o : Offers) (l : LinkId) (m : MonitorMessage) (k : TheCore) (h : MessageOutcome) → MayHear (known_for o k m) l m k.monitor h → IsSome (says l m h) → (f : LinkReceiveFault) → HearsLast o l m k f
+last_for o l m k h may said link.Marked = tt
+last_for o l m k h may said link.Failed = tt
+last_for o l m k h may said link.Misrouted = tt
+last_for o l m k h may said (link.Wire why) = tt
+last_for o l m k h may said link.Memory = (h, may, said)
+
+-- an opening for which there is an offer is passed on or answered
+pub offered_says : (o : Offers) (k : TheCore) (offer : OfferedService) (kn : Known) (t : TheCircuits) (l : LinkId) (m : MonitorMessage) (h : MessageOutcome)
+    → offer_for o k m ≡ Some offer → ComesTo kn t l m h → IsSome (says l m h)
+offered_says o k offer kn t l (OpenCircuit c binding service path) h is comes = opening_says kn t l c binding service path h comes
+offered_says o k offer kn t l (CircuitOpened c) h is comes = absurd (cc (is))
+offered_says o k offer kn t l (CircuitRefused c reason) h is comes = absurd (cc (is))
 
 -- ---- what is heard
 
@@ -164,14 +174,15 @@ module _ (o : Offers) (l : LinkId) (m : MonitorMessage) (k base : TheCore) (same
       subst (λ (x : TheCore). IfErr answer (HearsLast o l m x)) same
       (last_by o l m base f n2 answer base.link_sides link_sides (subst (λ (x : OpeningFacts). Hears (record { names = o.names; here = x }) l m base.monitor (Err f) n2) at_base hears) unheard)
 
-  may_last : (h : MessageOutcome) → MayHear (record { names = o.names; here = here }) l m base.monitor h → (f : LinkReceiveFault) → HearsLast o l m k f
-  may_last h may f =
+  may_last : (h : MessageOutcome) → MayHear (record { names = o.names; here = here }) l m base.monitor h → IsSome (says l m h) → (f : LinkReceiveFault) → HearsLast o l m k f
+  may_last h may said f =
       subst (λ (x : TheCore). HearsLast o l m x f) same
-      (last_for o l m base h (subst (λ (x : OpeningFacts). MayHear (record { names = o.names; here = x }) l m base.monitor h) at_base may) f)
+      (last_for o l m base h (subst (λ (x : OpeningFacts). MayHear (record { names = o.names; here = x }) l m base.monitor h) at_base may) said f)
 
-  pub heard_last : (h : MessageOutcome) (answer : Result MonitorAnswer LinkReceiveFault) → MayHear (record { names = o.names; here = here }) l m base.monitor h → IfErr answer (HearsLast o l m k)
-  heard_last h (Ok told) may = tt
-  heard_last h (Err f) may = may_last h may f
+  pub heard_last : (offer : OfferedService) → offer_for o k m ≡ Some offer → (h : MessageOutcome) (answer : Result MonitorAnswer LinkReceiveFault) → MayHear (record { names = o.names; here = here }) l m base.monitor h
+      → IfErr answer (HearsLast o l m k)
+  heard_last offer is h (Ok told) may = tt
+  heard_last offer is h (Err f) may = may_last h may (offered_says o k offer (record { names = o.names; here = here }) base.monitor.circuits l m h is may.0) f
 
   -- with room that was made, and an end that was taken back
   pub not_heard_with : (source : TheProgram) (f : MonitorFault) (b2 : TheBoard) (n2 : TheMonitor) (answer : Result MonitorAnswer LinkReceiveFault) (link_sides : List LinkSide) (wired_ends : List WiredEnd) (arrivals : List TheQueue)
@@ -261,3 +272,22 @@ frag_not_heard o l frag m k base same k2 f says h = by f (subst (λ (x : TheCore
   by link.Misrouted h = (m, says, h)
   by (link.Wire fault) h = absurd h
   by link.Memory h = h
+
+pub frag_last : (o : Offers) (l : LinkId) (frag : Frag) (m : MonitorMessage) (k base : TheCore) → base ≡ k → (f : LinkReceiveFault) → Says frag m → HearsLast o l m base f → HearsFragLast o l frag k f
+frag_last o l frag m k base same f told h = by f (subst (λ (x : TheCore). HearsLast o l m x f) same h) where
+  by : (g : LinkReceiveFault) → HearsLast o l m k g → HearsFragLast o l frag k g
+  by link.Marked h = tt
+  by link.Failed h = tt
+  by link.Misrouted h = tt
+  by (link.Wire fault) h = tt
+  by link.Memory h = (m, told, h)
+
+-- a fragment that says no message
+pub frag_refused : (o : Offers) (l : LinkId) (frag : Frag) (k k2 : TheCore) (fault : WireFault) → Refuses frag fault → k2 ≡ with_failed k l.0 → HearsFrag o l frag k (Err (link.Wire fault)) k2
+frag_refused o l frag k k2 wire.NotFirst r is = (r, is)
+frag_refused o l frag k k2 wire.FirstInside r is = (r, is)
+frag_refused o l frag k k2 wire.UnknownMessage r is = (r, is)
+frag_refused o l frag k k2 wire.NotZero r is = (r, is)
+frag_refused o l frag k k2 wire.OutOfType r is = (r, is)
+frag_refused o l frag k k2 wire.TooLong r is = (r, is)
+frag_refused o l frag k k2 wire.Memory r is = absurd r

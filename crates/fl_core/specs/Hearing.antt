@@ -1,6 +1,6 @@
 -- What a core makes of a monitors' message that stands first on a link.
 use Rattle.std.specs.Prelude.{ℕ, ◌≡◌, ◌==◌, ◌&&◌, ◌||◌, nat_lt, Bool, false, List, length, is_some, slice_get}
-use Rattle.std.specs.Prelude.{Option, Some, None, Result, Ok, Err, if◌then◌else◌}
+use Rattle.std.specs.Prelude.{Option, Some, None, IsSome, Result, Ok, Err, if◌then◌else◌}
 use Rattle.fl_base.specs.declared.fragment.Frag.{Frag}
 use Rattle.fl_base.specs.declared.identity.LinkId.{LinkId}
 use Rattle.fl_base.specs.declared.identity.Circuit.{Circuit}
@@ -23,7 +23,7 @@ use Rattle.fl_monitor.specs.declared.heard.MessageOutcome.{MessageOutcome}
 use Rattle.fl_monitor.specs.declared.heard.MessageOutcome.TheVariants as heard
 use Rattle.fl_monitor.specs.declared.fault.MonitorFault.TheVariants as monitor
 use Rattle.fl_monitor.specs.Fates.{Known}
-use Rattle.fl_monitor.specs.Hearing.{opening_of}
+use Rattle.fl_monitor.specs.Hearing.{opening_of, says}
 use Rattle.fl_monitor.specs.Saying.{Says, Refuses}
 use Rattle.fl_monitor.specs.Monitors.{TheMonitor, Hears, MayHear}
 use Rattle.fl_core.specs.declared.wiring.ArrivalPlace.{ArrivalPlace}
@@ -151,10 +151,15 @@ HearsMessage o l m k (Err Misrouted) k2 = Hears (known_for o k m) l m k.monitor 
 HearsMessage o l m k (Err Memory) k2 = k2 ≡ k
 HearsMessage o l m k (Err fault) k2 = ⊥
 
--- memory is wanting last: only where the message would be heard
+-- memory is wanting last: only where the message would be heard, and something is said then
 abbrev pub HearsLast : Offers → LinkId → MonitorMessage → TheCore → LinkReceiveFault → Type 0
-HearsLast o l m k Memory = (heard : MessageOutcome) × MayHear (known_for o k m) l m k.monitor heard
+HearsLast o l m k Memory = (heard : MessageOutcome) × MayHear (known_for o k m) l m k.monitor heard × IsSome (says l m heard)
 HearsLast o l m k fault = Unit {0}
+
+-- the same of the message that a fragment says
+abbrev pub HearsFragLast : Offers → LinkId → Frag → TheCore → LinkReceiveFault → Type 0
+HearsFragLast o l frag k Memory = (m : MonitorMessage) × Says frag m × HearsLast o l m k Memory
+HearsFragLast o l frag k fault = Unit {0}
 
 -- what becomes of the side: what was heard is taken, and what was not is left
 abbrev pub TakesHeard : {T : Type 0} → (T → Look → T → Type 0) → Frag → T → Result MonitorAnswer LinkReceiveFault → T → Type 0

@@ -6,11 +6,10 @@ ghost use Rattle.fl_compile.specs.Programs.{program_of};
 ghost use Rattle.fl_link.specs.Looks.{saw};
 ghost use Rattle.fl_core.specs.BoardView.{TheBoard};
 ghost use Rattle.fl_monitor.specs.Hearing.{circuit_in};
-ghost use Rattle.fl_monitor.specs.Saying.{SaysSome};
 ghost use Rattle.fl_core.specs.View.{arriving_at};
 ghost use Rattle.fl_core.specs.Making.{HasPlace};
 ghost use Rattle.fl_core.specs.Hearing.{Offers, here_for, has_end, has_place, offer_of, offer_for};
-ghost use Rattle.fl_core.specs.Hearing.{BindsIf, Offering, Follows, HearsMessage, HearsLast, HearsFrag, TakesHeard};
+ghost use Rattle.fl_core.specs.Hearing.{BindsIf, Offering, Follows, HearsMessage, HearsLast, HearsFrag, HearsFragLast, TakesHeard};
 ghost use Rattle.fl_core.specs.Inside.{server_in, LeadsTo, for_message, core_parts, HearsWith, MayRefuse, Unheard};
 
 use crate::Board;
@@ -25,7 +24,6 @@ use fl_compile::Program;
 use fl_link::TakeSide;
 use fl_monitor::{MessageOutcome, Monitor, MonitorFault, MonitorMessage, OpeningFacts, circuit_in};
 use fl_nameserv::Names;
-use fl_wire::WireFault;
 use std::alloc::Global;
 
 /// A place for the end of a service that is offered at a core.
@@ -377,7 +375,7 @@ impl Core {
     ///
     /// # Errors
     /// The fragment says no monitors' message (E60 to E63, E66), or one that is out of its place (E67): it is left, and what comes on the link has failed for
-    /// good. Out of memory (E99): it is left, and the core is as it was.
+    /// good. Out of memory (E99), where something would be said then: it is left, and the core is as it was. Answers that end at a client take no memory.
     pub fn hear<T: TakeSide>(
         &mut self,
         link: LinkId,
@@ -390,11 +388,10 @@ impl Core {
         requires seen { T.front from.old ≡ saw (bare frag.now) }
         ensures hears { HearsFrag (record { names = names.now; programs = programs.now }) link frag.now self.old result self.new }
         ensures takes { TakesHeard T.takes frag.now from.old result from.new }
-        ensures memory { IfErr result (λ fault. fault ≡ LinkReceiveFault.Memory → SaysSome frag.now) }
+        ensures last { IfErr result (HearsFragLast (record { names = names.now; programs = programs.now }) link frag.now self.old) }
     {
         let message = match self.messenger.read(frag) {
             Ok(message) => message,
-            Err(WireFault::Memory) => return Err(LinkReceiveFault::Memory),
             Err(fault) => {
                 fail(&mut self.link_sides, link);
                 return Err(LinkReceiveFault::Wire(fault));

@@ -51,7 +51,7 @@ use Rattle.fl_machine.specs.declared.recv.PartialCall.{PartialCall}
 use Rattle.fl_machine.specs.declared.recv.TapedCall.{TapedCall}
 use Rattle.fl_machine.specs.Sending.{frag_of, frags_holding}
 use Rattle.fl_machine.specs.Taking.{Stands, words_bytes, so_far, HasRoom}
-use Rattle.fl_machine.specs.Receiving.{block_for, block_at, frags_begun, parts_of, whole_of, TheHeld, TheReceiving, plan_in, interface_in, Feeds, AddsPart, AddsLast, IsRefused, HoldsTapes, HasPlaces, IsBegun, IsEnded}
+use Rattle.fl_machine.specs.Receiving.{block_for, block_at, frags_begun, parts_of, whole_of, TheHeld, TheReceiving, plan_in, interface_in, Feeds, AddsPart, AddsLast, IsRefused, HoldsTapes, HasPlaces, IsBegun, IsEnded, IsTapeOf}
 use Rattle.fl_compile.specs.Programs.{TheProgram}
 use Rattle.fl_machine.proofs.Begun.{same_begun, begun_length, bare_begun, Grown, grows, byte_of_frags}
 
@@ -422,3 +422,13 @@ means_whole plan i tape e c within words x h =
     let known : slice_get i.messages e.msg.0 ≡ Some m = ap (slice_get i.messages) (sym h.message) ∙ named in
     let y : IsEnded plan i tape e = record { call = c; message = h.message; fits = h.fits; within = x.within; tape_is = h.whole } in
     ap (map bare) (whole_shown plan i tape e m y (has_message i e.msg.0 m within words known)) ∙ bare_begun c.msg (payload_of plan i c) (count plan i c) (few_messages i c.msg m within named)
+
+-- and the tape itself
+pub tape_whole : (plan : PlanNo) (i : TheInterface) (tape : List ℕ) (e : TapedCall) (numbers : List ℕ) → is_within_limits i ≡ true → interface_words_fit i ≡ true → IsEnded plan i tape e
+    → numbers ≡ take e.count tape → IsTapeOf plan i (whole_of plan i tape e) numbers
+tape_whole plan i tape e numbers within words x is = record {
+  call = x.call;
+  fits = x.fits;
+  means = means_whole plan i tape e x.call within words x (record { message = x.message; fits = x.fits; whole = x.tape_is });
+  tape_is = is ∙ x.tape_is;
+}

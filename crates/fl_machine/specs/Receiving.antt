@@ -164,6 +164,13 @@ pub record IsRefused (plan : PlanNo) (i : TheInterface) (parts : List Frag) (f :
   pub first : HasFault plan i parts f fault
   pub wrong : IsWrong plan i (parts ++ f ∷ [])
 
+-- the tape of the fitting call that these fragments mean
+pub record IsTapeOf (plan : PlanNo) (i : TheInterface) (frags : List Frag) (tape : List ℕ) : Type 0 where
+  pub call : TheCall
+  pub fits : fits_of i call ≡ true
+  pub means : Means plan i frags call 0
+  pub tape_is : tape ≡ tape_of plan i call
+
 -- the run afterwards: of the same program, and the former state can be had back
 pub record Remembers (s t : TheReceiving) : Type 0 where
   pub program : t.program ≡ s.program

@@ -11,7 +11,7 @@ ghost use Rattle.fl_compile.specs.Programs.{program_of};
 ghost use Rattle.fl_machine.specs.Receiving.{plan_in, interface_in, fed_by, AddsPart, AddsLast, numbers_in, IsRefused, Remembers};
 ghost use Rattle.fl_machine.specs.Receiving.{undone, Undoes, Feeds, stored_of, receiving, HoldsTapes, IsBegun, IsStored};
 ghost use Rattle.fl_machine.specs.Receiving.{parts_in, StandsIn, AddsUpTo, HasFaultIn, IsRefusedIn, HasPlaces, MeansWhole};
-ghost use Rattle.fl_machine.specs.Receiving.{IsNew, ended_as, stand_after, stand_of};
+ghost use Rattle.fl_machine.specs.Receiving.{IsNew, ended_as, stand_after, stand_of, IsTapeOf};
 ghost use Rattle.fl_machine.specs.Kept.{counting, IsKeptIn, GoesOn, Ends, IsFaulty, Refuses};
 ghost use Rattle.fl_machine.specs.Receiving.{Inside as inside, After as after};
 
@@ -358,6 +358,14 @@ pub(crate) fn whole(
     }
 }
 
+// The numbers of a call that is whole.
+fn whole_tape(ended: TapedCall, tape: &[u64]) -> &[u64]
+    requires within { ended.count ≤ length tape.now }
+    ensures tape { result.now ≡ take ended.count tape.now }
+{
+    &tape[..ended.count]
+}
+
 // Puts numbers at the beginning of a tape.
 fn put_first(numbers: &[u64], tape: &mut [u64])
     requires room { length numbers.now ≤ length tape.old }
@@ -562,6 +570,17 @@ impl RecvRun {
             unreachable!();
         };
         whole(alloc, &self.program, ended, &self.stored.tape)
+    }
+
+    /// The tape of the call that the last fragment fed made whole: its numbers in the plan's order. Takes no memory.
+    pub fn whole_tape(&self) -> &[u64]
+        requires whole { self.now.whole ≢ [] }
+        ensures tape { IsTapeOf (plan_in self.now) (interface_in self.now) self.now.whole result.now }
+    {
+        let Phase::Done(ended) = self.stored.phase else {
+            unreachable!();
+        };
+        whole_tape(ended, &self.stored.tape)
     }
 
     /// Back to before the last accepted feed; nothing where none was since [`RecvRun::new`] or the last `undo`. Takes no

@@ -4,7 +4,7 @@ pub mod Single
 pub mod Same
 pub mod Tapes
 pub mod Written
-pub mod Places
+pub mod Numbers
 pub mod Taken
 pub mod Boxes
 pub mod Tables

@@ -14,7 +14,6 @@ use Rattle.fl_wire.specs.declared.fault.WireFault.{WireFault}
 use Rattle.fl_wire.specs.declared.fault.WireFault.TheVariants.{NotFirst, FirstInside, UnknownMessage, NotZero, OutOfType, TooLong, Memory}
 use Rattle.fl_monitor.specs.Intermon.{intermon}
 use Rattle.fl_monitor.specs.Saying.{RefusedTheSame}
-use Rattle.fl_monitor.proofs.Single.{says_the_same}
 
 -- ---- the control word
 
@@ -84,4 +83,4 @@ refused_the_same f g UnknownMessage same r = (same_fault f g UnknownMessage same
 refused_the_same f g NotZero same r = (same_fault f g NotZero same r.0, same_wrong f g same r.1)
 refused_the_same f g OutOfType same r = (same_fault f g OutOfType same r.0, same_wrong f g same r.1)
 refused_the_same f g TooLong same r = (same_fault f g TooLong same r.0, same_wrong f g same r.1)
-refused_the_same f g Memory same (m, s) = (m, says_the_same f g m same s)
+refused_the_same f g Memory same r = absurd r

@@ -1,10 +1,11 @@
 -- What feeding a fragment of the monitors' interface comes to.
-use Rattle.std.proofs.Common.{◌≡◌, ◌⊎◌, ◌^◌, ◌*◌, ◌/◌, ◌%◌, inl, inr, Bool, true, false, not, if◌then◌else◌, List, [], ◌∷◌, ◌++◌, refl, sym, ◌∙◌, ap, subst, arith, Some, None, map}
+use Rattle.std.proofs.Common.{◌≡◌, ◌^◌, ◌*◌, ◌/◌, ◌%◌, ℕ, inl, inr, Bool, true, false, not, if◌then◌else◌, List, [], ◌∷◌, ◌++◌, refl, sym, ◌∙◌, ap, subst, arith, Some, None, map}
 use Rattle.fl_base.specs.declared.fragment.Frag.{Frag}
-use Rattle.fl_base.specs.Control.{bare}
+use Rattle.fl_base.specs.Control.{bare, message_of}
 use Rattle.fl_interface.specs.Interface.{TheInterface}
 use Rattle.fl_value_data.specs.Value.{TheCall}
 use Rattle.fl_value_data.specs.Fits.{fits_of}
+use Rattle.fl_value_data.specs.Tape.{tape_of}
 use Rattle.fl_value_data.specs.declared.value.PlanNo.{PlanNo}
 use Rattle.fl_value_data.specs.declared.value.PlanNo.TheVariants.{One}
 use Rattle.fl_wire.specs.Payload.{frags_on}
@@ -14,14 +15,17 @@ use Rattle.fl_wire.specs.declared.fault.WireFault.{WireFault}
 use Rattle.fl_wire.specs.declared.fault.WireFault.TheVariants.{NotFirst, FirstInside, UnknownMessage, NotZero, OutOfType, TooLong, Memory}
 use Rattle.fl_wire.proofs.Unread.{one_fits}
 use Rattle.fl_compile.proofs.OneFault.{one_fault}
-use Rattle.fl_machine.specs.Receiving.{TheHeld, AddsPart, AddsLast, IsRefused}
+use Rattle.fl_machine.specs.Receiving.{TheHeld, AddsPart, AddsLast, IsRefused, IsTapeOf}
 use Rattle.fl_machine.specs.declared.intake.Fed.{Fed}
 use Rattle.fl_machine.specs.declared.intake.Fed.TheVariants.{Part, Whole}
 use Rattle.fl_monitor.specs.declared.message.MonitorMessage.{MonitorMessage}
 use Rattle.fl_monitor.specs.Intermon.{intermon, call_for}
-use Rattle.fl_monitor.specs.Saying.{Says, SaysSome, Refuses, RefusedForOne}
+use Rattle.fl_monitor.specs.Saying.{Says, Refuses, RefusedForOne}
+use Rattle.fl_monitor.specs.Tapes.{message_on, IsTapeOfMessage}
 use Rattle.fl_monitor.proofs.Calls.{widths_fit, fit_widths, each_call}
-use Rattle.fl_monitor.proofs.Single.{none_is_part}
+use Rattle.fl_monitor.proofs.Numbers.{read_back}
+use Rattle.fl_monitor.proofs.Single.{none_is_part, says_alone}
+use Rattle.fl_monitor.proofs.Tapes.{tape_is}
 
 -- what holds of a run's plan, interface and fragments holds of plan 1, the monitors' interface and none
 carry : (P : PlanNo → TheInterface → List Frag → Type 0) (plan : PlanNo) (i : TheInterface) (parts : List Frag) → plan ≡ One → i ≡ intermon → parts ≡ [] → P plan i parts → P One intermon []
@@ -35,11 +39,6 @@ pub ended : (f : Frag) (t : TheHeld) (plan : PlanNo) (i : TheInterface) (parts :
 ended f t plan i parts Part plan_is i_is parts_is part whole =
     absurd (none_is_part f [] (AddsPart.part (carry (λ p j fs. AddsPart p j fs f t) plan i parts plan_is i_is parts_is (part refl))))
 ended f t plan i parts Whole plan_is i_is parts_is part whole = carry (λ p j fs. AddsLast p j fs f t) plan i parts plan_is i_is parts_is (whole refl)
-
-pub some_message : (f : Frag) (t : TheHeld) → AddsLast One intermon [] f t → SaysSome f
-some_message f t last =
-    let m = each_call last.call last.fits in
-    (m.0, record { widths = m.1; means = last.means ∙ ap (λ (c : TheCall). frags_on 0 One intermon c) (sym m.2) })
 
 pub not_empty : (f : Frag) (t : TheHeld) → AddsLast One intermon [] f t → t.whole ≡ [] → ⊥
 not_empty f t last e =
@@ -62,6 +61,32 @@ says_call f t plan i c m plan_is i_is last fits means is =
       widths = fit_widths m fits_it;
       means = sym whole ∙ at ∙ ap (λ (d : TheCall). frags_on 0 One intermon d) (sym is);
     }
+
+-- a fragment says this message, whose number and tape these are
+pub record Tells (f : Frag) (number : ℕ) (tape : List ℕ) : Type 0 where
+  pub told : IsTapeOfMessage number tape
+  pub says : Says f told.message
+
+-- the message whose tape the run then has
+pub tells : (f : Frag) (t : TheHeld) (plan : PlanNo) (i : TheInterface) (number : ℕ) (tape : List ℕ) → plan ≡ One → i ≡ intermon
+    → AddsLast One intermon [] f t → number ≡ message_of f.control → IsTapeOf plan i t.whole tape → Tells f number tape
+tells f t plan i number tape plan_is i_is last number_is w =
+    let m = each_call w.call (subst (λ (j : TheInterface). fits_of j w.call ≡ true) i_is w.fits) in
+    let says = says_call f t plan i w.call m.0 plan_is i_is last w.fits w.means m.2 in
+    let under : tape ≡ tape_of One intermon w.call = w.tape_is ∙ (λ k. tape_of (plan_is k) (i_is k) w.call) in
+    record {
+      told = record {
+        message = m.0;
+        widths = m.1;
+        number_is = number_is ∙ (says_alone f m.0 says).number;
+        tape_is = under ∙ ap (tape_of One intermon) (sym m.2) ∙ tape_is m.0 m.1;
+      };
+      says = says;
+    }
+
+-- and it is what is read
+pub says_read : (f : Frag) (number : ℕ) (tape : List ℕ) (m : MonitorMessage) → Tells f number tape → m ≡ message_on number tape → Says f m
+says_read f number tape m t is = subst (Says f) (sym (is ∙ read_back number tape t.told)) t.says
 
 -- ---- a refused fragment says nothing
 
@@ -101,25 +126,14 @@ says_none f m plan i parts fault plan_is i_is parts_is r s =
 
 -- ---- one reason
 
--- memory ran out, or a fault of the fragment's own
-is_why : (f : Frag) (fault : WireFault) → Refuses f fault → ((fault ≡ Memory) × SaysSome f) ⊎ (HasFault One intermon [] f fault × IsWrong One intermon (f ∷ []))
-is_why f NotFirst r = inr r
-is_why f FirstInside r = inr r
-is_why f UnknownMessage r = inr r
-is_why f NotZero r = inr r
-is_why f OutOfType r = inr r
-is_why f TooLong r = inr r
-is_why f Memory r = inl (refl, r)
-
-says_or_wrong : (f : Frag) → SaysSome f → IsWrong One intermon (f ∷ []) → ⊥
-says_or_wrong f (m, s) wrong = not_wrong f m s wrong
-
-same_why : (f : Frag) (a b : WireFault) → ((a ≡ Memory) × SaysSome f) ⊎ (HasFault One intermon [] f a × IsWrong One intermon (f ∷ []))
-    → ((b ≡ Memory) × SaysSome f) ⊎ (HasFault One intermon [] f b × IsWrong One intermon (f ∷ [])) → a ≡ b
-same_why f a b (inl p) (inl q) = p.0 ∙ sym q.0
-same_why f a b (inl p) (inr q) = absurd (says_or_wrong f p.1 q.1)
-same_why f a b (inr p) (inl q) = absurd (says_or_wrong f q.1 p.1)
-same_why f a b (inr p) (inr q) = one_fault One intermon [] f a b refl refl p.0 q.0
+is_why : (f : Frag) (fault : WireFault) → Refuses f fault → HasFault One intermon [] f fault
+is_why f NotFirst r = r.0
+is_why f FirstInside r = r.0
+is_why f UnknownMessage r = r.0
+is_why f NotZero r = r.0
+is_why f OutOfType r = r.0
+is_why f TooLong r = r.0
+is_why f Memory r = absurd r
 
 pub refused_for_one : RefusedForOne
-refused_for_one f a b r s = same_why f a b (is_why f a r) (is_why f b s)
+refused_for_one f a b r s = one_fault One intermon [] f a b refl refl (is_why f a r) (is_why f b s)

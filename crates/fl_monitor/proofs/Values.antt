@@ -1,7 +1,6 @@
 -- Which values are numbers and routes.
-use Rattle.std.proofs.Common.{◌≡◌, ◌<◌, ◌≤◌, ◌^◌, ◌+◌, ℕ, zero, suc, pos, negsuc, Bool, true, false, ◌&&◌, List, [], ◌∷◌, ◌++◌, length, map, take, get_or, ◌∙◌, refl, sym, ap, subst, arith}
-use Rattle.std.specs.Prelude.{All, nat_lt, nat_le, slice_set}
-use Rattle.std.proofs.lemmas.List.{take_more, take_more_set, map-append, length-map, get_or-map}
+use Rattle.std.proofs.Common.{◌≡◌, ◌<◌, ◌^◌, zero, suc, pos, negsuc, Bool, true, false, ◌&&◌, List, [], ◌∷◌, length, refl, subst, arith}
+use Rattle.std.specs.Prelude.{All, nat_lt, nat_le}
 use Rattle.std.proofs.lemmas.Bool.{ltb-true, lt-ltb, leb-true, le-leb}
 use Rattle.fl_base.specs.declared.identity.CoreId.{CoreId}
 use Rattle.fl_interface.specs.declared.interface.Scalar.TheVariants.{Uint8, Uint16, Uint32, Iref}
@@ -9,9 +8,8 @@ use Rattle.fl_interface.specs.Interface.{scalar, sized}
 use Rattle.fl_value_data.specs.Value.{Datum, number, string, elements, fields, Data, nothing_more, also, data_from}
 use Rattle.fl_value_data.specs.Fits.{has_type, all_have_type, count_of, is_argument}
 use Rattle.fl_monitor.specs.Routes.{FitsPath}
-use Rattle.fl_monitor.specs.Paths.{filler}
-use Rattle.fl_monitor.specs.Intermon.{natural, route}
-use Rattle.fl_monitor.specs.Parts.{numbers, IsBelow, IsRouteValue, AreRoute}
+use Rattle.fl_monitor.specs.Intermon.{route}
+use Rattle.fl_monitor.specs.Parts.{numbers, IsBelow, IsRouteValue}
 
 pub false_true : {A : Type 0} → false ≡ true → A
 false_true e = absurd (cc)
@@ -149,50 +147,3 @@ same_route (c ∷ p) (d ∷ q) e =
     let rest : data_from (numbers p) ≡ data_from (numbers q) = cc in
     let cores = same_route p q rest in
     λ i. record { 0 = here i } ∷ cores i
-
--- ---- values read one after another
-
--- each of them is a core number
-pub one_of : {X : Type 0} (f : X → Datum) (xs : List X) (cores : List CoreId) → map f xs ≡ numbers cores → FitsPath cores → (k : ℕ) (x : X) → k < length xs → IsBelow (2 ^ 8) (f (get_or xs k x))
-one_of f xs cores same fits k x within =
-    let long : length xs ≡ length cores = sym (length-map xs f) ∙ ap length same ∙ length-map cores (λ (core : CoreId). natural core.0) in
-    let inside : k < length cores = omega (arith, within, long) in
-    record {
-      n = (get_or cores k filler).0;
-      is = sym (get_or-map f xs k x (f x) within) ∙ ap (λ (ds : List Datum). get_or ds k (f x)) same ∙ get_or-map (λ (core : CoreId). natural core.0) cores k filler (f x) inside;
-      small = fits.small k filler inside;
-    }
-
-pub few_of : {X : Type 0} (f : X → Datum) (xs : List X) (cores : List CoreId) → map f xs ≡ numbers cores → FitsPath cores → length xs ≤ 16
-few_of f xs cores same fits =
-    let long : length xs ≡ length cores = sym (length-map xs f) ∙ ap length same ∙ length-map cores (λ (core : CoreId). natural core.0) in
-    omega (arith, long, fits.few)
-
--- one more read
-pub next_of : {X : Type 0} (f : X → Datum) (xs : List X) (cores : List CoreId) (k : ℕ) (x : X) (n : ℕ) → k < length xs → k < length cores
-    → map f (take k xs) ≡ numbers (take k cores) → f (get_or xs k x) ≡ natural n → map f (take (k + 1) xs) ≡ numbers (take (k + 1) (slice_set cores k (record { 0 = n })))
-next_of f xs cores k x n within inside before here =
-    let core : CoreId = record { 0 = n } in
-    ap (map f) (take_more xs k x within) ∙ map-append f (take k xs) (get_or xs k x ∷ []) ∙ (λ i. before i ++ here i ∷ [])
-    ∙ sym (ap numbers (take_more_set cores k core inside) ∙ map-append (λ (c : CoreId). natural c.0) (take k cores) (core ∷ []))
-
-pub same_number : (a b : ℕ) → natural a ≡ natural b → a ≡ b
-same_number a b e = cc
-
--- data tell their list
-pub same_data : (xs ys : List Datum) → data_from xs ≡ data_from ys → xs ≡ ys
-same_data [] [] e = refl
-same_data [] (y ∷ ys) e = absurd (cc)
-same_data (x ∷ xs) [] e = absurd (cc)
-same_data (x ∷ xs) (y ∷ ys) e =
-    let here : x ≡ y = cc in
-    let rest : data_from xs ≡ data_from ys = cc in
-    let more = same_data xs ys rest in
-    λ i. here i ∷ more i
-
--- the values of an array that is a route
-pub are_route : (ds : List Datum) (d : Datum) → d ≡ elements (data_from ds) → IsRouteValue d → AreRoute ds
-are_route ds d e r =
-    let same : elements (data_from ds) ≡ elements (data_from (numbers r.cores)) = sym e ∙ r.is in
-    let inner : data_from ds ≡ data_from (numbers r.cores) = cc in
-    record { cores = r.cores; is = same_data ds (numbers r.cores) inner; fits = r.fits }

@@ -1,5 +1,5 @@
--- The public promises rest on Routes, Intermon, Saying, Outboxes, Routing, Fates, Hearing, Monitors and Faults; Paths, Parts and
--- Messengers are working files.
+-- The public promises rest on Routes, Intermon, Saying, Outboxes, Routing, Fates, Hearing, Monitors and Faults; Paths, Parts,
+-- Tapes and Messengers are working files.
 pub mod Routes
 pub mod Intermon
 pub mod Saying
@@ -11,4 +11,5 @@ pub mod Hearing
 pub mod Monitors
 pub mod Paths
 pub mod Parts
+pub mod Tapes
 pub mod Messengers

@@ -1,6 +1,6 @@
 -- One core's monitor: its circuits, and what it has still to say on each link; what its events do, by their answers.
 use Rattle.std.specs.Prelude.{ℕ, ◌≡◌, ◌≢◌, ◌++◌, ◌∷◌, [], true, false, Bool, nat_lt, List, length, slice_get, slice_set, drop}
-use Rattle.std.specs.Prelude.{Option, Some, None, Result, Ok, Err, if◌then◌else◌}
+use Rattle.std.specs.Prelude.{Option, Some, None, IsSome, Result, Ok, Err, if◌then◌else◌}
 use Rattle.fl_base.specs.declared.fragment.Frag.{Frag}
 use Rattle.fl_base.specs.declared.identity.CoreId.{CoreId}
 use Rattle.fl_base.specs.declared.identity.LinkId.{LinkId}
@@ -78,7 +78,7 @@ may_say (Some s) outboxes = can_say outboxes s.link.0
 
 -- ---- a message is heard
 
--- on link l, by the answer
+-- on link l, by the answer; memory is wanting only where something is said then
 abbrev pub Hears : Known → LinkId → MonitorMessage → TheMonitor → Result MessageOutcome MonitorFault → TheMonitor → Type 0
 Hears k l m before (Ok heard) after =
     ComesTo k before.circuits l m heard × (may_say (says l m heard) before.outboxes ≡ true)
@@ -89,6 +89,7 @@ Hears k l m before (Err OutboxFull) after =
     (heard : MessageOutcome) × ComesTo k before.circuits l m heard × (may_say (says l m heard) before.outboxes ≡ false) × (after ≡ before)
 Hears k l m before (Err Memory) after =
     (heard : MessageOutcome) × ComesTo k before.circuits l m heard × (may_say (says l m heard) before.outboxes ≡ true) × (after ≡ before)
+    × IsSome (says l m heard)
 Hears k l m before (Err fault) after = ⊥
 
 -- memory aside: what it comes to, where the outbox that is needed has room

@@ -1,5 +1,5 @@
 -- A working file, on which no public promise rests by itself: the parts of the monitors' calls: numbers and routes among their arguments.
-use Rattle.std.specs.Prelude.{◌≡◌, ◌<◌, ℕ, List, map, slice_get, Some}
+use Rattle.std.specs.Prelude.{◌≡◌, ◌<◌, ℕ, List, map}
 use Rattle.fl_base.specs.declared.identity.CoreId.{CoreId}
 use Rattle.fl_value_data.specs.Value.{Datum}
 use Rattle.fl_monitor.specs.Routes.{FitsPath}
@@ -20,15 +20,3 @@ pub record IsRouteValue (d : Datum) : Type 0 where
   pub cores : List CoreId
   pub is : d ≡ route cores
   pub fits : FitsPath cores
-
--- values are the core numbers of a route
-pub record AreRoute (ds : List Datum) : Type 0 where
-  pub cores : List CoreId
-  pub is : ds ≡ numbers cores
-  pub fits : FitsPath cores
-
--- at that place stands an argument of the kind
-pub record StandsAt (Is : Datum → Type 0) (args : List Datum) (place : ℕ) : Type 0 where
-  pub datum : Datum
-  pub there : slice_get args place ≡ Some datum
-  pub is : Is datum

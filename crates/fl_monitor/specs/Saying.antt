@@ -1,5 +1,5 @@
 -- What fragments say between monitors, and why one is refused.
-use Rattle.std.specs.Prelude.{◌≡◌, ◌↔◌, true, false, List, [], ◌∷◌, Result, Ok, Err}
+use Rattle.std.specs.Prelude.{◌≡◌, ◌↔◌, true, false, List, [], ◌∷◌}
 use Rattle.fl_base.specs.declared.fragment.Frag.{Frag}
 use Rattle.fl_base.specs.Control.{first_of, message_of, circuit_of, is_ack_only, bare}
 use Rattle.fl_value_data.specs.Value.{TheCall}
@@ -23,15 +23,10 @@ pub record Says (f : Frag) (m : MonitorMessage) : Type 0 where
 abbrev pub SaysSome : Frag → Type 0
 SaysSome f = (m : MonitorMessage) × Says f m
 
--- why a fragment isn't read: memory ran out over one that says a message; else it says none, and this is its first fault
+-- why a fragment isn't read: it says no message, and this is its first fault
 abbrev pub Refuses : Frag → WireFault → Type 0
-Refuses f Memory = SaysSome f
+Refuses f Memory = ⊥
 Refuses f fault = HasFault One intermon [] f fault × IsWrong One intermon (f ∷ [])
-
--- the message was read, unless memory ran out
-abbrev pub GivesUnlessMemory : MonitorMessage → Result MonitorMessage WireFault → Type 0
-GivesUnlessMemory m (Ok n) = n ≡ m
-GivesUnlessMemory m (Err fault) = fault ≡ Memory
 
 -- ---- laws
 

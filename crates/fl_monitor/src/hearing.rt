@@ -1,6 +1,6 @@
 //! What a message comes to at the core that hears it.
 
-ghost use Rattle.std.specs.Prelude.{◌≡◌, Some, IfSome, IfNone, OnOk, OnErr};
+ghost use Rattle.std.specs.Prelude.{◌≡◌, Some, IsSome, IfSome, IfNone, OnOk, OnErr};
 ghost use Rattle.fl_base.specs.Given.{given};
 ghost use Rattle.fl_hop.specs.declared.entry.Hop.{Hop};
 ghost use Rattle.fl_hop.specs.declared.entry.HopTarget.{HopTarget};
@@ -8,7 +8,7 @@ ghost use Rattle.fl_hop.specs.Table.{TheCircuits, hop_at, without_entry};
 ghost use Rattle.fl_hop.specs.Numbers.{next_own};
 ghost use Rattle.fl_hop.specs.Openings.{IsWaiting, passed_on, answered};
 ghost use Rattle.fl_hop.specs.Later.{Later};
-ghost use Rattle.fl_monitor.specs.Fates.{HasNext};
+ghost use Rattle.fl_monitor.specs.Fates.{HasNext, Known};
 ghost use Rattle.fl_monitor.specs.Hearing.{heard_by, opened_at, refused_at, ComesTo, IsMisrouted, GoesOnNext, circuit_in, with_circuit, says};
 ghost use Rattle.fl_monitor.specs.Hearing.{after_opening, after_answer, after_refusal, table_after};
 
@@ -261,6 +261,7 @@ fn note_answer(circuits: &mut Circuits, link: LinkId, circuit: Circuit) -> Resul
     ensures noted { OnOk result (circuits.new ≡ after_answer circuits.old link circuit) }
     ensures later { OnOk result (Later circuits.old circuits.new) }
     ensures kept { OnErr result (circuits.new ≡ circuits.old) }
+    ensures misrouted { OnErr result ((hop : Hop) → IsWaiting circuits.old link.0 circuit.0 hop → ⊥) }
 {
     circuits.answer(link, circuit)?;
     Ok(())
@@ -271,6 +272,7 @@ fn remove(circuits: &mut Circuits, link: LinkId, circuit: Circuit) -> Result<(),
     ensures removed { OnOk result (circuits.new ≡ after_refusal circuits.old link circuit) }
     ensures later { OnOk result (Later circuits.old circuits.new) }
     ensures kept { OnErr result (circuits.new ≡ circuits.old) }
+    ensures misrouted { OnErr result ((hop : Hop) → IsWaiting circuits.old link.0 circuit.0 hop → ⊥) }
 {
     let Some(_) = circuits.remove(link, circuit) else {
         return Err(HopFault::Misrouted);
@@ -281,8 +283,8 @@ fn remove(circuits: &mut Circuits, link: LinkId, circuit: Circuit) -> Result<(),
 /// Makes of the table what a message that was heard on a link makes of it.
 ///
 /// # Errors
-/// Out of memory for one more entry: all else was looked for when it was found what the message comes to. Nothing has
-/// changed then.
+/// Out of memory for one more entry, where something is said then: all else was looked for when it was found what the
+/// message comes to. Nothing has changed then.
 pub(crate) fn change(
     circuits: &mut Circuits,
     link: LinkId,
@@ -293,6 +295,7 @@ pub(crate) fn change(
     ensures changed { OnOk result (circuits.new ≡ table_after circuits.old link message.now heard) }
     ensures later { OnOk result (Later circuits.old circuits.new) }
     ensures kept { OnErr result (circuits.new ≡ circuits.old) }
+    ensures memory { OnErr result ((k : Known) → ComesTo k circuits.old link message.now heard → IsSome (says link message.now heard)) }
 {
     match message {
         MonitorMessage::OpenCircuit {

@@ -46,8 +46,7 @@ pub fn law_epochs_say_nothing()
     ensures refused { RefusedTheSame }
 {}
 
-/// A fragment that isn't read is refused for one reason, which it tells alone: out of memory where it says a message, else its
-/// first fault.
+/// A fragment that isn't read is refused for one reason, which it tells alone: its first fault.
 pub fn law_one_reason()
     ensures one { RefusedForOne }
 {}

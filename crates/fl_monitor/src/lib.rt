@@ -16,7 +16,7 @@
 //! - `path.rt`: the route of a circuit
 //! - `message.rt`: the messages, and their tapes
 //! - `interface.rt`: the monitors' interface
-//! - `call.rt`: the message whose call it is
+//! - `tape.rt`: the message whose tape it is
 //! - `messenger.rt`: writing and reading, by compiled stubs
 //! - `outbox.rt`: what a monitor is to send over one link
 //! - `monitor.rt`: `Monitor`
@@ -26,7 +26,6 @@
 //! - `law.rt`: messages, calls and fragments stand for one another
 #![tactic(auto)]
 
-mod call;
 mod decision;
 mod fault;
 mod heard;
@@ -40,6 +39,7 @@ mod opening;
 mod outbox;
 mod path;
 mod routing;
+mod tape;
 
 pub use decision::OpeningFacts;
 pub use fault::MonitorFault;

@@ -1,17 +1,17 @@
 //! Writing and reading the monitors' messages.
 
-ghost use Rattle.std.specs.Prelude.{◌≡◌, false, IfOk, IfErr};
+ghost use Rattle.std.specs.Prelude.{◌≡◌, false, Ok, IfOk, IfErr};
 ghost use Rattle.fl_base.specs.Control.{is_ack_only};
 ghost use Rattle.fl_interface.specs.Interface.{interface_of};
 ghost use Rattle.fl_monitor.specs.declared.message.MonitorMessage.{MonitorMessage};
 ghost use Rattle.fl_monitor.specs.Intermon.{intermon};
 ghost use Rattle.fl_monitor.specs.Outboxes.{IsFragOf};
-ghost use Rattle.fl_monitor.specs.Saying.{Says, Refuses, GivesUnlessMemory};
+ghost use Rattle.fl_monitor.specs.Saying.{Says, Refuses};
 
-use crate::call::message_for;
 use crate::interface::interface;
 use crate::message::MonitorMessage;
 use crate::path::MAX_ROUTE;
+use crate::tape::message_on;
 use fl_base::{Circuit, Frag};
 use fl_compile::compile;
 use fl_interface::Interface;
@@ -85,20 +85,18 @@ impl Messenger {
         }
     }
 
-    /// The message that a fragment says, whatever its epoch and the count that it tells.
+    /// The message that a fragment says, whatever its epoch and the count that it tells. Takes no memory.
     ///
     /// # Errors
     /// The first fault of a fragment that says none: in its control word a reserved bit or a circuit that isn't 0 (E63), no
     /// first fragment (E60), a number that no message has (E62); else of its first byte at fault, in the length of a route
-    /// over 16 (E66), or one that isn't 0 where nothing stands (E63). Out of memory (E99), which is met only over a
-    /// fragment that says a message. The fragment can be read again then.
+    /// over 16 (E66), or one that isn't 0 where nothing stands (E63). The fragment can be read again then.
     pub fn read(&mut self, frag: &Frag) -> Result<MonitorMessage, WireFault>
         ensures says { IfOk result (λ m. Says frag.now m) }
         ensures refused { IfErr result (λ fault. Refuses frag.now fault) }
-        ensures back { (m : MonitorMessage) → Says frag.now m → GivesUnlessMemory m result }
+        ensures back { (m : MonitorMessage) → Says frag.now m → result ≡ Ok m }
     {
         self.run.feed(frag)?;
-        let call = self.run.whole_call(self.alloc)?;
-        Ok(message_for(&call))
+        Ok(message_on(frag.msg(), self.run.whole_tape()))
     }
 }

@@ -265,8 +265,8 @@ impl Monitor {
     /// is made.
     ///
     /// # Errors
-    /// The message is out of its place (E67); 64 messages wait in the outbox that is needed (E75); out of memory (E99).
-    /// Nothing has changed then.
+    /// The message is out of its place (E67); 64 messages wait in the outbox that is needed (E75); out of memory (E99), where
+    /// something is said then: what ends at a client takes none. Nothing has changed then.
     pub fn on_message(
         &mut self,
         names: &Names,
@@ -289,7 +289,7 @@ impl Monitor {
             }
             None => {
                 let Ok(()) = change(&mut self.circuits, link, message, heard) else {
-                    return Err(MonitorFault::Memory);
+                    unreachable!();
                 };
                 Ok(heard)
             }

@@ -19,7 +19,7 @@ use Rattle.fl_monitor.specs.Fates.{Known}
 use Rattle.fl_monitor.specs.Hearing.{IsMisrouted}
 use Rattle.fl_monitor.specs.Monitors.{TheMonitor, Hears}
 use Rattle.fl_monitor.specs.Saying.{Says, Refuses}
-use Rattle.fl_monitor.proofs.Taken.{refused_for_one}
+use Rattle.fl_monitor.proofs.Taken.{not_wrong}
 use Rattle.fl_core.specs.declared.answer.MonitorAnswer.{MonitorAnswer}
 use Rattle.fl_core.specs.declared.answer.MonitorAnswer.TheVariants as told
 use Rattle.fl_core.specs.declared.fault.LinkReceiveFault.{LinkReceiveFault}
@@ -295,9 +295,7 @@ module _ (law : Showings) (frame : HearFrames) (w : TheWorld) (s : State) (shows
       -- it says a message, so it isn't refused
       not_wiring : (why : WireFault) → HearsFrag offers (link_id l) frag t.c (Err (fault.Wire why)) o.after → ⊥
       not_wiring wiring.Memory h = h
-      not_wiring why h =
-          let is : why ≡ wiring.Memory = refused_for_one frag why wiring.Memory h.0 (message_of m, said.read frag msg.frag_is) in
-          subst (λ (y : WireFault). HearsFrag offers (link_id l) frag t.c (Err (fault.Wire y)) o.after) is h
+      not_wiring why h = absurd (not_wrong frag (message_of m) (said.read frag msg.frag_is) h.0.1)
 
       by_told : (e : Result MonitorAnswer LinkReceiveFault) → HearsFrag offers (link_id l) frag t.c e o.after → TakesHeard SideTakes frag o.side e o.left → IsHeard e a → ThenRules e first_world w2
           → Agrees (forwards_said here m seen) a w2

@@ -4,7 +4,6 @@ use crate::monitor::messages::{MessageRow, frag, is_read};
 use crate::words::{MessageWords, message};
 use fl_base::{CoreId, Frag};
 use fl_monitor::{Messenger, MonitorMessage};
-use fl_wire::WireFault;
 use std::alloc::Global;
 
 /// The monitors' interface, as it is published.
@@ -78,19 +77,15 @@ pub const ROWS: &[MessageRow] = &[
     ),
 ];
 
-// Whether a message is read twice from this fragment, where memory was refused once at most.
+// Whether a message is read twice from this fragment, which takes no memory.
 fn is_read_twice(messenger: &mut Messenger, frag: &Frag, message: &MonitorMessage) -> bool {
     let first = is_read(messenger, frag, message);
     let second = is_read(messenger, frag, message);
-    match (first, second) {
-        (Ok(first), Ok(second)) => first && second,
-        (Ok(is_so), Err(fault)) | (Err(fault), Ok(is_so)) => is_so && fault == WireFault::Memory,
-        (Err(_), Err(_)) => false,
-    }
+    matches!((first, second), (Ok(true), Ok(true)))
 }
 
-// A fragment that says a message is refused only where memory runs out, and can be read again; the message is written as that
-// fragment, or memory was refused.
+// A fragment that says a message is read, and again, also where memory is refused; the message is written as that fragment, or
+// memory was refused.
 fn is_read_again(messenger: &mut Messenger) -> bool {
     let Some(message) = message(MessageWords::Refused(1, 73)) else {
         return false;
@@ -103,7 +98,7 @@ fn is_read_again(messenger: &mut Messenger) -> bool {
     is_written && is_read_twice(messenger, &frag, &message)
 }
 
-/// Whether a messenger reads again what memory was refused for.
+/// Whether a messenger reads a message twice where memory is refused.
 pub fn reads_again(alloc: Global) -> bool {
     match Messenger::new(alloc) {
         Ok(mut messenger) => is_read_again(&mut messenger),

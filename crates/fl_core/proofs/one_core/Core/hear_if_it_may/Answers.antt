@@ -1,5 +1,4 @@
-use Rattle.std.proofs.Common.{sym, refl, ap, length}
-use Rattle.fl_monitor.specs.Monitors.{TheMonitor}
+use Rattle.std.proofs.Common.{sym, refl}
 use Rattle.fl_core.specs.Hearing.{Offers}
 use Rattle.fl_core.proofs.Kept.{parts_kept}
 use Rattle.fl_core.proofs.Hearsay.{hears_not, unheard_length, not_heard, unheard_last, heard_last}
@@ -21,4 +20,4 @@ returns-in-Err c =
 pub returns-in-Ok-clause-last : goal.returns-in-Ok-clause-last
 returns-in-Ok-clause-last c =
     let o : Offers = record { names = c.args.names.now; programs = c.args.programs.now } in
-    heard_last o c.args.link c.args.message.now c.args.self.now _ c.self.view_is c.here_for-here.result (c.here_for-here.ensures.here o (sym c.requires.offer)) c.in-Ok.field-0 c.hear_offered.result c.in-Ok.ensures.may
+    heard_last o c.args.link c.args.message.now c.args.self.now _ c.self.view_is c.here_for-here.result (c.here_for-here.ensures.here o (sym c.requires.offer)) c.args.offer c.requires.offer c.in-Ok.field-0 c.hear_offered.result c.in-Ok.ensures.may
