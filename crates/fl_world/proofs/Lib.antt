@@ -7,6 +7,7 @@ pub mod Added
 pub mod Made
 pub mod Makes
 pub mod Following
+pub mod Hearing
 pub mod Requested
 pub mod RingEnds
 pub mod Queued

@@ -8,7 +8,7 @@ use Rattle.fl_world_refines.specs.View.{TheWorld}
 use Rattle.fl_world_refines.specs.Taking.{as_turn, TurnsOver}
 use Rattle.fl_world_events.specs.declared.taking.DueEnd.{DueEnd}
 
--- the end that is noted is due at a dispatcher of core n, and takes from there
+-- the end that was found is due at its dispatcher of core n, and takes from this inlet
 pub record IsDueOver (cores : List TheCore) (n : ℕ) (at : DueEnd) (i : Inlet) : Type 0 where
   pub core : TheCore
   pub core_is : slice_get cores n ≡ Some core

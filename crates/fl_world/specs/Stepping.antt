@@ -1,15 +1,15 @@
 -- What a world makes of events, beside what the machine makes of them in each state that the world shows.
-use Rattle.std.specs.Prelude.{ℕ, ◌≡◌, ◌||◌, ◌++◌, Bool, true, false, List, Option, Some, None, IsSome, is_some}
+use Rattle.std.specs.Prelude.{ℕ, ◌≡◌, ◌||◌, ◌++◌, Bool, true, false, List, Option, Some, None, is_some}
 use Rattle.fl_model.specs.Events.{Event, add_interface, show, write, ack, register, deregister, reply, monitor_write, turn, forward}
 use Rattle.fl_model.specs.Events.{monitor_ack, Answer, refused}
 use Rattle.fl_model.specs.State.{State}
 use Rattle.fl_model.specs.Runs.{answers_to, reached}
 use Rattle.fl_world_refines.specs.View.{TheWorld, has_dispatcher}
-use Rattle.fl_world_refines.specs.Linking.{link_side_to}
 use Rattle.fl_world_refines.specs.Step.{Does}
 use Rattle.fl_world_events.specs.Last.{NotRefused}
 use Rattle.fl_world_refines.specs.ShowsState.{Shows}
 use Rattle.fl_world_refines.specs.Laws.{StepAgrees}
+use Rattle.fl_world.specs.Hearing.{WantsToSay}
 
 -- ---- one event
 
@@ -29,11 +29,11 @@ may_want_memory (monitor_write core neighbour) = false
 may_want_memory (monitor_ack core neighbour) = false
 may_want_memory event = true
 
--- memory is wanting last: no refusal is what the event comes to. A turn of a dispatcher that is there, and
--- a forward over a link that is there, are never refused by the machine (`law_no_wire_faults`).
+-- memory is wanting last: no refusal is what the event comes to. A turn of a dispatcher that is there is never refused by the
+-- machine (`law_no_wire_faults`); a forward wants memory only for a message that is heard, and that makes a monitor say something.
 abbrev pub IsAccepted : Event → TheWorld → Type 0
 IsAccepted (turn d) w = has_dispatcher w d ≡ true
-IsAccepted (forward core neighbour) w = IsSome (link_side_to w core neighbour)
+IsAccepted (forward core neighbour) w = WantsToSay core neighbour w
 IsAccepted event w = NotRefused (Does event w)
 
 -- the fault for which an event was refused

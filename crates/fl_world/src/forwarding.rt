@@ -1,14 +1,15 @@
 //! What was seen to stand first on a link is followed.
 
-ghost use Rattle.std.specs.Prelude.{◌≡◌, ◌<◌, false, length, IsSome, IfOk, OnOk, OnErr, Ok, Err};
+ghost use Rattle.std.specs.Prelude.{◌≡◌, ◌<◌, false, length, IfOk, OnOk, OnErr, Ok, Err};
 ghost use Rattle.fl_base.specs.Control.{is_ack_only, with_circuit};
 ghost use Rattle.fl_world_refines.specs.View.{ring_at, location_of};
-ghost use Rattle.fl_world_refines.specs.Linking.{link_side_to, IsHeard, BringsRules, ThenRules};
+ghost use Rattle.fl_world_refines.specs.Linking.{IsHeard, BringsRules, ThenRules};
 ghost use Rattle.fl_world_refines.specs.Linking.{HearsFirst, ForwardsBy, ForwardsFirst, Forwards};
 ghost use Rattle.fl_model.specs.Views.{answer_of};
 ghost use Rattle.fl_world_events.specs.Places.{HasEnd, HasLink, link_side_from};
 ghost use Rattle.fl_world_events.specs.Passing.{StandsAt};
 ghost use Rattle.fl_world.specs.Following.{KnowsAt, MayForgetAt, Forgot, MayFollow, Forgets, GoesOn, TakesRulesOrNone};
+ghost use Rattle.fl_world.specs.Hearing.{WouldSay, SaysAhead, FindsMessage, WantsToSay};
 
 use crate::world::World;
 use fl_base::{EndId, Frag, Side, faults};
@@ -27,12 +28,12 @@ impl World {
     /// A core forwards what stands first on its link to a neighbour.
     ///
     /// # Errors
-    /// Out of memory.
+    /// Out of memory, where a message is heard that makes a monitor say something.
     #[inline(never)]
     pub(crate) fn forward(&mut self, core: u32, neighbour: u32) -> Result<Answer, AllocError>
         ensures forwards { IfOk result (λ a. Forwards core neighbour self.old (answer_of a) self.new) }
         ensures kept { OnErr result (self.new ≡ self.old) }
-        ensures last { OnErr result (IsSome (link_side_to self.old core neighbour)) }
+        ensures last { OnErr result (WantsToSay core neighbour self.old) }
     {
         let Some(at) = self.link_side(core, neighbour) else {
             return Ok(Answer::Refused(faults::NO_SUCH_ROUTE));
@@ -49,6 +50,7 @@ impl World {
         requires ring { ring_at at.side < length self.old.rings }
         ensures forwards { IfOk result (λ a. ForwardsFirst n (link_side_from at) self.old (answer_of a) self.new) }
         ensures kept { OnErr result (self.new ≡ self.old) }
+        ensures last { OnErr result (FindsMessage n (link_side_from at) self.old) }
     {
         let known = self.known(at.side);
         law_forgets_looks();
@@ -79,6 +81,7 @@ impl World {
         requires seen { MayFollow ahead at.side known self.old.rings }
         ensures forwards { IfOk result (λ a. ForwardsBy (Ok ahead) n (link_side_from at) self.old (answer_of a) self.new) }
         ensures forgot { OnErr result (Forgets ahead self.old at.side known self.new) }
+        ensures last { OnErr result (SaysAhead ahead n (link_side_from at) self.old) }
     {
         match ahead {
             LinkFront::Nothing => Ok(Answer::Nothing),
@@ -128,6 +131,7 @@ impl World {
         requires known { MayForgetAt self.old.rings at.side known }
         ensures hears { IfOk result (λ a. HearsFirst n (link_side_from at) frag.now self.old (answer_of a) self.new) }
         ensures forgot { OnErr result (Forgot self.old at.side known self.new) }
+        ensures last { OnErr result (WouldSay n at.link frag.now LinkReceiveFault.Memory self.old) }
     {
         match self.hear(n, at, frag) {
             Ok(answer) => {

@@ -1,6 +1,6 @@
 //! What stands first on a link is looked at, and moves.
 
-ghost use Rattle.std.specs.Prelude.{◌≡◌, ◌<◌, false, length};
+ghost use Rattle.std.specs.Prelude.{◌≡◌, ◌<◌, false, length, IfErr};
 ghost use Rattle.fl_base.specs.Control.{is_ack_only, with_circuit};
 ghost use Rattle.fl_world_refines.specs.View.{ring_at};
 ghost use Rattle.fl_world_refines.specs.Lending.{OverSide};
@@ -9,6 +9,7 @@ ghost use Rattle.fl_model.specs.Views.{answer_of};
 ghost use Rattle.fl_world_events.specs.Places.{HasLink};
 ghost use Rattle.fl_world_events.specs.Passing.{StandsAt};
 ghost use Rattle.fl_core.specs.Links.{inbound};
+ghost use Rattle.fl_world.specs.Hearing.{WouldSay};
 
 use crate::world::World;
 use fl_base::{EndId, Frag};
@@ -54,6 +55,7 @@ impl World {
         requires ring { ring_at at.side < length self.old.rings }
         requires seen { StandsAt self.old.rings at.side frag.now }
         ensures hears { OverSide self.old n at.side (HearsWith (incoming (offers_in self.old) at.link frag.now) result) self.new }
+        ensures last { IfErr result (λ fault. WouldSay n at.link frag.now fault self.old) }
     {
         let ring = &mut self.rings[ring_at(at.side)];
         hear_by_ring(

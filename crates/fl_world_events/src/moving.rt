@@ -1,6 +1,6 @@
 //! What stands first on a link is looked at, and moves.
 
-ghost use Rattle.std.specs.Prelude.{◌≡◌, ◌<◌, false, length};
+ghost use Rattle.std.specs.Prelude.{◌≡◌, ◌<◌, false, length, IfErr};
 ghost use Rattle.fl_base.specs.Control.{is_ack_only, with_circuit, bare};
 ghost use Rattle.fl_link.specs.Looks.{saw};
 ghost use Rattle.fl_link.specs.Queue.{front_of};
@@ -11,6 +11,7 @@ ghost use Rattle.fl_model.specs.Views.{answer_of};
 ghost use Rattle.fl_world_events.specs.Parts.{ByRing};
 ghost use Rattle.fl_world_events.specs.Passing.{Passes};
 ghost use Rattle.fl_core.specs.Links.{inbound};
+ghost use Rattle.fl_core.specs.Hearing.{HearsFragLast};
 
 use crate::lending::{which_at, whole};
 use crate::places::LinkWithSide;
@@ -61,6 +62,7 @@ pub fn hear_by_ring(
     requires seen { front_of (side_of (which_at at.side) ring.old).waiting ≡ saw (bare frag.now) }
     ensures hears { ByRing at.side (HearsWith (incoming (record { names = names.now; programs = programs.now }) at.link frag.now) result)
         core.old ring.old core.new ring.new }
+    ensures last { IfErr result (HearsFragLast (record { names = names.now; programs = programs.now }) at.link frag.now core.old) }
 {
     whole(core);
     let mut side = ring.side(which_at(at.side));

@@ -14,4 +14,5 @@ returns c = record {
       rest = search rules;
     };
   };
+  last = c.hear-answer.ensures.last;
 }

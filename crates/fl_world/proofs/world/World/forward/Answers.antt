@@ -1,4 +1,4 @@
-use Rattle.std.proofs.Common.{◌≡◌, ◌⊎◌, ℕ, Option, Some, None, Result, Ok, Err, IfOk, subst, refl, inl, inr, length, ◌≤◌, arith}
+use Rattle.std.proofs.Common.{◌≡◌, ◌⊎◌, ℕ, Option, Some, None, Result, Ok, Err, IfOk, OnErr, subst, refl, inl, inr, length, ◌≤◌, arith}
 use Rattle.std.specs.declared.alloc.AllocError.{AllocError}
 use Rattle.fl_model.specs.Events.{Answer, refused, nothing}
 use Rattle.fl_world_refines.specs.View.{Given, TheWorld, ring_at}
@@ -6,6 +6,7 @@ use Rattle.fl_world_refines.specs.Lending.{Refuses, IsStray}
 use Rattle.fl_world_refines.specs.Linking.{LinkNumbers, link_side_to, Forwards, ForwardsFirst}
 use Rattle.fl_model.specs.declared.answer.Answer.{Answer as RustAnswer}
 use Rattle.fl_model.specs.Views.{answer_of}
+use Rattle.fl_world.specs.Hearing.{FindsMessage, WantsToSay}
 use Rattle.fl_world.proofs.Lent.{stray_ring, ring_here}
 use Rattle.fl_world.proofs.world.World.forward.Goals as goal
 
@@ -17,6 +18,11 @@ first : (w : TheWorld) (core neighbour : ℕ) (at : LinkNumbers) → Some at ≡
     → IfOk r (λ a. ForwardsFirst core at w (answer_of a) w2) → IfOk r (λ a. Forwards core neighbour w (answer_of a) w2)
 first w core neighbour at is (Ok a) w2 h = subst (λ (o : Option LinkNumbers). by_link_side o core w (answer_of a) w2) is (inl h)
 first w core neighbour at is (Err e) w2 h = tt
+
+first_says : (w : TheWorld) (core neighbour : ℕ) (at : LinkNumbers) → Some at ≡ link_side_to w core neighbour → (r : Result RustAnswer AllocError)
+    → OnErr r (FindsMessage core at w) → OnErr r (WantsToSay core neighbour w)
+first_says w core neighbour at is (Ok a) h = tt
+first_says w core neighbour at is (Err e) h = subst (λ (o : Option LinkNumbers). Given o ⊥ λ x. FindsMessage core x w) is h
 
 no_link_side : (w : TheWorld) (core neighbour : ℕ) → None ≡ link_side_to w core neighbour → Forwards core neighbour w (refused 73) w
 no_link_side w core neighbour is = subst (λ (o : Option LinkNumbers). by_link_side o core w (refused 73) w) is (refl, refl)
@@ -49,3 +55,6 @@ returns-clause-forwards c = first c.args.self.now c.args.core c.args.neighbour _
 
 pub returns-clause-kept : goal.returns-clause-kept
 returns-clause-kept c = c.forward_first.ensures.kept
+
+pub returns-clause-last : goal.returns-clause-last
+returns-clause-last c = first_says c.args.self.now c.args.core c.args.neighbour _ c.in-Some.ensures.link_side c.forward_first.result c.forward_first.ensures.last
