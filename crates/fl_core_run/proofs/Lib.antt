@@ -3,6 +3,7 @@ pub mod Foreseen
 pub mod Inlets
 pub mod Wordings
 pub mod Stock
+pub mod Accepting
 pub mod Counting
 pub mod Idle
 pub mod Turning

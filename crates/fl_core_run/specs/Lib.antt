@@ -6,6 +6,7 @@ pub mod Steps
 pub mod Turn
 pub mod OpeningStatus
 pub mod Finished
+pub mod Accepted
 pub mod Ran
 pub mod Stops
 pub mod Single

@@ -6,6 +6,7 @@ ghost use Rattle.fl_core_run.specs.LogEntries.{IsSound, IsSoundAt};
 ghost use Rattle.fl_core.specs.View.{place_of};
 ghost use Rattle.fl_core_run.specs.Turn.{OneTurn};
 ghost use Rattle.fl_core_run.specs.Stops.{PartOfTurn};
+ghost use Rattle.fl_core_run.specs.Accepted.{count_waiting};
 
 use crate::dispatchers::turn_all;
 use crate::end_progress::EndProgress;
@@ -55,6 +56,18 @@ pub(crate) fn sound_at<S>(run: &RunningCore<S>, name: EndId, e: usize)
     ensures sound { IsSoundAt (run_of run.now) name }
 {
     run.core.board().end_sound(e);
+}
+
+impl<S> RunningCore<S> {
+    /// How many replies wait at an end; none where it isn't at this core.
+    pub fn replies_waiting(&self, name: EndId) -> usize
+        ensures waiting { result ≡ count_waiting (run_of self.now) name }
+    {
+        match self.core.place(name) {
+            None => 0,
+            Some(e) => self.core.board().end(e).replies_waiting(),
+        }
+    }
 }
 
 impl<S: PutSide + TakeSide + Drop> RunningCore<S> {

@@ -13,6 +13,8 @@ use Rattle.fl_core.specs.View.{TheCore, slot_of, client_of}
 use Rattle.fl_hop.proofs.Lists.{within}
 use Rattle.fl_core_run.specs.declared.opening_status.OpeningStatus.{OpeningStatus}
 use Rattle.fl_core_run.specs.EndProgress.{TheEndProgress, progress_place}
+use Rattle.fl_core_run.specs.Accepted.{count_waiting, accepted_of}
+use Rattle.fl_core_run.proofs.Accepting.{none_accepted}
 use Rattle.fl_core_run.specs.OpeningStatus.{refusal_at as refusal_there}
 use Rattle.fl_core_run_laws.specs.Logs.{handled_of}
 use Rattle.fl_cores_file.specs.Report.{TheReport, BothEnds, at_end, refusal_of, complete, turns_out}
@@ -27,7 +29,7 @@ use Rattle.fl_cores_laws.specs.EndedHeard.{TablesTell}
 use Rattle.fl_cores_laws.specs.EndedBegins.{Begins, TellsProgress, refusal_by}
 use Rattle.fl_cores_laws.proofs.Complete.{past, bound_by}
 use Rattle.fl_cores_fork.specs.Runs.{TheFinishedCore, TheCoreThread, RanTo}
-use Rattle.fl_cores_fork.specs.Tells.{Tells, progress_left, handled_by, handled_at, made_by, made_at, refusal_in, refusal_at}
+use Rattle.fl_cores_fork.specs.Tells.{Tells, progress_left, handled_by, handled_at, sent_by, sent_at, waiting_left, made_at, refusal_in, refusal_at}
 use Rattle.fl_cores_parts.specs.Begins.{Places, IsCoreThread, AreCoreThreads, common_in, progress_for, progresses_of}
 use Rattle.fl_cores.specs.Behind.{core_of as the_core, cores_of, cores_in}
 use Rattle.fl_cores.specs.Outcomes.{ReportsAreOfRuns}
@@ -135,9 +137,15 @@ module _ (p : Parts) (j : TheJoinedJobs) (places : Places) (limit : ℕ) (core_t
       ∙ refused_is one.outcome.run.progresses (client_of n) (omega (arith, there, few))
       ∙ ap (λ (x : OneCore). refusal_by (refusal_there x.finish (client_of n))) one.core_is
 
+  waiting_is : (e : EndId) (n : ℕ) (o : TheFinishedCore) → core_at j.bindings e ≡ Some n → slice_get outcomes n ≡ Some o
+      → waiting_left j outcomes e ≡ count_waiting o.run e
+  waiting_is e n o own at =
+      ap (λ (x : Option ℕ). given x 0 (λ (core : ℕ). given (slice_get outcomes core) 0 (λ (y : TheFinishedCore). count_waiting y.run e))) own
+      ∙ ap (λ (x : Option TheFinishedCore). given x 0 (λ (y : TheFinishedCore). count_waiting y.run e)) at
+
   made : (e : EndId) (n : ℕ) (c : OneCore) (d : TheEndProgress) → core_at j.bindings e ≡ Some n → slice_get cores n ≡ Some c → progress_of c.finish e ≡ Some d
-      → at_end r.made e ≡ calls_of_jobs j.jobs (take d.done (end_work_at j.end_works e).jobs)
-      ++ flat_map (reply_by (end_work_at j.end_works e).rules) (map call_of (handled_of c.finish e))
+      → at_end r.made e ≡ accepted_of (count_waiting c.finish e) (calls_of_jobs j.jobs (take d.done (end_work_at j.end_works e).jobs)
+      ++ flat_map (reply_by (end_work_at j.end_works e).rules) (map call_of (handled_of c.finish e)))
   made e n c d own at is =
       let one = at_one n c at in
       let there = below e n own in
@@ -146,9 +154,12 @@ module _ (p : Parts) (j : TheJoinedJobs) (places : Places) (limit : ℕ) (core_t
       let end_work = end_work_at j.end_works e in
       ap (λ (hs : List BothEnds). at_end hs e) tells.made
       ∙ told_at j (made_at j outcomes) e there
-      ∙ ap (λ (o : Option TheEndProgress). given o [] (made_by j.jobs end_work)) (left_is e n one.outcome own one.outcome_is ∙ found)
+      ∙ ap (λ (waiting : ℕ). accepted_of waiting (sent_at j outcomes e))
+      (waiting_is e n one.outcome own one.outcome_is ∙ ap (λ (x : OneCore). count_waiting x.finish e) one.core_is)
+      ∙ ap (accepted_of (count_waiting c.finish e))
+      (ap (λ (o : Option TheEndProgress). given o [] (sent_by j.jobs end_work)) (left_is e n one.outcome own one.outcome_is ∙ found)
       ∙ ap (λ (hs : List Call). calls_of_jobs j.jobs (take d.done end_work.jobs) ++ flat_map (reply_by end_work.rules) (map call_of hs))
-      (sym (handled_there one.outcome.run.progresses e d (numbered e there) found) ∙ ap (λ (x : OneCore). handled_of x.finish e) one.core_is)
+      (sym (handled_there one.outcome.run.progresses e d (numbered e there) found) ∙ ap (λ (x : OneCore). handled_of x.finish e) one.core_is))
 
   unmade : (e : EndId) (n : ℕ) (c : OneCore) → core_at j.bindings e ≡ Some n → slice_get cores n ≡ Some c → progress_of c.finish e ≡ None → at_end r.made e ≡ []
   unmade e n c own at none =
@@ -158,7 +169,8 @@ module _ (p : Parts) (j : TheJoinedJobs) (places : Places) (limit : ℕ) (core_t
       progress_missing one.outcome.run.progresses e (numbered e there) (ap (λ (x : OneCore). progress_of x.finish e) one.core_is ∙ none) in
       ap (λ (hs : List BothEnds). at_end hs e) tells.made
       ∙ told_at j (made_at j outcomes) e there
-      ∙ ap (λ (o : Option TheEndProgress). given o [] (made_by j.jobs (end_work_at j.end_works e))) (left_is e n one.outcome own one.outcome_is ∙ missing)
+      ∙ none_accepted (waiting_left j outcomes e) (sent_at j outcomes e)
+      (ap (λ (o : Option TheEndProgress). given o [] (sent_by j.jobs (end_work_at j.end_works e))) (left_is e n one.outcome own one.outcome_is ∙ missing))
 
   told_progresses : TellsProgress j cores r
   told_progresses = record {

@@ -5,7 +5,7 @@ use Rattle.fl_core.specs.declared.core_job.CoreJob.{CoreJob}
 use Rattle.fl_base.specs.declared.identity.LinkId.{LinkId}
 use Rattle.fl_base.specs.Numbered.{core_id}
 use Rattle.fl_monitor.specs.Fates.{comes_along}
-use Rattle.fl_compile.specs.Programs.{TheProgram, program_of}
+use Rattle.fl_compile.specs.Programs.{program_of}
 use Rattle.fl_hop.proofs.Lists.{at_within, within}
 use Rattle.fl_core.specs.View.{side_of_link}
 use Rattle.fl_ring.specs.Laws.{SideLaw}
@@ -26,11 +26,10 @@ use Rattle.fl_core_turned.specs.ReadyTurns.{IsIn, RoutesDiffer, turns_log, Turns
 use Rattle.fl_cores.specs.Follows.{RunsFollow}
 use Rattle.fl_cores.specs.Wanted.{behind}
 use Rattle.fl_cores.proofs.FollowsRoutes.{routes_differ}
-use Rattle.fl_cores.proofs.FollowsBegin.{machine, begins, ends_are, is_ready}
-use Rattle.fl_cores_jobs.specs.State.{TheJoinedJobs}
-use Rattle.fl_cores_laws.specs.Asked.{HasLogEntry, AreBeside, RequestsAlone}
-use Rattle.fl_cores_laws.specs.Runs.{AreSetUp}
-use Rattle.fl_nameserv.specs.Registrations.{TheRegistration}
+use Rattle.fl_cores.proofs.FollowsBegin.{core_thread, machine, begins, ends_are, is_ready}
+use Rattle.fl_cores.proofs.FollowsTells.{MadeLaws, all_beside, told}
+use Rattle.fl_cores.proofs.FollowsTold.{SentLaws}
+use Rattle.fl_cores_laws.specs.Asked.{HasLogEntry, RequestsAlone}
 use Rattle.fl_cores_laws.specs.Circuits.{AreOneLink}
 use Rattle.fl_cores_laws.specs.Cores.{OneCore, CoresGo}
 use Rattle.fl_cores_laws.specs.Crossing.{Crosses}
@@ -62,26 +61,6 @@ pub record Said : Type 0 where
 
 same_value : {X : Type 0} (a b : X) → Some a ≡ Some b → a ≡ b
 same_value a b is = cc
-
--- each link has a core on the other side, which the table names
-all_beside : (asked : List Job) (j : TheJoinedJobs) (cores : List OneCore) (names : List TheRegistration) (programs : List TheProgram) → AreSetUp asked j cores names programs
-    → AreBeside j.jobs cores
-all_beside asked j cores names programs s = record {
-  leading = s.wired.leading;
-  unused = s.wired.unused;
-  beside = λ n side d m is link_side.
-      (let x = s.wired.links n side d m is link_side in
-      record {
-        place = x.across.place;
-        core = x.across.core;
-        core_is = x.across.core_is;
-        link = x.across.link;
-        one = x.across.one;
-        state = x.forth.link;
-        state_is = x.forth.link_is;
-        number = s.numbered x.across.place x.across.core x.across.core_is ∙ sym x.forth.neighbour;
-      });
-}
 
 -- the side of a link put and took nothing at first
 side_of_ring : (c d : OneCore) (l m : LinkId) (n : ℕ) → AreOneLink c l d m → side_of_link d.start.core.link_sides m.0 ≡ Some n
@@ -120,8 +99,8 @@ has_entry log_entry [] h = absurd h
 has_entry log_entry (first ∷ log) (inl same) = inl same
 has_entry log_entry (first ∷ log) (inr rest) = inr (has_entry log_entry log rest)
 
-pub runs_follow : SetUpsStartFresh → SetUpsTouchNothing → LeadsAtFirst → CountedAreTurns shared_ways → StartsShow → TurnsHappen → ReadyTurns → Said → RunsFollow
-runs_follow fresh untouched leads counted shows happen law laws c jobs limit r w n s o at is =
+pub runs_follow : SetUpsStartFresh → SetUpsTouchNothing → LeadsAtFirst → CountedAreTurns shared_ways → StartsShow → TurnsHappen → ReadyTurns → Said → SentLaws → MadeLaws → RunsFollow
+runs_follow fresh untouched leads counted shows happen law laws sent made c jobs limit r w n s o at is =
     let joined = w.ran.ran.joined in
     let ran = ran_at joined.jobs limit w.ran.ran.ran.core_threads w.ran.ran.ran.outcomes w.ran.ran.ran.ran n s o at is in
     let turns = ran_turns counted joined.jobs limit s o ran in
@@ -143,4 +122,5 @@ runs_follow fresh untouched leads counted shows happen law laws c jobs limit r w
       log = log;
       after = all.0;
       turned = all.1;
+      told = told fresh leads laws.go laws.sides sent made c jobs limit r w n s o at is core.0 (behind c).services all.1.events all.0 first all.1.follows;
     }

@@ -107,6 +107,11 @@ pub record Went (j : TheJoinedJobs) (limit : ℕ) (s : State) (o : TheFinishedCo
   pub more : ℕ
   pub none_more : is_finished work (ran work limit (begins_with j s)) ≡ false → more ≡ 0
   pub progresses : MachineRun.progresses (turned work more (ran work limit (begins_with j s))) ≡ map progress_of o.run.progresses
+  -- the core shows what these come to, as a world of its own; and so it did when its turns were counted
+  pub world : TheWorld
+  pub shows : ShowsAlone world o.run (turned work more (ran work limit (begins_with j s)))
+  pub point : TheRun TheSide
+  pub shown : ShowsAlone world point (ran work limit (begins_with j s))
 
 pub not_told : (o : TheFinishedCore) → list_any was_told (o ∷ []) ≡ false → o.part.end ≢ Told
 not_told o none q =
@@ -125,6 +130,10 @@ went_on law w j limit s st o m one Finished is (more, turns) told = record {
       let both : Finished ≡ Unfinished = sym is ∙ one.end ∙ ap end_of left in
       absurd (cc);
   progresses = (rounds_are shared_ways law w st.plan j.jobs more m o.run (ran (work_of st.plan j.jobs) limit (begins_with j s)) one.shows turns).progresses;
+  world = w;
+  shows = rounds_are shared_ways law w st.plan j.jobs more m o.run (ran (work_of st.plan j.jobs) limit (begins_with j s)) one.shows turns;
+  point = m;
+  shown = one.shows;
 }
 went_on law w j limit s st o m one Unfinished is same told = record {
   turns = one.turns;
@@ -132,6 +141,10 @@ went_on law w j limit s st o m one Unfinished is same told = record {
   more = 0;
   none_more = λ left. refl;
   progresses = one.shows.progresses ∙ ap (λ (r : TheRun TheSide). map progress_of r.progresses) (sym same);
+  world = w;
+  shows = subst (λ (r : TheRun TheSide). ShowsAlone w r (ran (work_of st.plan j.jobs) limit (begins_with j s))) (sym same) one.shows;
+  point = m;
+  shown = one.shows;
 }
 went_on law w j limit s st o m one Told is same told = absurd (told refl)
 

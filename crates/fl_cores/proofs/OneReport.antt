@@ -1,32 +1,40 @@
 -- The report of a run of one core is that which the machine tells: its turns, and the calls of its ends.
-use Rattle.std.proofs.Common.{◌≡◌, refl, sym, ◌∙◌, ap, subst, ℕ, zero, suc, ◌+◌, ◌<◌, ◌≤◌, ◌==◌, ◌||◌, ◌++◌, nat_lt, Bool, true, false, if◌then◌else◌}
+use Rattle.std.proofs.Common.{◌≡◌, inl, inr, refl, sym, ◌∙◌, ap, subst, ℕ, zero, suc, ◌+◌, ◌<◌, ◌≤◌, ◌==◌, ◌||◌, ◌++◌, min, nat_lt, Bool, true, false, if◌then◌else◌}
 use Rattle.std.proofs.Common.{List, [], ◌∷◌, length, length-append, map, take, slice_get, Some, None, arith}
 use Rattle.std.specs.List.{flat_map, range_with_len}
 use Rattle.std.proofs.lemmas.Bool.Decides.{nat_tests}
+use Rattle.std.proofs.lemmas.List.{length-take}
 use Rattle.std.proofs.lemmas.Option.{same_Some}
 use Rattle.fl_base.specs.declared.identity.EndId.{EndId}
 use Rattle.fl_base.specs.declared.identity.Side.{Side}
-use Rattle.fl_base.specs.Ends.{peer}
+use Rattle.fl_base.specs.declared.identity.Side.TheVariants.{Client, Server}
+use Rattle.fl_base.specs.Ends.{peer, other}
 use Rattle.fl_base.specs.Prefix.{IsPrefix}
 use Rattle.fl_base.specs.Given.{given}
 use Rattle.fl_value_data.specs.Value.{TheCall}
 use Rattle.fl_hop.proofs.Lists.{within, map_same}
 use Rattle.fl_model_laws.proofs.Small.{both_are}
 use Rattle.fl_core.specs.View.{client_of, server_of, slot_of}
+use Rattle.fl_model.specs.Laws.{waiting_at}
 use Rattle.fl_model.specs.Sound.{Sound}
 use Rattle.fl_model.specs.State.{State}
 use Rattle.fl_core_run.specs.declared.run.RunEnd.{RunEnd}
 use Rattle.fl_core_run.specs.EndProgress.{TheEndProgress}
+use Rattle.fl_core_run.specs.Accepted.{count_waiting, accepted_of}
+use Rattle.fl_core_run.proofs.Accepting.{all_accepted, none_wait}
 use Rattle.fl_core.specs.Jobs.{calls_of_jobs}
-use Rattle.fl_cores_file.specs.Jobs.{Job, handed_in, reply_to}
+use Rattle.fl_cores_file.specs.Jobs.{Job, own_calls, handed_in, has_rules, reply_to}
 use Rattle.fl_cores_file.specs.Report.{BothEnds, TheReport, complete, turns_out, at_end, Honest}
 use Rattle.fl_world_refines.specs.declared.binding.Binding.{Binding}
+use Rattle.fl_world_refines.proofs.FramesBase.{same_some}
 use Rattle.fl_core_run.specs.Ran.{is_unfinished}
-use Rattle.fl_cores_jobs.specs.EndWork.{end_work_at, reply_by}
+use Rattle.fl_cores_jobs.specs.EndWork.{end_work_at, is_ruled, reply_by}
 use Rattle.fl_cores_jobs.specs.State.{TheJoinedJobs, AreJoined}
 use Rattle.fl_cores_jobs.specs.Whole.{request_in, AreBound, AreDue}
 use Rattle.fl_cores_fork.specs.Runs.{TheFinishedCore}
-use Rattle.fl_cores_fork.specs.Tells.{progress_left, handled_by, made_by, handled_at, made_at, both_at, refusal_in, refusal_at}
+use Rattle.fl_cores_laws.proofs.Prefixes.{then_on, as_same, of_flat}
+use Rattle.fl_cores_laws.proofs.GivenWork.{calls_there, handed_ruled, handed_unruled, made_unruled}
+use Rattle.fl_cores_fork.specs.Tells.{progress_left, handled_by, sent_by, handled_at, sent_at, waiting_left, made_at, both_at, refusal_in, refusal_at}
 use Rattle.fl_cores_parts.specs.Begins.{ends_from, progress_by, progress_for, progresses_of}
 use Rattle.fl_core_refines.specs.AloneTurns.{MachineProgress, MachineRun, progress_at, MachineTask, turned, is_clear, is_done_at, are_done, is_finished, counted, ran}
 use Rattle.fl_core_refines.specs.AloneShown.{progress_of}
@@ -39,9 +47,11 @@ use Rattle.fl_core_refines.proofs.Later.{later_nothing}
 use Rattle.fl_cores.specs.OneCore.{both_ends, ends_in, post_for, span_in, made_at as made_there, handled_at as handled_there, ending_of, told_of}
 use Rattle.fl_cores.proofs.CoresProgress.{at_slot, is_new, told_at}
 use Rattle.fl_cores.proofs.CoresEnding.{in_plan}
-use Rattle.fl_cores.proofs.OneJoined.{own, progress_is, all_ends, end_work_calls, posts_are, take_calls, same_replies}
+use Rattle.fl_cores.proofs.OneJoined.{own, progress_is, post_is, all_ends, end_work_calls, posts_are, take_calls, same_replies}
 use Rattle.fl_cores.proofs.OneKept.{turns_kept}
 use Rattle.fl_cores.proofs.OneRan.{begins_with, work_in, OneRan}
+use Rattle.fl_cores.proofs.OneSends.{Sends, CallsOrReplies, Begun, first_sends, turns_send, accepted_there}
+use Rattle.fl_cores.proofs.OneWaiting.{waits_same, done_waits}
 
 -- ---- lists
 
@@ -62,7 +72,17 @@ each_progress P (d ∷ ds) h = (h 0 d refl, each_progress P ds (λ n e q. h (suc
 first_long : {X : Type 0} (xs ys : List X) → IsPrefix xs ys → length xs ≤ length ys
 first_long xs ys (rest, is) = let long : length ys ≡ length xs + length rest = ap (λ zs. length zs) is ∙ length-append xs rest in omega (arith, long)
 
+same_number : (n m : ℕ) → (n == m) ≡ true → n ≡ m
+same_number n m q = grind (arith, nat_tests, q)
+
 -- ---- the end of a slot
+
+other_twice : (s : Side) → other (other s) ≡ s
+other_twice Client = refl
+other_twice Server = refl
+
+there_and_back : (e : EndId) → peer (peer e) ≡ e
+there_and_back e = ap (λ (s : Side). let x : EndId = record { binding = e.binding; side = s } in x) (other_twice e.side)
 
 slot_in : (n : ℕ) → (e : EndId) × (slot_of e ≡ n)
 slot_in zero = (client_of 0, omega arith)
@@ -105,7 +125,8 @@ same_report a b p q t u v =
 
 module _ (jobs : List Job) (limit : ℕ) (r : TheReport) (s : State) (j : TheJoinedJobs) (set_up : List Binding) (joined : AreJoined 1 jobs j)
     (bound : AreBound set_up jobs j) (due : AreDue jobs j) (no_request : flat_map request_in jobs ≡ []) (honest : Honest jobs r) (sound : Sound s)
-    (stands : s.may_set_cores ≡ false) (as_many : length j.bindings ≡ length s.bindings) (one : OneRan j limit r s) where
+    (stands : s.may_set_cores ≡ false) (as_many : length j.bindings ≡ length s.bindings)
+    (begun : (e : EndId) → e.binding < length j.bindings → Begun jobs s e) (one : OneRan j limit r s) where
   abbrev start : MachineRun
   start = begins_with j s
 
@@ -200,12 +221,15 @@ module _ (jobs : List Job) (limit : ℕ) (r : TheReport) (s : State) (j : TheJoi
 
   -- ---- turns that nobody counted changed no end's progress
 
+  done_here : is_finished work reached ≡ true → (e : EndId) → e.binding < length j.bindings → is_done_at reached e ≡ true
+  done_here done e below =
+      let (i, at) = in_plan 0 e j.bindings (own set_up jobs j joined bound due no_request e below) in
+      all_at reached (ends_from 0 0 j.bindings) (length (ends_from 0 0 j.bindings)) i e done (within (ends_from 0 0 j.bindings) i e at) at
+
   all_clear : is_finished work reached ≡ true → EachProgress IsClear reached.progresses
   all_clear done = each_progress IsClear reached.progresses (λ n d q.
       let h = end_of_progress 0 (counted work limit start) n d q in
-      let (i, at) = in_plan 0 h.end j.bindings (own set_up jobs j joined bound due no_request h.end h.below) in
-      let is = all_at reached (ends_from 0 0 j.bindings) (length (ends_from 0 0 j.bindings)) i h.end done (within (ends_from 0 0 j.bindings) i h.end at) at in
-      let clear = (both_are (is_clear (progress_at reached h.end)) _ is).0 in
+      let clear = (both_are (is_clear (progress_at reached h.end)) _ (done_here done h.end h.below)).0 in
       sym (ap is_clear (ap (slice_get reached.progresses) h.slot ∙ q)) ∙ clear)
 
   none_more : EachProgress HasNoMore last.progresses
@@ -304,16 +328,155 @@ module _ (jobs : List Job) (limit : ℕ) (r : TheReport) (s : State) (j : TheJoi
       let h = ended e below in
       ap (λ x. given x [] handled_by) h.progress_is ∙ sym (ap (λ x. given x [] λ (p : CallProgress). p.handled) h.post_is)
 
-  made_same : (e : EndId) → e.binding < length j.bindings → made_at j (o ∷ []) e ≡ made_there jobs comes e
-  made_same e below =
+  -- what an end came to send, by its end's progress
+  sent_same : (e : EndId) (below : e.binding < length j.bindings) → sent_at j (o ∷ []) e ≡ sent_by j.jobs (end_work_at j.end_works e) (ended e below).progress
+  sent_same e below = ap (λ x. given x [] (sent_by j.jobs (end_work_at j.end_works e))) (ended e below).progress_is
+
+  abbrev comes_to_send : EndId → CallProgress → List TheCall
+  comes_to_send e p = take p.made p.calls ++ flat_map (reply_to jobs e) p.handled
+
+  sent_there : (e : EndId) (below : e.binding < length j.bindings)
+      → sent_by j.jobs (end_work_at j.end_works e) (ended e below).progress ≡ comes_to_send e (post_of j.jobs (progress_of (ended e below).progress))
+  sent_there e below =
       let h = ended e below in
       let end_work = end_work_at j.end_works e in
-      ap (λ x. given x [] (made_by j.jobs end_work)) h.progress_is
-      ∙ ap (λ cs. cs ++ flat_map (reply_by end_work.rules) (handled_by h.progress))
+      ap (λ cs. cs ++ flat_map (reply_by end_work.rules) (handled_by h.progress))
       (sym (take_calls j.jobs end_work.jobs h.progress.done (end_work_calls set_up jobs j joined bound due no_request e below))
       ∙ ap (λ ps. take h.progress.done (calls_of_jobs j.jobs ps)) (sym h.kept.jobs_are))
       ∙ ap (λ cs. take h.progress.done (calls_of_jobs j.jobs h.progress.jobs) ++ cs) (same_replies jobs e end_work (handled_by h.progress) (joined.each e).asked)
-      ∙ sym (ap (λ x. given x [] λ (p : CallProgress). take p.made p.calls ++ flat_map (reply_to jobs e) p.handled) h.post_is)
+
+  -- as many replies wait as at the machine's end, of which none is told where nothing was left to do
+  waits_last : (e : EndId) → e.binding < length j.bindings → waiting_left j (o ∷ []) e ≡ length (waiting_at last.state e)
+  waits_last e below =
+      ap (λ c. given c 0 λ core. given (slice_get (o ∷ []) core) 0 λ (x : TheFinishedCore). count_waiting x.run e)
+      (own set_up jobs j joined bound due no_request e below)
+      ∙ waits_same one.went.world o.run last e one.went.shows
+
+  handled_told : (e : EndId) (below : e.binding < length j.bindings) → at_end r.handled e ≡ handled_by (ended e below).progress
+  handled_told e below =
+      ap (λ (hs : List BothEnds). at_end hs e) one.tells.handled ∙ told_at j (handled_at j (o ∷ [])) e below
+      ∙ ap (λ x. given x [] handled_by) (ended e below).progress_is
+
+  -- not more was sent than is handed in
+  done_few : (e : EndId) (below : e.binding < length j.bindings)
+      → length (calls_of_jobs j.jobs (take (ended e below).progress.done (end_work_at j.end_works e).jobs)) ≤ length (own_calls jobs e)
+  done_few e below =
+      let end_work = end_work_at j.end_works e in
+      let n = (ended e below).progress.done in
+      let calls = calls_of_jobs j.jobs end_work.jobs in
+      let first : length (take n calls) ≡ length (calls_of_jobs j.jobs (take n end_work.jobs))
+      = ap (λ (cs : List TheCall). length cs) (take_calls j.jobs end_work.jobs n (end_work_calls set_up jobs j joined bound due no_request e below)) in
+      let long : length (take n calls) ≡ min n (length calls) = length-take n calls in
+      let all : length calls ≡ length (own_calls jobs e) = ap (λ (cs : List TheCall). length cs) (calls_there jobs j.jobs e end_work (joined.each e)) in
+      omega (arith, first, long, all)
+
+  sent_few : (e : EndId) (below : e.binding < length j.bindings) → (b : Bool) → is_ruled (end_work_at j.end_works e) ≡ b
+      → length (sent_by j.jobs (end_work_at j.end_works e) (ended e below).progress) ≤ length (handed_in jobs e)
+  sent_few e below false q =
+      let end_work = end_work_at j.end_works e in
+      let t = (ended e below).progress in
+      let few = done_few e below in
+      let sent : length (sent_by j.jobs end_work t) ≡ length (calls_of_jobs j.jobs (take t.done end_work.jobs))
+      = ap (λ (cs : List TheCall). length cs) (made_unruled end_work (calls_of_jobs j.jobs (take t.done end_work.jobs)) (handled_by t) q) in
+      let all : length (own_calls jobs e) ≡ length (handed_in jobs e)
+      = ap (λ (cs : List TheCall). length cs) (handed_unruled jobs j.jobs e end_work (joined.each e) q) in
+      omega (arith, few, sent, all)
+  sent_few e below true q =
+      let end_work = end_work_at j.end_works e in
+      let across = end_work_at j.end_works (peer e) in
+      let t = (ended e below).progress in
+      let asked = (joined.each e).asked in
+      let none : is_ruled across ≡ false = (joined.each (peer e)).asked.ruled ∙ asked.one_side (sym asked.ruled ∙ q) in
+      let handled : IsPrefix (handled_by t) (own_calls jobs (peer e))
+      = as_same (at_end r.handled e) (handled_by t) (handed_in jobs (peer e)) (own_calls jobs (peer e)) (handled_told e below)
+      (sym (handed_unruled jobs j.jobs (peer e) across (joined.each (peer e)) none))
+      (then_on (at_end r.handled e) (at_end r.made (peer e)) (handed_in jobs (peer e)) (honest.handled e) (honest.made (peer e))) in
+      let replies = first_long (flat_map (reply_by end_work.rules) (handled_by t)) (flat_map (reply_by end_work.rules) (own_calls jobs (peer e)))
+      (of_flat (reply_by end_work.rules) (handled_by t) (own_calls jobs (peer e)) handled) in
+      let all : length (flat_map (reply_by end_work.rules) (own_calls jobs (peer e))) ≡ length (handed_in jobs e)
+      = ap (λ (cs : List TheCall). length cs) (handed_ruled jobs j.jobs e end_work (joined.each e) q) in
+      let few = done_few e below in
+      let no_calls : length (own_calls jobs e) ≡ 0 = ap (λ (cs : List TheCall). length cs) (asked.alone (sym asked.ruled ∙ q)) in
+      let sent = length-append (calls_of_jobs j.jobs (take t.done end_work.jobs)) (flat_map (reply_by end_work.rules) (handled_by t)) in
+      omega (arith, replies, all, few, no_calls, sent)
+
+  -- where nothing is left to do, as many were handled as are handed in at the other end
+  handled_all : is_finished work reached ≡ true → (e : EndId) → e.binding < length j.bindings → length (at_end r.handled e) ≡ length (handed_in jobs (peer e))
+  handled_all done e below =
+      let h = ended e below in
+      let there : slice_get o.run.progresses (slot_of e) ≡ Some h.progress = sym (left_is e below) ∙ h.progress_is in
+      let at : progress_at reached e ≡ Some (progress_of h.progress)
+      = ap (λ ds. slice_get ds (slot_of e)) reached_progresses ∙ get_some progress_of o.run.progresses (slot_of e) h.progress there in
+      let clear = (both_are (is_clear (progress_at reached e)) _ (done_here done e below)).0 in
+      let count = (both_are (h.progress.done == length h.progress.jobs) (length (handled_by h.progress) == h.progress.due) (sym (ap is_clear at) ∙ clear)).1 in
+      ap (λ (cs : List TheCall). length cs) (handled_told e below)
+      ∙ same_number (length (handled_by h.progress)) h.progress.due count ∙ h.kept.due_is ∙ due.due e below
+
+  -- and so all that was sent was accepted
+  all_made : is_finished work reached ≡ true → (e : EndId) (below : e.binding < length j.bindings)
+      → made_at j (o ∷ []) e ≡ sent_by j.jobs (end_work_at j.end_works e) (ended e below).progress
+  all_made done e below =
+      let waiting = waiting_left j (o ∷ []) e in
+      let sent = sent_by j.jobs (end_work_at j.end_works e) (ended e below).progress in
+      let made : made_at j (o ∷ []) e ≡ accepted_of waiting sent = ap (accepted_of waiting) (sent_same e below) in
+      let told : length (at_end r.made e) ≡ length (accepted_of waiting sent)
+      = ap (λ (cs : List TheCall). length cs) (ap (λ (ms : List BothEnds). at_end ms e) one.tells.made ∙ told_at j (made_at j (o ∷ [])) e below ∙ made) in
+      let all = handled_all done (peer e) below in
+      let first = first_long (at_end r.handled (peer e)) (at_end r.made (peer (peer e))) (honest.handled (peer e)) in
+      let back = ap (λ (f : EndId). length (handed_in jobs f)) (there_and_back e) in
+      let back_made = ap (λ (f : EndId). length (at_end r.made f)) (there_and_back e) in
+      let few = sent_few e below (is_ruled (end_work_at j.end_works e)) refl in
+      made ∙ all_accepted waiting sent (omega (arith, told, all, first, back, back_made, few))
+
+  accepted_same : (e : EndId) (below : e.binding < length j.bindings)
+      → made_at j (o ∷ []) e ≡ accepted_of (length (waiting_at reached.state e)) (sent_by j.jobs (end_work_at j.end_works e) (ended e below).progress)
+  accepted_same e below = by (is_finished work reached) refl
+    where
+      by : (b : Bool) → is_finished work reached ≡ b
+          → made_at j (o ∷ []) e ≡ accepted_of (length (waiting_at reached.state e)) (sent_by j.jobs (end_work_at j.end_works e) (ended e below).progress)
+      by true q =
+          let sent = sent_by j.jobs (end_work_at j.end_works e) (ended e below).progress in
+          all_made q e below ∙ sym (none_wait sent)
+          ∙ ap (λ (calls : List TheCall). accepted_of (length calls) sent)
+          (sym (done_waits one.went.world one.went.point reached e one.went.shown (done_here q e below)))
+      by false q =
+          let sent = sent_by j.jobs (end_work_at j.end_works e) (ended e below).progress in
+          ap (accepted_of (waiting_left j (o ∷ []) e)) (sent_same e below)
+          ∙ ap (λ n. accepted_of n sent)
+          (waits_last e below ∙ ap (λ n. length (waiting_at (MachineRun.state (turned work n reached)) e)) (one.went.none_more q))
+
+  -- and these are what the machine accepted
+  kind_of : (e : EndId) (b : Bool) → has_rules jobs e ≡ b → CallsOrReplies jobs e
+  kind_of e true q = inl ((joined.each e).asked.alone q)
+  kind_of e false q =
+      inr (λ calls.
+      sym (same_replies jobs e (end_work_at j.end_works e) calls (joined.each e).asked)
+      ∙ made_unruled (end_work_at j.end_works e) [] calls ((joined.each e).asked.ruled ∙ q))
+
+  first_post : (e : EndId) → e.binding < length j.bindings → post_at solo e ≡ Some (post_for jobs e)
+  first_post e below =
+      ap (λ (b : CallRun). post_at b e) (sym solo_same)
+      ∙ get_some (post_of j.jobs) start.progresses (slot_of e) (progress_of (progress_for 0 j e))
+      (get_some progress_of (progresses_of 0 j) (slot_of e) (progress_for 0 j e) (at_slot 0 j e below))
+      ∙ ap (λ (p : CallProgress). Some p) (post_is set_up jobs j joined bound due no_request e below)
+
+  sends : (e : EndId) → e.binding < length j.bindings → Sends jobs e comes
+  sends e below =
+      turns_send jobs e (kind_of e (has_rules jobs e) refl) (span_in s) turns solo (first_sends jobs e solo sound (begun e below) (first_post e below))
+
+  accepted_all : (e : EndId) → e.binding < length j.bindings → (p : CallProgress) → post_at comes e ≡ Some p
+      → accepted_of (length (waiting_at comes.state e)) (comes_to_send e p) ≡ made_there comes e
+  accepted_all e below p is =
+      let h = sends e below in
+      let same : p ≡ h.post = same_some (post_at comes e) p h.post is h.post_is in
+      ap (λ (y : CallProgress). accepted_of (length (waiting_at comes.state e)) (comes_to_send e y)) same ∙ accepted_there jobs e comes h
+
+  made_same : (e : EndId) → e.binding < length j.bindings → made_at j (o ∷ []) e ≡ made_there comes e
+  made_same e below =
+      accepted_same e below
+      ∙ ap (accepted_of (length (waiting_at reached.state e))) (sent_there e below)
+      ∙ ap (λ (b : CallRun). accepted_of (length (waiting_at b.state e)) (comes_to_send e (post_of j.jobs (progress_of (ended e below).progress)))) comes_are
+      ∙ accepted_all e below (post_of j.jobs (progress_of (ended e below).progress)) (ended e below).post_is
 
   not_refused : (n : ℕ) → n < length j.bindings → refusal_at j (o ∷ []) n ≡ None
   not_refused n below =
@@ -333,10 +496,10 @@ module _ (jobs : List Job) (limit : ℕ) (r : TheReport) (s : State) (j : TheJoi
   ending_is true end q = ap (λ e. if is_unfinished e || false then turns_out else complete) q
   ending_is false end q = ap (λ e. if is_unfinished e || false then turns_out else complete) q
 
-  pub told : r ≡ told_of jobs (span_in s) (length s.bindings) turns comes
+  pub told : r ≡ told_of (span_in s) (length s.bindings) turns comes
   told =
-      same_report r (told_of jobs (span_in s) (length s.bindings) turns comes)
-      (one.tells.made ∙ both_same (made_at j (o ∷ [])) (made_there jobs comes) made_same)
+      same_report r (told_of (span_in s) (length s.bindings) turns comes)
+      (one.tells.made ∙ both_same (made_at j (o ∷ [])) (made_there comes) made_same)
       (one.tells.handled ∙ both_same (handled_at j (o ∷ [])) (handled_there comes) handled_same)
       (one.tells.refused
       ∙ map_same (refusal_at j (o ∷ [])) (λ n. None) (range_with_len 0 (length j.bindings))

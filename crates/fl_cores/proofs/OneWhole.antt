@@ -1,10 +1,12 @@
 -- The report of a run of one core is a function of the configuration, the jobs and the limit.
-use Rattle.std.proofs.Common.{◌≡◌, ◌≢◌, refl, sym, ◌∙◌, ap, subst, ℕ, zero, suc, ◌≤◌, ◌||◌, nat_lt, Bool, true, false, if◌then◌else◌, List, [], ◌∷◌, length, map}
+use Rattle.std.proofs.Common.{◌≡◌, ◌≢◌, refl, sym, ◌∙◌, ap, subst, ℕ, zero, suc, ◌<◌, ◌≤◌, ◌||◌, nat_lt, Bool, true, false, if◌then◌else◌, List, [], ◌∷◌, length, map}
 use Rattle.std.proofs.Common.{slice_get, None, arith}
 use Rattle.std.specs.List.{flat_map, list_all, range_with_len, AllZip}
 use Rattle.std.proofs.lemmas.Bool.Decides.{nat_tests}
+use Rattle.fl_base.specs.declared.identity.EndId.{EndId}
 use Rattle.fl_base.specs.Numbered.{most_cores}
 use Rattle.fl_model_laws.proofs.Start.{world_is_sound}
+use Rattle.fl_core.specs.Sound.{IsCore}
 use Rattle.fl_core.specs.View.{TheCore}
 use Rattle.fl_model.specs.Runs.{reached}
 use Rattle.fl_model.specs.Sound.{Sound}
@@ -27,6 +29,7 @@ use Rattle.fl_world_refines.specs.declared.parts.Parts.{Parts}
 use Rattle.fl_world_refines.specs.Apart.{is_making, AreParts}
 use Rattle.fl_world.specs.Booting.{TheConfig}
 use Rattle.fl_core_refines.specs.SetUpStart.{StartsFresh, SetUpsStartFresh}
+use Rattle.fl_core_refines.specs.SetUpUntouched.{SetUpsTouchNothing}
 use Rattle.fl_cores_jobs.specs.Rules.{RulesOf}
 use Rattle.fl_cores_jobs.specs.State.{TheJoinedJobs, AreJoined}
 use Rattle.fl_cores_jobs.specs.Whole.{request_in}
@@ -41,10 +44,12 @@ use Rattle.fl_cores.specs.OneCore.{begins, both_ends, ends_in, solo_for, span_in
 use Rattle.fl_cores.specs.OneCore.{RunsOfOneCore}
 use Rattle.fl_cores.proofs.CoresCoreThreads.{on_boards}
 use Rattle.fl_cores.proofs.OneBare.{no_rings, no_link_sides, one_of, none_in}
+use Rattle.fl_cores.proofs.OneBegun.{rules_keep, none_sent, own_core, rules_are}
 use Rattle.fl_cores.proofs.OneJoined as joined
 use Rattle.fl_cores.proofs.OneRan.{IsAlone, not_told, one_ran}
 use Rattle.fl_cores.proofs.OneReport.{told, same_report}
 use Rattle.fl_cores.proofs.OneRules.{ShownWith, rules_shown}
+use Rattle.fl_cores.proofs.OneSends.{Begun}
 use Rattle.fl_cores.proofs.Requests.{none_requested}
 
 either_false : (a b : Bool) → (a || b) ≡ false → (a ≡ false) × (b ≡ false)
@@ -109,7 +114,7 @@ module _ (p : Parts) (j : TheJoinedJobs) (limit : ℕ) (r : TheReport) (at : Pla
 
 -- ---- one core
 
-module _ (law : StepsAgree) (fresh : SetUpsStartFresh) (honest : RunsReportHonestly) (c : TheConfig) (jobs : List Job) (limit : ℕ) (r : TheReport)
+module _ (law : StepsAgree) (fresh : SetUpsStartFresh) (untouched : SetUpsTouchNothing) (honest : RunsReportHonestly) (c : TheConfig) (jobs : List Job) (limit : ℕ) (r : TheReport)
     (w : Reports c jobs limit r) (one_core : cores_by c ≡ 1) where
   abbrev j : TheJoinedJobs
   j = w.ran.ran.joined
@@ -191,6 +196,29 @@ module _ (law : StepsAgree) (fresh : SetUpsStartFresh) (honest : RunsReportHones
       joined.many made.bindings.items jobs j are_joined w.ran.ran.are_bound w.ran.ran.are_due no_request
       ∙ ap (λ bs. length bs) (are_parts.bindings ∙ sym ruled.bindings) ∙ ruled.shows.showing.bindings.count
 
+  -- ---- with what its ends begin
+
+  world_core : (x : TheCore) × (world.cores ≡ x ∷ [])
+  world_core = one_of world.cores count
+
+  own_sound : IsCore one_part.0
+  own_sound =
+      let ran = w.ran.ran.ran in
+      own_core (common_in parts j ran.places) one_part.0 ran.core_threads
+      (subst (λ ks. AreCoreThreads (common_in parts j ran.places) 0 ks ran.core_threads) one_part.1 ran.begin) ran.sound.begin
+
+  begun : (e : EndId) → e.binding < length j.bindings → Begun jobs state e
+  begun e below =
+      let many : length world.bindings ≡ length j.bindings
+      = sym (as_many ∙ sym ruled.shows.showing.bindings.count ∙ ap (λ bs. length bs) ruled.bindings) in
+      let there : e.binding < length world.bindings = omega (arith, below, many) in
+      record {
+        none = rules_keep jobs e (reached (start_with c.cores) c.setup)
+            ∙ none_sent (reached (start_with c.cores) c.setup) e (untouched c.cores c.setup making);
+        rules = rules_are world starts world_core.0 world_core.1 jobs parts.cores.items rules one_part.0 one_part.1 own_sound ruled.world state
+            ruled.shows ruled.cores_are e there;
+      }
+
   -- ---- where the number of cores stands
 
   alone : state.may_set_cores ≡ false → IsAlone parts j state
@@ -213,7 +241,7 @@ module _ (law : StepsAgree) (fresh : SetUpsStartFresh) (honest : RunsReportHones
   by_turns stands =
       let ran = w.ran.ran.ran in
       told jobs limit r state j made.bindings.items are_joined w.ran.ran.are_bound w.ran.ran.are_due no_request (honest c jobs limit r w) ruled.shows.sound stands
-      as_many (one_ran law parts j limit r state (alone stands) ran.places ran.core_threads ran.outcomes ran.begin ran.ran ran.shares ran.sound ran.tells)
+      as_many begun (one_ran law parts j limit r state (alone stands) ran.places ran.core_threads ran.outcomes ran.begin ran.ran ran.shares ran.sound ran.tells)
 
   -- ---- and where it may still be set: there is nothing
 
@@ -235,7 +263,7 @@ module _ (law : StepsAgree) (fresh : SetUpsStartFresh) (honest : RunsReportHones
       let bindings = none_in j.bindings many in
       same_report r (report_of_one c jobs limit)
       (h.tells.made ∙ ap (λ n. map (both_at (made_at j (h.outcome ∷ []))) (range_with_len 0 n)) many
-      ∙ sym (ap (λ n. map (both_at (made_there jobs (comes_to c jobs limit))) (range_with_len 0 n)) no_bindings))
+      ∙ sym (ap (λ n. map (both_at (made_there (comes_to c jobs limit))) (range_with_len 0 n)) no_bindings))
       (h.tells.handled ∙ ap (λ n. map (both_at (handled_at j (h.outcome ∷ []))) (range_with_len 0 n)) many
       ∙ sym (ap (λ n. map (both_at (handled_there (comes_to c jobs limit))) (range_with_len 0 n)) no_bindings))
       (h.tells.refused ∙ ap (λ n. map (refusal_at j (h.outcome ∷ [])) (range_with_len 0 n)) many
@@ -251,5 +279,5 @@ module _ (law : StepsAgree) (fresh : SetUpsStartFresh) (honest : RunsReportHones
       by false q = by_turns q
       by true q = by_nothing q
 
-pub of_one_core : StepsAgree → SetUpsStartFresh → RunsReportHonestly → RunsOfOneCore
-of_one_core law fresh honest c jobs limit r w one_core = report_is law fresh honest c jobs limit r w one_core
+pub of_one_core : StepsAgree → SetUpsStartFresh → SetUpsTouchNothing → RunsReportHonestly → RunsOfOneCore
+of_one_core law fresh untouched honest c jobs limit r w one_core = report_is law fresh untouched honest c jobs limit r w one_core

@@ -14,6 +14,7 @@ use Rattle.fl_core.specs.View.{TheCore, slot_of}
 use Rattle.fl_core.specs.declared.core_job.CoreJob.{CoreJob}
 use Rattle.fl_core_run.specs.EndProgress.{TheEndProgress}
 use Rattle.fl_core_run.specs.Run.{TheRun}
+use Rattle.fl_core_run.specs.Accepted.{count_waiting, accepted_of}
 use Rattle.fl_core.specs.Jobs.{calls_of_jobs}
 use Rattle.fl_core_run_laws.specs.Logs.{in_progress, handled_of}
 use Rattle.fl_core_run_laws.specs.Made.{done_at, done_of}
@@ -28,7 +29,7 @@ use Rattle.fl_cores_laws.specs.Told as progresses
 use Rattle.fl_cores_laws.specs.Told.{IsOf, AreTold}
 use Rattle.fl_cores_fork.specs.Tells as told
 use Rattle.fl_cores_fork.specs.Runs.{TheFinishedCore, TheCoreThread}
-use Rattle.fl_cores_fork.specs.Tells.{progress_left, both_at, by_binding, Tells}
+use Rattle.fl_cores_fork.specs.Tells.{progress_left, waiting_left, both_at, by_binding, Tells}
 use Rattle.fl_cores_parts.specs.Begins.{TheCoreInputs, AreCoreThreads}
 use Rattle.fl_cores.specs.Runs.{AreRuns}
 use Rattle.fl_cores.proofs.Runs.{is_past, RunAt, run_at, CoreThreadAt, core_thread_at}
@@ -65,10 +66,10 @@ handled_in : (o : Option TheEndProgress) → given o [] told.handled_by ≡ map 
 handled_in None = refl
 handled_in (Some d) = refl
 
-made_in : (jobs : List CoreJob) (end_work : TheEndWork) (o : Option TheEndProgress) → ((d : TheEndProgress) → o ≡ Some d → d.jobs ≡ end_work.jobs)
-    → given o [] (told.made_by jobs end_work) ≡ done_at jobs o ++ flat_map (reply_by end_work.rules) (map call_of (in_progress o))
-made_in jobs end_work None own = refl
-made_in jobs end_work (Some d) own =
+sent_in : (jobs : List CoreJob) (end_work : TheEndWork) (o : Option TheEndProgress) → ((d : TheEndProgress) → o ≡ Some d → d.jobs ≡ end_work.jobs)
+    → given o [] (told.sent_by jobs end_work) ≡ done_at jobs o ++ flat_map (reply_by end_work.rules) (map call_of (in_progress o))
+sent_in jobs end_work None own = refl
+sent_in jobs end_work (Some d) own =
     ap (λ (places : List ℕ). calls_of_jobs jobs (take d.done places) ++ flat_map (reply_by end_work.rules) (told.handled_by d)) (sym (own d refl))
 
 module _ (j : TheJoinedJobs) (outcomes : List TheFinishedCore) (e : EndId) (b : BindingCores) (b_is : slice_get j.bindings e.binding ≡ Some b)
@@ -87,15 +88,26 @@ module _ (j : TheJoinedJobs) (outcomes : List TheFinishedCore) (e : EndId) (b : 
       ∙ handled_in (slice_get o.run.progresses (slot_of e))
       ∙ sym (ap (map call_of) handled_slot)
 
+  waiting_is : waiting_left j outcomes e ≡ count_waiting o.run e
+  waiting_is =
+      ap (λ (x : Option BindingCores). given (given x None (λ y. Some (core_of e.side y))) 0
+      (λ core. given (slice_get outcomes core) 0 (λ (u : TheFinishedCore). count_waiting u.run e))) b_is
+      ∙ ap (λ (x : Option TheFinishedCore). given x 0 (λ (u : TheFinishedCore). count_waiting u.run e)) o_is
+
+  sent_is : ((d : TheEndProgress) → slice_get o.run.progresses (slot_of e) ≡ Some d → d.jobs ≡ (end_work_at j.end_works e).jobs)
+      → told.sent_at j outcomes e ≡ progresses.sent_by j.jobs (end_work_at j.end_works e) o.run e
+  sent_is own =
+      let end_work = end_work_at j.end_works e in
+      let progress : Option TheEndProgress = slice_get o.run.progresses (slot_of e) in
+      ap (λ (x : Option TheEndProgress). given x [] (told.sent_by j.jobs end_work)) left
+      ∙ sent_in j.jobs end_work progress own
+      ∙ ap (λ (calls : List TheCall). calls ++ flat_map (reply_by end_work.rules) (map call_of (in_progress progress))) (sym (ap (done_at j.jobs) (at_slot o.run.progresses e few (λ x. x) None refl)))
+      ∙ ap (λ (calls : List TheCall). done_of j.jobs o.run e ++ flat_map (reply_by end_work.rules) calls) (sym (ap (map call_of) handled_slot))
+
   made_is : ((d : TheEndProgress) → slice_get o.run.progresses (slot_of e) ≡ Some d → d.jobs ≡ (end_work_at j.end_works e).jobs)
       → told.made_at j outcomes e ≡ progresses.made_by j.jobs (end_work_at j.end_works e) o.run e
   made_is own =
-      let end_work = end_work_at j.end_works e in
-      let progress : Option TheEndProgress = slice_get o.run.progresses (slot_of e) in
-      ap (λ (x : Option TheEndProgress). given x [] (told.made_by j.jobs end_work)) left
-      ∙ made_in j.jobs end_work progress own
-      ∙ ap (λ (calls : List TheCall). calls ++ flat_map (reply_by end_work.rules) (map call_of (in_progress progress))) (sym (ap (done_at j.jobs) (at_slot o.run.progresses e few (λ x. x) None refl)))
-      ∙ ap (λ (calls : List TheCall). done_of j.jobs o.run e ++ flat_map (reply_by end_work.rules) calls) (sym (ap (map call_of) handled_slot))
+      ap (λ (waiting : ℕ). accepted_of waiting (told.sent_at j outcomes e)) waiting_is ∙ ap (accepted_of (count_waiting o.run e)) (sent_is own)
 
 -- ---- of a run
 

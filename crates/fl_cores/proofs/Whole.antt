@@ -96,10 +96,10 @@ module _ (fresh : SetUpsStartFresh) (c : TheConfig) (asked : List Job) (limit : 
       ∙ rules_of x.ran.parts.bindings.items asked x.ran.parts.cores.items x.ran.ran.parts.cores.items x.ran.ran.rules in
       subst (λ (n : ℕ). AreJoined n asked x.ran.ran.joined) (sym many) x.ran.ran.are_joined
 
-  progresses : HaveProgress x.ran.ran.joined cores
+  pub progresses : HaveProgress x.ran.ran.joined cores
   progresses = progresses_begin x.ran.ran.joined cores x.ran.ran.ran.outcomes run
 
-  told : AreTold x.ran.ran.joined cores r.made r.handled
+  pub told : AreTold x.ran.ran.joined cores r.made r.handled
   told = are_told x.ran.ran.joined cores x.ran.ran.ran.outcomes run r x.ran.ran.ran.tells
 
   pub set_up : SideLaws → LeadsAtFirst → AreSetUp asked x.ran.ran.joined cores x.ran.parts.names (map program_of x.ran.parts.programs.items)

@@ -18,7 +18,8 @@ pub record ReportsHonestly (c : TheConfig) (jobs : List Job) (limit : ℕ) (r : 
   pub reports : Reports c jobs limit r
   pub honest : Honest jobs r
   pub ends : EndsAsTold reports
-  -- in its turns each core went on as the machine does, event by event, on what it knew of the machine's state
+  -- in its turns each core went on as the machine does, event by event, on what it knew of the machine's state; and what
+  -- is told of its ends is what these accepted, and what came there
   pub cores : CoresFollow reports
   -- of one core it is a function of the configuration, the jobs and the limit
   pub one : IsThatOfOne c jobs limit r
@@ -34,7 +35,7 @@ pub record AppendsHonestly (file : CoresFile) (limit : ℕ) (e : CoresEnd) (befo
   pub appends : AppendsReport file limit e before after
   pub honest : Honest file.jobs appends.report
   pub ends : EndsAsTold appends.reports
-  -- each core went on as the machine does
+  -- each core went on as the machine does, and its ends accepted what is told
   pub cores : CoresFollow appends.reports
   -- of one core it is a function of the file and the limit
   pub one : IsThatOfFile file limit appends.report

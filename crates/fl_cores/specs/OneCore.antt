@@ -1,5 +1,5 @@
 -- The report of a run of one core: a function of the configuration, the jobs and the limit. Public promises rest on this file.
-use Rattle.std.specs.Prelude.{ℕ, ◌≡◌, Bool, true, false, List, [], ◌∷◌, ◌++◌, map, take, length, None}
+use Rattle.std.specs.Prelude.{ℕ, ◌≡◌, Bool, true, false, List, [], ◌∷◌, map, length, None}
 use Rattle.std.specs.List.{flat_map, range_with_len}
 use Rattle.fl_base.specs.declared.identity.EndId.{EndId}
 use Rattle.fl_base.specs.Ends.{peer}
@@ -7,12 +7,13 @@ use Rattle.fl_base.specs.Given.{given}
 use Rattle.fl_value_data.specs.Value.{TheCall}
 use Rattle.fl_core.specs.View.{client_of, server_of}
 use Rattle.fl_model.specs.Events.{Event, reply}
+use Rattle.fl_model.specs.Laws.{accepted_by}
 use Rattle.fl_model.specs.Monitors.{Core}
 use Rattle.fl_model.specs.Runs.{reached}
 use Rattle.fl_model.specs.State.{State, core_of}
 use Rattle.fl_model.specs.Worlds.{start_with}
 use Rattle.fl_cores_file.specs.CoresFile.{CoresFile}
-use Rattle.fl_cores_file.specs.Jobs.{Job, replies, own_calls, handed_in, reply_to}
+use Rattle.fl_cores_file.specs.Jobs.{Job, replies, own_calls, handed_in}
 use Rattle.fl_cores_file.specs.Report.{TheReport, Ending, complete, turns_out}
 use Rattle.fl_world.specs.Booting.{TheConfig}
 use Rattle.fl_cores.specs.Promised.{cores_by, config_in, Reports}
@@ -60,9 +61,9 @@ comes_to c jobs limit = turned (span_in (begins c jobs)) (turns_of c jobs limit)
 
 -- ---- what is told of it
 
--- an end made the first of its calls, or it replied by its rules to those that it handled
-abbrev pub made_at : List Job → CallRun → EndId → List TheCall
-made_at jobs a e = given (post_at a e) [] λ p. take p.made p.calls ++ flat_map (reply_to jobs e) p.handled
+-- an end made the calls that the machine accepted from it, its replies by rule among them: behind the set-up there were none
+abbrev pub made_at : CallRun → EndId → List TheCall
+made_at a e = accepted_by a.state e
 
 abbrev pub handled_at : CallRun → EndId → List TheCall
 handled_at a e = given (post_at a e) [] λ p. p.handled
@@ -72,9 +73,9 @@ ending_of true = complete
 ending_of false = turns_out
 
 -- the calls of each end, by binding; that no binding was refused; the turns; and `complete` just where nothing is left to do
-abbrev pub told_of : List Job → CallTask → ℕ → ℕ → CallRun → TheReport
-told_of jobs p bindings turns a = record {
-  made = map (both_at (made_at jobs a)) (range_with_len 0 bindings);
+abbrev pub told_of : CallTask → ℕ → ℕ → CallRun → TheReport
+told_of p bindings turns a = record {
+  made = map (both_at (made_at a)) (range_with_len 0 bindings);
   handled = map (both_at (handled_at a)) (range_with_len 0 bindings);
   refused = map (λ n. None) (range_with_len 0 bindings);
   turns = turns ∷ [];
@@ -83,7 +84,7 @@ told_of jobs p bindings turns a = record {
 
 abbrev pub report_of_one : TheConfig → List Job → ℕ → TheReport
 report_of_one c jobs limit =
-    told_of jobs (span_in (begins c jobs)) (length (begins c jobs).bindings) (turns_of c jobs limit) (comes_to c jobs limit)
+    told_of (span_in (begins c jobs)) (length (begins c jobs).bindings) (turns_of c jobs limit) (comes_to c jobs limit)
 
 -- ---- what is promised
 

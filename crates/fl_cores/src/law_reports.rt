@@ -12,7 +12,7 @@ use crate::law_outcomes::{
     law_complete_has_all, law_dispatchers_handle_few, law_refused_are_opened,
     law_reports_are_of_runs, law_reports_handle_few, law_reports_keep_turns,
 };
-use fl_core_refines::law_set_ups_start_fresh;
+use fl_core_refines::{law_set_ups_start_fresh, law_set_ups_touch_nothing};
 use fl_core_run_laws::{law_leads_at_first, law_sides_go};
 use fl_cores_file::law_one_outcome;
 use fl_cores_laws::{
@@ -109,6 +109,7 @@ pub fn law_runs_of_one_core()
     ensures one { RunsOfOneCore }
 {
     law_set_ups_start_fresh();
+    law_set_ups_touch_nothing();
     law_steps_agree();
     law_runs_report_honestly();
 }

@@ -7,8 +7,8 @@
 //! refused for the reasons that are told (`specs/Reasons.antt`, `specs/Over.antt`). With one core the report
 //! is a function of the configuration, the jobs and the limit: that of so many turns of the machine
 //! (`specs/OneCore.antt`), so two runs of a file tell the same ([`law_one_report`], `specs/Again.antt`). And
-//! each core of a run goes on as the machine does, from the set-up, event by event, on what it knows of that
-//! (`specs/Follows.antt`).
+//! each core of a run goes on as the machine does, from the set-up, event by event, on what it knows of that,
+//! and what is told of an end is what the machine's end accepted, and what came there (`specs/Follows.antt`).
 //!
 //! Behind each report stand cores as `fl_cores_laws` speaks of them (`specs/Outcomes.antt`), so it follows by
 //! its laws from what a run tells (`specs/Promised.antt`).

@@ -1,14 +1,15 @@
 -- Calls moved out of jobs.
-use Rattle.std.proofs.Common.{◌≡◌, ◌≢◌, refl, sym, ap, ◌∙◌, subst, ℕ, zero, suc, ◌+◌, ◌*◌, ◌<◌, ◌≤◌, ◌==◌, ◌&&◌, Bool, true, false, if◌then◌else◌}
+use Rattle.std.proofs.Common.{◌≡◌, ◌≢◌, refl, sym, ap, ◌∙◌, subst, ℕ, zero, suc, ◌+◌, ◌-◌, ◌*◌, ◌<◌, ◌≤◌, ◌==◌, ◌&&◌, Bool, true, false, if◌then◌else◌}
 use Rattle.std.proofs.Common.{List, [], ◌∷◌, ◌++◌, map, length, take, drop, get_or, slice_get, slice_set, Option, Some, None, arith}
 use Rattle.std.specs.List.{flat_map, range_with_len}
-use Rattle.std.proofs.lemmas.List.{append_assoc}
+use Rattle.std.proofs.lemmas.List.{append_assoc, length-map, take-map}
 use Rattle.std.proofs.lemmas.Bool.Decides.{nat_tests}
 use Rattle.fl_base.specs.declared.identity.EndId.{EndId}
 use Rattle.fl_base.specs.declared.identity.Side.{Side}
 use Rattle.fl_base.specs.declared.identity.Side.TheVariants.{Client, Server}
 use Rattle.fl_base.specs.Given.{given}
-use Rattle.fl_value_data.specs.Value.{TheCall}
+use Rattle.fl_value_data.specs.declared.value.Call.{Call}
+use Rattle.fl_value_data.specs.Value.{TheCall, call_of}
 use Rattle.fl_model.specs.Runs.{same_side, same_end}
 use Rattle.fl_core.specs.View.{slot_of, client_of, server_of}
 use Rattle.fl_core.specs.declared.core_job.CoreJob.{CoreJob}
@@ -21,7 +22,8 @@ use Rattle.fl_cores_jobs.specs.declared.end_work.EndWork.{EndWork}
 use Rattle.fl_cores_jobs.specs.EndWork.{TheEndWork, end_work_of, no_end_work, end_work_at, end_of, places_of, reply_by}
 use Rattle.fl_cores_jobs.specs.State.{TheJoinedJobs}
 use Rattle.fl_cores_fork.specs.Runs.{TheFinishedCore}
-use Rattle.fl_cores_fork.specs.Tells.{both_at, progress_left, handled_by, made_by, made_at}
+use Rattle.fl_core_run.specs.Accepted.{accepted_of}
+use Rattle.fl_cores_fork.specs.Tells.{both_at, progress_left, handled_by, sent_by, sent_at, waiting_left, made_at}
 use Rattle.fl_cores_fork.specs.Taking.{AreOnce, KeepsOthers, KeepsJobs, HavePlaces, with_jobs}
 use Rattle.fl_cores_fork.proofs.Lists.{calls_more, both_more}
 
@@ -236,7 +238,7 @@ same_places e m (j ∷ jobs) (k ∷ now) ends =
 pub places_kept : (p : ℕ) (end_works : List TheEndWork) (jobs now : List CoreJob) → HavePlaces end_works jobs → KeepsJobs p jobs now → HavePlaces end_works now
 places_kept p end_works jobs now have keeps e = have e ∙ sym (same_places e 0 jobs now keeps.ends)
 
--- ---- what an end made
+-- ---- what an end came to send, and what it made
 
 same_calls : (jobs now : List CoreJob) (places : List ℕ) (count : ℕ) → ((i n : ℕ) → slice_get places i ≡ Some n → slice_get now n ≡ slice_get jobs n)
     → calls_of_jobs now (take count places) ≡ calls_of_jobs jobs (take count places)
@@ -256,14 +258,15 @@ calls_kept e p places jobs now count is keeps from = same_calls jobs now places 
     keeps.from n h.job there (omega (arith, slots, from)) ∙ sym there)
 
 kept_by : (e : EndId) (p : ℕ) (end_work : TheEndWork) (jobs now : List CoreJob) (progress : Option TheEndProgress) → end_work.jobs ≡ places_of e 0 jobs → KeepsJobs p jobs now
-    → p ≤ slot_of e → given progress [] (made_by now end_work) ≡ given progress [] (made_by jobs end_work)
+    → p ≤ slot_of e → given progress [] (sent_by now end_work) ≡ given progress [] (sent_by jobs end_work)
 kept_by e p end_work jobs now None is keeps from = refl
 kept_by e p end_work jobs now (Some d) is keeps from =
     ap (λ (cs : List TheCall). cs ++ flat_map (reply_by end_work.rules) (handled_by d)) (calls_kept e p end_work.jobs jobs now d.done is keeps from)
 
 made_kept : (j : TheJoinedJobs) (os : List TheFinishedCore) (e : EndId) (p : ℕ) (jobs now : List CoreJob) → HavePlaces j.end_works jobs → KeepsJobs p jobs now → p ≤ slot_of e
     → made_at (with_jobs now j) os e ≡ made_at (with_jobs jobs j) os e
-made_kept j os e p jobs now have keeps from = kept_by e p (end_work_at j.end_works e) jobs now (progress_left j os e) (have e) keeps from
+made_kept j os e p jobs now have keeps from =
+    ap (accepted_of (waiting_left j os e)) (kept_by e p (end_work_at j.end_works e) jobs now (progress_left j os e) (have e) keeps from)
 
 -- the end's work of an end
 pub end_work_there : (e : EndId) (n : ℕ) (ds : List EndWork) (d : EndWork) → n ≡ slot_of e → n < length ds → d ≡ get_or ds n d → end_work_of d ≡ end_work_at (map end_work_of ds) e
@@ -274,10 +277,16 @@ end_work_there e n ds d same below is =
       at zero (x ∷ ds) d below is = ap end_work_of is
       at (suc n) (x ∷ ds) d below is = at n ds d (omega (arith, below)) is
 
-pub made_there : (j : TheJoinedJobs) (os : List TheFinishedCore) (e : EndId) (jobs : List CoreJob) (end_work : TheEndWork) (progress : TheEndProgress) → progress_left j os e ≡ Some progress
-    → end_work ≡ end_work_at j.end_works e → made_by jobs end_work progress ≡ made_at (with_jobs jobs j) os e
-made_there j os e jobs end_work progress there is =
-    ap (λ (d : TheEndWork). made_by jobs d progress) is ∙ ap (λ (o : Option TheEndProgress). given o [] (made_by jobs (end_work_at j.end_works e))) (sym there)
+pub sent_there : (j : TheJoinedJobs) (os : List TheFinishedCore) (e : EndId) (jobs : List CoreJob) (end_work : TheEndWork) (progress : TheEndProgress) → progress_left j os e ≡ Some progress
+    → end_work ≡ end_work_at j.end_works e → sent_by jobs end_work progress ≡ sent_at (with_jobs jobs j) os e
+sent_there j os e jobs end_work progress there is =
+    ap (λ (d : TheEndWork). sent_by jobs d progress) is ∙ ap (λ (o : Option TheEndProgress). given o [] (sent_by jobs (end_work_at j.end_works e))) (sym there)
+
+-- all but the last so many
+pub but_last : (calls : List Call) (waiting : ℕ) → map call_of (take (length calls - waiting) calls) ≡ accepted_of waiting (map call_of calls)
+but_last calls waiting =
+    sym (take-map call_of (length calls - waiting) calls)
+    ∙ ap (λ (n : ℕ). take (n - waiting) (map call_of calls)) (sym (length-map calls call_of))
 
 -- both ends of a binding, the client's first
 pub both_moved : (j : TheJoinedJobs) (os : List TheFinishedCore) (n : ℕ) (jobs now : List CoreJob) (client server : List TheCall) → HavePlaces j.end_works jobs

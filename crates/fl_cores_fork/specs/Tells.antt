@@ -7,6 +7,7 @@ use Rattle.fl_value_data.specs.Value.{TheCall, call_of}
 use Rattle.fl_core.specs.View.{client_of, server_of, slot_of}
 use Rattle.fl_core.specs.declared.core_job.CoreJob.{CoreJob}
 use Rattle.fl_core_run.specs.EndProgress.{TheEndProgress}
+use Rattle.fl_core_run.specs.Accepted.{count_waiting, accepted_of}
 use Rattle.fl_core.specs.Jobs.{calls_of_jobs}
 use Rattle.fl_cores_jobs.specs.EndWork.{TheEndWork, end_work_at, reply_by}
 use Rattle.fl_cores_jobs.specs.Joined.{core_at}
@@ -28,15 +29,25 @@ progress_left j outcomes e =
 abbrev pub handled_by : TheEndProgress → List TheCall
 handled_by d = map call_of d.handled
 
--- those that it made: of its end's work's jobs that are done, and the replies by its rules to those that it handled
-abbrev pub made_by : List CoreJob → TheEndWork → TheEndProgress → List TheCall
-made_by jobs end_work d = calls_of_jobs jobs (take d.done end_work.jobs) ++ flat_map (reply_by end_work.rules) (handled_by d)
+-- those that it came to send: of its end's work's jobs that are done, and the replies by its rules to those that it handled
+abbrev pub sent_by : List CoreJob → TheEndWork → TheEndProgress → List TheCall
+sent_by jobs end_work d = calls_of_jobs jobs (take d.done end_work.jobs) ++ flat_map (reply_by end_work.rules) (handled_by d)
 
 abbrev pub handled_at : TheJoinedJobs → List TheFinishedCore → EndId → List TheCall
 handled_at j outcomes e = given (progress_left j outcomes e) [] handled_by
 
+abbrev pub sent_at : TheJoinedJobs → List TheFinishedCore → EndId → List TheCall
+sent_at j outcomes e = given (progress_left j outcomes e) [] (sent_by j.jobs (end_work_at j.end_works e))
+
+-- how many replies wait there, as its core left it
+abbrev pub waiting_left : TheJoinedJobs → List TheFinishedCore → EndId → ℕ
+waiting_left j outcomes e =
+    given (core_at j.bindings e) 0 λ core.
+    given (slice_get outcomes core) 0 λ o. count_waiting o.run e
+
+-- those that it made: it accepted all that it came to send but the replies that wait
 abbrev pub made_at : TheJoinedJobs → List TheFinishedCore → EndId → List TheCall
-made_at j outcomes e = given (progress_left j outcomes e) [] (made_by j.jobs (end_work_at j.end_works e))
+made_at j outcomes e = accepted_of (waiting_left j outcomes e) (sent_at j outcomes e)
 
 -- ---- a binding
 

@@ -13,8 +13,8 @@ ghost use Rattle.fl_cores_jobs.specs.EndWork.{end_work_of, end_of, reply_by};
 ghost use Rattle.fl_cores_jobs.specs.Joined.{HasEndWork, core_at};
 ghost use Rattle.fl_cores_jobs.specs.State.{joined_of};
 ghost use Rattle.fl_cores_fork.specs.Runs.{seats_left, sides_left};
-ghost use Rattle.fl_cores_fork.specs.Tells.{progress_left, handled_by, handled_at, made_at, made_by, both_at, refusal_at, by_binding, left_off, was_told};
-ghost use Rattle.fl_cores_fork.specs.Tells.{turns_in, Tells};
+ghost use Rattle.fl_cores_fork.specs.Tells.{progress_left, handled_by, handled_at, sent_by, sent_at, waiting_left, made_at, both_at, refusal_at, by_binding};
+ghost use Rattle.fl_cores_fork.specs.Tells.{turns_in, left_off, was_told, Tells};
 ghost use Rattle.fl_cores_fork.specs.Taking.{KeepsFrom, AreOnce, KeepsOthers, KeepsJobs, HavePlaces, with_jobs};
 ghost use Rattle.fl_cores_fork.specs.CoreThreads.{outcome_of, has_left_off, has_been_told};
 
@@ -63,7 +63,7 @@ fn copy_as(alloc: Global, msg: MsgNo, call: &Call) -> Result<Call, AllocError>
     })
 }
 
-// ---- the calls that an end made
+// ---- the calls that an end came to send
 
 // The call of a job, if it is one, is moved behind these.
 fn move_call(alloc: Global, calls: &mut Vec<Call>, job: &mut CoreJob) -> Result<(), AllocError>
@@ -162,14 +162,14 @@ fn first(places: &[usize], count: usize) -> &[usize]
 }
 
 // The calls of an end's jobs that are done, moved out of these, and the replies by its rules.
-fn made_by(
+fn sent_by(
     alloc: Global,
     jobs: &mut Vec<CoreJob>,
     end_work: &EndWork,
     progress: &EndProgress,
 ) -> Result<Vec<Call>, AllocError>
     requires once { AreOnce end_work.now.jobs.items }
-    ensures made { IfOk result (λ calls. map call_of calls.items ≡ made_by jobs.old.items (end_work_of end_work.now) progress.now) }
+    ensures sent { IfOk result (λ calls. map call_of calls.items ≡ sent_by jobs.old.items (end_work_of end_work.now) progress.now) }
     ensures rest { OnOk result (KeepsOthers end_work.now.jobs.items (length end_work.now.jobs.items) jobs.old.items jobs.new.items) }
 {
     let mut calls = move_calls(alloc, jobs, first(&end_work.jobs, progress.done()))?;
@@ -245,7 +245,40 @@ fn take_at(
     }
 }
 
-// The calls that an end made.
+// The calls that an end came to send.
+fn sent_at(
+    alloc: Global,
+    jobs: &mut Vec<CoreJob>,
+    done: &[FinishedCore],
+    joined: &JoinedJobs,
+    end: EndId,
+) -> Result<Vec<Call>, AllocError>
+    requires few { end.binding < 1024 }
+    requires end_work { slot_of end < length joined.now.end_works.items }
+    requires places { HavePlaces (joined_of joined.now).end_works jobs.old.items }
+    ensures sent { IfOk result (λ calls. map call_of calls.items ≡ sent_at (with_jobs jobs.old.items (joined_of joined.now)) (map outcome_of done.now) end) }
+    ensures rest { OnOk result (KeepsJobs (slot_of end + 1) jobs.old.items jobs.new.items) }
+{
+    match progress_left(done, joined, end) {
+        None => Ok(Vec::new(alloc)),
+        Some(progress) => sent_by(alloc, jobs, &joined.end_works[slot_of(end)], progress),
+    }
+}
+
+// How many replies wait at an end, as its core left it.
+fn waiting_left(done: &[FinishedCore], joined: &JoinedJobs, end: EndId) -> usize
+    ensures waiting { result ≡ waiting_left (joined_of joined.now) (map outcome_of done.now) end }
+{
+    match core_at(&joined.bindings, end) {
+        None => 0,
+        Some(core) => match done.get(core) {
+            None => 0,
+            Some(one) => one.core_thread.running.replies_waiting(end),
+        },
+    }
+}
+
+// The calls that an end made: it accepted all that it came to send but the replies that wait.
 fn made_at(
     alloc: Global,
     jobs: &mut Vec<CoreJob>,
@@ -259,10 +292,13 @@ fn made_at(
     ensures made { IfOk result (λ calls. map call_of calls.items ≡ made_at (with_jobs jobs.old.items (joined_of joined.now)) (map outcome_of done.now) end) }
     ensures rest { OnOk result (KeepsJobs (slot_of end + 1) jobs.old.items jobs.new.items) }
 {
-    match progress_left(done, joined, end) {
-        None => Ok(Vec::new(alloc)),
-        Some(progress) => made_by(alloc, jobs, &joined.end_works[slot_of(end)], progress),
-    }
+    let mut calls = sent_at(alloc, jobs, done, joined, end)?;
+    let accepted = calls
+        .as_slice()
+        .len()
+        .saturating_sub(waiting_left(done, joined, end));
+    calls.truncate(accepted);
+    Ok(calls)
 }
 
 // The number for which the opening of a binding was refused.

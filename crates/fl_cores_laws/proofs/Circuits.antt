@@ -12,6 +12,7 @@ use Rattle.fl_core.specs.BoardView.{TheEndAtChannel}
 use Rattle.fl_core.specs.View.{new_arrivals, client_of, server_of}
 use Rattle.fl_core.specs.declared.core_job.CoreJob.{CoreJob}
 use Rattle.fl_core.specs.Jobs.{HasNoRule, RulesLead}
+use Rattle.fl_core_run.proofs.Accepting.{waiting_is}
 use Rattle.fl_core_run_laws.specs.Carried.{SetsNone, calls_handled, rules_at, traffic}
 use Rattle.fl_core_run_laws.specs.Flows.{Flows, MadeCarries}
 use Rattle.fl_core_run_laws.specs.Agree.{Arrived}
@@ -97,6 +98,8 @@ module _ (l : Passing) (b : Below) (prefix : CircuitsPrefix) (jobs : List CoreJo
         first = (l.rules_first jobs p.core.start p.core.finish p.core.log e v.went.goes).0
             (subst (λ (places : List ℕ). RulesLead jobs places) (sym (all_left d p.core.start e h)) s.lead);
         unruled = λ is. (ap has_rules made.new.rules ∙ none_set (length (program_of made.began.program).interface.messages), sets_none is);
+        sound = v.went.ends s.place made.carries.after made.carries.after_is;
+        waiting = waiting_is p.core.finish e s.place made.carries.after s.place_is made.carries.after_is;
       }
 
 -- ---- both ends

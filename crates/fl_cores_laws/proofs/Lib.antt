@@ -14,9 +14,10 @@ pub mod Seats
 pub mod Few
 pub mod Silent
 pub mod Rest
-mod Prefixes
+pub mod Prefixes
 mod Progress
-mod GivenWork
+pub mod GivenWork
+mod Accepting
 mod Parties
 mod Passages
 mod OverLinks

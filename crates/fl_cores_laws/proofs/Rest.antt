@@ -18,6 +18,8 @@ use Rattle.fl_core_run.specs.EndProgress.{TheEndProgress, progress_place}
 use Rattle.fl_core_run.specs.LogEntries.{LogEntry}
 use Rattle.fl_core.specs.Jobs.{calls_of_jobs}
 use Rattle.fl_core_run.specs.OpeningStatus.{refusal_at}
+use Rattle.fl_core_run.specs.Accepted.{count_waiting}
+use Rattle.fl_core_run.proofs.Accepting.{none_accepted}
 use Rattle.fl_core_run_laws.specs.Led.{IsLed}
 use Rattle.fl_core_run_laws.specs.Logs.{Goes, handled_at, in_progress, handled_of, TurnsAreLogged, ProgressTellHandled, CountedAreTurns}
 use Rattle.fl_core_run_laws.specs.Made.{done_at, progress_of, done_of, made_at, LogsMakeJobs}
@@ -129,8 +131,10 @@ module _ (logged : TurnsAreLogged shared_ways) (tell : ProgressTellHandled share
     made_by_progress None is = ran.progresses.unmade e b.client c own at is
     made_by_progress (Some d) is =
         ran.progresses.made e b.client c d own at is
-        ∙ ap (λ (cs : List TheCall). cs ++ flat_map (reply_by (end_work_at j.end_works e).rules) (map call_of (handled_of c.finish e))) (done_none d is)
-        ∙ ap (λ (hs : List Call). flat_map (reply_by (end_work_at j.end_works e).rules) (map call_of hs)) none_handled
+        ∙ none_accepted (count_waiting c.finish e) (calls_of_jobs j.jobs (take d.done (end_work_at j.end_works e).jobs)
+        ++ flat_map (reply_by (end_work_at j.end_works e).rules) (map call_of (handled_of c.finish e)))
+        (ap (λ (cs : List TheCall). cs ++ flat_map (reply_by (end_work_at j.end_works e).rules) (map call_of (handled_of c.finish e))) (done_none d is)
+        ∙ ap (λ (hs : List Call). flat_map (reply_by (end_work_at j.end_works e).rules) (map call_of hs)) none_handled)
 
     pub was_refused : WasRefused j r binding
     was_refused = record {

@@ -13,13 +13,18 @@ use Rattle.fl_hop.specs.OfCircuit.{as_carried}
 use Rattle.fl_compile.specs.Programs.{program_of}
 use Rattle.fl_endpoint.specs.View.{TheEnd, TheOutgoing, interface_in, nothing_to_send, fresh, rule_in, number_or_0}
 use Rattle.fl_endpoint.specs.Accounts.{Sound, stream, stream_from}
+use Rattle.fl_core.specs.BoardView.{TheEndAtChannel}
+use Rattle.fl_core.specs.View.{place_of}
 use Rattle.fl_core.specs.declared.wiring.EndWiring.{EndWiring}
 use Rattle.fl_core.specs.declared.core_job.CoreJob.{CoreJob}
 use Rattle.fl_core_run.specs.LogEntries.{LogEntry, looked, passed, arrived, heard, said, told, opened, called, ruled, wrote, acked, turned}
 use Rattle.fl_core.specs.Jobs.{HasNoRule}
+use Rattle.fl_core_run.proofs.Accepting.{waiting_is}
 use Rattle.fl_core_run_laws.specs.Carried.{Traffic, EndGoes, left_to_put, rules_by, rules_in, rules_at, sets_rule, SetsNone, RulesFirst, RulesComeFirst, traffic}
 use Rattle.fl_core_run_laws.specs.Flows.{Flows, LogsFlow, EndCarries}
 use Rattle.fl_core_run_laws.specs.Agree.{SinceMade, Arrived, CarriedOffLinks}
+use Rattle.fl_core_run_laws.proofs.Carrying.{IsHere, log_goes}
+use Rattle.fl_core_run_laws.proofs.Seating.{sits_first}
 use Rattle.fl_cores_jobs.specs.EndWork.{TheEndWork}
 use Rattle.fl_cores_laws.specs.Cores.{shared_ways, OneCore, Went}
 use Rattle.fl_cores_laws.specs.Ends.{HasProgress, AreItsRules, StandsReady, EndRan}
@@ -98,6 +103,16 @@ since_new d x y outgoing parts goes sound = record {
 
 -- ---- in a run
 
+-- an end stays where it is
+stays_there : (jobs : List CoreJob) (c : OneCore) (e : EndId) → Went jobs c → (place : ℕ) (seat : TheEndAtChannel) → place_of c.start.core e ≡ Some place
+    → slice_get c.start.core.board.seats place ≡ Some seat → place_of c.finish.core e ≡ Some place
+stays_there jobs c e w place seat at there =
+    let here : IsHere e place seat.end c.start.core = record {
+      has = record { seat = seat; seat_is = there; end_is = refl };
+      sits = sits_first c.start.core e place w.core at;
+    } in
+    (log_goes shared_ways jobs e place c.log c.start c.finish seat.end here w.goes).sits.here
+
 pub off_links_arrived : CarriedOffLinks → (d : Traffic) (x : TheEnd) → SinceMade d x → x.circuit ≡ Some 0 → (took : List Frag) → IsPrefix took (map bare d.put) → Arrived took d.put
 off_links_arrived off d x since zero_is took p =
     as_same took took (map bare d.put) (map as_carried d.put) refl (sym (off d x since (ap number_or_0 zero_is))) p
@@ -125,6 +140,8 @@ module _ (flow : LogsFlow shared_ways) (rules_first : RulesComeFirst shared_ways
         rules = inr (subst (λ (rules : List (Option ℕ)). AreItsRules rules d) (sym (rules_stay e r.seat.end.rules c.log none)) r.rules);
         first = none_first e c.log none;
         unruled = λ is. (has_none r.seat.end.rules d r.rules is, none);
+        sound = w.ends r.place x.after x.after_is;
+        waiting = waiting_is c.finish e r.place x.after (stays_there jobs c e w r.place r.seat r.place_is r.seat_is) x.after_is;
       }
 
   pub on_zero : (d : TheEndWork) (c : OneCore) (e : EndId) (wiring : EndWiring) (w : Went jobs c) (r : StandsReady jobs d c.start e wiring) → (carried d c e wiring w r).after.end.circuit ≡ Some 0

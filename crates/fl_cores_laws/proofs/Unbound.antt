@@ -23,6 +23,8 @@ use Rattle.fl_core.specs.View.{place_of, client_of, server_of}
 use Rattle.fl_core.specs.Sound.{IsCore}
 use Rattle.fl_core.specs.declared.core_job.CoreJob.{CoreJob}
 use Rattle.fl_core_run.specs.Run.{SideRelations, TheRun}
+use Rattle.fl_core_run.specs.Accepted.{count_waiting}
+use Rattle.fl_core_run.proofs.Accepting.{none_accepted, first_accepted}
 use Rattle.fl_core_run.specs.LogEntries.{LogEntry, looked, passed, arrived, heard, said, told, opened, called, ruled, wrote, acked, turned, dispatcher_turn, TurnsOver}
 use Rattle.fl_core.specs.Jobs.{calls_of_jobs}
 use Rattle.fl_core_run_laws.specs.Logs.{ProgressTellHandled, Goes, handled_in, handled_at}
@@ -33,9 +35,9 @@ use Rattle.fl_core_run_laws.proofs.Seating.{sits_first}
 use Rattle.fl_cores_file.specs.Jobs.{Job, own_calls, handed_in}
 use Rattle.fl_cores_jobs.specs.EndWork.{TheEndWork, end_work_at, is_ruled, reply_by, IsEndWork}
 use Rattle.fl_cores_laws.specs.Cores.{shared_ways, OneCore}
-use Rattle.fl_cores_laws.specs.Told.{handled_by, made_by}
+use Rattle.fl_cores_laws.specs.Told.{handled_by, sent_by, made_by}
 use Rattle.fl_cores_laws.specs.Unbound.{IsLoose, LooseEndsRest, HasEnd, SilenceIsHonest, LooseIsHonest}
-use Rattle.fl_cores_laws.proofs.Prefixes.{as_same, of_none}
+use Rattle.fl_cores_laws.proofs.Prefixes.{then_on, as_same, of_none}
 use Rattle.fl_cores_laws.proofs.Progress.{handled_is, done_is, done_first}
 use Rattle.fl_cores_laws.proofs.GivenWork.{calls_there, handed_unruled}
 
@@ -181,12 +183,15 @@ module _ (handled : ProgressTellHandled shared_ways) (made : LogsMakeJobs shared
   loose_bound : (c : OneCore) (e : EndId) → IsLoose c.finish e → IsBound c.finish e → ⊥
   loose_bound c e loose b = let clash : Some b.seats.circuit ≡ None = sym b.seats.circuit_is ∙ loose b.place b.seats.seat b.place_is b.seats.seat_is in absurd (cc)
 
-  made_by_handled : (jobs : List CoreJob) (d : TheEndWork) (c : OneCore) (e : EndId) → handled_by c.finish e ≡ [] → made_by jobs d c.finish e ≡ done_of jobs c.finish e
-  made_by_handled jobs d c e none =
+  sent_by_handled : (jobs : List CoreJob) (d : TheEndWork) (c : OneCore) (e : EndId) → handled_by c.finish e ≡ [] → sent_by jobs d c.finish e ≡ done_of jobs c.finish e
+  sent_by_handled jobs d c e none =
       ap (λ (calls : List TheCall). done_of jobs c.finish e ++ flat_map (reply_by d.rules) calls) none ∙ append-nil (done_of jobs c.finish e)
 
   pub loose_rest : LooseEndsRest
-  loose_rest jobs d c e w h loose = record { handled = none_handled; made = made_by_handled jobs d c e none_handled ∙ none_done } where
+  loose_rest jobs d c e w h loose = record {
+    handled = none_handled;
+    made = none_accepted (count_waiting c.finish e) (sent_by jobs d c.finish e) (sent_by_handled jobs d c e none_handled ∙ none_done);
+  } where
     none_handled : handled_by c.finish e ≡ []
     none_handled = handled_is handled made first jobs d e c h w ∙ elim (handled_bound shared_ways jobs e c.log c.start c.finish w.goes) [
       | inl none ↦ ap (map call_of) none
@@ -214,8 +219,10 @@ module _ (handled : ProgressTellHandled shared_ways) (made : LogsMakeJobs shared
   lone_made asked jobs e d c k x none =
       let done = done_of jobs c.finish e in
       let own = as_same done done (calls_of_jobs jobs d.jobs) (own_calls asked e) refl (calls_there asked jobs e d k) (done_first handled made first jobs d e c x.progress x.went) in
-      as_same done (made_by jobs d c.finish e) (handed_in asked e) (handed_in asked e) (sym (made_by_handled jobs d c e none)) refl
-      (lone_by asked jobs e d k done own (is_ruled d) refl)
+      then_on (made_by jobs d c.finish e) (sent_by jobs d c.finish e) (handed_in asked e)
+      (first_accepted (count_waiting c.finish e) (sent_by jobs d c.finish e))
+      (as_same done (sent_by jobs d c.finish e) (handed_in asked e) (handed_in asked e) (sym (sent_by_handled jobs d c e none)) refl
+      (lone_by asked jobs e d k done own (is_ruled d) refl))
 
   pub silence : SilenceIsHonest
   silence asked j cores n c d joined ends none none2 = record {

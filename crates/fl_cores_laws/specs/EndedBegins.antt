@@ -15,6 +15,7 @@ use Rattle.fl_core_run.specs.declared.opening_status.OpeningStatus.TheVariants.{
 use Rattle.fl_core_run.specs.EndProgress.{TheEndProgress}
 use Rattle.fl_core.specs.Jobs.{calls_of_jobs}
 use Rattle.fl_core_run.specs.OpeningStatus.{refusal_at, word_by}
+use Rattle.fl_core_run.specs.Accepted.{count_waiting, accepted_of}
 use Rattle.fl_core_run_laws.specs.Logs.{handled_of}
 use Rattle.fl_core_run_laws.specs.Made.{progress_of}
 use Rattle.fl_cores_file.specs.Jobs.{Job}
@@ -80,10 +81,10 @@ refusal_by number = if number == 0 then None else Some number
 pub record TellsProgress (j : TheJoinedJobs) (cores : List OneCore) (r : TheReport) : Type 0 where
   pub handled : (e : EndId) (n : ℕ) (c : OneCore) → core_at j.bindings e ≡ Some n → slice_get cores n ≡ Some c
       → at_end r.handled e ≡ map call_of (handled_of c.finish e)
-  -- what an end made: the calls of its end's work's jobs that are done, and the replies by its rules to the calls that it handled
+  -- what an end made: the calls of its end's work's jobs that are done, and the replies by its rules to the calls that it handled, but for those that wait
   pub made : (e : EndId) (n : ℕ) (c : OneCore) (d : TheEndProgress) → core_at j.bindings e ≡ Some n → slice_get cores n ≡ Some c → progress_of c.finish e ≡ Some d
-      → at_end r.made e ≡ calls_of_jobs j.jobs (take d.done (end_work_at j.end_works e).jobs)
-      ++ flat_map (reply_by (end_work_at j.end_works e).rules) (map call_of (handled_of c.finish e))
+      → at_end r.made e ≡ accepted_of (count_waiting c.finish e) (calls_of_jobs j.jobs (take d.done (end_work_at j.end_works e).jobs)
+      ++ flat_map (reply_by (end_work_at j.end_works e).rules) (map call_of (handled_of c.finish e)))
   pub refused : (n : ℕ) (b : BindingCores) (c : OneCore) → slice_get j.bindings n ≡ Some b → slice_get cores b.client ≡ Some c
       → refusal_of r n ≡ refusal_by (refusal_at c.finish (client_of n))
   pub unmade : (e : EndId) (n : ℕ) (c : OneCore) → core_at j.bindings e ≡ Some n → slice_get cores n ≡ Some c → progress_of c.finish e ≡ None

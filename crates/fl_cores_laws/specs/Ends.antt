@@ -1,9 +1,10 @@
 -- An end as its core's run begins, and what it did in the run.
-use Rattle.std.specs.Prelude.{ℕ, ◌≡◌, ◌⊎◌, false, List, [], slice_get, Option, Some}
+use Rattle.std.specs.Prelude.{ℕ, ◌≡◌, ◌⊎◌, false, List, [], length, slice_get, Option, Some}
 use Rattle.fl_base.specs.declared.fragment.Frag.{Frag}
 use Rattle.fl_base.specs.declared.identity.EndId.{EndId}
 use Rattle.fl_ring.specs.SharedSides.{TheSide}
 use Rattle.fl_endpoint.specs.View.{TheEnd, nothing_to_send, has_rules, rule_at as rule_of_end}
+use Rattle.fl_endpoint.specs.Accounts.{Sound as IsEnd}
 use Rattle.fl_core.specs.BoardView.{TheEndAtChannel}
 use Rattle.fl_core.specs.declared.wiring.WiredEnd.{WiredEnd}
 use Rattle.fl_core.specs.declared.wiring.EndWiring.{EndWiring}
@@ -11,6 +12,7 @@ use Rattle.fl_core.specs.View.{place_of}
 use Rattle.fl_core.specs.declared.core_job.CoreJob.{CoreJob}
 use Rattle.fl_core_run.specs.EndProgress.{TheEndProgress}
 use Rattle.fl_core_run.specs.Run.{TheRun}
+use Rattle.fl_core_run.specs.Accepted.{count_waiting}
 use Rattle.fl_core.specs.Jobs.{HasNoRule}
 use Rattle.fl_core_run_laws.specs.Made.{progress_of}
 use Rattle.fl_core_run_laws.specs.Carried.{SetsNone, RulesFirst, rules_at, calls_handled, traffic}
@@ -57,3 +59,6 @@ pub record EndRan (d : TheEndWork) (c : OneCore) (e : EndId) (put took : List Fr
   pub rules : (calls_handled e c.log ≡ []) ⊎ AreItsRules (rules_at e had c.log) d
   pub first : RulesFirst e c.log
   pub unruled : is_ruled d ≡ false → (has_rules had ≡ false) × SetsNone e c.log
+  -- it is sound, and as many replies wait there as are told of this end of the core
+  pub sound : IsEnd x
+  pub waiting : count_waiting c.finish e ≡ length x.outgoing.waiting

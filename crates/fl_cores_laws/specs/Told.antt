@@ -6,6 +6,7 @@ use Rattle.fl_ring.specs.SharedSides.{TheSide}
 use Rattle.fl_value_data.specs.Value.{TheCall, call_of}
 use Rattle.fl_core.specs.declared.core_job.CoreJob.{CoreJob}
 use Rattle.fl_core_run.specs.Run.{TheRun}
+use Rattle.fl_core_run.specs.Accepted.{count_waiting, accepted_of}
 use Rattle.fl_core_run_laws.specs.Logs.{handled_of}
 use Rattle.fl_core_run_laws.specs.Made.{done_of}
 use Rattle.fl_cores_file.specs.Report.{BothEnds, at_end}
@@ -19,9 +20,13 @@ use Rattle.fl_cores_laws.specs.Cores.{OneCore}
 abbrev pub handled_by : TheRun TheSide → EndId → List TheCall
 handled_by t e = map call_of (handled_of t e)
 
--- those that it made: the calls of its jobs that are done, and the replies by the rules of its end's work to the calls that it handled
+-- those that it came to send: the calls of its jobs that are done, and the replies by the rules of its end's work to the calls that it handled
+abbrev pub sent_by : List CoreJob → TheEndWork → TheRun TheSide → EndId → List TheCall
+sent_by jobs d t e = done_of jobs t e ++ flat_map (reply_by d.rules) (handled_by t e)
+
+-- those that it made: it accepted all of these but the replies that wait
 abbrev pub made_by : List CoreJob → TheEndWork → TheRun TheSide → EndId → List TheCall
-made_by jobs d t e = done_of jobs t e ++ flat_map (reply_by d.rules) (handled_by t e)
+made_by jobs d t e = accepted_of (count_waiting t e) (sent_by jobs d t e)
 
 -- an end of a binding, and its core
 pub record IsOf (j : TheJoinedJobs) (cores : List OneCore) (e : EndId) (c : OneCore) : Type 0 where

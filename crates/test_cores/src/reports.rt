@@ -67,6 +67,33 @@ call p.c echo_call(1)
 call p.c echo_call(2)
 ";
 
+// Both clients have one dispatcher, and so a turn every second turn; the queues hold one fragment.
+//
+// In turns from 1: the replies to the first calls are written in 2, p's is handled in 2 and q's in 3. The second is
+// written in 3 at p; at q it finds the queue full, so the reply to the third call, handled in 3, waits there.
+const TWO_ECHOES: &[u8] = b"\
+idl
+interface i { rpc echo(in uint32 x, out uint32 y); }
+.
+disp d 0
+disp e 0
+disp f 0
+export s e i
+export t f i
+bind p d i s local 1
+bind q d i t local 1
+reply p.s echo_call echo_response
+reply q.s echo_call echo_response
+call p.c echo_call(1)
+call p.c echo_call(2)
+call p.c echo_call(3)
+call p.c echo_call(4)
+call q.c echo_call(5)
+call q.c echo_call(6)
+call q.c echo_call(7)
+call q.c echo_call(8)
+";
+
 const ONE_CORE: &[ReportRow] = &[
     ReportRow {
         file: PINGS,
@@ -138,6 +165,62 @@ const ONE_CORE: &[ReportRow] = &[
         refused: &[None],
         turns: &[3],
         ending: Ending::Complete,
+    },
+    // the third reply at q waits, so it isn't made
+    ReportRow {
+        file: TWO_ECHOES,
+        limit: 3,
+        made: &[
+            Both {
+                client: &[(0, 1), (0, 2), (0, 3)],
+                server: &[(1, 1), (1, 2), (1, 3)],
+            },
+            Both {
+                client: &[(0, 5), (0, 6), (0, 7)],
+                server: &[(1, 5), (1, 6)],
+            },
+        ],
+        handled: &[
+            Both {
+                client: &[(1, 1)],
+                server: &[(0, 1), (0, 2), (0, 3)],
+            },
+            Both {
+                client: &[(1, 5)],
+                server: &[(0, 5), (0, 6), (0, 7)],
+            },
+        ],
+        refused: &[None, None],
+        turns: &[3],
+        ending: Ending::TurnsOut,
+    },
+    // a turn later the fourth at p waits, and the third at q was accepted in the place of the second
+    ReportRow {
+        file: TWO_ECHOES,
+        limit: 4,
+        made: &[
+            Both {
+                client: &[(0, 1), (0, 2), (0, 3), (0, 4)],
+                server: &[(1, 1), (1, 2), (1, 3)],
+            },
+            Both {
+                client: &[(0, 5), (0, 6), (0, 7), (0, 8)],
+                server: &[(1, 5), (1, 6), (1, 7)],
+            },
+        ],
+        handled: &[
+            Both {
+                client: &[(1, 1), (1, 2)],
+                server: &[(0, 1), (0, 2), (0, 3), (0, 4)],
+            },
+            Both {
+                client: &[(1, 5)],
+                server: &[(0, 5), (0, 6), (0, 7), (0, 8)],
+            },
+        ],
+        refused: &[None, None],
+        turns: &[4],
+        ending: Ending::TurnsOut,
     },
 ];
 

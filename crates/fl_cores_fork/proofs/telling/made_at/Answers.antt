@@ -1,34 +1,19 @@
-use Rattle.std.proofs.Common.{◌≡◌, ◌<◌, ℕ, List, map, length, sym, ap, ◌∙◌, subst, IfOk}
-use Rattle.std.proofs.lemmas.Result.{on_ok_weaker}
-use Rattle.fl_value_data.specs.Value.{TheCall, call_of}
-use Rattle.fl_cores_jobs.specs.EndWork.{TheEndWork, end_work_of, end_work_at}
+use Rattle.std.proofs.Common.{◌≡◌, ◌-◌, ◌∙◌, ℕ, List, map, length, take, ap}
+use Rattle.fl_value_data.specs.declared.value.Call.{Call}
+use Rattle.fl_value_data.specs.Value.{call_of}
+use Rattle.fl_core_run.specs.Accepted.{accepted_of}
 use Rattle.fl_cores_jobs.specs.State.{joined_of}
 use Rattle.fl_cores_fork.specs.CoreThreads.{outcome_of}
-use Rattle.fl_cores_fork.proofs.Moving.{end_work_there, are_once, made_there, jobs_kept}
+use Rattle.fl_cores_fork.specs.Tells.{waiting_left}
+use Rattle.fl_cores_fork.proofs.Moving.{but_last}
 use Rattle.fl_cores_fork.proofs.telling.made_at.Goals as goal
 
-pub made_by-requires : goal.made_by-requires
-made_by-requires c =
-    let end_work : end_work_of c.index.result.now ≡ end_work_at (joined_of c.args.joined.now).end_works c.args.end =
-    end_work_there c.args.end c.slot_of.result c.args.joined.now.end_works.items c.index.result.now c.slot_of.ensures.slot
-    (subst (λ (n : ℕ). n < length c.args.joined.now.end_works.items) (sym c.slot_of.ensures.slot) c.requires.end_work) c.index.ensures in
-    record { once = are_once c.args.end c.index.result.now.jobs.items c.args.jobs.now.items (ap (λ (d : TheEndWork). d.jobs) end_work ∙ c.requires.places c.args.end) }
-
-pub returns-in-Some-clause-made : goal.returns-in-Some-clause-made
-returns-in-Some-clause-made c =
-    let end_work : end_work_of c.index.result.now ≡ end_work_at (joined_of c.args.joined.now).end_works c.args.end =
-    end_work_there c.args.end c.slot_of.result c.args.joined.now.end_works.items c.index.result.now c.slot_of.ensures.slot
-    (subst (λ (n : ℕ). n < length c.args.joined.now.end_works.items) (sym c.slot_of.ensures.slot) c.requires.end_work) c.index.ensures in
-    subst (λ (cs : List TheCall). IfOk c.made_by.result (λ calls. map call_of calls.items ≡ cs))
-    (made_there (joined_of c.args.joined.now) (map outcome_of c.args.done.now) c.args.end c.args.jobs.now.items (end_work_of c.index.result.now) c.in-Some.progress.now
-    (sym c.in-Some.ensures.progress) end_work)
-    c.made_by.ensures.made
-
-pub returns-in-Some-clause-rest : goal.returns-in-Some-clause-rest
-returns-in-Some-clause-rest c =
-    let end_work : end_work_of c.index.result.now ≡ end_work_at (joined_of c.args.joined.now).end_works c.args.end =
-    end_work_there c.args.end c.slot_of.result c.args.joined.now.end_works.items c.index.result.now c.slot_of.ensures.slot
-    (subst (λ (n : ℕ). n < length c.args.joined.now.end_works.items) (sym c.slot_of.ensures.slot) c.requires.end_work) c.index.ensures in
-    on_ok_weaker c.made_by.result
-    (jobs_kept c.args.end c.index.result.now.jobs.items c.args.jobs.now.items c.made_by.new.jobs.items (ap (λ (d : TheEndWork). d.jobs) end_work ∙ c.requires.places c.args.end))
-    c.made_by.ensures.rest
+pub returns-clause-made : goal.returns-clause-made
+returns-clause-made c =
+    let waiting = waiting_left (joined_of c.args.joined.now) (map outcome_of c.args.done.now) c.args.end in
+    let calls = c.in_ok-calls.calls.items in
+    let accepted : c.saturating_sub-accepted.result ≡ length calls - waiting =
+    c.saturating_sub-accepted.ensures ∙ ap (λ (xs : List Call). length xs - c.waiting_left.result) c.as_slice.ensures.value
+    ∙ ap (λ (n : ℕ). length calls - n) c.waiting_left.ensures.waiting in
+    ap (map call_of) (c.truncate.ensures.items ∙ ap (λ (n : ℕ). take n calls) accepted)
+    ∙ but_last calls waiting ∙ ap (accepted_of waiting) c.in_ok-calls.ensures.sent
