@@ -8,12 +8,12 @@ use Rattle.std.proofs.lemmas.Option.{slice_get_read}
 use Rattle.fl_interface.specs.Interface.{TheMessage}
 use Rattle.fl_value_data.specs.declared.value.PlanNo.{PlanNo}
 use Rattle.fl_stub.specs.declared.op.Column.TheVariants.{Send}
-use Rattle.fl_stub.specs.Code.{TheCode}
 use Rattle.fl_stub.specs.Frames.{block_of}
 use Rattle.fl_stub_steps.specs.declared.step.PreparedCode.{PreparedCode}
 use Rattle.fl_stub_steps.specs.Steps.{steps_in, Means}
 use Rattle.fl_compile.specs.declared.program.MessageCode.{MessageCode}
 use Rattle.fl_compile.specs.Codes.{compiled_code, compiled_codes, EachMeans, ArePrepared}
+use Rattle.fl_compile.specs.Programs.{Prepares}
 
 -- of the first so many messages
 abbrev pub SoFar : List MessageCode → ℕ → List PreparedCode → Type 0
@@ -60,24 +60,20 @@ all_prepared codes k ps past h = (h.0 ∙ ap length (take_all k codes past), h.2
 
 -- ---- one of them, where it is
 
-sends_at : (plan : PlanNo) (ms : List TheMessage) (k : ℕ) (c : TheCode) → option_map (compiled_code Send plan) (slice_get ms k) ≡ Some c
-    → (code : MessageCode) × (slice_get (map (compiled_codes plan) ms) k ≡ Some code) × (code.send ≡ c)
-sends_at plan [] k c told = absurd (none_is c told)
-sends_at plan (m ∷ ms) zero c told = (compiled_codes plan m, refl, some_is (compiled_code Send plan m) c told)
-sends_at plan (m ∷ ms) (suc k) c told = sends_at plan ms k c told
-
-prepared_at : (plan : PlanNo) (ms : List TheMessage) (ps : List PreparedCode) (k : ℕ) (p : PreparedCode) (c : TheCode) → ArePrepared (map (compiled_codes plan) ms) ps
-    → slice_get ps k ≡ Some p → option_map (compiled_code Send plan) (slice_get ms k) ≡ Some c → Means (steps_in p) (block_of c.ops)
-prepared_at plan ms ps k p c h there told =
-    let (code, here, is) = sends_at plan ms k c told in
-    subst (λ (d : TheCode). Means (steps_in p) (block_of d.ops)) is (h.1 k code p here there)
+prepared_at : (plan : PlanNo) (ms : List TheMessage) (ps : List PreparedCode) (k : ℕ) (p : PreparedCode) → ArePrepared (map (compiled_codes plan) ms) ps → slice_get ps k ≡ Some p
+    → Prepares (option_map (compiled_code Send plan) (slice_get ms k)) p
+prepared_at plan [] [] k p h there = absurd (none_is p there)
+prepared_at plan [] (q ∷ ps) k p h there = absurd (omega (arith, h.0))
+prepared_at plan (m ∷ ms) [] k p h there = absurd (none_is p there)
+prepared_at plan (m ∷ ms) (q ∷ ps) zero p h there = (compiled_code Send plan m, refl, h.1 zero (compiled_codes plan m) p refl there)
+prepared_at plan (m ∷ ms) (q ∷ ps) (suc k) p h there = prepared_at plan ms ps k p (omega (arith, h.0), λ j. h.1 (suc j)) there
 
 -- as a call finds it
-pub prepared_found : (plan : PlanNo) (ms : List TheMessage) (ps found : List PreparedCode) (n k : ℕ) (p : PreparedCode) (c : TheCode) → ArePrepared (map (compiled_codes plan) ms) ps
-    → found ≡ ps → n ≡ k → true ≡ nat_lt n (length found) → p ≡ get_or found n p → option_map (compiled_code Send plan) (slice_get ms k) ≡ Some c → Means (steps_in p) (block_of c.ops)
-prepared_found plan ms ps found n k p c h same at within is told =
+pub prepared_found : (plan : PlanNo) (ms : List TheMessage) (ps found : List PreparedCode) (n k : ℕ) (p : PreparedCode) → ArePrepared (map (compiled_codes plan) ms) ps
+    → found ≡ ps → n ≡ k → true ≡ nat_lt n (length found) → p ≡ get_or found n p → Prepares (option_map (compiled_code Send plan) (slice_get ms k)) p
+prepared_found plan ms ps found n k p h same at within is =
     let there : slice_get found n ≡ Some p = slice_get_read found (length found) n p refl (ltb-true n (length found) (sym within)) is in
-    prepared_at plan ms ps k p c h (ap (λ (l : List PreparedCode). slice_get l k) (sym same) ∙ ap (slice_get found) (sym at) ∙ there) told
+    prepared_at plan ms ps k p h (ap (λ (l : List PreparedCode). slice_get l k) (sym same) ∙ ap (slice_get found) (sym at) ∙ there)
 
 -- none where there is no message
 none_past : (plan : PlanNo) (ms : List TheMessage) (k : ℕ) → length (map (compiled_codes plan) ms) ≤ k → option_map (compiled_code Send plan) (slice_get ms k) ≡ None

@@ -20,12 +20,14 @@ use Rattle.fl_stub_steps.specs.Spreading.{Packing, packed_for, block_packed, blo
 use Rattle.fl_stub.specs.Structure.{Block}
 use Rattle.fl_stub_steps.proofs.Spreads.{spreads}
 use Rattle.fl_stub_steps.specs.Spreading.{Spread}
-use Rattle.fl_stub_steps.specs.Steps.{TheSteps, steps_in, steps_done, all_of, IsPlain}
+use Rattle.fl_stub_steps.specs.Steps.{TheSteps, steps_in, steps_done, all_of, IsPlain, Means}
 use Rattle.std.proofs.lemmas.List.{append-nil}
 use Rattle.fl_compile.specs.Programs.{TheProgram, code_in, Prepares}
 use Rattle.fl_compile.specs.Codes.{compiled_code}
 use Rattle.fl_compile.specs.Compiled.{message_code}
 use Rattle.fl_stub.proofs.Structures.{structure_is}
+use Rattle.fl_stub.specs.Code.{TheCode}
+use Rattle.fl_stub.specs.Frames.{block_of}
 use Rattle.fl_stub_steps.specs.declared.step.PreparedCode.{PreparedCode}
 use Rattle.std.specs.Option.{option_map}
 use Rattle.fl_interface.specs.Limits.{is_within_limits}
@@ -97,14 +99,19 @@ plain_payload p c steps within words fits prepared plain =
     ∙ ap all_of (steps_make p c steps (slice_get p.interface.messages c.msg) within words fits prepared refl)
     ∙ append-nil (payload_of p.plan p.interface c)
 
+the_same : (a b : TheCode) → Some a ≡ Some b → a ≡ b
+the_same a b e = cc
+
 -- the prepared code that a program has of a call's message
 pub prepared_is : (p : TheProgram) (c : TheCall) (code : PreparedCode) → is_within_limits p.interface ≡ true → interface_words_fit p.interface ≡ true
     → Prepares (code_in Send p c.msg) code → IsPrepared p c.msg (steps_in code)
 prepared_is p c code within words prepares m e x =
+    let (d, has, means) = prepares in
     let told : code_in Send p c.msg ≡ Some (compiled_code Send p.plan m) = ap (option_map (compiled_code Send p.plan)) e in
+    let its : d ≡ compiled_code Send p.plan m = the_same d (compiled_code Send p.plan m) (sym has ∙ told) in
     let is = structure_is Send (message_code Send p.plan m) (message_block Send p.plan m)
     (compiles_to_code Send p.plan p.interface c.msg m (record { within = within; words = words; message = e })) in
-    prepares (compiled_code Send p.plan m) told x ∙ ap (λ (b : Block). block_spread b x) is
+    subst (λ (o : TheCode). Means (steps_in code) (block_of o.ops)) its means x ∙ ap (λ (b : Block). block_spread b x) is
 
 -- a fitting call's message has code
 has_code : (p : TheProgram) (c : TheCall) (o : Option TheMessage) → fit_message o c.args ≡ true → option_map (compiled_code Send p.plan) o ≡ None → ⊥

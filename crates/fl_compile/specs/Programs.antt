@@ -23,6 +23,6 @@ program_of p = record { interface = interface_of p.compiled.value.plans.interfac
 abbrev pub code_in : Column → TheProgram → ℕ → Option TheCode
 code_in column p msg = option_map (compiled_code column p.plan) (slice_get p.interface.messages msg)
 
--- prepared code that means what this code means
+-- there is such code, and this is prepared code that means the same
 abbrev pub Prepares : Option TheCode → PreparedCode → Type 0
-Prepares code prepared = (c : TheCode) → code ≡ Some c → Means (steps_in prepared) (block_of c.ops)
+Prepares code prepared = (c : TheCode) × (code ≡ Some c) × Means (steps_in prepared) (block_of c.ops)

@@ -12,8 +12,8 @@ returns-in-Some c =
     let h = subst (λ (cs : List MessageCode). ArePrepared cs ps) c.args.self.now.exact c.args.self.now.prepared in
     let same : c.deref-2.result.now ≡ ps = search (rules, c.deref-2.ensures, c.deref.ensures) in
     record {
-      means = λ code told. prepared_found p.plan p.interface.messages ps c.deref-2.result.now c.from.result c.args.msg.0 c.in-Some.prepared.now code h same c.from.ensures
-          c.in-Some.ensures.lookup.0 c.in-Some.ensures.lookup.1 told;
+      means = prepared_found p.plan p.interface.messages ps c.deref-2.result.now c.from.result c.args.msg.0 c.in-Some.prepared.now h same c.from.ensures
+          c.in-Some.ensures.lookup.0 c.in-Some.ensures.lookup.1;
       none = tt;
     }
 
