@@ -1,10 +1,11 @@
 -- What a scan finds is what there is.
-use Rattle.std.proofs.Common.{◌≡◌, ◌∙◌, ap, refl, sym, subst, ℕ, Bool, true, false, cond, eqb, ◌||◌, List, [], ◌∷◌, ◌++◌, Option, Some, None, IfSome}
+use Rattle.std.proofs.Common.{◌≡◌, ◌≤◌, ◌∙◌, ap, refl, sym, subst, arith, ℕ, zero, suc, Bool, true, false, ◌||◌, List, [], ◌∷◌, ◌++◌, length, drop, Option, Some, None, IfSome}
+use Rattle.std.proofs.Math.Seq.{drop-length}
+use Rattle.memchr.specs.Find.{Nowhere, Passes, is_byte}
 use Rattle.std.specs.Prelude.{◌==◌, if◌then◌else◌, codes}
 use Rattle.std.specs.Char.{is_ascii_digit}
 use Rattle.std.proofs.Common.{◌&&◌}
 use Rattle.std.proofs.lemmas.Bool.{false≢true}
-use Rattle.std.specs.Str.{bytes_eq}
 use Rattle.std.proofs.lemmas.Slice.Eq.{bytes_eq-Decides}
 use Rattle.std.specs.Io.KnownBytes.{Appends, Keeps}
 use Rattle.flounder_commands.specs.Refusals.{begins, is_any, is_numbered, is_refusal, any_line, has_refusal}
@@ -162,3 +163,35 @@ found_in_told s (Some x) =
     told_or s x (λ (o : Option (List ℕ)). IfSome o (λ all. s.found ≡ has_refusal all))
     (λ (is : s ≡ after_all at_start x). ap (λ (u : Scanned). u.found) is ∙ finds_refusals x)
     tt
+
+-- ---- a line that tells of none is passed over up to its end
+
+is_false : (v : Bool) → (v ≡ true → ⊥) → v ≡ false
+is_false true not_true = absurd (not_true refl)
+is_false false not_true = refl
+
+abbrev pub no_refusal : Bool → Scanned
+no_refusal found = record { found = found; line = other }
+
+stays : (found : Bool) (b : ℕ) → (b == 10) ≡ false → after_byte (no_refusal found) b ≡ no_refusal found
+stays found b other_byte =
+    ap (λ (e : Bool). let s : Scanned = record { found = if e then found || false else found; line = if e then before (codes "refused E") else other } in s) other_byte
+
+passed_over : (found : Bool) (bytes : List ℕ) (k : ℕ) → k ≤ length bytes → Nowhere (Passes (is_byte 10) bytes) 0 k
+    → after_all (no_refusal found) (drop k bytes) ≡ after_all (no_refusal found) bytes
+passed_over found [] zero fits none = refl
+passed_over found (b ∷ bytes) zero fits none = refl
+passed_over found [] (suc k) fits none = absurd (omega (arith, fits))
+passed_over found (b ∷ bytes) (suc k) fits none =
+    passed_over found bytes k (omega (arith, fits)) (λ j from to is. none (suc j) (omega arith) (omega (arith, to)) is)
+    ∙ sym (ap (λ (s : Scanned). after_all s bytes) (stays found b (is_false (b == 10) (none 0 (omega arith) (omega arith)))))
+
+pub passes_over : (s : Scanned) (bytes : List ℕ) (k : ℕ) → s.line ≡ other → k ≤ length bytes → Nowhere (Passes (is_byte 10) bytes) 0 k
+    → after_all s (drop k bytes) ≡ after_all s bytes
+passes_over s bytes k line fits none =
+    subst (λ (l : Ahead). let t : Scanned = record { found = s.found; line = l } in after_all t (drop k bytes) ≡ after_all t bytes) (sym line)
+    (passed_over s.found bytes k fits none)
+
+pub passes_all : (s : Scanned) (bytes : List ℕ) → s.line ≡ other → Nowhere (Passes (is_byte 10) bytes) 0 (length bytes) → s ≡ after_all s bytes
+passes_all s bytes line none =
+    ap (after_all s) (sym (drop-length bytes)) ∙ passes_over s bytes (length bytes) line (omega arith) none

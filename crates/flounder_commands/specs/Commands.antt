@@ -1,5 +1,5 @@
--- What the commands do with files, standard input and standard output, and the statuses with which they end; `cores` and a whole
--- run stand in the program's own definitions. Public promises rest on this file.
+-- What the commands do with files, standard input and standard output, and the statuses with which they end. `cores` and whole runs
+-- have theirs in `flounder_run`. Public promises rest on this file.
 use Rattle.std.specs.Prelude.{◌≡◌, ◌⊎◌, ◌&&◌, ℕ, Bool, true, false, List, [], ◌∷◌, Option, IfSome, if◌then◌else◌}
 use Rattle.std.specs.declared.io.ErrorKind.{ErrorKind}
 use Rattle.std.specs.declared.io.ErrorKind.TheVariants.{OutOfMemory}

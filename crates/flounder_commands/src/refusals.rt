@@ -1,8 +1,10 @@
-//! Lines of a transcript that tell of refused lines, found byte by byte.
+//! Lines of a transcript that tell of refused lines, found while it is written.
 
-ghost use Rattle.std.specs.Prelude.{◌≡◌};
+ghost use Rattle.std.specs.Prelude.{◌≡◌, ◌≤◌, length};
 ghost use Rattle.flounder_commands.specs.Scan.{Ahead, before, behind, after, ends_line, after_byte, after_all, at_start};
 ghost use Rattle.flounder_commands.specs.ScanView.{ahead, scanned};
+
+use memchr::memchr;
 
 const REFUSED: &[u8] = b"refused E";
 
@@ -100,13 +102,29 @@ impl Scan {
         }
     }
 
+    // What of these bytes is to be read: of a line that tells of none, only its end.
+    fn unread(self, bytes: &[u8]) -> &[u8]
+        ensures same { after_all (scanned self) result.now ≡ after_all (scanned self) bytes.now }
+        ensures within { length result.now ≤ length bytes.now }
+    {
+        match self.line {
+            LineState::Before(_) | LineState::Behind(_) => bytes,
+            LineState::Other => match memchr(b'\n', bytes) {
+                Some(end) => &bytes[end..],
+                None => &[],
+            },
+        }
+    }
+
     /// These bytes were read behind the others.
     pub(crate) fn after(self, bytes: &[u8]) -> Scan
         ensures is { scanned result ≡ after_all (scanned self) bytes.now }
     {
         let mut scan = self;
-        for byte in bytes {
+        let mut rest = bytes;
+        while let Some((byte, more)) = rest.split_first() {
             scan = scan.after_byte(*byte);
+            rest = scan.unread(more);
         }
         scan
     }
