@@ -19,7 +19,7 @@ use Rattle.fl_world_refines.specs.Taking.{IsRuled, reply_rule, RulesAt, SetsRepl
 use Rattle.fl_world_refines.specs.Laws.{StepsAgree}
 use Rattle.fl_cores_joined.specs.Joined.{in_world}
 use Rattle.fl_cores_joined.specs.Steps.{call_answer, rule_answer}
-use Rattle.fl_cores_joined.specs.Laws.{Is}
+use Rattle.fl_cores_joined.specs.Laws.{IsTheMachines}
 use Rattle.fl_cores_joined.proofs.Stepping.{begun, ended_whole, there_is, finish, located, call_noted}
 use Rattle.fl_cores_joined.proofs.Over.{core_over}
 
@@ -37,7 +37,7 @@ is_called (Err Failed) h = refl
 is_called (Err (Wire f)) h = refl
 
 pub calls_are : StepsAgree → (n : ℕ) (name : EndId) (c : TheCall) (answer : Result (Unit {0}) EndFault) → lacks_to_call answer ≡ false
-    → Is (called name c answer) n (call name c) (call_answer answer)
+    → IsTheMachines (called name c answer) n (call name c) (call_answer answer)
 calls_are law n name c answer some jobs xs ys s show whole still h =
     let (m, (e, found, on), notes, sound, acts) = h.happens in
     let same = call_noted name answer m h.after notes in
@@ -62,7 +62,7 @@ is_ruled (Ok unit) = refl
 is_ruled (Err fault) = refl
 
 pub rules_are : StepsAgree → (n : ℕ) (name : EndId) (msg answer : MsgNo) (r : Result (Unit {0}) EndFault)
-    → Is (ruled name msg answer r) n (reply name msg.0 answer.0) (rule_answer r)
+    → IsTheMachines (ruled name msg answer r) n (reply name msg.0 answer.0) (rule_answer r)
 rules_are law n name msg answer r jobs xs ys s show whole still h =
     let (m, (e, found, on), notes, sound, acts) = h.happens in
     let x = begun jobs n (ruled name msg answer r) xs ys h in

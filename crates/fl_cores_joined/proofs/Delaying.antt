@@ -27,7 +27,7 @@ use Rattle.fl_world_refines.proofs.FramesBase.{same_some}
 use Rattle.fl_cores_joined.specs.Rings.{FacingSide, Truly}
 use Rattle.fl_cores_joined.specs.Joined.{JoinedCore, HasSide, across_from, alone}
 use Rattle.fl_cores_joined.specs.Steps.{true_ways, HappensAt, Follows, Interleaves}
-use Rattle.fl_cores_joined.specs.Entries.{CoreStep, acts, looks, follows, OpenLooks, none_open, with_look, StepByStep, moments_of, StepsInterleave}
+use Rattle.fl_cores_joined.specs.Entries.{CoreStep, acts, looks, follows, OpenLooks, none_open, with_look, StepByStep, left_open, AreBeforeLooks, moments_of, StepsInterleave, FollowedStepsInterleave}
 use Rattle.fl_cores_joined.proofs.Facing.{faced, faced_at, faced_set, faced_from, faced_sides, refaced, in_place_faced, PutTheSame, again, all_of_it, prefix_then, more_put}
 use Rattle.fl_cores_joined.proofs.Passing.{long_map}
 use Rattle.fl_cores_joined.proofs.Joining.{long_set}
@@ -191,7 +191,7 @@ put_the_same jobs pending xs ms d m side has = by (pending has.core) (d.each has
 
 -- ---- what stays
 
-other_there : {X : Type 0} (xs : List X) (n k : ℕ) (x : X) → k ≢ n → slice_get (slice_set xs n x) k ≡ slice_get xs k
+pub other_there : {X : Type 0} (xs : List X) (n k : ℕ) (x : X) → k ≢ n → slice_get (slice_set xs n x) k ≡ slice_get xs k
 other_there [] n k x ne = refl
 other_there (y ∷ xs) zero zero x ne = absurd (ne refl)
 other_there (y ∷ xs) zero (suc k) x ne = refl
@@ -500,26 +500,66 @@ same_list (x ∷ xs) (y ∷ ys) long each =
     let rest : xs ≡ ys = same_list xs ys (omega (arith, long)) (λ k. each (suc k)) in
     λ i. one i ∷ rest i
 
+record Walked (jobs : List CoreJob) (pending : OpenLooks) (ms : List JoinedCore) (steps : List CoreStep) (ys : List JoinedCore) : Type 0 where
+  cores : List JoinedCore
+  interleaves : Interleaves jobs ms (moments_of steps) cores
+  delayed : Delayed jobs pending ys cores
+
 walk : (jobs : List CoreJob) (steps : List CoreStep) (pending : OpenLooks) (xs ms ys : List JoinedCore) → Delayed jobs pending xs ms
-    → StepByStep jobs pending xs steps ys → Interleaves jobs ms (moments_of steps) ys
-walk jobs [] pending xs ms ys d (is, none) =
-    is ∙ sym (same_list ms xs d.long (λ k. subst (λ (o : Option LogEntry). IsSo jobs k o xs ms) (none k) (d.each k)))
-walk jobs (acts n log_entry ∷ steps) pending xs ms ys d (none, whole, (us, h, rest)) = (
-  then_all jobs pending n log_entry xs us ms d none h,
-  (whole, event_there jobs pending n log_entry xs us ms d none h),
-  walk jobs steps pending us (then_all jobs pending n log_entry xs us ms d none h) ys (then_delayed jobs pending n log_entry xs us ms d none h) rest,
-)
+    → StepByStep jobs pending xs steps ys → Walked jobs (left_open pending steps) ms steps ys
+walk jobs [] pending xs ms ys d is =
+    record { cores = ms; interleaves = refl; delayed = subst (λ (zs : List JoinedCore). Delayed jobs pending zs ms) (sym is) d }
+walk jobs (acts n log_entry ∷ steps) pending xs ms ys d (none, whole, (us, h, rest)) =
+    let there = then_all jobs pending n log_entry xs us ms d none h in
+    let later = walk jobs steps pending us there ys (then_delayed jobs pending n log_entry xs us ms d none h) rest in
+    record {
+      cores = later.cores;
+      interleaves = (there, (whole, event_there jobs pending n log_entry xs us ms d none h), later.interleaves);
+      delayed = later.delayed;
+    }
 walk jobs (looks n look ∷ steps) pending xs ms ys d (none, (log_entry, is), (us, h, rest)) =
-    walk jobs steps (with_look n (Some look) pending) us ms ys (gone_ahead jobs pending n look xs us ms d none (look_of look log_entry is) h) rest
+    let later = walk jobs steps (with_look n (Some look) pending) us ms ys (gone_ahead jobs pending n look xs us ms d none (look_of look log_entry is) h) rest in
+    record { cores = later.cores; interleaves = later.interleaves; delayed = later.delayed }
 walk jobs (follows n look log_entry ∷ steps) pending xs ms ys d (some, is, (us, h, rest)) =
     let now = with_look n None pending in
     let mid = up jobs pending n look xs ms d some in
     let then_it = with_it jobs pending n look xs ms d some in
-    let closed = at_itself n None pending in (
-      then_all jobs now n log_entry xs us mid then_it closed h,
-      (is, (mid, looked_now jobs n look xs ms (its_ahead jobs pending n look xs ms d some), event_there jobs now n log_entry xs us mid then_it closed h)),
-      walk jobs steps now us (then_all jobs now n log_entry xs us mid then_it closed h) ys (then_delayed jobs now n log_entry xs us mid then_it closed h) rest,
-    )
+    let closed = at_itself n None pending in
+    let there = then_all jobs now n log_entry xs us mid then_it closed h in
+    let later = walk jobs steps now us there ys (then_delayed jobs now n log_entry xs us mid then_it closed h) rest in
+    record {
+      cores = later.cores;
+      interleaves = (
+        there,
+        (is, (mid, looked_now jobs n look xs ms (its_ahead jobs pending n look xs ms d some), event_there jobs now n log_entry xs us mid then_it closed h)),
+        later.interleaves,
+      );
+      delayed = later.delayed;
+    }
+
+from_first : (jobs : List CoreJob) (xs ys : List JoinedCore) (steps : List CoreStep) → StepByStep jobs none_open xs steps ys
+    → Walked jobs (left_open none_open steps) xs steps ys
+from_first jobs xs ys steps h = walk jobs steps none_open xs xs ys (record { long = refl; each = λ k. refl }) h
+
+before_looks : (jobs : List CoreJob) (pending : OpenLooks) (ys ms : List JoinedCore) → Delayed jobs pending ys ms → AreBeforeLooks jobs pending ys ms
+before_looks jobs pending ys ms d = record {
+  count = d.long;
+  others = λ n none. subst (λ (o : Option LogEntry). IsSo jobs n o ys ms) none (d.each n);
+  looking = λ n look some.
+      let ahead : Ahead jobs n look ys ms = subst (λ (o : Option LogEntry). IsSo jobs n o ys ms) some (d.each n) in (
+        caught_up jobs n look ys ms ahead,
+        looked_now jobs n look ys ms ahead,
+        set_here ms n ahead.old (record ahead.old { run = alone ahead.after }) ahead.old_is ∙ sym ahead.new_is,
+      );
+}
 
 pub steps_interleave : StepsInterleave
-steps_interleave jobs xs ys steps h = walk jobs steps none_open xs xs ys (record { long = refl; each = λ k. refl }) h
+steps_interleave jobs xs ys steps h =
+    let it = from_first jobs xs ys steps h in
+    (it.cores, it.interleaves, before_looks jobs (left_open none_open steps) ys it.cores it.delayed)
+
+pub followed_interleave : FollowedStepsInterleave
+followed_interleave jobs xs ys steps h none =
+    let it = from_first jobs xs ys steps h in
+    subst (λ (zs : List JoinedCore). Interleaves jobs xs (moments_of steps) zs)
+    (same_list it.cores ys it.delayed.long (λ k. subst (λ (o : Option LogEntry). IsSo jobs k o ys it.cores) (none k) (it.delayed.each k))) it.interleaves

@@ -1,10 +1,9 @@
 -- An event of one core goes the same beside other sides across, as long as those have put the same: what a side across
 -- knows, or has seen, is nothing to it.
-use Rattle.std.proofs.Common.{◌≡◌, inl, inr, refl, sym, ◌∙◌, ap, subst, ℕ, zero, suc, ◌<◌, nat_lt, Bool, true, false, if◌then◌else◌, List, [], ◌∷◌, length, drop, map, nat_le, ◌≤◌, ◌%◌, ◌++◌, append_assoc, append-nil, slice_get, slice_set, Option, Some, None, arith}
+use Rattle.std.proofs.Common.{◌≡◌, inl, inr, refl, sym, ◌∙◌, ap, subst, ℕ, zero, suc, ◌<◌, Bool, true, false, List, [], ◌∷◌, length, drop, map, nat_le, ◌≤◌, ◌%◌, ◌++◌, append_assoc, append-nil, slice_get, slice_set, Some, arith}
 use Rattle.std.specs.Prelude.{Result, Ok, Err}
 use Rattle.std.proofs.lemmas.Bool.Decides.{nat_tests}
 use Rattle.fl_base.specs.declared.fragment.Frag.{Frag}
-use Rattle.fl_base.specs.declared.identity.EndId.{EndId}
 use Rattle.fl_base.specs.Control.{bare, with_circuit}
 use Rattle.fl_link.specs.Looks.{Look, placed, no_room, spent, saw, found}
 use Rattle.fl_link.specs.Queue.{TheQueue}
@@ -18,7 +17,6 @@ use Rattle.fl_hop.specs.declared.forward.HopFront.{HopFront}
 use Rattle.fl_hop.specs.declared.forward.HopFront.TheVariants as first
 use Rattle.fl_hop.specs.declared.fault.HopFault.{HopFault}
 use Rattle.fl_hop.specs.declared.fault.HopFault.TheVariants as hop
-use Rattle.fl_hop.specs.declared.entry.HopTarget.{HopTarget}
 use Rattle.fl_hop.specs.declared.entry.HopTarget.TheVariants.{End}
 use Rattle.fl_core.specs.declared.answer.LinkFront.{LinkFront}
 use Rattle.fl_core.specs.declared.answer.LinkFront.TheVariants as front
@@ -31,9 +29,7 @@ use Rattle.fl_core.specs.declared.wiring.Inlet.TheVariants as inlet
 use Rattle.fl_core.specs.Ends.{at_side}
 use Rattle.fl_core.specs.Hearing.{TakesHeard}
 use Rattle.fl_core.specs.Links.{Seen, link_of, LooksAhead, Inbound, inbound, ArrivesAt}
-use Rattle.fl_core.specs.View.{TheCore, place_of, side_of_link, outlet_of, inlet_of}
-use Rattle.fl_base.specs.declared.identity.LinkId.{LinkId}
-use Rattle.fl_base.specs.Given.{given}
+use Rattle.fl_core.specs.View.{TheCore}
 use Rattle.fl_base.specs.Control.{stamped}
 use Rattle.fl_base.specs.Prefix.{IsPrefix}
 use Rattle.fl_link.specs.Cursor.{epoch_at}
@@ -41,28 +37,16 @@ use Rattle.fl_link.specs.Looks.{saw_ack, found_ack, missed, told as acknowledged
 use Rattle.fl_ring.specs.Duo.{acknowledgement}
 use Rattle.fl_ring.specs.SharedSides.{Looked, free_of, side_seen, side_taken, side_missed}
 use Rattle.fl_core_run_laws.proofs.Looking.{logs_look}
-use Rattle.fl_core.specs.BoardView.{due}
 use Rattle.fl_core.specs.declared.core_job.CoreJob.{CoreJob}
-use Rattle.fl_core.specs.declared.fault.OpenFault.{OpenFault}
-use Rattle.fl_core.specs.declared.fault.OpenFault.TheVariants as opening
-use Rattle.fl_core.specs.declared.turn_answer.TurnAnswer.{TurnAnswer}
-use Rattle.fl_core.specs.declared.turn_answer.TurnAnswer.TheVariants as turn
-use Rattle.fl_core.specs.declared.wiring.Inlet.{Inlet}
-use Rattle.fl_core.specs.declared.wiring.Outlet.{Outlet}
-use Rattle.fl_core_run.specs.EndProgress.{TheEndProgress}
-use Rattle.fl_core_run.specs.declared.lent.LentTakeEnd.{LentTakeEnd}
-use Rattle.fl_core_run.specs.declared.lent.LentPutEnd.{LentPutEnd}
-use Rattle.fl_core_run.specs.declared.lent.LentRingEnd.{LentRingEnd}
-use Rattle.fl_core_run.specs.Run.{TheRun, AtProgress, lent_link_side, lends_out, lends_in, side_in}
-use Rattle.fl_core_run_laws.specs.Logs.{LeadsTo, InPlace}
-use Rattle.fl_endpoint.specs.declared.fault.EndFault.{EndFault}
-use Rattle.fl_monitor.specs.declared.fault.MonitorFault.TheVariants as monitor
-use Rattle.fl_core_run.specs.LogEntries.{LogEntry, looked, passed, arrived, heard, said, told, opened, called, ruled, wrote, acked, turned, OnRing, OnQueue, OnCore, Does, Notes, NotesHeard, NotesOpened, NotesCalled, NotesTurned, ActsSoundly, Happens}
+use Rattle.fl_core_run.specs.Run.{TheRun}
+use Rattle.fl_core_run_laws.specs.Logs.{InPlace}
+use Rattle.fl_core_run.specs.LogEntries.{LogEntry, looked, passed, arrived, heard, said, told, opened, called, ruled, wrote, acked, turned, OnRing, OnQueue, OnCore, Does, Happens}
 use Rattle.fl_world_refines.proofs.FramesBase.{same_some}
 use Rattle.fl_cores_joined.specs.Rings.{FacingSide, FindsWhatStood, Truly}
 use Rattle.fl_cores_joined.specs.Joined.{JoinedCore, HasSide, across_from, alone}
 use Rattle.fl_cores_joined.specs.Steps.{true_ways, HappensAt}
 use Rattle.fl_core.proofs.Numbering.{goes_to}
+use Rattle.fl_cores_joined.proofs.Lifted.{queue_lifted, core_lifted, notes_lifted, acts_lifted, in_place_lifted}
 use Rattle.fl_cores_joined.proofs.Looking.{finds_so}
 use Rattle.fl_cores_joined.proofs.Passing.{long_map}
 use Rattle.fl_cores_joined.proofs.Mapped.{Maps, writes_at, monitor_writes, turns, acks, acknowledges}
@@ -232,13 +216,10 @@ module _ (others : List TheSide) where
 
   on_queue : (n : ℕ) (s t : TheRun FacingSide) (Event : TheCore → TheQueue → TheCore → TheQueue → Type 0) → LikeRun s
       → OnQueue n s Event t → OnQueue n (refaced s) Event (refaced t) × LikeRun t
-  on_queue n s t Event like h = (
-    record { before = h.before; before_is = h.before_is; after = h.after; event = h.event; rest = ap refaced h.rest },
-    subst LikeRun (sym h.rest) like,
-  )
+  on_queue n s t Event like h = (queue_lifted (faced_all others) n s t Event h, subst LikeRun (sym h.rest) like)
 
   on_core : (s t : TheRun FacingSide) (Event : TheCore → TheCore → Type 0) → LikeRun s → OnCore s Event t → OnCore (refaced s) Event (refaced t) × LikeRun t
-  on_core s t Event like h = (record { event = h.event; rest = ap refaced h.rest }, subst LikeRun (sym h.rest) like)
+  on_core s t Event like h = (core_lifted (faced_all others) s t Event h, subst LikeRun (sym h.rest) like)
 
   -- each event
   pub does_faced : (log_entry : LogEntry) (s m : TheRun FacingSide) → LikeRun s → Does true_ways log_entry s m
@@ -292,133 +273,14 @@ module _ (others : List TheSide) where
       (record { event = y.0; rest = event.rest }, y.1)) h in
       ((e, at, is, x.0), x.1)
 
-  -- ---- what is noted, and its place
-
-  at_faced : (e : EndId) (change : TheEndProgress → TheEndProgress) (m t : TheRun FacingSide) → AtProgress e change m t → AtProgress e change (refaced m) (refaced t)
-  at_faced e change m t h = record { changes = h.changes; rest = ap refaced h.rest }
-
-  noted_heard : (answer : Result MonitorAnswer LinkReceiveFault) (m t : TheRun FacingSide) → NotesHeard answer m t → NotesHeard answer (refaced m) (refaced t)
-  noted_heard (Ok (answered.OpeningRefused e reason)) m t h = at_faced e _ m t h
-  noted_heard (Ok answered.Full) m t h = ap refaced h
-  noted_heard (Ok answered.Done) m t h = ap refaced h
-  noted_heard (Ok (answered.Opened e)) m t h = ap refaced h
-  noted_heard (Err fault) m t h = ap refaced h
-
-  noted_opened : (e : EndId) (answer : Result ℕ OpenFault) (m t : TheRun FacingSide) → NotesOpened e answer m t → NotesOpened e answer (refaced m) (refaced t)
-  noted_opened e (Ok k) m t h = at_faced e _ m t h
-  noted_opened e (Err (opening.Board fault)) m t h = at_faced e _ m t h
-  noted_opened e (Err (opening.Monitor monitor.OutboxFull)) m t h = ap refaced h
-  noted_opened e (Err (opening.Monitor monitor.Misrouted)) m t h = at_faced e _ m t h
-  noted_opened e (Err (opening.Monitor monitor.Differs)) m t h = at_faced e _ m t h
-  noted_opened e (Err (opening.Monitor monitor.NoRoute)) m t h = at_faced e _ m t h
-  noted_opened e (Err (opening.Monitor monitor.UsedUp)) m t h = at_faced e _ m t h
-  noted_opened e (Err (opening.Monitor monitor.PlansDiffer)) m t h = at_faced e _ m t h
-  noted_opened e (Err (opening.Monitor monitor.Memory)) m t h = at_faced e _ m t h
-
-  noted_called : (e : EndId) (answer : Result (Unit {0}) EndFault) (m t : TheRun FacingSide) → NotesCalled e answer m t → NotesCalled e answer (refaced m) (refaced t)
-  noted_called e (Ok done) m t h = at_faced e _ m t h
-  noted_called e (Err fault) m t h = ap refaced h
-
-  noted_turned : (e : EndId) (answer : TurnAnswer) (m t : TheRun FacingSide) → NotesTurned e answer m t → NotesTurned e answer (refaced m) (refaced t)
-  noted_turned e (turn.Handle call) m t h = at_faced e _ m t h
-  noted_turned e turn.Part m t h = ap refaced h
-  noted_turned e turn.Ready m t h = ap refaced h
-  noted_turned e turn.Quiet m t h = ap refaced h
-  noted_turned e turn.Full m t h = ap refaced h
-  noted_turned e turn.Nothing m t h = ap refaced h
-  noted_turned e (turn.Refused fault) m t h = ap refaced h
-
-  notes_faced : (log_entry : LogEntry) (m t : TheRun FacingSide) → Notes log_entry m t → Notes log_entry (refaced m) (refaced t)
-  notes_faced (looked n l answer) m t h = ap refaced h
-  notes_faced (passed n k frag c outcome) m t h = ap refaced h
-  notes_faced (arrived n l frag e answer) m t h = ap refaced h
-  notes_faced (heard n l frag answer) m t h = noted_heard answer m t h
-  notes_faced (said n l answer) m t h = ap refaced h
-  notes_faced (told n l answer) m t h = ap refaced h
-  notes_faced (opened e request answer) m t h = noted_opened e answer m t h
-  notes_faced (called e c answer) m t h = noted_called e answer m t h
-  notes_faced (ruled e msg reply answer) m t h = at_faced e _ m t h
-  notes_faced (wrote e out answer) m t h = ap refaced h
-  notes_faced (acked e n answer) m t h = ap refaced h
-  notes_faced (turned d e from answer) m t h = noted_turned e answer m t h
-
   -- it happens beside them
   pub happens_faced : (log_entry : LogEntry) (s t : TheRun FacingSide) → LikeRun s → Happens true_ways log_entry s t
       → Happens true_ways log_entry (refaced s) (refaced t)
   happens_faced log_entry s t like h =
-      (refaced h.0, (does_faced log_entry s h.0 like h.1).0, notes_faced log_entry h.0 t h.2, h.3, acts log_entry h.4)
-    where
-      acts : (e : LogEntry) → ActsSoundly e s → ActsSoundly e (refaced s)
-      acts (looked n l answer) a = a
-      acts (passed n k frag c outcome) a = a
-      acts (arrived n l frag e answer) a = a
-      acts (heard n l frag answer) a = a
-      acts (said n l answer) a = a
-      acts (told n l answer) a = a
-      acts (opened e request answer) a = a
-      acts (called e c answer) a = a
-      acts (ruled e msg reply answer) a = a
-      acts (wrote e out answer) a = a
-      acts (acked e n answer) a = a
-      acts (turned d e from answer) a = a
+      (refaced h.0, (does_faced log_entry s h.0 like h.1).0, notes_lifted (faced_all others) log_entry h.0 t h.2, h.3, acts_lifted (faced_all others) log_entry s h.4)
 
-  module _ (s : TheRun FacingSide) where
-    long : length (refaced s).rings ≡ length s.rings
-    long = faced_long others s.rings
-
-    link_faced : (l : LinkId) → lent_link_side (refaced s) l ≡ lent_link_side s l
-    link_faced l = ap (λ (many : ℕ). given (side_of_link s.core.link_sides l.0) None λ i. if nat_lt i many then Some i else None) long
-
-    leads_faced : (n : ℕ) (l : LinkId) (frag : Frag) (way : HopTarget) → LeadsTo s n l frag way → LeadsTo (refaced s) n l frag way
-    leads_faced n l frag way h = record { link_side = link_faced l ∙ h.link_side; number = h.number; way_is = h.way_is; other = h.other }
-
-    out_faced : (out : Outlet) → lends_out (refaced s) out ≡ lends_out s out
-    out_faced (outlet.Queue n) = refl
-    out_faced (outlet.Side n) = ap (nat_lt n) long
-
-    in_faced : (from : Inlet) → lends_in (refaced s) from ≡ lends_in s from
-    in_faced (inlet.Queue n) = refl
-    in_faced (inlet.Side n) = ap (nat_lt n) long
-    in_faced inlet.Arrivals = refl
-
-    post_at : (e : ℕ) (o : Option Outlet) → (given o None λ out. if lends_out (refaced s) out then (let p : LentPutEnd = record { end = e; outlet = out } in Some p) else None)
-        ≡ (given o None λ out. if lends_out s out then (let p : LentPutEnd = record { end = e; outlet = out } in Some p) else None)
-    post_at e None = refl
-    post_at e (Some out) = ap (λ (b : Bool). if b then (let p : LentPutEnd = record { end = e; outlet = out } in Some p) else None) (out_faced out)
-
-    post_by : (o : Option ℕ) → (given o None λ e. given (outlet_of s.core e) None λ out. if lends_out (refaced s) out then (let p : LentPutEnd = record { end = e; outlet = out } in Some p) else None)
-        ≡ (given o None λ e. given (outlet_of s.core e) None λ out. if lends_out s out then (let p : LentPutEnd = record { end = e; outlet = out } in Some p) else None)
-    post_by None = refl
-    post_by (Some e) = post_at e (outlet_of s.core e)
-
-    due_at : (e : ℕ) (o : Option Inlet) → (given o None λ from. if lends_in (refaced s) from then (let p : LentTakeEnd = record { end = e; inlet = from } in Some p) else None)
-        ≡ (given o None λ from. if lends_in s from then (let p : LentTakeEnd = record { end = e; inlet = from } in Some p) else None)
-    due_at e None = refl
-    due_at e (Some from) = ap (λ (b : Bool). if b then (let p : LentTakeEnd = record { end = e; inlet = from } in Some p) else None) (in_faced from)
-
-    due_by : (o : Option ℕ) → (given o None λ e. given (inlet_of s.core e) None λ from. if lends_in (refaced s) from then (let p : LentTakeEnd = record { end = e; inlet = from } in Some p) else None)
-        ≡ (given o None λ e. given (inlet_of s.core e) None λ from. if lends_in s from then (let p : LentTakeEnd = record { end = e; inlet = from } in Some p) else None)
-    due_by None = refl
-    due_by (Some e) = due_at e (inlet_of s.core e)
-
-    pub in_place_faced : (jobs : List CoreJob) (log_entry : LogEntry) → InPlace jobs s log_entry → InPlace jobs (refaced s) log_entry
-    in_place_faced jobs (looked n l answer) h = link_faced l ∙ h
-    in_place_faced jobs (passed n m frag c result) h = record { link = h.link; onward = h.onward; leads = leads_faced n h.link frag _ h.leads; side = h.side }
-    in_place_faced jobs (arrived n l frag e answer) h = leads_faced n l frag _ h
-    in_place_faced jobs (heard n l frag answer) (link_side, number) = (link_faced l ∙ link_side, number)
-    in_place_faced jobs (said n l answer) h = link_faced l ∙ h
-    in_place_faced jobs (told n l answer) h = link_faced l ∙ h
-    in_place_faced jobs (opened name request answer) h = h
-    in_place_faced jobs (called name c answer) h = h
-    in_place_faced jobs (ruled name msg reply answer) h = h
-    in_place_faced jobs (wrote name out answer) (post, is, same) = (post, post_by (place_of s.core name) ∙ is, same)
-    in_place_faced jobs (acked name n answer) (ring_end, is, same) = (
-      ring_end,
-      ap (λ (many : ℕ). given (place_of s.core name) None λ e. given (inlet_of s.core e) None λ from. given (side_in from) None λ i.
-          if nat_lt i many then (let p : LentRingEnd = record { end = e; side = i } in Some p) else None) long ∙ is,
-      same,
-    )
-    in_place_faced jobs (turned d name from answer) (its, is, at, same, waits) = (its, due_by (due s.core.board d) ∙ is, at, same, waits)
+  pub in_place_faced : (s : TheRun FacingSide) (jobs : List CoreJob) (log_entry : LogEntry) → InPlace jobs s log_entry → InPlace jobs (refaced s) log_entry
+  in_place_faced s jobs log_entry h = in_place_lifted (faced_all others) s (faced_long others s.rings) jobs log_entry h
 
 -- ---- among other cores
 

@@ -5,8 +5,9 @@ use Rattle.fl_base.specs.Control.{is_ack_only}
 use Rattle.fl_link.specs.Looks.{placed, no_room, saw, found, missed, told}
 use Rattle.fl_link.specs.Queue.{look_at}
 use Rattle.fl_ring.specs.Duo.{acknowledgement}
-use Rattle.fl_ring.specs.SharedSides.{TheSide, SharedPuts, SharedTakes, SideMayCome, MayStand, KnowsSent, free_of, unacknowledged_of, side_written, side_taken, side_missed}
+use Rattle.fl_ring.specs.SharedSides.{TheSide, SharedPuts, SharedTakes, SideMayCome, MayStand, KnowsSent, free_of, unacknowledged_of, side_written, side_seen, side_taken, side_missed}
 use Rattle.fl_world_refines.proofs.FramesBase.{not_both}
+use Rattle.fl_world_refines.proofs.PassingLists.{some_is}
 use Rattle.fl_cores_joined.specs.Rings.{FacingSide, standing_for, Truly, told_by, TrueStepsHappen}
 
 no_more : {X : Type 0} (a : ℕ) → a < a → X
@@ -42,6 +43,24 @@ takes_so x first frag rest stood is may knows = (
       known = refl;
       saw = λ f e. not_both None f refl e;
       took = inr refl;
+    };
+  },
+  refl,
+)
+
+sees_so : (x : FacingSide) (first frag : Frag) (rest : List Frag) → standing_for x.side x.across ≡ first ∷ rest → look_at first ≡ saw frag
+    → SideMayCome x.side first → KnowsSent (side_seen x.side first) → Truly SharedTakes x (saw frag) (record x { side = side_seen x.side first })
+sees_so x first frag rest stood is may knows = (
+  (first, is, (may, refl, knows)),
+  record {
+    nothing = λ h. no_more x.side.misses h;
+    something = λ same h. record {
+      first = first;
+      rest = rest;
+      stood_is = stood;
+      known = refl;
+      saw = λ f e. some_is f first (sym e);
+      took = inl refl;
     };
   },
   refl,
@@ -104,6 +123,7 @@ steps_happen = record {
   puts = puts_so;
   looks_and_puts = looks_so;
   finds_no_room = full_so;
+  sees = sees_so;
   takes = takes_so;
   misses = misses_so;
   tells = tells_so;

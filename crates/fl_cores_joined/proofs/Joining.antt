@@ -57,7 +57,7 @@ pub record Lent (w : TheWorld) (xs : List JoinedCore) (n : ℕ) (x : JoinedCore)
   pub across : HasSide xs (across_from number) p.across
 
 turned : (a b : TheSide) → AreFacing (facing a b) → AreFacing (facing b a)
-turned a b h = record { size = sym h.size; here = h.there; there = h.here }
+turned a b h = record { ring = sym h.ring; size = sym h.size; here = h.there; there = h.here }
 
 pub is_even : (m : ℕ) → (m % 2 == 0) ≡ true → m ≡ 2 * (m / 2)
 is_even m h = let e : m % 2 ≡ 0 = grind (arith, nat_tests, h) in omega (arith, e)
@@ -413,7 +413,7 @@ module _ (w : TheWorld) (xs : List JoinedCore) (joined : IsJoined w xs) (n : ℕ
               one_is = subst (λ (k : ℕ). HasSide then_all k q.side) first here;
               two = q.across;
               two_is = subst (λ (k : ℕ). HasSide then_all k q.across) second there;
-              facing = record { size = faces.size; here = faces.here; there = faces.there };
+              facing = record { ring = faces.ring; size = faces.size; here = faces.here; there = faces.there };
               made = is ∙ ap (λ (k : WhichSide). ring_by k q) which;
             }
 
@@ -429,7 +429,7 @@ module _ (w : TheWorld) (xs : List JoinedCore) (joined : IsJoined w xs) (n : ℕ
               one_is = subst (λ (k : ℕ). HasSide then_all k q.across) first there;
               two = q.side;
               two_is = subst (λ (k : ℕ). HasSide then_all k q.side) second here;
-              facing = record { size = sym faces.size; here = faces.there; there = faces.here };
+              facing = record { ring = sym faces.ring; size = sym faces.size; here = faces.there; there = faces.here };
               made = is ∙ ap (λ (k : WhichSide). ring_by k q) which;
             }
 

@@ -18,7 +18,10 @@ pub mod Passing
 pub mod Alike
 pub mod Seated
 pub mod Hearing
+pub mod Refusing
 pub mod Opening
 pub mod Happening
+pub mod Lifted
 pub mod Facing
 pub mod Delaying
+pub mod Ahead

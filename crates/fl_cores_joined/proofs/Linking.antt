@@ -35,7 +35,7 @@ use Rattle.fl_world_refines.proofs.PassingLinkSides.{LinkSides, no_link_side, on
 use Rattle.fl_cores_joined.specs.Rings.{Truly}
 use Rattle.fl_cores_joined.specs.Joined.{JoinedCore, in_world, AreWhole}
 use Rattle.fl_cores_joined.specs.Steps.{HappensAt, neighbour_on}
-use Rattle.fl_cores_joined.specs.Laws.{TheyShow, MachineDoes, IsOnLink}
+use Rattle.fl_cores_joined.specs.Laws.{TheyShow, MachineDoes, IsTheMachinesOnLink}
 use Rattle.fl_cores_joined.proofs.Mapped.{monitor_writes, acknowledges}
 use Rattle.fl_cores_joined.proofs.Renumbered.{side_moved}
 use Rattle.fl_cores_joined.proofs.Joining.{moved_to}
@@ -188,8 +188,8 @@ module _ (law : StepsAgree) (n i : ℕ) (l : LinkId) (jobs : List CoreJob) (xs y
       (finish jobs n (told i l answer) xs ys h law (monitor_ack n (neighbour_on h.beside.core l)) (ack_answer answer) s w it.world m show.shows noted it.they_make
       does)
 
-pub says_are : StepsAgree → (n i : ℕ) (l : LinkId) (answer : MonitorWrite) → IsOnLink (said i l answer) n l (monitor_write n) (write_answer answer)
+pub says_are : StepsAgree → (n i : ℕ) (l : LinkId) (answer : MonitorWrite) → IsTheMachinesOnLink (said i l answer) n l (monitor_write n) (write_answer answer)
 says_are law n i l answer jobs xs ys s show whole still h = says_so law n i l jobs xs ys s show whole still answer h
 
-pub tells_are : StepsAgree → (n i : ℕ) (l : LinkId) (answer : AckAnswer) → IsOnLink (told i l answer) n l (monitor_ack n) (ack_answer answer)
+pub tells_are : StepsAgree → (n i : ℕ) (l : LinkId) (answer : AckAnswer) → IsTheMachinesOnLink (told i l answer) n l (monitor_ack n) (ack_answer answer)
 tells_are law n i l answer jobs xs ys s show whole still h = tells_so law n i l jobs xs ys s show whole still answer h

@@ -44,7 +44,7 @@ use Rattle.fl_world_refines.specs.Laws.{StepsAgree}
 use Rattle.fl_cores_joined.specs.Rings.{FacingSide, Truly}
 use Rattle.fl_cores_joined.specs.Joined.{JoinedCore, AreWhole}
 use Rattle.fl_cores_joined.specs.Steps.{HappensAt, neighbour_on, look_answer}
-use Rattle.fl_cores_joined.specs.Laws.{TheyShow, MachineDoes, IsOnLink}
+use Rattle.fl_cores_joined.specs.Laws.{TheyShow, MachineDoes, IsTheMachinesOnLink}
 use Rattle.fl_cores_joined.proofs.Mapped.{Maps}
 use Rattle.fl_cores_joined.proofs.Renumbered.{get_image, side_moved}
 use Rattle.fl_cores_joined.proofs.Joining.{map_set}
@@ -242,6 +242,6 @@ last_is (Ok (front.Arrival frag e)) answer q = absurd (cc)
 last_is (Err fault) answer e = cc
 
 pub looks_are : StepsAgree → (n i : ℕ) (l : LinkId) (found : Result LinkFront LinkReceiveFault) (answer : Answer) → look_answer found ≡ Some answer
-    → IsOnLink (looked i l found) n l (forward n) answer
+    → IsTheMachinesOnLink (looked i l found) n l (forward n) answer
 looks_are law n i l found answer is jobs xs ys s show whole still h =
     looks_so law n i l jobs xs ys s show whole still found answer (last_is found answer is) h

@@ -1,5 +1,5 @@
 -- A circuit that one of the cores asks for is the machine's next binding.
-use Rattle.std.proofs.Common.{◌≡◌, ◌⊎◌, inl, inr, refl, sym, ◌∙◌, ap, subst, ℕ, ◌-◌, ◌==◌, ◌&&◌, nat_lt, nat_le, not, cond, Bool, true, false, if◌then◌else◌, List, [], ◌∷◌, ◌++◌, length, map, find, slice_get, slice_set, slice_index, Option, Some, None, arith}
+use Rattle.std.proofs.Common.{◌≡◌, ◌⊎◌, inl, inr, refl, sym, ◌∙◌, ap, subst, ℕ, ◌-◌, ◌≤◌, ◌==◌, ◌&&◌, nat_lt, nat_le, not, cond, Bool, true, false, if◌then◌else◌, List, [], ◌∷◌, ◌++◌, length, map, find, slice_get, slice_set, slice_index, Option, Some, None, arith}
 use Rattle.std.specs.Prelude.{Result, Ok, Err, is_some}
 use Rattle.std.specs.List.{list_all}
 use Rattle.std.proofs.lemmas.Bool.{eq-eqb, eqb-true}
@@ -45,10 +45,11 @@ use Rattle.fl_world_refines.proofs.WritingPieces.{same_core_there}
 use Rattle.fl_cores_joined.specs.Joined.{JoinedCore, in_world, AreOffers, UnmadeHaveNoRules, IsJoined, AreWhole}
 use Rattle.fl_cores_joined.specs.Rings.{FacingSide}
 use Rattle.fl_cores_joined.specs.Steps.{HappensAt, name_of, cores_of, opening_event, opened_answer}
-use Rattle.fl_cores_joined.specs.Laws.{TheyShow, MachineDoes, AsksRightly, OpensJoin}
+use Rattle.fl_cores_joined.specs.Laws.{TheyShow, MachineDoes, AsksRightly, IsNumbered, OpensJoin}
 use Rattle.fl_cores_joined.proofs.Hearing.{copy_there}
 use Rattle.fl_cores_joined.proofs.Over.{core_over, OverNone}
 use Rattle.fl_cores_joined.proofs.Passing.{long_map}
+use Rattle.fl_cores_joined.proofs.Refusing.{asks_alike}
 use Rattle.fl_cores_joined.proofs.Renumbered.{wired_more}
 use Rattle.fl_cores_joined.proofs.Stepping.{begun, begun_is, ended, ended_whole, there_is, finish, nothing_noted}
 
@@ -135,7 +136,7 @@ opened_noted name (Err fault) m t h = h.rest
 module _ (law : StepsAgree) (n : ℕ) (name : EndId) (request : OpenRequest) (answer : Result ℕ OpenFault) (some : lacks_to_open answer ≡ false) (jobs : List CoreJob)
     (xs ys : List JoinedCore) (s : State) (show : TheyShow xs s) (whole : AreWhole xs) (still : AreWhole ys)
     (h : HappensAt jobs n (opened name request answer) xs ys) (right : AsksRightly (length xs) h.before.run request)
-    (next : request.opening.binding ≡ length s.bindings) where
+    (next : length s.bindings ≤ request.opening.binding) where
   abbrev w : TheWorld
   w = show.world
 
@@ -242,15 +243,17 @@ module _ (law : StepsAgree) (n : ℕ) (name : EndId) (request : OpenRequest) (an
   abbrev its_opening : Opening
   its_opening = opening_for want (length w.bindings) (cores_of request.opening.path)
 
-  opening_is : request.opening ≡ its_opening
-  opening_is =
-      let number : request.opening.binding ≡ length w.bindings = next ∙ sym show.shows.showing.bindings.count in
-      λ j. record { binding = number j; service = record { 0 = sym its_iref j }; path = sym (cores_back request.opening.path) j }
+  -- what is asked for, under the number that the world gives
+  abbrev under_next : Opening
+  under_next = record { binding = length w.bindings; service = request.opening.service; path = request.opening.path }
 
-  asks_it : Asks (asked request.dispatcher over.event.program request.link its_opening) over.before answer over.after
-  asks_it = subst (λ (o : Opening). Asks (asked request.dispatcher over.event.program request.link o) over.before answer over.after) opening_is over.event.asks
+  next_is : under_next ≡ its_opening
+  next_is = λ j. record { binding = length w.bindings; service = record { 0 = sym its_iref j }; path = sym (cores_back request.opening.path) j }
 
-  module _ (w2 : TheWorld) (follows : AsksBy want answer w over.after (opened_answer answer) w2) where
+  abbrev AsksOf : Opening → Type 0
+  AsksOf o = Asks (asked request.dispatcher over.event.program request.link o) over.before answer over.after
+
+  module _ (w2 : TheWorld) (asks_it : AsksOf its_opening) (follows : AsksBy want answer w over.after (opened_answer answer) w2) where
     binds_it : Binds (named_request (record { core = n; place = request.dispatcher }) request.interface
         (name_of h.before.run.offers.names request.opening.service.0) (by_route (cores_of request.opening.path))) w (opened_answer answer) w2
     binds_it =
@@ -311,30 +314,45 @@ module _ (law : StepsAgree) (n : ℕ) (name : EndId) (request : OpenRequest) (an
   same_world : over.after ≡ over.before → it.world ≡ w
   same_world same = over.rest ∙ ap (with_core w n) same ∙ same_core_there w n over.before over.before_is
 
+-- an opening that its core accepts has the next number
+numbered : (o : Opening) (number : ℕ) → o.binding ≡ number → o ≡ record o { binding = number }
+numbered o number same = λ j. record { binding = same j; service = o.service; path = o.path }
+
 module _ (law : StepsAgree) (n : ℕ) (name : EndId) (request : OpenRequest) (jobs : List CoreJob) (xs ys : List JoinedCore) (s : State) (show : TheyShow xs s)
-    (whole : AreWhole xs) (still : AreWhole ys) (next : request.opening.binding ≡ length s.bindings) where
+    (whole : AreWhole xs) (still : AreWhole ys) where
   pub opens_there : (answer : Result ℕ OpenFault) → lacks_to_open answer ≡ false → (h : HappensAt jobs n (opened name request answer) xs ys)
-      → AsksRightly (length xs) h.before.run request → MachineDoes (opening_event n h.before.run request) (opened_answer answer) s ys
-  opens_there (Ok e) some h right =
+      → AsksRightly (length xs) h.before.run request → IsNumbered (length s.bindings) answer request.opening.binding
+      → MachineDoes (opening_event n h.before.run request) (opened_answer answer) s ys
+  opens_there (Ok e) some h right number =
+      let same : request.opening.binding ≡ length s.bindings = number in
+      let next : length s.bindings ≤ request.opening.binding = omega (arith, same) in
+      let there = it law n name request (Ok e) some jobs xs ys s show whole still h right next in
+      let asks = subst (AsksOf law n name request (Ok e) some jobs xs ys s show whole still h right next)
+      (numbered request.opening (length show.world.bindings) (same ∙ sym show.shows.showing.bindings.count)
+      ∙ next_is law n name request (Ok e) some jobs xs ys s show whole still h right next) there.over.event.asks in
       event_is law n name request (Ok e) some jobs xs ys s show whole still h right next
-      (more law n name request (Ok e) some jobs xs ys s show whole still h right next) (
+      (more law n name request (Ok e) some jobs xs ys s show whole still h right next) asks (
         refl,
         record {
-          program = (it law n name request (Ok e) some jobs xs ys s show whole still h right next).over.event.program;
-          copy = (it law n name request (Ok e) some jobs xs ys s show whole still h right next).over.event.copy.same;
+          program = there.over.event.program;
+          copy = there.over.event.copy.same;
           rest = more_is law n name request (Ok e) some jobs xs ys s show whole still h right next;
         },
       )
       (more_joined law n name request (Ok e) some jobs xs ys s show whole still h right next)
-  opens_there (Err (Board board.Memory)) some h right = absurd (cc)
-  opens_there (Err (Monitor monitor.Memory)) some h right = absurd (cc)
-  opens_there (Err fault) some h right =
-      let there = it law n name request (Err fault) some jobs xs ys s show whole still h right next in
+  opens_there (Err (Board board.Memory)) some h right number = absurd (cc)
+  opens_there (Err (Monitor monitor.Memory)) some h right number = absurd (cc)
+  opens_there (Err fault) some h right number =
+      let there = it law n name request (Err fault) some jobs xs ys s show whole still h right number in
+      let opening = its_opening law n name request (Err fault) some jobs xs ys s show whole still h right number in
+      let count = show.shows.showing.bindings.count in
+      let asks = asks_alike show.world s show.shows n there.over.before there.over.before_is request.dispatcher there.over.event.program request.link
+      request.opening opening number (omega (arith, count)) fault there.over.after there.over.event.asks in
       let stays = asks_stays (asked request.dispatcher there.over.event.program request.link request.opening) there.over.before fault there.over.after there.over.event.asks in
-      event_is law n name request (Err fault) some jobs xs ys s show whole still h right next show.world (refl, refl)
+      event_is law n name request (Err fault) some jobs xs ys s show whole still h right number show.world asks (refl, refl)
       (subst (λ (v : TheWorld). IsJoined v (slice_set xs n (ended jobs n (opened name request (Err fault)) xs ys h h.happens.0)))
-      (same_world law n name request (Err fault) some jobs xs ys s show whole still h right next stays) there.they_make)
+      (same_world law n name request (Err fault) some jobs xs ys s show whole still h right number stays) there.they_make)
 
 pub opens_are : StepsAgree → OpensJoin
-opens_are law n name request answer jobs xs ys s some show whole still h right next =
-    opens_there law n name request jobs xs ys s show whole still next answer some h right
+opens_are law n name request answer jobs xs ys s some show whole still h right number =
+    opens_there law n name request jobs xs ys s show whole still answer some h right number

@@ -14,7 +14,7 @@ use Rattle.fl_ring.specs.declared.one_duo.WhichSide.{WhichSide}
 use Rattle.fl_ring.specs.declared.one_duo.WhichSide.TheVariants.{One, Two}
 use Rattle.fl_ring.specs.Duo.{TheHalf, HalfPuts, HalfTakes, DuoPuts, DuoTakes, AtSide, free, counts_by, looked, with_known, with_written, with_arrived, with_taken, written, acknowledgement}
 use Rattle.fl_ring.specs.SharedSides.{TheSide, SharedPuts, SharedTakes, Looked, MayStand, KnowsSent, free_of, side_missed, side_counted, side_seen, side_taken, side_written, unacknowledged_of}
-use Rattle.fl_cores_joined.specs.Rings.{FacingSide, standing_for, half_of, ring_by, IsBehind, AreFacing, FindsFirst, FindsWhatStood, StepsOfRing}
+use Rattle.fl_cores_joined.specs.Rings.{FacingSide, standing_for, half_of, ring_by, TookFrom, AreFacing, FindsFirst, FindsWhatStood, StepsOfRing}
 
 -- ---- numbers and tests
 
@@ -83,6 +83,7 @@ record Sure (need : ℕ) (s m : TheSide) (stood : List Frag) : Type 0 where
   pub got : m.got ≡ s.got
   pub told : m.told ≡ s.told
   pub size : m.size ≡ s.size
+  pub ring : m.ring ≡ s.ring
 
 sure : (need : ℕ) (s m : TheSide) (stood : List Frag) → Looked need s m → FindsWhatStood stood s m → Sure need s m stood
 sure need s m stood k f = by_test (nat_le need (free_of s)) enough few where
@@ -95,6 +96,7 @@ sure need s m stood k f = by_test (nat_le need (free_of s)) enough few where
         got = ap (λ (x : TheSide). x.got) e;
         told = ap (λ (x : TheSide). x.told) e;
         size = ap (λ (x : TheSide). x.size) e;
+        ring = ap (λ (x : TheSide). x.ring) e;
       }
 
   by_miss : nat_le need (free_of s) ≡ false → m ≡ side_missed s → Sure need s m stood
@@ -108,6 +110,7 @@ sure need s m stood k f = by_test (nat_le need (free_of s)) enough few where
         got = ap (λ (x : TheSide). x.got) e;
         told = ap (λ (x : TheSide). x.told) e;
         size = ap (λ (x : TheSide). x.size) e;
+        ring = ap (λ (x : TheSide). x.ring) e;
       }
 
   by_count : nat_le need (free_of s) ≡ false → (count : ℕ) → m ≡ side_counted s count → Sure need s m stood
@@ -122,6 +125,7 @@ sure need s m stood k f = by_test (nat_le need (free_of s)) enough few where
         got = ap (λ (x : TheSide). x.got) e;
         told = ap (λ (x : TheSide). x.told) e;
         size = ap (λ (x : TheSide). x.size) e;
+        ring = ap (λ (x : TheSide). x.ring) e;
       }
 
   either : nat_le need (free_of s) ≡ false
@@ -147,10 +151,11 @@ before_write stood s m frag h = record {
 record Leads (R : ℕ → TheHalf → TheHalf → Look → TheHalf → TheHalf → Type 0) (s across : TheSide) (look : Look) (t : TheSide) : Type 0 where
   pub step : R s.size (half_of s across) (half_of across s) look (half_of t across) (half_of across t)
   pub size : t.size ≡ s.size
-  pub here : IsBehind t across
-  pub there : IsBehind across t
+  pub ring : t.ring ≡ s.ring
+  pub here : TookFrom t across
+  pub there : TookFrom across t
 
-module _ (s across : TheSide) (here : IsBehind s across) (there : IsBehind across s) where
+module _ (s across : TheSide) (here : TookFrom s across) (there : TookFrom across s) where
   abbrev stood : List Frag
   stood = standing_for s across
 
@@ -188,13 +193,13 @@ module _ (s across : TheSide) (here : IsBehind s across) (there : IsBehind acros
       ∙ drop-append-le (length across.got) s.sent (f ∷ []) (prefix_length across.got s.sent there.took)
       ∙ ap (λ (x : Frag). drop (length across.got) s.sent ++ x ∷ []) (stamped_so need m frag k))
 
-  wrote_behind : (need : ℕ) (m : TheSide) (frag : Frag) → Sure need s m stood → IsBehind (side_written m frag) across
+  wrote_behind : (need : ℕ) (m : TheSide) (frag : Frag) → Sure need s m stood → TookFrom (side_written m frag) across
   wrote_behind need m frag k = record {
     took = subst (λ (l : List Frag). IsPrefix l across.sent) (sym k.got) here.took;
     told = omega arith;
   }
 
-  wrote_ahead : (need : ℕ) (m : TheSide) (frag : Frag) → Sure need s m stood → IsBehind across (side_written m frag)
+  wrote_ahead : (need : ℕ) (m : TheSide) (frag : Frag) → Sure need s m stood → TookFrom across (side_written m frag)
   wrote_ahead need m frag k =
       let f : Frag = stamped frag (epoch_at m.size (length m.sent)) (length m.got % 65536) in
       record {
@@ -213,7 +218,7 @@ module _ (s across : TheSide) (here : IsBehind s across) (there : IsBehind acros
   looked_there : (need : ℕ) (t : TheSide) → Sure need s t stood → half_of across t ≡ half_of across s
   looked_there need t k = same_half refl refl refl refl (ap (λ (l : List Frag). drop (length across.got) l) k.sent)
 
-  looked_behind : (need : ℕ) (t : TheSide) → Sure need s t stood → IsBehind t across
+  looked_behind : (need : ℕ) (t : TheSide) → Sure need s t stood → TookFrom t across
   looked_behind need t k =
       let l : length t.got ≡ length s.got = ap length k.got in
       record {
@@ -221,7 +226,7 @@ module _ (s across : TheSide) (here : IsBehind s across) (there : IsBehind acros
         told = omega (arith, here.told, k.told, l);
       }
 
-  looked_ahead : (need : ℕ) (t : TheSide) → Sure need s t stood → IsBehind across t
+  looked_ahead : (need : ℕ) (t : TheSide) → Sure need s t stood → TookFrom across t
   looked_ahead need t k = record {
     took = subst (λ (l : List Frag). IsPrefix across.got l) (sym k.sent) there.took;
     told = there.told;
@@ -230,7 +235,7 @@ module _ (s across : TheSide) (here : IsBehind s across) (there : IsBehind acros
   -- nothing has changed but how often it looked
   stays : (R : ℕ → TheHalf → TheHalf → Look → TheHalf → TheHalf → Type 0) (look : Look) (t : TheSide) → t ≡ s
       → R s.size (half_of s across) (half_of across s) look (half_of s across) (half_of across s) → Leads R s across look t
-  stays R look t e step = subst (λ (y : TheSide). Leads R s across look y) (sym e) (record { step = step; size = refl; here = here; there = there })
+  stays R look t e step = subst (λ (y : TheSide). Leads R s across look y) (sym e) (record { step = step; size = refl; ring = refl; here = here; there = there })
 
   misses : (R : ℕ → TheHalf → TheHalf → Look → TheHalf → TheHalf → Type 0) (look : Look) (t : TheSide) → t ≡ side_missed s
       → R s.size (half_of s across) (half_of across s) look (half_of s across) (half_of across s) → Leads R s across look t
@@ -238,6 +243,7 @@ module _ (s across : TheSide) (here : IsBehind s across) (there : IsBehind acros
       subst (λ (y : TheSide). Leads R s across look y) (sym e) (record {
         step = step;
         size = refl;
+        ring = refl;
         here = record { took = here.took; told = here.told };
         there = record { took = there.took; told = there.told };
       })
@@ -250,6 +256,7 @@ module _ (s across : TheSide) (here : IsBehind s across) (there : IsBehind acros
       subst (λ (z : TheSide). Leads HalfPuts s across (placed frag) z) (sym e) (record {
         step = (plain, less, subst (λ (n : ℕ). 2 ≤ n) (free_is 2 m y) enough, wrote_here 2 m frag y, wrote_there 2 m frag y);
         size = y.size;
+        ring = y.ring;
         here = wrote_behind 2 m frag y;
         there = wrote_ahead 2 m frag y;
       })
@@ -258,6 +265,7 @@ module _ (s across : TheSide) (here : IsBehind s across) (there : IsBehind acros
       record {
         step = (less, subst (λ (n : ℕ). n < 2) (free_is 2 t y) few, looked_here 2 t y, looked_there 2 t y);
         size = y.size;
+        ring = y.ring;
         here = looked_behind 2 t y;
         there = looked_ahead 2 t y;
       }
@@ -302,11 +310,11 @@ module _ (s across : TheSide) (here : IsBehind s across) (there : IsBehind acros
         ap (λ (x : TheSide). half_of across x) e,
       )
 
-  seen_behind : (t : TheSide) (first : Frag) → t ≡ side_seen s first → IsBehind t across
-  seen_behind t first e = subst (λ (y : TheSide). IsBehind y across) (sym e) (record { took = here.took; told = here.told })
+  seen_behind : (t : TheSide) (first : Frag) → t ≡ side_seen s first → TookFrom t across
+  seen_behind t first e = subst (λ (y : TheSide). TookFrom y across) (sym e) (record { took = here.took; told = here.told })
 
-  seen_ahead : (t : TheSide) (first : Frag) → t ≡ side_seen s first → IsBehind across t
-  seen_ahead t first e = subst (λ (y : TheSide). IsBehind across y) (sym e) (record { took = there.took; told = there.told })
+  seen_ahead : (t : TheSide) (first : Frag) → t ≡ side_seen s first → TookFrom across t
+  seen_ahead t first e = subst (λ (y : TheSide). TookFrom across y) (sym e) (record { took = there.took; told = there.told })
 
   taken_leads : (look : Look) (t : TheSide) (first : Frag) → (look_at first ≡ look) → FindsWhatStood stood s t → t ≡ side_taken s first
       → (front_of stood ≡ look)
@@ -329,17 +337,17 @@ module _ (s across : TheSide) (here : IsBehind s across) (there : IsBehind acros
         ap (λ (x : TheSide). half_of across x) e,
       )
 
-  taken_behind : (t : TheSide) (first : Frag) → FindsWhatStood stood s t → t ≡ side_taken s first → IsBehind t across
+  taken_behind : (t : TheSide) (first : Frag) → FindsWhatStood stood s t → t ≡ side_taken s first → TookFrom t across
   taken_behind t first h e =
       let (k, same) = took_first t first h e in
       let n = length_push s.got first in
-      subst (λ (y : TheSide). IsBehind y across) (sym e) (record {
+      subst (λ (y : TheSide). TookFrom y across) (sym e) (record {
         took = subst (λ (f : Frag). IsPrefix (s.got ++ f ∷ []) across.sent) (sym same) (took_more s.got across.sent k.first k.rest here.took k.stood_is);
         told = omega (arith, here.told, n);
       })
 
-  taken_ahead : (t : TheSide) (first : Frag) → t ≡ side_taken s first → IsBehind across t
-  taken_ahead t first e = subst (λ (y : TheSide). IsBehind across y) (sym e) (record { took = there.took; told = there.told })
+  taken_ahead : (t : TheSide) (first : Frag) → t ≡ side_taken s first → TookFrom across t
+  taken_ahead t first e = subst (λ (y : TheSide). TookFrom across y) (sym e) (record { took = there.took; told = there.told })
 
   half_unread : (n : ℕ) → n ≤ unacknowledged_of s → n ≤ length (drop s.told s.got)
   half_unread n h = let l = unread_is s in omega (arith, h, l)
@@ -348,24 +356,28 @@ module _ (s across : TheSide) (here : IsBehind s across) (there : IsBehind acros
   takes_lead (saw frag) t (first, at, (may, e, knows)) h = record {
     step = seen_leads (saw frag) t first at h e;
     size = ap (λ (x : TheSide). x.size) e;
+    ring = ap (λ (x : TheSide). x.ring) e;
     here = seen_behind t first e;
     there = seen_ahead t first e;
   }
   takes_lead saw_ack t (first, at, (may, e, knows)) h = record {
     step = seen_leads saw_ack t first at h e;
     size = ap (λ (x : TheSide). x.size) e;
+    ring = ap (λ (x : TheSide). x.ring) e;
     here = seen_behind t first e;
     there = seen_ahead t first e;
   }
   takes_lead (found frag) t (first, at, (may, e, knows)) h = record {
     step = taken_leads (saw frag) t first at h e;
     size = ap (λ (x : TheSide). x.size) e;
+    ring = ap (λ (x : TheSide). x.ring) e;
     here = taken_behind t first h e;
     there = taken_ahead t first e;
   }
   takes_lead found_ack t (first, at, (may, e, knows)) h = record {
     step = taken_leads saw_ack t first at h e;
     size = ap (λ (x : TheSide). x.size) e;
+    ring = ap (λ (x : TheSide). x.ring) e;
     here = taken_behind t first h e;
     there = taken_ahead t first e;
   }
@@ -383,6 +395,7 @@ module _ (s across : TheSide) (here : IsBehind s across) (there : IsBehind acros
           wrote_there 1 m acknowledgement y,
         );
         size = y.size;
+        ring = y.ring;
         here = wrote_behind 1 m acknowledgement y;
         there = wrote_ahead 1 m acknowledgement y;
       })
@@ -397,6 +410,7 @@ module _ (s across : TheSide) (here : IsBehind s across) (there : IsBehind acros
           inr (less, subst (λ (n : ℕ). n < 1) (free_is 1 t y) few, looked_here 1 t y),
         );
         size = y.size;
+        ring = y.ring;
         here = looked_behind 1 t y;
         there = looked_ahead 1 t y;
       }
@@ -408,12 +422,12 @@ abbrev facing : TheSide → TheSide → FacingSide
 facing side across = record { side = side; across = across }
 
 by_side : (R : ℕ → TheHalf → TheHalf → Look → TheHalf → TheHalf → Type 0) (which : WhichSide) (s t across : TheSide) (look : Look) → across.size ≡ s.size
-    → Leads R s across look t → AtSide R which (ring_by which (facing s across)) look (ring_by which (facing t across)) × AreFacing (facing t across)
-by_side R One s t across look size k =
-    ((k.step, k.size), record { size = size ∙ sym k.size; here = k.here; there = k.there })
-by_side R Two s t across look size k = (
+    → across.ring ≡ s.ring → Leads R s across look t → AtSide R which (ring_by which (facing s across)) look (ring_by which (facing t across)) × AreFacing (facing t across)
+by_side R One s t across look size ring k =
+    ((k.step, k.size), record { ring = ring ∙ sym k.ring; size = size ∙ sym k.size; here = k.here; there = k.there })
+by_side R Two s t across look size ring k = (
   (subst (λ (n : ℕ). R n (half_of s across) (half_of across s) look (half_of t across) (half_of across t)) (sym size) k.step, refl),
-  record { size = size ∙ sym k.size; here = k.here; there = k.there },
+  record { ring = ring ∙ sym k.ring; size = size ∙ sym k.size; here = k.here; there = k.there },
 )
 
 goes : (R : ℕ → TheHalf → TheHalf → Look → TheHalf → TheHalf → Type 0) (which : WhichSide) (x y : FacingSide) (look : Look) → AreFacing x
@@ -422,7 +436,7 @@ goes : (R : ℕ → TheHalf → TheHalf → Look → TheHalf → TheHalf → Typ
 goes R which x y look a same k =
     let e : y ≡ facing y.side x.across = ap (λ (z : TheSide). facing y.side z) same in
     subst (λ (z : FacingSide). AtSide R which (ring_by which x) look (ring_by which z) × AreFacing z) (sym e)
-    (by_side R which x.side y.side x.across look a.size k)
+    (by_side R which x.side y.side x.across look a.size a.ring k)
 
 pub puts_are : StepsOfRing SharedPuts DuoPuts
 puts_are which x y look a (step, finds, same) = goes HalfPuts which x y look a same (puts_lead x.side x.across a.here a.there look y.side step finds)

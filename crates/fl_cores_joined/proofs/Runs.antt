@@ -25,7 +25,7 @@ use Rattle.fl_cores_joined.specs.Joined.{JoinedCore, AreWhole}
 use Rattle.fl_cores_joined.specs.Steps.{does, forwards, HappensAt, IsWholeEvent, Follows, exchange, asked, neighbour_on, asks}
 use Rattle.fl_cores_joined.specs.Steps.{arrival_answer, heard_answer, follow_answer, forward_asks}
 use Rattle.fl_cores_joined.specs.Laws.{TheyShow, MachineDoes}
-use Rattle.fl_cores_joined.specs.Runs.{asked_in, events_of, MachineRuns, OpensRightly, OpensNext, RunsJoin}
+use Rattle.fl_cores_joined.specs.Runs.{asked_in, events_of, MachineRuns, AsksRightlyAt, IsNumberedAt, RunsJoin}
 use Rattle.fl_cores_joined.proofs.Writing.{writes_are}
 use Rattle.fl_cores_joined.proofs.Turning.{turns_are}
 use Rattle.fl_cores_joined.proofs.Calling.{calls_are, rules_are}
@@ -55,7 +55,7 @@ GoesOn s ms ys zs first =
 module _ (law : StepsAgree) (jobs : List CoreJob) where
   -- one event, and then the others
   by_event : (n : ℕ) (log_entry : LogEntry) (xs ms ys : List JoinedCore) (s : State) (zs : List Exchange) → IsWholeEvent log_entry
-      → (h : HappensAt jobs n log_entry xs ms) → OpensRightly xs h.before.run s log_entry → OpensNext xs h.before.run s log_entry
+      → (h : HappensAt jobs n log_entry xs ms) → AsksRightlyAt xs h.before.run s log_entry → IsNumberedAt xs h.before.run s log_entry
       → TheyShow xs s → AreWhole xs → AreWhole ms
       → (TheyShow ms (reached s (events_of (asks n h.before.run log_entry))) → MachineRuns zs (reached s (events_of (asks n h.before.run log_entry))) ys)
       → MachineRuns (asks n h.before.run log_entry ++ zs) s ys
@@ -86,7 +86,7 @@ module _ (law : StepsAgree) (jobs : List CoreJob) where
   by_event n (arrived i l frag e answer) xs ms ys s zs some h right next show whole still rest = absurd some
   by_event n (heard i l frag answer) xs ms ys s zs some h right next show whole still rest = absurd some
   by_event n (opened name request answer) xs ms ys s zs some h right next show whole still rest =
-      one_more _ _ s ms ys zs (opens_there law n name request jobs xs ms s show whole still next answer some h right) rest
+      one_more _ _ s ms ys zs (opens_there law n name request jobs xs ms s show whole still answer some h right next) rest
 
   -- a look with what follows it, and then the others
   by_follow : (n i : ℕ) (l : LinkId) (found : Result LinkFront LinkReceiveFault) (look follows : LogEntry) (a : Answer)

@@ -24,7 +24,7 @@ use Rattle.fl_world_refines.specs.Laws.{StepsAgree}
 use Rattle.fl_cores_joined.specs.Rings.{Truly}
 use Rattle.fl_cores_joined.specs.Joined.{in_world}
 use Rattle.fl_cores_joined.specs.Steps.{acked_answer}
-use Rattle.fl_cores_joined.specs.Laws.{Is}
+use Rattle.fl_cores_joined.specs.Laws.{IsTheMachines}
 use Rattle.fl_cores_joined.proofs.Mapped.{acks}
 use Rattle.fl_cores_joined.proofs.Renumbered.{inlet_is}
 use Rattle.fl_cores_joined.proofs.Joining.{moved_to}
@@ -61,7 +61,7 @@ is_acked (Ok ack.Full) = refl
 is_acked (Err fault) = refl
 
 pub acks_are : StepsAgree → (n : ℕ) (name : EndId) (i : ℕ) (answer : Result AckAnswer BoardFault)
-    → Is (acked name i answer) n (acks_event name) (acked_answer answer)
+    → IsTheMachines (acked name i answer) n (acks_event name) (acked_answer answer)
 acks_are law n name i answer jobs xs ys s show whole still h =
     let (m, (e, found, on), same, sound, acts) = h.happens in
     let (its, its_is, is) = h.in_place in

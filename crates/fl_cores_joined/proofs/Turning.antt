@@ -34,7 +34,7 @@ use Rattle.fl_world_refines.proofs.Tests.{lt_true}
 use Rattle.fl_cores_joined.specs.Rings.{FacingSide, Truly}
 use Rattle.fl_cores_joined.specs.Joined.{JoinedCore, in_world, IsJoined, AreWhole}
 use Rattle.fl_cores_joined.specs.Steps.{HappensAt}
-use Rattle.fl_cores_joined.specs.Laws.{MachineDoes, Is}
+use Rattle.fl_cores_joined.specs.Laws.{MachineDoes, IsTheMachines}
 use Rattle.fl_cores_joined.proofs.Mapped.{turns}
 use Rattle.fl_cores_joined.proofs.Renumbered.{inlet_is, arrivals_same}
 use Rattle.fl_cores_joined.proofs.Joining.{moved_to}
@@ -150,7 +150,7 @@ module _ (law : StepsAgree) (d : ℕ) (name : EndId) (from : Inlet) (answer : Tu
       (does_over it.world inlet.Arrivals (inlet_is x.sides x.queues h.beside.core e inlet.Arrivals takes) it.over)
 
 pub turns_are : StepsAgree → (n d : ℕ) (name : EndId) (from : Inlet) (answer : TurnAnswer)
-    → Is (turned d name from answer) n (turn (at n d)) (turn_answer name answer)
+    → IsTheMachines (turned d name from answer) n (turn (at n d)) (turn_answer name answer)
 turns_are law n d name (inlet.Side i) answer jobs xs ys s show whole still h =
     let (m, (e, found, is_due, on), same, sound, acts) = h.happens in
     let (take, take_is, its, is, none) = h.in_place in

@@ -28,7 +28,7 @@ use Rattle.fl_world_refines.specs.Laws.{StepsAgree}
 use Rattle.fl_cores_joined.specs.Rings.{FacingSide, Truly}
 use Rattle.fl_cores_joined.specs.Joined.{JoinedCore, in_world, IsJoined, AreWhole}
 use Rattle.fl_cores_joined.specs.Steps.{HappensAt, write_answer}
-use Rattle.fl_cores_joined.specs.Laws.{MachineDoes, Is}
+use Rattle.fl_cores_joined.specs.Laws.{MachineDoes, IsTheMachines}
 use Rattle.fl_cores_joined.proofs.Mapped.{writes_at}
 use Rattle.fl_cores_joined.proofs.Renumbered.{outlet_is, woken_same}
 use Rattle.fl_cores_joined.proofs.Joining.{moved_to}
@@ -95,7 +95,7 @@ module _ (law : StepsAgree) (name : EndId) (out : Outlet) (answer : Result Write
       (does_over it.world (outlet.Queue it.number) there (inl it.over))
 
 pub writes_are : StepsAgree → (n : ℕ) (name : EndId) (out : Outlet) (answer : Result WriteAnswer EndFault)
-    → Is (wrote name out answer) n (write name) (write_answer answer)
+    → IsTheMachines (wrote name out answer) n (write name) (write_answer answer)
 writes_are law n name (outlet.Side i) answer jobs xs ys s show whole still h =
     let (m, (e, found, on), same, sound, acts) = h.happens in
     let (post, post_is, is) = h.in_place in

@@ -1,6 +1,6 @@
 -- The laws of joined cores: what one of them does is the machine's event of that name, and together they show
 -- what the machine comes to.
-use Rattle.std.specs.Prelude.{ℕ, ◌≡◌, false, List, length, Some, Result, Ok}
+use Rattle.std.specs.Prelude.{ℕ, ◌≡◌, ◌≤◌, false, List, length, Some, Result, Ok, Err}
 use Rattle.fl_base.specs.declared.fragment.Frag.{Frag}
 use Rattle.fl_base.specs.declared.identity.EndId.{EndId}
 use Rattle.fl_base.specs.declared.identity.LinkId.{LinkId}
@@ -56,14 +56,14 @@ pub record MachineDoes (event : Event) (answer : Answer) (s : State) (ys : List 
   pub shows : TheyShow ys (step s event).state
 
 -- so it is of a core's event, of cores that show a state, each of which is whole before and after
-abbrev pub Is : LogEntry → ℕ → Event → Answer → Type 0
-Is log_entry n event answer = (jobs : List CoreJob) (xs ys : List JoinedCore) (s : State)
+abbrev pub IsTheMachines : LogEntry → ℕ → Event → Answer → Type 0
+IsTheMachines log_entry n event answer = (jobs : List CoreJob) (xs ys : List JoinedCore) (s : State)
     → TheyShow xs s → AreWhole xs → AreWhole ys → HappensAt jobs n log_entry xs ys
     → MachineDoes event answer s ys
 
 -- the same of an event on a link, to the core across, as the core's own table has it
-abbrev pub IsOnLink : LogEntry → ℕ → LinkId → (ℕ → Event) → Answer → Type 0
-IsOnLink log_entry n l event answer = (jobs : List CoreJob) (xs ys : List JoinedCore) (s : State)
+abbrev pub IsTheMachinesOnLink : LogEntry → ℕ → LinkId → (ℕ → Event) → Answer → Type 0
+IsTheMachinesOnLink log_entry n l event answer = (jobs : List CoreJob) (xs ys : List JoinedCore) (s : State)
     → TheyShow xs s → AreWhole xs → AreWhole ys → (h : HappensAt jobs n log_entry xs ys)
     → MachineDoes (event (neighbour_on h.before.run.core l)) answer s ys
 
@@ -72,40 +72,40 @@ IsOnLink log_entry n l event answer = (jobs : List CoreJob) (xs ys : List Joined
 -- a write, wherever the end puts
 abbrev pub WritesJoin : Type 0
 WritesJoin = (n : ℕ) (name : EndId) (out : Outlet) (answer : Result WriteAnswer EndFault)
-    → Is (wrote name out answer) n (write name) (write_answer answer)
+    → IsTheMachines (wrote name out answer) n (write name) (write_answer answer)
 
 -- a dispatcher's turn, wherever the end that is due takes from
 abbrev pub TurnsJoin : Type 0
 TurnsJoin = (n d : ℕ) (name : EndId) (from : Inlet) (answer : TurnAnswer)
-    → Is (turned d name from answer) n (turn (record { core = n; place = d })) (turn_answer name answer)
+    → IsTheMachines (turned d name from answer) n (turn (record { core = n; place = d })) (turn_answer name answer)
 
 -- an end tells what it took from a ring
 abbrev pub AcksJoin : Type 0
 AcksJoin = (n : ℕ) (name : EndId) (side : ℕ) (answer : Result AckAnswer BoardFault)
-    → Is (acked name side answer) n (ack name) (acked_answer answer)
+    → IsTheMachines (acked name side answer) n (ack name) (acked_answer answer)
 
 -- a call, to which memory isn't refused, and a reply rule
 abbrev pub CallsJoin : Type 0
 CallsJoin = (n : ℕ) (name : EndId) (c : TheCall) (answer : Result (Unit {0}) EndFault)
     → lacks_to_call answer ≡ false
-    → Is (called name c answer) n (call name c) (call_answer answer)
+    → IsTheMachines (called name c answer) n (call name c) (call_answer answer)
 
 abbrev pub RulesJoin : Type 0
 RulesJoin = (n : ℕ) (name : EndId) (msg answer : MsgNo) (r : Result (Unit {0}) EndFault)
-    → Is (ruled name msg answer r) n (reply name msg.0 answer.0) (rule_answer r)
+    → IsTheMachines (ruled name msg answer r) n (reply name msg.0 answer.0) (rule_answer r)
 
 -- on a link: a monitor writes, what was taken is told, and a look leaves nothing to follow
 abbrev pub MonitorsJoin : Type 0
 MonitorsJoin = (n side : ℕ) (l : LinkId) (answer : MonitorWrite)
-    → IsOnLink (said side l answer) n l (monitor_write n) (monitor_answer answer)
+    → IsTheMachinesOnLink (said side l answer) n l (monitor_write n) (monitor_answer answer)
 
 abbrev pub TellsJoin : Type 0
 TellsJoin = (n side : ℕ) (l : LinkId) (answer : AckAnswer)
-    → IsOnLink (told side l answer) n l (monitor_ack n) (ack_answer answer)
+    → IsTheMachinesOnLink (told side l answer) n l (monitor_ack n) (ack_answer answer)
 
 abbrev pub LooksJoin : Type 0
 LooksJoin = (n side : ℕ) (l : LinkId) (found : Result LinkFront LinkReceiveFault) (answer : Answer)
-    → look_answer found ≡ Some answer → IsOnLink (looked side l found) n l (forward n) answer
+    → look_answer found ≡ Some answer → IsTheMachinesOnLink (looked side l found) n l (forward n) answer
 
 -- a look that finds a fragment for an end of the core, with the fragment's arrival behind it
 abbrev pub ArrivalsJoin : Type 0
@@ -148,11 +148,18 @@ pub record AsksRightly (cores : ℕ) (r : TheRun TheSide) (request : OpenRequest
   pub leads : first_link r.core.monitor.circuits request.opening.path service.service.core.0 cores
       ≡ Some request.link.0
 
--- so it is, for the binding that the machine makes next; memory isn't refused to it
+-- of so many bindings that there are, an opening with this answer has the number of the next; where its own
+-- core refuses it no binding is made, and it may have any number that none has yet
+abbrev pub IsNumbered : ℕ → Result ℕ OpenFault → ℕ → Type 0
+IsNumbered count (Ok e) number = number ≡ count
+IsNumbered count (Err fault) number = count ≤ number
+
+-- it is asked for so, and so numbered; memory isn't refused to it
 abbrev pub OpensJoin : Type 0
 OpensJoin = (n : ℕ) (name : EndId) (request : OpenRequest) (answer : Result ℕ OpenFault)
     (jobs : List CoreJob) (xs ys : List JoinedCore) (s : State)
     → lacks_to_open answer ≡ false → TheyShow xs s → AreWhole xs → AreWhole ys
     → (h : HappensAt jobs n (opened name request answer) xs ys)
-    → AsksRightly (length xs) h.before.run request → request.opening.binding ≡ length s.bindings
+    → AsksRightly (length xs) h.before.run request
+    → IsNumbered (length s.bindings) answer request.opening.binding
     → MachineDoes (opening_event n h.before.run request) (opened_answer answer) s ys

@@ -4,3 +4,4 @@ pub mod Steps
 pub mod Laws
 pub mod Runs
 pub mod Entries
+pub mod Ahead

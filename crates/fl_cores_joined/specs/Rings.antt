@@ -11,7 +11,7 @@ use Rattle.fl_ring.specs.declared.one_duo.WhichSide.{WhichSide}
 use Rattle.fl_ring.specs.declared.one_duo.WhichSide.TheVariants.{One, Two}
 use Rattle.fl_ring.specs.Duo.{TheHalf, TheDuo, DuoPuts, DuoTakes, acknowledgement}
 use Rattle.fl_ring.specs.SharedSides.{TheSide, SharedPuts, SharedTakes, SideMayCome, MayStand, KnowsSent}
-use Rattle.fl_ring.specs.SharedSides.{free_of, unacknowledged_of, side_written, side_taken, side_missed}
+use Rattle.fl_ring.specs.SharedSides.{free_of, unacknowledged_of, side_written, side_seen, side_taken, side_missed}
 use Rattle.fl_ring.specs.SharedSides.{side_counted}
 
 -- ---- the ring of two sides
@@ -44,15 +44,16 @@ ring_by One x = ring_of x.side x.across
 ring_by Two x = ring_of x.across x.side
 
 -- what a side took is the first of what the other put, and it told no more than that
-pub record IsBehind (side across : TheSide) : Type 0 where
+pub record TookFrom (side across : TheSide) : Type 0 where
   pub took : IsPrefix side.got across.sent
   pub told : side.told ≤ length side.got
 
 -- so it is of both sides of one ring
 pub record AreFacing (x : FacingSide) : Type 0 where
+  pub ring : x.across.ring ≡ x.side.ring
   pub size : x.across.size ≡ x.side.size
-  pub here : IsBehind x.side x.across
-  pub there : IsBehind x.across x.side
+  pub here : TookFrom x.side x.across
+  pub there : TookFrom x.across x.side
 
 -- ---- steps that find what stands there
 
@@ -96,8 +97,8 @@ abbrev pub told_by : TheSide → Frag → TheSide
 told_by side first = side_counted side (count_from side.known (told_of first.control))
 
 -- A side that knows of room puts; where it knows of none it looks first, and puts, or finds no room; what
--- stands first is taken, unless it would tell more than was put; where nothing stands, a look misses; and
--- what was taken is told.
+-- stands first is seen, and taken, unless it would tell more than was put; where nothing stands, a look
+-- misses; and what was taken is told.
 pub record TrueStepsHappen : Type 0 where
   pub puts : (x : FacingSide) (frag : Frag) → is_ack_only frag ≡ false → length x.side.sent < 2 ^ 62
       → 2 ≤ free_of x.side → Truly SharedPuts x (placed frag) (record x { side = side_written x.side frag })
@@ -109,6 +110,10 @@ pub record TrueStepsHappen : Type 0 where
   pub finds_no_room : (x : FacingSide) → length x.side.sent < 2 ^ 62 → free_of x.side < 2
       → standing_for x.side x.across ≡ [] → x.side.peeked ≡ None
       → Truly SharedPuts x no_room (record x { side = side_missed x.side })
+  pub sees : (x : FacingSide) (first frag : Frag) (rest : List Frag)
+      → standing_for x.side x.across ≡ first ∷ rest → look_at first ≡ saw frag
+      → SideMayCome x.side first → KnowsSent (side_seen x.side first)
+      → Truly SharedTakes x (saw frag) (record x { side = side_seen x.side first })
   pub takes : (x : FacingSide) (first frag : Frag) (rest : List Frag)
       → standing_for x.side x.across ≡ first ∷ rest → look_at first ≡ saw frag
       → SideMayCome x.side first → KnowsSent (side_taken x.side first)

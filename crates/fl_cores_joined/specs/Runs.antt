@@ -10,7 +10,7 @@ use Rattle.fl_model.specs.Runs.{Exchange, run, reached}
 use Rattle.fl_model.specs.State.{State}
 use Rattle.fl_cores_joined.specs.Joined.{JoinedCore, AreWhole}
 use Rattle.fl_cores_joined.specs.Steps.{Moment, does, forwards, Interleaves, asks, forward_asks}
-use Rattle.fl_cores_joined.specs.Laws.{TheyShow, AsksRightly}
+use Rattle.fl_cores_joined.specs.Laws.{TheyShow, AsksRightly, IsNumbered}
 
 -- what is asked of the machine in an interleaving, moment by moment, with the cores' answers
 abbrev pub asked_in : (jobs : List CoreJob) (xs : List JoinedCore) (moments : List Moment)
@@ -45,28 +45,29 @@ AtEach Holds jobs s xs (forwards n look follows ∷ moments) ys h =
     ys h.2
 
 -- a circuit is asked for as a job does that was accepted
-abbrev pub OpensRightly : List JoinedCore → TheRun TheSide → State → LogEntry → Type 0
-OpensRightly xs r s (opened name request answer) = AsksRightly (length xs) r request
-OpensRightly xs r s log_entry = Unit {0}
+abbrev pub AsksRightlyAt : List JoinedCore → TheRun TheSide → State → LogEntry → Type 0
+AsksRightlyAt xs r s (opened name request answer) = AsksRightly (length xs) r request
+AsksRightlyAt xs r s log_entry = Unit {0}
 
--- and for the binding that the machine makes next
-abbrev pub OpensNext : List JoinedCore → TheRun TheSide → State → LogEntry → Type 0
-OpensNext xs r s (opened name request answer) = request.opening.binding ≡ length s.bindings
-OpensNext xs r s log_entry = Unit {0}
+-- and for the binding that the machine makes next, but where its own core refuses it
+abbrev pub IsNumberedAt : List JoinedCore → TheRun TheSide → State → LogEntry → Type 0
+IsNumberedAt xs r s (opened name request answer) =
+    IsNumbered (length s.bindings) answer request.opening.binding
+IsNumberedAt xs r s log_entry = Unit {0}
 
 -- so is each, in an interleaving
-abbrev pub OpenRightly : (jobs : List CoreJob) (s : State) (xs : List JoinedCore) (moments : List Moment)
+abbrev pub AllAskRightly : (jobs : List CoreJob) (s : State) (xs : List JoinedCore) (moments : List Moment)
     (ys : List JoinedCore) → Interleaves jobs xs moments ys → Type 0
-OpenRightly jobs s xs moments ys h = AtEach OpensRightly jobs s xs moments ys h
+AllAskRightly jobs s xs moments ys h = AtEach AsksRightlyAt jobs s xs moments ys h
 
-abbrev pub OpenInTurn : (jobs : List CoreJob) (s : State) (xs : List JoinedCore) (moments : List Moment)
+abbrev pub AllAreNumbered : (jobs : List CoreJob) (s : State) (xs : List JoinedCore) (moments : List Moment)
     (ys : List JoinedCore) → Interleaves jobs xs moments ys → Type 0
-OpenInTurn jobs s xs moments ys h = AtEach OpensNext jobs s xs moments ys h
+AllAreNumbered jobs s xs moments ys h = AtEach IsNumberedAt jobs s xs moments ys h
 
 -- cores that show a state of the machine, in an interleaving in which each look finds what stands in its
 -- ring: the machine's run
 abbrev pub RunsJoin : Type 0
 RunsJoin = (jobs : List CoreJob) (xs ys : List JoinedCore) (moments : List Moment) (s : State)
-    → TheyShow xs s → (h : Interleaves jobs xs moments ys) → AreWhole ys → OpenRightly jobs s xs moments ys h
-    → OpenInTurn jobs s xs moments ys h
+    → TheyShow xs s → (h : Interleaves jobs xs moments ys) → AreWhole ys → AllAskRightly jobs s xs moments ys h
+    → AllAreNumbered jobs s xs moments ys h
     → MachineRuns (asked_in jobs xs moments ys h) s ys

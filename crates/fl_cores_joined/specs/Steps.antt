@@ -22,7 +22,7 @@ use Rattle.fl_core.specs.BoardFaults.{fault_number as board_number}
 use Rattle.fl_core.specs.declared.answer.LinkFront.{LinkFront}
 use Rattle.fl_core.specs.declared.answer.LinkFront.TheVariants as front
 use Rattle.fl_core.specs.declared.answer.MonitorAnswer.{MonitorAnswer}
-use Rattle.fl_core.specs.declared.answer.MonitorAnswer.TheVariants as told
+use Rattle.fl_core.specs.declared.answer.MonitorAnswer.TheVariants as answered
 use Rattle.fl_core.specs.declared.fault.LinkReceiveFault.{LinkReceiveFault}
 use Rattle.fl_core.specs.declared.fault.OpenFault.{OpenFault}
 use Rattle.fl_core.specs.Faults.{open_number, link_number}
@@ -30,7 +30,7 @@ use Rattle.fl_core.specs.View.{TheCore}
 use Rattle.fl_core.specs.declared.core_job.CoreJob.{CoreJob}
 use Rattle.fl_core.specs.declared.core_job.OpenRequest.{OpenRequest}
 use Rattle.fl_core_run.specs.Run.{SideRelations, ways, TheRun}
-use Rattle.fl_core_run.specs.LogEntries.{LogEntry, looked, passed, arrived, heard, said, told as acked_link}
+use Rattle.fl_core_run.specs.LogEntries.{LogEntry, looked, passed, arrived, heard, said, told}
 use Rattle.fl_core_run.specs.LogEntries.{opened, called, ruled, wrote, acked, turned, Happens}
 use Rattle.fl_core_run.specs.Steps.{lacks_to_hear, lacks_to_open, lacks_to_call}
 use Rattle.fl_core_run_laws.specs.Logs.{InPlace}
@@ -142,10 +142,10 @@ arrival_answer (Ok outcome) = moved_answer outcome
 arrival_answer (Err fault) = refused (link_number fault)
 
 abbrev pub heard_answer : Result MonitorAnswer LinkReceiveFault → Answer
-heard_answer (Ok told.Full) = full
-heard_answer (Ok told.Done) = done
-heard_answer (Ok (told.Opened e)) = circuit_opened e
-heard_answer (Ok (told.OpeningRefused e reason)) = opening_refused reason e
+heard_answer (Ok answered.Full) = full
+heard_answer (Ok answered.Done) = done
+heard_answer (Ok (answered.Opened e)) = circuit_opened e
+heard_answer (Ok (answered.OpeningRefused e reason)) = opening_refused reason e
 heard_answer (Err fault) = refused (link_number fault)
 
 abbrev pub exchange : Event → Answer → Exchange
@@ -176,7 +176,7 @@ abbrev pub asks : ℕ → TheRun TheSide → LogEntry → List Exchange
 asks n r (looked side l answer) =
     given (look_answer answer) [] λ a. asked (forward n (neighbour_on r.core l)) a
 asks n r (said side l answer) = asked (monitor_write n (neighbour_on r.core l)) (monitor_answer answer)
-asks n r (acked_link side l answer) = asked (monitor_ack n (neighbour_on r.core l)) (ack_answer answer)
+asks n r (told side l answer) = asked (monitor_ack n (neighbour_on r.core l)) (ack_answer answer)
 asks n r (opened name request answer) = asked (opening_event n r request) (opened_answer answer)
 asks n r (called name c answer) = asked (call name c) (call_answer answer)
 asks n r (ruled name msg answer reply_set) = asked (reply name msg.0 answer.0) (rule_answer reply_set)

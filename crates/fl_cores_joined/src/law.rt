@@ -1,11 +1,12 @@
 //! What cores do together, joined to one world: laws, as the contracts of functions that do nothing.
 
+ghost use Rattle.fl_cores_joined.specs.Ahead.{OpeningsGoAhead};
 ghost use Rattle.fl_cores_joined.specs.Rings.{TrueStepsAreTheRings, TrueStepsHappen};
 ghost use Rattle.fl_cores_joined.specs.Laws.{WritesJoin, TurnsJoin, AcksJoin};
 ghost use Rattle.fl_cores_joined.specs.Laws.{CallsJoin, RulesJoin, OpensJoin};
 ghost use Rattle.fl_cores_joined.specs.Laws.{MonitorsJoin, TellsJoin, LooksJoin};
 ghost use Rattle.fl_cores_joined.specs.Laws.{ArrivalsJoin, PassesJoin, HearsJoin};
-ghost use Rattle.fl_cores_joined.specs.Entries.{StepsInterleave};
+ghost use Rattle.fl_cores_joined.specs.Entries.{StepsInterleave, FollowedStepsInterleave};
 ghost use Rattle.fl_cores_joined.specs.Runs.{RunsJoin};
 
 use fl_world_refines::law_steps_agree;
@@ -63,7 +64,14 @@ pub fn law_runs_join()
 }
 
 /// What cores do entry by entry, where others' entries may come between a look and what follows it, comes to
-/// the same where each look happens at the moment of what follows it.
+/// the same where each look happens at the moment of what follows it; looks that nothing followed yet are
+/// still to come then, and find what they found.
 pub fn law_steps_interleave()
     ensures steps { StepsInterleave }
+    ensures followed { FollowedStepsInterleave }
+{}
+
+/// An opening may come before what another core did just before it.
+pub fn law_openings_go_ahead()
+    ensures ahead { OpeningsGoAhead }
 {}

@@ -7,8 +7,9 @@
 //! what stands in its ring at that moment, is `specs/Steps.antt`. By each event of it the cores go on as the
 //! machine does, and show the machine's next state ([`law_ends_join`], [`law_jobs_join`], [`law_links_join`],
 //! `specs/Laws.antt`). So an interleaving is a run of the machine, as long as circuits are
-//! asked for in the order of their numbers ([`law_runs_join`], `specs/Runs.antt`); and others' entries may
-//! come between a look and what follows it ([`law_steps_interleave`], `specs/Entries.antt`).
+//! asked for in the order of their numbers ([`law_runs_join`], `specs/Runs.antt`), into which they can often be
+//! brought ([`law_openings_go_ahead`], `specs/Ahead.antt`); and others' entries may come between a look and what
+//! follows it ([`law_steps_interleave`], `specs/Entries.antt`).
 //!
 //! - `law.rt`: the laws
 #![tactic(auto)]
@@ -16,6 +17,6 @@
 mod law;
 
 pub use law::{
-    law_ends_join, law_jobs_join, law_links_join, law_runs_join, law_steps_interleave,
-    law_true_steps,
+    law_ends_join, law_jobs_join, law_links_join, law_openings_go_ahead, law_runs_join,
+    law_steps_interleave, law_true_steps,
 };

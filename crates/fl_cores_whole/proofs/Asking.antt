@@ -38,7 +38,7 @@ use Rattle.fl_cores.proofs.RunsSetUp.{own_progress, is_for_binding}
 use Rattle.fl_cores_joined.specs.Joined.{JoinedCore, alone}
 use Rattle.fl_cores_joined.specs.Steps.{true_ways, HappensAt, Moment, does, forwards, Interleaves}
 use Rattle.fl_cores_joined.specs.Laws.{AsksRightly}
-use Rattle.fl_cores_joined.specs.Runs.{OpensRightly, OpenRightly}
+use Rattle.fl_cores_joined.specs.Runs.{AsksRightlyAt, AllAskRightly}
 use Rattle.fl_cores_joined.proofs.Earlier.{SameLinks, does_same}
 use Rattle.fl_cores_joined.proofs.Joining.{long_set}
 use Rattle.fl_cores_joined.proofs.Opening.{find_holds}
@@ -137,8 +137,8 @@ module _ (c : TheConfig) (jobs : List Job) (limit : ℕ) (r : TheReport) (w : Re
   on : OnBoards made.cores.items parts.cores.items
   on = on_boards made.bindings.items jobs made.cores.items parts.cores.items w.ran.ran.rules
 
-  many : length (begun w) ≡ length made.cores.items
-  many = joined_long owners 0 threads ∙ sym (threads_long inputs 0 parts.cores.items threads w.ran.ran.ran.begin) ∙ on.count
+  pub many_cores : length (begun w) ≡ length made.cores.items
+  many_cores = joined_long owners 0 threads ∙ sym (threads_long inputs 0 parts.cores.items threads w.ran.ran.ran.begin) ∙ on.count
 
   module _ (n : ℕ) (x : JoinedCore) (x_is : slice_get (begun w) n ≡ Some x) (q : TheRun TheSide) (stays : Stays x.run q) (name : EndId) (request : OpenRequest)
       (next : HasJob j.jobs q.progresses name request) where
@@ -215,14 +215,14 @@ module _ (c : TheConfig) (jobs : List Job) (limit : ℕ) (r : TheReport) (w : Re
               ∙ ap (λ (z : TheRun TheSide). first_link z.core.monitor.circuits path g.service.core.0 cores) same_run
               ∙ ap (λ (z : TheCircuits). first_link z path g.service.core.0 cores) circuits
               ∙ ap (λ (s : ℕ). first_link t path s cores) server
-              ∙ ap (first_link t path asked.bound.server) (count ∙ many)
+              ∙ ap (first_link t path asked.bound.server) (count ∙ many_cores)
               ∙ asked.asks.begins.begins;
         }
 
   -- ---- in an interleaving
 
   one : (n : ℕ) (log_entry : LogEntry) (ms ys : List JoinedCore) (s : State) (h : HappensAt j.jobs n log_entry ms ys) → AllStay (begun w) ms
-      → OpensRightly ms h.before.run s log_entry
+      → AsksRightlyAt ms h.before.run s log_entry
   one n (opened name request answer) ms ys s h g =
       let (x, x_is, stays) = g.each n h.before h.before_is in
       let found = next_there j.jobs h.beside name request h.in_place.0 in
@@ -231,7 +231,7 @@ module _ (c : TheConfig) (jobs : List Job) (limit : ℕ) (r : TheReport) (w : Re
   one n log_entry ms ys s h g = tt
 
   all : (moments : List Moment) (s : State) (ms ys : List JoinedCore) → AllStay (begun w) ms → (h : Interleaves j.jobs ms moments ys)
-      → OpenRightly j.jobs s ms moments ys h
+      → AllAskRightly j.jobs s ms moments ys h
   all [] s ms ys g h = tt
   all (does n log_entry ∷ moments) s ms ys g h = (
     one n log_entry ms h.0 s h.1.1 g,
@@ -241,5 +241,5 @@ module _ (c : TheConfig) (jobs : List Job) (limit : ℕ) (r : TheReport) (w : Re
       all moments _ h.0 ys (one_more j.jobs n follows (begun w) h.1.1.0 h.0 h.1.1.2 (one_more j.jobs n look (begun w) ms h.1.1.0 h.1.1.1 g)) h.2
 
   pub open_rightly : (moments : List Moment) (s : State) (ys : List JoinedCore) (h : Interleaves j.jobs (begun w) moments ys)
-      → OpenRightly j.jobs s (begun w) moments ys h
+      → AllAskRightly j.jobs s (begun w) moments ys h
   open_rightly moments s ys h = all moments s (begun w) ys (all_themselves (begun w)) h

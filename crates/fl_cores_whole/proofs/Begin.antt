@@ -26,7 +26,7 @@ use Rattle.fl_world_refines.specs.ShowsState.{wiring_of, NamesQueue, NamesSide}
 use Rattle.fl_world_refines.specs.View.{TheWorld}
 use Rattle.fl_world_refines.proofs.FramesBase.{same_some}
 use Rattle.fl_compile.specs.Programs.{program_of}
-use Rattle.fl_cores_joined.specs.Rings.{ring_of, IsBehind as IsFacedBy}
+use Rattle.fl_cores_joined.specs.Rings.{ring_of, TookFrom}
 use Rattle.fl_cores_joined.specs.Joined.{JoinedCore, in_world, HasSide, IsRingOf, AreOffers, IsJoined}
 use Rattle.fl_cores_whole.specs.Begin.{numbers_of, Owners, joined_from, owners_in, IsBehind, AreCores, HandedOutJoin}
 use Rattle.fl_cores_whole.proofs.Own.{IsOwn, own_at, own_there, as_many, range_long}
@@ -323,9 +323,10 @@ module _ (w : TheWorld) (p : Parts) (j : TheJoinedJobs) (at : Places) (threads :
         two = two;
         two_is = side_there (2 * n + 1) two (omega (arith, less)) two_at;
         facing = record {
+          ring = sym (ap (λ (s : TheSide). s.ring) one_is);
           size = ap (λ (s : TheSide). s.size) two_is ∙ sym (ap (λ (s : TheSide). s.size) one_is);
-          here = subst (λ (s : TheSide). IsFacedBy s two) (sym one_is) (record { took = (two.sent, refl); told = omega arith });
-          there = subst (λ (s : TheSide). IsFacedBy s one) (sym two_is) (record { took = (one.sent, refl); told = omega arith });
+          here = subst (λ (s : TheSide). TookFrom s two) (sym one_is) (record { took = (two.sent, refl); told = omega arith });
+          there = subst (λ (s : TheSide). TookFrom s one) (sym two_is) (record { took = (one.sent, refl); told = omega arith });
         };
         made = made ∙ sym (λ i. ring_of (one_is i) (two_is i));
       }

@@ -13,15 +13,15 @@ use Rattle.fl_model.specs.SoundLimits.{NumbersAreOnceBothWays}
 use Rattle.fl_model.specs.State.{State}
 use Rattle.fl_model.specs.Step.{step}
 use Rattle.fl_model.specs.Worlds.{start_with, EverOnceBothWays}
-use Rattle.fl_world_laws.specs.Booted.{EverHandledIsAPrefix}
+use Rattle.fl_world_laws.specs.Booted.{NumbersFall, EverHandledIsAPrefix, EverPassedFalls}
 use Rattle.fl_cores_file.specs.Jobs.{Job}
 use Rattle.fl_world.specs.Booting.{TheConfig, has_bad_cores}
 use Rattle.fl_cores.specs.Behind.{joined_in}
 use Rattle.fl_cores.specs.OneCore.{rule_in, begins}
 use Rattle.fl_cores_joined.specs.Joined.{JoinedCore}
 use Rattle.fl_cores_joined.specs.Runs.{asked_in, events_of, MachineRuns}
-use Rattle.fl_cores_whole.specs.Whole.{begun, ReportsJoin}
-use Rattle.fl_cores_whole.specs.Holds.{events_before, state_after, KeepsLaws, ReportsHold}
+use Rattle.fl_cores_whole.specs.Whole.{begun, ReportsJoin, TheirTurnsJoin}
+use Rattle.fl_cores_whole.specs.Holds.{events_before, state_after, KeepsLaws, ReportsHold, TheirTurnsHold}
 
 -- ---- runs in two parts
 
@@ -46,19 +46,19 @@ answered z (v ∷ vs) (suc n) x at = answered (step z v).state vs n x at
 
 -- ---- so many cores there may be
 
-both_false : (a b : Bool) → (a || b) ≡ false → (a ≡ false) × (b ≡ false)
+pub both_false : (a b : Bool) → (a || b) ≡ false → (a ≡ false) × (b ≡ false)
 both_false false b h = (refl, h)
 both_false true b h = absurd (cc)
 
-some_cores : (n : ℕ) → nat_lt n 1 ≡ false → 1 ≤ n
+pub some_cores : (n : ℕ) → nat_lt n 1 ≡ false → 1 ≤ n
 some_cores n h = grind (arith, nat_tests, h)
 
-few_cores : (n : ℕ) → nat_lt 16 n ≡ false → n ≤ 16
+pub few_cores : (n : ℕ) → nat_lt 16 n ≡ false → n ≤ 16
 few_cores n h = grind (arith, nat_tests, h)
 
 -- ---- the laws
 
-module _ (none : NoWireFaults) (prefix : EverHandledIsAPrefix) (once : EverOnceBothWays) (c : TheConfig) (jobs : List Job) (good : has_bad_cores c ≡ false)
+module _ (none : NoWireFaults) (prefix : EverHandledIsAPrefix) (falls : EverPassedFalls) (once : EverOnceBothWays) (c : TheConfig) (jobs : List Job) (good : has_bad_cores c ≡ false)
     (exchanges : List Exchange) (ys : List JoinedCore) (runs : MachineRuns exchanges (begins c jobs) ys) where
   abbrev z : State
   z = start_with c.cores
@@ -92,9 +92,16 @@ module _ (none : NoWireFaults) (prefix : EverHandledIsAPrefix) (once : EverOnceB
     handled = λ e.
         subst (λ (s : State). IsPrefix (calls_handled e (run z (events_before c jobs) ++ exchanges)) (accepted_by s (peer e))) all_reached
         (subst (λ (xs : List Exchange). IsPrefix (calls_handled e xs) (accepted_by (reached z all) (peer e))) all_run (prefix c.cores all some few e));
+    passed = subst NumbersFall all_reached (falls c.cores all some few);
     once = subst NumbersAreOnceBothWays all_reached (once c.cores all some few);
   }
 
-pub reports_hold : NoWireFaults → EverHandledIsAPrefix → EverOnceBothWays → ReportsJoin → ReportsHold
-reports_hold none prefix once join c jobs limit r w moments ys h still in_turn =
-    holds none prefix once c jobs w.accepted.cores (asked_in (joined_in w).jobs (begun w) moments ys h) ys (join c jobs limit r w moments ys h still in_turn)
+pub reports_hold : NoWireFaults → EverHandledIsAPrefix → EverPassedFalls → EverOnceBothWays → ReportsJoin → ReportsHold
+reports_hold none prefix falls once join c jobs limit r w moments ys h still in_turn =
+    holds none prefix falls once c jobs w.accepted.cores (asked_in (joined_in w).jobs (begun w) moments ys h) ys
+    (join c jobs limit r w moments ys h still in_turn)
+
+pub their_turns_hold : NoWireFaults → EverHandledIsAPrefix → EverPassedFalls → EverOnceBothWays → TheirTurnsJoin → TheirTurnsHold
+their_turns_hold none prefix falls once join c jobs limit r w follow moments ys h theirs in_turn =
+    holds none prefix falls once c jobs w.accepted.cores (asked_in (joined_in w).jobs (begun w) moments ys h) ys
+    (join c jobs limit r w follow moments ys h theirs in_turn)

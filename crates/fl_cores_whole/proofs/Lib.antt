@@ -6,3 +6,5 @@ pub mod Asking
 pub mod Whole
 pub mod Turned
 pub mod Holds
+pub mod One
+pub mod Told

@@ -1,5 +1,5 @@
 -- An interleaving of just what the cores of a report did ends with the cores that it left.
-use Rattle.std.proofs.Common.{◌≡◌, ◌≢◌, refl, sym, ◌∙◌, ap, subst, ℕ, suc, ◌==◌, Bool, true, false, if◌then◌else◌, List, [], ◌∷◌, ◌++◌, length, slice_get, Some, arith}
+use Rattle.std.proofs.Common.{◌≡◌, ◌≢◌, refl, sym, ◌∙◌, ap, subst, ℕ, suc, ◌==◌, Bool, true, false, if◌then◌else◌, List, [], ◌∷◌, ◌++◌, length, slice_get, Some, None, arith}
 use Rattle.std.proofs.lemmas.Bool.Decides.{nat_tests}
 use Rattle.std.specs.List.{AllZip}
 use Rattle.fl_base.specs.Prefix.{IsPrefix}
@@ -22,11 +22,13 @@ use Rattle.fl_cores.specs.Behind.{joined_in}
 use Rattle.fl_cores.specs.Follows.{CoreFollows, CoresFollow}
 use Rattle.fl_cores.specs.Promised.{Reports}
 use Rattle.fl_cores_joined.specs.Joined.{JoinedCore, AreWhole, alone}
+use Rattle.fl_cores_joined.specs.Entries.{CoreStep, acts, looks, follows, OpenLooks, none_open, with_look, StepByStep}
 use Rattle.fl_cores_joined.specs.Steps.{HappensAt, Moment, does, forwards, Interleaves}
 use Rattle.fl_cores_joined.proofs.Earlier.{whole_back}
 use Rattle.fl_cores_joined.proofs.Joining.{long_set}
 use Rattle.fl_cores_whole.specs.Begin.{owners_in}
-use Rattle.fl_cores_whole.specs.Whole.{begun, events_at, ReportsJoin, AreTheirTurns, AreAllTheirTurns, AreLeft, TheirTurnsJoin, TheirTurnsEnd}
+use Rattle.fl_cores_whole.specs.Whole.{begun, events_at, steps_at, ReportsJoin, StepsOfReportsJoin, AreTheirTurns, AreAllTheirTurns, AreTheirSteps, AreLeft}
+use Rattle.fl_cores_whole.specs.Whole.{TheirTurnsJoin, TheirStepsJoin, TheirTurnsEnd}
 use Rattle.fl_cores_whole.proofs.Begin.{joined_long, joined_one, at_first}
 
 -- ---- the core behind events
@@ -115,12 +117,12 @@ module _ (n : ℕ) (jobs : List CoreJob) where
         run_is = rest.run_is
             ∙ sym (behind_both x.run events (events_at n jobs h.0 moments ys h.2) ∙ ap (λ (s : TheRun TheSide). behind s (events_at n jobs h.0 moments ys h.2)) at);
       }
-  steps_to (forwards m look follows ∷ moments) xs ys h x x_is =
+  steps_to (forwards m look next ∷ moments) xs ys h x x_is =
       let first = event look (alone h.1.1.1.after) in
-      let second = event follows (alone h.1.1.2.after) in
+      let second = event next (alone h.1.1.2.after) in
       let events : List (Event TheSide) = if m == n then first ∷ second ∷ [] else [] in
       let one = by_event m look xs h.1.1.0 h.1.1.1 x x_is in
-      let two = by_event m follows h.1.1.0 h.0 h.1.1.2 one.core one.core_is in
+      let two = by_event m next h.1.1.0 h.0 h.1.1.2 one.core one.core_is in
       let rest = steps_to moments h.0 ys h.2 two.core two.core_is in
       let at : behind x.run events ≡ two.core.run = two_behind (m == n) x.run one.core.run first second one.run_is ∙ sym two.run_is in
       record {
@@ -130,15 +132,55 @@ module _ (n : ℕ) (jobs : List CoreJob) where
             ∙ sym (behind_both x.run events (events_at n jobs h.0 moments ys h.2) ∙ ap (λ (s : TheRun TheSide). behind s (events_at n jobs h.0 moments ys h.2)) at);
       }
 
+  -- and in steps
+  then_more : (m : ℕ) (log_entry : LogEntry) (xs ms ys : List JoinedCore) (h : HappensAt jobs m log_entry xs ms) (x : JoinedCore) → slice_get xs n ≡ Some x
+      → (events : List (Event TheSide)) → ((y : JoinedCore) → slice_get ms n ≡ Some y → Now (behind y.run events) ys)
+      → Now (behind x.run ((if m == n then event log_entry (alone h.after) ∷ [] else []) ++ events)) ys
+  then_more m log_entry xs ms ys h x x_is events more =
+      let first : List (Event TheSide) = if m == n then event log_entry (alone h.after) ∷ [] else [] in
+      let one = by_event m log_entry xs ms h x x_is in
+      let rest = more one.core one.core_is in
+      let at : behind x.run first ≡ one.core.run = one_behind (m == n) x.run (event log_entry (alone h.after)) ∙ sym one.run_is in
+      record {
+        core = rest.core;
+        core_is = rest.core_is;
+        run_is = rest.run_is ∙ sym (behind_both x.run first events ∙ ap (λ (s : TheRun TheSide). behind s events) at);
+      }
+
+  walks_to : (steps : List CoreStep) (pending : OpenLooks) (xs ys : List JoinedCore) (h : StepByStep jobs pending xs steps ys) (x : JoinedCore)
+      → slice_get xs n ≡ Some x → Now (behind x.run (steps_at n jobs pending xs steps ys h)) ys
+  walks_to [] pending xs ys h x x_is = record { core = x; core_is = ap (λ (l : List JoinedCore). slice_get l n) h ∙ x_is; run_is = refl }
+  walks_to (acts m log_entry ∷ steps) pending xs ys h x x_is =
+      then_more m log_entry xs h.2.0 ys h.2.1 x x_is (steps_at n jobs pending h.2.0 steps ys h.2.2)
+      (λ y y_is. walks_to steps pending h.2.0 ys h.2.2 y y_is)
+  walks_to (looks m look ∷ steps) pending xs ys h x x_is =
+      then_more m look xs h.2.0 ys h.2.1 x x_is (steps_at n jobs (with_look m (Some look) pending) h.2.0 steps ys h.2.2)
+      (λ y y_is. walks_to steps (with_look m (Some look) pending) h.2.0 ys h.2.2 y y_is)
+  walks_to (follows m look log_entry ∷ steps) pending xs ys h x x_is =
+      then_more m log_entry xs h.2.0 ys h.2.1 x x_is (steps_at n jobs (with_look m None pending) h.2.0 steps ys h.2.2)
+      (λ y y_is. walks_to steps (with_look m None pending) h.2.0 ys h.2.2 y y_is)
+
 -- ---- as many cores
 
 stays_long : (jobs : List CoreJob) (moments : List Moment) (xs ys : List JoinedCore) → Interleaves jobs xs moments ys → length ys ≡ length xs
 stays_long jobs [] xs ys h = ap length h
 stays_long jobs (does m log_entry ∷ moments) xs ys h =
     stays_long jobs moments h.0 ys h.2 ∙ ap length h.1.1.rest ∙ long_set xs m (record h.1.1.before { run = alone h.1.1.after })
-stays_long jobs (forwards m look follows ∷ moments) xs ys h =
+stays_long jobs (forwards m look next ∷ moments) xs ys h =
     stays_long jobs moments h.0 ys h.2 ∙ ap length h.1.1.2.rest ∙ long_set h.1.1.0 m (record h.1.1.2.before { run = alone h.1.1.2.after })
     ∙ ap length h.1.1.1.rest ∙ long_set xs m (record h.1.1.1.before { run = alone h.1.1.1.after })
+
+steps_long : (jobs : List CoreJob) (steps : List CoreStep) (pending : OpenLooks) (xs ys : List JoinedCore) → StepByStep jobs pending xs steps ys
+    → length ys ≡ length xs
+steps_long jobs [] pending xs ys h = ap length h
+steps_long jobs (acts m log_entry ∷ steps) pending xs ys h =
+    steps_long jobs steps pending h.2.0 ys h.2.2 ∙ ap length h.2.1.rest ∙ long_set xs m (record h.2.1.before { run = alone h.2.1.after })
+steps_long jobs (looks m look ∷ steps) pending xs ys h =
+    steps_long jobs steps (with_look m (Some look) pending) h.2.0 ys h.2.2 ∙ ap length h.2.1.rest
+    ∙ long_set xs m (record h.2.1.before { run = alone h.2.1.after })
+steps_long jobs (follows m look log_entry ∷ steps) pending xs ys h =
+    steps_long jobs steps (with_look m None pending) h.2.0 ys h.2.2 ∙ ap length h.2.1.rest
+    ∙ long_set xs m (record h.2.1.before { run = alone h.2.1.after })
 
 zip_long : (jobs : List CoreJob) (limit : ℕ) (threads : List TheCoreThread) (outcomes : List TheFinishedCore) → AllZip (RanTo jobs limit) threads outcomes
     → length threads ≡ length outcomes
@@ -149,8 +191,7 @@ zip_long jobs limit (s ∷ threads) (o ∷ outcomes) h = ap suc (zip_long jobs l
 
 -- ---- a report
 
-module _ (c : TheConfig) (jobs : List Job) (limit : ℕ) (r : TheReport) (w : Reports c jobs limit r) (follow : CoresFollow w) (moments : List Moment)
-    (ys : List JoinedCore) (h : Interleaves (joined_in w).jobs (begun w) moments ys) where
+module _ (c : TheConfig) (jobs : List Job) (limit : ℕ) (r : TheReport) (w : Reports c jobs limit r) (follow : CoresFollow w) where
   abbrev threads : List TheCoreThread
   threads = w.ran.ran.ran.core_threads
 
@@ -160,48 +201,77 @@ module _ (c : TheConfig) (jobs : List Job) (limit : ℕ) (r : TheReport) (w : Re
   counted : length threads ≡ length outcomes
   counted = zip_long (joined_in w).jobs limit threads outcomes w.ran.ran.ran.ran
 
-  -- core n behind it
-  now : (n : ℕ) (s : TheCoreThread) → slice_get threads n ≡ Some s → Now n (joined_in w).jobs (behind s.run (events_at n (joined_in w).jobs (begun w) moments ys h)) ys
-  now n s s_is =
-      steps_to n (joined_in w).jobs moments (begun w) ys h (joined_one (owners_in w.ran.ran.ran.shares) n s) (at_first (owners_in w.ran.ran.ran.shares) n threads s s_is)
+  begun_at : (n : ℕ) (s : TheCoreThread) → slice_get threads n ≡ Some s → slice_get (begun w) n ≡ Some (joined_one (owners_in w.ran.ran.ran.shares) n s)
+  begun_at n s s_is = at_first (owners_in w.ran.ran.ran.shares) n threads s s_is
 
-  left : AreAllTheirTurns w follow moments ys h → AreLeft w ys
-  left theirs n o o_is =
-      let less = within outcomes n o o_is in
-      let count = counted in
-      let (s, s_is) = at_within threads n (omega (arith, less, count)) in
-      let its = follow n s o s_is o_is in
-      let there = now n s s_is in (
-        there.core,
-        there.core_is,
-        there.run_is ∙ ap (behind s.run) (theirs n s o s_is o_is) ∙ sym (follows_behind _ _ its.turned.events (moment s.run (first_cut its.core s.run)) (moment o.run its.after) its.turned.follows),
-      )
+  -- cores behind the first of their turns' events are whole
+  module _ (ys : List JoinedCore) (events : ℕ → List (Event TheSide)) (many : length ys ≡ length (begun w))
+      (now : (n : ℕ) (s : TheCoreThread) → slice_get threads n ≡ Some s → Now n (joined_in w).jobs (behind s.run (events n)) ys) where
+    still_one : (n : ℕ) (y : JoinedCore) → slice_get ys n ≡ Some y → (s : TheCoreThread) → slice_get threads n ≡ Some s → (o : TheFinishedCore)
+        → IsWhole o.run.core → (its : CoreFollows c (joined_in w).jobs r n s o) → IsPrefix (events n) its.turned.events → IsWhole y.run.core
+    still_one n y y_is s s_is o whole its (later, first) =
+        let there = now n s s_is in
+        let same : there.core ≡ y = same_some (slice_get ys n) there.core y there.core_is y_is in
+        let run : y.run ≡ behind s.run (events n) = ap (λ (x : JoinedCore). x.run) (sym same) ∙ there.run_is in
+        subst (λ (t : TheRun TheSide). IsWhole t.core) (sym run)
+        (whole_at _ _ (events n) later (moment s.run (first_cut its.core s.run)) (moment o.run its.after) whole its.turned.events first its.turned.follows)
 
-  still_one : (n : ℕ) (y : JoinedCore) → slice_get ys n ≡ Some y → (s : TheCoreThread) → slice_get threads n ≡ Some s → (o : TheFinishedCore)
-      → IsWhole o.run.core → (its : CoreFollows c (joined_in w).jobs n s o)
-      → IsPrefix (events_at n (joined_in w).jobs (begun w) moments ys h) its.turned.events → IsWhole y.run.core
-  still_one n y y_is s s_is o whole its (later, events) =
-      let there = now n s s_is in
-      let same : there.core ≡ y = same_some (slice_get ys n) there.core y there.core_is y_is in
-      let run : y.run ≡ behind s.run (events_at n (joined_in w).jobs (begun w) moments ys h) = ap (λ (x : JoinedCore). x.run) (sym same) ∙ there.run_is in
-      subst (λ (t : TheRun TheSide). IsWhole t.core) (sym run)
-      (whole_at _ _ (events_at n (joined_in w).jobs (begun w) moments ys h) later (moment s.run (first_cut its.core s.run)) (moment o.run its.after)
-      whole its.turned.events events its.turned.follows)
+    still : ((n : ℕ) (s : TheCoreThread) (o : TheFinishedCore) → (given_is : slice_get threads n ≡ Some s) → (left_is : slice_get outcomes n ≡ Some o)
+        → IsPrefix (events n) (follow n s o given_is left_is).turned.events) → AreWhole ys
+    still theirs n y y_is =
+        let less = within ys n y y_is in
+        let count = counted in
+        let long = many in
+        let first = joined_long (owners_in w.ran.ran.ran.shares) 0 threads in
+        let (s, s_is) = at_within threads n (omega (arith, less, long, first)) in
+        let (o, o_is) = at_within outcomes n (omega (arith, less, count, long, first)) in
+        let sound = w.ran.ran.ran.sound.left n o o_is in
+        still_one n y y_is s s_is o (record { core = sound.core; board = sound.board; outboxes = sound.outboxes }) (follow n s o s_is o_is) (theirs n s o s_is o_is)
 
-  still : AreTheirTurns w follow moments ys h → AreWhole ys
-  still theirs n y y_is =
-      let less = within ys n y y_is in
-      let count = counted in
-      let many = stays_long (joined_in w).jobs moments (begun w) ys h in
-      let first = joined_long (owners_in w.ran.ran.ran.shares) 0 threads in
-      let (s, s_is) = at_within threads n (omega (arith, less, many, first)) in
-      let (o, o_is) = at_within outcomes n (omega (arith, less, count, many, first)) in
-      let sound = w.ran.ran.ran.sound.left n o o_is in
-      still_one n y y_is s s_is o (record { core = sound.core; board = sound.board; outboxes = sound.outboxes }) (follow n s o s_is o_is) (theirs n s o s_is o_is)
+  -- ---- an order of them
+
+  module _ (moments : List Moment) (ys : List JoinedCore) (h : Interleaves (joined_in w).jobs (begun w) moments ys) where
+    abbrev in_order : ℕ → List (Event TheSide)
+    in_order n = events_at n (joined_in w).jobs (begun w) moments ys h
+
+    -- core n behind it
+    now : (n : ℕ) (s : TheCoreThread) → slice_get threads n ≡ Some s → Now n (joined_in w).jobs (behind s.run (in_order n)) ys
+    now n s s_is =
+        steps_to n (joined_in w).jobs moments (begun w) ys h (joined_one (owners_in w.ran.ran.ran.shares) n s) (begun_at n s s_is)
+
+    left : AreAllTheirTurns w follow moments ys h → AreLeft w ys
+    left theirs n o o_is =
+        let less = within outcomes n o o_is in
+        let count = counted in
+        let (s, s_is) = at_within threads n (omega (arith, less, count)) in
+        let its = follow n s o s_is o_is in
+        let there = now n s s_is in (
+          there.core,
+          there.core_is,
+          there.run_is ∙ ap (behind s.run) (theirs n s o s_is o_is)
+              ∙ sym (follows_behind _ _ its.turned.events (moment s.run (first_cut its.core s.run)) (moment o.run its.after) its.turned.follows),
+        )
+
+    all_whole : AreTheirTurns w follow moments ys h → AreWhole ys
+    all_whole theirs = still ys in_order (stays_long (joined_in w).jobs moments (begun w) ys h) now theirs
+
+  -- ---- their steps
+
+  module _ (steps : List CoreStep) (ys : List JoinedCore) (h : StepByStep (joined_in w).jobs none_open (begun w) steps ys) where
+    abbrev in_steps : ℕ → List (Event TheSide)
+    in_steps n = steps_at n (joined_in w).jobs none_open (begun w) steps ys h
+
+    steps_whole : AreTheirSteps w follow steps ys h → AreWhole ys
+    steps_whole theirs =
+        still ys in_steps (steps_long (joined_in w).jobs steps none_open (begun w) ys h)
+        (λ n s s_is. walks_to n (joined_in w).jobs steps none_open (begun w) ys h (joined_one (owners_in w.ran.ran.ran.shares) n s) (begun_at n s s_is)) theirs
 
 pub their_turns_join : ReportsJoin → TheirTurnsJoin
 their_turns_join join c jobs limit r w follow moments ys h theirs in_turn =
-    join c jobs limit r w moments ys h (still c jobs limit r w follow moments ys h theirs) in_turn
+    join c jobs limit r w moments ys h (all_whole c jobs limit r w follow moments ys h theirs) in_turn
+
+pub their_steps_join : StepsOfReportsJoin → TheirStepsJoin
+their_steps_join join c jobs limit r w follow steps ys h theirs = join c jobs limit r w steps ys h (steps_whole c jobs limit r w follow steps ys h theirs)
 
 pub their_turns_end : TheirTurnsEnd
 their_turns_end c jobs limit r w follow moments ys h theirs = left c jobs limit r w follow moments ys h theirs

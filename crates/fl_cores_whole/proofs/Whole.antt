@@ -1,10 +1,14 @@
 -- The cores of a reported run begin as a world that shows the machine; so what they do is its run.
-use Rattle.std.proofs.Common.{◌≡◌, inl, inr, refl, sym, ◌∙◌, ap, subst, ℕ, ◌+◌, ◌*◌, ◌<◌, List, length, slice_get, Option, Some}
+use Rattle.std.proofs.Common.{◌≡◌, inl, inr, refl, sym, ◌∙◌, ap, subst, ℕ, ◌+◌, ◌*◌, ◌<◌, List, length, slice_get, Option, Some, None}
 use Rattle.fl_base.specs.declared.identity.EndId.{EndId}
 use Rattle.fl_compile.specs.declared.program.Program.{Program}
 use Rattle.fl_core.specs.declared.wiring.EndWiring.{EndWiring}
 use Rattle.fl_core.specs.declared.wiring.EndWiring.TheVariants.{Queues, Ring}
 use Rattle.fl_core.specs.View.{TheCore, place_in, place_of, server_of}
+use Rattle.fl_core.specs.declared.core_job.CoreJob.{CoreJob}
+use Rattle.fl_core_run.specs.Run.{TheRun}
+use Rattle.fl_core_run.specs.LogEntries.{LogEntry}
+use Rattle.fl_hop.proofs.Lists.{set_here}
 use Rattle.fl_core_refines.specs.SetUpStart.{SetUpsStartFresh, StartsFresh, Stands}
 use Rattle.fl_cores.specs.Behind.{joined_in}
 use Rattle.fl_cores.specs.OneCore.{begins}
@@ -19,19 +23,22 @@ use Rattle.fl_cores_file.specs.Report.{TheReport}
 use Rattle.fl_cores_jobs.specs.Rules.{RulesOf}
 use Rattle.fl_link.specs.Queue.{TheQueue}
 use Rattle.fl_ring.specs.Duo.{TheDuo}
+use Rattle.fl_ring.specs.SharedSides.{TheSide}
 use Rattle.fl_world.specs.Booting.{TheConfig}
 use Rattle.fl_world_refines.specs.Making.{new_duo}
 use Rattle.fl_world_refines.specs.declared.binding.Binding.{Binding}
 use Rattle.fl_world_refines.specs.declared.parts.Parts.{Parts}
-use Rattle.fl_world_refines.specs.View.{TheWorld, ring_at}
+use Rattle.fl_world_refines.specs.View.{TheWorld, ring_at, IsWhole}
 use Rattle.fl_world_refines.proofs.FramesBase.{gets, same_some}
-use Rattle.fl_cores_joined.specs.Joined.{UnmadeHaveNoRules, IsJoined}
+use Rattle.fl_cores_joined.specs.Joined.{JoinedCore, UnmadeHaveNoRules, IsJoined, AreWhole, alone}
 use Rattle.fl_cores_joined.specs.Runs.{RunsJoin}
 use Rattle.fl_cores_joined.proofs.Seated.{closed_world, closed_shows, binding_there, none_kept}
 use Rattle.fl_world_refines.specs.ShowsState.{Shows}
 use Rattle.fl_cores_joined.proofs.Passing.{long_map}
 use Rattle.fl_cores_whole.specs.Begin.{renewed, IsBehind, HandedOutJoin}
-use Rattle.fl_cores_joined.specs.Entries.{moments_of, StepsInterleave}
+use Rattle.fl_cores_joined.specs.Entries.{OpenLooks, none_open, left_open, AreBeforeLooks, moments_of, StepsInterleave}
+use Rattle.fl_cores_joined.specs.Steps.{true_ways}
+use Rattle.fl_cores_joined.proofs.Earlier.{whole_back}
 use Rattle.fl_cores_whole.specs.Whole.{begun, ReportsJoin, StepsOfReportsJoin}
 use Rattle.fl_cores_whole.proofs.Asking.{open_rightly}
 use Rattle.fl_cores_whole.proofs.Renewed.{RingsAreFresh, begins_fresh, renewed_world, renewed_shows}
@@ -136,7 +143,29 @@ reports_join fresh handed runs c jobs limit r w moments ys h still in_turn =
     (record { world = there; joined = joined; shows = world_shows fresh c jobs limit r w }) h still
     (open_rightly c jobs limit r w moments (begins c jobs) ys h) in_turn
 
+-- cores were whole before looks, too
+whole_before_looks : (jobs : List CoreJob) (pending : OpenLooks) (ys ms : List JoinedCore) → AreBeforeLooks jobs pending ys ms → AreWhole ys → AreWhole ms
+whole_before_looks jobs pending ys ms before still n x x_is = by (pending n) refl
+  where
+    by : (o : Option LogEntry) → pending n ≡ o → IsWhole x.run.core
+    by None none = still n x (sym (before.others n none) ∙ x_is)
+    by (Some look) some =
+        let (zs, h, same) = before.looking n look some in
+        let then_it : JoinedCore = record h.before { run = alone h.after } in
+        let at : slice_get zs n ≡ Some then_it = ap (λ (l : List JoinedCore). slice_get l n) h.rest ∙ set_here ms n h.before then_it h.before_is in
+        let behind : IsWhole h.after.core = still n then_it (sym same ∙ at) in
+        let first : IsWhole h.before.run.core =
+        subst (λ (t : TheRun TheSide). IsWhole t.core) h.beside_is.own (whole_back true_ways look h.beside h.after h.happens behind) in
+        subst (λ (z : JoinedCore). IsWhole z.run.core) (same_some (slice_get ms n) h.before x h.before_is x_is) first
+
 pub steps_join : StepsInterleave → ReportsJoin → StepsOfReportsJoin
 steps_join interleave join c jobs limit r w steps ys h still =
-    let moments = interleave (joined_in w).jobs (begun w) ys steps h in
-    (moments, λ in_turn. join c jobs limit r w (moments_of steps) ys moments still in_turn)
+    let (ms, moments, before) = interleave (joined_in w).jobs (begun w) ys steps h in
+    record {
+      cores = ms;
+      order = moments;
+      before = before;
+      runs = λ in_turn.
+          join c jobs limit r w (moments_of steps) ms moments
+          (whole_before_looks (joined_in w).jobs (left_open none_open steps) ys ms before still) in_turn;
+    }

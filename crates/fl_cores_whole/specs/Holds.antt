@@ -11,16 +11,18 @@ use Rattle.fl_model.specs.Runs.{Exchange, run, reached, calls_handled}
 use Rattle.fl_model.specs.SoundLimits.{NumbersAreOnceBothWays}
 use Rattle.fl_model.specs.State.{State}
 use Rattle.fl_model.specs.Worlds.{start_with}
+use Rattle.fl_world_laws.specs.Booted.{NumbersFall}
 use Rattle.fl_cores_file.specs.Jobs.{Job}
 use Rattle.fl_cores_file.specs.Report.{TheReport}
 use Rattle.fl_world.specs.Booting.{TheConfig}
 use Rattle.fl_cores.specs.Behind.{joined_in}
+use Rattle.fl_cores.specs.Follows.{CoresFollow}
 use Rattle.fl_cores.specs.OneCore.{rule_in, begins}
 use Rattle.fl_cores.specs.Promised.{Reports}
 use Rattle.fl_cores_joined.specs.Joined.{JoinedCore, AreWhole}
 use Rattle.fl_cores_joined.specs.Steps.{Moment, Interleaves}
-use Rattle.fl_cores_joined.specs.Runs.{asked_in, events_of, OpenInTurn}
-use Rattle.fl_cores_whole.specs.Whole.{begun}
+use Rattle.fl_cores_joined.specs.Runs.{asked_in, events_of, AllAreNumbered}
+use Rattle.fl_cores_whole.specs.Whole.{begun, AreTheirTurns}
 
 -- the machine's events before the cores', which set things up and set the jobs' rules
 abbrev pub events_before : TheConfig → List Job → List Event
@@ -39,6 +41,8 @@ pub record KeepsLaws (c : TheConfig) (jobs : List Job) (exchanges : List Exchang
   pub handled : (e : EndId)
       → IsPrefix (calls_handled e (run (start_with c.cores) (events_before c jobs) ++ exchanges))
       (accepted_by (state_after c jobs exchanges) (peer e))
+  -- no more fragments of an end's calls have passed a station of their way than the one before it
+  pub passed : NumbersFall (state_after c jobs exchanges)
   -- a circuit's number on a link was given once, whichever of the two cores gave it
   pub once : NumbersAreOnceBothWays (state_after c jobs exchanges)
 
@@ -46,5 +50,13 @@ abbrev pub ReportsHold : Type 0
 ReportsHold = (c : TheConfig) (jobs : List Job) (limit : ℕ) (r : TheReport) (w : Reports c jobs limit r)
     (moments : List Moment) (ys : List JoinedCore)
     → (h : Interleaves (joined_in w).jobs (begun w) moments ys) → AreWhole ys
-    → OpenInTurn (joined_in w).jobs (begins c jobs) (begun w) moments ys h
+    → AllAreNumbered (joined_in w).jobs (begins c jobs) (begun w) moments ys h
+    → KeepsLaws c jobs (asked_in (joined_in w).jobs (begun w) moments ys h)
+
+-- So it does of what they did in their turns, up to any moment
+abbrev pub TheirTurnsHold : Type 0
+TheirTurnsHold = (c : TheConfig) (jobs : List Job) (limit : ℕ) (r : TheReport) (w : Reports c jobs limit r)
+    (follow : CoresFollow w) (moments : List Moment) (ys : List JoinedCore)
+    → (h : Interleaves (joined_in w).jobs (begun w) moments ys) → AreTheirTurns w follow moments ys h
+    → AllAreNumbered (joined_in w).jobs (begins c jobs) (begun w) moments ys h
     → KeepsLaws c jobs (asked_in (joined_in w).jobs (begun w) moments ys h)

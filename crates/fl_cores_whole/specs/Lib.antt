@@ -1,3 +1,5 @@
 pub mod Begin
 pub mod Whole
 pub mod Holds
+pub mod One
+pub mod Told

@@ -1,5 +1,5 @@
 -- A reported run of cores, as a run of the one machine. Laws.
-use Rattle.std.specs.Prelude.{ℕ, ◌≡◌, ◌==◌, if◌then◌else◌, List, [], ◌∷◌, ◌++◌, slice_get, Some}
+use Rattle.std.specs.Prelude.{ℕ, ◌≡◌, ◌==◌, if◌then◌else◌, List, [], ◌∷◌, ◌++◌, slice_get, Some, None}
 use Rattle.fl_base.specs.Prefix.{IsPrefix}
 use Rattle.fl_ring.specs.SharedSides.{TheSide}
 use Rattle.fl_core.specs.declared.core_job.CoreJob.{CoreJob}
@@ -13,9 +13,11 @@ use Rattle.fl_cores_file.specs.Jobs.{Job}
 use Rattle.fl_cores_file.specs.Report.{TheReport}
 use Rattle.fl_world.specs.Booting.{TheConfig}
 use Rattle.fl_cores_joined.specs.Joined.{JoinedCore, AreWhole, alone}
-use Rattle.fl_cores_joined.specs.Entries.{CoreStep, none_open, StepByStep, moments_of}
+use Rattle.fl_cores_joined.specs.Entries.{CoreStep, acts, looks, follows, OpenLooks, none_open, with_look}
+use Rattle.fl_cores_joined.specs.Entries.{StepByStep, left_open, AreBeforeLooks}
+use Rattle.fl_cores_joined.specs.Entries.{moments_of}
 use Rattle.fl_cores_joined.specs.Steps.{Moment, does, forwards, Interleaves}
-use Rattle.fl_cores_joined.specs.Runs.{asked_in, MachineRuns, OpenInTurn}
+use Rattle.fl_cores_joined.specs.Runs.{asked_in, MachineRuns, AllAreNumbered}
 use Rattle.fl_cores_whole.specs.Begin.{joined_from, owners_in}
 
 -- the cores of a reported run, as their threads are given them
@@ -30,18 +32,25 @@ abbrev pub ReportsJoin : Type 0
 ReportsJoin = (c : TheConfig) (jobs : List Job) (limit : ℕ) (r : TheReport) (w : Reports c jobs limit r)
     (moments : List Moment) (ys : List JoinedCore)
     → (h : Interleaves (joined_in w).jobs (begun w) moments ys) → AreWhole ys
-    → OpenInTurn (joined_in w).jobs (begins c jobs) (begun w) moments ys h
+    → AllAreNumbered (joined_in w).jobs (begins c jobs) (begun w) moments ys h
     → MachineRuns (asked_in (joined_in w).jobs (begun w) moments ys h) (begins c jobs) ys
 
--- The same entry by entry, where entries of others may come between a look and what follows it: it comes to
--- the same as with each look at the moment of what follows it, and so it is a run of the machine.
+-- an order of these steps with each look at the moment of what follows it, but for the looks that are open in
+-- the end, which are still to come: where circuits are asked for in the order of their numbers it is a run
+-- of the machine
+pub record StepsRun {c : TheConfig} {jobs : List Job} {limit : ℕ} {r : TheReport} (w : Reports c jobs limit r)
+    (steps : List CoreStep) (ys : List JoinedCore) : Type 0 where
+  pub cores : List JoinedCore
+  pub order : Interleaves (joined_in w).jobs (begun w) (moments_of steps) cores
+  pub before : AreBeforeLooks (joined_in w).jobs (left_open none_open steps) ys cores
+  pub runs : AllAreNumbered (joined_in w).jobs (begins c jobs) (begun w) (moments_of steps) cores order
+      → MachineRuns (asked_in (joined_in w).jobs (begun w) (moments_of steps) cores order) (begins c jobs) cores
+
+-- So it is entry by entry, up to any moment, where entries of others may come between a look and what follows it.
 abbrev pub StepsOfReportsJoin : Type 0
 StepsOfReportsJoin = (c : TheConfig) (jobs : List Job) (limit : ℕ) (r : TheReport) (w : Reports c jobs limit r)
     (steps : List CoreStep) (ys : List JoinedCore)
-    → StepByStep (joined_in w).jobs none_open (begun w) steps ys → AreWhole ys
-    → (h : Interleaves (joined_in w).jobs (begun w) (moments_of steps) ys)
-    × (OpenInTurn (joined_in w).jobs (begins c jobs) (begun w) (moments_of steps) ys h
-    → MachineRuns (asked_in (joined_in w).jobs (begun w) (moments_of steps) ys h) (begins c jobs) ys)
+    → StepByStep (joined_in w).jobs none_open (begun w) steps ys → AreWhole ys → StepsRun w steps ys
 
 -- ---- what the threads did
 
@@ -51,8 +60,8 @@ abbrev pub events_at : ℕ → (jobs : List CoreJob) (xs : List JoinedCore) (mom
 events_at n jobs xs [] ys h = []
 events_at n jobs xs (does m log_entry ∷ moments) ys h =
     (if m == n then event log_entry (alone h.1.1.after) ∷ [] else []) ++ events_at n jobs h.0 moments ys h.2
-events_at n jobs xs (forwards m look follows ∷ moments) ys h =
-    (if m == n then event look (alone h.1.1.1.after) ∷ event follows (alone h.1.1.2.after) ∷ [] else [])
+events_at n jobs xs (forwards m look next ∷ moments) ys h =
+    (if m == n then event look (alone h.1.1.1.after) ∷ event next (alone h.1.1.2.after) ∷ [] else [])
     ++ events_at n jobs h.0 moments ys h.2
 
 module _ {c : TheConfig} {jobs : List Job} {limit : ℕ} {r : TheReport} (w : Reports c jobs limit r)
@@ -74,6 +83,29 @@ module _ {c : TheConfig} {jobs : List Job} {limit : ℕ} {r : TheReport} (w : Re
       → (left_is : slice_get w.ran.ran.ran.outcomes n ≡ Some o)
       → events_at n (joined_in w).jobs (begun w) moments ys h ≡ (follow n s o given_is left_is).turned.events
 
+-- the events of core n in steps, each with the core behind it
+abbrev pub steps_at : ℕ → (jobs : List CoreJob) (pending : OpenLooks) (xs : List JoinedCore) (steps : List CoreStep)
+    (ys : List JoinedCore) → StepByStep jobs pending xs steps ys → List (TurnEvent TheSide)
+steps_at n jobs pending xs [] ys h = []
+steps_at n jobs pending xs (acts m log_entry ∷ steps) ys h =
+    (if m == n then event log_entry (alone h.2.1.after) ∷ [] else []) ++ steps_at n jobs pending h.2.0 steps ys h.2.2
+steps_at n jobs pending xs (looks m look ∷ steps) ys h =
+    (if m == n then event look (alone h.2.1.after) ∷ [] else [])
+    ++ steps_at n jobs (with_look m (Some look) pending) h.2.0 steps ys h.2.2
+steps_at n jobs pending xs (follows m look log_entry ∷ steps) ys h =
+    (if m == n then event log_entry (alone h.2.1.after) ∷ [] else [])
+    ++ steps_at n jobs (with_look m None pending) h.2.0 steps ys h.2.2
+
+-- steps of what the cores did: of each core's turns the first events, up to any moment
+abbrev pub AreTheirSteps : {c : TheConfig} {jobs : List Job} {limit : ℕ} {r : TheReport}
+    (w : Reports c jobs limit r) → CoresFollow w → (steps : List CoreStep) (ys : List JoinedCore)
+    → StepByStep (joined_in w).jobs none_open (begun w) steps ys → Type 0
+AreTheirSteps w follow steps ys h = (n : ℕ) (s : TheCoreThread) (o : TheFinishedCore)
+    → (given_is : slice_get w.ran.ran.ran.core_threads n ≡ Some s)
+    → (left_is : slice_get w.ran.ran.ran.outcomes n ≡ Some o)
+    → IsPrefix (steps_at n (joined_in w).jobs none_open (begun w) steps ys h)
+    (follow n s o given_is left_is).turned.events
+
 module _ {c : TheConfig} {jobs : List Job} {limit : ℕ} {r : TheReport} (w : Reports c jobs limit r) where
   -- these are the cores as they were left, of which the report tells
   abbrev pub AreLeft : List JoinedCore → Type 0
@@ -85,10 +117,17 @@ abbrev pub TheirTurnsJoin : Type 0
 TheirTurnsJoin = (c : TheConfig) (jobs : List Job) (limit : ℕ) (r : TheReport) (w : Reports c jobs limit r)
     (follow : CoresFollow w) (moments : List Moment) (ys : List JoinedCore)
     → (h : Interleaves (joined_in w).jobs (begun w) moments ys) → AreTheirTurns w follow moments ys h
-    → OpenInTurn (joined_in w).jobs (begins c jobs) (begun w) moments ys h
+    → AllAreNumbered (joined_in w).jobs (begins c jobs) (begun w) moments ys h
     → MachineRuns (asked_in (joined_in w).jobs (begun w) moments ys h) (begins c jobs) ys
 
--- and one of all that they did ends with the cores as they were left.
+-- and such steps,
+abbrev pub TheirStepsJoin : Type 0
+TheirStepsJoin = (c : TheConfig) (jobs : List Job) (limit : ℕ) (r : TheReport) (w : Reports c jobs limit r)
+    (follow : CoresFollow w) (steps : List CoreStep) (ys : List JoinedCore)
+    → (h : StepByStep (joined_in w).jobs none_open (begun w) steps ys) → AreTheirSteps w follow steps ys h
+    → StepsRun w steps ys
+
+-- and an order of all that they did ends with the cores as they were left.
 abbrev pub TheirTurnsEnd : Type 0
 TheirTurnsEnd = (c : TheConfig) (jobs : List Job) (limit : ℕ) (r : TheReport) (w : Reports c jobs limit r)
     (follow : CoresFollow w) (moments : List Moment) (ys : List JoinedCore)

@@ -1,13 +1,17 @@
 //! What a run of cores is of the one machine: laws, as the contracts of functions that do nothing.
 
 ghost use Rattle.fl_cores_whole.specs.Begin.{HandedOutJoin};
-ghost use Rattle.fl_cores_whole.specs.Holds.{ReportsHold};
-ghost use Rattle.fl_cores_whole.specs.Whole.{ReportsJoin, StepsOfReportsJoin, TheirTurnsEnd, TheirTurnsJoin};
+ghost use Rattle.fl_cores_whole.specs.Holds.{ReportsHold, TheirTurnsHold};
+ghost use Rattle.fl_cores_whole.specs.One.{OneCoreJoins};
+ghost use Rattle.fl_cores_whole.specs.Told.{TheirCallsAreTold};
+ghost use Rattle.fl_cores_whole.specs.Whole.{ReportsJoin, StepsOfReportsJoin};
+ghost use Rattle.fl_cores_whole.specs.Whole.{TheirStepsJoin, TheirTurnsEnd, TheirTurnsJoin};
 
 use fl_core_refines::law_set_ups_start_fresh;
+use fl_cores::law_reports_are_of_runs;
 use fl_cores_joined::{law_runs_join, law_steps_interleave};
 use fl_model_laws::{law_no_wire_faults, law_numbers_are_once_both_ways};
-use fl_world_laws::law_handled_is_ever_a_prefix;
+use fl_world_laws::{law_handled_is_ever_a_prefix, law_passed_ever_falls};
 
 /// What a set-up made, once its cores, rings and queues are handed out to threads, is the world that these
 /// cores make.
@@ -25,7 +29,8 @@ pub fn law_reports_join()
     law_runs_join();
 }
 
-/// So it is where entries of others come between a look and what follows it.
+/// So it is where entries of others come between a look and what follows it, up to any moment: looks that
+/// nothing followed by then are still to come, and ask nothing of the machine.
 pub fn law_steps_join()
     ensures steps { StepsOfReportsJoin }
 {
@@ -33,22 +38,43 @@ pub fn law_steps_join()
     law_reports_join();
 }
 
-/// So is such an order of what they did in their turns, up to any moment of the run; and one of all that they
-/// did ends with the cores of which the report tells.
+/// So is such an order of what they did in their turns, at any moment at which no look waits for what follows
+/// it, and entry by entry at any moment at all; and one of all that they did ends with the cores of which the
+/// report tells.
 pub fn law_their_turns_join()
     ensures runs { TheirTurnsJoin }
+    ensures steps { TheirStepsJoin }
     ensures end { TheirTurnsEnd }
 {
     law_reports_join();
+    law_steps_join();
 }
 
-/// In all of it no core meets a fault of received fragments, or a circuit without an entry; what an end handled is a
-/// prefix of what the other end accepted; and a circuit's number on a link was given once.
+/// In an order of all that they did, each end handled just the calls that the report tells, in its core's turns.
+pub fn law_their_calls_are_told()
+    ensures told { TheirCallsAreTold }
+{
+    law_reports_are_of_runs();
+}
+
+/// There are such orders: with one core, all that it did in its turns is one, and each premise of
+/// [`law_reports_join`] holds of it.
+pub fn law_one_core_joins()
+    ensures one { OneCoreJoins }
+{}
+
+/// In all of it no core meets a fault of received fragments, or a circuit without an entry; what an end
+/// handled is a prefix of what the other end accepted; no more fragments have passed a station of a way than
+/// the one before it; and a circuit's number on a link was given once. So it is of what the cores did in their
+/// turns, up to any moment.
 pub fn law_reports_hold()
     ensures hold { ReportsHold }
+    ensures turns { TheirTurnsHold }
 {
     law_no_wire_faults();
     law_handled_is_ever_a_prefix();
+    law_passed_ever_falls();
     law_numbers_are_once_both_ways();
     law_reports_join();
+    law_their_turns_join();
 }

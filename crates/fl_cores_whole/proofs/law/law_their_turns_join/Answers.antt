@@ -1,5 +1,9 @@
-use Rattle.fl_cores_whole.proofs.Turned.{their_turns_join, their_turns_end}
+use Rattle.fl_cores_whole.proofs.Turned.{their_turns_join, their_steps_join, their_turns_end}
 use Rattle.fl_cores_whole.proofs.law.law_their_turns_join.Goals as goal
 
 pub returns : goal.returns
-returns c = record { runs = their_turns_join c.law_reports_join.ensures.runs; end = their_turns_end }
+returns c = record {
+  runs = their_turns_join c.law_reports_join.ensures.runs;
+  steps = their_steps_join c.law_steps_join.ensures.steps;
+  end = their_turns_end;
+}
