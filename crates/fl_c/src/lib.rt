@@ -2,7 +2,7 @@
 //!
 //! C makes handles (`flounder_make`) and asks operations of them by number (`flounder_use`), or by name
 //! (`flounder_put`). Each operation is an ordinary function here, whose contract says exactly what it does
-//! (`specs/Sides.antt`); what a caller can get wrong is answered by a number of 100 or more, and nothing is done.
+//! (`specs/Sides.antt`, `specs/Handles.antt`); what a caller can get wrong is answered by a number of 100 or more, and nothing is done.
 //! `ffi/flounder.h` has a C function for each operation.
 //!
 //! - `exports.rt`: what C calls; `shortcuts.rt`: what it calls most often

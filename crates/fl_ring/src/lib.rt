@@ -6,7 +6,7 @@
 //!
 //! - `one_ring.rt`: `OneRing`, one direction with an acknowledgement word
 //! - `one_duo.rt`: `OneDuo`, two directions whose acknowledgements ride in control words
-//! - `halves.rt`: one side of it
+//! - `halves.rt`: one side of it; `duo_side.rt`: that side lent to a core
 //! - `counts.rt`: how a 16-bit number names a full count
 //! - `shared.rt`: `ring` and `duo`, whose two sides may be in two threads
 //! - `slots.rt`: one slot of eight words

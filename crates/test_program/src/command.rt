@@ -1,5 +1,5 @@
 //! What the program is made of, by the public calls of `flounder_args` and `flounder_commands`: words, files and standard input
-//! in; standard output, standard error and a status out. `cores` and whole runs are tested in `flounder`.
+//! in; standard output, standard error and a status out. `cores` and whole runs are tested in `test_cores`.
 //!
 //! - `words.rt`: what words ask for, words that are no command, and help
 //! - `outputs.rt`: what commands print, and files that can only be read
