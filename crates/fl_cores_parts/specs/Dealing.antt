@@ -108,6 +108,7 @@ pub record Wirings (p : Parts) (j : TheJoinedJobs) (core_threads : List TheCoreT
 
 -- where cores ran, the sides of new rings that were handed out to them are still in their owners' hands. Law
 abbrev pub RingsHold : Type 0
-RingsHold = (jobs : List CoreJob) (limit : ℕ) (rings : List TheDuo) (pairs : List TwoSides) (owners : List ℕ) (core_threads : List TheCoreThread) (outcomes : List TheFinishedCore)
+RingsHold = (jobs : List CoreJob) (limit : ℕ) (rings : List TheDuo) (pairs : List TwoSides) (owners : List ℕ)
+    → (core_threads : List TheCoreThread) (outcomes : List TheFinishedCore)
     → AllZip (RanTo jobs limit) core_threads outcomes → AreNewRings rings pairs → AreHandedOut owners (sides_of pairs) (sides_given core_threads)
     → HoldRings owners (sides_left outcomes)

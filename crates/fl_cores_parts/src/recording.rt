@@ -1,8 +1,9 @@
 //! What the sides of a run noted.
 
-ghost use Rattle.std.specs.Prelude.{◌≡◌, true, IfOk, IfSome};
+ghost use Rattle.std.specs.Prelude.{◌≡◌, true, map, IfOk, IfSome};
 ghost use Rattle.std.specs.List.{All};
-ghost use Rattle.fl_cores_parts.specs.Recorded.{IsRecordOf};
+ghost use Rattle.fl_cores_shares.specs.Noted.{noted_of};
+ghost use Rattle.fl_cores_parts.specs.Recorded.{noted_by, IsRecordOf};
 
 use fl_cores_fork::FinishedCore;
 use fl_cores_shares::SideRecord;
@@ -22,20 +23,18 @@ pub struct RunRecord {
 pub struct Recording {
     /// Whether a run is to note what it does.
     pub is_on: bool,
-    /// What the last run that came to a report noted. There is none where it wasn't to note, or where there was no memory to
-    /// note all.
+    /// What the last run noted whose cores all ran, also where there was no memory for its report. There is none where it
+    /// wasn't to note, or where there was no memory to note all.
     pub record: Option<RunRecord>,
 }
 
-// What the sides of a core noted, once more. Where they hadn't the memory to note all, that is told as no memory here.
-fn records_of(alloc: Global, core: &FinishedCore) -> Result<Vec<SideRecord>, AllocError>
+// What sides noted, once more. Where they hadn't the memory to note all, that is told as no memory here.
+fn copies_of(alloc: Global, noted: &[SideRecord]) -> Result<Vec<SideRecord>, AllocError>
+    ensures same { IfOk result (λ v. map noted_of v.items ≡ map noted_of noted.now) }
     ensures whole { IfOk result (λ v. All (λ r. r.is_whole ≡ true) v.items) }
 {
-    let Some(noted) = &core.records else {
-        return Err(AllocError);
-    };
     let mut records = Vec::new(alloc);
-    for record in noted.iter() {
+    for record in noted {
         let copy = record.duplicate(alloc)?;
         if !copy.is_whole {
             return Err(AllocError);
@@ -43,6 +42,17 @@ fn records_of(alloc: Global, core: &FinishedCore) -> Result<Vec<SideRecord>, All
         records.push(copy)?;
     }
     Ok(records)
+}
+
+// What the sides of a core noted.
+fn records_of(alloc: Global, core: &FinishedCore) -> Result<Vec<SideRecord>, AllocError>
+    ensures noted { IfOk result (λ v. map noted_of v.items ≡ noted_by core.now) }
+    ensures whole { IfOk result (λ v. All (λ r. r.is_whole ≡ true) v.items) }
+{
+    match &core.records {
+        None => Err(AllocError),
+        Some(noted) => copies_of(alloc, noted),
+    }
 }
 
 // What cores that ran noted, once more.
@@ -69,8 +79,8 @@ impl Recording {
         }
     }
 
-    /// Keeps what the sides of cores that ran noted, in place of what an earlier run noted.
-    pub(crate) fn keep(&mut self, alloc: Global, done: &[FinishedCore])
+    /// Puts what the sides of cores that ran noted in place of what an earlier run noted.
+    pub(crate) fn put(&mut self, alloc: Global, done: &[FinishedCore])
         ensures on { self.new.is_on ≡ self.old.is_on }
         ensures record { IfSome self.new.record (IsRecordOf done.now) }
     {

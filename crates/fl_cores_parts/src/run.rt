@@ -75,7 +75,8 @@ fn report_on(
     requires rings { HoldRings owners.items (sides_left (map outcome_of done.items)) }
     ensures tells { IfOk result (λ r. Tells (joined_of joined.old) (map outcome_of done.items) (report_of r)) }
     ensures heard { OnOk result (HeardAsTold (length joined.old.owners.items) (seats_left (map outcome_of done.items))) }
-    ensures near { OnOk result ((after : List TwoSides) → AreHandedOut owners.items (sides_of after) (sides_left (map outcome_of done.items)) → Each IsNear after) }
+    ensures near { OnOk result ((after : List TwoSides) → AreHandedOut owners.items (sides_of after) (sides_left (map outcome_of done.items))
+        → Each IsNear after) }
 {
     let mut done = done;
     let jobs = mem::replace(&mut joined.jobs, Vec::new(alloc));
@@ -116,7 +117,7 @@ fn run_joined<R: Threads + Wait + Sync, G: Gate + Sync>(
         recording.is_on,
     );
     let done = ran?;
-    recording.keep(alloc, &done);
+    recording.put(alloc, &done);
     Ok(report_on(alloc, &mut joined, own, wired.owners, done)?)
 }
 

@@ -39,7 +39,8 @@ pub(crate) fn put_together(
     requires rest { IsRest own jobs (seats_left (map outcome_of done.items)) }
     requires rings { HoldRings owners.items (sides_left (map outcome_of done.items)) }
     ensures heard { OnOk result (HeardAsTold jobs (seats_left (map outcome_of done.items))) }
-    ensures near { OnOk result ((after : List TwoSides) → AreHandedOut owners.items (sides_of after) (sides_left (map outcome_of done.items)) → Each IsNear after) }
+    ensures near { OnOk result ((after : List TwoSides) → AreHandedOut owners.items (sides_of after) (sides_left (map outcome_of done.items))
+        → Each IsNear after) }
 {
     let holdings = gather(alloc, own, jobs, done)?;
     settle(owners, holdings);

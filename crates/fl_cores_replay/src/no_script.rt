@@ -1,5 +1,6 @@
 //! Why a run has no script.
 
+use fl_cores_script::MAX_SCRIPT;
 use std::alloc::AllocError;
 use std::fmt;
 
@@ -8,8 +9,10 @@ use std::fmt;
 pub enum NoScript {
     /// Out of memory (E99).
     Memory,
-    /// The run wasn't recorded, or there was no memory to record it whole.
+    /// The run wasn't recorded.
     Unrecorded,
+    /// It was to be, and there was no memory to record it whole.
+    RecordLost,
     /// The record isn't of this file: the file is refused, or its cores or rings are others.
     OtherFile,
     /// The cores of the file, run once more, don't do what the record tells.
@@ -34,14 +37,18 @@ impl fmt::Display for NoScript {
     fn fmt<W: fmt::Write>(&self, f: &mut fmt::Formatter<W>) -> fmt::Result {
         match self {
             NoScript::Memory => f.write_str("out of memory"),
-            NoScript::Unrecorded => f.write_str("there was no memory to record the run"),
+            NoScript::Unrecorded => f.write_str("the run wasn't recorded"),
+            NoScript::RecordLost => f.write_str("there was no memory to record the run"),
             NoScript::OtherFile => f.write_str("the record is of another file"),
             NoScript::Strays => f.write_str("its cores, run once more, do something else"),
             NoScript::NoOrder => f.write_str("no order of its events was found"),
-            NoScript::TooLong { bytes } => write!(
-                f,
-                "the script has {bytes} bytes, and exec takes 1048576; record fewer calls or turns"
-            ),
+            NoScript::TooLong { bytes } => {
+                let most = MAX_SCRIPT;
+                write!(
+                    f,
+                    "the script has {bytes} bytes, and exec takes {most}; record fewer calls or turns"
+                )
+            }
             NoScript::OtherLines => {
                 f.write_str("a line of the script neither stands in the file nor asks for an event")
             }

@@ -60,8 +60,7 @@ fn side_at(
     let Some(slots) = slots.get(number / 2) else {
         return Err(NoScript::OtherFile);
     };
-    let noted = noted.duplicate(alloc)?;
-    Ok(ReplayedSide::new(alloc, noted, number, *slots))
+    Ok(ReplayedSide::new(alloc, noted, number, *slots)?)
 }
 
 // The sides of a core.

@@ -384,8 +384,8 @@ impl CoreReplay {
         Ok(())
     }
 
-    // Keeps an event, if it is to be told: one that did something.
-    fn keep(&mut self, step: CoreStep, moved: bool) -> Result<(), AllocError> {
+    // Adds an event, if it is to be told: one that did something.
+    fn add(&mut self, step: CoreStep, moved: bool) -> Result<(), AllocError> {
         let is_told = match step.event {
             CoreEvent::Forward(_) => step.is_take(),
             CoreEvent::Say(_) | CoreEvent::Tell(_) | CoreEvent::Ack(_) => step.put.is_some(),
@@ -422,7 +422,7 @@ impl CoreReplay {
             put: effect.put,
             is_left_out: false,
         };
-        self.keep(step, core.idle == 0)?;
+        self.add(step, core.idle == 0)?;
         mark_missed(core, self.steps.as_slice().len());
         Ok(())
     }

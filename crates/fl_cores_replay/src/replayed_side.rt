@@ -7,7 +7,7 @@ ghost use Rattle.fl_cores_replay.specs.Sides.{Any};
 use fl_base::Frag;
 use fl_cores_shares::SideRecord;
 use fl_link::{PutFault, PutSide, Sight, TakeSide, Told};
-use std::alloc::Global;
+use std::alloc::{AllocError, Global};
 use std::collections::VecDeque;
 
 // What an event did at a side.
@@ -78,7 +78,12 @@ pub(crate) const NO_RING_EFFECT: RingEffect = RingEffect {
 /// A side of a ring that answers as a record says.
 #[derive(Drop)]
 pub(crate) struct ReplayedSide {
-    record: SideRecord,
+    // as noted: how many fragments it is to see, and how many looks find nothing at each and at the next
+    seen: usize,
+    missed: Vec<u64>,
+    // how many it is to put, and how many puts find no room for each
+    puts: usize,
+    refused: Vec<u64>,
     // its number among all sides
     number: usize,
     // so many that are taken and not told are acknowledged
@@ -87,8 +92,8 @@ pub(crate) struct ReplayedSide {
     inbox: VecDeque<Frag>,
     sighted: Option<Frag>,
     // how often the next look found nothing, and the next put no room
-    missing: u32,
-    refusing: u32,
+    missing: u64,
+    refusing: u64,
     taken: usize,
     told: usize,
     placed: usize,
@@ -118,16 +123,32 @@ fn sight_of(frag: Frag) -> Sight
     Sight::Data(frag)
 }
 
+// How often a side waited at a fragment.
+fn count_at(counts: &[u64], fragment: usize) -> u64 {
+    match counts.get(fragment) {
+        None => 0,
+        Some(count) => *count,
+    }
+}
+
 impl ReplayedSide {
     /// A side of this number, of a ring with so many slots each way, that has done nothing yet.
+    ///
+    /// # Errors
+    /// Out of memory.
     pub(crate) fn new(
         alloc: Global,
-        record: SideRecord,
+        record: &SideRecord,
         number: usize,
         slots: usize,
-    ) -> ReplayedSide {
-        ReplayedSide {
-            record,
+    ) -> Result<ReplayedSide, AllocError> {
+        let missed = record.missed_counts(alloc)?;
+        let refused = record.refused_counts(alloc)?;
+        Ok(ReplayedSide {
+            seen: record.seen,
+            missed,
+            puts: record.placed,
+            refused,
             number,
             half: slots / 2,
             inbox: VecDeque::new(alloc),
@@ -142,7 +163,7 @@ impl ReplayedSide {
             missed_behind: 0,
             behind: Vec::new(alloc),
             is_lost: false,
-        }
+        })
     }
 
     /// Whether it can answer a look: what that is to find is there.
@@ -150,8 +171,8 @@ impl ReplayedSide {
         if self.sighted.is_some() {
             return true;
         }
-        self.taken >= self.record.missed.as_slice().len()
-            || self.missing < self.record.missed_at(self.taken)
+        self.taken >= self.seen
+            || self.missing < count_at(&self.missed, self.taken)
             || !self.inbox.is_empty()
     }
 
@@ -162,8 +183,7 @@ impl ReplayedSide {
 
     /// Whether all that was noted came again.
     pub(crate) fn is_done(&self) -> bool {
-        self.behind.as_slice().len() >= self.record.missed.as_slice().len()
-            && self.placed >= self.record.refused.as_slice().len()
+        self.behind.as_slice().len() >= self.seen && self.placed >= self.puts
     }
 
     /// The next fragment that the other side put is there.
@@ -219,12 +239,12 @@ impl ReplayedSide {
 
     // What a look finds that saw nothing before.
     fn look(&mut self) -> Option<Frag> {
-        if self.missing < self.record.missed_at(self.taken) {
+        if self.missing < count_at(&self.missed, self.taken) {
             self.missing = self.missing.saturating_add(1);
             self.effect.missed = true;
             return None;
         }
-        if self.taken >= self.record.missed.as_slice().len() {
+        if self.taken >= self.seen {
             return None;
         }
         let first = self.inbox.front()?;
@@ -239,11 +259,7 @@ impl ReplayedSide {
 
     // A put, or an acknowledgement, that needs so many free slots.
     fn place(&mut self, frag: &Frag, need: usize) -> Result<(), PutFault> {
-        let refused = match self.record.refused.get(self.placed) {
-            None => true,
-            Some(count) => self.refusing < *count,
-        };
-        if refused {
+        if self.placed >= self.puts || self.refusing < count_at(&self.refused, self.placed) {
             self.refusing = self.refusing.saturating_add(1);
             return Err(PutFault::Full);
         }

@@ -1,8 +1,9 @@
 //! A recorded run, told as a script.
 
-ghost use Rattle.std.specs.Prelude.{IfOk};
+ghost use Rattle.std.specs.Prelude.{◌≡◌, IfOk};
 ghost use Rattle.fl_cores_script.specs.Kept.{KeepsToFile};
 ghost use Rattle.fl_cores_script.specs.Replays.{Replays};
+ghost use Rattle.fl_cores_replay.specs.Reasons.{reason_without, IsToldUnrecorded};
 
 use crate::lines::{FileLines, put_line, split_file};
 use crate::no_script::NoScript;
@@ -169,16 +170,33 @@ fn tell_file(
     }
 }
 
-// A script of what the cores of a file did in a run that was recorded.
-fn tell_script(alloc: Global, text: &[u8], recording: &Recording) -> Result<Vec<u8>, NoScript> {
-    let Some(record) = &recording.record else {
-        return Err(NoScript::Unrecorded);
-    };
+// The same of a cores file's text.
+fn tell_text(alloc: Global, text: &[u8], record: &RunRecord) -> Result<Vec<u8>, NoScript> {
     match wire_cores_text(alloc, text) {
         Ok(Some(file)) => tell_file(alloc, text, file, record),
         Ok(None) => Err(NoScript::OtherFile),
         Err(CoresFault::Memory) => Err(NoScript::Memory),
         Err(_) => Err(NoScript::OtherFile),
+    }
+}
+
+// Why there is no record of a run, which was to be recorded or not.
+fn why_unrecorded(is_on: bool) -> NoScript
+    ensures reason { result ≡ reason_without is_on }
+{
+    if is_on {
+        return NoScript::RecordLost;
+    }
+    NoScript::Unrecorded
+}
+
+// A script of what the cores of a file did in a run that was recorded.
+fn tell_script(alloc: Global, text: &[u8], recording: &Recording) -> Result<Vec<u8>, NoScript>
+    ensures unrecorded { IsToldUnrecorded recording.now.record recording.now.is_on result }
+{
+    match &recording.record {
+        None => Err(why_unrecorded(recording.is_on)),
+        Some(record) => tell_text(alloc, text, record),
     }
 }
 
@@ -210,7 +228,7 @@ fn certified(
 /// asks for an event of a core.
 ///
 /// # Errors
-/// [`NoScript`]: why there is none.
+/// [`NoScript`]: why there is none. Of a run without a record that is said, whatever the file and the report are.
 pub fn script_of(
     alloc: Global,
     file: &[u8],
@@ -219,7 +237,10 @@ pub fn script_of(
 ) -> Result<Vec<u8>, NoScript>
     ensures replays { IfOk result (λ script. Replays script.items report.now) }
     ensures keeps { IfOk result (λ script. KeepsToFile script.items file.now) }
+    ensures unrecorded { IsToldUnrecorded recording.now.record recording.now.is_on result }
 {
-    let script = tell_script(alloc, file, recording)?;
-    certified(alloc, script, file, report)
+    match tell_script(alloc, file, recording) {
+        Ok(script) => certified(alloc, script, file, report),
+        Err(reason) => Err(reason),
+    }
 }

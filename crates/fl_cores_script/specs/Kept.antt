@@ -7,13 +7,13 @@ use Rattle.fl_cores_script.specs.Replays.{behind, AreLines}
 abbrev pub begins : List ℕ → List ℕ → Bool
 begins bytes text = is_some (behind bytes text)
 
--- a line asks for an event of a core; no such line stands in a cores file
+-- a line asks for an event of a core; in a cores file no such line stands outside the text of an interface
 abbrev pub is_event : List ℕ → Bool
 is_event text =
     begins (codes "write ") text || (begins (codes "turn ") text || (begins (codes "ack ") text
     || (begins (codes "forward ") text || (begins (codes "mwrite ") text || begins (codes "mack ") text))))
 
--- a text's lines, where its last line may lack its line feed
+-- a text's lines, where its last line may lack its line feed (so an empty line more may be counted)
 abbrev pub AreFileLines : List ℕ → List (List ℕ) → Type 0
 AreFileLines file lines = AreLines file lines ⊎ AreLines (file ++ 10 ∷ []) lines
 

@@ -6,6 +6,7 @@ use Rattle.std.specs.List.{flat_map, filter, All}
 use Rattle.std.specs.Str.{bytes_eq}
 use Rattle.fl_base.specs.Given.{given}
 use Rattle.fl_script_lines.specs.Answers.{line}
+use Rattle.fl_script_lines.specs.Items.{is_too_long}
 use Rattle.fl_script_exec.specs.Transcript.{Transcript}
 
 -- what stands behind these bytes, where a text begins with them
@@ -46,8 +47,9 @@ pub record HandlesAlike (one other : List ℕ) : Type 0 where
   pub are_others : AreLines other others
   pub each : (end : List ℕ) → handled_at end lines ≡ handled_at end others
 
--- the script's transcript tells, at each end, the calls that the report tells
+-- the script isn't too long to be run, and its transcript tells, at each end, the calls that the report tells
 pub record Replays (script report : List ℕ) : Type 0 where
+  pub fits : is_too_long script ≡ false
   pub transcript : List ℕ
   pub is_transcript : Transcript script transcript
   pub alike : HandlesAlike transcript report

@@ -2,3 +2,4 @@
 pub mod Shares
 pub mod Settled
 pub mod Giving
+pub mod Noted

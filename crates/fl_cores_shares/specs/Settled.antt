@@ -58,7 +58,8 @@ pub record HoldRings (owners : List ℕ) (holdings : Holdings TheSide) : Type 0 
 
 -- where sides were handed out and then went on, they are still in their owners' hands
 abbrev pub HandedOutGoOn : Type 0
-HandedOutGoOn = (owners : List ℕ) (sides : List TheSide) (holdings hands2 : Holdings TheSide) → AreHandedOut owners sides holdings → HoldingsWentOn holdings hands2
+HandedOutGoOn = (owners : List ℕ) (sides : List TheSide) (holdings hands2 : Holdings TheSide) → AreHandedOut owners sides holdings
+    → HoldingsWentOn holdings hands2
     → (sides2 : List TheSide) × AreHandedOut owners sides2 hands2 × AllWentOn sides sides2
 
 -- a side that went on is of the same ring

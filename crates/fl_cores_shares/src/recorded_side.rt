@@ -4,6 +4,7 @@ ghost use Rattle.std.specs.Prelude.{◌≡◌, ◌%◌, length, IfOk};
 ghost use Rattle.fl_link.specs.Cursor.{epoch_at};
 ghost use Rattle.fl_ring.specs.SharedSeats.{front_seen};
 ghost use Rattle.fl_ring.specs.SharedSides.{SharedPuts, SharedTakes, side_has_room};
+ghost use Rattle.fl_cores_shares.specs.Noted.{noted_of};
 
 use fl_base::Frag;
 use fl_link::{PutFault, PutSide, Sight, TakeSide, Told};
@@ -11,27 +12,61 @@ use fl_ring::SharedSide;
 use std::alloc::{AllocError, Global};
 use std::marker::Model;
 
+/// How often a side waited at a fragment, which is known by how many came before it: so many looks found nothing
+/// there, or so many puts found no room for it.
+#[derive(Clone, Copy, Debug)]
+pub struct FragmentWait {
+    pub fragment: usize,
+    pub count: u64,
+}
+
 /// What a side noted: enough to tell again what each of its looks and puts came to.
 #[derive(Debug, Drop)]
 pub struct SideRecord {
-    /// Of each fragment of the other side, in order: how many looks found nothing before one saw it.
-    pub missed: Vec<u32>,
-    /// Of each fragment of its own, in order: how many puts found no room before it was put.
-    pub refused: Vec<u32>,
+    /// How many fragments of the other side were seen.
+    pub seen: usize,
+    /// Where looks found nothing before one of these was seen, in order. Nothing is noted where the first look saw it.
+    pub missed: Vec<FragmentWait>,
+    /// How many fragments of its own were put.
+    pub placed: usize,
+    /// Where puts found no room before one of these was put, in order. Nothing is noted where there was room at once.
+    pub refused: Vec<FragmentWait>,
     // the same so far, of the fragments that come next
-    missing: u32,
-    refusing: u32,
+    missing: u64,
+    refusing: u64,
     // how many fragments were taken
     taken: usize,
-    /// Whether all is noted: memory for it was never refused, and each count has its place in 32 bits.
+    /// Whether all is noted: memory for it was never refused.
     pub is_whole: bool,
+}
+
+// How often a side waited at each of so many fragments, and at the next, which comes last.
+fn counts_of(
+    alloc: Global,
+    fragments: usize,
+    waits: &[FragmentWait],
+    last: u64,
+) -> Result<Vec<u64>, AllocError> {
+    let all = fragments.saturating_add(1);
+    let mut counts: Vec<u64> = vec![in alloc; 0; all]?;
+    for wait in waits {
+        if let Some(count) = counts.get_mut(wait.fragment) {
+            *count = wait.count;
+        }
+    }
+    if let Some(count) = counts.get_mut(fragments) {
+        *count = last;
+    }
+    Ok(counts)
 }
 
 impl SideRecord {
     /// Nothing is noted yet. Takes no memory.
     pub fn new(alloc: Global) -> SideRecord {
         SideRecord {
+            seen: 0,
             missed: Vec::new(alloc),
+            placed: 0,
             refused: Vec::new(alloc),
             missing: 0,
             refusing: 0,
@@ -40,13 +75,22 @@ impl SideRecord {
         }
     }
 
-    /// How many looks found nothing at a fragment of the other side before one saw it; of the first that
-    /// wasn't seen, how many did.
-    pub fn missed_at(&self, fragment: usize) -> u32 {
-        match self.missed.get(fragment) {
-            Some(count) => *count,
-            None => self.missing,
-        }
+    /// How many looks found nothing at each fragment of the other side before it was seen; and, last, how many did
+    /// at the next, which wasn't seen.
+    ///
+    /// # Errors
+    /// Out of memory.
+    pub fn missed_counts(&self, alloc: Global) -> Result<Vec<u64>, AllocError> {
+        counts_of(alloc, self.seen, &self.missed, self.missing)
+    }
+
+    /// How many puts found no room for each fragment of its own before it was put; and, last, how many found none for
+    /// the next, which wasn't put.
+    ///
+    /// # Errors
+    /// Out of memory.
+    pub fn refused_counts(&self, alloc: Global) -> Result<Vec<u64>, AllocError> {
+        counts_of(alloc, self.placed, &self.refused, self.refusing)
     }
 
     /// The same once more.
@@ -54,12 +98,13 @@ impl SideRecord {
     /// # Errors
     /// Out of memory.
     pub fn duplicate(&self, alloc: Global) -> Result<SideRecord, AllocError>
-        ensures missed { IfOk result (λ r. r.missed.items ≡ self.now.missed.items) }
-        ensures refused { IfOk result (λ r. r.refused.items ≡ self.now.refused.items) }
+        ensures same { IfOk result (λ r. noted_of r ≡ noted_of self.now) }
         ensures whole { IfOk result (λ r. r.is_whole ≡ self.now.is_whole) }
     {
         Ok(SideRecord {
+            seen: self.seen,
             missed: Vec::from_slice(alloc, &self.missed)?,
+            placed: self.placed,
             refused: Vec::from_slice(alloc, &self.refused)?,
             missing: self.missing,
             refusing: self.refusing,
@@ -68,21 +113,52 @@ impl SideRecord {
         })
     }
 
-    // A look at the next fragment, which saw it or found nothing.
-    fn note_look(&mut self, found: bool) {
-        if !self.is_whole || self.taken < self.missed.as_slice().len() {
-            return;
+    // Looks found nothing before one saw the next fragment.
+    #[cold]
+    #[inline(never)]
+    fn note_missed(&mut self) {
+        let wait = FragmentWait {
+            fragment: self.seen,
+            count: self.missing,
+        };
+        if self.missed.push(wait).is_err() {
+            self.is_whole = false;
         }
-        if !found {
-            self.is_whole = self.missing < u32::MAX;
-            self.missing = self.missing.saturating_add(1);
-            return;
-        }
-        self.is_whole = self.missed.push(self.missing).is_ok();
         self.missing = 0;
     }
 
+    // Puts found no room before the next fragment was put.
+    #[cold]
+    #[inline(never)]
+    fn note_refused(&mut self) {
+        let wait = FragmentWait {
+            fragment: self.placed,
+            count: self.refusing,
+        };
+        if self.refused.push(wait).is_err() {
+            self.is_whole = false;
+        }
+        self.refusing = 0;
+    }
+
+    // A look at the next fragment, which saw it or found nothing.
+    #[inline(always)]
+    fn note_look(&mut self, found: bool) {
+        if self.taken < self.seen {
+            return;
+        }
+        if !found {
+            self.missing = self.missing.wrapping_add(1);
+            return;
+        }
+        if self.missing > 0 {
+            self.note_missed();
+        }
+        self.seen = self.seen.wrapping_add(1);
+    }
+
     // A fragment was taken, or there was none.
+    #[inline(always)]
     fn note_take(&mut self, found: bool) {
         self.note_look(found);
         if found {
@@ -91,17 +167,16 @@ impl SideRecord {
     }
 
     // A put, or an acknowledgement that there was reason for.
+    #[inline(always)]
     fn note_put(&mut self, placed: bool) {
-        if !self.is_whole {
-            return;
-        }
         if !placed {
-            self.is_whole = self.refusing < u32::MAX;
-            self.refusing = self.refusing.saturating_add(1);
+            self.refusing = self.refusing.wrapping_add(1);
             return;
         }
-        self.is_whole = self.refused.push(self.refusing).is_ok();
-        self.refusing = 0;
+        if self.refusing > 0 {
+            self.note_refused();
+        }
+        self.placed = self.placed.wrapping_add(1);
     }
 }
 
@@ -150,24 +225,29 @@ impl PutSide for RecordedSide {
 
     ghost known_of = { λ s. s.known };
 
+    #[inline]
     fn room(&self) -> bool {
         self.side.room()
     }
 
+    #[inline]
     fn put(&mut self, frag: &Frag) -> Result<(), PutFault> {
         let outcome = self.side.try_put(frag);
         self.record.note_put(outcome.is_ok());
         outcome
     }
 
+    #[inline]
     fn next_epoch(&self) -> u64 {
         self.side.next_epoch()
     }
 
+    #[inline]
     fn next_told(&self) -> u16 {
         self.side.next_told()
     }
 
+    #[inline]
     fn known(&self) -> u64 {
         self.side.known()
     }
@@ -178,18 +258,21 @@ impl TakeSide for RecordedSide {
 
     ghost front = { λ s. front_seen s.peeked };
 
+    #[inline]
     fn peek(&mut self) -> Sight {
         let sight = self.side.try_peek();
         self.record.note_look(!matches!(sight, Sight::Empty));
         sight
     }
 
+    #[inline]
     fn take(&mut self) -> Sight {
         let sight = self.side.try_take();
         self.record.note_take(!matches!(sight, Sight::Empty));
         sight
     }
 
+    #[inline]
     fn tell(&mut self) -> Result<Told, PutFault> {
         let outcome = self.side.tell();
         if !matches!(outcome, Ok(Told::Nothing)) {

@@ -1,8 +1,7 @@
 //! Whole runs: words, a file and standard input in; standard output, standard error and a status out. What each command does
 //! by itself is tested in `test_program` (`command`).
 
-use fl_base::CoreId;
-use fl_core_run::Gate;
+use crate::gates::NoGate;
 use flounder_commands::{Fault, FileKind, FileStore, Watched, finish};
 use flounder_run::run;
 use std::alloc::{AllocGlobal, Global};
@@ -13,20 +12,20 @@ use std::thread::Threads;
 
 /// One file, of this name; or none can be read. None can be written.
 #[derive(Clone, Copy)]
-pub enum Shelf {
+pub enum OneFile {
     Holds(&'static str, &'static [u8]),
     Fails(io::ErrorKind),
 }
 
-impl FileStore for Shelf {
+impl FileStore for OneFile {
     fn read(&mut self, alloc: Global, path: &str, kind: FileKind) -> io::Result<Vec<u8>> {
         match self {
-            Shelf::Holds(name, content) if path == *name => {
+            OneFile::Holds(name, content) if path == *name => {
                 let most = content.len().min(kind.most());
                 Ok(Vec::from_slice(alloc, &content[..most])?)
             }
-            Shelf::Holds(_, _) => Err(io::Error::from(io::ErrorKind::NotFound)),
-            Shelf::Fails(kind) => Err(io::Error::from(*kind)),
+            OneFile::Holds(_, _) => Err(io::Error::from(io::ErrorKind::NotFound)),
+            OneFile::Fails(kind) => Err(io::Error::from(*kind)),
         }
     }
 
@@ -35,25 +34,16 @@ impl FileStore for Shelf {
     }
 }
 
-// Cores go on at once.
-#[derive(Clone, Copy)]
-struct NoGate;
-
-impl Gate for NoGate {
-    fn before_turn(&self, _core: CoreId) {}
-}
-
 // A run, as `main` makes it. What it leaves in the buffer of standard output is lost.
-fn run_on<T: Threads + Wait + AllocGlobal + Sync, W: Write + Drop>(
+fn run_on<T: Threads + Wait + AllocGlobal + Sync, F: FileStore, W: Write + Drop>(
     rt: &T,
     words: &[&str],
-    shelf: Shelf,
+    files: &mut F,
     input: &[u8],
     output: W,
     errors: &mut Vec<u8>,
 ) -> u8 {
     let alloc = rt.alloc();
-    let mut files = shelf;
     let mut input = Watched::new(alloc, input);
     let Ok(mut output) = BufWriter::new(alloc, Watched::new(alloc, output)) else {
         return finish(Err(Fault::Memory), errors);
@@ -63,7 +53,7 @@ fn run_on<T: Threads + Wait + AllocGlobal + Sync, W: Write + Drop>(
         &NoGate,
         alloc,
         words,
-        &mut files,
+        files,
         &mut input,
         &mut output,
         errors,
@@ -74,7 +64,7 @@ fn run_on<T: Threads + Wait + AllocGlobal + Sync, W: Write + Drop>(
 
 /// What came of a run.
 #[derive(Drop)]
-pub struct Ran {
+pub struct ProgramOutput {
     pub status: u8,
     pub out: Vec<u8>,
     pub err: Vec<u8>,
@@ -84,38 +74,51 @@ pub struct Ran {
 pub fn go<T: Threads + Wait + AllocGlobal + Sync>(
     rt: &T,
     words: &[&str],
-    shelf: Shelf,
+    shelf: OneFile,
     input: &[u8],
-) -> Ran {
+) -> ProgramOutput {
+    let mut files = shelf;
+    go_with(rt, words, &mut files, input)
+}
+
+/// A run on these files, and on this standard input.
+pub fn go_with<T: Threads + Wait + AllocGlobal + Sync, F: FileStore>(
+    rt: &T,
+    words: &[&str],
+    files: &mut F,
+    input: &[u8],
+) -> ProgramOutput {
     let mut out = Vec::new(rt.alloc());
     let mut err = Vec::new(rt.alloc());
-    let status = run_on(rt, words, shelf, input, &mut out, &mut err);
-    Ran { status, out, err }
+    let status = run_on(rt, words, files, input, &mut out, &mut err);
+    ProgramOutput { status, out, err }
 }
 
 /// A run without standard input whose standard output takes so many bytes, at most 16; these aren't kept.
 pub fn into<T: Threads + Wait + AllocGlobal + Sync>(
     rt: &T,
     words: &[&str],
-    shelf: Shelf,
+    shelf: OneFile,
     room: usize,
-) -> Ran {
+) -> ProgramOutput {
+    let mut files = shelf;
     let mut err = Vec::new(rt.alloc());
     let mut page = [0; 16];
-    let status = run_on(rt, words, shelf, b"", &mut page[..room.min(16)], &mut err);
-    Ran {
+    let room = room.min(16);
+    let status = run_on(rt, words, &mut files, b"", &mut page[..room], &mut err);
+    ProgramOutput {
         status,
         out: Vec::new(rt.alloc()),
         err,
     }
 }
 
-const MIXED: Shelf = Shelf::Holds(
+const MIXED: OneFile = OneFile::Holds(
     "mixed.if",
     b"interface i { message m(uint8 a, string s, uint16 b); }",
 );
 
-const REFUSED: Shelf = Shelf::Holds("cap.if", b"interface i { message m(cap c); }");
+const REFUSED: OneFile = OneFile::Holds("cap.if", b"interface i { message m(cap c); }");
 
 const TABLE: &[u8] = b"\
 interface i plan 2

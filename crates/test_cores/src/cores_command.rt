@@ -1,7 +1,7 @@
 //! `cores`, by whole runs: words and a file in; standard output, standard error and a status out. The files and
 //! reports are those of `examples`.
 
-use crate::commands::{Shelf, go, into};
+use crate::commands::{OneFile, go, into};
 use fl_cores::{CoresEnd, CoresFault};
 use flounder_commands::finish;
 use flounder_run::{outcome_of, tell_no_report};
@@ -242,7 +242,7 @@ const FILES: &[(&[u8], &str, u8, &[u8], &[u8])] = &[
 fn files_are_run(rt: HostRuntime) {
     for (content, turns, status, report, said) in FILES {
         let words = ["flounder", "cores", "x", "--turns", *turns];
-        let ran = go(&rt, &words, Shelf::Holds("x", content), b"");
+        let ran = go(&rt, &words, OneFile::Holds("x", content), b"");
         assert!(rt; ran.status == *status && ran.out.as_slice() == *report);
         assert!(rt; ran.err.as_slice() == *said);
     }
@@ -262,23 +262,23 @@ const RECORDED: &[(&[u8], u8, &[u8])] = &[
 fn scripts_are_found(rt: HostRuntime) {
     let words = ["flounder", "cores", "x", "--turns", MANY, "--script", "y"];
     for (content, status, report) in RECORDED {
-        let ran = go(&rt, &words, Shelf::Holds("x", content), b"");
+        let ran = go(&rt, &words, OneFile::Holds("x", content), b"");
         assert!(rt; ran.status == *status && ran.out.as_slice() == *report);
     }
 }
 
 // Reading the file, its content, writing: standard output takes 5 bytes. The status, and how that ends which is said on standard error:
 // it names the refused line, of which standard output took a part.
-const FIRST_FAULTS: &[(Shelf, u8, &[u8])] = &[
-    (Shelf::Fails(io::ErrorKind::Other), 4, b""),
+const FIRST_FAULTS: &[(OneFile, u8, &[u8])] = &[
+    (OneFile::Fails(io::ErrorKind::Other), 4, b""),
     (
-        Shelf::Fails(io::ErrorKind::OutOfMemory),
+        OneFile::Fails(io::ErrorKind::OutOfMemory),
         3,
         b"out of memory\n",
     ),
-    (Shelf::Holds("y", CALLS), 4, b""),
-    (Shelf::Holds("x", CALLS), 4, b""),
-    (Shelf::Holds("x", WRONG), 2, WRONG_RULE),
+    (OneFile::Holds("y", CALLS), 4, b""),
+    (OneFile::Holds("x", CALLS), 4, b""),
+    (OneFile::Holds("x", WRONG), 2, WRONG_RULE),
 ];
 
 #[test]

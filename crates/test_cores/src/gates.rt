@@ -20,9 +20,9 @@ fn place(core: CoreId) -> usize {
 }
 
 /// A gate that is always open.
-pub struct OpenGate;
+pub struct NoGate;
 
-impl Gate for OpenGate {
+impl Gate for NoGate {
     fn before_turn(&self, _core: CoreId) {}
 }
 

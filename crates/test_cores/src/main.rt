@@ -8,6 +8,7 @@
 //! - `openings.rt`: bindings that are opened while cores run
 //! - `commands.rt`: the program's commands, by whole runs
 //! - `cores_command.rt`: the command `cores`, by whole runs
+//! - `recordings.rt`: a script of a run that is written, and why there is none
 //!
 //! `rt try --test --fail-alloc N` runs each with its Nth allocation refused: then each ends with its answer or with out of memory.
 #![tactic(auto)]
@@ -20,6 +21,8 @@ mod cores_command;
 mod gates;
 #[cfg(test)]
 mod openings;
+#[cfg(test)]
+mod recordings;
 #[cfg(test)]
 mod reports;
 #[cfg(test)]

@@ -1,6 +1,6 @@
 //! Bindings that are opened while cores run.
 
-use crate::gates::{Held, OpenGate};
+use crate::gates::{Held, NoGate};
 use crate::texts::{add, comes_to};
 use fl_cores::CoresEnd;
 use std::alloc::{AllocError, Global};
@@ -63,6 +63,6 @@ fn one_binding_too_many(rt: HostRuntime) -> Result<(), Fail> {
         CoresEnd::Complete,
         b"refused E74 p1023.c\ncomplete\n".as_slice(),
     );
-    assert!(rt; comes_to(&rt, rt.alloc(), &text, MANY, &OpenGate, wanted)?);
+    assert!(rt; comes_to(&rt, rt.alloc(), &text, MANY, &NoGate, wanted)?);
     Ok(())
 }

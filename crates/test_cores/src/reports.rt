@@ -1,7 +1,7 @@
 //! Whole reports of runs whose schedule is certain: what each end made and handled, which bindings are refused, and
 //! how many turns were counted. They are worked out by hand, by what a turn does (`docs/CORES.md`).
 
-use crate::gates::{LockStep, OpenGate};
+use crate::gates::{LockStep, NoGate};
 use fl_core_run::Gate;
 use fl_cores::{CoresFault, Report, run_cores};
 use fl_cores_file::{CallsByEnd, CoresFile, CoresText, Ending, read_cores_text};
@@ -355,7 +355,7 @@ fn reports<R: Threads + Wait + Sync, G: Gate + Sync>(
 #[test]
 fn reports_of_one_core(rt: HostRuntime) -> Result<(), Fail> {
     for (index, row) in ONE_CORE.iter().enumerate() {
-        if !reports(&rt, rt.alloc(), row, &OpenGate)? {
+        if !reports(&rt, rt.alloc(), row, &NoGate)? {
             return Err(Fail::new(format_args!("row {index}, counted from 0, is wrong")));
         }
     }

@@ -1,6 +1,6 @@
 //! Worked examples.
 
-use crate::gates::{Held, LockStep, OpenGate, SideBySide};
+use crate::gates::{Held, LockStep, NoGate, SideBySide};
 use crate::texts::{TextOutcome, add, add_lines, comes_to, run, skip_lines};
 use fl_core_run::Gate;
 use fl_cores::{CoresEnd, CoresFault, run_cores};
@@ -74,7 +74,7 @@ fn refusal_of<R: Threads + Wait + Sync>(
     setup.push(first)?;
     setup.push(second)?;
     let config = Config { cores: 1, setup };
-    match run_cores(rt, alloc, &config, Vec::new(alloc), MANY, &OpenGate) {
+    match run_cores(rt, alloc, &config, Vec::new(alloc), MANY, &NoGate) {
         Ok(_) => Ok(None),
         Err(fault) => Ok(Some(fault)),
     }
@@ -183,7 +183,7 @@ fn is_so<R: Threads + Wait + Sync>(
     row: &TextRow,
 ) -> Result<bool, CoresFault> {
     let text = join(alloc, row.0, row.1)?;
-    comes_to(rt, alloc, &text, row.2, &OpenGate, (row.3, row.4))
+    comes_to(rt, alloc, &text, row.2, &NoGate, (row.3, row.4))
 }
 
 // Tells which row is the first that isn't so.
@@ -240,7 +240,7 @@ fn the_first_event_that_is_refused_is_told(rt: HostRuntime) -> Result<(), Fail> 
 fn no_turns(rt: HostRuntime) -> Result<(), Fail> {
     let text = both_ways(rt.alloc(), PINGS, ROW)?;
     let wanted = (CoresEnd::TurnsOut, b"turns out\n".as_slice());
-    assert!(rt; comes_to(&rt, rt.alloc(), &text, 0, &OpenGate, wanted)?);
+    assert!(rt; comes_to(&rt, rt.alloc(), &text, 0, &NoGate, wanted)?);
     Ok(())
 }
 
@@ -254,7 +254,7 @@ fn three_cores_in_step(rt: HostRuntime) -> Result<(), Fail> {
 #[test]
 fn fifty_turns(rt: HostRuntime) -> Result<(), Fail> {
     let text = both_ways(rt.alloc(), PINGS, ROW)?;
-    let told = run(&rt, rt.alloc(), &text, 50, &OpenGate)?;
+    let told = run(&rt, rt.alloc(), &text, 50, &NoGate)?;
     let few = match counts(rt.alloc(), &told)? {
         Some((client, server)) => client <= 50 && server <= 50,
         None => false,
@@ -296,7 +296,7 @@ fn a_route_without_its_second_link(rt: HostRuntime) -> Result<(), Fail> {
         CoresEnd::Complete,
         b"refused E73 p.c\ncomplete\n".as_slice(),
     );
-    assert!(rt; comes_to(&rt, rt.alloc(), &text, MANY, &OpenGate, wanted)?);
+    assert!(rt; comes_to(&rt, rt.alloc(), &text, MANY, &NoGate, wanted)?);
     Ok(())
 }
 
