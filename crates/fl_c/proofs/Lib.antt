@@ -3,4 +3,5 @@ mod HandleSends
 mod HeldSends
 mod Messages
 mod RunSends
+mod Sizes
 mod Starts

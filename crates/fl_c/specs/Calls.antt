@@ -18,13 +18,14 @@ IsNoMessage i msg = (65536 ≤ msg) ⊎ (slice_get i.messages msg ≡ None)
 abbrev pub AreCall : TheProgram → List ℕ → TheCall → Type 0
 AreCall x numbers c = (msg : ℕ) × (tape : List ℕ) × (numbers ≡ msg ∷ tape) × HasTape x.plan x.interface msg tape c
 
--- why numbers are none: there is none, no message has the first (E41), one has, and no fitting call of it the others (E42); or memory ran out
+-- why numbers are none: there is none; no message has the first (E41); one has, and no fitting call of it the others (E42), or
+-- memory ran out
 abbrev pub RefusesNumbers : TheProgram → List ℕ → UseFault → Type 0
 RefusesNumbers x numbers WrongRoom = numbers ≡ []
 RefusesNumbers x numbers (End UnknownMessage) = (msg : ℕ) × (tape : List ℕ) × (numbers ≡ msg ∷ tape) × IsNoMessage x.interface msg
 RefusesNumbers x numbers (End Misfit) = (msg : ℕ) × (tape : List ℕ) × (numbers ≡ msg ∷ tape) × (msg < length x.interface.messages)
     × ((c : TheCall) → HasTape x.plan x.interface msg tape c → ⊥)
-RefusesNumbers x numbers (End Memory) = Unit {0}
+RefusesNumbers x numbers (End Memory) = (msg : ℕ) × (tape : List ℕ) × (numbers ≡ msg ∷ tape) × (msg < length x.interface.messages)
 RefusesNumbers x numbers fault = ⊥
 
 -- the call of numbers, or why they are none

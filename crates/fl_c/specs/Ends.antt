@@ -14,7 +14,8 @@ use Rattle.fl_endpoint.specs.Lent.{receipt, ReceivesAt}
 use Rattle.fl_c.specs.declared.operation.Operation.{Operation}
 use Rattle.fl_c.specs.declared.operation.Operation.TheVariants.{Tell, Call as ToCall, Write, Receive, Read, Rule, Busy as AskBusy}
 use Rattle.fl_c.specs.declared.answer.Outcome.{Outcome}
-use Rattle.fl_c.specs.declared.answer.Outcome.TheVariants.{Accepted, Wrote, NoRoom, Idle, Handled, PartTaken, Acknowledgement, Nothing as NothingThere, Held, CallRead, RuleSet, Sending}
+use Rattle.fl_c.specs.declared.answer.Outcome.TheVariants.{Accepted, Wrote, NoRoom, Idle, Handled, PartTaken}
+use Rattle.fl_c.specs.declared.answer.Outcome.TheVariants.{Acknowledgement, Nothing as NothingThere, Held, CallRead, RuleSet, Sending}
 use Rattle.fl_c.specs.declared.answer.UseFault.{UseFault}
 use Rattle.fl_c.specs.declared.answer.UseFault.TheVariants.{NoSuchOperation, WrongRoom, Unread, End}
 use Rattle.fl_c.specs.Sides.{Tells}

@@ -47,7 +47,7 @@ MakesRun x kind (Ok (Sender run)) = (kind ≡ 1) × IsNewSender x run
 MakesRun x kind (Ok (Receiver run)) = (kind ≡ 2) × IsNewReceiver x run
 MakesRun x kind (Ok handle) = ⊥
 MakesRun x kind (Err NoSuchOperation) = (kind ≢ 1) × (kind ≢ 2)
-MakesRun x kind (Err (FromEnd Memory)) = Unit {0}
+MakesRun x kind (Err (FromEnd Memory)) = (kind ≡ 1) ⊎ (kind ≡ 2)
 MakesRun x kind (Err fault) = ⊥
 
 -- what C is answered of a new run: its handle is made, or there is no memory for that; or why there is no run

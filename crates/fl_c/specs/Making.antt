@@ -61,22 +61,22 @@ ReadsImage image (Err (Image fault)) = FirstFault image fault
 ReadsImage image (Err Memory) = Unit {0}
 ReadsImage image (Err fault) = ⊥
 
--- of a text
+-- both ends of a text, or why there are none: the number of slots is looked at first
 abbrev pub MakesOfText : PlanNo → List ℕ → ℕ → Result (TheHeld × TheHeld) MakeFault → Type 0
 MakesOfText plan text slots (Ok made) = MayHaveSlots slots
     × ((i : TheInterface) × (x : TheProgram) × TextMeans text (stands_for i) × (x.interface ≡ i) × (x.plan ≡ plan) × AreEnds x slots made.0 made.1)
 MakesOfText plan text slots (Err BadSize) = MayHaveSlots slots → ⊥
 MakesOfText plan text slots (Err (Text number offset)) = MayHaveSlots slots × TextMeans text (text_fault number offset)
-MakesOfText plan text slots (Err Memory) = Unit {0}
+MakesOfText plan text slots (Err Memory) = MayHaveSlots slots
 MakesOfText plan text slots (Err fault) = ⊥
 
--- of an image
+-- both ends of an image, or why there are none: the number of slots is looked at first
 abbrev pub MakesOfImage : List ℕ → ℕ → Result (TheHeld × TheHeld) MakeFault → Type 0
 MakesOfImage image slots (Ok made) = MayHaveSlots slots
     × ((x : TheProgram) × (has_image x.interface ≡ true) × (image ≡ image_of x.plan x.interface) × AreEnds x slots made.0 made.1)
 MakesOfImage image slots (Err BadSize) = MayHaveSlots slots → ⊥
 MakesOfImage image slots (Err (Image fault)) = MayHaveSlots slots × FirstFault image fault
-MakesOfImage image slots (Err Memory) = Unit {0}
+MakesOfImage image slots (Err Memory) = MayHaveSlots slots
 MakesOfImage image slots (Err fault) = ⊥
 
 -- ---- what C is answered
@@ -90,7 +90,7 @@ abbrev pub AnswersMade : {T : Type 0} → Result T MakeFault → ℕ → Type 0
 AnswersMade (Ok made) answer = (answer ≡ 0) ⊎ (answer ≡ 99)
 AnswersMade (Err fault) answer = answer ≡ make_number fault
 
--- a fault's place is written, and nothing else is
+-- the place afterwards: a text's fault's own, 0 for another fault; as it was where all was made
 abbrev pub place_after : {T : Type 0} → Result T MakeFault → ℕ → ℕ
 place_after (Ok made) place = place
 place_after (Err fault) place = place_of fault

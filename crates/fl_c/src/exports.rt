@@ -91,8 +91,9 @@ fn plan_of(number: u32) -> Option<PlanNo>
 
 /// Makes both ends of the interface that a text stands for, compiled under plan 1 or 2, over a new ring
 /// ([`text_ends`]). Faults: no such plan (102), a ring can't have this number of slots (32), a fault of the
-/// text (1 to 21), whose place is written, out of memory (99); then no handle was made, and both pointers are
-/// as they were.
+/// text (1 to 21), out of memory (99); then no handle was made, and both pointers are as they were. `place`
+/// gets where in the text its fault stands; 0 with fault 32, and where memory ran out before both ends were
+/// made. Else (without a fault, with 102, where only the handles' memory is wanting) it is as it was.
 #[unsafe(no_mangle)]
 pub extern "C" fn flounder_make_text_ends(
     alloc: Global,
@@ -147,8 +148,9 @@ pub extern "C" fn flounder_make_image_ends(
 }
 
 /// Makes the program of the interface that a text stands for, compiled under plan 1 or 2 ([`text_program`]).
-/// Faults: no such plan (102), a fault of the text (1 to 21), whose place is written, out of memory (99); then no
-/// handle was made, and the pointer is as it was.
+/// Faults: no such plan (102), a fault of the text (1 to 21), out of memory (99); then no handle was made, and the
+/// pointer is as it was. `place` gets where in the text its fault stands; 0 where memory ran out before the
+/// program was made. Else (without a fault, with 102, where only the handle's memory is wanting) it is as it was.
 #[unsafe(no_mangle)]
 pub extern "C" fn flounder_make_text_program(
     alloc: Global,

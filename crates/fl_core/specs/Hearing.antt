@@ -32,7 +32,8 @@ use Rattle.fl_core.specs.declared.answer.MonitorAnswer.{MonitorAnswer}
 use Rattle.fl_core.specs.declared.answer.MonitorAnswer.TheVariants.{Full, Done, Opened, OpeningRefused}
 use Rattle.fl_core.specs.declared.fault.LinkReceiveFault.{LinkReceiveFault}
 use Rattle.fl_core.specs.declared.fault.LinkReceiveFault.TheVariants.{Wire, Misrouted, Memory}
-use Rattle.fl_core.specs.View.{TheCore, with_board, with_monitor, with_failed, with_circuit_wired_end, client_of, server_of, place_of, arriving_at, new_arrivals}
+use Rattle.fl_core.specs.View.{TheCore, with_board, with_monitor, with_failed, with_circuit_wired_end, client_of, server_of, place_of}
+use Rattle.fl_core.specs.View.{arriving_at, new_arrivals}
 use Rattle.fl_core.specs.BoardTurns.{over}
 use Rattle.fl_core.specs.Ends.{RegistersAt}
 

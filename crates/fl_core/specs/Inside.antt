@@ -47,7 +47,8 @@ server_in (heard.EndRefused e reason) = None
 
 -- wherever the message makes a server's end, it is at this dispatcher and on this circuit
 abbrev pub LeadsTo : Known → TheCircuits → LinkId → MonitorMessage → ℕ → Circuit → Type 0
-LeadsTo k t l m dispatcher c = (h : MessageOutcome) (made : MadeServer) → ComesTo k t l m h → server_in h ≡ Some made → (made.dispatcher ≡ dispatcher) × (made.circuit ≡ c)
+LeadsTo k t l m dispatcher c = (h : MessageOutcome) (made : MadeServer) → ComesTo k t l m h → server_in h ≡ Some made
+    → (made.dispatcher ≡ dispatcher) × (made.circuit ≡ c)
 
 -- the board with the end that was made, which has a copy of the program; or as it was
 abbrev pub EndFor : TheProgram → ℕ → Option MadeServer → TheBoard → TheBoard → Type 0

@@ -15,7 +15,8 @@ use Rattle.fl_model.specs.Step.{step}
 use Rattle.fl_core.specs.declared.core_job.CoreJob.{CoreJob}
 use Rattle.fl_core.specs.declared.core_job.CoreJob.TheVariants as job
 use Rattle.fl_core.specs.Jobs.{calls_of_jobs}
-use Rattle.fl_core_refines.specs.AloneTurns.{MachineProgress, MachineRun, here, is_there, is_still, swept, MachineTask, turned as turned_by_jobs, counted as counted_by_jobs}
+use Rattle.fl_core_refines.specs.AloneTurns.{MachineProgress, MachineRun, here, is_there, is_still, swept, MachineTask}
+use Rattle.fl_core_refines.specs.AloneTurns.{turned as turned_by_jobs, counted as counted_by_jobs}
 use Rattle.fl_core_refines.specs.AloneTurns.{is_finished as is_finished_by_jobs}
 
 -- ---- the machine, and the calls of its ends

@@ -24,7 +24,8 @@ use Rattle.fl_core_run.specs.Run.{SideRelations, TheRun}
 use Rattle.fl_core_run.specs.Turn.{Turned}
 use Rattle.fl_core_run.specs.Ran.{RunTask, RunMoment, Counted, CoreRan}
 use Rattle.fl_core_run.specs.LogEntries.{called, ruled, wrote, turned as had_turn, Happens}
-use Rattle.fl_core_refines.specs.AloneTurns.{MachineProgress, MachineRun, goes, calls, rules, here, turns_at, MachineTask, turned, is_clear, is_finished, counted, ran as ran_to}
+use Rattle.fl_core_refines.specs.AloneTurns.{MachineProgress, MachineRun, goes, calls, rules, here, turns_at, MachineTask}
+use Rattle.fl_core_refines.specs.AloneTurns.{turned, is_clear, is_finished, counted, ran as ran_to}
 use Rattle.fl_core_refines.specs.AloneShown.{work_of, ShowsAlone, HasFew, AreSilent}
 
 -- ---- events: what an end or a dispatcher does is the machine's step. It answers the same, and afterwards the core shows the machine's next state; and the
@@ -135,6 +136,8 @@ IsClear d = is_clear (Some d) ≡ true
 abbrev pub HasNoMore : MachineProgress → Type 0
 HasNoMore d = length d.handled ≤ d.due
 
--- where each end's progress is clear, and none has more handled afterwards than is to be, they change no end's progress: what is told of calls is what the counted turns come to
+-- where each end's progress is clear, and none has more handled afterwards than is to be, they change no end's progress: what is
+-- told of calls is what the counted turns come to
 abbrev pub LaterTurnsChangeNothing : Type 0
-LaterTurnsChangeNothing = (p : MachineTask) (a : MachineRun) (n : ℕ) → EachProgress IsClear a.progresses → EachProgress HasNoMore (turned p n a).progresses → (turned p n a).progresses ≡ a.progresses
+LaterTurnsChangeNothing = (p : MachineTask) (a : MachineRun) (n : ℕ) → EachProgress IsClear a.progresses
+    → EachProgress HasNoMore (turned p n a).progresses → (turned p n a).progresses ≡ a.progresses

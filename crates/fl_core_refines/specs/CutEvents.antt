@@ -25,7 +25,8 @@ use Rattle.fl_model.specs.Given.{changed_at}
 use Rattle.fl_model.specs.Rings.{Label, next_of, there_is_room, no_room as none_free}
 use Rattle.fl_model.specs.Ends.{joined_by, without_first, queue_room, taken_of, is_bound, holds_back, Seat, whole, a_part}
 use Rattle.fl_model.specs.Waits.{Dispatcher, waits_in, deregisters, triggers, puts_off, Due, pending, polled, no_one, due, end_due}
-use Rattle.fl_core_refines.specs.CutSides.{SideCut, PutOutcome, goes_on, is_full, is_spent, Places, TakeOutcome, nothing_stands, left_one, gave_one, gave_ack, SideGives}
+use Rattle.fl_core_refines.specs.CutSides.{SideCut, PutOutcome, goes_on, is_full, is_spent, Places, TakeOutcome, nothing_stands}
+use Rattle.fl_core_refines.specs.CutSides.{left_one, gave_one, gave_ack, SideGives}
 use Rattle.fl_core_refines.specs.CutSides.{is_told, is_little, finds_none, Tells}
 use Rattle.fl_core_refines.specs.CutEnds.{EndCut, Writes, Takes, Fails}
 use Rattle.fl_core_refines.specs.Cut.{QueueCut, CoreCut}

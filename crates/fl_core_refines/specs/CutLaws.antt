@@ -30,8 +30,8 @@ pub record Follows (services : List Service) (log_entry : LogEntry) (a : CoreCut
 
 -- so it is of each event, whatever the other cores do
 abbrev pub EventsFollow : Type 0
-EventsFollow = (front : TheSide → Look) (jobs : List CoreJob) (services : List Service) (a : CoreCut) (s t : TheRun TheSide) (log_entry : LogEntry) → ShowsCut a s
-    → InOrder services log_entry a s → Happens (shared front) log_entry s t → InPlace jobs s log_entry → Follows services log_entry a t
+EventsFollow = (front : TheSide → Look) (jobs : List CoreJob) (services : List Service) (a : CoreCut) (s t : TheRun TheSide) (log_entry : LogEntry)
+    → ShowsCut a s → InOrder services log_entry a s → Happens (shared front) log_entry s t → InPlace jobs s log_entry → Follows services log_entry a t
 
 -- ---- by a log's events, in their order
 
@@ -39,7 +39,8 @@ EventsFollow = (front : TheSide → Look) (jobs : List CoreJob) (services : List
 abbrev pub GoesOn : (TheSide → Look) → List Service → CoreCut → TheRun TheSide → List LogEntry → TheRun TheSide → Type 0
 GoesOn front services a s [] t = (t ≡ s) × ShowsCut a t
 GoesOn front services a s (log_entry ∷ log) t = InOrder services log_entry a s
-    → (b : CoreCut) × (m : TheRun TheSide) × Happens (shared front) log_entry s m × CutDoes services log_entry a b × ShowsCut b m × GoesOn front services b m log t
+    → (b : CoreCut) × (m : TheRun TheSide) × Happens (shared front) log_entry s m × CutDoes services log_entry a b × ShowsCut b m
+    × GoesOn front services b m log t
 
 -- where none is heard
 pub record FollowsAll (services : List Service) (log : List LogEntry) (a : CoreCut) (t : TheRun TheSide) : Type 0 where
@@ -62,5 +63,5 @@ pub record TurnsFollow (front : TheSide → Look) (jobs : List CoreJob) (service
   pub quiet : HasNoLinks s.core → HearNothing log
 
 abbrev pub AllTurnsFollow : Type 0
-AllTurnsFollow = (front : TheSide → Look) (plan : TurnPlan) (jobs : List CoreJob) (k : ℕ) (services : List Service) (a : CoreCut) (s t : TheRun TheSide) → ShowsCut a s
-    → Turned (shared front) plan jobs k s t → TurnsFollow front jobs services a s t
+AllTurnsFollow = (front : TheSide → Look) (plan : TurnPlan) (jobs : List CoreJob) (k : ℕ) (services : List Service) (a : CoreCut) (s t : TheRun TheSide)
+    → ShowsCut a s → Turned (shared front) plan jobs k s t → TurnsFollow front jobs services a s t

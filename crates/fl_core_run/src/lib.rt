@@ -1,9 +1,11 @@
 //! One running core: its turns.
 //!
-//! A [`RunningCore`] is a core with the sides of rings and the local queues that it is lent, and an end's progress for each end, where the end's jobs lie. In a turn
-//! ([`RunningCore::turn`]) it forwards for each link, lets its monitor write on each, does each end's next job and one write, gives each dispatcher a turn,
-//! and acknowledges what was taken. [`core_run`] is the core's whole run: turns that are counted, until nothing is left to do or a limit is
-//! reached, and then turns that aren't, until all cores have ended. What cores tell each other of that goes by the run's table (`fl_cores_table`).
+//! A [`RunningCore`] is a core with the sides of rings and the local queues that it is lent, and an end's progress for each
+//! end, where the end's jobs lie. In a turn ([`RunningCore::turn`]) it forwards for each link, lets its monitor write on
+//! each, does each end's next job and one write, gives each dispatcher a turn, and acknowledges what was taken.
+//! [`core_run`] is the core's whole run: turns that are counted, until nothing is left to do or a limit is reached, and
+//! then turns that aren't, until all cores have ended. What cores tell each other of that goes by the run's table
+//! (`fl_cores_table`).
 //!
 //! Contract for the layers above: each event is the core's own (`specs/LogEntries.antt`: what a core's log is made of); which
 //! events come in a turn, and in which order, stands in `specs/Steps.antt` and `specs/Turn.antt`; when a core has nothing left to do in

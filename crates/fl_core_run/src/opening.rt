@@ -104,7 +104,8 @@ pub(crate) fn open<S: PutSide + TakeSide + Drop>(
     request: &OpenRequest,
 ) -> Result<(), AllocError>
     requires left { HasNext name (run_of run.old) }
-    ensures opens { OnOk result (OpensIf (ways S.puts S.takes S.front) (may_ask (run_of run.old) request.now) name request.now (run_of run.old) (run_of run.new)) }
+    ensures opens { OnOk result (OpensIf (ways S.puts S.takes S.front) (may_ask (run_of run.old) request.now) name request.now
+        (run_of run.old) (run_of run.new)) }
     ensures kept { OnErr result (run_of run.new ≡ run_of run.old) }
 {
     sound(run);

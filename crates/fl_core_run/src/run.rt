@@ -181,7 +181,8 @@ pub fn core_run<R: Wait, S: PutSide + TakeSide + Drop, G: Gate>(
 ) -> Result<Part, CoreRunFault>
     requires as_many { length run_seat.old.words.items ≡ length plan.now.ends.items }
     requires may { AreWords run_seat.old.words.items run_seat.old.seat.knows }
-    requires silent { (run_seat.old.seat.knows.finished < length run_seat.old.seat.knows.cores) × (run_seat.old.seat.knows.stopped < run_seat.old.seat.knows.seats) }
+    requires silent { (run_seat.old.seat.knows.finished < length run_seat.old.seat.knows.cores)
+        × (run_seat.old.seat.knows.stopped < run_seat.old.seat.knows.seats) }
     ensures ran { IfOk result (λ part. CoreRan (ways S.puts S.takes S.front) (task plan.now jobs.now limit)
         (moment (run_of run.old) (run_seat_of run_seat.old)) part (moment (run_of run.new) (run_seat_of run_seat.new))) }
     ensures part { OnErr result (StopsInTurn (ways S.puts S.takes S.front) plan.now jobs.now (run_of run.old) (run_of run.new)) }

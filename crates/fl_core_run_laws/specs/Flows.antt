@@ -56,9 +56,12 @@ pub record MadeCarries (name : EndId) (log : List LogEntry) (passed : Passed) (s
 pub record IsApart (k : TheCore) : Type 0 where
   pub link_sides : (l m n : ℕ) → side_of_link k.link_sides l ≡ Some n → side_of_link k.link_sides m ≡ Some n → l ≡ m
   pub rings : (l e n : ℕ) (p : WiredEnd) → side_of_link k.link_sides l ≡ Some n → slice_get k.wired_ends e ≡ Some p → p.wiring ≡ Ring n → ⊥
-  pub ends : (d e n : ℕ) (p q : WiredEnd) → slice_get k.wired_ends d ≡ Some p → slice_get k.wired_ends e ≡ Some q → p.wiring ≡ Ring n → q.wiring ≡ Ring n → d ≡ e
-  pub puts : (d e n a b : ℕ) (p q : WiredEnd) → slice_get k.wired_ends d ≡ Some p → slice_get k.wired_ends e ≡ Some q → p.wiring ≡ Queues n a → q.wiring ≡ Queues n b → d ≡ e
-  pub takes : (d e n a b : ℕ) (p q : WiredEnd) → slice_get k.wired_ends d ≡ Some p → slice_get k.wired_ends e ≡ Some q → p.wiring ≡ Queues a n → q.wiring ≡ Queues b n → d ≡ e
+  pub ends : (d e n : ℕ) (p q : WiredEnd) → slice_get k.wired_ends d ≡ Some p → slice_get k.wired_ends e ≡ Some q
+      → p.wiring ≡ Ring n → q.wiring ≡ Ring n → d ≡ e
+  pub puts : (d e n a b : ℕ) (p q : WiredEnd) → slice_get k.wired_ends d ≡ Some p → slice_get k.wired_ends e ≡ Some q
+      → p.wiring ≡ Queues n a → q.wiring ≡ Queues n b → d ≡ e
+  pub takes : (d e n a b : ℕ) (p q : WiredEnd) → slice_get k.wired_ends d ≡ Some p → slice_get k.wired_ends e ≡ Some q
+      → p.wiring ≡ Queues a n → q.wiring ≡ Queues b n → d ≡ e
 
 -- ---- all that passed
 
@@ -94,7 +97,8 @@ pub record Flows {S : Type 0} (w : SideRelations S) (s t : TheRun S) (log : List
   pub links : (l n : ℕ) (p : S) → side_of_link s.core.link_sides l ≡ Some n → slice_get s.rings n ≡ Some p
       → SideCarries w.puts w.takes (record { put = put_on l steps; took = taken_from l steps }) p t.rings n
   -- each ring's side placed what its end put, and took what that took
-  pub rings : (name : EndId) (e n : ℕ) (wired_end : WiredEnd) (p : S) → place_of s.core name ≡ Some e → slice_get s.core.wired_ends e ≡ Some wired_end → wired_end.wiring ≡ Ring n
+  pub rings : (name : EndId) (e n : ℕ) (wired_end : WiredEnd) (p : S) → place_of s.core name ≡ Some e
+      → slice_get s.core.wired_ends e ≡ Some wired_end → wired_end.wiring ≡ Ring n
       → slice_get s.rings n ≡ Some p → SideCarries w.puts w.takes (record { put = map bare (put name); took = took name }) p t.rings n
   -- and a local queue was given what one end put, and gave what another took
   pub queues : (name other : EndId) (d e n a b : ℕ) (x y : WiredEnd) (p : TheQueue) → place_of s.core name ≡ Some d → slice_get s.core.wired_ends d ≡ Some x
@@ -111,7 +115,8 @@ pub record Flows {S : Type 0} (w : SideRelations S) (s t : TheRun S) (log : List
       → CircuitCarries name steps (record { put = put name; took = took name }) new_arrivals t.core.arrivals a
   -- what came to an end that is bound at last is what came in by its number, in order, and what went out under that is what it wrote
   pub numbers : IsLed s.core → IsTable t.core.monitor.circuits → (name : EndId) (e a c : ℕ) (l : LinkId) (wired_end : WiredEnd) (seat : TheEndAtChannel)
-      → place_of t.core name ≡ Some e → slice_get t.core.wired_ends e ≡ Some wired_end → wired_end.wiring ≡ Circuit l a → slice_get t.core.board.seats e ≡ Some seat
+      → place_of t.core name ≡ Some e → slice_get t.core.wired_ends e ≡ Some wired_end → wired_end.wiring ≡ Circuit l a
+      → slice_get t.core.board.seats e ≡ Some seat
       → seat.end.circuit ≡ Some c → (come_to name steps ≡ of_circuit c (taken_from l.0 steps)) × (of_circuit c (put_on l.0 steps) ≡ written_by name steps)
   -- so each end that was there went on
   pub ends : (name : EndId) (e : ℕ) (seat : TheEndAtChannel) → place_of s.core name ≡ Some e → slice_get s.core.board.seats e ≡ Some seat

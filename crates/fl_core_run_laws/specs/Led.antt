@@ -32,7 +32,8 @@ pub record IsLedTo (t : TheCircuits) (l : ℕ) (name : EndId) (circuit : Option 
 
 -- the table leads to the ends of circuits at a core, and what the core's monitor has still to say is on circuit 0
 pub record IsLed (k : TheCore) : Type 0 where
-  pub ends : (e a : ℕ) (l : LinkId) (p : WiredEnd) (seat : TheEndAtChannel) → slice_get k.wired_ends e ≡ Some p → p.wiring ≡ Circuit l a → slice_get k.board.seats e ≡ Some seat
+  pub ends : (e a : ℕ) (l : LinkId) (p : WiredEnd) (seat : TheEndAtChannel) → slice_get k.wired_ends e ≡ Some p
+      → p.wiring ≡ Circuit l a → slice_get k.board.seats e ≡ Some seat
       → IsLedTo k.monitor.circuits l.0 p.name seat.end.circuit
   pub says : (l i : ℕ) (frag : Frag) → slice_get (waiting_for k.monitor.outboxes l) i ≡ Some frag → circuit_of frag.control ≡ 0
 

@@ -119,7 +119,8 @@ fn run_over<R: Wait, G: Gate>(
 ) -> Result<Part, AllocError>
     requires as_many { length run_seat.old.words.items ≡ length plan.now.ends.items }
     requires may { AreWords run_seat.old.words.items run_seat.old.seat.knows }
-    requires silent { (run_seat.old.seat.knows.finished < length run_seat.old.seat.knows.cores) × (run_seat.old.seat.knows.stopped < run_seat.old.seat.knows.seats) }
+    requires silent { (run_seat.old.seat.knows.finished < length run_seat.old.seat.knows.cores)
+        × (run_seat.old.seat.knows.stopped < run_seat.old.seat.knows.seats) }
     ensures ran { IfOk result (λ part. CoreRan shared_ways (task plan.now jobs.now limit)
         (moment (run_of running.old) (run_seat_of run_seat.old)) part (moment (run_of running.new) (run_seat_of run_seat.new))) }
     ensures left { IfOk result (λ part. IsLeftSound (came_to (run_of running.new) run_seat.new part)) }

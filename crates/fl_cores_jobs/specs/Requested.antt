@@ -63,7 +63,8 @@ AddsRequested names cores job j j2 = Unit {0}
 -- ---- all jobs
 
 -- a core's job asks for the circuit of its binding: so many are set up first, and those behind them are asked for in this order
-pub record IsRequested (names : List TheRegistration) (cores : List TheCore) (first : ℕ) (asked : List Job) (bindings : List BindingCores) (x : OpenRequest) : Type 0 where
+pub record IsRequested (names : List TheRegistration) (cores : List TheCore) (first : ℕ) (asked : List Job)
+    (bindings : List BindingCores) (x : OpenRequest) : Type 0 where
   pub place : ℕ
   pub number : x.opening.binding ≡ first + place
   pub request : TheCircuitRequest

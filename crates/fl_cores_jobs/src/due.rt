@@ -109,7 +109,8 @@ impl JoinedJobs {
         requires few { end.binding < 1024 }
         requires there { slot_of end < length self.now.end_works.items }
         requires across { slot_of (peer end) < length self.now.end_works.items }
-        ensures due { result ≡ due_in self.now.jobs.items (end_work_at (joined_of self.now).end_works end) (end_work_at (joined_of self.now).end_works (peer end)) }
+        ensures due { result ≡ due_in self.now.jobs.items (end_work_at (joined_of self.now).end_works end)
+            (end_work_at (joined_of self.now).end_works (peer end)) }
     {
         let here = &self.end_works[slot_of(end)];
         let across = &self.end_works[slot_of(end.peer())];

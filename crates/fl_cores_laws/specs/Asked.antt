@@ -96,8 +96,8 @@ abbrev pub HasLogEntry : LogEntry → List LogEntry → Type 0
 HasLogEntry log_entry [] = ⊥
 HasLogEntry log_entry (d ∷ log) = (d ≡ log_entry) ⊎ HasLogEntry log_entry log
 
--- in the log a job of an end's progress is done, which asks for the client's end of this name; the program is that of the interface that is asked for, and so is the
--- dispatcher
+-- in the log a job of an end's progress is done, which asks for the client's end of this name; the program is that of the
+-- interface that is asked for, and so is the dispatcher
 pub record IsOpenedBy {S : Type 0} (jobs : List CoreJob) (s : TheRun S) (log : List LogEntry) (name : EndId) (program : Program) (d : ℕ) : Type 0 where
   pub opener : EndId
   pub progress : TheEndProgress
@@ -207,7 +207,8 @@ pub record IsOwnJob (j : TheJoinedJobs) (place : ℕ) (e : EndId) (job : ℕ) : 
   pub bound_is : slice_get j.bindings e.binding ≡ Some bound
   pub core_is : core_of e.side bound ≡ place
 
--- cores that were set up together: each has its place as its number, all offer the same services, jobs ask for such, and lie at the ends' progress of their ends
+-- cores that were set up together: each has its place as its number, all offer the same services, jobs ask for such, and lie
+-- at the ends' progress of their ends
 pub record AreStaffed (j : TheJoinedJobs) (cores : List OneCore) (names : List TheRegistration) (programs : List TheProgram) : Type 0 where
   pub beside : AreBeside j.jobs cores
   pub numbered : (n : ℕ) (c : OneCore) → slice_get cores n ≡ Some c → c.start.core.monitor.circuits.core ≡ n
@@ -215,8 +216,8 @@ pub record AreStaffed (j : TheJoinedJobs) (cores : List OneCore) (names : List T
   pub programmed : (n : ℕ) (c : OneCore) → slice_get cores n ≡ Some c → map program_of c.start.offers.programs ≡ programs
   pub requests : (k : ℕ) (w : OpenRequest) (b : BindingCores) → slice_get j.jobs k ≡ Some (job.Open w) → slice_get j.bindings w.opening.binding ≡ Some b
       → IsForBinding names w b
-  pub progresses : (n : ℕ) (c : OneCore) (e : EndId) (progress : TheEndProgress) (turn k : ℕ) → slice_get cores n ≡ Some c → progress_of c.start e ≡ Some progress
-      → slice_get progress.jobs turn ≡ Some k → IsOwnJob j n e k
+  pub progresses : (n : ℕ) (c : OneCore) (e : EndId) (progress : TheEndProgress) (turn k : ℕ) → slice_get cores n ≡ Some c
+      → progress_of c.start e ≡ Some progress → slice_get progress.jobs turn ≡ Some k → IsOwnJob j n e k
 
 -- an end that was made in a run
 pub record IsMade (c : OneCore) (e : EndId) (seat : TheEndAtChannel) : Type 0 where

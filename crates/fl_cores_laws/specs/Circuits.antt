@@ -100,5 +100,6 @@ pub record ByCircuit (j : TheJoinedJobs) (n : ℕ) (p q : Point) : Type 0 where
 abbrev pub CircuitsAreHonest : Type 0
 CircuitsAreHonest = (asked : List Job) (j : TheJoinedJobs) (cores n : ℕ) (p q : Point) → AreJoined cores asked j
     → Leading j.jobs p.core → Leading j.jobs q.core
-    → HasProgress (end_work_at j.end_works (client_of n)) p.core.start (client_of n) → HasProgress (end_work_at j.end_works (server_of n)) q.core.start (server_of n)
+    → HasProgress (end_work_at j.end_works (client_of n)) p.core.start (client_of n)
+    → HasProgress (end_work_at j.end_works (server_of n)) q.core.start (server_of n)
     → ByCircuit j n p q → AreHonest asked j n p.core q.core

@@ -55,7 +55,8 @@ AllAmple cores = (n : ℕ) (c : OneCore) → slice_get cores n ≡ Some c → Ar
 
 -- a core's whole run is a log: its turns that were counted, and then those that weren't
 abbrev pub CoresGo : Type 0
-CoresGo = (t : RunTask) (a b : RunMoment TheSide) (part : Part) → CoreRan shared_ways t a part b → (log : List LogEntry) × Goes shared_ways t.jobs a.run log b.run
+CoresGo = (t : RunTask) (a b : RunMoment TheSide) (part : Part) → CoreRan shared_ways t a part b
+    → (log : List LogEntry) × Goes shared_ways t.jobs a.run log b.run
 
 -- and no opening of it was refused as out of memory
 abbrev pub CoresGoAmply : Type 0

@@ -55,8 +55,8 @@ pub record IsUntouched (j : TheJoinedJobs) (e : EndId) (d : TheEndProgress) : Ty
   pub done : d.done ≡ 0
   pub refused : d.refused ≡ 0
 
--- core n has just its own ends in its plan, each with its word and with an end's progress; its seat told nothing yet, no end's progress was touched, and no number of a link leads
--- anywhere
+-- core n has just its own ends in its plan, each with its word and with an end's progress; its seat told nothing yet, no end's
+-- progress was touched, and no number of a link leads anywhere
 pub record Begins (j : TheJoinedJobs) (n : ℕ) (c : OneCore) : Type 0 where
   pub ends : (e : EndId) → core_at j.bindings e ≡ Some n → (k : ℕ) × (slice_get c.plan.ends.items k ≡ Some e)
   pub own : (k : ℕ) (e : EndId) → slice_get c.plan.ends.items k ≡ Some e → core_at j.bindings e ≡ Some n
@@ -77,12 +77,14 @@ pub record Begins (j : TheJoinedJobs) (n : ℕ) (c : OneCore) : Type 0 where
 abbrev pub refusal_by : ℕ → Option ℕ
 refusal_by number = if number == 0 then None else Some number
 
--- of each end the calls that its end's progress has as handled, and those that it made, and of each binding the refusal at the client's end's progress; and of no others
+-- of each end the calls that its end's progress has as handled, and those that it made, and of each binding the refusal at the
+-- client's end's progress; and of no others
 pub record TellsProgress (j : TheJoinedJobs) (cores : List OneCore) (r : TheReport) : Type 0 where
   pub handled : (e : EndId) (n : ℕ) (c : OneCore) → core_at j.bindings e ≡ Some n → slice_get cores n ≡ Some c
       → at_end r.handled e ≡ map call_of (handled_of c.finish e)
   -- what an end made: the calls of its end's work's jobs that are done, and the replies by its rules to the calls that it handled, but for those that wait
-  pub made : (e : EndId) (n : ℕ) (c : OneCore) (d : TheEndProgress) → core_at j.bindings e ≡ Some n → slice_get cores n ≡ Some c → progress_of c.finish e ≡ Some d
+  pub made : (e : EndId) (n : ℕ) (c : OneCore) (d : TheEndProgress) → core_at j.bindings e ≡ Some n → slice_get cores n ≡ Some c
+      → progress_of c.finish e ≡ Some d
       → at_end r.made e ≡ accepted_of (count_waiting c.finish e) (calls_of_jobs j.jobs (take d.done (end_work_at j.end_works e).jobs)
       ++ flat_map (reply_by (end_work_at j.end_works e).rules) (map call_of (handled_of c.finish e)))
   pub refused : (n : ℕ) (b : BindingCores) (c : OneCore) → slice_get j.bindings n ≡ Some b → slice_get cores b.client ≡ Some c

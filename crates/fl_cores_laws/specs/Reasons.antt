@@ -259,7 +259,8 @@ pub record WasHeard (Requests : Opening → Type 0) (t : TheCircuits) (talk : Ta
 
 -- no other job asks for an opening of its binding
 abbrev pub IsOnlyRequest : List CoreJob → OpenRequest → Type 0
-IsOnlyRequest jobs request = (place : ℕ) (w : OpenRequest) → slice_get jobs place ≡ Some (job.Open w) → w.opening.binding ≡ request.opening.binding → w ≡ request
+IsOnlyRequest jobs request = (place : ℕ) (w : OpenRequest) → slice_get jobs place ≡ Some (job.Open w)
+    → w.opening.binding ≡ request.opening.binding → w ≡ request
 
 -- a job of the end's progress asks for an opening that this core refused; where for want of a number, and no other job asks for its binding, the client's end
 -- isn't there in the end
@@ -284,8 +285,8 @@ pub record AskedAgain (jobs : List CoreJob) (s : TheRun TheSide) (heard : ℕ �
   pub came : CameUnder s.core.monitor.circuits heard link number opening
   pub binding_is : opening.binding ≡ own.binding
 
--- why a refusal stands at the end's progress of an end, where fragments went over the core's links in these steps: as was heard; for a reason of this core's own; or
--- since an entry of the binding stood there (67)
+-- why a refusal stands at the end's progress of an end, where fragments went over the core's links in these steps: as was
+-- heard; for a reason of this core's own; or since an entry of the binding stood there (67)
 abbrev pub IsRefusedAt : List CoreJob → OneCore → List TableStep → EndId → ℕ → Type 0
 IsRefusedAt jobs c steps e reason =
     WasHeard (IsOwnRequest jobs c.start) c.start.core.monitor.circuits (talk_of c steps) e reason ⊎ WasRefused jobs c.start c.finish e reason

@@ -83,7 +83,8 @@ pub fn law_off_links_are_honest()
     law_reports_are_honest();
 }
 
-/// What ends' progress have is honest of a binding over a circuit whose two ends are bound in the end, where the tables of its route's cores lead from one to the other.
+/// What ends' progress have is honest of a binding over a circuit whose two ends are bound in the end, where the tables of
+/// its route's cores lead from one to the other.
 pub fn law_circuits_are_honest()
     ensures honest { CircuitsAreHonest }
 {
@@ -285,8 +286,8 @@ pub fn law_lone_servers_rest()
     law_circuits_join();
 }
 
-/// What ends' progress have is honest of each binding that a job opens, whatever its opening came to, where cores were set up together and ran the jobs that were
-/// joined for them.
+/// What ends' progress have is honest of each binding that a job opens, whatever its opening came to, where cores were set
+/// up together and ran the jobs that were joined for them.
 pub fn law_opened_is_honest()
     ensures honest { OpenedIsHonest }
 {
@@ -328,8 +329,8 @@ pub fn law_reasons_alone()
     law_circuits_join();
 }
 
-/// And where an end's progress has its opening as refused in the end, the core itself refuses it or one of those that heard it, for one of three reasons, where memory was
-/// never wanted for an opening.
+/// And where an end's progress has its opening as refused in the end, the core itself refuses it or one of those that heard
+/// it, for one of three reasons, where memory was never wanted for an opening.
 pub fn law_progresses_tell_reasons()
     ensures tell { ProgressTellReasons }
     ensures reason { RefusedForReason }

@@ -1,7 +1,8 @@
 //! Streams: links that hand whole fragments over as plain memory, over the kit's `rtrb`.
 //!
 //! A stream is a ring of fragments, whose two sides may be in two threads. One atomic store hands over
-//! a fragment, or a whole slice of them, and one frees what was taken: so nothing is acknowledged. Its sides are sides of links (`fl_link`), lent to ends and cores as any other.
+//! a fragment, or a whole slice of them, and one frees what was taken: so nothing is acknowledged. Its sides are sides of
+//! links (`fl_link`), lent to ends and cores as any other.
 //!
 //! Contract for the layers above: each call of a side is one step of the side's relation
 //! (`specs/Steps.antt`), and what one side took is a prefix of what the other put ([`settle`]).

@@ -1,9 +1,10 @@
 //! The whole system, one event at a time: all cores, and the rings and queues between them.
 //!
-//! Contract for the layers above: a [`World`] is the record of `fl_world_refines/specs/View.antt`. One event is one step of its relations: what is
-//! answered and what the world is then, exactly ([`World::step`]). Where memory is refused the world is as it was. By the laws of `fl_world_refines` each is then a
-//! step of the machine: a world is what scripts run on (`fl_model::Machine`), it does lists of events ([`World::run`]), it is booted
-//! by a set-up ([`World::boot`], `specs/Booting.antt`), and taken apart before it was used ([`World::into_parts`], into the `Parts` of `fl_world_refines`).
+//! Contract for the layers above: a [`World`] is the record of `fl_world_refines/specs/View.antt`. One event is one step of
+//! its relations: what is answered and what the world is then, exactly ([`World::step`]). Where memory is refused the world
+//! is as it was. By the laws of `fl_world_refines` each is then a step of the machine: a world is what scripts run on
+//! (`fl_model::Machine`), it does lists of events ([`World::run`]), it is booted by a set-up ([`World::boot`],
+//! `specs/Booting.antt`), and taken apart before it was used ([`World::into_parts`], into the `Parts` of `fl_world_refines`).
 //!
 //! - `world.rt`: `World`, and what contracts see of it
 //! - `step.rt`: whatever event is asked, and many

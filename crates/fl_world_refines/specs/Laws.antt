@@ -1,5 +1,5 @@
--- The laws of worlds: whatever an event comes to in a world that shows a state, the answer is the machine's, and the world is what is shown of the machine's next
--- state.
+-- The laws of worlds: whatever an event comes to in a world that shows a state, the answer is the machine's, and the world is
+-- what is shown of the machine's next state.
 use Rattle.std.specs.Prelude.{ℕ, ◌≡◌, ◌≤◌, List}
 use Rattle.fl_base.specs.declared.identity.EndId.{EndId}
 use Rattle.fl_base.specs.Numbered.{most_cores}

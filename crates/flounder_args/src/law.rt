@@ -1,6 +1,7 @@
 //! Laws on the words of the command line, as the contract of a function that does nothing.
 
-ghost use Rattle.flounder_args.specs.Words.{ExecIsAsked, ShowIsAsked, CompileIsAsked, CoresIsAsked, ChartIsAsked, HeaderIsAsked, TurnsAreWanted, HelpIsAsked, VersionIsAsked};
+ghost use Rattle.flounder_args.specs.Words.{ExecIsAsked, ShowIsAsked, CompileIsAsked, CoresIsAsked, ChartIsAsked};
+ghost use Rattle.flounder_args.specs.Words.{HeaderIsAsked, TurnsAreWanted, HelpIsAsked, VersionIsAsked};
 
 /// What words ask for, whatever the program is called: no word and `exec` run a script, also with `--explain`
 /// and `--strict`; `show FILE`, also with `--names`, `compile FILE OUT`, `cores FILE --turns N`,

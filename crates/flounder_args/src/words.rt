@@ -2,7 +2,8 @@
 
 ghost use Rattle.std.specs.Prelude.{◌≡◌, false, map, option_map, IfOk, Some, codes};
 ghost use Rattle.clap.specs.Words.{FailsBy, new_app, with_rule, fault_of, first_of, found_of, rows_of, rule_of, subcommand_rows_of};
-ghost use Rattle.flounder_args.specs.Words.{exec_command, exec_with_explain, exec_asked, show_with_file, flag, is_told, bare_program, to_compile, show_command, compile_command, program, IsCommand};
+ghost use Rattle.flounder_args.specs.Words.{exec_command, exec_with_explain, exec_asked, show_with_file, flag, is_told};
+ghost use Rattle.flounder_args.specs.Words.{bare_program, to_compile, show_command, compile_command, program, IsCommand};
 ghost use Rattle.flounder_args.specs.Words.{required, compile_with_file, with_exec, with_compile, with_show, with_cores, with_chart};
 ghost use Rattle.flounder_args.specs.Words.{turns_option, cores_with_file, cores_with_turns, script_option, cores_command, cores_asked, cores_of, turns_asked};
 ghost use Rattle.flounder_args.specs.Words.{lines_option, chart_with_file, chart_command, chart_asked, header_command, header_asked};

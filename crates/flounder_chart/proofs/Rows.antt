@@ -4,7 +4,7 @@ use Rattle.std.specs.Prelude.{◌<◌, IfErr, Result, Ok, Err}
 use Rattle.fl_script_lines.specs.Items.{Item, ItemsOf}
 use Rattle.flounder_chart.specs.declared.fault.ChartFault.{ChartFault}
 use Rattle.flounder_chart.specs.declared.fault.ChartFault.TheVariants.{TooLong, TooManyRows, Memory}
-use Rattle.flounder_chart.specs.Faults.{IsFaultOf, IsFaultOfRows}
+use Rattle.flounder_chart.specs.Faults.{HasMany, IsFaultOf, IsFaultOfRows}
 
 -- whatever items the rest has, the whole script has those and one for each row
 pub record RowsSoFar (script rest : List ℕ) (rows : ℕ) : Type 0 where
@@ -36,7 +36,8 @@ fault_of_rows script rows count TooLong fits all is = absurd is
 fault_of_rows script rows count TooManyRows fits all is =
     let few : rows ≤ length all.0 = all.1.1 in
     let many : 5000 < rows = is.1 in
-    (fits, is.0, all.0, all.1.0, omega (arith, few, many))
+    let has : HasMany script = (all.0, all.1.0, omega (arith, few, many)) in
+    (fits, (is.0, has))
 fault_of_rows script rows count Memory fits all is = fits
 
 pub faults_of_rows : {A : Type 0} (r : Result A ChartFault) (script : List ℕ) (rows : ℕ) (count : Option ℕ) → length script ≤ 1048576

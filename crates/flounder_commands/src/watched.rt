@@ -1,6 +1,6 @@
 //! Readers and writers that remember why they failed, and what passed through them.
 
-ghost use Rattle.std.specs.Prelude.{◌≡◌, [], None, IfSome};
+ghost use Rattle.std.specs.Prelude.{◌≡◌, false, [], None, IfSome};
 ghost use Rattle.flounder_commands.specs.Refusals.{has_refusal};
 ghost use Rattle.flounder_commands.specs.Scan.{at_start, told_by};
 ghost use Rattle.flounder_commands.specs.ScanView.{scanned};
@@ -50,6 +50,7 @@ impl<T> Watched<T> {
     pub fn new(alloc: Global, inner: T) -> Watched<T>
         ensures same { result.inner ≡ inner }
         ensures unread { scanned result.scan ≡ at_start }
+        ensures typed { result.is_typed ≡ false }
         ensures none { result.failure ≡ None }
         ensures empty { result.kept.items ≡ [] }
     {

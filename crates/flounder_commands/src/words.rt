@@ -118,7 +118,8 @@ fn words_of_names(number: u32) -> Option<LineWords> {
         ),
         73 => (
             "there is no such core, link or route",
-            "cores count from 0 to below the number of `cores`; local is for one core, ump for two; a route goes from the client's core to the service's, over links",
+            "cores count from 0 to below the number of `cores`; local is for one core, ump for two; \
+             a route goes from the client's core to the service's, over links",
         ),
         74 => (
             "a core has opened 1023 circuits on this link",

@@ -5,7 +5,7 @@ use Rattle.std.specs.Fmt.{decimal}
 use Rattle.fl_interface.specs.Interface.{TheMessage, TheInterface}
 use Rattle.fl_value_data.specs.declared.value.PlanNo.{PlanNo}
 use Rattle.fl_layout.specs.Layouts.{tape_length, IsGreatest}
-use Rattle.flounder_header.specs.Header.{IsHeader, IsSection, AreSections, message_name, preface, plan_text, section_text}
+use Rattle.flounder_header.specs.Header.{IsHeader, IsSection, AreSections, message_name, preface, plan_text, struct_text, section_text}
 
 pub prefaced : (plan : PlanNo) (name spelled digit text : List ℕ) → spelled ≡ name → digit ≡ plan_text plan → text ≡ preface spelled digit → text ≡ preface name (plan_text plan)
 prefaced plan name spelled digit text n d e = e ∙ (ap (λ (z : List ℕ). preface z digit) n ∙ ap (λ (z : List ℕ). preface name z) d)
@@ -13,10 +13,14 @@ prefaced plan name spelled digit text n d e = e ∙ (ap (λ (z : List ℕ). pref
 pub headed : (plan q : PlanNo) (i j : TheInterface) (text : List ℕ) → q ≡ plan → j ≡ i → IsHeader q j text → IsHeader plan i text
 headed plan q i j text e d h = subst (λ (p : PlanNo). IsHeader p i text) e (subst (λ (x : TheInterface). IsHeader q x text) d h)
 
-pub spelled_so : (name : List ℕ) (number most : ℕ) (digits digits_of_most members puts gets text : List ℕ) → digits ≡ decimal number → digits_of_most ≡ decimal most
-    → text ≡ section_text name digits members digits_of_most puts gets → text ≡ section_text name (decimal number) members (decimal most) puts gets
-spelled_so name number most digits digits_of_most members puts gets text d m e =
-    e ∙ (ap (λ (z : List ℕ). section_text name z members digits_of_most puts gets) d ∙ ap (λ (z : List ℕ). section_text name (decimal number) members z puts gets) m)
+pub with_digits : (name : List ℕ) (number most : ℕ) (digits digits_of_most members text : List ℕ) → digits ≡ decimal number → digits_of_most ≡ decimal most
+    → text ≡ struct_text name digits members digits_of_most → text ≡ struct_text name (decimal number) members (decimal most)
+with_digits name number most digits digits_of_most members text d m e =
+    e ∙ (ap (λ (z : List ℕ). struct_text name z members digits_of_most) d ∙ ap (λ (z : List ℕ). struct_text name (decimal number) members z) m)
+
+-- three texts, one behind another, each of which is known
+pub three : (a b c x y z text : List ℕ) → a ≡ x → b ≡ y → c ≡ z → text ≡ a ++ (b ++ (c ++ [])) → text ≡ x ++ (y ++ (z ++ []))
+three a b c x y z text p q r e = cc
 
 pub declared : (plan : PlanNo) (i : TheInterface) (msg : ℕ) (m : TheMessage) (most : ℕ) (name members puts gets text : List ℕ) → IsGreatest (tape_length plan i) i msg most
     → name ≡ message_name i.name m.name → text ≡ section_text name (decimal msg) members (decimal most) puts gets → IsSection plan i msg m text

@@ -28,16 +28,29 @@ preface name plan = joined (codes "/* Interface " ∷ name ∷ codes ", plan " �
 abbrev pub message_name : List ℕ → List ℕ → List ℕ
 message_name interface message = joined (interface ∷ codes "_" ∷ message ∷ [])
 
--- a message's declarations: its struct, its number, how many numbers its calls have at most, and what puts and gets them
-abbrev pub section_text : List ℕ → List ℕ → List ℕ → List ℕ → List ℕ → List ℕ → List ℕ
-section_text name number members most puts gets = joined (codes "\nstruct " ∷ name ∷ codes " {\n" ∷ members
+-- a message's struct, its number, and how many numbers its tapes have at most
+abbrev pub struct_text : List ℕ → List ℕ → List ℕ → List ℕ → List ℕ
+struct_text name number members most = joined (codes "\nstruct " ∷ name ∷ codes " {\n" ∷ members
     ∷ codes "};\nenum { " ∷ name ∷ codes "_number = " ∷ number ∷ codes ", " ∷ name ∷ codes "_most = 1 + " ∷ most
-    ∷ codes " };\nstatic inline size_t " ∷ name ∷ codes "_put(const struct " ∷ name
+    ∷ codes " };\n" ∷ [])
+
+-- the function that puts a call's numbers, by these lines
+abbrev pub put_text : List ℕ → List ℕ → List ℕ
+put_text name puts = joined (codes "static inline size_t " ∷ name ∷ codes "_put(const struct " ∷ name
     ∷ codes " *m, uint64_t *call)\n{\n    size_t n = 0;\n    (void)m;\n    call[n++] = " ∷ name ∷ codes "_number;\n" ∷ puts
-    ∷ codes "    return n;\n}\nstatic inline int " ∷ name ∷ codes "_get(struct " ∷ name
-    ∷ codes " *m, const uint64_t *call, size_t count)\n{\n    struct fl_tape tape = { call, count, 0 };\n    (void)m;\n"
-    ∷ codes "    if (fl_next(&tape) != " ∷ name ∷ codes "_number) return 0;\n" ∷ gets
+    ∷ codes "    return n;\n}\n" ∷ [])
+
+-- the function that gets a call of its numbers, by these lines
+abbrev pub get_text : List ℕ → List ℕ → List ℕ
+get_text name gets = joined (codes "static inline int " ∷ name ∷ codes "_get(struct " ∷ name
+    ∷ codes " *m, const uint64_t *call, size_t count)\n{\n    struct fl_tape tape = { call, count, 0 };\n"
+    ∷ codes "    (void)m;\n    if (fl_next(&tape) != " ∷ name ∷ codes "_number) return 0;\n" ∷ gets
     ∷ codes "    return !tape.wrong && !tape.left;\n}\n" ∷ [])
+
+-- a message's declarations
+abbrev pub section_text : List ℕ → List ℕ → List ℕ → List ℕ → List ℕ → List ℕ → List ℕ
+section_text name number members most puts gets =
+    joined (struct_text name number members most ∷ put_text name puts ∷ get_text name gets ∷ [])
 
 -- A message is declared, by its number. A call's first number is the message's, and behind it stands its tape, which has so many at most.
 pub record IsSection (plan : PlanNo) (i : TheInterface) (msg : ℕ) (m : TheMessage) (text : List ℕ) : Type 0 where

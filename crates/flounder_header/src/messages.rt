@@ -3,7 +3,8 @@
 ghost use Rattle.std.specs.Prelude.{◌≡◌, ◌<◌, IfOk, length, flat_map};
 ghost use Rattle.std.specs.Fmt.{decimal};
 ghost use Rattle.fl_interface.specs.Interface.{interface_of, message_of};
-ghost use Rattle.flounder_header.specs.Header.{IsHeader, IsSection, AreSections, plan_text, preface, section_text};
+ghost use Rattle.flounder_header.specs.Header.{IsHeader, IsSection, AreSections, plan_text, preface};
+ghost use Rattle.flounder_header.specs.Header.{struct_text, put_text, get_text, section_text};
 
 use crate::arguments::{declare_argument, move_argument};
 use crate::page::{Page, Way};
@@ -69,54 +70,90 @@ struct Parts<'a> {
     gets: &'a [u8],
 }
 
+// A message's struct, its number, and how many numbers its tapes have at most.
+fn declaration(
+    alloc: Global,
+    name: &[u8],
+    members: &[u8],
+    number: u16,
+    most: usize,
+) -> Result<Vec<u8>, AllocError>
+    ensures declared { IfOk result (λ text. text.items ≡ struct_text name.now (decimal number) members.now (decimal most)) }
+{
+    let digits = format!(in alloc; "{number}")?;
+    let digits_of_most = format!(in alloc; "{most}")?;
+    let number = digits.as_bytes();
+    let most = digits_of_most.as_bytes();
+    joined(
+        alloc,
+        &[
+            b"\nstruct ",
+            name,
+            b" {\n",
+            members,
+            b"};\nenum { ",
+            name,
+            b"_number = ",
+            number,
+            b", ",
+            name,
+            b"_most = 1 + ",
+            most,
+            b" };\n",
+        ],
+    )
+}
+
+// The function that puts a call's numbers, by these lines.
+fn put_function(alloc: Global, name: &[u8], puts: &[u8]) -> Result<Vec<u8>, AllocError>
+    ensures put { IfOk result (λ text. text.items ≡ put_text name.now puts.now) }
+{
+    joined(
+        alloc,
+        &[
+            b"static inline size_t ",
+            name,
+            b"_put(const struct ",
+            name,
+            b" *m, uint64_t *call)\n{\n    size_t n = 0;\n    (void)m;\n    call[n++] = ",
+            name,
+            b"_number;\n",
+            puts,
+            b"    return n;\n}\n",
+        ],
+    )
+}
+
+// The function that gets a call of its numbers, by these lines.
+fn get_function(alloc: Global, name: &[u8], gets: &[u8]) -> Result<Vec<u8>, AllocError>
+    ensures got { IfOk result (λ text. text.items ≡ get_text name.now gets.now) }
+{
+    joined(
+        alloc,
+        &[
+            b"static inline int ",
+            name,
+            b"_get(struct ",
+            name,
+            b" *m, const uint64_t *call, size_t count)\n{\n    struct fl_tape tape = { call, count, 0 };\n",
+            b"    (void)m;\n    if (fl_next(&tape) != ",
+            name,
+            b"_number) return 0;\n",
+            gets,
+            b"    return !tape.wrong && !tape.left;\n}\n",
+        ],
+    )
+}
+
 // A message's declarations, of their parts, its number and how many numbers its tapes have at most.
 fn spell(alloc: Global, parts: Parts<'_>, number: u16, most: usize) -> Result<Vec<u8>, AllocError>
     ensures spelled { IfOk result (λ text. text.items ≡ section_text parts.entry.name.now (decimal number) parts.entry.members.now (decimal most)
         parts.entry.puts.now parts.entry.gets.now) }
 {
-    let Parts {
-        name,
-        members,
-        puts,
-        gets,
-    } = parts;
-    let digits = format!(in alloc; "{number}")?;
-    let digits_of_most = format!(in alloc; "{most}")?;
-    let number = digits.as_bytes();
-    let most = digits_of_most.as_bytes();
-    let pieces: [&[u8]; 30] = [
-        b"\nstruct ",
-        name,
-        b" {\n",
-        members,
-        b"};\nenum { ",
-        name,
-        b"_number = ",
-        number,
-        b", ",
-        name,
-        b"_most = 1 + ",
-        most,
-        b" };\nstatic inline size_t ",
-        name,
-        b"_put(const struct ",
-        name,
-        b" *m, uint64_t *call)\n{\n    size_t n = 0;\n    (void)m;\n    call[n++] = ",
-        name,
-        b"_number;\n",
-        puts,
-        b"    return n;\n}\nstatic inline int ",
-        name,
-        b"_get(struct ",
-        name,
-        b" *m, const uint64_t *call, size_t count)\n{\n    struct fl_tape tape = { call, count, 0 };\n    (void)m;\n",
-        b"    if (fl_next(&tape) != ",
-        name,
-        b"_number) return 0;\n",
-        gets,
-        b"    return !tape.wrong && !tape.left;\n}\n",
-    ];
-    joined(alloc, &pieces)
+    let declaration = declaration(alloc, parts.name, parts.members, number, most)?;
+    let put = put_function(alloc, parts.name, parts.puts)?;
+    let get = get_function(alloc, parts.name, parts.gets)?;
+    joined(alloc, &[&declaration, &put, &get])
 }
 
 // A message's declarations.

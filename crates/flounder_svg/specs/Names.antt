@@ -3,7 +3,8 @@ use Rattle.std.specs.Prelude.{ℕ, List, codes}
 use Rattle.flounder_svg.specs.declared.names.Tag.{Tag}
 use Rattle.flounder_svg.specs.declared.names.Tag.TheVariants.{Svg, Title, Desc, Style, Defs, Marker, Group, Rect, Line, Path, Circle, Text}
 use Rattle.flounder_svg.specs.declared.names.Attribute.{Attribute}
-use Rattle.flounder_svg.specs.declared.names.Attribute.TheVariants.{Namespace, Id, Class, Role, AriaLabel, AriaLabelledBy, X, Y, X1, Y1, X2, Y2, Width, Height, CenterX, CenterY, Radius, D, ViewBox, RefX, RefY, MarkerWidth, MarkerHeight, Orient}
+use Rattle.flounder_svg.specs.declared.names.Attribute.TheVariants.{Namespace, Id, Class, Role, AriaLabel, AriaLabelledBy, X, Y, X1, Y1, X2, Y2, Width, Height}
+use Rattle.flounder_svg.specs.declared.names.Attribute.TheVariants.{CenterX, CenterY, Radius, D, ViewBox, RefX, RefY, MarkerWidth, MarkerHeight, Orient}
 
 abbrev pub tag_name : Tag → List ℕ
 tag_name Svg = codes "svg"

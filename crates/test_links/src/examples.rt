@@ -1,7 +1,7 @@
 //! Examples of lists, waitsets, queues and rings that share no shape with others.
 
 use crate::ring::{links, rings, shared_rings, slow};
-use crate::rows::CheckedRow;
+use crate::rows::LinkCase;
 use fl_lists::Lists;
 use fl_waitset::Waitset;
 use std::alloc::Global;
@@ -35,7 +35,7 @@ pub enum LinksExample {
     PassesBetween,
 }
 
-impl CheckedRow for LinksExample {
+impl LinkCase for LinksExample {
     fn holds(&self, alloc: Global) -> Result<bool, Fail> {
         match self {
             LinksExample::RandomLists => slow::agree::<Lists>(alloc, 7),

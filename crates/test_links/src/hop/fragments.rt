@@ -1,6 +1,6 @@
 //! The fragments that the tests put, and the circuit field.
 
-use crate::rows::CheckedRow;
+use crate::rows::LinkCase;
 use fl_base::{Circuit, Frag, MsgNo, control};
 use fl_link::PutSide;
 use std::alloc::Global;
@@ -34,7 +34,7 @@ pub const ON_CIRCUITS: &[OnCircuit] = &[
 
 const WORDS: [u64; 7] = [1, 2, 3, 4, 5, 6, u64::MAX];
 
-impl CheckedRow for OnCircuit {
+impl LinkCase for OnCircuit {
     fn holds(&self, _alloc: Global) -> Result<bool, Fail> {
         let frag = Frag {
             words: WORDS,

@@ -1,6 +1,6 @@
 //! Links, numbers, and each way in which an entry comes and goes.
 
-use crate::rows::CheckedRow;
+use crate::rows::LinkCase;
 use fl_base::{Circuit, CoreId, EndId, LinkId, Side};
 use fl_hop::{Circuits, Hop, HopFault, HopTarget, MAX_LINKS, MAX_OPENINGS};
 use std::alloc::Global;
@@ -295,7 +295,7 @@ fn follow(one: &mut Circuits, two: &mut Circuits, steps: &[OpeningStep]) -> bool
     true
 }
 
-impl CheckedRow for OpeningScript {
+impl LinkCase for OpeningScript {
     fn holds(&self, alloc: Global) -> Result<bool, Fail> {
         let mut one = table(alloc, self.one.0, self.one.1)?;
         let mut two = table(alloc, self.two.0, self.two.1)?;

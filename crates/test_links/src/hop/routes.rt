@@ -2,7 +2,7 @@
 
 use crate::hop::fragments::{call, put};
 use crate::hop::openings::table;
-use crate::rows::CheckedRow;
+use crate::rows::LinkCase;
 use fl_base::{Circuit, Frag, LinkId};
 use fl_hop::{
     Circuits, ForwardOutcome, Forwarded, HopFault, HopFront, HopTarget, deliver, law_along,
@@ -328,7 +328,7 @@ fn over_links(
     )
 }
 
-impl CheckedRow for RouteExample {
+impl LinkCase for RouteExample {
     fn holds(&self, alloc: Global) -> Result<bool, Fail> {
         let mut cores = make_cores(alloc, self.1)?;
         over_links(alloc, &mut cores, self)

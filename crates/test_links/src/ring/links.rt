@@ -2,7 +2,7 @@
 
 use crate::examples::LinksExample;
 use crate::ring::fragments::{LinkCall, answers, fill, pass_on};
-use crate::rows::{CheckedRow, all_hold};
+use crate::rows::{LinkCase, all_hold};
 use fl_base::Frag;
 use fl_link::{
     Cursor, Passed, PutFault, PutSide, QueueLink, Sight, Told, law_calls_alone, law_filters_join,
@@ -55,7 +55,7 @@ const ACKED: &[LinkCall] = &[
 
 const SCRIPTS: &[QueueScript] = &[QueueScript(false, 2, LOCAL), QueueScript(true, 2, ACKED)];
 
-impl CheckedRow for QueueScript {
+impl LinkCase for QueueScript {
     fn holds(&self, alloc: Global) -> Result<bool, Fail> {
         let mut queue = if self.0 {
             QueueLink::acked(alloc, self.1)?
@@ -107,7 +107,7 @@ fn are_told(queue: &mut QueueLink, forms: &[Form]) -> bool {
     true
 }
 
-impl CheckedRow for Forms {
+impl LinkCase for Forms {
     fn holds(&self, alloc: Global) -> Result<bool, Fail> {
         let mut queue = QueueLink::local(alloc, 1)?;
         Ok(are_told(&mut queue, self.0))

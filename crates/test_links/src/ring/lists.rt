@@ -2,7 +2,7 @@
 
 use crate::examples::LinksExample;
 use crate::ring::slow::{Fast, Slow, random_place};
-use crate::rows::{CheckedRow, all_hold};
+use crate::rows::{LinkCase, all_hold};
 use fl_lists::{Lists, Place};
 use std::alloc::{AllocError, Global};
 use std::test::Fail;
@@ -97,7 +97,7 @@ fn all_answer(lists: &mut Lists, rows: &[ListsCall]) -> bool {
     true
 }
 
-impl CheckedRow for ListsScript {
+impl LinkCase for ListsScript {
     fn holds(&self, alloc: Global) -> Result<bool, Fail> {
         let mut lists = Lists::new(alloc, self.0)?;
         Ok(lists.size() == self.0 && all_answer(&mut lists, self.1))

@@ -1,6 +1,6 @@
 //! WhichSide sizes lists, waitsets, queues and rings may have, and what their makers answer where memory is refused.
 
-use crate::rows::{CheckedRow, all_hold};
+use crate::rows::{LinkCase, all_hold};
 use fl_link::{LinkFault, PutSide, QueueLink};
 use fl_lists::Lists;
 use fl_ring::{OneDuo, OneRing, WhichSide, duo, ring, settle, settle_duo};
@@ -152,7 +152,7 @@ fn answer_of(alloc: Global, maker: Maker, size: usize) -> MakerAnswer {
     }
 }
 
-impl CheckedRow for MakerRow {
+impl LinkCase for MakerRow {
     fn holds(&self, alloc: Global) -> Result<bool, Fail> {
         Ok(answer_of(alloc, self.0, self.1) == self.2)
     }

@@ -7,7 +7,7 @@ ghost use Rattle.fl_ring.specs.Duo.{DuoPuts, DuoTakes};
 
 use crate::examples::LinksExample;
 use crate::ring::fragments::{LinkCall, answers, fill, pass_on, ping, sight_of};
-use crate::rows::{CheckedRow, all_hold};
+use crate::rows::{LinkCase, all_hold};
 use fl_base::Frag;
 use fl_link::{Link, Passed, PutFault, PutSide, QueueLink, Sight, TakeSide, Told};
 use fl_ring::{
@@ -335,7 +335,7 @@ const COUNTS: &[Count] = &[
     Count(65_536, 65_535, 131_071),
 ];
 
-impl CheckedRow for Count {
+impl LinkCase for Count {
     // The counts are far from the end of all counts.
     fn holds(&self, _alloc: Global) -> Result<bool, Fail> {
         let known = self.0;

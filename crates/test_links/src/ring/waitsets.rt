@@ -2,7 +2,7 @@
 
 use crate::examples::LinksExample;
 use crate::ring::slow::{Fast, Slow, random_place};
-use crate::rows::{CheckedRow, all_hold};
+use crate::rows::{LinkCase, all_hold};
 use fl_base::ChanId;
 use fl_waitset::{Pick, Place, WaitFault, Waitset};
 use std::alloc::{AllocError, Global};
@@ -93,7 +93,7 @@ fn answers(waitset: &mut Waitset, rows: &[(WaitsetCall, WaitsetAnswer)]) -> bool
     true
 }
 
-impl CheckedRow for WaitsetScript {
+impl LinkCase for WaitsetScript {
     fn holds(&self, alloc: Global) -> Result<bool, Fail> {
         let mut waitset = Waitset::new(alloc, 2)?;
         Ok(answers(&mut waitset, self.0))

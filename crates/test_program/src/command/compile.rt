@@ -1,7 +1,7 @@
 //! `compile`.
 
 use crate::command::store::TellingStore;
-use crate::rows::{CheckedRow, all_hold};
+use crate::rows::{ProgramCase, all_hold};
 use flounder_commands::compile_file;
 use std::alloc::Global;
 use std::io;
@@ -136,7 +136,7 @@ fn is_compiled(alloc: Global, row: &CompileRow) -> bool {
     ends_so(alloc, &mut store, row)
 }
 
-impl CheckedRow for CompileRow {
+impl ProgramCase for CompileRow {
     fn holds(&self, alloc: Global) -> Result<bool, Fail> {
         Ok(is_compiled(alloc, self))
     }

@@ -64,13 +64,13 @@ impl Write for Narrow {
 
 /// What came of a command: its status, and what reached standard output and standard error.
 #[derive(Drop)]
-pub struct Ran {
+pub struct CommandOutput {
     pub status: u8,
     pub out: Vec<u8>,
     pub err: Vec<u8>,
 }
 
-impl Ran {
+impl CommandOutput {
     /// Whether it ended so: with this status, and with these bytes on standard output and on standard error.
     pub fn is(&self, status: u8, out: &[u8], err: &[u8]) -> bool {
         self.status == status && self.out.as_slice() == out && self.err.as_slice() == err

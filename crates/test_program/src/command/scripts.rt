@@ -1,7 +1,7 @@
 //! `exec`.
 
-use crate::command::outputs::{Closed, Narrow, Ran};
-use crate::rows::{CheckedRow, all_hold};
+use crate::command::outputs::{Closed, CommandOutput, Narrow};
+use crate::rows::{ProgramCase, all_hold};
 use fl_world::World;
 use flounder_commands::{Fault, Watched, finish, run_script};
 use std::alloc::{AllocError, Global};
@@ -53,14 +53,14 @@ fn exec_into<R: Read + Drop, W: Write + Drop>(
     exec_with(alloc, (false, false), input, output, errors)
 }
 
-fn exec_so<R: Read + Drop>(alloc: Global, options: (bool, bool), input: R) -> Ran {
+fn exec_so<R: Read + Drop>(alloc: Global, options: (bool, bool), input: R) -> CommandOutput {
     let mut out = Vec::new(alloc);
     let mut err = Vec::new(alloc);
     let status = exec_with(alloc, options, input, &mut out, &mut err);
-    Ran { status, out, err }
+    CommandOutput { status, out, err }
 }
 
-fn exec<R: Read + Drop>(alloc: Global, input: R) -> Ran {
+fn exec<R: Read + Drop>(alloc: Global, input: R) -> CommandOutput {
     exec_so(alloc, (false, false), input)
 }
 
@@ -124,7 +124,7 @@ help: choose another name in the text
     ),
 ];
 
-impl CheckedRow for ExplainedRow {
+impl ProgramCase for ExplainedRow {
     fn holds(&self, alloc: Global) -> Result<bool, Fail> {
         let told = exec_so(alloc, (true, false), self.0);
         let strict = exec_so(alloc, (false, true), self.0);
@@ -216,7 +216,7 @@ fn is_long(alloc: Global, script: &[u8], row: &Long) -> Result<bool, Fail> {
     )
 }
 
-impl CheckedRow for Long {
+impl ProgramCase for Long {
     fn holds(&self, alloc: Global) -> Result<bool, Fail> {
         let script = lines(alloc, self.0)?;
         is_long(alloc, &script, self)

@@ -1,7 +1,7 @@
 //! `show`.
 
-use crate::command::outputs::{Narrow, Ran, Shelf};
-use crate::rows::{CheckedRow, all_hold};
+use crate::command::outputs::{CommandOutput, Narrow, Shelf};
+use crate::rows::{ProgramCase, all_hold};
 use flounder_commands::{Fault, finish, show_file};
 use std::alloc::Global;
 use std::io;
@@ -26,11 +26,11 @@ fn show_into<W: Write + Drop>(
     status
 }
 
-fn show(alloc: Global, file: &str, names: bool, shelf: Shelf) -> Ran {
+fn show(alloc: Global, file: &str, names: bool, shelf: Shelf) -> CommandOutput {
     let mut out = Vec::new(alloc);
     let mut err = Vec::new(alloc);
     let status = show_into(alloc, file, names, shelf, &mut out, &mut err);
-    Ran { status, out, err }
+    CommandOutput { status, out, err }
 }
 
 const MIXED: Shelf = Shelf::Holds(
@@ -79,28 +79,48 @@ const NO_TEXTS: &[ShowRow] = &[
         Shelf::Holds("x", b""),
         2,
         b"",
-        b"E7 at 0\nx:1:1: the text ends here, where `interface` is expected\nhelp: compare with the grammar in docs/INTERFACES.md\n",
+        b"\
+E7 at 0
+x:1:1: the text ends here, where `interface` is expected
+help: compare with the grammar in docs/INTERFACES.md
+",
     ),
     ShowRow(
         "x",
         Shelf::Holds("x", b"FLNE\x02\x00"),
         2,
         b"",
-        b"E1 at 4\nx:1:5: no token begins with this byte\n    FLNE\\x02\\x00\n        ^\nhelp: a text has words, decimal numbers, { } ( ) [ ] , ; and comments alone\n",
+        b"\
+E1 at 4
+x:1:5: no token begins with this byte
+    FLNE\\x02\\x00
+        ^
+help: a text has words, decimal numbers, { } ( ) [ ] , ; and comments alone
+",
     ),
     ShowRow(
         "x",
         Shelf::Holds("x", b"interface\ni {\n"),
         2,
         b"",
-        b"E7 at 14\nx:3:1: the text ends here, where `}`, `alias`, `typedef`, `message`, `call`, `response` or `rpc` is expected\nhelp: compare with the grammar in docs/INTERFACES.md\n",
+        b"\
+E7 at 14
+x:3:1: the text ends here, where `}`, `alias`, `typedef`, `message`, `call`, `response` or `rpc` is expected
+help: compare with the grammar in docs/INTERFACES.md
+",
     ),
     ShowRow(
         "x",
         Shelf::Holds("x", b"\xef\xbb\xbfinterface i { }"),
         2,
         b"",
-        b"E1 at 0\nx:1:1: no token begins with this byte\n    \\xef\\xbb\\xbfinterface i { }\n    ^\nhelp: the file begins with a byte order mark: save it without one\n",
+        b"\
+E1 at 0
+x:1:1: no token begins with this byte
+    \\xef\\xbb\\xbfinterface i { }
+    ^
+help: the file begins with a byte order mark: save it without one
+",
     ),
     ShowRow(
         "x",
@@ -110,7 +130,13 @@ const NO_TEXTS: &[ShowRow] = &[
         ),
         2,
         b"",
-        b"E11 at 24\nx:1:25: no type of this name is declared before\n    interface i { message m(later x); typedef uint8 later; }\n                            ^\nhelp: declare the type above what uses it, or mend its name\n",
+        b"\
+E11 at 24
+x:1:25: no type of this name is declared before
+    interface i { message m(later x); typedef uint8 later; }
+                            ^
+help: declare the type above what uses it, or mend its name
+",
     ),
     ShowRow(
         "x",
@@ -128,28 +154,52 @@ const CAUSES: &[ShowRow] = &[
         Shelf::Holds("x", b"interface i { message m(uint32 v) }"),
         2,
         b"",
-        b"E7 at 34\nx:1:35: `;` is expected here\n    interface i { message m(uint32 v) }\n                                      ^\nhelp: compare with the grammar in docs/INTERFACES.md\n",
+        b"\
+E7 at 34
+x:1:35: `;` is expected here
+    interface i { message m(uint32 v) }
+                                      ^
+help: compare with the grammar in docs/INTERFACES.md
+",
     ),
     ShowRow(
         "x",
         Shelf::Holds("x", b"interface i { message m(uint32 v[4]); }"),
         2,
         b"",
-        b"E7 at 33\nx:1:34: a name is expected here\n    interface i { message m(uint32 v[4]); }\n                                     ^\nhelp: compare with the grammar in docs/INTERFACES.md\n",
+        b"\
+E7 at 33
+x:1:34: a name is expected here
+    interface i { message m(uint32 v[4]); }
+                                     ^
+help: compare with the grammar in docs/INTERFACES.md
+",
     ),
     ShowRow(
         "x",
         Shelf::Holds("x", b"interface i { message m(string s 4); }"),
         2,
         b"",
-        b"E7 at 33\nx:1:34: `)`, `[` or `,` is expected here\n    interface i { message m(string s 4); }\n                                     ^\nhelp: compare with the grammar in docs/INTERFACES.md\n",
+        b"\
+E7 at 33
+x:1:34: `)`, `[` or `,` is expected here
+    interface i { message m(string s 4); }
+                                     ^
+help: compare with the grammar in docs/INTERFACES.md
+",
     ),
     ShowRow(
         "x",
         Shelf::Holds("x", b"interface i { rpc f(uint8 x); }"),
         2,
         b"",
-        b"E7 at 20\nx:1:21: `)`, `in` or `out` is expected here\n    interface i { rpc f(uint8 x); }\n                        ^\nhelp: compare with the grammar in docs/INTERFACES.md\n",
+        b"\
+E7 at 20
+x:1:21: `)`, `in` or `out` is expected here
+    interface i { rpc f(uint8 x); }
+                        ^
+help: compare with the grammar in docs/INTERFACES.md
+",
     ),
     ShowRow(
         "x",
@@ -159,21 +209,39 @@ const CAUSES: &[ShowRow] = &[
         ),
         2,
         b"",
-        b"E10 at 49\nx:3:17: this type's name is taken: the first is at 2:17\n      typedef uint8 t;\n                    ^\nhelp: choose another name\n",
+        b"\
+E10 at 49
+x:3:17: this type's name is taken: the first is at 2:17
+      typedef uint8 t;
+                    ^
+help: choose another name
+",
     ),
     ShowRow(
         "x",
         Shelf::Holds("x", b"interface i { typedef uint8 bool; }"),
         2,
         b"",
-        b"E10 at 28\nx:1:29: this type's name is taken: a type of this name is built in\n    interface i { typedef uint8 bool; }\n                                ^\nhelp: choose another name\n",
+        b"\
+E10 at 28
+x:1:29: this type's name is taken: a type of this name is built in
+    interface i { typedef uint8 bool; }
+                                ^
+help: choose another name
+",
     ),
     ShowRow(
         "x",
         Shelf::Holds("x", b"interface i { rpc f(in uint8 x); message f_call(); }"),
         2,
         b"",
-        b"E12 at 41\nx:1:42: this message's name is taken: the first is at 1:19\n    interface i { rpc f(in uint8 x); message f_call(); }\n                                             ^\nhelp: choose another name\n",
+        b"\
+E12 at 41
+x:1:42: this message's name is taken: the first is at 1:19
+    interface i { rpc f(in uint8 x); message f_call(); }
+                                             ^
+help: choose another name
+",
     ),
     ShowRow(
         "x",
@@ -183,14 +251,26 @@ const CAUSES: &[ShowRow] = &[
         ),
         2,
         b"",
-        b"E13 at 48\nx:1:49: this name stands twice in one list: the first is at 1:31\n    interface i { message m(uint8 a, uint8 b, uint8 a); }\n                                                    ^\nhelp: choose another name\n",
+        b"\
+E13 at 48
+x:1:49: this name stands twice in one list: the first is at 1:31
+    interface i { message m(uint8 a, uint8 b, uint8 a); }
+                                                    ^
+help: choose another name
+",
     ),
     ShowRow(
         "x",
         Shelf::Holds("x", b"interface i { typedef uint64 t[1024]; }"),
         2,
         b"",
-        b"E17 at 29\nx:1:30: this type has 8192 bytes, where 4096 are the most\n    interface i { typedef uint64 t[1024]; }\n                                 ^\nhelp: use smaller bounds, or several messages\n",
+        b"\
+E17 at 29
+x:1:30: this type has 8192 bytes, where 4096 are the most
+    interface i { typedef uint64 t[1024]; }
+                                 ^
+help: use smaller bounds, or several messages
+",
     ),
     ShowRow(
         "x",
@@ -200,17 +280,30 @@ const CAUSES: &[ShowRow] = &[
         ),
         2,
         b"",
-        b"E17 at 66\nx:1:67: this type has 4816 bytes, where 4096 are the most\n    terface i { typedef struct { uint8 a; uint64 b[600]; uint8 c; } s; }\n                                                                    ^\nhelp: use smaller bounds, or several messages\n",
+        b"\
+E17 at 66
+x:1:67: this type has 4816 bytes, where 4096 are the most
+    terface i { typedef struct { uint8 a; uint64 b[600]; uint8 c; } s; }
+                                                                    ^
+help: use smaller bounds, or several messages
+",
     ),
     ShowRow(
         "x",
         Shelf::Holds(
             "x",
-            b"interface i { typedef uint8 a[1]; typedef a b[1]; typedef b c[1]; typedef c d[1]; typedef d e[1]; typedef e f[1]; typedef f g[1]; typedef g h[1]; }",
+            b"interface i { typedef uint8 a[1]; typedef a b[1]; typedef b c[1]; typedef c d[1]; \
+              typedef d e[1]; typedef e f[1]; typedef f g[1]; typedef g h[1]; }",
         ),
         2,
         b"",
-        b"E17 at 140\nx:1:141: fixed arrays nest 8 deep in this type, where 7 is the most\n    d[1]; typedef d e[1]; typedef e f[1]; typedef f g[1]; typedef g h[1]; }\n                                                                    ^\nhelp: use smaller bounds, or several messages\n",
+        b"\
+E17 at 140
+x:1:141: fixed arrays nest 8 deep in this type, where 7 is the most
+    d[1]; typedef d e[1]; typedef e f[1]; typedef f g[1]; typedef g h[1]; }
+                                                                    ^
+help: use smaller bounds, or several messages
+",
     ),
     ShowRow(
         "x",
@@ -220,17 +313,33 @@ const CAUSES: &[ShowRow] = &[
         ),
         2,
         b"",
-        b"E19 at 18\nx:1:19: this rpc's name has 56 bytes, where 55 are the most\n    interface i { rpc ffffffffffffffffffffffffffffffffffffffff\n                      ^\nhelp: split the interface; the name of an rpc has at most 55 bytes\n",
+        b"\
+E19 at 18
+x:1:19: this rpc's name has 56 bytes, where 55 are the most
+    interface i { rpc ffffffffffffffffffffffffffffffffffffffff
+                      ^
+help: split the interface; the name of an rpc has at most 55 bytes
+",
     ),
     ShowRow(
         "x",
         Shelf::Holds(
             "x",
-            b"interface i { message m(uint8 a0, uint8 a1, uint8 a2, uint8 a3, uint8 a4, uint8 a5, uint8 a6, uint8 a7, uint8 a8, uint8 a9, uint8 a10, uint8 a11, uint8 a12, uint8 a13, uint8 a14, uint8 a15, uint8 a16, uint8 a17, uint8 a18, uint8 a19, uint8 a20, uint8 a21, uint8 a22, uint8 a23, uint8 a24, uint8 a25, uint8 a26, uint8 a27, uint8 a28, uint8 a29, uint8 a30, uint8 a31, uint8 a32); }",
+            b"interface i { message m(uint8 a0, uint8 a1, uint8 a2, uint8 a3, uint8 a4, uint8 a5, uint8 a6, \
+              uint8 a7, uint8 a8, uint8 a9, uint8 a10, uint8 a11, uint8 a12, uint8 a13, uint8 a14, \
+              uint8 a15, uint8 a16, uint8 a17, uint8 a18, uint8 a19, uint8 a20, uint8 a21, uint8 a22, \
+              uint8 a23, uint8 a24, uint8 a25, uint8 a26, uint8 a27, uint8 a28, uint8 a29, uint8 a30, \
+              uint8 a31, uint8 a32); }",
         ),
         2,
         b"",
-        b"E19 at 372\nx:1:373: this is one too many: there may be 32 fields or arguments at most\n    6, uint8 a27, uint8 a28, uint8 a29, uint8 a30, uint8 a31, uint8 a32); }\n                                                                    ^\nhelp: split the interface; the name of an rpc has at most 55 bytes\n",
+        b"\
+E19 at 372
+x:1:373: this is one too many: there may be 32 fields or arguments at most
+    6, uint8 a27, uint8 a28, uint8 a29, uint8 a30, uint8 a31, uint8 a32); }
+                                                                    ^
+help: split the interface; the name of an rpc has at most 55 bytes
+",
     ),
     ShowRow(
         "x",
@@ -240,25 +349,43 @@ const CAUSES: &[ShowRow] = &[
         ),
         2,
         b"",
-        b"E21 at 41\nx:1:42: this message's payload may have 4194320 bytes, where 32768 are the most\n    interface i { typedef uint8 t[1024]; rpc f(in uint8 a, out uint8 b, in t x[n, 409\n                                             ^\nhelp: use smaller bounds, or several messages\n",
+        b"\
+E21 at 41
+x:1:42: this message's payload may have 4194320 bytes, where 32768 are the most
+    interface i { typedef uint8 t[1024]; rpc f(in uint8 a, out uint8 b, in t x[n, 409
+                                             ^
+help: use smaller bounds, or several messages
+",
     ),
     ShowRow(
         "x",
         Shelf::Holds("x", b"interface i { typedef uint8 t[0]; }"),
         2,
         b"",
-        b"E16 at 30\nx:1:31: a count is 1 to 1,024\n    interface i { typedef uint8 t[0]; }\n                                  ^\nhelp: write a count from 1 to 1024, or use a sized array\n",
+        b"\
+E16 at 30
+x:1:31: a count is 1 to 1,024
+    interface i { typedef uint8 t[0]; }
+                                  ^
+help: write a count from 1 to 1024, or use a sized array
+",
     ),
     ShowRow(
         "x",
         Shelf::Holds("x", b"interface i { message m(string s[5000]); }"),
         2,
         b"",
-        b"E20 at 33\nx:1:34: a bound is 1 to 4,096\n    interface i { message m(string s[5000]); }\n                                     ^\nhelp: write a bound from 1 to 4096\n",
+        b"\
+E20 at 33
+x:1:34: a bound is 1 to 4,096
+    interface i { message m(string s[5000]); }
+                                     ^
+help: write a bound from 1 to 4096
+",
     ),
 ];
 
-impl CheckedRow for ShowRow {
+impl ProgramCase for ShowRow {
     fn holds(&self, alloc: Global) -> Result<bool, Fail> {
         Ok(show(alloc, self.0, false, self.1).is(self.2, self.3, self.4))
     }
@@ -338,7 +465,7 @@ const FIRST_FAULTS: &[First] = &[
     First("mixed.if", MIXED, 132, 0),
 ];
 
-impl CheckedRow for First {
+impl ProgramCase for First {
     fn holds(&self, alloc: Global) -> Result<bool, Fail> {
         let mut errors = Vec::new(alloc);
         let status = show_into(alloc, self.0, false, self.1, Narrow(self.2), &mut errors);

@@ -1,7 +1,7 @@
 //! What words ask for, words that are no command, and help.
 
-use crate::command::outputs::{Narrow, Ran};
-use crate::rows::{CheckedRow, all_hold};
+use crate::command::outputs::{CommandOutput, Narrow};
+use crate::rows::{ProgramCase, all_hold};
 use flounder_args::{Request, hint, read_words};
 use flounder_commands::{Fault, finish, no_words, tell_usage};
 use std::alloc::Global;
@@ -157,11 +157,11 @@ fn tell_into<W: Write + Drop>(
     status
 }
 
-fn tell(alloc: Global, words: &[&str]) -> Ran {
+fn tell(alloc: Global, words: &[&str]) -> CommandOutput {
     let mut out = Vec::new(alloc);
     let mut err = Vec::new(alloc);
     let status = tell_into(alloc, words, &mut out, &mut err);
-    Ran { status, out, err }
+    CommandOutput { status, out, err }
 }
 
 // Whether help is written: it is long, and told where it can't be written.
@@ -175,7 +175,7 @@ fn are_lost(alloc: Global, words: &[&str]) -> bool {
     tell_into(alloc, words, Narrow(10), &mut err) == 4
 }
 
-impl CheckedRow for Words {
+impl ProgramCase for Words {
     fn holds(&self, alloc: Global) -> Result<bool, Fail> {
         Ok(match self.0 {
             Asked::TwoTurns => are_two_turns(alloc, self.1),
@@ -213,7 +213,7 @@ const HINTS: &[Hint] = &[
     Hint(&["flounder", "--nope"], false),
 ];
 
-impl CheckedRow for Hint {
+impl ProgramCase for Hint {
     fn holds(&self, alloc: Global) -> Result<bool, Fail> {
         let err = tell(alloc, self.0).err;
         Ok(err.ends_with(b"flounder exec < FILE\n") == self.1)

@@ -1,7 +1,7 @@
 //! Examples with their drawings, by what `cksum` prints of each: `examples/check` tells where they differ.
 
 use crate::program::scripts::ScriptRow;
-use crate::rows::CheckedRow;
+use crate::rows::ProgramCase;
 use fl_world::World;
 use flounder_chart::{Lines, chart_script};
 use std::alloc::Global;
@@ -49,7 +49,7 @@ impl Drawing {
     }
 }
 
-impl CheckedRow for Example {
+impl ProgramCase for Example {
     fn holds(&self, alloc: Global) -> Result<bool, Fail> {
         Ok(self.0.holds(alloc)? && self.1.is_of(alloc, self.0.0)?)
     }

@@ -1,7 +1,7 @@
 //! Calls of a text of few letters and of as many as it may have, fragment by fragment.
 
 use crate::program::scripts::{FIRST_LINES, is_transcript, join};
-use crate::rows::CheckedRow;
+use crate::rows::ProgramCase;
 use std::alloc::{AllocError, Global};
 use std::test::Fail;
 
@@ -63,7 +63,7 @@ fn transcript_of(alloc: Global, row: &OfLetters) -> Result<Vec<u8>, AllocError> 
     Ok(text)
 }
 
-impl CheckedRow for OfLetters {
+impl ProgramCase for OfLetters {
     fn holds(&self, alloc: Global) -> Result<bool, Fail> {
         let wanted = transcript_of(alloc, self)?;
         for first in FIRST_LINES {

@@ -1,7 +1,7 @@
 //! One thing more than a world holds: what the last line of each script asks is refused. And the longest script.
 
 use crate::program::scripts::{ScriptRow, is_transcript};
-use crate::rows::CheckedRow;
+use crate::rows::ProgramCase;
 use std::alloc::{AllocError, Global};
 use std::test::Fail;
 
@@ -203,7 +203,7 @@ fn is_limit(alloc: Global, limit: &Limit, script: &[u8]) -> Result<bool, Fail> {
     Ok(is_transcript(alloc, script, &wanted)?)
 }
 
-impl CheckedRow for Limit {
+impl ProgramCase for Limit {
     fn holds(&self, alloc: Global) -> Result<bool, Fail> {
         let script = text_of(alloc, self.first.0, self.times, self.lines.0, self.last.0)?;
         is_limit(alloc, self, &script)

@@ -3,7 +3,7 @@
 use crate::program::{
     core_rows, examples, letters, limits, lines, rows, stuck, stuck_queue, tables,
 };
-use crate::rows::{CheckedRow, all_hold};
+use crate::rows::{ProgramCase, all_hold};
 use fl_script_exec::{ExecFault, exec};
 use fl_world::World;
 use std::alloc::{AllocError, Global};
@@ -20,7 +20,7 @@ pub fn is_transcript(alloc: Global, script: &[u8], wanted: &[u8]) -> Result<bool
     Ok(out.as_slice() == wanted)
 }
 
-impl CheckedRow for ScriptRow {
+impl ProgramCase for ScriptRow {
     fn holds(&self, alloc: Global) -> Result<bool, Fail> {
         Ok(is_transcript(alloc, self.0, self.1)?)
     }
@@ -40,7 +40,7 @@ pub fn join(alloc: Global, first: &[u8], rest: &[u8]) -> Result<Vec<u8>, AllocEr
     Ok(text)
 }
 
-impl CheckedRow for UnderBoth {
+impl ProgramCase for UnderBoth {
     fn holds(&self, alloc: Global) -> Result<bool, Fail> {
         for first in FIRST_LINES {
             let script = join(alloc, first, self.0)?;

@@ -1,6 +1,6 @@
 //! Plan tables and refusals as they are written.
 
-use crate::rows::CheckedRow;
+use crate::rows::ProgramCase;
 use fl_layout::plan;
 use fl_value_data::PlanNo;
 use flounder_show::{ShowFault, plan_table, read_interface, show_text};
@@ -22,7 +22,7 @@ arg 2 at - fixed 2
 ",
 )];
 
-impl CheckedRow for UnderPlanOne {
+impl ProgramCase for UnderPlanOne {
     fn holds(&self, alloc: Global) -> Result<bool, Fail> {
         let interface = read_interface(alloc, self.0)?;
         let plans = plan(alloc, &interface, PlanNo::One)?;
@@ -87,7 +87,7 @@ fn is_told(
     Ok(fault.status() == status && told.as_bytes() == words)
 }
 
-impl CheckedRow for TableRow {
+impl ProgramCase for TableRow {
     fn holds(&self, alloc: Global) -> Result<bool, Fail> {
         match show_text(alloc, self.0) {
             Ok(table) => Ok(self.1 == 0 && table.as_slice() == self.2),

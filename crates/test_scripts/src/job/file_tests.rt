@@ -1,6 +1,6 @@
 //! What accepted cores files come to.
 
-use crate::rows::{CheckedRow, all_hold};
+use crate::rows::{ScriptCase, all_hold};
 use fl_base::{EndId, Side};
 use fl_cores_file::{CoresFile, CoresText, Job, read_cores_text};
 use fl_model::Event;
@@ -96,7 +96,7 @@ fn comes_to(alloc: Global, file: &CoresFile<'_>, row: &AcceptedFile) -> Result<b
     )
 }
 
-impl CheckedRow for AcceptedFile {
+impl ScriptCase for AcceptedFile {
     fn holds(&self, alloc: Global) -> Result<bool, Fail> {
         match read_cores_text(alloc, self.text)? {
             CoresText::Refused { .. } => Ok(false),

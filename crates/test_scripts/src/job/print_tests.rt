@@ -1,6 +1,6 @@
 //! Refusals and reports as text.
 
-use crate::rows::{CheckedRow, all_hold};
+use crate::rows::{ScriptCase, all_hold};
 use fl_base::MsgNo;
 use fl_cores_file::{
     CallsByEnd, CoresFile, CoresText, Ending, Report, print_refusal, print_report, read_cores_text,
@@ -127,7 +127,7 @@ enum PrintedRow {
     Refusal(usize, u8, &'static [u8]),
 }
 
-impl CheckedRow for PrintedRow {
+impl ScriptCase for PrintedRow {
     fn holds(&self, alloc: Global) -> Result<bool, Fail> {
         match self {
             PrintedRow::Report(text, ending, wanted) => is_reported(alloc, text, *ending, wanted),

@@ -1,6 +1,6 @@
 //! Lines of cores files that are refused.
 
-use crate::rows::{CheckedRow, all_hold};
+use crate::rows::{ScriptCase, all_hold};
 use fl_cores_file::{CoresText, read_cores_text};
 use std::alloc::{AllocError, Global};
 use std::test::Fail;
@@ -137,7 +137,7 @@ fn push_all(text: &mut Vec<u8>, pieces: &[&[u8]]) -> Result<(), AllocError> {
     Ok(())
 }
 
-impl CheckedRow for RefusedSetUp {
+impl ScriptCase for RefusedSetUp {
     fn holds(&self, alloc: Global) -> Result<bool, Fail> {
         let mut text = Vec::new(alloc);
         push_all(&mut text, &[lines_of(self.0), self.1])?;
@@ -178,7 +178,7 @@ fn push_bindings(alloc: Global, text: &mut Vec<u8>, row: &Bindings) -> Result<()
     Ok(())
 }
 
-impl CheckedRow for Bindings {
+impl ScriptCase for Bindings {
     fn holds(&self, alloc: Global) -> Result<bool, Fail> {
         let mut text = Vec::new(alloc);
         push_bindings(alloc, &mut text, self)?;
@@ -223,7 +223,7 @@ const FEEDS: &[FeedsRefused] = &[
     FeedsRefused(1_048_577, 1, 91),
 ];
 
-impl CheckedRow for FeedsRefused {
+impl ScriptCase for FeedsRefused {
     fn holds(&self, alloc: Global) -> Result<bool, Fail> {
         let text = vec![in alloc; b'\n'; self.0]?;
         is_refused(alloc, &text, self.1, self.2)

@@ -1,7 +1,7 @@
 //! Answers' texts.
 
 use crate::line::names::names_of;
-use crate::rows::{CheckedRow, all_hold};
+use crate::rows::{ScriptCase, all_hold};
 use fl_base::{EndId, Frag, MsgNo, Side};
 use fl_model::Answer;
 use fl_script_lines::{Naming, ScriptNames, print_answer, print_fault};
@@ -115,7 +115,7 @@ fn has_text(alloc: Global, answer: &Answer, wanted: &[u8]) -> Result<bool, Fail>
     Ok(is_text(alloc, &names, answer, wanted)?)
 }
 
-impl CheckedRow for PrintedAnswer {
+impl ScriptCase for PrintedAnswer {
     fn holds(&self, alloc: Global) -> Result<bool, Fail> {
         has_text(alloc, &answer(self.0), self.1)
     }
@@ -153,7 +153,7 @@ enum AnswerExample {
     Fault,
 }
 
-impl CheckedRow for AnswerExample {
+impl ScriptCase for AnswerExample {
     fn holds(&self, alloc: Global) -> Result<bool, Fail> {
         match self {
             AnswerExample::Handled => is_handled(alloc),

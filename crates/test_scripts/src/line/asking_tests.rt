@@ -1,7 +1,7 @@
 //! What commands ask by the names so far, and in which order they are refused.
 
 use crate::line::names::{interface, names_of};
-use crate::rows::{CheckedRow, all_hold};
+use crate::rows::{ScriptCase, all_hold};
 use fl_base::{EndId, Side};
 use fl_interface::Interface;
 use fl_model::{Answer, BackEnd, DispatcherId, Event};
@@ -240,7 +240,7 @@ fn answers(alloc: Global, names: &ScriptNames, row: &Named) -> Result<bool, Fail
     Ok(fault_of(names, other) == row.2)
 }
 
-impl CheckedRow for Named {
+impl ScriptCase for Named {
     fn holds(&self, alloc: Global) -> Result<bool, Fail> {
         let names = names_before(alloc, self.0)?;
         answers(alloc, &names, self)
@@ -257,7 +257,7 @@ const NUMBERED: &[NumberedFault] = &[
     NumberedFault(LineFault::Memory, 99),
 ];
 
-impl CheckedRow for NumberedFault {
+impl ScriptCase for NumberedFault {
     fn holds(&self, _alloc: Global) -> Result<bool, Fail> {
         Ok(self.0.number() == self.1)
     }

@@ -1,6 +1,6 @@
 //! What lines spell, and which are not read.
 
-use crate::rows::{CheckedRow, all_hold};
+use crate::rows::{ScriptCase, all_hold};
 use fl_script_lines::{
     BackEndText, Command, Line, law_one_line, law_printed_reads, law_spelled_reads, parse_line,
     print_command,
@@ -116,7 +116,7 @@ fn is_printed(alloc: Global, line: &[u8], text: &[u8]) -> Result<bool, AllocErro
 }
 
 // The printed command is printed as it is.
-impl CheckedRow for SpelledLine {
+impl ScriptCase for SpelledLine {
     fn holds(&self, alloc: Global) -> Result<bool, Fail> {
         Ok(is_printed(alloc, self.0, self.1)? && is_printed(alloc, self.1, self.1)?)
     }
@@ -144,7 +144,7 @@ fn cores_of(alloc: Global, line: &[u8]) -> Result<Vec<u32>, AllocError> {
     }
 }
 
-impl CheckedRow for Kind {
+impl ScriptCase for Kind {
     fn holds(&self, _alloc: Global) -> Result<bool, Fail> {
         Ok(kind_of(self.0) == self.1)
     }
@@ -158,7 +158,7 @@ const ROUTES: &[RouteLine] = &[
     RouteLine(b"bind p d i s hop 7 ", &[7]),
 ];
 
-impl CheckedRow for RouteLine {
+impl ScriptCase for RouteLine {
     fn holds(&self, alloc: Global) -> Result<bool, Fail> {
         let cores = cores_of(alloc, self.0)?;
         Ok(cores.as_slice() == self.1)

@@ -1,6 +1,6 @@
 //! A script's items.
 
-use crate::rows::{CheckedRow, all_hold};
+use crate::rows::{ScriptCase, all_hold};
 use fl_script_lines::{Item, Line, law_one_items, next_item};
 use fl_value_data::PlanNo;
 use std::alloc::{AllocError, Global};
@@ -66,7 +66,7 @@ fn items(alloc: Global, script: &[u8]) -> Result<Vec<u8>, AllocError> {
     Ok(told)
 }
 
-impl CheckedRow for ItemsRow {
+impl ScriptCase for ItemsRow {
     fn holds(&self, alloc: Global) -> Result<bool, Fail> {
         let told = items(alloc, self.0)?;
         Ok(told.as_slice() == self.1)

@@ -2,7 +2,7 @@
 
 ghost use Rattle.std.specs.Prelude.{◌≤◌, IfSome};
 
-use crate::rows::{CheckedRow, all_hold};
+use crate::rows::{ScriptCase, all_hold};
 use crate::transcript::still::Still;
 use fl_script_exec::{ExecFault, ScriptReader, exec};
 use std::alloc::Global;
@@ -296,7 +296,7 @@ fn has_few_reads(alloc: Global, script: &[u8], wanted: &[u8]) -> bool {
         && reader.calls <= 1_048_577
 }
 
-impl CheckedRow for FeedsAnswered {
+impl ScriptCase for FeedsAnswered {
     fn holds(&self, alloc: Global) -> Result<bool, Fail> {
         let script = vec![in alloc; b'\n'; self.0]?;
         Ok(has_few_reads(alloc, &script, self.1))

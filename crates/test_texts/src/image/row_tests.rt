@@ -1,7 +1,7 @@
 //! Images that are cut, changed or grown, and their faults.
 
 use crate::image::images::{PING, answer, answer_to_change};
-use crate::rows::{CheckedRow, all_hold};
+use crate::rows::{TextCase, all_hold};
 use fl_image::{
     law_cut_images_end_early, law_field_faults_stay, law_longer_images_have_more, law_one_image,
 };
@@ -115,7 +115,7 @@ fn answer_to(alloc: Global, spoiled: &Spoiled) -> Result<u8, AllocError> {
     }
 }
 
-impl CheckedRow for ImageRow {
+impl TextCase for ImageRow {
     fn holds(&self, alloc: Global) -> Result<bool, Fail> {
         Ok(answer_to(alloc, &self.0)? == self.1)
     }

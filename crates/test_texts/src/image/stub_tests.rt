@@ -1,7 +1,7 @@
 //! The stubs of programs that were read from images give the fragments of their image's plan.
 
 use crate::image::images::{MIXED, image_of};
-use crate::rows::{CheckedRow, all_hold};
+use crate::rows::{TextCase, all_hold};
 use fl_base::{Circuit, Frag, MsgNo};
 use fl_compile::Program;
 use fl_image::read_image;
@@ -44,7 +44,7 @@ fn is_sent(alloc: Global, program: &Program, row: &OneFragment) -> Result<bool, 
 }
 
 // The program of the text goes by way of its image under the plan.
-impl CheckedRow for OneFragment {
+impl TextCase for OneFragment {
     fn holds(&self, alloc: Global) -> Result<bool, Fail> {
         let image = image_of(alloc, MIXED, self.0)?;
         let program = read_image(alloc, &image)?;

@@ -1,7 +1,7 @@
 //! Images of texts, as they are and with one mistake.
 
 use crate::image::images::{MIXED, PING, answer, answer_to_change, change, image_of};
-use crate::rows::{CheckedRow, all_hold};
+use crate::rows::{TextCase, all_hold};
 use fl_image::read_image;
 use fl_value_data::PlanNo;
 use std::alloc::{AllocError, Global};
@@ -92,7 +92,7 @@ fn has_plan(alloc: Global, plan: PlanNo, number: u8, wanted: u8) -> Result<bool,
     is_under(alloc, &image, plan, number, wanted)
 }
 
-impl CheckedRow for ImageExample {
+impl TextCase for ImageExample {
     fn holds(&self, alloc: Global) -> Result<bool, Fail> {
         match self {
             ImageExample::Ping(plan, number) => has_image(alloc, *plan, *number),

@@ -2,7 +2,7 @@
 
 ghost use Rattle.std.specs.Prelude.{◌≤◌};
 
-use crate::rows::{CheckedRow, all_hold};
+use crate::rows::{TextCase, all_hold};
 use fl_image::is_writable;
 use fl_interface::{ArgType, FixedType, Interface, Message, Word, counts_fit};
 use std::alloc::{AllocError, Global};
@@ -75,7 +75,7 @@ fn make(alloc: Global, made: &MadeInterface) -> Result<Interface, AllocError> {
     }
 }
 
-impl CheckedRow for WritableRow {
+impl TextCase for WritableRow {
     fn holds(&self, alloc: Global) -> Result<bool, Fail> {
         let interface = make(alloc, &self.0)?;
         Ok(is_writable(&interface) == self.1)

@@ -1,7 +1,7 @@
 //! What is shown of texts and images, and what is told of them where they are refused.
 
 use crate::image::images::{MIXED, PING, PING_TWO, change, image_of};
-use crate::rows::CheckedRow;
+use crate::rows::TextCase;
 use fl_image::read_image;
 use fl_value_data::PlanNo;
 use flounder_show::{ShowFault, compile_text, show_content, show_text};
@@ -111,7 +111,7 @@ fn is_compiled(alloc: Global, text: &[u8]) -> Result<bool, Fail> {
     is_ping(alloc, &image)
 }
 
-impl CheckedRow for ShownCase {
+impl TextCase for ShownCase {
     fn holds(&self, alloc: Global) -> Result<bool, Fail> {
         match self {
             ShownCase::Text(table) => has_table(alloc, MIXED, table),

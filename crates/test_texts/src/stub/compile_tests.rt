@@ -1,7 +1,7 @@
 //! The code of messages under both plans.
 
 use crate::interfaces::interface;
-use crate::rows::{CheckedRow, all_hold};
+use crate::rows::{TextCase, all_hold};
 use fl_base::MsgNo;
 use fl_compile::{Program, compile};
 use fl_stub::{Column, Op, VerifiedCode};
@@ -407,7 +407,7 @@ fn has_duplicate(alloc: Global, program: &Program, row: &Codes) -> Result<bool, 
     Ok(is_of(&again, row))
 }
 
-impl CheckedRow for Codes {
+impl TextCase for Codes {
     fn holds(&self, alloc: Global) -> Result<bool, Fail> {
         let program = compile_text(alloc, self.text, self.plan)?;
         Ok(is_of(&program, self) && has_duplicate(alloc, &program, self)?)

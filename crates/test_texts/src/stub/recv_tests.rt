@@ -5,7 +5,7 @@ ghost use Rattle.fl_interface.specs.Interface.{interface_of};
 ghost use Rattle.fl_machine.specs.Receiving.{HoldsParts, HoldsTapes};
 
 use crate::interfaces::interface;
-use crate::rows::{CheckedRow, all_hold};
+use crate::rows::{TextCase, all_hold};
 use fl_base::{Frag, MsgNo};
 use fl_compile::compile;
 use fl_layout::{Plans, fragment_count};
@@ -184,7 +184,7 @@ const FRESH: &[Fresh] = &[
     Fresh(NOTHING, &[(FIRST, Err(62), true), (LAST, Err(60), true)]),
 ];
 
-impl CheckedRow for Fresh {
+impl TextCase for Fresh {
     fn holds(&self, alloc: Global) -> Result<bool, Fail> {
         Ok(takes(alloc, self.0, self.1)?)
     }
@@ -250,7 +250,7 @@ fn reassembles(alloc: Global, text: &[u8], steps: &[FeedStep]) -> Result<bool, A
 // What two places answer to fragments of `blob` and `nop`.
 struct Together(&'static [FeedStep]);
 
-impl CheckedRow for Together {
+impl TextCase for Together {
     fn holds(&self, alloc: Global) -> Result<bool, Fail> {
         Ok(reassembles(alloc, BLOB, self.0)?)
     }
@@ -395,7 +395,7 @@ fn gives_all(
     Ok(true)
 }
 
-impl CheckedRow for Course {
+impl TextCase for Course {
     fn holds(&self, alloc: Global) -> Result<bool, Fail> {
         let mut run = run(alloc, self.0, self.1)?;
         Ok(gives_all(alloc, &mut run, self.2, self.3)?)

@@ -2,7 +2,7 @@
 
 ghost use Rattle.fl_machine.specs.Sending.{RunsOn};
 
-use crate::rows::{CheckedRow, all_hold};
+use crate::rows::{TextCase, all_hold};
 use crate::stub::verify_tests::verify_ops;
 use fl_base::{Circuit, Frag, MsgNo};
 use fl_machine::SendRun;
@@ -159,7 +159,7 @@ fn is_sent(code: &VerifiedCode, tape: Vec<u64>, row: &SendRow) -> bool {
         && run.next_frag(code).is_none()
 }
 
-impl CheckedRow for SendRow {
+impl TextCase for SendRow {
     fn holds(&self, alloc: Global) -> Result<bool, Fail> {
         let Some(code) = verify_ops(alloc, self.ops)? else {
             return Ok(false);
@@ -204,7 +204,7 @@ fn gives(code: &VerifiedCode, tape: Vec<u64>, frags: usize) -> bool {
     count_frags(code, SendRun::start(code, MsgNo(2), Circuit(5), tape)) == frags
 }
 
-impl CheckedRow for LettersSent {
+impl TextCase for LettersSent {
     fn holds(&self, alloc: Global) -> Result<bool, Fail> {
         let Some(code) = verify_ops(alloc, TEXT)? else {
             return Ok(false);

@@ -1,6 +1,6 @@
 //! The bytes that prepared code gives for packed tapes.
 
-use crate::rows::{CheckedRow, all_hold};
+use crate::rows::{TextCase, all_hold};
 use crate::stub::verify_tests::verify_ops;
 use fl_stub::Op;
 use fl_stub_steps::prepare;
@@ -68,7 +68,7 @@ const GIVEN: &[Given] = &[
     },
 ];
 
-impl CheckedRow for Given {
+impl TextCase for Given {
     fn holds(&self, alloc: Global) -> Result<bool, Fail> {
         let Some(code) = verify_ops(alloc, self.ops)? else {
             return Ok(false);

@@ -1,6 +1,6 @@
 //! Which instructions `verify` accepts.
 
-use crate::rows::{CheckedRow, all_hold};
+use crate::rows::{TextCase, all_hold};
 use crate::stub::rows::wrong;
 use fl_stub::{Code, Column, Op, VerifiedCode, verify};
 use std::alloc::{AllocError, Global};
@@ -60,7 +60,7 @@ fn has_duplicate(
 }
 
 // The code is of the column, and so is its duplicate.
-impl CheckedRow for OfColumn {
+impl TextCase for OfColumn {
     fn holds(&self, alloc: Global) -> Result<bool, Fail> {
         let Some(code) = verify_ops(alloc, self.1)? else {
             return Ok(false);

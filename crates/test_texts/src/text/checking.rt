@@ -1,6 +1,6 @@
 //! What each text is refused for and where, or that it is accepted.
 
-use crate::rows::{CheckedRow, all_hold};
+use crate::rows::{TextCase, all_hold};
 use fl_check::{TextFault, check};
 use fl_interface::{ArgType, Interface, Message, Scalar, same_args};
 use fl_lex::lex;
@@ -98,7 +98,7 @@ const REFUSED: &[FaultyText] = &[
     ),
 ];
 
-impl CheckedRow for FaultyText {
+impl TextCase for FaultyText {
     fn holds(&self, alloc: Global) -> Result<bool, Fail> {
         Ok(fault(alloc, self.0.as_bytes()) == Some((self.1, Some(self.2))))
     }
@@ -116,7 +116,7 @@ const ACCEPTED: &[AcceptedText] = &[
     AcceptedText("interface i { alias size_ size; alias i size_; message i(i i); }"),
 ];
 
-impl CheckedRow for AcceptedText {
+impl TextCase for AcceptedText {
     fn holds(&self, alloc: Global) -> Result<bool, Fail> {
         Ok(fault(alloc, self.0.as_bytes()).is_none())
     }
@@ -261,7 +261,7 @@ fn fault_at(number: u8, offset: Option<usize>) -> Option<(u8, Option<usize>)> {
     }
 }
 
-impl CheckedRow for Repeated {
+impl TextCase for Repeated {
     fn holds(&self, alloc: Global) -> Result<bool, Fail> {
         let mut text = Vec::new(alloc);
         push_items(alloc, &mut text, self)?;
@@ -304,7 +304,7 @@ fn push_types(text: &mut Vec<u8>, kinds: &str) -> Result<(), AllocError> {
     push_all(text, &[b"}"])
 }
 
-impl CheckedRow for Nested {
+impl TextCase for Nested {
     fn holds(&self, alloc: Global) -> Result<bool, Fail> {
         let mut text = Vec::new(alloc);
         push_types(&mut text, self.0)?;
@@ -340,7 +340,7 @@ fn explanation(alloc: Global, text: &[u8]) -> Result<String, AllocError> {
     }
 }
 
-impl CheckedRow for ExplainedText {
+impl TextCase for ExplainedText {
     fn holds(&self, alloc: Global) -> Result<bool, Fail> {
         let words = explanation(alloc, self.0.as_bytes())?;
         Ok(words.as_str() == self.1)
@@ -357,7 +357,7 @@ const SIZES: &[Bytes] = &[
     Bytes(Scalar::Errval, 8),
 ];
 
-impl CheckedRow for Bytes {
+impl TextCase for Bytes {
     fn holds(&self, _alloc: Global) -> Result<bool, Fail> {
         Ok(self.0.size() == self.1)
     }
@@ -396,7 +396,7 @@ enum CheckingExample {
     Aligned,
 }
 
-impl CheckedRow for CheckingExample {
+impl TextCase for CheckingExample {
     fn holds(&self, alloc: Global) -> Result<bool, Fail> {
         match self {
             CheckingExample::LongText => long_text(alloc),

@@ -1,6 +1,6 @@
 //! What is a token, which fault of the bytes stands where, and the limits.
 
-use crate::rows::{CheckedRow, all_hold};
+use crate::rows::{TextCase, all_hold};
 use fl_lex::{MAX_TEXT, Mark, TokenKind, Tokens, is_name, is_word, lex};
 use std::alloc::Global;
 use std::test::Fail;
@@ -42,7 +42,7 @@ const FAULTS: &[LexFaultRow] = &[
     LexFaultRow(b"\"/*\" /*", 2, 5),
 ];
 
-impl CheckedRow for LexFaultRow {
+impl TextCase for LexFaultRow {
     fn holds(&self, alloc: Global) -> Result<bool, Fail> {
         Ok(fault_of(alloc, self.0) == (self.1, Some(self.2)))
     }
@@ -99,7 +99,7 @@ const WORDS: &[Worded] = &[
     Worded(b"\xc3\xbc", false),
 ];
 
-impl CheckedRow for Worded {
+impl TextCase for Worded {
     fn holds(&self, _alloc: Global) -> Result<bool, Fail> {
         Ok(is_word(self.0) == self.1 && is_name(self.0) == self.1)
     }
@@ -123,7 +123,7 @@ const FILLED: &[Filled] = &[
     Filled(b'-', MAX_TEXT + 1, 6, Some(65_536)),
 ];
 
-impl CheckedRow for Filled {
+impl TextCase for Filled {
     fn holds(&self, alloc: Global) -> Result<bool, Fail> {
         let text = vec![in alloc; self.0; self.1]?;
         Ok(fault_of(alloc, &text) == (self.2, self.3))
@@ -136,7 +136,7 @@ enum LexingExample {
     Names,
 }
 
-impl CheckedRow for LexingExample {
+impl TextCase for LexingExample {
     fn holds(&self, alloc: Global) -> Result<bool, Fail> {
         match self {
             LexingExample::Tokens => has_tokens(alloc),

@@ -1,6 +1,6 @@
 //! Each production, which fault of the tokens stands where, and printed trees.
 
-use crate::rows::{CheckedRow, all_hold};
+use crate::rows::{TextCase, all_hold};
 use fl_lex::lex;
 use fl_parse::{parse, print};
 use std::alloc::Global;
@@ -66,7 +66,7 @@ const FAULTS: &[ParseFaultRow] = &[
     ParseFaultRow("interface i { } ; ; -", 1, 20),
 ];
 
-impl CheckedRow for ParseFaultRow {
+impl TextCase for ParseFaultRow {
     fn holds(&self, alloc: Global) -> Result<bool, Fail> {
         Ok(fault_of(alloc, self.0.as_bytes()) == (self.1, Some(self.2)))
     }
@@ -109,7 +109,7 @@ const PRINTED: &[PrintedText] = &[
     ),
 ];
 
-impl CheckedRow for PrintedText {
+impl TextCase for PrintedText {
     fn holds(&self, alloc: Global) -> Result<bool, Fail> {
         let wanted = self.1.as_bytes();
         Ok(is_printed(alloc, self.0.as_bytes(), wanted)? && is_printed(alloc, wanted, wanted)?)

@@ -1,7 +1,7 @@
 //! What lists of fragments read as, under both plans: whole calls and a rest, and of forged ones the first fault.
 
 use crate::interfaces::interface;
-use crate::rows::{CheckedRow, all_hold};
+use crate::rows::{TextCase, all_hold};
 use fl_base::Frag;
 use fl_interface::Interface;
 use fl_value::print_call;
@@ -158,7 +158,7 @@ fn text_at(place: Subject) -> &'static [u8] {
     }
 }
 
-impl CheckedRow for Fragment {
+impl TextCase for Fragment {
     fn holds(&self, alloc: Global) -> Result<bool, Fail> {
         let interface = interface(alloc, text_at(self.0))?;
         let frags = [FIRST, starting(self.1, self.2)];
@@ -171,7 +171,7 @@ impl CheckedRow for Fragment {
     }
 }
 
-impl CheckedRow for List {
+impl TextCase for List {
     fn holds(&self, alloc: Global) -> Result<bool, Fail> {
         let interface = interface(alloc, BLOB)?;
         Ok(is_read(alloc, &interface, self.0, self.1))
@@ -205,7 +205,7 @@ fn is_a_call_and_a_rest(
 // Whether a call and a part of another are read so, under a plan.
 struct CallAndRest(PlanNo);
 
-impl CheckedRow for CallAndRest {
+impl TextCase for CallAndRest {
     fn holds(&self, alloc: Global) -> Result<bool, Fail> {
         let interface = interface(alloc, BLOB)?;
         Ok(is_a_call_and_a_rest(alloc, &interface, self.0, &[FIRST, LAST, FIRST])?)

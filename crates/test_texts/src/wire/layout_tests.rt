@@ -2,7 +2,7 @@
 //! arguments.
 
 use crate::interfaces::interface;
-use crate::rows::{CheckedRow, all_hold};
+use crate::rows::{TextCase, all_hold};
 use crate::wire::payload_tests::send;
 use crate::wire::strings::{STRING, letters};
 use fl_base::MsgNo;
@@ -222,7 +222,7 @@ fn has_arguments(plans: &Plans, msg: MsgNo, wanted: &[(Option<usize>, usize)]) -
     argument(plans, msg, wanted.len()) == (None, 0)
 }
 
-impl CheckedRow for MessageFigures {
+impl TextCase for MessageFigures {
     fn holds(&self, alloc: Global) -> Result<bool, Fail> {
         let plans = make_plans(alloc, self.text, self.plan)?;
         Ok(
@@ -314,7 +314,7 @@ fn is_sent(
     Ok(measures(alloc, &plans, call, wanted)?)
 }
 
-impl CheckedRow for CallFigures {
+impl TextCase for CallFigures {
     fn holds(&self, alloc: Global) -> Result<bool, Fail> {
         Ok(
             is_sent(alloc, self.text, self.call, PlanNo::One, self.one)?
@@ -333,7 +333,7 @@ const OF_LETTERS: &[LettersPayload] = &[
     LettersPayload(4096, (4104, 74)),
 ];
 
-impl CheckedRow for LettersPayload {
+impl TextCase for LettersPayload {
     fn holds(&self, alloc: Global) -> Result<bool, Fail> {
         let call = letters(alloc, self.0)?;
         Ok(

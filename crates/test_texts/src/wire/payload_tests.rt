@@ -3,7 +3,7 @@
 //! epoch that a local queue sets.
 
 use crate::interfaces::interface;
-use crate::rows::{CheckedRow, all_hold};
+use crate::rows::{TextCase, all_hold};
 use fl_base::{Frag, MsgNo};
 use fl_interface::Interface;
 use fl_value::{ValueFault, print_call, read_call};
@@ -371,7 +371,7 @@ fn is_sent(
 }
 
 // It is so under each of the plans, and the fragments are read back.
-impl CheckedRow for PayloadRow {
+impl TextCase for PayloadRow {
     fn holds(&self, alloc: Global) -> Result<bool, Fail> {
         let interface = interface(alloc, self.text)?;
         law_numbers_fit_words(&interface);

@@ -1,7 +1,7 @@
 //! Tapes: the numbers of calls in each plan's order, and lists of numbers that are no call's.
 
 use crate::interfaces::interface;
-use crate::rows::{CheckedRow, all_hold};
+use crate::rows::{TextCase, all_hold};
 use fl_base::MsgNo;
 use fl_interface::Interface;
 use fl_value::{ValueFault, read_call};
@@ -140,7 +140,7 @@ fn has_tape(
     Ok(flatten(alloc, &call, interface, plan)?.as_slice() == tape)
 }
 
-impl CheckedRow for Flat {
+impl TextCase for Flat {
     fn holds(&self, alloc: Global) -> Result<bool, Fail> {
         let interface = interface(alloc, self.text)?;
         Ok(
@@ -161,7 +161,7 @@ fn is_tape(
     Ok(unflatten(alloc, msg, tape, interface, plan)?.is_some())
 }
 
-impl CheckedRow for TapeRow {
+impl TextCase for TapeRow {
     fn holds(&self, alloc: Global) -> Result<bool, Fail> {
         let interface = interface(alloc, self.0)?;
         Ok(

@@ -2,7 +2,7 @@
 //! tapes.
 
 use crate::interfaces::interface;
-use crate::rows::{CheckedRow, all_hold};
+use crate::rows::{TextCase, all_hold};
 use fl_base::MsgNo;
 use fl_interface::Interface;
 use fl_value::{
@@ -232,7 +232,7 @@ fn is_back(
 }
 
 // It fits, and comes back from its tape, under both plans.
-impl CheckedRow for PrintedCall {
+impl TextCase for PrintedCall {
     fn holds(&self, alloc: Global) -> Result<bool, Fail> {
         let types = interface(alloc, TYPES)?;
         let call = read_call(alloc, self.0, &types)?;
@@ -244,7 +244,7 @@ impl CheckedRow for PrintedCall {
     }
 }
 
-impl CheckedRow for SpelledCall {
+impl TextCase for SpelledCall {
     fn holds(&self, alloc: Global) -> Result<bool, Fail> {
         let types = interface(alloc, TYPES)?;
         let call = read_and_resolve(alloc, &types, self.0)?;
@@ -260,7 +260,7 @@ fn fault_of(alloc: Global, interface: &Interface, text: &[u8]) -> Option<u8> {
     }
 }
 
-impl CheckedRow for RefusedCall {
+impl TextCase for RefusedCall {
     fn holds(&self, alloc: Global) -> Result<bool, Fail> {
         let types = interface(alloc, TYPES)?;
         Ok(fault_of(alloc, &types, self.0) == Some(self.1))
@@ -276,7 +276,7 @@ const NUMBERED: &[FitRow] = &[
     FitRow(MsgNo(1), false),
 ];
 
-impl CheckedRow for FitRow {
+impl TextCase for FitRow {
     fn holds(&self, alloc: Global) -> Result<bool, Fail> {
         let one = interface(alloc, b"interface i { message m(uint8 x); }")?;
         let mut call = read_call(alloc, b"m(1)", &one)?;

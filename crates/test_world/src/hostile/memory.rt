@@ -1,14 +1,14 @@
 //! Memory that is refused. With ample memory each test sees its whole answer; run with any one allocation refused, as `hostile/run`
 //! does, each sees out of memory and nothing lost.
 
-use crate::hostile::rows::{CIRCUITS, REPLIES, RING, STRINGS, ScriptRow, WAITSETS};
+use crate::hostile::rows::{CIRCUITS, HostileScript, REPLIES, RING, STRINGS, WAITSETS};
 use fl_script_exec::{ExecFault, exec};
 use fl_world::World;
 use std::alloc::Global;
 use std::test::Fail;
 
 // Whether a script writes its transcript; or, out of memory, some whole lines of it and not all.
-fn is_cut_short_at_most(alloc: Global, row: ScriptRow) -> bool {
+fn is_cut_short_at_most(alloc: Global, row: HostileScript) -> bool {
     let mut reader = row.script;
     let mut page = [0; 2_048];
     let mut writer = page.as_mut_slice();
@@ -27,7 +27,7 @@ fn is_cut_short_at_most(alloc: Global, row: ScriptRow) -> bool {
     }
 }
 
-const ROWS: &[ScriptRow] = &[CIRCUITS, RING, STRINGS, WAITSETS, REPLIES];
+const ROWS: &[HostileScript] = &[CIRCUITS, RING, STRINGS, WAITSETS, REPLIES];
 
 // Tells which row is the first that isn't so.
 fn all_are_cut_short_at_most(alloc: Global) -> Result<(), Fail> {

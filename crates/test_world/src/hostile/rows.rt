@@ -2,13 +2,13 @@
 
 /// A script and its transcript.
 #[derive(Clone, Copy)]
-pub struct ScriptRow {
+pub struct HostileScript {
     pub script: &'static [u8],
     pub transcript: &'static [u8],
 }
 
 /// Two circuits on one link.
-pub const CIRCUITS: ScriptRow = ScriptRow {
+pub const CIRCUITS: HostileScript = HostileScript {
     script: b"\
 idl
 interface i { message blob(string s); }
@@ -84,7 +84,7 @@ nothing
 };
 
 /// A ring that fills.
-pub const RING: ScriptRow = ScriptRow {
+pub const RING: HostileScript = HostileScript {
     script: b"\
 idl
 interface i { message ping(uint32 v); }
@@ -148,7 +148,7 @@ written 1 of 1
 };
 
 /// Three types, one of them strings, in the order of the first plan.
-pub const STRINGS: ScriptRow = ScriptRow {
+pub const STRINGS: HostileScript = HostileScript {
     script: b"\
 idl 1
 interface i { message m(uint8 a, string s, uint16 b); }
@@ -176,7 +176,7 @@ handle p.s m(1, \"hi\", 5)
 };
 
 /// Three bindings of one dispatcher: pending, polled, registered and deregistered.
-pub const WAITSETS: ScriptRow = ScriptRow {
+pub const WAITSETS: HostileScript = HostileScript {
     script: b"\
 idl
 interface i { message ping(uint32 v); }
@@ -238,7 +238,7 @@ handle r.s ping(3)
 };
 
 /// A reply by a rule.
-pub const REPLIES: ScriptRow = ScriptRow {
+pub const REPLIES: HostileScript = HostileScript {
     script: b"\
 idl
 interface i { rpc echo(in uint32 x, out uint32 y); }

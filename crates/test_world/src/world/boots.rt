@@ -2,7 +2,7 @@
 
 use crate::world::acts::{AT_0, AT_2, Act, PING};
 use crate::world::runs::WorldRow;
-use crate::world::tables::CheckedRow;
+use crate::world::tables::WorldCase;
 use crate::world::words::WantedAnswer;
 use crate::world::worlds::{Asking, answers_all, boot};
 use fl_world::{BootFault, World};
@@ -47,7 +47,7 @@ fn is_fault(
     }
 }
 
-impl CheckedRow for RefusedWorld {
+impl WorldCase for RefusedWorld {
     fn holds(&self, alloc: Global) -> Result<bool, AllocError> {
         is_fault(boot(alloc, self.0, self.1), self.2, self.3)
     }

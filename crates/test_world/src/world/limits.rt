@@ -4,7 +4,7 @@ use crate::world::acts::{
     AT_0, AT_1, AT_2, Act, CLIENT, ECHO, FAR, Joint, NEAR, NEXT_AT_0, PING, SERVER,
 };
 use crate::world::runs::WorldRow;
-use crate::world::tables::CheckedRow;
+use crate::world::tables::WorldCase;
 use crate::world::words::WantedAnswer;
 use crate::world::worlds::{Asking, answers_all, make};
 use fl_base::{EndId, Side};
@@ -308,7 +308,7 @@ fn is_limit(alloc: Global, world: &mut World, limit: &LimitRow) -> Result<bool, 
     answers_all(alloc, world, limit.then, Asking::Given, 0)
 }
 
-impl CheckedRow for LimitRow {
+impl WorldCase for LimitRow {
     fn holds(&self, alloc: Global) -> Result<bool, AllocError> {
         let mut world = make(alloc, 2, self.set_up)?;
         is_limit(alloc, &mut world, self)

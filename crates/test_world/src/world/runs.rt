@@ -1,7 +1,7 @@
 //! Rows asked one after another, by events that are given, by events that are lent and as lists; and memory that is refused in the midst of a list.
 
 use crate::world::acts::{Act, event, events};
-use crate::world::tables::CheckedRow;
+use crate::world::tables::WorldCase;
 use crate::world::words::{WantedAnswer, is};
 use crate::world::worlds::{Asking, answers, answers_all, make};
 use fl_model::{Answer, DispatcherId, Event};
@@ -77,7 +77,7 @@ fn holds_by(alloc: Global, row: &WorldRow, way: Asking) -> Result<bool, AllocErr
     holds_on(alloc, &mut world, row, way)
 }
 
-impl CheckedRow for WorldRow {
+impl WorldCase for WorldRow {
     fn holds(&self, alloc: Global) -> Result<bool, AllocError> {
         Ok(
             holds_by(alloc, self, Asking::Given)?

@@ -6,7 +6,7 @@ use std::alloc::{AllocError, Global};
 use std::test::Fail;
 
 /// A row of a table.
-pub trait CheckedRow {
+pub trait WorldCase {
     /// Whether what it says is so.
     ///
     /// # Errors
@@ -15,14 +15,14 @@ pub trait CheckedRow {
 }
 
 // The same, asked once more where memory is wanting.
-fn holds_at_last<R: CheckedRow>(alloc: Global, row: &R) -> Result<bool, AllocError> {
+fn holds_at_last<R: WorldCase>(alloc: Global, row: &R) -> Result<bool, AllocError> {
     match row.holds(alloc) {
         Ok(holds) => Ok(holds),
         Err(_) => row.holds(alloc),
     }
 }
 
-fn all_hold<R: CheckedRow>(alloc: Global, table: &str, rows: &[R]) -> Result<(), Fail> {
+fn all_hold<R: WorldCase>(alloc: Global, table: &str, rows: &[R]) -> Result<(), Fail> {
     for (index, row) in rows.iter().enumerate() {
         if !holds_at_last(alloc, row)? {
             return Err(Fail::new(format_args!("row {index} of {table}, counted from 0, is wrong")));
@@ -40,7 +40,7 @@ enum WorldExample {
     Run,
 }
 
-impl CheckedRow for WorldExample {
+impl WorldCase for WorldExample {
     fn holds(&self, alloc: Global) -> Result<bool, AllocError> {
         match self {
             WorldExample::Memory => Ok(BootFault::Memory.number() == 99),

@@ -1,4 +1,5 @@
 use Rattle.fl_compile.specs.Programs.{program_of}
+use Rattle.fl_c.proofs.Sizes.{sized_by}
 use Rattle.fl_c.proofs.making.image_ends.Goals as goal
 
 pub returns-in-Ok-ends_of : goal.returns-in-Ok-ends_of
@@ -12,4 +13,9 @@ returns-in-Ok-ends_of c = record {
       (c.in-Ok.sides.0, c.in-Ok.sides.1, (c.in-Ok.ensures.one, c.in-Ok.ensures.two), c.in-Ok-ends_of.ensures.made),
     ),
   );
+}
+
+pub returns-in-Err-Memory : goal.returns-in-Err-Memory
+returns-in-Err-Memory c = record {
+  makes = sized_by c.duo.result c.args.slots c.in-Err-Memory.field-0 c.in-Err-Memory.is c.in-Err-Memory.field-0-is c.duo.ensures.bad_size;
 }

@@ -1,5 +1,6 @@
 use Rattle.std.proofs.Common.{refl}
 use Rattle.fl_compile.specs.Programs.{program_of}
+use Rattle.fl_c.proofs.Sizes.{sized_by}
 use Rattle.fl_c.proofs.making.text_ends.Goals as goal
 
 pub returns-in-Ok-ends_of : goal.returns-in-Ok-ends_of
@@ -18,3 +19,8 @@ returns-in-Ok-ends_of c =
         ),
       );
     }
+
+pub returns-in-Err-Memory : goal.returns-in-Err-Memory
+returns-in-Err-Memory c = record {
+  makes = sized_by c.duo.result c.args.slots c.in-Err-Memory.field-0 c.in-Err-Memory.is c.in-Err-Memory.field-0-is c.duo.ensures.bad_size;
+}

@@ -3,6 +3,7 @@ use Rattle.fl_value_data.specs.Value.{call_of}
 use Rattle.fl_stub.specs.Code.{TheCode}
 use Rattle.fl_compile.specs.Programs.{program_of}
 use Rattle.fl_c.specs.Runs.{RunsAt}
+use Rattle.fl_c.proofs.Messages.{wanting}
 use Rattle.fl_c.proofs.Starts.{starts_at}
 use Rattle.fl_c.proofs.sender.start.Goals as goal
 
@@ -22,3 +23,8 @@ returns c =
         subst (λ (o : Option TheCode). RunsAt o c.start-run.result) c.in-Some.ensures.exact c.start-run.ensures.runs,
       );
     }
+
+pub returns-in_default : goal.returns-in_default
+returns-in_default c = record {
+  starts = wanting (program_of c.args.program.now) c.args.numbers.now (call_of c.in-Ok.call) c.in-Ok.ensures.reads;
+}
