@@ -236,11 +236,21 @@ fn the_first_event_that_is_refused_is_told(rt: HostRuntime) -> Result<(), Fail> 
     Ok(())
 }
 
+// Whether nothing is handled in no turns.
+fn handles_none<R: Threads + Wait + Sync>(
+    rt: &R,
+    alloc: Global,
+    pings: &[u8],
+) -> Result<bool, CoresFault> {
+    let text = both_ways(alloc, pings, ROW)?;
+    let wanted = (CoresEnd::TurnsOut, b"turns out\n".as_slice());
+    comes_to(rt, alloc, &text, 0, &NoGate, wanted)
+}
+
 #[test]
 fn no_turns(rt: HostRuntime) -> Result<(), Fail> {
-    let text = both_ways(rt.alloc(), PINGS, ROW)?;
-    let wanted = (CoresEnd::TurnsOut, b"turns out\n".as_slice());
-    assert!(rt; comes_to(&rt, rt.alloc(), &text, 0, &NoGate, wanted)?);
+    assert!(rt; handles_none(&rt, rt.alloc(), PINGS)?);
+    assert!(rt; handles_none(&rt, rt.alloc(), PINGS_ONE)?);
     Ok(())
 }
 
@@ -251,15 +261,26 @@ fn three_cores_in_step(rt: HostRuntime) -> Result<(), Fail> {
     Ok(())
 }
 
+// Whether in fifty turns at most so many calls are handled at the client, and at the server.
+fn handles_few<R: Threads + Wait + Sync, G: Gate + Sync>(
+    rt: &R,
+    alloc: Global,
+    pings: &[u8],
+    gate: &G,
+    most: (u64, u64),
+) -> Result<bool, CoresFault> {
+    let text = both_ways(alloc, pings, ROW)?;
+    let told = run(rt, alloc, &text, 50, gate)?;
+    Ok(match counts(alloc, &told)? {
+        Some((client, server)) => client <= most.0 && server <= most.1,
+        None => false,
+    })
+}
+
 #[test]
 fn fifty_turns(rt: HostRuntime) -> Result<(), Fail> {
-    let text = both_ways(rt.alloc(), PINGS, ROW)?;
-    let told = run(&rt, rt.alloc(), &text, 50, &NoGate)?;
-    let few = match counts(rt.alloc(), &told)? {
-        Some((client, server)) => client <= 50 && server <= 50,
-        None => false,
-    };
-    assert!(rt; few);
+    assert!(rt; handles_few(&rt, rt.alloc(), PINGS, &NoGate, (50, 50))?);
+    assert!(rt; handles_few(&rt, rt.alloc(), PINGS_ONE, &NoGate, (50, 50))?);
     Ok(())
 }
 
@@ -277,15 +298,14 @@ fn cores_run_side_by_side(rt: HostRuntime) -> Result<(), Fail> {
 // Core 1 begins when core 0 has taken nearly all its turns: so next to nothing is handled, and nothing of that is told that wasn't.
 #[test]
 fn a_core_that_begins_late(rt: HostRuntime) -> Result<(), Fail> {
-    let text = both_ways(rt.alloc(), PINGS, ROW)?;
     let gate = Held::new(&rt, 50);
-    let told = run(&rt, rt.alloc(), &text, 50, &gate)?;
-    let few = match counts(rt.alloc(), &told)? {
-        Some((client, server)) => client <= 1 && server <= 5,
-        None => false,
-    };
+    let few = handles_few(&rt, rt.alloc(), PINGS, &gate, (1, 5))?;
     assert!(rt; !gate.wait.ran_out());
     assert!(rt; few);
+    let gate_of_one = Held::new(&rt, 50);
+    let few_of_one = handles_few(&rt, rt.alloc(), PINGS_ONE, &gate_of_one, (1, 5))?;
+    assert!(rt; !gate_of_one.wait.ran_out());
+    assert!(rt; few_of_one);
     Ok(())
 }
 

@@ -1,6 +1,7 @@
-//! One thing more than a world holds: what the last line of each script asks is refused. And the longest script.
+//! One thing more than a world holds: what the last line of each script asks is refused, under either plan. And
+//! the longest script.
 
-use crate::program::scripts::{ScriptRow, is_transcript};
+use crate::program::scripts::{ScriptRow, is_transcript, join};
 use crate::rows::ProgramCase;
 use std::alloc::{AllocError, Global};
 use std::test::Fail;
@@ -203,9 +204,17 @@ fn is_limit(alloc: Global, limit: &Limit, script: &[u8]) -> Result<bool, Fail> {
     Ok(is_transcript(alloc, script, &wanted)?)
 }
 
+// Whether a script that begins with an interface has its limit's transcript under plan 1 too.
+fn is_limit_under_plan_one(alloc: Global, limit: &Limit, script: &[u8]) -> Result<bool, Fail> {
+    match script.strip_prefix(b"idl\n") {
+        Some(rest) => is_limit(alloc, limit, &join(alloc, b"idl 1\n", rest)?),
+        None => Ok(true),
+    }
+}
+
 impl ProgramCase for Limit {
     fn holds(&self, alloc: Global) -> Result<bool, Fail> {
         let script = text_of(alloc, self.first.0, self.times, self.lines.0, self.last.0)?;
-        is_limit(alloc, self, &script)
+        Ok(is_limit(alloc, self, &script)? && is_limit_under_plan_one(alloc, self, &script)?)
     }
 }
