@@ -1,5 +1,5 @@
--- An event of one core goes the same beside other sides across, as long as those have put the same: what a side across
--- knows, or has seen, is nothing to it.
+-- An event of one core goes the same beside other sides across, as long as those have put the same where it goes: what
+-- a side across knows, or has seen, is nothing to it.
 use Rattle.std.proofs.Common.{◌≡◌, inl, inr, refl, sym, ◌∙◌, ap, subst, ℕ, zero, suc, ◌<◌, Bool, true, false, List, [], ◌∷◌, length, drop, map, nat_le, ◌≤◌, ◌%◌, ◌++◌, append_assoc, append-nil, slice_get, slice_set, Some, arith}
 use Rattle.std.specs.Prelude.{Result, Ok, Err}
 use Rattle.std.proofs.lemmas.Bool.Decides.{nat_tests}
@@ -45,6 +45,7 @@ use Rattle.fl_world_refines.proofs.FramesBase.{same_some}
 use Rattle.fl_cores_joined.specs.Rings.{FacingSide, FindsWhatStood, Truly}
 use Rattle.fl_cores_joined.specs.Joined.{JoinedCore, HasSide, across_from, alone}
 use Rattle.fl_cores_joined.specs.Steps.{true_ways, HappensAt}
+use Rattle.fl_cores_joined.specs.Exchanges.{GoesOver}
 use Rattle.fl_core.proofs.Numbering.{goes_to}
 use Rattle.fl_cores_joined.proofs.Lifted.{queue_lifted, core_lifted, notes_lifted, acts_lifted, in_place_lifted}
 use Rattle.fl_cores_joined.proofs.Looking.{finds_so}
@@ -143,9 +144,9 @@ faced_all [] ps = ps
 faced_all (a ∷ others) [] = []
 faced_all (a ∷ others) (p ∷ ps) = faced a p ∷ faced_all others ps
 
-pub record AreLike (others : List TheSide) (ps : List FacingSide) : Type 0 where
+pub record AreLike (over : ℕ → Type 0) (others : List TheSide) (ps : List FacingSide) : Type 0 where
   pub long : length others ≡ length ps
-  pub each : (i : ℕ) (p : FacingSide) (a : TheSide) → slice_get ps i ≡ Some p → slice_get others i ≡ Some a → IsLike a p
+  pub each : (i : ℕ) (p : FacingSide) (a : TheSide) → over i → slice_get ps i ≡ Some p → slice_get others i ≡ Some a → IsLike a p
 
 pub faced_long : (others : List TheSide) (ps : List FacingSide) → length (faced_all others ps) ≡ length ps
 faced_long [] ps = refl
@@ -178,33 +179,41 @@ module _ (others : List TheSide) where
   abbrev pub refaced : TheRun FacingSide → TheRun FacingSide
   refaced r = record r { rings = faced_all others r.rings }
 
+  pub in_place_faced : (s : TheRun FacingSide) (jobs : List CoreJob) (log_entry : LogEntry) → InPlace jobs s log_entry → InPlace jobs (refaced s) log_entry
+  in_place_faced s jobs log_entry h = in_place_lifted (faced_all others) s (faced_long others s.rings) jobs log_entry h
+
+-- over these of them
+module _ (over : ℕ → Type 0) (others : List TheSide) where
   abbrev LikeRun : TheRun FacingSide → Type 0
-  LikeRun r = AreLike others r.rings
+  LikeRun r = AreLike over others r.rings
+
+  abbrev there : TheRun FacingSide → TheRun FacingSide
+  there r = refaced others r
 
   -- an event over one side
-  on_ring : (n : ℕ) (s t : TheRun FacingSide) (Event : TheCore → FacingSide → TheCore → FacingSide → Type 0) → LikeRun s
+  on_ring : (n : ℕ) (s t : TheRun FacingSide) (Event : TheCore → FacingSide → TheCore → FacingSide → Type 0) → over n → LikeRun s
       → ((a : TheSide) (p q : FacingSide) → IsLike a p → Event s.core p t.core q → Event s.core (faced a p) t.core (faced a q) × IsLike a q)
-      → OnRing n s Event t → OnRing n (refaced s) Event (refaced t) × LikeRun t
-  on_ring n s t Event like lift h =
+      → OnRing n s Event t → OnRing n (there s) Event (there t) × LikeRun t
+  on_ring n s t Event its like lift h =
       let less = within s.rings n h.before h.before_is in
       let count = like.long in
       let (a, a_is) = at_within others n (omega (arith, less, count)) in
-      let x = lift a h.before h.after (like.each n h.before a h.before_is a_is) h.event in (
+      let x = lift a h.before h.after (like.each n h.before a its h.before_is a_is) h.event in (
         record {
           before = faced a h.before;
           before_is = faced_at others s.rings n h.before a h.before_is a_is;
           after = faced a h.after;
           event = x.0;
-          rest = ap refaced h.rest ∙ ap (λ (rings : List FacingSide). record s { core = t.core; rings = rings }) (faced_set others s.rings n h.after a a_is);
+          rest = ap there h.rest ∙ ap (λ (rings : List FacingSide). record s { core = t.core; rings = rings }) (faced_set others s.rings n h.after a a_is);
         },
         subst LikeRun (sym h.rest) (record {
           long = count ∙ sym (set_long s.rings n h.after);
-          each = λ i p b at is.
+          each = λ i p b good at is.
               elim (set_cases s.rings n h.after i p at) [
                 | inl (place, same) ↦
                     (let it : a ≡ b = same_some (slice_get others n) a b a_is (ap (slice_get others) (sym place) ∙ is) in
                     subst (λ (z : TheSide). IsLike z p) it (subst (IsLike a) (sym same) x.1))
-                | inr (other, was) ↦ like.each i p b was is
+                | inr (other, was) ↦ like.each i p b good was is
               ];
         }),
       )
@@ -215,58 +224,58 @@ module _ (others : List TheSide) where
       set_long (p ∷ ps) (suc i) q = let e = set_long ps i q in omega (arith, e)
 
   on_queue : (n : ℕ) (s t : TheRun FacingSide) (Event : TheCore → TheQueue → TheCore → TheQueue → Type 0) → LikeRun s
-      → OnQueue n s Event t → OnQueue n (refaced s) Event (refaced t) × LikeRun t
+      → OnQueue n s Event t → OnQueue n (there s) Event (there t) × LikeRun t
   on_queue n s t Event like h = (queue_lifted (faced_all others) n s t Event h, subst LikeRun (sym h.rest) like)
 
-  on_core : (s t : TheRun FacingSide) (Event : TheCore → TheCore → Type 0) → LikeRun s → OnCore s Event t → OnCore (refaced s) Event (refaced t) × LikeRun t
+  on_core : (s t : TheRun FacingSide) (Event : TheCore → TheCore → Type 0) → LikeRun s → OnCore s Event t → OnCore (there s) Event (there t) × LikeRun t
   on_core s t Event like h = (core_lifted (faced_all others) s t Event h, subst LikeRun (sym h.rest) like)
 
   -- each event
-  pub does_faced : (log_entry : LogEntry) (s m : TheRun FacingSide) → LikeRun s → Does true_ways log_entry s m
-      → Does true_ways log_entry (refaced s) (refaced m) × LikeRun m
-  does_faced (looked n l answer) s m like h =
-      on_ring n s m _ like (λ a p q good event. looks_faced a s.core m.core p q good l.0 answer event) h
-  does_faced (passed n i frag c outcome.Moved) s m like (mid, put, take) =
-      let x = on_ring i s mid _ like
+  pub does_faced : (log_entry : LogEntry) (s m : TheRun FacingSide) → ((i : ℕ) → GoesOver log_entry i → over i) → LikeRun s → Does true_ways log_entry s m
+      → Does true_ways log_entry (there s) (there m) × LikeRun m
+  does_faced (looked n l answer) s m goes like h =
+      on_ring n s m _ (goes n refl) like (λ a p q good event. looks_faced a s.core m.core p q good l.0 answer event) h
+  does_faced (passed n i frag c outcome.Moved) s m goes like (mid, put, take) =
+      let x = on_ring i s mid _ (goes i (inr refl)) like
       (λ a p q good event. let y = truly_faced SharedPuts a p q (placed (bare (with_circuit c.0 frag))) good event.0 in ((y.0, event.1), y.1)) put in
-      let z = on_ring n mid m _ x.1
+      let z = on_ring n mid m _ (goes n (inl refl)) x.1
       (λ a p q good event. let y = truly_faced SharedTakes a p q (found (bare frag)) good event.0 in ((y.0, event.1), y.1)) take in
-      ((refaced mid, x.0, z.0), z.1)
-  does_faced (passed n i frag c outcome.Full) s m like h =
-      on_ring i s m _ like (λ a p q good event. let y = truly_faced SharedPuts a p q no_room good event.0 in ((y.0, event.1), y.1)) h
-  does_faced (passed n i frag c outcome.Spent) s m like h =
-      on_ring i s m _ like (λ a p q good event. let y = truly_faced SharedPuts a p q spent good event.0 in ((y.0, event.1), y.1)) h
-  does_faced (arrived n l frag e answer) s m like h =
-      on_ring n s m _ like (λ a p q good event. arrives_faced a s.core m.core p q good (inbound l.0 frag e) answer event) h
-  does_faced (heard n l frag answer) s m like h =
-      on_ring n s m _ like (λ a p q good event. let y = takes_faced a s.core m.core p q good frag answer event.1 in ((event.0, y.0), y.1)) h
-  does_faced (said n l answer) s m like h =
-      on_ring n s m _ like
+      ((there mid, x.0, z.0), z.1)
+  does_faced (passed n i frag c outcome.Full) s m goes like h =
+      on_ring i s m _ (goes i (inr refl)) like (λ a p q good event. let y = truly_faced SharedPuts a p q no_room good event.0 in ((y.0, event.1), y.1)) h
+  does_faced (passed n i frag c outcome.Spent) s m goes like h =
+      on_ring i s m _ (goes i (inr refl)) like (λ a p q good event. let y = truly_faced SharedPuts a p q spent good event.0 in ((y.0, event.1), y.1)) h
+  does_faced (arrived n l frag e answer) s m goes like h =
+      on_ring n s m _ (goes n refl) like (λ a p q good event. arrives_faced a s.core m.core p q good (inbound l.0 frag e) answer event) h
+  does_faced (heard n l frag answer) s m goes like h =
+      on_ring n s m _ (goes n refl) like (λ a p q good event. let y = takes_faced a s.core m.core p q good frag answer event.1 in ((event.0, y.0), y.1)) h
+  does_faced (said n l answer) s m goes like h =
+      on_ring n s m _ (goes n refl) like
       (λ a p q good event. monitor_writes (IsLike a) (faced a) (Truly SharedPuts) (Truly SharedPuts) (truly_faced SharedPuts a) l.0 s.core m.core p q answer good event) h
-  does_faced (told n l answer) s m like h =
-      on_ring n s m _ like
+  does_faced (told n l answer) s m goes like h =
+      on_ring n s m _ (goes n refl) like
       (λ a p q good event.
       let y = acknowledges (IsLike a) (faced a) (Truly SharedTakes) (Truly SharedTakes) (truly_faced SharedTakes a) p q answer good event.0 in
       ((y.0, event.1), y.1)) h
-  does_faced (opened name request answer) s m like h = on_core s m _ like h
-  does_faced (called name c answer) s m like (e, at, h) = let x = on_core s m _ like h in ((e, at, x.0), x.1)
-  does_faced (ruled name msg reply answer) s m like (e, at, h) = let x = on_core s m _ like h in ((e, at, x.0), x.1)
-  does_faced (wrote name (outlet.Queue n) answer) s m like (e, at, h) = let x = on_queue n s m _ like h in ((e, at, x.0), x.1)
-  does_faced (wrote name (outlet.Side n) answer) s m like (e, at, h) =
-      let x = on_ring n s m _ like
+  does_faced (opened name request answer) s m goes like h = on_core s m _ like h
+  does_faced (called name c answer) s m goes like (e, at, h) = let x = on_core s m _ like h in ((e, at, x.0), x.1)
+  does_faced (ruled name msg reply answer) s m goes like (e, at, h) = let x = on_core s m _ like h in ((e, at, x.0), x.1)
+  does_faced (wrote name (outlet.Queue n) answer) s m goes like (e, at, h) = let x = on_queue n s m _ like h in ((e, at, x.0), x.1)
+  does_faced (wrote name (outlet.Side n) answer) s m goes like (e, at, h) =
+      let x = on_ring n s m _ (goes n refl) like
       (λ a p q good event. writes_at (IsLike a) (faced a) (Truly SharedPuts) (Truly SharedPuts) (truly_faced SharedPuts a) e s.core m.core p q answer good event) h in
       ((e, at, x.0), x.1)
-  does_faced (acked name n answer) s m like (e, at, h) =
-      let x = on_ring n s m _ like
+  does_faced (acked name n answer) s m goes like (e, at, h) =
+      let x = on_ring n s m _ (goes n refl) like
       (λ a p q good event.
       let (seat, seat_is, tells) = event.0 in
       let y = acks (IsLike a) (faced a) (Truly SharedTakes) (Truly SharedTakes) (truly_faced SharedTakes a) seat.kind seat.end p q answer good tells in
       (((seat, seat_is, y.0), event.1), y.1)) h in
       ((e, at, x.0), x.1)
-  does_faced (turned d name (inlet.Queue n) answer) s m like (e, at, is, h) = let x = on_queue n s m _ like h in ((e, at, is, x.0), x.1)
-  does_faced (turned d name inlet.Arrivals answer) s m like (e, at, is, h) = let x = on_core s m _ like h in ((e, at, is, x.0), x.1)
-  does_faced (turned d name (inlet.Side n) answer) s m like (e, at, is, h) =
-      let x = on_ring n s m _ like
+  does_faced (turned d name (inlet.Queue n) answer) s m goes like (e, at, is, h) = let x = on_queue n s m _ like h in ((e, at, is, x.0), x.1)
+  does_faced (turned d name inlet.Arrivals answer) s m goes like (e, at, is, h) = let x = on_core s m _ like h in ((e, at, is, x.0), x.1)
+  does_faced (turned d name (inlet.Side n) answer) s m goes like (e, at, is, h) =
+      let x = on_ring n s m _ (goes n refl) like
       (λ a p q good event.
       let y = turns (IsLike a) (faced a) (Truly SharedTakes) (Truly SharedTakes) (truly_faced SharedTakes a) d e s.core.board m.core.board p q (Ok answer)
       good event.event in
@@ -274,13 +283,10 @@ module _ (others : List TheSide) where
       ((e, at, is, x.0), x.1)
 
   -- it happens beside them
-  pub happens_faced : (log_entry : LogEntry) (s t : TheRun FacingSide) → LikeRun s → Happens true_ways log_entry s t
-      → Happens true_ways log_entry (refaced s) (refaced t)
-  happens_faced log_entry s t like h =
-      (refaced h.0, (does_faced log_entry s h.0 like h.1).0, notes_lifted (faced_all others) log_entry h.0 t h.2, h.3, acts_lifted (faced_all others) log_entry s h.4)
-
-  pub in_place_faced : (s : TheRun FacingSide) (jobs : List CoreJob) (log_entry : LogEntry) → InPlace jobs s log_entry → InPlace jobs (refaced s) log_entry
-  in_place_faced s jobs log_entry h = in_place_lifted (faced_all others) s (faced_long others s.rings) jobs log_entry h
+  pub happens_faced : (log_entry : LogEntry) (s t : TheRun FacingSide) → ((i : ℕ) → GoesOver log_entry i → over i) → LikeRun s
+      → Happens true_ways log_entry s t → Happens true_ways log_entry (there s) (there t)
+  happens_faced log_entry s t goes like h =
+      (there h.0, (does_faced log_entry s h.0 goes like h.1).0, notes_lifted (faced_all others) log_entry h.0 t h.2, h.3, acts_lifted (faced_all others) log_entry s h.4)
 
 -- ---- among other cores
 
@@ -288,48 +294,52 @@ module _ (others : List TheSide) where
 abbrev pub PutTheSame : List JoinedCore → List JoinedCore → Type 0
 PutTheSame xs ms = (m : ℕ) (side : TheSide) → HasSide xs m side → (other : TheSide) × HasSide ms m other × (side.sent ≡ other.sent)
 
-record Acrosses (ms : List JoinedCore) (sides : List ℕ) (ps : List FacingSide) : Type 0 where
+-- across from a side stands one, which has put the same if the event goes over that side
+abbrev pub StandsAcross : (ℕ → Type 0) → List JoinedCore → ℕ → ℕ → FacingSide → Type 0
+StandsAcross over ms i m p = (a : TheSide) × HasSide ms (across_from m) a × (over i → p.across.sent ≡ a.sent)
+
+record Acrosses (over : ℕ → Type 0) (ms : List JoinedCore) (sides : List ℕ) (ps : List FacingSide) : Type 0 where
   others : List TheSide
-  like : AreLike others ps
+  like : AreLike over others ps
   has : (i m : ℕ) (a : TheSide) → slice_get sides i ≡ Some m → slice_get others i ≡ Some a → HasSide ms (across_from m) a
 
-acrosses : (xs ms : List JoinedCore) (same : PutTheSame xs ms) (sides : List ℕ) (ps : List FacingSide)
-    → ((i m : ℕ) (p : FacingSide) → slice_get sides i ≡ Some m → slice_get ps i ≡ Some p → HasSide xs (across_from m) p.across) → Acrosses ms sides ps
-acrosses xs ms same [] ps h = record {
+acrosses : (over : ℕ → Type 0) (ms : List JoinedCore) (sides : List ℕ) (ps : List FacingSide)
+    → ((i m : ℕ) (p : FacingSide) → slice_get sides i ≡ Some m → slice_get ps i ≡ Some p → StandsAcross over ms i m p) → Acrosses over ms sides ps
+acrosses over ms [] ps h = record {
   others = map (λ (p : FacingSide). p.across) ps;
   like = record {
     long = long_map (λ (p : FacingSide). p.across) ps;
-    each = λ i p a at is.
+    each = λ i p a good at is.
         let there : Some a ≡ Some p.across = sym is ∙ goes_to (λ (q : FacingSide). q.across) ps i p at in
         let it : a ≡ p.across = cc in
         ap (λ (s : TheSide). s.sent) (sym it);
   };
   has = λ i m a at is. absurd (cc);
 }
-acrosses xs ms same (m ∷ sides) [] h = record {
+acrosses over ms (m ∷ sides) [] h = record {
   others = [];
-  like = record { long = refl; each = λ i p a at is. absurd (cc) };
+  like = record { long = refl; each = λ i p a good at is. absurd (cc) };
   has = λ i k a at is. absurd (cc);
 }
-acrosses xs ms same (m ∷ sides) (p ∷ ps) h =
-    let (a, a_is, sent) = same (across_from m) p.across (h 0 m p refl refl) in
-    let rest = acrosses xs ms same sides ps (λ i k q at is. h (suc i) k q at is) in
+acrosses over ms (m ∷ sides) (p ∷ ps) h =
+    let (a, a_is, sent) = h 0 m p refl refl in
+    let rest = acrosses (λ i. over (suc i)) ms sides ps (λ i k q at is. h (suc i) k q at is) in
     record {
       others = a ∷ rest.others;
       like = record { long = (let e = rest.like.long in omega (arith, e)); each = likes a sent rest };
       has = haves a a_is rest;
     }
   where
-    likes : (a : TheSide) → p.across.sent ≡ a.sent → (rest : Acrosses ms sides ps) → (i : ℕ) (q : FacingSide) (b : TheSide) → slice_get (p ∷ ps) i ≡ Some q
-        → slice_get (a ∷ rest.others) i ≡ Some b → IsLike b q
-    likes a sent rest zero q b at is =
+    likes : (a : TheSide) → (over 0 → p.across.sent ≡ a.sent) → (rest : Acrosses (λ i. over (suc i)) ms sides ps) → (i : ℕ) (q : FacingSide) (b : TheSide)
+        → over i → slice_get (p ∷ ps) i ≡ Some q → slice_get (a ∷ rest.others) i ≡ Some b → IsLike b q
+    likes a sent rest zero q b good at is =
         let one : p ≡ q = cc in
         let two : a ≡ b = cc in
-        subst (λ (z : TheSide). IsLike z q) two (subst (IsLike a) one sent)
-    likes a sent rest (suc i) q b at is = rest.like.each i q b at is
+        subst (λ (z : TheSide). IsLike z q) two (subst (IsLike a) one (sent good))
+    likes a sent rest (suc i) q b good at is = rest.like.each i q b good at is
 
-    haves : (a : TheSide) → HasSide ms (across_from m) a → (rest : Acrosses ms sides ps) → (i k : ℕ) (b : TheSide) → slice_get (m ∷ sides) i ≡ Some k
-        → slice_get (a ∷ rest.others) i ≡ Some b → HasSide ms (across_from k) b
+    haves : (a : TheSide) → HasSide ms (across_from m) a → (rest : Acrosses (λ i. over (suc i)) ms sides ps) → (i k : ℕ) (b : TheSide)
+        → slice_get (m ∷ sides) i ≡ Some k → slice_get (a ∷ rest.others) i ≡ Some b → HasSide ms (across_from k) b
     haves a a_is rest zero k b at is =
         let one : m ≡ k = cc in
         let two : a ≡ b = cc in
@@ -344,17 +354,18 @@ faced_from (a ∷ others) [] i q long at = absurd (omega (arith, long))
 faced_from (a ∷ others) (p ∷ ps) zero q long at = let same : faced a p ≡ q = cc in (a, refl, ap (λ (z : FacingSide). z.across) (sym same))
 faced_from (a ∷ others) (p ∷ ps) (suc i) q long at = faced_from others ps i q (omega (arith, long)) at
 
--- so an event of one core happens among others too, where each side has put the same
-module _ (jobs : List CoreJob) (n : ℕ) (log_entry : LogEntry) (xs ys ms : List JoinedCore) (h : HappensAt jobs n log_entry xs ys) (same : PutTheSame xs ms)
+-- so an event of one core happens among others too, where across from each side over which it goes as much was put
+module _ (jobs : List CoreJob) (n : ℕ) (log_entry : LogEntry) (xs ys ms : List JoinedCore) (h : HappensAt jobs n log_entry xs ys)
+    (among : (i m : ℕ) (p : FacingSide) → slice_get h.before.sides i ≡ Some m → slice_get h.beside.rings i ≡ Some p → StandsAcross (GoesOver log_entry) ms i m p)
     (here : slice_get ms n ≡ Some h.before) where
-  its : Acrosses ms h.before.sides h.beside.rings
-  its = acrosses xs ms same h.before.sides h.beside.rings h.beside_is.across
+  its : Acrosses (GoesOver log_entry) ms h.before.sides h.beside.rings
+  its = acrosses (GoesOver log_entry) ms h.before.sides h.beside.rings among
 
   sides_same : (r : TheRun FacingSide) → alone (refaced its.others r) ≡ alone r
   sides_same r = ap (λ (rings : List TheSide). record (alone r) { rings = rings }) (faced_sides its.others r.rings)
 
-  pub again : HappensAt jobs n log_entry ms (slice_set ms n (record h.before { run = alone h.after }))
-  again = record {
+  pub again_among : HappensAt jobs n log_entry ms (slice_set ms n (record h.before { run = alone h.after }))
+  again_among = record {
     before = h.before;
     before_is = here;
     beside = refaced its.others h.beside;
@@ -365,10 +376,20 @@ module _ (jobs : List CoreJob) (n : ℕ) (log_entry : LogEntry) (xs ys ms : List
           subst (HasSide ms (across_from m)) (sym is) (its.has i m a number a_is);
     };
     after = refaced its.others h.after;
-    happens = happens_faced its.others log_entry h.beside h.after its.like h.happens;
+    happens = happens_faced (GoesOver log_entry) its.others log_entry h.beside h.after (λ i goes. goes) its.like h.happens;
     in_place = in_place_faced its.others h.beside jobs log_entry h.in_place;
     rest = ap (λ (r : TheRun TheSide). slice_set ms n (record h.before { run = r })) (sym (sides_same h.after));
   }
+
+-- and where each side has put the same
+pub again : (jobs : List CoreJob) (n : ℕ) (log_entry : LogEntry) (xs ys ms : List JoinedCore) (h : HappensAt jobs n log_entry xs ys) → PutTheSame xs ms
+    → slice_get ms n ≡ Some h.before → HappensAt jobs n log_entry ms (slice_set ms n (record h.before { run = alone h.after }))
+again jobs n log_entry xs ys ms h same here =
+    again_among jobs n log_entry xs ys ms h
+    (λ i m p number at.
+    let (a, has, sent) = same (across_from m) p.across (h.beside_is.across i m p number at) in
+    (a, has, λ goes. sent))
+    here
 
 -- ---- an event keeps what each side has put
 

@@ -24,4 +24,4 @@ pub mod Happening
 pub mod Lifted
 pub mod Facing
 pub mod Delaying
-pub mod Ahead
+pub mod Exchanging

@@ -4,4 +4,4 @@ pub mod Steps
 pub mod Laws
 pub mod Runs
 pub mod Entries
-pub mod Ahead
+pub mod Exchanges

@@ -1,6 +1,7 @@
 //! What cores do together, joined to one world: laws, as the contracts of functions that do nothing.
 
-ghost use Rattle.fl_cores_joined.specs.Ahead.{OpeningsGoAhead};
+ghost use Rattle.fl_cores_joined.specs.Exchanges.{ApartMayChange, EventsExchange, StepsExchange};
+ghost use Rattle.fl_cores_joined.specs.Exchanges.{OpeningsGoAhead, OpeningsStayBehind};
 ghost use Rattle.fl_cores_joined.specs.Rings.{TrueStepsAreTheRings, TrueStepsHappen};
 ghost use Rattle.fl_cores_joined.specs.Laws.{WritesJoin, TurnsJoin, AcksJoin};
 ghost use Rattle.fl_cores_joined.specs.Laws.{CallsJoin, RulesJoin, OpensJoin};
@@ -71,7 +72,17 @@ pub fn law_steps_interleave()
     ensures followed { FollowedStepsInterleave }
 {}
 
-/// An opening may come before what another core did just before it.
-pub fn law_openings_go_ahead()
+/// Neighbours of two cores, of which neither puts anything to where the other goes, as of two that go over no ring
+/// in common, may change places: in two events, and in what cores do step by step, which ends with the same cores
+/// then.
+pub fn law_neighbours_exchange()
+    ensures events { EventsExchange }
+    ensures apart { ApartMayChange }
+    ensures steps { StepsExchange }
+{}
+
+/// An opening may change places with what another core does just before it, or just after.
+pub fn law_openings_move()
     ensures ahead { OpeningsGoAhead }
+    ensures behind { OpeningsStayBehind }
 {}

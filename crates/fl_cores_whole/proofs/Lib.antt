@@ -8,3 +8,4 @@ pub mod Turned
 pub mod Holds
 pub mod One
 pub mod Told
+pub mod Home

@@ -1,6 +1,6 @@
 -- What an end handled in its core's turns stands at its progress, and so in the report.
-use Rattle.std.proofs.Common.{◌≡◌, refl, sym, ◌∙◌, ap, ℕ, zero, suc, ◌<◌, ◌==◌, ◌&&◌, Bool, true, false, if◌then◌else◌, List, [], ◌∷◌, ◌++◌, length, map, slice_get, Option, Some, None, arith}
-use Rattle.std.specs.Prelude.{Ok}
+use Rattle.std.proofs.Common.{◌≡◌, ◌≢◌, refl, sym, ◌∙◌, ap, ℕ, zero, suc, ◌<◌, ◌==◌, ◌&&◌, Bool, true, false, if◌then◌else◌, List, [], ◌∷◌, ◌++◌, length, map, slice_get, Option, Some, None, arith}
+use Rattle.std.specs.Prelude.{Ok, Err}
 use Rattle.std.specs.List.{AllZip}
 use Rattle.std.proofs.lemmas.Bool.{eq-eqb, eqb-true}
 use Rattle.std.proofs.lemmas.List.{map-append}
@@ -13,21 +13,25 @@ use Rattle.fl_value_data.specs.declared.value.Call.{Call}
 use Rattle.fl_hop.proofs.Lists.{at_within}
 use Rattle.fl_hop.specs.Stretch.{same_side, same_end}
 use Rattle.fl_ring.specs.SharedSides.{TheSide}
+use Rattle.fl_endpoint.specs.declared.answer.WriteAnswer.TheVariants as write
+use Rattle.fl_hop.specs.declared.forward.ForwardOutcome.TheVariants as outcome
 use Rattle.fl_core.specs.declared.answer.LinkFront.TheVariants as front
+use Rattle.fl_core.specs.declared.answer.MonitorAnswer.TheVariants as answered
+use Rattle.fl_core.specs.declared.answer.MonitorWrite.TheVariants as written
+use Rattle.fl_core.specs.declared.turn_answer.AckAnswer.TheVariants as ack
 use Rattle.fl_core.specs.declared.core_job.CoreJob.{CoreJob}
 use Rattle.fl_core.specs.declared.turn_answer.TurnAnswer.{TurnAnswer}
 use Rattle.fl_core.specs.declared.turn_answer.TurnAnswer.TheVariants as turn
 use Rattle.fl_core_run.specs.EndProgress.{TheEndProgress, progress_place}
-use Rattle.fl_core_run.specs.LogEntries.{LogEntry, looked, passed, arrived, heard, turned}
+use Rattle.fl_core_run.specs.LogEntries.{LogEntry, looked, passed, arrived, heard, said, told, opened, called, ruled, wrote, acked, turned}
 use Rattle.fl_core_run.specs.Run.{TheRun}
 use Rattle.fl_core_run_laws.specs.Logs.{call_in, handled_in, handled_at, handled_of, in_progress, Goes}
 use Rattle.fl_core_run_laws.proofs.Handling.{progresses_tell}
 use Rattle.fl_core_refines.specs.CutStart.{first_cut}
 use Rattle.fl_core_turned.specs.TurnEvents.{Event, event, log_of}
 use Rattle.fl_core_turned.specs.Turned.{CutMoment, moment, shared_ways, AllFollow}
-use Rattle.fl_model.specs.Events.{Answer, forward}
 use Rattle.fl_model.specs.Monitors.{Service}
-use Rattle.fl_model.specs.Runs.{Exchange, same_side as same_side_there, same_end as same_end_there, handled_in as handled_there}
+use Rattle.fl_model.specs.Runs.{Exchange, calls_handled, same_side as same_side_there, same_end as same_end_there, handled_in as handled_there}
 use Rattle.fl_world_refines.specs.Taking.{turn_answer}
 use Rattle.fl_world_refines.proofs.PassingLists.{some_is}
 use Rattle.fl_cores_fork.specs.Runs.{TheCoreThread, TheFinishedCore, RanTo}
@@ -38,12 +42,16 @@ use Rattle.fl_cores_laws.specs.EndedCores.{OneCore}
 use Rattle.fl_cores_laws.proofs.Complete.{core_below}
 use Rattle.fl_cores_laws.proofs.EndedProgress.{has_place, is_some_by}
 use Rattle.fl_cores.specs.Behind.{core_of as one_core, cores_of, joined_in, cores_in}
+use Rattle.fl_cores.specs.Follows.{CoresFollow}
 use Rattle.fl_cores.specs.Outcomes.{ReportsAreOfRuns}
+use Rattle.fl_cores.specs.Promised.{Reports}
+use Rattle.fl_cores_file.specs.Jobs.{Job}
+use Rattle.fl_cores_file.specs.Report.{TheReport, at_end}
+use Rattle.fl_world.specs.Booting.{TheConfig}
 use Rattle.fl_cores_joined.specs.Joined.{JoinedCore, alone}
-use Rattle.fl_cores_joined.specs.Steps.{Moment, does, forwards, Follows, Interleaves, asked, look_answer, follow_answer, asks, forward_asks}
+use Rattle.fl_cores_joined.specs.Steps.{Moment, does, forwards, Follows, Interleaves, asks, forward_asks}
 use Rattle.fl_cores_joined.specs.Runs.{asked_in}
-use Rattle.fl_cores_whole.specs.Told.{calls_handled_at, TheirCallsAreTold}
-use Rattle.fl_cores_whole.specs.Whole.{begun, events_at}
+use Rattle.fl_cores_whole.specs.Whole.{begun, events_at, AreAllTheirTurns}
 
 -- ---- whether two ends are one, as logs and as the machine ask it
 
@@ -71,9 +79,9 @@ none_either false = refl
 
 -- ---- an event, and what is asked of the machine for it
 
-module _ (n : ℕ) (e : EndId) where
+module _ (e : EndId) where
   abbrev calls : List Exchange → List TheCall
-  calls xs = calls_handled_at n e xs
+  calls xs = calls_handled e xs
 
   abbrev logged : LogEntry → List TheCall
   logged log_entry = map call_of (handled_in e log_entry)
@@ -92,23 +100,55 @@ module _ (n : ℕ) (e : EndId) where
   by_answer name turn.Nothing = sym (ap (map call_of) (none_either (same_end name e)))
   by_answer name (turn.Refused fault) = sym (ap (map call_of) (none_either (same_end name e)))
 
-  if_answered : (core neighbour : ℕ) (o : Option Answer) (zs : List Exchange) → calls (given o [] (λ a. asked (forward core neighbour) a) ++ zs) ≡ calls zs
-  if_answered core neighbour None zs = refl
-  if_answered core neighbour (Some a) zs = refl
+  -- but for a turn nothing is handled
+  of_event : (m : ℕ) (r : TheRun TheSide) (log_entry : LogEntry) (zs : List Exchange) → calls (asks m r log_entry ++ zs) ≡ logged log_entry ++ calls zs
+  of_event m r (looked side l (Ok front.Nothing)) zs = refl
+  of_event m r (looked side l (Ok front.Acknowledged)) zs = refl
+  of_event m r (looked side l (Ok (front.Message frag))) zs = refl
+  of_event m r (looked side l (Ok (front.Onward frag to c))) zs = refl
+  of_event m r (looked side l (Ok (front.Arrival frag name))) zs = refl
+  of_event m r (looked side l (Err fault)) zs = refl
+  of_event m r (passed side to frag c outcome) zs = refl
+  of_event m r (arrived side l frag name answer) zs = refl
+  of_event m r (heard side l frag answer) zs = refl
+  of_event m r (said side l written.Written) zs = refl
+  of_event m r (said side l written.Full) zs = refl
+  of_event m r (said side l written.Spent) zs = refl
+  of_event m r (said side l written.Nothing) zs = refl
+  of_event m r (told side l ack.Done) zs = refl
+  of_event m r (told side l ack.Nothing) zs = refl
+  of_event m r (told side l ack.Full) zs = refl
+  of_event m r (opened name request (Ok place)) zs = refl
+  of_event m r (opened name request (Err fault)) zs = refl
+  of_event m r (called name c (Ok done)) zs = refl
+  of_event m r (called name c (Err fault)) zs = refl
+  of_event m r (ruled name msg reply (Ok done)) zs = refl
+  of_event m r (ruled name msg reply (Err fault)) zs = refl
+  of_event m r (wrote name out (Ok (write.Written number count))) zs = refl
+  of_event m r (wrote name out (Ok write.Full)) zs = refl
+  of_event m r (wrote name out (Ok write.Nothing)) zs = refl
+  of_event m r (wrote name out (Err fault)) zs = refl
+  of_event m r (acked name side (Ok ack.Done)) zs = refl
+  of_event m r (acked name side (Ok ack.Nothing)) zs = refl
+  of_event m r (acked name side (Ok ack.Full)) zs = refl
+  of_event m r (acked name side (Err fault)) zs = refl
+  of_event m r (turned d name from answer) zs = ap (λ (l : List TheCall). l ++ calls zs) (by_answer name answer)
 
-  nothing : (b : Bool) (zs : List Exchange) → calls zs ≡ (if b then (let none : List TheCall = [] in none) else []) ++ calls zs
-  nothing b zs = sym (ap (λ (l : List TheCall). l ++ calls zs) (none_either b))
-
-  of_event : (m : ℕ) (r : TheRun TheSide) (log_entry : LogEntry) (zs : List Exchange)
-      → calls (asks m r log_entry ++ zs) ≡ (if m == n then logged log_entry else []) ++ calls zs
-  of_event m r (looked side l answer) zs = if_answered m _ (look_answer answer) zs ∙ nothing (m == n) zs
-  of_event m r (turned d name from answer) zs =
-      ap (λ (l : List TheCall). (if m == n then l else []) ++ calls zs) (by_answer name answer)
-  of_event m r log_entry zs = nothing (m == n) zs
-
-  of_forward : (m : ℕ) (r : TheRun TheSide) (look follows : LogEntry) (zs : List Exchange) → calls (forward_asks m r look follows ++ zs) ≡ calls zs
-  of_forward m r (looked side l found) follows zs = if_answered m _ (follow_answer follows) zs
-  of_forward m r look follows zs = refl
+  of_forward : (m : ℕ) (r : TheRun TheSide) (look follows : LogEntry) (zs : List Exchange) → Follows look follows
+      → calls (forward_asks m r look follows ++ zs) ≡ calls zs
+  of_forward m r (looked i l (Ok (front.Message frag))) (heard a b f (Ok answered.Full)) zs h = refl
+  of_forward m r (looked i l (Ok (front.Message frag))) (heard a b f (Ok answered.Done)) zs h = refl
+  of_forward m r (looked i l (Ok (front.Message frag))) (heard a b f (Ok (answered.Opened name))) zs h = refl
+  of_forward m r (looked i l (Ok (front.Message frag))) (heard a b f (Ok (answered.OpeningRefused name reason))) zs h = refl
+  of_forward m r (looked i l (Ok (front.Message frag))) (heard a b f (Err fault)) zs h = refl
+  of_forward m r (looked i l (Ok (front.Onward frag to c))) (passed a b f d outcome.Moved) zs h = refl
+  of_forward m r (looked i l (Ok (front.Onward frag to c))) (passed a b f d outcome.Full) zs h = refl
+  of_forward m r (looked i l (Ok (front.Onward frag to c))) (passed a b f d outcome.Spent) zs h = refl
+  of_forward m r (looked i l (Ok (front.Arrival frag name))) (arrived a b f d (Ok outcome.Moved)) zs h = refl
+  of_forward m r (looked i l (Ok (front.Arrival frag name))) (arrived a b f d (Ok outcome.Full)) zs h = refl
+  of_forward m r (looked i l (Ok (front.Arrival frag name))) (arrived a b f d (Ok outcome.Spent)) zs h = refl
+  of_forward m r (looked i l (Ok (front.Arrival frag name))) (arrived a b f d (Err fault)) zs h = refl
+  of_forward m r look follows zs h = absurd h
 
   -- ---- and the same in a log
 
@@ -132,24 +172,63 @@ module _ (n : ℕ) (e : EndId) where
   forwards_handle_nothing (looked i l (Ok (front.Arrival frag name))) (arrived a b f d answer) h = record { first = refl; second = refl }
   forwards_handle_nothing look follows h = absurd h
 
-  -- ---- an interleaving
+  -- ---- an interleaving in which no other core than n handles a call there
 
-  of_all : (jobs : List CoreJob) (moments : List Moment) (xs ys : List JoinedCore) (h : Interleaves jobs xs moments ys)
-      → calls (asked_in jobs xs moments ys h) ≡ map call_of (handled_at e (log_of (events_at n jobs xs moments ys h)))
-  of_all jobs [] xs ys h = refl
-  of_all jobs (does m log_entry ∷ moments) xs ys h =
-      of_event m h.1.1.before.run log_entry (asked_in jobs h.0 moments ys h.2)
-      ∙ ap (λ (l : List TheCall). (if m == n then logged log_entry else []) ++ l) (of_all jobs moments h.0 ys h.2)
-      ∙ sym (one_logged (m == n) (event log_entry (alone h.1.1.after)) (events_at n jobs h.0 moments ys h.2))
-  of_all jobs (forwards m look follows ∷ moments) xs ys h =
-      let none = forwards_handle_nothing look follows h.1.0 in
-      of_forward m h.1.1.1.before.run look follows (asked_in jobs h.0 moments ys h.2)
-      ∙ of_all jobs moments h.0 ys h.2
-      ∙ sym (two_logged (m == n) (event look (alone h.1.1.1.after)) (event follows (alone h.1.1.2.after)) (events_at n jobs h.0 moments ys h.2) none.first none.second)
+  module _ (n : ℕ) (jobs : List CoreJob) where
+    abbrev handled_by : ℕ → (moments : List Moment) (xs ys : List JoinedCore) → Interleaves jobs xs moments ys → List TheCall
+    handled_by m moments xs ys h = map call_of (handled_at e (log_of (events_at m jobs xs moments ys h)))
+
+    -- where the first is none, so are the others
+    none_later : (xs ys : List TheCall) → xs ++ ys ≡ [] → (xs ≡ []) × (ys ≡ [])
+    none_later [] ys none = (refl, none)
+    none_later (x ∷ xs) ys none = absurd (let e = ap length none in omega (arith, e))
+
+    abbrev Elsewhere : (moments : List Moment) (xs ys : List JoinedCore) → Interleaves jobs xs moments ys → Type 0
+    Elsewhere moments xs ys h = (m : ℕ) → m ≢ n → handled_by m moments xs ys h ≡ []
+
+    -- of an event of core m that core alone has it
+    at_one : (m k : ℕ) (x : Event TheSide) (events : List (Event TheSide)) → map call_of (handled_at e (log_of ((if m == k then x ∷ [] else []) ++ events))) ≡ []
+        → map call_of (handled_at e (log_of events)) ≡ []
+    at_one m k x events none =
+        (none_later (if m == k then logged x.log_entry else []) (map call_of (handled_at e (log_of events))) (sym (one_logged (m == k) x events) ∙ none)).1
+
+    alike : (m : ℕ) → (m == m) ≡ true
+    alike m = eq-eqb m m refl
+
+    this_one : (m : ℕ) (x : Event TheSide) (events : List (Event TheSide)) → map call_of (handled_at e (log_of ((if m == m then x ∷ [] else []) ++ events))) ≡ []
+        → logged x.log_entry ≡ []
+    this_one m x events none =
+        ap (λ (b : Bool). if b then logged x.log_entry else []) (sym (alike m))
+        ∙ (none_later (if m == m then logged x.log_entry else []) (map call_of (handled_at e (log_of events))) (sym (one_logged (m == m) x events) ∙ none)).0
+
+    pub of_all : (moments : List Moment) (xs ys : List JoinedCore) (h : Interleaves jobs xs moments ys) → Elsewhere moments xs ys h
+        → calls (asked_in jobs xs moments ys h) ≡ handled_by n moments xs ys h
+    of_all [] xs ys h none = refl
+    of_all (does m log_entry ∷ moments) xs ys h none =
+        let x = event log_entry (alone h.1.1.after) in
+        let events = λ (k : ℕ). events_at k jobs h.0 moments ys h.2 in
+        of_event m h.1.1.before.run log_entry (asked_in jobs h.0 moments ys h.2)
+        ∙ ap (λ (l : List TheCall). logged log_entry ++ l) (of_all moments h.0 ys h.2 (λ k other. at_one m k x (events k) (none k other)))
+        ∙ ap (λ (l : List TheCall). l ++ handled_by n moments h.0 ys h.2) (its (m == n) refl (λ other. this_one m x (events m) (none m other)))
+        ∙ sym (one_logged (m == n) x (events n))
+      where
+        its : (b : Bool) → (m == n) ≡ b → (m ≢ n → logged log_entry ≡ []) → logged log_entry ≡ (if m == n then logged log_entry else [])
+        its true is at = ap (λ (b : Bool). if b then logged log_entry else []) (sym is)
+        its false is at =
+            at (λ same. let clash : true ≡ false = sym (eq-eqb m n same) ∙ is in absurd (cc))
+            ∙ ap (λ (b : Bool). if b then logged log_entry else []) (sym is)
+    of_all (forwards m look follows ∷ moments) xs ys h none =
+        let first = event look (alone h.1.1.1.after) in
+        let second = event follows (alone h.1.1.2.after) in
+        let quiet = forwards_handle_nothing look follows h.1.0 in
+        let events = λ (k : ℕ). events_at k jobs h.0 moments ys h.2 in
+        of_forward m h.1.1.1.before.run look follows (asked_in jobs h.0 moments ys h.2) h.1.0
+        ∙ of_all moments h.0 ys h.2 (λ k other. sym (two_logged (m == k) first second (events k) quiet.first quiet.second) ∙ none k other)
+        ∙ sym (two_logged (m == n) first second (events n) quiet.first quiet.second)
 
 -- ---- a core's progress, and what is told of it
 
-goes : (services : List Service) (jobs : List CoreJob) (events : List (Event TheSide)) (a b : CutMoment) → AllFollow services jobs events a b
+pub goes : (services : List Service) (jobs : List CoreJob) (events : List (Event TheSide)) (a b : CutMoment) → AllFollow services jobs events a b
     → Goes shared_ways jobs a.run (log_of events) b.run
 goes services jobs [] a b h = ap (λ (m : CutMoment). m.run) h
 goes services jobs (x ∷ events) a b h = (x.run, h.1.happens, h.1.in_place, goes services jobs events (moment x.run h.0) b h.2)
@@ -198,10 +277,13 @@ none_handled : (o : Option ℕ) (progresses : List TheEndProgress) (d : TheEndPr
 none_handled None progresses d is none = absurd (cc)
 none_handled (Some k) progresses d is none = ap in_progress is ∙ none
 
-pub their_calls_are_told : ReportsAreOfRuns → TheirCallsAreTold
-their_calls_are_told runs c jobs limit r w follow moments ys h theirs n e own =
-    of_all n e (joined_in w).jobs moments (begun w) ys h
-    ∙ ap (λ (events : List (Event TheSide)). map call_of (handled_at e (log_of events))) (theirs n s.0 o.0 s.1 o.1)
+-- an end's own core handled just what is told
+pub own_calls_are_told : ReportsAreOfRuns → (c : TheConfig) (jobs : List Job) (limit : ℕ) (r : TheReport) (w : Reports c jobs limit r)
+    (follow : CoresFollow w) (moments : List Moment) (ys : List JoinedCore) (h : Interleaves (joined_in w).jobs (begun w) moments ys)
+    → AreAllTheirTurns w follow moments ys h → (n : ℕ) (e : EndId) → core_at (joined_in w).bindings e ≡ Some n
+    → map call_of (handled_at e (log_of (events_at n (joined_in w).jobs (begun w) moments ys h))) ≡ at_end r.handled e
+own_calls_are_told runs c jobs limit r w follow moments ys h theirs n e own =
+    ap (λ (events : List (Event TheSide)). map call_of (handled_at e (log_of events))) (theirs n s.0 o.0 s.1 o.1)
     ∙ sym (ap (map call_of) handled)
     ∙ sym (ran.progresses.handled e n core.core own core.core_is ∙ ap (λ (t : TheRun TheSide). map call_of (handled_of t e)) core.ended)
   where

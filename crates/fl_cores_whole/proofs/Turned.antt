@@ -23,12 +23,13 @@ use Rattle.fl_cores.specs.Follows.{CoreFollows, CoresFollow}
 use Rattle.fl_cores.specs.Promised.{Reports}
 use Rattle.fl_cores_joined.specs.Joined.{JoinedCore, AreWhole, alone}
 use Rattle.fl_cores_joined.specs.Entries.{CoreStep, acts, looks, follows, OpenLooks, none_open, with_look, StepByStep}
+use Rattle.fl_cores_joined.specs.Exchanges.{StepsExchange}
 use Rattle.fl_cores_joined.specs.Steps.{HappensAt, Moment, does, forwards, Interleaves}
 use Rattle.fl_cores_joined.proofs.Earlier.{whole_back}
 use Rattle.fl_cores_joined.proofs.Joining.{long_set}
 use Rattle.fl_cores_whole.specs.Begin.{owners_in}
 use Rattle.fl_cores_whole.specs.Whole.{begun, events_at, steps_at, ReportsJoin, StepsOfReportsJoin, AreTheirTurns, AreAllTheirTurns, AreTheirSteps, AreLeft}
-use Rattle.fl_cores_whole.specs.Whole.{TheirTurnsJoin, TheirStepsJoin, TheirTurnsEnd}
+use Rattle.fl_cores_whole.specs.Whole.{TheirTurnsJoin, TheirStepsJoin, ExchangedStepsJoin, TheirTurnsEnd}
 use Rattle.fl_cores_whole.proofs.Begin.{joined_long, joined_one, at_first}
 
 -- ---- the core behind events
@@ -182,7 +183,7 @@ steps_long jobs (follows m look log_entry ∷ steps) pending xs ys h =
     steps_long jobs steps (with_look m None pending) h.2.0 ys h.2.2 ∙ ap length h.2.1.rest
     ∙ long_set xs m (record h.2.1.before { run = alone h.2.1.after })
 
-zip_long : (jobs : List CoreJob) (limit : ℕ) (threads : List TheCoreThread) (outcomes : List TheFinishedCore) → AllZip (RanTo jobs limit) threads outcomes
+pub zip_long : (jobs : List CoreJob) (limit : ℕ) (threads : List TheCoreThread) (outcomes : List TheFinishedCore) → AllZip (RanTo jobs limit) threads outcomes
     → length threads ≡ length outcomes
 zip_long jobs limit [] [] h = refl
 zip_long jobs limit [] (o ∷ outcomes) h = absurd h
@@ -272,6 +273,11 @@ their_turns_join join c jobs limit r w follow moments ys h theirs in_turn =
 
 pub their_steps_join : StepsOfReportsJoin → TheirStepsJoin
 their_steps_join join c jobs limit r w follow steps ys h theirs = join c jobs limit r w steps ys h (steps_whole c jobs limit r w follow steps ys h theirs)
+
+pub exchanged_steps_join : StepsExchange → StepsOfReportsJoin → ExchangedStepsJoin
+exchanged_steps_join exchange join c jobs limit r w follow steps others ys changes h theirs come =
+    join c jobs limit r w others ys (exchange (joined_in w).jobs none_open (begun w) ys changes steps others h come)
+    (steps_whole c jobs limit r w follow steps ys h theirs)
 
 pub their_turns_end : TheirTurnsEnd
 their_turns_end c jobs limit r w follow moments ys h theirs = left c jobs limit r w follow moments ys h theirs

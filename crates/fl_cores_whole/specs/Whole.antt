@@ -16,6 +16,7 @@ use Rattle.fl_cores_joined.specs.Joined.{JoinedCore, AreWhole, alone}
 use Rattle.fl_cores_joined.specs.Entries.{CoreStep, acts, looks, follows, OpenLooks, none_open, with_look}
 use Rattle.fl_cores_joined.specs.Entries.{StepByStep, left_open, AreBeforeLooks}
 use Rattle.fl_cores_joined.specs.Entries.{moments_of}
+use Rattle.fl_cores_joined.specs.Exchanges.{ComeTo}
 use Rattle.fl_cores_joined.specs.Steps.{Moment, does, forwards, Interleaves}
 use Rattle.fl_cores_joined.specs.Runs.{asked_in, MachineRuns, AllAreNumbered}
 use Rattle.fl_cores_whole.specs.Begin.{joined_from, owners_in}
@@ -126,6 +127,14 @@ TheirStepsJoin = (c : TheConfig) (jobs : List Job) (limit : ℕ) (r : TheReport)
     (follow : CoresFollow w) (steps : List CoreStep) (ys : List JoinedCore)
     → (h : StepByStep (joined_in w).jobs none_open (begun w) steps ys) → AreTheirSteps w follow steps ys h
     → StepsRun w steps ys
+
+-- and steps to which such ones come when neighbours change places, of which neither puts anything to where the
+-- other goes: so accepted openings may be brought into the order of their numbers,
+abbrev pub ExchangedStepsJoin : Type 0
+ExchangedStepsJoin = (c : TheConfig) (jobs : List Job) (limit : ℕ) (r : TheReport) (w : Reports c jobs limit r)
+    (follow : CoresFollow w) (steps others : List CoreStep) (ys : List JoinedCore) (changes : ℕ)
+    → (h : StepByStep (joined_in w).jobs none_open (begun w) steps ys) → AreTheirSteps w follow steps ys h
+    → ComeTo (joined_in w).jobs none_open (begun w) ys changes steps others → StepsRun w others ys
 
 -- and an order of all that they did ends with the cores as they were left.
 abbrev pub TheirTurnsEnd : Type 0

@@ -4,13 +4,17 @@ ghost use Rattle.fl_cores_whole.specs.Begin.{HandedOutJoin};
 ghost use Rattle.fl_cores_whole.specs.Holds.{ReportsHold, TheirTurnsHold};
 ghost use Rattle.fl_cores_whole.specs.One.{OneCoreJoins};
 ghost use Rattle.fl_cores_whole.specs.Told.{TheirCallsAreTold};
-ghost use Rattle.fl_cores_whole.specs.Whole.{ReportsJoin, StepsOfReportsJoin};
+ghost use Rattle.fl_cores_whole.specs.Whole.{ExchangedStepsJoin, ReportsJoin, StepsOfReportsJoin};
 ghost use Rattle.fl_cores_whole.specs.Whole.{TheirStepsJoin, TheirTurnsEnd, TheirTurnsJoin};
 
 use fl_core_refines::law_set_ups_start_fresh;
+use fl_core_run_laws::{law_leads_at_first, law_sides_go};
 use fl_cores::law_reports_are_of_runs;
-use fl_cores_joined::{law_runs_join, law_steps_interleave};
+use fl_cores_joined::{law_neighbours_exchange, law_runs_join, law_steps_interleave};
+use fl_cores_laws::{law_cores_go, law_ends_are_at_home, law_ends_are_requested};
+use fl_cores_shares::law_handed_out_go_on;
 use fl_model_laws::{law_no_wire_faults, law_numbers_are_once_both_ways};
+use fl_ring::SharedSide;
 use fl_world_laws::{law_handled_is_ever_a_prefix, law_passed_ever_falls};
 
 /// What a set-up made, once its cores, rings and queues are handed out to threads, is the world that these
@@ -39,21 +43,32 @@ pub fn law_steps_join()
 }
 
 /// So is such an order of what they did in their turns, at any moment at which no look waits for what follows
-/// it, and entry by entry at any moment at all; and one of all that they did ends with the cores of which the
-/// report tells.
+/// it, and entry by entry at any moment at all, also when neighbours have changed places there, of which neither
+/// puts anything to where the other goes; and one of all that they did ends with the cores of which the report
+/// tells.
 pub fn law_their_turns_join()
     ensures runs { TheirTurnsJoin }
     ensures steps { TheirStepsJoin }
+    ensures exchanged { ExchangedStepsJoin }
     ensures end { TheirTurnsEnd }
 {
+    law_neighbours_exchange();
     law_reports_join();
     law_steps_join();
 }
 
-/// In an order of all that they did, each end handled just the calls that the report tells, in its core's turns.
+/// In an order of all that they did, each end handled just the calls that the report tells: no core but its own
+/// handles a call there.
 pub fn law_their_calls_are_told()
     ensures told { TheirCallsAreTold }
 {
+    law_set_ups_start_fresh();
+    law_leads_at_first();
+    law_cores_go();
+    law_handed_out_go_on();
+    law_sides_go::<SharedSide>();
+    law_ends_are_requested();
+    law_ends_are_at_home();
     law_reports_are_of_runs();
 }
 
