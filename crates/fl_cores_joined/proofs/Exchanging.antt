@@ -24,7 +24,8 @@ use Rattle.fl_cores_joined.specs.Rings.{FacingSide}
 use Rattle.fl_cores_joined.specs.Joined.{JoinedCore, HasSide, across_from, alone}
 use Rattle.fl_cores_joined.specs.Steps.{true_ways, HappensAt}
 use Rattle.fl_cores_joined.specs.Entries.{CoreStep, acts, looks, follows, OpenLooks, with_look, left_open, StepByStep}
-use Rattle.fl_cores_joined.specs.Exchanges.{GoesOver, MayChange, EventsExchange, ApartMayChange, OpeningsGoAhead, OpeningsStayBehind, core_of, event_of, MayCome, open_behind, ChangePlaces, StepsExchange}
+use Rattle.fl_cores_joined.specs.Exchanges.{GoesOver, MayChange, EventsExchange, ApartMayChange, OpeningsGoAhead, OpeningsStayBehind}
+use Rattle.fl_cores_joined.specs.Exchanges.{core_of, event_of, MayCome, open_behind, ChangePlaces, StepsExchange}
 use Rattle.fl_cores_joined.proofs.Delaying.{other_there}
 use Rattle.fl_cores_joined.proofs.Facing.{StandsAcross, again_among}
 use Rattle.fl_cores_joined.proofs.Joining.{long_set, is_even, is_odd}
@@ -74,8 +75,8 @@ module _ (jobs : List CoreJob) (n : ℕ) (log_entry : LogEntry) (xs ys : List Jo
   others_stay k other = ap (λ (l : List JoinedCore). slice_get l k) h.rest ∙ other_there xs n k (after_it h) other
 
 -- a side of a core that stands among cores
-stands_at : (xs : List JoinedCore) (number core place : ℕ) (at : JoinedCore) (side : TheSide) → slice_get xs core ≡ Some at → slice_get at.sides place ≡ Some number
-    → slice_get at.run.rings place ≡ Some side → HasSide xs number side
+stands_at : (xs : List JoinedCore) (number core place : ℕ) (at : JoinedCore) (side : TheSide) → slice_get xs core ≡ Some at
+    → slice_get at.sides place ≡ Some number → slice_get at.run.rings place ≡ Some side → HasSide xs number side
 stands_at xs number core place at side at_is number_is side_is =
     record { core = core; at = at; at_is = at_is; place = place; number_is = number_is; side_is = side_is }
 
@@ -99,7 +100,8 @@ module _ (jobs : List CoreJob) (n m : ℕ) (one two : LogEntry) (xs ms ys : List
       by : (has.core ≡ n) ⊎ (has.core ≢ n) → StandsAcross (GoesOver two) xs i k p
       by (inr other) = (
         p.across,
-        stands_at xs (across_from k) has.core has.place has.at p.across (sym (others_stay jobs n one xs ms g has.core other) ∙ has.at_is) has.number_is has.side_is,
+        stands_at xs (across_from k) has.core has.place has.at p.across (sym (others_stay jobs n one xs ms g has.core other) ∙ has.at_is) has.number_is
+            has.side_is,
         λ goes. refl,
       )
       by (inl same) =
@@ -293,7 +295,8 @@ openings_stay_behind jobs n m log_entry name request answer xs ms ys apart g h =
 -- ---- steps
 
 -- looks are open behind two steps of two cores in whichever order they come
-looked_in_turn : (n m k : ℕ) (a b : Option LogEntry) (pending : OpenLooks) → n ≢ m → with_look n a (with_look m b pending) k ≡ with_look m b (with_look n a pending) k
+looked_in_turn : (n m k : ℕ) (a b : Option LogEntry) (pending : OpenLooks) → n ≢ m
+    → with_look n a (with_look m b pending) k ≡ with_look m b (with_look n a pending) k
 looked_in_turn n m k a b pending apart = by (k == n) (k == m) refl refl
   where
     by : (x y : Bool) → (k == n) ≡ x → (k == m) ≡ y → (if x then a else (if y then b else pending k)) ≡ (if y then b else (if x then a else pending k))
@@ -302,7 +305,8 @@ looked_in_turn n m k a b pending apart = by (k == n) (k == m) refl refl
     by false true p q = refl
     by false false p q = refl
 
-in_turn : (one two : CoreStep) (pending : OpenLooks) → core_of one ≢ core_of two → open_behind one (open_behind two pending) ≡ open_behind two (open_behind one pending)
+in_turn : (one two : CoreStep) (pending : OpenLooks) → core_of one ≢ core_of two
+    → open_behind one (open_behind two pending) ≡ open_behind two (open_behind one pending)
 in_turn (acts n a) two pending apart = refl
 in_turn one (acts m b) pending apart = refl
 in_turn (looks n a) (looks m b) pending apart = λ j k. looked_in_turn n m k (Some a) (Some b) pending apart j
@@ -352,7 +356,8 @@ change : (jobs : List CoreJob) (pending : OpenLooks) (xs ys : List JoinedCore) (
 change jobs pending xs ys steps others c =
     let opened_looks = left_open pending c.before in
     let apart : core_of c.two ≢ core_of c.one = λ e. c.may.cores (sym e) in
-    let (zs, second, first) = events_exchange jobs (core_of c.one) (core_of c.two) (event_of c.one) (event_of c.two) c.begin c.between c.end c.first c.second c.may in
+    let (zs, second, first) = events_exchange jobs (core_of c.one) (core_of c.two) (event_of c.one) (event_of c.two) c.begin c.between c.end
+    c.first c.second c.may in
     let two_may = may_come c.two (open_behind c.one opened_looks) opened_looks (sym (still_open c.one (core_of c.two) opened_looks apart)) c.two_may in
     let one_may = may_come c.one opened_looks (open_behind c.two opened_looks) (still_open c.two (core_of c.one) opened_looks c.may.cores) c.one_may in
     let behind = subst (λ (p : OpenLooks). StepByStep jobs p c.end c.behind ys) (in_turn c.two c.one opened_looks apart) c.goes_on in

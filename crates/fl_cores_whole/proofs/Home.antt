@@ -121,7 +121,8 @@ past n jobs (forwards m look follows ∷ moments) xs ys h beyond =
     let second : length h.0 ≡ length h.1.1.0 = ap length h.1.1.2.rest ∙ long_set h.1.1.0 m (record h.1.1.2.before { run = alone h.1.1.2.after }) in
     let less = within xs m h.1.1.1.before h.1.1.1.before_is in
     let other : (m == n) ≡ false = not_same m n (λ e. omega (arith, less, beyond, e)) in
-    ap (λ (b : Bool). (if b then event look (alone h.1.1.1.after) ∷ event follows (alone h.1.1.2.after) ∷ [] else []) ++ events_at n jobs h.0 moments ys h.2) other
+    ap (λ (b : Bool). (if b then event look (alone h.1.1.1.after) ∷ event follows (alone h.1.1.2.after) ∷ [] else [])
+    ++ events_at n jobs h.0 moments ys h.2) other
     ∙ past n jobs moments h.0 ys h.2 (omega (arith, first, second, beyond))
 
 -- ---- whose an end is
@@ -141,7 +142,8 @@ record Requested (j : TheJoinedJobs) (binding : ℕ) : Type 0 where
   binding_is : request.opening.binding ≡ binding
 
 -- a job of an end's progress is one of its end's work
-own_job : (j : TheJoinedJobs) (n : ℕ) (e : EndId) (jobs : List ℕ) (turn k : ℕ) → slice_get jobs turn ≡ Some k → (jobs ≡ []) ⊎ HasOwn j n e jobs → IsOwnJob j n e k
+own_job : (j : TheJoinedJobs) (n : ℕ) (e : EndId) (jobs : List ℕ) (turn k : ℕ) → slice_get jobs turn ≡ Some k
+    → (jobs ≡ []) ⊎ HasOwn j n e jobs → IsOwnJob j n e k
 own_job j n e jobs turn k at (inl none) = absurd (let clash : None ≡ Some k = sym (ap (λ (xs : List ℕ). slice_get xs turn) none) ∙ at in cc)
 own_job j n e jobs turn k at (inr own) = record {
   turn = turn;
@@ -240,7 +242,8 @@ module _ (l : HomeLaws) (c : TheConfig) (jobs : List Job) (limit : ℕ) (r : The
             record { place = y.place; request = y.request; job_is = y.job_is; binding_is = y.binding_is }
         requested Client q =
             let name : e ≡ client_of e.binding = ap (an_end e.binding) q in
-            let y = (l.clients j.jobs ran.core (s.wired.leading m ran.core ran.core_is) (are_staffed.beside.unused m ran.core ran.core_is) e.binding place seat.0
+            let unused = are_staffed.beside.unused m ran.core ran.core_is in
+            let y = (l.clients j.jobs ran.core (s.wired.leading m ran.core ran.core_is) unused e.binding place seat.0
             (subst (λ (f : EndId). place_of ran.core.start.core f ≡ None) name absent_first)
             (subst (λ (f : EndId). place_of ran.core.finish.core f ≡ Some place) name here_last) seat.1).2 in
             record { place = y.place; request = y.request; job_is = y.job_is; binding_is = sym (ap (λ (f : EndId). f.binding) y.name_is) }
@@ -279,7 +282,8 @@ module _ (l : HomeLaws) (c : TheConfig) (jobs : List Job) (limit : ℕ) (r : The
         by None none =
             let many = joined_long (owners_in w.ran.ran.ran.shares) 0 threads in
             let beyond = not_there threads m none in
-            ap (λ (events : List (Event TheSide)). map call_of (handled_at e (log_of events))) (past m j.jobs moments (begun w) ys h (omega (arith, many, beyond)))
+            ap (λ (events : List (Event TheSide)). map call_of (handled_at e (log_of events)))
+            (past m j.jobs moments (begun w) ys h (omega (arith, many, beyond)))
           where
             not_there : (xs : List TheCoreThread) (i : ℕ) → slice_get xs i ≡ None → length xs ≤ i
             not_there [] i q = omega arith

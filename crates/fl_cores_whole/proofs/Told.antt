@@ -187,7 +187,8 @@ module _ (e : EndId) where
     Elsewhere moments xs ys h = (m : ℕ) → m ≢ n → handled_by m moments xs ys h ≡ []
 
     -- of an event of core m that core alone has it
-    at_one : (m k : ℕ) (x : Event TheSide) (events : List (Event TheSide)) → map call_of (handled_at e (log_of ((if m == k then x ∷ [] else []) ++ events))) ≡ []
+    at_one : (m k : ℕ) (x : Event TheSide) (events : List (Event TheSide))
+        → map call_of (handled_at e (log_of ((if m == k then x ∷ [] else []) ++ events))) ≡ []
         → map call_of (handled_at e (log_of events)) ≡ []
     at_one m k x events none =
         (none_later (if m == k then logged x.log_entry else []) (map call_of (handled_at e (log_of events))) (sym (one_logged (m == k) x events) ∙ none)).1
@@ -195,7 +196,8 @@ module _ (e : EndId) where
     alike : (m : ℕ) → (m == m) ≡ true
     alike m = eq-eqb m m refl
 
-    this_one : (m : ℕ) (x : Event TheSide) (events : List (Event TheSide)) → map call_of (handled_at e (log_of ((if m == m then x ∷ [] else []) ++ events))) ≡ []
+    this_one : (m : ℕ) (x : Event TheSide) (events : List (Event TheSide))
+        → map call_of (handled_at e (log_of ((if m == m then x ∷ [] else []) ++ events))) ≡ []
         → logged x.log_entry ≡ []
     this_one m x events none =
         ap (λ (b : Bool). if b then logged x.log_entry else []) (sym (alike m))
