@@ -1,9 +1,10 @@
 //! What a run of cores left undone, from its file and its report: for each end how many calls it was to
 //! handle and how many it handled.
 
-use crate::explain::Items;
 use fl_base::Side;
-use fl_script_lines::{BackEndText, Command, EndName, Line, parse_line};
+use fl_script_lines::{
+    BackEndText, Command, EndName, NameTable, RawItem, Verb, next_part, read_command,
+};
 use std::alloc::Global;
 use std::fmt;
 use std::io::Write;
@@ -68,7 +69,11 @@ struct Made<'a> {
     is_whole: bool,
     cores: Vec<(&'a [u8], u32)>,
     services: Vec<(&'a [u8], &'a [u8])>,
+    // Each binding's name, at its place.
+    names: NameTable,
     bindings: Vec<Bound<'a>>,
+    // The place that was looked up last.
+    last: usize,
     rules: Vec<Rule<'a>>,
 }
 
@@ -85,22 +90,51 @@ impl<'a> Made<'a> {
             is_whole: true,
             cores: Vec::new(alloc),
             services: Vec::new(alloc),
+            names: NameTable::new(alloc),
             bindings: Vec::new(alloc),
+            last: 0,
             rules: Vec::new(alloc),
         }
     }
 
-    // The end's other side has one more call to handle.
-    fn add_due(&mut self, end: EndName<'_>) {
-        for binding in self.bindings.iter_mut() {
-            if binding.name == end.binding {
-                binding.due.add(other(end.side));
+    // The place of a binding's name: most lines name the binding of the line before.
+    fn find(&mut self, name: &[u8]) -> Option<usize> {
+        let place = self.names.find_near(name, self.last)?;
+        self.last = place;
+        Some(place)
+    }
+
+    // The end's other side has one more call to handle. Tells whether there is such an end.
+    fn add_due(&mut self, end: EndName<'_>) -> bool {
+        let Some(place) = self.find(end.binding) else {
+            return false;
+        };
+        if let Some(binding) = self.bindings.get_mut(place) {
+            binding.due.add(other(end.side));
+        }
+        true
+    }
+
+    // Takes up a call, where its end stands directly behind its word: of most lines no more is read. Tells whether it does.
+    fn take_call(&mut self, words: &[u8]) -> bool {
+        match end_before_blank(words) {
+            Some(end) => self.add_due(end),
+            None => false,
+        }
+    }
+
+    // Takes up a binding, and tells whether memory held it. In a file that was accepted no name is another's.
+    fn add_binding(&mut self, alloc: Global, bound: Bound<'a>) -> bool {
+        match self.names.find(bound.name) {
+            Some(_) => true,
+            None => {
+                self.names.add(alloc, bound.name).is_ok() && self.bindings.push(bound).is_ok()
             }
         }
     }
 
     // Takes up a line of the file.
-    fn take(&mut self, command: Command<'a>) {
+    fn take(&mut self, alloc: Global, command: Command<'a>) {
         let is_kept = match command {
             Command::Disp { name, core } => self.cores.push((name, core)).is_ok(),
             Command::Export {
@@ -116,8 +150,7 @@ impl<'a> Made<'a> {
                 back_end,
             } => {
                 let is_circuit = matches!(back_end, BackEndText::Hop(_));
-                let bound = Bound::new(name, client, service, is_circuit);
-                self.bindings.push(bound).is_ok()
+                self.add_binding(alloc, Bound::new(name, client, service, is_circuit))
             }
             Command::Reply {
                 end,
@@ -125,7 +158,7 @@ impl<'a> Made<'a> {
                 answer: _,
             } => self.rules.push(Rule { end, message }).is_ok(),
             Command::Call(end, _) => {
-                self.add_due(end);
+                let _is_known = self.add_due(end);
                 true
             }
             _ => true,
@@ -133,15 +166,25 @@ impl<'a> Made<'a> {
         self.is_whole = self.is_whole && is_kept;
     }
 
+    // Takes up a line that begins with this word.
+    fn take_line(&mut self, alloc: Global, verb: Verb, words: &'a [u8]) {
+        if verb == Verb::Call && self.take_call(words) {
+            return;
+        }
+        if let Some(command) = read_command(verb, words) {
+            self.take(alloc, command);
+        }
+    }
+
     // An end handled a message: a rule has it answer.
     fn handle(&mut self, end: EndName<'_>, message: &[u8]) {
-        for binding in self.bindings.iter_mut() {
-            if binding.name == end.binding {
+        if let Some(place) = self.find(end.binding) {
+            if let Some(binding) = self.bindings.get_mut(place) {
                 binding.handled.add(end.side);
             }
         }
         if self.answers(end, message) {
-            self.add_due(end);
+            let _is_known = self.add_due(end);
         }
     }
 
@@ -173,8 +216,8 @@ impl<'a> Made<'a> {
 
     // The opening of a binding was refused.
     fn refuse(&mut self, name: &[u8]) {
-        for binding in self.bindings.iter_mut() {
-            if binding.name == name {
+        if let Some(place) = self.find(name) {
+            if let Some(binding) = self.bindings.get_mut(place) {
                 binding.is_refused = true;
             }
         }
@@ -219,6 +262,22 @@ fn end_named(text: &[u8]) -> Option<EndName<'_>> {
             side: Side::Client,
         }),
         b"s" => Some(EndName {
+            binding,
+            side: Side::Server,
+        }),
+        _ => None,
+    }
+}
+
+// The end that words begin with, if a space stands behind it.
+fn end_before_blank(words: &[u8]) -> Option<EndName<'_>> {
+    let (binding, behind) = split_at_first(words, b'.');
+    match behind {
+        [b'c', b' ', ..] => Some(EndName {
+            binding,
+            side: Side::Client,
+        }),
+        [b's', b' ', ..] => Some(EndName {
             binding,
             side: Side::Server,
         }),
@@ -303,15 +362,13 @@ fn tell_binding<E: Write>(made: &Made<'_>, binding: &Bound<'_>, errors: &mut E) 
 
 fn made_by<'a>(alloc: Global, content: &'a [u8]) -> Made<'a> {
     let mut made = Made::new(alloc);
-    let mut items = Items::new(content);
-    for line in content.split_inclusive(|byte| *byte == b'\n') {
-        if let Some(item) = items.next(line) {
-            if !item.is_block {
-                if let Line::Command(command) = parse_line(item.text) {
-                    made.take(command);
-                }
-            }
+    let mut rest = content;
+    while !rest.is_empty() {
+        let (part, behind) = next_part(rest);
+        if let RawItem::Command(verb, words) = part {
+            made.take_line(alloc, verb, words);
         }
+        rest = behind;
     }
     made
 }
