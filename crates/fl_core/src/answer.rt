@@ -24,7 +24,7 @@ pub enum LinkFront {
     Acknowledged,
     /// A monitors' message, for [`Core::hear`](crate::Core::hear).
     Message(Frag),
-    /// A fragment that goes on over a link: to this side of a ring, under this circuit's number there ([`fl_hop::move_on`]).
+    /// A fragment that goes on over a link: to this side of a ring, under this circuit's number there ([`fl_hop::Circuits::move_on`]).
     Onward(Frag, usize, Circuit),
     /// A fragment for an end at this core, for [`Core::arrive`](crate::Core::arrive).
     Arrival(Frag, EndId),

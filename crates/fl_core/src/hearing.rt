@@ -148,8 +148,8 @@ fn unheard(
 }
 
 impl Core {
-    // Whether an end of the binding is made here.
-    fn has_end(&self, binding: usize) -> bool
+    /// Whether an end of the binding is at this core. Nothing is searched.
+    pub fn has_end(&self, binding: usize) -> bool
         ensures end { result ≡ has_end self.now binding }
     {
         let client = EndId {
@@ -390,7 +390,7 @@ impl Core {
         ensures takes { TakesHeard T.takes frag.now from.old result from.new }
         ensures last { IfErr result (HearsFragLast (record { names = names.now; programs = programs.now }) link frag.now self.old) }
     {
-        let message = match self.messenger.read(frag) {
+        let message = match self.monitor.read(frag) {
             Ok(message) => message,
             Err(fault) => {
                 fail(&mut self.link_sides, link);

@@ -43,14 +43,18 @@ pub struct EndPlaces {
     pub server: usize,
 }
 
-// Whether a dispatcher has places for so many more ends.
-fn has_places(board: &Board, dispatcher: usize, count: usize) -> bool
-    requires there { dispatcher < length board.now.dispatchers }
-    requires few { count < 3 }
-    ensures places { result ≡ has_places count board.now dispatcher }
-{
-    board.sound();
-    board.ends_at(dispatcher) + count <= MAX_CHANNELS
+impl Board {
+    /// Whether a dispatcher has places for so many more ends; where there is no such dispatcher, it hasn't.
+    pub fn has_places(&self, dispatcher: usize, count: usize) -> bool
+        requires few { count < 3 }
+        ensures places { result ≡ has_places count self.now dispatcher }
+    {
+        if dispatcher >= self.dispatchers() {
+            return false;
+        }
+        self.sound();
+        self.ends_at(dispatcher) + count <= MAX_CHANNELS
+    }
 }
 
 // Whether there are places for an end at each of two dispatchers.
@@ -60,9 +64,9 @@ fn has_both_places(board: &Board, one: usize, other: usize) -> bool
     ensures places { result ≡ has_both_places board.now one other }
 {
     if one == other {
-        has_places(board, one, 2)
+        board.has_places(one, 2)
     } else {
-        has_places(board, one, 1) && has_places(board, other, 1)
+        board.has_places(one, 1) && board.has_places(other, 1)
     }
 }
 

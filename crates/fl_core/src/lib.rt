@@ -14,7 +14,7 @@
 //! is refused the core is as it was.
 //!
 //! A fragment that stands first on a link is forwarded in two steps: [`Core::look`] says what it needs; then
-//! it is passed on by [`fl_hop::move_on`], arrives for an end ([`Core::arrive`]), or is heard by the monitor
+//! it is passed on by [`fl_hop::Circuits::move_on`], arrives for an end ([`Core::arrive`]), or is heard by the monitor
 //! ([`Core::hear`]).
 //!
 //! Below the core stands its [`Board`]: the dispatchers, each with three lists of channels, and their ends,

@@ -12,7 +12,7 @@ use crate::places::{NAMES, place_in};
 use crate::wiring::{ArrivalPlace, EndWiring, Inlet, LinkSide, Outlet, WiredEnd};
 use fl_base::{CoreId, EndId, LinkId};
 use fl_link::QueueLink;
-use fl_monitor::{Messenger, Monitor};
+use fl_monitor::Monitor;
 use std::alloc::{AllocError, Global};
 use std::marker::Model;
 
@@ -25,7 +25,6 @@ pub struct Core {
     pub(crate) alloc: Global,
     pub(crate) board: Board,
     pub(crate) monitor: Monitor,
-    pub(crate) messenger: Messenger,
     pub(crate) wired_ends: Vec<WiredEnd>,
     pub(crate) places: Vec<Option<usize>>,
     pub(crate) link_sides: Vec<LinkSide>,
@@ -91,13 +90,11 @@ impl Core {
         ensures empty { IfOk result (λ k. k ≡ fresh_core core.0) }
     {
         let monitor = Monitor::new(alloc, core)?;
-        let messenger = Messenger::new(alloc)?;
         let places = vec![in alloc; None; NAMES]?;
         Ok(Core {
             alloc,
             board: Board::new(alloc),
             monitor,
-            messenger,
             wired_ends: Vec::new(alloc),
             places,
             link_sides: Vec::new(alloc),

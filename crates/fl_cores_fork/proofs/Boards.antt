@@ -17,7 +17,6 @@ use Rattle.fl_core.specs.declared.one_board.Board as BoardCode
 use Rattle.fl_core.specs.contracts.one_board.Board
 use Rattle.fl_core.specs.contracts.one_board.Board.TheInside as BoardInside
 use Rattle.fl_link.specs.contracts.queue.QueueLink
-use Rattle.fl_monitor.specs.contracts.messenger.Messenger
 use Rattle.fl_monitor.specs.contracts.monitor.Monitor
 use Rattle.fl_core.specs.View.{TheCore}
 use Rattle.fl_core.specs.declared.one_core.Core as CoreCode
@@ -59,8 +58,8 @@ board_inside end calls = recorded_send (BoardInside.the_field).row _ _ (BoardIns
 pub board_sends : IsSend End.the_row → IsSend Reassemblies.the_row → IsSend Board.the_row
 board_sends end calls = view_send BoardInside.the_row TheBoard BoardCode.the_code Board.the_view Board.the_invariant (board_inside end calls)
 
-core_inside : IsSend Board.the_row → IsSend Monitor.the_row → IsSend Messenger.the_row → IsSend QueueLink.the_row → IsSend CoreInside.the_row
-core_inside board monitor messenger queue = recorded_send (CoreInside.the_field).row _ _ (CoreInside.the_type).to_one
+core_inside : IsSend Board.the_row → IsSend Monitor.the_row → IsSend QueueLink.the_row → IsSend CoreInside.the_row
+core_inside board monitor queue = recorded_send (CoreInside.the_field).row _ _ (CoreInside.the_type).to_one
     (struct_send (shape CoreInside.the_type) (
       search (sendable, crosses) depth 20,
       (
@@ -68,17 +67,14 @@ core_inside board monitor messenger queue = recorded_send (CoreInside.the_field)
         (
           monitor,
           (
-            messenger,
+            search (sendable, crosses, wired_end.the_send) depth 40,
             (
-              search (sendable, crosses, wired_end.the_send) depth 40,
+              search (sendable, crosses) depth 40,
               (
-                search (sendable, crosses) depth 40,
+                search (sendable, crosses, link_side.the_send) depth 40,
                 (
-                  search (sendable, crosses, link_side.the_send) depth 40,
-                  (
-                    search (sendable, crosses, queue) depth 40,
-                    tt,
-                  ),
+                  search (sendable, crosses, queue) depth 40,
+                  tt,
                 ),
               ),
             ),
@@ -87,5 +83,5 @@ core_inside board monitor messenger queue = recorded_send (CoreInside.the_field)
       ),
     ))
 
-pub core_sends : IsSend Board.the_row → IsSend Monitor.the_row → IsSend Messenger.the_row → IsSend QueueLink.the_row → IsSend Core.the_row
-core_sends board monitor messenger queue = view_send CoreInside.the_row TheCore CoreCode.the_code Core.the_view Core.the_invariant (core_inside board monitor messenger queue)
+pub core_sends : IsSend Board.the_row → IsSend Monitor.the_row → IsSend QueueLink.the_row → IsSend Core.the_row
+core_sends board monitor queue = view_send CoreInside.the_row TheCore CoreCode.the_code Core.the_view Core.the_invariant (core_inside board monitor queue)

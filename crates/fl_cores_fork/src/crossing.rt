@@ -97,7 +97,6 @@ fn core_sent()
 {
     board_sent();
     monitor_sent();
-    messenger_sent();
     queue_sent();
 }
 

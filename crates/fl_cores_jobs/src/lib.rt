@@ -14,7 +14,7 @@
 //!
 //! - `whole.rt`: the jobs of a whole file
 //! - `joining.rt`: one job more
-//! - `opening.rt`: what a ask for a circuit comes to
+//! - `opening.rt`: what a request for a circuit comes to
 //! - `rules.rt`: reply rules that are set at once
 //! - `due.rt`: how many calls are due
 //! - `end_work.rt`: bindings and ends' work

@@ -1,4 +1,4 @@
-//! What a ask for a circuit comes to.
+//! What a request for a circuit comes to.
 
 ghost use Rattle.std.specs.Prelude.{◌≡◌, ◌<◌, length, None, IfOk, IfErr, OnOk};
 ghost use Rattle.fl_monitor.specs.Monitors.{first_link};

@@ -3,6 +3,5 @@ pub mod Cursor
 pub mod Looks
 pub mod Calls
 pub mod Queue
-pub mod Pass
 pub mod Faults
 pub mod Laws

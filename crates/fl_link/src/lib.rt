@@ -11,7 +11,6 @@
 //! - `sides.rt`: the traits
 //! - `queue.rt`: `QueueLink`, the queue within a core or of a link with one owner
 //! - `cursor.rt`: `Cursor`, an index that goes round a ring, and the last index
-//! - `passing.rt`: a fragment passed on from one link to another
 //! - `fault.rt`: why a put or a making is refused
 //! - `law.rt`: what holds of looks in a row, and of a queue over them
 #![tactic(auto)]
@@ -19,13 +18,11 @@
 mod cursor;
 mod fault;
 mod law;
-mod passing;
 mod queue;
 mod sides;
 
 pub use cursor::{Cursor, SPENT};
 pub use fault::{LinkFault, PutFault};
 pub use law::{law_calls_alone, law_filters_join, law_looks_join, law_queue_conserves};
-pub use passing::{Passed, pass};
 pub use queue::QueueLink;
 pub use sides::{Link, PutSide, Sight, TakeSide, Told};

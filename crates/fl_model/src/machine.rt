@@ -15,7 +15,7 @@ use std::alloc::{AllocError, Global};
 
 /// A system that does what the machine does.
 ///
-/// Its relation `shows` says of which of the machine's states it is the what is shown.
+/// Its relation `shows` says which of the machine's states it shows.
 pub trait Machine {
     ghost shows: { Self → State → Type 0 };
 

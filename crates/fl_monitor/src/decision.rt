@@ -21,9 +21,9 @@ pub struct OpeningFacts {
     pub has_place: bool,
 }
 
-/// Where an opening goes from here.
+/// Where an opening goes from here, as `specs/Fates.antt` decides.
 #[derive(Clone, Copy)]
-pub(crate) enum OpeningDecision {
+pub enum OpeningDecision {
     /// On over a link, under a number there.
     GoesOn(LinkId, Circuit),
     /// To this dispatcher.

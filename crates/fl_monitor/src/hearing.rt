@@ -22,9 +22,11 @@ use fl_nameserv::Names;
 
 /// What is to be said, and on which link.
 #[derive(Clone, Copy)]
-pub(crate) struct LinkMessage {
-    pub(crate) link: LinkId,
-    pub(crate) message: MonitorMessage,
+pub struct LinkMessage {
+    /// The link to the neighbour that is to hear it.
+    pub link: LinkId,
+    /// What it is to hear.
+    pub message: MonitorMessage,
 }
 
 // What an opening comes to, by its fate.

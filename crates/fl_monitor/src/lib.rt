@@ -41,10 +41,10 @@ mod path;
 mod routing;
 mod tape;
 
-pub use decision::OpeningFacts;
+pub use decision::{OpeningDecision, OpeningFacts};
 pub use fault::MonitorFault;
 pub use heard::MessageOutcome;
-pub use hearing::circuit_in;
+pub use hearing::{LinkMessage, circuit_in};
 pub use law::{
     law_epochs_say_nothing, law_messages_are_calls, law_one_fragment, law_one_message,
     law_one_outcome, law_one_reason, law_outboxes_say_messages, law_stands_alone,

@@ -1,6 +1,6 @@
 //! The part of a core that opens circuits.
 
-ghost use Rattle.std.specs.Prelude.{◌≡◌, ◌≢◌, ◌++◌, ◌∷◌, [], true, false, None, Some, length, slice_get, option_map};
+ghost use Rattle.std.specs.Prelude.{◌≡◌, ◌≢◌, ◌++◌, ◌∷◌, [], true, false, None, Some, Ok, length, slice_get, option_map};
 ghost use Rattle.std.specs.Prelude.{IfOk, IfErr, IfSome, IfNone, OnOk, OnErr};
 ghost use Rattle.fl_hop.specs.Table.{with_link, link_fault};
 ghost use Rattle.fl_hop.specs.Openings.{IsRefusal, open_fault};
@@ -9,12 +9,14 @@ ghost use Rattle.fl_hop.specs.Numbers.{next_own};
 ghost use Rattle.fl_base.specs.declared.identity.LinkId.{LinkId};
 ghost use Rattle.fl_base.specs.declared.identity.CoreId.{CoreId};
 ghost use Rattle.fl_base.specs.Control.{bare, is_ack_only};
+ghost use Rattle.fl_monitor.specs.declared.message.MonitorMessage.{MonitorMessage};
 ghost use Rattle.fl_monitor.specs.Outboxes.{IsFragOf};
 ghost use Rattle.fl_monitor.specs.Monitors.{TheMonitor, fresh_monitor, HasOutboxes, with_new_link, IsLinked, can_say, IsQueuedMessage};
 ghost use Rattle.fl_monitor.specs.Monitors.{Hears, wanted, first_link, MayOpen};
 ghost use Rattle.fl_monitor.specs.Monitors.{asks, RefusesOpening, Opens, waiting_for, without_first};
 ghost use Rattle.fl_monitor.specs.Monitors.{MayStart, RefusesStart, MayHear, NotHeard};
 ghost use Rattle.fl_monitor.specs.Hearing.{GoesOnNext};
+ghost use Rattle.fl_monitor.specs.Saying.{Says, Refuses};
 
 use crate::decision::OpeningFacts;
 use crate::fault::MonitorFault;
@@ -23,18 +25,20 @@ use crate::hearing::{LinkMessage, change, comes_to, says};
 use crate::message::MonitorMessage;
 use crate::messenger::Messenger;
 use crate::opening::Opening;
-use crate::outbox::Outbox;
+use crate::outbox::{MAX_WAITING, Outbox};
 use crate::routing::is_route;
 use fl_base::{Circuit, CoreId, Frag, LinkId};
 use fl_compile::Program;
 use fl_hop::{Circuits, HopFault, MAX_LINKS};
 use fl_nameserv::Names;
+use fl_wire::WireFault;
 use std::alloc::{AllocError, Global};
 use std::marker::Model;
 
 /// One core's monitor: it opens circuits with the monitors of the cores to which this one has links.
 ///
-/// Contracts see its table of circuits, and by link the fragments that wait there.
+/// It has the compiled stubs of the monitors' interface, by which it reads and writes messages. Contracts see its table of
+/// circuits, and by link the fragments that wait there.
 #[derive(Drop)]
 pub struct Monitor {
     alloc: Global,
@@ -51,16 +55,6 @@ impl Model for Monitor {
     ghost view = { λ m. record { circuits = m.circuits; outboxes = m.outboxes.items } };
 
     ghost invariant = { λ m. HasOutboxes (record { circuits = m.circuits; outboxes = m.outboxes.items }) };
-}
-
-// Whether a link's outbox has room.
-fn can_say(outboxes: &[Outbox], link: LinkId) -> bool
-    ensures can { result ≡ can_say outboxes.now link.0 }
-{
-    match outboxes.get(usize::from(link.0)) {
-        Some(outbox) => outbox.waiting() < 64,
-        None => false,
-    }
 }
 
 // Puts a message's fragment last into a link's outbox, which has room.
@@ -115,6 +109,16 @@ impl Monitor {
         ensures none { IfNone result (slice_get self.now.outboxes link.0 ≡ None) }
     {
         self.outboxes.get(usize::from(link.0))
+    }
+
+    /// Whether one message more may wait to be sent over a link: fewer than 64 wait there. Where there is no such link, none may.
+    pub fn has_room(&self, link: LinkId) -> bool
+        ensures room { result ≡ can_say self.now.outboxes link.0 }
+    {
+        match self.outboxes.get(usize::from(link.0)) {
+            Some(outbox) => outbox.waiting() < MAX_WAITING,
+            None => false,
+        }
     }
 
     /// Whether a link to another core may be added. Takes no memory.
@@ -203,7 +207,7 @@ impl Monitor {
         ensures refused { IfErr result (RefusesStart link opening.now self.now) }
     {
         let circuit = next_for(&self.circuits, link, opening.binding as usize)?;
-        if !can_say(&self.outboxes, link) {
+        if !self.has_room(link) {
             return Err(MonitorFault::OutboxFull);
         }
         Ok(circuit)
@@ -232,6 +236,19 @@ impl Monitor {
         Ok(circuit)
     }
 
+    /// The message that a fragment says, whatever its epoch and the count that it tells: [`Messenger::read`]. Takes no memory.
+    ///
+    /// # Errors
+    /// The first fault of a fragment that says none (E60, E62, E63, E66). The fragment can be read again then.
+    pub fn read(&mut self, frag: &Frag) -> Result<MonitorMessage, WireFault>
+        ensures says { IfOk result (λ m. Says frag.now m) }
+        ensures refused { IfErr result (λ fault. Refuses frag.now fault) }
+        ensures back { (m : MonitorMessage) → Says frag.now m → result ≡ Ok m }
+        ensures kept { self.new ≡ self.old }
+    {
+        self.messenger.read(frag)
+    }
+
     /// What [`Monitor::on_message`] makes of a message, memory aside. Takes no memory.
     ///
     /// # Errors
@@ -252,7 +269,7 @@ impl Monitor {
         };
         match says(link, message, heard) {
             Some(saying) => {
-                if !can_say(&self.outboxes, saying.link) {
+                if !self.has_room(saying.link) {
                     return Err(MonitorFault::OutboxFull);
                 }
                 Ok(heard)
@@ -297,7 +314,7 @@ impl Monitor {
         }
     }
 
-    /// The fragment that is sent next over a link; `None` where nothing waits there. A link carries it is.
+    /// The fragment that is sent next over a link; `None` where nothing waits there. A link carries it as it is.
     pub fn next_out(&self, link: LinkId) -> Option<Frag>
         ensures next { result ≡ slice_get (waiting_for self.now.outboxes link.0) 0 }
         ensures data { IfSome result (λ f. is_ack_only f ≡ false) }

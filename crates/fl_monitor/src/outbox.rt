@@ -17,7 +17,7 @@ pub const MAX_WAITING: usize = 64;
 /// The messages that a monitor is to send over one link, as fragments: what is sent then takes no memory.
 ///
 /// Contracts see the list of the fragments, the first to be sent first. They say one list of messages
-/// ([`outboxes_say_messages`](crate::outboxes_say_messages)).
+/// ([`law_outboxes_say_messages`](crate::law_outboxes_say_messages)).
 #[derive(Drop)]
 pub struct Outbox {
     frags: VecDeque<Frag>,
@@ -105,7 +105,7 @@ impl Outbox {
         }
     }
 
-    /// The fragment that is sent next; none where nothing waits. A link carries it is.
+    /// The fragment that is sent next; none where nothing waits. A link carries it as it is.
     pub fn next_out(&self) -> Option<Frag>
         ensures next { result ≡ slice_get self.now 0 }
         ensures data { IfSome result (λ f. is_ack_only f ≡ false) }

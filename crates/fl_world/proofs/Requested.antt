@@ -19,11 +19,13 @@ use Rattle.fl_world_refines.specs.declared.binding.Binding.{Binding}
 use Rattle.fl_world_refines.specs.View.{Given, If, TheWorld, has_dispatcher}
 use Rattle.fl_world_refines.specs.Binding.{BindingRequest, HasEndOf, has_places, BindsBy, wanted_from}
 use Rattle.fl_world.specs.declared.binding.BindRequest.{BindRequest}
-use Rattle.fl_world_events.specs.Requests.{has_end_in, HasDispatcher, places_in}
+use Rattle.fl_core.specs.Making.{has_places as has_places_on}
+use Rattle.fl_core.specs.Hearing.{has_end}
+use Rattle.fl_world_events.specs.Requests.{HasDispatcher}
 use Rattle.fl_world_events.specs.Requests.{IsNewEndOf}
 use Rattle.fl_world.specs.Requests.{request, IsRequest, IsOnly, has_end_of, IsNewAt, both_places, IsCopyOf, IsNewEnd}
 use Rattle.fl_world_events.proofs.Lifts.{stands}
-use Rattle.fl_world_events.proofs.Requested.{at_place}
+use Rattle.fl_core.proofs.Room.{at_place}
 
 -- ---- tests
 
@@ -56,19 +58,19 @@ given_some Otherwise Then (Some y) x h t = subst Then (sym (same_Some y x h)) t
 pub end_there : (n core : ℕ) (w : TheWorld) → has_end_of n core w ≡ true → HasEndOf n core w
 end_there n core w h = by (slice_get w.cores core) refl h
   where
-    by : (o : Option TheCore) → slice_get w.cores core ≡ o → given o false (has_end_in n) ≡ true → HasEndOf n core w
+    by : (o : Option TheCore) → slice_get w.cores core ≡ o → given o false (λ k. has_end k n) ≡ true → HasEndOf n core w
     by None is e = absurd (cc)
     by (Some k) is e = (k, is, or_cases (is_some (place_of k (client_of n))) (is_some (place_of k (server_of n))) e)
 
 pub none_there : (n core : ℕ) (w : TheWorld) → has_end_of n core w ≡ false → IsNewAt n core w
 none_there n core w h k is =
-    let here : has_end_in n k ≡ false = subst (λ (o : Option TheCore). given o false (has_end_in n) ≡ false) is h in
+    let here : has_end k n ≡ false = subst (λ (o : Option TheCore). given o false (λ k. has_end k n) ≡ false) is h in
     let both = or_false (is_some (place_of k (client_of n))) (is_some (place_of k (server_of n))) here in
     record { client = is_none (place_of k (client_of n)) both.0; server = is_none (place_of k (server_of n)) both.1 }
 
 -- ---- places at dispatchers
 
-pub no_places : (b : TheBoard) (n more : ℕ) → length b.dispatchers ≤ n → false ≡ places_in b n more
+pub no_places : (b : TheBoard) (n more : ℕ) → length b.dispatchers ≤ n → false ≡ has_places_on more b n
 no_places b n more past = sym (ap (λ (o : Option TheDispatcher). given o false (λ d. nat_le (length d.ends + more) 1024)) (slice_get_past b.dispatchers n past))
 
 -- a dispatcher that has places is there
@@ -80,7 +82,7 @@ with_places d n w h = by (slice_get w.cores d.core) refl h
     on_board k is None at e = absurd (cc)
     on_board k is (Some x) at e = record { core = k; core_is = is; there = slice_get_within k.board.dispatchers d.place x at }
 
-    by : (o : Option TheCore) → slice_get w.cores d.core ≡ o → given o false (λ k. places_in k.board d.place n) ≡ true → HasDispatcher w.cores d
+    by : (o : Option TheCore) → slice_get w.cores d.core ≡ o → given o false (λ k. has_places_on n k.board d.place) ≡ true → HasDispatcher w.cores d
     by None is e = absurd (cc)
     by (Some k) is e = on_board k is (slice_get k.board.dispatchers d.place) refl e
 

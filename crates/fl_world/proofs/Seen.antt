@@ -5,11 +5,12 @@ use Rattle.std.proofs.lemmas.Option.{slice_get_past}
 use Rattle.fl_base.specs.Given.{given}
 use Rattle.fl_core.specs.BoardView.{TheBoard, due}
 use Rattle.fl_core.specs.View.{TheCore}
+use Rattle.fl_core.specs.Making.{has_places as has_places_on}
+use Rattle.fl_core.specs.Hearing.{has_end}
 use Rattle.fl_model.specs.Events.{DispatcherId}
 use Rattle.fl_world_refines.specs.View.{TheWorld, has_dispatcher}
 use Rattle.fl_world_refines.specs.Taking.{due_at}
 use Rattle.fl_world_refines.specs.Binding.{has_places}
-use Rattle.fl_world_events.specs.Requests.{has_end_in, places_in}
 use Rattle.fl_world_events.proofs.Lifts.{stands}
 use Rattle.fl_world.specs.Requests.{has_end_of}
 
@@ -30,10 +31,10 @@ unseen {X} w base same list xs lent n past =
 -- ---- an end at a core
 
 pub no_end_at : (n core : ℕ) (w : TheWorld) → slice_get w.cores core ≡ None → false ≡ has_end_of n core w
-no_end_at n core w none = sym (ap (λ (o : Option TheCore). given o false (has_end_in n)) none)
+no_end_at n core w none = sym (ap (λ (o : Option TheCore). given o false (λ k. has_end k n)) none)
 
-pub end_at : (n core : ℕ) (w : TheWorld) (k : TheCore) → slice_get w.cores core ≡ Some k → (b : Bool) → b ≡ has_end_in n k → b ≡ has_end_of n core w
-end_at n core w k is b has = has ∙ sym (ap (λ (o : Option TheCore). given o false (has_end_in n)) is)
+pub end_at : (n core : ℕ) (w : TheWorld) (k : TheCore) → slice_get w.cores core ≡ Some k → (b : Bool) → b ≡ has_end k n → b ≡ has_end_of n core w
+end_at n core w k is b has = has ∙ sym (ap (λ (o : Option TheCore). given o false (λ k. has_end k n)) is)
 
 -- ---- a dispatcher, where its core isn't there
 
@@ -42,7 +43,7 @@ module _ (w : TheWorld) (d : DispatcherId) (none : slice_get w.cores d.core ≡ 
   no_dispatcher_at = sym (ap (λ (o : Option TheCore). given o false (λ k. nat_lt d.place (length k.board.dispatchers))) none)
 
   pub no_places_at : (n : ℕ) → false ≡ has_places d n w
-  no_places_at n = sym (ap (λ (o : Option TheCore). given o false (λ k. places_in k.board d.place n)) none)
+  no_places_at n = sym (ap (λ (o : Option TheCore). given o false (λ k. has_places_on n k.board d.place)) none)
 
 -- ---- and where it is
 
@@ -60,9 +61,9 @@ module _ (w : TheWorld) (d : DispatcherId) (k : TheCore) (is : slice_get w.cores
     pub dispatcher_below : d.place < n → d.place < length k.board.dispatchers
     dispatcher_below there = subst (λ (x : ℕ). d.place < x) (all ∙ ap (λ (b : TheBoard). length b.dispatchers) same) there
 
-  pub places_at : (n : ℕ) (board : TheBoard) → board ≡ k.board → (b : Bool) → b ≡ places_in board d.place n → b ≡ has_places d n w
+  pub places_at : (n : ℕ) (board : TheBoard) → board ≡ k.board → (b : Bool) → b ≡ has_places_on n board d.place → b ≡ has_places d n w
   places_at n board same b h =
-      h ∙ ap (λ (x : TheBoard). places_in x d.place n) same ∙ sym (ap (λ (o : Option TheCore). given o false (λ c. places_in c.board d.place n)) is)
+      h ∙ ap (λ (x : TheBoard). has_places_on n x d.place) same ∙ sym (ap (λ (o : Option TheCore). given o false (λ c. has_places_on n c.board d.place)) is)
 
   pub due_is_at : due_at w d ≡ due k.board d.place
   due_is_at = ap (λ (o : Option TheCore). given o None (λ c. due c.board d.place)) is

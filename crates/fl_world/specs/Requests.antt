@@ -6,6 +6,7 @@ use Rattle.fl_compile.specs.declared.program.Program.{Program}
 use Rattle.fl_compile.specs.Programs.{program_of}
 use Rattle.fl_endpoint.specs.View.{TheEnd, fresh}
 use Rattle.fl_core.specs.View.{TheCore}
+use Rattle.fl_core.specs.Hearing.{has_end}
 use Rattle.fl_model.specs.Events.{DispatcherId, Kind, Answer}
 use Rattle.fl_model.specs.Binding.{same_dispatcher}
 use Rattle.fl_model.specs.Views.{id_of}
@@ -13,7 +14,7 @@ use Rattle.fl_world_refines.specs.View.{TheWorld}
 use Rattle.fl_world_refines.specs.Lending.{Refuses}
 use Rattle.fl_world_refines.specs.Binding.{BindingRequest, has_places, BindsBy, named_request, Binds}
 use Rattle.fl_world.specs.declared.binding.BindRequest.{BindRequest}
-use Rattle.fl_world_events.specs.Requests.{IsNewIn, has_end_in}
+use Rattle.fl_world_events.specs.Requests.{IsNewIn}
 
 -- what is asked for, with the program of its interface
 abbrev pub request : BindRequest → Program → BindingRequest
@@ -37,7 +38,7 @@ IsOnly client i name w x = (kind : Kind) (a : Answer) (w2 : TheWorld) → Binds 
 -- ---- ends that are there
 
 abbrev pub has_end_of : ℕ → ℕ → TheWorld → Bool
-has_end_of n core w = given (slice_get w.cores core) false (has_end_in n)
+has_end_of n core w = given (slice_get w.cores core) false λ k. has_end k n
 
 abbrev pub IsNewAt : ℕ → ℕ → TheWorld → Type 0
 IsNewAt n core w = (k : TheCore) → slice_get w.cores core ≡ Some k → IsNewIn n k

@@ -12,7 +12,7 @@ ghost use Rattle.fl_world.specs.Requests.{IsNewEnd};
 use crate::world::World;
 use fl_base::{IRef, MAX_BINDINGS, faults};
 use fl_model::{Answer, BackEnd, DispatcherId};
-use fl_world_events::{NewEnds, has_end, has_places, new_ends};
+use fl_world_events::{NewEnds, new_ends};
 use std::alloc::AllocError;
 
 /// What is asked for, once its names are known.
@@ -35,7 +35,7 @@ impl World {
     {
         match self.cores.get(core) {
             None => false,
-            Some(core) => has_end(core, binding),
+            Some(core) => core.has_end(binding),
         }
     }
 
@@ -46,7 +46,7 @@ impl World {
     {
         match self.cores.get(d.core as usize) {
             None => false,
-            Some(core) => has_places(core.board(), d.place, count),
+            Some(core) => core.board().has_places(d.place, count),
         }
     }
 

@@ -19,6 +19,7 @@ use Rattle.fl_core.specs.declared.board_fault.BoardFault.TheVariants as board
 use Rattle.fl_core.specs.declared.fault.OpenFault.{OpenFault}
 use Rattle.fl_core.specs.declared.fault.OpenFault.TheVariants as fault
 use Rattle.fl_core.specs.Faults.{open_number}
+use Rattle.fl_core.specs.Hearing.{has_end}
 use Rattle.fl_core.specs.Making.{RefusesOpen}
 use Rattle.fl_core.proofs.Begun.{refused_open}
 use Rattle.fl_monitor.specs.declared.fault.MonitorFault.TheVariants as monitor
@@ -30,7 +31,7 @@ use Rattle.fl_world_refines.specs.Sending.{IsCalled}
 use Rattle.fl_world_refines.specs.View.{IsWhole}
 use Rattle.fl_world_events.specs.declared.by_route.CircuitBinding.{CircuitBinding}
 use Rattle.fl_world_events.specs.declared.by_route.OpenOutcome.TheVariants as begun
-use Rattle.fl_world_events.specs.Requests.{has_end_in, HasDispatcher}
+use Rattle.fl_world_events.specs.Requests.{HasDispatcher}
 use Rattle.fl_world_events.specs.Routes.{IsNumberOf, IsAt, IsAnsweredIn, OpensOver}
 use Rattle.fl_world_events.proofs.Lifts.{stands}
 use Rattle.fl_world_events.specs.Last.{NotRefused}
@@ -105,7 +106,7 @@ set_same : (cores : List TheCore) (n : ℕ) (k : TheCore) → slice_get cores n 
 set_same cores n k is = ap (slice_set cores n) (sym (get_or_from_slice_get cores n k k is)) ∙ set-get_or cores n k
 
 -- an end of the binding is there already
-pub answered_there : (place : ℕ) (l : LinkId) (o : Opening) (k : TheCore) → IsWhole k → has_end_in o.binding k ≡ true → IsAnsweredIn place l o nothing k
+pub answered_there : (place : ℕ) (l : LinkId) (o : Opening) (k : TheCore) → IsWhole k → has_end k o.binding ≡ true → IsAnsweredIn place l o nothing k
 answered_there place l o k whole there = record {
   outcome = begun.There;
   begins = λ p. record { whole = whole; still = whole; event = (there, refl) };

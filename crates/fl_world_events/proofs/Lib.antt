@@ -5,7 +5,6 @@ pub mod Unturned
 pub mod Makes
 pub mod Following
 pub mod Splitting
-pub mod Requested
 pub mod RingEnds
 pub mod Queued
 pub mod Routes

@@ -19,7 +19,7 @@ use Rattle.fl_world_events.specs.declared.by_route.OpenOutcome.{OpenOutcome}
 use Rattle.fl_world_events.specs.declared.by_route.CircuitBinding.{CircuitBinding}
 use Rattle.fl_world_events.specs.declared.by_route.OpenOutcome.TheVariants as begun
 use Rattle.fl_world_events.specs.Parts.{InCore}
-use Rattle.fl_world_events.specs.Requests.{has_end_in}
+use Rattle.fl_core.specs.Hearing.{has_end}
 
 -- ---- at a core
 
@@ -31,7 +31,7 @@ IsNumberOf other n = n ≡ open_number other
 
 -- what a core makes of an opening
 abbrev pub BeginsIn : Asked → OpenOutcome → TheCore → TheCore → Type 0
-BeginsIn a begun.There k k2 = (has_end_in a.opening.binding k ≡ true) × (k2 ≡ k)
+BeginsIn a begun.There k k2 = (has_end k a.opening.binding ≡ true) × (k2 ≡ k)
 BeginsIn a (begun.Refused n) k k2 = (f : OpenFault) × Asks a k (Err f) k2 × IsNumberOf f n
 BeginsIn a begun.Waits k k2 = (e : ℕ) × Asks a k (Ok e) k2
 

@@ -1,11 +1,10 @@
-//! What each of the three ways to join two ends looks at first, at a core; and the two ends.
+//! The two ends of a binding that joins them at once, over queues or a ring.
 
-ghost use Rattle.std.specs.Prelude.{◌≡◌, ◌<◌, IfOk};
-ghost use Rattle.fl_world_events.specs.Requests.{has_end_in, places_in, IsNewEndOf};
+ghost use Rattle.std.specs.Prelude.{◌≡◌, IfOk};
+ghost use Rattle.fl_world_events.specs.Requests.{IsNewEndOf};
 
-use fl_base::{Circuit, EndId, MAX_CHANNELS, Side};
+use fl_base::Circuit;
 use fl_compile::Program;
-use fl_core::{Board, Core};
 use fl_endpoint::End;
 use std::alloc::{AllocError, Global};
 
@@ -16,33 +15,6 @@ pub struct NewEnds {
     pub client: End,
     /// The server's end.
     pub server: End,
-}
-
-/// Whether an end of a binding is at a core.
-pub fn has_end(core: &Core, binding: usize) -> bool
-    ensures has { result ≡ has_end_in binding core.now }
-{
-    let client = EndId {
-        binding,
-        side: Side::Client,
-    };
-    let server = EndId {
-        binding,
-        side: Side::Server,
-    };
-    core.place(client).is_some() || core.place(server).is_some()
-}
-
-/// Whether a dispatcher of a board has places for so many ends more.
-pub fn has_places(board: &Board, place: usize, count: usize) -> bool
-    requires few { count < 3 }
-    ensures places { result ≡ places_in board.now place count }
-{
-    if place >= board.dispatchers() {
-        return false;
-    }
-    board.sound();
-    board.ends_at(place) + count <= MAX_CHANNELS
 }
 
 // A new end with a copy of a program; it is bound.

@@ -19,7 +19,6 @@ ghost use Rattle.fl_world_events.specs.Requests.{HasDispatcher};
 ghost use Rattle.fl_world_events.specs.Routes.{IsNumberOf, BeginsIn, AtOne, BeginsWith, IsUnmade, Follows, OpensOver};
 ghost use Rattle.fl_world_events.specs.Routes.{IsAt, IsAnsweredIn};
 
-use crate::binding::has_end;
 use crate::lending::whole;
 use fl_base::{CoreId, LinkId};
 use fl_compile::Program;
@@ -135,7 +134,7 @@ fn answer_in(core: &Core, dispatcher: usize, link: LinkId, opening: &Opening) ->
     ensures may { IfNone result (MayOpenAt dispatcher link opening.now core.now) }
 {
     whole(core);
-    if has_end(core, opening.binding as usize) {
+    if core.has_end(opening.binding as usize) {
         return Some(Answer::Nothing);
     }
     match core.may_open(dispatcher, link, opening) {
@@ -172,7 +171,7 @@ fn open_in(
     ensures kept { OnErr result (core.new ≡ core.old) }
 {
     whole(core);
-    if has_end(core, opening.binding as usize) {
+    if core.has_end(opening.binding as usize) {
         return Ok(OpenOutcome::There);
     }
     let outcome = core.open(dispatcher, program, link, opening);

@@ -22,7 +22,7 @@ pub fn ring_at(n: usize) -> usize
     n / 2
 }
 
-/// WhichSide of its ring's two sides is side n.
+/// Which of its ring's two sides is side n.
 #[inline(always)]
 pub fn which_at(n: usize) -> WhichSide
     ensures which { result ≡ which_at n }

@@ -12,8 +12,8 @@
 //! - `moving.rt`: what stands first on a link is looked at, and moves
 //! - `forwarding.rt`: what was seen there is followed
 //! - `making.rt`: cores, and links between two
-//! - `binding.rt`: what is looked at before a binding is made; `by_queues.rt`, `by_ring.rt` and `by_route.rt`: the
-//!   three ways to make one
+//! - `binding.rt`: a binding's two ends; `by_queues.rt`, `by_ring.rt` and `by_route.rt`: the
+//!   three ways to make a binding
 #![tactic(auto)]
 
 mod binding;
@@ -29,7 +29,7 @@ mod places;
 mod sending;
 mod taking;
 
-pub use binding::{NewEnds, has_end, has_places, new_ends};
+pub use binding::{NewEnds, new_ends};
 pub use by_queues::{join_at, new_queue, push_both};
 pub use by_ring::{NewRingEnd, join_parts};
 pub use by_route::{

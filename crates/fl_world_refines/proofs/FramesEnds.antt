@@ -1,4 +1,4 @@
--- Where an end of a world is changed, or its direction, or its route, all other parts of the what is shown stay.
+-- Where an end of a world is changed, or its direction, or its route, all other parts of what is shown stay.
 use Rattle.std.proofs.Common.{◌≡◌, ◌≢◌, refl, sym, ◌∙◌, ap, subst, ℕ, List, length, slice_get, slice_set, Some, None, ◌⊎◌, inl, inr}
 use Rattle.fl_base.specs.declared.identity.Side.{Side}
 use Rattle.fl_base.specs.declared.identity.Side.TheVariants.{Client, Server}

@@ -1,4 +1,4 @@
--- An answer that a circuit is open comes to its client's end, which is bound and registered: the what is shown goes on.
+-- An answer that a circuit is open comes to its client's end, which is bound and registered: the world goes on showing the machine's state.
 use Rattle.std.proofs.Common.{◌≡◌, refl, sym, ◌∙◌, ap, subst, ℕ, zero, suc, ◌+◌, ◌<◌, ◌≤◌, ◌||◌, Bool, true, false, if◌then◌else◌, nat_lt, List, [], map, drop, length, slice_get, slice_set, Option, Some, None, Result, Ok, arith}
 use Rattle.std.specs.Prelude.{is_some, IsSome}
 use Rattle.std.proofs.lemmas.List.{append-nil}

@@ -1,4 +1,4 @@
--- The server's end of a circuit comes to its dispatcher, as it was kept: the what is shown goes on.
+-- The server's end of a circuit comes to its dispatcher, as it was kept: the world goes on showing the machine's state.
 use Rattle.std.proofs.Common.{◌≡◌, ◌≢◌, refl, sym, ◌∙◌, ap, subst, ℕ, ◌⊎◌, inl, inr, [], ◌∷◌, ◌++◌, length, slice_get, slice_set, Some, None, arith}
 use Rattle.fl_base.specs.declared.identity.EndId.{EndId}
 use Rattle.fl_base.specs.declared.identity.LinkId.{LinkId}

@@ -65,7 +65,7 @@ queued_rules f x = by_given (λ (y : End). y.rules ≡ x.rules) x.queue x (λ q.
 queued_out : (f : Queue → Queue) (x : End) → (in_queue f x).out ≡ x.out
 queued_out f x = by_given (λ (y : End). y.out ≡ x.out) x.queue x (λ q. record x { queue = Some (f q) }) refl (λ q r. refl)
 
--- the what is shown with the queue that is lent changed is one of which the turn goes on
+-- what is shown once the queue that is lent has changed, from which the turn goes on
 queue_sided : (w : TheWorld) (s : State) (d : DispatcherId) (c place : ℕ) (e : EndId) (u : DueAt w s d c place e) (v : TheWorld) (core : TheCore)
     → ShowsState v (change_end e (in_queue without_first) s) → slice_get v.cores d.core ≡ Some core → core.board ≡ u.at.core.board → place_of core e ≡ Some place
     → Sided w s d c place e u v (change_end e (in_queue without_first) s) core

@@ -1,4 +1,4 @@
--- Turns: what a turn of a dispatcher changes, and how the what is shown goes on: the side that is lent, the dispatcher's lists, and the two ends.
+-- Turns: what a turn of a dispatcher changes, and how the world goes on showing the machine's state: the side that is lent, the dispatcher's lists, and the two ends.
 use Rattle.std.proofs.Common.{◌≡◌, refl, sym, ◌∙◌, ap, subst, ℕ, zero, suc, ◌+◌, ◌-◌, ◌≤◌, Bool, true, false, nat_lt, if◌then◌else◌, List, [], ◌∷◌, ◌++◌, length, map, drop, slice_get, slice_set, slice_index, Option, Some, None, is_some, arith}
 use Rattle.fl_base.specs.declared.identity.EndId.{EndId}
 use Rattle.fl_base.specs.Ends.{other, peer}

@@ -233,7 +233,7 @@ pub by_given : {X Y : Type 0} (P : Y → Type 0) (o : Option X) (y : Y) (f : X �
 by_given P None y f h g = h
 by_given P (Some x) y f h g = g x refl
 
--- the machine's dispatcher of which this one is the what is shown
+-- the machine's dispatcher that this one shows
 pub dispatcher_shown : (w : TheWorld) (s : State) (d : DispatcherId) (c : TheCore) (there : TheDispatcher) → ShowsState w s → slice_get w.cores d.core ≡ Some c
     → slice_get c.board.dispatchers d.place ≡ Some there → (x : Dispatcher) × (dispatcher_of s d ≡ Some x) × DispatcherShows c x there
 dispatcher_shown w s d c there h p q =

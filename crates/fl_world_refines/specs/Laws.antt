@@ -24,7 +24,7 @@ use Rattle.fl_world_refines.specs.Taking.{HasTurn, Acknowledges, RegistersChanne
 use Rattle.fl_world_refines.specs.Linking.{WritesMessage, AcksLink, Forwards}
 use Rattle.fl_world_refines.specs.Step.{Steps, fresh_world}
 
--- the answer is the machine's, and so is the state of which the world is the what is shown
+-- the answer is the machine's, and so is the state that the world shows
 pub record Agrees (o : StepOutcome) (a : Answer) (w : TheWorld) : Type 0 where
   pub answer : o.answer ≡ a
   pub showing : ShowsState w o.state

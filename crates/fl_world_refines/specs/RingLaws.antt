@@ -164,7 +164,7 @@ QueueTakeShows = (streams : Streams) (q : Queue) (s t : TheQueue) (look : Look)
 
 -- ---- new rings and queues
 
--- a new ring and a new queue are the what is shown of the machine's, whatever they will carry
+-- a new ring and a new queue show the machine's, whatever they will carry
 pub record NewShow : Type 0 where
   pub ring : (streams : Streams) (size : ℕ) → RingShows streams (fresh_ring size) (record { size = size; one = new_half; two = new_half })
   pub queue : (streams : Streams) (capacity : ℕ)

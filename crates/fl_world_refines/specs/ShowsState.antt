@@ -187,7 +187,7 @@ pub record ShowsState (w : TheWorld) (s : State) : Type 0 where
   pub bindings : BindingsShow w s
   pub ends : EndsShow w s
 
--- a world shows a sound state of which it is the what is shown
+-- a world shows a sound state
 pub record Shows (w : TheWorld) (s : State) : Type 0 where
   pub sound : Sound s
   pub showing : ShowsState w s

@@ -20,12 +20,12 @@ pub fn law_fresh_shows()
     ensures shows { FreshShows }
 {}
 
-/// An end that is bound is what is shown of the machine's end bound to that circuit.
+/// An end that is bound shows the machine's end bound to that circuit.
 pub fn law_bound_shows()
     ensures shows { BoundShows }
 {}
 
-/// A call is accepted or refused as the machine does, for the first of its reasons, and the what is shown goes on.
+/// A call is accepted or refused as in the machine, for the first of its reasons, and the end goes on showing the machine's.
 pub fn law_call_shows()
     ensures shows { CallShows }
 {}
@@ -35,14 +35,14 @@ pub fn law_next_shows()
     ensures shows { NextShows }
 {}
 
-/// A write puts the machine's next fragment, answers its numbers, and the what is shown goes on; or it finds no room, or nothing
-/// to write, where the machine does.
+/// A write puts the machine's next fragment, answers its numbers, and the end goes on showing the machine's; or it finds no room,
+/// or nothing to write, where the machine does.
 pub fn law_write_shows<P: PutSide>()
     ensures shows { WriteShows P.puts }
 {}
 
 /// The fragment next in turn of the other end's calls is never refused. It makes a call whole exactly where it does in the
-/// machine, with the reply by rule, and the what is shown goes on.
+/// machine, with the reply by rule, and the end goes on showing the machine's.
 pub fn law_take_shows()
     ensures shows { TakeShows }
 {

@@ -1,4 +1,5 @@
-//! What ends of a world are asked: each comes to what it comes to in the machine, and the what is shown goes on.
+//! What ends of a world are asked: each comes to what it comes to in the machine, and the world goes on showing the machine's
+//! state.
 
 ghost use Rattle.fl_world_refines.specs.Laws.{CallsAgree, PreviewsAgree, AcknowledgesAgree, RegistersAgree, DeregistersAgree, RepliesAgree};
 

@@ -12,13 +12,13 @@ ghost use Rattle.fl_world_refines.specs.RingLaws.{
 };
 
 /// A put of a label's fragment at a side of a ring finds room exactly where the machine does, once it has looked where it must,
-/// and the what is shown goes on.
+/// and the ring goes on showing the machine's.
 pub fn law_ring_puts()
     ensures shows { RingPuts }
 {}
 
 /// A look, a take or a tell at a side of a ring finds the machine's first label, tells where the machine acknowledges, and the
-/// what is shown goes on.
+/// ring goes on showing the machine's.
 pub fn law_ring_takes()
     ensures shows { RingTakes }
 {}
@@ -33,17 +33,18 @@ pub fn law_looks_once()
     ensures once { LooksOnce }
 {}
 
-/// A put of a label's fragment into a queue finds room exactly where the machine does, and the what is shown goes on.
+/// A put of a label's fragment into a queue finds room exactly where the machine does, and the queue goes on showing the
+/// machine's.
 pub fn law_queue_puts()
     ensures shows { QueuePutShows }
 {}
 
-/// A look or a take at a queue finds the machine's first label, and the what is shown goes on.
+/// A look or a take at a queue finds the machine's first label, and the queue goes on showing the machine's.
 pub fn law_queue_takes()
     ensures shows { QueueTakeShows }
 {}
 
-/// What is shown of rings and queues stay so while ends accept more calls.
+/// Rings and queues go on showing the machine's while ends accept more calls.
 pub fn law_showings_go_on()
     ensures still { ShowingsGoOn }
 {}

@@ -4,7 +4,7 @@ ghost use Rattle.std.specs.Prelude.{◌≡◌, false};
 ghost use Rattle.fl_base.specs.Control.{is_ack_only};
 
 use fl_base::Frag;
-use fl_link::{Link, Passed, PutFault, PutSide, Sight, TakeSide, Told, pass};
+use fl_link::{Link, PutFault, PutSide, Sight, TakeSide, Told};
 
 /// The only fragment of `ping(v)`, message 0 of its interface.
 pub fn ping(v: u64) -> Frag
@@ -66,7 +66,28 @@ pub fn answers<L: Link>(link: &mut L, step: LinkCall) -> bool {
     }
 }
 
-/// Passes a fragment on between any two sides.
+/// What became of a fragment that was to go from one side to another.
+#[derive(Clone, Copy, PartialEq, Eq)]
+pub enum Passed {
+    Moved,
+    Acknowledged,
+    Nothing,
+    NotPut,
+}
+
+/// Passes the first fragment on between any two sides: one that isn't put stays.
 pub fn pass_on<T: TakeSide, P: PutSide>(from: &mut T, to: &mut P) -> Passed {
-    pass(from, to)
+    let frag = match from.peek() {
+        Sight::Empty => return Passed::Nothing,
+        Sight::Acknowledgement => {
+            let _ = from.take();
+            return Passed::Acknowledged;
+        }
+        Sight::Data(frag) => frag,
+    };
+    if to.put(&frag).is_err() {
+        return Passed::NotPut;
+    }
+    let _ = from.take();
+    Passed::Moved
 }

@@ -1,11 +1,11 @@
 //! Worked examples: queues that fill, and a fragment passed on.
 
 use crate::examples::LinksExample;
-use crate::ring::fragments::{LinkCall, answers, fill, pass_on};
+use crate::ring::fragments::{LinkCall, Passed, answers, fill, pass_on};
 use crate::rows::{LinkCase, all_hold};
 use fl_base::Frag;
 use fl_link::{
-    Cursor, Passed, PutFault, PutSide, QueueLink, Sight, Told, law_calls_alone, law_filters_join,
+    Cursor, PutFault, PutSide, QueueLink, Sight, Told, law_calls_alone, law_filters_join,
     law_looks_join, law_queue_conserves,
 };
 use std::alloc::Global;
@@ -139,7 +139,7 @@ fn moves_one(from: &mut QueueLink, to: &mut QueueLink) -> bool {
     pass_on(from, to) == Passed::Nothing
         && fill(from, 5) == 4
         && pass_on(from, to) == Passed::Moved
-        && pass_on(from, to) == Passed::Full
+        && pass_on(from, to) == Passed::NotPut
         && follows(
             to,
             &[

@@ -6,10 +6,10 @@ ghost use Rattle.fl_link.specs.Looks.{placed, peeked, taken};
 ghost use Rattle.fl_ring.specs.Duo.{DuoPuts, DuoTakes};
 
 use crate::examples::LinksExample;
-use crate::ring::fragments::{LinkCall, answers, fill, pass_on, ping, sight_of};
+use crate::ring::fragments::{LinkCall, Passed, answers, fill, pass_on, ping, sight_of};
 use crate::rows::{LinkCase, all_hold};
 use fl_base::Frag;
-use fl_link::{Link, Passed, PutFault, PutSide, QueueLink, Sight, TakeSide, Told};
+use fl_link::{Link, PutFault, PutSide, QueueLink, Sight, TakeSide, Told};
 use fl_ring::{
     OneDuo, OneRing, WhichSide, count_from, law_duo_conserves, law_forgets_looks,
     law_ring_conserves,

@@ -3,9 +3,9 @@
 ghost use Rattle.std.specs.Prelude.{◌≡◌, ◌≤◌, ◌^◌};
 
 use crate::examples::LinksExample;
-use crate::ring::fragments::{LinkCall, answers, pass_on, ping, sight_of};
+use crate::ring::fragments::{LinkCall, Passed, answers, pass_on, ping, sight_of};
 use crate::rows::all_hold;
-use fl_link::{Passed, PutFault, Sight, Told};
+use fl_link::{PutFault, Sight, Told};
 use fl_ring::{
     RingFault, RingRx, RingTx, SharedSide, WhichSide, duo, duo_from, law_receiver_conserves,
     law_sender_conserves, law_side_conserves, ring, settle, settle_duo,

@@ -3,5 +3,5 @@ use Rattle.fl_cores_fork.proofs.crossing.core_sent.Goals as goal
 
 pub returns : goal.returns
 returns c = record {
-  sent = core_sends c.board_sent.ensures.sent c.monitor_sent.ensures.sent c.messenger_sent.ensures.sent c.queue_sent.ensures.sent;
+  sent = core_sends c.board_sent.ensures.sent c.monitor_sent.ensures.sent c.queue_sent.ensures.sent;
 }

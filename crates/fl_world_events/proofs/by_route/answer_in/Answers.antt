@@ -6,7 +6,7 @@ use Rattle.fl_world_events.proofs.by_route.answer_in.Goals as goal
 
 pub returns-then-has_end : goal.returns-then-has_end
 returns-then-has_end c = record {
-  answer = answered_there c.args.dispatcher c.args.link c.args.opening.now c.args.core.now c.whole.ensures.whole (sym c.has_end.ensures.has ∙ c.if-has_end.true);
+  answer = answered_there c.args.dispatcher c.args.link c.args.opening.now c.args.core.now c.whole.ensures.whole (sym c.has_end.ensures.end ∙ c.if-has_end.true);
   may = tt;
 }
 

@@ -22,7 +22,7 @@ returns-in-Some c =
     let core : slice_get c.args.self.now.cores c.args.core ≡ Some c.in-Some.core.now
     = seen c.args.self.now _ c.self.view_is (λ (x : TheWorld). x.cores) c.deref.result.now c.deref.ensures.value c.args.core c.in-Some.core.now
     c.in-Some.ensures.lookup.3.0 c.in-Some.ensures.lookup.1 in
-    let has = end_at c.args.binding c.args.core c.args.self.now c.in-Some.core.now core c.has_end.result c.has_end.ensures.has in
+    let has = end_at c.args.binding c.args.core c.args.self.now c.in-Some.core.now core c.has_end.result c.has_end.ensures.end in
     record {
       has = has;
       there = λ e. end_there c.args.binding c.args.core c.args.self.now (sym has ∙ e);
