@@ -1,11 +1,5 @@
 -- Turns add up, and what is told of them.
-use Rattle.std.proofs.Common.{◌≡◌, refl, sym, ap, ◌∙◌, ℕ, zero, suc, subst, List, Some, Result, Ok}
-use Rattle.std.specs.declared.alloc.AllocError.{AllocError}
-use Rattle.fl_base.specs.declared.identity.EndId.{EndId}
-use Rattle.fl_core.specs.declared.turn_answer.TurnAnswer.{TurnAnswer}
-use Rattle.fl_core.specs.BoardView.{due}
-use Rattle.fl_core.specs.declared.wiring.Inlet.{Inlet}
-use Rattle.fl_core.specs.View.{place_of}
+use Rattle.std.proofs.Common.{◌≡◌, refl, sym, ap, ◌∙◌, ℕ, zero, suc, subst, List}
 use Rattle.fl_cores_table.specs.Counter.{with_finish, with_seen}
 use Rattle.fl_cores_table.specs.Seats.{TheCoresSeat, knowing}
 use Rattle.fl_core.specs.declared.core_job.CoreJob.{CoreJob}
@@ -15,7 +9,6 @@ use Rattle.fl_core_run.specs.declared.run.RunEnd.TheVariants.{Finished, Unfinish
 use Rattle.fl_core_run.specs.declared.run.Part.{Part}
 use Rattle.fl_core_run.specs.declared.opening_status.OpeningStatus.{OpeningStatus}
 use Rattle.fl_core_run.specs.Run.{SideRelations, TheRun}
-use Rattle.fl_core_run.specs.LogEntries.{dispatcher_turn, TurnsOver, turned, Does}
 use Rattle.fl_core_run.specs.Turn.{OneTurn}
 use Rattle.fl_core_run.specs.OpeningStatus.{SaidNothing, stock}
 use Rattle.fl_core_run.specs.Ran.{RunTask, RunMoment, moment, Counted, TellsEnd, SomeTurns, HaveEnded, GoesOn, CoreRan}
@@ -37,12 +30,6 @@ seen_stored v u count same = ap (λ (x : TheCoresSeat). x.knows.stored) same
 
 pub seen_heard : (v u : TheCoresSeat) (count : ℕ) → u ≡ knowing v (with_seen v.knows count) → u.knows.heard ≡ v.knows.heard
 seen_heard v u count same = ap (λ (x : TheCoresSeat). x.knows.heard) same
-
--- a turn that was answered
-pub turn_done : {S : Type 0} (w : SideRelations S) (d e : ℕ) (name : EndId) (from : Inlet) (result : Result TurnAnswer AllocError) (answer : TurnAnswer) (s t : TheRun S)
-    → TurnsOver w (dispatcher_turn d e result) from s t → result ≡ Ok answer → place_of s.core name ≡ Some e → due s.core.board d ≡ Some e → Does w (turned d name from answer) s t
-turn_done w d e name from result answer s t turns is place due_is =
-    (e, place, due_is, subst (λ (r : Result TurnAnswer AllocError). TurnsOver w (dispatcher_turn d e r) from s t) is turns)
 
 -- a core that saw that another stopped
 pub ran_told : {S : Type 0} (w : SideRelations S) (t : RunTask) (a b : RunMoment S) (part : Part) → Counted w t a part b → part.end ≡ Told → CoreRan w t a part b

@@ -10,6 +10,8 @@ use Rattle.fl_core.specs.declared.answer.LinkFront.{LinkFront}
 use Rattle.fl_core.specs.declared.answer.LinkFront.TheVariants.{Message}
 use Rattle.fl_core.specs.declared.answer.MonitorWrite.{MonitorWrite}
 use Rattle.fl_core.specs.declared.fault.LinkReceiveFault.{LinkReceiveFault}
+use Rattle.fl_core.specs.declared.fault.LinkReceiveFault.TheVariants.{Memory}
+use Rattle.fl_core.specs.Hearing.{HearsFragLast}
 use Rattle.fl_core.specs.View.{TheCore, place_of}
 use Rattle.fl_core.specs.Ends.{at_side}
 use Rattle.fl_core.specs.Links.{MonitorWrites, LooksAhead}
@@ -45,7 +47,9 @@ module _ {S : Type 0} (w : SideRelations S) (s : TheRun S) (n : ℕ) (p q : S) (
     forwarded t link_side hands_out = subst (λ (o : Option ℕ). ForwardsOver w l o s t) link_side
         (found, record s { core = k; rings = slice_set s.rings n q }, (record s { core = k; rings = slice_set s.rings n q }, looks, refl, sound, tt), hands_out)
 
-    pub left : (t : TheRun S) → Some n ≡ lent_link_side s l → ((frag : Frag) × (found ≡ Ok (Message frag)) × (t ≡ record s { core = k; rings = slice_set s.rings n q })) → LeavesMessage w l s t
+    pub left : (t : TheRun S) → Some n ≡ lent_link_side s l
+        → ((frag : Frag) × (found ≡ Ok (Message frag)) × (t ≡ record s { core = k; rings = slice_set s.rings n q }) × HearsFragLast s.offers l frag k Memory)
+        → LeavesMessage w l s t
     left t link_side h = record {
       side = n;
       link_side = sym link_side;
@@ -53,4 +57,5 @@ module _ {S : Type 0} (w : SideRelations S) (s : TheRun S) (n : ℕ) (p q : S) (
       looks = subst (λ (x : TheRun S). Happens w (looked n l (Ok (Message h.0))) s x) (sym h.2)
           (subst (λ (f : Result LinkFront LinkReceiveFault). Happens w (looked n l f) s (record s { core = k; rings = slice_set s.rings n q })) h.1
           (record s { core = k; rings = slice_set s.rings n q }, looks, refl, sound, tt));
+      hears = subst (λ (x : TheRun S). HearsFragLast x.offers l h.0 x.core Memory) (sym h.2) h.3;
     }

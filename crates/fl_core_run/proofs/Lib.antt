@@ -9,6 +9,7 @@ pub mod Idle
 pub mod Turning
 pub mod Copying
 pub mod Counted
+pub mod Wanting
 pub mod Stopping
 pub mod Writing
 pub mod Sounding

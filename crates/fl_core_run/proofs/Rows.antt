@@ -1,8 +1,8 @@
 -- Steps in a row, one for each thing of a list.
-use Rattle.std.proofs.Common.{◌≡◌, refl, subst, ℕ, suc, ◌+◌, ◌<◌, ◌≤◌, List, length, slice_get, slice_index_or, Some, arith}
+use Rattle.std.proofs.Common.{◌≡◌, subst, ℕ, suc, ◌+◌, ◌<◌, ◌≤◌, List, length, slice_index_or, arith}
 use Rattle.std.proofs.lemmas.Option.{slice_get-get_or}
-use Rattle.fl_core_run.specs.Turn.{Swept, At, ForEach}
-use Rattle.fl_core_run.specs.Stops.{StopsIn, StopsAmong}
+use Rattle.fl_core_run.specs.Turn.{Swept, At}
+use Rattle.fl_core_run.specs.Stops.{StopsAmong}
 
 pub one_more : {S : Type 0} (step : ℕ → S → S → Type 0) (n : ℕ) (s m t : S) → Swept step n s m → step n m t → Swept step (n + 1) s t
 one_more step n s m t before h = let e : suc n ≡ n + 1 = omega arith in subst (λ (k : ℕ). Swept step k s t) e (m, before, h)

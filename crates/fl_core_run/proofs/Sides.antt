@@ -3,7 +3,7 @@ use Rattle.std.proofs.Common.{◌≡◌, refl, ap, ◌∙◌, ℕ, ◌<◌, true
 use Rattle.std.proofs.lemmas.Option.{slice_get_read}
 use Rattle.fl_base.specs.declared.fragment.Frag.{Frag}
 use Rattle.fl_base.specs.declared.identity.LinkId.{LinkId}
-use Rattle.std.specs.Prelude.{OnOk}
+use Rattle.std.specs.Prelude.{OnOk, IfErr}
 use Rattle.fl_base.specs.Control.{bare}
 use Rattle.fl_link.specs.Looks.{Look, placed, no_room, spent}
 use Rattle.fl_link.specs.declared.fault.PutFault.{PutFault}
@@ -41,6 +41,15 @@ unheard takes o l frag k k2 p q (Err fault.Misrouted) is hears takes_heard = abs
 unheard takes o l frag k k2 p q (Err fault.Marked) is hears takes_heard = absurd (cc)
 unheard takes o l frag k k2 p q (Err (fault.Wire wrong)) is hears takes_heard = absurd (cc)
 unheard takes o l frag k k2 p q (Ok told) is hears takes_heard = absurd (cc)
+
+-- and it would be heard, and something is said then
+pub unheard_last : (P : LinkReceiveFault → Type 0) (answer : Result MonitorAnswer LinkReceiveFault) → lacks_to_hear answer ≡ true → IfErr answer P → P fault.Memory
+unheard_last P (Err fault.Memory) is h = h
+unheard_last P (Err fault.Failed) is h = absurd (cc)
+unheard_last P (Err fault.Misrouted) is h = absurd (cc)
+unheard_last P (Err fault.Marked) is h = absurd (cc)
+unheard_last P (Err (fault.Wire wrong)) is h = absurd (cc)
+unheard_last P (Ok told) is h = absurd (cc)
 
 -- what a put came to
 pub put_by : {S : Type 0} (puts : S → Look → S → Type 0) (frag : Frag) (p q : S) (result : Result (Unit {0}) PutFault) → OnOk result (puts p (placed (bare frag)) q)

@@ -22,6 +22,7 @@ use Rattle.fl_core_run.specs.Turn.{Swept, ForEach, OneTurn}
 use Rattle.fl_core_run.specs.Ran.{RunTask, RunMoment, CountedTurn, Counted}
 use Rattle.fl_core_run.specs.Stops.{LeavesJob, LeavesCall, LeavesTurn, StopsIn, StopsAmong, PartOfTurn, in_serves, in_turns, StopsInTurn}
 use Rattle.fl_core_run.proofs.Counted.{are_turns, turns_of}
+use Rattle.fl_core_run.proofs.Wanting.{handles}
 
 pub on_err : {T E P : Type 0} (r : Result T E) → P → OnErr r P
 on_err (Ok x) p = tt
@@ -60,7 +61,15 @@ module _ {S : Type 0} (w : SideRelations S) (jobs : List CoreJob) (d : ℕ) (nam
       subst (λ (o : Option LentTakeEnd). TurnsAt w jobs d o s t) due_is (name, name_is, subst (λ (c : Bool). TurnsIf w c (due_turn d name at) s t) is h)
 
   pub left_turn : awaits jobs s name ≡ false → LeavesCall w d name at s t → LeavesTurn w jobs d s t
-  left_turn ready leaves = record { due = at; due_is = sym due_is; name = name; name_is = name_is; ready = ready; leaves = leaves }
+  left_turn ready leaves = record {
+    due = at;
+    due_is = sym due_is;
+    name = name;
+    name_is = name_is;
+    ready = ready;
+    leaves = leaves;
+    handles = handles w d name at s t name_is leaves;
+  }
 
 -- ---- a part of a turn
 
@@ -73,8 +82,8 @@ module _ {S : Type 0} (w : SideRelations S) (plan : TurnPlan) (jobs : List CoreJ
   says_by : ForEach plan.links.items (Says w) m n
   says_by = subst (λ (xs : List LinkId). ForEach xs (Says w) m n) b says
 
-  pub serving : (t : TheRun S) → StopsAmong ends (Serves w jobs) LeavesJob n t → PartOfTurn w plan jobs s t
-  serving t stops = in_serves m n forwards_by says_by (subst (λ (xs : List EndId). StopsAmong xs (Serves w jobs) LeavesJob n t) e stops)
+  pub serving : (t : TheRun S) → StopsAmong ends (Serves w jobs) (LeavesJob jobs) n t → PartOfTurn w plan jobs s t
+  serving t stops = in_serves m n forwards_by says_by (subst (λ (xs : List EndId). StopsAmong xs (Serves w jobs) (LeavesJob jobs) n t) e stops)
 
   pub turning : (served t : TheRun S) → ForEach ends (Serves w jobs) n served → StopsIn (TakesTurn w jobs) (LeavesTurn w jobs) plan.dispatchers served t
       → PartOfTurn w plan jobs s t

@@ -1,5 +1,5 @@
 -- A turn over the side that its end takes from.
-use Rattle.std.proofs.Common.{◌≡◌, refl, sym, subst, ℕ, ◌<◌, true, length, slice_set, slice_index_or, Result}
+use Rattle.std.proofs.Common.{◌≡◌, refl, sym, ap, subst, ℕ, ◌<◌, true, length, slice_set, slice_index_or, Result}
 use Rattle.std.proofs.lemmas.Option.{slice_get_read}
 use Rattle.std.proofs.lemmas.Bool.{ltb-true}
 use Rattle.std.specs.declared.alloc.AllocError.{AllocError}
@@ -7,11 +7,17 @@ use Rattle.fl_link.specs.Queue.{TheQueue, QueueTakes}
 use Rattle.fl_core.specs.declared.turn_answer.TurnAnswer.{TurnAnswer}
 use Rattle.fl_core.specs.BoardTurns.{Turns, over}
 use Rattle.fl_core.specs.declared.wiring.Inlet.{Inlet}
-use Rattle.fl_core.specs.declared.wiring.Inlet.TheVariants.{Queue, Side}
+use Rattle.fl_core.specs.declared.wiring.Inlet.TheVariants.{Queue, Side, Arrivals}
 use Rattle.fl_core.specs.View.{TheCore}
 use Rattle.fl_core.specs.Ends.{OnBoard}
 use Rattle.fl_core_run.specs.Run.{SideRelations, TheRun, lends_in}
-use Rattle.fl_core_run.specs.LogEntries.{dispatcher_turn, TurnsOver}
+use Rattle.fl_core_run.specs.LogEntries.{DispatcherTurn, dispatcher_turn, TurnsOver}
+
+-- it leaves ends' progress
+pub same_progresses : {S : Type 0} (w : SideRelations S) (x : DispatcherTurn) (i : Inlet) (s t : TheRun S) → TurnsOver w x i s t → t.progresses ≡ s.progresses
+same_progresses {S} w x (Queue n) s t h = ap (λ (r : TheRun S). r.progresses) h.rest
+same_progresses {S} w x (Side n) s t h = ap (λ (r : TheRun S). r.progresses) h.rest
+same_progresses {S} w x Arrivals s t h = ap (λ (r : TheRun S). r.progresses) h.rest
 
 pub over_queue : {S : Type 0} (w : SideRelations S) (d e n : ℕ) (i : Inlet) (answer : Result TurnAnswer AllocError) (s : TheRun S) (k2 : TheCore) (p q : TheQueue)
     → i ≡ Queue n → lends_in s i ≡ true → p ≡ slice_index_or s.queues n p → OnBoard s.core (λ b c. Turns QueueTakes d e (over b p) answer (over c q)) k2

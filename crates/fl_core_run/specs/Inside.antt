@@ -1,5 +1,5 @@
 -- A working file, on which no public promise rests by itself.
-use Rattle.std.specs.Prelude.{ℕ, ◌≡◌, ◌<◌, false, List, length, slice_get, Option, Some, None, Result, Ok, Err}
+use Rattle.std.specs.Prelude.{ℕ, ◌≡◌, ◌<◌, false, List, length, slice_get, Option, Some, None, IfSome, Result, Ok, Err}
 use Rattle.fl_base.specs.declared.identity.EndId.{EndId}
 use Rattle.fl_base.specs.declared.fragment.Frag.{Frag}
 use Rattle.fl_base.specs.Control.{is_ack_only, with_circuit, bare}
@@ -9,6 +9,7 @@ use Rattle.fl_link.specs.declared.fault.PutFault.TheVariants.{Full, Spent}
 use Rattle.fl_core.specs.declared.answer.LinkFront.{LinkFront}
 use Rattle.fl_core.specs.declared.answer.LinkFront.TheVariants.{Message, Onward, Arrival}
 use Rattle.fl_core.specs.declared.fault.LinkReceiveFault.{LinkReceiveFault}
+use Rattle.fl_core.specs.View.{TheCore, place_of}
 use Rattle.fl_core_run.specs.EndProgress.{TheEndProgress, progress_place}
 use Rattle.fl_core_run.specs.Run.{SideRelations, TheRun}
 
@@ -23,13 +24,25 @@ Foresees w n (Ok (Onward frag to c)) s = Fronts w n frag s × (is_ack_only (with
 Foresees w n (Ok (Arrival frag e)) s = Fronts w n frag s × (is_ack_only (with_circuit 0 frag) ≡ false)
 Foresees w n found s = Unit {0}
 
--- the end's progress of this end, if it has one, has a job left
+-- ---- an end that was found once
+
+-- the end's progress at this place, if there is one, has a job left
 abbrev pub HasLeft : List TheEndProgress → Option ℕ → Type 0
 HasLeft progresses None = Unit {0}
-HasLeft progresses (Some n) = (d : TheEndProgress) → slice_get progresses n ≡ Some d → d.done < length d.jobs
+HasLeft progresses (Some n) = (d : TheEndProgress) × (slice_get progresses n ≡ Some d) × (d.done < length d.jobs)
 
-abbrev pub HasNext : {S : Type 0} → EndId → TheRun S → Type 0
-HasNext name s = HasLeft s.progresses (progress_place s.progresses name)
+-- this is so of whatever end has its progress at this place, or none
+abbrev pub OfProgress : {S : Type 0} → Option ℕ → TheRun S → (EndId → Type 0) → Type 0
+OfProgress place s Fact = (name : EndId) → progress_place s.progresses name ≡ place → Fact name
+
+-- of whatever end is at this place of the core, or isn't there
+abbrev pub OfPlace : {S : Type 0} → Option ℕ → TheRun S → (EndId → Type 0) → Type 0
+OfPlace place s Fact = (name : EndId) → place_of s.core name ≡ place → Fact name
+
+-- this is the place of an end at a core, or it isn't there
+pub record IsPlaceOf (k : TheCore) (name : EndId) (place : Option ℕ) : Type 0 where
+  pub is : place_of k name ≡ place
+  pub within : IfSome place (λ e. e < length k.board.seats)
 
 -- what a put of a fragment came to
 abbrev pub put_label : Frag → Result (Unit {0}) PutFault → Look

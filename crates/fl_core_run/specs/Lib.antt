@@ -8,6 +8,7 @@ pub mod OpeningStatus
 pub mod Finished
 pub mod Accepted
 pub mod Ran
+pub mod Wants
 pub mod Stops
 pub mod Single
 -- This one only the proofs need.

@@ -60,13 +60,17 @@ pub record AtProgress {S : Type 0} (e : EndId) (change : TheEndProgress → TheE
   pub changes : ChangesIf (progress_place s.progresses e) s.progresses change t.progresses
   pub rest : t ≡ record s { progresses = t.progresses }
 
--- the job that is next at an end, if one is left
-abbrev pub next_job : {S : Type 0} → List CoreJob → TheRun S → EndId → Option CoreJob
-next_job jobs s e =
-    given (progress_place s.progresses e) None λ n.
+-- the job that is next by the end's progress at a place, if there is one and a job is left
+abbrev pub next_at : {S : Type 0} → List CoreJob → TheRun S → Option ℕ → Option CoreJob
+next_at jobs s place =
+    given place None λ n.
     given (slice_get s.progresses n) None λ progress.
-    given (slice_get progress.jobs progress.done) None λ place.
-    slice_get jobs place
+    given (slice_get progress.jobs progress.done) None λ job.
+    slice_get jobs job
+
+-- the one that is next at an end
+abbrev pub next_job : {S : Type 0} → List CoreJob → TheRun S → EndId → Option CoreJob
+next_job jobs s e = next_at jobs s (progress_place s.progresses e)
 
 -- ---- what is lent
 
@@ -83,12 +87,15 @@ lends_in s (inlet.Queue n) = nat_lt n (length s.queues)
 lends_in s (inlet.Side n) = nat_lt n (length s.rings)
 lends_in s inlet.Arrivals = true
 
--- the place of an end and where it puts, where the end is at this core and that is lent
-abbrev pub lent_post : {S : Type 0} → TheRun S → EndId → Option LentPutEnd
-lent_post s name =
-    given (place_of s.core name) None λ e.
+-- where the end at a place puts, where that is lent
+abbrev pub lent_post_at : {S : Type 0} → TheRun S → ℕ → Option LentPutEnd
+lent_post_at s e =
     given (outlet_of s.core e) None λ out.
     if lends_out s out then Some (record { end = e; outlet = out }) else None
+
+-- the same of an end, where it is at this core
+abbrev pub lent_post : {S : Type 0} → TheRun S → EndId → Option LentPutEnd
+lent_post s name = given (place_of s.core name) None λ e. lent_post_at s e
 
 -- the place of the end at which a dispatcher's turn looks, and where that takes, where one is due and that is lent
 abbrev pub lent_due : {S : Type 0} → TheRun S → ℕ → Option LentTakeEnd

@@ -1,5 +1,5 @@
 -- How far a turn came to which memory was refused, and a core's run with it. All before is whole and in its order; at most one thing
--- was under way then, and that is told.
+-- was under way then, and that is told, and with it that memory was wanted there.
 use Rattle.std.specs.Prelude.{ℕ, ◌≡◌, ◌⊎◌, ◌<◌, false, List, length, Some, Ok, Err}
 use Rattle.std.specs.declared.alloc.AllocError.{AllocError}
 use Rattle.fl_base.specs.declared.fragment.Frag.{Frag}
@@ -8,27 +8,32 @@ use Rattle.fl_base.specs.declared.identity.LinkId.{LinkId}
 use Rattle.fl_value_data.specs.declared.value.Call.{Call}
 use Rattle.fl_core.specs.declared.turn_answer.TurnAnswer.TheVariants.{Handle}
 use Rattle.fl_core.specs.declared.answer.LinkFront.TheVariants.{Message}
+use Rattle.fl_core.specs.declared.fault.LinkReceiveFault.TheVariants.{Memory}
+use Rattle.fl_core.specs.Hearing.{HearsFragLast}
 use Rattle.fl_core.specs.View.{place_of}
 use Rattle.fl_core.specs.declared.core_job.CoreJob.{CoreJob}
 use Rattle.fl_core_run.specs.declared.lent.LentTakeEnd.{LentTakeEnd}
 use Rattle.fl_core_run.specs.declared.plan.TurnPlan.{TurnPlan}
-use Rattle.fl_core_run.specs.Run.{SideRelations, TheRun, lent_link_side, lent_due}
+use Rattle.fl_core_run.specs.Run.{SideRelations, TheRun, next_job, lent_link_side, lent_due}
 use Rattle.fl_core_run.specs.LogEntries.{looked, turned, dispatcher_turn, TurnsOver, Does, Happens}
 use Rattle.fl_core_run.specs.Steps.{Forwards, Says, Serves, awaits, TakesTurn}
 use Rattle.fl_core_run.specs.Turn.{Swept, At, ForEach, Turned}
+use Rattle.fl_core_run.specs.Wants.{DoesJob, HandlesCall}
 
 -- ---- what was under way
 
--- for a link: a monitors' message was seen to stand first, and is left there
+-- for a link: a monitors' message was seen to stand first, and is left there; it would be heard, and something is said then
 pub record LeavesMessage {S : Type 0} (w : SideRelations S) (l : LinkId) (s t : TheRun S) : Type 0 where
   pub side : ℕ
   pub link_side : lent_link_side s l ≡ Some side
   pub frag : Frag
   pub looks : Happens w (looked side l (Ok (Message frag))) s t
+  pub hears : HearsFragLast t.offers l frag t.core Memory
 
--- for an end: its next job, a call or an opening, is left, and nothing has happened
-pub record LeavesJob {S : Type 0} (name : EndId) (s t : TheRun S) : Type 0 where
+-- for an end: its next job is left, and nothing has happened; a call that it is would be accepted, a circuit would be begun
+pub record LeavesJob {S : Type 0} (jobs : List CoreJob) (name : EndId) (s t : TheRun S) : Type 0 where
   pub same : t ≡ s
+  pub does : DoesJob s name (next_job jobs s name)
 
 -- for a dispatcher: the end that was due saw a fragment and left it; or it handled a call, and that doesn't stand at its end's progress
 abbrev pub LeavesCall : {S : Type 0} → SideRelations S → ℕ → EndId → LentTakeEnd → TheRun S → TheRun S → Type 0
@@ -43,6 +48,8 @@ pub record LeavesTurn {S : Type 0} (w : SideRelations S) (jobs : List CoreJob) (
   pub name_is : place_of s.core name ≡ Some due.end
   pub ready : awaits jobs s name ≡ false
   pub leaves : LeavesCall w d name due s t
+  -- the fragment that the end is given makes a call whole
+  pub handles : HandlesCall w d due s
 
 -- ---- how far a turn came
 
@@ -62,7 +69,7 @@ StopsAmong xs step stop s t = StopsIn (At xs step) (At xs stop) (length xs) s t
 pub data PartOfTurn {S : Type 0} (w : SideRelations S) (plan : TurnPlan) (jobs : List CoreJob) (s t : TheRun S) : Type 0 where
   in_forwards : StopsAmong plan.links.items (Forwards w) (LeavesMessage w) s t → PartOfTurn w plan jobs s t
   in_serves : (m n : TheRun S) → ForEach plan.links.items (Forwards w) s m → ForEach plan.links.items (Says w) m n
-      → StopsAmong plan.ends.items (Serves w jobs) LeavesJob n t → PartOfTurn w plan jobs s t
+      → StopsAmong plan.ends.items (Serves w jobs) (LeavesJob jobs) n t → PartOfTurn w plan jobs s t
   in_turns : (m n served : TheRun S) → ForEach plan.links.items (Forwards w) s m → ForEach plan.links.items (Says w) m n
       → ForEach plan.ends.items (Serves w jobs) n served → StopsIn (TakesTurn w jobs) (LeavesTurn w jobs) plan.dispatchers served t → PartOfTurn w plan jobs s t
 

@@ -1,21 +1,20 @@
 //! What is done for a dispatcher: a turn.
 
-ghost use Rattle.std.specs.Prelude.{◌≡◌, ◌<◌, true, false, length, Some, Err, IfOk, IfErr, OnOk, OnErr};
+ghost use Rattle.std.specs.Prelude.{◌≡◌, ◌<◌, true, length, Some, IfSome, OnOk, OnErr};
 ghost use Rattle.fl_value_data.specs.declared.value.Call.{Call as TheCall};
 ghost use Rattle.fl_core.specs.BoardView.{due};
 ghost use Rattle.fl_core.specs.declared.turn_answer.TurnAnswer.TheVariants.{Handle};
-ghost use Rattle.fl_core.specs.View.{place_of, inlet_of};
+ghost use Rattle.fl_core.specs.View.{inlet_of};
 ghost use Rattle.fl_core_run.specs.Run.{ways, run_of, lends_in};
-ghost use Rattle.fl_core_run.specs.LogEntries.{dispatcher_turn, TurnsOver, turned, Does, NotesTurned};
+ghost use Rattle.fl_core_run.specs.Inside.{OfProgress};
+ghost use Rattle.fl_core_run.specs.LogEntries.{dispatcher_turn, TurnsOver, NotesTurned};
 ghost use Rattle.fl_core_run.specs.Steps.{awaits, TakesTurn};
 ghost use Rattle.fl_core_run.specs.Turn.{Swept};
 ghost use Rattle.fl_core_run.specs.Stops.{LeavesTurn, StopsIn};
 
-use crate::end_progress::find;
 use crate::ends::next_job;
 use crate::lent::lent_due;
 use crate::running::{RunningCore, sound, sound_at};
-use fl_base::EndId;
 use fl_core::{CoreJob, Inlet, TurnAnswer};
 use fl_link::{PutSide, TakeSide};
 use std::alloc::AllocError;
@@ -40,65 +39,40 @@ fn turn_over<S: PutSide + TakeSide + Drop>(
     }
 }
 
-// Whether a turn found a fragment that it could do something with.
-fn found_something(answer: &TurnAnswer) -> bool {
+// Notes what came of a turn: that it found something, and a call that was handled.
+fn note<S>(
+    run: &mut RunningCore<S>,
+    progress: Option<usize>,
+    answer: TurnAnswer,
+) -> Result<(), AllocError>
+    requires there { IfSome progress (λ n. n < length run.old.progresses.items) }
+    ensures notes { OnOk result (OfProgress progress (run_of run.old) (λ name. NotesTurned name answer (run_of run.old) (run_of run.new))) }
+    ensures left { OnErr result ((call : TheCall) × (answer ≡ Handle call) × (run_of run.new ≡ run_of run.old)) }
+{
     match answer {
-        TurnAnswer::Handle(_) | TurnAnswer::Part | TurnAnswer::Ready => true,
+        TurnAnswer::Handle(call) => {
+            run.idle = 0;
+            match progress {
+                None => Ok(()),
+                Some(place) => run.progresses[place].take(call),
+            }
+        }
+        TurnAnswer::Part | TurnAnswer::Ready => {
+            run.idle = 0;
+            Ok(())
+        }
         TurnAnswer::Quiet | TurnAnswer::Full | TurnAnswer::Nothing | TurnAnswer::Refused(_) => {
-            false
+            Ok(())
         }
     }
 }
 
-// The same, where the end has this name.
-#[tactic(auto, using(crate::proofs::Counting::turn_done))]
-fn turn_named<S: PutSide + TakeSide + Drop>(
-    run: &mut RunningCore<S>,
-    dispatcher: usize,
-    name: EndId,
-    e: usize,
-    inlet: Inlet,
-) -> Result<TurnAnswer, AllocError>
-    requires there { dispatcher < length run.old.core.board.dispatchers }
-    requires place { place_of run.old.core name ≡ Some e }
-    requires due { due run.old.core.board dispatcher ≡ Some e }
-    requires inlet { inlet_of run.old.core e ≡ Some inlet }
-    requires lent { lends_in (run_of run.old) inlet ≡ true }
-    ensures turned { IfOk result (λ answer. Does (ways S.puts S.takes S.front) (turned dispatcher name inlet answer) (run_of run.old) (run_of run.new)) }
-    ensures left { IfErr result (λ error. TurnsOver (ways S.puts S.takes S.front) (dispatcher_turn dispatcher e (Err error)) inlet
-        (run_of run.old) (run_of run.new)) }
+// Whether an end with this progress is still to be opened, or a reply rule still to be set there.
+pub(crate) fn awaits<S>(run: &RunningCore<S>, jobs: &[CoreJob], progress: Option<usize>) -> bool
+    requires there { IfSome progress (λ n. n < length run.now.progresses.items) }
+    ensures awaits { OfProgress progress (run_of run.now) (λ name. result ≡ awaits jobs.now (run_of run.now) name) }
 {
-    let answer = turn_over(run, dispatcher, e, inlet)?;
-    if found_something(&answer) {
-        run.idle = 0;
-    }
-    Ok(answer)
-}
-
-// Notes a call that was handled.
-fn note<S>(run: &mut RunningCore<S>, name: EndId, answer: TurnAnswer) -> Result<(), AllocError>
-    ensures notes { OnOk result (NotesTurned name answer (run_of run.old) (run_of run.new)) }
-    ensures left { OnErr result ((call : TheCall) × (answer ≡ Handle call) × (run_of run.new ≡ run_of run.old)) }
-{
-    match answer {
-        TurnAnswer::Handle(call) => match find(&run.progresses, name) {
-            None => Ok(()),
-            Some(place) => run.progresses[place].take(call),
-        },
-        TurnAnswer::Part
-        | TurnAnswer::Ready
-        | TurnAnswer::Quiet
-        | TurnAnswer::Full
-        | TurnAnswer::Nothing
-        | TurnAnswer::Refused(_) => Ok(()),
-    }
-}
-
-// Whether an end is still to be opened, or a reply rule still to be set there.
-pub(crate) fn awaits<S>(run: &RunningCore<S>, jobs: &[CoreJob], name: EndId) -> bool
-    ensures awaits { result ≡ awaits jobs.now (run_of run.now) name }
-{
-    match next_job(run, jobs, name) {
+    match next_job(run, jobs, progress) {
         None => false,
         Some(job) => match job {
             CoreJob::Open(_) => true,
@@ -121,13 +95,14 @@ pub(crate) fn turn<S: PutSide + TakeSide + Drop>(
     let Some(at) = lent_due(run, dispatcher) else {
         return Ok(());
     };
+    sound_at(run, at.end);
     let name = run.core.name(at.end);
-    sound_at(run, name, at.end);
-    if awaits(run, jobs, name) {
+    let progress = run.progress_of(name);
+    if awaits(run, jobs, progress) {
         return Ok(());
     }
-    let answer = turn_named(run, dispatcher, name, at.end, at.inlet)?;
-    note(run, name, answer)
+    let answer = turn_over(run, dispatcher, at.end, at.inlet)?;
+    note(run, progress, answer)
 }
 
 /// A turn for each dispatcher.

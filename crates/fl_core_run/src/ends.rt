@@ -1,16 +1,17 @@
 //! What is done for an end: its next job, a write, an acknowledgement.
 
-ghost use Rattle.std.specs.Prelude.{◌≡◌, ◌<◌, true, false, length, Some, Ok, IfSome, IfNone, OnOk, OnErr, None};
+ghost use Rattle.std.specs.Prelude.{◌≡◌, ◌<◌, true, length, Some, None, IfSome, IfNone, IfOk, OnOk, OnErr};
+ghost use Rattle.fl_value_data.specs.Value.{call_of};
 ghost use Rattle.fl_core.specs.View.{place_of};
-ghost use Rattle.fl_core_run.specs.Run.{ways, run_of, AtProgress, lends_out, lent_post, next_job};
-ghost use Rattle.fl_core_run.specs.EndProgress.{advanced};
-ghost use Rattle.fl_core_run.specs.Inside.{HasNext};
-ghost use Rattle.fl_core_run.specs.LogEntries.{wrote, Does};
+ghost use Rattle.fl_core_run.specs.Run.{ways, run_of, AtProgress, lends_out, lent_post, next_at, next_job};
+ghost use Rattle.fl_core_run.specs.EndProgress.{advanced, progress_place};
+ghost use Rattle.fl_core_run.specs.Inside.{HasLeft, OfProgress, OfPlace, IsPlaceOf};
+ghost use Rattle.fl_core_run.specs.LogEntries.{WritesOver};
 ghost use Rattle.fl_core_run.specs.Steps.{lacks_to_call, Tries, WritesFrom, Serves, Acknowledges, CallsAt, reply_rule, RulesAt};
 ghost use Rattle.fl_core_run.specs.Turn.{ForEach};
+ghost use Rattle.fl_core_run.specs.Wants.{AcceptsAt, DoesJob};
 ghost use Rattle.fl_core_run.specs.Stops.{LeavesJob, StopsAmong};
 
-use crate::end_progress::find;
 use crate::lent::{lent_post, lent_ring_end};
 use crate::opening::open;
 use crate::running::{RunningCore, sound, sound_at};
@@ -21,25 +22,28 @@ use fl_link::{PutSide, TakeSide};
 use fl_value_data::Call;
 use std::alloc::AllocError;
 
+// Each end is found once: where its progress is, and where it is at the core. Both are handed on, as places.
+
 // ---- jobs
 
-// The job that is next at an end.
+// The job that is next by an end's progress.
 #[inline(always)]
 pub(crate) fn next_job<'a, S>(
     run: &RunningCore<S>,
     jobs: &'a [CoreJob],
-    name: EndId,
+    progress: Option<usize>,
 ) -> Option<&'a CoreJob>
-    ensures next { IfSome result (λ job. next_job jobs.now (run_of run.now) name ≡ Some job.now) }
-    ensures none { IfNone result (next_job jobs.now (run_of run.now) name ≡ None) }
-    ensures left { IfSome result (λ _. HasNext name (run_of run.now)) }
+    requires there { IfSome progress (λ n. n < length run.now.progresses.items) }
+    ensures next { IfSome result (λ job. next_at jobs.now (run_of run.now) progress ≡ Some job.now) }
+    ensures none { IfNone result (next_at jobs.now (run_of run.now) progress ≡ None) }
+    ensures left { IfSome result (λ _. HasLeft run.now.progresses.items progress) }
 {
-    let Some(place) = find(&run.progresses, name) else {
-        return None;
-    };
-    match run.progresses[place].next() {
+    match progress {
         None => None,
-        Some(job) => jobs.get(job),
+        Some(place) => match run.progresses[place].next() {
+            None => None,
+            Some(job) => jobs.get(job),
+        },
     }
 }
 
@@ -53,104 +57,117 @@ fn is_memory(answer: Result<(), EndFault>) -> bool
     }
 }
 
-// The next job of an end is done.
-pub(crate) fn advance<S>(run: &mut RunningCore<S>, name: EndId)
-    requires left { HasNext name (run_of run.old) }
-    ensures advanced { AtProgress name advanced (run_of run.old) (run_of run.new) }
+// The next job by an end's progress is done.
+pub(crate) fn advance<S>(run: &mut RunningCore<S>, progress: Option<usize>)
+    requires left { HasLeft run.old.progresses.items progress }
+    ensures advanced { OfProgress progress (run_of run.old) (λ name. AtProgress name advanced (run_of run.old) (run_of run.new)) }
 {
-    if let Some(place) = find(&run.progresses, name) {
-        run.progresses[place].advance();
+    match progress {
+        None => (),
+        Some(place) => run.progresses[place].advance(),
     }
 }
 
-// Tries to make the next call of an end; one that is refused waits.
+// Tries to make the next call of an end, where that is; one that is refused waits. Tells where the end is.
 fn try_call<S: PutSide + TakeSide + Drop>(
     run: &mut RunningCore<S>,
     name: EndId,
+    progress: Option<usize>,
     next: &Call,
-) -> Result<(), AllocError>
-    requires left { HasNext name (run_of run.old) }
+) -> Result<Option<usize>, AllocError>
+    requires found { progress_place run.old.progresses.items name ≡ progress }
+    requires left { HasLeft run.old.progresses.items progress }
     ensures calls { OnOk result (CallsAt (ways S.puts S.takes S.front) name next.now (place_of run.old.core name) (run_of run.old) (run_of run.new)) }
+    ensures place { IfOk result (λ place. IsPlaceOf run.new.core name place) }
     ensures kept { OnErr result (run_of run.new ≡ run_of run.old) }
+    ensures accepts { OnErr result (AcceptsAt run.old.core name (call_of next.now)) }
 {
     sound(run);
     match run.core.place(name) {
-        None => Ok(()),
+        None => Ok(None),
         Some(e) => {
-            sound_at(run, name, e);
+            sound_at(run, e);
             // it would be refused, once it was looked at whether it fits
             if run.core.board().end(e).is_busy() {
-                return Ok(());
+                return Ok(Some(e));
             }
             let answer = run.core.call(e, next);
             if is_memory(answer) {
                 return Err(AllocError);
             }
             match answer {
-                Ok(()) => advance(run, name),
+                Ok(()) => advance(run, progress),
                 Err(_) => (),
             }
-            Ok(())
+            Ok(Some(e))
         }
     }
 }
 
-// Sets the rule that is the next job of an end, where that is there.
+// Sets the rule that is the next job of an end, where that is. Tells where the end is.
 fn try_rule<S: PutSide + TakeSide + Drop>(
     run: &mut RunningCore<S>,
     name: EndId,
+    progress: Option<usize>,
     msg: MsgNo,
     reply: MsgNo,
-)
-    requires left { HasNext name (run_of run.old) }
+) -> Option<usize>
+    requires found { progress_place run.old.progresses.items name ≡ progress }
+    requires left { HasLeft run.old.progresses.items progress }
     ensures rules { RulesAt (ways S.puts S.takes S.front) (reply_rule name msg reply) (place_of run.old.core name) (run_of run.old) (run_of run.new) }
+    ensures place { IsPlaceOf run.new.core name result }
 {
     sound(run);
     match run.core.place(name) {
-        None => (),
+        None => None,
         Some(e) => {
-            sound_at(run, name, e);
+            sound_at(run, e);
             let _ = run.core.reply_rule(e, msg, reply);
-            advance(run, name);
+            advance(run, progress);
+            Some(e)
         }
     }
 }
 
-// Tries the next job of an end.
+/// Tries the next job of an end. Tells where the end is then; where the job made it, that is found behind it.
+///
+/// # Errors
+/// Out of memory, only where the job would be done. Nothing has happened then.
 pub(crate) fn try_job<S: PutSide + TakeSide + Drop>(
     run: &mut RunningCore<S>,
     jobs: &[CoreJob],
     name: EndId,
-) -> Result<(), AllocError>
+) -> Result<Option<usize>, AllocError>
     ensures tries { OnOk result (Tries (ways S.puts S.takes S.front) name (next_job jobs.now (run_of run.old) name) (run_of run.old) (run_of run.new)) }
+    ensures place { IfOk result (λ place. IsPlaceOf run.new.core name place) }
     ensures kept { OnErr result (run_of run.new ≡ run_of run.old) }
+    ensures does { OnErr result (DoesJob (run_of run.old) name (next_job jobs.now (run_of run.old) name)) }
 {
-    match next_job(run, jobs, name) {
-        None => Ok(()),
+    let progress = run.progress_of(name);
+    match next_job(run, jobs, progress) {
+        None => Ok(run.core.place(name)),
         Some(job) => match job {
-            CoreJob::Open(request) => open(run, name, request),
-            CoreJob::Call { call, .. } => try_call(run, name, call),
-            CoreJob::Reply { msg, reply, .. } => {
-                try_rule(run, name, *msg, *reply);
-                Ok(())
+            CoreJob::Open(request) => {
+                open(run, progress, request)?;
+                Ok(run.core.place(name))
             }
+            CoreJob::Call { call, .. } => try_call(run, name, progress, call),
+            CoreJob::Reply { msg, reply, .. } => Ok(try_rule(run, name, progress, *msg, *reply)),
         },
     }
 }
 
 // ---- writes
 
-// Writes a fragment of an end to where it puts.
+// Writes a fragment of the end at a place to where it puts.
 fn write_to<S: PutSide + TakeSide + Drop>(
     run: &mut RunningCore<S>,
-    name: EndId,
     e: usize,
     outlet: Outlet,
 ) -> Result<WriteAnswer, EndFault>
     requires there { e < length run.old.core.board.seats }
-    requires place { place_of run.old.core name ≡ Some e }
     requires lent { lends_out (run_of run.old) outlet ≡ true }
-    ensures wrote { Does (ways S.puts S.takes S.front) (wrote name outlet result) (run_of run.old) (run_of run.new) }
+    ensures wrote { WritesOver (ways S.puts S.takes S.front) e outlet result (run_of run.old) (run_of run.new) }
 {
     match outlet {
         Outlet::Queue(n) => run.core.write(e, &mut run.queues[n]),
@@ -158,36 +175,43 @@ fn write_to<S: PutSide + TakeSide + Drop>(
     }
 }
 
-// One write of an end.
-pub(crate) fn write<S: PutSide + TakeSide + Drop>(run: &mut RunningCore<S>, name: EndId)
-    ensures writes { WritesFrom (ways S.puts S.takes S.front) name (lent_post (run_of run.old) name) (run_of run.old) (run_of run.new) }
+// One write of the end at a place, if it is at the core.
+pub(crate) fn write<S: PutSide + TakeSide + Drop>(run: &mut RunningCore<S>, place: Option<usize>)
+    requires there { IfSome place (λ e. e < length run.old.core.board.seats) }
+    ensures writes { OfPlace place (run_of run.old) (λ name. WritesFrom (ways S.puts S.takes S.front) name (lent_post (run_of run.old) name)
+        (run_of run.old) (run_of run.new)) }
 {
     sound(run);
-    match lent_post(run, name) {
+    match place {
         None => (),
-        Some(post) => {
-            sound_at(run, name, post.end);
-            let answer = write_to(run, name, post.end, post.outlet);
-            if matches!(answer, Ok(WriteAnswer::Written { .. })) {
-                run.idle = 0;
+        Some(e) => match lent_post(run, e) {
+            None => (),
+            Some(post) => {
+                sound_at(run, e);
+                let answer = write_to(run, e, post.outlet);
+                if matches!(answer, Ok(WriteAnswer::Written { .. })) {
+                    run.idle = 0;
+                }
             }
-        }
+        },
     }
 }
 
 /// For each end its next job, where that can be done, and one write.
+///
+/// # Errors
+/// As [`try_job`].
 pub(crate) fn serve_all<S: PutSide + TakeSide + Drop>(
     run: &mut RunningCore<S>,
     ends: &[EndId],
     jobs: &[CoreJob],
 ) -> Result<(), AllocError>
     ensures serves { OnOk result (ForEach ends.now (Serves (ways S.puts S.takes S.front) jobs.now) (run_of run.old) (run_of run.new)) }
-    ensures stops { OnErr result (StopsAmong ends.now (Serves (ways S.puts S.takes S.front) jobs.now) LeavesJob (run_of run.old) (run_of run.new)) }
+    ensures stops { OnErr result (StopsAmong ends.now (Serves (ways S.puts S.takes S.front) jobs.now) (LeavesJob jobs.now) (run_of run.old) (run_of run.new)) }
 {
     for k in 0..ends.len() {
-        let name = ends[k];
-        try_job(run, jobs, name)?;
-        write(run, name);
+        let place = try_job(run, jobs, ends[k])?;
+        write(run, place);
     }
     Ok(())
 }

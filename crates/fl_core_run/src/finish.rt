@@ -4,7 +4,6 @@ ghost use Rattle.std.specs.Prelude.{◌≡◌, ◌<◌, length};
 ghost use Rattle.fl_core_run.specs.Run.{run_of};
 ghost use Rattle.fl_core_run.specs.Finished.{is_at_rest, is_progress_clear, is_done_at, is_finished};
 
-use crate::end_progress::find;
 use crate::opening_status::OpeningStatus;
 use crate::running::RunningCore;
 use fl_base::EndId;
@@ -26,7 +25,7 @@ fn is_at_rest<S>(run: &RunningCore<S>, name: EndId) -> bool
 fn is_progress_clear<S>(run: &RunningCore<S>, name: EndId) -> bool
     ensures clear { result ≡ is_progress_clear (run_of run.now) name }
 {
-    match find(&run.progresses, name) {
+    match run.progress_of(name) {
         None => true,
         Some(place) => run.progresses[place].is_clear(),
     }

@@ -4,7 +4,7 @@ ghost use Rattle.std.specs.Prelude.{◌≡◌, ◌<◌, length, true, Some, IfSo
 ghost use Rattle.fl_core.specs.BoardView.{due};
 ghost use Rattle.fl_core.specs.View.{place_of, inlet_of, outlet_of};
 ghost use Rattle.fl_core.specs.declared.wiring.Inlet.TheVariants.{Side};
-ghost use Rattle.fl_core_run.specs.Run.{run_of, lent_link_side, lends_out, lends_in, lent_post, lent_due, lent_ring_end};
+ghost use Rattle.fl_core_run.specs.Run.{run_of, lent_link_side, lends_out, lends_in, lent_post_at, lent_due, lent_ring_end};
 
 use crate::running::RunningCore;
 use fl_base::{EndId, LinkId};
@@ -64,16 +64,12 @@ fn lends_in<S>(run: &RunningCore<S>, inlet: Inlet) -> bool
     }
 }
 
-/// Where an end is, and where it puts.
-pub(crate) fn lent_post<S>(run: &RunningCore<S>, name: EndId) -> Option<LentPutEnd>
-    ensures post { result ≡ lent_post (run_of run.now) name }
-    ensures there { IfSome result (λ p. p.end < length run.now.core.board.seats) }
-    ensures place { IfSome result (λ p. place_of run.now.core name ≡ Some p.end) }
+/// The end at a place, and where it puts, where that is lent.
+pub(crate) fn lent_post<S>(run: &RunningCore<S>, end: usize) -> Option<LentPutEnd>
+    requires there { end < length run.now.core.board.seats }
+    ensures post { result ≡ lent_post_at (run_of run.now) end }
     ensures lent { IfSome result (λ p. lends_out (run_of run.now) p.outlet ≡ true) }
 {
-    let Some(end) = run.core.place(name) else {
-        return None;
-    };
     let outlet = run.core.outlet(end);
     if !lends_out(run, outlet) {
         return None;

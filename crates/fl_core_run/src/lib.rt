@@ -9,8 +9,11 @@
 //!
 //! Contract for the layers above: each event is the core's own (`specs/LogEntries.antt`: what a core's log is made of); which
 //! events come in a turn, and in which order, stands in `specs/Steps.antt` and `specs/Turn.antt`; when a core has nothing left to do in
-//! `specs/Finished.antt`, what it tells of refused openings in `specs/OpeningStatus.antt`, and the whole run in `specs/Ran.antt`. What jobs are, and ask for,
-//! stands in `fl_core`. What follows for logs is `fl_core_run_laws`'s.
+//! `specs/Finished.antt`, what it tells of refused openings in `specs/OpeningStatus.antt`, and the whole run in `specs/Ran.antt`. How far a run came that
+//! stops without memory stands in `specs/Stops.antt`, and for what alone it stops in `specs/Wants.antt`. What jobs are, and ask for, stands in `fl_core`. What
+//! follows for logs is `fl_core_run_laws`'s.
+//!
+//! An end is found once in what is done for it: where its progress is, and where it is at the core. Both are handed on as places.
 //!
 //! - `running.rt`: `RunningCore`, and turns
 //! - `single.rt`: what a turn is made of, one by one

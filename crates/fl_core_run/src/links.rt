@@ -10,9 +10,9 @@ ghost use Rattle.fl_core_run.specs.Steps.{lacks_to_hear, HandsOut, Forwards, Say
 ghost use Rattle.fl_core_run.specs.Turn.{ForEach};
 ghost use Rattle.fl_core_run.specs.Stops.{LeavesMessage, StopsAmong};
 ghost use Rattle.fl_core.specs.declared.answer.LinkFront.TheVariants.{Message};
+ghost use Rattle.fl_core.specs.Hearing.{HearsFragLast};
 ghost use Rattle.fl_core_run.specs.Inside.{Fronts, Foresees};
 
-use crate::end_progress::find;
 use crate::lent::lent_link_side;
 use crate::running::{RunningCore, sound};
 use fl_base::{Circuit, EndId, Frag, LinkId};
@@ -46,6 +46,7 @@ fn hear<S: PutSide + TakeSide + Drop>(
     ensures heard { IfOk result (λ answer. Does (ways S.puts S.takes S.front) (heard n link frag.now answer) (run_of run.old) (run_of run.new)) }
     ensures memory { IfOk result (λ answer. lacks_to_hear answer ≡ false) }
     ensures kept { OnErr result (run_of run.new ≡ run_of run.old) }
+    ensures last { OnErr result (HearsFragLast (run_of run.old).offers link frag.now run.old.core LinkReceiveFault.Memory) }
 {
     let answer = run
         .core
@@ -66,7 +67,7 @@ fn note<S>(run: &mut RunningCore<S>, answer: Result<MonitorAnswer, LinkReceiveFa
     let Ok(MonitorAnswer::OpeningRefused(end, reason)) = answer else {
         return;
     };
-    if let Some(place) = find(&run.progresses, end) {
+    if let Some(place) = run.progress_of(end) {
         run.progresses[place].refuse(reason);
     }
 }
@@ -126,7 +127,8 @@ fn hand_out<S: PutSide + TakeSide + Drop>(
     requires link { link.0 < length run.old.core.link_sides }
     requires foreseen { Foresees (ways S.puts S.takes S.front) n found (run_of run.old) }
     ensures hands_out { OnOk result (HandsOut (ways S.puts S.takes S.front) n link found (run_of run.old) (run_of run.new)) }
-    ensures left { OnErr result ((frag : TheFrag) × (found ≡ Ok (Message frag)) × (run_of run.new ≡ run_of run.old)) }
+    ensures left { OnErr result ((frag : TheFrag) × (found ≡ Ok (Message frag)) × (run_of run.new ≡ run_of run.old)
+        × HearsFragLast (run_of run.old).offers link frag run.old.core LinkReceiveFault.Memory) }
 {
     sound(run);
     match found {

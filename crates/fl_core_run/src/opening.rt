@@ -1,35 +1,21 @@
 //! A job that opens a circuit.
 
 ghost use Rattle.std.specs.Prelude.{◌≡◌, ◌<◌, length, IfOk, OnOk, OnErr};
-ghost use Rattle.fl_monitor.specs.Monitors.{can_say};
 ghost use Rattle.fl_core_run.specs.Run.{ways, run_of, AtProgress};
 ghost use Rattle.fl_core_run.specs.EndProgress.{advanced, with_refusal};
+ghost use Rattle.fl_core_run.specs.Inside.{HasLeft, OfProgress};
 ghost use Rattle.fl_core_run.specs.LogEntries.{IsCopyOf, NotesOpened};
 ghost use Rattle.fl_core_run.specs.Steps.{lacks_to_open, may_ask, OpensIf};
-ghost use Rattle.fl_core_run.specs.Inside.{HasNext};
+ghost use Rattle.fl_core_run.specs.Wants.{BeginsCircuit};
 
-use crate::end_progress::find;
 use crate::ends::advance;
 use crate::running::{RunningCore, sound};
-use fl_base::{EndId, LinkId, MAX_BINDINGS, Side};
+use fl_base::{EndId, MAX_BINDINGS, Side};
 use fl_compile::Program;
 use fl_core::{BoardFault, OpenFault, OpenRequest};
 use fl_link::{PutSide, TakeSide};
-use fl_monitor::{Monitor, MonitorFault};
+use fl_monitor::MonitorFault;
 use std::alloc::AllocError;
-
-// Whether the outbox of a link has room.
-fn can_say(monitor: &Monitor, link: LinkId) -> bool
-    ensures room { result ≡ can_say monitor.now.outboxes link.0 }
-{
-    match monitor.outbox(link) {
-        None => false,
-        Some(outbox) => {
-            outbox.sound();
-            !outbox.is_full()
-        }
-    }
-}
 
 // Whether a circuit can be asked for.
 fn may_ask<S>(run: &RunningCore<S>, request: &OpenRequest) -> bool
@@ -43,7 +29,7 @@ fn may_ask<S>(run: &RunningCore<S>, request: &OpenRequest) -> bool
         && request.interface < run.programs.len()
         && (request.opening.binding as usize) < MAX_BINDINGS
         && !run.core.place(client).is_some()
-        && can_say(run.core.monitor(), request.link)
+        && run.core.monitor().has_room(request.link)
 }
 
 // A copy of the program at a place.
@@ -74,42 +60,57 @@ fn is_memory(answer: Result<usize, OpenFault>) -> bool
 }
 
 // Notes that an opening is refused, and with it its job is done.
-fn refuse<S>(run: &mut RunningCore<S>, name: EndId, number: u32)
-    requires left { HasNext name (run_of run.old) }
-    ensures refused { AtProgress name (λ d. advanced (with_refusal number d)) (run_of run.old) (run_of run.new) }
+fn refuse<S>(run: &mut RunningCore<S>, progress: Option<usize>, number: u32)
+    requires left { HasLeft run.old.progresses.items progress }
+    ensures refused { OfProgress progress (run_of run.old) (λ name. AtProgress name (λ d. advanced (with_refusal number d)) (run_of run.old) (run_of run.new)) }
 {
-    if let Some(place) = find(&run.progresses, name) {
-        let progress = &mut run.progresses[place];
-        progress.refuse(number);
-        progress.advance();
+    match progress {
+        None => (),
+        Some(place) => {
+            let at = &mut run.progresses[place];
+            at.refuse(number);
+            at.advance();
+        }
     }
 }
 
 // Notes what came of asking.
-fn note<S>(run: &mut RunningCore<S>, name: EndId, answer: Result<usize, OpenFault>)
-    requires left { HasNext name (run_of run.old) }
-    ensures notes { NotesOpened name answer (run_of run.old) (run_of run.new) }
+fn note<S>(run: &mut RunningCore<S>, progress: Option<usize>, answer: Result<usize, OpenFault>)
+    requires left { HasLeft run.old.progresses.items progress }
+    ensures notes { OfProgress progress (run_of run.old) (λ name. NotesOpened name answer (run_of run.old) (run_of run.new)) }
 {
     match answer {
-        Ok(_) => advance(run, name),
+        Ok(_) => advance(run, progress),
         Err(OpenFault::Monitor(MonitorFault::OutboxFull)) => (),
-        Err(fault) => refuse(run, name, u32::from(fault.number())),
+        Err(fault) => refuse(run, progress, u32::from(fault.number())),
     }
 }
 
-/// Asks for a circuit for an end whose next job that is, where it can be asked for; else the job waits.
+/// Asks for a circuit for an end whose next job that is, where it can be asked for; else the job waits. What refuses it is found before a copy of the
+/// program is made.
+///
+/// # Errors
+/// Out of memory, only where the circuit would be begun. Nothing has happened then.
 pub(crate) fn open<S: PutSide + TakeSide + Drop>(
     run: &mut RunningCore<S>,
-    name: EndId,
+    progress: Option<usize>,
     request: &OpenRequest,
 ) -> Result<(), AllocError>
-    requires left { HasNext name (run_of run.old) }
-    ensures opens { OnOk result (OpensIf (ways S.puts S.takes S.front) (may_ask (run_of run.old) request.now) name request.now
-        (run_of run.old) (run_of run.new)) }
+    requires left { HasLeft run.old.progresses.items progress }
+    ensures opens { OnOk result (OfProgress progress (run_of run.old) (λ name. OpensIf (ways S.puts S.takes S.front) (may_ask (run_of run.old) request.now) name
+        request.now (run_of run.old) (run_of run.new))) }
     ensures kept { OnErr result (run_of run.new ≡ run_of run.old) }
+    ensures begins { OnErr result (BeginsCircuit (run_of run.old) request.now) }
 {
     sound(run);
     if !may_ask(run, request) {
+        return Ok(());
+    }
+    if let Err(fault) = run
+        .core
+        .may_open(request.dispatcher, request.link, &request.opening)
+    {
+        note(run, progress, Err(fault));
         return Ok(());
     }
     let program = copy(run, request.interface)?;
@@ -117,6 +118,6 @@ pub(crate) fn open<S: PutSide + TakeSide + Drop>(
     if is_memory(answer) {
         return Err(AllocError);
     }
-    note(run, name, answer);
+    note(run, progress, answer);
     Ok(())
 }

@@ -4,7 +4,6 @@ ghost use Rattle.std.specs.Prelude.{◌≡◌, ◌<◌, length};
 ghost use Rattle.fl_core_run.specs.Run.{run_of};
 ghost use Rattle.fl_core_run.specs.OpeningStatus.{refusal_at, MayUse, Exchanges, ExchangesAt, AreWords, stock, ExchangesAll, SaidNothing};
 
-use crate::end_progress::find;
 use crate::running::RunningCore;
 use fl_base::EndId;
 use fl_cores_table::EndSeat;
@@ -26,7 +25,7 @@ pub enum OpeningStatus {
 fn refusal_at<S>(run: &RunningCore<S>, name: EndId) -> u32
     ensures refusal { result ≡ refusal_at (run_of run.now) name }
 {
-    match find(&run.progresses, name) {
+    match run.progress_of(name) {
         None => 0,
         Some(place) => run.progresses[place].refused(),
     }

@@ -1,15 +1,16 @@
 //! A core that runs.
 
-ghost use Rattle.std.specs.Prelude.{◌≡◌, ◌<◌, length, Some, OnOk, OnErr};
+ghost use Rattle.std.specs.Prelude.{◌≡◌, ◌<◌, length, Some, IfSome, OnOk, OnErr};
 ghost use Rattle.fl_core_run.specs.Run.{ways, run_of};
 ghost use Rattle.fl_core_run.specs.LogEntries.{IsSound, IsSoundAt};
-ghost use Rattle.fl_core.specs.View.{place_of};
+ghost use Rattle.fl_core_run.specs.EndProgress.{progress_place};
+ghost use Rattle.fl_core_run.specs.Inside.{OfPlace};
 ghost use Rattle.fl_core_run.specs.Turn.{OneTurn};
 ghost use Rattle.fl_core_run.specs.Stops.{PartOfTurn};
 ghost use Rattle.fl_core_run.specs.Accepted.{count_waiting};
 
 use crate::dispatchers::turn_all;
-use crate::end_progress::EndProgress;
+use crate::end_progress::{EndProgress, find};
 use crate::ends::{ack_all, serve_all};
 use crate::links::{forward_all, say_all, tell_all};
 use crate::plan::TurnPlan;
@@ -48,17 +49,24 @@ pub(crate) fn sound<S>(run: &RunningCore<S>)
     never_shared(run.core.monitor().circuits());
 }
 
-// What is known of an end at any time. It does nothing.
-#[tactic(auto, using(crate::proofs::Sounding::sound_of))]
-pub(crate) fn sound_at<S>(run: &RunningCore<S>, name: EndId, e: usize)
+// What is known of the end at a place at any time. It does nothing.
+pub(crate) fn sound_at<S>(run: &RunningCore<S>, e: usize)
     requires there { e < length run.now.core.board.seats }
-    requires place { place_of run.now.core name ≡ Some e }
-    ensures sound { IsSoundAt (run_of run.now) name }
+    ensures sound { OfPlace (Some e) (run_of run.now) (λ name. IsSoundAt (run_of run.now) name) }
 {
     run.core.board().end_sound(e);
 }
 
 impl<S> RunningCore<S> {
+    // Where the progress of an end is, if it has one. Nothing is searched.
+    #[inline(always)]
+    pub(crate) fn progress_of(&self, name: EndId) -> Option<usize>
+        ensures place { result ≡ progress_place self.now.progresses.items name }
+        ensures within { IfSome result (λ n. n < length self.now.progresses.items) }
+    {
+        find(&self.progresses, name)
+    }
+
     /// How many replies wait at an end; none where it isn't at this core.
     pub fn replies_waiting(&self, name: EndId) -> usize
         ensures waiting { result ≡ count_waiting (run_of self.now) name }
@@ -73,10 +81,10 @@ impl<S> RunningCore<S> {
 impl<S: PutSide + TakeSide + Drop> RunningCore<S> {
     /// One turn: a forward for each link, a monitor write for each link, for each end its next job where that can be done and one write, a turn for
     /// each dispatcher, an acknowledgement for each link and each end of a ring. It takes no memory but where a call is made or becomes whole, a circuit is
-    /// asked for, or a monitors' message is heard.
+    /// begun, or a monitors' message is heard at which something is said.
     ///
     /// # Errors
-    /// Out of memory. The turn wasn't finished then, and the core can take no other.
+    /// Out of memory, only where one of these would be done. The turn wasn't finished then, and the core can take no other.
     pub fn turn(&mut self, plan: &TurnPlan, jobs: &[CoreJob]) -> Result<(), AllocError>
         ensures turn { OnOk result (OneTurn (ways S.puts S.takes S.front) plan.now jobs.now (run_of self.old) (run_of self.new)) }
         ensures part { OnErr result (PartOfTurn (ways S.puts S.takes S.front) plan.now jobs.now (run_of self.old) (run_of self.new)) }

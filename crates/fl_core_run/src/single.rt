@@ -4,7 +4,7 @@ ghost use Rattle.std.specs.Prelude.{◌≡◌, OnOk, OnErr};
 ghost use Rattle.fl_core_run.specs.Run.{ways, run_of, over, next_job, lent_link_side, lent_post};
 ghost use Rattle.fl_core_run.specs.Single.{TellsDue};
 ghost use Rattle.fl_core_run.specs.Steps.{Forwards, Says, Tells, Tries, WritesFrom, TakesTurn, Acknowledges};
-ghost use Rattle.fl_core_run.specs.Stops.{LeavesMessage, LeavesTurn};
+ghost use Rattle.fl_core_run.specs.Stops.{LeavesMessage, LeavesJob, LeavesTurn};
 
 use crate::dispatchers::{awaits, turn};
 use crate::ends::{ack, try_job, write};
@@ -53,7 +53,8 @@ impl<S: PutSide + TakeSide + Drop> RunningCore<S> {
             return None;
         };
         let name = self.core.name(at.end);
-        if awaits(self, jobs, name) {
+        let progress = self.progress_of(name);
+        if awaits(self, jobs, progress) {
             return None;
         }
         Some(at)
@@ -62,7 +63,7 @@ impl<S: PutSide + TakeSide + Drop> RunningCore<S> {
     /// A forward for a link.
     ///
     /// # Errors
-    /// Out of memory. The monitors' message that stands first is left there.
+    /// Out of memory, where something would be said. The monitors' message that stands first is left there.
     pub fn forward(&mut self, link: LinkId) -> Result<(), AllocError>
         ensures forwards { OnOk result (Forwards (ways S.puts S.takes S.front) link
             (run_of self.old) (run_of self.new)) }
@@ -82,13 +83,15 @@ impl<S: PutSide + TakeSide + Drop> RunningCore<S> {
     /// The next job of an end, where that can be done.
     ///
     /// # Errors
-    /// Out of memory. Nothing has happened then.
+    /// Out of memory, only where the job would be done. Nothing has happened then.
     pub fn try_job(&mut self, jobs: &[CoreJob], name: EndId) -> Result<(), AllocError>
         ensures tries { OnOk result (Tries (ways S.puts S.takes S.front) name
             (next_job jobs.now (run_of self.old) name) (run_of self.old) (run_of self.new)) }
         ensures kept { OnErr result (run_of self.new ≡ run_of self.old) }
+        ensures left { OnErr result (LeavesJob jobs.now name (run_of self.old) (run_of self.new)) }
     {
-        try_job(self, jobs, name)
+        try_job(self, jobs, name)?;
+        Ok(())
     }
 
     /// A write of an end.
@@ -96,13 +99,14 @@ impl<S: PutSide + TakeSide + Drop> RunningCore<S> {
         ensures writes { WritesFrom (ways S.puts S.takes S.front) name (lent_post (run_of self.old) name)
             (run_of self.old) (run_of self.new) }
     {
-        write(self, name);
+        let place = self.core.place(name);
+        write(self, place);
     }
 
     /// A turn of a dispatcher.
     ///
     /// # Errors
-    /// Out of memory. The end that is due left the fragment that it saw, or handled a call that its progress doesn't have.
+    /// Out of memory, only where a call is handled. The end that is due left the fragment that it saw, or its progress doesn't have the call.
     pub fn turn_of(&mut self, jobs: &[CoreJob], dispatcher: usize) -> Result<(), AllocError>
         ensures turns { OnOk result (TakesTurn (ways S.puts S.takes S.front) jobs.now dispatcher
             (run_of self.old) (run_of self.new)) }

@@ -13,12 +13,15 @@ loop-k-init g c = refl
 
 pub loop-k-preserved : goal.loop-k-preserved
 loop-k-preserved g c = for_one_more c.args.ends.now c.loop-k.k _ (run_of c.args.run.now) (run_of c.loop-k.run) (run_of c.write.new.run) c.loop-k-test.true (Serves (ways g.S.PutSide.puts g.S.TakeSide.takes g.S.TakeSide.front) c.args.jobs.now)
-    c.loop-k.invariant (run_of c.try_job.new.run, c.in_ok-try_job.ensures.tries, c.write.ensures.writes)
+    c.loop-k.invariant (run_of c.try_job.new.run, c.in_ok-place.ensures.tries, c.write.ensures.writes _ c.in_ok-place.ensures.place.is)
 
-pub returns-in_err-try_job-clause-stops : goal.returns-in_err-try_job-clause-stops
-returns-in_err-try_job-clause-stops g c = on_err c.from_residual.result
-    (stopped_at c.args.ends.now c.loop-k.k (record { binding = 0; side = Client }) (run_of c.args.run.now) (run_of c.loop-k.run) (run_of c.try_job.new.run) c.loop-k-test.true (Serves (ways g.S.PutSide.puts g.S.TakeSide.takes g.S.TakeSide.front) c.args.jobs.now) LeavesJob
-    c.loop-k.invariant (record { same = c.in_err-try_job.ensures.kept }))
+pub write-requires : goal.write-requires
+write-requires g c = record { there = c.in_ok-place.ensures.place.within }
+
+pub returns-in_err-place-clause-stops : goal.returns-in_err-place-clause-stops
+returns-in_err-place-clause-stops g c = on_err c.from_residual.result
+    (stopped_at c.args.ends.now c.loop-k.k (record { binding = 0; side = Client }) (run_of c.args.run.now) (run_of c.loop-k.run) (run_of c.try_job.new.run) c.loop-k-test.true (Serves (ways g.S.PutSide.puts g.S.TakeSide.takes g.S.TakeSide.front) c.args.jobs.now) (LeavesJob c.args.jobs.now)
+    c.loop-k.invariant (record { same = c.in_err-place.ensures.kept; does = c.in_err-place.ensures.does }))
 
 pub returns-clause-serves : goal.returns-clause-serves
 returns-clause-serves g c = up_to (At c.args.ends.now (Serves (ways g.S.PutSide.puts g.S.TakeSide.takes g.S.TakeSide.front) c.args.jobs.now)) c.loop-k.k (length c.args.ends.now) (run_of c.args.run.now) (run_of c.loop-k.run)

@@ -10,7 +10,7 @@ hear-requires-clause-seen g c = foreseen (ways g.S.PutSide.puts g.S.TakeSide.tak
 
 pub returns-in_err-answer-in-Ok-Message-clause-left : goal.returns-in_err-answer-in-Ok-Message-clause-left
 returns-in_err-answer-in-Ok-Message-clause-left g c = on_err c.from_residual.result
-    (c.in-Ok-Message.frag, c.in-Ok-Message.is ∙ ap Ok (rw c.in-Ok-Message.is at c.in-Ok-Message.field-0-is), c.in_err-answer-in-Ok-Message.ensures.kept)
+    (c.in-Ok-Message.frag, c.in-Ok-Message.is ∙ ap Ok (rw c.in-Ok-Message.is at c.in-Ok-Message.field-0-is), c.in_err-answer-in-Ok-Message.ensures.kept, c.in_err-answer-in-Ok-Message.ensures.last)
 
 pub cross-requires-clause-seen : goal.cross-requires-clause-seen
 cross-requires-clause-seen g c = (foreseen (ways g.S.PutSide.puts g.S.TakeSide.takes g.S.TakeSide.front) c.args.n c.args.link c.args.found c.in-Ok-Onward.field-0 (Onward c.in-Ok-Onward.frag c.in-Ok-Onward.to c.in-Ok-Onward.circuit) (run_of c.args.run.now) c.in-Ok-Onward.is (rw c.in-Ok-Onward.is at c.in-Ok-Onward.field-0-is) c.requires.foreseen).0
