@@ -25,7 +25,8 @@ use Rattle.fl_cores_file.specs.Draft.{sets_cores, adds_link, adds_dispatcher, ex
 use Rattle.fl_cores_file.specs.Draft.{call_fault, rule_fault, fault_at, takes}
 use Rattle.fl_cores_file.specs.CoresFile.{Reading, CoresFile, FileOutcome, is_file, refused_at, beginning, belongs, named_by, does, does_block, DoesCommand, Does}
 use Rattle.fl_cores_file.specs.CoresFile.{lines_in, Behind, Follows, ReadsFrom, Reads}
-use Rattle.fl_cores.specs.Promised.{is_of_set_up, is_other, config_in}
+use Rattle.fl_cores_file_laws.specs.SetUps.{sets_up}
+use Rattle.fl_cores.specs.Promised.{is_other, config_in}
 use Rattle.fl_cores.proofs.Booted.{none_other}
 
 -- ---- cases
@@ -42,7 +43,7 @@ by_given P (Some x) y f h g = g x refl
 
 -- so many cores there may be, and each of these events is of a set-up
 abbrev MayStand : ℕ → List Event → Type 0
-MayStand n events = ((nat_lt n 1 || nat_lt most_cores n) ≡ false) × (list_all is_of_set_up events ≡ true)
+MayStand n events = ((nat_lt n 1 || nat_lt most_cores n) ≡ false) × (list_all sets_up events ≡ true)
 
 abbrev IsFit : Draft → Type 0
 IsFit d = MayStand d.cores d.setup
@@ -53,10 +54,10 @@ Stays (stops fault) = Unit {0}
 Stays (goes_on d) = IsFit d
 
 -- one event more
-with_one : (v : Event) (d : Draft) → is_of_set_up v ≡ true → IsFit d → MayStand d.cores (d.setup ++ v ∷ [])
+with_one : (v : Event) (d : Draft) → sets_up v ≡ true → IsFit d → MayStand d.cores (d.setup ++ v ∷ [])
 with_one v d makes h =
-    let last : list_all is_of_set_up (v ∷ []) ≡ true = and_from (is_of_set_up v) true makes refl in
-    (h.0, list_all-append is_of_set_up d.setup (v ∷ []) ∙ and_from (list_all is_of_set_up d.setup) (list_all is_of_set_up (v ∷ [])) h.1 last)
+    let last : list_all sets_up (v ∷ []) ≡ true = and_from (sets_up v) true makes refl in
+    (h.0, list_all-append sets_up d.setup (v ∷ []) ∙ and_from (list_all sets_up d.setup) (list_all sets_up (v ∷ [])) h.1 last)
 
 cores_stay : (n : ℕ) (d : Draft) → IsFit d → Stays (sets_cores n d)
 cores_stay n d h =

@@ -44,7 +44,7 @@ of_file pass none text file (fault.Setup number place) reads counted making is =
         (subst (λ vs. list_all (λ a. not (is_refusal a)) (answers_to (start_with file.cores) vs) ≡ true) x.1.events_are (pass text file reads)) x.1.answer
 of_file pass none text file (fault.Job number place) reads counted making is =
     let made = is.made in
-    none text file reads is.parts (record { world = made.world; shown = made.stands.1.shown; parts = made.parts }) number place is.refused
+    none text file reads is.parts (record { world = made.world; shown = made.stands.1.shown; parts = made.parts }) number place (inr is.refused)
 of_file pass none text file fault.Memory reads counted making is = tt
 of_file pass none text file fault.Thread reads counted making is = record { file = file; reads = reads; lacks = is }
 

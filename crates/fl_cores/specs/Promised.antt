@@ -1,7 +1,7 @@
 -- What is promised of a run of cores, beside what its report will be shown to say of calls.
 use Rattle.std.specs.Prelude.{ℕ, ◌≡◌, ◌⊎◌, ◌+◌, Bool, true, false, not, List, ◌++◌, length, take, Option, Some, None, position}
 use Rattle.std.specs.List.{list_all}
-use Rattle.fl_model.specs.Events.{Event, set_cores}
+use Rattle.fl_model.specs.Events.{Event}
 use Rattle.fl_model.specs.declared.event.Event.{Event as RustEvent}
 use Rattle.fl_model.specs.Views.{event_of}
 use Rattle.fl_model.specs.Runs.{answers_to, reached}
@@ -11,12 +11,14 @@ use Rattle.fl_cores_file.specs.Jobs.{Job}
 use Rattle.fl_cores_file.specs.CoresFile.{CoresFile, FileOutcome, Reads, is_file, refused_at}
 use Rattle.fl_cores_file.specs.Report.{TheReport, Ending, complete, turns_out}
 use Rattle.fl_cores_parts.specs.declared.fault.RunFault.TheVariants as run
+use Rattle.fl_cores_file_laws.specs.SetUps.{sets_up}
+use Rattle.fl_cores_jobs.specs.Whole.{RefusedAt}
 use Rattle.fl_cores_parts.specs.Faults.{IsRunFault}
 use Rattle.fl_cores_parts.specs.Ran.{Keeps, RanFrom}
 use Rattle.fl_cores_file.specs.Printed.{refusal_text, report_text}
 use Rattle.fl_world.specs.declared.booting.BootFault.TheVariants as boot
 use Rattle.fl_world_refines.specs.declared.parts.Parts.{Parts}
-use Rattle.fl_world_refines.specs.Apart.{is_making, AreParts}
+use Rattle.fl_world_refines.specs.Apart.{AreParts}
 use Rattle.fl_world.specs.Booting.{TheConfig, has_bad_cores, passes, Stands, AcceptsAll, IsFaultOf}
 use Rattle.fl_cores.specs.declared.fault.CoresFault.{CoresFault}
 use Rattle.fl_cores.specs.declared.fault.CoresFault.TheVariants as fault
@@ -25,14 +27,9 @@ use Rattle.fl_cores.specs.declared.text.CoresEnd.TheVariants as end
 
 -- ---- a set-up
 
--- an event of a set-up makes an interface, a link, a dispatcher, a service, or a binding by queues or by a ring; the number of cores is the configuration's
-abbrev pub is_of_set_up : Event → Bool
-is_of_set_up (set_cores n) = false
-is_of_set_up event = is_making event
-
--- an event that isn't of a set-up
+-- an event that isn't of a set-up; the number of cores is the configuration's
 abbrev pub is_other : Event → Bool
-is_other event = not (is_of_set_up event)
+is_other event = not (sets_up event)
 
 abbrev pub asks_other : RustEvent → Bool
 asks_other event = is_other (event_of event)
@@ -87,13 +84,12 @@ IsRefusedAt c number place (Some n) = IsFaultOf (front_of c n) (boot.Refused num
 abbrev pub IsRefused : TheConfig → ℕ → ℕ → Type 0
 IsRefused c number place = IsRefusedAt c number place (position is_other c.setup)
 
--- the set-up is accepted, and by what it makes the job at this place, from 1, is the first of these that has a fault (at place 0 it would be a
--- binding of the set-up: of one that is accepted none has a fault, by `SetUpsJoin` of fl_cores_file_laws)
+-- the set-up is accepted, and by what it makes the job at this place, from 1, is the first of these that has a fault
 pub record RefusesJob (c : TheConfig) (jobs : List Job) (number place : ℕ) : Type 0 where
   pub accepted : IsAccepted c
   pub parts : Parts
   pub made : Made c parts
-  pub refused : IsRunFault parts jobs (run.Refused number place)
+  pub refused : RefusedAt parts jobs number place
 
 -- the set-up is accepted, and by what it makes none of these jobs has a fault: what may be told where a thread doesn't start
 pub record LacksThread (c : TheConfig) (jobs : List Job) : Type 0 where

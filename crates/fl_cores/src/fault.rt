@@ -15,7 +15,7 @@ pub enum CoresFault {
     /// The event of the set-up at this place, from 1, is refused, with the fault's number; at place 0 the number of cores.
     #[error("the set-up is refused")]
     Setup { number: u8, place: usize },
-    /// The job at this place, from 1, is refused, with the fault's number; at place 0 a binding of the set-up.
+    /// The job at this place, from 1, is refused, with the fault's number.
     #[error("a job is refused")]
     Job { number: u8, place: usize },
     /// Out of memory (E99).

@@ -6,7 +6,8 @@ ghost use Rattle.fl_cores_file.specs.Reports.{report_of};
 ghost use Rattle.fl_world.specs.Booting.{config_of, IsFaultOf};
 ghost use Rattle.fl_cores_file.specs.Jobs.{Job as TheJob};
 ghost use Rattle.fl_cores_file.specs.Views.{job_of};
-ghost use Rattle.fl_cores.specs.Promised.{is_of_set_up, is_other, asks_other, cores_by, IsAccepted, Made, Reports, IsFault, IsLater};
+ghost use Rattle.fl_cores_file_laws.specs.SetUps.{sets_up};
+ghost use Rattle.fl_cores.specs.Promised.{is_other, asks_other, cores_by, IsAccepted, Made, Reports, IsFault, IsLater};
 ghost use Rattle.fl_cores_parts.specs.Ran.{Keeps, RanFrom};
 ghost use Rattle.fl_cores_parts.specs.Wired.{WiredFrom};
 ghost use Rattle.fl_cores.specs.Wired.{Wires};
@@ -15,6 +16,7 @@ use crate::fault::CoresFault;
 use fl_base::faults;
 use fl_core_run::Gate;
 use fl_cores_file::{Job, Report};
+use fl_cores_file_laws::law_files_join;
 use fl_cores_parts::{Recording, WiredCores, run_parts, wire_parts};
 use fl_model::{BackEnd, Event};
 use fl_world::{BootFault, Config, World};
@@ -24,8 +26,8 @@ use std::sync::Wait;
 use std::thread::Threads;
 
 // Whether an event makes something at once, beside the cores, whose number the configuration has: nothing else belongs to a set-up.
-fn is_of_set_up(event: &Event<'_>) -> bool
-    ensures of_set_up { result ≡ is_of_set_up (event_of event.now) }
+fn sets_up(event: &Event<'_>) -> bool
+    ensures of_set_up { result ≡ sets_up (event_of event.now) }
 {
     match event {
         Event::AddInterface { .. }
@@ -54,7 +56,7 @@ fn is_of_set_up(event: &Event<'_>) -> bool
 fn is_other(event: &Event<'_>) -> bool
     ensures other { result ≡ asks_other event.now }
 {
-    !is_of_set_up(event)
+    !sets_up(event)
 }
 
 fn place_of_other(events: &[Event<'_>]) -> Option<usize>
@@ -140,6 +142,7 @@ pub(crate) fn run_recorded<R: Threads + Wait + Sync, G: Gate + Sync>(
     ensures reports { IfOk result (λ r. Reports (config_of config.now) (map job_of jobs.entry.items) limit (report_of r)) }
     ensures refused { IfErr result (λ fault. IsFault (config_of config.now) (map job_of jobs.entry.items) fault) }
 {
+    law_files_join();
     if let Some(place) = first_other(&config.setup) {
         return Err(refuse_other(alloc, config, place));
     }
@@ -173,6 +176,7 @@ pub(crate) fn wire_cores(
     ensures wires { IfOk result (λ w. Wires (config_of config.now) (map job_of jobs.entry.items) w) }
     ensures refused { IfErr result (λ fault. IsFault (config_of config.now) (map job_of jobs.entry.items) fault) }
 {
+    law_files_join();
     if let Some(place) = first_other(&config.setup) {
         return Err(refuse_other(alloc, config, place));
     }

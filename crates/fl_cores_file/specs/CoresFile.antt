@@ -85,11 +85,11 @@ count_set_up bindings = count_by not bindings
 abbrev pub numbers_of : List Bool → List ℕ
 numbers_of bindings = numbers_from 0 (count_set_up bindings) bindings
 
--- the number of the binding at this place in the order of lines; a place without one stays as it is
+-- the number of the binding at this place among the `bind` lines, from 0; a place without one stays as it is
 abbrev pub numbered : List ℕ → ℕ → ℕ
 numbered numbers place = unwrap_or (slice_get numbers place) place
 
--- an end, and a job, which name a binding by its number instead of its line's place
+-- an end, and a job, which name a binding by its number instead of its place among the `bind` lines
 abbrev pub end_by : List ℕ → EndId → EndId
 end_by numbers e = record { binding = numbered numbers e.binding; side = e.side }
 
@@ -115,7 +115,7 @@ pub record CoresFile : Type 0 where
   pub names : Names
   pub numbers : List ℕ
 
--- of a reading whose jobs name their ends by the places of lines, and the numbers of these
+-- of a reading whose jobs name their ends by places among the `bind` lines, and the numbers of these
 abbrev pub file_by : List ℕ → Reading → CoresFile
 file_by numbers r = record {
   cores = r.draft.cores;

@@ -69,7 +69,7 @@ pub record Draft : Type 0 where
   pub seats : List DispatcherId
   -- in the order of their lines
   pub bindings : List Bound
-  -- what is asked for before the cores run, and their jobs; here an end names its binding by the place of its line
+  -- what is asked for before the cores run, and their jobs; here an end names its binding by that one's place among the `bind` lines, from 0
   pub setup : List Event
   pub jobs : List Job
 

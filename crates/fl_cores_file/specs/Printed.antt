@@ -44,7 +44,7 @@ end_at binding side = record { binding = binding; side = side }
 abbrev pub handled_text : CoresFile → TheReport → EndId → List ℕ
 handled_text f r e = flat_map (λ c. line (answer_text f.names (handle e c))) (at_end r.handled (end_by f.numbers e))
 
--- a binding, by the place of its line
+-- a binding, by its place among the `bind` lines
 abbrev pub binding_text : CoresFile → TheReport → ℕ → List ℕ
 binding_text f r place =
     given (refusal_of r (numbered f.numbers place))

@@ -25,3 +25,8 @@ ComesTo (Err Memory) left P = Unit {0}
 abbrev pub stop_of : Option ℕ → CoresLineFault
 stop_of None = Memory
 stop_of (Some number) = Refused number
+
+-- the fault's number
+abbrev pub number_of : CoresLineFault → ℕ
+number_of (Refused number) = number
+number_of Memory = 99

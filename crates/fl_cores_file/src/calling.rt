@@ -1,6 +1,6 @@
 //! Lines that hand in calls and set reply rules.
 
-ghost use Rattle.std.specs.Prelude.{◌≡◌, ◌<◌, IfSome, length, map, slice_get, slice_set};
+ghost use Rattle.std.specs.Prelude.{◌≡◌, ◌<◌, IfOk, IfSome, length, map, slice_get, slice_set};
 ghost use Rattle.fl_model.specs.Given.{changed_at};
 ghost use Rattle.fl_value_data.specs.Value.{call_of};
 ghost use Rattle.fl_cores_file.specs.Draft.{use_at, with_use, change_use, is_for_calls, is_for_rules};
@@ -14,6 +14,7 @@ use crate::stop::CoresLineFault;
 use fl_base::{EndId, MsgNo, Side, faults};
 use fl_interface::same_args;
 use fl_value_data::{Call, fits};
+use std::alloc::{AllocError, Global};
 
 impl EndUse {
     fn is_for_calls(self) -> bool
@@ -129,6 +130,18 @@ fn put_use_at(bindings: &mut Vec<DraftBinding>, end: EndId, what: EndUse)
     }
 }
 
+// The call, with memory of its own for as many arguments as it has. The list that they stood in is left empty.
+fn take_out(alloc: Global, call: &mut Call) -> Result<Call, AllocError>
+    ensures same { IfOk result (λ c. call_of c ≡ call_of call.old) }
+{
+    let mut args = Vec::with_capacity(alloc, call.args.len())?;
+    args.append(&mut call.args)?;
+    Ok(Call {
+        msg: call.msg,
+        args,
+    })
+}
+
 impl<'a> Draft<'a> {
     fn put_use(&mut self, end: EndId, what: EndUse)
         ensures put { draft_of self.new ≡ change_use end (use_from what) (draft_of self.old) }
@@ -162,12 +175,14 @@ impl<'a> Draft<'a> {
         rule_fault(end.side, message, answer, binding, planned)
     }
 
-    pub(crate) fn call(&mut self, end: EndId, call: Call) -> Result<(), CoresLineFault>
-        ensures comes { Comes result (draft_of self.new) (makes_call end (call_of call) (draft_of self.old)) }
+    // Where a call is accepted, its arguments are taken out of the list that it was read in.
+    pub(crate) fn call(&mut self, end: EndId, call: &mut Call) -> Result<(), CoresLineFault>
+        ensures comes { Comes result (draft_of self.new) (makes_call end (call_of call.old) (draft_of self.old)) }
     {
-        if let Some(number) = self.call_fault(end, &call) {
+        if let Some(number) = self.call_fault(end, call) {
             return Err(CoresLineFault::Refused(number));
         }
+        let call = take_out(self.alloc, call)?;
         self.put_use(end, EndUse::Calls);
         self.put_job(Job::Call { end, call })
     }

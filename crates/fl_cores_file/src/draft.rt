@@ -74,7 +74,7 @@ pub struct Draft<'a> {
     pub bindings: Vec<DraftBinding>,
     /// What is asked for before the cores run.
     pub setup: Vec<Event<'a>>,
-    /// What the cores are to do. Here an end names its binding by the place of its line.
+    /// What the cores are to do. Here an end names its binding by its place among the `bind` lines, from 0.
     pub jobs: Vec<Job<'a>>,
 }
 
@@ -152,7 +152,7 @@ impl<'a> Draft<'a> {
                 service,
                 back_end,
             } => self.bind(client, interface, service, back_end),
-            Event::Call(end, call) => self.call(end, call),
+            Event::Call(end, mut call) => self.call(end, &mut call),
             Event::Reply {
                 end,
                 message,

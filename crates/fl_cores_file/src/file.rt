@@ -69,7 +69,7 @@ fn number_bindings(alloc: Global, bindings: &[DraftBinding]) -> Result<Vec<usize
     Ok(numbers)
 }
 
-/// The number of a binding, by the place of its line.
+/// The number of a binding, by its place among the `bind` lines, from 0.
 pub fn number_at(numbers: &[usize], place: usize) -> usize
     ensures number { result ≡ numbered numbers.now place }
 {
@@ -89,7 +89,7 @@ pub(crate) fn end_by(numbers: &[usize], end: EndId) -> EndId
     }
 }
 
-// ScriptNames a job's end by its binding's number.
+// Names a job's end by its binding's number.
 fn number_job(numbers: &[usize], job: &mut Job<'_>)
     ensures job { job_of job.new ≡ job_by numbers.now (job_of job.old) }
 {

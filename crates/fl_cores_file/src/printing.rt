@@ -196,7 +196,7 @@ fn put_both(
     put_handled(alloc, out, file, report, client.peer())
 }
 
-// A binding, by the place of its line.
+// A binding, by its place among the `bind` lines.
 fn put_binding(
     alloc: Global,
     out: &mut Vec<u8>,

@@ -7,7 +7,8 @@ ghost use Rattle.fl_script_lines.specs.Asked.{Asked as TheAsked, asks};
 ghost use Rattle.fl_model.specs.Views.{event_of};
 ghost use Rattle.fl_script_lines.specs.Items.{a_line, a_block, is_too_long};
 ghost use Rattle.fl_script_lines.specs.Told.{names_of, named, IsNew, Tells};
-ghost use Rattle.fl_script_lines.specs.Views.{command_of, line_of, item_of};
+ghost use Rattle.fl_script_lines.specs.Reading.{command_by, line_with};
+ghost use Rattle.fl_script_lines.specs.Views.{command_of, part_of};
 ghost use Rattle.fl_check.specs.Text.{stands_for};
 ghost use Rattle.fl_cores_file.specs.CoresFile.{beginning, belongs, Does, does, does_block, DoesCommand, lines_in};
 ghost use Rattle.fl_cores_file.specs.CoresFile.{file_left, is_file, refused_at, Reads};
@@ -22,10 +23,12 @@ use fl_check::{TextRead, read_text};
 use fl_interface::Interface;
 use fl_model::Answer;
 use fl_script_lines::{
-    Command, Item, Line, LineFault, NamedEvent, ScriptNames, law_some_items, next_item,
+    Command, LineFault, NamedEvent, RawItem, ScriptNames, Verb, law_some_items, next_part,
+    read_command,
 };
-use fl_value_data::PlanNo;
+use fl_value_data::{PlanNo, Value};
 use std::alloc::{AllocError, Global};
+use std::mem;
 
 /// Bytes of the longest cores file; of a longer one line 1 is refused (E91).
 pub const MAX_TEXT: usize = 1_048_576;
@@ -35,6 +38,8 @@ pub const MAX_TEXT: usize = 1_048_576;
 pub struct PartialCoresFile<'a> {
     pub names: ScriptNames,
     pub draft: Draft<'a>,
+    // The memory in which each call is read; what is kept of it has memory of its own.
+    room: Vec<Value>,
 }
 
 // Whether a command may stand in a cores file.
@@ -69,6 +74,7 @@ impl<'a> PartialCoresFile<'a> {
         PartialCoresFile {
             names: ScriptNames::new(alloc),
             draft: Draft::new(alloc),
+            room: Vec::new(alloc),
         }
     }
 
@@ -127,24 +133,50 @@ impl<'a> PartialCoresFile<'a> {
         }
     }
 
-    fn line(&mut self, line: Line<'a>) -> Result<(), CoresLineFault>
-        ensures comes { ComesTo result (reading_of self.new) (Does (reading_of self.old) (a_line (line_of line.entry))) }
+    // A call, from what stands behind its word. Most lines are such: nothing is prepared for what others ask.
+    fn call_line(&mut self, rest: &[u8]) -> Result<(), CoresLineFault>
+        ensures comes { ComesTo result (reading_of self.new) (Does (reading_of self.old) (a_line (line_with (command_by Verb.Call rest.now)))) }
     {
-        match line {
-            Line::Silent => Ok(()),
-            Line::Command(command) => self.command(command),
-            Line::Heading(_) | Line::Unread => Err(CoresLineFault::Refused(faults::UNREAD)),
+        let room = mem::replace(&mut self.room, Vec::new(self.draft.alloc));
+        match self.names.call_line(rest, room) {
+            Ok((end, mut call)) => {
+                let taken = self.draft.call(end, &mut call);
+                self.room = call.args;
+                taken
+            }
+            Err(fault) => Err(stop_by(fault)),
+        }
+    }
+
+    // A line that begins with another word.
+    #[inline(never)]
+    fn other_line(&mut self, verb: Verb, rest: &'a [u8]) -> Result<(), CoresLineFault>
+        ensures comes { ComesTo result (reading_of self.new) (Does (reading_of self.old) (a_line (line_with (command_by verb rest.now)))) }
+    {
+        match read_command(verb, rest) {
+            Some(command) => self.command(command),
+            None => Err(CoresLineFault::Refused(faults::UNREAD)),
+        }
+    }
+
+    fn line(&mut self, verb: Verb, rest: &'a [u8]) -> Result<(), CoresLineFault>
+        ensures comes { ComesTo result (reading_of self.new) (Does (reading_of self.old) (a_line (line_with (command_by verb rest.now)))) }
+    {
+        match verb {
+            Verb::Call => self.call_line(rest),
+            _ => self.other_line(verb, rest),
         }
     }
 
     // Takes up an item. Where it stops, the reading is of no more use.
-    fn item(&mut self, item: Item<'a>) -> Result<(), CoresLineFault>
-        ensures comes { ComesTo result (reading_of self.new) (Does (reading_of self.old) (item_of item.entry)) }
+    fn part(&mut self, part: RawItem<'a>) -> Result<(), CoresLineFault>
+        ensures comes { ComesTo result (reading_of self.new) (Does (reading_of self.old) (part_of part.entry)) }
     {
-        match item {
-            Item::Line(line) => self.line(line),
-            Item::Block(plan, text) => self.block(plan, text),
-            Item::OpenBlock => Err(CoresLineFault::Refused(faults::UNREAD)),
+        match part {
+            RawItem::Silent => Ok(()),
+            RawItem::Command(verb, rest) => self.line(verb, rest),
+            RawItem::Block(plan, text) => self.block(plan, text),
+            RawItem::Unread | RawItem::OpenBlock => Err(CoresLineFault::Refused(faults::UNREAD)),
         }
     }
 
@@ -159,9 +191,9 @@ impl<'a> PartialCoresFile<'a> {
         let mut rest = text;
         let mut line = 1;
         while !rest.is_empty() {
-            let (item, behind) = next_item(rest);
-            let lines = lines_in(&item);
-            if let Err(stop) = self.item(item) {
+            let (part, behind) = next_part(rest);
+            let lines = lines_in(&part);
+            if let Err(stop) = self.part(part) {
                 return Err((line, stop));
             }
             line += lines;
@@ -189,12 +221,12 @@ fn count_lines(text: &[u8]) -> usize
 }
 
 // How many lines an item has.
-fn lines_in(item: &Item<'_>) -> usize
-    ensures lines { result ≡ lines_in (item_of item.now) }
+fn lines_in(part: &RawItem<'_>) -> usize
+    ensures lines { result ≡ lines_in (part_of part.now) }
 {
-    match item {
-        Item::Line(_) | Item::OpenBlock => 1,
-        Item::Block(_, text) => 2 + count_lines(text),
+    match part {
+        RawItem::Silent | RawItem::Command(_, _) | RawItem::Unread | RawItem::OpenBlock => 1,
+        RawItem::Block(_, text) => 2 + count_lines(text),
     }
 }
 

@@ -3,7 +3,7 @@
 ghost use Rattle.std.specs.Prelude.{◌≡◌};
 ghost use Rattle.fl_script_lines.specs.Faults.{refusal_of};
 ghost use Rattle.fl_cores_file.specs.declared.stop.CoresLineFault.TheVariants.{Memory as OutOfMemory};
-ghost use Rattle.fl_cores_file.specs.Verdicts.{stop_of};
+ghost use Rattle.fl_cores_file.specs.Verdicts.{stop_of, number_of};
 
 use fl_script_lines::LineFault;
 use std::alloc::{AllocError, AllocFailed};
@@ -18,6 +18,18 @@ pub enum CoresLineFault {
     /// Memory was refused (E99).
     #[error("out of memory")]
     Memory,
+}
+
+impl CoresLineFault {
+    /// The fault's number.
+    pub fn number(self) -> u8
+        ensures number { result ≡ number_of self }
+    {
+        match self {
+            CoresLineFault::Refused(number) => number,
+            CoresLineFault::Memory => 99,
+        }
+    }
 }
 
 impl From<AllocError> for CoresLineFault {

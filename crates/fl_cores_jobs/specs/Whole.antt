@@ -165,6 +165,11 @@ abbrev pub fault_at : CoresLineFault → ℕ → JobFault
 fault_at (stop.Refused number) place = fault.Refused number place
 fault_at stop.Memory place = fault.Memory
 
+-- its number
+abbrev pub number_of : JobFault → ℕ
+number_of (fault.Refused number place) = number
+number_of fault.Memory = 99
+
 -- the job at this place, from 1, is refused, with this number: those before it were joined, and none of them has a fault
 pub record RefusedAt (p : Parts) (jobs : List Job) (number place : ℕ) : Type 0 where
   pub before : List Job

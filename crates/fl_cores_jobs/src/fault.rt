@@ -1,5 +1,8 @@
 //! Why jobs aren't joined.
 
+ghost use Rattle.std.specs.Prelude.{◌≡◌};
+ghost use Rattle.fl_cores_jobs.specs.Whole.{number_of};
+
 use std::alloc::{AllocError, AllocFailed};
 use thiserror::Error;
 
@@ -13,6 +16,18 @@ pub enum JobFault {
     /// Out of memory (E99).
     #[error("out of memory")]
     Memory,
+}
+
+impl JobFault {
+    /// The fault's number.
+    pub fn number(self) -> u8
+        ensures number { result ≡ number_of self }
+    {
+        match self {
+            JobFault::Refused { number, .. } => number,
+            JobFault::Memory => 99,
+        }
+    }
 }
 
 impl From<AllocError> for JobFault {

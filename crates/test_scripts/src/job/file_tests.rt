@@ -4,6 +4,7 @@ use crate::rows::{ScriptCase, all_hold};
 use fl_base::{EndId, Side};
 use fl_cores_file::{CoresFile, CoresText, Job, read_cores_text};
 use fl_model::Event;
+use fl_value_data::Call;
 use std::alloc::{AllocError, Global};
 use std::test::Fail;
 
@@ -22,8 +23,18 @@ const MIXED: &[AcceptedFile] = &[AcceptedFile {
         bind p d i s ump 8\nbind q d i s hop 0 1\nbind r d i s ump 4\nbind t d i s hop 0 1\n\
         reply r.s a a\ncall q.c a(7)\ncall r.c a(8)\ncall t.s a(9)\n",
     cores: 2,
-    letters: b"ilddebb os os r1s c2c c1c c3s",
+    letters: b"ilddebb os os r1s c2c1 c1c1 c3s1",
     numbers: &[0, 2, 1, 3],
+}];
+
+// Each call is read in the memory of the one before.
+const CALLS: &[AcceptedFile] = &[AcceptedFile {
+    text: b"idl\ninterface i { message a(uint32 v, uint8 w); message b(); message c(uint8 x); }\n.\n\
+        disp d 0\ndisp e 0\nexport s e i\nbind p d i s local 4\n\
+        call p.c a(1, 2)\ncall p.c b()\ncall p.s c(3)\ncall p.c a(4, 5)\n",
+    cores: 1,
+    letters: b"iddeb c0c2 c0c0 c0s1 c0c2",
+    numbers: &[0],
 }];
 
 const NO_LINES: &[AcceptedFile] = &[AcceptedFile {
@@ -46,20 +57,23 @@ fn event_letter(event: &Event<'_>) -> u8 {
     }
 }
 
-// A job at an end: a letter, the end's binding as a digit, and its side.
-fn at_end(letter: u8, end: EndId) -> [u8; 4] {
-    let digit = match end.binding {
+fn digit(number: usize) -> u8 {
+    match number {
         0 => b'0',
         1 => b'1',
         2 => b'2',
         3 => b'3',
         _ => b'?',
-    };
+    }
+}
+
+// A job at an end: a letter, the end's binding as a digit, and its side.
+fn at_end(letter: u8, end: EndId) -> [u8; 4] {
     let side = match end.side {
         Side::Client => b'c',
         Side::Server => b's',
     };
-    [b' ', letter, digit, side]
+    [b' ', letter, digit(end.binding), side]
 }
 
 fn put_opening(out: &mut Vec<u8>, service: &[u8]) -> Result<(), AllocError> {
@@ -67,11 +81,20 @@ fn put_opening(out: &mut Vec<u8>, service: &[u8]) -> Result<(), AllocError> {
     out.extend_from_slice(service)
 }
 
+// A call, with the number of its arguments, if it has memory for just these.
+fn put_call(out: &mut Vec<u8>, end: EndId, call: &Call) -> Result<(), AllocError> {
+    out.extend_from_slice(&at_end(b'c', end))?;
+    let count = call.args.len();
+    let is_exact = call.args.capacity() == count;
+    out.push(if is_exact { digit(count) } else { b'!' })?;
+    Ok(())
+}
+
 fn put_job(out: &mut Vec<u8>, job: &Job<'_>) -> Result<(), AllocError> {
     match job {
         Job::Open(request) => put_opening(out, request.service),
         Job::Reply { end, .. } => out.extend_from_slice(&at_end(b'r', *end)),
-        Job::Call { end, .. } => out.extend_from_slice(&at_end(b'c', *end)),
+        Job::Call { end, call } => put_call(out, *end, call),
     }
 }
 
@@ -108,6 +131,11 @@ impl ScriptCase for AcceptedFile {
 #[test]
 fn bindings_that_are_set_up_come_first(rt: HostRuntime) -> Result<(), Fail> {
     all_hold(rt.alloc(), "bindings", MIXED)
+}
+
+#[test]
+fn calls_have_memory_for_their_own_arguments(rt: HostRuntime) -> Result<(), Fail> {
+    all_hold(rt.alloc(), "calls", CALLS)
 }
 
 #[test]

@@ -1,6 +1,6 @@
 use Rattle.std.proofs.Common.{◌≡◌, arith, length, subst}
 use Rattle.std.proofs.lemmas.Bool.Decides.{nat_tests}
-use Rattle.fl_script_lines.specs.Views.{item_of}
+use Rattle.fl_script_lines.specs.Views.{part_of}
 use Rattle.fl_cores_file.specs.CoresFile.{Reading, file_left, ReadsFrom}
 use Rattle.fl_cores_file.specs.Files.{reading_of}
 use Rattle.fl_cores_file.specs.Views.{draft_of}
@@ -14,23 +14,24 @@ loop-rest-init c = (λ o h. subst (λ (r : Reading). ReadsFrom r 1 c.args.text.n
 pub returns-in-Err : goal.returns-in-Err
 returns-in-Err c = record {
   file = tt;
-  refused = stops_there (Unit {0}) (reading_of c.loop-rest.self) (reading_of c.item.new.self) c.loop-rest.line c.loop-rest.rest.now c.next_item.result.1.now
-      c.args.text.now (item_of c.next_item.result.0) c.in-Err.stop c.law_some_items.ensures.some c.next_item.ensures.items c.in-Err.ensures.comes
+  refused = stops_there (Unit {0}) (reading_of c.loop-rest.self) (reading_of c.part.new.self) c.loop-rest.line c.loop-rest.rest.now c.next_part.result.1.now
+      c.args.text.now (part_of c.next_part.result.0) c.in-Err.stop c.law_some_items.ensures.some c.next_part.ensures.items c.in-Err.ensures.comes
       c.loop-rest.invariant.0 c.requires.short;
 }
 
 pub overflow_add-line : goal.overflow_add-line
 overflow_add-line c =
-    let h = line_fits c.loop-rest.line c.lines_in-lines.result c.args.text.now c.loop-rest.rest.now c.next_item.result.1.now (item_of c.next_item.result.0)
-    c.law_some_items.ensures.some c.requires.short c.loop-rest.invariant.1 c.next_item.ensures.items c.lines_in-lines.ensures.lines in
+    let h = line_fits c.loop-rest.line c.lines_in-lines.result c.args.text.now c.loop-rest.rest.now c.next_part.result.1.now (part_of c.next_part.result.0)
+    c.law_some_items.ensures.some c.requires.short c.loop-rest.invariant.1 c.next_part.ensures.items c.lines_in-lines.ensures.lines in
     omega (arith, h)
 
 pub loop-rest-preserved : goal.loop-rest-preserved
 loop-rest-preserved c = (
-  read_line (reading_of c.loop-rest.self) (reading_of c.item.new.self) c.loop-rest.line c.lines_in-lines.result c.loop-rest.rest.now c.next_item.result.1.now
-      c.args.text.now (item_of c.next_item.result.0) c.loop-rest.invariant.0 c.next_item.ensures.items c.in_default.ensures.comes c.lines_in-lines.ensures.lines,
-  line_more c.loop-rest.line c.lines_in-lines.result c.args.text.now c.loop-rest.rest.now c.next_item.result.1.now (item_of c.next_item.result.0)
-      c.loop-rest.invariant.1 c.next_item.ensures.items c.lines_in-lines.ensures.lines,
+  read_line (reading_of c.loop-rest.self) (reading_of c.part.new.self) c.loop-rest.line c.lines_in-lines.result c.loop-rest.rest.now c.next_part.result.1.now
+      c.args.text.now (part_of c.next_part.result.0) c.loop-rest.invariant.0 c.next_part.ensures.items c.in_default.ensures.comes
+      c.lines_in-lines.ensures.lines,
+  line_more c.loop-rest.line c.lines_in-lines.result c.args.text.now c.loop-rest.rest.now c.next_part.result.1.now (part_of c.next_part.result.0)
+      c.loop-rest.invariant.1 c.next_part.ensures.items c.lines_in-lines.ensures.lines,
 )
 
 pub returns-in-Ok : goal.returns-in-Ok
