@@ -4,3 +4,4 @@ pub mod Runs
 pub mod Tells
 pub mod CoreThreads
 pub mod Taking
+pub mod NoReports

@@ -1,5 +1,5 @@
--- Which fault of a run comes of which fault below, and why there is one. The public promise rests on `IsRunFault`.
-use Rattle.std.specs.Prelude.{List, ◌⊎◌}
+-- Which fault of a run comes of which fault below, the faults' numbers, and why there is one. The public promise rests on `IsRunFault`.
+use Rattle.std.specs.Prelude.{ℕ, List, ◌⊎◌}
 use Rattle.fl_cores_file.specs.Jobs.{Job}
 use Rattle.fl_world_refines.specs.declared.parts.Parts.{Parts}
 use Rattle.fl_cores_jobs.specs.Whole.{NoneRefused, IsFault}
@@ -17,6 +17,12 @@ by_job job.Memory = Memory
 abbrev pub by_stop : NoReport → RunFault
 by_stop stop.Memory = Memory
 by_stop stop.Thread = Thread
+
+-- the fault's number; of a thread that doesn't start the program's status
+abbrev pub number_of : RunFault → ℕ
+number_of (Refused number place) = number
+number_of Memory = 99
+number_of Thread = 3
 
 -- a job is refused only where joining refuses it: it is the first that has a fault, with its number; or, at place 0, a binding of the set-up is. Where
 -- memory is wanted in joining no job before that has a fault, and none at all where it is wanted later, or a thread

@@ -2,7 +2,7 @@
 
 ghost use Rattle.std.specs.Prelude.{◌≡◌};
 ghost use Rattle.fl_cores_parts.specs.declared.fault.RunFault.TheVariants.{Memory as OutOfMemory};
-ghost use Rattle.fl_cores_parts.specs.Faults.{by_job, by_stop};
+ghost use Rattle.fl_cores_parts.specs.Faults.{by_job, by_stop, number_of};
 
 use fl_cores_fork::NoReport;
 use fl_cores_jobs::JobFault;
@@ -20,6 +20,19 @@ pub enum RunFault {
     /// A thread doesn't start.
     #[error("a thread doesn't start")]
     Thread,
+}
+
+impl RunFault {
+    /// The fault's number; of a thread that doesn't start the program's status, 3.
+    pub fn number(self) -> u8
+        ensures number { result ≡ number_of self }
+    {
+        match self {
+            RunFault::Refused { number, .. } => number,
+            RunFault::Memory => 99,
+            RunFault::Thread => 3,
+        }
+    }
 }
 
 impl From<NoReport> for RunFault {
