@@ -1,7 +1,10 @@
+mod After
 mod Gives
 mod HandleSends
 mod HeldSends
 mod Messages
+mod Refused
 mod RunSends
 mod Sizes
 mod Starts
+mod Taped

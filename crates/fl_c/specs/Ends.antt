@@ -29,7 +29,8 @@ abbrev pub called_as : Result (Unit {0}) EndFault → Result Outcome UseFault
 called_as (Ok done) = Ok Accepted
 called_as (Err fault) = Err (End fault)
 
--- numbers that are no call's are refused, and nothing is done; else their call is made
+-- numbers that are no call's are refused, and nothing is done; else their call is made, or refused, and memory runs out only where
+-- the end refuses it for nothing else
 abbrev pub CallsBy : TheHeld → List ℕ → Result Outcome UseFault → TheHeld → Type 0
 CallsBy h numbers r t =
     ((fault : UseFault) × (r ≡ Err fault) × RefusesNumbers (program_of_held h) numbers fault × (t ≡ h))

@@ -22,7 +22,7 @@ use Rattle.fl_c.specs.declared.answer.Outcome.{Outcome}
 use Rattle.fl_c.specs.declared.answer.Outcome.TheVariants.{Counted, Sized, Accepted, Fragment, Nothing, PartTaken, Handled, CallRead}
 use Rattle.fl_c.specs.declared.answer.UseFault.{UseFault}
 use Rattle.fl_c.specs.declared.answer.UseFault.TheVariants.{NoSuchOperation, WrongRoom, Unread, End}
-use Rattle.fl_c.specs.Calls.{IsNoMessage, AreCall, RefusesNumbers, PutsCall}
+use Rattle.fl_c.specs.Calls.{IsNoMessage, AreCall, LacksCall, PutsCall}
 use Rattle.fl_c.specs.Sides.{numbers_of}
 
 -- ---- a program
@@ -67,11 +67,11 @@ pub record TheSender : Type 0 where
   pub program : Program
   pub left : List Frag
 
--- a run of the call of these numbers; or why they are none
+-- a run of the call of these numbers; or why there is no call
 abbrev pub StartsRun : TheProgram → List ℕ → Result (MsgNo × TheSending) UseFault → Type 0
 StartsRun x numbers (Ok started) = ((c : TheCall) × AreCall x numbers c
     × (left_at (code_in Send x started.0.0) started.1 ≡ frags_of x.plan x.interface c)) × RunsAt (code_in Send x started.0.0) started.1
-StartsRun x numbers (Err fault) = RefusesNumbers x numbers fault
+StartsRun x numbers (Err fault) = LacksCall x numbers fault
 
 -- a call is begun where none is left; or why not
 abbrev pub StartsBy : TheSender → List ℕ → Result Outcome UseFault → TheSender → Type 0
@@ -80,7 +80,7 @@ StartsBy h numbers (Ok Accepted) t = (h.left ≡ [])
     × (t.program ≡ h.program)
 StartsBy h numbers (Ok outcome) t = ⊥
 StartsBy h numbers (Err (End Busy)) t = (h.left ≢ []) × (t ≡ h)
-StartsBy h numbers (Err fault) t = (h.left ≡ []) × RefusesNumbers (program_of h.program) numbers fault × (t ≡ h)
+StartsBy h numbers (Err fault) t = (h.left ≡ []) × LacksCall (program_of h.program) numbers fault × (t ≡ h)
 
 -- the first of these fragments is written to a room, and the others are left; or there is none
 abbrev pub Gives : List Frag → List ℕ → Result Outcome UseFault → List Frag → List ℕ → Type 0

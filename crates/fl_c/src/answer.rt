@@ -5,6 +5,7 @@ ghost use Rattle.fl_c.specs.Numbers.{fault_of, wanted_of, what_of, count_of, ans
 
 use fl_endpoint::EndFault;
 use fl_link::PutFault;
+use thiserror::Error;
 
 /// What an operation came to.
 #[derive(Clone, Copy)]
@@ -52,21 +53,28 @@ pub enum Outcome {
 }
 
 /// Why an operation was refused.
-#[derive(Clone, Copy)]
+#[derive(Clone, Copy, Debug, Error)]
 pub enum UseFault {
     /// There is no such operation at a handle of this kind, or no such run (101).
+    #[error("there is no such operation at a handle of this kind, or no such run")]
     NoSuchOperation,
     /// There are too few or too many numbers (103).
+    #[error("there are too few or too many numbers")]
     WrongRoom,
     /// There are too few numbers (103): so many are wanted, as the answer's count tells.
+    #[error("there are too few numbers: {wanted} are wanted")]
     ShortRoom { wanted: u64 },
     /// A call that was handled is to be read first (105).
+    #[error("a call that was handled is to be read first")]
     Unread,
     /// The fragment only acknowledges: a put writes none (63).
+    #[error("the fragment only acknowledges: a put writes none")]
     OnlyAcknowledges,
     /// Nothing was put (30, 33).
+    #[error("{0}")]
     Link(PutFault),
     /// The end refuses (33, 40 to 43, 60 to 66, 99).
+    #[error("{0}")]
     End(EndFault),
 }
 

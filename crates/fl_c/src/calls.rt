@@ -6,6 +6,7 @@ ghost use Rattle.fl_compile.specs.Programs.{program_of};
 ghost use Rattle.fl_c.specs.Calls.{IsNoMessage, ReadsCall, PutsCall};
 
 use crate::answer::UseFault;
+use crate::tapes::is_tape;
 use fl_base::MsgNo;
 use fl_compile::Program;
 use fl_endpoint::EndFault;
@@ -27,7 +28,7 @@ pub(crate) fn message_at(program: &Program, number: u64) -> Option<MsgNo>
 
 // The first of some numbers, and the others.
 #[inline]
-fn first_and_rest(numbers: &[u64]) -> Option<(u64, &[u64])>
+pub(crate) fn first_and_rest(numbers: &[u64]) -> Option<(u64, &[u64])>
     ensures some { IfSome result (λ r. numbers.now ≡ r.0 ∷ r.1.now) }
     ensures none { IfNone result (numbers.now ≡ []) }
 {
@@ -37,12 +38,12 @@ fn first_and_rest(numbers: &[u64]) -> Option<(u64, &[u64])>
     }
 }
 
-/// The call of these numbers: its message's, and its tape.
+/// The call of these numbers: its message's, and its tape; none where memory ran out for it.
 pub(crate) fn read_numbers(
     alloc: Global,
     program: &Program,
     numbers: &[u64],
-) -> Result<Call, UseFault>
+) -> Result<Option<Call>, UseFault>
     ensures reads { ReadsCall (program_of program.now) numbers.now result }
 {
     let Some((message, tape)) = first_and_rest(numbers) else {
@@ -52,10 +53,23 @@ pub(crate) fn read_numbers(
         return Err(UseFault::End(EndFault::UnknownMessage));
     };
     match unflatten(alloc, message, tape, program.interface(), program.plan()) {
-        Err(AllocError) => Err(UseFault::End(EndFault::Memory)),
+        Err(AllocError) => without_memory(program, message, tape),
         Ok(None) => Err(UseFault::End(EndFault::Misfit)),
-        Ok(Some(call)) => Ok(call),
+        Ok(Some(call)) => Ok(Some(call)),
     }
+}
+
+// What is known of a call's numbers where memory ran out: whether they are a call's.
+#[cold]
+#[inline(never)]
+fn without_memory(program: &Program, message: MsgNo, tape: &[u64]) -> Result<Option<Call>, UseFault>
+    requires known { message.0 < length (program_of program.now).interface.messages }
+    ensures reads { ReadsCall (program_of program.now) (message.0 ∷ tape.now) result }
+{
+    if !is_tape(message, tape, program.interface(), program.plan()) {
+        return Err(UseFault::End(EndFault::Misfit));
+    }
+    Ok(None)
 }
 
 // Writes a call's message and tape into the first places of a room.

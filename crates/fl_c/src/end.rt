@@ -1,6 +1,10 @@
 //! An end that owns its side and its place, and its operations.
 
-ghost use Rattle.std.specs.Prelude.{◌≡◌, None, IfOk};
+ghost use Rattle.std.specs.Prelude.{◌≡◌, true, None, Err, IfOk};
+ghost use Rattle.fl_value_data.specs.Value.{TheCall};
+ghost use Rattle.fl_value_data.specs.Fits.{fits_of};
+ghost use Rattle.fl_endpoint.specs.View.{interface_in};
+ghost use Rattle.fl_endpoint.specs.Events.{Calls};
 ghost use Rattle.fl_c.specs.Sides.{Tells};
 ghost use Rattle.fl_c.specs.View.{IsNewEnd};
 ghost use Rattle.fl_c.specs.Ends.{called_as, received_as, handled_in};
@@ -58,6 +62,24 @@ fn called(answer: Result<(), EndFault>) -> Result<Outcome, UseFault>
     }
 }
 
+// What a fitting call comes to for which memory ran out: what the end refuses it for, else the want of memory.
+#[cold]
+#[inline(never)]
+fn without_memory(end: &End) -> EndFault
+    ensures refuses { (c : TheCall) → fits_of (interface_in end.now) c ≡ true → Calls end.now c (Err result) end.now }
+{
+    if !end.is_bound() {
+        return EndFault::NotBound;
+    }
+    if end.is_failed() {
+        return EndFault::Failed;
+    }
+    if end.is_busy() {
+        return EndFault::Busy;
+    }
+    EndFault::Memory
+}
+
 // What a receive comes to, as it is told, and the call that stays to be read.
 #[inline]
 fn received(answer: Result<ReceiveAnswer, EndFault>) -> (Result<Outcome, UseFault>, Option<Call>)
@@ -99,14 +121,17 @@ impl HeldEnd {
     ///
     /// # Errors
     /// There is no number (103); no such message (41); the tape is that of no fitting call (42); and those of
-    /// `End::call`.
+    /// `End::call`, of which out of memory (99) is told last.
     #[inline(never)]
     pub fn call(&mut self, numbers: &[u64]) -> Result<Outcome, UseFault>
         ensures calls { CallsBy self.old numbers.now result self.new }
     {
-        let call = match read_numbers(self.alloc, self.end.program(), numbers) {
-            Ok(call) => call,
+        let read = match read_numbers(self.alloc, self.end.program(), numbers) {
+            Ok(read) => read,
             Err(fault) => return Err(fault),
+        };
+        let Some(call) = read else {
+            return called(Err(without_memory(&self.end)));
         };
         called(self.end.call(&call, &mut self.spare))
     }

@@ -11,7 +11,7 @@
 //! - `operation.rt`: the operations, by number
 //! - `side.rt`: operations at a side of a ring
 //! - `end.rt`: an end with its side and place, and operations at it (`specs/Ends.antt`)
-//! - `calls.rt`: calls as numbers (`specs/Calls.antt`)
+//! - `calls.rt`: calls as numbers (`specs/Calls.antt`); `tapes.rt`: whether a tape is a call's, where memory ran out
 //! - `program.rt`, `sender.rt`, `receiver.rt`: a program alone, and runs of its stubs alone (`specs/Runs.antt`)
 //! - `making.rt`: the ends, or the program, of a text or an image
 //! - `answer.rt`: what an operation comes to, and its numbers
@@ -30,6 +30,7 @@ mod sender;
 mod sending;
 mod shortcuts;
 mod side;
+mod tapes;
 #[cfg(test)]
 mod tests;
 

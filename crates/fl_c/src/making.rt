@@ -12,17 +12,22 @@ use fl_image::{BadImage, ImageFault, read_image};
 use fl_ring::{RingFault, SharedSide, duo};
 use fl_value_data::PlanNo;
 use std::alloc::{AllocError, Global};
+use thiserror::Error;
 
 /// Why nothing was made.
-#[derive(Clone, Copy)]
+#[derive(Clone, Copy, Debug, Error)]
 pub enum MakeFault {
     /// A ring can't have this number of slots (32).
+    #[error("a ring can't have this number of slots")]
     BadSize,
     /// The text has this fault, so many bytes from its start (1 to 21).
+    #[error("the text has fault E{number}, {offset} bytes from its start")]
     Text { number: u8, offset: usize },
     /// The bytes are no image (80 to 85).
+    #[error("{0}")]
     Image(BadImage),
     /// Out of memory (99).
+    #[error("out of memory")]
     Memory,
 }
 

@@ -84,9 +84,12 @@ fn start(alloc: Global, program: &Program, numbers: &[u64]) -> Result<(MsgNo, Se
     ensures starts { StartsRun (program_of program.now) numbers.now result }
 {
     law_sends_fragments();
-    let call = match read_numbers(alloc, program, numbers) {
-        Ok(call) => call,
+    let read = match read_numbers(alloc, program, numbers) {
+        Ok(read) => read,
         Err(fault) => return Err(fault),
+    };
+    let Some(call) = read else {
+        return Err(UseFault::End(EndFault::Memory));
     };
     let mut tape = Vec::new(alloc);
     let Ok(()) = flatten_into(&mut tape, &call, program.interface(), program.plan()) else {

@@ -13,79 +13,66 @@ use flounder_show::{ShowFault, cause_of};
 use std::alloc::Global;
 use std::io::Write;
 use std::{fmt, io};
+use thiserror::Error;
 
 /// Why the program ends with another status than 0. It is printed with its line end.
-#[derive(Drop)]
+#[derive(Drop, Error)]
 pub enum Fault<'a> {
     /// The words of the command line aren't of a form that the program has.
+    #[error("{error}{hint}")]
     Usage {
         error: clap::Error,
         hint: &'static str,
     },
     /// The words of the command line can't be had.
+    #[error("the words of the command line could not be read: {0}\n")]
     Words(io::Error),
     /// A word of the command line is no text.
+    #[error("the words of the command line could not be read: {0}\nhelp: a word is not UTF-8: give files names that are\n")]
     NoText(io::Error),
     /// The file isn't there, or can't be read.
+    #[error("{file} could not be read: {error}\n")]
     Unread {
         file: FileName<'a>,
         error: io::Error,
     },
     /// The file's content is refused.
+    #[error("{0}\n")]
     Show(RefusedFile<'a>),
     /// The file can't be written.
+    #[error("{file} could not be written: {error}\n")]
     Unmade {
         file: FileName<'a>,
         error: io::Error,
     },
     /// The script was cut short.
+    #[error("{fault}{reason}\n")]
     Exec {
         fault: ExecFault,
         reason: Reason,
     },
     /// A line of the cores file is refused. [`crate::explain_line`] tells which.
+    #[error("{file}: nothing was run, since a line is refused; docs/FAULTS.md says of its fault what to do\n")]
     Line {
         file: FileName<'a>,
     },
     /// A core hadn't finished when its turns were used up.
+    #[error("a core had not finished when its turns ({turns}) were used up; docs/CORES.md says how to choose the number\n")]
     TurnsOut {
         turns: u64,
     },
     /// Standard output takes no more.
+    #[error("standard output could not be written: {0}\n")]
     Unwritten(io::Error),
     /// Out of memory.
+    #[error("out of memory\n")]
     Memory,
 }
 
-impl fmt::Display for Fault<'_> {
+impl fmt::Debug for Fault<'_> {
+    // As it is printed, since what it holds is for that alone.
     fn fmt<W: fmt::Write>(&self, f: &mut fmt::Formatter<W>) -> fmt::Result {
-        match self {
-            Fault::Usage { error, hint } => write!(f, "{error}{hint}"),
-            Fault::Words(error) => write!(
-                f,
-                "the words of the command line could not be read: {error}\n"
-            ),
-            Fault::NoText(error) => write!(
-                f,
-                "the words of the command line could not be read: {error}\nhelp: a word is not UTF-8: give files names that are\n"
-            ),
-            Fault::Unread { file, error } => write!(f, "{file} could not be read: {error}\n"),
-            Fault::Show(refused) => write!(f, "{refused}\n"),
-            Fault::Unmade { file, error } => write!(f, "{file} could not be written: {error}\n"),
-            Fault::Exec { fault, reason } => write!(f, "{fault}{reason}\n"),
-            Fault::Line { file } => write!(
-                f,
-                "{file}: nothing was run, since a line is refused; docs/FAULTS.md says of its fault what to do\n"
-            ),
-            Fault::TurnsOut { turns } => write!(
-                f,
-                "a core had not finished when its turns ({turns}) were used up; docs/CORES.md says how to choose the number\n"
-            ),
-            Fault::Unwritten(error) => {
-                write!(f, "standard output could not be written: {error}\n")
-            }
-            Fault::Memory => f.write_str("out of memory\n"),
-        }
+        write!(f, "{self}")
     }
 }
 
