@@ -121,7 +121,7 @@ module _ (law : StepsAgree) (n i : ℕ) (l : LinkId) (frag : Frag) (e : EndId) (
 
   pub arrives_there : MachineDoes (forward n (neighbour_on h.before.run.core l)) (arrival_answer answer) s ys
   arrives_there =
-      forward_is looks law ys arrival g last last_noted come.world come.they_make (arrival_answer answer)
+      forward_is looks law ys arrival g last last_noted come.world come.they_make (arrival_answer answer) (come.bindings ∙ (seen looks).bindings)
       (subst (λ (k : ℕ). OverSide (seen looks).world n k (ArrivesWith (inbound l.0 frag e) (arrival_answer answer)) come.world)
       (same_number looks g.before g.before_is come.number come.number_is) come.over)
 

@@ -94,7 +94,7 @@ module _ {jobs : List CoreJob} {n i : ℕ} {l : LinkId} {found there : Result Li
 
   module _ (law : StepsAgree) (ys : List JoinedCore) (log_entry : LogEntry) (g : HappensAt jobs n log_entry ms ys) (last : TheRun FacingSide)
       (noted : g.after ≡ record last { progresses = g.after.progresses }) (w2 : TheWorld) (joined : IsJoined w2 (slice_set ms n (ended jobs n log_entry ms ys g last)))
-      (answer : Answer) where
+      (answer : Answer) (kept : length w2.bindings ≡ length b.show.world.bindings) where
     pub forward_is : ForwardsBy there n (record { link = l.0; side = seen.number }) seen.world answer w2
         → MachineDoes (forward n (neighbour_on h.before.run.core l)) answer s ys
     forward_is follows =
@@ -103,4 +103,4 @@ module _ {jobs : List CoreJob} {n i : ℕ} {l : LinkId} {found there : Result Li
         ForwardsFirst n z b.show.world answer w2 ⊎ IsStray b.show.world.rings (ring_at z.side) b.show.world answer w2))
         (sym places) (inl (record { ahead = there; looked = seen.world; looks = seen.over; follows = follows })) in
         subst (λ (c : ℕ). MachineDoes (forward n c) answer s ys) (ap (λ (t : TheRun TheSide). neighbour_on t.core l) h.beside_is.own)
-        (finish jobs n log_entry ms ys g law (forward n (neighbour_on h.beside.core l)) answer s b.show.world w2 last b.show.shows noted joined does)
+        (finish jobs n log_entry ms ys g law (forward n (neighbour_on h.beside.core l)) answer s b.show.world w2 last b.show.shows noted joined kept does)

@@ -52,7 +52,7 @@ calls_are law n name c answer some jobs xs ys s show whole still h =
     let does : MakesCall name c show.world (call_answer answer) it.world =
     subst (λ (location : WhereEnd). CallsAt location name c show.world (call_answer answer) it.world)
     (sym (located show.world s name n e (in_world x) show.shows core_is found)) it.over in
-    finish jobs n (called name c answer) xs ys h law (call name c) (call_answer answer) s show.world it.world m show.shows same it.they_make
+    finish jobs n (called name c answer) xs ys h law (call name c) (call_answer answer) s show.world it.world m show.shows same it.they_make it.bindings
     does
 
 -- ---- a reply rule
@@ -76,5 +76,5 @@ rules_are law n name msg answer r jobs xs ys s show whole still h =
     let does : SetsReply name msg.0 answer.0 show.world (rule_answer r) it.world =
     subst (λ (location : WhereEnd). RulesAt location (reply_rule name msg.0 answer.0) show.world (rule_answer r) it.world)
     (sym (located show.world s name n e (in_world x) show.shows core_is found)) it.over in
-    finish jobs n (ruled name msg answer r) xs ys h law (reply name msg.0 answer.0) (rule_answer r) s show.world it.world m show.shows notes.rest it.they_make
+    finish jobs n (ruled name msg answer r) xs ys h law (reply name msg.0 answer.0) (rule_answer r) s show.world it.world m show.shows notes.rest it.they_make it.bindings
     does

@@ -62,7 +62,7 @@ after_it h = record h.before { run = alone h.after }
 
 module _ (jobs : List CoreJob) (n : ℕ) (log_entry : LogEntry) (xs ys : List JoinedCore) (h : HappensAt jobs n log_entry xs ys) where
   -- it has as many sides
-  sides_stay : length (alone h.after).rings ≡ length h.before.run.rings
+  pub sides_stay : length (alone h.after).rings ≡ length h.before.run.rings
   sides_stay =
       let many : length h.after.rings ≡ length h.beside.rings =
       ap (λ (ps : List FacingSide). length ps) (rings_aside h.happens.0 h.after log_entry h.happens.2)

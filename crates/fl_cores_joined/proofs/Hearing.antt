@@ -60,6 +60,7 @@ use Rattle.fl_cores_joined.specs.Joined.{JoinedCore, AreOffers, UnmadeHaveNoRule
 use Rattle.fl_cores_joined.specs.Steps.{HappensAt, neighbour_on, heard_answer}
 use Rattle.fl_cores_joined.specs.Laws.{TheyShow, MachineDoes, HearsJoin}
 use Rattle.fl_cores_joined.proofs.Alike.{decided_interface}
+use Rattle.fl_cores_joined.proofs.Joining.{long_set}
 use Rattle.fl_cores_joined.proofs.Behind.{Behind, seen, mid_joined, mid_whole, same_number, forward_is}
 use Rattle.fl_cores_joined.proofs.Looking.{renumbered_failed, fronts_by, looks_message}
 use Rattle.fl_cores_joined.proofs.Mapped.{Maps}
@@ -307,6 +308,7 @@ module _ {xs : List JoinedCore} {s : State} (show : TheyShow xs s) (n : ℕ) (k 
   -- the world afterwards
   record Brought (location : WhereEnd) (side : Side) : Type 0 where
     left : List Binding
+    long : length left ≡ length v.bindings
     rules : BringsRules location side e.binding v (record v { bindings = left })
     unruled : UnmadeHaveNoRules (record v { bindings = left })
 
@@ -332,6 +334,7 @@ module _ {xs : List JoinedCore} {s : State} (show : TheyShow xs s) (n : ℕ) (k 
         let seat_is : slice_get k2.board.seats p ≡ Some b.seat = ap (slice_get k2.board.seats) place_is ∙ b.seat_is in
         record {
           left = slice_set v.bindings e.binding left_binding;
+          long = long_set v.bindings e.binding left_binding;
           rules = inl (record {
             has = record { core = k2; core_is = k2_is; made = b.seat; made_is = seat_is; kept = kept; kept_is = kept_is; end = end; end_is = end_is };
             whole = whole;
@@ -369,7 +372,7 @@ module _ {xs : List JoinedCore} {s : State} (show : TheyShow xs s) (n : ℕ) (k 
         ]
 
   stays : (location : WhereEnd) (side : Side) → BringsRules location side e.binding v v → Brought location side
-  stays location side rules = record { left = v.bindings; rules = rules; unruled = unruled_now }
+  stays location side rules = record { left = v.bindings; long = refl; rules = rules; unruled = unruled_now }
 
   brings : (location : WhereEnd) → location_of v e ≡ location → Brought location e.side
   brings nowhere q = stays nowhere e.side (by e.side)
@@ -494,6 +497,7 @@ module _ (law : StepsAgree) (n i : ℕ) (l : LinkId) (frag : Frag) (answer : Res
 
   record Ruled (r : Result MonitorAnswer LinkReceiveFault) : Type 0 where
     left : List Binding
+    long : length left ≡ length come.world.bindings
     rules : ThenRules r come.world (record come.world { bindings = left })
     unruled : UnmadeHaveNoRules (record come.world { bindings = left })
 
@@ -504,11 +508,11 @@ module _ (law : StepsAgree) (n i : ℕ) (l : LinkId) (frag : Frag) (answer : Res
   ruled (Ok (told.Opened e)) hears =
       let it = brings show n over.before over.after come.world e bindings_now cores_now before_is over.still
       (opens (offers_in w) l frag over.before e over.after hears) (location_of come.world e) refl in
-      record { left = it.left; rules = it.rules; unruled = it.unruled }
-  ruled (Ok told.Full) hears = record { left = come.world.bindings; rules = refl; unruled = as_it_is }
-  ruled (Ok told.Done) hears = record { left = come.world.bindings; rules = refl; unruled = as_it_is }
-  ruled (Ok (told.OpeningRefused e reason)) hears = record { left = come.world.bindings; rules = refl; unruled = as_it_is }
-  ruled (Err fault) hears = record { left = come.world.bindings; rules = refl; unruled = as_it_is }
+      record { left = it.left; long = it.long; rules = it.rules; unruled = it.unruled }
+  ruled (Ok told.Full) hears = record { left = come.world.bindings; long = refl; rules = refl; unruled = as_it_is }
+  ruled (Ok told.Done) hears = record { left = come.world.bindings; long = refl; rules = refl; unruled = as_it_is }
+  ruled (Ok (told.OpeningRefused e reason)) hears = record { left = come.world.bindings; long = refl; rules = refl; unruled = as_it_is }
+  ruled (Err fault) hears = record { left = come.world.bindings; long = refl; rules = refl; unruled = as_it_is }
 
   pub hears_there : MachineDoes (forward n (neighbour_on h.before.run.core l)) (heard_answer answer) s ys
   hears_there =
@@ -530,7 +534,8 @@ module _ (law : StepsAgree) (n i : ℕ) (l : LinkId) (frag : Frag) (answer : Res
         answer = is_heard answer some;
         rules = then_rules.rules;
       } in
-      forward_is looks law ys log_entry g last noted (record come.world { bindings = then_rules.left }) joined (heard_answer answer) follows
+      forward_is looks law ys log_entry g last noted (record come.world { bindings = then_rules.left }) joined (heard_answer answer)
+      (then_rules.long ∙ ap (λ (bs : List Binding). length bs) bindings_now) follows
 
 pub hears_are : StepsAgree → HearsJoin
 hears_are law n i l frag answer jobs xs ms ys s show whole still some h g =

@@ -160,7 +160,7 @@ module _ (law : StepsAgree) (n i : ℕ) (l : LinkId) (jobs : List CoreJob) (xs y
       OverSide w n at.side (MonitorWritesWith at.link (write_answer answer)) it.world ⊎ IsStray w.rings (ring_at at.side) w (write_answer answer) it.world))
       (sym found) (inl it.over) in
       subst (λ (c : ℕ). MachineDoes (monitor_write n c) (write_answer answer) s ys) (neighbour_is (said i l answer) h)
-      (finish jobs n (said i l answer) xs ys h law (monitor_write n (neighbour_on h.beside.core l)) (write_answer answer) s w it.world m show.shows noted it.they_make
+      (finish jobs n (said i l answer) xs ys h law (monitor_write n (neighbour_on h.beside.core l)) (write_answer answer) s w it.world m show.shows noted it.they_make it.bindings
       does)
 
   pub tells_so : (answer : AckAnswer) (h : HappensAt jobs n (told i l answer) xs ys)
@@ -185,7 +185,7 @@ module _ (law : StepsAgree) (n i : ℕ) (l : LinkId) (jobs : List CoreJob) (xs y
       OverSide w n at.side (AcksLinkWith (ack_answer answer)) it.world ⊎ IsStray w.rings (ring_at at.side) w (ack_answer answer) it.world))
       (sym found) (inl it.over) in
       subst (λ (c : ℕ). MachineDoes (monitor_ack n c) (ack_answer answer) s ys) (neighbour_is (told i l answer) h)
-      (finish jobs n (told i l answer) xs ys h law (monitor_ack n (neighbour_on h.beside.core l)) (ack_answer answer) s w it.world m show.shows noted it.they_make
+      (finish jobs n (told i l answer) xs ys h law (monitor_ack n (neighbour_on h.beside.core l)) (ack_answer answer) s w it.world m show.shows noted it.they_make it.bindings
       does)
 
 pub says_are : StepsAgree → (n i : ℕ) (l : LinkId) (answer : MonitorWrite) → IsTheMachinesOnLink (said i l answer) n l (monitor_write n) (write_answer answer)

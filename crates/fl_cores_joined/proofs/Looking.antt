@@ -206,7 +206,7 @@ module _ (law : StepsAgree) (n i : ℕ) (l : LinkId) (jobs : List CoreJob) (xs y
       ForwardsFirst n z w answer it.world ⊎ IsStray w.rings (ring_at z.side) w answer it.world))
       (sym places) (inl (record { ahead = found; looked = it.world; looks = it.over; follows = follows at it.world })) in
       subst (λ (c : ℕ). MachineDoes (forward n c) answer s ys) (ap (λ (t : TheRun TheSide). neighbour_on t.core l) h.beside_is.own)
-      (finish jobs n (looked i l found) xs ys h law (forward n (neighbour_on h.beside.core l)) answer s w it.world m show.shows noted it.they_make
+      (finish jobs n (looked i l found) xs ys h law (forward n (neighbour_on h.beside.core l)) answer s w it.world m show.shows noted it.they_make it.bindings
       does)
 
   fronts : (which : WhichSide) (x y : FacingSide) (f : Frag) → SideTakes (lent_side which x) (saw f) (lent_side which y) → front_for (lent_side which y) ≡ saw f

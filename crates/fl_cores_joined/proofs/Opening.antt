@@ -3,6 +3,7 @@ use Rattle.std.proofs.Common.{◌≡◌, ◌⊎◌, inl, inr, refl, sym, ◌∙�
 use Rattle.std.specs.Prelude.{Result, Ok, Err, is_some}
 use Rattle.std.specs.List.{list_all}
 use Rattle.std.proofs.lemmas.Bool.{eq-eqb, eqb-true}
+use Rattle.std.proofs.lemmas.List.{length-append}
 use Rattle.fl_base.specs.declared.identity.CoreId.{CoreId}
 use Rattle.fl_base.specs.declared.identity.EndId.{EndId}
 use Rattle.fl_base.specs.Given.{given}
@@ -45,7 +46,7 @@ use Rattle.fl_world_refines.proofs.WritingPieces.{same_core_there}
 use Rattle.fl_cores_joined.specs.Joined.{JoinedCore, in_world, AreOffers, UnmadeHaveNoRules, IsJoined, AreWhole}
 use Rattle.fl_cores_joined.specs.Rings.{FacingSide}
 use Rattle.fl_cores_joined.specs.Steps.{HappensAt, name_of, cores_of, opening_event, opened_answer}
-use Rattle.fl_cores_joined.specs.Laws.{TheyShow, MachineDoes, AsksRightly, IsNumbered, OpensJoin}
+use Rattle.fl_cores_joined.specs.Laws.{TheyShow, and_made, MachineDoes, AsksRightly, IsNumbered, OpensJoin}
 use Rattle.fl_cores_joined.proofs.Hearing.{copy_there}
 use Rattle.fl_cores_joined.proofs.Over.{core_over, OverNone}
 use Rattle.fl_cores_joined.proofs.Passing.{long_map}
@@ -280,9 +281,11 @@ module _ (law : StepsAgree) (n : ℕ) (name : EndId) (request : OpenRequest) (an
           });
         }))))))
 
-    event_is : IsJoined w2 (slice_set xs n (ended jobs n log_entry xs ys h m)) → MachineDoes (opening_event n h.before.run request) (opened_answer answer) s ys
-    event_is joined =
-        finish jobs n log_entry xs ys h law (opening_event n h.before.run request) (opened_answer answer) s w w2 m show.shows noted joined binds_it
+    event_is : IsJoined w2 (slice_set xs n (ended jobs n log_entry xs ys h m))
+        → length w2.bindings ≡ and_made (opening_event n h.before.run request) (opened_answer answer) (length w.bindings)
+        → MachineDoes (opening_event n h.before.run request) (opened_answer answer) s ys
+    event_is joined kept =
+        finish jobs n log_entry xs ys h law (opening_event n h.before.run request) (opened_answer answer) s w w2 m show.shows noted joined kept binds_it
 
   -- a binding more, whose server's end is kept until it is made
   abbrev begun_binding : Binding
@@ -340,6 +343,7 @@ module _ (law : StepsAgree) (n : ℕ) (name : EndId) (request : OpenRequest) (jo
         },
       )
       (more_joined law n name request (Ok e) some jobs xs ys s show whole still h right next)
+      (length-append show.world.bindings (begun_binding law n name request (Ok e) some jobs xs ys s show whole still h right next ∷ []))
   opens_there (Err (Board board.Memory)) some h right number = absurd (cc)
   opens_there (Err (Monitor monitor.Memory)) some h right number = absurd (cc)
   opens_there (Err fault) some h right number =
@@ -351,7 +355,7 @@ module _ (law : StepsAgree) (n : ℕ) (name : EndId) (request : OpenRequest) (jo
       let stays = asks_stays (asked request.dispatcher there.over.event.program request.link request.opening) there.over.before fault there.over.after there.over.event.asks in
       event_is law n name request (Err fault) some jobs xs ys s show whole still h right number show.world asks (refl, refl)
       (subst (λ (v : TheWorld). IsJoined v (slice_set xs n (ended jobs n (opened name request (Err fault)) xs ys h h.happens.0)))
-      (same_world law n name request (Err fault) some jobs xs ys s show whole still h right number stays) there.they_make)
+      (same_world law n name request (Err fault) some jobs xs ys s show whole still h right number stays) there.they_make) refl
 
 pub opens_are : StepsAgree → OpensJoin
 opens_are law n name request answer jobs xs ys s some show whole still h right number =

@@ -44,6 +44,7 @@ module _ (w : TheWorld) (jobs : List CoreJob) (n : ℕ) (log_entry : LogEntry) (
     pub number : ℕ
     pub number_is : slice_get first.sides i ≡ Some number
     pub world : TheWorld
+    pub bindings : length world.bindings ≡ length w.bindings
     pub they_make : IsJoined world (slice_set xs n last)
     pub over : OverSide w n number Event world
 
@@ -52,7 +53,7 @@ module _ (w : TheWorld) (jobs : List CoreJob) (n : ℕ) (log_entry : LogEntry) (
       → ((which : WhichSide) (p q : FacingSide) → IsGood p.across p → Event h.beside.core p m.core q
       → Event2 (in_world first) (lent_side which p) (in_world last) (lent_side which q) × IsGood p.across q)
       → OnRing i h.beside Event m → OverRing i Event2
-  ring_over i Event Event2 lifts on = record { number = l.number; number_is = l.number_is; world = ring_left l.number on.after; they_make = then_joined; over = over }
+  ring_over i Event Event2 lifts on = record { number = l.number; number_is = l.number_is; world = ring_left l.number on.after; bindings = refl; they_make = then_joined; over = over }
     where
       l : Lent w xs n first i on.before
       l = lent w xs n first h.beside i on.before joined first_is (begun_beside jobs n log_entry xs ys h) on.before_is
@@ -96,13 +97,14 @@ module _ (w : TheWorld) (jobs : List CoreJob) (n : ℕ) (log_entry : LogEntry) (
     pub number : ℕ
     pub number_is : slice_get first.queues i ≡ Some number
     pub world : TheWorld
+    pub bindings : length world.bindings ≡ length w.bindings
     pub they_make : IsJoined world (slice_set xs n last)
     pub over : OverQueue w n number Event world
 
   pub queue_over : (i : ℕ) (Event : TheCore → TheQueue → TheCore → TheQueue → Type 0) (Event2 : TheCore → TheQueue → TheCore → TheQueue → Type 0)
       → ((p q : TheQueue) → Event h.beside.core p m.core q → Event2 (in_world first) p (in_world last) q)
       → OnQueue i h.beside Event m → OverLocal i Event2
-  queue_over i Event Event2 lifts on = record { number = numbers.0; number_is = numbers.1; world = queue_left numbers.0 on.after; they_make = then_joined; over = over }
+  queue_over i Event Event2 lifts on = record { number = numbers.0; number_is = numbers.1; world = queue_left numbers.0 on.after; bindings = refl; they_make = then_joined; over = over }
     where
       numbers : (k : ℕ) × (slice_get first.queues i ≡ Some k)
       numbers =
@@ -138,6 +140,7 @@ module _ (w : TheWorld) (jobs : List CoreJob) (n : ℕ) (log_entry : LogEntry) (
 
   pub record OverNone (Event : TheCore → TheCore → Type 0) : Type 0 where
     pub world : TheWorld
+    pub bindings : length world.bindings ≡ length w.bindings
     pub they_make : IsJoined world (slice_set xs n last)
     pub over : AtCore w n Event world
 
@@ -145,6 +148,7 @@ module _ (w : TheWorld) (jobs : List CoreJob) (n : ℕ) (log_entry : LogEntry) (
       → OnCore h.beside Event m → OverNone Event2
   core_over Event Event2 lifts on = record {
     world = with_core w n (in_world last);
+    bindings = refl;
     they_make =
         core_joined w xs joined n first first_is (alone m) (ap (λ (t : TheRun FacingSide). length (own_sides t.rings)) on.rest)
         (ap (λ (t : TheRun FacingSide). length t.queues) on.rest) (ap (λ (t : TheRun FacingSide). t.offers) on.rest)

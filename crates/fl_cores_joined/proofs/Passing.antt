@@ -98,7 +98,7 @@ module _ (w : TheWorld) (s : State) (shows : Shows w s) (n : ℕ) where
 
 -- ---- a put or a take at one of a core's sides, by which the core stays
 
-ring_across : (m : ℕ) → ring_at (across_from m) ≡ ring_at m
+pub ring_across : (m : ℕ) → ring_at (across_from m) ≡ ring_at m
 ring_across m =
     by_test (m % 2 == 0)
     (λ b.
@@ -270,7 +270,7 @@ module _ (law : StepsAgree) {jobs : List CoreJob} {n i : ℕ} {l : LinkId} (frag
           same_ring_there w (ring_at from.number) (ring_by (which_at from.number) p.0) (from.ring_is ∙ ap (λ (d : TheDuo). Some d) from.made) in
           forward_is b law ys log_entry g m (nothing_noted g.after m noted) (left_world p.0)
           (subst (λ (v : TheWorld). IsJoined (with_ring v (ring_at onto.number) put_duo) (slice_set ms n (ended jobs n log_entry ms ys g m))) (sym same) put_joined)
-          (moved_answer outcome) (follows (moved_answer outcome) (left_world p.0) (moves p.0 leaves))
+          (moved_answer outcome) (seen b).bindings (follows (moved_answer outcome) (left_world p.0) (moves p.0 leaves))
 
       -- it is taken from the side that it comes from
       module _ (last : TheRun FacingSide) (on : TakesAt true_ways i (found (bare frag)) m last) where
@@ -298,7 +298,7 @@ module _ (law : StepsAgree) {jobs : List CoreJob} {n i : ℕ} {l : LinkId} (frag
             → MachineDoes (forward n (neighbour_on h.before.run.core l)) (moved_answer outcome) s ys
         goes_on noted leaves =
             forward_is b law ys log_entry g last (nothing_noted g.after last noted) (left_world on.after) took_joined
-            (moved_answer outcome) (follows (moved_answer outcome) (left_world on.after) (moves on.after leaves))
+            (moved_answer outcome) (seen b).bindings (follows (moved_answer outcome) (left_world on.after) (moves on.after leaves))
 
 module _ (law : StepsAgree) (n i : ℕ) (l : LinkId) (frag : Frag) (to : ℕ) (c : Circuit) (jobs : List CoreJob) (xs ms ys : List JoinedCore) (s : State)
     (show : TheyShow xs s) (whole : AreWhole xs) (h : HappensAt jobs n (looked i l (Ok (front.Onward frag to c))) xs ms) where

@@ -103,32 +103,32 @@ module _ (law : StepsAgree) (jobs : List CoreJob) where
       (one_more _ _ s ms ys zs (it t))) h rest
 
 -- what an arrival follows, and what a passing on does
-arrival_of : (look : LogEntry) (i : ℕ) (l : LinkId) (frag : Frag) (e : EndId) (answer : Result ForwardOutcome LinkReceiveFault)
+pub arrival_of : (look : LogEntry) (i : ℕ) (l : LinkId) (frag : Frag) (e : EndId) (answer : Result ForwardOutcome LinkReceiveFault)
     → Follows look (arrived i l frag e answer) → look ≡ looked i l (Ok (front.Arrival frag e))
 arrival_of (looked side m (Ok (front.Arrival f d))) i l frag e answer (sides, links, frags, names) =
     λ j. looked (sym sides j) (sym links j) (Ok (front.Arrival (sym frags j) (sym names j)))
 arrival_of look i l frag e answer h = absurd h
 
-onward_of : (look : LogEntry) (i to : ℕ) (frag : Frag) (c : Circuit) (outcome : ForwardOutcome) → Follows look (passed i to frag c outcome)
+pub onward_of : (look : LogEntry) (i to : ℕ) (frag : Frag) (c : Circuit) (outcome : ForwardOutcome) → Follows look (passed i to frag c outcome)
     → (l : LinkId) × (look ≡ looked i l (Ok (front.Onward frag to c)))
 onward_of (looked side l (Ok (front.Onward f m d))) i to frag c outcome (sides, onto, frags, circuits) =
     (l, λ j. looked (sym sides j) l (Ok (front.Onward (sym frags j) (sym onto j) (sym circuits j))))
 onward_of look i to frag c outcome h = absurd h
 
-message_of : (look : LogEntry) (i : ℕ) (l : LinkId) (frag : Frag) (answer : Result MonitorAnswer LinkReceiveFault) → Follows look (heard i l frag answer)
+pub message_of : (look : LogEntry) (i : ℕ) (l : LinkId) (frag : Frag) (answer : Result MonitorAnswer LinkReceiveFault) → Follows look (heard i l frag answer)
     → (look ≡ looked i l (Ok (front.Message frag))) × (lacks_to_hear answer ≡ false)
 message_of (looked side m (Ok (front.Message f))) i l frag answer (sides, links, frags, some) =
     ((λ j. looked (sym sides j) (sym links j) (Ok (front.Message (sym frags j)))), some)
 message_of look i l frag answer h = absurd h
 
 -- nothing else follows a look
-abbrev CanFollow : LogEntry → Type 0
+abbrev pub CanFollow : LogEntry → Type 0
 CanFollow (passed i to frag c outcome) = Unit {0}
 CanFollow (arrived i l frag e answer) = Unit {0}
 CanFollow (heard i l frag answer) = Unit {0}
 CanFollow log_entry = ⊥
 
-can_follow : (look follows : LogEntry) → Follows look follows → CanFollow follows
+pub can_follow : (look follows : LogEntry) → Follows look follows → CanFollow follows
 can_follow look (passed i to frag c outcome) h = tt
 can_follow look (arrived i l frag e answer) h = tt
 can_follow look (heard i l frag answer) h = tt

@@ -1,6 +1,6 @@
 -- What every event of one of the cores needs: the core as the world has it, where its ends are, and that a step of the
 -- world is the machine's.
-use Rattle.std.proofs.Common.{◌≡◌, refl, sym, ◌∙◌, ap, subst, ℕ, Bool, false, List, slice_get, slice_set, Some}
+use Rattle.std.proofs.Common.{◌≡◌, refl, sym, ◌∙◌, ap, subst, ℕ, Bool, false, List, length, slice_get, slice_set, Some}
 use Rattle.std.specs.Prelude.{Result, Ok, Err}
 use Rattle.fl_base.specs.declared.identity.EndId.{EndId}
 use Rattle.fl_base.specs.Given.{given}
@@ -20,6 +20,7 @@ use Rattle.fl_core_run.specs.EndProgress.{TheEndProgress}
 use Rattle.fl_core_run.specs.LogEntries.{LogEntry, NotesCalled, NotesTurned}
 use Rattle.fl_model.specs.Events.{Event, add_interface, Answer, refused}
 use Rattle.fl_model.specs.State.{State}
+use Rattle.fl_world_refines.specs.declared.binding.Binding.{Binding}
 use Rattle.fl_world_refines.specs.View.{TheWorld, IsWhole, nowhere, made, location_at, location_of, core_in, with_core}
 use Rattle.fl_world_refines.specs.ShowsState.{ShowsState, Shows}
 use Rattle.fl_world_refines.specs.Step.{Does, settled, settled_by}
@@ -31,13 +32,21 @@ use Rattle.fl_world_refines.proofs.WritingPieces.{stands_there, same_core_there}
 use Rattle.fl_cores_joined.specs.Rings.{FacingSide, ring_by, AreFacing, Truly}
 use Rattle.fl_cores_joined.specs.Joined.{JoinedCore, in_world, IsJoined, AreWhole, alone, IsBeside}
 use Rattle.fl_cores_joined.specs.Steps.{HappensAt}
-use Rattle.fl_cores_joined.specs.Laws.{MachineDoes}
+use Rattle.fl_cores_joined.specs.Laws.{and_made, MachineDoes}
 use Rattle.fl_cores_joined.proofs.Joining.{core_joined}
 use Rattle.fl_cores_joined.proofs.Mapped.{Maps}
 use Rattle.fl_cores_joined.proofs.Renumbered.{still_whole}
 use Rattle.fl_cores_joined.proofs.Rings.{puts_are, takes_are}
 
 -- ---- whether the number of cores stands is no core's
+
+kept_by : (w : TheWorld) (a : Answer) → (settled_by a w).bindings ≡ w.bindings
+kept_by w (refused fault) = refl
+kept_by w a = refl
+
+settled_bindings : (w : TheWorld) (event : Event) (a : Answer) → (settled event a w).bindings ≡ w.bindings
+settled_bindings w (add_interface i plan) a = refl
+settled_bindings w event a = kept_by w a
 
 module _ (w : TheWorld) (xs : List JoinedCore) (joined : IsJoined w xs) where
   stood : (b : Bool) → IsJoined (record w { may_set_cores = b }) xs
@@ -106,8 +115,9 @@ module _ (jobs : List CoreJob) (n : ℕ) (log_entry : LogEntry) (xs ys : List Jo
   -- ---- the step of the world is the machine's
 
   pub finish : StepsAgree → (event : Event) (answer : Answer) (s : State) (w w2 : TheWorld) (m : TheRun FacingSide) → Shows w s → h.after ≡ noted m
-      → IsJoined w2 (slice_set xs n (ended m)) → Does event w answer w2 → MachineDoes event answer s ys
-  finish law event answer s w w2 m shows same joined does =
+      → IsJoined w2 (slice_set xs n (ended m)) → length w2.bindings ≡ and_made event answer (length w.bindings) → Does event w answer w2
+      → MachineDoes event answer s ys
+  finish law event answer s w w2 m shows same joined kept does =
       let agrees : StepAgrees event s answer (settled event answer w2) =
       law event w (settled event answer w2) s answer shows (record { made = w2; does = does; rest = refl }) in
       record {
@@ -117,6 +127,9 @@ module _ (jobs : List CoreJob) (n : ℕ) (log_entry : LogEntry) (xs ys : List Jo
           joined = settled_joined w2 ys (subst (IsJoined w2) (sym (ended_all (noted m) same)) (progress_joined w2 m joined)) event answer;
           shows = agrees.shows;
         };
+        count =
+            sym agrees.shows.showing.bindings.count ∙ ap (λ (bs : List Binding). length bs) (settled_bindings w2 event answer) ∙ kept
+            ∙ ap (and_made event answer) shows.showing.bindings.count;
       }
 
 -- what is noted

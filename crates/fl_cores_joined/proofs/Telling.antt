@@ -45,7 +45,7 @@ by_inlet s e (Some (inlet.Side n)) it h = by (nat_lt n (length s.rings)) h
     by true q = ap (λ (o : Option LentRingEnd). given o None λ (p : LentRingEnd). Some (inlet.Side p.side)) q
     by false q = absurd (cc)
 
-takes_ring : {S : Type 0} (s : TheRun S) (name : EndId) (e : ℕ) (it : LentRingEnd) (i : ℕ) → place_of s.core name ≡ Some e
+pub takes_ring : {S : Type 0} (s : TheRun S) (name : EndId) (e : ℕ) (it : LentRingEnd) (i : ℕ) → place_of s.core name ≡ Some e
     → lent_ring_end s name ≡ Some it → it.side ≡ i → inlet_of s.core e ≡ Some (inlet.Side i)
 takes_ring s name e it i at is same =
     by_inlet s e (inlet_of s.core e) it
@@ -83,5 +83,5 @@ acks_are law n name i answer jobs xs ys s show whole still h =
     subst (λ (location : WhereEnd). AcksAt location show.world (acked_answer answer) it.world)
     (sym (located show.world s name n e (in_world x) show.shows core_is found))
     (inlet.Side it.number, (record { core = in_world x; core_is = core_is; inlet_is = there }, inl it.over)) in
-    finish jobs n (acked name i answer) xs ys h law (acks_event name) (acked_answer answer) s show.world it.world m show.shows noted it.they_make
+    finish jobs n (acked name i answer) xs ys h law (acks_event name) (acked_answer answer) s show.world it.world m show.shows noted it.they_make it.bindings
     does

@@ -100,7 +100,7 @@ module _ (law : StepsAgree) (d : ℕ) (name : EndId) (from : Inlet) (answer : Tu
       on in
       let there = inlet_is x.sides x.queues h.beside.core e (inlet.Side i) takes
       ∙ ap (λ (j : ℕ). Some (inlet.Side j)) (moved_to x.sides i it.number it.number_is) in
-      finish jobs n (turned d name from answer) xs ys h law (turn (at n d)) (turn_answer name answer) s w it.world m shows same it.they_make
+      finish jobs n (turned d name from answer) xs ys h law (turn (at n d)) (turn_answer name answer) s w it.world m shows same it.they_make it.bindings
       (does_over it.world (inlet.Side it.number) there (inl it.over))
 
   over_queue : (i : ℕ) → inlet_of h.beside.core e ≡ Some (inlet.Queue i)
@@ -120,7 +120,7 @@ module _ (law : StepsAgree) (d : ℕ) (name : EndId) (from : Inlet) (answer : Tu
       on in
       let there = inlet_is x.sides x.queues h.beside.core e (inlet.Queue i) takes
       ∙ ap (λ (j : ℕ). Some (inlet.Queue j)) (moved_to x.queues i it.number it.number_is) in
-      finish jobs n (turned d name from answer) xs ys h law (turn (at n d)) (turn_answer name answer) s w it.world m shows same it.they_make
+      finish jobs n (turned d name from answer) xs ys h law (turn (at n d)) (turn_answer name answer) s w it.world m shows same it.they_make it.bindings
       (does_over it.world (inlet.Queue it.number) there (inl it.over))
 
   over_arrivals : inlet_of h.beside.core e ≡ Some inlet.Arrivals
@@ -146,7 +146,7 @@ module _ (law : StepsAgree) (d : ℕ) (name : EndId) (from : Inlet) (answer : Tu
         refl,
       ))
       on in
-      finish jobs n (turned d name from answer) xs ys h law (turn (at n d)) (turn_answer name answer) s w it.world m shows same it.they_make
+      finish jobs n (turned d name from answer) xs ys h law (turn (at n d)) (turn_answer name answer) s w it.world m shows same it.they_make it.bindings
       (does_over it.world inlet.Arrivals (inlet_is x.sides x.queues h.beside.core e inlet.Arrivals takes) it.over)
 
 pub turns_are : StepsAgree → (n d : ℕ) (name : EndId) (from : Inlet) (answer : TurnAnswer)

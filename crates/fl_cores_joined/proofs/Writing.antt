@@ -78,7 +78,7 @@ module _ (law : StepsAgree) (name : EndId) (out : Outlet) (answer : Result Write
       on in
       let there = outlet_is x.sides x.queues h.beside.core e (outlet.Side i) puts
       ∙ ap (λ (j : ℕ). Some (outlet.Side j)) (moved_to x.sides i it.number it.number_is) in
-      finish jobs n (wrote name out answer) xs ys h law (write name) (write_answer answer) s w it.world m shows same it.they_make
+      finish jobs n (wrote name out answer) xs ys h law (write name) (write_answer answer) s w it.world m shows same it.they_make it.bindings
       (does_over it.world (outlet.Side it.number) there (inl it.over))
 
   over_queue : (i : ℕ) → outlet_of h.beside.core e ≡ Some (outlet.Queue i)
@@ -91,7 +91,7 @@ module _ (law : StepsAgree) (name : EndId) (out : Outlet) (answer : Result Write
       on in
       let there = outlet_is x.sides x.queues h.beside.core e (outlet.Queue i) puts
       ∙ ap (λ (j : ℕ). Some (outlet.Queue j)) (moved_to x.queues i it.number it.number_is) in
-      finish jobs n (wrote name out answer) xs ys h law (write name) (write_answer answer) s w it.world m shows same it.they_make
+      finish jobs n (wrote name out answer) xs ys h law (write name) (write_answer answer) s w it.world m shows same it.they_make it.bindings
       (does_over it.world (outlet.Queue it.number) there (inl it.over))
 
 pub writes_are : StepsAgree → (n : ℕ) (name : EndId) (out : Outlet) (answer : Result WriteAnswer EndFault)

@@ -1,6 +1,6 @@
 -- The laws of joined cores: what one of them does is the machine's event of that name, and together they show
 -- what the machine comes to.
-use Rattle.std.specs.Prelude.{ℕ, ◌≡◌, ◌≤◌, false, List, length, Some, Result, Ok, Err}
+use Rattle.std.specs.Prelude.{ℕ, ◌≡◌, ◌≤◌, ◌+◌, false, List, length, Some, Result, Ok, Err}
 use Rattle.fl_base.specs.declared.fragment.Frag.{Frag}
 use Rattle.fl_base.specs.declared.identity.EndId.{EndId}
 use Rattle.fl_base.specs.declared.identity.LinkId.{LinkId}
@@ -24,7 +24,7 @@ use Rattle.fl_core.specs.declared.fault.LinkReceiveFault.{LinkReceiveFault}
 use Rattle.fl_core.specs.declared.wiring.Outlet.{Outlet}
 use Rattle.fl_core.specs.declared.wiring.Inlet.{Inlet}
 use Rattle.fl_model.specs.Events.{Event, call, reply, write, ack, turn, forward, monitor_write, monitor_ack}
-use Rattle.fl_model.specs.Events.{Answer}
+use Rattle.fl_model.specs.Events.{Answer, bind, done}
 use Rattle.fl_model.specs.State.{State}
 use Rattle.fl_model.specs.Step.{step}
 use Rattle.fl_core.specs.declared.core_job.CoreJob.{CoreJob}
@@ -50,10 +50,16 @@ pub record TheyShow (xs : List JoinedCore) (s : State) : Type 0 where
   pub joined : IsJoined world xs
   pub shows : Shows world s
 
--- the machine answers the same to this event, and the cores show its next state
+-- how many bindings there are then: one more where a bind is done
+abbrev pub and_made : Event → Answer → ℕ → ℕ
+and_made (bind client interface name kind) done count = count + 1
+and_made event answer count = count
+
+-- the machine answers the same to this event, and the cores show its next state, of so many bindings
 pub record MachineDoes (event : Event) (answer : Answer) (s : State) (ys : List JoinedCore) : Type 0 where
   pub answers : (step s event).answer ≡ answer
   pub shows : TheyShow ys (step s event).state
+  pub count : length (step s event).state.bindings ≡ and_made event answer (length s.bindings)
 
 -- so it is of a core's event, of cores that show a state, each of which is whole before and after
 abbrev pub IsTheMachines : LogEntry → ℕ → Event → Answer → Type 0

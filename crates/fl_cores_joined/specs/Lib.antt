@@ -5,3 +5,5 @@ pub mod Laws
 pub mod Runs
 pub mod Entries
 pub mod Exchanges
+pub mod Renamed
+pub mod RenamedRuns

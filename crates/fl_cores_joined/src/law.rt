@@ -9,7 +9,9 @@ ghost use Rattle.fl_cores_joined.specs.Laws.{MonitorsJoin, TellsJoin, LooksJoin}
 ghost use Rattle.fl_cores_joined.specs.Laws.{ArrivalsJoin, PassesJoin, HearsJoin};
 ghost use Rattle.fl_cores_joined.specs.Entries.{StepsInterleave, FollowedStepsInterleave};
 ghost use Rattle.fl_cores_joined.specs.Runs.{RunsJoin};
+ghost use Rattle.fl_cores_joined.specs.RenamedRuns.{NumbersAreGiven, RunsJoinInAnyOrder, RunsJoinUnder};
 
+use fl_endpoint::law_on_another_circuit;
 use fl_world_refines::law_steps_agree;
 
 /// A step of a side over shared words whose loads find what stands there is the same step of the ring that
@@ -86,3 +88,18 @@ pub fn law_openings_move()
     ensures ahead { OpeningsGoAhead }
     ensures behind { OpeningsStayBehind }
 {}
+
+/// Where openings are accepted in any order, each under a number that no binding has yet, what cores do is a run of the
+/// machine under a renaming of bindings: one that joins no two, keeps those that the machine has, and gives accepted
+/// openings the machine's next numbers. Under it the answers are the cores', and they show the state in the end. They
+/// begin without circuits or monitors' messages; or, for a renaming that is given, show a state under it. Circuits are
+/// asked for as accepted jobs do, each core's links are over the rings that are told as links' and its ends over none of
+/// them, and each core is whole in the end.
+pub fn law_runs_join_in_any_order()
+    ensures numbers { NumbersAreGiven }
+    ensures under { RunsJoinUnder }
+    ensures runs { RunsJoinInAnyOrder }
+{
+    law_steps_agree();
+    law_on_another_circuit();
+}

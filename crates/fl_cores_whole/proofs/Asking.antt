@@ -1,6 +1,6 @@
 -- In an interleaving of a reported run each circuit is asked for as its job says: a core's jobs, its names and its links'
 -- neighbours stay what they were at first.
-use Rattle.std.proofs.Common.{◌≡◌, inl, inr, refl, sym, ◌∙◌, ap, subst, ℕ, List, [], ◌∷◌, length, map, slice_get, Some, None}
+use Rattle.std.proofs.Common.{◌≡◌, inl, inr, refl, sym, ◌∙◌, ap, subst, ℕ, List, [], ◌∷◌, length, slice_get, Some, None}
 use Rattle.std.proofs.lemmas.Slice.Eq.{bytes_eq-Decides}
 use Rattle.fl_base.specs.declared.identity.EndId.{EndId}
 use Rattle.fl_hop.proofs.Lists.{set_cases}
@@ -44,28 +44,28 @@ use Rattle.fl_cores_joined.proofs.Joining.{long_set}
 use Rattle.fl_cores_joined.proofs.Opening.{find_holds}
 use Rattle.fl_cores_whole.specs.Begin.{Owners, owners_in}
 use Rattle.fl_cores_whole.specs.Whole.{begun}
-use Rattle.fl_cores_whole.proofs.Staying.{jobs_in, jobs_stay, offers_stay, HasJob, next_there, job_before, first_same}
+use Rattle.fl_cores_whole.proofs.Staying.{offers_stay, AllGoOn, all_same, progresses_go, go_then, HasJob, job_before, next_there, next_is_had, first_same}
 use Rattle.fl_cores_whole.proofs.Begin.{threads_long, joined_long, first_thread, first_joined, FirstThread, FirstJoined}
 
 -- ---- what stays of a core
 
-record Stays (p q : TheRun TheSide) : Type 0 where
-  offers : q.offers ≡ p.offers
-  links : SameLinks p.core.monitor.circuits q.core.monitor.circuits
-  jobs : map jobs_in q.progresses ≡ map jobs_in p.progresses
+pub record Stays (p q : TheRun TheSide) : Type 0 where
+  pub offers : q.offers ≡ p.offers
+  pub links : SameLinks p.core.monitor.circuits q.core.monitor.circuits
+  pub progresses : AllGoOn p.progresses q.progresses
 
 itself : (p : TheRun TheSide) → Stays p p
-itself p = record { offers = refl; links = record { core = refl; neighbours = refl }; jobs = refl }
+itself p = record { offers = refl; links = record { core = refl; neighbours = refl }; progresses = all_same p.progresses p.progresses refl }
 
 stays_then : (p q r : TheRun TheSide) → Stays p q → Stays q r → Stays p r
 stays_then p q r g h = record {
   offers = h.offers ∙ g.offers;
   links = record { core = h.links.core ∙ g.links.core; neighbours = h.links.neighbours ∙ g.links.neighbours };
-  jobs = h.jobs ∙ g.jobs;
+  progresses = go_then p.progresses q.progresses r.progresses g.progresses h.progresses;
 }
 
 module _ (jobs : List CoreJob) (n : ℕ) (log_entry : LogEntry) (xs ys : List JoinedCore) (h : HappensAt jobs n log_entry xs ys) where
-  by_event : Stays h.before.run (alone h.after)
+  pub by_event : Stays h.before.run (alone h.after)
   by_event =
       let m = h.happens.0 in
       let aside : h.after.core ≡ m.core = core_aside m h.after log_entry h.happens.2 in
@@ -73,20 +73,20 @@ module _ (jobs : List CoreJob) (n : ℕ) (log_entry : LogEntry) (xs ys : List Jo
         offers = offers_stay true_ways log_entry h.beside m h.after h.happens.1 h.happens.2;
         links = subst (λ (k : TheCore). SameLinks h.beside.core.monitor.circuits k.monitor.circuits) (sym aside)
             (does_same true_ways log_entry h.beside m h.happens.1).links;
-        jobs = jobs_stay true_ways log_entry h.beside m h.after h.happens.1 h.happens.2;
+        progresses = progresses_go true_ways log_entry h.beside m h.after h.happens.1 h.happens.2;
       } in
       subst (λ (t : TheRun TheSide). Stays t (alone h.after)) h.beside_is.own its
 
 -- ---- of all cores
 
-record AllStay (xs ys : List JoinedCore) : Type 0 where
-  long : length ys ≡ length xs
-  each : (n : ℕ) (y : JoinedCore) → slice_get ys n ≡ Some y → (x : JoinedCore) × (slice_get xs n ≡ Some x) × Stays x.run y.run
+pub record AllStay (xs ys : List JoinedCore) : Type 0 where
+  pub long : length ys ≡ length xs
+  pub each : (n : ℕ) (y : JoinedCore) → slice_get ys n ≡ Some y → (x : JoinedCore) × (slice_get xs n ≡ Some x) × Stays x.run y.run
 
-all_themselves : (xs : List JoinedCore) → AllStay xs xs
+pub all_themselves : (xs : List JoinedCore) → AllStay xs xs
 all_themselves xs = record { long = refl; each = λ n y at. (y, at, itself y.run) }
 
-one_more : (jobs : List CoreJob) (n : ℕ) (log_entry : LogEntry) (xs ms ys : List JoinedCore) → HappensAt jobs n log_entry ms ys → AllStay xs ms → AllStay xs ys
+pub one_more : (jobs : List CoreJob) (n : ℕ) (log_entry : LogEntry) (xs ms ys : List JoinedCore) → HappensAt jobs n log_entry ms ys → AllStay xs ms → AllStay xs ys
 one_more jobs n log_entry xs ms ys h g = record {
   long = ap length h.rest ∙ long_set ms n (record h.before { run = alone h.after }) ∙ g.long;
   each = λ k y at.
@@ -109,7 +109,7 @@ named_itself name names g found =
     let same : name ≡ g.name = (bytes_eq-Decides name g.name).0 (find_holds (has_name name) names g found) in
     subst (λ (x : List ℕ). by_name x names ≡ Some g) same found
 
-none_there : {X : Type 0} (xs : List ℕ) (i k : ℕ) → xs ≡ [] → slice_get xs i ≡ Some k → X
+pub none_there : {X : Type 0} (xs : List ℕ) (i k : ℕ) → xs ≡ [] → slice_get xs i ≡ Some k → X
 none_there xs i k none at = absurd (let e : None ≡ Some k = sym (ap (λ (ys : List ℕ). slice_get ys i) none) ∙ at in cc)
 
 -- ---- a circuit is asked for
@@ -153,7 +153,9 @@ module _ (c : TheConfig) (jobs : List Job) (limit : ℕ) (r : TheReport) (w : Re
 
     -- its job was one at first
     first : HasJob j.jobs its.thread.run.progresses name request
-    first = subst (λ (t : TheRun TheSide). HasJob j.jobs t.progresses name request) same_run (job_before j.jobs x.run.progresses q.progresses name request stays.jobs next)
+    first =
+        subst (λ (t : TheRun TheSide). HasJob j.jobs t.progresses name request) same_run
+        (job_before j.jobs x.run.progresses q.progresses name request stays.progresses next)
 
     asked : IsRequested made.names made.cores.items (length made.bindings.items) jobs j.bindings request
     asked = w.ran.ran.are_requested first.place request first.job_is
@@ -225,7 +227,7 @@ module _ (c : TheConfig) (jobs : List Job) (limit : ℕ) (r : TheReport) (w : Re
       → AsksRightlyAt ms h.before.run s log_entry
   one n (opened name request answer) ms ys s h g =
       let (x, x_is, stays) = g.each n h.before h.before_is in
-      let found = next_there j.jobs h.beside name request h.in_place.0 in
+      let found = next_is_had j.jobs h.beside.progresses name request (next_there j.jobs h.beside name request h.in_place.0) in
       asks_so n x x_is h.before.run stays name request (subst (λ (t : TheRun TheSide). HasJob j.jobs t.progresses name request) h.beside_is.own found)
       (length ms) g.long
   one n log_entry ms ys s h g = tt

@@ -158,7 +158,7 @@ held {T} of [] n place thing h = absurd (cc)
 held {T} of (t ∷ threads) zero place thing h = (t, refl, h)
 held {T} of (t ∷ threads) (suc n) place thing h = held of threads n place thing h
 
-holding_is : {T : Type 0} (of : TheCoreThread → List T) (threads : List TheCoreThread) (n : ℕ) (t : TheCoreThread) → slice_get threads n ≡ Some t
+pub holding_is : {T : Type 0} (of : TheCoreThread → List T) (threads : List TheCoreThread) (n : ℕ) (t : TheCoreThread) → slice_get threads n ≡ Some t
     → holding_at (map of threads) n ≡ of t
 holding_is {T} of threads n t h = ap (λ (o : Option (List T)). unwrap_or o []) (goes_to of threads n t h)
 

@@ -19,9 +19,10 @@ use Rattle.fl_world.specs.Booting.{TheConfig, has_bad_cores}
 use Rattle.fl_cores.specs.Behind.{joined_in}
 use Rattle.fl_cores.specs.OneCore.{rule_in, begins}
 use Rattle.fl_cores_joined.specs.Joined.{JoinedCore}
+use Rattle.fl_cores_joined.specs.RenamedRuns.{all_under}
 use Rattle.fl_cores_joined.specs.Runs.{asked_in, events_of, MachineRuns}
 use Rattle.fl_cores_whole.specs.Whole.{begun, ReportsJoin, TheirTurnsJoin}
-use Rattle.fl_cores_whole.specs.Holds.{events_before, state_after, KeepsLaws, ReportsHold, TheirTurnsHold}
+use Rattle.fl_cores_whole.specs.Holds.{events_before, state_after, KeepsLaws, ReportsHold, TheirTurnsHold, RunsUnderSomeHold}
 
 -- ---- runs in two parts
 
@@ -105,3 +106,7 @@ pub their_turns_hold : NoWireFaults → EverHandledIsAPrefix → EverPassedFalls
 their_turns_hold none prefix falls once join c jobs limit r w follow moments ys h theirs in_turn =
     holds none prefix falls once c jobs w.accepted.cores (asked_in (joined_in w).jobs (begun w) moments ys h) ys
     (join c jobs limit r w follow moments ys h theirs in_turn)
+
+pub runs_under_some_hold : NoWireFaults → EverHandledIsAPrefix → EverPassedFalls → EverOnceBothWays → RunsUnderSomeHold
+runs_under_some_hold none prefix falls once c jobs limit r w links moments exchanges ys under =
+    holds none prefix falls once c jobs w.accepted.cores (all_under under.renaming exchanges) under.runs.cores under.runs.runs

@@ -5,6 +5,9 @@ pub mod Staying
 pub mod Asking
 pub mod Whole
 pub mod Turned
+pub mod NewNumbers
+pub mod AtFirst
+pub mod AnyOrder
 pub mod Holds
 pub mod One
 pub mod Told

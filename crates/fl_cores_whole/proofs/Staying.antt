@@ -1,12 +1,13 @@
--- What a core was given stays over an event: its services and programs, and the jobs of its ends' progress. And by a table of the same
--- neighbours a route begins on the same link.
-use Rattle.std.proofs.Common.{◌≡◌, refl, sym, ◌∙◌, ap, ℕ, ◌+◌, ◌==◌, not, nat_lt, if◌then◌else◌, List, [], ◌∷◌, length, map, position, slice_get, slice_set}
-use Rattle.std.proofs.Common.{Option, Some, None, Result, Ok, Err}
+-- What a core was given stays over an event: its services and programs, and the jobs of its ends' progress, of which what is done stays
+-- done. And by a table of the same neighbours a route begins on the same link.
+use Rattle.std.proofs.Common.{◌≡◌, inl, inr, refl, sym, ◌∙◌, ap, subst, ℕ, ◌+◌, ◌≤◌, ◌==◌, not, nat_lt, if◌then◌else◌, List, [], ◌∷◌}
+use Rattle.std.proofs.Common.{length, map, position, slice_get}
+use Rattle.std.proofs.Common.{Option, Some, None, Result, Ok, Err, arith}
 use Rattle.std.specs.List.{position_or_len}
 use Rattle.fl_base.specs.declared.identity.CoreId.{CoreId}
 use Rattle.fl_base.specs.declared.identity.EndId.{EndId}
 use Rattle.fl_base.specs.Given.{given}
-use Rattle.fl_hop.proofs.Lists.{set_same}
+use Rattle.fl_hop.proofs.Lists.{set_cases}
 use Rattle.fl_hop.specs.declared.forward.ForwardOutcome.TheVariants.{Moved, Full, Spent}
 use Rattle.fl_hop.specs.declared.links.LinkState.{LinkState}
 use Rattle.fl_hop.specs.Table.{TheCircuits, link_of}
@@ -26,15 +27,15 @@ use Rattle.fl_core.specs.declared.wiring.Inlet.TheVariants as inlet
 use Rattle.fl_core.specs.declared.core_job.CoreJob.{CoreJob}
 use Rattle.fl_core.specs.declared.core_job.CoreJob.TheVariants as job
 use Rattle.fl_core.specs.declared.core_job.OpenRequest.{OpenRequest}
-use Rattle.fl_core.proofs.Numbering.{came_from, goes_to}
 use Rattle.fl_core_run.specs.EndProgress.{TheEndProgress, progress_place, advanced, with_handled, with_refusal, ChangesIf}
 use Rattle.fl_core_run.specs.Run.{SideRelations, TheRun, AtProgress, next_job}
-use Rattle.fl_core_run.specs.LogEntries.{LogEntry, looked, passed, arrived, heard, said, told, opened, called, ruled, wrote, acked, turned, Does, Notes}
+use Rattle.fl_core_run.specs.LogEntries.{LogEntry, looked, passed, arrived, heard, said, told, opened, called, ruled, wrote, acked, turned}
+use Rattle.fl_core_run.specs.LogEntries.{Does, Notes}
 use Rattle.fl_core_run.specs.LogEntries.{NotesHeard, NotesOpened, NotesCalled, NotesTurned}
 use Rattle.fl_core_run_laws.proofs.Aside.{progresses_alone}
 use Rattle.fl_core_run_laws.proofs.Handling.{progresses_stay, same_place}
 use Rattle.fl_cores_joined.proofs.Earlier.{to_whom, SameLinks}
-use Rattle.fl_cores_joined.proofs.Joining.{map_set}
+use Rattle.fl_cores_joined.proofs.Joining.{long_set}
 use Rattle.fl_cores_joined.proofs.Passing.{long_map}
 
 -- ---- what it offers
@@ -63,52 +64,79 @@ offers_stay w log_entry s m t does notes =
     let alone : t.offers ≡ m.offers = ap (λ (x : TheRun _). x.offers) (progresses_alone m t log_entry notes) in
     alone ∙ offers_done w log_entry s m does
 
--- ---- its ends' jobs
+-- ---- its ends' progress
 
-abbrev pub jobs_in : TheEndProgress → List ℕ
-jobs_in d = d.jobs
+-- the same jobs, of which no fewer are done
+pub record GoesOn (x y : TheEndProgress) : Type 0 where
+  pub jobs : y.jobs ≡ x.jobs
+  pub done : x.done ≤ y.done
 
-changes_by : (o : Option ℕ) (xs ys : List TheEndProgress) (change : TheEndProgress → TheEndProgress) → ((x : TheEndProgress) → (change x).jobs ≡ x.jobs)
-    → ChangesIf o xs change ys → map jobs_in ys ≡ map jobs_in xs
-changes_by None xs ys change keeps h = ap (map jobs_in) h
-changes_by (Some n) xs ys change keeps h =
-    ap (map jobs_in) h.rest ∙ map_set jobs_in xs n (change h.progress) ∙ ap (λ (js : List ℕ). slice_set (map jobs_in xs) n js) (keeps h.progress)
-    ∙ set_same (map jobs_in xs) n h.progress.jobs (goes_to jobs_in xs n h.progress h.progress_is)
+pub record AllGoOn (xs ys : List TheEndProgress) : Type 0 where
+  pub long : length ys ≡ length xs
+  pub each : (n : ℕ) (y : TheEndProgress) → slice_get ys n ≡ Some y → (x : TheEndProgress) × (slice_get xs n ≡ Some x) × GoesOn x y
+
+itself : (x : TheEndProgress) → GoesOn x x
+itself x = record { jobs = refl; done = omega arith }
+
+one_more_done : (x : TheEndProgress) → GoesOn x (advanced x)
+one_more_done x = record { jobs = refl; done = omega arith }
+
+pub all_same : (xs ys : List TheEndProgress) → ys ≡ xs → AllGoOn xs ys
+all_same xs ys same = record {
+  long = ap length same;
+  each = λ n y at. (y, ap (λ (l : List TheEndProgress). slice_get l n) (sym same) ∙ at, itself y);
+}
+
+changes_by : (o : Option ℕ) (xs ys : List TheEndProgress) (change : TheEndProgress → TheEndProgress) → ((x : TheEndProgress) → GoesOn x (change x))
+    → ChangesIf o xs change ys → AllGoOn xs ys
+changes_by None xs ys change on h = all_same xs ys h
+changes_by (Some k) xs ys change on h = record {
+  long = ap length h.rest ∙ long_set xs k (change h.progress);
+  each = λ n y at.
+      elim (set_cases xs k (change h.progress) n y (ap (λ (l : List TheEndProgress). slice_get l n) (sym h.rest) ∙ at)) [
+        | inl (place, same) ↦
+            (h.progress, ap (slice_get xs) place ∙ h.progress_is, subst (λ (z : TheEndProgress). GoesOn h.progress z) (sym same) (on h.progress))
+        | inr (other, was) ↦ (y, was, itself y)
+      ];
+}
 
 module _ {S : Type 0} (m t : TheRun S) where
-  abbrev Same : Type 0
-  Same = map jobs_in t.progresses ≡ map jobs_in m.progresses
+  abbrev On : Type 0
+  On = AllGoOn m.progresses t.progresses
 
-  nothing : t ≡ m → Same
-  nothing same = ap (λ (x : TheRun S). map jobs_in x.progresses) same
+  nothing : t ≡ m → On
+  nothing same = all_same m.progresses t.progresses (ap (λ (x : TheRun S). x.progresses) same)
 
-  changes : (e : EndId) (change : TheEndProgress → TheEndProgress) → ((x : TheEndProgress) → (change x).jobs ≡ x.jobs) → AtProgress e change m t → Same
-  changes e change keeps h = changes_by (progress_place m.progresses e) m.progresses t.progresses change keeps h.changes
+  changes : (e : EndId) (change : TheEndProgress → TheEndProgress) → ((x : TheEndProgress) → GoesOn x (change x)) → AtProgress e change m t → On
+  changes e change on h = changes_by (progress_place m.progresses e) m.progresses t.progresses change on h.changes
 
-  noted_heard : (answer : Result MonitorAnswer LinkReceiveFault) → NotesHeard answer m t → Same
-  noted_heard (Ok (heard_as.OpeningRefused e reason)) h = changes e (with_refusal reason) (λ x. refl) h
+  refused_first : (number : ℕ) (x : TheEndProgress) → GoesOn x (advanced (with_refusal number x))
+  refused_first number x = record { jobs = refl; done = omega arith }
+
+  noted_heard : (answer : Result MonitorAnswer LinkReceiveFault) → NotesHeard answer m t → On
+  noted_heard (Ok (heard_as.OpeningRefused e reason)) h = changes e (with_refusal reason) (λ x. record { jobs = refl; done = omega arith }) h
   noted_heard (Ok heard_as.Full) h = nothing h
   noted_heard (Ok heard_as.Done) h = nothing h
   noted_heard (Ok (heard_as.Opened e)) h = nothing h
   noted_heard (Err fault) h = nothing h
 
-  noted_opened : (e : EndId) (answer : Result ℕ OpenFault) → NotesOpened e answer m t → Same
-  noted_opened e (Ok k) h = changes e advanced (λ x. refl) h
-  noted_opened e (Err (opening.Board fault)) h = changes e _ (λ x. refl) h
+  noted_opened : (e : EndId) (answer : Result ℕ OpenFault) → NotesOpened e answer m t → On
+  noted_opened e (Ok k) h = changes e advanced one_more_done h
+  noted_opened e (Err (opening.Board fault)) h = changes e _ (refused_first _) h
   noted_opened e (Err (opening.Monitor monitor.OutboxFull)) h = nothing h
-  noted_opened e (Err (opening.Monitor monitor.Misrouted)) h = changes e _ (λ x. refl) h
-  noted_opened e (Err (opening.Monitor monitor.Differs)) h = changes e _ (λ x. refl) h
-  noted_opened e (Err (opening.Monitor monitor.NoRoute)) h = changes e _ (λ x. refl) h
-  noted_opened e (Err (opening.Monitor monitor.UsedUp)) h = changes e _ (λ x. refl) h
-  noted_opened e (Err (opening.Monitor monitor.PlansDiffer)) h = changes e _ (λ x. refl) h
-  noted_opened e (Err (opening.Monitor monitor.Memory)) h = changes e _ (λ x. refl) h
+  noted_opened e (Err (opening.Monitor monitor.Misrouted)) h = changes e _ (refused_first _) h
+  noted_opened e (Err (opening.Monitor monitor.Differs)) h = changes e _ (refused_first _) h
+  noted_opened e (Err (opening.Monitor monitor.NoRoute)) h = changes e _ (refused_first _) h
+  noted_opened e (Err (opening.Monitor monitor.UsedUp)) h = changes e _ (refused_first _) h
+  noted_opened e (Err (opening.Monitor monitor.PlansDiffer)) h = changes e _ (refused_first _) h
+  noted_opened e (Err (opening.Monitor monitor.Memory)) h = changes e _ (refused_first _) h
 
-  noted_called : (e : EndId) (answer : Result (Unit {0}) EndFault) → NotesCalled e answer m t → Same
-  noted_called e (Ok done) h = changes e advanced (λ x. refl) h
+  noted_called : (e : EndId) (answer : Result (Unit {0}) EndFault) → NotesCalled e answer m t → On
+  noted_called e (Ok done) h = changes e advanced one_more_done h
   noted_called e (Err fault) h = nothing h
 
-  noted_turned : (e : EndId) (answer : TurnAnswer) → NotesTurned e answer m t → Same
-  noted_turned e (turn.Handle call) h = changes e (with_handled call) (λ x. refl) h
+  noted_turned : (e : EndId) (answer : TurnAnswer) → NotesTurned e answer m t → On
+  noted_turned e (turn.Handle call) h = changes e (with_handled call) (λ x. record { jobs = refl; done = omega arith }) h
   noted_turned e turn.Part h = nothing h
   noted_turned e turn.Ready h = nothing h
   noted_turned e turn.Quiet h = nothing h
@@ -116,7 +144,7 @@ module _ {S : Type 0} (m t : TheRun S) where
   noted_turned e turn.Nothing h = nothing h
   noted_turned e (turn.Refused fault) h = nothing h
 
-  noted : (log_entry : LogEntry) → Notes log_entry m t → Same
+  noted : (log_entry : LogEntry) → Notes log_entry m t → On
   noted (looked n l answer) h = nothing h
   noted (passed n k frag c outcome) h = nothing h
   noted (arrived n l frag e answer) h = nothing h
@@ -125,73 +153,115 @@ module _ {S : Type 0} (m t : TheRun S) where
   noted (told n l answer) h = nothing h
   noted (opened e request answer) h = noted_opened e answer h
   noted (called e c answer) h = noted_called e answer h
-  noted (ruled e msg reply answer) h = changes e advanced (λ x. refl) h
+  noted (ruled e msg reply answer) h = changes e advanced one_more_done h
   noted (wrote e out answer) h = nothing h
   noted (acked e n answer) h = nothing h
   noted (turned d e from answer) h = noted_turned e answer h
 
-pub jobs_stay : {S : Type 0} (w : SideRelations S) (log_entry : LogEntry) (s m t : TheRun S) → Does w log_entry s m → Notes log_entry m t
-    → map jobs_in t.progresses ≡ map jobs_in s.progresses
-jobs_stay w log_entry s m t does notes = noted m t log_entry notes ∙ ap (map jobs_in) (progresses_stay w log_entry s m does)
+pub progresses_go : {S : Type 0} (w : SideRelations S) (log_entry : LogEntry) (s m t : TheRun S) → Does w log_entry s m → Notes log_entry m t
+    → AllGoOn s.progresses t.progresses
+progresses_go w log_entry s m t does notes =
+    subst (λ (l : List TheEndProgress). AllGoOn l t.progresses) (progresses_stay w log_entry s m does) (noted m t log_entry notes)
+
+pub go_then : (xs ys zs : List TheEndProgress) → AllGoOn xs ys → AllGoOn ys zs → AllGoOn xs zs
+go_then xs ys zs g h = record {
+  long = h.long ∙ g.long;
+  each = λ n z at.
+      let (y, y_is, on) = h.each n z at in
+      let (x, x_is, before) = g.each n y y_is in
+      (x, x_is, then_on x y z before on);
+}
+  where
+    then_on : (x y z : TheEndProgress) → GoesOn x y → GoesOn y z → GoesOn x z
+    then_on x y z p q = record { jobs = q.jobs ∙ p.jobs; done = let a = p.done in let b = q.done in omega (arith, a, b) }
+
+-- the progress of an end
+abbrev pub progress_at : List TheEndProgress → EndId → Option TheEndProgress
+progress_at progresses e = given (progress_place progresses e) None (λ n. slice_get progresses n)
+
+-- it goes on from the end's progress before
+pub progress_before : (xs ys : List TheEndProgress) (e : EndId) (d : TheEndProgress) → AllGoOn xs ys → progress_at ys e ≡ Some d
+    → (f : TheEndProgress) × (progress_at xs e ≡ Some f) × GoesOn f d
+progress_before xs ys e d on h = by (progress_place xs e) refl
+  where
+    by : (o : Option ℕ) → progress_place xs e ≡ o → (f : TheEndProgress) × (progress_at xs e ≡ Some f) × GoesOn f d
+    by None at =
+        let none : None ≡ Some d = sym (ap (λ (o : Option ℕ). given o None λ n. slice_get ys n) (same_place xs ys e on.long ∙ at)) ∙ h in
+        absurd (cc)
+    by (Some n) at =
+        let there : slice_get ys n ≡ Some d = sym (ap (λ (o : Option ℕ). given o None λ i. slice_get ys i) (same_place xs ys e on.long ∙ at)) ∙ h in
+        let (f, f_is, goes) = on.each n d there in
+        (f, ap (λ (o : Option ℕ). given o None λ i. slice_get xs i) at ∙ f_is, goes)
+
+-- ---- its ends' jobs
 
 -- a request is one of an end's jobs
 pub record HasJob (jobs : List CoreJob) (progresses : List TheEndProgress) (name : EndId) (request : OpenRequest) : Type 0 where
   pub progress : TheEndProgress
-  pub progress_is : given (progress_place progresses name) None (λ n. slice_get progresses n) ≡ Some progress
+  pub progress_is : progress_at progresses name ≡ Some progress
   pub turn : ℕ
   pub place : ℕ
   pub place_is : slice_get progress.jobs turn ≡ Some place
   pub job_is : slice_get jobs place ≡ Some (job.Open request)
 
+-- it was one before
+pub job_before : (jobs : List CoreJob) (xs ys : List TheEndProgress) (name : EndId) (request : OpenRequest) → AllGoOn xs ys
+    → HasJob jobs ys name request → HasJob jobs xs name request
+job_before jobs xs ys name request on h =
+    let (f, f_is, goes) = progress_before xs ys name h.progress on h.progress_is in
+    record {
+      progress = f;
+      progress_is = f_is;
+      turn = h.turn;
+      place = h.place;
+      place_is = ap (λ (l : List ℕ). slice_get l h.turn) (sym goes.jobs) ∙ h.place_is;
+      job_is = h.job_is;
+    }
+
+-- it is the one that is next
+pub record IsNext (jobs : List CoreJob) (progresses : List TheEndProgress) (name : EndId) (request : OpenRequest) : Type 0 where
+  pub slot : ℕ
+  pub slot_is : progress_place progresses name ≡ Some slot
+  pub progress : TheEndProgress
+  pub progress_is : slice_get progresses slot ≡ Some progress
+  pub place : ℕ
+  pub place_is : slice_get progress.jobs progress.done ≡ Some place
+  pub job_is : slice_get jobs place ≡ Some (job.Open request)
+
 module _ (jobs : List CoreJob) (progresses : List TheEndProgress) (name : EndId) (request : OpenRequest) where
-  at_place : (progress : TheEndProgress) → given (progress_place progresses name) None (λ n. slice_get progresses n) ≡ Some progress
-      → (o : Option ℕ) → slice_get progress.jobs progress.done ≡ o → given o None (λ place. slice_get jobs place) ≡ Some (job.Open request)
-      → HasJob jobs progresses name request
-  at_place progress is None at h = absurd (cc)
-  at_place progress is (Some place) at h = record { progress = progress; progress_is = is; turn = progress.done; place = place; place_is = at; job_is = h }
+  by_job : (slot : ℕ) → progress_place progresses name ≡ Some slot → (d : TheEndProgress) → slice_get progresses slot ≡ Some d
+      → (o : Option ℕ) → slice_get d.jobs d.done ≡ o → given o None (λ place. slice_get jobs place) ≡ Some (job.Open request)
+      → IsNext jobs progresses name request
+  by_job slot here d there None at h = absurd (cc)
+  by_job slot here d there (Some place) at h =
+      record { slot = slot; slot_is = here; progress = d; progress_is = there; place = place; place_is = at; job_is = h }
 
-  at_progress : (n : ℕ) → progress_place progresses name ≡ Some n → (o : Option TheEndProgress) → slice_get progresses n ≡ o
-      → given o None (λ progress. given (slice_get progress.jobs progress.done) None λ place. slice_get jobs place) ≡ Some (job.Open request)
-      → HasJob jobs progresses name request
-  at_progress n here None at h = absurd (cc)
-  at_progress n here (Some progress) at h =
-      at_place progress (ap (λ (o : Option ℕ). given o None λ i. slice_get progresses i) here ∙ at) (slice_get progress.jobs progress.done) refl h
+  by_progress : (slot : ℕ) → progress_place progresses name ≡ Some slot → (o : Option TheEndProgress) → slice_get progresses slot ≡ o
+      → given o None (λ d. given (slice_get d.jobs d.done) None λ place. slice_get jobs place) ≡ Some (job.Open request)
+      → IsNext jobs progresses name request
+  by_progress slot here None there h = absurd (cc)
+  by_progress slot here (Some d) there h = by_job slot here d there (slice_get d.jobs d.done) refl h
 
-  by_place : (o : Option ℕ) → progress_place progresses name ≡ o
-      → given o None (λ n. given (slice_get progresses n) None λ progress. given (slice_get progress.jobs progress.done) None λ place. slice_get jobs place)
-      ≡ Some (job.Open request) → HasJob jobs progresses name request
-  by_place None here h = absurd (cc)
-  by_place (Some n) here h = at_progress n here (slice_get progresses n) refl h
+  by_slot : (o : Option ℕ) → progress_place progresses name ≡ o
+      → given o None (λ n. given (slice_get progresses n) None λ d. given (slice_get d.jobs d.done) None λ place. slice_get jobs place)
+      ≡ Some (job.Open request) → IsNext jobs progresses name request
+  by_slot None here h = absurd (cc)
+  by_slot (Some slot) here h = by_progress slot here (slice_get progresses slot) refl h
 
 pub next_there : {S : Type 0} (jobs : List CoreJob) (s : TheRun S) (name : EndId) (request : OpenRequest) → next_job jobs s name ≡ Some (job.Open request)
-    → HasJob jobs s.progresses name request
-next_there jobs s name request h = by_place jobs s.progresses name request (progress_place s.progresses name) refl h
+    → IsNext jobs s.progresses name request
+next_there jobs s name request h = by_slot jobs s.progresses name request (progress_place s.progresses name) refl h
 
--- what is one of an end's jobs was one before
-pub job_before : (jobs : List CoreJob) (xs ys : List TheEndProgress) (name : EndId) (request : OpenRequest) → map jobs_in ys ≡ map jobs_in xs
-    → HasJob jobs ys name request → HasJob jobs xs name request
-job_before jobs xs ys name request same h = by (progress_place xs name) refl
-  where
-    long : length ys ≡ length xs
-    long = sym (long_map jobs_in ys) ∙ ap length same ∙ long_map jobs_in xs
-
-    by : (o : Option ℕ) → progress_place xs name ≡ o → HasJob jobs xs name request
-    by None at =
-        let none : None ≡ Some h.progress =
-        sym (ap (λ (o : Option ℕ). given o None λ n. slice_get ys n) (same_place xs ys name long ∙ at)) ∙ h.progress_is in
-        absurd (cc)
-    by (Some n) at =
-        let there : slice_get ys n ≡ Some h.progress =
-        sym (ap (λ (o : Option ℕ). given o None λ i. slice_get ys i) (same_place xs ys name long ∙ at)) ∙ h.progress_is in
-        let was = came_from jobs_in xs n h.progress.jobs (ap (λ (l : List (List ℕ)). slice_get l n) (sym same) ∙ goes_to jobs_in ys n h.progress there) in
-        record {
-          progress = was.first;
-          progress_is = ap (λ (o : Option ℕ). given o None λ i. slice_get xs i) at ∙ was.first_is;
-          turn = h.turn;
-          place = h.place;
-          place_is = ap (λ (l : List ℕ). slice_get l h.turn) (sym was.same) ∙ h.place_is;
-          job_is = h.job_is;
-        }
+pub next_is_had : (jobs : List CoreJob) (progresses : List TheEndProgress) (name : EndId) (request : OpenRequest) → IsNext jobs progresses name request
+    → HasJob jobs progresses name request
+next_is_had jobs progresses name request next = record {
+  progress = next.progress;
+  progress_is = ap (λ (o : Option ℕ). given o None λ i. slice_get progresses i) next.slot_is ∙ next.progress_is;
+  turn = next.progress.done;
+  place = next.place;
+  place_is = next.place_is;
+  job_is = next.job_is;
+}
 
 -- ---- where a route begins
 

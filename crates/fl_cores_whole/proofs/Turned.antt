@@ -253,7 +253,7 @@ module _ (c : TheConfig) (jobs : List Job) (limit : ℕ) (r : TheReport) (w : Re
               ∙ sym (follows_behind _ _ its.turned.events (moment s.run (first_cut its.core s.run)) (moment o.run its.after) its.turned.follows),
         )
 
-    all_whole : AreTheirTurns w follow moments ys h → AreWhole ys
+    pub all_whole : AreTheirTurns w follow moments ys h → AreWhole ys
     all_whole theirs = still ys in_order (stays_long (joined_in w).jobs moments (begun w) ys h) now theirs
 
   -- ---- their steps
@@ -262,7 +262,7 @@ module _ (c : TheConfig) (jobs : List Job) (limit : ℕ) (r : TheReport) (w : Re
     abbrev in_steps : ℕ → List (Event TheSide)
     in_steps n = steps_at n (joined_in w).jobs none_open (begun w) steps ys h
 
-    steps_whole : AreTheirSteps w follow steps ys h → AreWhole ys
+    pub steps_whole : AreTheirSteps w follow steps ys h → AreWhole ys
     steps_whole theirs =
         still ys in_steps (steps_long (joined_in w).jobs steps none_open (begun w) ys h)
         (λ n s s_is. walks_to n (joined_in w).jobs steps none_open (begun w) ys h (joined_one (owners_in w.ran.ran.ran.shares) n s) (begun_at n s s_is)) theirs

@@ -31,6 +31,7 @@ use Rattle.fl_world_refines.specs.declared.parts.Parts.{Parts}
 use Rattle.fl_world_refines.specs.View.{TheWorld, ring_at, IsWhole}
 use Rattle.fl_world_refines.proofs.FramesBase.{gets, same_some}
 use Rattle.fl_cores_joined.specs.Joined.{JoinedCore, UnmadeHaveNoRules, IsJoined, AreWhole, alone}
+use Rattle.fl_cores_joined.specs.Laws.{TheyShow}
 use Rattle.fl_cores_joined.specs.Runs.{RunsJoin}
 use Rattle.fl_cores_joined.proofs.Seated.{closed_world, closed_shows, binding_there, none_kept}
 use Rattle.fl_world_refines.specs.ShowsState.{Shows}
@@ -44,19 +45,19 @@ use Rattle.fl_cores_whole.proofs.Asking.{open_rightly}
 use Rattle.fl_cores_whole.proofs.Renewed.{RingsAreFresh, begins_fresh, renewed_world, renewed_shows}
 
 module _ (fresh : SetUpsStartFresh) (c : TheConfig) (jobs : List Job) (limit : ℕ) (r : TheReport) (w : Reports c jobs limit r) where
-  abbrev made : TheWorld
+  abbrev pub made : TheWorld
   made = w.ran.made.world
 
   abbrev first : Parts
   first = w.ran.parts
 
-  abbrev parts : Parts
+  abbrev pub parts : Parts
   parts = w.ran.ran.parts
 
   starts : StartsFresh made
   starts = fresh c.cores c.setup made (all_making c.setup w.accepted.making) w.ran.made.stands.1.shown
 
-  ready : AreReady made parts
+  pub ready : AreReady made parts
   ready = are_ready made first parts jobs starts w.ran.made.parts w.ran.ran.rules w.ran.ran.beside
 
   rules : RulesOf made.bindings jobs made.cores parts.cores.items
@@ -133,18 +134,28 @@ module _ (fresh : SetUpsStartFresh) (c : TheConfig) (jobs : List Job) (limit : �
         (it.0, ap (λ (qs : List TheQueue). slice_get qs queue) shown.queues ∙ it.1);
   }
 
+-- its cores, as their threads are given them
+pub joined_first : (fresh : SetUpsStartFresh) → HandedOutJoin → (c : TheConfig) (jobs : List Job) (limit : ℕ) (r : TheReport) (w : Reports c jobs limit r)
+    → IsJoined (world fresh c jobs limit r w) (begun w)
+joined_first fresh handed c jobs limit r w =
+    handed (world fresh c jobs limit r w) w.ran.ran.parts (joined_in w) w.ran.ran.ran.places w.ran.ran.ran.core_threads w.ran.ran.ran.outcomes
+    (is_behind fresh c jobs limit r w) w.ran.ran.ran.sound.begin w.ran.ran.ran.begin w.ran.ran.ran.shares
+
+pub they_show : (fresh : SetUpsStartFresh) → HandedOutJoin → (c : TheConfig) (jobs : List Job) (limit : ℕ) (r : TheReport) (w : Reports c jobs limit r)
+    → TheyShow (begun w) (begins c jobs)
+they_show fresh handed c jobs limit r w = record {
+  world = world fresh c jobs limit r w;
+  joined = joined_first fresh handed c jobs limit r w;
+  shows = world_shows fresh c jobs limit r w;
+}
+
 pub reports_join : SetUpsStartFresh → HandedOutJoin → RunsJoin → ReportsJoin
 reports_join fresh handed runs c jobs limit r w moments ys h still in_turn =
-    let there = world fresh c jobs limit r w in
-    let joined : IsJoined there (begun w) =
-    handed there w.ran.ran.parts (joined_in w) w.ran.ran.ran.places w.ran.ran.ran.core_threads w.ran.ran.ran.outcomes
-    (is_behind fresh c jobs limit r w) w.ran.ran.ran.sound.begin w.ran.ran.ran.begin w.ran.ran.ran.shares in
-    runs (joined_in w).jobs (begun w) ys moments (begins c jobs)
-    (record { world = there; joined = joined; shows = world_shows fresh c jobs limit r w }) h still
+    runs (joined_in w).jobs (begun w) ys moments (begins c jobs) (they_show fresh handed c jobs limit r w) h still
     (open_rightly c jobs limit r w moments (begins c jobs) ys h) in_turn
 
 -- cores were whole before looks, too
-whole_before_looks : (jobs : List CoreJob) (pending : OpenLooks) (ys ms : List JoinedCore) → AreBeforeLooks jobs pending ys ms → AreWhole ys → AreWhole ms
+pub whole_before_looks : (jobs : List CoreJob) (pending : OpenLooks) (ys ms : List JoinedCore) → AreBeforeLooks jobs pending ys ms → AreWhole ys → AreWhole ms
 whole_before_looks jobs pending ys ms before still n x x_is = by (pending n) refl
   where
     by : (o : Option LogEntry) → pending n ≡ o → IsWhole x.run.core

@@ -1,5 +1,5 @@
 -- What holds of all that the cores of a reported run do one after another, since it is a run of the machine. Law.
-use Rattle.std.specs.Prelude.{ℕ, ◌≡◌, false, List, ◌++◌, slice_get, Some}
+use Rattle.std.specs.Prelude.{ℕ, ◌≡◌, Bool, false, List, ◌++◌, slice_get, Some}
 use Rattle.std.specs.List.{flat_map}
 use Rattle.fl_base.specs.declared.identity.EndId.{EndId}
 use Rattle.fl_base.specs.Ends.{peer}
@@ -20,6 +20,7 @@ use Rattle.fl_cores.specs.Follows.{CoresFollow}
 use Rattle.fl_cores.specs.OneCore.{rule_in, begins}
 use Rattle.fl_cores.specs.Promised.{Reports}
 use Rattle.fl_cores_joined.specs.Joined.{JoinedCore, AreWhole}
+use Rattle.fl_cores_joined.specs.RenamedRuns.{all_under, RunsUnderSome}
 use Rattle.fl_cores_joined.specs.Steps.{Moment, Interleaves}
 use Rattle.fl_cores_joined.specs.Runs.{asked_in, events_of, AllAreNumbered}
 use Rattle.fl_cores_whole.specs.Whole.{begun, AreTheirTurns}
@@ -53,10 +54,17 @@ ReportsHold = (c : TheConfig) (jobs : List Job) (limit : ℕ) (r : TheReport) (w
     → AllAreNumbered (joined_in w).jobs (begins c jobs) (begun w) moments ys h
     → KeepsLaws c jobs (asked_in (joined_in w).jobs (begun w) moments ys h)
 
--- So it does of what they did in their turns, up to any moment
+-- So it does of what they did in their turns, at any moment at which no look waits for what follows it
 abbrev pub TheirTurnsHold : Type 0
 TheirTurnsHold = (c : TheConfig) (jobs : List Job) (limit : ℕ) (r : TheReport) (w : Reports c jobs limit r)
     (follow : CoresFollow w) (moments : List Moment) (ys : List JoinedCore)
     → (h : Interleaves (joined_in w).jobs (begun w) moments ys) → AreTheirTurns w follow moments ys h
     → AllAreNumbered (joined_in w).jobs (begins c jobs) (begun w) moments ys h
     → KeepsLaws c jobs (asked_in (joined_in w).jobs (begun w) moments ys h)
+
+-- and of each run from behind the set-up in which bindings have other numbers: of what the machine was asked, under them.
+abbrev pub RunsUnderSomeHold : Type 0
+RunsUnderSomeHold = (c : TheConfig) (jobs : List Job) (limit : ℕ) (r : TheReport) (w : Reports c jobs limit r)
+    (links : ℕ → Bool) (moments : List Moment) (exchanges : List Exchange) (ys : List JoinedCore)
+    → (under : RunsUnderSome links moments exchanges (begins c jobs) ys)
+    → KeepsLaws c jobs (all_under under.renaming exchanges)

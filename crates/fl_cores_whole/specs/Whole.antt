@@ -113,7 +113,7 @@ module _ {c : TheConfig} {jobs : List Job} {limit : ℕ} {r : TheReport} (w : Re
   AreLeft ys = (n : ℕ) (o : TheFinishedCore) → slice_get w.ran.ran.ran.outcomes n ≡ Some o
       → (y : JoinedCore) × (slice_get ys n ≡ Some y) × (y.run ≡ o.run)
 
--- So is an interleaving of what they did up to any moment of the run
+-- So is an interleaving of what they did, at any moment at which no look waits for what follows it
 abbrev pub TheirTurnsJoin : Type 0
 TheirTurnsJoin = (c : TheConfig) (jobs : List Job) (limit : ℕ) (r : TheReport) (w : Reports c jobs limit r)
     (follow : CoresFollow w) (moments : List Moment) (ys : List JoinedCore)

@@ -1,7 +1,9 @@
 //! What a run of cores is of the one machine: laws, as the contracts of functions that do nothing.
 
+ghost use Rattle.fl_cores_whole.specs.AnyOrder.{ReportsJoinInAnyOrder, StepsJoinInAnyOrder};
+ghost use Rattle.fl_cores_whole.specs.AnyOrder.{TheirStepsJoinInAnyOrder, TheirTurnsJoinInAnyOrder};
 ghost use Rattle.fl_cores_whole.specs.Begin.{HandedOutJoin};
-ghost use Rattle.fl_cores_whole.specs.Holds.{ReportsHold, TheirTurnsHold};
+ghost use Rattle.fl_cores_whole.specs.Holds.{ReportsHold, RunsUnderSomeHold, TheirTurnsHold};
 ghost use Rattle.fl_cores_whole.specs.One.{OneCoreJoins};
 ghost use Rattle.fl_cores_whole.specs.Told.{TheirCallsAreTold};
 ghost use Rattle.fl_cores_whole.specs.Whole.{ExchangedStepsJoin, ReportsJoin, StepsOfReportsJoin};
@@ -10,7 +12,9 @@ ghost use Rattle.fl_cores_whole.specs.Whole.{TheirStepsJoin, TheirTurnsEnd, Thei
 use fl_core_refines::law_set_ups_start_fresh;
 use fl_core_run_laws::{law_leads_at_first, law_sides_go};
 use fl_cores::law_reports_are_of_runs;
-use fl_cores_joined::{law_neighbours_exchange, law_runs_join, law_steps_interleave};
+use fl_cores_joined::{
+    law_neighbours_exchange, law_runs_join, law_runs_join_in_any_order, law_steps_interleave,
+};
 use fl_cores_laws::{law_cores_go, law_ends_are_at_home, law_ends_are_requested};
 use fl_cores_shares::law_handed_out_go_on;
 use fl_model_laws::{law_no_wire_faults, law_numbers_are_once_both_ways};
@@ -57,6 +61,24 @@ pub fn law_their_turns_join()
     law_steps_join();
 }
 
+/// What the cores of a reported run do one after another, where each look finds what stands in its ring at that
+/// moment, is a run of the machine from behind the set-up in whatever order they accept openings, as long as each is
+/// whole then: with their answers, to a state that they show, both under one renaming of bindings. It joins no two,
+/// keeps those of the set-up, and gives accepted openings the next numbers, in that order. So it is entry by entry,
+/// where looks that nothing followed yet are still to come; and of what they did in their turns, at any moment at
+/// which no look waits for what follows it, and entry by entry at any moment at all.
+pub fn law_reports_join_in_any_order()
+    ensures runs { ReportsJoinInAnyOrder }
+    ensures turns { TheirTurnsJoinInAnyOrder }
+    ensures steps { StepsJoinInAnyOrder }
+    ensures turned_steps { TheirStepsJoinInAnyOrder }
+{
+    law_set_ups_start_fresh();
+    law_leads_at_first();
+    law_runs_join_in_any_order();
+    law_steps_interleave();
+}
+
 /// In an order of all that they did, each end handled just the calls that the report tells: no core but its own
 /// handles a call there.
 pub fn law_their_calls_are_told()
@@ -81,10 +103,12 @@ pub fn law_one_core_joins()
 /// In all of it no core meets a fault of received fragments, or a circuit without an entry; what an end
 /// handled is a prefix of what the other end accepted; no more fragments have passed a station of a way than
 /// the one before it; and a circuit's number on a link was given once. So it is of what the cores did in their
-/// turns, up to any moment.
+/// turns, at any moment at which no look waits for what follows it; and of each run of
+/// [`law_reports_join_in_any_order`], of the ends and bindings under its renaming: so, entry by entry, at any moment.
 pub fn law_reports_hold()
     ensures hold { ReportsHold }
     ensures turns { TheirTurnsHold }
+    ensures under { RunsUnderSomeHold }
 {
     law_no_wire_faults();
     law_handled_is_ever_a_prefix();
