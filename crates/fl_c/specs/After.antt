@@ -23,7 +23,7 @@ abbrev pub after_all : {A : Type 0} → (A → List ℕ → Option (List ℕ)) �
 after_all after [] tape = Some tape
 after_all after (t ∷ ts) tape = option_and_then (after_all after ts) (after t tape)
 
--- behind a length of at most so many, and so many things of a kind
+-- behind a length of at most so many, and as many things of a kind as it says
 abbrev pub after_counted : (List ℕ → Option (List ℕ)) → ℕ → List ℕ → Option (List ℕ)
 after_counted after most [] = None
 after_counted after most (n ∷ rest) = if nat_le n most then after_each after n rest else None
@@ -59,7 +59,7 @@ abbrev pub after_ranks : PlanNo → ℕ → ℕ → List TheArgType → List ℕ
 after_ranks plan zero rank types tape = Some tape
 after_ranks plan (suc more) rank types tape = option_and_then (after_ranks plan more (rank + 1) types) (after_all (after_ranked plan rank) types tape)
 
--- something stands there, and nothing is left behind it
+-- the tape begins with these, and nothing is left behind them
 abbrev pub is_all : Option (List ℕ) → Bool
 is_all None = false
 is_all (Some rest) = nat_eq (length rest) 0

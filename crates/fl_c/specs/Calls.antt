@@ -37,7 +37,7 @@ ReadsCall x numbers (Ok (Some call)) = AreCall x numbers (call_of call)
 ReadsCall x numbers (Ok None) = (c : TheCall) × AreCall x numbers c
 ReadsCall x numbers (Err fault) = RefusesNumbers x numbers fault
 
--- a call's message and tape stand first in a room, or there is no room for them
+-- a call's message and tape stand first in a room, or there is no room for them; or memory ran out, whatever the room
 abbrev pub PutsCall : TheProgram → Call → List ℕ → Result ℕ UseFault → List ℕ → Type 0
 PutsCall x call room (Ok count) written =
     (count ≡ length (tape_of x.plan x.interface (call_of call)) + 1) × (written ≡ (call.msg.0 ∷ tape_of x.plan x.interface (call_of call)) ++ drop count room)

@@ -34,15 +34,15 @@ abbrev pub with_refusal : ℕ → TheEndProgress → TheEndProgress
 with_refusal number d = record d { refused = number }
 
 -- the end's progress at place n has changed so
-pub record ChangesProgress (progresses : List TheEndProgress) (n : ℕ) (change : TheEndProgress → TheEndProgress) (desks2 : List TheEndProgress) : Type 0 where
+pub record ChangesProgress (progresses : List TheEndProgress) (n : ℕ) (change : TheEndProgress → TheEndProgress) (progresses2 : List TheEndProgress) : Type 0 where
   pub progress : TheEndProgress
   pub progress_is : slice_get progresses n ≡ Some progress
-  pub rest : desks2 ≡ slice_set progresses n (change progress)
+  pub rest : progresses2 ≡ slice_set progresses n (change progress)
 
 -- so has that of an end; where it has none nothing has
 abbrev pub ChangesIf : Option ℕ → List TheEndProgress → (TheEndProgress → TheEndProgress) → List TheEndProgress → Type 0
-ChangesIf None progresses change desks2 = desks2 ≡ progresses
-ChangesIf (Some n) progresses change desks2 = ChangesProgress progresses n change desks2
+ChangesIf None progresses change progresses2 = progresses2 ≡ progresses
+ChangesIf (Some n) progresses change progresses2 = ChangesProgress progresses n change progresses2
 
 -- all its jobs are done, and as many calls are handled as are to be
 abbrev pub is_clear : TheEndProgress → Bool

@@ -17,7 +17,7 @@ use Rattle.fl_core_run.specs.Run.{SideRelations, TheRun}
 abbrev pub Fronts : {S : Type 0} → SideRelations S → ℕ → Frag → TheRun S → Type 0
 Fronts {S} w n frag s = (p : S) → slice_get s.rings n ≡ Some p → w.front p ≡ saw (bare frag)
 
--- what a look found stands there still, and may go the way that it is to go
+-- what a look found stands there still; where it goes on or to an end, it isn't one that only acknowledges
 abbrev pub Foresees : {S : Type 0} → SideRelations S → ℕ → Result LinkFront LinkReceiveFault → TheRun S → Type 0
 Foresees w n (Ok (Message frag)) s = Fronts w n frag s
 Foresees w n (Ok (Onward frag to c)) s = Fronts w n frag s × (is_ack_only (with_circuit c.0 frag) ≡ false)

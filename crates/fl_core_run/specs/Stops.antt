@@ -1,5 +1,5 @@
--- How far a turn came to which memory was refused, and a core's run with it. All before is whole and in its order; at most one thing
--- was under way then, and that is told, and with it that memory was wanted there.
+-- How far a turn came to which memory was refused, and a core's run with it. All before is whole and in its order; just one thing
+-- was under way then: that is told, and that it would do something.
 use Rattle.std.specs.Prelude.{ℕ, ◌≡◌, ◌⊎◌, ◌<◌, false, List, length, Some, Ok, Err}
 use Rattle.std.specs.declared.alloc.AllocError.{AllocError}
 use Rattle.fl_base.specs.declared.fragment.Frag.{Frag}
@@ -30,7 +30,7 @@ pub record LeavesMessage {S : Type 0} (w : SideRelations S) (l : LinkId) (s t : 
   pub looks : Happens w (looked side l (Ok (Message frag))) s t
   pub hears : HearsFragLast t.offers l frag t.core Memory
 
--- for an end: its next job is left, and nothing has happened; a call that it is would be accepted, a circuit would be begun
+-- for an end: its next job is left, and nothing has happened; it is a call that would be accepted, or an opening that would begin a circuit
 pub record LeavesJob {S : Type 0} (jobs : List CoreJob) (name : EndId) (s t : TheRun S) : Type 0 where
   pub same : t ≡ s
   pub does : DoesJob s name (next_job jobs s name)
@@ -48,7 +48,7 @@ pub record LeavesTurn {S : Type 0} (w : SideRelations S) (jobs : List CoreJob) (
   pub name_is : place_of s.core name ≡ Some due.end
   pub ready : awaits jobs s name ≡ false
   pub leaves : LeavesCall w d name due s t
-  -- the fragment that the end is given makes a call whole
+  -- so by `leaves` the fragment makes a call whole
   pub handles : HandlesCall w d due s
 
 -- ---- how far a turn came

@@ -1,5 +1,5 @@
 -- What in a turn wants memory: the event would do something there, and no refusal, and no answer that nothing was done, is due in its place. A turn stops
--- for nothing else. Of a monitors' message `HearsFragLast` of the core says it: it is heard, and something is said then.
+-- for nothing else. Of a monitors' message `HearsFragLast` of the core says it: it would be heard, and something said then.
 use Rattle.std.specs.Prelude.{ℕ, ◌≡◌, true, ◌∷◌, [], ◌++◌, slice_get, Option, Some, Ok}
 use Rattle.fl_base.specs.declared.fragment.Frag.{Frag}
 use Rattle.fl_base.specs.declared.identity.EndId.{EndId}
@@ -27,7 +27,7 @@ use Rattle.fl_core_run.specs.Steps.{may_ask}
 
 -- ---- for an end: its next job
 
--- the end accepts the call: that fits, the end is ready, and no call is in transmission
+-- the end would accept the call: it fits, the end is ready, and no call is in transmission
 abbrev pub Accepts : TheEnd → TheCall → Type 0
 Accepts s c = (fits_of (interface_in s) c ≡ true) × IsReady s × (s.outgoing.unwritten ≡ [])
 
@@ -37,7 +37,7 @@ pub record AcceptsAt (k : TheCore) (name : EndId) (c : TheCall) : Type 0 where
   pub place_is : place_of k name ≡ Some place
   pub accepts : Holds k.board place (λ seat. Accepts seat.end c)
 
--- a circuit can be asked for, and is begun
+-- a circuit can be asked for, and would be begun
 abbrev pub BeginsCircuit : {S : Type 0} → TheRun S → OpenRequest → Type 0
 BeginsCircuit s request = (may_ask s request ≡ true) × MayOpen request.dispatcher request.link request.opening s.core
 
@@ -49,7 +49,7 @@ DoesJob s name next = ⊥
 
 -- ---- for a dispatcher: a call is handled
 
--- the end takes fragments, and the one that stands first on its side makes a call whole
+-- the end takes fragments, and one that may stand first on its side makes a call whole
 abbrev pub MakesWhole : {T : Type 0} → (T → Look → T → Type 0) → T → TheEnd → Type 0
 MakesWhole {T} takes p s = IsOpen s × ((frag : Frag) × (q : T) × takes p (saw frag) q × ((c : TheCall) × AreCall s (s.parts ++ frag ∷ []) c))
 

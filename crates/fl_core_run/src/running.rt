@@ -84,7 +84,7 @@ impl<S: PutSide + TakeSide + Drop> RunningCore<S> {
     /// begun, or a monitors' message is heard at which something is said.
     ///
     /// # Errors
-    /// Out of memory, only where one of these would be done. The turn wasn't finished then, and the core can take no other.
+    /// Out of memory, only where one of these would be done. The turn wasn't finished then: what of it was done is told.
     pub fn turn(&mut self, plan: &TurnPlan, jobs: &[CoreJob]) -> Result<(), AllocError>
         ensures turn { OnOk result (OneTurn (ways S.puts S.takes S.front) plan.now jobs.now (run_of self.old) (run_of self.new)) }
         ensures part { OnErr result (PartOfTurn (ways S.puts S.takes S.front) plan.now jobs.now (run_of self.old) (run_of self.new)) }

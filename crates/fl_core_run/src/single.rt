@@ -63,7 +63,7 @@ impl<S: PutSide + TakeSide + Drop> RunningCore<S> {
     /// A forward for a link.
     ///
     /// # Errors
-    /// Out of memory, where something would be said. The monitors' message that stands first is left there.
+    /// Out of memory, only where a monitors' message would be heard and something said. It is left there.
     pub fn forward(&mut self, link: LinkId) -> Result<(), AllocError>
         ensures forwards { OnOk result (Forwards (ways S.puts S.takes S.front) link
             (run_of self.old) (run_of self.new)) }
@@ -106,7 +106,7 @@ impl<S: PutSide + TakeSide + Drop> RunningCore<S> {
     /// A turn of a dispatcher.
     ///
     /// # Errors
-    /// Out of memory, only where a call is handled. The end that is due left the fragment that it saw, or its progress doesn't have the call.
+    /// Out of memory, only where a call is or would be handled. The end that is due left the fragment that it saw, or its progress doesn't have the call.
     pub fn turn_of(&mut self, jobs: &[CoreJob], dispatcher: usize) -> Result<(), AllocError>
         ensures turns { OnOk result (TakesTurn (ways S.puts S.takes S.front) jobs.now dispatcher
             (run_of self.old) (run_of self.new)) }

@@ -84,7 +84,7 @@ IsRefusedAt c number place (Some n) = IsFaultOf (front_of c n) (boot.Refused num
 abbrev pub IsRefused : TheConfig → ℕ → ℕ → Type 0
 IsRefused c number place = IsRefusedAt c number place (position is_other c.setup)
 
--- the set-up is accepted, and by what it makes the job at this place, from 1, is the first of these that has a fault
+-- the set-up is accepted, and by what it makes the job at this place, from 1, is the first of these that has a fault, with this number
 pub record RefusesJob (c : TheConfig) (jobs : List Job) (number place : ℕ) : Type 0 where
   pub accepted : IsAccepted c
   pub parts : Parts
@@ -98,7 +98,7 @@ pub record LacksThread (c : TheConfig) (jobs : List Job) : Type 0 where
   pub made : Made c parts
   pub passed : IsRunFault parts jobs run.Thread
 
--- a job is refused, or a thread, only where the set-up isn't; and memory only where there may be so many cores, from 1 to 16:
+-- a job is refused only where the set-up isn't, a thread only where no job is either; and memory only where there may be so many cores, from 1 to 16:
 -- no more is known of it then, since it may be refused for the first thing that is made
 abbrev pub IsFault : TheConfig → List Job → CoresFault → Type 0
 IsFault c jobs (fault.Setup number place) = IsRefused c number place

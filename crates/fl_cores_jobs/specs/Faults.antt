@@ -115,7 +115,7 @@ request_fault p bindings w =
     else if nat_le 1024 bindings then Some 94
     else service_fault p core w
 
--- why it stops: for that fault, or because memory was refused, where nothing but the route could be
+-- why it stops: for that fault; or memory was refused, where there is none, or only one of the route (E73)
 abbrev pub RequestStops : Option ℕ → CoresLineFault → Type 0
 RequestStops found (stop.Refused number) = found ≡ Some number
 RequestStops found stop.Memory = (found ≡ None) ⊎ (found ≡ Some 73)

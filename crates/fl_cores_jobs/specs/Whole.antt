@@ -165,7 +165,7 @@ abbrev pub fault_at : CoresLineFault → ℕ → JobFault
 fault_at (stop.Refused number) place = fault.Refused number place
 fault_at stop.Memory place = fault.Memory
 
--- its number
+-- the fault's number
 abbrev pub number_of : JobFault → ℕ
 number_of (fault.Refused number place) = number
 number_of fault.Memory = 99

@@ -18,14 +18,15 @@ abbrev pub by_stop : NoReport → RunFault
 by_stop stop.Memory = Memory
 by_stop stop.Thread = Thread
 
--- the fault's number; of a thread that doesn't start the program's status
+-- the fault's number; of a thread that doesn't start the program's status, which is no E3
 abbrev pub number_of : RunFault → ℕ
 number_of (Refused number place) = number
 number_of Memory = 99
 number_of Thread = 3
 
 -- a job is refused only where joining refuses it: it is the first that has a fault, with its number; or, at place 0, a binding of the set-up is. Where
--- memory is wanted in joining no job before that has a fault, and none at all where it is wanted later, or a thread
+-- memory is wanted in joining a job, none before it has a fault, nor has it, but for one that is found later; none has any where memory is wanted behind
+-- joining, or a thread doesn't start
 abbrev pub IsRunFault : Parts → List Job → RunFault → Type 0
 IsRunFault p jobs (Refused number place) = IsFault p jobs (job.Refused number place)
 IsRunFault p jobs Memory = IsFault p jobs job.Memory ⊎ NoneRefused p jobs
