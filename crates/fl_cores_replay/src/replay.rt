@@ -115,7 +115,7 @@ const MANY: u32 = 1_000_000;
 
 // How far a core came while it had its turn.
 #[derive(Clone, Copy)]
-struct Progress {
+struct ReplayProgress {
     moved: bool,
     is_done: bool,
 }
@@ -176,24 +176,24 @@ impl Replay {
         &mut self,
         over: &mut CoresOver<ReplayedSide>,
         core: usize,
-    ) -> Result<Progress, AllocError> {
+    ) -> Result<ReplayProgress, AllocError> {
         let mut moved = false;
         for _ in 0..MANY {
             let is_done = true;
             let Some(replay) = self.cores.get_mut(core) else {
-                return Ok(Progress { moved, is_done });
+                return Ok(ReplayProgress { moved, is_done });
             };
             let Some(one) = over.cores.get_mut(core) else {
-                return Ok(Progress { moved, is_done });
+                return Ok(ReplayProgress { moved, is_done });
             };
             match replay.advance(one, &over.joined)? {
                 Advance::Waits => {
-                    return Ok(Progress {
+                    return Ok(ReplayProgress {
                         moved,
                         is_done: false,
                     });
                 }
-                Advance::Done => return Ok(Progress { moved, is_done }),
+                Advance::Done => return Ok(ReplayProgress { moved, is_done }),
                 Advance::Went => {}
             }
             moved = true;
@@ -201,15 +201,15 @@ impl Replay {
                 deliver(&mut over.cores, &self.places, sent);
             }
         }
-        Ok(Progress {
+        Ok(ReplayProgress {
             moved,
             is_done: false,
         })
     }
 
     // The events of each core in turn, as many as may come.
-    fn round(&mut self, over: &mut CoresOver<ReplayedSide>) -> Result<Progress, AllocError> {
-        let mut all = Progress {
+    fn round(&mut self, over: &mut CoresOver<ReplayedSide>) -> Result<ReplayProgress, AllocError> {
+        let mut all = ReplayProgress {
             moved: false,
             is_done: true,
         };

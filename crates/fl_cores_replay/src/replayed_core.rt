@@ -3,11 +3,11 @@
 use crate::replayed_side::{
     NO_RING_EFFECT, ReplayedPut, ReplayedSide, ReplayedSight, RingEffect, SentFrag,
 };
-use fl_base::{EndId, LinkId, Side};
+use fl_base::{EndId, LinkId, MAX_BINDINGS};
 use fl_core::{CoreJob, Inlet};
 use fl_core_run::{RunningCore, TurnPlan};
 use fl_cores::CoreOver;
-use fl_cores_jobs::JoinedJobs;
+use fl_cores_jobs::{JoinedJobs, slot_of};
 use std::alloc::{AllocError, Global};
 
 /// What a turn is made of.
@@ -127,18 +127,20 @@ fn last_task_at(links: &[LinkId], ends: &[EndId], place: usize) -> Option<Task> 
 
 // ---- the core, over its sides
 
-// The place of an end's work.
-fn slot_of(end: EndId) -> usize {
-    let side = match end.side {
-        Side::Client => 0,
-        Side::Server => 1,
-    };
-    end.binding.wrapping_mul(2).wrapping_add(side)
+// The place of an end's work; none where there is no such binding.
+fn place_of_work(end: EndId) -> Option<usize> {
+    if end.binding >= MAX_BINDINGS {
+        return None;
+    }
+    Some(slot_of(end))
 }
 
 // How many jobs of an end are done.
 fn jobs_done(core: &RunningCore<ReplayedSide>, end: EndId) -> usize {
-    match core.progresses.get(slot_of(end)) {
+    let Some(place) = place_of_work(end) else {
+        return 0;
+    };
+    match core.progresses.get(place) {
         None => 0,
         Some(progress) => progress.done(),
     }
@@ -219,7 +221,8 @@ fn say(core: &mut RunningCore<ReplayedSide>, link: LinkId) -> Option<CoreEvent> 
 }
 
 fn job_at(joined: &JoinedJobs, end: EndId, done: usize) -> Option<CoreEvent> {
-    let work = joined.end_works.get(slot_of(end))?;
+    let place = place_of_work(end)?;
+    let work = joined.end_works.get(place)?;
     match work.jobs.get(done) {
         None => None,
         Some(job) => Some(CoreEvent::Job(*job)),

@@ -8,7 +8,7 @@
 
 mod progress;
 
-use crate::progress::Progress;
+use crate::progress::ProgressLine;
 use flounder_commands::{Disk, Fault, Watched, finish, no_words};
 use flounder_run::run;
 use std::env;
@@ -31,7 +31,7 @@ fn main(rt: HostRuntime) -> ExitCode {
     let reader = rt.reader();
     let is_typed = reader.is_terminal();
     let mut input = Watched::new(alloc, reader).typed(is_typed);
-    let progress = Progress::new(&rt, rt.stderr().is_terminal());
+    let progress = ProgressLine::new(&rt, rt.stderr().is_terminal());
     let status = run(
         &rt,
         &progress,

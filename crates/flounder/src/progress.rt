@@ -10,7 +10,7 @@ const TURNS_A_LOOK: u64 = 16;
 
 /// Tells on standard error about once a second how many turns core 0 took, where a person sees that.
 #[derive(Drop)]
-pub struct Progress<'r, R> {
+pub struct ProgressLine<'r, R> {
     rt: &'r R,
     is_seen: bool,
     turns: AtomicU64,
@@ -26,10 +26,10 @@ fn second<R: Clock>(rt: &R) -> u64 {
     }
 }
 
-impl<'r, R: Clock> Progress<'r, R> {
+impl<'r, R: Clock> ProgressLine<'r, R> {
     /// Of a run that begins now. `is_seen`: whether a person sees standard error.
-    pub fn new(rt: &'r R, is_seen: bool) -> Progress<'r, R> {
-        Progress {
+    pub fn new(rt: &'r R, is_seen: bool) -> ProgressLine<'r, R> {
+        ProgressLine {
             rt,
             is_seen,
             turns: AtomicU64::new(0),
@@ -38,7 +38,7 @@ impl<'r, R: Clock> Progress<'r, R> {
     }
 }
 
-impl<R: Clock + Eprint> Progress<'_, R> {
+impl<R: Clock + Eprint> ProgressLine<'_, R> {
     // Tells a line where the last is a second old.
     fn tell(&self, turns: u64) {
         let now = second(self.rt);
@@ -51,7 +51,7 @@ impl<R: Clock + Eprint> Progress<'_, R> {
     }
 }
 
-impl<R: Clock + Eprint> Gate for Progress<'_, R> {
+impl<R: Clock + Eprint> Gate for ProgressLine<'_, R> {
     fn before_turn(&self, core: CoreId) {
         if self.is_seen && core.0 == 0 {
             let turns = self.turns.load(Ordering::SeqCst);

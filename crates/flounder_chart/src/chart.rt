@@ -9,7 +9,7 @@ use crate::chosen::Lines;
 use crate::drawing::{Shown, draw};
 use crate::fault::ChartFault;
 use crate::reading::read_run;
-use crate::run::{Row, Run};
+use crate::run::{ChartRow, Run};
 use fl_model::Machine;
 use fl_script_exec::{ExecFault, MAX_SCRIPT, exec};
 use std::alloc::Global;
@@ -88,7 +88,7 @@ fn transcript_of<M: Machine + Drop>(alloc: Global, script: &[u8]) -> Result<Vec<
 }
 
 // The rows of these lines, or all.
-fn shown_rows(rows: &[Row<'_>], lines: Option<Lines>) -> Shown
+fn shown_rows(rows: &[ChartRow<'_>], lines: Option<Lines>) -> Shown
     ensures few { result.end ≤ length rows.now }
     ensures within { IsWithin result.first result.end (option_map (λ l. count_of l.first l.last) lines) }
 {
@@ -102,7 +102,7 @@ fn shown_rows(rows: &[Row<'_>], lines: Option<Lines>) -> Shown
 }
 
 // The rows of these lines. There are no more rows than lines, since each begins on a line of its own.
-fn rows_within(rows: &[Row<'_>], lines: Lines) -> Shown
+fn rows_within(rows: &[ChartRow<'_>], lines: Lines) -> Shown
     ensures few { result.end ≤ length rows.now }
     ensures within { result.end ≤ result.first + count_of lines.first lines.last }
 {

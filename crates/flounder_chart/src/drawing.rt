@@ -7,7 +7,7 @@ use crate::canvas::{Canvas, Placed};
 use crate::layout::{LabelSide, Lane, Layout, MOST_OF_NAME, ROW, TOP, row_y};
 use crate::marks::{LEGEND_HEIGHT, STYLE, draw_heads, draw_legend};
 use crate::passages::{count_above, draw_arrows, draw_dots};
-use crate::run::{Row, RowKind, Run};
+use crate::run::{ChartRow, RowKind, Run};
 use flounder_svg::{Attribute, Tag};
 use std::alloc::{AllocError, Global};
 
@@ -40,7 +40,7 @@ fn draw_in(
     alloc: Global,
     layout: &Layout<'_>,
     run: &Run<'_>,
-    rows: &[Row<'_>],
+    rows: &[ChartRow<'_>],
     shown: Shown,
 ) -> Result<Vec<u8>, AllocError>
     ensures document { IfOk result (λ drawing. IsDocument drawing.items) }
@@ -58,7 +58,7 @@ fn draw_on(
     mut canvas: Canvas,
     layout: &Layout<'_>,
     run: &Run<'_>,
-    rows: &[Row<'_>],
+    rows: &[ChartRow<'_>],
     shown: Shown,
 ) -> Result<Vec<u8>, AllocError>
     ensures document { IfOk result (λ drawing. IsDocument drawing.items) }
@@ -163,7 +163,7 @@ fn draw_core(canvas: &mut Canvas, core: u32, first: u32, last: u32) {
     canvas.label(name, text.as_bytes(), MOST_OF_NAME);
 }
 
-fn draw_rows(canvas: &mut Canvas, layout: &Layout<'_>, rows: &[Row<'_>]) {
+fn draw_rows(canvas: &mut Canvas, layout: &Layout<'_>, rows: &[ChartRow<'_>]) {
     canvas.open_group(b"list", b"lines and answers");
     for (place, row) in rows.iter().enumerate() {
         let y = row_y(place);
@@ -178,7 +178,7 @@ fn draw_rows(canvas: &mut Canvas, layout: &Layout<'_>, rows: &[Row<'_>]) {
 }
 
 // A line's number and its text, on this base.
-fn draw_line(canvas: &mut Canvas, layout: &Layout<'_>, row: &Row<'_>, y: u32) {
+fn draw_line(canvas: &mut Canvas, layout: &Layout<'_>, row: &ChartRow<'_>, y: u32) {
     let number = row.number;
     let alloc = canvas.alloc;
     let digits = canvas.made(format!(in alloc; "{number}"));
@@ -194,7 +194,7 @@ fn draw_line(canvas: &mut Canvas, layout: &Layout<'_>, row: &Row<'_>, y: u32) {
 }
 
 // A row's answer beside its lane, where a point stands; beside its text where nobody acts.
-fn draw_answer(canvas: &mut Canvas, layout: &Layout<'_>, row: &Row<'_>, y: u32) {
+fn draw_answer(canvas: &mut Canvas, layout: &Layout<'_>, row: &ChartRow<'_>, y: u32) {
     let tone = tone_of(row.answer);
     let most = layout.label_columns(row);
     let base = y.saturating_add(4);

@@ -1,7 +1,7 @@
 //! Which fragment goes where, told by a script's commands and their answers alone: what is put stands in a
 //! queue until it is taken, and the first put is the first taken.
 
-use crate::run::{Actor, Carried, End, Passage, Queue, Spot};
+use crate::run::{Actor, Carried, DrawnEnd, Passage, Queue, Spot};
 use fl_base::Side;
 use std::alloc::Global;
 use std::collections::VecDeque;
@@ -12,7 +12,7 @@ pub(crate) const CORES: u32 = 16;
 /// A binding: the dispatchers of its two ends, the cores of its circuit, if it is one, and what waits for
 /// each end.
 #[derive(Drop)]
-pub(crate) struct Binding {
+pub(crate) struct DrawnBinding {
     pub client: usize,
     pub server: usize,
     /// From the client's core to the server's; of no core where it is no circuit.
@@ -21,7 +21,7 @@ pub(crate) struct Binding {
     pub to_server: Queue,
 }
 
-impl Binding {
+impl DrawnBinding {
     /// The dispatcher of an end.
     pub(crate) fn dispatcher(&self, side: Side) -> Actor {
         match side {
@@ -69,19 +69,19 @@ impl Binding {
 /// All queues of a run, and what passed through them; whole unless memory was refused.
 #[derive(Drop)]
 pub(crate) struct Flows {
-    pub bindings: Vec<Binding>,
+    pub bindings: Vec<DrawnBinding>,
     // From core a to core b: at a * 16 + b.
     links: Vec<Queue>,
     pub passages: Vec<Passage>,
     pub is_whole: bool,
 }
 
-fn other(end: End) -> End {
+fn other(end: DrawnEnd) -> DrawnEnd {
     let side = match end.side {
         Side::Client => Side::Server,
         Side::Server => Side::Client,
     };
-    End {
+    DrawnEnd {
         binding: end.binding,
         side,
     }
@@ -117,14 +117,14 @@ impl Flows {
     }
 
     // Takes a passage: who put it, and the end that it goes to, if it carries a call.
-    fn end(&mut self, place: usize, row: usize) -> Option<(Actor, Option<End>)> {
+    fn end(&mut self, place: usize, row: usize) -> Option<(Actor, Option<DrawnEnd>)> {
         let passage = self.passages.get_mut(place)?;
         passage.taken = Some(row);
         Some((passage.from.actor, passage.bound))
     }
 
     // Puts a fragment where an end finds it; says whose end that is.
-    fn put_before(&mut self, end: End, carried: Carried, from: Spot) -> Option<Actor> {
+    fn put_before(&mut self, end: DrawnEnd, carried: Carried, from: Spot) -> Option<Actor> {
         let toward = self.bindings.get(end.binding)?.dispatcher(end.side);
         let place = self.begin(Passage {
             carried,
@@ -145,7 +145,7 @@ impl Flows {
         carried: Carried,
         from: Spot,
         cores: (u32, u32),
-        bound: Option<End>,
+        bound: Option<DrawnEnd>,
     ) -> Option<Actor> {
         let toward = Actor::Monitor(cores.1);
         let place = self.begin(Passage {
@@ -163,7 +163,7 @@ impl Flows {
 
     /// An end writes a fragment: into the queue or ring of its binding, or onto the first link of its
     /// circuit. Says who is to take it.
-    pub(crate) fn write(&mut self, end: End, row: usize) -> Option<Actor> {
+    pub(crate) fn write(&mut self, end: DrawnEnd, row: usize) -> Option<Actor> {
         let binding = self.bindings.get(end.binding)?;
         let actor = binding.dispatcher(end.side);
         let from = Spot { row, actor };
@@ -174,13 +174,13 @@ impl Flows {
     }
 
     /// An end acknowledges; says to whom.
-    pub(crate) fn acknowledge(&mut self, end: End, row: usize) -> Option<Actor> {
+    pub(crate) fn acknowledge(&mut self, end: DrawnEnd, row: usize) -> Option<Actor> {
         let actor = self.bindings.get(end.binding)?.dispatcher(end.side);
         self.put_before(other(end), Carried::Acknowledgement, Spot { row, actor })
     }
 
     /// An end takes what stands first before it; says who put it.
-    pub(crate) fn take(&mut self, end: End, row: usize) -> Option<Actor> {
+    pub(crate) fn take(&mut self, end: DrawnEnd, row: usize) -> Option<Actor> {
         let binding = self.bindings.get_mut(end.binding)?;
         let place = binding.queue(end.side).pop_front()?;
         let (source, _bound) = self.end(place, row)?;
@@ -188,7 +188,7 @@ impl Flows {
     }
 
     /// An end is looked at, and no call stands before it: what only acknowledges is taken.
-    pub(crate) fn look(&mut self, end: End, row: usize) -> Option<Actor> {
+    pub(crate) fn look(&mut self, end: DrawnEnd, row: usize) -> Option<Actor> {
         let binding = self.bindings.get_mut(end.binding)?;
         let place = *binding.queue(end.side).front()?;
         match self.passages.get(place)?.carried {
@@ -204,14 +204,14 @@ impl Flows {
         row: usize,
         core: u32,
         neighbour: u32,
-    ) -> Option<(Actor, Option<End>)> {
+    ) -> Option<(Actor, Option<DrawnEnd>)> {
         let queue = self.links.get_mut(link_place(neighbour, core))?;
         let place = queue.pop_front()?;
         self.end(place, row)
     }
 
     /// A call's fragment goes on from a core: onto the next link, or to the end. Says who is to take it.
-    pub(crate) fn go_on(&mut self, end: End, from: Spot, core: u32) -> Option<Actor> {
+    pub(crate) fn go_on(&mut self, end: DrawnEnd, from: Spot, core: u32) -> Option<Actor> {
         let binding = self.bindings.get(end.binding)?;
         match binding.next_core(core, end.side) {
             Some(next) => self.put_on_link(Carried::Call, from, (core, next), Some(end)),

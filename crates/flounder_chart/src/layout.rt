@@ -2,7 +2,7 @@
 
 use crate::cutting::columns;
 use crate::flows::CORES;
-use crate::run::{Actor, Row, RowKind, Run};
+use crate::run::{Actor, ChartRow, RowKind, Run};
 use std::alloc::Global;
 
 /// The width of a letter.
@@ -79,7 +79,7 @@ fn pixels(columns: usize) -> u32 {
 
 impl<'a> Layout<'a> {
     /// The places for these rows of a run; some are missing where memory was refused.
-    pub(crate) fn new(alloc: Global, run: &Run<'a>, rows: &[Row<'a>]) -> Layout<'a> {
+    pub(crate) fn new(alloc: Global, run: &Run<'a>, rows: &[ChartRow<'a>]) -> Layout<'a> {
         let mut layout = Layout {
             lanes: Vec::new(alloc),
             dispatcher_lanes: Vec::new(alloc),
@@ -160,7 +160,7 @@ impl<'a> Layout<'a> {
     }
 
     // Makes room for a row's text and answer.
-    fn make_room(&mut self, row: &Row<'a>) {
+    fn make_room(&mut self, row: &ChartRow<'a>) {
         let text = pixels(shown_columns(row)).saturating_add(AIR);
         self.widen(0, text);
         if let RowKind::Line = row.kind {
@@ -182,7 +182,7 @@ impl<'a> Layout<'a> {
     }
 
     // The gap in which a row's answer stands.
-    fn label_gap(&self, row: &Row<'a>) -> usize {
+    fn label_gap(&self, row: &ChartRow<'a>) -> usize {
         let Some(lane) = self.row_lane(row) else {
             return 0;
         };
@@ -193,7 +193,7 @@ impl<'a> Layout<'a> {
     }
 
     /// The letters that a row's answer has room for.
-    pub(crate) fn label_columns(&self, row: &Row<'a>) -> usize {
+    pub(crate) fn label_columns(&self, row: &ChartRow<'a>) -> usize {
         let gap = self.label_gap(row);
         let whole = self.gaps.get(gap).copied().unwrap_or(0);
         let free = whole
@@ -203,7 +203,7 @@ impl<'a> Layout<'a> {
     }
 
     /// The letters that a row's text has room for: it may go on to the first lane where no answer is before that.
-    pub(crate) fn text_columns(&self, row: &Row<'a>) -> usize {
+    pub(crate) fn text_columns(&self, row: &ChartRow<'a>) -> usize {
         let is_alone = match row.kind {
             RowKind::Comment => true,
             RowKind::Line => self.label_gap(row) > 0,
@@ -216,12 +216,12 @@ impl<'a> Layout<'a> {
     }
 
     /// Where an answer stands in whose row nobody acts: behind the line's text.
-    pub(crate) fn behind_text(&self, row: &Row<'a>) -> u32 {
+    pub(crate) fn behind_text(&self, row: &ChartRow<'a>) -> u32 {
         taken_before(0, row).saturating_add(self.text)
     }
 
     /// Where an answer stands: away from the row's arrows, and from those between the lanes where it can.
-    pub(crate) fn label_side(&self, row: &Row<'a>) -> LabelSide {
+    pub(crate) fn label_side(&self, row: &ChartRow<'a>) -> LabelSide {
         let Some(lane) = self.row_lane(row) else {
             return LabelSide::Right;
         };
@@ -263,7 +263,7 @@ impl<'a> Layout<'a> {
     }
 
     /// The lane of a row, if anyone acts in it.
-    pub(crate) fn row_lane(&self, row: &Row<'a>) -> Option<usize> {
+    pub(crate) fn row_lane(&self, row: &ChartRow<'a>) -> Option<usize> {
         self.lane_of(row.actor)
     }
 
@@ -314,7 +314,7 @@ fn is_behind(other: Option<usize>, lane: usize) -> bool {
 }
 
 // The letters for which a row's text makes room.
-fn shown_columns(row: &Row<'_>) -> usize {
+fn shown_columns(row: &ChartRow<'_>) -> usize {
     match row.kind {
         RowKind::Comment => columns(row.text).min(LEAST_OF_COMMENT),
         RowKind::Line => columns(row.text).min(MOST_OF_LINE),
@@ -322,7 +322,7 @@ fn shown_columns(row: &Row<'_>) -> usize {
 }
 
 // What a row's text takes of the way in which its answer stands, with what stays free between the two.
-fn taken_before(gap: usize, row: &Row<'_>) -> u32 {
+fn taken_before(gap: usize, row: &ChartRow<'_>) -> u32 {
     if gap > 0 {
         return 0;
     }
@@ -330,7 +330,7 @@ fn taken_before(gap: usize, row: &Row<'_>) -> u32 {
 }
 
 // Where the texts of these rows begin.
-fn text_x(rows: &[Row<'_>]) -> u32 {
+fn text_x(rows: &[ChartRow<'_>]) -> u32 {
     match rows.last() {
         Some(row) if row.number > 9_999 => FAR_TEXT,
         _ => TEXT,

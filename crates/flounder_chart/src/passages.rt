@@ -168,10 +168,10 @@ fn draw_title(canvas: &mut Canvas, run: &Run<'_>, name: &str, passage: &Passage)
 }
 
 // From where and to where a fragment goes, where both have lanes.
-fn way_of(layout: &Layout<'_>, shown: Shown, passage: &Passage) -> Option<Way> {
+fn way_of(layout: &Layout<'_>, shown: Shown, passage: &Passage) -> Option<PassageWay> {
     let from = layout.lane(passage.from.actor)?;
     let to = layout.lane(passage.toward)?;
-    Some(Way {
+    Some(PassageWay {
         from: layout.lane_x(from),
         to: layout.lane_x(to),
         y: height_of(shown, passage.from.row),
@@ -205,13 +205,13 @@ fn number_of(run: &Run<'_>, row: usize) -> usize {
 
 // Between which lanes a fragment goes, and the height at which it was put.
 #[derive(Clone, Copy)]
-struct Way {
+struct PassageWay {
     from: u32,
     to: u32,
     y: u32,
 }
 
-impl Way {
+impl PassageWay {
     // A place so far from the first lane, toward the second.
     fn away(self, distance: u32) -> u32 {
         if self.to < self.from {
@@ -223,7 +223,7 @@ impl Way {
 }
 
 // A straight line; where a dispatcher takes what it put itself, a bow.
-fn path_of(canvas: &mut Canvas, way: Way, end: u32) -> String {
+fn path_of(canvas: &mut Canvas, way: PassageWay, end: u32) -> String {
     let alloc = canvas.alloc;
     let y = way.y;
     let near = way.away(GAP);
@@ -232,7 +232,7 @@ fn path_of(canvas: &mut Canvas, way: Way, end: u32) -> String {
         let bow = canvas.made(format!(in alloc; "C{far} {y} {far} {end}"));
         return canvas.made(format!(in alloc; "M{near} {y}{bow} {near} {end}"));
     }
-    let back = Way {
+    let back = PassageWay {
         from: way.to,
         to: way.from,
         y,

@@ -3,8 +3,8 @@
 ghost use Rattle.std.specs.Prelude.{◌≡◌, ◌≤◌, ◌+◌, length, List, IfOk};
 ghost use Rattle.fl_script_lines.specs.Items.{Item as TheItem, ItemsOf};
 
-use crate::run::{Row, RowKind, Run};
-use crate::tracing::{Acted, Told, Trace};
+use crate::run::{ChartRow, RowKind, Run};
+use crate::tracing::{Acted, Trace, TracedRun};
 use bstr::ByteSlice;
 use fl_script_lines::{RawItem, next_part, read_command};
 use std::alloc::{AllocError, Global};
@@ -39,7 +39,7 @@ pub(crate) fn read_run<'a>(
     let mut trace = Trace::new(alloc);
     let mut rows = Vec::new(alloc);
     let is_kept = read_rows(script, transcript, &mut trace, &mut rows);
-    let Told {
+    let TracedRun {
         passages,
         dispatchers,
         linked,
@@ -61,7 +61,7 @@ fn read_rows<'a>(
     script: &'a [u8],
     transcript: &'a [u8],
     trace: &mut Trace<'a>,
-    rows: &mut Vec<Row<'a>>,
+    rows: &mut Vec<ChartRow<'a>>,
 ) -> bool
     requires { length rows.now.items ≡ 0 }
     ensures rows { (items : List TheItem) × (ItemsOf script.now items × (length rows.new.items ≤ length items)) }
@@ -74,7 +74,7 @@ fn read_rows<'a>(
         let (part, behind) = next_part(rest);
         let lines = &rest[..rest.len() - behind.len()];
         let (answer, answers_behind) = answer_of(part, answers);
-        let source = Source {
+        let source = RowSource {
             lines,
             number,
             answer,
@@ -90,7 +90,7 @@ fn read_rows<'a>(
 }
 
 // Adds an item's row, if it has one; says whether memory served.
-fn push_some<'a>(rows: &mut Vec<Row<'a>>, row: Option<Row<'a>>) -> bool
+fn push_some<'a>(rows: &mut Vec<ChartRow<'a>>, row: Option<ChartRow<'a>>) -> bool
     ensures one { length rows.new.items ≤ length rows.old.items + 1 }
 {
     match row {
@@ -109,7 +109,7 @@ fn answer_of<'a>(part: RawItem<'_>, answers: &'a [u8]) -> (&'a [u8], &'a [u8]) {
 
 // An item's lines, the number of the first, and its answer.
 #[derive(Clone, Copy)]
-struct Source<'a> {
+struct RowSource<'a> {
     lines: &'a [u8],
     number: usize,
     answer: &'a [u8],
@@ -118,10 +118,10 @@ struct Source<'a> {
 // The row of an item, if it has one.
 fn read_row<'a>(
     part: RawItem<'a>,
-    source: Source<'a>,
+    source: RowSource<'a>,
     trace: &mut Trace<'a>,
     place: usize,
-) -> Option<Row<'a>> {
+) -> Option<ChartRow<'a>> {
     let text = source.lines.trim_ascii();
     match part {
         RawItem::Silent => comment(text, source.number),
@@ -140,11 +140,11 @@ fn read_row<'a>(
 }
 
 // The row of a comment; a blank line has none.
-fn comment(text: &[u8], number: usize) -> Option<Row<'_>> {
+fn comment(text: &[u8], number: usize) -> Option<ChartRow<'_>> {
     if text.is_empty() {
         return None;
     }
-    Some(Row {
+    Some(ChartRow {
         kind: RowKind::Comment,
         number,
         text,
@@ -155,14 +155,14 @@ fn comment(text: &[u8], number: usize) -> Option<Row<'_>> {
     })
 }
 
-fn line<'a>(text: &'a [u8], source: Source<'a>, acted: Acted) -> Row<'a> {
-    let Source { number, answer, .. } = source;
+fn line<'a>(text: &'a [u8], source: RowSource<'a>, acted: Acted) -> ChartRow<'a> {
+    let RowSource { number, answer, .. } = source;
     let Acted {
         actor,
         source,
         goal,
     } = acted;
-    Row {
+    ChartRow {
         kind: RowKind::Line,
         number,
         text,

@@ -19,7 +19,7 @@ pub(crate) struct Spot {
 
 /// An end, by its binding's place.
 #[derive(Clone, Copy)]
-pub(crate) struct End {
+pub(crate) struct DrawnEnd {
     pub binding: usize,
     pub side: Side,
 }
@@ -40,7 +40,7 @@ pub(crate) struct Passage {
     /// Who is to take it.
     pub toward: Actor,
     /// The end that it goes to, if it carries a call.
-    pub bound: Option<End>,
+    pub bound: Option<DrawnEnd>,
     pub taken: Option<usize>,
 }
 
@@ -53,7 +53,7 @@ pub(crate) enum RowKind {
 
 /// A line of the script that has an answer, a whole block, or a comment.
 #[derive(Clone, Copy)]
-pub(crate) struct Row<'a> {
+pub(crate) struct ChartRow<'a> {
     pub kind: RowKind,
     /// The line's number, from 1; a block's first.
     pub number: usize,
@@ -69,7 +69,7 @@ pub(crate) struct Row<'a> {
 
 /// A dispatcher: its name, and its core.
 #[derive(Clone, Copy)]
-pub(crate) struct Dispatcher<'a> {
+pub(crate) struct DrawnDispatcher<'a> {
     pub name: &'a [u8],
     pub core: u32,
 }
@@ -77,9 +77,9 @@ pub(crate) struct Dispatcher<'a> {
 /// A whole run.
 #[derive(Drop)]
 pub(crate) struct Run<'a> {
-    pub rows: Vec<Row<'a>>,
+    pub rows: Vec<ChartRow<'a>>,
     pub passages: Vec<Passage>,
-    pub dispatchers: Vec<Dispatcher<'a>>,
+    pub dispatchers: Vec<DrawnDispatcher<'a>>,
     /// The cores that a link joins to another, whose monitors have lanes.
     pub linked: Vec<u32>,
 }

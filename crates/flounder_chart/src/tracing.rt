@@ -1,7 +1,7 @@
 //! A script's lines and their answers, read as what was made, put and taken.
 
-use crate::flows::{Binding, CORES, Flows};
-use crate::run::{Actor, Carried, Dispatcher, End, Passage, Spot};
+use crate::flows::{CORES, DrawnBinding, Flows};
+use crate::run::{Actor, Carried, DrawnDispatcher, DrawnEnd, Passage, Spot};
 use bstr::ByteSlice;
 use fl_base::Side;
 use fl_script_lines::{BackEndText, Command, EndName, NameTable};
@@ -32,7 +32,7 @@ impl Acted {
 pub(crate) struct Trace<'a> {
     alloc: Global,
     dispatcher_names: NameTable,
-    dispatchers: Vec<Dispatcher<'a>>,
+    dispatchers: Vec<DrawnDispatcher<'a>>,
     service_names: NameTable,
     services: Vec<usize>,
     binding_names: NameTable,
@@ -44,9 +44,9 @@ pub(crate) struct Trace<'a> {
 /// What came of a whole script: what passed, the dispatchers, and the cores that links join; and whether memory
 /// was never refused.
 #[derive(Drop)]
-pub(crate) struct Told<'a> {
+pub(crate) struct TracedRun<'a> {
     pub passages: Vec<Passage>,
-    pub dispatchers: Vec<Dispatcher<'a>>,
+    pub dispatchers: Vec<DrawnDispatcher<'a>>,
     pub linked: Vec<u32>,
     pub is_whole: bool,
 }
@@ -83,7 +83,7 @@ impl<'a> Trace<'a> {
     }
 
     /// What came of the script, behind its last line.
-    pub(crate) fn told(self) -> Told<'a> {
+    pub(crate) fn told(self) -> TracedRun<'a> {
         let Trace {
             dispatchers,
             linked,
@@ -96,7 +96,7 @@ impl<'a> Trace<'a> {
             is_whole: is_flow_whole,
             ..
         } = flows;
-        Told {
+        TracedRun {
             passages,
             dispatchers,
             linked,
@@ -113,16 +113,16 @@ impl<'a> Trace<'a> {
         Some(Actor::Dispatcher(self.dispatcher_names.find(name)?))
     }
 
-    fn end(&self, name: EndName<'_>) -> Option<End> {
+    fn end(&self, name: EndName<'_>) -> Option<DrawnEnd> {
         let binding = self.binding_names.find(name.binding)?;
-        Some(End {
+        Some(DrawnEnd {
             binding,
             side: name.side,
         })
     }
 
     // The end that an answer names, as its first word.
-    fn end_told(&self, text: &[u8]) -> Option<End> {
+    fn end_told(&self, text: &[u8]) -> Option<DrawnEnd> {
         let (word, _) = first_word(text);
         let [name @ .., b'.', letter] = word else {
             return None;
@@ -133,7 +133,7 @@ impl<'a> Trace<'a> {
             _ => return None,
         };
         let binding = self.binding_names.find(name)?;
-        Some(End { binding, side })
+        Some(DrawnEnd { binding, side })
     }
 
     // The dispatcher of an end.
@@ -161,7 +161,10 @@ impl<'a> Trace<'a> {
     fn make_dispatcher(&mut self, name: &'a [u8], core: u32) {
         if self.dispatcher_names.find(name).is_none() {
             let is_named = self.dispatcher_names.add(self.alloc, name).is_ok();
-            let is_made = self.dispatchers.push(Dispatcher { name, core }).is_ok();
+            let is_made = self
+                .dispatchers
+                .push(DrawnDispatcher { name, core })
+                .is_ok();
             self.note(is_named && is_made);
         }
     }
@@ -187,7 +190,7 @@ impl<'a> Trace<'a> {
         if self.binding_names.find(name).is_none() {
             let alloc = self.alloc;
             let is_named = self.binding_names.add(alloc, name).is_ok();
-            let binding = Binding {
+            let binding = DrawnBinding {
                 client,
                 server,
                 route,

@@ -1,6 +1,6 @@
 //! A script's refused lines, each in words.
 
-use crate::line::{ItemAt, Source, tell_item};
+use crate::line::{ItemAt, LineSource, tell_item};
 use fl_script_lines::{RawItem, Verb, next_part};
 use std::alloc::Global;
 use std::io::Write;
@@ -134,7 +134,7 @@ fn tell_answered<E: Write>(alloc: Global, item: ItemAt<'_>, answer: Option<&[u8]
             is_block: item.is_block,
             opening: opening_of(answer),
         };
-        tell_item(alloc, Source::Input, told, number, errors);
+        tell_item(alloc, LineSource::Input, told, number, errors);
     }
 }
 
@@ -192,7 +192,7 @@ pub fn explain_line<E: Write>(
         is_block: false,
         opening: b"",
     });
-    tell_item(alloc, Source::File(file), item, number, errors);
+    tell_item(alloc, LineSource::File(file), item, number, errors);
 }
 
 // The item that begins on a line, if one does: of a file that is too long (E91) the first line may be blank.

@@ -12,29 +12,29 @@ use std::io::Write;
 
 /// Where a line stands: in a file, or on standard input.
 #[derive(Clone, Copy)]
-pub(crate) enum Source<'a> {
+pub(crate) enum LineSource<'a> {
     File(&'a str),
     Input,
 }
 
 /// A line of a source, from 1, and a column, from 1, where there is one.
 #[derive(Clone, Copy)]
-struct Place<'a> {
-    source: Source<'a>,
+struct LinePlace<'a> {
+    source: LineSource<'a>,
     line: usize,
     column: Option<usize>,
 }
 
-impl fmt::Display for Place<'_> {
+impl fmt::Display for LinePlace<'_> {
     fn fmt<W: fmt::Write>(&self, f: &mut fmt::Formatter<W>) -> fmt::Result {
         let line = self.line;
         match (self.source, self.column) {
-            (Source::File(file), Some(column)) => {
+            (LineSource::File(file), Some(column)) => {
                 write!(f, "{}:{line}:{column}", FileName(file))
             }
-            (Source::File(file), None) => write!(f, "{}:{line}", FileName(file)),
-            (Source::Input, Some(column)) => write!(f, "line {line}, column {column}"),
-            (Source::Input, None) => write!(f, "line {line}"),
+            (LineSource::File(file), None) => write!(f, "{}:{line}", FileName(file)),
+            (LineSource::Input, Some(column)) => write!(f, "line {line}, column {column}"),
+            (LineSource::Input, None) => write!(f, "line {line}"),
         }
     }
 }
@@ -72,8 +72,8 @@ impl fmt::Display for Refused<'_> {
 }
 
 // Tells of a line that isn't a block's, by the fault's number.
-fn tell_line<E: Write>(source: Source<'_>, item: ItemAt<'_>, number: u32, errors: &mut E) {
-    let place = Place {
+fn tell_line<E: Write>(source: LineSource<'_>, item: ItemAt<'_>, number: u32, errors: &mut E) {
+    let place = LinePlace {
         source,
         line: item.line,
         column: None,
@@ -103,7 +103,7 @@ fn tell_line<E: Write>(source: Source<'_>, item: ItemAt<'_>, number: u32, errors
 // Tells of a block whose text has a fault.
 fn tell_block<E: Write>(
     alloc: Global,
-    source: Source<'_>,
+    source: LineSource<'_>,
     item: ItemAt<'_>,
     refusal: TextRefusal<'_>,
     errors: &mut E,
@@ -111,12 +111,12 @@ fn tell_block<E: Write>(
     let fault = refusal.explained.fault;
     let number = fault.number();
     let place = match refusal.explained.place {
-        Some(at) => Place {
+        Some(at) => LinePlace {
             source,
             line: item.line.saturating_add(at.line),
             column: Some(at.column),
         },
-        None => Place {
+        None => LinePlace {
             source,
             line: item.line,
             column: None,
@@ -133,7 +133,7 @@ fn tell_block<E: Write>(
 /// Tells of a refused item, by the number of its fault.
 pub(crate) fn tell_item<E: Write>(
     alloc: Global,
-    source: Source<'_>,
+    source: LineSource<'_>,
     item: ItemAt<'_>,
     number: u32,
     errors: &mut E,

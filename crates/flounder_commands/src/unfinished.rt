@@ -58,7 +58,7 @@ impl<'a> Bound<'a> {
 
 /// A reply rule: at which end, and of which message.
 #[derive(Clone, Copy)]
-struct Rule<'a> {
+struct FileRule<'a> {
     end: EndName<'a>,
     message: &'a [u8],
 }
@@ -74,7 +74,7 @@ struct Made<'a> {
     bindings: Vec<Bound<'a>>,
     // The place that was looked up last.
     last: usize,
-    rules: Vec<Rule<'a>>,
+    rules: Vec<FileRule<'a>>,
 }
 
 fn other(side: Side) -> Side {
@@ -156,7 +156,7 @@ impl<'a> Made<'a> {
                 end,
                 message,
                 answer: _,
-            } => self.rules.push(Rule { end, message }).is_ok(),
+            } => self.rules.push(FileRule { end, message }).is_ok(),
             Command::Call(end, _) => {
                 let _is_known = self.add_due(end);
                 true

@@ -1,6 +1,6 @@
 //! Arguments in C: a member, and the lines that move its numbers.
 
-use crate::page::{Page, Way};
+use crate::page::{MoveWay, Page};
 use crate::types::{declare, declare_items, move_number, move_value};
 use fl_interface::ArgType;
 
@@ -26,9 +26,9 @@ pub(crate) fn declare_argument(page: &mut Page, argument: &ArgType, number: usiz
 }
 
 // The lines that move a length, which may be so many at most.
-fn move_length(page: &mut Page, most: u32, way: Way) {
+fn move_length(page: &mut Page, most: u32, way: MoveWay) {
     match way {
-        Way::Put => {
+        MoveWay::Put => {
             page.push(b"    if (");
             page.push_path();
             page.push_numbered(b".count > ", most as usize);
@@ -36,7 +36,7 @@ fn move_length(page: &mut Page, most: u32, way: Way) {
             page.push_path();
             page.push(b".count;\n");
         }
-        Way::Get => {
+        MoveWay::Get => {
             page.push(b"    ");
             page.push_path();
             page.push_numbered(b".count = fl_next_count(&tape, ", most as usize);
@@ -46,7 +46,7 @@ fn move_length(page: &mut Page, most: u32, way: Way) {
 }
 
 /// The lines that move an argument's numbers.
-pub(crate) fn move_argument(page: &mut Page, argument: &ArgType, number: usize, way: Way) {
+pub(crate) fn move_argument(page: &mut Page, argument: &ArgType, number: usize, way: MoveWay) {
     page.argument(number);
     match argument {
         ArgType::Fixed(fixed) => move_value(page, fixed, way),

@@ -15,8 +15,6 @@
 mod arguments;
 mod messages;
 mod page;
-#[cfg(test)]
-mod tests;
 mod types;
 
 pub use messages::header;

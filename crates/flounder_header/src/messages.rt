@@ -7,7 +7,7 @@ ghost use Rattle.flounder_header.specs.Header.{IsHeader, IsSection, AreSections,
 ghost use Rattle.flounder_header.specs.Header.{struct_text, put_text, get_text, section_text};
 
 use crate::arguments::{declare_argument, move_argument};
-use crate::page::{Page, Way};
+use crate::page::{MoveWay, Page};
 use fl_base::MsgNo;
 use fl_interface::{ArgType, Interface, Message};
 use fl_layout::Plans;
@@ -38,7 +38,7 @@ fn members(alloc: Global, arguments: &[ArgType]) -> Result<Vec<u8>, AllocError> 
 }
 
 // The lines that move the numbers of the arguments of a rank.
-fn move_rank(page: &mut Page, arguments: &[ArgType], plan: PlanNo, rank: u8, way: Way) {
+fn move_rank(page: &mut Page, arguments: &[ArgType], plan: PlanNo, rank: u8, way: MoveWay) {
     for (number, argument) in arguments.iter().enumerate() {
         if plan.rank_of(argument) == rank {
             move_argument(page, argument, number, way);
@@ -51,7 +51,7 @@ fn moves(
     alloc: Global,
     arguments: &[ArgType],
     plan: PlanNo,
-    way: Way,
+    way: MoveWay,
 ) -> Result<Vec<u8>, AllocError> {
     let mut page = Page::new(alloc);
     for rank in 0..RANKS {
@@ -62,7 +62,7 @@ fn moves(
 
 /// The parts of a message's declarations.
 #[derive(Clone, Copy)]
-struct Parts<'a> {
+struct MessageParts<'a> {
     // the message's name in C
     name: &'a [u8],
     members: &'a [u8],
@@ -146,7 +146,12 @@ fn get_function(alloc: Global, name: &[u8], gets: &[u8]) -> Result<Vec<u8>, Allo
 }
 
 // A message's declarations, of their parts, its number and how many numbers its tapes have at most.
-fn spell(alloc: Global, parts: Parts<'_>, number: u16, most: usize) -> Result<Vec<u8>, AllocError>
+fn spell(
+    alloc: Global,
+    parts: MessageParts<'_>,
+    number: u16,
+    most: usize,
+) -> Result<Vec<u8>, AllocError>
     ensures spelled { IfOk result (λ text. text.items ≡ section_text parts.entry.name.now (decimal number) parts.entry.members.now (decimal most)
         parts.entry.puts.now parts.entry.gets.now) }
 {
@@ -172,9 +177,9 @@ fn section(
         &[&plans.interface.name.bytes, b"_", &message.name.bytes],
     )?;
     let members = members(alloc, &message.args)?;
-    let puts = moves(alloc, &message.args, plans.plan, Way::Put)?;
-    let gets = moves(alloc, &message.args, plans.plan, Way::Get)?;
-    let parts = Parts {
+    let puts = moves(alloc, &message.args, plans.plan, MoveWay::Put)?;
+    let gets = moves(alloc, &message.args, plans.plan, MoveWay::Get)?;
+    let parts = MessageParts {
         name: &name,
         members: &members,
         puts: &puts,

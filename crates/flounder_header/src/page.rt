@@ -5,7 +5,7 @@ use std::alloc::{AllocError, Global};
 
 /// Which way numbers go.
 #[derive(Clone, Copy)]
-pub(crate) enum Way {
+pub(crate) enum MoveWay {
     /// From a struct to a call's numbers.
     Put,
     /// From a call's numbers to a struct.

@@ -1,6 +1,6 @@
 //! Fixed types in C: a member, and the lines that move its numbers.
 
-use crate::page::{Page, Way};
+use crate::page::{MoveWay, Page};
 use fl_interface::{FixedType, Scalar};
 
 // The name of a scalar's type in C, and that of the unsigned one of its bits.
@@ -81,17 +81,17 @@ fn declare_counts(page: &mut Page, fixed: &FixedType) {
 }
 
 /// The line that moves a number, by a cast to the type in C, or to that of its bits.
-pub(crate) fn move_number(page: &mut Page, kind: &[u8], bits: &[u8], way: Way) {
+pub(crate) fn move_number(page: &mut Page, kind: &[u8], bits: &[u8], way: MoveWay) {
     page.indent();
     match way {
-        Way::Put => {
+        MoveWay::Put => {
             page.push(b"call[n++] = (");
             page.push(bits);
             page.push(b")");
             page.push_path();
             page.push(b";\n");
         }
-        Way::Get => {
+        MoveWay::Get => {
             page.push_path();
             page.push(b" = (");
             page.push(kind);
@@ -102,7 +102,7 @@ pub(crate) fn move_number(page: &mut Page, kind: &[u8], bits: &[u8], way: Way) {
 
 /// The lines that move the numbers of a value.
 #[cycle(moving)]
-pub(crate) fn move_value(page: &mut Page, fixed: &FixedType, way: Way) {
+pub(crate) fn move_value(page: &mut Page, fixed: &FixedType, way: MoveWay) {
     match fixed {
         FixedType::Scalar(scalar) => {
             let (kind, bits) = names(*scalar);
@@ -119,7 +119,7 @@ pub(crate) fn move_value(page: &mut Page, fixed: &FixedType, way: Way) {
 }
 
 #[cycle(moving)]
-fn move_fields(page: &mut Page, fields: &[FixedType], way: Way) {
+fn move_fields(page: &mut Page, fields: &[FixedType], way: MoveWay) {
     for (number, field) in fields.iter().enumerate() {
         let mark = page.enter(b".f", number);
         move_value(page, field, way);

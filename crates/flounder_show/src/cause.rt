@@ -72,7 +72,7 @@ fn cause_in(alloc: Global, tree: &Tree<'_>, rule: Rule, at: usize) -> Option<Cau
 
 /// What a declaration makes.
 #[derive(Clone, Copy)]
-enum Kind {
+enum NameKind {
     Type,
     Message,
     Rpc,
@@ -80,33 +80,33 @@ enum Kind {
 
 /// What a declaration makes, and its name.
 #[derive(Clone, Copy)]
-struct Declared<'a> {
-    kind: Kind,
+struct DeclaredName<'a> {
+    kind: NameKind,
     name: Name<'a>,
 }
 
-fn declared_by<'a>(declaration: &Declaration<'a>) -> Declared<'a> {
+fn declared_by<'a>(declaration: &Declaration<'a>) -> DeclaredName<'a> {
     let (kind, name) = match declaration {
-        Declaration::Alias { new, old: _ } => (Kind::Type, new),
+        Declaration::Alias { new, old: _ } => (NameKind::Type, new),
         Declaration::Typedef {
             old: _,
             new,
             count: _,
-        } => (Kind::Type, new),
-        Declaration::Enumeration { members: _, name } => (Kind::Type, name),
-        Declaration::Structure { fields: _, name } => (Kind::Type, name),
+        } => (NameKind::Type, new),
+        Declaration::Enumeration { members: _, name } => (NameKind::Type, name),
+        Declaration::Structure { fields: _, name } => (NameKind::Type, name),
         Declaration::Message {
             kind: _,
             name,
             args: _,
-        } => (Kind::Message, name),
-        Declaration::Rpc { name, args: _ } => (Kind::Rpc, name),
+        } => (NameKind::Message, name),
+        Declaration::Rpc { name, args: _ } => (NameKind::Rpc, name),
     };
-    Declared { kind, name: *name }
+    DeclaredName { kind, name: *name }
 }
 
 // What is declared at a place.
-fn declared_at<'a>(tree: &Tree<'a>, at: usize) -> Option<Declared<'a>> {
+fn declared_at<'a>(tree: &Tree<'a>, at: usize) -> Option<DeclaredName<'a>> {
     for declaration in &tree.declarations {
         let found = declared_by(declaration);
         if found.name.at == at {
@@ -123,13 +123,13 @@ fn is_half(name: &[u8], rpc: &[u8]) -> bool {
 }
 
 // Whether two declarations take the same name.
-fn take_the_same(one: Declared<'_>, other: Declared<'_>) -> bool {
+fn take_the_same(one: DeclaredName<'_>, other: DeclaredName<'_>) -> bool {
     match (one.kind, other.kind) {
-        (Kind::Type, Kind::Type) | (Kind::Message, Kind::Message) | (Kind::Rpc, Kind::Rpc) => {
-            one.name.text == other.name.text
-        }
-        (Kind::Message, Kind::Rpc) => is_half(one.name.text, other.name.text),
-        (Kind::Rpc, Kind::Message) => is_half(other.name.text, one.name.text),
+        (NameKind::Type, NameKind::Type)
+        | (NameKind::Message, NameKind::Message)
+        | (NameKind::Rpc, NameKind::Rpc) => one.name.text == other.name.text,
+        (NameKind::Message, NameKind::Rpc) => is_half(one.name.text, other.name.text),
+        (NameKind::Rpc, NameKind::Message) => is_half(other.name.text, one.name.text),
         _ => false,
     }
 }
@@ -145,8 +145,8 @@ fn first_declared(tree: &Tree<'_>, at: usize) -> Option<Cause> {
         }
     }
     match taken.kind {
-        Kind::Type => Some(Cause::BuiltIn),
-        Kind::Message | Kind::Rpc => None,
+        NameKind::Type => Some(Cause::BuiltIn),
+        NameKind::Message | NameKind::Rpc => None,
     }
 }
 
@@ -242,8 +242,8 @@ fn first_in_list(alloc: Global, tree: &Tree<'_>, at: usize) -> Option<Cause> {
 fn too_many(tree: &Tree<'_>, at: usize) -> Cause {
     let (things, most) = match declared_at(tree, at) {
         Some(
-            Declared {
-                kind: Kind::Rpc,
+            DeclaredName {
+                kind: NameKind::Rpc,
                 name,
             },
         ) if name.text.len() > MAX_RPC_NAME => {
@@ -253,8 +253,8 @@ fn too_many(tree: &Tree<'_>, at: usize) -> Cause {
             };
         }
         Some(
-            Declared {
-                kind: Kind::Type,
+            DeclaredName {
+                kind: NameKind::Type,
                 name: _,
             },
         ) => ("types", fl_interface::MAX_TYPES),

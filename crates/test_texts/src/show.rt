@@ -1,8 +1,7 @@
-//! What `show` and `compile` make of texts and images, by rows from outside.
+//! What `show` and `header` make of texts and images, by rows from outside. What is told of refusals, and what
+//! `compile` makes, stand in `test_program`, by the commands.
 //!
-//! - `shown.rt`: what is shown and what is told
-//! - `compile_tests.rt`, `show_tests.rt`: the rows
+//! - `shown.rt`: what is shown; `show_tests.rt`: the rows
 
-mod compile_tests;
 mod show_tests;
 mod shown;

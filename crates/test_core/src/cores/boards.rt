@@ -1,6 +1,6 @@
 //! All tables and examples.
 
-use crate::cores::{faults, forged, refusals, rows};
+use crate::cores::{faults, refusals, rows};
 use crate::tables::all_hold;
 use fl_core::{law_one_dispatcher_changes, law_one_end_changes, law_turn_accounts};
 use fl_link::QueueLink;
@@ -17,6 +17,5 @@ fn boards(rt: HostRuntime) -> Result<(), Fail> {
     laws();
     all_hold(rt.alloc(), "faults", faults::FAULTS)?;
     all_hold(rt.alloc(), "worked rows", rows::EXAMPLES)?;
-    all_hold(rt.alloc(), "refusals", refusals::EXAMPLES)?;
-    all_hold(rt.alloc(), "forged fragments", forged::EXAMPLES)
+    all_hold(rt.alloc(), "refusals", refusals::EXAMPLES)
 }

@@ -19,8 +19,6 @@ pub enum BoardAction {
     Call(&'static [u8]),
     /// The same, where memory that runs out once is met by asking again.
     CallAtLast(&'static [u8]),
-    /// Such a call, and a write.
-    Send(&'static [u8]),
     Show,
     Write,
     /// A fragment of these words is put on the queue to which the end puts.
@@ -251,14 +249,6 @@ impl BoardRig {
         said
     }
 
-    fn send(&mut self, e: usize, text: &[u8]) -> EndAnswer {
-        let said = call(self.alloc, &mut self.board, e, text);
-        if said != EndAnswer::Done {
-            return said;
-        }
-        self.write(e)
-    }
-
     fn due(&self, dispatcher: usize) -> Option<usize> {
         if dispatcher >= self.board.dispatchers() {
             return None;
@@ -310,7 +300,6 @@ impl BoardRig {
                 place,
                 text,
             )),
-            BoardAction::Send(text) => Ok(self.send(place, text)),
             BoardAction::Write => Ok(self.write(place)),
             BoardAction::Show | BoardAction::Put(_, _) | BoardAction::Peek => Ok(self.put(
                 place, action,

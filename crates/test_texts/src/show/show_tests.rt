@@ -1,4 +1,4 @@
-//! Tables of texts and of their images, and refusals as they are told.
+//! Tables of texts and of their images, and a header that was written by hand.
 
 use crate::rows::all_hold;
 use crate::show::shown::ShownCase;
@@ -21,11 +21,22 @@ arg 1 at 8 string max 2047
 arg 2 at 0 fixed 2
 ";
 
-// A text is shown under plan 2, an image under its own plan.
+// Names as long as they may be, types of all kinds, two messages of an rpc.
+const ALL_KINDS: &[u8] = b"\
+interface a_name_of_64_bytes_which_is_as_long_as_a_name_in_a_text_may_be__ \"described\" {
+    typedef enum { red, green, blue, } colour;
+    typedef struct { uint8 a; uint64 b[3]; colour c; } t;
+    alias u t;
+    message put(u x, t y[n, 7], string s[4096]);
+    rpc an_rpc_of_55_bytes_which_is_as_long_as_its_name_may_be_(in iref where, out bool ok, out char c);
+};";
+
+// A text is shown under plan 2, an image under its own plan; the image of a text shows what the text shows.
 const SHOWN: &[ShownCase] = &[
     ShownCase::Text(PLAN_TWO),
     ShownCase::Image(PlanNo::One, PLAN_ONE),
     ShownCase::Image(PlanNo::Two, PLAN_TWO),
+    ShownCase::Alike(ALL_KINDS),
 ];
 
 #[test]
@@ -33,33 +44,63 @@ fn a_text_and_its_images(rt: HostRuntime) -> Result<(), Fail> {
     all_hold(rt.alloc(), "tables", SHOWN)
 }
 
-// An image's magic alone tells that it is meant as one.
-const CHANGES: &[ShownCase] = &[
-    ShownCase::Changed(4, 2, "shown"),
-    ShownCase::Changed(4, 3, "E81"),
-    ShownCase::Changed(7, 0x30, "E83"),
-    ShownCase::Changed(8, 0, "E85"),
-    ShownCase::Changed(16, 0x0a, "E84"),
-    ShownCase::Changed(0, 0x45, "E1 at 4"),
-    ShownCase::Changed(3, 0x20, "E1 at 4"),
-];
+const HEADED: &[u8] = b"interface i {
+    typedef struct { int8 x[2]; } pair;
+    message m(string s[5], int16 n, pair p);
+};";
 
-#[test]
-fn the_first_line_is_the_fault_alone(rt: HostRuntime) -> Result<(), Fail> {
-    all_hold(rt.alloc(), "changed bytes", CHANGES)
+const HEADER: &[u8] = b"/* Interface i, plan 2. */
+#ifndef FLOUNDER_i_H
+#define FLOUNDER_i_H
+#include <flounder.h>
+
+struct i_m {
+    struct {
+        uint32_t count;
+        char bytes[5];
+    } a0;
+    int16_t a1;
+    struct {
+        int8_t f0[2];
+    } a2;
+};
+enum { i_m_number = 0, i_m_most = 1 + 9 };
+static inline size_t i_m_put(const struct i_m *m, uint64_t *call)
+{
+    size_t n = 0;
+    (void)m;
+    call[n++] = i_m_number;
+    call[n++] = (uint16_t)m->a1;
+    for (size_t i0 = 0; i0 < 2; i0++) {
+        call[n++] = (uint8_t)m->a2.f0[i0];
+    }
+    if (m->a0.count > 5) return 0;
+    call[n++] = m->a0.count;
+    for (size_t i0 = 0; i0 < m->a0.count; i0++) {
+        call[n++] = (uint8_t)m->a0.bytes[i0];
+    }
+    return n;
+}
+static inline int i_m_get(struct i_m *m, const uint64_t *call, size_t count)
+{
+    struct fl_tape tape = { call, count, 0 };
+    (void)m;
+    if (fl_next(&tape) != i_m_number) return 0;
+    m->a1 = (int16_t)fl_next(&tape);
+    for (size_t i0 = 0; i0 < 2; i0++) {
+        m->a2.f0[i0] = (int8_t)fl_next(&tape);
+    }
+    m->a0.count = fl_next_count(&tape, 5);
+    for (size_t i0 = 0; i0 < m->a0.count; i0++) {
+        m->a0.bytes[i0] = (char)fl_next(&tape);
+    }
+    return !tape.wrong && !tape.left;
 }
 
-#[test]
-fn images_cut_short(rt: HostRuntime) -> Result<(), Fail> {
-    all_hold(rt.alloc(), "beginnings", &[ShownCase::Cut])
-}
-
-const REFUSED: &[ShownCase] = &[ShownCase::Unshown(
-    b"FLND\x03\x00",
-    "E81\nan image of another version: only versions 1 and 2 are known",
-)];
+#endif
+";
 
 #[test]
-fn an_image_is_refused_in_words(rt: HostRuntime) -> Result<(), Fail> {
-    all_hold(rt.alloc(), "refused images", REFUSED)
+fn a_header_is_as_written_by_hand(rt: HostRuntime) -> Result<(), Fail> {
+    all_hold(rt.alloc(), "headers", &[ShownCase::Header(HEADED, HEADER)])
 }
