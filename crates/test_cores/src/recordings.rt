@@ -10,12 +10,12 @@ use std::io::Write;
 
 /// A file of this content, whatever its name; and what was written last.
 #[derive(Drop)]
-struct Desk {
+struct WrittenFile {
     content: &'static [u8],
     written: Vec<u8>,
 }
 
-impl FileStore for Desk {
+impl FileStore for WrittenFile {
     fn read(&mut self, alloc: Global, _path: &str, kind: FileKind) -> io::Result<Vec<u8>> {
         let most = self.content.len().min(kind.most());
         Ok(Vec::from_slice(alloc, &self.content[..most])?)
@@ -55,14 +55,14 @@ const WORDS: &[&str] = &["flounder", "cores", "x", "--turns", "9", "--script", "
 
 #[test]
 fn a_script_does_what_its_run_did(rt: HostRuntime) {
-    let mut desk = Desk {
+    let mut file = WrittenFile {
         content: FILE,
         written: Vec::new(rt.alloc()),
     };
-    let ran = go_with(&rt, WORDS, &mut desk, b"");
+    let ran = go_with(&rt, WORDS, &mut file, b"");
     assert!(rt; ran.status == 0 && ran.out.as_slice() == REPORT);
     let none = OneFile::Fails(io::ErrorKind::Other);
-    let again = go(&rt, &["flounder", "exec"], none, &desk.written);
+    let again = go(&rt, &["flounder", "exec"], none, &file.written);
     assert!(rt; again.status == 0 && again.out.starts_with(BEGINS) && again.out.ends_with(ENDS));
 }
 
