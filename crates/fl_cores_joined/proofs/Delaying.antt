@@ -198,10 +198,10 @@ other_there (y ∷ xs) zero (suc k) x ne = refl
 other_there (y ∷ xs) (suc n) zero x ne = refl
 other_there (y ∷ xs) (suc n) (suc k) x ne = other_there xs n k x (λ e. ne (ap suc e))
 
-abbrev Grows : List JoinedCore → List JoinedCore → Type 0
+abbrev pub Grows : List JoinedCore → List JoinedCore → Type 0
 Grows ms ns = (m : ℕ) (a : TheSide) → HasSide ms m a → (b : TheSide) × HasSide ns m b × IsPrefix a.sent b.sent
 
-grows : (jobs : List CoreJob) (n : ℕ) (log_entry : LogEntry) (ms ns : List JoinedCore) → HappensAt jobs n log_entry ms ns → Grows ms ns
+pub grows : (jobs : List CoreJob) (n : ℕ) (log_entry : LogEntry) (ms ns : List JoinedCore) → HappensAt jobs n log_entry ms ns → Grows ms ns
 grows jobs n log_entry ms ns h m a has = by (same_or has.core n)
   where
     by : (has.core ≡ n) ⊎ (has.core ≢ n) → (b : TheSide) × HasSide ns m b × IsPrefix a.sent b.sent

@@ -37,7 +37,7 @@ use Rattle.fl_cores_joined.proofs.Renumbered.{get_image}
 by_ring : {S : Type 0} (n : ℕ) (s m : TheRun S) (Event : TheCore → S → TheCore → S → Type 0) → OnRing n s Event m → length m.rings ≡ length s.rings
 by_ring {S} n s m Event h = ap (λ (r : TheRun S). length r.rings) h.rest ∙ long_set s.rings n h.after
 
-as_many : {S : Type 0} (w : SideRelations S) (log_entry : LogEntry) (s m : TheRun S) → Does w log_entry s m → length m.rings ≡ length s.rings
+pub as_many : {S : Type 0} (w : SideRelations S) (log_entry : LogEntry) (s m : TheRun S) → Does w log_entry s m → length m.rings ≡ length s.rings
 as_many w (looked n l answer) s m h = by_ring n s m _ h
 as_many w (passed n k frag c Moved) s m (mid, put, take) = by_ring n mid m _ take ∙ by_ring k s mid _ put
 as_many w (passed n k frag c Full) s m h = by_ring k s m _ h

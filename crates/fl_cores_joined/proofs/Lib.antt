@@ -25,6 +25,8 @@ pub mod Lifted
 pub mod Facing
 pub mod Delaying
 pub mod Exchanging
+pub mod OwnSteps
+pub mod OwnEvents
 pub mod RenamedTable
 pub mod RenamedSides
 pub mod RenamedCore

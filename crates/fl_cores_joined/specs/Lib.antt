@@ -5,5 +5,6 @@ pub mod Laws
 pub mod Runs
 pub mod Entries
 pub mod Exchanges
+pub mod OwnEvents
 pub mod Renamed
 pub mod RenamedRuns

@@ -2,6 +2,7 @@
 
 ghost use Rattle.fl_cores_joined.specs.Exchanges.{ApartMayChange, EventsExchange, StepsExchange};
 ghost use Rattle.fl_cores_joined.specs.Exchanges.{OpeningsGoAhead, OpeningsStayBehind};
+ghost use Rattle.fl_cores_joined.specs.OwnEvents.{JoinedAreFaced, OwnEventsJoin, TheyStayFaced};
 ghost use Rattle.fl_cores_joined.specs.Rings.{TrueStepsAreTheRings, TrueStepsHappen};
 ghost use Rattle.fl_cores_joined.specs.Laws.{WritesJoin, TurnsJoin, AcksJoin};
 ghost use Rattle.fl_cores_joined.specs.Laws.{CallsJoin, RulesJoin, OpensJoin};
@@ -87,6 +88,15 @@ pub fn law_neighbours_exchange()
 pub fn law_openings_move()
     ensures ahead { OpeningsGoAhead }
     ensures behind { OpeningsStayBehind }
+{}
+
+/// What a core does by itself, as its own log tells it, is an event among others' as soon as each of its sides
+/// finds what stands for it, of what the one across put: nothing else keeps it from coming next. Sides of cores
+/// that make a world are across from each other, and stay so whatever happens.
+pub fn law_own_events_join()
+    ensures events { OwnEventsJoin }
+    ensures faced { JoinedAreFaced }
+    ensures stay { TheyStayFaced }
 {}
 
 /// Where openings are accepted in any order, each under a number that no binding has yet, what cores do is a run of the

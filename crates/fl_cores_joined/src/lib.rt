@@ -11,7 +11,9 @@
 //! first, in any order one in which bindings have other numbers ([`law_runs_join_in_any_order`], `specs/Renamed.antt` and `specs/RenamedRuns.antt`); others'
 //! entries may come between a look and what follows it ([`law_steps_interleave`], `specs/Entries.antt`); and
 //! neighbours of which neither puts anything to where the other goes may change places, openings with all that
-//! other cores do ([`law_neighbours_exchange`], [`law_openings_move`], `specs/Exchanges.antt`).
+//! other cores do ([`law_neighbours_exchange`], [`law_openings_move`], `specs/Exchanges.antt`). What a core does
+//! by itself may come next as soon as its sides find what stands ([`law_own_events_join`],
+//! `specs/OwnEvents.antt`).
 //!
 //! - `law.rt`: the laws
 #![tactic(auto)]
@@ -20,5 +22,6 @@ mod law;
 
 pub use law::{
     law_ends_join, law_jobs_join, law_links_join, law_neighbours_exchange, law_openings_move,
-    law_runs_join, law_runs_join_in_any_order, law_steps_interleave, law_true_steps,
+    law_own_events_join, law_runs_join, law_runs_join_in_any_order, law_steps_interleave,
+    law_true_steps,
 };

@@ -5,10 +5,12 @@ pub mod Staying
 pub mod Asking
 pub mod Whole
 pub mod Turned
+pub mod Next
 pub mod NewNumbers
 pub mod AtFirst
 pub mod AnyOrder
 pub mod Holds
 pub mod One
 pub mod Told
+pub mod ToldUnder
 pub mod Home

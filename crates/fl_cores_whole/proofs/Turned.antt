@@ -34,7 +34,7 @@ use Rattle.fl_cores_whole.proofs.Begin.{joined_long, joined_one, at_first}
 
 -- ---- the core behind events
 
-abbrev behind : TheRun TheSide → List (Event TheSide) → TheRun TheSide
+abbrev pub behind : TheRun TheSide → List (Event TheSide) → TheRun TheSide
 behind s [] = s
 behind s (x ∷ xs) = behind x.run xs
 
@@ -76,10 +76,10 @@ two_behind false s m x y h = sym h
 -- ---- core n in an interleaving
 
 module _ (n : ℕ) (jobs : List CoreJob) where
-  record Now (x : TheRun TheSide) (ys : List JoinedCore) : Type 0 where
-    core : JoinedCore
-    core_is : slice_get ys n ≡ Some core
-    run_is : core.run ≡ x
+  pub record Now (x : TheRun TheSide) (ys : List JoinedCore) : Type 0 where
+    pub core : JoinedCore
+    pub core_is : slice_get ys n ≡ Some core
+    pub run_is : core.run ≡ x
 
   -- by one event of core m
   by_test : (m : ℕ) (log_entry : LogEntry) (xs ys : List JoinedCore) (h : HappensAt jobs m log_entry xs ys) (x : JoinedCore) → slice_get xs n ≡ Some x
@@ -148,7 +148,7 @@ module _ (n : ℕ) (jobs : List CoreJob) where
         run_is = rest.run_is ∙ sym (behind_both x.run first events ∙ ap (λ (s : TheRun TheSide). behind s events) at);
       }
 
-  walks_to : (steps : List CoreStep) (pending : OpenLooks) (xs ys : List JoinedCore) (h : StepByStep jobs pending xs steps ys) (x : JoinedCore)
+  pub walks_to : (steps : List CoreStep) (pending : OpenLooks) (xs ys : List JoinedCore) (h : StepByStep jobs pending xs steps ys) (x : JoinedCore)
       → slice_get xs n ≡ Some x → Now (behind x.run (steps_at n jobs pending xs steps ys h)) ys
   walks_to [] pending xs ys h x x_is = record { core = x; core_is = ap (λ (l : List JoinedCore). slice_get l n) h ∙ x_is; run_is = refl }
   walks_to (acts m log_entry ∷ steps) pending xs ys h x x_is =

@@ -1,5 +1,6 @@
 pub mod Begin
 pub mod Whole
+pub mod Next
 pub mod AnyOrder
 pub mod Holds
 pub mod One

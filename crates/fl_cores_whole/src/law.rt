@@ -4,8 +4,9 @@ ghost use Rattle.fl_cores_whole.specs.AnyOrder.{ReportsJoinInAnyOrder, StepsJoin
 ghost use Rattle.fl_cores_whole.specs.AnyOrder.{TheirStepsJoinInAnyOrder, TheirTurnsJoinInAnyOrder};
 ghost use Rattle.fl_cores_whole.specs.Begin.{HandedOutJoin};
 ghost use Rattle.fl_cores_whole.specs.Holds.{ReportsHold, RunsUnderSomeHold, TheirTurnsHold};
+ghost use Rattle.fl_cores_whole.specs.Next.{TheirNextEventsHappen};
 ghost use Rattle.fl_cores_whole.specs.One.{OneCoreJoins};
-ghost use Rattle.fl_cores_whole.specs.Told.{TheirCallsAreTold};
+ghost use Rattle.fl_cores_whole.specs.Told.{CallsStay, TheirCallsAreTold, TheirCallsAreToldInAnyOrder};
 ghost use Rattle.fl_cores_whole.specs.Whole.{ExchangedStepsJoin, ReportsJoin, StepsOfReportsJoin};
 ghost use Rattle.fl_cores_whole.specs.Whole.{TheirStepsJoin, TheirTurnsEnd, TheirTurnsJoin};
 
@@ -13,7 +14,8 @@ use fl_core_refines::law_set_ups_start_fresh;
 use fl_core_run_laws::{law_leads_at_first, law_sides_go};
 use fl_cores::law_reports_are_of_runs;
 use fl_cores_joined::{
-    law_neighbours_exchange, law_runs_join, law_runs_join_in_any_order, law_steps_interleave,
+    law_neighbours_exchange, law_own_events_join, law_runs_join, law_runs_join_in_any_order,
+    law_steps_interleave,
 };
 use fl_cores_laws::{law_cores_go, law_ends_are_at_home, law_ends_are_requested};
 use fl_cores_shares::law_handed_out_go_on;
@@ -80,9 +82,12 @@ pub fn law_reports_join_in_any_order()
 }
 
 /// In an order of all that they did, each end handled just the calls that the report tells: no core but its own
-/// handles a call there.
+/// handles a call there. Under a renaming an end handles the same calls, so each run of
+/// [`law_reports_join_in_any_order`] has them too, at that end's number there.
 pub fn law_their_calls_are_told()
     ensures told { TheirCallsAreTold }
+    ensures stay { CallsStay }
+    ensures under { TheirCallsAreToldInAnyOrder }
 {
     law_set_ups_start_fresh();
     law_leads_at_first();
@@ -92,6 +97,16 @@ pub fn law_their_calls_are_told()
     law_ends_are_requested();
     law_ends_are_at_home();
     law_reports_are_of_runs();
+}
+
+/// Each order of what they do goes on with whatever a core did next in its turns, as soon as each of its sides
+/// finds what stands for it: so it ends only where that holds of no core's next event.
+pub fn law_next_events_happen()
+    ensures next { TheirNextEventsHappen }
+{
+    law_set_ups_start_fresh();
+    law_leads_at_first();
+    law_own_events_join();
 }
 
 /// There are such orders: with one core, all that it did in its turns is one, and each premise of

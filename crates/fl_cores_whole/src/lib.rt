@@ -5,7 +5,8 @@
 //! [`law_steps_join`] and [`law_their_turns_join`] (`specs/Whole.antt`), over interleavings as `fl_cores_joined` has them;
 //! so, under a renaming of bindings, whatever the order of openings, [`law_reports_join_in_any_order`] (`specs/AnyOrder.antt`);
 //! what holds of them by the machine's laws, [`law_reports_hold`] (`specs/Holds.antt`); that their calls are those
-//! of the report, [`law_their_calls_are_told`] (`specs/Told.antt`); and that there are some,
+//! of the report, [`law_their_calls_are_told`] (`specs/Told.antt`); when they go on, [`law_next_events_happen`]
+//! (`specs/Next.antt`); and that there are some,
 //! [`law_one_core_joins`] (`specs/One.antt`).
 //!
 //! - `law.rt`: the laws
@@ -14,6 +15,7 @@
 mod law;
 
 pub use law::{
-    law_handed_out_join, law_one_core_joins, law_reports_hold, law_reports_join,
-    law_reports_join_in_any_order, law_steps_join, law_their_calls_are_told, law_their_turns_join,
+    law_handed_out_join, law_next_events_happen, law_one_core_joins, law_reports_hold,
+    law_reports_join, law_reports_join_in_any_order, law_steps_join, law_their_calls_are_told,
+    law_their_turns_join,
 };
