@@ -1,0 +1,7 @@
+pub mod Laws
+pub mod Logs
+pub mod Makes
+pub mod Notes
+pub mod Allowed
+pub mod Cores
+pub mod Ways
