@@ -18,16 +18,18 @@ use Rattle.fl_world.specs.declared.booting.BootFault.TheVariants as boot
 use Rattle.fl_world_refines.specs.Apart.{is_making, AreParts}
 use Rattle.fl_world.specs.Booting.{TheConfig, config_by, passes, Stands, AcceptsAll, IsFaultOf}
 use Rattle.fl_cores_file.specs.Jobs.{Job as TheJob}
-use Rattle.fl_cores_parts.specs.Faults.{IsRunFault}
+use Rattle.fl_cores_jobs.specs.declared.fault.JobFault.{JobFault}
+use Rattle.fl_cores_jobs.specs.declared.fault.JobFault.TheVariants as job
+use Rattle.fl_cores_parts.specs.Faults.{by_job, IsRunFault}
 use Rattle.fl_cores.specs.declared.fault.CoresFault.{CoresFault}
 use Rattle.fl_cores.specs.declared.fault.CoresFault.TheVariants as fault
 use Rattle.fl_cores_parts.specs.declared.fault.RunFault.{RunFault}
 use Rattle.fl_cores_parts.specs.declared.fault.RunFault.TheVariants as run
-use Rattle.fl_cores.specs.Faults.{by_boot, by_run}
+use Rattle.fl_cores.specs.Faults.{by_boot, by_joining, by_run}
 use Rattle.fl_cores_file_laws.specs.JobsJoin.{SetUpsJoin}
 use Rattle.fl_cores_file_laws.specs.SetUps.{is_refusal, sets_up}
 use Rattle.fl_cores_jobs.specs.Whole.{AreTaken, BindingRefused, RefusedAt}
-use Rattle.fl_cores.specs.Promised.{is_other, asks_other, cores_by, IsAccepted, Made, front_of, IsRefusedAt, IsFault, IsLater}
+use Rattle.fl_cores.specs.Promised.{is_other, asks_other, cores_by, IsAccepted, Made, front_of, IsRefusedAt, IsFault, IsLater, WantsNoThread}
 
 -- ---- no other event: each makes something at once
 
@@ -170,6 +172,20 @@ pub later_fault : (p : Parts) (jobs : List TheJob) (f : RunFault) → IsRunFault
 later_fault p jobs (run.Refused number place) is = is
 later_fault p jobs run.Memory is = is
 later_fault p jobs run.Thread is = is
+
+pub joined_fault : (p : Parts) (jobs : List TheJob) (f : JobFault) → IsRunFault p jobs (by_job f) → IsLater p jobs (by_joining f)
+joined_fault p jobs (job.Refused number place) is = is
+joined_fault p jobs job.Memory is = is
+
+-- ---- no thread is wanted
+
+pub boot_wants_none : (f : BootFault) → WantsNoThread (by_boot f)
+boot_wants_none (boot.Refused number place) = tt
+boot_wants_none boot.Memory = tt
+
+pub joining_wants_none : (f : JobFault) → WantsNoThread (by_joining f)
+joining_wants_none (job.Refused number place) = tt
+joining_wants_none job.Memory = tt
 
 -- ---- the first other event
 

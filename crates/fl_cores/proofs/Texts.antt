@@ -1,5 +1,5 @@
 -- Why nothing is told of a text.
-use Rattle.std.proofs.Common.{◌≡◌, sym, ap, ◌∙◌, subst, ℕ, not, true, false, List, [], ◌∷◌, ◌++◌, None, inl, inr, Result, Ok, Err, IfErr}
+use Rattle.std.proofs.Common.{◌≡◌, refl, sym, ap, ◌∙◌, subst, ℕ, not, true, false, List, [], ◌∷◌, ◌++◌, None, inl, inr, Result, Ok, Err, IfErr}
 use Rattle.std.specs.List.{list_all, position}
 use Rattle.std.proofs.lemmas.Bool.{and_parts}
 use Rattle.std.specs.Result.{IsErrAnd}
@@ -17,12 +17,23 @@ use Rattle.fl_cores_file_laws.specs.JobsJoin.{NoFileIsRefused}
 use Rattle.fl_cores_file_laws.specs.SetUps.{is_refusal, FilesPass}
 use Rattle.fl_cores.specs.declared.fault.CoresFault.{CoresFault}
 use Rattle.fl_cores.specs.declared.fault.CoresFault.TheVariants as fault
-use Rattle.fl_cores.specs.Promised.{is_other, Reports, IsRefusedAt, IsFault, IsFaultOfText, config_in}
+use Rattle.fl_cores.specs.Promised.{is_other, Reports, IsRefusedAt, IsFault, WantsNoThread, IsFaultOfText, config_in}
 
 -- memory was refused while a text was read, or while its refused line was printed
 pub memory_of_text : {T : Type 0} (text : List ℕ) (r : Result T CoresFault) → IsErrAnd r (λ e. e ≡ fault.Memory) → IfErr r (λ e. IsFaultOfText text e)
 memory_of_text text (Ok v) h = absurd h
 memory_of_text text (Err e) h = subst (IsFaultOfText text) (sym h) tt
+
+pub memory_said : {T : Type 0} (r : Result T CoresFault) → IsErrAnd r (λ e. e ≡ fault.Memory) → IfErr r (λ e. e ≡ fault.Memory)
+memory_said (Ok v) h = absurd h
+memory_said (Err e) h = h
+
+-- where no thread is started there is no other fault of a text
+pub memory_alone : (text : List ℕ) (f : CoresFault) → IsFaultOfText text f → WantsNoThread f → f ≡ fault.Memory
+memory_alone text (fault.Setup number place) is none = absurd is
+memory_alone text (fault.Job number place) is none = absurd is
+memory_alone text fault.Memory is none = refl
+memory_alone text fault.Thread is none = absurd none
 
 -- the machine refuses nothing of a file's set-up
 no_refusal : (before behind : List Event) (v : Event) (s : State) (number : ℕ)

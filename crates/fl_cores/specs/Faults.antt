@@ -2,6 +2,8 @@
 use Rattle.std.specs.Prelude.{ℕ}
 use Rattle.fl_world.specs.declared.booting.BootFault.{BootFault}
 use Rattle.fl_world.specs.declared.booting.BootFault.TheVariants as boot
+use Rattle.fl_cores_jobs.specs.declared.fault.JobFault.{JobFault}
+use Rattle.fl_cores_jobs.specs.declared.fault.JobFault.TheVariants as job
 use Rattle.fl_cores_parts.specs.declared.fault.RunFault.{RunFault}
 use Rattle.fl_cores_parts.specs.declared.fault.RunFault.TheVariants as run
 use Rattle.fl_cores.specs.declared.fault.CoresFault.{CoresFault}
@@ -15,6 +17,10 @@ abbrev pub by_run : RunFault → CoresFault
 by_run (run.Refused number place) = Job number place
 by_run run.Memory = Memory
 by_run run.Thread = Thread
+
+abbrev pub by_joining : JobFault → CoresFault
+by_joining (job.Refused number place) = Job number place
+by_joining job.Memory = Memory
 
 -- the fault's number; of a thread that doesn't start the program's status
 abbrev pub number_of : CoresFault → ℕ

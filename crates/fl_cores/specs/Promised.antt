@@ -106,6 +106,13 @@ IsFault c jobs (fault.Job number place) = RefusesJob c jobs number place
 IsFault c jobs fault.Memory = has_bad_cores c ≡ false
 IsFault c jobs fault.Thread = LacksThread c jobs
 
+-- where no thread is started none is wanted
+abbrev pub WantsNoThread : CoresFault → Type 0
+WantsNoThread (fault.Setup number place) = Unit {0}
+WantsNoThread (fault.Job number place) = Unit {0}
+WantsNoThread fault.Memory = Unit {0}
+WantsNoThread fault.Thread = ⊥
+
 -- a fault behind the set-up that made these parts: no public promise names it by itself
 abbrev pub IsLater : Parts → List Job → CoresFault → Type 0
 IsLater p jobs (fault.Setup number place) = ⊥

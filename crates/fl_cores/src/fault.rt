@@ -2,8 +2,9 @@
 
 ghost use Rattle.std.specs.Prelude.{◌≡◌};
 ghost use Rattle.fl_cores.specs.declared.fault.CoresFault.TheVariants.{Memory as OutOfMemory};
-ghost use Rattle.fl_cores.specs.Faults.{by_boot, by_run, number_of};
+ghost use Rattle.fl_cores.specs.Faults.{by_boot, by_joining, by_run, number_of};
 
+use fl_cores_jobs::JobFault;
 use fl_cores_parts::RunFault;
 use fl_world::BootFault;
 use std::alloc::{AllocError, AllocFailed};
@@ -55,6 +56,17 @@ impl From<BootFault> for CoresFault {
         match fault {
             BootFault::Refused { number, place } => CoresFault::Setup { number, place },
             BootFault::Memory => CoresFault::Memory,
+        }
+    }
+}
+
+impl From<JobFault> for CoresFault {
+    ghost from_gives = { λ fault e. e ≡ by_joining fault };
+
+    fn from(fault: JobFault) -> CoresFault {
+        match fault {
+            JobFault::Refused { number, place } => CoresFault::Job { number, place },
+            JobFault::Memory => CoresFault::Memory,
         }
     }
 }

@@ -7,7 +7,7 @@ ghost use Rattle.fl_world.specs.Booting.{config_of, IsFaultOf};
 ghost use Rattle.fl_cores_file.specs.Jobs.{Job as TheJob};
 ghost use Rattle.fl_cores_file.specs.Views.{job_of};
 ghost use Rattle.fl_cores_file_laws.specs.SetUps.{sets_up};
-ghost use Rattle.fl_cores.specs.Promised.{is_other, asks_other, cores_by, IsAccepted, Made, Reports, IsFault, IsLater};
+ghost use Rattle.fl_cores.specs.Promised.{is_other, asks_other, cores_by, IsAccepted, Made, Reports, IsFault, IsLater, WantsNoThread};
 ghost use Rattle.fl_cores_parts.specs.Ran.{Keeps, RanFrom};
 ghost use Rattle.fl_cores_parts.specs.Wired.{WiredFrom};
 ghost use Rattle.fl_cores.specs.Wired.{Wires};
@@ -112,10 +112,11 @@ fn run_made<R: Threads + Wait + Sync, G: Gate + Sync>(
 }
 
 // Why there is no run of a set-up whose event at this place, from 0, is the first that belongs to none: an event before it is refused, or it is.
-#[tactic(auto, using(crate::proofs::Booted::other_within, crate::proofs::Booted::front_refused, crate::proofs::Booted::other_refused))]
+#[tactic(auto, using(crate::proofs::Booted::other_within, crate::proofs::Booted::front_refused, crate::proofs::Booted::other_refused, crate::proofs::Booted::boot_wants_none))]
 fn refuse_other(alloc: Global, config: &Config<'_>, place: usize) -> CoresFault
     requires first { position is_other (config_of config.now).setup ≡ Some place }
     ensures refused { (jobs : List TheJob) → IsFault (config_of config.now) jobs result }
+    ensures no_thread { WantsNoThread result }
 {
     let (before, _) = config.setup.as_slice().split_at(place);
     match World::rehearse(alloc, config.cores, before) {
@@ -167,7 +168,7 @@ pub(crate) fn run_jobs<R: Threads + Wait + Sync, G: Gate + Sync>(
 }
 
 // What the cores of a run begin with, as its threads would have them; the fault is that of the run but for threads.
-#[tactic(auto, using(crate::proofs::Booted::not_booted, crate::proofs::Booted::late_fault))]
+#[tactic(auto, using(crate::proofs::Booted::not_booted, crate::proofs::Booted::late_fault, crate::proofs::Booted::boot_wants_none))]
 pub(crate) fn wire_cores(
     alloc: Global,
     config: &Config<'_>,
@@ -175,6 +176,7 @@ pub(crate) fn wire_cores(
 ) -> Result<WiredCores, CoresFault>
     ensures wires { IfOk result (λ w. Wires (config_of config.now) (map job_of jobs.entry.items) w) }
     ensures refused { IfErr result (λ fault. IsFault (config_of config.now) (map job_of jobs.entry.items) fault) }
+    ensures no_thread { IfErr result (λ fault. WantsNoThread fault) }
 {
     law_files_join();
     if let Some(place) = first_other(&config.setup) {
@@ -185,11 +187,12 @@ pub(crate) fn wire_cores(
 }
 
 // The same of what a set-up made.
-#[tactic(auto, using(crate::proofs::Booted::later_fault))]
+#[tactic(auto, using(crate::proofs::Booted::joined_fault, crate::proofs::Booted::joining_wants_none))]
 fn wire_made(alloc: Global, parts: Parts, jobs: Vec<Job<'_>>) -> Result<WiredCores, CoresFault>
     requires few { length parts.cores.items ≤ 16 }
     ensures wired { IfOk result (λ w. WiredFrom parts (map job_of jobs.entry.items) w) }
     ensures later { IfErr result (λ fault. IsLater parts (map job_of jobs.entry.items) fault) }
+    ensures no_thread { IfErr result (λ fault. WantsNoThread fault) }
 {
     match wire_parts(alloc, parts, jobs) {
         Ok(wired) => Ok(wired),

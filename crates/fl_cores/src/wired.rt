@@ -1,9 +1,10 @@
 //! A cores file's cores, once more, without threads.
 
-ghost use Rattle.std.specs.Prelude.{◌≤◌, IfOk, IfErr, IfSome};
+ghost use Rattle.std.specs.Prelude.{◌≡◌, ◌≤◌, IfOk, IfErr};
 ghost use Rattle.fl_cores_file.specs.Files.{file_from};
-ghost use Rattle.fl_cores.specs.Promised.{config_in, IsFault, IsFaultOfText};
-ghost use Rattle.fl_cores.specs.Wired.{Wires, WiresText};
+ghost use Rattle.fl_cores.specs.Promised.{config_in, IsFault, WantsNoThread};
+ghost use Rattle.fl_cores.specs.declared.fault.CoresFault.TheVariants.{Memory as OutOfMemory};
+ghost use Rattle.fl_cores.specs.Wired.{Wires, WiresOrRefuses};
 
 use crate::fault::CoresFault;
 use crate::run::wire_cores;
@@ -144,6 +145,7 @@ fn wire_file(alloc: Global, file: CoresFile<'_>) -> Result<WiredCores, CoresFaul
     requires few { file.cores ≤ 16 }
     ensures wires { IfOk result (λ w. Wires (config_in (file_from file.entry)) (file_from file.entry).jobs w) }
     ensures fault { IfErr result (λ fault. IsFault (config_in (file_from file.entry)) (file_from file.entry).jobs fault) }
+    ensures no_thread { IfErr result (λ fault. WantsNoThread fault) }
 {
     let CoresFile {
         cores,
@@ -160,14 +162,15 @@ fn wire_file(alloc: Global, file: CoresFile<'_>) -> Result<WiredCores, CoresFaul
     wire_cores(alloc, &config, jobs)
 }
 
-/// The cores of a cores file, as [`run_cores_text`](crate::run_cores_text) starts their threads: no thread is started. None where a
+/// The cores of a cores file, as [`run_cores_text`](crate::run_cores_text) starts their threads: no thread is started. None just where a
 /// line of the text is refused.
 ///
 /// # Errors
-/// As of that, but for threads.
+/// Out of memory, and no other.
+#[tactic(auto, using(crate::proofs::Texts::memory_said))]
 pub fn wire_cores_text(alloc: Global, text: &[u8]) -> Result<Option<WiredFile>, CoresFault>
-    ensures wires { IfOk result (λ found. IfSome found (λ file. WiresText text.now file.wired)) }
-    ensures fault { IfErr result (λ fault. IsFaultOfText text.now fault) }
+    ensures wires { IfOk result (λ found. WiresOrRefuses text.now found) }
+    ensures fault { IfErr result (λ fault. fault ≡ OutOfMemory) }
 {
     law_set_ups_are_the_machines();
     law_files_join();

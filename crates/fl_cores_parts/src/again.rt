@@ -7,16 +7,15 @@ ghost use Rattle.fl_cores_jobs.specs.Joined.{AreBindings, HasEndWork};
 ghost use Rattle.fl_cores_jobs.specs.State.{joined_of};
 ghost use Rattle.fl_cores_fork.specs.CoreThreads.{AllReady, core_thread_of};
 ghost use Rattle.fl_cores_parts.specs.Dealing.{Wirings};
-ghost use Rattle.fl_cores_parts.specs.Faults.{IsRunFault};
+ghost use Rattle.fl_cores_parts.specs.Faults.{by_job, IsRunFault};
 ghost use Rattle.fl_cores_parts.specs.Wired.{WiredFrom};
 
-use crate::fault::RunFault;
 use crate::run::seat_of_all;
 use crate::wiring::{WiredThreads, wire};
 use fl_core_run::{RunningCore, TurnPlan};
 use fl_cores_file::Job;
 use fl_cores_fork::CoreThread;
-use fl_cores_jobs::{JoinedJobs, join_jobs};
+use fl_cores_jobs::{JobFault, JoinedJobs, join_jobs};
 use fl_world_refines::Parts;
 use std::alloc::{AllocError, Global};
 
@@ -58,12 +57,12 @@ fn wire_joined(alloc: Global, parts: Parts, joined: &JoinedJobs) -> Result<Wired
 /// What the cores of [`run_parts`](crate::run_parts) begin with: no thread is started.
 ///
 /// # Errors
-/// [`RunFault`]: a job is refused, or out of memory.
+/// [`JobFault`]: a job is refused, or out of memory.
 #[tactic(auto, using(crate::proofs::Faults::no_report))]
-pub fn wire_parts(alloc: Global, parts: Parts, jobs: Vec<Job<'_>>) -> Result<WiredCores, RunFault>
+pub fn wire_parts(alloc: Global, parts: Parts, jobs: Vec<Job<'_>>) -> Result<WiredCores, JobFault>
     requires few { length parts.cores.items ≤ 16 }
     ensures wired { IfOk result (λ w. WiredFrom parts (map job_of jobs.entry.items) w) }
-    ensures refused { IfErr result (λ fault. IsRunFault parts (map job_of jobs.entry.items) fault) }
+    ensures refused { IfErr result (λ fault. IsRunFault parts (map job_of jobs.entry.items) (by_job fault)) }
 {
     let mut parts = parts;
     let joined = join_jobs(alloc, &mut parts, jobs)?;
@@ -73,7 +72,7 @@ pub fn wire_parts(alloc: Global, parts: Parts, jobs: Vec<Job<'_>>) -> Result<Wir
             joined,
             owners: threads.owners,
         }),
-        Err(_) => Err(RunFault::Memory),
+        Err(_) => Err(JobFault::Memory),
     }
 }
 

@@ -8,7 +8,9 @@
 //! Contract for the layer above, of [`script_of`]: a script that it gives has a transcript which tells, at
 //! each end, just the report's calls, and each of its lines stands in the file or asks for an event. How it
 //! is made promises nothing: it is run before it is given (`fl_cores_script`), and one that does something
-//! else is given to nobody. The cores themselves are held by `fl_cores_parts`, and lent.
+//! else is given to nobody. Where there is none, just of a run without a record it is said that it has none, and
+//! just of a script of more than 1 MiB that it is too long for `exec`. The cores themselves are held by
+//! `fl_cores_parts`, and lent.
 //!
 //! - `replayed_side.rt`: a side that answers as a record says
 //! - `replayed_core.rt`: a core that is run once more, and its events

@@ -1,5 +1,9 @@
 //! Why a run has no script.
 
+ghost use Rattle.std.specs.Prelude.{◌≡◌};
+ghost use Rattle.fl_cores_replay.specs.declared.no_script.NoScript.TheVariants.{Memory as OutOfMemory};
+ghost use Rattle.fl_cores_replay.specs.Reasons.{IsOfRecord};
+
 use fl_cores_script::MAX_SCRIPT;
 use std::alloc::AllocError;
 use std::fmt;
@@ -27,7 +31,42 @@ pub enum NoScript {
     OtherCalls,
 }
 
+/// Why no script is made of a record.
+#[derive(Clone, Copy)]
+pub(crate) enum RecordFault {
+    /// Out of memory.
+    Memory,
+    /// It isn't of this file.
+    OtherFile,
+    /// The cores of the file, run once more, don't do what it tells.
+    Strays,
+    /// The cores' events have no order in which each finds what it found.
+    NoOrder,
+}
+
+impl RecordFault {
+    /// What is told of it.
+    pub(crate) fn reason(self) -> NoScript
+        ensures of_record { IsOfRecord result }
+    {
+        match self {
+            RecordFault::Memory => NoScript::Memory,
+            RecordFault::OtherFile => NoScript::OtherFile,
+            RecordFault::Strays => NoScript::Strays,
+            RecordFault::NoOrder => NoScript::NoOrder,
+        }
+    }
+}
+
+impl From<AllocError> for RecordFault {
+    fn from(_e: AllocError) -> RecordFault {
+        RecordFault::Memory
+    }
+}
+
 impl From<AllocError> for NoScript {
+    ghost from_gives = { λ _ e. e ≡ OutOfMemory };
+
     fn from(_e: AllocError) -> NoScript {
         NoScript::Memory
     }

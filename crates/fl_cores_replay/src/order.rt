@@ -1,6 +1,6 @@
 //! The events of cores in one order.
 
-use crate::no_script::NoScript;
+use crate::no_script::RecordFault;
 use crate::replay::Replayed;
 use crate::replayed_core::{CoreEvent, CoreStep};
 use crate::replayed_side::{ReplayedPut, ReplayedSight};
@@ -233,7 +233,7 @@ pub(crate) fn order_events(
     alloc: Global,
     replayed: &Replayed<'_>,
     sizes: &[usize],
-) -> Result<Vec<OrderedEvent>, NoScript> {
+) -> Result<Vec<OrderedEvent>, RecordFault> {
     let cores = replayed.count();
     let mut order = Order::new(alloc, cores, sizes)?;
     for _ in 0..u64::MAX {
@@ -244,5 +244,5 @@ pub(crate) fn order_events(
     if order.is_whole(replayed) {
         return Ok(order.events);
     }
-    Err(NoScript::NoOrder)
+    Err(RecordFault::NoOrder)
 }

@@ -1,6 +1,6 @@
 //! All cores of a run, once more.
 
-use crate::no_script::NoScript;
+use crate::no_script::RecordFault;
 use crate::replayed_core::{Advance, CoreReplay, CoreStep};
 use crate::replayed_side::{ReplayedSide, SentFrag};
 use fl_base::LinkId;
@@ -50,15 +50,15 @@ fn side_at(
     at: SidePlace,
     number: usize,
     slots: &[usize],
-) -> Result<ReplayedSide, NoScript> {
+) -> Result<ReplayedSide, RecordFault> {
     let Some(own) = record.sides.get(at.core) else {
-        return Err(NoScript::OtherFile);
+        return Err(RecordFault::OtherFile);
     };
     let Some(noted) = own.get(at.place) else {
-        return Err(NoScript::OtherFile);
+        return Err(RecordFault::OtherFile);
     };
     let Some(slots) = slots.get(number / 2) else {
-        return Err(NoScript::OtherFile);
+        return Err(RecordFault::OtherFile);
     };
     Ok(ReplayedSide::new(alloc, noted, number, *slots)?)
 }
@@ -70,7 +70,7 @@ fn sides_of(
     places: &[SidePlace],
     core: usize,
     slots: &[usize],
-) -> Result<Vec<ReplayedSide>, NoScript> {
+) -> Result<Vec<ReplayedSide>, RecordFault> {
     let mut sides = Vec::new(alloc);
     for (number, at) in places.iter().enumerate() {
         if at.core == core {
@@ -88,7 +88,7 @@ impl ReplayedSides {
         wired: &WiredCores,
         slots: &[usize],
         record: &RunRecord,
-    ) -> Result<ReplayedSides, NoScript> {
+    ) -> Result<ReplayedSides, RecordFault> {
         let cores = wired.core_threads.as_slice().len();
         let places = places_of(alloc, cores, &wired.owners)?;
         let mut sides = Vec::new(alloc);
@@ -159,11 +159,11 @@ impl Replay {
         cores: &[CoreOver<ReplayedSide>],
         places: Vec<SidePlace>,
         record: &RunRecord,
-    ) -> Result<Replay, NoScript> {
+    ) -> Result<Replay, RecordFault> {
         let mut all = Vec::new(alloc);
         for (number, core) in cores.iter().enumerate() {
             let Some(turns) = record.turns.get(number) else {
-                return Err(NoScript::OtherFile);
+                return Err(RecordFault::OtherFile);
             };
             all.reserve(1)?;
             all.push_reserved(CoreReplay::new(alloc, core.plan.dispatchers, *turns)?);
@@ -222,20 +222,20 @@ impl Replay {
     }
 
     /// Runs all cores to their ends, which all of them have to come to.
-    pub(crate) fn run(&mut self, over: &mut CoresOver<ReplayedSide>) -> Result<(), NoScript> {
+    pub(crate) fn run(&mut self, over: &mut CoresOver<ReplayedSide>) -> Result<(), RecordFault> {
         for _ in 0..u64::MAX {
             let all = self.round(over)?;
             if is_lost(&over.cores) {
-                return Err(NoScript::Memory);
+                return Err(RecordFault::Memory);
             }
             if all.is_done {
                 return Ok(());
             }
             if !all.moved {
-                return Err(NoScript::Strays);
+                return Err(RecordFault::Strays);
             }
         }
-        Err(NoScript::Strays)
+        Err(RecordFault::Strays)
     }
 }
 

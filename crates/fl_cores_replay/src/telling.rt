@@ -1,19 +1,19 @@
 //! A recorded run, told as a script.
 
-ghost use Rattle.std.specs.Prelude.{◌≡◌, IfOk};
+ghost use Rattle.std.specs.Prelude.{◌≡◌, IfOk, IfErr};
 ghost use Rattle.fl_cores_script.specs.Kept.{KeepsToFile};
 ghost use Rattle.fl_cores_script.specs.Replays.{Replays};
-ghost use Rattle.fl_cores_replay.specs.Reasons.{reason_without, IsToldUnrecorded};
+ghost use Rattle.fl_cores_replay.specs.Reasons.{reason_without, IsToldUnrecorded, IsOfRecord, IsToldOfRecord};
 
 use crate::lines::{FileLines, put_line, split_file};
-use crate::no_script::NoScript;
+use crate::no_script::{NoScript, RecordFault};
 use crate::order::{OrderedEvent, order_events};
 use crate::replay::{Replay, Replayed, ReplayedSides};
 use crate::replayed_core::CoreEvent;
 use crate::replayed_side::ReplayedSide;
 use fl_base::{EndId, LinkId, Side};
 use fl_cores::{
-    CoresFault, CoresOver, FileLayout, Recording, RunRecord, WiredCores, WiredFile, wire_cores_text,
+    CoresOver, FileLayout, Recording, RunRecord, WiredCores, WiredFile, wire_cores_text,
 };
 use fl_cores_script::{MAX_SCRIPT, certify, keeps_to_file};
 use std::alloc::{AllocError, Global};
@@ -104,7 +104,7 @@ fn tell_replayed<'a>(
     text: &'a [u8],
     layout: &'a FileLayout,
     replayed: &'a Replayed<'a>,
-) -> Result<Vec<u8>, NoScript> {
+) -> Result<Vec<u8>, RecordFault> {
     let events = order_events(alloc, replayed, &layout.slots)?;
     let FileLines { setup, jobs } = split_file(alloc, text, &layout.done_before)?;
     let teller = Teller {
@@ -125,7 +125,7 @@ fn tell_cores(
     layout: &FileLayout,
     replay: Replay,
     over: &mut CoresOver<ReplayedSide>,
-) -> Result<Vec<u8>, NoScript> {
+) -> Result<Vec<u8>, RecordFault> {
     let mut replay = replay;
     replay.run(over)?;
     tell_replayed(alloc, text, layout, &Replayed::new(&replay, &over.cores))
@@ -139,10 +139,10 @@ fn tell_wired(
     record: &RunRecord,
     wired: WiredCores,
     sides: ReplayedSides,
-) -> Result<Vec<u8>, NoScript> {
+) -> Result<Vec<u8>, RecordFault> {
     let ReplayedSides { places, sides } = sides;
     let Ok(over) = wired.over(alloc, sides) else {
-        return Err(NoScript::Memory);
+        return Err(RecordFault::Memory);
     };
     let mut over = over;
     let told = match Replay::new(alloc, &over.cores, places, record) {
@@ -159,7 +159,7 @@ fn tell_file(
     text: &[u8],
     file: WiredFile,
     record: &RunRecord,
-) -> Result<Vec<u8>, NoScript> {
+) -> Result<Vec<u8>, RecordFault> {
     let WiredFile { wired, layout } = file;
     match ReplayedSides::new(alloc, &wired, &layout.slots, record) {
         Ok(sides) => tell_wired(alloc, text, &layout, record, wired, sides),
@@ -171,12 +171,11 @@ fn tell_file(
 }
 
 // The same of a cores file's text.
-fn tell_text(alloc: Global, text: &[u8], record: &RunRecord) -> Result<Vec<u8>, NoScript> {
+fn tell_text(alloc: Global, text: &[u8], record: &RunRecord) -> Result<Vec<u8>, RecordFault> {
     match wire_cores_text(alloc, text) {
         Ok(Some(file)) => tell_file(alloc, text, file, record),
-        Ok(None) => Err(NoScript::OtherFile),
-        Err(CoresFault::Memory) => Err(NoScript::Memory),
-        Err(_) => Err(NoScript::OtherFile),
+        Ok(None) => Err(RecordFault::OtherFile),
+        Err(_) => Err(RecordFault::Memory),
     }
 }
 
@@ -190,17 +189,29 @@ fn why_unrecorded(is_on: bool) -> NoScript
     NoScript::Unrecorded
 }
 
-// A script of what the cores of a file did in a run that was recorded.
+// A script of what the cores of a file did in a run that has this record.
+fn tell_record(alloc: Global, text: &[u8], record: &RunRecord) -> Result<Vec<u8>, NoScript>
+    ensures reason { IfErr result (λ reason. IsOfRecord reason) }
+{
+    match tell_text(alloc, text, record) {
+        Ok(script) => Ok(script),
+        Err(fault) => Err(fault.reason()),
+    }
+}
+
+// The same of a run that was to be recorded, or not.
 fn tell_script(alloc: Global, text: &[u8], recording: &Recording) -> Result<Vec<u8>, NoScript>
     ensures unrecorded { IsToldUnrecorded recording.now.record recording.now.is_on result }
+    ensures recorded { IsToldOfRecord recording.now.record result }
 {
     match &recording.record {
         None => Err(why_unrecorded(recording.is_on)),
-        Some(record) => tell_text(alloc, text, record),
+        Some(record) => tell_record(alloc, text, record),
     }
 }
 
 // The same script, if its lines are the file's and events', and its transcript tells the report's calls.
+#[tactic(auto, using(crate::proofs::Reasons::memory_told))]
 fn certified(
     alloc: Global,
     script: Vec<u8>,
@@ -209,6 +220,7 @@ fn certified(
 ) -> Result<Vec<u8>, NoScript>
     ensures replays { IfOk result (λ script. Replays script.items report.now) }
     ensures keeps { IfOk result (λ script. KeepsToFile script.items file.now) }
+    ensures reason { IfErr result (λ reason. IsOfRecord reason) }
 {
     let bytes = script.as_slice().len();
     if bytes > MAX_SCRIPT {
@@ -228,7 +240,8 @@ fn certified(
 /// asks for an event of a core.
 ///
 /// # Errors
-/// [`NoScript`]: why there is none. Of a run without a record that is said, whatever the file and the report are.
+/// [`NoScript`]: why there is none. Of a run without a record that is said, whatever the file and the report are; of a run
+/// with one it isn't.
 pub fn script_of(
     alloc: Global,
     file: &[u8],
@@ -238,6 +251,7 @@ pub fn script_of(
     ensures replays { IfOk result (λ script. Replays script.items report.now) }
     ensures keeps { IfOk result (λ script. KeepsToFile script.items file.now) }
     ensures unrecorded { IsToldUnrecorded recording.now.record recording.now.is_on result }
+    ensures recorded { IsToldOfRecord recording.now.record result }
 {
     match tell_script(alloc, file, recording) {
         Ok(script) => certified(alloc, script, file, report),
