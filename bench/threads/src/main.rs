@@ -2,8 +2,10 @@
 //!
 //! `cargo run --release -- FLOUNDER` runs all kinds of files with the built program FLOUNDER; a word behind it (`ring`, `circuit`, `hops`, `rule`) runs one.
 //! Each run is a process: the sides take turns, each first as often as the others, and have to write the same report. A run's time ends with its report: one
-//! that is recorded makes a script behind that. The time of the turns is that of a whole run less that of a run of the same file without turns, which reads it
-//! and wires the cores. With the word `instructions` those of turns over a ring are counted in place of time, by valgrind.
+//! that is recorded makes a script behind that, which the time to its end tells. The time of the turns is that of a whole run less that of a run of the same
+//! file without turns, which reads it and wires the cores. With the word `recording` the sides are the program, the same recorded, and the program once more,
+//! whose ratio tells what noise comes to; a number behind it says how often each runs. With the word `instructions` those of turns over a ring are counted in
+//! place of time, by valgrind.
 
 #[allow(dead_code)]
 #[path = "../../calls/src/plain.rs"]
@@ -46,6 +48,7 @@ use std::time::Instant;
 /// the least of many.
 const CALLS: u64 = 4_000;
 const RUNS: usize = 60;
+const RECORDED_RUNS: usize = 200;
 
 /// More turns than any run takes.
 const MANY: u64 = 1_000_000_000_000;
@@ -59,14 +62,23 @@ const ENDS: [&[u8]; 2] = [b"complete\n", b"turns out\n"];
 /// A program that runs cores files.
 enum Side {
     Proved(PathBuf),
+    Again(PathBuf),
     Recorded(PathBuf),
     Plain(u64),
+}
+
+/// What a run came to: the milliseconds until its report was written, and until its end; and the report.
+struct Outcome {
+    told: f64,
+    ended: f64,
+    report: Vec<u8>,
 }
 
 impl Side {
     fn name(&self) -> String {
         match self {
             Side::Proved(_) => "flounder".to_string(),
+            Side::Again(_) => "flounder again".to_string(),
             Side::Recorded(_) => "recorded".to_string(),
             Side::Plain(0) => "plain".to_string(),
             Side::Plain(pauses) => format!("plain, {pauses} pauses"),
@@ -75,7 +87,7 @@ impl Side {
 
     fn command(&self, file: &Path, turns: u64) -> Command {
         match self {
-            Side::Proved(program) => {
+            Side::Proved(program) | Side::Again(program) => {
                 let mut command = Command::new(program);
                 command.arg("cores").arg(file).args(["--turns".to_string(), turns.to_string()]);
                 command
@@ -93,8 +105,7 @@ impl Side {
         }
     }
 
-    // The milliseconds until a run's report was written, and the report.
-    fn run(&self, file: &Path, turns: u64) -> (f64, Vec<u8>) {
+    fn run(&self, file: &Path, turns: u64) -> Outcome {
         let start = Instant::now();
         let mut child = self.command(file, turns).stdout(Stdio::piped()).stderr(Stdio::null()).spawn().expect("the program runs");
         let mut output = child.stdout.take().expect("its output");
@@ -105,27 +116,28 @@ impl Side {
                 count => report.extend_from_slice(&part[..count]),
             }
         }
-        let time = start.elapsed().as_secs_f64() * 1e3;
+        let told = start.elapsed().as_secs_f64() * 1e3;
         child.wait().expect("its end");
-        (time, report)
+        Outcome { told, ended: start.elapsed().as_secs_f64() * 1e3, report }
     }
 }
 
-/// The times of a side: without turns, and of whole runs.
+/// The times of a side: without turns, of whole runs, and of these to their ends.
 #[derive(Default)]
 struct Times {
     reading: Vec<f64>,
     whole: Vec<f64>,
+    ended: Vec<f64>,
 }
 
 impl Times {
-    // Of whole runs and of their turns, the time at this part of all.
-    fn at(&mut self, part: f64) -> [f64; 2] {
-        let [reading, whole] = [&mut self.reading, &mut self.whole].map(|times| {
+    // Of whole runs, of their turns, and to their ends, the time at this part of all.
+    fn at(&mut self, part: f64) -> [f64; 3] {
+        let [reading, whole, ended] = [&mut self.reading, &mut self.whole, &mut self.ended].map(|times| {
             times.sort_by(f64::total_cmp);
             times[(part * (times.len() - 1) as f64) as usize]
         });
-        [whole, whole - reading]
+        [whole, whole - reading, ended]
     }
 }
 
@@ -134,11 +146,12 @@ fn round(sides: &[Side], file: &Path, first: usize, times: &mut [Times]) {
     let mut reports = Vec::new();
     for k in 0..sides.len() {
         let k = (first + k) % sides.len();
-        let (reading, _) = sides[k].run(file, 0);
-        let (whole, report) = sides[k].run(file, MANY);
-        times[k].reading.push(reading);
-        times[k].whole.push(whole);
-        reports.push(report);
+        let reading = sides[k].run(file, 0);
+        let whole = sides[k].run(file, MANY);
+        times[k].reading.push(reading.told);
+        times[k].whole.push(whole.told);
+        times[k].ended.push(whole.ended);
+        reports.push(whole.report);
     }
     assert!(reports[0].ends_with(b"complete\n"), "a run isn't complete");
     assert!(reports.iter().all(|report| *report == reports[0]), "the reports differ");
@@ -147,6 +160,12 @@ fn round(sides: &[Side], file: &Path, first: usize, times: &mut [Times]) {
 fn sides(program: &Path, pauses: &[u64]) -> Vec<Side> {
     let plain = pauses.iter().map(|pauses| Side::Plain(*pauses));
     [Side::Proved(program.to_path_buf()), Side::Recorded(program.to_path_buf())].into_iter().chain(plain).collect()
+}
+
+// The program without and with recording, and without once more.
+fn recorded_sides(program: &Path) -> Vec<Side> {
+    let program = program.to_path_buf();
+    vec![Side::Proved(program.clone()), Side::Recorded(program.clone()), Side::Again(program)]
 }
 
 // A file of this kind, for as long as it is needed.
@@ -159,11 +178,10 @@ fn with_file(kind: &Kind, run: impl FnOnce(&Path)) {
 }
 
 // The least times of each side, and the middle ones; each time with the ratio of it and ours.
-fn report(kind: &Kind, program: &Path, file: &Path) {
-    let sides = sides(program, &PAUSES);
+fn report(kind: &Kind, sides: &[Side], runs: usize, file: &Path) {
     let mut times: Vec<Times> = sides.iter().map(|_| Times::default()).collect();
-    for run in 0..RUNS {
-        round(&sides, file, run, &mut times);
+    for run in 0..runs {
+        round(sides, file, run, &mut times);
     }
     println!("{}", kind.name);
     let ours = [0.0, 0.5].map(|part| times[0].at(part));
@@ -171,13 +189,15 @@ fn report(kind: &Kind, program: &Path, file: &Path) {
         let shown = [0.0, 0.5].map(|part| times.at(part));
         let ratio = |part: usize, of: usize| format!("{:6.2} ms ({:.2})", shown[part][of], shown[part][of] / ours[part][of]);
         println!(
-            "{:<17} least: whole {}, turns {}, {:5.2} M calls/s   middle: whole {}, turns {}",
+            "{:<17} least: whole {}, turns {}, {:5.2} M calls/s, to its end {}   middle: whole {}, turns {}, to its end {}",
             side.name(),
             ratio(0, 0),
             ratio(0, 1),
             CALLS as f64 / shown[0][1] / 1e3,
+            ratio(0, 2),
             ratio(1, 0),
             ratio(1, 1),
+            ratio(1, 2),
         );
     }
 }
@@ -223,7 +243,7 @@ fn run_plain(words: &[String]) {
 fn main() {
     let words: Vec<String> = env::args().skip(1).collect();
     let Some((first, rest)) = words.split_first() else {
-        eprintln!("threads-bench FLOUNDER [ring|circuit|hops|rule|instructions]");
+        eprintln!("threads-bench FLOUNDER [ring|circuit|hops|rule|instructions|recording [RUNS]]");
         exit(1);
     };
     if first == "plain" {
@@ -233,10 +253,14 @@ fn main() {
     if rest.iter().any(|word| word == "instructions") {
         return with_file(&KINDS[0], |file| count_instructions(program, file));
     }
-    println!("{CALLS} calls a file, {RUNS} runs of each side; in brackets the plain program's time over ours, so above 1 we are faster");
+    let is_recording = rest.iter().any(|word| word == "recording");
+    let (sides, usual) = if is_recording { (recorded_sides(program), RECORDED_RUNS) } else { (sides(program, &PAUSES), RUNS) };
+    let runs = rest.iter().find_map(|word| word.parse().ok()).unwrap_or(usual);
+    let asked = |kind: &Kind| rest.iter().any(|word| word == kind.word);
+    println!("{CALLS} calls a file, {runs} runs of each side; in brackets a side's time over that of the first");
     for kind in KINDS {
-        if rest.is_empty() || rest.iter().any(|word| word == kind.word) {
-            with_file(&kind, |file| report(&kind, program, file));
+        if asked(&kind) || !KINDS.iter().any(asked) {
+            with_file(&kind, |file| report(&kind, &sides, runs, file));
         }
     }
 }
