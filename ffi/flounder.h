@@ -2,10 +2,11 @@
  * symbols of your own:
  *
  *     struct flroom rattle_alloc(size_t size, size_t align);
- *     struct flroom rattle_realloc(void *at, size_t old_size, size_t size, size_t align);
- *     void rattle_dealloc(void *at, size_t size, size_t align);
+ *     struct flroom rattle_realloc(void *at, size_t kept, size_t size, size_t align);
+ *     void rattle_dealloc(void *at);
  *
- * Who defines them decides where every block lies: docs/C.md.
+ * Who defines them decides where every block lies: docs/C.md. A block's size isn't told again: `kept` is how many
+ * of its first bytes have to be as they were.
  *
  * What the caller owes, and nothing here can look at:
  * - A handle comes from a maker below, and was not freed. It isn't copied: a copy is the same thing.
@@ -66,14 +67,14 @@ fl_answer flounder_call(uint8_t *handle, uint64_t *numbers, size_t count);
 fl_answer flounder_write(uint8_t *handle, uint64_t *numbers, size_t count);
 fl_answer flounder_receive(uint8_t *handle, uint64_t *numbers, size_t count);
 fl_answer flounder_read(uint8_t *handle, uint64_t *numbers, size_t count);
-void rattle_dealloc(void *at, size_t size, size_t align);
+void rattle_dealloc(void *at);
 
 /* Frees what a handle leads to, and its own block. */
 static inline void fl_free_at(uint8_t **at)
 {
     if (!*at) return;
-    fl_answer block = flounder_use(*at, 5, (uint64_t *)8, 0);
-    rattle_dealloc(*at, block.count, block.what);
+    flounder_use(*at, 5, (uint64_t *)8, 0);
+    rattle_dealloc(*at);
     *at = 0;
 }
 

@@ -60,7 +60,8 @@ static int ring_take(struct side *s, uint64_t words[8])
 
 /* ---- the plain end: one call in transmission, and one that came */
 
-struct end { struct side side; uint64_t fragment[8], came[2]; int busy, whole, failed; };
+/* on cache lines that its thread alone writes */
+struct end { _Alignas(64) struct side side; uint64_t fragment[8], came[2]; int busy, whole, failed; };
 
 static unsigned plain_call(struct end *e, const uint64_t *call, size_t count)
 {
@@ -117,6 +118,20 @@ static unsigned plain_read(struct end *e, uint64_t *call, size_t room, uint64_t 
 
 /* ---- both programs, by the same words */
 
+/* A poll that found nothing leaves the core to its other thread for PAUSES pauses. */
+#ifndef PAUSES
+#define PAUSES 0
+#endif
+
+static void rest(void)
+{
+    for (int k = 0; k < PAUSES; k++) {
+#if defined __x86_64__ || defined __i386__
+        __builtin_ia32_pause();
+#endif
+    }
+}
+
 #define RPCS(NAME, END, CALL, WRITE, RECEIVE, READ) \
     static unsigned NAME##_send(END *end, uint64_t *call) \
     { \
@@ -129,8 +144,11 @@ static unsigned plain_read(struct end *e, uint64_t *call, size_t room, uint64_t 
     { \
         uint64_t count; \
         unsigned came; \
-        do if (RECEIVE(end, &came)) return 3; while (came != FL_CALL); \
-        return READ(end, call, 2, &count); \
+        for (;;) { \
+            if (RECEIVE(end, &came)) return 3; \
+            if (came == FL_CALL) return READ(end, call, 2, &count); \
+            rest(); \
+        } \
     } \
     static void *NAME##_serve(void *end) \
     { \

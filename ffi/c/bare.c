@@ -34,16 +34,16 @@ void *memset(void *to, int byte, size_t count)
     return to;
 }
 
-struct flroom rattle_realloc(void *old, size_t old_size, size_t size, size_t align)
+struct flroom rattle_realloc(void *old, size_t kept, size_t size, size_t align)
 {
     struct flroom room = rattle_alloc(size, align);
-    if (room.is_there) memcpy(room.at, old, old_size < size ? old_size : size);
+    if (room.is_there) memcpy(room.at, old, kept);
     return room;
 }
 
-void rattle_dealloc(void *at, size_t size, size_t align)
+void rattle_dealloc(void *at)
 {
-    (void)at, (void)size, (void)align;
+    (void)at;
 }
 
 static long system_call(long number, long a, long b, long c)

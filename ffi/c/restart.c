@@ -26,18 +26,17 @@ struct flroom rattle_alloc(size_t size, size_t align)
     return (struct flroom){ at != 0, at };
 }
 
-void rattle_dealloc(void *at, size_t size, size_t align)
+void rattle_dealloc(void *at)
 {
-    (void)size, (void)align;
     if ((char *)at < arena || (char *)at >= arena + PAGES) free(at);
 }
 
-struct flroom rattle_realloc(void *old, size_t old_size, size_t size, size_t align)
+struct flroom rattle_realloc(void *old, size_t kept, size_t size, size_t align)
 {
     struct flroom room = rattle_alloc(size, align);
     if (!room.is_there) return room;
-    memcpy(room.at, old, old_size < size ? old_size : size);
-    rattle_dealloc(old, old_size, align);
+    memcpy(room.at, old, kept);
+    rattle_dealloc(old);
     return room;
 }
 

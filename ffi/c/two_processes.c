@@ -25,17 +25,17 @@ struct flroom rattle_alloc(size_t size, size_t align)
     return (struct flroom){ 1, at };
 }
 
-struct flroom rattle_realloc(void *old, size_t old_size, size_t size, size_t align)
+struct flroom rattle_realloc(void *old, size_t kept, size_t size, size_t align)
 {
     struct flroom room = rattle_alloc(size, align);
-    if (room.is_there) __builtin_memcpy(room.at, old, old_size < size ? old_size : size);
+    if (room.is_there) __builtin_memcpy(room.at, old, kept);
     return room;
 }
 
-void rattle_dealloc(void *at, size_t size, size_t align)
+void rattle_dealloc(void *at)
 {
     /* the pages go as a whole */
-    (void)at, (void)size, (void)align;
+    (void)at;
 }
 
 /* Puts so many fragments, and takes as many: those of the other process in their order. */

@@ -57,18 +57,18 @@ extern "C" fn rattle_alloc(size: usize, align: usize) -> Room {
 }
 
 #[no_mangle]
-unsafe extern "C" fn rattle_realloc(old: *mut u8, old_size: usize, size: usize, align: usize) -> Room {
+unsafe extern "C" fn rattle_realloc(old: *mut u8, kept: usize, size: usize, align: usize) -> Room {
     let room = rattle_alloc(size, align);
     if room.is_there == 1 {
-        // SAFETY: the old block has as many bytes, the new one as many, and they don't overlap.
-        unsafe { ptr::copy_nonoverlapping(old, room.at, old_size.min(size)) }
+        // SAFETY: both blocks have as many bytes, and they don't overlap.
+        unsafe { ptr::copy_nonoverlapping(old, room.at, kept) }
     }
     room
 }
 
 // The pages go as a whole.
 #[no_mangle]
-extern "C" fn rattle_dealloc(_at: *mut u8, _size: usize, _align: usize) {}
+extern "C" fn rattle_dealloc(_at: *mut u8) {}
 
 /// Pages that a fork shares.
 fn map_pages() -> bool {

@@ -49,7 +49,7 @@ extern "C" {
     pub(crate) fn flounder_write(handle: *mut u8, numbers: *mut u64, count: usize) -> Answer;
     pub(crate) fn flounder_receive(handle: *mut u8, numbers: *mut u64, count: usize) -> Answer;
     pub(crate) fn flounder_read(handle: *mut u8, numbers: *mut u64, count: usize) -> Answer;
-    fn rattle_dealloc(at: *mut u8, size: usize, align: usize);
+    fn rattle_dealloc(at: *mut u8);
 }
 
 /// An operation that the archive has by a name too.
@@ -116,9 +116,9 @@ impl Handle {
 
 impl Drop for Handle {
     fn drop(&mut self) {
-        if let Ok((align, size)) = self.ask(5, &mut []) {
-            // SAFETY: what the handle led to is freed, and the block is of this size and alignment.
-            unsafe { rattle_dealloc(self.at.as_ptr(), size as usize, align as usize) }
+        if self.ask(5, &mut []).is_ok() {
+            // SAFETY: what the handle led to is freed, and its block is nobody else's.
+            unsafe { rattle_dealloc(self.at.as_ptr()) }
         }
     }
 }
