@@ -1,5 +1,5 @@
--- What a core does by itself, as its own log tells it, is an event of an interleaving as soon as its sides find
--- what stands for them: nothing else keeps it from coming next. Laws.
+-- What a core does by itself, in its place, as its own log tells it, is an event of an interleaving as soon as its
+-- sides, of which no two links or ends share one, find what stands for them. Laws.
 use Rattle.std.specs.Prelude.{ℕ, ◌≡◌, List, length, slice_get, slice_set, Some}
 use Rattle.fl_ring.specs.SharedSeats.{front_seen}
 use Rattle.fl_ring.specs.SharedSides.{TheSide, SharedPuts, SharedTakes}

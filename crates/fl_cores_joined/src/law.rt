@@ -90,8 +90,8 @@ pub fn law_openings_move()
     ensures behind { OpeningsStayBehind }
 {}
 
-/// What a core does by itself, as its own log tells it, is an event among others' as soon as each of its sides
-/// finds what stands for it, of what the one across put: nothing else keeps it from coming next. Sides of cores
+/// What a core does in its place by itself, as its own log tells it, is an event among others' as soon as each of its
+/// sides, which are no two of its links' or ends', finds what stands for it, of what the one across put. Sides of cores
 /// that make a world are across from each other, and stay so whatever happens.
 pub fn law_own_events_join()
     ensures events { OwnEventsJoin }

@@ -1,5 +1,5 @@
--- An order of what the cores of a reported run do goes on with whatever one of them did next, as soon as that
--- core's sides find what stands for them. Law.
+-- Behind what an order of steps of a reported run's cores comes to, what one of them did next happens, as soon as
+-- that core's sides find what stands for them. Law.
 use Rattle.std.specs.Prelude.{ℕ, ◌≡◌, List, ◌∷◌, ◌++◌, slice_get, slice_set, Some}
 use Rattle.fl_ring.specs.SharedSides.{TheSide}
 use Rattle.fl_core_run.specs.LogEntries.{LogEntry}

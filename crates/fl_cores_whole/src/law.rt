@@ -82,8 +82,8 @@ pub fn law_reports_join_in_any_order()
 }
 
 /// In an order of all that they did, each end handled just the calls that the report tells: no core but its own
-/// handles a call there. Under a renaming an end handles the same calls, so each run of
-/// [`law_reports_join_in_any_order`] has them too, at that end's number there.
+/// handles a call there. Under a renaming an end handles the same calls, so the machine's run
+/// under one has them too, at that end's number there.
 pub fn law_their_calls_are_told()
     ensures told { TheirCallsAreTold }
     ensures stay { CallsStay }
@@ -99,8 +99,8 @@ pub fn law_their_calls_are_told()
     law_reports_are_of_runs();
 }
 
-/// Each order of what they do goes on with whatever a core did next in its turns, as soon as each of its sides
-/// finds what stands for it: so it ends only where that holds of no core's next event.
+/// Behind what each order of their steps comes to, whatever a core did next in its turns happens, as soon as each of
+/// its sides finds what stands for it.
 pub fn law_next_events_happen()
     ensures next { TheirNextEventsHappen }
 {

@@ -10,7 +10,7 @@ use Rattle.fl_history.specs.declared.board.Deed.TheVariants.{Found}
 use Rattle.fl_history.specs.declared.board.Entry.{Entry}
 use Rattle.fl_history.specs.Mailboxes.{Mailbox, vacant, Does, Goes, Runs, steps_of, entry}
 use Rattle.fl_history.specs.Rule.{both_vacant}
-use Rattle.fl_history.specs.Hands.{TheHand, InOneOrder, BeginsByFinding, SomeonePutsFirst}
+use Rattle.fl_history.specs.Hands.{TheHand, InOneOrder, BeginsByFinding, NotBothFindFirst}
 use Rattle.fl_history.proofs.Notes.{vacant_waiting}
 
 all_vacant : (i : ℕ) (m : Mailbox) → get_elem? both_vacant i ≡ some m → m ≡ vacant
@@ -46,7 +46,7 @@ not_both (e ∷ es) after runs members x y xs ys a b one finds two finds' =
     let second : e.hand ≡ 1 = omega (arith, low, not_first) in
     no_letter e runs.0 b runs.1 (ap (λ (z : Entry). z.deed) (begins 1 e y es ys second two) ∙ finds'))
 
-pub someone_puts_first : SomeonePutsFirst
+pub someone_puts_first : NotBothFindFirst
 someone_puts_first = λ one two a b h first second finds finds'.
     let x : Entry = entry finds.0 finds.1 (Found a) in
     let y : Entry = entry finds'.0 finds'.1 (Found b) in

@@ -3,5 +3,3 @@ pub mod Logs
 pub mod Makes
 pub mod Notes
 pub mod Allowed
-pub mod Cores
-pub mod Ways

@@ -67,8 +67,8 @@ abbrev pub BeginsByFinding : List Entry → ℕ → Type 0
 BeginsByFinding steps letter = (who : ℕ) × (at : ℕ) × (rest : List Entry) × (steps ≡ entry who at (Found letter) ∷ rest)
 
 -- Law: two hands that did what they did in one order don't both begin by finding a letter.
-abbrev pub SomeonePutsFirst : Type 0
-SomeonePutsFirst = (one two : TheHand) (a b : ℕ) → InOneOrder one two → one.number ≡ 0 → two.number ≡ 1
+abbrev pub NotBothFindFirst : Type 0
+NotBothFindFirst = (one two : TheHand) (a b : ℕ) → InOneOrder one two → one.number ≡ 0 → two.number ≡ 1
     → BeginsByFinding one.steps a → BeginsByFinding two.steps b → ⊥
 
 -- what a hand that had done nothing did since, if its look found a letter: that look came first

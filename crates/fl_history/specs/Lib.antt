@@ -2,6 +2,3 @@
 pub mod Mailboxes
 pub mod Rule
 pub mod Hands
--- What it takes for whole rings.
-pub mod Ways
-pub mod Cores

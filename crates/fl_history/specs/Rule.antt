@@ -149,7 +149,7 @@ abbrev pub frees : Player
 frees st m stored m' = m' ≡ (one_hand (with_deed (hand_of m.0) (other (hand_of m.0).number) Freed Nothing), m.1)
 
 -- One order of all that was done at both mailboxes, from when both were vacant: each step finds what stands in its
--- mailbox at that moment, what these hands did are their steps in it, and there are no others' than theirs.
+-- mailbox at that moment, what these hands did are their steps in it, and all are of hands 0 and 1.
 pub record OneOrder (hands : List HandView) : Type 0 where
   pub log : List Entry
   pub mailboxes : List Mailbox

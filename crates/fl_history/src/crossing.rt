@@ -4,7 +4,7 @@ ghost use Rattle.std.specs.Prelude.{◌≡◌, ◌≢◌, [], IfSome, IsNone};
 ghost use Rattle.fl_history.specs.Hands.{new_hand, LookedFirst};
 
 use crate::hand::Hand;
-use crate::law::law_someone_puts_first;
+use crate::law::law_not_both_find_first;
 use crate::making::settle;
 use std::thread::{Threads, join};
 
@@ -42,6 +42,6 @@ pub fn look_before_they_put<R: Threads + Sync>(
         { look_then_put(two, letter) },
     );
     settle(one, two);
-    law_someone_puts_first();
+    law_not_both_find_first();
     (first, second)
 }

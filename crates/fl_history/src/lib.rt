@@ -1,7 +1,7 @@
 //! Two mailboxes in one table of atomic words, and one history of all that is done at both.
 //!
 //! Hand 0 puts letters into mailbox 0 and looks into mailbox 1, and hand 1 the other way round, each in a
-//! thread of its own. A mailbox is one word. The rule of the table (`specs/Rule.antt`) carries a list of all
+//! thread of its own. A mailbox is one word. The rule of the table (`specs/Rule.antt`) says that there is a list of all
 //! steps so far at either mailbox; a hand knows the steps that it made itself.
 //!
 //! Contract for the layers above: [`pair`], [`Hand`] and [`settle`]. Once both hands are together again, there is
@@ -29,5 +29,5 @@ mod tests;
 
 pub use crossing::look_before_they_put;
 pub use hand::Hand;
-pub use law::law_someone_puts_first;
+pub use law::law_not_both_find_first;
 pub use making::{pair, settle};
