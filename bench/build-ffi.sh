@@ -11,14 +11,20 @@ mkdir -p "$into/proved/crates"
 cd "$into/proved"
 cp "$top/HANDLES" .
 
-# the lines of crates.txt of some crates and of all below them, lowest first
+# the lines of crates.txt of some crates and of all below them
 with_those_below() {
     awk -F: -v wanted="$*" '
         BEGIN { n = split(wanted, name, " "); for (k = 1; k <= n; k++) need[name[k]] }
-        /^[a-z]/ { line[++lines] = $0; crate[lines] = $1; uses[lines] = $2 }
+        /^[a-z]/ { line[++lines] = $0; split($1, word, " "); crate[lines] = word[1]; uses[lines] = $2 }
         END {
-            for (k = lines; k > 0; k--)
-                if (crate[k] in need) { n = split(uses[k], name, " "); for (j = 1; j <= n; j++) need[name[j]] }
+            for (known = -1; known < count; ) {
+                known = count
+                for (k = 1; k <= lines; k++)
+                    if (crate[k] in need) {
+                        n = split(uses[k], name, " ")
+                        for (j = 1; j <= n; j++) if (!(name[j] in need)) { need[name[j]]; count++ }
+                    }
+            }
             for (k = 1; k <= lines; k++)
                 if (crate[k] in need) print line[k]
         }' "$top/crates.txt"
@@ -28,7 +34,7 @@ for source in "$@"; do
     text="$top/bench/ffi/$source.rattle"
     used=$(sed -n 's/^use \([a-z_]*\)::.*/\1/p' "$text" | sort -u | grep -v '^std$' | tr '\n' ' ')
     with_those_below "$used" >crates.txt
-    for name in $(cut -d: -f1 crates.txt); do
+    for name in $(sed 's/[ :].*//' crates.txt); do
         [ -d "crates/$name/out" ] || { mkdir -p "crates/$name" && cp -a "$top/crates/$name/out" "crates/$name/" 2>/dev/null || true; }
         for part in src specs proofs; do
             rm -rf "crates/$name/$part"
