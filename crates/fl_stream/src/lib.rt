@@ -19,8 +19,6 @@ mod making;
 mod plain;
 mod rx;
 mod side;
-#[cfg(test)]
-mod tests;
 mod tx;
 
 pub use law::{law_stream_receiver_conserves, law_stream_sender_conserves};

@@ -1,9 +1,10 @@
-//! Tests of lists, waitsets, links, rings and circuits, over their public calls alone: one crate, since each crate of tests
+//! Tests of lists, waitsets, links, rings, streams and circuits, over their public calls alone: one crate, since each crate of tests
 //! begins with reading all that it stands on.
 //!
 //! - `rows.rt`: tables, of which a test tells the first row that isn't so
 //! - `examples.rt`: the examples that stand in no table of their own kind
 //! - `ring.rt`: lists, waitsets, links and rings
+//! - `streams.rt`: streams, in one thread and in two
 //! - `hop.rt`: circuits at cores
 //!
 //! `rt try --test --fail-alloc N` runs each with its Nth allocation refused: then the tests whose names end in
@@ -18,3 +19,5 @@ mod hop;
 mod ring;
 #[cfg(test)]
 mod rows;
+#[cfg(test)]
+mod streams;

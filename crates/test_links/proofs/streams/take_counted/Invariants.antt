@@ -1,5 +1,5 @@
 use Rattle.std.proofs.Common.{◌≡◌}
-use Rattle.fl_stream.proofs.tests.take_counted.Given as goal
+use Rattle.test_links.proofs.streams.take_counted.Given as goal
 
 -- the side stays the same stream's
 abbrev pub invariant-loop : goal.invariant-loop

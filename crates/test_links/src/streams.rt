@@ -1,12 +1,12 @@
-//! Tests of each call, in one thread and in two.
+//! Streams: each call, in one thread and in two.
 
 ghost use Rattle.std.specs.Prelude.{◌≡◌, true, false};
 ghost use Rattle.fl_base.specs.Control.{is_ack_only};
 ghost use Rattle.fl_stream.specs.Plain.{is_plain};
 
-use super::*;
 use fl_base::Frag;
 use fl_link::{LinkFault, PutFault, PutSide, Sight, TakeSide, Told};
+use fl_stream::{StreamRx, StreamTx, duplex, is_plain, settle, stream};
 use std::alloc::Global;
 use std::hint;
 use std::sync::Wait;
