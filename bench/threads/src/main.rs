@@ -42,6 +42,7 @@ use std::fs;
 use std::io::Read;
 use std::path::{Path, PathBuf};
 use std::process::{Command, Stdio, exit};
+use std::thread;
 use std::time::Instant;
 
 /// How many calls a file has, and how often each side runs it: short runs, since other work on the machine takes a thread its processor now and then, and
@@ -238,6 +239,8 @@ fn run_plain(words: &[String]) {
     let text = fs::read_to_string(file).expect("a cores file");
     let plan = Plan { limit: turns.parse().expect("a number"), pauses: pauses.parse().expect("a number") };
     print!("{}", run::run(&reading::read(&text), plan));
+    // who reads it goes first, as in the program
+    thread::yield_now();
 }
 
 fn main() {

@@ -18,7 +18,7 @@ use flounder_commands::{
 use std::alloc::Global;
 use std::io::{BufWriter, Write};
 use std::sync::Wait;
-use std::thread::Threads;
+use std::thread::{Threads, yield_now};
 
 /// `cores FILE --turns N`, and with `--script OUT` where a file for a script is named.
 pub(crate) fn cores_command<
@@ -242,6 +242,7 @@ fn tell_more<E: Write>(
 }
 
 // Prints what is told of cores, and answers what is wrong where they didn't all finish, or where standard output took a part alone.
+// Its reader goes first then: woken by the last write it may wait for this thread's processor, and a script takes long.
 fn print_told<'a, W: Write + Drop>(
     file: &'a str,
     turns: u64,
@@ -252,7 +253,10 @@ fn print_told<'a, W: Write + Drop>(
     ensures told { EndsSo result (λ status. TellsCores end told.now (output_of W.contents output.old output.new) status) }
 {
     match print(told, output) {
-        Ok(()) => outcome_of(file, turns, end),
+        Ok(()) => {
+            yield_now();
+            outcome_of(file, turns, end)
+        }
         Err(fault) => Err(fault_unprinted(file, end, fault)),
     }
 }
