@@ -4,14 +4,14 @@ ghost use Rattle.std.specs.Prelude.{◌≡◌, ◌≢◌, ◌↔◌, ◌⊎◌};
 ghost use types.Logic.{sem};
 ghost use Rattle.std.specs.Ptr.{points_to};
 ghost use Rattle.fl_ring.specs.Duo.{MayHaveSlots};
-ghost use Rattle.fl_c.specs.Handles.{Uses, HandsRun};
-ghost use Rattle.fl_c.specs.Making.{plan_at, AnswersTextEnds, AnswersImageEnds, AnswersTextProgram, AnswersImageProgram};
-ghost use Rattle.fl_c.specs.contracts.handle.Handle.{the_row};
+ghost use Rattle.fl_c_operations.specs.contracts.handle.Handle.{the_row};
+ghost use Rattle.fl_c_operations.specs.Handles.{Uses};
+ghost use Rattle.fl_c.specs.Answers.{plan_at, AnswersTextEnds, AnswersImageEnds, AnswersTextProgram, AnswersImageProgram, HandsRun};
 
-use crate::answer::{Answered, Outcome, UseFault};
-use crate::handle::{Handle, new_run, ring_handles, use_handle};
-use crate::making::{image_ends, image_program, text_ends, text_program};
-use crate::program::HeldProgram;
+use fl_c_operations::{
+    Answered, Handle, HeldProgram, Outcome, UseFault, image_ends, image_program, new_run,
+    ring_handles, text_ends, text_program, use_handle,
+};
 use fl_endpoint::EndFault;
 use fl_ring::RingFault;
 use fl_value_data::PlanNo;

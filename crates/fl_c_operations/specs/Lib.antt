@@ -1,0 +1,9 @@
+pub mod Numbers
+pub mod Sides
+pub mod View
+pub mod Calls
+pub mod After
+pub mod Ends
+pub mod Runs
+pub mod Making
+pub mod Handles
