@@ -5,8 +5,8 @@ ghost use types.Logic.{sem};
 ghost use Rattle.std.specs.Ptr.{points_to};
 ghost use Rattle.fl_ring.specs.Duo.{MayHaveSlots};
 ghost use Rattle.fl_c_operations.specs.contracts.handle.Handle.{the_row};
-ghost use Rattle.fl_c_operations.specs.Handles.{Uses};
-ghost use Rattle.fl_c.specs.Answers.{plan_at, AnswersTextEnds, AnswersImageEnds, AnswersTextProgram, AnswersImageProgram, HandsRun};
+ghost use Rattle.fl_c_operations.specs.Handles.{Uses, HandsRun};
+ghost use Rattle.fl_c_operations.specs.Making.{plan_at, AnswersTextEnds, AnswersImageEnds, AnswersTextProgram, AnswersImageProgram};
 
 use fl_c_operations::{
     Answered, Handle, HeldProgram, Outcome, UseFault, image_ends, image_program, new_run,

@@ -4,7 +4,7 @@
 //! (`flounder_put`). Each operation is an ordinary function of `fl_c_operations`, whose contract the export states
 //! again. `ffi/flounder.h` has a C function for each operation.
 //!
-//! - `exports.rt`: what C calls (`specs/Answers.antt`); `shortcuts.rt`: what it calls most often
+//! - `exports.rt`: what C calls; `shortcuts.rt`: what it calls most often
 #![tactic(auto)]
 
 mod exports;

@@ -2,10 +2,11 @@
 use Rattle.std.specs.Prelude.{◌≡◌, ◌≢◌, ◌⊎◌, ℕ, List, Option, Some, None, Result, Ok, Err}
 use prog.Memory.{size as size_in, align as align_in, capped}
 use denote.Param.{layout}
+use denote.RawPtr.{Ptr}
 use Rattle.fl_ring.specs.SharedSides.{TheSide}
 use Rattle.fl_c_operations.specs.declared.operation.Operation.{Operation}
 use Rattle.fl_c_operations.specs.declared.answer.Outcome.{Outcome}
-use Rattle.fl_c_operations.specs.declared.answer.Outcome.TheVariants.{Freed}
+use Rattle.fl_c_operations.specs.declared.answer.Outcome.TheVariants.{Made, Freed}
 use Rattle.fl_c_operations.specs.declared.answer.UseFault.{UseFault}
 use Rattle.fl_c_operations.specs.declared.answer.UseFault.TheVariants.{NoSuchOperation, End as FromEnd}
 use Rattle.fl_endpoint.specs.declared.fault.EndFault.TheVariants.{Memory}
@@ -48,6 +49,20 @@ MakesRun x kind (Ok handle) = ⊥
 MakesRun x kind (Err NoSuchOperation) = (kind ≢ 1) × (kind ≢ 2)
 MakesRun x kind (Err (FromEnd Memory)) = (kind ≡ 1) ⊎ (kind ≡ 2)
 MakesRun x kind (Err fault) = ⊥
+
+-- what C is answered of a new run: its handle is made, or there is no memory for that; or why there is no run
+abbrev pub AnswersNew : Result Handle UseFault → Answered → Type 0
+AnswersNew (Ok run) answer = (answer ≡ answer_of (Ok Made)) ⊎ (answer ≡ answer_of (Err (FromEnd Memory)))
+AnswersNew (Err fault) answer = answer ≡ answer_of (Err fault)
+
+-- the same of what a handle leads to: nothing but a program makes runs
+abbrev pub AnswersRun : Handle → ℕ → Answered → Type 0
+AnswersRun (Program held) kind answer = (r : Result Handle UseFault) × MakesRun (program_of held.program) kind r × AnswersNew r answer
+AnswersRun s kind answer = answer ≡ answer_of (Err NoSuchOperation)
+
+-- a run is made of what a handle leads to, which stays as it is; a fault leaves the pointer as it was
+abbrev pub HandsRun : Handle → ℕ → Ptr → Answered → Handle → Ptr → Type 0
+HandsRun s kind at answer t after = (t ≡ s) × AnswersRun s kind answer × (answer.fault ≢ 0 → after ≡ at)
 
 -- a use of a handle: what this number asks for is done on these numbers
 pub record UsesAt (s : Handle) (what : ℕ) (numbers : List ℕ) (r : Result Outcome UseFault) (t : Handle) (written : List ℕ) : Type 0 where

@@ -1,9 +1,10 @@
 -- What makers make, exactly.
-use Rattle.std.specs.Prelude.{◌≡◌, ℕ, List, true, Result, Ok, Err}
+use Rattle.std.specs.Prelude.{◌≡◌, ◌⊎◌, ℕ, ◌==◌, if◌then◌else◌, List, true, Option, Some, None, Result, Ok, Err}
 use Rattle.fl_ring.specs.Duo.{MayHaveSlots}
 use Rattle.fl_ring.specs.SharedSides.{TheSide, started_side}
 use Rattle.fl_ring.specs.declared.shared.duo_board.SeatHolder.TheVariants.{One, Two}
 use Rattle.fl_value_data.specs.declared.value.PlanNo.{PlanNo}
+use Rattle.fl_value_data.specs.declared.value.PlanNo.TheVariants.{One as PlanOne, Two as PlanTwo}
 use Rattle.fl_interface.specs.Interface.{TheInterface, interface_of}
 use Rattle.fl_interface.specs.declared.interface.Interface.{Interface}
 use Rattle.fl_check.specs.Text.{TextMeans, stands_for, text_fault}
@@ -77,3 +78,39 @@ MakesOfImage image slots (Err BadSize) = MayHaveSlots slots → ⊥
 MakesOfImage image slots (Err (Image fault)) = MayHaveSlots slots × FirstFault image fault
 MakesOfImage image slots (Err Memory) = MayHaveSlots slots
 MakesOfImage image slots (Err fault) = ⊥
+
+-- ---- what C is answered
+
+-- the plan of this number
+abbrev pub plan_at : ℕ → Option PlanNo
+plan_at n = if n == 1 then Some PlanOne else (if n == 2 then Some PlanTwo else None)
+
+-- 0, or 99 where there was no memory for the handles of what was made; or the number of the fault for which nothing was
+abbrev pub AnswersMade : {T : Type 0} → Result T MakeFault → ℕ → Type 0
+AnswersMade (Ok made) answer = (answer ≡ 0) ⊎ (answer ≡ 99)
+AnswersMade (Err fault) answer = answer ≡ make_number fault
+
+-- the place afterwards: a text's fault's own, 0 for another fault; as it was where all was made
+abbrev pub place_after : {T : Type 0} → Result T MakeFault → ℕ → ℕ
+place_after (Ok made) place = place
+place_after (Err fault) place = place_of fault
+
+-- of both ends of a text; no plan is asked for by another number
+abbrev pub AnswersTextEnds : Option PlanNo → List ℕ → ℕ → ℕ → ℕ → ℕ → Type 0
+AnswersTextEnds None text slots answer place after = (answer ≡ 102) × (after ≡ place)
+AnswersTextEnds (Some plan) text slots answer place after =
+    (r : Result (TheHeld × TheHeld) MakeFault) × MakesOfText plan text slots r × AnswersMade r answer × (after ≡ place_after r place)
+
+-- of both ends of an image
+abbrev pub AnswersImageEnds : List ℕ → ℕ → ℕ → Type 0
+AnswersImageEnds image slots answer = (r : Result (TheHeld × TheHeld) MakeFault) × MakesOfImage image slots r × AnswersMade r answer
+
+-- of the program of a text
+abbrev pub AnswersTextProgram : Option PlanNo → List ℕ → ℕ → ℕ → ℕ → Type 0
+AnswersTextProgram None text answer place after = (answer ≡ 102) × (after ≡ place)
+AnswersTextProgram (Some plan) text answer place after =
+    (r : Result Program MakeFault) × CompilesText plan text r × AnswersMade r answer × (after ≡ place_after r place)
+
+-- of the program of an image
+abbrev pub AnswersImageProgram : List ℕ → ℕ → Type 0
+AnswersImageProgram image answer = (r : Result Program MakeFault) × ReadsImage image r × AnswersMade r answer
