@@ -9,8 +9,8 @@ ghost use Rattle.fl_c_operations.specs.Handles.{Uses, HandsRun};
 ghost use Rattle.fl_c_operations.specs.Making.{plan_at, AnswersTextEnds, AnswersImageEnds, AnswersTextProgram, AnswersImageProgram};
 
 use fl_c_operations::{
-    Answered, Handle, HeldProgram, Outcome, UseFault, image_ends, image_program, new_run,
-    ring_handles, text_ends, text_program, use_handle,
+    Answered, Handle, HeldProgram, Outcome, UseFault, hand_one, hand_out, image_ends,
+    image_program, new_run, ring_handles, text_ends, text_program, use_handle,
 };
 use fl_endpoint::EndFault;
 use fl_ring::RingFault;
@@ -34,48 +34,10 @@ pub extern "C" fn flounder_make(
     ensures kept { result ≢ 0 → (one.new ≡ one.old) × (two.new ≡ two.old) }
 {
     match ring_handles(alloc, slots) {
-        Ok((first, second)) => { hand_out(boxed(alloc, first), boxed(alloc, second), one, two) }
+        Ok((first, second)) => hand_out(alloc, first, second, one, two),
         Err(RingFault::BadSize) => 32,
         Err(RingFault::Memory) => 99,
     }
-}
-
-// A handle in a block of its own, where there is memory.
-fn boxed(alloc: Global, handle: Handle) -> Option<Box<Handle>> {
-    Box::new(alloc, handle).ok()
-}
-
-// A handle for C, or none where memory ran out (99).
-fn hand_one(handle: Option<Box<Handle>>, at: &mut *mut u8) -> u32
-    ensures faults { (result ≡ 0) ⊎ (result ≡ 99) }
-    ensures kept { result ≢ 0 → at.new ≡ at.old }
-{
-    let Some(handle) = handle else {
-        return 99;
-    };
-    *at = Box::into_raw(handle) as *mut u8;
-    0
-}
-
-// Two handles for C, or none where memory ran out (99).
-fn hand_out(
-    first: Option<Box<Handle>>,
-    second: Option<Box<Handle>>,
-    one: &mut *mut u8,
-    two: &mut *mut u8,
-) -> u32
-    ensures faults { (result ≡ 0) ⊎ (result ≡ 99) }
-    ensures kept { result ≢ 0 → (one.new ≡ one.old) × (two.new ≡ two.old) }
-{
-    let Some(first) = first else {
-        return 99;
-    };
-    let Some(second) = second else {
-        return 99;
-    };
-    *one = Box::into_raw(first) as *mut u8;
-    *two = Box::into_raw(second) as *mut u8;
-    0
 }
 
 // The plan of a number.
@@ -111,11 +73,7 @@ pub extern "C" fn flounder_make_text_ends(
         return NO_SUCH_PLAN;
     };
     match text_ends(alloc, text, plan, slots) {
-        Ok((first, second)) => {
-            let first = boxed(alloc, Handle::End(first));
-            let second = boxed(alloc, Handle::End(second));
-            hand_out(first, second, one, two)
-        }
+        Ok((first, second)) => hand_out(alloc, Handle::End(first), Handle::End(second), one, two),
         Err(fault) => {
             *place = fault.place();
             fault.number()
@@ -138,11 +96,7 @@ pub extern "C" fn flounder_make_image_ends(
     ensures kept { result ≢ 0 → (one.new ≡ one.old) × (two.new ≡ two.old) }
 {
     match image_ends(alloc, image, slots) {
-        Ok((first, second)) => {
-            let first = boxed(alloc, Handle::End(first));
-            let second = boxed(alloc, Handle::End(second));
-            hand_out(first, second, one, two)
-        }
+        Ok((first, second)) => hand_out(alloc, Handle::End(first), Handle::End(second), one, two),
         Err(fault) => fault.number(),
     }
 }
@@ -168,7 +122,7 @@ pub extern "C" fn flounder_make_text_program(
     match text_program(alloc, text, plan) {
         Ok(made) => {
             let made = Handle::Program(HeldProgram::new(alloc, made));
-            hand_one(boxed(alloc, made), program)
+            hand_one(alloc, made, program)
         }
         Err(fault) => {
             *place = fault.place();
@@ -191,7 +145,7 @@ pub extern "C" fn flounder_make_image_program(
     match image_program(alloc, image) {
         Ok(made) => {
             let made = Handle::Program(HeldProgram::new(alloc, made));
-            hand_one(boxed(alloc, made), program)
+            hand_one(alloc, made, program)
         }
         Err(fault) => fault.number(),
     }
@@ -206,7 +160,7 @@ fn make_run(handle: &mut Handle, kind: u32, run: &mut *mut u8) -> Answered
     };
     match new_run(program, kind) {
         Err(fault) => Answered::of(Err(fault)),
-        Ok(made) => match hand_one(boxed(program.alloc(), made), run) {
+        Ok(made) => match hand_one(program.alloc(), made, run) {
             0 => Answered::of(Ok(Outcome::Made)),
             _ => Answered::of(Err(UseFault::End(EndFault::Memory))),
         },

@@ -4,6 +4,7 @@
 //! `specs/Handles.antt`); what a caller can get wrong is answered by a number of 100 or more, and nothing is done.
 //!
 //! - `handle.rt`: what a handle leads to
+//! - `handing.rt`: handles for C, each in a block of its own
 //! - `sending.rt`: handles may go to other threads
 //! - `operation.rt`: the operations, by number
 //! - `side.rt`: operations at a side of a ring
@@ -17,6 +18,7 @@
 mod answer;
 mod calls;
 mod end;
+mod handing;
 mod handle;
 mod making;
 mod operation;
@@ -29,6 +31,7 @@ mod tapes;
 
 pub use answer::{Answered, Outcome, UseFault};
 pub use end::{HeldEnd, use_end};
+pub use handing::{hand_one, hand_out};
 pub use handle::{Handle, new_run, ring_handles, use_handle};
 pub use making::{MakeFault, image_ends, image_program, text_ends, text_program};
 pub use operation::Operation;

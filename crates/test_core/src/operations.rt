@@ -2,8 +2,8 @@
 
 use crate::tables::tell;
 use fl_c_operations::{
-    Handle, HeldEnd, HeldProgram, MakeFault, UseFault, image_ends, new_run, ring_handles,
-    text_ends, text_program, use_handle,
+    Handle, HeldEnd, HeldProgram, MakeFault, UseFault, image_ends, new_run, ring_handles, text_ends,
+    text_program, use_handle,
 };
 use fl_ring::RingFault;
 use fl_value_data::PlanNo;
@@ -160,12 +160,7 @@ fn holds(handle: &mut Handle, row: &Row) -> Result<bool, AllocError> {
 }
 
 // All rows come to what they say at two handles, one after another.
-fn all_come(
-    one: &mut Handle,
-    two: &mut Handle,
-    table: &str,
-    rows: &[Row],
-) -> Result<(), Fail> {
+fn all_come(one: &mut Handle, two: &mut Handle, table: &str, rows: &[Row]) -> Result<(), Fail> {
     for (number, row) in rows.iter().enumerate() {
         let handle = if row.0 == 1 { &mut *one } else { &mut *two };
         if !holds(handle, row)? {
