@@ -11,6 +11,7 @@ fn boxed(alloc: Global, handle: Handle) -> Option<Box<Handle>> {
 }
 
 /// Hands out a handle; where memory ran out (99) the pointer is as it was.
+#[inline(always)]
 pub fn hand_one(alloc: Global, handle: Handle, at: &mut *mut u8) -> u32
     ensures faults { (result ≡ 0) ⊎ (result ≡ 99) }
     ensures kept { result ≢ 0 → at.new ≡ at.old }
@@ -23,6 +24,7 @@ pub fn hand_one(alloc: Global, handle: Handle, at: &mut *mut u8) -> u32
 }
 
 /// Hands out two handles; where memory ran out for either (99) both pointers are as they were.
+#[inline(always)]
 pub fn hand_out(
     alloc: Global,
     first: Handle,
