@@ -9,7 +9,7 @@ ghost use Rattle.fl_c_operations.specs.Handles.{Uses, HandsRun};
 ghost use Rattle.fl_c_operations.specs.Making.{plan_at, AnswersTextEnds, AnswersImageEnds, AnswersTextProgram, AnswersImageProgram};
 
 use fl_c_operations::{
-    Answered, Handle, HeldProgram, Outcome, UseFault, hand_one, hand_out, image_ends,
+    Answered, Handle, HeldProgram, Outcome, UseFault, boxed, hand_one, hand_out, image_ends,
     image_program, new_run, ring_handles, text_ends, text_program, use_handle,
 };
 use fl_endpoint::EndFault;
@@ -34,7 +34,7 @@ pub extern "C" fn flounder_make(
     ensures kept { result ≢ 0 → (one.new ≡ one.old) × (two.new ≡ two.old) }
 {
     match ring_handles(alloc, slots) {
-        Ok((first, second)) => hand_out(alloc, first, second, one, two),
+        Ok((first, second)) => { hand_out(boxed(alloc, first), boxed(alloc, second), one, two) }
         Err(RingFault::BadSize) => 32,
         Err(RingFault::Memory) => 99,
     }
@@ -73,7 +73,11 @@ pub extern "C" fn flounder_make_text_ends(
         return NO_SUCH_PLAN;
     };
     match text_ends(alloc, text, plan, slots) {
-        Ok((first, second)) => hand_out(alloc, Handle::End(first), Handle::End(second), one, two),
+        Ok((first, second)) => {
+            let first = boxed(alloc, Handle::End(first));
+            let second = boxed(alloc, Handle::End(second));
+            hand_out(first, second, one, two)
+        }
         Err(fault) => {
             *place = fault.place();
             fault.number()
@@ -96,7 +100,11 @@ pub extern "C" fn flounder_make_image_ends(
     ensures kept { result ≢ 0 → (one.new ≡ one.old) × (two.new ≡ two.old) }
 {
     match image_ends(alloc, image, slots) {
-        Ok((first, second)) => hand_out(alloc, Handle::End(first), Handle::End(second), one, two),
+        Ok((first, second)) => {
+            let first = boxed(alloc, Handle::End(first));
+            let second = boxed(alloc, Handle::End(second));
+            hand_out(first, second, one, two)
+        }
         Err(fault) => fault.number(),
     }
 }
@@ -122,7 +130,7 @@ pub extern "C" fn flounder_make_text_program(
     match text_program(alloc, text, plan) {
         Ok(made) => {
             let made = Handle::Program(HeldProgram::new(alloc, made));
-            hand_one(alloc, made, program)
+            hand_one(boxed(alloc, made), program)
         }
         Err(fault) => {
             *place = fault.place();
@@ -145,7 +153,7 @@ pub extern "C" fn flounder_make_image_program(
     match image_program(alloc, image) {
         Ok(made) => {
             let made = Handle::Program(HeldProgram::new(alloc, made));
-            hand_one(alloc, made, program)
+            hand_one(boxed(alloc, made), program)
         }
         Err(fault) => fault.number(),
     }
@@ -160,7 +168,7 @@ fn make_run(handle: &mut Handle, kind: u32, run: &mut *mut u8) -> Answered
     };
     match new_run(program, kind) {
         Err(fault) => Answered::of(Err(fault)),
-        Ok(made) => match hand_one(program.alloc(), made, run) {
+        Ok(made) => match hand_one(boxed(program.alloc(), made), run) {
             0 => Answered::of(Ok(Outcome::Made)),
             _ => Answered::of(Err(UseFault::End(EndFault::Memory))),
         },

@@ -1,44 +1,43 @@
 //! Handles for C: pointers, each to a block of its own.
 
-ghost use Rattle.std.specs.Prelude.{◌≡◌, ◌≢◌, ◌⊎◌};
+ghost use Rattle.std.specs.Prelude.{◌≡◌, ◌≢◌, ◌⊎◌, IfSome};
 
 use crate::handle::Handle;
 use std::alloc::Global;
 
-// A handle in a block of its own, where there is memory.
-fn boxed(alloc: Global, handle: Handle) -> Option<Box<Handle>> {
+/// A handle in a block of its own, where there is memory.
+pub fn boxed(alloc: Global, handle: Handle) -> Option<Box<Handle>>
+    ensures boxed { IfSome result (λ b. b ≡ handle) }
+{
     Box::new(alloc, handle).ok()
 }
 
-/// Hands out a handle; where memory ran out (99) the pointer is as it was.
-#[inline(always)]
-pub fn hand_one(alloc: Global, handle: Handle, at: &mut *mut u8) -> u32
+/// Hands out a handle; where there was no memory for it (99) the pointer is as it was.
+pub fn hand_one(handle: Option<Box<Handle>>, at: &mut *mut u8) -> u32
     ensures faults { (result ≡ 0) ⊎ (result ≡ 99) }
     ensures kept { result ≢ 0 → at.new ≡ at.old }
 {
-    let Some(handle) = boxed(alloc, handle) else {
+    let Some(handle) = handle else {
         return 99;
     };
     *at = Box::into_raw(handle) as *mut u8;
     0
 }
 
-/// Hands out two handles; where memory ran out for either (99) both pointers are as they were.
-#[inline(always)]
+/// Hands out two handles; where there was no memory for either (99) both pointers are as they were.
 pub fn hand_out(
-    alloc: Global,
-    first: Handle,
-    second: Handle,
+    first: Option<Box<Handle>>,
+    second: Option<Box<Handle>>,
     one: &mut *mut u8,
     two: &mut *mut u8,
 ) -> u32
     ensures faults { (result ≡ 0) ⊎ (result ≡ 99) }
     ensures kept { result ≢ 0 → (one.new ≡ one.old) × (two.new ≡ two.old) }
 {
-    let Some(first) = boxed(alloc, first) else {
+    let Some(first) = first else {
         return 99;
     };
-    let Some(second) = boxed(alloc, second) else {
+    let Some(second) = second else {
         return 99;
     };
     *one = Box::into_raw(first) as *mut u8;

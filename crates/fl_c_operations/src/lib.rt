@@ -31,7 +31,7 @@ mod tapes;
 
 pub use answer::{Answered, Outcome, UseFault};
 pub use end::{HeldEnd, use_end};
-pub use handing::{hand_one, hand_out};
+pub use handing::{boxed, hand_one, hand_out};
 pub use handle::{Handle, new_run, ring_handles, use_handle};
 pub use making::{MakeFault, image_ends, image_program, text_ends, text_program};
 pub use operation::Operation;
