@@ -7,7 +7,7 @@ use std::alloc::Global;
 
 /// A handle in a block of its own, where there is memory.
 pub fn boxed(alloc: Global, handle: Handle) -> Option<Box<Handle>>
-    ensures boxed { IfSome result (λ b. b ≡ handle) }
+    ensures boxed { IfSome result (λ b. b.value ≡ handle) }
 {
     Box::new(alloc, handle).ok()
 }

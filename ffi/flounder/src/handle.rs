@@ -61,7 +61,7 @@ pub(crate) struct Handle {
     at: NonNull<u8>,
 }
 
-// SAFETY: `fl_c` proves that what a handle leads to may go to another thread. A handle is moved there, so its
+// SAFETY: `fl_c_operations` proves that what a handle leads to may go to another thread. A handle is moved there, so its
 // calls are in order.
 unsafe impl Send for Handle {}
 
