@@ -2,7 +2,8 @@
 //!
 //! C makes handles (`flounder_make`) and asks operations of them by number (`flounder_use`), or by name
 //! (`flounder_put`). Each operation is an ordinary function of `fl_c_operations`, whose contract the export states
-//! again. `ffi/flounder.h` has a C function for each operation.
+//! again. `ffi/flounder.h` has a C function for each operation. Nothing is dropped here, so that how a handle is
+//! dropped is proved below alone.
 //!
 //! - `exports.rt`: what C calls; `shortcuts.rt`: what it calls most often
 #![tactic(auto)]
