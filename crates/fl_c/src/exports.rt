@@ -4,14 +4,14 @@ ghost use Rattle.std.specs.Prelude.{◌≡◌, ◌≢◌, ◌↔◌, ◌⊎◌};
 ghost use types.Logic.{sem};
 ghost use Rattle.std.specs.Ptr.{points_to};
 ghost use Rattle.fl_ring.specs.Duo.{MayHaveSlots};
-ghost use Rattle.fl_c.specs.Handles.{Uses, HandsRun};
-ghost use Rattle.fl_c.specs.Making.{plan_at, AnswersTextEnds, AnswersImageEnds, AnswersTextProgram, AnswersImageProgram};
-ghost use Rattle.fl_c.specs.contracts.handle.Handle.{the_row};
+ghost use Rattle.fl_c_operations.specs.contracts.handle.Handle.{the_row};
+ghost use Rattle.fl_c_operations.specs.Handles.{Uses, HandsRun};
+ghost use Rattle.fl_c_operations.specs.Making.{plan_at, AnswersTextEnds, AnswersImageEnds, AnswersTextProgram, AnswersImageProgram};
 
-use crate::answer::{Answered, Outcome, UseFault};
-use crate::handle::{Handle, new_run, ring_handles, use_handle};
-use crate::making::{image_ends, image_program, text_ends, text_program};
-use crate::program::HeldProgram;
+use fl_c_operations::{
+    Answered, Handle, HeldProgram, Outcome, UseFault, boxed, hand_one, hand_out, image_ends,
+    image_program, new_run, ring_handles, text_ends, text_program, use_handle,
+};
 use fl_endpoint::EndFault;
 use fl_ring::RingFault;
 use fl_value_data::PlanNo;
@@ -38,44 +38,6 @@ pub extern "C" fn flounder_make(
         Err(RingFault::BadSize) => 32,
         Err(RingFault::Memory) => 99,
     }
-}
-
-// A handle in a block of its own, where there is memory.
-fn boxed(alloc: Global, handle: Handle) -> Option<Box<Handle>> {
-    Box::new(alloc, handle).ok()
-}
-
-// A handle for C, or none where memory ran out (99).
-fn hand_one(handle: Option<Box<Handle>>, at: &mut *mut u8) -> u32
-    ensures faults { (result ≡ 0) ⊎ (result ≡ 99) }
-    ensures kept { result ≢ 0 → at.new ≡ at.old }
-{
-    let Some(handle) = handle else {
-        return 99;
-    };
-    *at = Box::into_raw(handle) as *mut u8;
-    0
-}
-
-// Two handles for C, or none where memory ran out (99).
-fn hand_out(
-    first: Option<Box<Handle>>,
-    second: Option<Box<Handle>>,
-    one: &mut *mut u8,
-    two: &mut *mut u8,
-) -> u32
-    ensures faults { (result ≡ 0) ⊎ (result ≡ 99) }
-    ensures kept { result ≢ 0 → (one.new ≡ one.old) × (two.new ≡ two.old) }
-{
-    let Some(first) = first else {
-        return 99;
-    };
-    let Some(second) = second else {
-        return 99;
-    };
-    *one = Box::into_raw(first) as *mut u8;
-    *two = Box::into_raw(second) as *mut u8;
-    0
 }
 
 // The plan of a number.

@@ -3,12 +3,11 @@
 
 ghost use types.Logic.{sem};
 ghost use Rattle.std.specs.Ptr.{points_to};
-ghost use Rattle.fl_c.specs.Handles.{Uses};
-ghost use Rattle.fl_c.specs.contracts.handle.Handle.{the_row};
+ghost use Rattle.fl_c_operations.specs.contracts.handle.Handle.{the_row};
+ghost use Rattle.fl_c_operations.specs.Handles.{Uses};
 
-use crate::answer::Answered;
 use crate::exports::flounder_use;
-use crate::handle::Handle;
+use fl_c_operations::{Answered, Handle};
 
 /// Puts a fragment at a side of a ring (1).
 #[unsafe(no_mangle)]

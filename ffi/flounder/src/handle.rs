@@ -61,8 +61,8 @@ pub(crate) struct Handle {
     at: NonNull<u8>,
 }
 
-// SAFETY: `fl_c` proves that what a handle leads to may go to another thread. A handle is moved there, so its
-// calls are in order.
+// SAFETY: `fl_c_operations` proves that what a handle leads to may go to another thread. A handle is moved
+// there, so its calls are in order.
 unsafe impl Send for Handle {}
 
 impl Handle {

@@ -32,15 +32,15 @@ use denote.Triple.Spec.{triple_of}
 use denote.Triple.Table.{framed}
 use denote.Triple.Walked.{Stays, walk_of, stay_dropped, gave_slice, Goes-dropped, Goes-gave_slice, ends_at}
 use Rattle.std.proofs.raw_atomic.Walks.{proved}
-use Rattle.fl_c.specs.contracts.handle.Handle.{the_row as R}
-use Rattle.fl_c.specs.contracts.answer.Answered.{the_row as A}
-use Rattle.fl_c.proofs.answer.Answered.TheLaws.{the_row_laws as answer_laws}
-use Rattle.fl_c.specs.Handles.{Uses}
+use Rattle.fl_c_operations.specs.contracts.handle.Handle.{the_row as R}
+use Rattle.fl_c_operations.specs.contracts.answer.Answered.{the_row as A}
+use Rattle.fl_c_operations.proofs.answer.Answered.TheLaws.{the_row_laws as answer_laws}
+use Rattle.fl_c_operations.specs.Handles.{Uses}
 use Rattle.fl_c.specs.contracts.exports.flounder_use as f
 use Rattle.fl_c.proofs.exports.flounder_use.Statement.{statement}
 use Rattle.fl_c.proofs.exports.flounder_use.Code as code
-use Rattle.fl_c.specs.contracts.handle.use_handle as g
-use Rattle.fl_c.proofs.handle.use_handle.Met.{met}
+use Rattle.fl_c_operations.specs.contracts.handle.use_handle as g
+use Rattle.fl_c_operations.proofs.handle.use_handle.Met.{met}
 
 abbrev stayed : Stays f.ended.signature.params f.ended.kept
 stayed = (stay_dropped (plain (λ _. RawPtr)) yes, (stay_dropped (plain (λ _. u32)) yes, (gave_slice (0 ∷ []) tt (plain (λ _. u64)), tt)))
@@ -75,7 +75,7 @@ flounder_use_spec 𝓤 𝓛 𝓜 𝓡 wired =
     let z : G.Ghost = (((κ', (κ, tt)), (full_share, (q, tt)), tt, (record { ref_ptr = (b, o); ghost_name = γ; now = before }, a.1), (vptr b o ∷ [], (vss a.0).1)), tt) in
     nothing ! $ move ! (6 ∷ 0 ∷ []) $ join ! $ move ! (5 ∷ 0 ∷ []) $ join ! $ move ! (1 ∷ 0 ∷ []) $ join ! $
     nothing ! $ move ! (4 ∷ 0 ∷ []) $ join ! $ move ! (3 ∷ 0 ∷ []) $ join ! $ join ! $ nothing ! $ move ! (1 ∷ 0 ∷ []) $ use2 𝓛 (raw (G.pre z)) (id⊢ 𝓤 _) $
-    calls_at ! (framed 𝓤 𝓛.H 𝓜 (tables 𝓤 𝓛.H 𝓜 𝓡 𝓡.env)) G (met 𝓤 𝓛 𝓜 𝓡 (code.calls-fl_c::handle::use_handle 𝓡.env wired)) z
+    calls_at ! (framed 𝓤 𝓛.H 𝓜 (tables 𝓤 𝓛.H 𝓜 𝓡 𝓡.env)) G (met 𝓤 𝓛 𝓜 𝓡 (code.calls-fl_c_operations::handle::use_handle 𝓡.env wired)) z
     (and_then ! (get ! refl) (and_then ! (get ! refl) (and_then ! (get ! refl) (no_more !)))) (λ v.
     use1 𝓛 (later (some (λ (r : A.Denot). ((‵ (flft κ' full_share) ⊛ ‵ (flft κ q) ⊛ ‵ ftrue) ⊛ ‵ (A.own_val r (v ∷ []))) ⊛
     some (λ (ws : Lasts g.ended z.0.0 z.0.3). ‵ (lasts g.ended z.0.0 z.0.3 ws) ⊛ raw (fact 𝓤 (Uses before what s.now r ws.0 ws.1.1.0)))))) (id⊢ 𝓤 _) $

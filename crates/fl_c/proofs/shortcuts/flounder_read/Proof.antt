@@ -24,10 +24,10 @@ use denote.Triple.Spec.{triple_of}
 use denote.Triple.Table.{framed}
 use denote.Triple.Walked.{Stays, walk_of, stay_dropped, gave_slice, Goes-dropped, Goes-gave_slice, ends_at}
 use Rattle.std.proofs.raw_atomic.Walks.{proved}
-use Rattle.fl_c.specs.contracts.handle.Handle.{the_row as R}
-use Rattle.fl_c.specs.contracts.answer.Answered.{the_row as A}
-use Rattle.fl_c.proofs.answer.Answered.TheLaws.{the_row_laws as answer_laws}
-use Rattle.fl_c.specs.Handles.{Uses}
+use Rattle.fl_c_operations.specs.contracts.handle.Handle.{the_row as R}
+use Rattle.fl_c_operations.specs.contracts.answer.Answered.{the_row as A}
+use Rattle.fl_c_operations.proofs.answer.Answered.TheLaws.{the_row_laws as answer_laws}
+use Rattle.fl_c_operations.specs.Handles.{Uses}
 use Rattle.fl_c.specs.contracts.shortcuts.flounder_read as f
 use Rattle.fl_c.proofs.shortcuts.flounder_read.Statement.{statement}
 use Rattle.fl_c.proofs.shortcuts.flounder_read.Code as code

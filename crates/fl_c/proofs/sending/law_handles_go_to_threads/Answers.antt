@@ -1,8 +1,0 @@
-use Rattle.fl_c.proofs.HandleSends.{handle_sends}
-use Rattle.fl_c.proofs.sending.law_handles_go_to_threads.Goals as goal
-
-pub returns : goal.returns
-returns c = record {
-  sent = handle_sends c.side_sent.ensures.sent c.held_sent.ensures.sent c.held_program_sent.ensures.sent c.sender_sent.ensures.sent
-      c.receiver_sent.ensures.sent;
-}

@@ -1,9 +1,0 @@
-use Rattle.std.proofs.Common.{◌≡◌, map, drop}
-use Rattle.fl_interface.specs.Interface.{arg_type_of}
-use Rattle.fl_c.specs.After.{after_all, after_ranked}
-use Rattle.fl_c.proofs.tapes.after_rank.Given as goal
-
-abbrev pub invariant-loop-argument : goal.invariant-loop-argument
-invariant-loop-argument l =
-    after_all (after_ranked l.plan l.rank) (map arg_type_of (drop l.argument-index l.arguments)) l.rest
-    ≡ after_all (after_ranked l.plan l.rank) (map arg_type_of l.arguments) l.tape

@@ -1,0 +1,34 @@
+-- What an end as a handle holds it is made of may go to a thread, and so may it.
+use denote.Struct.Declared.{shape}
+use denote.Param.Send.{IsSend, sendable, recorded_send, struct_send, view_send}
+use Rattle.std.proofs.Crossing.{crosses}
+use Rattle.fl_value_data.specs.contracts.value.Call
+use Rattle.fl_machine.specs.contracts.reassemblies.Reassemblies
+use Rattle.fl_endpoint.specs.contracts.end.End
+use Rattle.fl_ring.specs.contracts.shared.duo_sides.SharedSide
+use Rattle.fl_c_operations.specs.View.{TheHeld}
+use Rattle.fl_c_operations.specs.declared.end.HeldEnd as HeldCode
+use Rattle.fl_c_operations.specs.contracts.end.HeldEnd as Held
+use Rattle.fl_c_operations.specs.contracts.end.HeldEnd.TheInside as HeldInside
+
+held_inside : IsSend End.the_row → IsSend SharedSide.the_row → IsSend Reassemblies.the_row → IsSend Call.the_row → IsSend HeldInside.the_row
+held_inside end side calls call = recorded_send (HeldInside.the_field).row _ _ (HeldInside.the_type).to_one
+    (struct_send (shape HeldInside.the_type) (
+      search (sendable, crosses) depth 20,
+      (
+        end,
+        (
+          side,
+          (
+            calls,
+            (
+              search (sendable, crosses, call) depth 40,
+              (search (sendable, crosses) depth 40, tt),
+            ),
+          ),
+        ),
+      ),
+    ))
+
+pub held_sends : IsSend End.the_row → IsSend SharedSide.the_row → IsSend Reassemblies.the_row → IsSend Call.the_row → IsSend Held.the_row
+held_sends end side calls call = view_send HeldInside.the_row TheHeld HeldCode.the_code Held.the_view Held.the_invariant (held_inside end side calls call)

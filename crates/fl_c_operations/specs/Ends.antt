@@ -1,0 +1,118 @@
+-- What each operation does at an end, exactly: by cases on what it came to. The end goes from h to t.
+use Rattle.std.specs.Prelude.{◌≡◌, ◌≢◌, ℕ, ◌-◌, ◌≤◌, ◌⊎◌, true, false, List, [], ◌∷◌, length, Option, Some, None, IsSome, Result, Ok, Err}
+use Rattle.fl_ring.specs.SharedSides.{SharedPuts, SharedTakes}
+use Rattle.fl_value_data.specs.declared.value.Call.{Call}
+use Rattle.fl_value_data.specs.Value.{TheCall}
+use Rattle.fl_endpoint.specs.declared.fault.EndFault.{EndFault}
+use Rattle.fl_endpoint.specs.declared.fault.EndFault.TheVariants.{UnknownMessage, Misfit}
+use Rattle.fl_endpoint.specs.declared.answer.WriteAnswer.TheVariants.{Written, Full, Nothing}
+use Rattle.fl_endpoint.specs.declared.answer.ReceiveAnswer.{ReceiveAnswer}
+use Rattle.fl_endpoint.specs.declared.answer.ReceiveAnswer.TheVariants.{Handle, Part, Quiet, Empty, HeldBack}
+use Rattle.fl_endpoint.specs.View.{is_busy}
+use Rattle.fl_endpoint.specs.Events.{Calls, Writes, SetsRule}
+use Rattle.fl_endpoint.specs.Lent.{receipt, ReceivesAt}
+use Rattle.fl_c_operations.specs.declared.operation.Operation.{Operation}
+use Rattle.fl_c_operations.specs.declared.operation.Operation.TheVariants.{Tell, Call as ToCall, Write, Receive, Read, Rule, Busy as AskBusy}
+use Rattle.fl_c_operations.specs.declared.answer.Outcome.{Outcome}
+use Rattle.fl_c_operations.specs.declared.answer.Outcome.TheVariants.{Accepted, Wrote, NoRoom, Idle, Handled, PartTaken}
+use Rattle.fl_c_operations.specs.declared.answer.Outcome.TheVariants.{Acknowledgement, Nothing as NothingThere, Held, CallRead, RuleSet, Sending}
+use Rattle.fl_c_operations.specs.declared.answer.UseFault.{UseFault}
+use Rattle.fl_c_operations.specs.declared.answer.UseFault.TheVariants.{NoSuchOperation, WrongRoom, Unread, End}
+use Rattle.fl_c_operations.specs.Sides.{Tells}
+use Rattle.fl_c_operations.specs.Calls.{AreCall, RefusesNumbers, PutsCall}
+use Rattle.fl_c_operations.specs.View.{TheHeld, program_of_held, ChangesEnd}
+
+-- ---- a call is made
+
+-- what a call comes to, as it is told
+abbrev pub called_as : Result (Unit {0}) EndFault → Result Outcome UseFault
+called_as (Ok done) = Ok Accepted
+called_as (Err fault) = Err (End fault)
+
+-- numbers that are no call's are refused, and nothing is done; else their call is made, or refused, and memory runs out only where
+-- the end refuses it for nothing else
+abbrev pub CallsBy : TheHeld → List ℕ → Result Outcome UseFault → TheHeld → Type 0
+CallsBy h numbers r t =
+    ((fault : UseFault) × (r ≡ Err fault) × RefusesNumbers (program_of_held h) numbers fault × (t ≡ h))
+    ⊎ ((c : TheCall) × (answer : Result (Unit {0}) EndFault) × AreCall (program_of_held h) numbers c
+    × Calls h.end c answer t.end × (r ≡ called_as answer) × ChangesEnd h t)
+
+-- ---- a fragment is written
+
+-- so many fragments of the call are left to be written
+abbrev pub WritesBy : TheHeld → Result Outcome UseFault → TheHeld → Type 0
+WritesBy h (Ok (Wrote left)) t =
+    ((number : ℕ) × (count : ℕ) × (left ≡ count - number) × Writes SharedPuts h.end h.side (Ok (Written number count)) t.end t.side)
+    × (t.calls ≡ h.calls) × (t.handled ≡ h.handled)
+WritesBy h (Ok NoRoom) t = Writes SharedPuts h.end h.side (Ok Full) t.end t.side × (t.calls ≡ h.calls) × (t.handled ≡ h.handled)
+WritesBy h (Ok Idle) t = Writes SharedPuts h.end h.side (Ok Nothing) t.end t.side × (t.calls ≡ h.calls) × (t.handled ≡ h.handled)
+WritesBy h (Ok outcome) t = ⊥
+WritesBy h (Err (End fault)) t = Writes SharedPuts h.end h.side (Err fault) t.end t.side × (t.calls ≡ h.calls) × (t.handled ≡ h.handled)
+WritesBy h (Err fault) t = ⊥
+
+-- ---- a fragment is taken
+
+-- what a receive comes to, as it is told, and the call that stays to be read
+abbrev pub received_as : Result ReceiveAnswer EndFault → Result Outcome UseFault
+received_as (Ok (Handle call)) = Ok Handled
+received_as (Ok Part) = Ok PartTaken
+received_as (Ok Quiet) = Ok Acknowledgement
+received_as (Ok Empty) = Ok NothingThere
+received_as (Ok HeldBack) = Ok Held
+received_as (Err fault) = Err (End fault)
+
+abbrev pub handled_in : Result ReceiveAnswer EndFault → Option Call
+handled_in (Ok (Handle call)) = Some call
+handled_in answer = None
+
+-- the end receives by its side, at its place
+abbrev pub ReceivesNext : TheHeld → Result Outcome UseFault → TheHeld → Type 0
+ReceivesNext h r t = (answer : Result ReceiveAnswer EndFault)
+    × ReceivesAt SharedTakes (receipt h.end h.side answer t.end t.side) h.calls 0 t.calls × (r ≡ received_as answer) × (t.handled ≡ handled_in answer)
+
+-- nothing is taken while a call that was handled is unread
+abbrev pub ReceivesBy : TheHeld → Result Outcome UseFault → TheHeld → Type 0
+ReceivesBy h r t = (IsSome h.handled × (r ≡ Err Unread) × (t ≡ h)) ⊎ ((h.handled ≡ None) × ReceivesNext h r t)
+
+-- ---- the call that was handled is read
+
+-- a call that is read is let go
+abbrev pub without_handled : TheHeld → TheHeld
+without_handled h = record { end = h.end; side = h.side; calls = h.calls; handled = None }
+
+abbrev pub ReadsBy : TheHeld → List ℕ → Result Outcome UseFault → TheHeld → List ℕ → Type 0
+ReadsBy h room (Ok (CallRead count)) t written =
+    ((call : Call) × (h.handled ≡ Some call) × PutsCall (program_of_held h) call room (Ok count) written) × (t ≡ without_handled h)
+ReadsBy h room (Ok NothingThere) t written = (h.handled ≡ None) × (t ≡ h) × (written ≡ room)
+ReadsBy h room (Ok outcome) t written = ⊥
+ReadsBy h room (Err fault) t written =
+    ((call : Call) × (h.handled ≡ Some call) × PutsCall (program_of_held h) call room (Err fault) written) × (t ≡ h)
+
+-- ---- a reply rule is set
+
+abbrev pub RulesBy : TheHeld → List ℕ → Result Outcome UseFault → TheHeld → Type 0
+RulesBy h (msg ∷ reply ∷ []) (Ok RuleSet) t = SetsRule h.end msg reply (Ok tt) t.end × ChangesEnd h t
+RulesBy h (msg ∷ reply ∷ []) (Ok outcome) t = ⊥
+RulesBy h (msg ∷ reply ∷ []) (Err (End UnknownMessage)) t =
+    ((65536 ≤ msg) ⊎ ((65536 ≤ reply) ⊎ SetsRule h.end msg reply (Err UnknownMessage) h.end)) × (t ≡ h)
+RulesBy h (msg ∷ reply ∷ []) (Err (End Misfit)) t = SetsRule h.end msg reply (Err Misfit) h.end × (t ≡ h)
+RulesBy h (msg ∷ reply ∷ []) (Err fault) t = ⊥
+RulesBy h numbers r t = (length numbers ≢ 2) × (r ≡ Err WrongRoom) × (t ≡ h)
+
+-- ---- whether a call is in transmission
+
+abbrev pub IsBusyBy : TheHeld → Result Outcome UseFault → Type 0
+IsBusyBy h (Ok Sending) = is_busy h.end.outgoing ≡ true
+IsBusyBy h (Ok Idle) = is_busy h.end.outgoing ≡ false
+IsBusyBy h r = ⊥
+
+-- an operation at an end, on these numbers
+abbrev pub UsesEnd : TheHeld → Operation → List ℕ → Result Outcome UseFault → TheHeld → List ℕ → Type 0
+UsesEnd h Tell numbers r t written = Tells h.side r t.side × (t.end ≡ h.end) × (t.calls ≡ h.calls) × (t.handled ≡ h.handled) × (written ≡ numbers)
+UsesEnd h ToCall numbers r t written = CallsBy h numbers r t × (written ≡ numbers)
+UsesEnd h Write numbers r t written = WritesBy h r t × (written ≡ numbers)
+UsesEnd h Receive numbers r t written = ReceivesBy h r t × (written ≡ numbers)
+UsesEnd h Read numbers r t written = ReadsBy h numbers r t written
+UsesEnd h Rule numbers r t written = RulesBy h numbers r t × (written ≡ numbers)
+UsesEnd h AskBusy numbers r t written = IsBusyBy h r × (t ≡ h) × (written ≡ numbers)
+UsesEnd h operation numbers r t written = (r ≡ Err NoSuchOperation) × (t ≡ h) × (written ≡ numbers)

@@ -1,0 +1,272 @@
+//! An end that owns its side and its place, and its operations.
+
+ghost use Rattle.std.specs.Prelude.{◌≡◌, true, None, Err, IfOk};
+ghost use Rattle.fl_value_data.specs.Value.{TheCall};
+ghost use Rattle.fl_value_data.specs.Fits.{fits_of};
+ghost use Rattle.fl_endpoint.specs.View.{interface_in};
+ghost use Rattle.fl_endpoint.specs.Events.{Calls};
+ghost use Rattle.fl_c_operations.specs.Sides.{Tells};
+ghost use Rattle.fl_c_operations.specs.View.{IsNewEnd};
+ghost use Rattle.fl_c_operations.specs.Ends.{called_as, received_as, handled_in};
+ghost use Rattle.fl_c_operations.specs.Ends.{CallsBy, WritesBy, ReceivesNext, ReceivesBy, ReadsBy, RulesBy, IsBusyBy, UsesEnd};
+
+use crate::answer::{Outcome, UseFault};
+use crate::calls::{put_numbers, read_numbers};
+use crate::operation::Operation;
+use crate::side::tell;
+use fl_base::{Circuit, MsgNo};
+use fl_compile::Program;
+use fl_endpoint::{End, EndFault, ReceiveAnswer, WriteAnswer};
+use fl_machine::Reassemblies;
+use fl_ring::SharedSide;
+use fl_value_data::Call;
+use std::alloc::{AllocError, Global};
+use std::marker::Model;
+
+/// An end with its side, its place, and the call that it handled last, until that is read.
+#[derive(Drop)]
+pub struct HeldEnd {
+    alloc: Global,
+    end: End,
+    side: SharedSide,
+    calls: Reassemblies,
+    handled: Option<Call>,
+    // memory that is used again
+    spare: Vec<u64>,
+}
+
+impl Model for HeldEnd {
+    ghost use Rattle.std.specs.Coded.{codes};
+    ghost use Rattle.fl_compile.specs.contracts.program.Program.{the_row as program_row};
+    ghost use Rattle.fl_value_data.specs.contracts.value.Call.{the_row as call_row};
+    ghost use Rattle.fl_endpoint.specs.Lent.{IsPlaceOf};
+    ghost use Rattle.fl_c_operations.specs.View.{TheHeld};
+
+    ghost Value = { TheHeld };
+
+    ghost coded = { Prim.hlevel (codes, program_row.coded, call_row.coded) };
+
+    ghost view = { λ h. record { end = h.end; side = h.side; calls = h.calls; handled = h.handled } };
+
+    ghost invariant = { λ h. IsPlaceOf h.end h.calls 0 };
+}
+
+// What a call comes to, as it is told.
+#[inline]
+fn called(answer: Result<(), EndFault>) -> Result<Outcome, UseFault>
+    ensures told { result ≡ called_as answer }
+{
+    match answer {
+        Ok(()) => Ok(Outcome::Accepted),
+        Err(fault) => Err(UseFault::End(fault)),
+    }
+}
+
+// What a fitting call comes to for which memory ran out: what the end refuses it for, else the want of memory.
+#[cold]
+#[inline(never)]
+fn without_memory(end: &End) -> EndFault
+    ensures refuses { (c : TheCall) → fits_of (interface_in end.now) c ≡ true → Calls end.now c (Err result) end.now }
+{
+    if !end.is_bound() {
+        return EndFault::NotBound;
+    }
+    if end.is_failed() {
+        return EndFault::Failed;
+    }
+    if end.is_busy() {
+        return EndFault::Busy;
+    }
+    EndFault::Memory
+}
+
+// What a receive comes to, as it is told, and the call that stays to be read.
+#[inline]
+fn received(answer: Result<ReceiveAnswer, EndFault>) -> (Result<Outcome, UseFault>, Option<Call>)
+    ensures told { result.0 ≡ received_as answer }
+    ensures handled { result.1 ≡ handled_in answer }
+{
+    match answer {
+        Ok(ReceiveAnswer::Handle(call)) => (Ok(Outcome::Handled), Some(call)),
+        Ok(ReceiveAnswer::Part) => (Ok(Outcome::PartTaken), None),
+        Ok(ReceiveAnswer::Quiet) => (Ok(Outcome::Acknowledgement), None),
+        Ok(ReceiveAnswer::Empty) => (Ok(Outcome::Nothing), None),
+        Ok(ReceiveAnswer::HeldBack) => (Ok(Outcome::Held), None),
+        Err(fault) => (Err(UseFault::End(fault)), None),
+    }
+}
+
+impl HeldEnd {
+    /// A new end of a program over a side.
+    ///
+    /// # Errors
+    /// Out of memory (E99).
+    pub fn new(alloc: Global, program: Program, side: SharedSide) -> Result<HeldEnd, AllocError>
+        ensures made { IfOk result (λ h. IsNewEnd program side h) }
+    {
+        let end = End::new(alloc, program, Circuit(0))?;
+        let mut calls = Reassemblies::new(alloc);
+        end.add_place(&mut calls)?;
+        Ok(HeldEnd {
+            alloc,
+            end,
+            side,
+            calls,
+            handled: None,
+            spare: Vec::new(alloc),
+        })
+    }
+
+    /// Makes the call of these numbers: its message's, and its tape.
+    ///
+    /// # Errors
+    /// There is no number (103); no such message (41); the tape is that of no fitting call (42); and those of
+    /// `End::call`, of which out of memory (99) is told last.
+    #[inline(never)]
+    pub fn call(&mut self, numbers: &[u64]) -> Result<Outcome, UseFault>
+        ensures calls { CallsBy self.old numbers.now result self.new }
+    {
+        let read = match read_numbers(self.alloc, self.end.program(), numbers) {
+            Ok(read) => read,
+            Err(fault) => return Err(fault),
+        };
+        let Some(call) = read else {
+            return called(Err(without_memory(&self.end)));
+        };
+        called(self.end.call(&call, &mut self.spare))
+    }
+
+    /// Puts the next fragment of the call in transmission.
+    ///
+    /// # Errors
+    /// Those of `End::write`.
+    #[inline(never)]
+    pub fn write(&mut self) -> Result<Outcome, UseFault>
+        ensures writes { WritesBy self.old result self.new }
+    {
+        match self.end.write(&mut self.side) {
+            Ok(WriteAnswer::Written { number, count }) => {
+                let left = (count - number) as u64;
+                Ok(Outcome::Wrote { left })
+            }
+            Ok(WriteAnswer::Full) => Ok(Outcome::NoRoom),
+            Ok(WriteAnswer::Nothing) => Ok(Outcome::Idle),
+            Err(fault) => Err(UseFault::End(fault)),
+        }
+    }
+
+    /// Takes what stands first. A call that becomes whole stays until it is read.
+    ///
+    /// # Errors
+    /// A call is to be read first (105); those of `End::receive`.
+    #[inline(never)]
+    pub fn receive(&mut self) -> Result<Outcome, UseFault>
+        ensures receives { ReceivesBy self.old result self.new }
+    {
+        match &self.handled {
+            Some(_) => Err(UseFault::Unread),
+            None => self.receive_next(),
+        }
+    }
+
+    // Takes what stands first, where no call is unread.
+    #[inline(always)]
+    fn receive_next(&mut self) -> Result<Outcome, UseFault>
+        requires read { self.old.handled ≡ None }
+        ensures receives { ReceivesNext self.old result self.new }
+    {
+        let answer = self.end.receive(&mut self.side, &mut self.calls, 0);
+        let (outcome, handled) = received(answer);
+        self.handled = handled;
+        outcome
+    }
+
+    /// Reads the call that was handled: its message's number and its tape stand first in the room then.
+    ///
+    /// # Errors
+    /// There are too few numbers (103), and the answer tells how many are wanted; out of memory (99). The call
+    /// stays then.
+    #[inline(never)]
+    pub fn read(&mut self, room: &mut [u64]) -> Result<Outcome, UseFault>
+        ensures reads { ReadsBy self.old room.old result self.new room.new }
+    {
+        let Some(call) = &self.handled else {
+            return Ok(Outcome::Nothing);
+        };
+        match put_numbers(self.end.program(), call, &mut self.spare, room) {
+            Err(fault) => Err(fault),
+            Ok(count) => {
+                self.handled = None;
+                Ok(Outcome::CallRead { count })
+            }
+        }
+    }
+
+    /// Sets a rule, by the numbers of the message and of the reply to it.
+    ///
+    /// # Errors
+    /// There are other than two numbers (103); those of `End::reply_rule`.
+    pub fn rule(&mut self, numbers: &[u64]) -> Result<Outcome, UseFault>
+        ensures rules { RulesBy self.old numbers.now result self.new }
+    {
+        let [message, reply] = numbers else {
+            return Err(UseFault::WrongRoom);
+        };
+        let Ok(message) = u16::try_from(*message) else {
+            return Err(UseFault::End(EndFault::UnknownMessage));
+        };
+        let Ok(reply) = u16::try_from(*reply) else {
+            return Err(UseFault::End(EndFault::UnknownMessage));
+        };
+        match self.end.reply_rule(MsgNo(message), MsgNo(reply)) {
+            Ok(()) => Ok(Outcome::RuleSet),
+            Err(fault) => Err(UseFault::End(fault)),
+        }
+    }
+
+    /// Tells what was taken, where that is at least half of the slots.
+    ///
+    /// # Errors
+    /// There is something to tell, and no slot is free (30).
+    pub fn tell(&mut self) -> Result<Outcome, UseFault>
+        ensures tells { Tells self.old.side result self.new.side }
+        ensures only { (self.new.end ≡ self.old.end) × (self.new.calls ≡ self.old.calls) × (self.new.handled ≡ self.old.handled) }
+    {
+        tell(&mut self.side)
+    }
+
+    /// Whether a call is in transmission.
+    pub fn busy(&self) -> Outcome
+        ensures busy { IsBusyBy self.now (Ok result) }
+    {
+        if self.end.is_busy() {
+            Outcome::Sending
+        } else {
+            Outcome::Idle
+        }
+    }
+}
+
+/// Does an operation at an end, on these numbers.
+///
+/// # Errors
+/// Those of the operation; an end has no such operation (101).
+#[inline(always)]
+pub fn use_end(
+    end: &mut HeldEnd,
+    operation: Operation,
+    numbers: &mut [u64],
+) -> Result<Outcome, UseFault>
+    ensures uses { UsesEnd end.old operation numbers.old result end.new numbers.new }
+{
+    match operation {
+        Operation::Tell => end.tell(),
+        Operation::Call => end.call(numbers),
+        Operation::Write => end.write(),
+        Operation::Receive => end.receive(),
+        Operation::Read => end.read(numbers),
+        Operation::Rule => end.rule(numbers),
+        Operation::Busy => Ok(end.busy()),
+        _ => Err(UseFault::NoSuchOperation),
+    }
+}
