@@ -5,6 +5,7 @@ pub mod Staying
 pub mod Asking
 pub mod Whole
 pub mod Turned
+pub mod OneMore
 pub mod Next
 pub mod NewNumbers
 pub mod AtFirst

@@ -4,7 +4,7 @@ ghost use Rattle.fl_cores_whole.specs.AnyOrder.{ReportsJoinInAnyOrder, StepsJoin
 ghost use Rattle.fl_cores_whole.specs.AnyOrder.{TheirStepsJoinInAnyOrder, TheirTurnsJoinInAnyOrder};
 ghost use Rattle.fl_cores_whole.specs.Begin.{HandedOutJoin};
 ghost use Rattle.fl_cores_whole.specs.Holds.{ReportsHold, RunsUnderSomeHold, TheirTurnsHold};
-ghost use Rattle.fl_cores_whole.specs.Next.{TheirNextEventsHappen};
+ghost use Rattle.fl_cores_whole.specs.Next.{OrdersGoOn, TheirNextEventsHappen};
 ghost use Rattle.fl_cores_whole.specs.One.{OneCoreJoins};
 ghost use Rattle.fl_cores_whole.specs.Told.{CallsStay, TheirCallsAreTold, TheirCallsAreToldInAnyOrder};
 ghost use Rattle.fl_cores_whole.specs.Whole.{ExchangedStepsJoin, ReportsJoin, StepsOfReportsJoin};
@@ -100,9 +100,11 @@ pub fn law_their_calls_are_told()
 }
 
 /// Behind what each order of their steps comes to, whatever a core did next in its turns happens, as soon as each of
-/// its sides finds what stands for it.
+/// its sides finds what stands for it. An order with it is one step longer, where it is in turn: what follows a look
+/// behind that.
 pub fn law_next_events_happen()
     ensures next { TheirNextEventsHappen }
+    ensures longer { OrdersGoOn }
 {
     law_set_ups_start_fresh();
     law_leads_at_first();
