@@ -15,3 +15,4 @@ pub mod One
 pub mod Told
 pub mod ToldUnder
 pub mod Home
+pub mod Wants
