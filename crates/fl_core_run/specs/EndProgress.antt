@@ -34,7 +34,8 @@ abbrev pub with_refusal : ℕ → TheEndProgress → TheEndProgress
 with_refusal number d = record d { refused = number }
 
 -- the end's progress at place n has changed so
-pub record ChangesProgress (progresses : List TheEndProgress) (n : ℕ) (change : TheEndProgress → TheEndProgress) (progresses2 : List TheEndProgress) : Type 0 where
+pub record ChangesProgress (progresses : List TheEndProgress) (n : ℕ) (change : TheEndProgress → TheEndProgress)
+    (progresses2 : List TheEndProgress) : Type 0 where
   pub progress : TheEndProgress
   pub progress_is : slice_get progresses n ≡ Some progress
   pub rest : progresses2 ≡ slice_set progresses n (change progress)

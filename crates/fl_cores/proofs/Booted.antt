@@ -183,6 +183,9 @@ pub boot_wants_none : (f : BootFault) → WantsNoThread (by_boot f)
 boot_wants_none (boot.Refused number place) = tt
 boot_wants_none boot.Memory = tt
 
+-- what a set-up with an event that belongs to none comes to
+pub ruleset other_events = (other_within, front_refused, other_refused, boot_wants_none)
+
 pub joining_wants_none : (f : JobFault) → WantsNoThread (by_joining f)
 joining_wants_none (job.Refused number place) = tt
 joining_wants_none job.Memory = tt

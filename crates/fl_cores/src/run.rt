@@ -112,7 +112,7 @@ fn run_made<R: Threads + Wait + Sync, G: Gate + Sync>(
 }
 
 // Why there is no run of a set-up whose event at this place, from 0, is the first that belongs to none: an event before it is refused, or it is.
-#[tactic(auto, using(crate::proofs::Booted::other_within, crate::proofs::Booted::front_refused, crate::proofs::Booted::other_refused, crate::proofs::Booted::boot_wants_none))]
+#[tactic(auto, using(crate::proofs::Booted::other_events))]
 fn refuse_other(alloc: Global, config: &Config<'_>, place: usize) -> CoresFault
     requires first { position is_other (config_of config.now).setup ≡ Some place }
     ensures refused { (jobs : List TheJob) → IsFault (config_of config.now) jobs result }

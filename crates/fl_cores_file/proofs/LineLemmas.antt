@@ -1,6 +1,6 @@
 -- How many lines the items of a text have; and what the rest of a text comes to.
 use Rattle.std.proofs.Common.{◌≡◌, ◌≤◌, ◌+◌, ◌*◌, ◌==◌, ◌++◌, ℕ, Bool, true, false, if◌then◌else◌, List, [], ◌∷◌, length, inl, inr, refl, sym, subst, arith, cond}
-use Rattle.std.specs.Prelude.{IfOk, Result, Ok, Err}
+use Rattle.std.specs.Prelude.{IfOk, OnErr, Result, Ok, Err}
 use Rattle.std.specs.declared.alloc.AllocError.{AllocError}
 use Rattle.std.specs.Bool.{MatchBool}
 use Rattle.std.specs.List.{count_by}
@@ -119,6 +119,11 @@ pub refused_there : (line : ℕ) (text : List ℕ) (stop : CoresLineFault) (resu
     → IfOk result (λ t. Reads text (outcome_of t))
 refused_there line text stop (Err e) told h = tt
 refused_there line text stop (Ok t) told h = subst (Reads text) (sym h.2) (told h.0 h.1)
+
+-- what holds whatever comes
+pub on_any : {X E : Type 0} (P : Type 0) (r : Result X E) → P → OnErr r P
+on_any P (Ok x) h = tt
+on_any P (Err e) h = h
 
 pub read_to_end : (r : Reading) (line : ℕ) (rest text : List ℕ) → length rest ≡ 0
     → ((o : FileOutcome) → ReadsFrom r line rest o → ReadsFrom beginning 1 text o) → is_too_long text ≡ false → Reads text (is_file (file_of r))

@@ -1,6 +1,6 @@
 //! A cores file read line by line.
 
-ghost use Rattle.std.specs.Prelude.{ℕ, ◌≡◌, ◌≤◌, ◌==◌, Err, IfOk, IfErr, false, length};
+ghost use Rattle.std.specs.Prelude.{ℕ, ◌≡◌, ◌≤◌, ◌==◌, Err, IfOk, IfErr, OnErr, false, length};
 ghost use Rattle.std.specs.List.{count_by};
 ghost use Rattle.fl_interface.specs.Interface.{interface_of};
 ghost use Rattle.fl_script_lines.specs.Asked.{Asked as TheAsked, asks};
@@ -244,6 +244,7 @@ fn refuse<'a>(line: usize, stop: CoresLineFault) -> Result<CoresText<'a>, AllocE
 fn read_items<'a>(alloc: Global, text: &'a [u8]) -> Result<CoresText<'a>, AllocError>
     requires short { is_too_long text.now ≡ false }
     ensures reads { IfOk result (λ t. Reads text.now (outcome_of t)) }
+    ensures memory { OnErr result (is_too_long text.now ≡ false) }
 {
     let mut reading = PartialCoresFile::new(alloc);
     match reading.read(text) {
@@ -258,9 +259,10 @@ fn read_items<'a>(alloc: Global, text: &'a [u8]) -> Result<CoresText<'a>, AllocE
 /// Reads a cores file: what it sets up and hands in, or its first line that is refused.
 ///
 /// # Errors
-/// Out of memory alone: a refused line is a result.
+/// Out of memory alone, and not for a text that is too long: a refused line is a result.
 pub fn read_cores_text<'a>(alloc: Global, text: &'a [u8]) -> Result<CoresText<'a>, AllocError>
     ensures reads { IfOk result (λ t. Reads text.now (outcome_of t)) }
+    ensures memory { OnErr result (is_too_long text.now ≡ false) }
 {
     if text.len() > MAX_TEXT {
         return Ok(CoresText::Refused {

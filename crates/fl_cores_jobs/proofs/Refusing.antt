@@ -16,7 +16,7 @@ use Rattle.fl_cores_file.specs.Views.{job_of}
 use Rattle.fl_cores_jobs.specs.declared.fault.JobFault.{JobFault}
 use Rattle.fl_cores_jobs.specs.declared.fault.JobFault.TheVariants as fault
 use Rattle.fl_cores_jobs.specs.State.{TheJoinedJobs, AreJoined}
-use Rattle.fl_cores_jobs.specs.Faults.{call_fault_at, rule_fault_at, request_fault, fault_at_once, the_first, StopsFor, RequestStops, RuleStops}
+use Rattle.fl_cores_jobs.specs.Faults.{call_fault_at, rule_fault_at, request_fault, fault_at_once, the_first, StopsFor, RuleStops}
 use Rattle.fl_core.specs.View.{TheCore}
 use Rattle.fl_cores_jobs.specs.Rules.{RulesOf}
 use Rattle.fl_cores_jobs.specs.Whole.{SetUpStops, AreBound, IsBeside, rule_refusal, job_fault, NoneRefused, WantsMemory, JobStops, FirstRefused, IsFault, HadSet, fault_at}
@@ -66,8 +66,8 @@ module _ {T : Type 0} (r : Result T CoresLineFault) (cores : ℕ) (p : Parts) (j
         on_ok_weaker r (λ h asked k b. ap (λ (o : Option ℕ). the_first o at_once) (sym (rule_refused p cores asked j k b e msg answer)) ∙ h)
 
   module _ (w : TheCircuitRequest) where
-    pub request_stops : IfErr r (λ s. RequestStops (request_fault p (length j.bindings) w) s) → Stops (opens w)
-    request_stops = if_err_weaker _ _ r (λ s h asked k b. subst (λ (o : Option ℕ). RequestStops o s) (request_refused p cores asked j k b w) h)
+    pub request_stops : IfErr r (λ s. StopsFor (request_fault p (length j.bindings) w) s) → Stops (opens w)
+    request_stops = if_err_weaker _ _ r (λ s h asked k b. subst (λ (o : Option ℕ). StopsFor o s) (request_refused p cores asked j k b w) h)
 
     pub request_passes : OnOk r (request_fault p (length j.bindings) w ≡ None) → Passes (opens w)
     request_passes = on_ok_weaker r (λ h asked k b. sym (request_refused p cores asked j k b w) ∙ h)
@@ -75,7 +75,7 @@ module _ {T : Type 0} (r : Result T CoresLineFault) (cores : ℕ) (p : Parts) (j
 -- the parts at that moment tell the same as the first
 same_stops : (p p2 : Parts) (asked : List Job) (job : Job) (s : CoresLineFault) → IsBeside p p2
     → RulesOf p.bindings.items asked p.cores.items p2.cores.items → JobStops p2 asked job s → JobStops p asked job s
-same_stops p p2 asked (opens w) s b rules h = subst (λ (o : Option ℕ). RequestStops o s) (same_fault p p2 asked b rules (opens w)) h
+same_stops p p2 asked (opens w) s b rules h = subst (λ (o : Option ℕ). StopsFor o s) (same_fault p p2 asked b rules (opens w)) h
 same_stops p p2 asked (replies e msg answer) s b rules h =
     subst (λ (o : Option ℕ). RuleStops (rule_refusal p asked e msg answer) o s) (same_at_once p p2 asked b rules e msg answer)
     (subst (λ (o : Option ℕ). RuleStops o (fault_at_once p2.cores.items p2.bindings.items e msg answer) s) (same_refusal p p2 asked b e msg answer) h)

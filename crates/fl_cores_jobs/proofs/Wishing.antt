@@ -1,7 +1,9 @@
 -- A request is refused, or comes to a circuit that may be asked for.
-use Rattle.std.proofs.Common.{◌≡◌, inl, inr, refl, sym, ap, ◌∙◌, subst, ℕ, ◌<◌, ◌⊎◌, List, [], ◌∷◌, length, map, get_or, slice_get}
-use Rattle.std.proofs.Common.{Option, Some, None, Bool, true, false, arith}
-use Rattle.std.proofs.lemmas.Bool.{lt-leb, eq-eqb}
+use Rattle.std.proofs.Common.{◌≡◌, refl, sym, ap, ◌∙◌, subst, ℕ, zero, suc, ◌+◌, ◌<◌, ◌≤◌, nat_le, List, [], ◌∷◌, ◌++◌, length, map, take, get_or, slice_get}
+use Rattle.std.proofs.Common.{slice_set, Option, Some, None, Bool, true, false, arith}
+use Rattle.std.specs.List.{list_all}
+use Rattle.std.proofs.lemmas.Bool.{lt-leb, eq-eqb, leb-true, and_parts}
+use Rattle.std.proofs.lemmas.List.{take_more, take_more_set, map-append}
 use Rattle.std.proofs.lemmas.Option.{slice_get-get_or}
 use Rattle.fl_base.specs.declared.identity.CoreId.{CoreId}
 use Rattle.fl_base.specs.Numbered.{core_id}
@@ -14,7 +16,7 @@ use Rattle.fl_world_refines.specs.declared.parts.Parts.{Parts}
 use Rattle.fl_cores_file.specs.declared.stop.CoresLineFault.{CoresLineFault}
 use Rattle.fl_cores_file.specs.declared.stop.CoresLineFault.TheVariants as stop
 use Rattle.fl_cores_file.specs.Jobs.{TheCircuitRequest}
-use Rattle.fl_cores_jobs.specs.Faults.{is_path, path_fault, link_fault, route_fault, service_fault, request_fault, StopsFor, RequestStops}
+use Rattle.fl_cores_jobs.specs.Faults.{is_path, path_fault, link_fault, route_fault, service_fault, request_fault, StopsFor, RefusedFor}
 use Rattle.fl_cores_jobs.specs.Fitting.{IsOffered}
 use Rattle.fl_cores_jobs.specs.Requested.{cores_on, IsNamed}
 
@@ -27,14 +29,39 @@ path_is path route is = ap (map core_id) (sym is) ∙ back path
     back [] = refl
     back (c ∷ path) = ap (λ (t : List CoreId). c ∷ t) (back path)
 
-path_passes : (route : List ℕ) → is_path route ≡ true → path_fault route ≡ None
+pub path_passes : (route : List ℕ) → is_path route ≡ true → path_fault route ≡ None
 path_passes route is = rw is refl
 
-path_fails : (route : List ℕ) → is_path route ≡ false → path_fault route ≡ Some 73
+pub path_fails : (route : List ℕ) → is_path route ≡ false → path_fault route ≡ Some 73
 path_fails route is = rw is refl
 
 not_both : (n : ℕ) → (Some n ≡ None) → ⊥
 not_both n h = cc
+
+-- the cores of a list of numbers are these
+pub on_ids : (route : List ℕ) → cores_on (map core_id route) ≡ route
+on_ids [] = refl
+on_ids (n ∷ route) = ap (λ (t : List ℕ). n ∷ t) (on_ids route)
+
+pub path_few : (route : List ℕ) → is_path route ≡ true → length route ≤ 16
+path_few route is = leb-true (length route) 16 (and_parts (list_all (λ core. nat_le core 255) route) (nat_le (length route) 16) is).1
+
+all_small : (route : List ℕ) → list_all (λ core. nat_le core 255) route ≡ true → (k : ℕ) → k < length route → get_or route k 0 ≤ 255
+all_small [] h k within = absurd (omega (arith, within))
+all_small (n ∷ route) h zero within = leb-true n 255 (and_parts (nat_le n 255) (list_all (λ core. nat_le core 255) route) h).0
+all_small (n ∷ route) h (suc k) within =
+    all_small route (and_parts (nat_le n 255) (list_all (λ core. nat_le core 255) route) h).1 k (omega (arith, within))
+
+pub path_small : (route : List ℕ) → is_path route ≡ true → (k : ℕ) → k < length route → get_or route k 0 ≤ 255
+path_small route is = all_small route (and_parts (list_all (λ core. nat_le core 255) route) (nat_le (length route) 16) is).0
+
+-- one core more
+pub next_id : (ids : List CoreId) (route : List ℕ) (k : ℕ) → k < length ids → k < length route → take k ids ≡ map core_id (take k route)
+    → take (k + 1) (slice_set ids k (core_id (get_or route k 0))) ≡ map core_id (take (k + 1) route)
+next_id ids route k inside within same =
+    let core = core_id (get_or route k 0) in
+    take_more_set ids k core inside ∙ ap (λ (t : List CoreId). t ++ core ∷ []) same
+    ∙ sym (ap (map core_id) (take_more route k 0 within) ∙ map-append core_id (take k route) (get_or route k 0 ∷ []))
 
 -- it passes, and is the path, or is refused
 module _ (t : TheCircuits) (route : List ℕ) (server cores : ℕ) where
@@ -44,18 +71,12 @@ module _ (t : TheCircuits) (route : List ℕ) (server cores : ℕ) where
   route_fails : is_path route ≡ false → route_fault t route server cores ≡ Some 73
   route_fails is = rw is refl
 
-  link_or_none : (o : Option ℕ) → (link_fault o ≡ None) ⊎ (link_fault o ≡ Some 73)
-  link_or_none None = inr refl
-  link_or_none (Some link) = inl refl
-
-  by_path : (b : Bool) → is_path route ≡ b → (s : CoresLineFault) → RequestStops (path_fault route) s → RequestStops (route_fault t route server cores) s
+  by_path : (b : Bool) → is_path route ≡ b → (s : CoresLineFault) → RefusedFor (path_fault route) s → RefusedFor (route_fault t route server cores) s
+  by_path b is stop.Memory h = absurd h
   by_path true is (stop.Refused number) h = absurd (not_both number (sym h ∙ path_passes route is))
-  by_path true is stop.Memory h =
-      subst (λ (o : Option ℕ). (o ≡ None) ⊎ (o ≡ Some 73)) (sym (route_passes is)) (link_or_none (first_link t (map core_id route) server cores))
   by_path false is (stop.Refused number) h = route_fails is ∙ sym (path_fails route is) ∙ h
-  by_path false is stop.Memory h = inr (route_fails is)
 
-  pub path_stops : (s : CoresLineFault) → RequestStops (path_fault route) s → RequestStops (route_fault t route server cores) s
+  pub path_stops : (s : CoresLineFault) → RefusedFor (path_fault route) s → RefusedFor (route_fault t route server cores) s
   path_stops s h = by_path (is_path route) refl s h
 
   is_a_path : (b : Bool) → is_path route ≡ b → path_fault route ≡ None → is_path route ≡ true
@@ -68,9 +89,10 @@ module _ (t : TheCircuits) (route : List ℕ) (server cores : ℕ) where
       route_passes (is_a_path (is_path route) refl passes)
       ∙ ap (λ (q : List CoreId). link_fault (first_link t q server cores)) (path_is path route same)
 
-pub link_stops : (o : Option ℕ) (s : CoresLineFault) → StopsFor (link_fault o) s → RequestStops (link_fault o) s
-link_stops o (stop.Refused number) h = h
-link_stops o stop.Memory h = inl h
+-- what is refused stops so
+pub refused_stops : (found : Option ℕ) (s : CoresLineFault) → RefusedFor found s → StopsFor found s
+refused_stops found (stop.Refused number) h = h
+refused_stops found stop.Memory h = absurd h
 
 -- ---- a request whose names are there, behind few bindings
 
@@ -112,18 +134,17 @@ module _ (p : Parts) (bindings : ℕ) (w : TheCircuitRequest) (core : TheCore) (
         by_service ∙ mine ∙ ap (λ (n : ℕ). route_fault core.monitor.circuits w.route n (length p.cores.items)) offered.core_is
 
     -- what it comes to once its service is found
-    pub path_refused : (s : CoresLineFault) → RequestStops (path_fault w.route) s → RequestStops (request_fault p bindings w) s
+    pub path_refused : (s : CoresLineFault) → RefusedFor (path_fault w.route) s → RefusedFor (request_fault p bindings w) s
     path_refused s h =
-        subst (λ (o : Option ℕ). RequestStops o s) (sym by_route) (path_stops core.monitor.circuits w.route server (length p.cores.items) s h)
+        subst (λ (o : Option ℕ). RefusedFor o s) (sym by_route) (path_stops core.monitor.circuits w.route server (length p.cores.items) s h)
 
     module _ (path : List CoreId) (passes : path_fault w.route ≡ None) (same : cores_on path ≡ w.route) where
       by_link : request_fault p bindings w ≡ link_fault (first_link core.monitor.circuits path server (length p.cores.items))
       by_link = by_route ∙ route_is core.monitor.circuits w.route server (length p.cores.items) path passes same
 
-      pub link_refused : (s : CoresLineFault) → StopsFor (link_fault (first_link core.monitor.circuits path server (length p.cores.items))) s
-          → RequestStops (request_fault p bindings w) s
-      link_refused s h =
-          subst (λ (o : Option ℕ). RequestStops o s) (sym by_link) (link_stops (first_link core.monitor.circuits path server (length p.cores.items)) s h)
+      pub link_refused : (s : CoresLineFault) → RefusedFor (link_fault (first_link core.monitor.circuits path server (length p.cores.items))) s
+          → RefusedFor (request_fault p bindings w) s
+      link_refused s h = subst (λ (o : Option ℕ). RefusedFor o s) (sym by_link) h
 
       pub none_refused : (link : ℕ) → first_link core.monitor.circuits path server (length p.cores.items) ≡ Some link → request_fault p bindings w ≡ None
       none_refused link h = by_link ∙ ap link_fault h

@@ -1,5 +1,5 @@
 -- Why a job is refused: as the reader of cores files finds it, by the jobs that were joined before.
-use Rattle.std.specs.Prelude.{ℕ, ◌≡◌, ◌⊎◌, ◌==◌, ◌&&◌, ◌||◌, nat_le, not, if◌then◌else◌, Bool, List, length, map, slice_get, Option, Some, None}
+use Rattle.std.specs.Prelude.{ℕ, ◌≡◌, ◌==◌, ◌&&◌, ◌||◌, nat_le, not, if◌then◌else◌, Bool, List, length, map, slice_get, Option, Some, None}
 use Rattle.std.specs.List.{list_all}
 use Rattle.fl_base.specs.declared.identity.EndId.{EndId}
 use Rattle.fl_base.specs.Ends.{peer}
@@ -115,10 +115,10 @@ request_fault p bindings w =
     else if nat_le 1024 bindings then Some 94
     else service_fault p core w
 
--- why it stops: for that fault; or memory was refused, where there is none, or only one of the route (E73)
-abbrev pub RequestStops : Option ℕ → CoresLineFault → Type 0
-RequestStops found (stop.Refused number) = found ≡ Some number
-RequestStops found stop.Memory = (found ≡ None) ⊎ (found ≡ Some 73)
+-- why it stops where no memory is asked for: for the fault that is found
+abbrev pub RefusedFor : Option ℕ → CoresLineFault → Type 0
+RefusedFor found (stop.Refused number) = found ≡ Some number
+RefusedFor found stop.Memory = ⊥
 
 -- ---- a rule at an end that is set up
 

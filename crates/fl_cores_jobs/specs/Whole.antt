@@ -22,7 +22,7 @@ use Rattle.fl_cores_jobs.specs.declared.end_work.BindingCores.{BindingCores}
 use Rattle.fl_cores_jobs.specs.declared.fault.JobFault.{JobFault}
 use Rattle.fl_cores_jobs.specs.declared.fault.JobFault.TheVariants as fault
 use Rattle.fl_cores_jobs.specs.EndWork.{end_work_at}
-use Rattle.fl_cores_jobs.specs.Faults.{as_read, fault_at_once, request_fault, the_first, StopsFor, RequestStops, RuleStops}
+use Rattle.fl_cores_jobs.specs.Faults.{as_read, fault_at_once, request_fault, the_first, StopsFor, RuleStops}
 use Rattle.fl_cores_jobs.specs.Rules.{RuleNow, RulesOf}
 use Rattle.fl_cores_jobs.specs.State.{TheJoinedJobs, with_binding, Opened, CallPlanned, RulePlanned, AreJoined}
 
@@ -151,9 +151,9 @@ job_fault p before (calls e c) = call_refusal p before e c
 abbrev pub NoneRefused : Parts → List Job → Type 0
 NoneRefused p jobs = (n : ℕ) (job : Job) → slice_get jobs n ≡ Some job → job_fault p (take n jobs) job ≡ None
 
--- why a job isn't joined behind these ones: for its fault; or since memory was refused, where it has none, but for one that is found after memory is asked for
+-- why a job isn't joined behind these ones: for its fault; or since memory was refused, where it has none, but for one of a rule that its end finds at once
 abbrev pub JobStops : Parts → List Job → Job → CoresLineFault → Type 0
-JobStops p before (opens w) s = RequestStops (job_fault p before (opens w)) s
+JobStops p before (opens w) s = StopsFor (job_fault p before (opens w)) s
 JobStops p before (replies e msg answer) s =
     RuleStops (rule_refusal p before e msg answer) (fault_at_once p.cores.items p.bindings.items e msg answer) s
 JobStops p before (calls e c) s = StopsFor (job_fault p before (calls e c)) s
@@ -183,7 +183,7 @@ pub record RefusedAt (p : Parts) (jobs : List Job) (number place : ℕ) : Type 0
   pub stops : job_fault p before job ≡ Some number
   pub passed : NoneRefused p before
 
--- memory was refused at one of the jobs: none of those before it has a fault, nor has it, but for one that is found after memory is asked for
+-- memory was refused at one of the jobs: none of those before it has a fault, nor has it, but for one of a rule that its end finds at once
 pub record WantsMemory (p : Parts) (jobs : List Job) : Type 0 where
   pub before : List Job
   pub job : Job

@@ -8,7 +8,7 @@ ghost use Rattle.fl_cores_file.specs.Views.{request_of};
 ghost use Rattle.fl_value_data.specs.Value.{call_of};
 ghost use Rattle.fl_core.specs.declared.core_job.CoreJob.TheVariants as core;
 ghost use Rattle.fl_cores_jobs.specs.EndWork.{end_work_of, end_work_at, is_ruled, with_place};
-ghost use Rattle.fl_cores_jobs.specs.Faults.{call_fault_at, rule_fault_at, request_fault, StopsFor, RequestStops};
+ghost use Rattle.fl_cores_jobs.specs.Faults.{call_fault_at, rule_fault_at, request_fault, StopsFor};
 ghost use Rattle.fl_cores_jobs.specs.Fitting.{NewFit};
 ghost use Rattle.fl_cores_jobs.specs.Joined.{HasEndWork};
 ghost use Rattle.fl_cores_jobs.specs.State.{joined_of, nothing_joined, with_binding, with_owner, with_job, with_calls};
@@ -143,10 +143,10 @@ impl JoinedJobs {
         ensures fits { OnOk result (NewFit parts.now.names parts.now.programs.items (joined_of self.old) (joined_of self.new)) }
         ensures requested { OnOk result (AddsOpening parts.now.names parts.now.cores.items (request_of request.now) (joined_of self.old) (joined_of self.new)) }
         ensures passed { OnOk result (request_fault parts.now (length self.old.bindings.items) (request_of request.now) ≡ None) }
-        ensures refused { IfErr result (λ stop. RequestStops (request_fault parts.now (length self.old.bindings.items) (request_of request.now)) stop) }
+        ensures refused { IfErr result (λ stop. StopsFor (request_fault parts.now (length self.old.bindings.items) (request_of request.now)) stop) }
     {
         let binding = self.bindings.as_slice().len();
-        let asked = ask(alloc, parts, request, binding)?;
+        let asked = ask(parts, request, binding)?;
         let bound = BindingCores {
             interface: request.interface,
             client: asked.client,

@@ -1,9 +1,11 @@
 //! What a request for a circuit comes to.
 
-ghost use Rattle.std.specs.Prelude.{◌≡◌, ◌<◌, length, None, IfOk, IfErr, OnOk};
+ghost use Rattle.std.specs.Prelude.{◌≡◌, ◌<◌, ◌≤◌, nat_le, length, map, true, None, IfOk, IfErr, OnOk};
+ghost use Rattle.std.specs.List.{list_all};
+ghost use Rattle.fl_base.specs.Numbered.{core_id};
 ghost use Rattle.fl_monitor.specs.Monitors.{first_link};
 ghost use Rattle.fl_cores_file.specs.Views.{request_of};
-ghost use Rattle.fl_cores_jobs.specs.Faults.{offer_fault, path_fault, link_fault, request_fault, StopsFor, RequestStops};
+ghost use Rattle.fl_cores_jobs.specs.Faults.{offer_fault, is_path, path_fault, link_fault, request_fault, RefusedFor};
 ghost use Rattle.fl_cores_jobs.specs.Fitting.{IsOffered};
 ghost use Rattle.fl_cores_jobs.specs.Requested.{cores_on, IsNamed, BeginsOn, BeginsAt};
 
@@ -11,10 +13,9 @@ use fl_base::{CoreId, IRef, LinkId, MAX_BINDINGS, faults};
 use fl_compile::Program;
 use fl_core::{Core, OpenRequest};
 use fl_cores_file::{CircuitRequest, CoresLineFault};
-use fl_monitor::{Opening, Path};
+use fl_monitor::{MAX_ROUTE, Opening, Path};
 use fl_nameserv::{Names, each_is_found, found_is_registered};
 use fl_world_refines::Parts;
-use std::alloc::Global;
 
 /// What is asked for, and the cores of both ends.
 #[derive(Clone, Copy)]
@@ -35,7 +36,7 @@ struct FoundService {
 fn find(names: &Names, request: &CircuitRequest<'_>) -> Result<FoundService, CoresLineFault>
     ensures offered { IfOk result (λ f. IsOffered names.now f.iref.0 request.now.interface f.core.0) }
     ensures named { IfOk result (λ f. IsNamed names.now request.now.service.now f.iref.0) }
-    ensures refused { IfErr result (λ stop. StopsFor (offer_fault names.now request.now.service.now request.now.interface) stop) }
+    ensures refused { IfErr result (λ stop. RefusedFor (offer_fault names.now request.now.service.now request.now.interface) stop) }
 {
     found_is_registered(names);
     each_is_found(names);
@@ -51,24 +52,47 @@ fn find(names: &Names, request: &CircuitRequest<'_>) -> Result<FoundService, Cor
     })
 }
 
+// Whether these are numbers of 8 bits.
+fn are_small(cores: &[u32]) -> bool
+    ensures small { result ≡ list_all (λ core. nat_le core 255) cores.now }
+{
+    cores.iter().all(|core| *core <= 255)
+}
+
+// Whether there is a route over these cores.
+fn is_path(cores: &[u32]) -> bool
+    ensures path { result ≡ is_path cores.now }
+{
+    are_small(cores) && cores.len() <= MAX_ROUTE
+}
+
 // The route over these cores.
-fn path_over(alloc: Global, cores: &[u32]) -> Result<Path, CoresLineFault>
+fn path_of(cores: &[u32]) -> Path
+    requires few { length cores.now ≤ 16 }
+    requires path { is_path cores.now ≡ true }
+    ensures path { result ≡ map core_id cores.now }
+{
+    let mut ids = [CoreId(0); MAX_ROUTE];
+    for (place, core) in cores.iter().enumerate() {
+        ids[place] = CoreId(*core as u8);
+    }
+    let Some(path) = Path::new(&ids[..cores.len()]) else {
+        unreachable!();
+    };
+    path
+}
+
+// The same, if there is one.
+#[tactic(auto, using(crate::proofs::Wishing::path_passes, crate::proofs::Wishing::path_fails, crate::proofs::Wishing::path_few))]
+fn path_over(cores: &[u32]) -> Result<Path, CoresLineFault>
     ensures route { IfOk result (λ path. cores_on path ≡ cores.now) }
     ensures passes { OnOk result (path_fault cores.now ≡ None) }
-    ensures refused { IfErr result (λ stop. RequestStops (path_fault cores.now) stop) }
+    ensures refused { IfErr result (λ stop. RefusedFor (path_fault cores.now) stop) }
 {
-    let mut ids = Vec::new(alloc);
-    for core in cores {
-        let core = *core;
-        if core > 255 {
-            return Err(CoresLineFault::Refused(faults::NO_SUCH_ROUTE));
-        }
-        ids.push(CoreId(core as u8))?;
+    if !is_path(cores) {
+        return Err(CoresLineFault::Refused(faults::NO_SUCH_ROUTE));
     }
-    match Path::new(ids.as_slice()) {
-        Some(path) => Ok(path),
-        None => Err(CoresLineFault::Refused(faults::NO_SUCH_ROUTE)),
-    }
+    Ok(path_of(cores))
 }
 
 // The link on which the route begins.
@@ -82,7 +106,7 @@ fn first_link(
 ) -> Result<LinkId, CoresLineFault>
     ensures there { OnOk result (server.0 < cores) }
     ensures begins { IfOk result (λ link. BeginsOn core.now.monitor.circuits path server.0 cores link.0) }
-    ensures refused { IfErr result (λ stop. StopsFor (link_fault (first_link core.now.monitor.circuits path server.0 cores)) stop) }
+    ensures refused { IfErr result (λ stop. RefusedFor (link_fault (first_link core.now.monitor.circuits path server.0 cores)) stop) }
 {
     match core
         .monitor()
@@ -93,9 +117,8 @@ fn first_link(
     }
 }
 
-/// What a request comes to, for the binding of this number.
+/// What a request comes to, for the binding of this number. Takes no memory.
 pub(crate) fn ask(
-    alloc: Global,
     parts: &Parts,
     request: &CircuitRequest<'_>,
     binding: usize,
@@ -112,7 +135,7 @@ pub(crate) fn ask(
     ensures route { IfOk result (λ a. cores_on a.request.opening.path ≡ request.now.route.items) }
     ensures begins { IfOk result (λ a. BeginsAt parts.now.cores.items request.now.client.core a.request.opening.path a.server a.request.link.0) }
     ensures passes { OnOk result (request_fault parts.now binding (request_of request.now) ≡ None) }
-    ensures refused { IfErr result (λ stop. RequestStops (request_fault parts.now binding (request_of request.now)) stop) }
+    ensures refused { IfErr result (λ stop. RefusedFor (request_fault parts.now binding (request_of request.now)) stop) }
 {
     let client = request.client.core as usize;
     let Some(core) = parts.cores.get(client) else {
@@ -128,7 +151,7 @@ pub(crate) fn ask(
         return Err(CoresLineFault::Refused(faults::TOO_MANY));
     }
     let found = find(&parts.names, request)?;
-    let path = path_over(alloc, &request.route)?;
+    let path = path_over(&request.route)?;
     let cores = parts.cores.as_slice().len();
     let link = first_link(core, program, found.core, path, cores)?;
     Ok(LocatedRequest {

@@ -24,9 +24,10 @@ use Rattle.fl_core_run_laws.proofs.Aside.{rings_aside}
 use Rattle.fl_core_run_laws.proofs.Laning.{link_side_of, takes_from}
 use Rattle.fl_core_run_laws.specs.Flows.{IsApart}
 use Rattle.fl_core_run_laws.specs.Logs.{InPlace}
+use Rattle.fl_core_turned.specs.Turned.{shared_ways}
 use Rattle.fl_world_refines.specs.View.{TheWorld, ring_at}
 use Rattle.fl_cores_joined.specs.Joined.{JoinedCore, HasSide, IsJoined, IsRingOf, across_from, alone, facing}
-use Rattle.fl_cores_joined.specs.OwnEvents.{own_ways, IsFaced, FindWhatStands, OwnEventsJoin, JoinedAreFaced, TheyStayFaced}
+use Rattle.fl_cores_joined.specs.OwnEvents.{HasSidesAcross, FindWhatStands, OwnEventsJoin, JoinedHaveSidesAcross, SidesStayAcross}
 use Rattle.fl_cores_joined.specs.Rings.{FacingSide, standing_for, FindsWhatStood, Truly}
 use Rattle.fl_cores_joined.specs.Steps.{true_ways, HappensAt}
 use Rattle.fl_cores_joined.proofs.Delaying.{grows}
@@ -144,7 +145,7 @@ module _ (others : List TheSide) where
 
   module _ (jobs : List CoreJob) (s m : TheRun TheSide) (long : length others ≡ length s.rings) (core : IsCore s.core) (apart : IsApart s.core)
       (find : Find s m) where
-    does_so : (log_entry : LogEntry) → InPlace jobs s log_entry → Does own_ways log_entry s m
+    does_so : (log_entry : LogEntry) → InPlace jobs s log_entry → Does shared_ways log_entry s m
         → Does true_ways log_entry (there s) (there m)
     does_so (looked n l answer) place h =
         on_ring n s m _ h
@@ -220,24 +221,24 @@ module _ (others : List TheSide) where
 -- ---- the law
 
 module _ (jobs : List CoreJob) (n : ℕ) (log_entry : LogEntry) (xs : List JoinedCore) (x : JoinedCore) (after : TheRun TheSide) (x_is : slice_get xs n ≡ Some x)
-    (faced : IsFaced xs x) (apart : IsApart x.run.core) (h : Happens own_ways log_entry x.run after) (place : InPlace jobs x.run log_entry)
+    (stands : HasSidesAcross xs x) (apart : IsApart x.run.core) (h : Happens shared_ways log_entry x.run after) (place : InPlace jobs x.run log_entry)
     (find : FindWhatStands xs x after) where
   its : Others xs x.sides
-  its = all_others xs x.sides faced.across
+  its = all_others xs x.sides stands.across
 
   long : length its.others ≡ length x.run.rings
-  long = its.long ∙ faced.long
+  long = its.long ∙ stands.long
 
   noted : after.rings ≡ h.0.rings
   noted = rings_aside h.0 after log_entry h.2
 
   long_after : length its.others ≡ length after.rings
-  long_after = long ∙ sym (ap length noted ∙ as_many own_ways log_entry x.run h.0 h.1)
+  long_after = long ∙ sym (ap length noted ∙ as_many shared_ways log_entry x.run h.0 h.1)
 
   find_here : Find its.others x.run h.0
   find_here i p q a p_is q_is a_is =
       let less = within x.run.rings i p p_is in
-      let same = faced.long in
+      let same = stands.long in
       let (number, number_is) = at_within x.sides i (omega (arith, less, same)) in
       find i number p q a number_is p_is (ap (λ (ps : List TheSide). slice_get ps i) noted ∙ q_is) (its.has i number a number_is a_is)
 
@@ -268,9 +269,9 @@ module _ (jobs : List CoreJob) (n : ℕ) (log_entry : LogEntry) (xs : List Joine
   }
 
 pub own_events_join : OwnEventsJoin
-own_events_join jobs n log_entry xs x after x_is faced apart h place find = joins jobs n log_entry xs x after x_is faced apart h place find
+own_events_join jobs n log_entry xs x after x_is stands apart h place find = joins jobs n log_entry xs x after x_is stands apart h place find
 
--- ---- cores that make a world are faced
+-- ---- cores that make a world have sides across from theirs
 
 side_across : (w : TheWorld) (xs : List JoinedCore) (number : ℕ) → IsJoined w xs → ring_at number < length w.rings
     → (side : TheSide) × HasSide xs (across_from number) side
@@ -289,20 +290,20 @@ side_across w xs number joined less =
         let back : 2 * ring_at number ≡ across_from number = omega (arith, half, next) in
         (ring.one, subst (λ (m : ℕ). HasSide xs m ring.one) back ring.one_is)
 
-pub joined_are_faced : JoinedAreFaced
-joined_are_faced w xs joined n x x_is = record {
+pub joined_have_sides_across : JoinedHaveSidesAcross
+joined_have_sides_across w xs joined n x x_is = record {
   long = joined.numbered.sides n x x_is;
   across = λ i number at. side_across w xs number joined (joined.sides n i number x x_is at);
 }
 
 -- and stay so
-pub they_stay_faced : TheyStayFaced
-they_stay_faced jobs n log_entry xs ys faced h k y y_is =
+pub sides_stay_across : SidesStayAcross
+sides_stay_across jobs n log_entry xs ys stands h k y y_is =
     elim (set_cases xs n (record h.before { run = alone h.after }) k y (ap (λ (l : List JoinedCore). slice_get l k) (sym h.rest) ∙ y_is)) [
       | inl (here, same) ↦
-          (let its = faced n h.before h.before_is in
-          subst (IsFaced ys) (sym same) (record { long = its.long ∙ sym (sides_stay jobs n log_entry xs ys h); across = later h.before.sides its.across }))
-      | inr (other, was) ↦ (let its = faced k y was in record { long = its.long; across = later y.sides its.across })
+          (let its = stands n h.before h.before_is in
+          subst (HasSidesAcross ys) (sym same) (record { long = its.long ∙ sym (sides_stay jobs n log_entry xs ys h); across = later h.before.sides its.across }))
+      | inr (other, was) ↦ (let its = stands k y was in record { long = its.long; across = later y.sides its.across })
     ]
   where
     later : (sides : List ℕ) → ((i number : ℕ) → slice_get sides i ≡ Some number → (side : TheSide) × HasSide xs (across_from number) side)

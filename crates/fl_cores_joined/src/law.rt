@@ -2,7 +2,7 @@
 
 ghost use Rattle.fl_cores_joined.specs.Exchanges.{ApartMayChange, EventsExchange, StepsExchange};
 ghost use Rattle.fl_cores_joined.specs.Exchanges.{OpeningsGoAhead, OpeningsStayBehind};
-ghost use Rattle.fl_cores_joined.specs.OwnEvents.{JoinedAreFaced, OwnEventsJoin, TheyStayFaced};
+ghost use Rattle.fl_cores_joined.specs.OwnEvents.{JoinedHaveSidesAcross, OwnEventsJoin, SidesStayAcross};
 ghost use Rattle.fl_cores_joined.specs.Rings.{TrueStepsAreTheRings, TrueStepsHappen};
 ghost use Rattle.fl_cores_joined.specs.Laws.{WritesJoin, TurnsJoin, AcksJoin};
 ghost use Rattle.fl_cores_joined.specs.Laws.{CallsJoin, RulesJoin, OpensJoin};
@@ -95,8 +95,8 @@ pub fn law_openings_move()
 /// that make a world are across from each other, and stay so whatever happens.
 pub fn law_own_events_join()
     ensures events { OwnEventsJoin }
-    ensures faced { JoinedAreFaced }
-    ensures stay { TheyStayFaced }
+    ensures across { JoinedHaveSidesAcross }
+    ensures stay { SidesStayAcross }
 {}
 
 /// Where openings are accepted in any order, each under a number that no binding has yet, what cores do is a run of the

@@ -9,7 +9,7 @@
 //! each end, just the report's calls, and each of its lines stands in the file or asks for an event. How it
 //! is made promises nothing: it is run before it is given (`fl_cores_script`), and one that does something
 //! else is given to nobody. Where there is none, just of a run without a record it is said that it has none, and
-//! just of a script of more than 1 MiB that it is too long for `exec`. The cores themselves are held by
+//! of one that is too long for `exec` more than 1 MiB are told. The cores themselves are held by
 //! `fl_cores_parts`, and lent.
 //!
 //! - `replayed_side.rt`: a side that answers as a record says

@@ -5,6 +5,7 @@ pub mod Staying
 pub mod Asking
 pub mod Whole
 pub mod Turned
+pub mod OneMore
 pub mod Next
 pub mod NewNumbers
 pub mod AtFirst
@@ -14,3 +15,4 @@ pub mod One
 pub mod Told
 pub mod ToldUnder
 pub mod Home
+pub mod Wants

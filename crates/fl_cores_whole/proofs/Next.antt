@@ -1,5 +1,5 @@
 -- What a core did next in its turns, behind the first of them, may come next where its sides find what stands.
-use Rattle.std.proofs.Common.{◌≡◌, sym, ◌∙◌, ap, subst, ℕ, List, [], ◌∷◌, ◌++◌, slice_get, Some, None}
+use Rattle.std.proofs.Common.{◌≡◌, sym, ◌∙◌, ap, subst, List, [], ◌∷◌, ◌++◌, slice_get, Some, None}
 use Rattle.fl_ring.specs.SharedSides.{TheSide}
 use Rattle.fl_core.specs.declared.core_job.CoreJob.{CoreJob}
 use Rattle.fl_core_run.specs.LogEntries.{LogEntry, Happens}
@@ -20,7 +20,7 @@ use Rattle.fl_cores.specs.Behind.{joined_in}
 use Rattle.fl_cores.proofs.FollowsBegin.{is_ready}
 use Rattle.fl_cores_joined.specs.Entries.{CoreStep, acts, looks, follows, OpenLooks, none_open, with_look, StepByStep}
 use Rattle.fl_cores_joined.specs.Joined.{JoinedCore}
-use Rattle.fl_cores_joined.specs.OwnEvents.{AreFaced, OwnEventsJoin, JoinedAreFaced, TheyStayFaced}
+use Rattle.fl_cores_joined.specs.OwnEvents.{HaveSidesAcross, OwnEventsJoin, JoinedHaveSidesAcross, SidesStayAcross}
 use Rattle.fl_cores_whole.specs.Begin.{HandedOutJoin, owners_in}
 use Rattle.fl_cores_whole.specs.Next.{TheirNextEventsHappen}
 use Rattle.fl_cores_whole.specs.Whole.{begun, steps_at}
@@ -53,17 +53,17 @@ split_at services jobs first x later a b apart all same h =
 
 -- ---- in steps
 
-faced_in : TheyStayFaced → (jobs : List CoreJob) (steps : List CoreStep) (pending : OpenLooks) (xs ys : List JoinedCore) → StepByStep jobs pending xs steps ys
-    → AreFaced xs → AreFaced ys
-faced_in stay jobs [] pending xs ys h faced = subst AreFaced (sym h) faced
-faced_in stay jobs (acts n log_entry ∷ steps) pending xs ys h faced =
-    faced_in stay jobs steps pending h.2.0 ys h.2.2 (stay jobs n log_entry xs h.2.0 faced h.2.1)
-faced_in stay jobs (looks n look ∷ steps) pending xs ys h faced =
-    faced_in stay jobs steps (with_look n (Some look) pending) h.2.0 ys h.2.2 (stay jobs n look xs h.2.0 faced h.2.1)
-faced_in stay jobs (follows n look log_entry ∷ steps) pending xs ys h faced =
-    faced_in stay jobs steps (with_look n None pending) h.2.0 ys h.2.2 (stay jobs n log_entry xs h.2.0 faced h.2.1)
+across_in : SidesStayAcross → (jobs : List CoreJob) (steps : List CoreStep) (pending : OpenLooks) (xs ys : List JoinedCore) → StepByStep jobs pending xs steps ys
+    → HaveSidesAcross xs → HaveSidesAcross ys
+across_in stay jobs [] pending xs ys h stands = subst HaveSidesAcross (sym h) stands
+across_in stay jobs (acts n log_entry ∷ steps) pending xs ys h stands =
+    across_in stay jobs steps pending h.2.0 ys h.2.2 (stay jobs n log_entry xs h.2.0 stands h.2.1)
+across_in stay jobs (looks n look ∷ steps) pending xs ys h stands =
+    across_in stay jobs steps (with_look n (Some look) pending) h.2.0 ys h.2.2 (stay jobs n look xs h.2.0 stands h.2.1)
+across_in stay jobs (follows n look log_entry ∷ steps) pending xs ys h stands =
+    across_in stay jobs steps (with_look n None pending) h.2.0 ys h.2.2 (stay jobs n log_entry xs h.2.0 stands h.2.1)
 
-pub their_next_events_happen : SetUpsStartFresh → HandedOutJoin → LeadsAtFirst → OwnEventsJoin → JoinedAreFaced → TheyStayFaced → TheirNextEventsHappen
+pub their_next_events_happen : SetUpsStartFresh → HandedOutJoin → LeadsAtFirst → OwnEventsJoin → JoinedHaveSidesAcross → SidesStayAcross → TheirNextEventsHappen
 their_next_events_happen fresh handed leads own joined stay c jobs limit r w follow steps ys h n s o given_is left_is log_entry after later events_are x x_is find =
     let its = follow n s o given_is left_is in
     let owners = owners_in w.ran.ran.ran.shares in
@@ -74,8 +74,8 @@ their_next_events_happen fresh handed leads own joined stay c jobs limit r w fol
     let apart = (is_ready fresh c jobs limit r w n s given_is leads).apart in
     let did = split_at _ _ first (event log_entry after) later (moment s.run (first_cut its.core s.run)) (moment o.run its.after) apart its.turned.events
     events_are its.turned.follows in
-    let faced = faced_in stay (joined_in w).jobs steps none_open (begun w) ys h
+    let stands = across_in stay (joined_in w).jobs steps none_open (begun w) ys h
     (joined (world fresh c jobs limit r w) (begun w) (joined_first fresh handed c jobs limit r w)) in
-    own (joined_in w).jobs n log_entry ys x after x_is (faced n x x_is) (subst (λ (t : TheRun TheSide). IsApart t.core) run did.apart)
+    own (joined_in w).jobs n log_entry ys x after x_is (stands n x x_is) (subst (λ (t : TheRun TheSide). IsApart t.core) run did.apart)
     (subst (λ (t : TheRun TheSide). Happens shared_ways log_entry t after) run did.happens)
     (subst (λ (t : TheRun TheSide). InPlace (joined_in w).jobs t log_entry) run did.in_place) find

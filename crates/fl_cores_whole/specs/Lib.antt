@@ -5,3 +5,4 @@ pub mod AnyOrder
 pub mod Holds
 pub mod One
 pub mod Told
+pub mod Wants

@@ -26,8 +26,8 @@ TheirCallsAreTold = (c : TheConfig) (jobs : List Job) (limit : ℕ) (r : TheRepo
     → (e : EndId) → calls_handled e (asked_in (joined_in w).jobs (begun w) moments ys h) ≡ at_end r.handled e
 
 -- what the machine is asked under other numbers, from this state on, with its answers
-abbrev pub run_under : State → Renaming → List Exchange → List Exchange
-run_under s renaming exchanges = run s (events_of (all_under renaming exchanges))
+abbrev pub answered_under : State → Renaming → List Exchange → List Exchange
+answered_under s renaming exchanges = run s (events_of (all_under renaming exchanges))
 
 -- Under other numbers an end handles just the calls that it handled, at its number there: no two bindings have one.
 abbrev pub CallsStay : Type 0
@@ -43,4 +43,4 @@ TheirCallsAreToldInAnyOrder = (c : TheConfig) (jobs : List Job) (limit : ℕ) (r
     → (under : RunsUnderSome (is_of_link (begun w)) moments (asked_in (joined_in w).jobs (begun w) moments ys h)
     (begins c jobs) ys)
     → (e : EndId) → calls_handled (end_under under.renaming e)
-    (run_under (begins c jobs) under.renaming (asked_in (joined_in w).jobs (begun w) moments ys h)) ≡ at_end r.handled e
+    (answered_under (begins c jobs) under.renaming (asked_in (joined_in w).jobs (begun w) moments ys h)) ≡ at_end r.handled e

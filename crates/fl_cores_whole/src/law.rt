@@ -4,9 +4,10 @@ ghost use Rattle.fl_cores_whole.specs.AnyOrder.{ReportsJoinInAnyOrder, StepsJoin
 ghost use Rattle.fl_cores_whole.specs.AnyOrder.{TheirStepsJoinInAnyOrder, TheirTurnsJoinInAnyOrder};
 ghost use Rattle.fl_cores_whole.specs.Begin.{HandedOutJoin};
 ghost use Rattle.fl_cores_whole.specs.Holds.{ReportsHold, RunsUnderSomeHold, TheirTurnsHold};
-ghost use Rattle.fl_cores_whole.specs.Next.{TheirNextEventsHappen};
+ghost use Rattle.fl_cores_whole.specs.Next.{OrdersGoOn, TheirNextEventsHappen};
 ghost use Rattle.fl_cores_whole.specs.One.{OneCoreJoins};
 ghost use Rattle.fl_cores_whole.specs.Told.{CallsStay, TheirCallsAreTold, TheirCallsAreToldInAnyOrder};
+ghost use Rattle.fl_cores_whole.specs.Wants.{TurnsWantAlike};
 ghost use Rattle.fl_cores_whole.specs.Whole.{ExchangedStepsJoin, ReportsJoin, StepsOfReportsJoin};
 ghost use Rattle.fl_cores_whole.specs.Whole.{TheirStepsJoin, TheirTurnsEnd, TheirTurnsJoin};
 
@@ -19,6 +20,7 @@ use fl_cores_joined::{
 };
 use fl_cores_laws::{law_cores_go, law_ends_are_at_home, law_ends_are_requested};
 use fl_cores_shares::law_handed_out_go_on;
+use fl_link::TakeSide;
 use fl_model_laws::{law_no_wire_faults, law_numbers_are_once_both_ways};
 use fl_ring::SharedSide;
 use fl_world_laws::{law_handled_is_ever_a_prefix, law_passed_ever_falls};
@@ -100,9 +102,11 @@ pub fn law_their_calls_are_told()
 }
 
 /// Behind what each order of their steps comes to, whatever a core did next in its turns happens, as soon as each of
-/// its sides finds what stands for it.
+/// its sides finds what stands for it. An order with it is one step longer, where it is in turn: what follows a look
+/// behind that.
 pub fn law_next_events_happen()
     ensures next { TheirNextEventsHappen }
+    ensures longer { OrdersGoOn }
 {
     law_set_ups_start_fresh();
     law_leads_at_first();
@@ -132,3 +136,8 @@ pub fn law_reports_hold()
     law_reports_join();
     law_their_turns_join();
 }
+
+/// A dispatcher's turn in a world wants memory for just what one of a running core wants it for: to handle a call.
+pub fn law_turns_want_alike<T: TakeSide>()
+    ensures alike { TurnsWantAlike T.takes }
+{}

@@ -32,7 +32,7 @@ impl Model for Hand {
 }
 
 impl Hand {
-    /// Puts a letter, and says whether there was room. Where there was none, nothing was put.
+    /// Puts a letter, which isn't 0, and says whether there was room. Where there was none, nothing was put.
     pub fn put(&mut self, letter: u64) -> bool
         requires letter { letter ≢ 0 }
         ensures noted { MatchBool result (self.new ≡ noting own self.old (Put letter))

@@ -51,9 +51,10 @@ fn hands_of(alloc: Global, table: MailTable, mut seat: MailSeat) -> Result<(Hand
     Ok((one, two))
 }
 
-/// The two hands of one table, together again: all that they did has one order.
+/// The two hands of one table, hand 0 before hand 1, together again: all that they did has one order.
 pub fn settle(one: Hand, two: Hand)
     requires table { one.table ≡ two.table }
+    requires numbers { (one.number ≡ 0) × (two.number ≡ 1) }
     ensures order { InOneOrder one two }
 {
     let Hand {

@@ -1,6 +1,10 @@
 //! Tests of each call, in one thread and in two.
+//!
+//! `rt try --test --fail-alloc N` runs each with its Nth allocation refused: then `hands_or_no_memory` has to pass, and others
+//! end with out of memory or pass.
 
 use super::*;
+use std::alloc::Global;
 use std::test::Fail;
 
 #[test]
@@ -14,6 +18,24 @@ fn a_letter_is_found_once(rt: HostRuntime) -> Result<(), Fail> {
     settle(one, two);
     assert!(rt; put && !full && found == Some(7) && missed.is_none() && across.is_none());
     Ok(())
+}
+
+// Whether two hands put and find a letter, and then, in the same mailbox, another.
+fn finds_two(mut one: Hand, mut two: Hand) -> bool {
+    one.put(7) && two.look() == Some(7) && one.put(8) && two.look() == Some(8)
+}
+
+// The same of new hands; where there is no memory for them, there are none.
+fn finds_two_or_has_none(alloc: Global) -> bool {
+    match pair(alloc) {
+        Ok((one, two)) => finds_two(one, two),
+        Err(_no_memory) => true,
+    }
+}
+
+#[test]
+fn hands_or_no_memory(rt: HostRuntime) {
+    assert!(rt; finds_two_or_has_none(rt.alloc()));
 }
 
 #[test]

@@ -8,6 +8,7 @@ pub mod Made
 pub mod Makes
 pub mod Following
 pub mod Hearing
+pub mod Handling
 pub mod Requested
 pub mod RingEnds
 pub mod Queued

@@ -11,7 +11,7 @@ use Rattle.fl_model.specs.Events.{DispatcherId, nothing}
 use Rattle.fl_model.specs.declared.answer.Answer.{Answer as RustAnswer}
 use Rattle.fl_model.specs.Views.{answer_of}
 use Rattle.fl_world_refines.specs.View.{TheWorld, has_dispatcher}
-use Rattle.fl_world_refines.specs.Taking.{TurnsAt, due_at, HasTurn}
+use Rattle.fl_world_refines.specs.Taking.{IsDue, TurnsAt, due_at, HasTurn}
 use Rattle.fl_world.specs.Places.{IsDueOver, TurnsFrom}
 use Rattle.fl_world.proofs.Requested.{if_false, given_none, given_some}
 use Rattle.fl_world.proofs.Seen.{due_is_at}
@@ -39,10 +39,13 @@ module _ (w : TheWorld) (d : DispatcherId) (k : TheCore) (is : slice_get w.cores
     }
 
     module _ (named : place_of k name ≡ Some e) where
+      pub is_due : IsDue w d e name i
+      is_due = record { core = k; core_is = is; due_is = due_is; name_is = named; inlet_is = takes }
+
       turns_at : (o : Result RustAnswer AllocError) (w2 : TheWorld) → IfOk o (λ a. TurnsFrom i d.core (record { dispatcher = d.place; end = e; name = name }) w (answer_of a) w2)
           → IfOk o (λ a. TurnsAt d e w (answer_of a) w2)
       turns_at (Err error) w2 h = tt
-      turns_at (Ok a) w2 h = (name, i, record { core = k; core_is = is; due_is = due_is; name_is = named; inlet_is = takes }, h)
+      turns_at (Ok a) w2 h = (name, i, is_due, h)
 
       pub turn_done : has_dispatcher w d ≡ true → (o : Result RustAnswer AllocError) (w2 : TheWorld)
           → IfOk o (λ a. TurnsFrom i d.core (record { dispatcher = d.place; end = e; name = name }) w (answer_of a) w2) → IfOk o (λ a. HasTurn d w (answer_of a) w2)

@@ -4,11 +4,12 @@ use Rattle.fl_model.specs.Events.{Event, add_interface, show, write, ack, regist
 use Rattle.fl_model.specs.Events.{monitor_ack, Answer, refused}
 use Rattle.fl_model.specs.State.{State}
 use Rattle.fl_model.specs.Runs.{answers_to, reached}
-use Rattle.fl_world_refines.specs.View.{TheWorld, has_dispatcher}
+use Rattle.fl_world_refines.specs.View.{TheWorld}
 use Rattle.fl_world_refines.specs.Step.{Does}
 use Rattle.fl_world_events.specs.Last.{NotRefused}
 use Rattle.fl_world_refines.specs.ShowsState.{Shows}
 use Rattle.fl_world_refines.specs.Laws.{StepAgrees}
+use Rattle.fl_world.specs.Handling.{WantsToHandle}
 use Rattle.fl_world.specs.Hearing.{WantsToSay}
 
 -- ---- one event
@@ -29,10 +30,10 @@ may_want_memory (monitor_write core neighbour) = false
 may_want_memory (monitor_ack core neighbour) = false
 may_want_memory event = true
 
--- memory is wanting last: no refusal is what the event comes to. A turn of a dispatcher that is there is never refused by the
--- machine (`law_no_wire_faults`); a forward wants memory only for a message that is heard, and that makes a monitor say something.
+-- memory is wanting last: no refusal is what the event comes to. A turn wants memory only where its dispatcher is there and it handles a call, and a
+-- forward only for a message that is heard, and that makes a monitor say something.
 abbrev pub IsAccepted : Event → TheWorld → Type 0
-IsAccepted (turn d) w = has_dispatcher w d ≡ true
+IsAccepted (turn d) w = WantsToHandle d w
 IsAccepted (forward core neighbour) w = WantsToSay core neighbour w
 IsAccepted event w = NotRefused (Does event w)
 

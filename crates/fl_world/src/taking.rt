@@ -1,14 +1,14 @@
 //! Turns of dispatchers, and what ends say of themselves.
 
-ghost use Rattle.std.specs.Prelude.{◌≡◌, ◌<◌, true, slice_get, Some, IfOk, OnErr};
+ghost use Rattle.std.specs.Prelude.{◌≡◌, ◌<◌, slice_get, Some, IfOk, OnErr};
 ghost use Rattle.fl_core.specs.View.{TheCore, inlet_of};
-ghost use Rattle.fl_world_refines.specs.View.{has_dispatcher};
 ghost use Rattle.fl_world_refines.specs.Lending.{answer_at};
 ghost use Rattle.fl_world_refines.specs.Taking.{HasTurn, AcksOver, Acknowledges, HasInlet};
 ghost use Rattle.fl_world_refines.specs.Taking.{RegistersOver, RegistersChannel};
 ghost use Rattle.fl_world_refines.specs.Taking.{DeregistersChannel, SetsReply};
 ghost use Rattle.fl_model.specs.Views.{answer_of, id_of};
 ghost use Rattle.fl_world_events.specs.Places.{HasEnd};
+ghost use Rattle.fl_world.specs.Handling.{HandlesFrom, WantsToHandle};
 ghost use Rattle.fl_world.specs.Places.{IsDueOver, TurnsFrom};
 
 use crate::world::World;
@@ -27,12 +27,12 @@ impl World {
     /// A dispatcher has a turn.
     ///
     /// # Errors
-    /// Out of memory.
+    /// Out of memory, only where it would handle a call.
     #[inline(always)]
     pub(crate) fn turn(&mut self, d: DispatcherId) -> Result<Answer, AllocError>
         ensures turns { IfOk result (λ a. HasTurn (id_of d) self.old (answer_of a) self.new) }
         ensures kept { OnErr result (self.new ≡ self.old) }
-        ensures last { OnErr result (has_dispatcher self.old (id_of d) ≡ true) }
+        ensures last { OnErr result (WantsToHandle (id_of d) self.old) }
     {
         let Some(core) = self.cores.get(d.core as usize) else {
             return Ok(Answer::Refused(faults::WRONG_NAME));
@@ -62,6 +62,7 @@ impl World {
         requires due { IsDueOver self.old.cores n at (Inlet.Queue q) }
         ensures turns { IfOk result (λ a. TurnsFrom (Inlet.Queue q) n at self.old (answer_of a) self.new) }
         ensures kept { OnErr result (self.new ≡ self.old) }
+        ensures wants { OnErr result (HandlesFrom (Inlet.Queue q) n at self.old) }
     {
         match self.queues.get_mut(q) {
             None => Ok(Answer::Nothing),
@@ -74,6 +75,7 @@ impl World {
         requires due { IsDueOver self.old.cores n at (Inlet.Side m) }
         ensures turns { IfOk result (λ a. TurnsFrom (Inlet.Side m) n at self.old (answer_of a) self.new) }
         ensures kept { OnErr result (self.new ≡ self.old) }
+        ensures wants { OnErr result (HandlesFrom (Inlet.Side m) n at self.old) }
     {
         match self.rings.get_mut(ring_at(m)) {
             None => Ok(Answer::Nothing),
@@ -86,6 +88,7 @@ impl World {
         requires due { IsDueOver self.old.cores n at Inlet.Arrivals }
         ensures turns { IfOk result (λ a. TurnsFrom Inlet.Arrivals n at self.old (answer_of a) self.new) }
         ensures kept { OnErr result (self.new ≡ self.old) }
+        ensures wants { OnErr result (HandlesFrom Inlet.Arrivals n at self.old) }
     {
         let core = &mut self.cores[n];
         turn_in(core, at)

@@ -2,6 +2,7 @@ pub mod Last
 pub mod Lifts
 pub mod Ends
 pub mod Unturned
+pub mod Wanting
 pub mod Makes
 pub mod Following
 pub mod Splitting

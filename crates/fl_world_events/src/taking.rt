@@ -17,6 +17,7 @@ ghost use Rattle.fl_world_refines.specs.Taking.{DeregistersIn, IsRuled};
 ghost use Rattle.fl_world_refines.specs.Linking.{ack_answer};
 ghost use Rattle.fl_model.specs.Views.{answer_of};
 ghost use Rattle.fl_world_events.specs.Parts.{InCore, ByQueue, ByRing, KeptOrNone, RulesIn, RulesWith};
+ghost use Rattle.fl_world_events.specs.Wants.{HandlesCall, HandlesOnRing, HandlesArrival};
 
 use crate::lending::{which_at, whole};
 use fl_base::{EndId, MsgNo, faults};
@@ -69,7 +70,7 @@ fn sound(core: &Core, e: usize)
 /// A dispatcher of a core has a turn, over the queue of the end that is due.
 ///
 /// # Errors
-/// Out of memory.
+/// Out of memory, only where it would handle a call.
 #[inline(always)]
 pub fn turn_by_queue(
     core: &mut Core,
@@ -84,6 +85,7 @@ pub fn turn_by_queue(
         (TurnsWith QueueTakes (as_turn at.dispatcher at.end at.name (answer_of a))) core.old queue.old core.new queue.new) }
     ensures kept { OnErr result (core.new ≡ core.old) }
     ensures left { OnErr result (queue.new ≡ queue.old) }
+    ensures wants { OnErr result (HandlesCall QueueTakes at.dispatcher at.end core.old.board queue.old) }
 {
     whole(core);
     sound(core, at.end);
@@ -121,7 +123,7 @@ fn turn_over(
 /// A dispatcher of a core has a turn, over side m of a ring. Where memory is refused the ring is as it was.
 ///
 /// # Errors
-/// Out of memory.
+/// Out of memory, only where it would handle a call.
 #[inline(always)]
 pub fn turn_by_ring(
     core: &mut Core,
@@ -136,6 +138,7 @@ pub fn turn_by_ring(
     ensures turns { IfOk result (λ a. ByRing m (TurnsWith SideTakes (as_turn at.dispatcher at.end at.name (answer_of a))) core.old ring.old core.new ring.new) }
     ensures kept { OnErr result (core.new ≡ core.old) }
     ensures left { OnErr result (ring.new ≡ ring.old) }
+    ensures wants { OnErr result (HandlesOnRing m at.dispatcher at.end core.old.board ring.old) }
 {
     let known = ring.known(which_at(m));
     sound(core, at.end);
@@ -152,7 +155,7 @@ pub fn turn_by_ring(
 /// A dispatcher of a core has a turn, where the end that is due has an arrival queue.
 ///
 /// # Errors
-/// Out of memory.
+/// Out of memory, only where it would handle a call.
 pub fn turn_in(core: &mut Core, at: DueEnd) -> Result<Answer, AllocError>
     requires there { at.dispatcher < length core.old.board.dispatchers }
     requires due { due core.old.board at.dispatcher ≡ Some at.end }
@@ -160,6 +163,7 @@ pub fn turn_in(core: &mut Core, at: DueEnd) -> Result<Answer, AllocError>
     requires own { IsSome (arrivals_of core.old at.end) }
     ensures turns { IfOk result (λ a. InCore (TurnsArrivals (as_turn at.dispatcher at.end at.name (answer_of a))) core.old core.new) }
     ensures kept { OnErr result (core.new ≡ core.old) }
+    ensures wants { OnErr result (HandlesArrival at.dispatcher at.end core.old) }
 {
     whole(core);
     sound(core, at.end);

@@ -5,7 +5,7 @@ use Rattle.fl_core.specs.BoardView.{TheBoard}
 use Rattle.fl_core.specs.View.{TheCore}
 use Rattle.fl_monitor.specs.Monitors.{first_link}
 use Rattle.fl_cores_file.specs.Views.{request_of}
-use Rattle.fl_cores_jobs.specs.Faults.{path_fault, link_fault, StopsFor, RequestStops}
+use Rattle.fl_cores_jobs.specs.Faults.{path_fault, link_fault, RefusedFor}
 use Rattle.fl_cores_jobs.proofs.Wishing.{known_by, path_refused, link_refused, none_refused}
 use Rattle.fl_cores_jobs.proofs.opening.ask.Goals as goal
 
@@ -21,7 +21,7 @@ returns-in_err-path-clause-refused c =
     let e = err_from_is_err_and c.from_residual-in_err-path.result c.from_residual-in_err-path.ensures.1 in
     rw (e.1, e.2) (path_refused c.args.parts.now c.args.binding (request_of c.args.request.now) c.in-Some.core.now c.in-Some-get.program.now known found.iref.0 found.core.0
     c.in_ok-found.ensures.named c.in_ok-found.ensures.offered stop
-    (subst (λ (route : List ℕ). RequestStops (path_fault route) stop) c.deref-3.ensures.value c.in_err-path.ensures.refused))
+    (subst (λ (route : List ℕ). RefusedFor (path_fault route) stop) c.deref-3.ensures.value c.in_err-path.ensures.refused))
 
 pub returns-in_err-link-clause-refused : goal.returns-in_err-link-clause-refused
 returns-in_err-link-clause-refused c =
@@ -37,7 +37,7 @@ returns-in_err-link-clause-refused c =
     rw (e.1, e.2) (link_refused c.args.parts.now c.args.binding (request_of c.args.request.now) c.in-Some.core.now c.in-Some-get.program.now known found.iref.0 found.core.0
     c.in_ok-found.ensures.named c.in_ok-found.ensures.offered path
     (subst (λ (route : List ℕ). path_fault route ≡ None) c.deref-3.ensures.value c.in_ok-path.ensures.passes) (c.in_ok-path.ensures.route ∙ c.deref-3.ensures.value) stop
-    (subst (λ (ks : List TheCore). StopsFor (link_fault (first_link c.in-Some.core.now.monitor.circuits path found.core.0 (length ks))) stop)
+    (subst (λ (ks : List TheCore). RefusedFor (link_fault (first_link c.in-Some.core.now.monitor.circuits path found.core.0 (length ks))) stop)
     c.as_slice-cores.ensures.value c.in_err-link.ensures.refused))
 
 pub returns-clause-begins : goal.returns-clause-begins

@@ -1,11 +1,12 @@
-use Rattle.std.proofs.Common.{◌≡◌, inl, refl, ◌∙◌, ap, subst, ◌<◌, List, length, Some, None}
+use Rattle.std.proofs.Common.{◌≡◌, refl, ◌∙◌, ap, subst, ◌<◌, List, length, Some, None}
 use Rattle.std.proofs.lemmas.Result.{err_from_is_err_and}
 use Rattle.fl_core.specs.View.{client_of}
 use Rattle.fl_cores_jobs.specs.declared.end_work.BindingCores.{BindingCores}
 use Rattle.fl_cores_file.specs.Views.{request_of}
-use Rattle.fl_cores_jobs.specs.Faults.{request_fault, RequestStops}
+use Rattle.fl_cores_jobs.specs.Faults.{request_fault, StopsFor}
 use Rattle.fl_cores_jobs.specs.State.{TheJoinedJobs, joined_of}
 use Rattle.fl_cores_jobs.proofs.Fitting.{opening_fits}
+use Rattle.fl_cores_jobs.proofs.Wishing.{refused_stops}
 use Rattle.fl_cores_jobs.proofs.joining.JoinedJobs.open.Goals as goal
 
 pub returns-clause-opened : goal.returns-clause-opened
@@ -78,8 +79,8 @@ returns-clause-passed c =
 pub returns-in_err-asked-clause-refused : goal.returns-in_err-asked-clause-refused
 returns-in_err-asked-clause-refused c =
     let e = err_from_is_err_and c.from_residual.result c.from_residual.ensures.1 in
-    rw (e.1, e.2) (subst (λ (bindings : List BindingCores). RequestStops (request_fault c.args.parts.now (length bindings) (request_of c.args.request.now)) c.in_err-asked.field-0.0)
-    c.as_slice-binding.ensures.value c.in_err-asked.ensures.refused)
+    rw (e.1, e.2) (subst (λ (bindings : List BindingCores). StopsFor (request_fault c.args.parts.now (length bindings) (request_of c.args.request.now)) c.in_err-asked.field-0.0)
+    c.as_slice-binding.ensures.value (refused_stops _ c.in_err-asked.field-0.0 c.in_err-asked.ensures.refused))
 
 pub returns-in_err-add_opening-clause-refused : goal.returns-in_err-add_opening-clause-refused
 returns-in_err-add_opening-clause-refused c =
@@ -87,4 +88,4 @@ returns-in_err-add_opening-clause-refused c =
     let none : request_fault c.args.parts.now (length c.args.self.now.bindings.items) (request_of c.args.request.now) ≡ None =
     subst (λ (bindings : List BindingCores). request_fault c.args.parts.now (length bindings) (request_of c.args.request.now) ≡ None) c.as_slice-binding.ensures.value
     c.in_ok-asked.ensures.passes in
-    rw (e.1, e.2) (inl none)
+    rw (e.1, e.2) none

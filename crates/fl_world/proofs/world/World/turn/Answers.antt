@@ -5,9 +5,9 @@ use Rattle.fl_core.specs.BoardView.{TheBoard}
 use Rattle.fl_model.specs.Views.{id_of}
 use Rattle.fl_world_refines.specs.View.{TheWorld}
 use Rattle.fl_world.proofs.Requested.{if_true}
-use Rattle.fl_world.proofs.Kept.{on_any}
+use Rattle.fl_world.proofs.Handling.{wants_to_handle}
 use Rattle.fl_world.proofs.Seen.{seen, unseen, no_dispatcher_at, lacks_dispatcher, holds_dispatcher, dispatcher_below}
-use Rattle.fl_world.proofs.Turned.{none_due, due_over, turn_done}
+use Rattle.fl_world.proofs.Turned.{none_due, due_over, is_due, turn_done}
 use Rattle.fl_world.proofs.world.World.turn.Goals as goal
 
 pub returns-in_default : goal.returns-in_default
@@ -61,7 +61,10 @@ returns-in-Queue c =
           there c.in-Some-due.e c.in-Some-due.ensures.due c.name.result _ (c.inlet.ensures.inlet ∙ ap Some c.in-Queue.is)
           c.name.ensures.place has c.turn_over_queue.result c.turn_over_queue.new.self c.turn_over_queue.ensures.turns;
       kept = c.turn_over_queue.ensures.kept;
-      last = on_any _ c.turn_over_queue.result has;
+      last = wants_to_handle c.args.self.now (id_of c.args.d) c.in-Some-due.e c.name.result _
+          (is_due c.args.self.now (id_of c.args.d) c.in-Some.core.now core c.board-board.result.now c.board-board.ensures.board
+          there c.in-Some-due.e c.in-Some-due.ensures.due c.name.result _ (c.inlet.ensures.inlet ∙ ap Some c.in-Queue.is) c.name.ensures.place)
+          c.turn_over_queue.result c.turn_over_queue.ensures.wants;
     }
 
 pub turn_over_side-requires : goal.turn_over_side-requires
@@ -84,7 +87,10 @@ returns-in-Side c =
           there c.in-Some-due.e c.in-Some-due.ensures.due c.name.result _ (c.inlet.ensures.inlet ∙ ap Some c.in-Side.is)
           c.name.ensures.place has c.turn_over_side.result c.turn_over_side.new.self c.turn_over_side.ensures.turns;
       kept = c.turn_over_side.ensures.kept;
-      last = on_any _ c.turn_over_side.result has;
+      last = wants_to_handle c.args.self.now (id_of c.args.d) c.in-Some-due.e c.name.result _
+          (is_due c.args.self.now (id_of c.args.d) c.in-Some.core.now core c.board-board.result.now c.board-board.ensures.board
+          there c.in-Some-due.e c.in-Some-due.ensures.due c.name.result _ (c.inlet.ensures.inlet ∙ ap Some c.in-Side.is) c.name.ensures.place)
+          c.turn_over_side.result c.turn_over_side.ensures.wants;
     }
 
 pub turn_over_arrivals-requires : goal.turn_over_arrivals-requires
@@ -107,5 +113,8 @@ returns-in-Arrivals c =
           there c.in-Some-due.e c.in-Some-due.ensures.due c.name.result _ (c.inlet.ensures.inlet ∙ ap Some c.in-Arrivals.is)
           c.name.ensures.place has c.turn_over_arrivals.result c.turn_over_arrivals.new.self c.turn_over_arrivals.ensures.turns;
       kept = c.turn_over_arrivals.ensures.kept;
-      last = on_any _ c.turn_over_arrivals.result has;
+      last = wants_to_handle c.args.self.now (id_of c.args.d) c.in-Some-due.e c.name.result _
+          (is_due c.args.self.now (id_of c.args.d) c.in-Some.core.now core c.board-board.result.now c.board-board.ensures.board
+          there c.in-Some-due.e c.in-Some-due.ensures.due c.name.result _ (c.inlet.ensures.inlet ∙ ap Some c.in-Arrivals.is) c.name.ensures.place)
+          c.turn_over_arrivals.result c.turn_over_arrivals.ensures.wants;
     }

@@ -1,6 +1,7 @@
 use Rattle.std.proofs.Common.{refl, arith}
 use Rattle.fl_world_refines.specs.Taking.{as_turn, TurnsArrivals}
 use Rattle.fl_model.specs.Views.{answer_of}
+use Rattle.fl_world.proofs.Handling.{from_arrivals}
 use Rattle.fl_world.proofs.Lifts.{due_read, core_if_ok, few_kept, core_put_back, on_err_map}
 use Rattle.fl_world.proofs.Lent.{due_there, due_end, due_within}
 use Rattle.fl_world.proofs.world.World.turn_over_arrivals.Goals as goal
@@ -25,3 +26,8 @@ invariant_of-self c = few_kept c.self.inside.cores.items c.args.n c.turn_in.new.
 
 pub returns-clause-kept : goal.returns-clause-kept
 returns-clause-kept c = on_err_map _ _ c.turn_in.result (λ k. core_put_back c.args.self.now _ c.self.view_is c.args.n _ _ _ c.index_mut-core.ensures.value refl k) c.turn_in.ensures.kept
+
+pub returns-clause-wants : goal.returns-clause-wants
+returns-clause-wants c = on_err_map _ _ c.turn_in.result
+    (from_arrivals c.args.self.now _ c.self.view_is c.args.n (due_read c.args.self.now _ c.self.view_is c.args.n c.args.at _ c.requires.due) c.args.at _ _ c.index_mut-core.ensures.value refl)
+    c.turn_in.ensures.wants

@@ -3,7 +3,8 @@ use Rattle.fl_link.specs.Queue.{QueueTakes}
 use Rattle.fl_world_refines.specs.Taking.{as_turn, TurnsWith}
 use Rattle.fl_model.specs.Views.{answer_of}
 use Rattle.fl_world_refines.specs.View.{TheWorld}
-use Rattle.fl_world.proofs.Lifts.{due_read, queue_if_ok, few_kept, queue_put_back, on_err_both}
+use Rattle.fl_world.proofs.Handling.{from_queue}
+use Rattle.fl_world.proofs.Lifts.{due_read, queue_if_ok, few_kept, queue_put_back, on_err_both, on_err_map}
 use Rattle.fl_world.proofs.Lent.{due_there, due_end, due_within, lent_to_queue, past_end, stray}
 use Rattle.fl_world.proofs.world.World.turn_over_queue.Goals as goal
 
@@ -36,3 +37,9 @@ returns-in-None-clause-turns c = inr (stray c.args.self.now _ c.self.view_is (λ
 
 pub returns-in-Some-clause-kept : goal.returns-in-Some-clause-kept
 returns-in-Some-clause-kept c = on_err_both _ _ _ c.turn_by_queue.result (λ k p. queue_put_back c.args.self.now _ c.self.view_is c.args.n c.args.q _ _ _ c.index_mut.ensures.value refl k _ _ _ c.in-Some.ensures.value refl p) c.turn_by_queue.ensures.kept c.turn_by_queue.ensures.left
+
+pub returns-in-Some-clause-wants : goal.returns-in-Some-clause-wants
+returns-in-Some-clause-wants c = on_err_map _ _ c.turn_by_queue.result
+    (from_queue c.args.self.now _ c.self.view_is c.args.n (due_read c.args.self.now _ c.self.view_is c.args.n c.args.at _ c.requires.due) c.args.at _ _ c.index_mut.ensures.value refl
+    c.args.q (omega (arith, c.in-Some.ensures.variant.0 refl, c.self.inside.queues.ok.0)) _ _ c.in-Some.ensures.value refl)
+    c.turn_by_queue.ensures.wants

@@ -2,7 +2,8 @@ use Rattle.std.proofs.Common.{refl, arith, inr}
 use Rattle.fl_ring.specs.Side.{SideTakes}
 use Rattle.fl_world_refines.specs.Taking.{as_turn, TurnsWith}
 use Rattle.fl_model.specs.Views.{answer_of}
-use Rattle.fl_world.proofs.Lifts.{due_read, side_if_ok, few_kept, ring_put_back, on_err_both}
+use Rattle.fl_world.proofs.Handling.{from_side}
+use Rattle.fl_world.proofs.Lifts.{due_read, side_if_ok, few_kept, ring_put_back, on_err_both, on_err_map}
 use Rattle.fl_world.proofs.Lent.{due_there, due_end, due_within, lent_to_side, past_end, stray_ring}
 use Rattle.fl_world.proofs.world.World.turn_over_side.Goals as goal
 
@@ -35,3 +36,9 @@ returns-in-None-clause-turns c = inr (stray_ring c.args.self.now _ c.self.view_i
 
 pub returns-in-Some-clause-kept : goal.returns-in-Some-clause-kept
 returns-in-Some-clause-kept c = on_err_both _ _ _ c.turn_by_ring.result (λ k p. ring_put_back c.args.self.now _ c.self.view_is c.args.n c.ring_at.result _ _ _ c.index_mut.ensures.value refl k _ _ _ c.in-Some.ensures.value refl p) c.turn_by_ring.ensures.kept c.turn_by_ring.ensures.left
+
+pub returns-in-Some-clause-wants : goal.returns-in-Some-clause-wants
+returns-in-Some-clause-wants c = on_err_map _ _ c.turn_by_ring.result
+    (from_side c.args.self.now _ c.self.view_is c.args.n (due_read c.args.self.now _ c.self.view_is c.args.n c.args.at _ c.requires.due) c.args.at _ _ c.index_mut.ensures.value refl
+    c.args.m _ c.ring_at.ensures.ring (omega (arith, c.in-Some.ensures.variant.0 refl, c.self.inside.rings.ok.0)) _ _ c.in-Some.ensures.value refl)
+    c.turn_by_ring.ensures.wants
