@@ -4,7 +4,7 @@ use Rattle.fl_history.proofs.Laws.{not_both_found}
 use Rattle.fl_history.proofs.crossing.look_before_they_put.Goals as goal
 
 pub settle-requires : goal.settle-requires
-settle-requires c =
+settle-requires g c =
     let first = c.join-one.ensures.first in
     let second = c.join-one.ensures.second in
     let (one, two) = c.requires.new in
