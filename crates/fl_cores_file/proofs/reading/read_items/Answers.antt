@@ -6,7 +6,7 @@ use Rattle.fl_cores_file.proofs.reading.read_items.Goals as goal
 pub returns-in-Err : goal.returns-in-Err
 returns-in-Err c = record {
   reads = refused_there c.in-Err.line c.args.text.now c.in-Err.stop c.refuse.result c.in-Err.ensures.refused c.refuse.ensures.refused;
-  memory = on_any _ c.refuse.result c.requires;
+  memory = on_any _ c.refuse.result c.requires.short;
 }
 
 pub returns-in-Ok : goal.returns-in-Ok
