@@ -2,8 +2,8 @@
 
 use crate::tables::tell;
 use fl_c_operations::{
-    Handle, HeldEnd, HeldProgram, MakeFault, UseFault, image_ends, new_run, ring_handles, text_ends,
-    text_program, use_handle,
+    Handle, HeldEnd, HeldProgram, MakeFault, UseFault, image_ends, new_run, ring_handles,
+    text_ends, text_program, use_handle,
 };
 use fl_ring::RingFault;
 use fl_value_data::PlanNo;
