@@ -4,4 +4,4 @@ use Rattle.fl_cores_jobs.proofs.Wishing.{on_ids}
 use Rattle.fl_cores_jobs.proofs.opening.path_over.Goals as goal
 
 pub returns-clause-route : goal.returns-clause-route
-returns-clause-route c = ap cores_on c.path_of.ensures ∙ on_ids c.args.cores.now
+returns-clause-route c = ap cores_on c.path_of.ensures.path ∙ on_ids c.args.cores.now
