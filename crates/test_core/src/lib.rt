@@ -1,4 +1,4 @@
-//! Tests of ends, boards, monitors, cores, running cores and operations for C, over their public calls alone: one crate, since each crate of
+//! Tests of ends, boards, monitors, cores and operations for C, over their public calls alone: one crate, since each crate of
 //! tests begins with reading all that it stands on, and proves how each of its types is dropped.
 //!
 //! - `tables.rt`: tables, of which a test tells the first row that isn't so; `texts.rt`: programs of texts;
@@ -8,7 +8,7 @@
 //! - `cores.rt`: the board of one core
 //! - `monitor.rt`: monitors' messages, circuits and names
 //! - `node.rt`: whole cores
-//! - `running.rt`: what running cores tell one another, and a core that is run again
+//! - `running.rt`: what running cores tell one another
 //! - `operations.rt`: what C asks of handles, by number
 //!
 //! `rt try --test --fail-alloc N` runs each with its Nth allocation refused: then the test of `memory.rt` and that of

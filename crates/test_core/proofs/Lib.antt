@@ -1,2 +1,0 @@
-pub mod Silence
-pub mod Places
