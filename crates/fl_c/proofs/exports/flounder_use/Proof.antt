@@ -39,8 +39,8 @@ use Rattle.fl_c_operations.specs.Handles.{Uses}
 use Rattle.fl_c.specs.contracts.exports.flounder_use as f
 use Rattle.fl_c.proofs.exports.flounder_use.Statement.{statement}
 use Rattle.fl_c.proofs.exports.flounder_use.Code as code
-use Rattle.fl_c_operations.specs.contracts.handle.use_handle as g
-use Rattle.fl_c_operations.proofs.handle.use_handle.Met.{met}
+use Rattle.fl_c_operations.specs.contracts.use_handle as g
+use Rattle.fl_c_operations.proofs.use_handle.Met.{met}
 
 abbrev stayed : Stays f.ended.signature.params f.ended.kept
 stayed = (stay_dropped (plain (λ _. RawPtr)) yes, (stay_dropped (plain (λ _. u32)) yes, (gave_slice (0 ∷ []) tt (plain (λ _. u64)), tt)))
